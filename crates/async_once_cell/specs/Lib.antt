@@ -1,0 +1,16 @@
+pub mod Apart
+pub mod Sections
+pub mod Numbers
+pub mod Record
+pub mod Cell
+pub mod Tasks
+pub mod Wakers
+pub mod Refusals
+pub mod Run
+pub mod Inputs
+pub mod Log
+pub mod Steps
+pub mod Plain
+pub mod Machine
+pub mod Shown
+pub mod Script

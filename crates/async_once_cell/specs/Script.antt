@@ -1,0 +1,50 @@
+-- What the side of a replayed task answers and leaves.
+use Rattle.std.specs.Prelude.{◌≡◌, List, Option, Some, reverse}
+use Rattle.std.specs.declared.vec.Vec.{Vec}
+use Rattle.std.specs.declared.alloc.Global.{Global}
+use Rattle.std.specs.Prelude.{ℕ}
+use Rattle.async_once_cell.specs.declared.world.Script.{Script}
+use Rattle.async_once_cell.specs.declared.step.Polled.{Polled}
+use Rattle.async_once_cell.specs.declared.step.Polled.TheVariants.{Pending as PolledPending, Value as PolledValue, Error as PolledError}
+use Rattle.async_once_cell.specs.Record.{Answer, RanPending, RanValue, RanError}
+use Rattle.async_once_cell.specs.Cell.{rest_of}
+use Rattle.async_once_cell.specs.Machine.{given, put_value}
+
+-- the answers of a lazy init that are left, the next one first
+abbrev pub answers_in : Script → List (Option ℕ)
+answers_in s = reverse s.answers.items
+
+-- what the init answers now
+abbrev pub next_of : Script → Answer
+next_of s = given s.lazy (answers_in s) s.answer
+
+abbrev pub polled_of : Answer → Polled
+polled_of RanPending = PolledPending
+polled_of (RanValue v) = PolledValue
+polled_of (RanError e) = PolledError
+
+-- a value or an error is kept
+abbrev pub kept_after : Answer → Answer → Answer
+kept_after RanPending old = old
+kept_after a old = a
+
+pub record DidRun (s : Script) (r : Polled) (t : Script) : Type 0 where
+  pub ran : t.ran ≡ Some (next_of s)
+  pub polled : r ≡ polled_of (next_of s)
+  pub kept : t.kept ≡ kept_after (next_of s) s.kept
+  pub answers : answers_in t ≡ rest_of (answers_in s)
+  pub lazy : t.lazy ≡ s.lazy
+  pub value : t.value ≡ s.value
+  pub handed : t.handed ≡ s.handed
+
+abbrev pub DidClose : Script → Script → Type 0
+DidClose s t = t ≡ s
+
+abbrev pub DidPut : Script → Script → Type 0
+DidPut s t = t ≡ record s { value = put_value s.kept s.value }
+
+abbrev pub DidCopy : Script → Option ℕ → Script → Type 0
+DidCopy s w t = (w ≡ Some s.waker) × (t ≡ s)
+
+abbrev pub DidWake : Script → Vec ℕ Global → Script → Type 0
+DidWake s X t = t ≡ record s { handed = Some X }

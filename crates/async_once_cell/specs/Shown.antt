@@ -1,0 +1,62 @@
+-- The program's values, with their vectors, as the definitions see them.
+use Rattle.std.specs.Prelude.{ℕ, Bool, List, Option, map, reverse}
+use Rattle.std.specs.Ordering.{nat_cmp}
+use Rattle.std.specs.BTreeMap.{get}
+use Rattle.async_once_cell.specs.declared.world.Kind.{Kind as GivenKind}
+use Rattle.async_once_cell.specs.declared.world.Kind.TheVariants.{Once as GivenOnce, OnceWith as GivenOnceWith, Lazy as GivenLazy, LazyWith as GivenLazyWith}
+use Rattle.async_once_cell.specs.declared.world.Call.{Call}
+use Rattle.async_once_cell.specs.declared.world.Call.TheVariants.{Take as CallTake, Write as CallWrite, Parts as CallParts, ReplaceValue as CallReplaceValue, ReplaceAnswers as CallReplaceAnswers}
+use Rattle.async_once_cell.specs.declared.world.Got.{Got as GivenGot}
+use Rattle.async_once_cell.specs.declared.world.Got.TheVariants.{None as NoneGot, Value as ValueGot, Answers as AnswersGot}
+use Rattle.async_once_cell.specs.declared.world.Input.{Input as GivenInput}
+use Rattle.async_once_cell.specs.declared.world.Input.TheVariants.{Make as InputMake, Poll as InputPoll, Drop as InputDrop, Go as InputGo, Look as InputLook, Own as InputOwn}
+use Rattle.async_once_cell.specs.declared.world.Entry.{Entry as Written}
+use Rattle.async_once_cell.specs.declared.world.Entry.TheVariants.{Made as WrittenMade, Begin as WrittenBegin, Claim as WrittenClaim, Ran as WrittenRan, Free as WrittenFree, Fill as WrittenFill, End as WrittenEnd, DropBegin as WrittenDropBegin, DropEnd as WrittenDropEnd, Look as WrittenLook, Own as WrittenOwn}
+use Rattle.async_once_cell.specs.Record.{Kind, Once, OnceWith, Lazy, LazyWith, OwnerCall, Take, Write, Parts, ReplaceValue, ReplaceAnswers, Got, GotNone, GotValue, GotAnswers, Entry, Made, Begin, Claim, Ran, Free, Fill, End, DropBegin, DropEnd, Look, Own}
+use Rattle.async_once_cell.specs.Inputs.{Input, Make, Poll, Drop, Go, Looks, Owns}
+
+abbrev pub kind_of : GivenKind → Kind
+kind_of GivenOnce = Once
+kind_of (GivenOnceWith v) = OnceWith v
+kind_of (GivenLazy l) = Lazy l.items
+kind_of (GivenLazyWith v) = LazyWith v
+
+abbrev pub call_of : Call → OwnerCall
+call_of CallTake = Take
+call_of (CallWrite v) = Write v
+call_of CallParts = Parts
+call_of (CallReplaceValue v) = ReplaceValue v
+call_of (CallReplaceAnswers l) = ReplaceAnswers l.items
+
+abbrev pub got_of : GivenGot → Got
+got_of NoneGot = GotNone
+got_of (ValueGot v) = GotValue v
+got_of (AnswersGot l) = GotAnswers l.items
+
+abbrev pub input_of : GivenInput → Input
+input_of (InputMake t) = Make t
+input_of (InputPoll t w) = Poll t w
+input_of (InputDrop t) = Drop t
+input_of (InputGo t a granted) = Go t a granted
+input_of InputLook = Looks
+input_of (InputOwn c) = Owns (call_of c)
+
+abbrev pub entry_of : Written → Entry
+entry_of (WrittenMade t) = Made t
+entry_of (WrittenBegin t w) = Begin t w
+entry_of (WrittenClaim t) = Claim t
+entry_of (WrittenRan t a) = Ran t a
+entry_of (WrittenFree t X) = Free t X.items
+entry_of (WrittenFill t v X) = Fill t v X.items
+entry_of (WrittenEnd t r) = End t r
+entry_of (WrittenDropBegin t) = DropBegin t
+entry_of (WrittenDropEnd t) = DropEnd t
+entry_of (WrittenLook found) = Look found
+entry_of (WrittenOwn c g) = Own (call_of c) (got_of g)
+
+-- the newest first
+abbrev pub inputs_in : List GivenInput → List Input
+inputs_in inputs = reverse (map input_of inputs)
+
+abbrev pub history_in : List Written → List Entry
+history_in entries = reverse (map entry_of entries)

@@ -1,0 +1,8 @@
+//! Cells that are filled once, by a future.
+#![tactic(auto)]
+
+pub mod queue;
+pub mod step;
+#[cfg(test)]
+mod tests;
+pub mod world;
