@@ -5,7 +5,7 @@ use Rattle.async_once_cell.specs.Numbers.{member}
 use Rattle.async_once_cell.specs.Record.{Answer, RanPending, RanValue, RanError, Pending, Value, Error, Memory, Full, Kind, is_lazy, Entry, Made, Begin, Claim, Ran, Free, Fill, End, DropEnd, Look}
 use Rattle.async_once_cell.specs.Cell.{is_set, value_in, starts, first_answers, rest_of, next_answer}
 use Rattle.async_once_cell.specs.Inputs.{Input, Make, Poll, Drop, Go, Looks, Owns}
-use Rattle.async_once_cell.specs.Steps.{Ending, EndPending, EndValue, EndError, EndMemory, EndFull, EndDropped, is_value, RestList, RestRun, Place, AtList, AtRun, AtPut, AtRelease, Step, Resting, UnderWay, Finished, is_resting, begun}
+use Rattle.async_once_cell.specs.Steps.{Ending, EndPending, EndValue, EndError, EndMemory, EndFull, EndDropped, is_value, RestList, RestRun, AtList, AtRun, AtPut, AtRelease, Step, Resting, UnderWay, Finished, is_resting, in_call, begun}
 
 -- what all tasks share: whether the value is set, whether a task holds, who is listed, the value that was put last, and what a lazy init will still answer
 pub record Inner : Type 0 where
@@ -66,13 +66,17 @@ end_entry EndMemory t v k = End t Memory
 end_entry EndFull t v k = End t Full
 end_entry EndDropped t v k = DropEnd t
 
--- one step of the task t with the waker w and what its init gave so far, at its place, the init answering a
-abbrev pub advance : Bool → Inner → ℕ → ℕ → Answer → Answer → Place → Outcome
-advance lazy c t w k a AtList = list_step c.ready c.head c t w k
-advance lazy c t w k a AtRun = run_step (given lazy c.answers a) (record c { answers = rest_of c.answers }) t k
-advance lazy c t w k a AtPut = record { inner = record c { value = put_value k c.value }; step = UnderWay (AtRelease EndValue); kept = k; entries = [] }
-advance lazy c t w k a (AtRelease e) =
+-- one step of the task t with the waker w and what its init gave so far, the init answering a
+abbrev pub advance_at : Bool → Inner → ℕ → ℕ → Answer → Answer → Step → Outcome
+advance_at lazy c t w k a (UnderWay AtList) = list_step c.ready c.head c t w k
+advance_at lazy c t w k a (UnderWay AtRun) = run_step (given lazy c.answers a) (record c { answers = rest_of c.answers }) t k
+advance_at lazy c t w k a (UnderWay AtPut) = record { inner = record c { value = put_value k c.value }; step = UnderWay (AtRelease EndValue); kept = k; entries = [] }
+advance_at lazy c t w k a (UnderWay (AtRelease e)) =
     record { inner = record c { ready = is_value e; head = false; wakers = [] }; step = Finished; kept = k; entries = end_entry e t c.value k ∷ release_entry k t c.wakers ∷ [] }
+advance_at lazy c t w k a s = record { inner = c; step = s; kept = k; entries = [] }
+
+abbrev pub advance : Bool → Inner → ℕ → Task → Answer → Outcome
+advance lazy c t x a = advance_at lazy c t x.waker x.kept a x.step
 
 -- what is shared, the tasks by their numbers, and the record
 pub record World : Type 0 where
@@ -104,13 +108,13 @@ abbrev pub stepped : World → ℕ → Task → Outcome → World
 stepped w t x o = record { inner = o.inner; tasks = put_task t (record x { step = o.step; kept = o.kept }) w.tasks; history = o.entries ++ w.history }
 
 -- a step of t, where a call is under way
-abbrev pub gone_on : Bool → World → ℕ → Answer → Task → Step → World
-gone_on lazy w t a x (UnderWay p) = stepped w t x (advance lazy w.inner t x.waker x.kept a p)
-gone_on lazy w t a x _ = w
+abbrev pub gone_on : Bool → Bool → World → ℕ → Answer → Task → World
+gone_on true lazy w t a x = stepped w t x (advance lazy w.inner t x a)
+gone_on false lazy w t a x = w
 
 abbrev pub goes : Bool → World → ℕ → Answer → Option Task → World
 goes lazy w t a None = w
-goes lazy w t a (Some x) = gone_on lazy w t a x x.step
+goes lazy w t a (Some x) = gone_on (in_call x.step) lazy w t a x
 
 -- what a look finds
 abbrev pub looked : Inner → Option ℕ

@@ -1,5 +1,7 @@
 -- The program's values, with their vectors, as the definitions see them.
-use Rattle.std.specs.Prelude.{ℕ, Bool, List, Option, map, reverse}
+use Rattle.std.specs.Prelude.{ℕ, Bool, true, false, List, [], ◌∷◌, ◌++◌, Option, Some, None, map, reverse}
+use Rattle.std.specs.declared.vec.Vec.{Vec}
+use Rattle.std.specs.declared.alloc.Global.{Global}
 use Rattle.std.specs.Ordering.{nat_cmp}
 use Rattle.std.specs.BTreeMap.{get}
 use Rattle.async_once_cell.specs.declared.world.Kind.{Kind as GivenKind}
@@ -12,8 +14,13 @@ use Rattle.async_once_cell.specs.declared.world.Input.{Input as GivenInput}
 use Rattle.async_once_cell.specs.declared.world.Input.TheVariants.{Make as InputMake, Poll as InputPoll, Drop as InputDrop, Go as InputGo, Look as InputLook, Own as InputOwn}
 use Rattle.async_once_cell.specs.declared.world.Entry.{Entry as Written}
 use Rattle.async_once_cell.specs.declared.world.Entry.TheVariants.{Made as WrittenMade, Begin as WrittenBegin, Claim as WrittenClaim, Ran as WrittenRan, Free as WrittenFree, Fill as WrittenFill, End as WrittenEnd, DropBegin as WrittenDropBegin, DropEnd as WrittenDropEnd, Look as WrittenLook, Own as WrittenOwn}
-use Rattle.async_once_cell.specs.Record.{Kind, Once, OnceWith, Lazy, LazyWith, OwnerCall, Take, Write, Parts, ReplaceValue, ReplaceAnswers, Got, GotNone, GotValue, GotAnswers, Entry, Made, Begin, Claim, Ran, Free, Fill, End, DropBegin, DropEnd, Look, Own}
+use Rattle.async_once_cell.specs.declared.world.Inner.{Inner as Shared}
+use Rattle.async_once_cell.specs.declared.world.Seen.{Seen}
+use Rattle.async_once_cell.specs.declared.world.World.{World as Replay}
+use Rattle.async_once_cell.specs.Record.{Answer, Kind, Once, OnceWith, Lazy, LazyWith, OwnerCall, Take, Write, Parts, ReplaceValue, ReplaceAnswers, Got, GotNone, GotValue, GotAnswers, Entry, Made, Begin, Claim, Ran, Free, Fill, End, DropBegin, DropEnd, Look, Own}
 use Rattle.async_once_cell.specs.Inputs.{Input, Make, Poll, Drop, Go, Looks, Owns}
+use Rattle.async_once_cell.specs.Steps.{Progress, More, Ended}
+use Rattle.async_once_cell.specs.Machine.{Inner, World, release_entry, end_entry}
 
 abbrev pub kind_of : GivenKind → Kind
 kind_of GivenOnce = Once
@@ -60,3 +67,30 @@ inputs_in inputs = reverse (map input_of inputs)
 
 abbrev pub history_in : List Written → List Entry
 history_in entries = reverse (map entry_of entries)
+
+abbrev pub inner_of : Shared → Inner
+inner_of c = record { ready = c.plain.ready; head = c.plain.lists.head; wakers = c.plain.lists.wakers.items; value = c.script.value; answers = reverse c.script.answers.items }
+
+abbrev pub world_in : Replay → World
+world_in w = record { inner = inner_of w.inner; tasks = λ t. get nat_cmp w.tasks t; history = history_in w.entries.items }
+
+-- the entries of what a step was seen to do, the newest first
+abbrev pub claim_entries : Bool → ℕ → List Entry
+claim_entries true t = Claim t ∷ []
+claim_entries false t = []
+
+abbrev pub ran_entries : Option Answer → ℕ → List Entry
+ran_entries (Some a) t = Ran t a ∷ []
+ran_entries None t = []
+
+abbrev pub handed_entries : Option (Vec ℕ Global) → ℕ → Answer → List Entry
+handed_entries (Some X) t k = release_entry k t X.items ∷ []
+handed_entries None t k = []
+
+abbrev pub progress_entries : Progress → ℕ → ℕ → Answer → List Entry
+progress_entries (Ended e) t v k = end_entry e t v k ∷ []
+progress_entries More t v k = []
+
+-- the entries of a step of t that was seen to do this, where its init gave k and the value v is set
+abbrev pub told : ℕ → Seen → Answer → ℕ → List Entry
+told t s k v = progress_entries s.progress t v k ++ handed_entries s.handed t k ++ ran_entries s.ran t ++ claim_entries s.claimed t

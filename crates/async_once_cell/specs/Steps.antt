@@ -29,6 +29,11 @@ abbrev pub in_call : Step → Bool
 in_call (UnderWay p) = true
 in_call _ = false
 
+-- the next step polls the init
+abbrev pub is_running : Step → Bool
+is_running (UnderWay AtRun) = true
+is_running _ = false
+
 -- how many steps a call at this place may still take
 abbrev pub left_at : Place → ℕ
 left_at AtList = 9

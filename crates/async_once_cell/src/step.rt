@@ -133,7 +133,7 @@ pub enum Step {
 }
 
 impl Step {
-    ghost use Rattle.async_once_cell.specs.Steps.{left_of, is_resting, in_call, begun, is_value, AfterRun, AfterCopy, AfterRelease, Advances};
+    ghost use Rattle.async_once_cell.specs.Steps.{left_of, is_resting, in_call, is_running, begun, is_value, AfterRun, AfterCopy, AfterRelease, Advances};
 
     /// A task that was not polled yet.
     pub fn new() -> Self
@@ -147,6 +147,20 @@ impl Step {
         ensures { IsTrue result ↔ (self.now ≡ Step.Finished) }
     {
         matches!(self, Step::Finished)
+    }
+
+    /// Whether a call may begin: none is under way, and the last one did not end for good.
+    pub fn is_resting(&self) -> bool
+        ensures { result ≡ is_resting self.now }
+    {
+        matches!(self, Step::Resting(_))
+    }
+
+    /// Whether the next step polls the init.
+    pub fn is_running(&self) -> bool
+        ensures { result ≡ is_running self.now }
+    {
+        matches!(self, Step::UnderWay(Place::Run))
     }
 
     /// How many steps the call may still take at most; 0 where none is under way.

@@ -1,8 +1,10 @@
 //! A cell and any number of tasks, replayed one step at a time.
-ghost use Rattle.std.specs.Prelude.{◌≡◌, ◌<◌, ◌≤◌, ◌++◌, true, false, [], Some, None, OnOk, IfOk, reverse, vec_len, vec_capacity};
+ghost use Rattle.std.specs.Prelude.{◌≡◌, ◌<◌, ◌≤◌, ◌++◌, ℕ, Bool, true, false, [], Some, None, OnOk, IfOk, reverse, vec_len, vec_capacity};
+ghost use Rattle.async_once_cell.specs.Machine.{history_of, error_in as error_of, release_entry as released, end_entry as ended};
+ghost use Rattle.async_once_cell.specs.Shown.{entry_of, history_in, inputs_in, kind_of, told};
 
 use crate::queue::MAX_WAITERS;
-use crate::step::{Ending, Place, Plain, Polled, Progress, Side, Step};
+use crate::step::{Ending, Plain, Polled, Progress, Side, Step};
 use std::alloc::{AllocError, Global};
 use std::collections::BTreeMap;
 
@@ -240,9 +242,15 @@ struct Seen {
 }
 
 impl Inner {
+    ghost use Rattle.async_once_cell.specs.Record.{is_lazy};
     ghost use Rattle.async_once_cell.specs.Steps.{in_call};
+    ghost use Rattle.async_once_cell.specs.Machine.{opening, looked, advance as outcome};
+    ghost use Rattle.async_once_cell.specs.Shown.{kind_of, inner_of, told};
 
-    fn new(alloc: Global, kind: Kind) -> Self {
+    fn new(alloc: Global, kind: Kind) -> Self
+        ensures inner { inner_of result ≡ (opening (kind_of kind)).inner }
+        ensures lazy { result.script.lazy ≡ is_lazy (kind_of kind) }
+    {
         let lazy = matches!(&kind, Kind::Lazy(_) | Kind::LazyWith(_));
         let (value, answers) = match kind {
             Kind::Once => (None, Vec::new(alloc)),
@@ -269,7 +277,9 @@ impl Inner {
     }
 
     // What a look finds.
-    fn look(&self) -> Option<u64> {
+    fn look(&self) -> Option<u64>
+        ensures { result ≡ looked (inner_of self.now) }
+    {
         if self.plain.ready {
             Some(self.script.value)
         } else {
@@ -277,18 +287,35 @@ impl Inner {
         }
     }
 
+    // Makes the room that one step may need. Where that is refused all is as it was.
+    fn reserve(&mut self) -> Result<(), AllocError>
+        ensures room { OnOk result (vec_len self.new.plain.lists.wakers < vec_capacity self.new.plain.lists.wakers) }
+        ensures inner { inner_of self.new ≡ inner_of self.old }
+        ensures lazy { self.new.script.lazy ≡ self.old.script.lazy }
+    {
+        self.plain.reserve()
+    }
+
     // Makes one step of a task with a call under way, whose init answers so.
     fn advance(&mut self, task: &mut Task, answer: Ran, limit: u64) -> Seen
-        requires { in_call task.old.step ≡ true }
+        requires call { in_call task.old.step ≡ true }
+        requires room { vec_len self.old.plain.lists.wakers < vec_capacity self.old.plain.lists.wakers }
+        ensures inner { (t : ℕ) → inner_of self.new ≡ (outcome self.old.script.lazy (inner_of self.old) t task.old answer).inner }
+        ensures step { (t : ℕ) → task.new.step ≡ (outcome self.old.script.lazy (inner_of self.old) t task.old answer).step }
+        ensures kept { (t : ℕ) → task.new.kept ≡ (outcome self.old.script.lazy (inner_of self.old) t task.old answer).kept }
+        ensures waker { task.new.waker ≡ task.old.waker }
+        ensures seen { (t : ℕ) → told t result task.new.kept self.new.script.value ≡ (outcome self.old.script.lazy (inner_of self.old) t task.old answer).entries }
+        ensures lazy { self.new.script.lazy ≡ self.old.script.lazy }
     {
+        self.script.ran = None;
+        self.script.handed = None;
         self.script.answer = answer;
         self.script.waker = task.waker;
         self.script.kept = task.kept;
         let progress = task.step.advance(&mut self.plain, &mut self.script, limit);
         task.kept = self.script.kept;
-        let running = matches!(&task.step, Step::UnderWay(Place::Run));
         Seen {
-            claimed: running,
+            claimed: task.step.is_running(),
             ran: self.script.ran.take(),
             handed: self.script.handed.take(),
             progress,
@@ -306,7 +333,15 @@ struct World {
 }
 
 impl World {
-    fn new(alloc: Global, kind: Kind, limit: u64) -> Self {
+    ghost use Rattle.async_once_cell.specs.Record.{is_lazy};
+    ghost use Rattle.async_once_cell.specs.Inputs.{Make as Making, Poll as Polling, Go as Going};
+    ghost use Rattle.async_once_cell.specs.Machine.{opening, after};
+    ghost use Rattle.async_once_cell.specs.Shown.{kind_of, input_of, world_in};
+
+    fn new(alloc: Global, kind: Kind, limit: u64) -> Self
+        ensures world { world_in result ≡ opening (kind_of kind) }
+        ensures lazy { result.inner.script.lazy ≡ is_lazy (kind_of kind) }
+    {
         World {
             limit,
             inner: Inner::new(alloc, kind),
@@ -316,11 +351,14 @@ impl World {
     }
 
     // Takes one input.
-    fn take(&mut self, input: &Input) -> Result<(), AllocError> {
+    fn take(&mut self, input: &Input) -> Result<(), AllocError>
+        ensures world { OnOk result (world_in self.new ≡ after self.old.inner.script.lazy (world_in self.old) (input_of input.now)) }
+        ensures lazy { self.new.inner.script.lazy ≡ self.old.inner.script.lazy }
+    {
         match input {
             Input::Make(t) => self.make(*t),
             Input::Poll(t, waker) => self.poll(*t, *waker),
-            Input::Go(t, answer, _) => self.go(*t, *answer),
+            Input::Go(t, answer, granted) => self.go(*t, *answer, *granted),
             Input::Look => {
                 self.entries.push(Entry::Look(self.inner.look()))?;
                 Ok(())
@@ -329,7 +367,10 @@ impl World {
         }
     }
 
-    fn make(&mut self, t: u64) -> Result<(), AllocError> {
+    fn make(&mut self, t: u64) -> Result<(), AllocError>
+        ensures world { OnOk result (world_in self.new ≡ after self.old.inner.script.lazy (world_in self.old) (Making t)) }
+        ensures inner { self.new.inner ≡ self.old.inner }
+    {
         if self.tasks.contains_key(&t) {
             return Ok(());
         }
@@ -345,11 +386,14 @@ impl World {
         Ok(())
     }
 
-    fn poll(&mut self, t: u64, waker: u64) -> Result<(), AllocError> {
+    fn poll(&mut self, t: u64, waker: u64) -> Result<(), AllocError>
+        ensures world { OnOk result (world_in self.new ≡ after self.old.inner.script.lazy (world_in self.old) (Polling t waker)) }
+        ensures inner { self.new.inner ≡ self.old.inner }
+    {
         let Some(task) = self.tasks.get_mut(&t) else {
             return Ok(());
         };
-        if !matches!(&task.step, Step::Resting(_)) {
+        if !task.step.is_resting() {
             return Ok(());
         }
         task.waker = waker;
@@ -358,21 +402,28 @@ impl World {
         Ok(())
     }
 
-    fn go(&mut self, t: u64, answer: Ran) -> Result<(), AllocError> {
+    fn go(&mut self, t: u64, answer: Ran, _granted: bool) -> Result<(), AllocError>
+        ensures world { OnOk result (world_in self.new ≡ after self.old.inner.script.lazy (world_in self.old) (Going t answer _granted)) }
+        ensures lazy { self.new.inner.script.lazy ≡ self.old.inner.script.lazy }
+    {
         let Some(task) = self.tasks.get_mut(&t) else {
             return Ok(());
         };
         if task.step.left() == 0 {
             return Ok(());
         }
-        self.inner.plain.reserve()?;
+        self.inner.reserve()?;
         let seen = self.inner.advance(task, answer, self.limit);
         let kept = task.kept;
         record_step(&mut self.entries, t, seen, kept, self.inner.script.value)
     }
 
     // The record so far.
-    fn into_record(self, alloc: Global) -> Record {
+    fn into_record(self, alloc: Global) -> Record
+        ensures entries { history_in result.entries.items ≡ (world_in self).history }
+        ensures queues { result.queues.items ≡ [] }
+        ensures queue { result.queue ≡ None }
+    {
         Record {
             entries: self.entries,
             queues: Vec::new(alloc),
@@ -388,7 +439,9 @@ fn record_step(
     seen: Seen,
     kept: Ran,
     value: u64,
-) -> Result<(), AllocError> {
+) -> Result<(), AllocError>
+    ensures { OnOk result (history_in entries.new.items ≡ told t seen kept value ++ history_in entries.old.items) }
+{
     let Seen {
         claimed,
         ran,
@@ -402,26 +455,42 @@ fn record_step(
         entries.push(Entry::Ran(t, answer))?;
     }
     if let Some(wakers) = handed {
-        entries.push(match kept {
-            Ran::Value(v) => Entry::Fill(t, v, wakers),
-            _ => Entry::Free(t, wakers),
-        })?;
+        entries.push(release_entry(t, kept, wakers))?;
     }
     if let Progress::Ended(ending) = progress {
-        entries.push(match ending {
-            Ending::Pending => Entry::End(t, Reply::Pending),
-            Ending::Value => Entry::End(t, Reply::Value(value)),
-            Ending::Error => Entry::End(t, Reply::Error(error_in(kept))),
-            Ending::Memory => Entry::End(t, Reply::Memory),
-            Ending::Full => Entry::End(t, Reply::Full),
-            Ending::Dropped => Entry::DropEnd(t),
-        })?;
+        entries.push(end_entry(t, ending, kept, value))?;
     }
     Ok(())
 }
 
+// The release of a task whose init gave this: a value fills the cell.
+fn release_entry(t: u64, kept: Ran, wakers: Vec<u64>) -> Entry
+    ensures { entry_of result ≡ released kept t wakers.items }
+{
+    match kept {
+        Ran::Value(v) => Entry::Fill(t, v, wakers),
+        _ => Entry::Free(t, wakers),
+    }
+}
+
+// How a call ends, where its init gave this and this value is set.
+fn end_entry(t: u64, ending: Ending, kept: Ran, value: u64) -> Entry
+    ensures { entry_of result ≡ ended ending t value kept }
+{
+    match ending {
+        Ending::Pending => Entry::End(t, Reply::Pending),
+        Ending::Value => Entry::End(t, Reply::Value(value)),
+        Ending::Error => Entry::End(t, Reply::Error(error_in(kept))),
+        Ending::Memory => Entry::End(t, Reply::Memory),
+        Ending::Full => Entry::End(t, Reply::Full),
+        Ending::Dropped => Entry::DropEnd(t),
+    }
+}
+
 // The error that an init gave.
-fn error_in(kept: Ran) -> u64 {
+fn error_in(kept: Ran) -> u64
+    ensures { result ≡ error_of kept }
+{
     match kept {
         Ran::Error(e) => e,
         _ => 0,
@@ -432,6 +501,9 @@ fn error_in(kept: Ran) -> u64 {
 pub fn replay(alloc: Global, kind: Kind, limit: u64, inputs: &[Input]) -> Result<Record, AllocError>
     requires some { 0 < limit }
     requires within { limit ≤ MAX_WAITERS }
+    ensures exact { IfOk result (λ r. history_in r.entries.items ≡ history_of (kind_of kind) (inputs_in inputs.now)) }
+    ensures queues { IfOk result (λ r. r.queues.items ≡ []) }
+    ensures queue { IfOk result (λ r. r.queue ≡ None) }
 {
     let mut world = World::new(alloc, kind, limit);
     for input in inputs {
