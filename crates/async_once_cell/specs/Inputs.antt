@@ -29,21 +29,21 @@ entries_of [] = []
 entries_of (p ∷ before) = p.entries ++ entries_of before
 
 -- what a Make, a Poll and a Drop add, by the status of their task: nothing where they do not fit
-abbrev pub made_by : Status → ℕ → List Entry
-made_by Unmade t = Made t ∷ []
-made_by _ t = []
+abbrev pub make_part : Status → ℕ → List Entry
+make_part Unmade t = Made t ∷ []
+make_part _ t = []
 
-abbrev pub begun_by : Status → ℕ → ℕ → List Entry
-begun_by Fresh t w = Begin t w ∷ []
-begun_by Waiting t w = Begin t w ∷ []
-begun_by Holding t w = Begin t w ∷ []
-begun_by _ t w = []
+abbrev pub poll_part : Status → ℕ → ℕ → List Entry
+poll_part Fresh t w = Begin t w ∷ []
+poll_part Waiting t w = Begin t w ∷ []
+poll_part Holding t w = Begin t w ∷ []
+poll_part _ t w = []
 
-abbrev pub dropped_by : Status → ℕ → List Entry
-dropped_by Fresh t = DropEnd t ∷ DropBegin t ∷ []
-dropped_by Waiting t = DropBegin t ∷ []
-dropped_by Holding t = DropBegin t ∷ []
-dropped_by _ t = []
+abbrev pub drop_part : Status → ℕ → List Entry
+drop_part Fresh t = DropEnd t ∷ DropBegin t ∷ []
+drop_part Waiting t = DropBegin t ∷ []
+drop_part Holding t = DropBegin t ∷ []
+drop_part _ t = []
 
 -- the init of a once cell answers what the Go says
 abbrev pub IsAsked : Kind → Answer → Answer → Type 0
@@ -77,17 +77,17 @@ AreOfGo false kind t a entries = entries ≡ []
 abbrev pub fits_owner : Kind → OwnerCall → List Entry → Bool
 fits_owner kind o before = cond (all_gone kind before) (has_call kind o) false
 
-abbrev pub owned_by : Bool → OwnerCall → Got → List Entry
-owned_by true o g = Own o g ∷ []
-owned_by false o g = []
+abbrev pub own_part : Bool → OwnerCall → Got → List Entry
+own_part true o g = Own o g ∷ []
+own_part false o g = []
 
 -- an input adds these entries to those before
 abbrev pub Adds : Kind → Input → List Entry → List Entry → Type 0
-Adds kind (Make t) before entries = entries ≡ made_by (status kind t before) t
-Adds kind (Poll t w) before entries = entries ≡ begun_by (status kind t before) t w
-Adds kind (Drop t) before entries = entries ≡ dropped_by (status kind t before) t
+Adds kind (Make t) before entries = entries ≡ make_part (status kind t before) t
+Adds kind (Poll t w) before entries = entries ≡ poll_part (status kind t before) t w
+Adds kind (Drop t) before entries = entries ≡ drop_part (status kind t before) t
 Adds kind (Go t a granted) before entries = AreOfGo (is_under_way (status kind t before)) kind t a entries
-Adds kind (Owns o) before entries = entries ≡ owned_by (fits_owner kind o before) o (got o (cell kind before) (answers_left kind before))
+Adds kind (Owns o) before entries = entries ≡ own_part (fits_owner kind o before) o (got o (cell kind before) (answers_left kind before))
 Adds kind Looks before entries = entries ≡ Look (value_in (cell kind before)) ∷ []
 
 -- a call of t begins in these entries

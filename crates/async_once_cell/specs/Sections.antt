@@ -7,16 +7,16 @@ abbrev pub is_ready : ℕ → Bool
 is_ready word = nat_le (2 ^ 63) word
 
 -- the word, or the flag beside the list, says that some task holds
-abbrev pub is_held : ℕ → Bool → Bool
-is_held word head = nat_le (2 ^ 62) (word % 2 ^ 63) || head
+abbrev pub says_held : ℕ → Bool → Bool
+says_held word head = nat_le (2 ^ 62) (word % 2 ^ 63) || head
 
 -- the value is not set, and nobody holds
 abbrev pub is_free : ℕ → Bool → Bool
-is_free word head = not (is_ready word) && not (is_held word head)
+is_free word head = not (is_ready word) && not (says_held word head)
 
 -- the value is not set, and some task holds
 abbrev pub is_taken : ℕ → Bool → Bool
-is_taken word head = not (is_ready word) && is_held word head
+is_taken word head = not (is_ready word) && says_held word head
 
 module _ {W : Type 0} (same : W → W → Type 0) where
   -- some listed waker was told to be the same

@@ -1,6 +1,8 @@
 //! A cell and any number of tasks, replayed one step at a time.
 ghost use Rattle.std.specs.Prelude.{◌≡◌, ◌<◌, ◌≤◌, ◌++◌, ℕ, Bool, true, false, [], Some, None, OnOk, IfOk, reverse, vec_len, vec_capacity};
-ghost use Rattle.async_once_cell.specs.Machine.{history_of, error_in as error_of, release_entry as released, end_entry as ended};
+ghost use Rattle.async_once_cell.specs.Run.{AtEvery, IsRun, NobodyForgotten};
+ghost use Rattle.async_once_cell.specs.Inputs.{Belongs};
+ghost use Rattle.async_once_cell.specs.Machine.{history_of, taken, error_in as error_of, release_entry as released, end_entry as ended};
 ghost use Rattle.async_once_cell.specs.Shown.{entry_of, history_in, inputs_in, kind_of, told};
 
 use crate::queue::MAX_WAITERS;
@@ -497,11 +499,28 @@ fn error_in(kept: Ran) -> u64
     }
 }
 
-/// The record of these inputs over a cell of this kind, in which at most `limit` tasks wait.
+/// Replays these inputs over a cell of this kind, in which at most `limit` tasks may wait.
+///
+/// The record tells each call, each answer and each waker handed out, in the order in which they
+/// came. It is a run of a cell that is empty, held by one task or set, whatever the inputs are. An
+/// input that does not fit is passed over. So far the machine below takes `Make`, `Poll`, `Go` and
+/// `Look`, and passes over every other input.
+///
+/// `AllocError` says that the record or the world could not grow; nothing else is refused.
 pub fn replay(alloc: Global, kind: Kind, limit: u64, inputs: &[Input]) -> Result<Record, AllocError>
     requires some { 0 < limit }
     requires within { limit ≤ MAX_WAITERS }
+
+    // The record is the machine's.
     ensures exact { IfOk result (λ r. history_in r.entries.items ≡ history_of (kind_of kind) (inputs_in inputs.now)) }
+
+    // Each entry may come after those before it; nobody who waits is forgotten; and the record falls
+    // into parts, one for each input that the machine takes.
+    ensures run { IfOk result (λ r. IsRun (kind_of kind) limit (history_in r.entries.items)) }
+    ensures nobody_forgotten { IfOk result (λ r. AtEvery (NobodyForgotten (kind_of kind)) (history_in r.entries.items)) }
+    ensures belongs { IfOk result (λ r. Belongs (kind_of kind) (taken (inputs_in inputs.now)) (history_in r.entries.items)) }
+
+    // There is no door yet.
     ensures queues { IfOk result (λ r. r.queues.items ≡ []) }
     ensures queue { IfOk result (λ r. r.queue ≡ None) }
 {
