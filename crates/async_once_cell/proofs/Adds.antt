@@ -7,7 +7,6 @@ use Rattle.async_once_cell.specs.Tasks.{Fresh, Gone, Holding, Polling, Waiting, 
 use Rattle.async_once_cell.specs.Inputs.{Adds, AreOfStep, Drop, Go, Input, IsAsked, IsOfStep, Looks, Make, Owns, Poll, begins_call, ends_for_memory, gos_after, is_fitting_go, make_part, poll_part}
 use Rattle.async_once_cell.specs.Steps.{AtList, AtPut, AtRelease, AtRun, EndDropped, EndError, EndFull, EndMemory, EndPending, EndValue, Ending, Finished, Place, Rest, RestList, RestRun, Resting, Step, UnderWay, begun, begun_at, in_call, is_resting, left_at, left_of}
 use Rattle.async_once_cell.specs.Machine.{Inner, Outcome, Task, World, advance, advance_at, after, begun_by, fresh_task, given, goes, gone_on, list_step, looked, made, polled, put_task, release_entry, run_step}
-use Rattle.async_once_cell.specs.Shown.{told}
 use Rattle.async_once_cell.proofs.Members.{eqb_self}
 use Rattle.async_once_cell.proofs.Fits.{AtPlace, AtRest, AtStep, Fits, Releasing, Rests, StandsFor}
 use Rattle.async_once_cell.proofs.Headline.{looked_is}

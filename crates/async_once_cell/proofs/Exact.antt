@@ -1,20 +1,19 @@
 -- One step over the plain parts and the script is one step of the machine.
-use Rattle.std.proofs.Common.{◌≡◌, ◌≢◌, ℕ, ◌<◌, Bool, true, false, cond, ◌==◌, ◌⊎◌, inl, inr, ⊎_elim, List, [], ◌∷◌, ◌++◌, Option, Some, None, refl, sym, ap, ◌∙◌, subst, arith, reverse, vec_len, vec_capacity}
+use Rattle.std.proofs.Common.{◌≡◌, ◌≢◌, ℕ, ◌<◌, Bool, true, false, inl, inr, [], ◌++◌, Option, Some, None, refl, sym, ap, ◌∙◌, subst, arith, vec_len, vec_capacity}
 use Rattle.std.specs.declared.vec.Vec.{Vec}
 use Rattle.std.specs.declared.alloc.Global.{Global}
 use Rattle.async_once_cell.specs.declared.queue.Op.{Op}
-use Rattle.async_once_cell.specs.declared.queue.Op.TheVariants.{List as ListOp, Release as ReleaseOp}
+use Rattle.async_once_cell.specs.declared.queue.Op.TheVariants.{List as ListOp}
 use Rattle.async_once_cell.specs.declared.queue.Answer.{Answer as SectionAnswer}
 use Rattle.async_once_cell.specs.declared.queue.Answer.TheVariants.{Ready, Claimed, Listed, Held as NotListed, Memory as NoMemory, Released, Gone}
 use Rattle.async_once_cell.specs.declared.step.Polled.{Polled}
 use Rattle.async_once_cell.specs.declared.world.Script.{Script}
-use Rattle.async_once_cell.specs.Numbers.{member}
-use Rattle.async_once_cell.specs.Record.{Answer, RanPending, RanValue, RanError, Entry}
+use Rattle.async_once_cell.specs.Record.{Answer, RanPending, RanValue, RanError}
 use Rattle.async_once_cell.specs.Cell.{rest_of}
 use Rattle.async_once_cell.specs.Sections.{Listing}
-use Rattle.async_once_cell.specs.Steps.{Ending, EndPending, EndValue, EndError, EndMemory, EndFull, EndDropped, is_value, is_running, Progress, More, Ended, RestList, RestRun, AtList, AtRun, AtPut, AtRelease, Step, Resting, UnderWay, Finished, AfterList, AfterRun, AfterRelease, AfterCopy, Advances}
-use Rattle.async_once_cell.specs.Plain.{Free, IsAll, Sections}
-use Rattle.async_once_cell.specs.Machine.{Inner, Outcome, listed, given, list_step, run_step, put_value, advance_at}
+use Rattle.async_once_cell.specs.Steps.{Ending, EndPending, EndValue, is_value, is_running, Progress, More, Ended, RestList, AtList, AtRun, AtPut, AtRelease, Step, Resting, UnderWay, Finished, AfterList, AfterRun, AfterRelease, AfterCopy, Advances}
+use Rattle.async_once_cell.specs.Plain.{IsAll, Sections}
+use Rattle.async_once_cell.specs.Machine.{Inner, Outcome, listed, list_step, run_step, advance_at}
 use Rattle.async_once_cell.specs.Script.{answers_in, next_of, polled_of, kept_after, DidRun, DidClose, DidPut, DidCopy, DidWake}
 use Rattle.async_once_cell.specs.Shown.{claim_entries, ran_entries, handed_entries, progress_entries}
 use Rattle.async_once_cell.proofs.Listed.{listed_member, other_member}

@@ -1,5 +1,5 @@
 -- The headline: the record of every list of inputs is a run.
-use Rattle.std.proofs.Common.{◌≡◌, ◌≢◌, ℕ, Bool, true, false, cond, ◌==◌, ◌⊎◌, inl, inr, List, [], ◌∷◌, ◌++◌, Option, Some, None, refl, sym, ap, ◌∙◌, subst, arith}
+use Rattle.std.proofs.Common.{◌≡◌, ℕ, Bool, true, false, inl, inr, List, [], ◌∷◌, ◌++◌, Option, Some, None, refl, arith}
 use Rattle.std.proofs.lemmas.Bool.{ne_eqb, false≢true}
 use Rattle.async_once_cell.specs.Record.{Answer, Begin, Entry, Kind, Lazy, LazyWith, Look, Made, Once, OnceWith, is_lazy}
 use Rattle.async_once_cell.specs.Cell.{Cell, Empty, Held, SetTo, cell, is_set, starts, value_in}

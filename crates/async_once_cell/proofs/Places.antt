@@ -1,6 +1,6 @@
 -- One lemma for each place and outcome: what a step owes.
-use Rattle.std.proofs.Common.{◌≡◌, ◌≢◌, ℕ, Bool, true, false, cond, ◌==◌, ◌⊎◌, inl, inr, List, [], ◌∷◌, ◌++◌, Option, Some, None, refl, sym, ap, ◌∙◌, subst, arith}
-use Rattle.std.proofs.lemmas.Bool.{ne_eqb, false≢true, eqb-true}
+use Rattle.std.proofs.Common.{◌≡◌, ◌≢◌, ℕ, Bool, true, false, cond, ◌==◌, inl, inr, List, [], ◌∷◌, ◌++◌, Option, Some, None, refl, sym, ap, ◌∙◌, subst, arith}
+use Rattle.std.proofs.lemmas.Bool.{ne_eqb}
 use Rattle.std.proofs.lemmas.Bool.Decides.{nat_tests}
 use Rattle.async_once_cell.specs.Record.{Answer, Claim, End, Entry, Error, Fill, Free, Kind, Lazy, LazyWith, Once, OnceWith, Pending, Ran, RanError, RanPending, RanValue, Value, is_lazy, is_of, is_own}
 use Rattle.async_once_cell.specs.Cell.{Cell, Empty, Held, IsNext, SetTo, answers_left, cell, is_held, is_set, next_answer, rest_of}
@@ -8,7 +8,7 @@ use Rattle.async_once_cell.specs.Tasks.{Holding, Polling, Waiting, last_poll, st
 use Rattle.async_once_cell.specs.Wakers.{is_held_by_other}
 use Rattle.async_once_cell.specs.Run.{IsLegal, IsRun}
 use Rattle.async_once_cell.specs.Steps.{AtList, AtPut, AtRelease, AtRun, EndDropped, EndError, EndFull, EndMemory, EndPending, EndValue, Ending, Place, UnderWay}
-use Rattle.async_once_cell.specs.Machine.{Inner, Outcome, advance_at, after, given, list_step, listed, put_value, run_step}
+use Rattle.async_once_cell.specs.Machine.{Inner, Outcome, advance_at, given, list_step, listed, put_value, run_step}
 use Rattle.async_once_cell.proofs.Members.{eqb_self}
 use Rattle.async_once_cell.proofs.Others.{Keeps, holds, keeps_all, keeps_both, legal_keeps, polls_awake}
 use Rattle.async_once_cell.proofs.Waiters.{ListFits, hands_out, listing, quiet, released}

@@ -1,11 +1,11 @@
 -- The program's world after an input is the machine's.
-use Rattle.std.proofs.Common.{◌≡◌, ℕ, Bool, true, false, cond, ◌==◌, List, [], ◌∷◌, ◌++◌, Option, Some, None, IsSome, refl, sym, ap, ◌∙◌, arith}
+use Rattle.std.proofs.Common.{◌≡◌, ℕ, Bool, true, cond, ◌∷◌, ◌++◌, Some, IsSome, refl, ap, ◌∙◌}
 use Rattle.std.specs.Ordering.{nat_cmp}
 use Rattle.std.specs.Cmp.{unsigned_tied}
 use Rattle.std.specs.BTreeMap.{BTreeMap, get, WritesThrough}
-use Rattle.async_once_cell.specs.Record.{Answer, Entry, Begin}
+use Rattle.async_once_cell.specs.Record.{Answer, Begin}
 use Rattle.async_once_cell.specs.Steps.{Step, is_resting, in_call, begun}
-use Rattle.async_once_cell.specs.Machine.{Task, Inner, Outcome, World, put_task, polled, stepped, advance, goes}
+use Rattle.async_once_cell.specs.Machine.{Task, Outcome, World, put_task, polled, stepped, advance, goes}
 
 -- a map in which y was written over x at t, as a function from numbers to tasks
 pub tasks_written : (m n : BTreeMap ℕ Task) (t : ℕ) (x y : Task) → get nat_cmp m t ≡ Some x → WritesThrough nat_cmp (nat_cmp t) m y n

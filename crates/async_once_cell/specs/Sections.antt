@@ -1,5 +1,5 @@
 -- What a section under the queue's lock sees, answers and leaves.
-use Rattle.std.specs.Prelude.{◌≡◌, ℕ, ◌<◌, ◌^◌, ◌%◌, ◌⊎◌, ◌||◌, ◌&&◌, not, nat_le, Bool, true, false, List, [], ◌∷◌, ◌++◌, Option, Some, None, All, HoldsAt, MatchOption, length}
+use Rattle.std.specs.Prelude.{◌≡◌, ℕ, ◌<◌, ◌^◌, ◌%◌, ◌⊎◌, ◌||◌, ◌&&◌, not, nat_le, Bool, List, [], ◌∷◌, ◌++◌, Option, Some, None, All, HoldsAt, length}
 use Rattle.async_once_cell.specs.declared.queue.Answer.{Answer}
 
 -- the word says that the value is set

@@ -1,11 +1,11 @@
 -- The table of places: what one step does, by what the calls of the parts and of the side tell.
-use Rattle.std.specs.Prelude.{◌≡◌, ◌⊎◌, ℕ, Bool, true, false, Option, Some, None}
+use Rattle.std.specs.Prelude.{◌≡◌, ℕ, Bool, true, false, Option, Some, None}
 use Rattle.std.specs.declared.vec.Vec.{Vec}
 use Rattle.std.specs.declared.alloc.Global.{Global}
 use Rattle.async_once_cell.specs.declared.queue.Op.{Op}
 use Rattle.async_once_cell.specs.declared.queue.Op.TheVariants.{List as ListOp, Release as ReleaseOp}
 use Rattle.async_once_cell.specs.declared.queue.Answer.{Answer}
-use Rattle.async_once_cell.specs.declared.queue.Answer.TheVariants.{Ready, Claimed, Listed, Memory as NoMemory, Released}
+use Rattle.async_once_cell.specs.declared.queue.Answer.TheVariants.{Ready, Claimed, Memory as NoMemory, Released}
 use Rattle.async_once_cell.specs.declared.step.Polled.{Polled}
 use Rattle.async_once_cell.specs.declared.step.Polled.TheVariants.{Pending as PolledPending, Value as PolledValue, Error as PolledError}
 pub use Rattle.async_once_cell.specs.declared.step.Ending.{Ending}

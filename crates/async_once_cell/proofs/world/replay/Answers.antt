@@ -1,5 +1,5 @@
 -- What is proved of the machine's record holds of the program's.
-use Rattle.std.proofs.Common.{◌≡◌, reverse, subst, sym, arith}
+use Rattle.std.proofs.Common.{◌≡◌, subst, sym, arith}
 use Rattle.std.proofs.lemmas.Grind.{common_steps}
 use Rattle.async_once_cell.specs.Run.{AtEvery, IsRun, NobodyForgotten}
 use Rattle.async_once_cell.specs.Inputs.{Belongs}

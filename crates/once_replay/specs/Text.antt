@@ -1,0 +1,88 @@
+use Rattle.std.specs.Prelude.{ℕ, Bool, true, false, not, ◌&&◌, ◌||◌, List, [], ◌∷◌, ◌++◌, ◌≡◌, ◌^◌, ◌==◌, nat_lt, nat_le, length, slice_index, codes, Option, Some, None, if◌then◌else◌, replicate}
+use Rattle.std.specs.Option.{option_and_then}
+use Rattle.std.specs.List.{before_first, after_first}
+use Rattle.std.specs.Str.{all_ascii_digits}
+use Rattle.std.specs.Str.Parse.{digits_value}
+use Rattle.async_once_cell.specs.declared.queue.TheConstants.{MAX_WAITERS}
+use Rattle.async_once_cell.specs.declared.world.Kind.{Kind}
+use Rattle.async_once_cell.specs.declared.world.Kind.TheVariants.{Once, OnceWith, Lazy, LazyWith}
+use Rattle.async_once_cell.specs.declared.world.Ran.{Ran}
+use Rattle.async_once_cell.specs.declared.world.Ran.TheVariants.{Pending, Value, Error}
+use Rattle.async_once_cell.specs.declared.world.Input.{Input}
+use Rattle.async_once_cell.specs.declared.world.Input.TheVariants.{Make, Poll, Drop, Go, Look, Own}
+use Rattle.once_replay.specs.declared.parse.Line.{Line}
+use Rattle.once_replay.specs.declared.parse.Line.TheVariants.{Single, Run}
+
+-- no plus in front, and no zero before another character
+abbrev pub is_plain : List ℕ → Bool
+is_plain text = not (slice_index text 0 == 43) && (length text == 1 || not (slice_index text 0 == 48))
+
+-- one or more digits, with no zero before another digit, and below 2 ^ 64
+abbrev pub is_number : List ℕ → Bool
+is_number text = nat_lt 0 (length text) && all_ascii_digits text && is_plain text
+    && nat_lt (digits_value 10 text) (2 ^ 64)
+
+-- the number that a text is
+abbrev pub number_of : List ℕ → Option ℕ
+number_of text = if is_number text then Some (digits_value 10 text) else None
+
+-- how many tasks may wait, by a text
+abbrev pub limit_of : List ℕ → Option ℕ
+limit_of text = option_and_then (λ n. if nat_lt 0 n && nat_le n MAX_WAITERS then Some n else None) (number_of text)
+
+-- a text is the first line of a script of this kind, where so many tasks may wait
+abbrev pub IsOpening : Kind → ℕ → List ℕ → Type 0
+IsOpening Once limit text = (digits : List ℕ) × (text ≡ codes "once " ++ digits) × (limit_of digits ≡ Some limit)
+IsOpening (OnceWith value) limit text = ⊥
+IsOpening (Lazy answers) limit text = ⊥
+IsOpening (LazyWith value) limit text = ⊥
+
+-- the inputs that a line stands for
+abbrev pub inputs_of : Line → List Input
+inputs_of (Single input) = input ∷ []
+inputs_of (Run task answer memory) = replicate 16 (Go task answer memory)
+
+-- a text is this answer
+abbrev pub IsAnswer : Ran → List ℕ → Type 0
+IsAnswer Pending text = text ≡ codes "p"
+IsAnswer (Value value) text = (digits : List ℕ) × (text ≡ codes "v" ++ digits) × (number_of digits ≡ Some value)
+IsAnswer (Error error) text = (digits : List ℕ) × (text ≡ codes "e" ++ digits) × (number_of digits ≡ Some error)
+
+-- what stands before the first space of a text, and after it
+abbrev pub first_field : List ℕ → List ℕ
+first_field text = before_first (λ c. c == 32) text
+
+abbrev pub later_fields : List ℕ → List ℕ
+later_fields text = after_first (λ c. c == 32) text
+
+-- a text is these two numbers
+pub record IsPair (first second : ℕ) (text : List ℕ) : Type 0 where
+  pub digits : List ℕ
+  pub more : List ℕ
+  pub parts : text ≡ digits ++ (32 ∷ more)
+  pub first_number : number_of digits ≡ Some first
+  pub second_number : number_of more ≡ Some second
+
+-- a text is this task and this answer
+pub record IsStep (task : ℕ) (answer : Ran) (text : List ℕ) : Type 0 where
+  pub digits : List ℕ
+  pub given : List ℕ
+  pub parts : text ≡ digits ++ (32 ∷ given)
+  pub task_number : number_of digits ≡ Some task
+  pub is_answer : IsAnswer answer given
+
+-- a text is the line of this input
+abbrev pub IsInputLine : Input → List ℕ → Type 0
+IsInputLine (Make task) text = (digits : List ℕ) × (text ≡ codes "make " ++ digits) × (number_of digits ≡ Some task)
+IsInputLine (Poll task waker) text = (pair : List ℕ) × (text ≡ codes "poll " ++ pair) × IsPair task waker pair
+IsInputLine (Go task answer true) text = (step : List ℕ) × (text ≡ codes "go " ++ step) × IsStep task answer step
+IsInputLine (Go task answer false) text = ⊥
+IsInputLine (Drop task) text = ⊥
+IsInputLine Look text = text ≡ codes "look"
+IsInputLine (Own call) text = ⊥
+
+-- a text is this line
+abbrev pub IsLine : Line → List ℕ → Type 0
+IsLine (Single input) text = IsInputLine input text
+IsLine (Run task answer true) text = (step : List ℕ) × (text ≡ codes "run " ++ step) × IsStep task answer step
+IsLine (Run task answer false) text = ⊥

@@ -1,0 +1,404 @@
+//! Whole runs, with readers and writers that fail.
+use crate::fault::Fault;
+use crate::parse::{Line, parse_line, parse_script};
+use crate::print::print_record;
+use crate::run;
+use async_once_cell::world::{Call, Entry, Got, Input, Kind, Ran, Record, Reply};
+use std::alloc::{AllocError, Global};
+use std::io;
+use std::io::{ErrorKind, Read, Write};
+use std::test::Fail;
+
+/// A reader that gives a text in pieces, and fails at the read with this number.
+#[derive(Drop)]
+struct Source<'a> {
+    text: &'a [u8],
+    piece: usize,
+    reads: u64,
+    fails_at: u64,
+    kind: ErrorKind,
+}
+
+impl<'a> Source<'a> {
+    fn new(text: &'a str, piece: usize, fails_at: u64, kind: ErrorKind) -> Source<'a> {
+        Source {
+            text: text.as_bytes(),
+            piece,
+            reads: 0,
+            fails_at,
+            kind,
+        }
+    }
+}
+
+impl Read for Source<'_> {
+    fn read(&mut self, buf: &mut [u8]) -> io::Result<usize> {
+        self.reads = self.reads.saturating_add(1);
+        if self.reads == self.fails_at {
+            return Err(io::Error::from(self.kind));
+        }
+        let all = self.text;
+        let count = buf.len().min(all.len()).min(self.piece);
+        buf[..count].copy_from_slice(&all[..count]);
+        self.text = &all[count..];
+        Ok(count)
+    }
+}
+
+/// A writer that takes a text in pieces, and fails once, at the write with this number.
+#[derive(Drop)]
+struct Target {
+    text: Vec<u8>,
+    piece: usize,
+    writes: u64,
+    fails_at: u64,
+    flush_fails: bool,
+}
+
+impl Target {
+    fn new(alloc: Global, piece: usize, fails_at: u64, flush_fails: bool) -> Target {
+        Target {
+            text: Vec::new(alloc),
+            piece,
+            writes: 0,
+            fails_at,
+            flush_fails,
+        }
+    }
+}
+
+impl Write for Target {
+    fn write(&mut self, buf: &[u8]) -> io::Result<usize> {
+        self.writes = self.writes.saturating_add(1);
+        if self.writes == self.fails_at {
+            return Err(io::Error::from(ErrorKind::BrokenPipe));
+        }
+        let count = buf.len().min(self.piece);
+        self.text.extend_from_slice(&buf[..count])?;
+        Ok(count)
+    }
+
+    fn flush(&mut self) -> io::Result<()> {
+        if self.flush_fails {
+            return Err(io::Error::from(ErrorKind::StorageFull));
+        }
+        Ok(())
+    }
+}
+
+/// What a run answers, and what it prints.
+fn run_text(alloc: Global, text: &[u8]) -> (Result<(), Fault>, Vec<u8>) {
+    let mut printed = Vec::new(alloc);
+    let answer = run(alloc, text, &mut printed);
+    (answer, printed)
+}
+
+const ROWS: [(&str, &str); 5] = [
+    ("once 1\n", "queue none\n"),
+    ("once 1\ngo 1 p\n", "queue none\n"),
+    ("once 4611686018427387902\n", "queue none\n"),
+    ("once 1", "queue none\n"),
+    (
+        "once 8\nmake 0\nmake 18446744073709551615\nlook",
+        "made 0\nmade 18446744073709551615\nlook none\nqueue none\n",
+    ),
+];
+
+#[test]
+fn runs_without_polls(rt: HostRuntime) {
+    for (text, wanted) in ROWS {
+        let (answer, printed) = run_text(rt.alloc(), text.as_bytes());
+        assert_eq!(rt; answer, Ok(()), "at {text:?}");
+        assert_eq!(rt; printed.as_slice(), wanted.as_bytes(), "at {text:?}");
+    }
+}
+
+const POLL_ROWS: [(&str, &str); 3] = [
+    (
+        "once 8\nmake 1\npoll 1 7\nrun 1 v4\nmake 2\npoll 2 7\nrun 2 e9\n",
+        "made 1\nbegin 1 7\nclaim 1\nran 1 v4\nfill 1 4 []\nend 1 v4\nmade 2\nbegin 2 7\nend 2 v4\nqueue none\n",
+    ),
+    (
+        "once 8\nmake 1\nmake 2\npoll 1 7\nrun 1 p\npoll 2 7\nrun 2 e9\npoll 2 7\nrun 2 e9\npoll 1 7\nrun 1 v2\npoll 2 7\nrun 2 e9\n",
+        "made 1\nmade 2\nbegin 1 7\nclaim 1\nran 1 p\nend 1 p\nbegin 2 7\nend 2 p\nbegin 2 7\nend 2 p\nbegin 1 7\nran 1 v2\nfill 1 2 [7]\nend 1 v2\nbegin 2 7\nend 2 v2\nqueue none\n",
+    ),
+    (
+        "once 8\nmake 1\nmake 2\npoll 1 5\nrun 1 p\npoll 2 7\nrun 2 p\npoll 2 8\nrun 2 p\npoll 1 5\nrun 1 v3\n",
+        "made 1\nmade 2\nbegin 1 5\nclaim 1\nran 1 p\nend 1 p\nbegin 2 7\nend 2 p\nbegin 2 8\nend 2 p\nbegin 1 5\nran 1 v3\nfill 1 3 [7 8]\nend 1 v3\nqueue none\n",
+    ),
+];
+
+#[test]
+fn runs_with_polls(rt: HostRuntime) {
+    for (text, wanted) in POLL_ROWS {
+        let (answer, printed) = run_text(rt.alloc(), text.as_bytes());
+        assert_eq!(rt; answer, Ok(()), "at {text:?}");
+        assert_eq!(rt; printed.as_slice(), wanted.as_bytes(), "at {text:?}");
+    }
+}
+
+const UNREADABLE: [(&[u8], u64); 48] = [
+    (b"", 1),
+    (b"\n", 1),
+    (b"\nonce 8\n", 1),
+    (b"make 1\n", 1),
+    (b"look\n", 1),
+    (b"once\n", 1),
+    (b"once \n", 1),
+    (b"once 0\n", 1),
+    (b"once 4611686018427387903\n", 1),
+    (b"once 08\n", 1),
+    (b"once +8\n", 1),
+    (b"once -8\n", 1),
+    (b" once 8\n", 1),
+    (b"once 8 \n", 1),
+    (b"once  8\n", 1),
+    (b"once 8 8\n", 1),
+    (b"once\t8\n", 1),
+    (b"Once 8\n", 1),
+    (b"once 8\r\nmake 1\r\n", 1),
+    (b"once 8\xff\n", 1),
+    (b"\xef\xbb\xbfonce 8\n", 1),
+    (b"once 8\n\n", 2),
+    (b"once 8\nmake 1\n\nmake 2\n", 3),
+    (b"once 8\nonce 8\n", 2),
+    (b"once 8\ndrop 1\n", 2),
+    (b"once 8\nmake 1\npoll 1\n", 3),
+    (b"once 8\npoll 1 7 8\n", 2),
+    (b"once 8\npoll 1  7\n", 2),
+    (b"once 8\nmake\n", 2),
+    (b"once 8\nmake 1 2\n", 2),
+    (b"once 8\nmake 01\n", 2),
+    (b"once 8\nmake 00\n", 2),
+    (b"once 8\nmake +5\n", 2),
+    (b"once 8\nmake 18446744073709551616\n", 2),
+    (b"once 8\nmake x\n", 2),
+    (b"once 8\nmake \xd9\xa1\n", 2),
+    (b"once 8\nmake 1\r\n", 2),
+    (b"once 8\nlook \n", 2),
+    (b"once 8\n look\n", 2),
+    (b"once 8\nlooks\n", 2),
+    (b"once 8\ngo 1\n", 2),
+    (b"once 8\ngo 1 v\n", 2),
+    (b"once 8\ngo 1 q\n", 2),
+    (b"once 8\ngo 1 p4\n", 2),
+    (b"once 8\ngo 1 v 4\n", 2),
+    (b"once 8\ngo 1 e+4\n", 2),
+    (b"once 8\nrun 1 v4 v4\n", 2),
+    (b"once 8\nmake 1\nmake 2\nstop\nmake x\n", 4),
+];
+
+#[test]
+fn finds_the_first_unreadable_line(rt: HostRuntime) {
+    for (text, line) in UNREADABLE {
+        let (answer, printed) = run_text(rt.alloc(), text);
+        assert_eq!(rt; answer, Err(Fault::Unreadable(line)), "at {text:?}");
+        assert!(rt; printed.is_empty(), "at {text:?}");
+    }
+}
+
+#[test]
+fn reads_each_form(rt: HostRuntime) -> Result<(), Fail> {
+    let text = b"once 3\nmake 1\npoll 1 7\ngo 1 p\ngo 0 v0\ngo 1 e12\nlook";
+    let script = parse_script(rt.alloc(), text)?;
+    assert_eq!(rt; script.kind, Kind::Once);
+    assert_eq!(rt; script.limit, 3);
+    let wanted = [
+        Input::Make(1),
+        Input::Poll(1, 7),
+        Input::Go(1, Ran::Pending, true),
+        Input::Go(0, Ran::Value(0), true),
+        Input::Go(1, Ran::Error(12), true),
+        Input::Look,
+    ];
+    assert_eq!(rt; script.inputs.as_slice(), wanted.as_slice());
+    let script = parse_script(rt.alloc(), b"once 3\nrun 2 v4\n")?;
+    assert_eq!(rt; script.inputs.len(), 16);
+    for input in &script.inputs {
+        assert_eq!(rt; *input, Input::Go(2, Ran::Value(4), true));
+    }
+    assert_eq!(rt;
+        parse_line("run 2 v4"),
+        Some(Line::Run(2, Ran::Value(4), true))
+    );
+    Ok(())
+}
+
+/// One entry of each form.
+fn all_entries(alloc: Global) -> Result<Vec<Entry>, AllocError> {
+    let mut entries = Vec::new(alloc);
+    entries.push(Entry::Made(1))?;
+    entries.push(Entry::Begin(1, 7))?;
+    entries.push(Entry::Claim(1))?;
+    entries.push(Entry::Ran(1, Ran::Pending))?;
+    entries.push(Entry::Ran(1, Ran::Value(4)))?;
+    entries.push(Entry::Ran(1, Ran::Error(5)))?;
+    entries.push(Entry::Free(1, vec![in alloc; 7, 8]?))?;
+    entries.push(Entry::Fill(1, 4, Vec::new(alloc)))?;
+    entries.push(Entry::End(1, Reply::Pending))?;
+    entries.push(Entry::End(1, Reply::Value(4)))?;
+    entries.push(Entry::End(1, Reply::Error(5)))?;
+    entries.push(Entry::End(1, Reply::Memory))?;
+    entries.push(Entry::End(1, Reply::Full))?;
+    entries.push(Entry::DropBegin(1))?;
+    entries.push(Entry::DropEnd(1))?;
+    entries.push(Entry::Look(None))?;
+    entries.push(Entry::Look(Some(4)))?;
+    Ok(entries)
+}
+
+/// One entry of each form that a call of the owner has.
+fn all_owner_entries(alloc: Global) -> Result<Vec<Entry>, AllocError> {
+    let left = vec![in alloc; None, Some(9)]?;
+    let mut entries = Vec::new(alloc);
+    entries.push(Entry::Own(Call::Take, Got::None))?;
+    entries.push(Entry::Own(Call::Take, Got::Value(4)))?;
+    entries.push(Entry::Own(Call::Write(3), Got::None))?;
+    entries.push(Entry::Own(Call::Write(3), Got::Value(4)))?;
+    entries.push(Entry::Own(Call::Parts, Got::Value(4)))?;
+    entries.push(Entry::Own(Call::Parts, Got::Answers(left)))?;
+    entries.push(Entry::Own(Call::Parts, Got::Answers(Vec::new(alloc))))?;
+    entries.push(Entry::Own(Call::ReplaceValue(3), Got::None))?;
+    entries.push(Entry::Own(Call::ReplaceAnswers(Vec::new(alloc)), Got::Value(4)))?;
+    Ok(entries)
+}
+
+const ALL_ENTRIES: &str =
+    "made 1\nbegin 1 7\nclaim 1\nran 1 p\nran 1 v4\nran 1 e5\nfree 1 [7 8]\nfill 1 4 []\nend 1 p\nend 1 v4\nend 1 e5\nend 1 memory\nend 1 full\ndropbegin 1\ndropend 1\nlook none\nlook v4\nqueue none\n";
+
+const ALL_OWNER_ENTRIES: &str =
+    "own take none\nown take v4\nown write none\nown write v4\nown parts v4\nown parts [p v9]\nown parts []\nown replace none\nown replace v4\nqueue 1\n";
+
+#[test]
+fn prints_each_entry(rt: HostRuntime) -> Result<(), Fail> {
+    let alloc = rt.alloc();
+    let calls = Record {
+        entries: all_entries(alloc)?,
+        queues: Vec::new(alloc),
+        queue: None,
+    };
+    let mut printed = Vec::new(alloc);
+    print_record(alloc, &calls, &mut printed)?;
+    assert_eq!(rt; printed.as_slice(), ALL_ENTRIES.as_bytes());
+    let owner = Record {
+        entries: all_owner_entries(alloc)?,
+        queues: Vec::new(alloc),
+        queue: Some(1),
+    };
+    let mut printed = Vec::new(alloc);
+    print_record(alloc, &owner, &mut printed)?;
+    assert_eq!(rt; printed.as_slice(), ALL_OWNER_ENTRIES.as_bytes());
+    Ok(())
+}
+
+#[test]
+fn a_failed_read_prints_nothing(rt: HostRuntime) {
+    let alloc = rt.alloc();
+    let text = "once 8\nunreadable\n";
+    for (fails_at, kind, fault) in [
+        (1, ErrorKind::ConnectionReset, Fault::Io),
+        (2, ErrorKind::ConnectionReset, Fault::Io),
+        (4, ErrorKind::TimedOut, Fault::Io),
+        (1, ErrorKind::OutOfMemory, Fault::Memory),
+        (2, ErrorKind::OutOfMemory, Fault::Memory),
+        (1, ErrorKind::Interrupted, Fault::Unreadable(2)),
+        (0, ErrorKind::Other, Fault::Unreadable(2)),
+    ] {
+        let mut printed = Vec::new(alloc);
+        let answer = run(alloc, Source::new(text, 7, fails_at, kind), &mut printed);
+        assert_eq!(rt; answer, Err(fault), "at read {fails_at}");
+        assert!(rt; printed.is_empty(), "at read {fails_at}");
+    }
+}
+
+/// A script that makes so many tasks, and what it prints.
+fn many_tasks(alloc: Global) -> Result<(String, String), AllocError> {
+    let mut text = String::from_str(alloc, "once 8\n")?;
+    let mut wanted = String::new(alloc);
+    for task in 0..1500u64 {
+        text.push_str(format!(in alloc; "make {task}\n")?.as_str())?;
+        wanted.push_str(format!(in alloc; "made {task}\n")?.as_str())?;
+    }
+    wanted.push_str("queue none\n")?;
+    Ok((text, wanted))
+}
+
+#[test]
+fn a_failed_write_leaves_a_beginning(rt: HostRuntime) -> Result<(), Fail> {
+    let alloc = rt.alloc();
+    let (text, wanted) = many_tasks(alloc)?;
+    for (piece, fails_at, flush_fails, answer) in [
+        (usize::MAX, 0, false, Ok(())),
+        (1000, 0, false, Ok(())),
+        (usize::MAX, 1, false, Err(Fault::Io)),
+        (usize::MAX, 2, false, Err(Fault::Io)),
+        (1000, 1, false, Err(Fault::Io)),
+        (1000, 3, false, Err(Fault::Io)),
+        (1000, 11, false, Err(Fault::Io)),
+        (1000, 0, true, Err(Fault::Io)),
+        (0, 0, false, Err(Fault::Io)),
+    ] {
+        let mut target = Target::new(alloc, piece, fails_at, flush_fails);
+        assert_eq!(rt;
+            run(alloc, text.as_bytes(), &mut target),
+            answer,
+            "at write {fails_at}"
+        );
+        let printed = target.text.as_slice();
+        assert!(rt;
+            wanted.as_bytes().starts_with(printed),
+            "at write {fails_at}"
+        );
+        assert!(rt;
+            answer.is_err() || printed.len() == wanted.len(),
+            "at write {fails_at}"
+        );
+    }
+    Ok(())
+}
+
+/// Takes memory until no request for a byte is granted.
+fn hoard(alloc: Global) -> Result<Vec<Vec<u8>>, AllocError> {
+    let mut held = Vec::with_capacity(alloc, 200_000)?;
+    let mut size = 0x4000_0000_0000usize;
+    for _ in 0..47 {
+        for _ in 0..60_000 {
+            let Ok(block) = Vec::with_capacity(alloc, size) else {
+                break;
+            };
+            let _ = held.push(block);
+        }
+        size = size / 2 + 1;
+    }
+    Ok(held)
+}
+
+#[test]
+fn refused_memory_prints_nothing(rt: HostRuntime) -> Result<(), Fail> {
+    let alloc = rt.alloc();
+    let held = hoard(alloc)?;
+    let (answer, printed) = run_text(alloc, b"once 8\n");
+    drop(held);
+    assert_eq!(rt; answer, Err(Fault::Memory));
+    assert!(rt; printed.is_empty());
+    let (answer, _) = run_text(alloc, b"once 8\n");
+    assert_eq!(rt; answer, Ok(()));
+    Ok(())
+}
+
+#[test]
+fn each_fault_has_its_line_and_status(rt: HostRuntime) -> Result<(), Fail> {
+    for (fault, line, status) in [
+        (
+            Fault::Unreadable(12),
+            "once_replay: line 12 is unreadable",
+            2,
+        ),
+        (Fault::Io, "once_replay: input or output failed", 3),
+        (Fault::Memory, "once_replay: out of memory", 4),
+    ] {
+        assert_eq!(rt; fault.to_string(rt.alloc())?.as_str(), line);
+        assert_eq!(rt; fault.status(), status);
+    }
+    Ok(())
+}
