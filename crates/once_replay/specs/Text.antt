@@ -1,6 +1,8 @@
-use Rattle.std.specs.Prelude.{ℕ, Bool, true, false, not, ◌&&◌, ◌||◌, List, [], ◌∷◌, ◌++◌, ◌≡◌, ◌^◌, ◌==◌, nat_lt, nat_le, length, slice_index, codes, Option, Some, None, if◌then◌else◌, replicate}
+use Rattle.std.specs.Prelude.{ℕ, Bool, true, false, not, ◌&&◌, ◌||◌, List, [], ◌∷◌, ◌++◌, ◌≡◌, ◌^◌, ◌==◌, ◌-◌, nat_lt, nat_le, length, take, drop, map, slice_index, codes, Option, Some, None, if◌then◌else◌, replicate}
 use Rattle.std.specs.Option.{option_and_then}
-use Rattle.std.specs.List.{before_first, after_first}
+use Rattle.std.specs.Borrow.{Bor}
+use Rattle.std.specs.List.{before_first, after_first, slice_split}
+use lib.Pointwise.{pointwise}
 use Rattle.std.specs.Str.{all_ascii_digits}
 use Rattle.std.specs.Str.Parse.{digits_value}
 use Rattle.async_once_cell.specs.declared.queue.TheConstants.{MAX_WAITERS}
@@ -86,3 +88,27 @@ abbrev pub IsLine : Line → List ℕ → Type 0
 IsLine (Single input) text = IsInputLine input text
 IsLine (Run task answer true) text = (step : List ℕ) × (text ≡ codes "run " ++ step) × IsStep task answer step
 IsLine (Run task answer false) text = ⊥
+
+-- a text ends with a line feed
+abbrev pub ends_with_feed : List ℕ → Bool
+ends_with_feed text = pointwise (λ a b. a == b) (drop (length text - 1) text) (10 ∷ [])
+
+abbrev pub without_last_feed : List ℕ → List ℕ
+without_last_feed text = if ends_with_feed text then take (length text - 1) text else text
+
+-- the lines of a text, without their ends; the last may lack its line feed
+abbrev pub lines_in : List ℕ → List (List ℕ)
+lines_in text = slice_split (λ c. c == 10) (without_last_feed text)
+
+abbrev pub texts_of : List (Bor (List ℕ)) → List (List ℕ)
+texts_of lines = map (λ line. line.now) lines
+
+-- each of these texts is a line, and the inputs are those of the lines, in their order
+abbrev pub AreInputs : List (List ℕ) → List Input → Type 0
+AreInputs [] inputs = inputs ≡ []
+AreInputs (text ∷ texts) inputs = (line : Line) × (later : List Input) × IsLine line text × (inputs ≡ inputs_of line ++ later) × AreInputs texts later
+
+-- the lines of a script: the first says the kind and how many tasks may wait, the later ones the inputs
+abbrev pub IsScript : Kind → ℕ → List Input → List (List ℕ) → Type 0
+IsScript kind limit inputs [] = ⊥
+IsScript kind limit inputs (first ∷ later) = IsOpening kind limit first × AreInputs later inputs

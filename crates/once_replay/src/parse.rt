@@ -1,8 +1,8 @@
 //! The text of a script, line by line.
-ghost use Rattle.std.specs.Prelude.{◌≡◌, ◌≢◌, ◌<◌, ◌≤◌, ◌++◌, OnOk, OnErr, IfSome, IsSome, MatchOption, ℕ, List, codes};
+ghost use Rattle.std.specs.Prelude.{◌≡◌, ◌≢◌, ◌<◌, ◌≤◌, ◌++◌, OnOk, OnErr, IfOk, IfSome, IsSome, MatchOption, ℕ, List, codes};
 ghost use Rattle.async_once_cell.specs.declared.world.Ran.{Ran};
 ghost use Rattle.async_once_cell.specs.declared.queue.TheConstants.{MAX_WAITERS};
-ghost use Rattle.once_replay.specs.Text.{is_plain, number_of, limit_of, inputs_of, IsAnswer, IsPair, IsStep, IsLine, IsOpening, first_field, later_fields};
+ghost use Rattle.once_replay.specs.Text.{is_plain, number_of, limit_of, inputs_of, lines_in, texts_of, without_last_feed, AreInputs, IsAnswer, IsPair, IsStep, IsLine, IsOpening, IsScript, first_field, later_fields};
 
 use crate::fault::Fault;
 use async_once_cell::queue::MAX_WAITERS;
@@ -42,33 +42,63 @@ pub struct Script {
 
 /// Reads a whole text. Each line ends with a line feed, which the last may lack.
 pub fn parse_script(alloc: Global, text: &[u8]) -> Result<Script, Fault>
+    ensures read { IfOk result (λ script. IsScript script.kind script.limit script.inputs.items (lines_in text.now)) }
     ensures no_reads { result ≢ Err Fault.Io }
     ensures from_one { result ≢ Err (Fault.Unreadable 0) }
 {
-    let text = text.strip_suffix(b"\n").unwrap_or(text);
-    let mut lines = text.split(|byte| *byte == b'\n');
-    let Some(Opening { kind, limit }) = lines.next().and_then(as_text).and_then(parse_opening)
-    else {
-        return Err(Fault::Unreadable(1));
-    };
+    let lines = split_lines(alloc, text)?;
+    let (first, later) = lines.split_first().ok_or(Fault::Unreadable(1))?;
+    let Opening { kind, limit } = opening_in(first).ok_or(Fault::Unreadable(1))?;
+    Ok(Script {
+        kind,
+        limit,
+        inputs: parse_lines(alloc, later)?,
+    })
+}
+
+/// The lines of a text, without their ends.
+fn split_lines(alloc: Global, text: &[u8]) -> Result<Vec<&[u8]>, AllocError>
+    ensures { IfOk result (λ lines. texts_of lines.items ≡ lines_in text.now) }
+{
+    without_last_feed(text)
+        .split(|byte| *byte == b'\n')
+        .collect(alloc)
+}
+
+fn without_last_feed(text: &[u8]) -> &[u8]
+    ensures { result.now ≡ without_last_feed text.now }
+{
+    text.strip_suffix(b"\n").unwrap_or(text)
+}
+
+/// Reads the lines after the first, which has the number 1.
+pub fn parse_lines(alloc: Global, lines: &[&[u8]]) -> Result<Vec<Input>, Fault>
+    ensures read { IfOk result (λ inputs. AreInputs (texts_of lines.now) inputs.items) }
+    ensures no_reads { result ≢ Err Fault.Io }
+    ensures from_one { result ≢ Err (Fault.Unreadable 0) }
+{
     let mut inputs = Vec::new(alloc);
     let mut number = 1u64;
     for bytes in lines {
         number = number.saturating_add(1);
-        let Some(line) = as_text(bytes).and_then(parse_line) else {
+        let Some(line) = line_in(bytes) else {
             return Err(Fault::Unreadable(number));
         };
         append(&mut inputs, line)?;
     }
-    Ok(Script {
-        kind,
-        limit,
-        inputs,
-    })
+    Ok(inputs)
 }
 
-fn as_text(bytes: &[u8]) -> Option<&str> {
-    str::from_utf8(bytes).ok()
+fn opening_in(bytes: &[u8]) -> Option<Opening>
+    ensures { IfSome result (λ opening. IsOpening opening.kind opening.limit bytes.now) }
+{
+    parse_opening(str::from_utf8(bytes).ok()?)
+}
+
+fn line_in(bytes: &[u8]) -> Option<Line>
+    ensures { IfSome result (λ line. IsLine line bytes.now) }
+{
+    parse_line(str::from_utf8(bytes).ok()?)
 }
 
 /// Adds the inputs that a line stands for.
