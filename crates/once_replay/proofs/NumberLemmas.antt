@@ -18,7 +18,7 @@ is_number_from : (bs : List ℕ) → (all_ascii_digits bs ≡ true) × (0 < leng
 is_number_from bs parts plain = grind (arith, nat_tests)
 
 -- the parts of a number
-parts_of_number : (bs : List ℕ) → is_number bs ≡ true → (all_ascii_digits bs ≡ true) × (0 < length bs) × (digits_value 10 bs < 2 ^ 64)
+pub parts_of_number : (bs : List ℕ) → is_number bs ≡ true → (all_ascii_digits bs ≡ true) × (0 < length bs) × (digits_value 10 bs < 2 ^ 64)
 parts_of_number bs h = (grind (arith, nat_tests), grind (arith, nat_tests), grind (arith, nat_tests))
 
 by_test : (n : ℕ) (b : Bool) → b ≡ true → Some n ≡ cond b (Some n) None

@@ -1,4 +1,4 @@
-use Rattle.std.specs.Prelude.{ℕ, Bool, true, false, not, ◌&&◌, ◌||◌, List, [], ◌∷◌, ◌++◌, ◌≡◌, ◌^◌, ◌==◌, ◌-◌, nat_lt, nat_le, length, take, drop, map, slice_index, codes, Option, Some, None, if◌then◌else◌, replicate}
+use Rattle.std.specs.Prelude.{ℕ, suc, ◌⊎◌, Bool, true, false, not, ◌&&◌, ◌||◌, List, [], ◌∷◌, ◌++◌, ◌≡◌, ◌^◌, ◌==◌, ◌-◌, nat_lt, nat_le, length, take, drop, map, slice_index, codes, Option, Some, None, if◌then◌else◌, replicate}
 use Rattle.std.specs.Option.{option_and_then}
 use Rattle.std.specs.Borrow.{Bor}
 use Rattle.std.specs.List.{before_first, after_first, slice_split}
@@ -112,3 +112,15 @@ AreInputs (text ∷ texts) inputs = (line : Line) × (later : List Input) × IsL
 abbrev pub IsScript : Kind → ℕ → List Input → List (List ℕ) → Type 0
 IsScript kind limit inputs [] = ⊥
 IsScript kind limit inputs (first ∷ later) = IsOpening kind limit first × AreInputs later inputs
+
+-- of these texts, the first of which has the number at, the one with this number is the first that is no line
+abbrev pub IsStop : (at number : ℕ) → List (List ℕ) → Type 0
+IsStop at number [] = ⊥
+IsStop at number (text ∷ texts) = ((number ≡ at) × ((line : Line) → ¬ IsLine line text)) ⊎ (((line : Line) × IsLine line text) × IsStop (suc at) number texts)
+
+-- the line of a script with this number is the first that cannot be read
+abbrev pub IsFirstUnreadable : ℕ → List (List ℕ) → Type 0
+IsFirstUnreadable number [] = number ≡ 1
+IsFirstUnreadable number (first ∷ later) =
+    ((number ≡ 1) × ((kind : Kind) → (limit : ℕ) → ¬ IsOpening kind limit first))
+    ⊎ (((kind : Kind) × (limit : ℕ) × IsOpening kind limit first) × IsStop 2 number later)

@@ -1,8 +1,10 @@
 //! The text of a script, line by line.
 ghost use Rattle.std.specs.Prelude.{◌≡◌, ◌≢◌, ◌<◌, ◌≤◌, ◌++◌, OnOk, OnErr, IfOk, IfSome, IsSome, MatchOption, ℕ, List, codes};
+ghost use Rattle.async_once_cell.specs.declared.world.Kind.{Kind};
 ghost use Rattle.async_once_cell.specs.declared.world.Ran.{Ran};
 ghost use Rattle.async_once_cell.specs.declared.queue.TheConstants.{MAX_WAITERS};
-ghost use Rattle.once_replay.specs.Text.{is_plain, number_of, limit_of, inputs_of, lines_in, texts_of, without_last_feed, AreInputs, IsAnswer, IsPair, IsStep, IsLine, IsOpening, IsScript, first_field, later_fields};
+ghost use Rattle.once_replay.specs.declared.parse.Line.{Line};
+ghost use Rattle.once_replay.specs.Text.{is_plain, number_of, limit_of, inputs_of, lines_in, texts_of, without_last_feed, AreInputs, IsAnswer, IsPair, IsStep, IsLine, IsOpening, IsScript, IsStop, IsFirstUnreadable, first_field, later_fields};
 
 use crate::fault::Fault;
 use async_once_cell::queue::MAX_WAITERS;
@@ -41,10 +43,12 @@ pub struct Script {
 }
 
 /// Reads a whole text. Each line ends with a line feed, which the last may lack.
+///
+/// `Unreadable` names the first line that cannot be read.
 pub fn parse_script(alloc: Global, text: &[u8]) -> Result<Script, Fault>
     ensures read { IfOk result (λ script. IsScript script.kind script.limit script.inputs.items (lines_in text.now)) }
+    ensures unreadable { (n : ℕ) → result ≡ Err (Fault.Unreadable n) → IsFirstUnreadable n (lines_in text.now) }
     ensures no_reads { result ≢ Err Fault.Io }
-    ensures from_one { result ≢ Err (Fault.Unreadable 0) }
 {
     let lines = split_lines(alloc, text)?;
     let (first, later) = lines.split_first().ok_or(Fault::Unreadable(1))?;
@@ -74,8 +78,8 @@ fn without_last_feed(text: &[u8]) -> &[u8]
 /// Reads the lines after the first, which has the number 1.
 pub fn parse_lines(alloc: Global, lines: &[&[u8]]) -> Result<Vec<Input>, Fault>
     ensures read { IfOk result (λ inputs. AreInputs (texts_of lines.now) inputs.items) }
+    ensures unreadable { (n : ℕ) → result ≡ Err (Fault.Unreadable n) → IsStop 2 n (texts_of lines.now) }
     ensures no_reads { result ≢ Err Fault.Io }
-    ensures from_one { result ≢ Err (Fault.Unreadable 0) }
 {
     let mut inputs = Vec::new(alloc);
     let mut number = 1u64;
@@ -90,15 +94,22 @@ pub fn parse_lines(alloc: Global, lines: &[&[u8]]) -> Result<Vec<Input>, Fault>
 }
 
 fn opening_in(bytes: &[u8]) -> Option<Opening>
-    ensures { IfSome result (λ opening. IsOpening opening.kind opening.limit bytes.now) }
+    ensures { MatchOption result ((kind : Kind) → (limit : ℕ) → ¬ IsOpening kind limit bytes.now)
+        (λ opening. IsOpening opening.kind opening.limit bytes.now) }
 {
-    parse_opening(str::from_utf8(bytes).ok()?)
+    let Ok(text) = str::from_utf8(bytes) else {
+        return None;
+    };
+    parse_opening(text)
 }
 
 fn line_in(bytes: &[u8]) -> Option<Line>
-    ensures { IfSome result (λ line. IsLine line bytes.now) }
+    ensures { MatchOption result ((line : Line) → ¬ IsLine line bytes.now) (λ line. IsLine line bytes.now) }
 {
-    parse_line(str::from_utf8(bytes).ok()?)
+    let Ok(text) = str::from_utf8(bytes) else {
+        return None;
+    };
+    parse_line(text)
 }
 
 /// Adds the inputs that a line stands for.
