@@ -2,8 +2,8 @@
 use Rattle.std.proofs.Common.{◌≡◌, ◌≢◌, ℕ, ◌<◌, true, false, List, [], ◌∷◌, length, slice_index_or, zero, suc, refl, arith}
 use Rattle.std.proofs.lemmas.Bool.{ne_eqb}
 use Rattle.std.proofs.lemmas.Bool.Decides.{nat_tests}
-use Rattle.async_once_cell.specs.Numbers.{member}
 use Rattle.async_once_cell.specs.Sections.{IsListed, IsOther}
+use Rattle.async_once_cell.specs.Numbers.{member}
 
 at_member : (w : ℕ) (xs : List ℕ) (k d : ℕ) → k < length xs → slice_index_or xs k d ≡ w → member w xs ≡ true
 at_member w [] k d l e = absurd (omega arith)

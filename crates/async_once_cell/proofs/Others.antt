@@ -4,7 +4,7 @@ use Rattle.std.proofs.lemmas.Bool.{eqb-true, false≢true}
 use Rattle.std.proofs.lemmas.Bool.Decides.{nat_tests}
 use Rattle.async_once_cell.specs.Record.{Begin, Claim, DropBegin, DropEnd, End, Entry, Fill, Free, Kind, Look, Made, Own, Ran, is_of, is_own}
 use Rattle.async_once_cell.specs.Cell.{Cell, Held, SetTo, cell, cell_after, is_set}
-use Rattle.async_once_cell.specs.Tasks.{Polling, Status, Waiting, is_under_way, last_poll, status, status_after}
+use Rattle.async_once_cell.specs.Tasks.{Status, Waiting, is_under_way, last_poll, status, status_after}
 use Rattle.async_once_cell.specs.Refusals.{OtherActs, OtherHolds, Since}
 use Rattle.async_once_cell.specs.Run.{IsLegal, MayFree}
 
@@ -167,7 +167,3 @@ legal_keeps K u e limit h n l x = record {
   met_holder = since_more u (OtherHolds K u) e h n;
   waits = waits_after K u e limit h n l;
 }
-
--- a task in a poll does not wait
-pub polls_awake : (K : Kind) (t u : ℕ) (h : List Entry) → (t == u) ≡ true → status K t h ≡ Polling → status K u h ≢ Waiting
-polls_awake K t u h e s w = let k = ap (λ v. status K v h) (eqb-true t u e) in let z : ⊥ = cc in z

@@ -1,7 +1,7 @@
 -- The queue log: which queue stands at the door, and which log belongs to which parts. The newest line stands first.
 use Rattle.std.specs.Prelude.{◌≡◌, ◌≢◌, ℕ, Bool, true, false, cond, ◌==◌, List, [], ◌∷◌, ◌++◌, Option, Some, None}
-use Rattle.async_once_cell.specs.declared.world.QueueLine.{QueueLine}
-use Rattle.async_once_cell.specs.declared.world.QueueLine.TheVariants.{Put, Entered, Taken}
+use Rattle.async_once_cell.specs.declared.inner.QueueLine.{QueueLine}
+use Rattle.async_once_cell.specs.declared.inner.QueueLine.TheVariants.{Put, Entered, Taken}
 use Rattle.async_once_cell.specs.Record.{Answer, Pending, Kind, Entry, Free, Fill, End, replaces}
 use Rattle.async_once_cell.specs.Cell.{cell, is_set}
 use Rattle.async_once_cell.specs.Tasks.{Waiting, status, is_under_way, last_poll}

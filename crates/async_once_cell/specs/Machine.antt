@@ -1,56 +1,62 @@
--- The machine: what all tasks share, the step at which each task stands, and what each input does.
-use Rattle.std.specs.Prelude.{ℕ, Bool, true, false, cond, ◌==◌, List, [], ◌∷◌, ◌++◌, Option, Some, None}
-pub use Rattle.async_once_cell.specs.declared.world.Task.{Task}
+-- The machine: what all tasks share, the place at which each task stands, and what each input does.
+use Rattle.std.specs.Prelude.{ℕ, suc, Bool, true, false, cond, ◌==◌, ◌-◌, nat_lt, ◌||◌, not, List, [], ◌∷◌, ◌++◌, Option, Some, None}
+pub use Rattle.async_once_cell.specs.Steps.{Ending, EndPending, EndValue, EndError, EndMemory, EndFull, EndDropped, is_value, Rest, RestStart, RestWait, RestRun, Place, AtStart, AtTryQuick, AtDoorGet, AtDoorPut, AtCountIn, AtWaitLoad, AtLook, AtList, AtRun, AtPut, AtFast, AtAddOne, AtDoorAgain, AtRelease, AtCountOut, AtDoorTake, Step, Resting, UnderWay, Finished, left_at, left_of, is_resting, in_call, is_finished, begun_at, begun, give_back, dropped_at, dropped}
+pub use Rattle.async_once_cell.specs.declared.world.play.Task.{Task}
+pub use Rattle.async_once_cell.specs.declared.inner.QueueLine.{QueueLine}
+pub use Rattle.async_once_cell.specs.declared.inner.QueueLine.TheVariants.{Put as PutLine, Entered as EnteredLine, Taken as TakenLine}
 use Rattle.async_once_cell.specs.Numbers.{member}
-use Rattle.async_once_cell.specs.Record.{Answer, RanPending, RanValue, RanError, Pending, Value, Error, Memory, Full, Kind, is_lazy, Entry, Made, Begin, Claim, Ran, Free, Fill, End, DropEnd, Look}
+use Rattle.async_once_cell.specs.Record.{Answer, RanPending, RanValue, RanError, Pending, Value, Error, Memory, Full, Kind, is_lazy, has_call, replaces, OwnerCall, Take, Write, Parts, ReplaceValue, ReplaceAnswers, Got, GotNone, GotValue, GotAnswers, Entry, Made, Begin, Claim, Ran, Free, Fill, End, DropBegin, DropEnd, Look, Own}
 use Rattle.async_once_cell.specs.Cell.{is_set, value_in, starts, first_answers, rest_of, next_answer}
 use Rattle.async_once_cell.specs.Inputs.{Input, Make, Poll, Drop, Go, Looks, Owns}
-use Rattle.async_once_cell.specs.Steps.{Ending, EndPending, EndValue, EndError, EndMemory, EndFull, EndDropped, is_value, RestList, RestRun, AtList, AtRun, AtPut, AtRelease, Step, Resting, UnderWay, Finished, is_resting, in_call, begun}
+use Rattle.async_once_cell.specs.Log.{taken_out}
 
--- what all tasks share: whether the value is set, whether a task holds, who is listed, the value that was put last, and what a lazy init will still answer
+-- what all tasks share: the word's count and two flags; the queue at the door; that queue's flag and list; how many queues were made; the value that was put last; and what a lazy init will still answer
 pub record Inner : Type 0 where
+  pub count : ℕ
+  pub quick : Bool
   pub ready : Bool
+  pub door : Option ℕ
   pub head : Bool
   pub wakers : List ℕ
+  pub queues : ℕ
   pub value : ℕ
   pub answers : List (Option ℕ)
+
+-- the word is 0, the ready bit aside
+abbrev pub is_new : Inner → Bool
+is_new c = cond (c.count == 0) (not c.quick) false
+
+-- the word is exactly the quick bit
+abbrev pub is_quick_alone : Inner → Bool
+is_quick_alone c = cond (c.count == 0) (cond c.ready false c.quick) false
+
+-- the word will be exactly the ready bit when one task counts out
+abbrev pub is_last_out : Inner → Bool
+is_last_out c = cond (c.count - 1 == 0) (cond c.quick false c.ready) false
+
+-- some task holds
+abbrev pub is_taken : Inner → Bool
+is_taken c = c.quick || c.head
+
+abbrev pub is_at_door : ℕ → Option ℕ → Bool
+is_at_door q None = false
+is_at_door q (Some d) = d == q
 
 -- what one step leaves: what is shared, the task's own step and what its init gave, and the entries, the newest first
 pub record Outcome : Type 0 where
   pub inner : Inner
-  pub step : Step
+  pub step : Step ℕ ℕ
   pub kept : Answer
   pub entries : List Entry
 
--- the list after w was listed
-abbrev pub listed : ℕ → List ℕ → List ℕ
-listed w ws = cond (member w ws) ws (ws ++ w ∷ [])
-
--- a claim or a listing, by whether the value is set and whether a task holds
-abbrev pub list_step : Bool → Bool → Inner → ℕ → ℕ → Answer → Outcome
-list_step true _ c t w k = record { inner = c; step = Finished; kept = k; entries = End t (Value c.value) ∷ [] }
-list_step false true c t w k = record { inner = record c { wakers = listed w c.wakers }; step = Resting RestList; kept = k; entries = End t Pending ∷ [] }
-list_step false false c t w k = record { inner = record c { head = true }; step = UnderWay AtRun; kept = k; entries = Claim t ∷ [] }
-
--- the answer of the init: of a lazy one the next, of another what the input says
-abbrev pub given : Bool → List (Option ℕ) → Answer → Answer
-given true l a = next_answer l
-given false l a = a
-
--- a poll of the init, by its answer
-abbrev pub run_step : Answer → Inner → ℕ → Answer → Outcome
-run_step RanPending c t k = record { inner = c; step = Resting RestRun; kept = k; entries = End t Pending ∷ Ran t RanPending ∷ [] }
-run_step (RanValue v) c t k = record { inner = c; step = UnderWay AtPut; kept = RanValue v; entries = Ran t (RanValue v) ∷ [] }
-run_step (RanError e) c t k = record { inner = c; step = UnderWay (AtRelease EndError); kept = RanError e; entries = Ran t (RanError e) ∷ [] }
+abbrev pub error_in : Answer → ℕ
+error_in (RanError e) = e
+error_in _ = 0
 
 -- the value once what the init gave is put
 abbrev pub put_value : Answer → ℕ → ℕ
 put_value (RanValue v) old = v
 put_value _ old = old
-
-abbrev pub error_in : Answer → ℕ
-error_in (RanError e) = e
-error_in _ = 0
 
 -- the release of a task whose init gave this: a value fills the cell
 abbrev pub release_entry : Answer → ℕ → List ℕ → Entry
@@ -66,33 +72,188 @@ end_entry EndMemory t v k = End t Memory
 end_entry EndFull t v k = End t Full
 end_entry EndDropped t v k = DropEnd t
 
--- one step of the task t with the waker w and what its init gave so far, the init answering a
-abbrev pub advance_at : Bool → Inner → ℕ → ℕ → Answer → Answer → Step → Outcome
-advance_at lazy c t w k a (UnderWay AtList) = list_step c.ready c.head c t w k
-advance_at lazy c t w k a (UnderWay AtRun) = run_step (given lazy c.answers a) (record c { answers = rest_of c.answers }) t k
-advance_at lazy c t w k a (UnderWay AtPut) = record { inner = record c { value = put_value k c.value }; step = UnderWay (AtRelease EndValue); kept = k; entries = [] }
-advance_at lazy c t w k a (UnderWay (AtRelease e)) =
-    record { inner = record c { ready = is_value e; head = false; wakers = [] }; step = Finished; kept = k; entries = end_entry e t c.value k ∷ release_entry k t c.wakers ∷ [] }
-advance_at lazy c t w k a s = record { inner = c; step = s; kept = k; entries = [] }
+-- the call goes on
+abbrev pub goes_to : Inner → Answer → Place ℕ ℕ → Outcome
+goes_to c k p = record { inner = c; step = UnderWay p; kept = k; entries = [] }
 
-abbrev pub advance : Bool → Inner → ℕ → Task → Answer → Outcome
-advance lazy c t x a = advance_at lazy c t x.waker x.kept a x.step
+-- the call ends for good
+abbrev pub ends : Inner → ℕ → Answer → Ending → Outcome
+ends c t k e = record { inner = c; step = Finished; kept = k; entries = end_entry e t c.value k ∷ [] }
 
--- what is shared, the tasks by their numbers, and the record
+-- the poll ends Pending, and waits
+abbrev pub waits : Inner → ℕ → Answer → ℕ → Outcome
+waits c t k q = record { inner = c; step = Resting (RestWait q); kept = k; entries = End t Pending ∷ [] }
+
+-- the task claims the right
+abbrev pub claims : Inner → ℕ → Answer → Option ℕ → Outcome
+claims c t k by = record { inner = c; step = UnderWay (AtRun by); kept = k; entries = Claim t ∷ [] }
+
+-- ready, new
+abbrev pub start_step : Bool → Bool → Inner → ℕ → Answer → Outcome
+start_step true _ c t k = ends c t k EndValue
+start_step false true c t k = goes_to c k AtTryQuick
+start_step false false c t k = goes_to c k AtDoorGet
+
+-- ready, new
+abbrev pub quick_step : Bool → Bool → Inner → ℕ → Answer → Outcome
+quick_step false true c t k = claims (record c { quick = true }) t k None
+quick_step _ _ c t k = goes_to c k AtDoorGet
+
+abbrev pub door_step : Option ℕ → Inner → Answer → Outcome
+door_step (Some q) c k = goes_to c k (AtCountIn q)
+door_step None c k = goes_to c k AtDoorPut
+
+-- granted, door
+abbrev pub put_step : Bool → Option ℕ → Inner → ℕ → Answer → Outcome
+put_step false _ c t k = ends c t k EndMemory
+put_step true (Some q) c t k = goes_to c k (AtCountIn q)
+put_step true None c t k = goes_to (record c { door = Some (suc c.queues); head = false; wakers = []; queues = suc c.queues }) k (AtCountIn (suc c.queues))
+
+-- below the limit, ready
+abbrev pub in_step : Bool → Bool → Inner → ℕ → Answer → ℕ → Outcome
+in_step true true c t k q = goes_to (record c { count = suc c.count }) k (AtCountOut EndValue)
+in_step true false c t k q = goes_to (record c { count = suc c.count }) k (AtWaitLoad q)
+in_step false true c t k q = ends c t k EndValue
+in_step false false c t k q = ends c t k EndFull
+
+abbrev pub load_step : Bool → Inner → Answer → ℕ → Outcome
+load_step true c k q = goes_to c k (AtCountOut EndValue)
+load_step false c k q = goes_to c k (AtLook q)
+
+-- at the door, ready, taken, listed, granted
+abbrev pub look_step : Bool → Bool → Bool → Bool → Bool → Inner → ℕ → ℕ → Answer → ℕ → Outcome
+look_step true true _ _ _ c t w k q = goes_to c k (AtCountOut EndValue)
+look_step true false false _ _ c t w k q = claims (record c { head = true }) t k (Some q)
+look_step true false true true _ c t w k q = waits c t k q
+look_step _ _ _ _ true c t w k q = goes_to c k (AtList q w)
+look_step _ _ _ _ false c t w k q = goes_to c k (AtCountOut EndMemory)
+
+-- at the door, ready, taken, listed, granted
+abbrev pub list_step : Bool → Bool → Bool → Bool → Bool → Inner → ℕ → ℕ → Answer → ℕ → Outcome
+list_step false _ _ _ _ c t w k q = waits c t k q
+list_step true true _ _ _ c t w k q = goes_to c k (AtCountOut EndValue)
+list_step true false false _ _ c t w k q = claims (record c { head = true }) t k (Some q)
+list_step true false true true _ c t w k q = waits c t k q
+list_step true false true false true c t w k q = waits (record c { wakers = c.wakers ++ w ∷ [] }) t k q
+list_step true false true false false c t w k q = goes_to c k (AtCountOut EndMemory)
+
+-- the answer of the init: of a lazy one the next, of another what the input says
+abbrev pub given : Bool → List (Option ℕ) → Answer → Answer
+given true l a = next_answer l
+given false l a = a
+
+-- a poll of the init, by its answer
+abbrev pub run_step : Answer → Inner → ℕ → Answer → Option ℕ → Outcome
+run_step RanPending c t k by = record { inner = c; step = Resting (RestRun by); kept = k; entries = End t Pending ∷ Ran t RanPending ∷ [] }
+run_step (RanValue v) c t k by = record { inner = c; step = UnderWay (AtPut by); kept = RanValue v; entries = Ran t (RanValue v) ∷ [] }
+run_step (RanError e) c t k by = record { inner = c; step = UnderWay (give_back by EndError); kept = RanError e; entries = Ran t (RanError e) ∷ [] }
+
+abbrev pub ran_once : Inner → Inner
+ran_once c = record c { answers = rest_of c.answers }
+
+-- the word is exactly the quick bit, the call ends with the value
+abbrev pub fast_step : Bool → Bool → Inner → ℕ → Answer → Ending → Outcome
+fast_step true true c t k e = record { inner = record c { quick = false; ready = true }; step = UnderWay (AtDoorTake e); kept = k; entries = release_entry k t [] ∷ [] }
+fast_step true false c t k e = record { inner = record c { quick = false }; step = Finished; kept = k; entries = end_entry e t c.value k ∷ release_entry k t [] ∷ [] }
+fast_step false fills c t k e = goes_to c k (AtAddOne e)
+
+abbrev pub again_step : Option ℕ → Inner → Answer → Ending → Outcome
+again_step (Some q) c k e = goes_to c k (AtRelease q e)
+again_step None c k e = goes_to c k (AtCountOut e)
+
+-- what a release leaves, by whether the quick flag stood, with the value set or not
+abbrev pub released : Bool → Bool → Inner → Inner
+released true r c = record c { quick = false; ready = r; wakers = [] }
+released false r c = record c { head = false; ready = r; wakers = [] }
+
+-- at the door
+abbrev pub release_step : Bool → Inner → ℕ → Answer → Ending → Outcome
+release_step true c t k e = record { inner = released c.quick (is_value e) c; step = UnderWay (AtCountOut e); kept = k; entries = release_entry k t c.wakers ∷ [] }
+release_step false c t k e = goes_to c k (AtCountOut e)
+
+abbrev pub counted_out : Inner → Inner
+counted_out c = record c { count = c.count - 1 }
+
+-- the word after is exactly the ready bit
+abbrev pub out_step : Bool → Inner → ℕ → Answer → Ending → Outcome
+out_step true c t k e = goes_to c k (AtDoorTake e)
+out_step false c t k e = ends c t k e
+
+abbrev pub door_taken : Inner → Inner
+door_taken c = record c { door = None; head = false; wakers = [] }
+
+-- one step at a place: of the task t with the waker w and what its init gave so far, the init answering a, memory being given or not
+abbrev pub place_step : Bool → ℕ → Inner → ℕ → ℕ → Answer → Answer → Bool → Place ℕ ℕ → Outcome
+place_step lazy limit c t w k a granted AtStart = start_step c.ready (is_new c) c t k
+place_step lazy limit c t w k a granted AtTryQuick = quick_step c.ready (is_new c) c t k
+place_step lazy limit c t w k a granted AtDoorGet = door_step c.door c k
+place_step lazy limit c t w k a granted AtDoorPut = put_step granted c.door c t k
+place_step lazy limit c t w k a granted (AtCountIn q) = in_step (nat_lt c.count limit) c.ready c t k q
+place_step lazy limit c t w k a granted (AtWaitLoad q) = load_step c.ready c k q
+place_step lazy limit c t w k a granted (AtLook q) = look_step (is_at_door q c.door) c.ready (is_taken c) (member w c.wakers) granted c t w k q
+place_step lazy limit c t w k a granted (AtList q v) = list_step (is_at_door q c.door) c.ready (is_taken c) (member v c.wakers) granted c t v k q
+place_step lazy limit c t w k a granted (AtRun by) = run_step (given lazy c.answers a) (ran_once c) t k by
+place_step lazy limit c t w k a granted (AtPut by) = goes_to (record c { value = put_value k c.value }) k (give_back by EndValue)
+place_step lazy limit c t w k a granted (AtFast e) = fast_step (is_quick_alone c) (is_value e) c t k e
+place_step lazy limit c t w k a granted (AtAddOne e) = goes_to (record c { count = suc c.count }) k (AtDoorAgain e)
+place_step lazy limit c t w k a granted (AtDoorAgain e) = again_step c.door c k e
+place_step lazy limit c t w k a granted (AtRelease q e) = release_step (is_at_door q c.door) c t k e
+place_step lazy limit c t w k a granted (AtCountOut e) = out_step (is_last_out c) (counted_out c) t k e
+place_step lazy limit c t w k a granted (AtDoorTake e) = ends (door_taken c) t k e
+
+abbrev pub step_at : Bool → ℕ → Inner → ℕ → ℕ → Answer → Answer → Bool → Step ℕ ℕ → Outcome
+step_at lazy limit c t w k a granted (UnderWay p) = place_step lazy limit c t w k a granted p
+step_at lazy limit c t w k a granted s = record { inner = c; step = s; kept = k; entries = [] }
+
+-- one step of the task t
+abbrev pub advance : Bool → ℕ → Inner → ℕ → Task → Answer → Bool → Outcome
+advance lazy limit c t x a granted = step_at lazy limit c t x.waker x.kept a granted x.step
+
+-- granted, door, queues made: a queue is put where none stands
+abbrev pub put_lines : Bool → Option ℕ → ℕ → List QueueLine
+put_lines true None n = PutLine (suc n) ∷ []
+put_lines _ _ n = []
+
+-- what one step logs
+abbrev pub place_lines : Bool → Inner → Place ℕ ℕ → List QueueLine
+place_lines granted c AtDoorPut = put_lines granted c.door c.queues
+place_lines granted c (AtLook q) = EnteredLine q ∷ []
+place_lines granted c (AtList q v) = EnteredLine q ∷ []
+place_lines granted c (AtRelease q e) = EnteredLine q ∷ []
+place_lines granted c (AtDoorTake e) = taken_out c.door
+place_lines granted c _ = []
+
+abbrev pub step_lines : Bool → Inner → Step ℕ ℕ → List QueueLine
+step_lines granted c (UnderWay p) = place_lines granted c p
+step_lines granted c s = []
+
+-- what the beginning of a drop records, by the step that it leads to: its end too, where there is no step to do
+abbrev pub drop_entries : ℕ → Step ℕ ℕ → List Entry
+drop_entries t Finished = DropEnd t ∷ DropBegin t ∷ []
+drop_entries t _ = DropBegin t ∷ []
+
+-- what is shared, the tasks by their numbers, how many tasks are not finished, the record and the queue log
 pub record World : Type 0 where
   pub inner : Inner
   pub tasks : ℕ → Option Task
+  pub unfinished : ℕ
   pub history : List Entry
+  pub log : List QueueLine
 
 -- the tasks, with y at the number t
 abbrev pub put_task : ℕ → Task → (ℕ → Option Task) → ℕ → Option Task
 put_task t y tasks u = cond (t == u) (Some y) (tasks u)
 
+-- how many tasks are not finished, where one of n comes to this step
+abbrev pub unfinished_after : Step ℕ ℕ → ℕ → ℕ
+unfinished_after Finished n = n - 1
+unfinished_after _ n = n
+
 abbrev pub fresh_task : Task
-fresh_task = record { waker = 0; kept = RanPending; step = Resting RestList }
+fresh_task = record { waker = 0; kept = RanPending; step = Resting RestStart }
 
 abbrev pub made : World → ℕ → Option Task → World
-made w t None = record w { tasks = put_task t fresh_task w.tasks; history = Made t ∷ w.history }
+made w t None = record w { tasks = put_task t fresh_task w.tasks; unfinished = suc w.unfinished; history = Made t ∷ w.history }
 made w t (Some x) = w
 
 -- a poll of t, by whether it is at rest
@@ -104,30 +265,86 @@ abbrev pub polled : World → ℕ → ℕ → Option Task → World
 polled w t k None = w
 polled w t k (Some x) = begun_by (is_resting x.step) w t k x
 
-abbrev pub stepped : World → ℕ → Task → Outcome → World
-stepped w t x o = record { inner = o.inner; tasks = put_task t (record x { step = o.step; kept = o.kept }) w.tasks; history = o.entries ++ w.history }
+-- a drop of t, by whether it is at rest
+abbrev pub dropped_by : Bool → World → ℕ → Task → World
+dropped_by true w t x = record w { tasks = put_task t (record x { step = dropped x.step }) w.tasks; unfinished = unfinished_after (dropped x.step) w.unfinished; history = drop_entries t (dropped x.step) ++ w.history }
+dropped_by false w t x = w
 
--- a step of t, where a call is under way
-abbrev pub gone_on : Bool → Bool → World → ℕ → Answer → Task → World
-gone_on true lazy w t a x = stepped w t x (advance lazy w.inner t x a)
-gone_on false lazy w t a x = w
+abbrev pub drops : World → ℕ → Option Task → World
+drops w t None = w
+drops w t (Some x) = dropped_by (is_resting x.step) w t x
 
-abbrev pub goes : Bool → World → ℕ → Answer → Option Task → World
-goes lazy w t a None = w
-goes lazy w t a (Some x) = gone_on (in_call x.step) lazy w t a x
+abbrev pub stepped : World → ℕ → Task → Outcome → List QueueLine → World
+stepped w t x o lines = record { inner = o.inner; tasks = put_task t (record x { step = o.step; kept = o.kept }) w.tasks; unfinished = unfinished_after o.step w.unfinished; history = o.entries ++ w.history; log = lines ++ w.log }
+
+-- a step of t, by whether a call is under way
+abbrev pub gone_on : Bool → Bool → ℕ → World → ℕ → Answer → Bool → Task → World
+gone_on true lazy limit w t a granted x = stepped w t x (advance lazy limit w.inner t x a granted) (step_lines granted w.inner x.step)
+gone_on false lazy limit w t a granted x = w
+
+abbrev pub goes : Bool → ℕ → World → ℕ → Answer → Bool → Option Task → World
+goes lazy limit w t a granted None = w
+goes lazy limit w t a granted (Some x) = gone_on (in_call x.step) lazy limit w t a granted x
 
 -- what a look finds
 abbrev pub looked : Inner → Option ℕ
 looked c = cond c.ready (Some c.value) None
 
--- the world after one input. Drops and the owner's calls are passed over by this machine
-abbrev pub after : Bool → World → Input → World
-after lazy w (Make t) = made w t (w.tasks t)
-after lazy w (Poll t k) = polled w t k (w.tasks t)
-after lazy w (Go t a granted) = goes lazy w t a (w.tasks t)
-after lazy w Looks = record w { history = Look (looked w.inner) ∷ w.history }
-after lazy w (Drop t) = w
-after lazy w (Owns o) = w
+-- what the owner is given, by whether the value is set
+abbrev pub value_got : Bool → ℕ → Got
+value_got true v = GotValue v
+value_got false v = GotNone
+
+abbrev pub parts_got : Bool → Inner → Got
+parts_got true c = GotValue c.value
+parts_got false c = GotAnswers c.answers
+
+abbrev pub owner_got : OwnerCall → Inner → Got
+owner_got Parts c = parts_got c.ready c
+owner_got _ c = value_got c.ready c.value
+
+abbrev pub is_some_value : Option ℕ → Bool
+is_some_value (Some v) = true
+is_some_value None = false
+
+abbrev pub value_or : Option ℕ → ℕ → ℕ
+value_or (Some v) old = v
+value_or None old = old
+
+-- the cell as a new one, with this value or none and with these answers, without a queue at the door
+abbrev pub reset : Inner → Option ℕ → List (Option ℕ) → Inner
+reset c v l = record (door_taken c) { count = 0; quick = false; ready = is_some_value v; value = value_or v c.value; answers = l }
+
+-- another value where one is set
+abbrev pub rewritten : Bool → ℕ → Inner → Inner
+rewritten true v c = record c { value = v }
+rewritten false v c = c
+
+abbrev pub owner_inner : OwnerCall → Inner → Inner
+owner_inner Take c = reset c None c.answers
+owner_inner (Write v) c = rewritten c.ready v c
+owner_inner Parts c = reset c None []
+owner_inner (ReplaceValue v) c = reset c (Some v) []
+owner_inner (ReplaceAnswers l) c = reset c None l
+
+-- what an owner's call logs, by whether it replaces the cell
+abbrev pub owner_lines : Bool → Inner → List QueueLine
+owner_lines true c = taken_out c.door
+owner_lines false c = []
+
+-- an owner's call, by whether every task is finished and whether the kind has the call
+abbrev pub owned_by : Bool → Bool → World → OwnerCall → World
+owned_by true true w o = record w { inner = owner_inner o w.inner; history = Own o (owner_got o w.inner) ∷ w.history; log = owner_lines (replaces o) w.inner ++ w.log }
+owned_by _ _ w o = w
+
+-- the world after one input
+abbrev pub after : Kind → ℕ → World → Input → World
+after kind limit w (Make t) = made w t (w.tasks t)
+after kind limit w (Poll t k) = polled w t k (w.tasks t)
+after kind limit w (Drop t) = drops w t (w.tasks t)
+after kind limit w (Go t a granted) = goes (is_lazy kind) limit w t a granted (w.tasks t)
+after kind limit w (Owns o) = owned_by (w.unfinished == 0) (has_call kind o) w o
+after kind limit w Looks = record w { history = Look (looked w.inner) ∷ w.history }
 
 abbrev pub value_at_start : Option ℕ → ℕ
 value_at_start (Some v) = v
@@ -136,23 +353,24 @@ value_at_start None = 0
 -- a cell of the kind that nobody used
 abbrev pub opening : Kind → World
 opening kind = record {
-  inner = record { ready = is_set (starts kind); head = false; wakers = []; value = value_at_start (value_in (starts kind)); answers = first_answers kind };
+  inner = record { count = 0; quick = false; ready = is_set (starts kind); door = None; head = false; wakers = []; queues = 0; value = value_at_start (value_in (starts kind)); answers = first_answers kind };
   tasks = λ t. None;
+  unfinished = 0;
   history = [];
+  log = [];
 }
 
 -- the world after these inputs, the newest input first
-abbrev pub world_of : Kind → List Input → World
-world_of kind [] = opening kind
-world_of kind (i ∷ before) = after (is_lazy kind) (world_of kind before) i
+abbrev pub world_of : Kind → ℕ → List Input → World
+world_of kind limit [] = opening kind
+world_of kind limit (i ∷ before) = after kind limit (world_of kind limit before) i
 
--- the record of these inputs
-abbrev pub history_of : Kind → List Input → List Entry
-history_of kind inputs = (world_of kind inputs).history
+-- the record, the queue log and the queue at the door after these inputs
+abbrev pub history_of : Kind → ℕ → List Input → List Entry
+history_of kind limit inputs = (world_of kind limit inputs).history
 
--- the inputs that this machine takes: all but drops and the owner's calls
-abbrev pub taken : List Input → List Input
-taken [] = []
-taken (Drop t ∷ before) = taken before
-taken (Owns o ∷ before) = taken before
-taken (i ∷ before) = i ∷ taken before
+abbrev pub log_of : Kind → ℕ → List Input → List QueueLine
+log_of kind limit inputs = (world_of kind limit inputs).log
+
+abbrev pub queue_of : Kind → ℕ → List Input → Option ℕ
+queue_of kind limit inputs = (world_of kind limit inputs).inner.door

@@ -1,9 +1,8 @@
 -- What the side of a replayed task answers and leaves.
-use Rattle.std.specs.Prelude.{◌≡◌, List, Option, Some, reverse}
+use Rattle.std.specs.Prelude.{◌≡◌, ℕ, cond, List, Option, Some, None, reverse, ⊤}
 use Rattle.std.specs.declared.vec.Vec.{Vec}
 use Rattle.std.specs.declared.alloc.Global.{Global}
-use Rattle.std.specs.Prelude.{ℕ}
-use Rattle.async_once_cell.specs.declared.world.Script.{Script}
+use Rattle.async_once_cell.specs.declared.world.script.Script.{Script}
 use Rattle.async_once_cell.specs.declared.step.Polled.{Polled}
 use Rattle.async_once_cell.specs.declared.step.Polled.TheVariants.{Pending as PolledPending, Value as PolledValue, Error as PolledError}
 use Rattle.async_once_cell.specs.Record.{Answer, RanPending, RanValue, RanError}
@@ -44,7 +43,11 @@ abbrev pub DidPut : Script → Script → Type 0
 DidPut s t = t ≡ record s { value = put_value s.kept s.value }
 
 abbrev pub DidCopy : Script → Option ℕ → Script → Type 0
-DidCopy s w t = (w ≡ Some s.waker) × (t ≡ s)
+DidCopy s w t = (w ≡ cond s.granted (Some s.waker) None) × (t ≡ s)
 
 abbrev pub DidWake : Script → Vec ℕ Global → Script → Type 0
 DidWake s X t = t ≡ record s { handed = Some X }
+
+-- nothing more is said of a script's calls
+abbrev pub Stays : Script → Script → Type 0
+Stays s t = ⊤

@@ -1,22 +1,19 @@
 -- What a section under the queue's lock sees, answers and leaves.
-use Rattle.std.specs.Prelude.{◌≡◌, ℕ, ◌<◌, ◌^◌, ◌%◌, ◌⊎◌, ◌||◌, ◌&&◌, not, nat_le, Bool, List, [], ◌∷◌, ◌++◌, Option, Some, None, All, HoldsAt, length}
+use Rattle.std.specs.Prelude.{◌≡◌, ℕ, ◌<◌, ◌⊎◌, ◌||◌, not, cond, Bool, false, List, [], ◌∷◌, ◌++◌, Option, Some, None, All, HoldsAt, length}
 use Rattle.async_once_cell.specs.declared.queue.Answer.{Answer}
+use Rattle.async_once_cell.specs.Word.{Flags}
 
 -- the word says that the value is set
-abbrev pub is_ready : ℕ → Bool
-is_ready word = nat_le (2 ^ 63) word
+abbrev pub shows_set : Flags → Bool
+shows_set f = f.ready
 
--- the word, or the flag beside the list, says that some task holds
-abbrev pub says_held : ℕ → Bool → Bool
-says_held word head = nat_le (2 ^ 62) (word % 2 ^ 63) || head
-
--- the value is not set, and nobody holds
-abbrev pub is_free : ℕ → Bool → Bool
-is_free word head = not (is_ready word) && not (says_held word head)
+-- the value is not set, and neither the word nor the flag beside the list says that some task holds
+abbrev pub shows_free : Flags → Bool → Bool
+shows_free f head = cond f.ready false (not (f.quick || head))
 
 -- the value is not set, and some task holds
-abbrev pub is_taken : ℕ → Bool → Bool
-is_taken word head = not (is_ready word) && says_held word head
+abbrev pub shows_taken : Flags → Bool → Bool
+shows_taken f head = cond f.ready false (f.quick || head)
 
 module _ {W : Type 0} (same : W → W → Type 0) where
   -- some listed waker was told to be the same

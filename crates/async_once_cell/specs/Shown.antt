@@ -1,9 +1,9 @@
 -- The program's values, with their vectors, as the definitions see them.
 use Rattle.std.specs.Prelude.{ℕ, Bool, true, false, List, [], ◌∷◌, ◌++◌, Option, Some, None, map, reverse}
-use Rattle.std.specs.declared.vec.Vec.{Vec}
-use Rattle.std.specs.declared.alloc.Global.{Global}
 use Rattle.std.specs.Ordering.{nat_cmp}
 use Rattle.std.specs.BTreeMap.{get}
+use Rattle.std.specs.declared.vec.Vec.{Vec}
+use Rattle.std.specs.declared.alloc.Global.{Global}
 use Rattle.async_once_cell.specs.declared.world.Kind.{Kind as GivenKind}
 use Rattle.async_once_cell.specs.declared.world.Kind.TheVariants.{Once as GivenOnce, OnceWith as GivenOnceWith, Lazy as GivenLazy, LazyWith as GivenLazyWith}
 use Rattle.async_once_cell.specs.declared.world.Call.{Call}
@@ -14,13 +14,15 @@ use Rattle.async_once_cell.specs.declared.world.Input.{Input as GivenInput}
 use Rattle.async_once_cell.specs.declared.world.Input.TheVariants.{Make as InputMake, Poll as InputPoll, Drop as InputDrop, Go as InputGo, Look as InputLook, Own as InputOwn}
 use Rattle.async_once_cell.specs.declared.world.Entry.{Entry as Written}
 use Rattle.async_once_cell.specs.declared.world.Entry.TheVariants.{Made as WrittenMade, Begin as WrittenBegin, Claim as WrittenClaim, Ran as WrittenRan, Free as WrittenFree, Fill as WrittenFill, End as WrittenEnd, DropBegin as WrittenDropBegin, DropEnd as WrittenDropEnd, Look as WrittenLook, Own as WrittenOwn}
-use Rattle.async_once_cell.specs.declared.world.Inner.{Inner as Shared}
-use Rattle.async_once_cell.specs.declared.world.Seen.{Seen}
-use Rattle.async_once_cell.specs.declared.world.World.{World as Replay}
+use Rattle.async_once_cell.specs.declared.world.Record.{Record as GivenRecord}
+use Rattle.async_once_cell.specs.declared.inner.QueueLine.{QueueLine}
+use Rattle.async_once_cell.specs.declared.world.play.Shared.{Shared}
+use Rattle.async_once_cell.specs.declared.world.play.Seen.{Seen}
+use Rattle.async_once_cell.specs.declared.world.play.World.{World}
 use Rattle.async_once_cell.specs.Record.{Answer, Kind, Once, OnceWith, Lazy, LazyWith, OwnerCall, Take, Write, Parts, ReplaceValue, ReplaceAnswers, Got, GotNone, GotValue, GotAnswers, Entry, Made, Begin, Claim, Ran, Free, Fill, End, DropBegin, DropEnd, Look, Own}
 use Rattle.async_once_cell.specs.Inputs.{Input, Make, Poll, Drop, Go, Looks, Owns}
 use Rattle.async_once_cell.specs.Steps.{Progress, More, Ended}
-use Rattle.async_once_cell.specs.Machine.{Inner, World, release_entry, end_entry}
+use Rattle.async_once_cell.specs.Machine.{Inner, World as MachineWorld, release_entry, end_entry}
 
 abbrev pub kind_of : GivenKind → Kind
 kind_of GivenOnce = Once
@@ -68,11 +70,23 @@ inputs_in inputs = reverse (map input_of inputs)
 abbrev pub history_in : List Written → List Entry
 history_in entries = reverse (map entry_of entries)
 
+-- what all tasks share, as the machine sees it
 abbrev pub inner_of : Shared → Inner
-inner_of c = record { ready = c.plain.ready; head = c.plain.lists.head; wakers = c.plain.lists.wakers.items; value = c.script.value; answers = reverse c.script.answers.items }
+inner_of c = record {
+  count = c.core.word.count;
+  quick = c.core.word.quick;
+  ready = c.core.word.ready;
+  door = c.core.door;
+  head = c.core.lists.head;
+  wakers = c.core.lists.wakers.items;
+  queues = c.core.made;
+  value = c.script.value;
+  answers = reverse c.script.answers.items;
+}
 
-abbrev pub world_in : Replay → World
-world_in w = record { inner = inner_of w.inner; tasks = λ t. get nat_cmp w.tasks t; history = history_in w.entries.items }
+-- the queue log, the newest line first
+abbrev pub log_in : Shared → List QueueLine
+log_in c = reverse c.core.log.items
 
 -- the entries of what a step was seen to do, the newest first
 abbrev pub claim_entries : Bool → ℕ → List Entry
@@ -82,6 +96,10 @@ claim_entries false t = []
 abbrev pub ran_entries : Option Answer → ℕ → List Entry
 ran_entries (Some a) t = Ran t a ∷ []
 ran_entries None t = []
+
+abbrev pub freed_entries : Bool → ℕ → Answer → List Entry
+freed_entries true t k = release_entry k t [] ∷ []
+freed_entries false t k = []
 
 abbrev pub handed_entries : Option (Vec ℕ Global) → ℕ → Answer → List Entry
 handed_entries (Some X) t k = release_entry k t X.items ∷ []
@@ -93,4 +111,21 @@ progress_entries More t v k = []
 
 -- the entries of a step of t that was seen to do this, where its init gave k and the value v is set
 abbrev pub told : ℕ → Seen → Answer → ℕ → List Entry
-told t s k v = progress_entries s.progress t v k ++ handed_entries s.handed t k ++ ran_entries s.ran t ++ claim_entries s.claimed t
+told t s k v = progress_entries s.progress t v k ++ handed_entries s.handed t k ++ freed_entries s.freed t k ++ ran_entries s.ran t ++ claim_entries s.claimed t
+
+-- the world of a replay under way
+abbrev pub world_in : World → MachineWorld
+world_in w = record {
+  inner = inner_of w.shared;
+  tasks = λ t. get nat_cmp w.tasks t;
+  unfinished = w.unfinished;
+  history = history_in w.entries.items;
+  log = log_in w.shared;
+}
+
+-- the record of a replay and its queue log, the newest first
+abbrev pub recorded : GivenRecord → List Entry
+recorded r = history_in r.entries.items
+
+abbrev pub logged : GivenRecord → List QueueLine
+logged r = reverse r.queues.items

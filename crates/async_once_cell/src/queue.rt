@@ -82,7 +82,8 @@ pub struct Lists<W: WakerId> {
 }
 
 impl<W: WakerId + Drop> Lists<W> {
-    ghost use Rattle.async_once_cell.specs.Sections.{is_ready, is_free, is_taken, IsListed, IsOther, Looked, Listing};
+    ghost use Rattle.async_once_cell.specs.Word.{flags_of};
+    ghost use Rattle.async_once_cell.specs.Sections.{shows_set, shows_free, shows_taken, IsListed, IsOther, Looked, Listing};
 
     /// No holder, and nobody listed. It takes no memory.
     pub fn new(alloc: Global) -> Self
@@ -99,12 +100,12 @@ impl<W: WakerId + Drop> Lists<W> {
     /// listed. With no waker none is.
     pub fn look(&mut self, waker: Option<&W>, word: u64) -> Answer<W>
         // The first case that holds gives the answer.
-        ensures ready { is_ready word ≡ true → result ≡ Answer.Ready }
-        ensures claimed { is_free word self.old.head ≡ true → result ≡ Answer.Claimed }
-        ensures held { is_taken word self.old.head ≡ true → Looked W.tells_same W.tells_other (option_copied waker.entry) self.old.wakers.items result }
+        ensures ready { shows_set (flags_of word) ≡ true → result ≡ Answer.Ready }
+        ensures claimed { shows_free (flags_of word) self.old.head ≡ true → result ≡ Answer.Claimed }
+        ensures held { shows_taken (flags_of word) self.old.head ≡ true → Looked W.tells_same W.tells_other (option_copied waker.entry) self.old.wakers.items result }
 
         // Only a claim changes anything.
-        ensures head { self.new.head ≡ (self.old.head || is_free word self.old.head) }
+        ensures head { self.new.head ≡ (self.old.head || shows_free (flags_of word) self.old.head) }
         ensures wakers { self.new.wakers ≡ self.old.wakers }
     {
         if let Some(answer) = self.claim(word) {
@@ -125,15 +126,15 @@ impl<W: WakerId + Drop> Lists<W> {
         requires { IsSome waker.old }
 
         // The first case that holds gives the answer.
-        ensures ready { is_ready word ≡ true → result ≡ Answer.Ready }
-        ensures claimed { is_free word self.old.head ≡ true → result ≡ Answer.Claimed }
-        ensures held { is_taken word self.old.head ≡ true → Listing W.tells_same W.tells_other waker.old self.old.wakers.items result waker.new self.new.wakers.items }
+        ensures ready { shows_set (flags_of word) ≡ true → result ≡ Answer.Ready }
+        ensures claimed { shows_free (flags_of word) self.old.head ≡ true → result ≡ Answer.Claimed }
+        ensures held { shows_taken (flags_of word) self.old.head ≡ true → Listing W.tells_same W.tells_other waker.old self.old.wakers.items result waker.new self.new.wakers.items }
         ensures room { vec_len self.old.wakers < vec_capacity self.old.wakers → result ≢ Answer.Memory }
 
         // Only a claim changes the flag, and only a task that waits changes the list.
-        ensures head { self.new.head ≡ (self.old.head || is_free word self.old.head) }
-        ensures wakers { is_taken word self.old.head ≡ false → self.new.wakers ≡ self.old.wakers }
-        ensures waker { is_taken word self.old.head ≡ false → waker.new ≡ waker.old }
+        ensures head { self.new.head ≡ (self.old.head || shows_free (flags_of word) self.old.head) }
+        ensures wakers { shows_taken (flags_of word) self.old.head ≡ false → self.new.wakers ≡ self.old.wakers }
+        ensures waker { shows_taken (flags_of word) self.old.head ≡ false → waker.new ≡ waker.old }
     {
         if let Some(answer) = self.claim(word) {
             return answer;
@@ -176,10 +177,10 @@ impl<W: WakerId + Drop> Lists<W> {
 
     // The right where it is free, and None where some task holds it.
     fn claim(&mut self, word: u64) -> Option<Answer<W>>
-        ensures ready { is_ready word ≡ true → result ≡ Some Answer.Ready }
-        ensures claimed { is_free word self.old.head ≡ true → result ≡ Some Answer.Claimed }
-        ensures held { is_taken word self.old.head ≡ true → result ≡ None }
-        ensures head { self.new.head ≡ (self.old.head || is_free word self.old.head) }
+        ensures ready { shows_set (flags_of word) ≡ true → result ≡ Some Answer.Ready }
+        ensures claimed { shows_free (flags_of word) self.old.head ≡ true → result ≡ Some Answer.Claimed }
+        ensures held { shows_taken (flags_of word) self.old.head ≡ true → result ≡ None }
+        ensures head { self.new.head ≡ (self.old.head || shows_free (flags_of word) self.old.head) }
         ensures wakers { self.new.wakers ≡ self.old.wakers }
     {
         if word >= READY_BIT {

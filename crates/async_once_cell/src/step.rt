@@ -1,11 +1,11 @@
 //! One step of a call at a time, over any parts and any side.
-ghost use Rattle.std.specs.Prelude.{◌≡◌, ◌<◌, ◌≤◌, ◌↔◌, IsTrue, OnOk, ⊤, true, false, [], Option, vec_len, vec_capacity};
+ghost use Rattle.std.specs.Prelude.{◌≡◌, ◌<◌, ◌≤◌, ◌-◌, ◌^◌, ◌↔◌, IsTrue, ℕ, Bool, true, false, Option, Some, None};
 ghost use Rattle.async_once_cell.specs.declared.queue.Answer.{Answer};
 ghost use Rattle.async_once_cell.specs.declared.queue.Op.{Op};
 ghost use Rattle.async_once_cell.specs.declared.step.Polled.{Polled};
 
-use crate::queue::{Answer, Lists, NEW, Op, READY_BIT, WakerId};
-use std::alloc::{AllocError, Global};
+use crate::inner::{Answer, Counted, NEW, Op, Parts, READY_BIT};
+use std::mem;
 
 /// What one poll of an init answered. The side keeps the value or the error.
 #[derive(Clone, Copy, Debug, PartialEq, Eq)]
@@ -45,25 +45,11 @@ pub enum Progress {
     Ended(Ending),
 }
 
-/// What all tasks of a cell share. A member for each call says what it answers and leaves; one that
-/// is left out says nothing.
-pub trait Parts<W> {
-    ghost use Rattle.async_once_cell.specs.declared.queue.Op.{Op};
-    ghost use Rattle.async_once_cell.specs.declared.queue.Answer.{Answer};
-    ghost use Rattle.async_once_cell.specs.Steps.{HasWaker};
-
-    ghost did_section: { Self → Op W → Answer W → Op W → Self → Type 0 } = { λ _ _ _ _ _. ⊤ };
-
-    /// One section under the queue's lock.
-    fn section(&mut self, op: &mut Op<W>) -> Answer<W>
-        requires { HasWaker op.old }
-        ensures { did_section self.old op.old result op.new self.new };
-}
-
 /// What a call brings of its own: its init, the value or error that this gave, and its waker. A
-/// member for each call says what it answers and leaves; one that is left out says nothing.
+/// member for each call says what it answers and leaves; one that is left out says nothing. All of
+/// them keep `stays`.
 pub trait Side<W> {
-    ghost use Rattle.std.specs.Prelude.{Option};
+    ghost use Rattle.std.specs.Prelude.{⊤, Option};
     ghost use Rattle.std.specs.declared.vec.Vec.{Vec};
     ghost use Rattle.std.specs.declared.alloc.Global.{Global};
     ghost use Rattle.async_once_cell.specs.declared.step.Polled.{Polled};
@@ -78,68 +64,148 @@ pub trait Side<W> {
 
     ghost did_wake: { Self → Vec W Global → Self → Type 0 } = { λ _ _ _. ⊤ };
 
-    /// Polls the init once, and keeps a value or an error that it gave.
+    ghost stays: { Self → Self → Type 0 };
+
+    /// Polls the init once, and keeps a value or an error that it gave. An init that is gone answers
+    /// Pending.
     fn run(&mut self) -> Polled
-        ensures { did_run self.old result self.new };
+        ensures did { did_run self.old result self.new }
+        ensures stays { stays self.old self.new };
 
     /// Drops the init.
     fn close(&mut self)
-        ensures { did_close self.old self.new };
+        ensures did { did_close self.old self.new }
+        ensures stays { stays self.old self.new };
 
     /// Sets the value that the init gave.
     fn put(&mut self)
-        ensures { did_put self.old self.new };
+        ensures did { did_put self.old self.new }
+        ensures stays { stays self.old self.new };
 
     /// Copies the current waker. `None` says that memory was refused.
     fn copy(&mut self) -> Option<W>
-        ensures { did_copy self.old result self.new };
+        ensures did { did_copy self.old result self.new }
+        ensures stays { stays self.old self.new };
 
     /// Calls these wakers.
     fn wake(&mut self, wakers: Vec<W>)
-        ensures { did_wake self.old wakers self.new };
+        ensures did { did_wake self.old wakers self.new }
+        ensures stays { stays self.old self.new };
+
+    ghost stays_same: { (a : Self) → stays a a };
+
+    ghost stays_on: { (a b c : Self) → stays a b → stays b c → stays a c };
 }
 
-/// Where the next poll of a task begins.
-#[derive(Clone, Copy, Debug, PartialEq, Eq)]
-pub enum Rest {
-    /// The task was not polled yet, or it waits.
-    List,
-    /// The task holds the right.
-    Run,
+/// Where the next call of a task begins.
+#[derive(Drop)]
+pub enum Rest<Q> {
+    /// The task was not polled yet.
+    Start,
+    /// The task waits, and keeps this queue.
+    Wait(Q),
+    /// The task holds the right: by the quick claim, or under the lock of this queue.
+    Run(Option<Q>),
 }
 
-/// The step that a call makes next.
-#[derive(Clone, Copy, Debug, PartialEq, Eq)]
-pub enum Place {
-    /// Claim the right, or list a copy of the waker.
-    List,
-    /// Poll the init.
-    Run,
+/// The step that a call makes next. An ending says how the call will end.
+#[derive(Drop)]
+pub enum Place<W, Q> {
+    /// Load the word.
+    Start,
+    /// Claim the right by one exchange.
+    TryQuick,
+    /// Look for the queue at the door.
+    DoorGet,
+    /// Put a queue to the door.
+    DoorPut,
+    /// Count in, keeping this queue.
+    CountIn(Q),
+    /// Load the word as a counted waiter.
+    WaitLoad(Q),
+    /// Claim the right under the lock, or see whether the waker is listed.
+    Look(Q),
+    /// Claim the right under the lock, or list this copy of the waker.
+    List(Q, W),
+    /// Poll the init, holding the right as in [`Rest::Run`].
+    Run(Option<Q>),
     /// Set the value that the init gave.
-    Put,
-    /// Give the right back, and then end so.
-    Release(Ending),
+    Put(Option<Q>),
+    /// Give the right back by one exchange.
+    Fast(Ending),
+    /// Count in, since others are counted.
+    AddOne(Ending),
+    /// Look for their queue.
+    DoorAgain(Ending),
+    /// Give the right back under the lock, and call who is listed.
+    Release(Q, Ending),
+    /// Count out.
+    CountOut(Ending),
+    /// Take the queue out of the door.
+    DoorTake(Ending),
+}
+
+impl<W, Q> Place<W, Q> {
+    ghost use Rattle.async_once_cell.specs.Steps.{left_at, give_back};
+
+    // How many steps a call here may still take.
+    fn left(&self) -> u32
+        ensures left { result ≡ left_at self.now }
+        ensures most { result ≤ 16 }
+        ensures some { 0 < result }
+    {
+        match self {
+            Place::Start => 16,
+            Place::TryQuick => 15,
+            Place::DoorGet => 14,
+            Place::DoorPut => 13,
+            Place::CountIn(_) => 12,
+            Place::WaitLoad(_) => 11,
+            Place::Look(_) => 10,
+            Place::List(_, _) => 9,
+            Place::Run(_) => 8,
+            Place::Put(_) => 7,
+            Place::Fast(_) => 6,
+            Place::AddOne(_) => 5,
+            Place::DoorAgain(_) => 4,
+            Place::Release(_, _) => 3,
+            Place::CountOut(_) => 2,
+            Place::DoorTake(_) => 1,
+        }
+    }
+
+    // Where a holder gives the right back.
+    fn giving_back(by: Option<Q>, ending: Ending) -> Self
+        ensures { result ≡ give_back by ending }
+    {
+        match by {
+            None => Place::Fast(ending),
+            Some(queue) => Place::Release(queue, ending),
+        }
+    }
 }
 
 /// The place at which a task stands.
-#[derive(Clone, Copy, Debug, PartialEq, Eq)]
-pub enum Step {
+#[derive(Drop)]
+pub enum Step<W, Q> {
     /// No call is under way.
-    Resting(Rest),
+    Resting(Rest<Q>),
     /// A call is under way.
-    UnderWay(Place),
+    UnderWay(Place<W, Q>),
     /// The last call ended with anything but Pending.
     Finished,
 }
 
-impl Step {
-    ghost use Rattle.async_once_cell.specs.Steps.{left_of, is_resting, in_call, is_running, begun, is_value, AfterRun, AfterCopy, AfterRelease, Advances};
+impl<W: Drop, Q: Drop> Step<W, Q> {
+    ghost use Rattle.async_once_cell.specs.declared.inner.Counted.{Counted};
+    ghost use Rattle.async_once_cell.specs.Word.{flags_of, is_zero, is_ready_bit};
+    ghost use Rattle.async_once_cell.specs.Steps.{left_of, is_resting, in_call, is_running, is_value, begun, dropped, give_back, Asks, Advances, LeadsTo, Follows, AfterLook, AfterRelease, after_start, after_quick, after_door_get, after_door_put, after_count_in, after_load, after_copy, after_list, after_run, after_fast, after_door_again, after_count_out};
 
     /// A task that was not polled yet.
     pub fn new() -> Self
-        ensures { result ≡ Step.Resting Rest.List }
+        ensures { result ≡ Step.Resting Rest.Start }
     {
-        Step::Resting(Rest::List)
+        Step::Resting(Rest::Start)
     }
 
     /// Whether the last call ended with anything but Pending.
@@ -160,7 +226,7 @@ impl Step {
     pub fn is_running(&self) -> bool
         ensures { result ≡ is_running self.now }
     {
-        matches!(self, Step::UnderWay(Place::Run))
+        matches!(self, Step::UnderWay(Place::Run(_)))
     }
 
     /// How many steps the call may still take at most; 0 where none is under way.
@@ -170,10 +236,7 @@ impl Step {
         ensures idle { (result ≡ 0) ↔ (in_call self.now ≡ false) }
     {
         match self {
-            Step::UnderWay(Place::List) => 9,
-            Step::UnderWay(Place::Run) => 8,
-            Step::UnderWay(Place::Put) => 7,
-            Step::UnderWay(Place::Release(_)) => 3,
+            Step::UnderWay(place) => place.left(),
             _ => 0,
         }
     }
@@ -183,169 +246,347 @@ impl Step {
         requires { is_resting self.old ≡ true }
         ensures { self.new ≡ begun self.old }
     {
-        match *self {
-            Step::Resting(Rest::List) => *self = Step::UnderWay(Place::List),
-            Step::Resting(Rest::Run) => *self = Step::UnderWay(Place::Run),
-            _ => {}
-        }
-    }
-
-    /// Makes one step of the call that is under way: one section, one poll of the init, or one
-    /// setting of the value. The limit is not used by these places.
-    pub fn advance<W: Drop, P: Parts<W>, S: Side<W>>(
-        &mut self,
-        parts: &mut P,
-        side: &mut S,
-        _limit: u64,
-    ) -> Progress
-        requires { in_call self.old ≡ true }
-        ensures lower { left_of self.new < left_of self.old }
-        ensures line { Advances P.did_section S.did_run S.did_close S.did_put S.did_copy S.did_wake
-            self.old parts.old side.old result self.new parts.new side.new }
-    {
-        match *self {
-            Step::UnderWay(Place::List) => self.list(parts, side),
-            Step::UnderWay(Place::Run) => self.run(side),
-            Step::UnderWay(Place::Put) => {
-                side.put();
-                *self = Step::UnderWay(Place::Release(Ending::Value));
-                Progress::More
-            }
-            Step::UnderWay(Place::Release(ending)) => self.release(ending, parts, side),
-            _ => unreachable!(),
-        }
-    }
-
-    // Claims the right, or lists a copy of the waker.
-    fn list<W: Drop, P: Parts<W>, S: Side<W>>(&mut self, parts: &mut P, side: &mut S) -> Progress
-        ensures { (c : Option W) × (m : S) × S.did_copy side.old c m
-            × AfterCopy P.did_section S.did_close c parts.old m result self.new parts.new side.new }
-    {
-        let Some(waker) = side.copy() else {
-            side.close();
-            return self.end(Ending::Memory);
+        *self = match mem::replace(self, Step::Finished) {
+            Step::Resting(Rest::Start) => Step::UnderWay(Place::Start),
+            Step::Resting(Rest::Wait(queue)) => Step::UnderWay(Place::WaitLoad(queue)),
+            Step::Resting(Rest::Run(by)) => Step::UnderWay(Place::Run(by)),
+            other => other,
         };
-        match parts.section(&mut Op::List(Some(waker))) {
-            Answer::Ready => {
-                side.close();
-                self.end(Ending::Value)
-            }
-            Answer::Claimed => {
-                *self = Step::UnderWay(Place::Run);
-                Progress::More
-            }
-            Answer::Memory => {
-                side.close();
-                self.end(Ending::Memory)
-            }
-            _ => {
-                *self = Step::Resting(Rest::List);
-                Progress::Ended(Ending::Pending)
-            }
-        }
     }
 
-    // Polls the init.
-    fn run<W, S: Side<W>>(&mut self, side: &mut S) -> Progress
-        ensures { (a : Polled) × (m : S) × S.did_run side.old a m × AfterRun S.did_close a m side.new result self.new }
+    /// Begins a drop: the init is closed first. `false` says that there is no step to do, because
+    /// the task was never polled.
+    pub fn begin_drop<S: Side<W>>(&mut self, side: &mut S) -> bool
+        requires { is_resting self.old ≡ true }
+        ensures step { self.new ≡ dropped self.old }
+        ensures more { result ≡ in_call self.new }
+        ensures close { S.did_close side.old side.new }
+        ensures stays { S.stays side.old side.new }
     {
-        match side.run() {
-            Polled::Pending => {
-                *self = Step::Resting(Rest::Run);
-                Progress::Ended(Ending::Pending)
-            }
-            Polled::Value => {
-                side.close();
-                *self = Step::UnderWay(Place::Put);
-                Progress::More
-            }
-            Polled::Error => {
-                side.close();
-                *self = Step::UnderWay(Place::Release(Ending::Error));
-                Progress::More
-            }
-        }
+        side.close();
+        *self = match mem::replace(self, Step::Finished) {
+            Step::Resting(Rest::Start) => Step::Finished,
+            Step::Resting(Rest::Wait(_queue)) => Step::UnderWay(Place::CountOut(Ending::Dropped)),
+            Step::Resting(Rest::Run(by)) => Step::UnderWay(Place::giving_back(by, Ending::Dropped)),
+            other => other,
+        };
+        matches!(self, Step::UnderWay(_))
     }
 
-    // Gives the right back, and calls the wakers that were listed.
-    fn release<W: Drop, P: Parts<W>, S: Side<W>>(
+    /// Makes one step of the call that is under way.
+    pub fn advance<P: Parts<W, Queue = Q>, S: Side<W>>(
         &mut self,
-        ending: Ending,
         parts: &mut P,
         side: &mut S,
+        limit: u64,
     ) -> Progress
-        ensures section { (a : Answer W) × (o : Op W) × P.did_section parts.old (Op.Release (is_value ending)) a o parts.new
-            × AfterRelease S.did_wake a side.old side.new }
-        ensures ended { result ≡ Progress.Ended ending }
-        ensures finished { self.new ≡ Step.Finished }
+        requires call { in_call self.old ≡ true }
+        requires limit { limit ≤ 2 ^ 62 - 2 }
+        requires asks { Asks P.can_add_one P.can_count_out P.can_log P.can_section self.old parts.old }
+        ensures lower { left_of self.new < left_of self.old }
+        ensures line { Advances P.did_load P.did_quick P.did_fast P.did_count_in P.did_add_one P.did_count_out
+            P.did_door_get P.did_door_put P.did_door_take P.did_section
+            S.did_run S.did_close S.did_put S.did_copy S.did_wake
+            limit self.old parts.old side.old result self.new parts.new side.new }
+        ensures stays { S.stays side.old side.new }
     {
-        match parts.section(&mut Op::Release(ending.is_value())) {
-            Answer::Released(wakers) => {
-                side.wake(wakers);
+        let Step::UnderWay(place) = mem::replace(self, Step::Finished) else {
+            unreachable!()
+        };
+        match place {
+            Place::Start => self.start(parts, side),
+            Place::TryQuick => self.try_quick(parts),
+            Place::DoorGet => self.door_get(parts),
+            Place::DoorPut => self.door_put(parts, side),
+            Place::CountIn(queue) => self.count_in(queue, parts, side, limit),
+            Place::WaitLoad(queue) => self.wait_load(queue, parts, side),
+            Place::Look(queue) => self.look(queue, parts, side),
+            Place::List(queue, waker) => self.list(queue, waker, parts, side),
+            Place::Run(by) => self.run(by, side),
+            Place::Put(by) => {
+                side.put();
+                self.on(Place::giving_back(by, Ending::Value))
+            }
+            Place::Fast(ending) => self.fast(ending, parts),
+            Place::AddOne(ending) => {
+                parts.add_one();
+                self.on(Place::DoorAgain(ending))
+            }
+            Place::DoorAgain(ending) => self.door_again(ending, parts),
+            Place::Release(queue, ending) => self.release(queue, ending, parts, side),
+            Place::CountOut(ending) => self.count_out(ending, parts),
+            Place::DoorTake(ending) => {
+                parts.door_take();
                 self.end(ending)
             }
-            _ => self.end(ending),
         }
+    }
+
+    // The call goes on at this place.
+    fn on(&mut self, place: Place<W, Q>) -> Progress
+        ensures more { result ≡ Progress.More }
+        ensures step { self.new ≡ Step.UnderWay place }
+    {
+        *self = Step::UnderWay(place);
+        Progress::More
     }
 
     // The call ends so, and the task is finished.
     fn end(&mut self, ending: Ending) -> Progress
         ensures ended { result ≡ Progress.Ended ending }
-        ensures finished { self.new ≡ Step.Finished }
+        ensures step { self.new ≡ Step.Finished }
     {
         *self = Step::Finished;
         Progress::Ended(ending)
     }
-}
 
-/// The parts as plain data, for one caller at a time: whether the value is set, and who waits.
-#[derive(Drop)]
-pub struct Plain<W: WakerId> {
-    pub ready: bool,
-    pub lists: Lists<W>,
-}
-
-impl<W: WakerId + Drop> Plain<W> {
-    /// Not held, and nobody listed. It takes no memory.
-    pub fn new(alloc: Global, ready: bool) -> Self
-        ensures ready { result.ready ≡ ready }
-        ensures head { result.lists.head ≡ false }
-        ensures wakers { result.lists.wakers.items ≡ [] }
+    // The poll ends Pending, and the next call begins here.
+    fn rest(&mut self, rest: Rest<Q>) -> Progress
+        ensures ended { result ≡ Progress.Ended Ending.Pending }
+        ensures step { self.new ≡ Step.Resting rest }
     {
-        Plain {
-            ready,
-            lists: Lists::new(alloc),
+        *self = Step::Resting(rest);
+        Progress::Ended(Ending::Pending)
+    }
+
+    fn start<P: Parts<W, Queue = Q>, S: Side<W>>(&mut self, parts: &mut P, side: &mut S) -> Progress
+        ensures line { (w : ℕ) × P.did_load parts.old w parts.new
+            × Follows S.did_close (after_start (flags_of w).ready (is_zero (flags_of w))) side.old side.new result self.new }
+        ensures stays { S.stays side.old side.new }
+    {
+        let word = parts.load();
+        if word >= READY_BIT {
+            side.close();
+            return self.end(Ending::Value);
+        }
+        if word == NEW {
+            return self.on(Place::TryQuick);
+        }
+        self.on(Place::DoorGet)
+    }
+
+    fn try_quick<P: Parts<W, Queue = Q>>(&mut self, parts: &mut P) -> Progress
+        ensures line { (b : Bool) × P.did_quick parts.old b parts.new × LeadsTo (after_quick b) result self.new }
+    {
+        if parts.quick() {
+            return self.on(Place::Run(None));
+        }
+        self.on(Place::DoorGet)
+    }
+
+    fn door_get<P: Parts<W, Queue = Q>>(&mut self, parts: &mut P) -> Progress
+        ensures line { (q : Option Q) × P.did_door_get parts.old q parts.new × LeadsTo (after_door_get q) result self.new }
+    {
+        match parts.door_get() {
+            Some(queue) => self.on(Place::CountIn(queue)),
+            None => self.on(Place::DoorPut),
         }
     }
 
-    /// Makes room for one more waker. Where that is refused all is as it was.
-    pub fn reserve(&mut self) -> Result<(), AllocError>
-        ensures room { OnOk result (vec_len self.new.lists.wakers < vec_capacity self.new.lists.wakers) }
-        ensures ready { self.new.ready ≡ self.old.ready }
-        ensures head { self.new.lists.head ≡ self.old.lists.head }
-        ensures wakers { self.new.lists.wakers.items ≡ self.old.lists.wakers.items }
+    fn door_put<P: Parts<W, Queue = Q>, S: Side<W>>(
+        &mut self,
+        parts: &mut P,
+        side: &mut S,
+    ) -> Progress
+        requires { P.can_log parts.old }
+        ensures line { (q : Option Q) × P.did_door_put parts.old q parts.new
+            × Follows S.did_close (after_door_put q) side.old side.new result self.new }
+        ensures stays { S.stays side.old side.new }
     {
-        self.lists.reserve()
-    }
-}
-
-impl<W: WakerId + Drop> Parts<W> for Plain<W> {
-    ghost use Rattle.async_once_cell.specs.Plain.{Sections};
-
-    ghost did_section = { λ s op a o t. Sections W.tells_same W.tells_other s.ready s.lists.head s.lists.wakers op a o t.ready t.lists.head t.lists.wakers };
-
-    fn section(&mut self, op: &mut Op<W>) -> Answer<W> {
-        let word = if self.ready { READY_BIT } else { NEW };
-        match op {
-            Op::Look => {
-                let nobody: Option<W> = None;
-                self.lists.look(nobody.as_ref(), word)
-            }
-            Op::List(waker) => self.lists.list(waker, word),
-            Op::Release(ready) => {
-                self.ready = *ready;
-                Answer::Released(self.lists.release())
+        match parts.door_put() {
+            Some(queue) => self.on(Place::CountIn(queue)),
+            None => {
+                side.close();
+                self.end(Ending::Memory)
             }
         }
+    }
+
+    fn count_in<P: Parts<W, Queue = Q>, S: Side<W>>(
+        &mut self,
+        queue: Q,
+        parts: &mut P,
+        side: &mut S,
+        limit: u64,
+    ) -> Progress
+        requires { limit ≤ 2 ^ 62 - 2 }
+        ensures line { (c : Counted) × P.did_count_in parts.old limit c parts.new
+            × Follows S.did_close (after_count_in c queue) side.old side.new result self.new }
+        ensures stays { S.stays side.old side.new }
+    {
+        match parts.count_in(limit) {
+            Counted::In(word) if word >= READY_BIT => {
+                side.close();
+                self.on(Place::CountOut(Ending::Value))
+            }
+            Counted::In(_) => self.on(Place::WaitLoad(queue)),
+            Counted::Full => {
+                side.close();
+                self.end(Ending::Full)
+            }
+            Counted::SeenReady => {
+                side.close();
+                self.end(Ending::Value)
+            }
+        }
+    }
+
+    fn wait_load<P: Parts<W, Queue = Q>, S: Side<W>>(
+        &mut self,
+        queue: Q,
+        parts: &mut P,
+        side: &mut S,
+    ) -> Progress
+        ensures line { (w : ℕ) × P.did_load parts.old w parts.new
+            × Follows S.did_close (after_load (flags_of w).ready queue) side.old side.new result self.new }
+        ensures stays { S.stays side.old side.new }
+    {
+        if parts.load() >= READY_BIT {
+            side.close();
+            return self.on(Place::CountOut(Ending::Value));
+        }
+        self.on(Place::Look(queue))
+    }
+
+    fn look<P: Parts<W, Queue = Q>, S: Side<W>>(
+        &mut self,
+        queue: Q,
+        parts: &mut P,
+        side: &mut S,
+    ) -> Progress
+        requires log { P.can_log parts.old }
+        requires can { P.can_section parts.old queue Op.Look }
+        ensures line { (a : Answer W) × (o : Op W) × P.did_section parts.old queue Op.Look a o parts.new
+            × AfterLook S.did_close S.did_copy a queue side.old side.new result self.new }
+        ensures stays { S.stays side.old side.new }
+    {
+        match parts.section(&queue, &mut Op::Look) {
+            Answer::Ready => {
+                side.close();
+                self.on(Place::CountOut(Ending::Value))
+            }
+            Answer::Claimed => self.on(Place::Run(Some(queue))),
+            Answer::Listed => self.rest(Rest::Wait(queue)),
+            _ => self.copy(queue, side),
+        }
+    }
+
+    // Copies the waker, while another task holds.
+    fn copy<S: Side<W>>(&mut self, queue: Q, side: &mut S) -> Progress
+        ensures line { (c : Option W) × (m : S) × S.did_copy side.old c m
+            × Follows S.did_close (after_copy c queue) m side.new result self.new }
+        ensures stays { S.stays side.old side.new }
+    {
+        match side.copy() {
+            Some(waker) => self.on(Place::List(queue, waker)),
+            None => {
+                side.close();
+                self.on(Place::CountOut(Ending::Memory))
+            }
+        }
+    }
+
+    fn list<P: Parts<W, Queue = Q>, S: Side<W>>(
+        &mut self,
+        queue: Q,
+        waker: W,
+        parts: &mut P,
+        side: &mut S,
+    ) -> Progress
+        requires log { P.can_log parts.old }
+        requires can { P.can_section parts.old queue (Op.List (Some waker)) }
+        ensures line { (a : Answer W) × (o : Op W) × P.did_section parts.old queue (Op.List (Some waker)) a o parts.new
+            × Follows S.did_close (after_list a queue) side.old side.new result self.new }
+        ensures stays { S.stays side.old side.new }
+    {
+        match parts.section(&queue, &mut Op::List(Some(waker))) {
+            Answer::Ready => {
+                side.close();
+                self.on(Place::CountOut(Ending::Value))
+            }
+            Answer::Claimed => self.on(Place::Run(Some(queue))),
+            Answer::Memory => {
+                side.close();
+                self.on(Place::CountOut(Ending::Memory))
+            }
+            _ => self.rest(Rest::Wait(queue)),
+        }
+    }
+
+    fn run<S: Side<W>>(&mut self, by: Option<Q>, side: &mut S) -> Progress
+        ensures line { (a : Polled) × (m : S) × S.did_run side.old a m
+            × Follows S.did_close (after_run a by) m side.new result self.new }
+        ensures stays { S.stays side.old side.new }
+    {
+        match side.run() {
+            Polled::Pending => self.rest(Rest::Run(by)),
+            Polled::Value => {
+                side.close();
+                self.on(Place::Put(by))
+            }
+            Polled::Error => {
+                side.close();
+                self.on(Place::giving_back(by, Ending::Error))
+            }
+        }
+    }
+
+    fn fast<P: Parts<W, Queue = Q>>(&mut self, ending: Ending, parts: &mut P) -> Progress
+        ensures line { (b : Bool) × P.did_fast parts.old (is_value ending) b parts.new
+            × LeadsTo (after_fast b (is_value ending) ending) result self.new }
+    {
+        let filled = ending.is_value();
+        if !parts.fast(filled) {
+            return self.on(Place::AddOne(ending));
+        }
+        if filled {
+            return self.on(Place::DoorTake(ending));
+        }
+        self.end(ending)
+    }
+
+    fn door_again<P: Parts<W, Queue = Q>>(&mut self, ending: Ending, parts: &mut P) -> Progress
+        ensures line { (q : Option Q) × P.did_door_get parts.old q parts.new
+            × LeadsTo (after_door_again q ending) result self.new }
+    {
+        match parts.door_get() {
+            Some(queue) => self.on(Place::Release(queue, ending)),
+            None => self.on(Place::CountOut(ending)),
+        }
+    }
+
+    fn release<P: Parts<W, Queue = Q>, S: Side<W>>(
+        &mut self,
+        queue: Q,
+        ending: Ending,
+        parts: &mut P,
+        side: &mut S,
+    ) -> Progress
+        requires log { P.can_log parts.old }
+        requires can { P.can_section parts.old queue (Op.Release (is_value ending)) }
+        ensures section { (a : Answer W) × (o : Op W) × P.did_section parts.old queue (Op.Release (is_value ending)) a o parts.new
+            × AfterRelease S.did_wake a side.old side.new }
+        ensures more { result ≡ Progress.More }
+        ensures step { self.new ≡ Step.UnderWay (Place.CountOut ending) }
+        ensures stays { S.stays side.old side.new }
+    {
+        match parts.section(&queue, &mut Op::Release(ending.is_value())) {
+            Answer::Released(wakers) => {
+                side.wake(wakers);
+                self.on(Place::CountOut(ending))
+            }
+            _ => self.on(Place::CountOut(ending)),
+        }
+    }
+
+    fn count_out<P: Parts<W, Queue = Q>>(&mut self, ending: Ending, parts: &mut P) -> Progress
+        requires { P.can_count_out parts.old }
+        ensures line { (w : ℕ) × P.did_count_out parts.old w parts.new
+            × LeadsTo (after_count_out (is_ready_bit (flags_of w)) ending) result self.new }
+    {
+        if parts.count_out() == READY_BIT {
+            return self.on(Place::DoorTake(ending));
+        }
+        self.end(ending)
     }
 }

@@ -5,7 +5,7 @@ use Rattle.std.proofs.lemmas.Str.Parse.{IsNumeralModel, numerals_by_value, tells
 use Rattle.std.specs.Str.{all_ascii_digits}
 use Rattle.std.specs.Str.Parse.{ParsesUnsigned, digits_value}
 use Rattle.std.specs.Result.{result_ok}
-use Rattle.once_replay.specs.Text.{is_plain, is_number, number_of}
+use Rattle.once_replay.specs.Number.{is_plain, is_number, number_of}
 
 own : IsNumeralModel (λ ds. all_ascii_digits ds ≡ true) (digits_value 10)
 own = numerals_by_value _ tells_all_ascii_digits
@@ -18,7 +18,7 @@ is_number_from : (bs : List ℕ) → (all_ascii_digits bs ≡ true) × (0 < leng
 is_number_from bs parts plain = grind (arith, nat_tests)
 
 -- the parts of a number
-pub parts_of_number : (bs : List ℕ) → is_number bs ≡ true → (all_ascii_digits bs ≡ true) × (0 < length bs) × (digits_value 10 bs < 2 ^ 64)
+parts_of_number : (bs : List ℕ) → is_number bs ≡ true → (all_ascii_digits bs ≡ true) × (0 < length bs) × (digits_value 10 bs < 2 ^ 64)
 parts_of_number bs h = (grind (arith, nat_tests), grind (arith, nat_tests), grind (arith, nat_tests))
 
 by_test : (n : ℕ) (b : Bool) → b ≡ true → Some n ≡ cond b (Some n) None

@@ -3,7 +3,8 @@ use Rattle.std.proofs.Common.{◌≡◌, ℕ, ◌<◌, ◌≤◌, ◌+◌, suc, 
 use Rattle.std.proofs.lemmas.List.{append_assoc, append-nil, drop_all, drop_more}
 use Rattle.async_once_cell.specs.declared.world.Input.{Input}
 use Rattle.once_replay.specs.declared.parse.Line.{Line}
-use Rattle.once_replay.specs.Text.{texts_of, inputs_of, IsLine, AreInputs, IsStop}
+use Rattle.once_replay.specs.Text.{inputs_of, IsLine}
+use Rattle.once_replay.specs.Script.{texts_of, AreInputs, IsStop}
 
 -- whatever the lines from the k-th on say, comes after what was read
 abbrev pub Continues : List (Bor (List ℕ)) → ℕ → List Input → Type 0

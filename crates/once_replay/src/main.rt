@@ -14,6 +14,8 @@ mod fault;
 mod parse;
 mod print;
 #[cfg(test)]
+mod rows;
+#[cfg(test)]
 mod tests;
 
 /// Reads the input to its end, replays what it says, and prints the record.

@@ -87,57 +87,13 @@ impl Write for Target {
 }
 
 /// What a run answers, and what it prints.
-fn run_text(alloc: Global, text: &[u8]) -> (Result<(), Fault>, Vec<u8>) {
+pub fn run_text(alloc: Global, text: &[u8]) -> (Result<(), Fault>, Vec<u8>) {
     let mut printed = Vec::new(alloc);
     let answer = run(alloc, text, &mut printed);
     (answer, printed)
 }
 
-const ROWS: [(&str, &str); 5] = [
-    ("once 1\n", "queue none\n"),
-    ("once 1\ngo 1 p\n", "queue none\n"),
-    ("once 4611686018427387902\n", "queue none\n"),
-    ("once 1", "queue none\n"),
-    (
-        "once 8\nmake 0\nmake 18446744073709551615\nlook",
-        "made 0\nmade 18446744073709551615\nlook none\nqueue none\n",
-    ),
-];
-
-#[test]
-fn runs_without_polls(rt: HostRuntime) {
-    for (text, wanted) in ROWS {
-        let (answer, printed) = run_text(rt.alloc(), text.as_bytes());
-        assert_eq!(rt; answer, Ok(()), "at {text:?}");
-        assert_eq!(rt; printed.as_slice(), wanted.as_bytes(), "at {text:?}");
-    }
-}
-
-const POLL_ROWS: [(&str, &str); 3] = [
-    (
-        "once 8\nmake 1\npoll 1 7\nrun 1 v4\nmake 2\npoll 2 7\nrun 2 e9\n",
-        "made 1\nbegin 1 7\nclaim 1\nran 1 v4\nfill 1 4 []\nend 1 v4\nmade 2\nbegin 2 7\nend 2 v4\nqueue none\n",
-    ),
-    (
-        "once 8\nmake 1\nmake 2\npoll 1 7\nrun 1 p\npoll 2 7\nrun 2 e9\npoll 2 7\nrun 2 e9\npoll 1 7\nrun 1 v2\npoll 2 7\nrun 2 e9\n",
-        "made 1\nmade 2\nbegin 1 7\nclaim 1\nran 1 p\nend 1 p\nbegin 2 7\nend 2 p\nbegin 2 7\nend 2 p\nbegin 1 7\nran 1 v2\nfill 1 2 [7]\nend 1 v2\nbegin 2 7\nend 2 v2\nqueue none\n",
-    ),
-    (
-        "once 8\nmake 1\nmake 2\npoll 1 5\nrun 1 p\npoll 2 7\nrun 2 p\npoll 2 8\nrun 2 p\npoll 1 5\nrun 1 v3\n",
-        "made 1\nmade 2\nbegin 1 5\nclaim 1\nran 1 p\nend 1 p\nbegin 2 7\nend 2 p\nbegin 2 8\nend 2 p\nbegin 1 5\nran 1 v3\nfill 1 3 [7 8]\nend 1 v3\nqueue none\n",
-    ),
-];
-
-#[test]
-fn runs_with_polls(rt: HostRuntime) {
-    for (text, wanted) in POLL_ROWS {
-        let (answer, printed) = run_text(rt.alloc(), text.as_bytes());
-        assert_eq!(rt; answer, Ok(()), "at {text:?}");
-        assert_eq!(rt; printed.as_slice(), wanted.as_bytes(), "at {text:?}");
-    }
-}
-
-const UNREADABLE: [(&[u8], u64); 48] = [
+const UNREADABLE: [(&[u8], u64); 124] = [
     (b"", 1),
     (b"\n", 1),
     (b"\nonce 8\n", 1),
@@ -162,7 +118,6 @@ const UNREADABLE: [(&[u8], u64); 48] = [
     (b"once 8\n\n", 2),
     (b"once 8\nmake 1\n\nmake 2\n", 3),
     (b"once 8\nonce 8\n", 2),
-    (b"once 8\ndrop 1\n", 2),
     (b"once 8\nmake 1\npoll 1\n", 3),
     (b"once 8\npoll 1 7 8\n", 2),
     (b"once 8\npoll 1  7\n", 2),
@@ -186,6 +141,83 @@ const UNREADABLE: [(&[u8], u64); 48] = [
     (b"once 8\ngo 1 e+4\n", 2),
     (b"once 8\nrun 1 v4 v4\n", 2),
     (b"once 8\nmake 1\nmake 2\nstop\nmake x\n", 4),
+    (b"once 8 with\n", 1),
+    (b"once 8 with \n", 1),
+    (b"once 8 with x\n", 1),
+    (b"once 8 with 05\n", 1),
+    (b"once 8 with 5 6\n", 1),
+    (b"once 8  with 5\n", 1),
+    (b"once 0 with 5\n", 1),
+    (b"once 8 with 18446744073709551616\n", 1),
+    (b"once 8 5\n", 1),
+    (b"once 8 p\n", 1),
+    (b"lazy\n", 1),
+    (b"lazy \n", 1),
+    (b"lazy 8 \n", 1),
+    (b"lazy 8 e4\n", 1),
+    (b"lazy 8 v\n", 1),
+    (b"lazy 8 4\n", 1),
+    (b"lazy 8 p4\n", 1),
+    (b"lazy 8  p\n", 1),
+    (b"lazy 8 p \n", 1),
+    (b"lazy 8 p  v3\n", 1),
+    (b"lazy 8 v3 e4\n", 1),
+    (b"lazy 8 with\n", 1),
+    (b"lazy 8 with x\n", 1),
+    (b"lazy 8 with 5 p\n", 1),
+    (b"lazy 8 p with 5\n", 1),
+    (b"lazy 0\n", 1),
+    (b"lazy 0 p\n", 1),
+    (b"lazy p\n", 1),
+    (b"lazy 4611686018427387903\n", 1),
+    (b"lazy8\n", 1),
+    (b"with 8\n", 1),
+    (b"drop 1\n", 1),
+    (b"go 1 p\n", 1),
+    (b"take\n", 1),
+    (b"write 4\n", 1),
+    (b"parts\n", 1),
+    (b"replace\n", 1),
+    (b"replace with 4\n", 1),
+    (b"once 8\nlazy 8\n", 2),
+    (b"once 8\ndrop\n", 2),
+    (b"once 8\ndrop \n", 2),
+    (b"once 8\ndrop 1 2\n", 2),
+    (b"once 8\ndrop x\n", 2),
+    (b"once 8\ngo 1 p y\n", 2),
+    (b"once 8\ngo 1 p x x\n", 2),
+    (b"once 8\ngo 1 p  x\n", 2),
+    (b"once 8\ngo 1 p x \n", 2),
+    (b"once 8\ngo 1 x\n", 2),
+    (b"once 8\ngo 1 px\n", 2),
+    (b"once 8\nrun 1 p  x\n", 2),
+    (b"once 8\nrun 1 x\n", 2),
+    (b"once 8\nrun 1 p y\n", 2),
+    (b"once 8\ntake 1\n", 2),
+    (b"once 8\ntake \n", 2),
+    (b"once 8\ntakes\n", 2),
+    (b"once 8\nwrite\n", 2),
+    (b"once 8\nwrite \n", 2),
+    (b"once 8\nwrite v4\n", 2),
+    (b"once 8\nwrite 4 5\n", 2),
+    (b"once 8\nwrite 18446744073709551616\n", 2),
+    (b"once 8\nparts 1\n", 2),
+    (b"once 8\npart\n", 2),
+    (b"once 8\nreplace \n", 2),
+    (b"once 8\nreplace with\n", 2),
+    (b"once 8\nreplace with \n", 2),
+    (b"once 8\nreplace with p\n", 2),
+    (b"once 8\nreplace with 4 5\n", 2),
+    (b"once 8\nreplace with 4 p\n", 2),
+    (b"once 8\nreplace p with 4\n", 2),
+    (b"once 8\nreplace e4\n", 2),
+    (b"once 8\nreplace p \n", 2),
+    (b"once 8\nreplace  p\n", 2),
+    (b"once 8\nreplace p  v3\n", 2),
+    (b"once 8\nreplace p e4\n", 2),
+    (b"once 8\nreplace 4\n", 2),
+    (b"once 8\nreplaces\n", 2),
+    (b"lazy 8 p\nmake 1\nreplace p\nreplace e4", 4),
 ];
 
 #[test]
@@ -198,29 +230,103 @@ fn finds_the_first_unreadable_line(rt: HostRuntime) {
 }
 
 #[test]
-fn reads_each_form(rt: HostRuntime) -> Result<(), Fail> {
-    let text = b"once 3\nmake 1\npoll 1 7\ngo 1 p\ngo 0 v0\ngo 1 e12\nlook";
+fn reads_each_first_line(rt: HostRuntime) -> Result<(), Fail> {
+    let alloc = rt.alloc();
+    for (text, kind, limit) in [
+        ("once 3", Kind::Once, 3),
+        ("once 1 with 7\n", Kind::OnceWith(7), 1),
+        (
+            "once 8 with 18446744073709551615",
+            Kind::OnceWith(18446744073709551615),
+            8,
+        ),
+        ("once 4611686018427387902", Kind::Once, 4611686018427387902),
+        ("lazy 8", Kind::Lazy(Vec::new(alloc)), 8),
+        ("lazy 8 p", Kind::Lazy(vec![in alloc; None]?), 8),
+        ("lazy 2 v0", Kind::Lazy(vec![in alloc; Some(0)]?), 2),
+        (
+            "lazy 8 p p v3 p v4\n",
+            Kind::Lazy(vec![in alloc; None, None, Some(3), None, Some(4)]?),
+            8,
+        ),
+        ("lazy 8 with 5", Kind::LazyWith(5), 8),
+    ] {
+        let script = parse_script(alloc, text.as_bytes())?;
+        assert_eq!(rt; script.kind, kind, "at {text:?}");
+        assert_eq!(rt; script.limit, limit, "at {text:?}");
+        assert!(rt; script.inputs.is_empty(), "at {text:?}");
+    }
+    Ok(())
+}
+
+#[test]
+fn reads_each_later_line(rt: HostRuntime) -> Result<(), Fail> {
+    let alloc = rt.alloc();
+    let replaced = vec![in alloc; None, Some(3), Some(4), None]?;
+    for (text, input) in [
+        ("make 1", Input::Make(1)),
+        ("make 0", Input::Make(0)),
+        (
+            "make 18446744073709551615",
+            Input::Make(18446744073709551615),
+        ),
+        ("poll 1 7", Input::Poll(1, 7)),
+        ("drop 3", Input::Drop(3)),
+        ("go 1 p", Input::Go(1, Ran::Pending, true)),
+        ("go 0 v0", Input::Go(0, Ran::Value(0), true)),
+        ("go 1 e12", Input::Go(1, Ran::Error(12), true)),
+        ("go 1 p x", Input::Go(1, Ran::Pending, false)),
+        ("go 1 v4 x", Input::Go(1, Ran::Value(4), false)),
+        ("go 1 e5 x", Input::Go(1, Ran::Error(5), false)),
+        ("look", Input::Look),
+        ("take", Input::Own(Call::Take)),
+        ("write 4", Input::Own(Call::Write(4))),
+        ("parts", Input::Own(Call::Parts)),
+        ("replace with 4", Input::Own(Call::ReplaceValue(4))),
+        ("replace", Input::Own(Call::ReplaceAnswers(Vec::new(alloc)))),
+        (
+            "replace v9",
+            Input::Own(Call::ReplaceAnswers(vec![in alloc; Some(9)]?)),
+        ),
+        (
+            "replace p v3 v4 p",
+            Input::Own(Call::ReplaceAnswers(replaced)),
+        ),
+    ] {
+        let line = parse_line(alloc, text)?;
+        assert_eq!(rt; line, Some(Line::Single(input)), "at {text:?}");
+    }
+    Ok(())
+}
+
+#[test]
+fn a_run_line_is_sixteen_steps(rt: HostRuntime) -> Result<(), Fail> {
+    for (text, answer, memory) in [
+        ("lazy 3\nrun 2 p", Ran::Pending, true),
+        ("once 3\nrun 2 v4\n", Ran::Value(4), true),
+        ("once 3\nrun 2 e5 x\n", Ran::Error(5), false),
+    ] {
+        let script = parse_script(rt.alloc(), text.as_bytes())?;
+        assert_eq!(rt; script.inputs.len(), 16, "at {text:?}");
+        for input in &script.inputs {
+            assert_eq!(rt; *input, Input::Go(2, answer, memory), "at {text:?}");
+        }
+    }
+    Ok(())
+}
+
+#[test]
+fn lines_are_read_in_their_order(rt: HostRuntime) -> Result<(), Fail> {
+    let text = b"once 3\nmake 1\npoll 1 7\ngo 1 p x\ntake\nlook";
     let script = parse_script(rt.alloc(), text)?;
-    assert_eq!(rt; script.kind, Kind::Once);
-    assert_eq!(rt; script.limit, 3);
     let wanted = [
         Input::Make(1),
         Input::Poll(1, 7),
-        Input::Go(1, Ran::Pending, true),
-        Input::Go(0, Ran::Value(0), true),
-        Input::Go(1, Ran::Error(12), true),
+        Input::Go(1, Ran::Pending, false),
+        Input::Own(Call::Take),
         Input::Look,
     ];
     assert_eq!(rt; script.inputs.as_slice(), wanted.as_slice());
-    let script = parse_script(rt.alloc(), b"once 3\nrun 2 v4\n")?;
-    assert_eq!(rt; script.inputs.len(), 16);
-    for input in &script.inputs {
-        assert_eq!(rt; *input, Input::Go(2, Ran::Value(4), true));
-    }
-    assert_eq!(rt;
-        parse_line("run 2 v4"),
-        Some(Line::Run(2, Ran::Value(4), true))
-    );
     Ok(())
 }
 

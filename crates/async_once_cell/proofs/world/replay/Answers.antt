@@ -1,26 +1,46 @@
--- What is proved of the machine's record holds of the program's.
-use Rattle.std.proofs.Common.{◌≡◌, subst, sym, arith}
+-- What is proved of the machine holds of the replay.
+use Rattle.std.proofs.Common.{◌≡◌, sym, subst, ap, ◌∙◌, arith, take}
 use Rattle.std.proofs.lemmas.Grind.{common_steps}
-use Rattle.async_once_cell.specs.Run.{AtEvery, IsRun, NobodyForgotten}
-use Rattle.async_once_cell.specs.Inputs.{Belongs}
-use Rattle.async_once_cell.specs.Machine.{history_of, taken}
-use Rattle.async_once_cell.specs.Shown.{history_in, inputs_in, kind_of}
+use Rattle.async_once_cell.specs.Run.{IsRun}
+use Rattle.async_once_cell.specs.Inputs.{FallsInto, ends_for_memory}
+use Rattle.async_once_cell.specs.Log.{IsLogOf, IsSound, stands}
+use Rattle.async_once_cell.specs.Machine.{history_of, log_of, queue_of}
+use Rattle.async_once_cell.specs.Shown.{recorded, logged, inputs_in, kind_of, input_of}
 use Rattle.async_once_cell.proofs.Headline.{every_run}
-use Rattle.async_once_cell.proofs.Forgotten.{nobody_forgotten}
+use Rattle.async_once_cell.proofs.Nobody.{nobody_forgotten}
+use Rattle.async_once_cell.proofs.Values.{one_value}
+use Rattle.async_once_cell.proofs.Logged.{log_sound, log_stands}
 use Rattle.async_once_cell.proofs.Belonging.{belongs}
+use Rattle.async_once_cell.proofs.Ample.{ample_memory}
+use Rattle.async_once_cell.proofs.Asked.{may_take}
 use Rattle.async_once_cell.proofs.world.replay.Goals as goal
 
-pub returns-clause-run : goal.returns-clause-run
-returns-clause-run c =
-    let exact : history_in c.into_record.result.entries.items ≡ history_of (kind_of c.args.kind) (inputs_in c.args.inputs.now) = grind (arith, common_steps) in
-    subst (IsRun (kind_of c.args.kind) c.args.limit) (sym exact) (every_run (kind_of c.args.kind) c.args.limit (inputs_in c.args.inputs.now))
+-- the machine may take every input, and so may the replay
+pub take-requires-clause-may : goal.take-requires-clause-may
+take-requires-clause-may c =
+    let i = c.loop-input.invariant in
+    rw (i.2, i.0) (may_take (kind_of c.args.kind) c.args.limit (inputs_in (take c.loop-input.input-index c.args.inputs.now)) (input_of c.input-item.result) c.requires.some)
 
-pub returns-clause-nobody_forgotten : goal.returns-clause-nobody_forgotten
-returns-clause-nobody_forgotten c =
-    let exact : history_in c.into_record.result.entries.items ≡ history_of (kind_of c.args.kind) (inputs_in c.args.inputs.now) = grind (arith, common_steps) in
-    subst (AtEvery (NobodyForgotten (kind_of c.args.kind))) (sym exact) (nobody_forgotten (kind_of c.args.kind) c.args.limit (history_of (kind_of c.args.kind) (inputs_in c.args.inputs.now)) (every_run (kind_of c.args.kind) c.args.limit (inputs_in c.args.inputs.now)))
-
-pub returns-clause-belongs : goal.returns-clause-belongs
-returns-clause-belongs c =
-    let exact : history_in c.into_record.result.entries.items ≡ history_of (kind_of c.args.kind) (inputs_in c.args.inputs.now) = grind (arith, common_steps) in
-    subst (Belongs (kind_of c.args.kind) (taken (inputs_in c.args.inputs.now))) (sym exact) (belongs (kind_of c.args.kind) c.args.limit (inputs_in c.args.inputs.now))
+pub returns : goal.returns
+returns c =
+    let K = kind_of c.args.kind in
+    let limit = c.args.limit in
+    let inputs = inputs_in c.args.inputs.now in
+    let some = c.requires.some in
+    let exact : recorded c.into_record.result ≡ history_of K limit inputs = grind (arith, common_steps) in
+    let lines : logged c.into_record.result ≡ log_of K limit inputs = grind (arith, common_steps) in
+    let door : c.into_record.result.queue ≡ queue_of K limit inputs = grind (arith, common_steps) in
+    let run = subst (IsRun K limit) (sym exact) (every_run K limit inputs some) in
+    let b = belongs K limit inputs some in
+    record {
+      exact = exact;
+      exact_log = lines;
+      exact_queue = door;
+      run = run;
+      nobody_forgotten = nobody_forgotten K limit (recorded c.into_record.result) run;
+      one_value = one_value K limit (recorded c.into_record.result) run;
+      belongs = (b.0, subst (λ h. FallsInto K inputs h b.0) (sym exact) b.1, subst (λ l. IsLogOf K l b.0) (sym lines) b.2);
+      ample = λ granted t. ap (ends_for_memory t) exact ∙ ample_memory K limit inputs t some granted;
+      sound = subst IsSound (sym lines) (log_sound K limit inputs some);
+      stands = ap stands lines ∙ log_stands K limit inputs some ∙ sym door;
+    }

@@ -6,4 +6,7 @@ use Rattle.async_once_cell.specs.Shown.{kind_of, inputs_in, world_in}
 use Rattle.async_once_cell.proofs.world.replay.Given as goal
 
 abbrev pub invariant-loop-input : goal.invariant-loop-input
-invariant-loop-input l = (world_in l.world ≡ world_of (kind_of l.fn.kind) (inputs_in (take l.input-index l.inputs))) × (l.world.inner.script.lazy ≡ is_lazy (kind_of l.fn.kind))
+invariant-loop-input l =
+    (world_in l.world ≡ world_of (kind_of l.fn.kind) l.fn.limit (inputs_in (take l.input-index l.inputs)))
+    × (l.world.shared.script.lazy ≡ is_lazy (kind_of l.fn.kind))
+    × (l.world.limit ≡ l.fn.limit)

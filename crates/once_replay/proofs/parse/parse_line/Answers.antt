@@ -1,11 +1,24 @@
-use Rattle.std.proofs.Common.{◌++◌, ◌∷◌, ◌∙◌, ap, arith, List, ℕ}
-use Rattle.std.proofs.lemmas.Str.Pattern.{split_parts}
+use Rattle.std.proofs.Common.{◌≡◌, ◌∙◌, sym, codes}
+use Rattle.std.proofs.lemmas.Bool.{false≢true}
+use Rattle.std.proofs.lemmas.Bool.Decides.{Decides-eqb}
+use Rattle.std.proofs.lemmas.Slice.Eq.{slice_eq-Decides}
+use Rattle.once_replay.proofs.LineLemmas.{reads_each}
 use Rattle.once_replay.proofs.parse.parse_line.Goals as goal
 
-pub returns-in_ok-task-in-poll-clause-read : goal.returns-in_ok-task-in-poll-clause-read
-returns-in_ok-task-in-poll-clause-read c =
-    let parts = rw c.in_ok-word.was at (split_parts 32 c.args.text.now c.split_once.result c.split_once.ensures.cases (omega arith)) in (
-      c.in_ok-word.rest.now,
-      parts.0 ∙ ap (λ (w : List ℕ). w ++ (32 ∷ c.in_ok-word.rest.now)) c.in-poll.is,
-      c.in_ok-task-in-poll.ensures.read,
-    )
+pub returns-in_default-clause-all : goal.returns-in_default-clause-all
+returns-in_default-clause-all c =
+    let text = c.args.text.now in
+    let short = c.parse_short_line.ensures in
+    let other = λ (e : text ≡ codes "replace"). false≢true (sym c.if-eq.false ∙ (slice_eq-Decides Decides-eqb text (codes "replace") c.eq.result c.eq.ensures).1 e) in
+    reads_each c.parse_short_line.result text other c.in_default.ensures.cases
+    record {
+      look = short.look;
+      take = short.take;
+      parts = short.parts;
+      make = short.make;
+      drop = short.drop;
+      write = short.write;
+      poll = short.poll;
+      go = short.go;
+      run = short.run;
+    }

@@ -1,0 +1,12 @@
+pub mod Script
+pub mod Plain
+pub mod Late
+pub mod Holders
+pub mod Refused
+pub mod Owners
+pub mod ByHand
+pub mod Spoilt
+pub mod SpoiltRights
+pub mod SpoiltEnds
+pub mod SpoiltWakers
+pub mod SpoiltLogs

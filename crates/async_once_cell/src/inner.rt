@@ -1,0 +1,451 @@
+//! What all tasks of a cell share: the word, the door and the queue behind it.
+ghost use Rattle.async_once_cell.specs.declared.queue.Op.{Op};
+ghost use Rattle.std.specs.Prelude.{◌≡◌, ◌<◌, ◌≤◌, ◌+◌, ◌-◌, ◌^◌, ◌++◌, ◌∷◌, ℕ, Bool, true, false, [], Some, None, Option, OnOk, IsSome, IsTrue, ◌↔◌, not, cond, vec_len, vec_capacity};
+
+pub use crate::queue::{Answer, MAX_WAITERS, NEW, Op, QINIT_BIT, READY_BIT};
+use crate::queue::{Lists, WakerId};
+use std::alloc::{AllocError, Global};
+use std::marker::Model;
+
+/// A word: how many tasks are counted in, and the two flags.
+#[derive(Drop)]
+pub struct Word {
+    bits: u64,
+}
+
+impl Model for Word {
+    ghost use Rattle.async_once_cell.specs.Word.{Flags, flags_of};
+
+    ghost Value = { Flags };
+
+    ghost view = { λ w. flags_of w.bits };
+}
+
+impl Word {
+    ghost use Rattle.async_once_cell.specs.Word.{flags_of, flags_alone, is_zero, is_quick_bit};
+
+    pub fn new(ready: bool) -> Self
+        ensures { result ≡ flags_alone false ready }
+    {
+        Word {
+            bits: if ready { READY_BIT } else { NEW },
+        }
+    }
+
+    /// The word as a number.
+    pub fn bits(&self) -> u64
+        ensures { flags_of result ≡ self.now }
+    {
+        self.bits
+    }
+
+    pub fn count(&self) -> u64
+        ensures { result ≡ self.now.count }
+    {
+        self.bits % QINIT_BIT
+    }
+
+    pub fn is_ready(&self) -> bool
+        ensures { result ≡ self.now.ready }
+    {
+        self.bits >= READY_BIT
+    }
+
+    /// Exchanges `NEW` for the quick bit.
+    pub fn quick(&mut self) -> bool
+        ensures won { result ≡ is_zero self.old }
+        ensures new { self.new ≡ cond result (flags_alone true false) self.old }
+    {
+        if self.bits == NEW {
+            self.bits = QINIT_BIT;
+            return true;
+        }
+        false
+    }
+
+    /// Exchanges the quick bit for the ready bit, or for `NEW`.
+    pub fn fast(&mut self, ready: bool) -> bool
+        ensures won { result ≡ is_quick_bit self.old }
+        ensures new { self.new ≡ cond result (flags_alone false ready) self.old }
+    {
+        if self.bits == QINIT_BIT {
+            self.bits = if ready { READY_BIT } else { NEW };
+            return true;
+        }
+        false
+    }
+
+    /// Counts one task in.
+    pub fn count_in(&mut self)
+        requires { self.old.count < 2 ^ 62 - 1 }
+        ensures { self.new ≡ record self.old { count = self.old.count + 1 } }
+    {
+        self.bits += 1;
+    }
+
+    /// Counts one task out.
+    pub fn count_out(&mut self)
+        requires { 0 < self.old.count }
+        ensures { self.new ≡ record self.old { count = self.old.count - 1 } }
+    {
+        self.bits -= 1;
+    }
+
+    /// Clears the quick flag, and sets the ready flag or not.
+    pub fn give_back(&mut self, ready: bool)
+        requires { self.old.ready ≡ false }
+        ensures { self.new ≡ record self.old { quick = false; ready = ready } }
+    {
+        self.bits %= QINIT_BIT;
+        if ready {
+            self.bits += READY_BIT;
+        }
+    }
+}
+
+/// What counting in answers.
+#[derive(Clone, Copy, Debug, PartialEq, Eq)]
+pub enum Counted {
+    /// The caller is counted; the word as it was before.
+    In(u64),
+    /// As many tasks are counted as may be, and the value is not set.
+    Full,
+    /// As many tasks are counted as may be, and the value is set.
+    SeenReady,
+}
+
+/// One line of the queue log.
+#[derive(Clone, Copy, Debug, PartialEq, Eq)]
+pub enum QueueLine {
+    /// The queue with this number was put to the door.
+    Put(u64),
+    /// A section was entered on the queue with this number.
+    Entered(u64),
+    /// The queue with this number was taken out of the door.
+    Taken(u64),
+}
+
+/// The word, the door and the queue of a cell. Each call is one step. A member for each call says
+/// what it asks, answers and leaves; one that is left out says nothing.
+pub trait Parts<W> {
+    /// A queue, as a waiter keeps it.
+    type Queue;
+
+    ghost use Rattle.std.specs.Prelude.{⊤, ℕ, Bool, Option};
+    ghost use Rattle.async_once_cell.specs.declared.inner.Counted.{Counted};
+    ghost use Rattle.async_once_cell.specs.declared.queue.Op.{Op};
+    ghost use Rattle.async_once_cell.specs.declared.queue.Answer.{Answer};
+    ghost use Rattle.async_once_cell.specs.Steps.{HasWaker};
+
+    ghost did_load: { Self → ℕ → Self → Type 0 } = { λ _ _ _. ⊤ };
+
+    ghost did_quick: { Self → Bool → Self → Type 0 } = { λ _ _ _. ⊤ };
+
+    ghost did_fast: { Self → Bool → Bool → Self → Type 0 } = { λ _ _ _ _. ⊤ };
+
+    ghost did_count_in: { Self → ℕ → Counted → Self → Type 0 } = { λ _ _ _ _. ⊤ };
+
+    ghost can_add_one: { Self → Type 0 } = { λ _. ⊤ };
+
+    ghost did_add_one: { Self → Self → Type 0 } = { λ _ _. ⊤ };
+
+    ghost can_count_out: { Self → Type 0 } = { λ _. ⊤ };
+
+    ghost did_count_out: { Self → ℕ → Self → Type 0 } = { λ _ _ _. ⊤ };
+
+    ghost did_door_get: { Self → Option Self.Queue → Self → Type 0 } = { λ _ _ _. ⊤ };
+
+    ghost can_log: { Self → Type 0 } = { λ _. ⊤ };
+
+    ghost did_door_put: { Self → Option Self.Queue → Self → Type 0 } = { λ _ _ _. ⊤ };
+
+    ghost did_door_take: { Self → Bool → Self → Type 0 } = { λ _ _ _. ⊤ };
+
+    ghost can_section: { Self → Self.Queue → Op W → Type 0 } = { λ _ _ _. ⊤ };
+
+    ghost did_section: { Self → Self.Queue → Op W → Answer W → Op W → Self → Type 0 } = { λ _ _ _ _ _ _. ⊤ };
+
+    /// The word.
+    fn load(&mut self) -> u64
+        ensures { did_load self.old result self.new };
+
+    /// Exchanges `NEW` for `QINIT_BIT`: whether it did.
+    fn quick(&mut self) -> bool
+        ensures { did_quick self.old result self.new };
+
+    /// Exchanges `QINIT_BIT` for `READY_BIT` or for `NEW`: whether it did.
+    fn fast(&mut self, ready: bool) -> bool
+        ensures { did_fast self.old ready result self.new };
+
+    /// Counts the caller in, where fewer tasks than the limit are counted.
+    fn count_in(&mut self, limit: u64) -> Counted
+        requires { limit ≤ 2 ^ 62 - 2 }
+        ensures { did_count_in self.old limit result self.new };
+
+    /// Counts a releasing quick holder in, whatever the limit is.
+    fn add_one(&mut self)
+        requires { can_add_one self.old }
+        ensures { did_add_one self.old self.new };
+
+    /// Counts the caller out: the word after.
+    fn count_out(&mut self) -> u64
+        requires { can_count_out self.old }
+        ensures { did_count_out self.old result self.new };
+
+    /// The queue at the door.
+    fn door_get(&mut self) -> Option<Self::Queue>
+        ensures { did_door_get self.old result self.new };
+
+    /// Makes a queue, and puts it to the door or finds another there. `None` is want of memory.
+    fn door_put(&mut self) -> Option<Self::Queue>
+        requires { can_log self.old }
+        ensures { did_door_put self.old result self.new };
+
+    /// Takes the queue out of the door: whether one stood there.
+    fn door_take(&mut self) -> bool
+        requires { can_log self.old }
+        ensures { did_door_take self.old result self.new };
+
+    /// One section under the queue's lock.
+    fn section(&mut self, queue: &Self::Queue, op: &mut Op<W>) -> Answer<W>
+        requires log { can_log self.old }
+        requires can { can_section self.old queue.now op.old }
+        requires waker { HasWaker op.old }
+        ensures { did_section self.old queue.now op.old result op.new self.new };
+}
+
+/// The parts as plain data, lent to one caller at a time. Its queues are numbers, counted from 1.
+#[derive(Drop)]
+pub struct Core<W: WakerId> {
+    pub word: Word,
+    pub door: Option<u64>,
+    pub lists: Lists<W>,
+    pub made: u64,
+    pub granted: bool,
+    pub current: Option<W>,
+    pub log: Vec<QueueLine>,
+    ghost counted: { made ≤ vec_len log },
+}
+
+impl<W: WakerId + Drop> Core<W> {
+    ghost use Rattle.async_once_cell.specs.Word.{flags_alone};
+    ghost use Rattle.async_once_cell.specs.Core.{CoreState, state_of, HasRoom, take_state, release_state, Found};
+
+    /// A core that nobody used, made with a value or not. It takes no memory.
+    pub fn new(alloc: Global, ready: bool) -> Self
+        ensures { state_of result ≡ record { word = flags_alone false ready; door = None; head = false; wakers = []; made = 0; granted = true; current = None; log = [] } }
+    {
+        Core {
+            word: Word::new(ready),
+            door: None,
+            lists: Lists::new(alloc),
+            made: 0,
+            granted: true,
+            current: None,
+            log: Vec::new(alloc),
+        }
+    }
+
+    /// Makes this the current waker. It is no step.
+    pub fn set_waker(&mut self, waker: W)
+        ensures state { state_of self.new ≡ record (state_of self.old) { current = Some waker } }
+        ensures room { HasRoom self.old → HasRoom self.new }
+    {
+        self.current = Some(waker);
+    }
+
+    /// Says whether the next steps are given memory.
+    pub fn grant(&mut self, granted: bool)
+        ensures state { state_of self.new ≡ record (state_of self.old) { granted = granted } }
+        ensures room { HasRoom self.old → HasRoom self.new }
+    {
+        self.granted = granted;
+    }
+
+    /// Makes room for one more waker and for one more line of the log. Where that is refused all is
+    /// as it was.
+    pub fn reserve(&mut self) -> Result<(), AllocError>
+        ensures room { OnOk result (HasRoom self.new) }
+        ensures state { state_of self.new ≡ state_of self.old }
+    {
+        self.lists.reserve()?;
+        self.log.reserve(1)
+    }
+
+    /// Takes the queue out of the door, and makes the word that of a new cell.
+    pub fn reset(&mut self, ready: bool)
+        requires { HasRoom self.old }
+        ensures { state_of self.new ≡ record (take_state (state_of self.old)) { word = flags_alone false ready } }
+    {
+        self.take_out();
+        self.word = Word::new(ready);
+    }
+
+    /// The queue log, the oldest line first.
+    pub fn into_log(self) -> Vec<QueueLine>
+        ensures { result.items ≡ (state_of self).log }
+    {
+        self.log
+    }
+
+    // The section of a look, on the queue at the door.
+    fn look(&mut self) -> Answer<W>
+        ensures { Found W.tells_same W.tells_other (state_of self.old) Op.Look result Op.Look (state_of self.new) }
+    {
+        let word = self.word.bits();
+        self.lists.look(self.current.as_ref(), word)
+    }
+
+    // The section of a listing: where memory is not given, a waker that is not listed is refused.
+    fn list(&mut self, waker: &mut Option<W>) -> Answer<W>
+        requires waker { IsSome waker.old }
+        requires room { vec_len self.old.lists.wakers < vec_capacity self.old.lists.wakers }
+        ensures { Found W.tells_same W.tells_other (state_of self.old) (Op.List waker.old) result (Op.List waker.new) (state_of self.new) }
+    {
+        let word = self.word.bits();
+        if self.granted {
+            return self.lists.list(waker, word);
+        }
+        match self.lists.look(waker.as_ref(), word) {
+            Answer::Held => Answer::Memory,
+            answer => answer,
+        }
+    }
+
+    // The section of a release: clears the quick flag if it stood, else the flag beside the list.
+    fn release(&mut self, ready: bool) -> Vec<W>
+        requires unset { self.old.word.ready ≡ false }
+        requires one { self.old.lists.head ≡ not self.old.word.quick }
+        ensures wakers { result.items ≡ (state_of self.old).wakers }
+        ensures state { state_of self.new ≡ release_state ready (state_of self.old) }
+    {
+        self.word.give_back(ready);
+        self.lists.release()
+    }
+
+    // Takes the queue out of the door, with all that was listed in it.
+    fn take_out(&mut self) -> bool
+        requires { HasRoom self.old }
+        ensures stood { IsTrue result ↔ IsSome self.old.door }
+        ensures state { state_of self.new ≡ take_state (state_of self.old) }
+    {
+        drop(self.lists.release());
+        let Some(queue) = self.door.take() else {
+            return false;
+        };
+        self.write(QueueLine::Taken(queue));
+        true
+    }
+
+    // Writes a line of the log, for which there is room.
+    fn write(&mut self, line: QueueLine)
+        requires { vec_len self.old.log < vec_capacity self.old.log }
+        ensures state { state_of self.new ≡ record (state_of self.old) { log = self.old.log.items ++ line ∷ [] } }
+        ensures longer { vec_len self.new.log ≡ vec_len self.old.log + 1 }
+        ensures wakers { self.new.lists ≡ self.old.lists }
+    {
+        self.log.push(line).unwrap();
+    }
+}
+
+impl<W: WakerId + Drop> Parts<W> for Core<W> {
+    ghost use Rattle.async_once_cell.specs.Core.{state_of, HasRoom, CanSection, DidLoad, DidQuick, DidFast, DidCountIn, DidAddOne, DidCountOut, DidDoorGet, DidDoorPut, DidDoorTake, DidSection};
+
+    type Queue = u64;
+
+    ghost did_load = { λ s w t. DidLoad (state_of s) w (state_of t) };
+
+    ghost did_quick = { λ s won t. DidQuick (state_of s) won (state_of t) };
+
+    ghost did_fast = { λ s ready won t. DidFast (state_of s) ready won (state_of t) };
+
+    ghost did_count_in = { λ s limit c t. DidCountIn (state_of s) limit c (state_of t) };
+
+    ghost can_add_one = { λ s. s.word.count < 2 ^ 62 - 1 };
+
+    ghost did_add_one = { λ s t. DidAddOne (state_of s) (state_of t) };
+
+    ghost can_count_out = { λ s. 0 < s.word.count };
+
+    ghost did_count_out = { λ s w t. DidCountOut (state_of s) w (state_of t) };
+
+    ghost did_door_get = { λ s q t. DidDoorGet (state_of s) q (state_of t) };
+
+    ghost can_log = { λ s. HasRoom s };
+
+    ghost did_door_put = { λ s q t. DidDoorPut (state_of s) q (state_of t) };
+
+    ghost did_door_take = { λ s stood t. DidDoorTake (state_of s) stood (state_of t) };
+
+    ghost can_section = { λ s q op. CanSection (state_of s) op };
+
+    ghost did_section = { λ s q op a o t. DidSection W.tells_same W.tells_other (state_of s) q op a o (state_of t) };
+
+    fn load(&mut self) -> u64 {
+        self.word.bits()
+    }
+
+    fn quick(&mut self) -> bool {
+        self.word.quick()
+    }
+
+    fn fast(&mut self, ready: bool) -> bool {
+        self.word.fast(ready)
+    }
+
+    fn count_in(&mut self, limit: u64) -> Counted {
+        if self.word.count() < limit {
+            let before = self.word.bits();
+            self.word.count_in();
+            Counted::In(before)
+        } else if self.word.is_ready() {
+            Counted::SeenReady
+        } else {
+            Counted::Full
+        }
+    }
+
+    fn add_one(&mut self) {
+        self.word.count_in();
+    }
+
+    fn count_out(&mut self) -> u64 {
+        self.word.count_out();
+        self.word.bits()
+    }
+
+    fn door_get(&mut self) -> Option<u64> {
+        self.door
+    }
+
+    fn door_put(&mut self) -> Option<u64> {
+        if !self.granted {
+            return None;
+        }
+        if self.door.is_some() {
+            return self.door;
+        }
+        drop(self.lists.release());
+        let queue = self.made + 1;
+        self.write(QueueLine::Put(queue));
+        self.made = queue;
+        self.door = Some(queue);
+        self.door
+    }
+
+    fn door_take(&mut self) -> bool {
+        self.take_out()
+    }
+
+    fn section(&mut self, queue: &u64, op: &mut Op<W>) -> Answer<W> {
+        self.write(QueueLine::Entered(*queue));
+        if self.door != Some(*queue) {
+            return Answer::Gone;
+        }
+        match op {
+            Op::Look => self.look(),
+            Op::List(waker) => self.list(waker),
+            Op::Release(ready) => Answer::Released(self.release(*ready)),
+        }
+    }
+}

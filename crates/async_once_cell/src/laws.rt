@@ -1,0 +1,50 @@
+//! Laws of every run of a cell, for those who build on it.
+//!
+//! These functions do nothing: the contract of each is a law, and it follows from "the record is a
+//! run" alone, which `replay` ensures. A record stands newest entry first.
+ghost use Rattle.std.specs.Prelude.{◌≡◌, ◌⊎◌, ℕ, true, false, List, ◌∷◌, Some, None};
+ghost use Rattle.async_once_cell.specs.Record.{Answer, RanError, Kind, Reply, Value, Error, Memory, Full, Entry, Ran, End, is_own};
+ghost use Rattle.async_once_cell.specs.Cell.{Empty, Held, SetTo, cell, answers_left};
+ghost use Rattle.async_once_cell.specs.Tasks.{Fresh, Holding, Dropping, status, last_poll};
+ghost use Rattle.async_once_cell.specs.Refusals.{Since, OtherActs};
+ghost use Rattle.async_once_cell.specs.Crowd.{AreWaiting};
+ghost use Rattle.async_once_cell.specs.Run.{IsRun};
+
+/// At most one task holds the right, and an init is polled by the task that holds it.
+pub fn one_task_holds()
+    ensures one { (kind : Kind) (limit t u : ℕ) (h : List Entry) → IsRun kind limit h → status kind t h ≡ Holding → status kind u h ≡ Holding → t ≡ u }
+    ensures runner { (kind : Kind) (limit t : ℕ) (a : Answer) (h : List Entry) → IsRun kind limit (Ran t a ∷ h) → cell kind h ≡ Held t }
+{}
+
+/// A poll that ends with a value answers the one that is set, and that one lasts until the owner
+/// changes it.
+pub fn value_set_is_answered()
+    ensures answered { (kind : Kind) (limit t v : ℕ) (h : List Entry) → IsRun kind limit (End t (Value v) ∷ h) → cell kind h ≡ SetTo v }
+    ensures lasts { (kind : Kind) (limit : ℕ) (e : Entry) (h : List Entry) (v : ℕ) → IsRun kind limit (e ∷ h) → is_own e ≡ false → cell kind h ≡ SetTo v → cell kind (e ∷ h) ≡ SetTo v }
+{}
+
+/// A poll that ends with an error ends with the one that its own init gave, after it gave the right
+/// back.
+pub fn error_is_ones_own()
+    ensures { (kind : Kind) (limit t e : ℕ) (h : List Entry) → IsRun kind limit (End t (Error e) ∷ h) → ((last_poll kind t h).ran ≡ Some (RanError e)) × ((last_poll kind t h).freed ≡ true) }
+{}
+
+/// While a task that holds is dropped, the cell stays held or becomes empty, and a lazy init keeps
+/// the answers that it has left.
+pub fn dropped_holder_frees()
+    ensures { (kind : Kind) (limit t : ℕ) (e : Entry) (h : List Entry) → IsRun kind limit (e ∷ h) → status kind t h ≡ Dropping → cell kind h ≡ Held t
+        → (answers_left kind (e ∷ h) ≡ answers_left kind h) × ((cell kind (e ∷ h) ≡ Held t) ⊎ (cell kind (e ∷ h) ≡ Empty)) }
+{}
+
+/// A task that is first polled after the value is set answers it, and does not poll its init.
+pub fn set_value_is_answered_first()
+    ensures { (kind : Kind) (limit t : ℕ) (r : Reply) (h : List Entry) → IsRun kind limit (End t r ∷ h) → (last_poll kind t h).began ≡ Fresh → (last_poll kind t h).set_then ≡ true
+        → ((last_poll kind t h).ran ≡ None) × ((v : ℕ) × (cell kind h ≡ SetTo v) × (r ≡ Value v)) }
+{}
+
+/// A poll ends for want of memory only where another task held or was in a call since it began. It
+/// finds the place full, where no other did, only while at least `limit` other tasks waited.
+pub fn refusals_need_others()
+    ensures memory { (kind : Kind) (limit t : ℕ) (h : List Entry) → IsRun kind limit (End t Memory ∷ h) → Since t (OtherActs kind t) h }
+    ensures full { (kind : Kind) (limit t : ℕ) (h : List Entry) → IsRun kind limit (End t Full ∷ h) → (Since t (OtherActs kind t) h → ⊥) → Since t (AreWaiting kind limit t) h }
+{}
