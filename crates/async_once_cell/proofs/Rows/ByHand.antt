@@ -58,9 +58,22 @@ plain_covers : (t : ℕ) → Covers Once [] plain_fill t
 plain_covers = by_task (λ t. Covers Once [] plain_fill t) (λ w. absurd (polling_not_waiting w)) (λ w. absurd (unmade_not_waiting w)) (λ t n m w. absurd (unmade_not_waiting (sym (untouched_unmade Once t plain_fill (n, (n, (n, (n, tt))))) ∙ w)))
 
 plain_path_by_hand : IsRun Once 8 plain_path_record
-plain_path_by_hand =
-    ((refl, refl), (tt, (refl, ((refl, (refl, refl)), ((refl, refl, refl, may_hand Once plain_fill plain_covers),
-    ((refl, refl, refl, tt), ((refl, refl, refl), (tt, (refl, tt)))))))))
+plain_path_by_hand = (
+  (refl, refl),
+  (
+    tt,
+    (
+      refl,
+      (
+        (refl, (refl, refl)),
+        (
+          (refl, refl, refl, may_hand Once plain_fill plain_covers),
+          ((refl, refl, refl, tt), ((refl, refl, refl), (tt, (refl, tt)))),
+        ),
+      ),
+    ),
+  ),
+)
 
 -- before the fill of the slow path the second task waits
 abbrev slow_fill : List Entry
@@ -71,9 +84,25 @@ slow_covers = by_task (λ t. Covers Once (7 ∷ []) slow_fill t) (λ w. absurd (
     (λ t n m w. absurd (unmade_not_waiting (sym (untouched_unmade Once t slow_fill (n, (n, (m, (m, (m, (m, (n, (n, (n, (n, (m, (n, tt))))))))))))) ∙ w)))
 
 slow_path_by_hand : IsRun Once 8 slow_path_record
-slow_path_by_hand =
-    ((refl, refl), (tt, ((refl, (refl, refl)), ((refl, refl, refl, may_hand_one Once 7 slow_fill slow_covers refl), ((refl, refl, refl, tt), (tt,
-    ((refl, (1, two_not_one, refl)), (tt, ((refl, (1, two_not_one, refl)), (tt, ((refl, refl), ((refl, refl, refl, tt), ((refl, refl, refl), (tt, (refl, (refl, tt))))))))))))))))
+slow_path_by_hand = (
+  (refl, refl),
+  (
+    tt,
+    (
+      (refl, (refl, refl)),
+      (
+        (refl, refl, refl, may_hand_one Once 7 slow_fill slow_covers refl),
+        (
+          (refl, refl, refl, tt),
+          (
+            tt,
+            ((refl, (1, two_not_one, refl)), (tt, ((refl, (1, two_not_one, refl)), (tt, ((refl, refl), ((refl, refl, refl, tt), ((refl, refl, refl), (tt, (refl, (refl, tt)))))))))),
+          ),
+        ),
+      ),
+    ),
+  ),
+)
 
 -- the third task finds the place full: the second waits and the first holds
 limit_of_the_count_by_hand : IsRun Once 1 limit_of_the_count_record

@@ -30,3 +30,7 @@ waker_in_two_releases = (every_run Once 8 (script (Make 1 ∷ Make 2 ∷ Make 3 
 -- a waker from before the owner's call is handed out after it
 waker_of_an_older_cell : Spoilt Once 8 (newest_first (Made 1 ∷ Made 2 ∷ Begin 1 5 ∷ Claim 1 ∷ Ran 1 RanPending ∷ End 1 Pending ∷ Begin 2 7 ∷ End 2 Pending ∷ DropBegin 2 ∷ DropEnd 2 ∷ DropBegin 1 ∷ Free 1 [] ∷ DropEnd 1 ∷ Own Take GotNone ∷ Made 3 ∷ Begin 3 8 ∷ Claim 3 ∷ Ran 3 (RanValue 6) ∷ Fill 3 6 (7 ∷ []) ∷ []))
 waker_of_an_older_cell = (every_run Once 8 (script (Make 1 ∷ Make 2 ∷ Poll 1 5 ∷ steps 3 1 RanPending ++ Poll 2 7 ∷ steps 7 2 RanPending ++ Drop 2 ∷ Go 2 RanPending true ∷ Drop 1 ∷ Go 1 RanPending true ∷ Owns Take ∷ Make 3 ∷ Poll 3 8 ∷ steps 3 3 (RanValue 6))) (omega arith), λ r. false≢true (r.0.3.open_alone 7 refl))
+
+-- a release hands out the waker of the holder itself
+waker_of_the_holder : Spoilt Once 8 (newest_first (Made 1 ∷ Begin 1 5 ∷ Claim 1 ∷ Ran 1 RanPending ∷ End 1 Pending ∷ Begin 1 7 ∷ Ran 1 (RanValue 4) ∷ Fill 1 4 (5 ∷ []) ∷ []))
+waker_of_the_holder = (every_run Once 8 (script (Make 1 ∷ Poll 1 5 ∷ steps 3 1 RanPending ++ Poll 1 7 ∷ Go 1 (RanValue 4) true ∷ [])) (omega arith), λ r. false≢true (r.0.3.open_alone 5 refl))
