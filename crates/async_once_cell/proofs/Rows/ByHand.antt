@@ -3,14 +3,14 @@ use Rattle.std.proofs.Common.{◌≡◌, ◌≢◌, ℕ, true, false, ◌==◌, 
 use Rattle.std.proofs.lemmas.Bool.{false≢true, cases_Bool, eqb-true}
 use Rattle.std.proofs.lemmas.Bool.Decides.{nat_tests}
 use Rattle.async_once_cell.specs.Numbers.{member}
-use Rattle.async_once_cell.specs.Record.{Begin, Claim, End, Entry, Kind, Made, Once, OnceWith, Pending, Ran, RanPending, RanValue, is_of}
+use Rattle.async_once_cell.specs.Record.{Begin, Claim, End, Entry, Kind, Lazy, LazyWith, Made, Once, OnceWith, Pending, Ran, RanPending, RanValue, is_of}
 use Rattle.async_once_cell.specs.Tasks.{Polling, Unmade, Waiting, last_poll, status}
 use Rattle.async_once_cell.specs.Wakers.{HandsOut, is_open}
 use Rattle.async_once_cell.specs.Run.{IsRun}
 use Rattle.async_once_cell.proofs.Rows.Script.{newest_first}
 use Rattle.async_once_cell.proofs.Rows.Plain.{plain_path_record, slow_path_record}
 use Rattle.async_once_cell.proofs.Rows.Refused.{limit_of_the_count_record, queue_refused_record}
-use Rattle.async_once_cell.proofs.Rows.Owners.{repeat_after_emptying_record}
+use Rattle.async_once_cell.proofs.Rows.Owners.{lazy_answers_used_up_record, repeat_after_emptying_record, replacements_record}
 
 -- no entry is of t
 abbrev Untouched : ℕ → List Entry → Type 0
@@ -117,3 +117,11 @@ queue_refused_by_hand =
 -- the owner's calls and looks
 repeat_after_emptying_by_hand : IsRun (OnceWith 5) 8 repeat_after_emptying_record
 repeat_after_emptying_by_hand = ((refl, refl), ((refl, refl), (refl, ((refl, refl), ((refl, refl), (refl, tt))))))
+
+-- a lazy cell is replaced twice and taken apart
+replacements_by_hand : IsRun (LazyWith 7) 8 replacements_record
+replacements_by_hand = ((refl, refl), ((refl, refl), (refl, ((refl, refl), tt))))
+
+-- an init without answers left is pending
+lazy_answers_used_up_by_hand : IsRun (Lazy []) 8 lazy_answers_used_up_record
+lazy_answers_used_up_by_hand = ((refl, refl), ((refl, refl, refl, refl), (tt, ((refl, refl), ((refl, refl, refl, refl), ((refl, refl, refl), (tt, (refl, tt))))))))
