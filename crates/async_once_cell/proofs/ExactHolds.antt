@@ -10,7 +10,7 @@ use Rattle.async_once_cell.specs.declared.queue.Answer.TheVariants.{Ready, Claim
 use Rattle.async_once_cell.specs.declared.step.Polled.{Polled}
 use Rattle.async_once_cell.specs.declared.world.script.Script.{Script}
 use Rattle.async_once_cell.specs.Word.{flags_alone, is_quick_bit}
-use Rattle.async_once_cell.specs.Core.{CoreState, DidAddOne, release_state, take_log, take_state}
+use Rattle.async_once_cell.specs.Core.{CoreState, DidAddOne, release_state, IsBare, take_by, take_state}
 use Rattle.async_once_cell.specs.Steps.{AfterRelease, AtAddOne, AtCountOut, AtDoorAgain, AtDoorTake, AtFast, AtRelease, EndError, EndValue, Ending, Follows, LeadsTo, More, Place, Progress, Step, UnderWay, after_count_out, after_door_again, after_fast, after_run, give_back, is_running, is_value, on, stops}
 use Rattle.async_once_cell.specs.Record.{Answer, RanError, RanPending, RanValue}
 use Rattle.async_once_cell.specs.Cell.{rest_of}
@@ -168,10 +168,15 @@ module _ (c : Script) (f : IsFresh c) (s : CoreState ℕ) (c' : Script) (p : Pro
   out_exact e true s' same x y = goes_by 2 s c f s' c' p t [] (ap (λ y. reverse y.log) same) y (counted_out (inner_by s c)) (AtDoorTake e) (ap (λ y. inner_by y c) same) x.0 x.1 refl refl
   out_exact e false s' same x y = ends_by 2 s c f s' c' p t [] (ap (λ y. reverse y.log) same) y (counted_out (inner_by s c)) e (ap (λ y. inner_by y c) same) x.0 x.1 refl
 
-  take_log_is : (d : Option ℕ) → reverse (take_log d s.log) ≡ taken_out d ++ reverse s.log
-  take_log_is (Some q) = reverse_push s.log (TakenLine q)
-  take_log_is None = refl
+  -- the queue at the door is taken out, and where none stands nothing is left to clear
+  take_by_is : (e : Ending) (d : Option ℕ) (s' : CoreState ℕ) → s.door ≡ d → IsBare s → s' ≡ take_by d s → Follows DidClose (stops e) c c' p t
+      → IsOutcome 1 (λ n. ends (door_taken (inner_by s c)) n c.kept e) (taken_out d) s c s' c' p t
+  take_by_is e (Some q) s' at bare same x = ends_by 1 s c f s' c' p t (TakenLine q ∷ []) (ap (λ y. reverse y.log) same ∙ reverse_push s.log (TakenLine q)) x.0 (door_taken (inner_by s c)) e (ap (λ y. inner_by y c) same) x.1 x.2 refl
+  take_by_is e None s' at bare same x =
+      let b = bare at in
+      let left : inner_by s c ≡ door_taken (inner_by s c) = λ i. record (inner_by s c) { door = at i; head = b.0 i; wakers = b.1 i } in
+      ends_by 1 s c f s' c' p t [] (ap (λ y. reverse y.log) same) x.0 (door_taken (inner_by s c)) e (ap (λ y. inner_by y c) same ∙ left) x.1 x.2 refl
 
-  pub take_exact : (e : Ending) (s' : CoreState ℕ) → s' ≡ take_state s → Follows DidClose (stops e) c c' p t
+  pub take_exact : (e : Ending) (s' : CoreState ℕ) → IsBare s → s' ≡ take_state s → Follows DidClose (stops e) c c' p t
       → IsOutcome 1 (λ n. ends (door_taken (inner_by s c)) n c.kept e) (taken_out s.door) s c s' c' p t
-  take_exact e s' same x = ends_by 1 s c f s' c' p t (taken_out s.door) (ap (λ y. reverse y.log) same ∙ take_log_is s.door) x.0 (door_taken (inner_by s c)) e (ap (λ y. inner_by y c) same) x.1 x.2 refl
+  take_exact e s' bare same x = take_by_is e s.door s' refl bare same x

@@ -37,11 +37,6 @@ put_answer false door n = None
 put_answer true (Some q) n = Some q
 put_answer true None n = Some (suc n)
 
--- the log after the queue at the door was taken out
-abbrev pub take_log : Option ℕ → List QueueLine → List QueueLine
-take_log (Some q) log = log ++ Taken q ∷ []
-take_log None log = log
-
 module _ {W : Type 0} where
   abbrev pub DidLoad : CoreState W → ℕ → CoreState W → Type 0
   DidLoad s w t = (flags_of w ≡ s.word) × (t ≡ s)
@@ -74,9 +69,17 @@ module _ {W : Type 0} where
   abbrev pub DidDoorPut : CoreState W → Option ℕ → CoreState W → Type 0
   DidDoorPut s q t = (q ≡ put_answer s.granted s.door s.made) × (t ≡ put_state s.granted s.door s)
 
-  -- no queue stands at the door any more, and nobody is listed
+  -- the queue at the door is taken out, with its flag and all who are listed; where none stands all is as it was
+  abbrev pub take_by : Option ℕ → CoreState W → CoreState W
+  take_by (Some q) s = record s { door = None; head = false; wakers = []; log = s.log ++ Taken q ∷ [] }
+  take_by None s = s
+
   abbrev pub take_state : CoreState W → CoreState W
-  take_state s = record s { door = None; head = false; wakers = []; log = take_log s.door s.log }
+  take_state s = take_by s.door s
+
+  -- where no queue stands at the door, nobody holds by its flag and nobody is listed
+  abbrev pub IsBare : CoreState W → Type 0
+  IsBare s = s.door ≡ None → (s.head ≡ false) × (s.wakers ≡ [])
 
   abbrev pub DidDoorTake : CoreState W → Bool → CoreState W → Type 0
   DidDoorTake s stood t = (stood ≡ is_some s.door) × (t ≡ take_state s)

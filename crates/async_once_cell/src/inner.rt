@@ -225,6 +225,8 @@ pub struct Core<W: WakerId> {
     pub current: Option<W>,
     pub log: Vec<QueueLine>,
     ghost counted: { made ≤ vec_len log },
+    // Where no queue stands at the door, nobody holds by its flag and nobody is listed.
+    ghost bare: { door ≡ None → (lists.head ≡ false) × (lists.wakers.items ≡ []) },
 }
 
 impl<W: WakerId + Drop> Core<W> {
@@ -290,6 +292,7 @@ impl<W: WakerId + Drop> Core<W> {
 
     // The section of a look, on the queue at the door.
     fn look(&mut self) -> Answer<W>
+        requires door { IsSome self.old.door }
         ensures { Found W.tells_same W.tells_other (state_of self.old) Op.Look result Op.Look (state_of self.new) }
     {
         let word = self.word.bits();
@@ -298,6 +301,7 @@ impl<W: WakerId + Drop> Core<W> {
 
     // The section of a listing: where memory is not given, a waker that is not listed is refused.
     fn list(&mut self, waker: &mut Option<W>) -> Answer<W>
+        requires door { IsSome self.old.door }
         requires waker { IsSome waker.old }
         requires room { vec_len self.old.lists.wakers < vec_capacity self.old.lists.wakers }
         ensures { Found W.tells_same W.tells_other (state_of self.old) (Op.List waker.old) result (Op.List waker.new) (state_of self.new) }
@@ -314,6 +318,7 @@ impl<W: WakerId + Drop> Core<W> {
 
     // The section of a release: clears the quick flag if it stood, else the flag beside the list.
     fn release(&mut self, ready: bool) -> Vec<W>
+        requires door { IsSome self.old.door }
         requires unset { self.old.word.ready ≡ false }
         requires one { self.old.lists.head ≡ not self.old.word.quick }
         ensures wakers { result.items ≡ (state_of self.old).wakers }
@@ -323,16 +328,17 @@ impl<W: WakerId + Drop> Core<W> {
         self.lists.release()
     }
 
-    // Takes the queue out of the door, with all that was listed in it.
+    // Takes the queue out of the door, with all that was listed in it, where one stands.
     fn take_out(&mut self) -> bool
         requires { HasRoom self.old }
         ensures stood { IsTrue result ↔ IsSome self.old.door }
         ensures state { state_of self.new ≡ take_state (state_of self.old) }
     {
-        drop(self.lists.release());
-        let Some(queue) = self.door.take() else {
+        let Some(queue) = self.door else {
             return false;
         };
+        drop(self.lists.release());
+        self.door = None;
         self.write(QueueLine::Taken(queue));
         true
     }

@@ -20,7 +20,7 @@ pub returns : goal.returns
 returns c =
     let granted_to : CoreState ℕ → CoreState ℕ = λ s. record s { granted = c.args.granted } in
     let state = c.grant.ensures.state ∙ ap granted_to c.set_waker.ensures.state in
-    let x = advance_exact (λ p. state_of p) c.args.limit _ _ _ _ _ _ _ (record { ran = refl; handed = refl }) (ap (λ s. s.current) state) (ap (λ s. s.granted) state) c.advance-progress.ensures.line in
+    let x = advance_exact (λ p. state_of p) c.args.limit _ _ _ _ _ _ _ (record { ran = refl; handed = refl }) c.grant.new.self.bare (ap (λ s. s.current) state) (ap (λ s. s.granted) state) c.advance-progress.ensures.line in
     let told_by : Inner → ℕ → Outcome = λ i t. outcome c.args.self.now.script.lazy c.args.limit i t c.args.task.now c.args.answer c.args.granted in
     let same = ap (λ s. inner_by s c.args.self.now.script) state in
     let freed : c.if-before-eq-FAST.result ≡ is_freed (left_of c.args.task.now.step) c.advance-progress.new.self = elim c.if-before-eq-FAST.branch [ then-before-eq-FAST w ↦ at_fast _ _ _ _ _ w.result-is w.if-before-eq-FAST.true w.left.ensures.left c.left-before.ensures.left | else-before-eq-FAST w ↦ elsewhere _ _ _ _ w.result-is w.if-before-eq-FAST.false c.left-before.ensures.left ] in
