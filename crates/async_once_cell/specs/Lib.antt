@@ -19,3 +19,5 @@ pub mod Machine
 pub mod Can
 pub mod Script
 pub mod Shown
+pub mod Tokens
+pub mod Stays

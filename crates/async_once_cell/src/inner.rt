@@ -2,8 +2,11 @@
 ghost use Rattle.async_once_cell.specs.declared.queue.Op.{Op};
 ghost use Rattle.std.specs.Prelude.{◌≡◌, ◌<◌, ◌≤◌, ◌+◌, ◌-◌, ◌^◌, ◌++◌, ◌∷◌, ℕ, Bool, true, false, [], Some, None, Option, OnOk, IsSome, IsTrue, ◌↔◌, not, cond, vec_len, vec_capacity};
 
+mod shared;
+
 pub use crate::queue::{Answer, MAX_WAITERS, NEW, Op, QINIT_BIT, READY_BIT};
 use crate::queue::{Lists, WakerId};
+pub use shared::{Inner, Queue, Shared};
 use std::alloc::{AllocError, Global};
 use std::marker::Model;
 

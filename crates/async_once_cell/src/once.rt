@@ -1,0 +1,176 @@
+//! A cell that is filled once, by the init of whichever call gets there first.
+ghost use Rattle.std.specs.Prelude.{◌≡◌, ℕ, None, false};
+ghost use Rattle.async_once_cell.specs.Tokens.{Learns};
+
+mod future;
+mod init;
+mod known;
+mod refused;
+
+use crate::inner::{Inner, Shared};
+use crate::seat::Seat;
+pub use future::TryInitFuture;
+use futures::Future;
+pub use init::InitFuture;
+pub use known::Known;
+pub use refused::{InitError, Refused};
+use std::alloc::AllocGlobal;
+use std::marker::Model;
+use std::sync::atomic::{AtomicU64, Ordering};
+use std::sync::{OnceLock, Wait};
+use std::{fmt, mem};
+
+/// A cell that is empty, or has one value.
+#[derive(Drop)]
+pub struct OnceCell<T> {
+    inner: Inner<Seat>,
+    // How many seats were made.
+    seats: AtomicU64,
+    value: OnceLock<T>,
+}
+
+/// A clause sees a cell as the number that tells it from all others.
+impl<T> Model for OnceCell<T> {
+    ghost Value = { ℕ };
+
+    ghost view = { λ c. c.value.id };
+}
+
+impl<T> OnceCell<T> {
+    /// An empty cell. It takes no memory.
+    pub fn new() -> Self {
+        OnceCell {
+            inner: Inner::new(false),
+            seats: AtomicU64::new(0),
+            value: OnceLock::new(),
+        }
+    }
+
+    /// A cell with this value.
+    pub fn new_with(value: T) -> Self
+    where
+        T: Drop,
+    {
+        OnceCell {
+            inner: Inner::new(true),
+            seats: AtomicU64::new(0),
+            value: OnceLock::from(value),
+        }
+    }
+
+    /// The value, where it is set.
+    pub fn get(&self) -> Option<&T> {
+        if self.inner.is_ready() {
+            self.value.get()
+        } else {
+            None
+        }
+    }
+
+    /// The value for writing, where it is set.
+    pub fn get_mut(&mut self) -> Option<&mut T> {
+        self.value.get_mut()
+    }
+
+    /// The value, where it was set. The cell is empty after.
+    pub fn take(&mut self) -> Option<T> {
+        mem::replace(self, OnceCell::new()).into_inner()
+    }
+
+    /// The value, where it was set.
+    pub fn into_inner(self) -> Option<T> {
+        let OnceCell {
+            inner: _,
+            seats: _,
+            value,
+        } = self;
+        value.into_inner()
+    }
+
+    /// The value, from the cell or from `init`.
+    pub fn get_or_init<'a, F, R>(&'a self, rt: &'a R, init: F) -> InitFuture<'a, T, F, R>
+    where
+        F: Future<Output = T>,
+        R: Wait + AllocGlobal,
+        requires { F.can_poll init }
+        ensures cell { result.cell ≡ self.now }
+        ensures live { result.finished ≡ false }
+    {
+        InitFuture::new(self, rt, init)
+    }
+
+    /// The value, from the cell or from `init`, which may fail.
+    pub fn get_or_try_init<'a, E, F, R>(
+        &'a self,
+        rt: &'a R,
+        init: F,
+    ) -> TryInitFuture<'a, T, E, F, R>
+    where
+        F: Future<Output = Result<T, E>>,
+        R: Wait + AllocGlobal,
+        requires { F.can_poll init }
+        ensures cell { result.cell ≡ self.now }
+        ensures live { result.finished ≡ false }
+    {
+        TryInitFuture::new(self, rt, init)
+    }
+
+    /// A token that knows nothing yet.
+    pub fn token(&self) -> Known<'_, T>
+        ensures cell { result.cell ≡ self.now }
+        ensures knows { result.value ≡ None }
+    {
+        Known::new(self)
+    }
+
+    /// As [`OnceCell::get`], and the token learns the value. A token that knows a value gets it.
+    pub fn get_as<'a>(&'a self, token: &mut Known<'a, T>) -> Option<&'a T>
+        requires { token.old.cell ≡ self.now }
+        ensures cell { token.new.cell ≡ token.old.cell }
+        ensures value { Learns token.old.value token.new.value result }
+    {
+        token.learn(self)
+    }
+
+    // The parts as one call uses them, with the seat of a future that has one.
+    fn parts<'a, 'r, R>(&'a self, rt: &'r R, seat: Option<Seat>) -> Shared<'a, 'r, Seat, R> {
+        self.inner.parts(rt, seat)
+    }
+
+    fn new_seat<R: AllocGlobal>(&self, rt: &R) -> Option<Seat> {
+        let number = self.seats.fetch_add(1, Ordering::SeqCst);
+        Seat::new(rt.alloc(), number).ok()
+    }
+
+    // A value that is there already stays, and this one is dropped.
+    fn set<R: Wait>(&self, rt: &R, value: T)
+    where
+        T: Drop,
+    {
+        let _ = self.value.set(rt, value);
+    }
+
+    // The value that the end of a call found set.
+    fn found(&self) -> Option<&T> {
+        self.value.get()
+    }
+}
+
+impl<T> Default for OnceCell<T> {
+    fn default() -> Self {
+        OnceCell::new()
+    }
+}
+
+impl<T: Drop> From<T> for OnceCell<T> {
+    fn from(value: T) -> Self {
+        OnceCell::new_with(value)
+    }
+}
+
+impl<T: fmt::Debug> fmt::Debug for OnceCell<T> {
+    fn fmt<W: fmt::Write>(&self, f: &mut fmt::Formatter<W>) -> fmt::Result {
+        let (value, inner) = (self.get(), &self.inner);
+        write!(f, "OnceCell {{ value: {value:?}, inner: {inner:?} }}")
+    }
+}

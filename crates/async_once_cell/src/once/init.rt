@@ -1,0 +1,121 @@
+//! The future of an init that does not fail.
+ghost use Rattle.std.specs.Prelude.{◌≡◌, false, true, IsSome};
+ghost use Rattle.futures.specs.Task.{IsArmed, Keeps};
+ghost use Rattle.futures.specs.Poll.{OnPending};
+ghost use Rattle.async_once_cell.specs.Tokens.{Call, Polls, IsSame};
+
+use super::{InitError, Known, OnceCell, Refused, TryInitFuture};
+use futures::Future;
+use futures::task::{Context, Poll};
+use std::alloc::AllocGlobal;
+use std::convert::Infallible;
+use std::marker::Model;
+use std::sync::Wait;
+
+/// Future of [`OnceCell::get_or_init`].
+#[derive(Drop)]
+pub struct InitFuture<'a, T, F: Future, R: Wait + AllocGlobal> {
+    future: TryInitFuture<'a, T, Infallible, Sure<F>, R>,
+}
+
+impl<'a, T, F: Future, R: Wait + AllocGlobal> Model for InitFuture<'a, T, F, R> {
+    ghost Value = { Call };
+
+    ghost view = { λ f. f.future };
+}
+
+impl<'a, T, F: Future, R: Wait + AllocGlobal> InitFuture<'a, T, F, R> {
+    pub(crate) fn new(cell: &'a OnceCell<T>, rt: &'a R, init: F) -> Self
+        requires { F.can_poll init }
+        ensures cell { result.cell ≡ cell.now }
+        ensures live { result.finished ≡ false }
+    {
+        InitFuture {
+            future: TryInitFuture::new(cell, rt, Sure { init }),
+        }
+    }
+
+    /// Whether the last poll completed, or the future has left its cell.
+    pub fn is_finished(&self) -> bool
+        ensures { result ≡ self.now.finished }
+    {
+        self.future.is_finished()
+    }
+}
+
+impl<'a, T: Drop, F: Future<Output = T>, R: Wait + AllocGlobal> InitFuture<'a, T, F, R> {
+    /// Polls the future once.
+    pub fn poll(&mut self, cx: &mut Context<'_>) -> Poll<Result<&'a T, Refused>>
+        requires { self.old.finished ≡ false }
+        ensures cell { self.new.cell ≡ self.old.cell }
+        ensures live { OnPending result (self.new.finished ≡ false) }
+        ensures armed { OnPending result (IsArmed cx.new) }
+        ensures kept { Keeps cx.old cx.new }
+    {
+        surely(self.future.poll(cx))
+    }
+
+    /// As [`poll`](Self::poll), and the token learns the value. A token that knows a value gets it,
+    /// and the future leaves its cell as by a drop.
+    pub fn poll_as(
+        &mut self,
+        cx: &mut Context<'_>,
+        token: &mut Known<'a, T>,
+    ) -> Poll<Result<&'a T, Refused>>
+        requires live { self.old.finished ≡ false }
+        requires cell { token.old.cell ≡ self.old.cell }
+        ensures cell { self.new.cell ≡ self.old.cell }
+        ensures of { token.new.cell ≡ token.old.cell }
+        ensures value { Polls token.old.value token.new.value result }
+        ensures finished { IsSome token.old.value → self.new.finished ≡ true }
+        ensures live { OnPending result (self.new.finished ≡ false) }
+        ensures armed { OnPending result (IsArmed cx.new) }
+        ensures kept { Keeps cx.old cx.new }
+    {
+        surely(self.future.poll_as(cx, token))
+    }
+}
+
+/// Polled when it is finished, it asks for another poll and changes nothing.
+impl<'a, T: Drop, F: Future<Output = T>, R: Wait + AllocGlobal> Future for InitFuture<'a, T, F, R> {
+    type Output = Result<&'a T, Refused>;
+
+    fn poll(&mut self, cx: &mut Context<'_>) -> Poll<Result<&'a T, Refused>> {
+        if self.is_finished() {
+            return cx.yield_now();
+        }
+        InitFuture::poll(self, cx)
+    }
+}
+
+// An init that can't fail.
+#[derive(Drop)]
+struct Sure<F> {
+    init: F,
+}
+
+impl<F: Future> Future for Sure<F> {
+    type Output = Result<F::Output, Infallible>;
+
+    ghost can_poll = { λ s. F.can_poll s.init };
+
+    fn poll(&mut self, cx: &mut Context<'_>) -> Poll<Result<F::Output, Infallible>> {
+        match self.init.poll(cx) {
+            Poll::Ready(value) => Poll::Ready(Ok(value)),
+            Poll::Pending => Poll::Pending,
+        }
+    }
+}
+
+// The answer without the error that can't be.
+fn surely<T>(polled: Poll<Result<T, InitError<Infallible>>>) -> Poll<Result<T, Refused>>
+    ensures { IsSame polled result }
+{
+    match polled {
+        Poll::Pending => Poll::Pending,
+        Poll::Ready(Ok(value)) => Poll::Ready(Ok(value)),
+        Poll::Ready(Err(InitError::Init(never))) => match never {},
+        Poll::Ready(Err(InitError::Memory)) => Poll::Ready(Err(Refused::Memory)),
+        Poll::Ready(Err(InitError::Full)) => Poll::Ready(Err(Refused::Full)),
+    }
+}

@@ -1,0 +1,72 @@
+//! Tokens: what their holder has learned of one cell.
+ghost use Rattle.std.specs.Prelude.{◌≡◌, ◌↔◌, IsTrue, IsSome, IfSome, None};
+ghost use Rattle.async_once_cell.specs.Tokens.{Knows, Learns, value_of};
+
+use super::OnceCell;
+use std::marker::Model;
+use std::sync::OnceToken;
+
+/// What its holder has learned of one cell: nothing, or the cell's value.
+///
+/// A token borrows its cell, so the value can't change while there is one.
+#[derive(Drop)]
+pub struct Known<'a, T> {
+    cell: &'a OnceCell<T>,
+    token: Option<OnceToken<'a, T>>,
+}
+
+impl<'a, T> Model for Known<'a, T> {
+    ghost Value = { Knows T };
+
+    ghost view = { λ k. record { cell = k.cell.now; value = value_of k.token } };
+
+    ghost invariant = { λ k. IfSome k.token (λ t. t.of ≡ k.cell.now) };
+}
+
+impl<'a, T> Known<'a, T> {
+    pub(super) fn new(cell: &'a OnceCell<T>) -> Self
+        ensures cell { result.cell ≡ cell.now }
+        ensures knows { result.value ≡ None }
+    {
+        Known { cell, token: None }
+    }
+
+    /// Whether both know a value. Then the two values are one.
+    pub fn compare(a: &Known<'a, T>, b: &Known<'a, T>) -> bool
+        requires { a.now.cell ≡ b.now.cell }
+        ensures both { IsTrue result ↔ (IsSome a.now.value × IsSome b.now.value) }
+        ensures one { IsTrue result → a.now.value ≡ b.now.value }
+    {
+        if let Some(x) = &a.token
+            && let Some(y) = &b.token
+        {
+            x.agrees(y);
+            return true;
+        }
+        false
+    }
+
+    pub(super) fn is_knowing(&self) -> bool
+        ensures { IsTrue result ↔ IsSome self.now.value }
+    {
+        self.token.is_some()
+    }
+
+    // The value of the cell, where the token knows it or the word shows it.
+    pub(super) fn learn(&mut self, cell: &'a OnceCell<T>) -> Option<&'a T>
+        requires { self.old.cell ≡ cell.now }
+        ensures cell { self.new.cell ≡ self.old.cell }
+        ensures value { Learns self.old.value self.new.value result }
+    {
+        if let Some(known) = &self.token {
+            return Some(cell.value.value(known));
+        }
+        if !cell.inner.is_ready() {
+            return None;
+        }
+        let seen = cell.value.witness()?;
+        let value = cell.value.value(&seen);
+        self.token = Some(seen);
+        Some(value)
+    }
+}
