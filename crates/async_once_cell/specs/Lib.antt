@@ -19,5 +19,6 @@ pub mod Machine
 pub mod Can
 pub mod Script
 pub mod Shown
+pub mod Refused
 pub mod Tokens
 pub mod Stays

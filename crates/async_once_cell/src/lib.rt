@@ -4,6 +4,7 @@
 mod held;
 pub mod inner;
 pub mod laws;
+pub mod lazy;
 pub mod once;
 pub mod queue;
 mod seat;
@@ -12,4 +13,5 @@ pub mod step;
 mod tests;
 pub mod world;
 
+pub use lazy::{Lazy, LazyFuturePin, LazyFutureUnpin};
 pub use once::OnceCell;

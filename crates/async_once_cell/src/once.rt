@@ -168,9 +168,20 @@ impl<T: Drop> From<T> for OnceCell<T> {
     }
 }
 
+impl<T: fmt::Debug> OnceCell<T> {
+    // What a cell of this name shows.
+    pub(crate) fn fmt_as<W: fmt::Write>(
+        &self,
+        name: &str,
+        f: &mut fmt::Formatter<W>,
+    ) -> fmt::Result {
+        let (value, inner) = (self.get(), &self.inner);
+        write!(f, "{name} {{ value: {value:?}, inner: {inner:?} }}")
+    }
+}
+
 impl<T: fmt::Debug> fmt::Debug for OnceCell<T> {
     fn fmt<W: fmt::Write>(&self, f: &mut fmt::Formatter<W>) -> fmt::Result {
-        let (value, inner) = (self.get(), &self.inner);
-        write!(f, "OnceCell {{ value: {value:?}, inner: {inner:?} }}")
+        self.fmt_as("OnceCell", f)
     }
 }

@@ -1,5 +1,7 @@
 //! Why a poll ended without a value.
+ghost use Rattle.std.specs.Prelude.{Some};
 
+use std::error::Error;
 use std::fmt;
 
 /// Why a poll ended without a value, though no init failed. Its future is finished, and all else is
@@ -13,15 +15,19 @@ pub enum Refused {
 }
 
 impl fmt::Display for Refused {
+    ghost use Rattle.async_once_cell.specs.Refused.{message};
+
+    ghost output = { λ refused. Some (message refused) };
+
     fn fmt<W: fmt::Write>(&self, f: &mut fmt::Formatter<W>) -> fmt::Result {
-        f.write_str(match self {
-            Refused::Memory => "out of memory",
-            Refused::Full => "too many waiters",
-        })
+        match self {
+            Refused::Memory => f.write_str("out of memory"),
+            Refused::Full => f.write_str("too many waiters"),
+        }
     }
 }
 
-impl std::error::Error for Refused {}
+impl Error for Refused {}
 
 /// Why a poll ended without a value: the caller's own init failed, or the poll was refused.
 #[derive(Clone, Copy, Debug, Drop, PartialEq, Eq)]
@@ -35,11 +41,17 @@ pub enum InitError<E> {
 }
 
 impl<E: fmt::Display> fmt::Display for InitError<E> {
+    ghost use Rattle.async_once_cell.specs.Refused.{message_of};
+
+    ghost output = { message_of E.output };
+
     fn fmt<W: fmt::Write>(&self, f: &mut fmt::Formatter<W>) -> fmt::Result {
         match self {
-            InitError::Init(error) => write!(f, "{error}"),
-            InitError::Memory => write!(f, "{}", Refused::Memory),
-            InitError::Full => write!(f, "{}", Refused::Full),
+            InitError::Init(error) => fmt::Display::fmt(error, f),
+            InitError::Memory => fmt::Display::fmt(&Refused::Memory, f),
+            InitError::Full => fmt::Display::fmt(&Refused::Full, f),
         }
     }
 }
+
+impl<E: fmt::Debug + fmt::Display + Drop> Error for InitError<E> {}

@@ -1,0 +1,146 @@
+//! A cell that owns the future that fills it.
+ghost use Rattle.std.specs.Prelude.{◌≡◌, ℕ, None, false};
+ghost use Rattle.async_once_cell.specs.Tokens.{Learns};
+
+mod future;
+
+use crate::held::Held;
+use crate::once::{Known, OnceCell};
+pub use future::{LazyFuturePin, LazyFutureUnpin};
+use futures::Future;
+use std::alloc::AllocGlobal;
+use std::marker::Model;
+use std::sync::{Mutex, Wait};
+use std::{fmt, mem};
+
+/// A cell with the future that fills it, or with its value.
+#[derive(Drop)]
+pub struct Lazy<T, F: Future> {
+    cell: OnceCell<T>,
+    // None while it is polled, and once it gave its value.
+    future: Mutex<Option<Held<F>>>,
+}
+
+/// A clause sees a cell as the number that tells it from all others.
+impl<T, F: Future> Model for Lazy<T, F> {
+    ghost Value = { ℕ };
+
+    ghost view = { λ l. l.cell };
+}
+
+impl<T, F: Future<Output = T>> Lazy<T, F> {
+    /// A cell that this future will fill.
+    pub fn new(future: F) -> Self
+        requires { F.can_poll future }
+    {
+        Lazy {
+            cell: OnceCell::new(),
+            future: Mutex::new(Some(Held::new(future))),
+        }
+    }
+
+    /// As [`Lazy::new`].
+    pub fn from_future(future: F) -> Self
+        requires { F.can_poll future }
+    {
+        Lazy::new(future)
+    }
+
+    /// The value, from the cell or from its future.
+    pub fn get<'a, R: Wait + AllocGlobal>(&'a self, rt: &'a R) -> LazyFuturePin<'a, T, F, R>
+        ensures cell { result.cell ≡ self.now }
+        ensures live { result.finished ≡ false }
+    {
+        LazyFuturePin::new(&self.cell, rt, &self.future)
+    }
+
+    /// As [`Lazy::get`].
+    pub fn get_unpin<'a, R: Wait + AllocGlobal>(&'a self, rt: &'a R) -> LazyFutureUnpin<'a, T, F, R>
+        ensures cell { result.cell ≡ self.now }
+        ensures live { result.finished ≡ false }
+    {
+        self.get(rt)
+    }
+
+    /// As [`Lazy::get`].
+    pub fn into_future<'a, R: Wait + AllocGlobal>(
+        &'a self,
+        rt: &'a R,
+    ) -> LazyFutureUnpin<'a, T, F, R>
+        ensures cell { result.cell ≡ self.now }
+        ensures live { result.finished ≡ false }
+    {
+        self.get(rt)
+    }
+}
+
+impl<T, F: Future> Lazy<T, F> {
+    /// A cell with this value.
+    pub fn with_value(value: T) -> Self
+    where
+        T: Drop,
+    {
+        Lazy {
+            cell: OnceCell::new_with(value),
+            future: Mutex::new(None),
+        }
+    }
+
+    /// The value, where it is set.
+    pub fn try_get(&self) -> Option<&T> {
+        self.cell.get()
+    }
+
+    /// The value for writing, where it is set.
+    pub fn try_get_mut(&mut self) -> Option<&mut T> {
+        self.cell.get_mut()
+    }
+
+    /// As [`Lazy::try_get_mut`].
+    pub fn try_get_mut_unpin(&mut self) -> Option<&mut T> {
+        self.cell.get_mut()
+    }
+
+    /// The value, where it was set. It is None even where one poll of the future would give it.
+    pub fn into_inner(self) -> Option<T> {
+        self.into_parts().ok()
+    }
+
+    /// The value where it was set, else the future in the state that it is in.
+    pub fn into_parts(self) -> Result<T, Option<F>> {
+        let Lazy { cell, future } = self;
+        match cell.into_inner() {
+            Some(value) => Ok(value),
+            None => Err(future.into_inner().map(Held::into_inner)),
+        }
+    }
+
+    /// Puts another cell in place of this one. The value, where it was set; else the future is
+    /// dropped.
+    pub fn replace_and_take(&mut self, replacement: Self) -> Option<T> {
+        mem::replace(self, replacement).into_inner()
+    }
+
+    /// A token that knows nothing yet.
+    pub fn token(&self) -> Known<'_, T>
+        ensures cell { result.cell ≡ self.now }
+        ensures knows { result.value ≡ None }
+    {
+        self.cell.token()
+    }
+
+    /// As [`Lazy::try_get`], and the token learns the value. A token that knows a value gets it.
+    pub fn try_get_as<'a>(&'a self, token: &mut Known<'a, T>) -> Option<&'a T>
+        requires { token.old.cell ≡ self.now }
+        ensures cell { token.new.cell ≡ token.old.cell }
+        ensures value { Learns token.old.value token.new.value result }
+    {
+        self.cell.get_as(token)
+    }
+}
+
+impl<T: fmt::Debug, F: Future> fmt::Debug for Lazy<T, F> {
+    fn fmt<W: fmt::Write>(&self, f: &mut fmt::Formatter<W>) -> fmt::Result {
+        self.cell.fmt_as("Lazy", f)
+    }
+}
