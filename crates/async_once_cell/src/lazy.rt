@@ -13,7 +13,17 @@ use std::marker::Model;
 use std::sync::{Mutex, Wait};
 use std::{fmt, mem};
 
-/// A cell with the future that fills it, or with its value.
+/// A cell that is filled by one future of its own.
+///
+/// Whoever polls it while no other task does drives that future on. It is never restarted, also
+/// where the task that drives it is dropped, and never polled after it gave its value: it is dropped
+/// then, before the value is set.
+///
+/// ```
+/// let lazy = Lazy::new(ready(3));
+/// let value = block_on(rt, lazy.get(rt))?; // Ok(&3)
+/// assert_eq!(rt; lazy.try_get(), Some(&3));
+/// ```
 #[derive(Drop)]
 pub struct Lazy<T, F: Future> {
     cell: OnceCell<T>,
@@ -46,7 +56,9 @@ impl<T, F: Future<Output = T>> Lazy<T, F> {
         Lazy::new(future)
     }
 
-    /// The value, from the cell or from its future.
+    /// A future of the value: the one that is set, or the one that the cell's future gives.
+    ///
+    /// Nothing happens before the first poll, see [`LazyFuturePin`].
     pub fn get<'a, R: Wait + AllocGlobal>(&'a self, rt: &'a R) -> LazyFuturePin<'a, T, F, R>
         ensures cell { result.cell ≡ self.now }
         ensures live { result.finished ≡ false }
@@ -75,7 +87,7 @@ impl<T, F: Future<Output = T>> Lazy<T, F> {
 }
 
 impl<T, F: Future> Lazy<T, F> {
-    /// A cell with this value.
+    /// A cell with this value, and no future.
     pub fn with_value(value: T) -> Self
     where
         T: Drop,
@@ -86,7 +98,7 @@ impl<T, F: Future> Lazy<T, F> {
         }
     }
 
-    /// The value, where it is set.
+    /// The value, where it is set. It polls nothing, and waits for nobody.
     pub fn try_get(&self) -> Option<&T> {
         self.cell.get()
     }
@@ -106,7 +118,8 @@ impl<T, F: Future> Lazy<T, F> {
         self.into_parts().ok()
     }
 
-    /// The value where it was set, else the future in the state that it is in.
+    /// The value where it was set, else the future in the state that it is in. `Err(None)` would say
+    /// that there is neither; no schedule of calls is known to lead there.
     pub fn into_parts(self) -> Result<T, Option<F>> {
         let Lazy { cell, future } = self;
         match cell.into_inner() {
@@ -121,7 +134,7 @@ impl<T, F: Future> Lazy<T, F> {
         mem::replace(self, replacement).into_inner()
     }
 
-    /// A token that knows nothing yet.
+    /// A token that knows nothing yet. See [`Known`].
     pub fn token(&self) -> Known<'_, T>
         ensures cell { result.cell ≡ self.now }
         ensures knows { result.value ≡ None }
@@ -129,7 +142,8 @@ impl<T, F: Future> Lazy<T, F> {
         self.cell.token()
     }
 
-    /// As [`Lazy::try_get`], and the token learns the value. A token that knows a value gets it.
+    /// As [`Lazy::try_get`], and the token learns the value that is answered. A token that knows a
+    /// value gets that value, always. It waits for nobody.
     pub fn try_get_as<'a>(&'a self, token: &mut Known<'a, T>) -> Option<&'a T>
         requires { token.old.cell ≡ self.now }
         ensures cell { token.new.cell ≡ token.old.cell }

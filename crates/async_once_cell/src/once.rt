@@ -1,4 +1,4 @@
-//! A cell that is filled once, by the init of whichever call gets there first.
+//! A cell that is filled once, by the init of one of the calls that ask for its value.
 ghost use Rattle.std.specs.Prelude.{◌≡◌, ℕ, None, false};
 ghost use Rattle.async_once_cell.specs.Tokens.{Learns};
 
@@ -20,7 +20,19 @@ use std::sync::atomic::{AtomicU64, Ordering};
 use std::sync::{OnceLock, Wait};
 use std::{fmt, mem};
 
-/// A cell that is empty, or has one value.
+/// A cell that is empty or has one value, and is filled by a future.
+///
+/// Each call brings its own init. One task at a time has the right to run its init; the others wait,
+/// and are woken when the cell is filled or the right is given back. An init that fails, or whose
+/// future is dropped, leaves the cell empty, and another caller runs its own.
+///
+/// ```
+/// let cell = OnceCell::new();
+/// let first = block_on(rt, cell.get_or_init(rt, ready(4)))?; // Ok(&4)
+/// let second = block_on(rt, cell.get_or_init(rt, ready(5)))?; // Ok(&4): this init is not polled
+/// ```
+///
+/// Memory is taken only where tasks meet: for the queue of those who wait, and for a place in it.
 #[derive(Drop)]
 pub struct OnceCell<T> {
     inner: Inner<Seat>,
@@ -46,7 +58,7 @@ impl<T> OnceCell<T> {
         }
     }
 
-    /// A cell with this value.
+    /// A cell with this value. It takes no memory.
     pub fn new_with(value: T) -> Self
     where
         T: Drop,
@@ -58,7 +70,8 @@ impl<T> OnceCell<T> {
         }
     }
 
-    /// The value, where it is set.
+    /// The value, where it is set; None where the cell is empty or being filled. It waits for
+    /// nobody.
     pub fn get(&self) -> Option<&T> {
         if self.inner.is_ready() {
             self.value.get()
@@ -72,7 +85,7 @@ impl<T> OnceCell<T> {
         self.value.get_mut()
     }
 
-    /// The value, where it was set. The cell is empty after.
+    /// The value, where it was set. The cell is empty after, as a new one.
     pub fn take(&mut self) -> Option<T> {
         mem::replace(self, OnceCell::new()).into_inner()
     }
@@ -87,7 +100,9 @@ impl<T> OnceCell<T> {
         value.into_inner()
     }
 
-    /// The value, from the cell or from `init`.
+    /// A future of the value: the one that is set, or the one that `init` gives.
+    ///
+    /// Nothing happens before the first poll, see [`InitFuture`].
     pub fn get_or_init<'a, F, R>(&'a self, rt: &'a R, init: F) -> InitFuture<'a, T, F, R>
     where
         F: Future<Output = T>,
@@ -99,7 +114,14 @@ impl<T> OnceCell<T> {
         InitFuture::new(self, rt, init)
     }
 
-    /// The value, from the cell or from `init`, which may fail.
+    /// As [`OnceCell::get_or_init`], with an init that may fail. An error goes to its own caller
+    /// alone, and leaves the cell empty.
+    ///
+    /// ```
+    /// let cell = OnceCell::new();
+    /// block_on(rt, cell.get_or_try_init(rt, err::<u64, _>("down")))?; // Err(Init("down"))
+    /// block_on(rt, cell.get_or_try_init(rt, ok::<u64, &str>(7)))?; // Ok(&7)
+    /// ```
     pub fn get_or_try_init<'a, E, F, R>(
         &'a self,
         rt: &'a R,
@@ -115,7 +137,7 @@ impl<T> OnceCell<T> {
         TryInitFuture::new(self, rt, init)
     }
 
-    /// A token that knows nothing yet.
+    /// A token that knows nothing yet. See [`Known`].
     pub fn token(&self) -> Known<'_, T>
         ensures cell { result.cell ≡ self.now }
         ensures knows { result.value ≡ None }
@@ -123,7 +145,8 @@ impl<T> OnceCell<T> {
         Known::new(self)
     }
 
-    /// As [`OnceCell::get`], and the token learns the value. A token that knows a value gets it.
+    /// As [`OnceCell::get`], and the token learns the value that is answered. A token that knows a
+    /// value gets that value, always. It waits for nobody.
     pub fn get_as<'a>(&'a self, token: &mut Known<'a, T>) -> Option<&'a T>
         requires { token.old.cell ≡ self.now }
         ensures cell { token.new.cell ≡ token.old.cell }

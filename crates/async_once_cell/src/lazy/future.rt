@@ -13,6 +13,13 @@ use std::marker::Model;
 use std::sync::{Mutex, Wait};
 
 /// Future of [`Lazy::get`](super::Lazy::get).
+///
+/// A poll answers the value that is set. While it is not, the task that gets the right polls the
+/// cell's future; the others are Pending until they are woken. To drop one of these leaves the
+/// cell's future as it is, and another task drives it on.
+///
+/// What a poll or a drop may wait for is said at [`InitFuture`]; a poll may wait besides for the
+/// lock in which the cell keeps its future, which nobody has while the future is polled.
 #[derive(Drop)]
 pub struct LazyFuturePin<'a, T, F: Future, R: Wait + AllocGlobal> {
     future: InitFuture<'a, T, Driven<'a, F, R>, R>,
@@ -39,7 +46,7 @@ impl<'a, T, F: Future, R: Wait + AllocGlobal> LazyFuturePin<'a, T, F, R> {
         }
     }
 
-    /// Whether the last poll completed, or the future has left its cell.
+    /// Whether the future answered a value or a refusal. It may not be polled after that.
     pub fn is_finished(&self) -> bool
         ensures { result ≡ self.now.finished }
     {
@@ -48,7 +55,7 @@ impl<'a, T, F: Future, R: Wait + AllocGlobal> LazyFuturePin<'a, T, F, R> {
 }
 
 impl<'a, T: Drop, F: Future<Output = T>, R: Wait + AllocGlobal> LazyFuturePin<'a, T, F, R> {
-    /// Polls the future once.
+    /// Polls the future once. It answers the value that is set, or a refusal, and is finished then.
     pub fn poll(&mut self, cx: &mut Context<'_>) -> Poll<Result<&'a T, Refused>>
         requires { self.old.finished ≡ false }
         ensures cell { self.new.cell ≡ self.old.cell }
@@ -59,8 +66,8 @@ impl<'a, T: Drop, F: Future<Output = T>, R: Wait + AllocGlobal> LazyFuturePin<'a
         self.future.poll(cx)
     }
 
-    /// As [`poll`](Self::poll), and the token learns the value. A token that knows a value gets it,
-    /// and the future leaves its cell as by a drop.
+    /// As [`poll`](Self::poll), and the token learns the value that is answered. A token that knows
+    /// a value gets that value; the future leaves its cell as by a drop, and is finished.
     pub fn poll_as(
         &mut self,
         cx: &mut Context<'_>,

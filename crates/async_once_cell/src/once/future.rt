@@ -18,6 +18,15 @@ use std::marker::{Model, PhantomData};
 use std::sync::Wait;
 
 /// Future of [`OnceCell::get_or_try_init`].
+///
+/// A poll answers the value that is set. While the cell is empty, the task that gets the right polls
+/// its init; the others are Pending until they are woken. To drop a future drops its init, and then
+/// gives back its place among those who wait, or the right.
+///
+/// A poll or a drop may wait for the locks of the door, of the queue and of the places of those who
+/// wait. A task has each for a few operations, and none while an init is polled or dropped, a value
+/// is dropped, or a task is woken that was listed. A poll that counts itself in tries again while
+/// others change the word.
 pub struct TryInitFuture<'a, T, E, F: Future, R: Wait + AllocGlobal> {
     error: PhantomData<E>,
     cell: &'a OnceCell<T>,
@@ -52,7 +61,7 @@ impl<'a, T, E, F: Future, R: Wait + AllocGlobal> TryInitFuture<'a, T, E, F, R> {
         }
     }
 
-    /// Whether the last poll completed, or the future has left its cell.
+    /// Whether the future answered a value, an error or a refusal. It may not be polled after that.
     pub fn is_finished(&self) -> bool
         ensures { result ≡ self.now.finished }
     {
@@ -81,6 +90,11 @@ where
     F: Future<Output: TryOutput<Ok = T, Error = E>>,
 {
     /// Polls the future once.
+    ///
+    /// It answers the value that is set, the error that its own init gave, or a refusal: `Memory`
+    /// where a place among those who wait could not be made, `Full` where as many tasks wait as may.
+    /// After any of these it is finished. After an error or a refusal the cell is as if the future
+    /// had been dropped.
     pub fn poll(&mut self, cx: &mut Context<'_>) -> Poll<Result<&'a T, InitError<E>>>
         requires { self.old.finished ≡ false }
         ensures cell { self.new.cell ≡ self.old.cell }
@@ -114,8 +128,8 @@ where
         self.answer(ending, error, is_armed, cx)
     }
 
-    /// As [`poll`](Self::poll), and the token learns the value. A token that knows a value gets it,
-    /// and the future leaves its cell as by a drop.
+    /// As [`poll`](Self::poll), and the token learns the value that is answered. A token that knows
+    /// a value gets that value; the future leaves its cell as by a drop, and is finished.
     pub fn poll_as(
         &mut self,
         cx: &mut Context<'_>,

@@ -12,7 +12,8 @@ use std::convert::Infallible;
 use std::marker::Model;
 use std::sync::Wait;
 
-/// Future of [`OnceCell::get_or_init`].
+/// Future of [`OnceCell::get_or_init`]. All that is said of [`TryInitFuture`] holds of it, but that
+/// there is no error of an init.
 #[derive(Drop)]
 pub struct InitFuture<'a, T, F: Future, R: Wait + AllocGlobal> {
     future: TryInitFuture<'a, T, Infallible, Sure<F>, R>,
@@ -35,7 +36,7 @@ impl<'a, T, F: Future, R: Wait + AllocGlobal> InitFuture<'a, T, F, R> {
         }
     }
 
-    /// Whether the last poll completed, or the future has left its cell.
+    /// Whether the future answered a value or a refusal. It may not be polled after that.
     pub fn is_finished(&self) -> bool
         ensures { result ≡ self.now.finished }
     {
@@ -44,7 +45,7 @@ impl<'a, T, F: Future, R: Wait + AllocGlobal> InitFuture<'a, T, F, R> {
 }
 
 impl<'a, T: Drop, F: Future<Output = T>, R: Wait + AllocGlobal> InitFuture<'a, T, F, R> {
-    /// Polls the future once.
+    /// Polls the future once. It answers the value that is set, or a refusal, and is finished then.
     pub fn poll(&mut self, cx: &mut Context<'_>) -> Poll<Result<&'a T, Refused>>
         requires { self.old.finished ≡ false }
         ensures cell { self.new.cell ≡ self.old.cell }
@@ -55,8 +56,8 @@ impl<'a, T: Drop, F: Future<Output = T>, R: Wait + AllocGlobal> InitFuture<'a, T
         surely(self.future.poll(cx))
     }
 
-    /// As [`poll`](Self::poll), and the token learns the value. A token that knows a value gets it,
-    /// and the future leaves its cell as by a drop.
+    /// As [`poll`](Self::poll), and the token learns the value that is answered. A token that knows
+    /// a value gets that value; the future leaves its cell as by a drop, and is finished.
     pub fn poll_as(
         &mut self,
         cx: &mut Context<'_>,

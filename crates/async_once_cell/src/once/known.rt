@@ -8,7 +8,10 @@ use std::sync::OnceToken;
 
 /// What its holder has learned of one cell: nothing, or the cell's value.
 ///
-/// A token borrows its cell, so the value can't change while there is one.
+/// A token learns the value from a call that answers it: [`OnceCell::get_as`], or the `poll_as` of a
+/// future. From then on each such call answers that value, which the contracts say; so whoever
+/// passes a token on passes on what it knows. A token borrows its cell, so no owner's call comes
+/// between.
 #[derive(Drop)]
 pub struct Known<'a, T> {
     cell: &'a OnceCell<T>,
@@ -31,7 +34,7 @@ impl<'a, T> Known<'a, T> {
         Known { cell, token: None }
     }
 
-    /// Whether both know a value. Then the two values are one.
+    /// Whether both tokens know a value. Then the two values are one. The tokens are of one cell.
     pub fn compare(a: &Known<'a, T>, b: &Known<'a, T>) -> bool
         requires { a.now.cell ≡ b.now.cell }
         ensures both { IsTrue result ↔ (IsSome a.now.value × IsSome b.now.value) }
