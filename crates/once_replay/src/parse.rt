@@ -64,7 +64,6 @@ pub fn parse_script(alloc: Global, text: &[u8]) -> Result<Script, Fault>
     ensures unreadable { (n : ℕ) → result ≡ Err (Fault.Unreadable n)
         → IsFirstUnreadable n (lines_in text.now) }
     ensures no_reads { result ≢ Err Fault.Io }
-    ensures from_one { result ≢ Err (Fault.Unreadable 0) }
 {
     let lines = split_lines(alloc, text)?;
     let (first, later) = lines.split_first().ok_or(Fault::Unreadable(1))?;
