@@ -1,7 +1,6 @@
-use Rattle.std.proofs.Common.{◌≡◌, ◌≢◌, ℕ, List, [], ◌∷◌, ◌++◌, Bool, true, false, ◌<◌, ◌==◌, length, suc, take, drop, add-one, length-append, arith, refl, codes, ap}
+use Rattle.std.proofs.Common.{◌≡◌, ◌≢◌, ℕ, List, [], ◌∷◌, ◌++◌, Bool, true, false, ◌<◌, ◌-◌, ◌^◌, ◌==◌, length, suc, take, drop, add-one, length-append, arith, refl, codes, ap}
 use Rattle.std.specs.Prelude.{Option, Some, None, ◌&&◌, nat_lt, nat_le, if◌then◌else◌}
 use Rattle.std.specs.Option.{option_and_then}
-use Rattle.async_once_cell.specs.declared.queue.TheConstants.{MAX_WAITERS}
 use Rattle.std.specs.List.{position_or_len, before_first, after_first}
 use Rattle.std.specs.Str.{all_ascii_digits}
 use Rattle.std.proofs.lemmas.Grind.{common_steps}
@@ -36,7 +35,7 @@ number_digits text n h = grind (arith, nat_tests, common_steps)
 field_of_number : (text : List ℕ) (n : ℕ) → number_of text ≡ Some n → IsField text
 field_of_number text n h = record { no_space = digits_no_space text (number_digits text n h) }
 
-pub limit_number : (o : Option ℕ) (n : ℕ) → option_and_then (λ n. if nat_lt 0 n && nat_le n MAX_WAITERS then Some n else None) o ≡ Some n → o ≡ Some n
+pub limit_number : (o : Option ℕ) (n : ℕ) → option_and_then (λ n. if nat_lt 0 n && nat_le n (2 ^ 62 - 2) then Some n else None) o ≡ Some n → o ≡ Some n
 limit_number None n h = h
 limit_number (Some m) n h = grind (arith, nat_tests, common_steps)
 
