@@ -53,7 +53,7 @@ no_memory K t (p ∷ before) a g =
     ends_for_memory-append t p.entries (entries_of before) ∙ rw here ih
 
 -- where every step is given memory, no record that belongs to these inputs has a call that ended for want of it
-pub granted_memory : (kind : Kind) (inputs : List Input) (h : List Entry) (t : ℕ) → Belongs kind inputs h → all_granted inputs ≡ true → ends_for_memory t h ≡ false
+granted_memory : (kind : Kind) (inputs : List Input) (h : List Entry) (t : ℕ) → Belongs kind inputs h → all_granted inputs ≡ true → ends_for_memory t h ≡ false
 granted_memory kind inputs h t b g = let f = b.1 in rw (← f.entries_are) (no_memory kind t b.0 f.memory (ap all_granted f.inputs_are ∙ g))
 
 -- where every step is given memory, the record has no call that ended for want of it

@@ -15,7 +15,7 @@ use Rattle.async_once_cell.proofs.Kept.{releasing_holds}
 use Rattle.async_once_cell.proofs.Around.{Around}
 
 -- the places whose task will see to the queue at the door of a set cell
-abbrev pub is_late_at : Place ℕ ℕ → Bool
+abbrev is_late_at : Place ℕ ℕ → Bool
 is_late_at (AtCountIn q) = true
 is_late_at (AtDoorTake e) = true
 is_late_at _ = false

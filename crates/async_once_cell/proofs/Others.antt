@@ -22,7 +22,7 @@ MetHolder K t h = Since t (OtherHolds K t) h
 abbrev pub SomeoneWaits : (K : Kind) → List Entry → Type 0
 SomeoneWaits K h = (u : ℕ) × (status K u h ≡ Waiting)
 
-pub since_more : (u : ℕ) (P : List Entry → Type 0) (e : Entry) (h : List Entry) → is_of u e ≡ false → Since u P h → Since u P (e ∷ h)
+since_more : (u : ℕ) (P : List Entry → Type 0) (e : Entry) (h : List Entry) → is_of u e ≡ false → Since u P h → Since u P (e ∷ h)
 since_more u P (Begin t w) h n s = inr (rw n s)
 since_more u P (Made t) h n s = inr s
 since_more u P (Claim t) h n s = inr s

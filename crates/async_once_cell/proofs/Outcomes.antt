@@ -24,7 +24,7 @@ abbrev pub is_freed : ℕ → Step ℕ ℕ → Bool
 is_freed l t = (l == 6) && not (left_of t == 5)
 
 -- the entries of what was seen
-abbrev pub seen_entries : ℕ → ℕ → Script → Progress → Step ℕ ℕ → List Entry
+abbrev seen_entries : ℕ → ℕ → Script → Progress → Step ℕ ℕ → List Entry
 seen_entries l n c p t = progress_entries p n c.value c.kept ++ handed_entries c.handed n c.kept ++ freed_entries (is_freed l t) n c.kept ++ ran_entries c.ran n ++ claim_entries (is_running t) n
 
 -- a step from the place with l left is the machine's outcome o, with these lines logged

@@ -1,5 +1,5 @@
 //! Who waits: the flag and the list behind a queue's lock, and what a section does with them.
-ghost use Rattle.std.specs.Prelude.{◌≡◌, ◌≢◌, ◌<◌, ◌||◌, ⊤, true, false, [], vec_len, vec_capacity, IsSome, OnOk, Some, None};
+ghost use Rattle.std.specs.Prelude.{◌≡◌, ◌≢◌, ◌<◌, ◌-◌, ◌^◌, ◌||◌, ⊤, true, false, [], vec_len, vec_capacity, IsSome, OnOk, Some, None};
 ghost use Rattle.std.specs.Option.{option_copied};
 ghost use Rattle.async_once_cell.specs.Apart.{Apart};
 
@@ -17,6 +17,11 @@ pub const READY_BIT: u64 = 0x8000_0000_0000_0000;
 
 /// The largest number of tasks that may be counted in.
 pub const MAX_WAITERS: u64 = QINIT_BIT - 2;
+
+/// This function does nothing: its contract says which number `MAX_WAITERS` is.
+pub fn largest_limit()
+    ensures { MAX_WAITERS ≡ 2 ^ 62 - 2 }
+{}
 
 /// Tells whether two wakers wake the same task.
 pub trait WakerId {

@@ -1,6 +1,6 @@
 //! A cell and any number of tasks, replayed one step at a time.
 
-ghost use Rattle.std.specs.Prelude.{◌≡◌, ◌<◌, ◌≤◌, ℕ, List, IfOk, true, false};
+ghost use Rattle.std.specs.Prelude.{◌≡◌, ◌<◌, ◌≤◌, ◌-◌, ◌^◌, ℕ, List, IfOk, true, false};
 ghost use Rattle.async_once_cell.specs.Run.{IsRun, AtEvery, NobodyForgotten};
 ghost use Rattle.async_once_cell.specs.Values.{IsOneValue};
 ghost use Rattle.async_once_cell.specs.Inputs.{Part, FallsInto, ends_for_memory};
@@ -10,7 +10,6 @@ ghost use Rattle.async_once_cell.specs.Machine.{history_of, log_of, queue_of};
 ghost use Rattle.async_once_cell.specs.Shown.{kind_of, inputs_in, recorded, logged};
 
 pub use crate::inner::QueueLine;
-use crate::queue::MAX_WAITERS;
 use std::alloc::{AllocError, Global};
 
 mod play;
@@ -140,7 +139,7 @@ pub struct Record {
 /// `AllocError` says that the record or the world could not grow; nothing else is refused.
 pub fn replay(alloc: Global, kind: Kind, limit: u64, inputs: &[Input]) -> Result<Record, AllocError>
     requires some { 0 < limit }
-    requires within { limit ≤ MAX_WAITERS }
+    requires within { limit ≤ 2 ^ 62 - 2 }
 
     // The record, the queue log and the queue at the door are the machine's.
     ensures exact { IfOk result (λ r. recorded r ≡ history_of (kind_of kind) limit (inputs_in inputs.now)) }

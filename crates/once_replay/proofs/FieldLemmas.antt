@@ -1,7 +1,6 @@
-use Rattle.std.proofs.Common.{◌≡◌, ◌≢◌, ℕ, List, [], ◌∷◌, ◌++◌, Bool, true, false, ◌<◌, ◌==◌, length, suc, take, drop, add-one, length-append, arith, refl, codes, ap}
+use Rattle.std.proofs.Common.{◌≡◌, ◌≢◌, ℕ, List, [], ◌∷◌, ◌++◌, Bool, true, false, ◌<◌, ◌-◌, ◌^◌, ◌==◌, length, suc, take, drop, add-one, length-append, arith, refl, codes, ap}
 use Rattle.std.specs.Prelude.{Option, Some, None, ◌&&◌, nat_lt, nat_le, if◌then◌else◌}
 use Rattle.std.specs.Option.{option_and_then}
-use Rattle.async_once_cell.specs.declared.queue.TheConstants.{MAX_WAITERS}
 use Rattle.std.specs.List.{position_or_len, before_first, after_first}
 use Rattle.std.specs.Str.{all_ascii_digits}
 use Rattle.std.proofs.lemmas.Grind.{common_steps}
@@ -33,10 +32,10 @@ digits_no_space (c ∷ cs) h = grind (arith, nat_tests, common_steps, digits_no_
 pub number_digits : (text : List ℕ) (n : ℕ) → number_of text ≡ Some n → all_ascii_digits text ≡ true
 number_digits text n h = grind (arith, nat_tests, common_steps)
 
-pub field_of_number : (text : List ℕ) (n : ℕ) → number_of text ≡ Some n → IsField text
+field_of_number : (text : List ℕ) (n : ℕ) → number_of text ≡ Some n → IsField text
 field_of_number text n h = record { no_space = digits_no_space text (number_digits text n h) }
 
-pub limit_number : (o : Option ℕ) (n : ℕ) → option_and_then (λ n. if nat_lt 0 n && nat_le n MAX_WAITERS then Some n else None) o ≡ Some n → o ≡ Some n
+pub limit_number : (o : Option ℕ) (n : ℕ) → option_and_then (λ n. if nat_lt 0 n && nat_le n (2 ^ 62 - 2) then Some n else None) o ≡ Some n → o ≡ Some n
 limit_number None n h = h
 limit_number (Some m) n h = grind (arith, nat_tests, common_steps)
 
@@ -46,7 +45,7 @@ field_of_limit text n h = field_of_number text n (limit_number (number_of text) 
 field_of_letter : (letter : ℕ) (digits : List ℕ) → letter ≢ 32 → IsField digits → space_of (letter ∷ digits) ≡ length (letter ∷ digits)
 field_of_letter letter digits other h = let e = h.no_space in grind (arith, nat_tests, common_steps)
 
-pub field_of_answer : (a : Ran) (text : List ℕ) → IsAnswer a text → IsField text
+field_of_answer : (a : Ran) (text : List ℕ) → IsAnswer a text → IsField text
 field_of_answer Pending text h = record { no_space = rw h refl }
 field_of_answer (Value n) text h =
     record { no_space = rw h.1 (field_of_letter 118 h.0 (omega arith) (field_of_number h.0 n h.2)) }
@@ -58,10 +57,10 @@ space_after [] more h = refl
 space_after (c ∷ cs) more h = grind (arith, nat_tests, common_steps, space_after cs more)
 
 -- a text falls into its first field and what stands after the first space
-pub record FallsInto (field more text : List ℕ) : Type 0 where
-  pub first : first_field text ≡ field
-  pub later : later_fields text ≡ more
-  pub inside : space_of text < length text
+record FallsInto (field more text : List ℕ) : Type 0 where
+  first : first_field text ≡ field
+  later : later_fields text ≡ more
+  inside : space_of text < length text
 
 take_front : (xs ys : List ℕ) → take (length xs) (xs ++ ys) ≡ xs
 take_front [] ys = refl
@@ -80,7 +79,7 @@ falls_into field more h =
       inside = omega (arith, e, length-append field (32 ∷ more));
     }
 
-pub falls : (field more text : List ℕ) → IsField field → text ≡ field ++ (32 ∷ more) → FallsInto field more text
+falls : (field more text : List ℕ) → IsField field → text ≡ field ++ (32 ∷ more) → FallsInto field more text
 falls field more text h e = rw e (falls_into field more h.no_space)
 
 -- what a text of two numbers falls into
@@ -96,7 +95,7 @@ step_falls t a m text h =
     (f.inside, rw f.first h.task_number, rw f.later h.is_given)
 
 -- what an answer without memory falls into
-pub refused_falls : (a : Ran) (text : List ℕ) → IsGiven a false text → (space_of text < length text) × IsAnswer a (first_field text) × (later_fields text ≡ codes "x")
+refused_falls : (a : Ran) (text : List ℕ) → IsGiven a false text → (space_of text < length text) × IsAnswer a (first_field text) × (later_fields text ≡ codes "x")
 refused_falls a text h =
     let f = falls h.0 (codes "x") text (field_of_answer a h.0 h.2) h.1 in
     (f.inside, rw f.first h.2, f.later)

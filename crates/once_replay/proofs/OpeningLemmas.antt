@@ -9,7 +9,7 @@ use Rattle.once_replay.specs.Text.{IsWith, IsListAfter, IsOnce, IsLazy}
 use Rattle.once_replay.proofs.FieldLemmas.{space_of, first_field, later_fields, field_of_limit, with_falls, list_falls}
 
 -- what `with_limit` says of its result r
-abbrev pub IsMade : Option Opening → Kind → Option ℕ → Type 0
+abbrev IsMade : Option Opening → Kind → Option ℕ → Type 0
 IsMade r kind limit = MatchOption r (limit ≡ None) (λ x. (x.kind ≡ kind) × (limit ≡ Some x.limit))
 
 pub made_reads : (P : Kind → ℕ → Type 0) (r : Option Opening) (kind : Kind) (limit : Option ℕ) → IsMade r kind limit → ((n : ℕ) → limit ≡ Some n → P kind n) → IfSome r (λ x. P x.kind x.limit)

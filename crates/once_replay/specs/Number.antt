@@ -1,8 +1,7 @@
-use Rattle.std.specs.Prelude.{ℕ, Bool, not, ◌&&◌, ◌||◌, List, ◌^◌, ◌==◌, nat_lt, nat_le, length, slice_index, Option, Some, None, if◌then◌else◌}
+use Rattle.std.specs.Prelude.{ℕ, Bool, not, ◌&&◌, ◌||◌, List, ◌^◌, ◌-◌, ◌==◌, nat_lt, nat_le, length, slice_index, Option, Some, None, if◌then◌else◌}
 use Rattle.std.specs.Option.{option_and_then}
 use Rattle.std.specs.Str.{all_ascii_digits}
 use Rattle.std.specs.Str.Parse.{digits_value}
-use Rattle.async_once_cell.specs.declared.queue.TheConstants.{MAX_WAITERS}
 
 -- no plus in front, and no zero before another character
 abbrev pub is_plain : List ℕ → Bool
@@ -19,4 +18,4 @@ number_of text = if is_number text then Some (digits_value 10 text) else None
 
 -- how many tasks may wait, by a text
 abbrev pub limit_of : List ℕ → Option ℕ
-limit_of text = option_and_then (λ n. if nat_lt 0 n && nat_le n MAX_WAITERS then Some n else None) (number_of text)
+limit_of text = option_and_then (λ n. if nat_lt 0 n && nat_le n (2 ^ 62 - 2) then Some n else None) (number_of text)

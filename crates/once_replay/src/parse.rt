@@ -1,9 +1,8 @@
 //! The text of a script, line by line.
-ghost use Rattle.std.specs.Prelude.{◌≡◌, ◌≢◌, ◌<◌, ◌≤◌, ◌++◌, ◌∷◌, OnOk, IfOk, IfSome, IsSome, MatchOption, Bool, ℕ, List, Option, codes};
+ghost use Rattle.std.specs.Prelude.{◌≡◌, ◌≢◌, ◌<◌, ◌≤◌, ◌-◌, ◌^◌, ◌++◌, ◌∷◌, OnOk, IfOk, IfSome, IsSome, MatchOption, Bool, ℕ, List, Option, codes};
 ghost use Rattle.async_once_cell.specs.declared.world.Ran.{Ran};
 ghost use Rattle.async_once_cell.specs.declared.world.Call.{Call};
 ghost use Rattle.async_once_cell.specs.declared.world.Kind.{Kind};
-ghost use Rattle.async_once_cell.specs.declared.queue.TheConstants.{MAX_WAITERS};
 ghost use Rattle.once_replay.specs.Number.{number_of, limit_of};
 ghost use Rattle.once_replay.specs.Script.{lines_in, IsScript, IsFirstUnreadable};
 ghost use Rattle.once_replay.specs.Text.{inputs_of, IsWith, IsOpening, IsOnce, IsLazy, IsPair, IsGiven, IsStep, IsLine};
@@ -14,7 +13,6 @@ ghost use Rattle.once_replay.specs.declared.parse.Line.TheVariants.{Single, Run}
 
 use crate::fault::Fault;
 use answers::{parse_answer, parse_answers};
-use async_once_cell::queue::MAX_WAITERS;
 use async_once_cell::world::{Call, Input, Kind, Ran};
 use lines::{opening_in, parse_lines, split_lines};
 use number::{parse_limit, parse_number};
@@ -33,7 +31,7 @@ pub struct Opening {
     pub kind: Kind,
     pub limit: u64,
     ghost some: { 0 < limit },
-    ghost within: { limit ≤ MAX_WAITERS },
+    ghost within: { limit ≤ 2 ^ 62 - 2 },
 }
 
 /// What a later line says.
@@ -52,7 +50,7 @@ pub struct Script {
     pub limit: u64,
     pub inputs: Vec<Input>,
     ghost some: { 0 < limit },
-    ghost within: { limit ≤ MAX_WAITERS },
+    ghost within: { limit ≤ 2 ^ 62 - 2 },
 }
 
 /// Reads a whole text. Each line ends with a line feed, which the last may lack.
@@ -64,7 +62,6 @@ pub fn parse_script(alloc: Global, text: &[u8]) -> Result<Script, Fault>
     ensures unreadable { (n : ℕ) → result ≡ Err (Fault.Unreadable n)
         → IsFirstUnreadable n (lines_in text.now) }
     ensures no_reads { result ≢ Err Fault.Io }
-    ensures from_one { result ≢ Err (Fault.Unreadable 0) }
 {
     let lines = split_lines(alloc, text)?;
     let (first, later) = lines.split_first().ok_or(Fault::Unreadable(1))?;

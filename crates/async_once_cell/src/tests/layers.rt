@@ -2,7 +2,7 @@
 ghost use Rattle.std.specs.Prelude.{◌≡◌, ⊤};
 ghost use Rattle.std.proofs.Common.{rules};
 
-use crate::inner::{Core, Counted, Parts, QueueLine, Word};
+use crate::inner::{Core, Counted, Parts, QueueLine};
 use crate::queue::{Answer, Lists, NEW, Op, QINIT_BIT, READY_BIT};
 use crate::step::{Ending, Polled, Progress, Side, Step};
 use std::alloc::{AllocError, Global};
@@ -215,7 +215,7 @@ fn a_task_that_was_never_polled_is_dropped_without_a_step(rt: HostRuntime) -> Re
 }
 
 #[test]
-fn a_core_is_claimed_counted_and_released(rt: HostRuntime) -> Result<(), Fail> {
+fn a_core_is_claimed_counted_in_and_looked_at(rt: HostRuntime) -> Result<(), Fail> {
     let mut core = Core::new(rt.alloc(), false);
     core.reserve()?;
     assert_eq!(rt; core.load(), NEW);
@@ -236,5 +236,60 @@ fn a_core_is_claimed_counted_and_released(rt: HostRuntime) -> Result<(), Fail> {
     core.reserve()?;
     assert_eq!(rt; core.section(&2, &mut Op::Look), Answer::Gone);
     assert!(rt; !core.fast(true));
+    Ok(())
+}
+
+#[test]
+fn a_core_counts_beyond_the_limit_and_out(rt: HostRuntime) -> Result<(), Fail> {
+    let mut core: Core<u64> = Core::new(rt.alloc(), false);
+    assert!(rt; core.quick());
+    assert_eq!(rt; core.count_in(1), Counted::In(QINIT_BIT));
+    assert_eq!(rt; core.count_in(1), Counted::Full);
+    core.add_one();
+    assert_eq!(rt; core.load(), QINIT_BIT + 2);
+    assert_eq!(rt; core.count_out(), QINIT_BIT + 1);
+    assert_eq!(rt; core.count_out(), QINIT_BIT);
+    Ok(())
+}
+
+#[test]
+fn a_core_releases_the_listed_and_loses_its_queue(rt: HostRuntime) -> Result<(), Fail> {
+    let mut core = Core::new(rt.alloc(), false);
+    assert!(rt; core.quick());
+    core.reserve()?;
+    assert!(rt; !core.door_take());
+    core.reserve()?;
+    assert_eq!(rt; core.door_put(), Some(1));
+    core.reserve()?;
+    let listed = core.section(&1, &mut Op::List(Some(7)));
+    assert_eq!(rt; listed, Answer::Listed);
+    core.reserve()?;
+    let released = core.section(&1, &mut Op::Release(true));
+    assert_eq!(rt; released, Answer::Released(vec![in rt.alloc(); 7]?));
+    assert_eq!(rt; core.load(), READY_BIT);
+    core.reserve()?;
+    assert!(rt; core.door_take());
+    assert_eq!(rt; core.door_get(), None);
+    let log = [
+        QueueLine::Put(1),
+        QueueLine::Entered(1),
+        QueueLine::Entered(1),
+        QueueLine::Taken(1),
+    ];
+    assert_eq!(rt; core.into_log().as_slice(), log.as_slice());
+    Ok(())
+}
+
+#[test]
+fn a_core_is_reset(rt: HostRuntime) -> Result<(), Fail> {
+    let mut core: Core<u64> = Core::new(rt.alloc(), false);
+    core.reserve()?;
+    assert_eq!(rt; core.door_put(), Some(1));
+    core.reserve()?;
+    core.reset(true);
+    assert_eq!(rt; core.load(), READY_BIT);
+    assert_eq!(rt; core.door_get(), None);
+    let log = [QueueLine::Put(1), QueueLine::Taken(1)];
+    assert_eq!(rt; core.into_log().as_slice(), log.as_slice());
     Ok(())
 }

@@ -12,14 +12,28 @@ fn run(inputs: &mut Vec<Input>, t: u64, answer: Ran) -> Result<(), AllocError> {
     Ok(())
 }
 
+// The task's next poll, and sixteen steps of it.
+fn poll(inputs: &mut Vec<Input>, t: u64, waker: u64, answer: Ran) -> Result<(), AllocError> {
+    inputs.push(Input::Poll(t, waker))?;
+    run(inputs, t, answer)
+}
+
+// A record at whose end no queue stands at the door.
+fn without_queue(entries: Vec<Entry>, queues: Vec<QueueLine>) -> Record {
+    Record {
+        entries,
+        queues,
+        queue: None,
+    }
+}
+
 #[test]
 fn plain_path(rt: HostRuntime) -> Result<(), Fail> {
     let alloc = rt.alloc();
-    let mut inputs = vec![in alloc; Input::Make(1), Input::Poll(1, 7)]?;
-    run(&mut inputs, 1, Ran::Value(4))?;
+    let mut inputs = vec![in alloc; Input::Make(1)]?;
+    poll(&mut inputs, 1, 7, Ran::Value(4))?;
     inputs.push(Input::Make(2))?;
-    inputs.push(Input::Poll(2, 7))?;
-    run(&mut inputs, 2, Ran::Error(9))?;
+    poll(&mut inputs, 2, 7, Ran::Error(9))?;
 
     let record = replay(alloc, Kind::Once, 8, &inputs)?;
     let entries = vec![in alloc;
@@ -34,30 +48,19 @@ fn plain_path(rt: HostRuntime) -> Result<(), Fail> {
         Entry::End(2, Reply::Value(4)),
     ]?;
     let queues = Vec::new(alloc);
-    assert_eq!(rt;
-        record,
-        Record {
-            entries,
-            queues,
-            queue: None
-        }
-    );
+    assert_eq!(rt; record, without_queue(entries, queues));
     Ok(())
 }
 
 #[test]
 fn slow_path(rt: HostRuntime) -> Result<(), Fail> {
     let alloc = rt.alloc();
-    let mut inputs = vec![in alloc; Input::Make(1), Input::Make(2), Input::Poll(1, 7)]?;
-    run(&mut inputs, 1, Ran::Pending)?;
-    for _ in 0..2 {
-        inputs.push(Input::Poll(2, 7))?;
-        run(&mut inputs, 2, Ran::Error(9))?;
-    }
-    inputs.push(Input::Poll(1, 7))?;
-    run(&mut inputs, 1, Ran::Value(2))?;
-    inputs.push(Input::Poll(2, 7))?;
-    run(&mut inputs, 2, Ran::Error(9))?;
+    let mut inputs = vec![in alloc; Input::Make(1), Input::Make(2)]?;
+    poll(&mut inputs, 1, 7, Ran::Pending)?;
+    poll(&mut inputs, 2, 7, Ran::Error(9))?;
+    poll(&mut inputs, 2, 7, Ran::Error(9))?;
+    poll(&mut inputs, 1, 7, Ran::Value(2))?;
+    poll(&mut inputs, 2, 7, Ran::Error(9))?;
 
     let record = replay(alloc, Kind::Once, 8, &inputs)?;
     let entries = vec![in alloc;
@@ -86,14 +89,7 @@ fn slow_path(rt: HostRuntime) -> Result<(), Fail> {
         QueueLine::Entered(1),
         QueueLine::Taken(1),
     ]?;
-    assert_eq!(rt;
-        record,
-        Record {
-            entries,
-            queues,
-            queue: None
-        }
-    );
+    assert_eq!(rt; record, without_queue(entries, queues));
     Ok(())
 }
 
@@ -102,14 +98,13 @@ fn slow_path(rt: HostRuntime) -> Result<(), Fail> {
 #[test]
 fn late_queue(rt: HostRuntime) -> Result<(), Fail> {
     let alloc = rt.alloc();
-    let mut inputs = vec![in alloc; Input::Make(1), Input::Make(2), Input::Poll(1, 5)]?;
-    run(&mut inputs, 1, Ran::Pending)?;
+    let mut inputs = vec![in alloc; Input::Make(1), Input::Make(2)]?;
+    poll(&mut inputs, 1, 5, Ran::Pending)?;
     inputs.push(Input::Poll(2, 7))?;
     for _ in 0..2 {
         inputs.push(Input::Go(2, Ran::Pending, true))?;
     }
-    inputs.push(Input::Poll(1, 5))?;
-    run(&mut inputs, 1, Ran::Value(4))?;
+    poll(&mut inputs, 1, 5, Ran::Value(4))?;
     run(&mut inputs, 2, Ran::Pending)?;
 
     let record = replay(alloc, Kind::Once, 8, &inputs)?;
@@ -126,8 +121,8 @@ fn late_queue(rt: HostRuntime) -> Result<(), Fail> {
 #[test]
 fn memory_refused(rt: HostRuntime) -> Result<(), Fail> {
     let alloc = rt.alloc();
-    let mut inputs = vec![in alloc; Input::Make(1), Input::Make(2), Input::Poll(1, 5)]?;
-    run(&mut inputs, 1, Ran::Pending)?;
+    let mut inputs = vec![in alloc; Input::Make(1), Input::Make(2)]?;
+    poll(&mut inputs, 1, 5, Ran::Pending)?;
     inputs.push(Input::Poll(2, 7))?;
     for _ in 0..3 {
         inputs.push(Input::Go(2, Ran::Pending, false))?;
@@ -165,14 +160,7 @@ fn owner_takes_the_value(rt: HostRuntime) -> Result<(), Fail> {
         Entry::Look(None),
     ]?;
     let queues = Vec::new(alloc);
-    assert_eq!(rt;
-        record,
-        Record {
-            entries,
-            queues,
-            queue: None
-        }
-    );
+    assert_eq!(rt; record, without_queue(entries, queues));
     Ok(())
 }
 
@@ -180,8 +168,8 @@ fn owner_takes_the_value(rt: HostRuntime) -> Result<(), Fail> {
 #[test]
 fn lazy_cell_taken_apart(rt: HostRuntime) -> Result<(), Fail> {
     let alloc = rt.alloc();
-    let mut inputs = vec![in alloc; Input::Make(1), Input::Poll(1, 5)]?;
-    run(&mut inputs, 1, Ran::Error(9))?;
+    let mut inputs = vec![in alloc; Input::Make(1)]?;
+    poll(&mut inputs, 1, 5, Ran::Error(9))?;
     inputs.push(Input::Drop(1))?;
     run(&mut inputs, 1, Ran::Error(9))?;
     inputs.push(Input::Own(Call::Parts))?;
@@ -204,13 +192,6 @@ fn lazy_cell_taken_apart(rt: HostRuntime) -> Result<(), Fail> {
         Entry::Own(Call::Parts, Got::Value(8)),
     ]?;
     let queues = Vec::new(alloc);
-    assert_eq!(rt;
-        record,
-        Record {
-            entries,
-            queues,
-            queue: None
-        }
-    );
+    assert_eq!(rt; record, without_queue(entries, queues));
     Ok(())
 }

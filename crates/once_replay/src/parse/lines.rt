@@ -31,7 +31,6 @@ pub fn parse_lines(alloc: Global, lines: &[&[u8]]) -> Result<Vec<Input>, Fault>
     ensures unreadable { (n : ℕ) → result ≡ Err (Fault.Unreadable n)
         → IsStop 2 n (texts_of lines.now) }
     ensures no_reads { result ≢ Err Fault.Io }
-    ensures from_one { result ≢ Err (Fault.Unreadable 0) }
 {
     let mut inputs = Vec::new(alloc);
     let mut number = 1u64;

@@ -1,6 +1,5 @@
 //! Numbers.
-ghost use Rattle.std.specs.Prelude.{◌≡◌, ◌<◌, ◌≤◌, IfSome};
-ghost use Rattle.async_once_cell.specs.declared.queue.TheConstants.{MAX_WAITERS};
+ghost use Rattle.std.specs.Prelude.{◌≡◌, ◌<◌, ◌≤◌, ◌-◌, ◌^◌, IfSome};
 ghost use Rattle.once_replay.specs.Number.{is_plain, number_of, limit_of};
 
 use async_once_cell::queue::MAX_WAITERS;
@@ -8,7 +7,7 @@ use async_once_cell::queue::MAX_WAITERS;
 /// Reads how many tasks may wait.
 pub fn parse_limit(text: &str) -> Option<u64>
     ensures value { result ≡ limit_of text.now }
-    ensures within { IfSome result (λ limit. (0 < limit) × (limit ≤ MAX_WAITERS)) }
+    ensures within { IfSome result (λ limit. (0 < limit) × (limit ≤ 2 ^ 62 - 2)) }
 {
     let limit = parse_number(text)?;
     if limit == 0 || limit > MAX_WAITERS {
