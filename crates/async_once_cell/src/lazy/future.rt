@@ -1,7 +1,7 @@
 //! The future of a cell that owns its init.
-ghost use Rattle.std.specs.Prelude.{◌≡◌, false, true, IsSome};
+ghost use Rattle.std.specs.Prelude.{◌≡◌, true, false};
 ghost use Rattle.futures.specs.Task.{IsArmed, Keeps};
-ghost use Rattle.futures.specs.Poll.{OnPending};
+ghost use Rattle.futures.specs.Poll.{IfReady, OnPending};
 ghost use Rattle.async_once_cell.specs.Tokens.{Call, Polls};
 
 use crate::held::Held;
@@ -60,6 +60,7 @@ impl<'a, T: Drop, F: Future<Output = T>, R: Wait + AllocGlobal> LazyFuturePin<'a
         requires { self.old.finished ≡ false }
         ensures cell { self.new.cell ≡ self.old.cell }
         ensures live { OnPending result (self.new.finished ≡ false) }
+        ensures done { IfReady result (λ _. self.new.finished ≡ true) }
         ensures armed { OnPending result (IsArmed cx.new) }
         ensures kept { Keeps cx.old cx.new }
     {
@@ -78,8 +79,8 @@ impl<'a, T: Drop, F: Future<Output = T>, R: Wait + AllocGlobal> LazyFuturePin<'a
         ensures cell { self.new.cell ≡ self.old.cell }
         ensures of { token.new.cell ≡ token.old.cell }
         ensures value { Polls token.old.value token.new.value result }
-        ensures finished { IsSome token.old.value → self.new.finished ≡ true }
         ensures live { OnPending result (self.new.finished ≡ false) }
+        ensures done { IfReady result (λ _. self.new.finished ≡ true) }
         ensures armed { OnPending result (IsArmed cx.new) }
         ensures kept { Keeps cx.old cx.new }
     {

@@ -1,7 +1,7 @@
 //! The future of an init that may fail. All other futures of the cells are made of it.
-ghost use Rattle.std.specs.Prelude.{◌≡◌, true, false, IsSome};
+ghost use Rattle.std.specs.Prelude.{◌≡◌, true, false};
 ghost use Rattle.futures.specs.Task.{IsArmed, Keeps};
-ghost use Rattle.futures.specs.Poll.{OnPending};
+ghost use Rattle.futures.specs.Poll.{IfReady, OnPending};
 ghost use Rattle.async_once_cell.specs.Tokens.{Call, Polls};
 ghost use Rattle.async_once_cell.specs.Steps.{in_call, is_finished as is_done};
 
@@ -99,6 +99,7 @@ where
         requires { self.old.finished ≡ false }
         ensures cell { self.new.cell ≡ self.old.cell }
         ensures live { OnPending result (self.new.finished ≡ false) }
+        ensures done { IfReady result (λ _. self.new.finished ≡ true) }
         ensures armed { OnPending result (IsArmed cx.new) }
         ensures kept { Keeps cx.old cx.new }
     {
@@ -140,8 +141,8 @@ where
         ensures cell { self.new.cell ≡ self.old.cell }
         ensures of { token.new.cell ≡ token.old.cell }
         ensures value { Polls token.old.value token.new.value result }
-        ensures finished { IsSome token.old.value → self.new.finished ≡ true }
         ensures live { OnPending result (self.new.finished ≡ false) }
+        ensures done { IfReady result (λ _. self.new.finished ≡ true) }
         ensures armed { OnPending result (IsArmed cx.new) }
         ensures kept { Keeps cx.old cx.new }
     {
@@ -171,6 +172,7 @@ where
         requires { is_armed ≡ true → IsArmed cx.old }
         ensures cell { self.new.cell ≡ self.old.cell }
         ensures live { OnPending result (self.new.finished ≡ false) }
+        ensures done { IfReady result (λ _. self.new.finished ≡ true) }
         ensures armed { OnPending result (IsArmed cx.new) }
         ensures kept { Keeps cx.old cx.new }
     {

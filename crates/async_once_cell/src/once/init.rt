@@ -1,7 +1,7 @@
 //! The future of an init that does not fail.
-ghost use Rattle.std.specs.Prelude.{◌≡◌, false, true, IsSome};
+ghost use Rattle.std.specs.Prelude.{◌≡◌, true, false};
 ghost use Rattle.futures.specs.Task.{IsArmed, Keeps};
-ghost use Rattle.futures.specs.Poll.{OnPending};
+ghost use Rattle.futures.specs.Poll.{IfReady, OnPending};
 ghost use Rattle.async_once_cell.specs.Tokens.{Call, Polls, IsSame};
 
 use super::{InitError, Known, OnceCell, Refused, TryInitFuture};
@@ -50,6 +50,7 @@ impl<'a, T: Drop, F: Future<Output = T>, R: Wait + AllocGlobal> InitFuture<'a, T
         requires { self.old.finished ≡ false }
         ensures cell { self.new.cell ≡ self.old.cell }
         ensures live { OnPending result (self.new.finished ≡ false) }
+        ensures done { IfReady result (λ _. self.new.finished ≡ true) }
         ensures armed { OnPending result (IsArmed cx.new) }
         ensures kept { Keeps cx.old cx.new }
     {
@@ -68,8 +69,8 @@ impl<'a, T: Drop, F: Future<Output = T>, R: Wait + AllocGlobal> InitFuture<'a, T
         ensures cell { self.new.cell ≡ self.old.cell }
         ensures of { token.new.cell ≡ token.old.cell }
         ensures value { Polls token.old.value token.new.value result }
-        ensures finished { IsSome token.old.value → self.new.finished ≡ true }
         ensures live { OnPending result (self.new.finished ≡ false) }
+        ensures done { IfReady result (λ _. self.new.finished ≡ true) }
         ensures armed { OnPending result (IsArmed cx.new) }
         ensures kept { Keeps cx.old cx.new }
     {
