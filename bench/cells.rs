@@ -1,0 +1,227 @@
+//! Makes operations of a cell, each as often as it is told to: the like of crates/cell_bench.
+//!
+//! Built with `--cfg async_cells` it uses the crate async_once_cell, and without it
+//! std::sync::OnceLock, which knows `get` and `init` alone. The lines of standard input and
+//! of standard output are those of crates/cell_bench. The status is 3 at an operation that is not
+//! there.
+
+use std::hint::black_box;
+use std::io::{self, BufRead};
+use std::process::ExitCode;
+
+#[cfg(not(async_cells))]
+mod rounds {
+    use std::hint::black_box;
+    use std::sync::OnceLock;
+
+    pub fn perform(operation: &str, count: u64) -> Option<u64> {
+        match operation {
+            "get" => Some(get(black_box(&OnceLock::from(1)), count)),
+            "init" => Some(init(count)),
+            _ => None,
+        }
+    }
+
+    #[inline(never)]
+    fn get(cell: &OnceLock<u64>, count: u64) -> u64 {
+        let mut sum: u64 = 0;
+        for _ in 0..count {
+            sum = sum.wrapping_add(cell.get().copied().unwrap_or(0));
+        }
+        sum
+    }
+
+    #[inline(never)]
+    fn init(count: u64) -> u64 {
+        let mut sum: u64 = 0;
+        for _ in 0..count {
+            let cell = OnceLock::new();
+            let value = black_box(&cell).get_or_init(|| 1);
+            sum = sum.wrapping_add(*value);
+        }
+        sum
+    }
+}
+
+#[cfg(async_cells)]
+mod rounds {
+    use async_once_cell::{Lazy, OnceCell};
+    use std::cell::Cell;
+    use std::future::{Future, Ready, ready};
+    use std::hint::black_box;
+    use std::pin::{Pin, pin};
+    use std::sync::Arc;
+    use std::sync::atomic::{AtomicU64, Ordering};
+    use std::task::{Context, Poll, Wake, Waker};
+
+    /// Counts how often it was called.
+    struct Calls(AtomicU64);
+
+    impl Wake for Calls {
+        fn wake(self: Arc<Self>) {
+            self.0.fetch_add(1, Ordering::Relaxed);
+        }
+    }
+
+    fn wakers(number: usize) -> Vec<Waker> {
+        (0..number)
+            .map(|_| Waker::from(Arc::new(Calls(AtomicU64::new(0)))))
+            .collect()
+    }
+
+    /// Is pending while its switch is off, and gives 1 once it is on.
+    struct Switched<'a>(&'a Cell<bool>);
+
+    impl Future for Switched<'_> {
+        type Output = u64;
+
+        fn poll(self: Pin<&mut Self>, _cx: &mut Context<'_>) -> Poll<u64> {
+            if self.0.get() {
+                Poll::Ready(1)
+            } else {
+                Poll::Pending
+            }
+        }
+    }
+
+    pub fn perform(operation: &str, count: u64) -> Option<u64> {
+        match operation {
+            "get" => Some(get(black_box(&OnceCell::new_with(1)), count)),
+            "init" => Some(init(count)),
+            "listed" => Some(listed(count)),
+            "waiters1" => Some(waiters(1, count)),
+            "waiters10" => Some(waiters(10, count)),
+            "waiters100" => Some(waiters(100, count)),
+            "lazy_first" => Some(lazy_first(count)),
+            "lazy_later" => Some(lazy_later(black_box(&Lazy::with_value(1)), count)),
+            _ => None,
+        }
+    }
+
+    #[inline(never)]
+    fn get(cell: &OnceCell<u64>, count: u64) -> u64 {
+        let mut sum: u64 = 0;
+        for _ in 0..count {
+            sum = sum.wrapping_add(cell.get().copied().unwrap_or(0));
+        }
+        sum
+    }
+
+    #[inline(never)]
+    fn init(count: u64) -> u64 {
+        let wakers = wakers(1);
+        let mut cx = Context::from_waker(&wakers[0]);
+        let mut sum: u64 = 0;
+        for _ in 0..count {
+            let cell = OnceCell::new();
+            let future = pin!(black_box(&cell).get_or_init(ready(1)));
+            sum = sum.wrapping_add(value_of(future.poll(&mut cx)));
+        }
+        sum
+    }
+
+    #[inline(never)]
+    fn listed(count: u64) -> u64 {
+        let wakers = wakers(2);
+        let (cell, switch) = (OnceCell::new(), Cell::new(false));
+        let mut holder = pin!(cell.get_or_init(Switched(&switch)));
+        let mut waiter = pin!(cell.get_or_init(Switched(&switch)));
+        let mut holding = Context::from_waker(&wakers[0]);
+        let mut cx = Context::from_waker(&wakers[1]);
+        let mut sum = value_of(holder.as_mut().poll(&mut holding));
+        for _ in 0..=count {
+            sum = sum.wrapping_add(value_of(waiter.as_mut().poll(&mut cx)));
+        }
+        switch.set(true);
+        sum = sum.wrapping_add(value_of(holder.as_mut().poll(&mut holding)));
+        sum.wrapping_add(value_of(waiter.as_mut().poll(&mut cx)))
+    }
+
+    #[inline(never)]
+    fn waiters(waiting: usize, count: u64) -> u64 {
+        let wakers = wakers(waiting + 1);
+        let mut sum: u64 = 0;
+        for _ in 0..count {
+            sum = sum.wrapping_add(round(&wakers));
+        }
+        sum
+    }
+
+    // The crate knows a waker that is listed already, so each future has one of its own.
+    fn round(wakers: &[Waker]) -> u64 {
+        let waiting = wakers.len() - 1;
+        let (cell, switch) = (OnceCell::new(), Cell::new(false));
+        let mut holder = pin!(cell.get_or_init(Switched(&switch)));
+        let mut cx = Context::from_waker(&wakers[waiting]);
+        let mut sum = value_of(holder.as_mut().poll(&mut cx));
+        let mut waiters = Vec::with_capacity(waiting);
+        for _ in 0..waiting {
+            waiters.push(cell.get_or_init(Switched(&switch)));
+        }
+        for (waiter, waker) in waiters.iter_mut().zip(wakers) {
+            // Safety: it stays where it lies until it is dropped there.
+            let waiter = unsafe { Pin::new_unchecked(waiter) };
+            sum = sum.wrapping_add(value_of(waiter.poll(&mut Context::from_waker(waker))));
+        }
+        switch.set(true);
+        sum = sum.wrapping_add(value_of(holder.as_mut().poll(&mut cx)));
+        for (waiter, waker) in waiters.iter_mut().zip(wakers) {
+            // Safety: as above.
+            let waiter = unsafe { Pin::new_unchecked(waiter) };
+            sum = sum.wrapping_add(value_of(waiter.poll(&mut Context::from_waker(waker))));
+        }
+        sum
+    }
+
+    #[inline(never)]
+    fn lazy_first(count: u64) -> u64 {
+        let wakers = wakers(1);
+        let mut cx = Context::from_waker(&wakers[0]);
+        let mut sum: u64 = 0;
+        for _ in 0..count {
+            let lazy = pin!(Lazy::new(ready(1)));
+            let future = pin!(black_box(lazy.as_ref()).get());
+            sum = sum.wrapping_add(value_of(future.poll(&mut cx)));
+        }
+        sum
+    }
+
+    #[inline(never)]
+    fn lazy_later(lazy: &Lazy<u64, Ready<u64>>, count: u64) -> u64 {
+        let wakers = wakers(1);
+        let mut cx = Context::from_waker(&wakers[0]);
+        let mut sum: u64 = 0;
+        for _ in 0..count {
+            let future = pin!(Pin::new(lazy).get());
+            sum = sum.wrapping_add(value_of(future.poll(&mut cx)));
+        }
+        sum
+    }
+
+    /// The value of a poll, and 0 where it is pending.
+    fn value_of<P: std::ops::Deref<Target = u64>>(polled: Poll<P>) -> u64 {
+        match polled {
+            Poll::Ready(value) => *value,
+            Poll::Pending => 0,
+        }
+    }
+}
+
+fn main() -> ExitCode {
+    for line in io::stdin().lock().lines() {
+        let Ok(line) = line else {
+            return ExitCode::from(2);
+        };
+        let Some((name, Ok(count))) = line
+            .split_once(' ')
+            .map(|(name, count)| (name, count.parse::<u64>()))
+        else {
+            return ExitCode::from(2);
+        };
+        let Some(sum) = rounds::perform(name, black_box(count)) else {
+            return ExitCode::from(3);
+        };
+        println!("{line} {sum}");
+    }
+    ExitCode::SUCCESS
+}

@@ -1,0 +1,18 @@
+use Rattle.std.specs.Prelude.{◌≡◌, ℕ, List, ◌++◌, ◌∷◌, codes}
+use Rattle.cell_bench.specs.declared.operation.Operation.{Operation}
+use Rattle.cell_bench.specs.declared.operation.Operation.TheVariants.{Get, Init, Listed, OneWaits, TenWait, HundredWait, LazyFirst, LazyLater}
+
+-- what an operation is called in the input
+abbrev pub name_of : Operation → List ℕ
+name_of Get = codes "get"
+name_of Init = codes "init"
+name_of Listed = codes "listed"
+name_of OneWaits = codes "waiters1"
+name_of TenWait = codes "waiters10"
+name_of HundredWait = codes "waiters100"
+name_of LazyFirst = codes "lazy_first"
+name_of LazyLater = codes "lazy_later"
+
+-- a text begins with this operation's name and one space
+abbrev pub IsOf : Operation → List ℕ → Type 0
+IsOf operation text = (rest : List ℕ) × (text ≡ name_of operation ++ (32 ∷ rest))

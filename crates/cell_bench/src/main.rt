@@ -1,0 +1,41 @@
+//! Makes operations of the cells, each as often as it is told to.
+//!
+//! Each line of standard input names an operation and says how often it is made, as `get 1000`. For
+//! each line one is printed: the same words, and the sum of the values that the polls and looks
+//! answered. Each of these values is 1.
+#![tactic(auto)]
+
+use futures::task::{Context, Doorbell, Solo};
+use operation::parse_line;
+use rounds::perform;
+use std::alloc::AllocGlobal;
+use std::io;
+use std::sync::Wait;
+
+mod operation;
+mod rounds;
+mod switch;
+
+/// Makes what each line of the input says, and prints the sums. All polls are of one task.
+pub fn run<R>(rt: &R, cx: &mut Context<'_>) -> io::Result<()>
+where
+    R: Input + Print + AllocGlobal + Wait,
+{
+    for line in rt.lines(rt.alloc()) {
+        let line = line?;
+        let Some((operation, count)) = parse_line(line.as_str()) else {
+            return Err(io::Error::other("a line is an operation and a count"));
+        };
+        let sum = perform(rt, operation, count, cx)?;
+        println!(rt; "{line} {sum}")?;
+    }
+    Ok(())
+}
+
+fn main(rt: HostRuntime) -> io::Result<()> {
+    let task = Solo::new(&rt, Doorbell::parking())?;
+    let mut cx = task.begin();
+    let done = run(&rt, &mut cx);
+    cx.cancel();
+    done
+}

@@ -1,0 +1,52 @@
+//! The operations and their names.
+ghost use Rattle.std.specs.Prelude.{◌≡◌, ◌≢◌, IfSome, MatchOption};
+ghost use Rattle.cell_bench.specs.Name.{name_of, IsOf};
+ghost use Rattle.cell_bench.specs.declared.operation.Operation.{Operation};
+
+/// What is made.
+#[derive(Clone, Copy, Debug, PartialEq, Eq)]
+pub enum Operation {
+    /// A look at a cell that is set.
+    Get,
+    /// A new cell, and a poll whose init gives the value at once.
+    Init,
+    /// A poll of a future that waits and is listed already.
+    Listed,
+    /// A new cell: one future holds, 1 waits, the holder sets the cell, and the one that waits is
+    /// polled to its end.
+    OneWaits,
+    /// The same where 10 wait.
+    TenWait,
+    /// The same where 100 wait.
+    HundredWait,
+    /// A new lazy cell, and a poll whose init gives the value at once.
+    LazyFirst,
+    /// A new future of a lazy cell that is set, polled to its end.
+    LazyLater,
+}
+
+/// The operation of this name.
+pub fn parse_operation(name: &str) -> Option<Operation>
+    ensures { MatchOption result ((o : Operation) → name_of o ≢ name.now)
+        (λ operation. name_of operation ≡ name.now) }
+{
+    match name {
+        "get" => Some(Operation::Get),
+        "init" => Some(Operation::Init),
+        "listed" => Some(Operation::Listed),
+        "waiters1" => Some(Operation::OneWaits),
+        "waiters10" => Some(Operation::TenWait),
+        "waiters100" => Some(Operation::HundredWait),
+        "lazy_first" => Some(Operation::LazyFirst),
+        "lazy_later" => Some(Operation::LazyLater),
+        _ => None,
+    }
+}
+
+/// Reads a name, one space and a count.
+pub fn parse_line(line: &str) -> Option<(Operation, u64)>
+    ensures { IfSome result (λ read. IsOf read.0 line.now) }
+{
+    let (name, count) = line.split_once(' ')?;
+    Some((parse_operation(name)?, count.parse::<u64>().ok()?))
+}
