@@ -6,6 +6,12 @@ use futures::task::Poll;
 use futures::test::MockTask;
 use std::test::Fail;
 
+const EMPTY: &str =
+    "value: None, inner: Inner { ready: false, quick_init: false, refcount: 0, queue: false } }";
+
+const FILLED: &str =
+    "value: Some(2), inner: Inner { ready: true, quick_init: false, refcount: 0, queue: false } }";
+
 /// A waiter that is polled a hundred times is listed once, and called once.
 #[test]
 fn polled_without_a_call(rt: HostRuntime) -> Result<(), Fail> {
@@ -74,15 +80,13 @@ fn polled_when_finished(rt: HostRuntime) -> Result<(), Fail> {
     assert!(rt; !f1.is_finished());
     assert!(rt; task.poll(&mut f1).is_ready());
     assert!(rt; f1.is_finished());
-    let empty =
-        "value: None, inner: Inner { ready: false, quick_init: false, refcount: 0, queue: false } }";
-    ends(&rt, &cell, empty)?;
+    ends(&rt, &cell, EMPTY)?;
     for _ in 0..3 {
         calm(&task);
         assert!(rt; task.poll(&mut f1).is_pending());
         assert!(rt; task.is_woken());
         assert!(rt; f1.is_finished());
-        ends(&rt, &cell, empty)?;
+        ends(&rt, &cell, EMPTY)?;
     }
     script.answer.set(Some(Ok(2u64)));
     let mut f2 = cell.get_or_try_init(&rt, script.init());
@@ -91,32 +95,34 @@ fn polled_when_finished(rt: HostRuntime) -> Result<(), Fail> {
     assert!(rt; task.poll(&mut f2).is_pending());
     assert!(rt; task.is_woken());
     assert_eq!(rt; script.polls.get(), 2);
-    ends(
-        &rt,
-        &cell,
-        "value: Some(2), inner: Inner { ready: true, quick_init: false, refcount: 0, queue: false } }",
-    )
+    ends(&rt, &cell, FILLED)
 }
 
-/// The same for the futures of inits that can't fail, and of a cell that owns its future.
+/// The same for the future of an init that can't fail.
 #[test]
-fn others_polled_when_finished(rt: HostRuntime) -> Result<(), Fail> {
+fn sure_polled_when_finished(rt: HostRuntime) -> Result<(), Fail> {
     let (cell, script, task) = (OnceCell::new(), Script::giving(2), MockTask::new(&rt)?);
-    let lazy = Lazy::new(script.init());
-    let (mut f, mut g) = (cell.get_or_init(&rt, script.init()), lazy.get(&rt));
+    let mut f = cell.get_or_init(&rt, script.init());
     assert_eq!(rt; task.poll(&mut f), Poll::Ready(Ok(&2)));
-    assert_eq!(rt; task.poll(&mut g), Poll::Ready(Ok(&2)));
     assert!(rt; !task.is_woken());
-    let filled =
-        "value: Some(2), inner: Inner { ready: true, quick_init: false, refcount: 0, queue: false } }";
     assert!(rt; task.poll(&mut f).is_pending());
     assert!(rt; task.is_woken());
-    ends(&rt, &cell, filled)?;
-    calm(&task);
-    assert!(rt; task.poll(&mut g).is_pending());
+    assert!(rt; f.is_finished());
+    assert_eq!(rt; script.polls.get(), 1);
+    ends(&rt, &cell, FILLED)
+}
+
+/// The same for a future of a cell that owns its future.
+#[test]
+fn lazy_polled_when_finished(rt: HostRuntime) -> Result<(), Fail> {
+    let (script, task) = (Script::giving(2), MockTask::new(&rt)?);
+    let lazy = Lazy::new(script.init());
+    let mut f = lazy.get(&rt);
+    assert_eq!(rt; task.poll(&mut f), Poll::Ready(Ok(&2)));
+    assert!(rt; !task.is_woken());
+    assert!(rt; task.poll(&mut f).is_pending());
     assert!(rt; task.is_woken());
-    ends(&rt, &lazy, filled)?;
-    assert!(rt; f.is_finished() && g.is_finished());
-    assert_eq!(rt; script.polls.get(), 2);
-    Ok(())
+    assert!(rt; f.is_finished());
+    assert_eq!(rt; script.polls.get(), 1);
+    ends(&rt, &lazy, FILLED)
 }

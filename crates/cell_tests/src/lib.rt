@@ -12,14 +12,20 @@ mod inside;
 #[cfg(test)]
 mod lazies;
 #[cfg(test)]
+mod meeting;
+#[cfg(test)]
 mod owner;
 #[cfg(test)]
 mod paths;
 #[cfg(test)]
 mod refusal;
 #[cfg(test)]
+mod stress;
+#[cfg(test)]
 mod threads;
 #[cfg(test)]
 mod tokens;
+#[cfg(test)]
+mod told;
 #[cfg(test)]
 mod tries;

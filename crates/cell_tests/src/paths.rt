@@ -2,8 +2,11 @@
 
 use crate::inits::{Script, calm, shows};
 use async_once_cell::OnceCell;
-use futures::task::Poll;
+use futures::task::{Context, Poll};
 use futures::test::MockTask;
+use std::alloc::AllocGlobal;
+use std::process::Abort;
+use std::sync::Wait;
 use std::test::Fail;
 
 /// What a cell with the value 2 shows once nobody waits.
@@ -32,14 +35,29 @@ fn plain_path(rt: HostRuntime) -> Result<(), Fail> {
     let mut second = cell.get_or_init(&rt, nine.init());
     assert_eq!(rt; task.poll(&mut second), Poll::Ready(Ok(&4)));
     assert_eq!(rt; (four.polls.get(), nine.polls.get()), (1, 0));
+    assert!(rt; !task.is_woken());
+    assert_eq!(rt; cell.get(), Some(&4));
+    Ok(())
+}
+
+// Learns the value that the cell has, and polls a future with the token.
+fn poll_knowing<R: Wait + AllocGlobal + Abort>(rt: &R, cx: &mut Context<'_>, cell: &OnceCell<u64>) {
+    let script = Script::giving(9);
     let mut token = cell.token();
     assert_eq!(rt; cell.get_as(&mut token), Some(&4));
-    let mut third = cell.get_or_init(&rt, nine.init());
-    assert_eq!(rt; nine.drops.get(), 1);
-    let polled = task.enter(|cx| third.poll_as(cx, &mut token));
-    assert_eq!(rt; polled, Poll::Ready(Ok(&4)));
+    let mut third = cell.get_or_init(rt, script.init());
+    assert_eq!(rt; third.poll_as(cx, &mut token), Poll::Ready(Ok(&4)));
     assert!(rt; third.is_finished());
-    assert_eq!(rt; (nine.polls.get(), nine.drops.get()), (0, 2));
+    assert_eq!(rt; (script.polls.get(), script.drops.get()), (0, 1));
+}
+
+/// A token that knows the value answers it, and the init is dropped and not polled.
+#[test]
+fn path_of_a_token(rt: HostRuntime) -> Result<(), Fail> {
+    let (cell, task, script) = (OnceCell::new(), MockTask::new(&rt)?, Script::giving(4));
+    let mut first = cell.get_or_init(&rt, script.init());
+    assert_eq!(rt; task.poll(&mut first), Poll::Ready(Ok(&4)));
+    task.enter(|cx| poll_knowing(&rt, cx, &cell));
     assert!(rt; !task.is_woken());
     Ok(())
 }
