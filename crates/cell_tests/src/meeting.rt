@@ -45,18 +45,18 @@ fn was_set<R: Clock>(rt: &R, word: &AtomicU64) -> bool {
 
 /// An init that keeps its thread until the other lets it go: 5, or 1 where nobody did.
 #[derive(Drop)]
-pub struct Keeps<'a, R> {
-    rt: &'a R,
-    meeting: &'a Meeting,
+pub struct Keeps<'r, 'm, R> {
+    rt: &'r R,
+    meeting: &'m Meeting,
 }
 
-impl<'a, R> Keeps<'a, R> {
-    pub fn new(rt: &'a R, meeting: &'a Meeting) -> Self {
+impl<'r, 'm, R> Keeps<'r, 'm, R> {
+    pub fn new(rt: &'r R, meeting: &'m Meeting) -> Self {
         Keeps { rt, meeting }
     }
 }
 
-impl<R: Clock> Future for Keeps<'_, R> {
+impl<R: Clock> Future for Keeps<'_, '_, R> {
     type Output = Result<u64, u64>;
 
     fn poll(&mut self, _cx: &mut Context<'_>) -> Poll<Result<u64, u64>> {
@@ -70,19 +70,19 @@ impl<R: Clock> Future for Keeps<'_, R> {
 
 /// The same where it may not fail: 5, or 9.
 #[derive(Drop)]
-pub struct KeepsOn<'a, R> {
-    keeps: Keeps<'a, R>,
+pub struct KeepsOn<'r, 'm, R> {
+    keeps: Keeps<'r, 'm, R>,
 }
 
-impl<'a, R> KeepsOn<'a, R> {
-    pub fn new(rt: &'a R, meeting: &'a Meeting) -> Self {
+impl<'r, 'm, R> KeepsOn<'r, 'm, R> {
+    pub fn new(rt: &'r R, meeting: &'m Meeting) -> Self {
         KeepsOn {
             keeps: Keeps::new(rt, meeting),
         }
     }
 }
 
-impl<R: Clock> Future for KeepsOn<'_, R> {
+impl<R: Clock> Future for KeepsOn<'_, '_, R> {
     type Output = u64;
 
     fn poll(&mut self, cx: &mut Context<'_>) -> Poll<u64> {

@@ -41,7 +41,11 @@ fn plain_path(rt: HostRuntime) -> Result<(), Fail> {
 }
 
 // Learns the value that the cell has, and polls a future with the token.
-fn poll_knowing<R: Wait + AllocGlobal + Abort>(rt: &R, cx: &mut Context<'_>, cell: &OnceCell<u64>) {
+fn poll_knowing<'a, R: Wait + AllocGlobal + Abort>(
+    rt: &'a R,
+    cx: &mut Context<'_>,
+    cell: &'a OnceCell<u64>,
+) {
     let script = Script::giving(9);
     let mut token = cell.token();
     assert_eq!(rt; cell.get_as(&mut token), Some(&4));

@@ -11,11 +11,11 @@ use std::sync::Wait;
 use std::test::Fail;
 
 // A token learns the value by a poll, and another by a look.
-fn learn_in_turn<R: Wait + AllocGlobal + Abort>(
-    rt: &R,
+fn learn_in_turn<'a, R: Wait + AllocGlobal + Abort>(
+    rt: &'a R,
     cx: &mut Context<'_>,
-    cell: &OnceCell<u64>,
-    script: &Script<u64>,
+    cell: &'a OnceCell<u64>,
+    script: &'a Script<u64>,
 ) {
     let (mut a, mut b) = (cell.token(), cell.token());
     assert_eq!(rt; cell.get_as(&mut a), None);
@@ -38,11 +38,11 @@ fn tokens_compared(rt: HostRuntime) -> Result<(), Fail> {
 }
 
 // As above, with a future that waits and goes on with a token that knows the value.
-fn learn_of_a_lazy<R: Wait + AllocGlobal + Abort>(
-    rt: &R,
+fn learn_of_a_lazy<'a, 'b, R: Wait + AllocGlobal + Abort>(
+    rt: &'a R,
     cx: &mut Context<'_>,
-    lazy: &Lazy<u64, Init<'_, u64>>,
-    script: &Script<u64>,
+    lazy: &'a Lazy<u64, Init<'b, u64>>,
+    script: &'b Script<u64>,
 ) -> Result<(), Fail> {
     let (mut a, mut b) = (lazy.token(), lazy.token());
     let (mut f, mut g) = (lazy.get(rt), lazy.get(rt));
@@ -71,11 +71,11 @@ fn tokens_of_a_lazy(rt: HostRuntime) -> Result<(), Fail> {
 }
 
 // A future waits until another has set the value, and is polled with a token that knows it.
-fn leave_with_a_token<R: Wait + AllocGlobal + Abort>(
-    rt: &R,
+fn leave_with_a_token<'a, R: Wait + AllocGlobal + Abort>(
+    rt: &'a R,
     cx: &mut Context<'_>,
-    cell: &OnceCell<u64>,
-    script: &Script<u64>,
+    cell: &'a OnceCell<u64>,
+    script: &'a Script<u64>,
 ) -> Result<(), Fail> {
     let mut f1 = cell.get_or_init(rt, script.init());
     let mut f2 = cell.get_or_init(rt, script.init());

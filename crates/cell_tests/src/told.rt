@@ -21,7 +21,7 @@ use std::time::Clock;
 struct Telling<'a, R: Wait + AllocGlobal + Clock> {
     cell: &'a OnceCell<u64>,
     meeting: &'a Meeting,
-    future: TryInitFuture<'a, u64, u64, Keeps<'a, R>, R>,
+    future: TryInitFuture<'a, u64, u64, Keeps<'a, 'a, R>, R>,
     token: Known<'a, u64>,
     ghost one_cell: { token.cell ≡ cell.now },
     ghost own_cell: { future.cell ≡ cell.now },
@@ -29,7 +29,7 @@ struct Telling<'a, R: Wait + AllocGlobal + Clock> {
 
 impl<'a, R: Wait + AllocGlobal + Clock> Telling<'a, R> {
     fn new(rt: &'a R, cell: &'a OnceCell<u64>, meeting: &'a Meeting) -> Self
-        ensures { result.cell ≡ cell }
+        ensures { result.cell.now ≡ cell.now }
     {
         Telling {
             cell,
@@ -76,7 +76,7 @@ where
 }
 
 // Whether two threads were told one value. The second polls once the first is inside its init.
-fn both_told<R>(rt: &R, cell: &OnceCell<u64>, meeting: &Meeting) -> bool
+fn both_told<'a, R>(rt: &'a R, cell: &'a OnceCell<u64>, meeting: &'a Meeting) -> bool
 where
     R: Threads + Wait + AllocGlobal + Clock + RandomSource + Sync,
 {
@@ -91,7 +91,11 @@ where
         }
         told(rt, cell, meeting)
     };
-    let (Some(a), Some(b)) = thread::join(rt, one, two) else {
+    let (a, b) = thread::join(rt, one, two);
+    let Some(a) = a else {
+        return false;
+    };
+    let Some(b) = b else {
         return false;
     };
     Known::compare(&a, &b)
