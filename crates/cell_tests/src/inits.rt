@@ -1,0 +1,95 @@
+//! Inits that do as a test tells them, and what all tests ask of tasks and cells.
+
+use futures::Future;
+use futures::task::{Context, Poll};
+use futures::test::MockTask;
+use std::alloc::AllocGlobal;
+use std::cell::Cell;
+use std::fmt::Debug;
+use std::process::Abort;
+use std::test::Fail;
+
+/// The answer of an init that may fail.
+pub type Tried = Result<u64, u64>;
+
+/// What a test tells its inits, and what they went through.
+#[derive(Drop)]
+pub struct Script<O: Copy> {
+    /// What the inits answer. None has them be Pending.
+    pub answer: Cell<Option<O>>,
+    /// How often they were polled.
+    pub polls: Cell<u64>,
+    /// How many were dropped.
+    pub drops: Cell<u64>,
+}
+
+impl<O: Copy> Script<O> {
+    /// For inits that are Pending until the test tells them an answer.
+    pub fn new() -> Self {
+        Script {
+            answer: Cell::new(None),
+            polls: Cell::new(0),
+            drops: Cell::new(0),
+        }
+    }
+
+    /// For inits that have this answer at once.
+    pub fn giving(answer: O) -> Self {
+        let script = Script::new();
+        script.answer.set(Some(answer));
+        script
+    }
+
+    /// An init that follows the script.
+    pub fn init(&self) -> Init<'_, O> {
+        Init { script: self }
+    }
+}
+
+/// An init that follows a script. It lets its task be polled again when it is Pending.
+pub struct Init<'a, O: Copy> {
+    script: &'a Script<O>,
+}
+
+impl<O: Copy> Drop for Init<'_, O> {
+    fn drop(self) {
+        let Init { script } = self;
+        count(&script.drops);
+    }
+}
+
+impl<O: Copy> Future for Init<'_, O> {
+    type Output = O;
+
+    fn poll(&mut self, cx: &mut Context<'_>) -> Poll<O> {
+        count(&self.script.polls);
+        if let Some(answer) = self.script.answer.get() {
+            return Poll::Ready(answer);
+        }
+        cx.yield_now()
+    }
+}
+
+/// Counts one more.
+pub fn count(times: &Cell<u64>) {
+    times.set(times.get().wrapping_add(1));
+}
+
+/// Forgets that the task was woken.
+pub fn calm(task: &MockTask) {
+    task.enter(|_| ());
+}
+
+/// That a cell's Debug text is this.
+pub fn shows<R: Abort + AllocGlobal>(rt: &R, cell: &impl Debug, wanted: &str) -> Result<(), Fail> {
+    let text = format!(in rt.alloc(); "{cell:?}")?;
+    assert_eq!(rt; text.as_str(), wanted);
+    Ok(())
+}
+
+/// That a cell's Debug text ends so.
+pub fn ends<R: Abort + AllocGlobal>(rt: &R, cell: &impl Debug, wanted: &str) -> Result<(), Fail> {
+    let text = format!(in rt.alloc(); "{cell:?}")?;
+    assert!(rt; text.as_str().ends_with(wanted), "{text}");
+    Ok(())
+}

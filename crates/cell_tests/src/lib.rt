@@ -1,0 +1,31 @@
+//! What the cells do, by their public calls alone.
+#![tactic(auto)]
+
+#[cfg(test)]
+mod drops;
+#[cfg(test)]
+mod hostile;
+#[cfg(test)]
+mod inits;
+#[cfg(test)]
+mod inside;
+#[cfg(test)]
+mod lazies;
+#[cfg(test)]
+mod meeting;
+#[cfg(test)]
+mod owner;
+#[cfg(test)]
+mod paths;
+#[cfg(test)]
+mod refusal;
+#[cfg(test)]
+mod stress;
+#[cfg(test)]
+mod threads;
+#[cfg(test)]
+mod tokens;
+#[cfg(test)]
+mod told;
+#[cfg(test)]
+mod tries;

@@ -1,0 +1,94 @@
+//! Two threads that meet while one is inside an init.
+
+use futures::Future;
+use futures::task::{Context, Poll};
+use std::sync::atomic::{AtomicU64, Ordering};
+use std::thread;
+use std::time::{Clock, Duration};
+
+/// Where two threads meet.
+#[derive(Drop)]
+pub struct Meeting {
+    begun: AtomicU64,
+    flag: AtomicU64,
+}
+
+impl Meeting {
+    pub fn new() -> Self {
+        Meeting {
+            begun: AtomicU64::new(0),
+            flag: AtomicU64::new(0),
+        }
+    }
+
+    /// Whether the init is being polled, within ten thousand turns.
+    pub fn has_begun<R: Clock>(&self, rt: &R) -> bool {
+        was_set(rt, &self.begun)
+    }
+
+    /// Lets the init go on.
+    pub fn let_go(&self) {
+        self.flag.store(1, Ordering::SeqCst);
+    }
+}
+
+// Whether the word was set within ten thousand turns.
+fn was_set<R: Clock>(rt: &R, word: &AtomicU64) -> bool {
+    for _ in 0..10_000 {
+        if word.load(Ordering::SeqCst) == 1 {
+            return true;
+        }
+        thread::sleep(rt, Duration::from_millis(1));
+    }
+    false
+}
+
+/// An init that keeps its thread until the other lets it go: 5, or 1 where nobody did.
+#[derive(Drop)]
+pub struct Keeps<'r, 'm, R> {
+    rt: &'r R,
+    meeting: &'m Meeting,
+}
+
+impl<'r, 'm, R> Keeps<'r, 'm, R> {
+    pub fn new(rt: &'r R, meeting: &'m Meeting) -> Self {
+        Keeps { rt, meeting }
+    }
+}
+
+impl<R: Clock> Future for Keeps<'_, '_, R> {
+    type Output = Result<u64, u64>;
+
+    fn poll(&mut self, _cx: &mut Context<'_>) -> Poll<Result<u64, u64>> {
+        self.meeting.begun.store(1, Ordering::SeqCst);
+        if was_set(self.rt, &self.meeting.flag) {
+            return Poll::Ready(Ok(5));
+        }
+        Poll::Ready(Err(1))
+    }
+}
+
+/// The same where it may not fail: 5, or 9.
+#[derive(Drop)]
+pub struct KeepsOn<'r, 'm, R> {
+    keeps: Keeps<'r, 'm, R>,
+}
+
+impl<'r, 'm, R> KeepsOn<'r, 'm, R> {
+    pub fn new(rt: &'r R, meeting: &'m Meeting) -> Self {
+        KeepsOn {
+            keeps: Keeps::new(rt, meeting),
+        }
+    }
+}
+
+impl<R: Clock> Future for KeepsOn<'_, '_, R> {
+    type Output = u64;
+
+    fn poll(&mut self, cx: &mut Context<'_>) -> Poll<u64> {
+        match self.keeps.poll(cx) {
+            Poll::Ready(answer) => Poll::Ready(answer.unwrap_or(9)),
+            Poll::Pending => Poll::Pending,
+        }
+    }
+}

@@ -1,0 +1,188 @@
+//! Four threads and two hundred cells: what comes out does not depend on who was first.
+
+use async_once_cell::once::InitError;
+use async_once_cell::{Lazy, OnceCell};
+use futures::Future;
+use futures::task::{Context, Poll};
+use futures::test::MockTask;
+use std::alloc::{AllocGlobal, Global};
+use std::random::RandomSource;
+use std::sync::Wait;
+use std::sync::atomic::{AtomicU64, Ordering};
+use std::test::Fail;
+use std::time::{Clock, Duration};
+use std::{io, thread};
+
+const THREADS: usize = 4;
+
+const CELLS: u64 = 200;
+
+// An init that is Pending a few times, and counts when it is done.
+#[derive(Drop)]
+struct Slow<'a, O: Copy> {
+    pending: u64,
+    answer: O,
+    done: &'a AtomicU64,
+}
+
+impl<O: Copy> Future for Slow<'_, O> {
+    type Output = O;
+
+    fn poll(&mut self, cx: &mut Context<'_>) -> Poll<O> {
+        if let Some(left) = self.pending.checked_sub(1) {
+            self.pending = left;
+            thread::yield_now();
+            return cx.yield_now();
+        }
+        self.done.fetch_add(1, Ordering::SeqCst);
+        Poll::Ready(self.answer)
+    }
+}
+
+// A cell that all threads fill.
+#[derive(Drop)]
+struct Ground {
+    cell: OnceCell<u64>,
+    // How many inits gave a value.
+    made: AtomicU64,
+    // How many failed.
+    failed: AtomicU64,
+}
+
+// Polls a future whenever its task was woken, and at first. None says that the turns are used up.
+fn ended<R: Clock, F: Future>(rt: &R, task: &MockTask, future: &mut F) -> Option<F::Output>
+    requires { F.can_poll future.old }
+{
+    if let Poll::Ready(output) = task.poll(future) {
+        return Some(output);
+    }
+    for _ in 0..50_000 {
+        if !task.is_woken() {
+            thread::sleep(rt, Duration::from_micros(100));
+        } else if let Poll::Ready(output) = task.poll(future) {
+            return Some(output);
+        }
+    }
+    None
+}
+
+// What the thread gets of the cell. It drops one of its futures midway, and another fails.
+fn visited<R>(rt: &R, task: &MockTask, ground: &Ground, thread: u64, number: u64) -> Option<u64>
+where
+    R: Wait + AllocGlobal + Clock,
+{
+    let kind = thread.wrapping_add(number);
+    let (cell, pending) = (&ground.cell, kind % 4);
+    let gives = || Slow {
+        pending,
+        answer: Ok(thread.wrapping_mul(1000).wrapping_add(number)),
+        done: &ground.made,
+    };
+    if kind.is_multiple_of(3) {
+        let mut dropped = cell.get_or_try_init::<u64, _, _>(rt, gives());
+        let _ = task.poll(&mut dropped);
+    }
+    if kind.is_multiple_of(5) {
+        let fails = Slow {
+            pending,
+            answer: Err(7u64),
+            done: &ground.failed,
+        };
+        let mut failing = cell.get_or_try_init(rt, fails);
+        match ended(rt, task, &mut failing)? {
+            Ok(_) | Err(InitError::Init(7)) => {}
+            Err(_) => return None,
+        }
+    }
+    let mut last = cell.get_or_try_init::<u64, _, _>(rt, gives());
+    ended(rt, task, &mut last)?.ok().copied()
+}
+
+// What a thread gets of each cell, in order. 0 stands where it got no value.
+fn all_visited<R>(rt: &R, alloc: Global, grounds: &[Ground], thread: usize) -> io::Result<Vec<u64>>
+where
+    R: Wait + AllocGlobal + Clock + RandomSource,
+{
+    let (task, mut got) = (MockTask::new(rt)?, Vec::new(alloc));
+    for (number, ground) in (1..).zip(grounds) {
+        let value = visited(rt, &task, ground, thread as u64, number);
+        got.push(value.unwrap_or(0))?;
+    }
+    Ok(got)
+}
+
+/// All threads get one value of a cell, whose inits gave a value once.
+#[test]
+fn many_threads_one_value(rt: HostRuntime) -> Result<(), Fail> {
+    let mut grounds = Vec::new(rt.alloc());
+    for _ in 0..CELLS {
+        grounds.push(Ground {
+            cell: OnceCell::new(),
+            made: AtomicU64::new(0),
+            failed: AtomicU64::new(0),
+        })?;
+    }
+    let shared = grounds.as_slice();
+    let work = |thread: usize| all_visited(&rt, rt.alloc(), shared, thread);
+    for got in thread::map_indices(&rt, rt.alloc(), THREADS, &work)? {
+        let got = got?;
+        assert_eq!(rt; got.len(), shared.len());
+        for (ground, value) in shared.iter().zip(&got) {
+            assert_eq!(rt; ground.cell.get(), Some(value));
+        }
+    }
+    for (number, ground) in (1..).zip(shared) {
+        assert_eq!(rt; ground.made.load(Ordering::SeqCst), 1);
+        let value = ground.cell.get().copied().unwrap_or(0);
+        assert!(rt;
+            value % 1000 == number && value < 4000,
+            "{value} of cell {number}"
+        );
+    }
+    Ok(())
+}
+
+// What a thread gets of each cell that owns its future, in order. It drops some futures midway.
+fn all_forced<R>(
+    rt: &R,
+    alloc: Global,
+    lazies: &[Lazy<u64, Slow<'_, u64>>],
+    thread: usize,
+) -> io::Result<Vec<u64>>
+where
+    R: Wait + AllocGlobal + Clock + RandomSource,
+{
+    let (task, mut got) = (MockTask::new(rt)?, Vec::new(alloc));
+    for (number, lazy) in (thread as u64..4000).zip(lazies) {
+        if number.is_multiple_of(3) {
+            let _ = task.poll(&mut lazy.get(rt));
+        }
+        let value = ended(rt, &task, &mut lazy.get(rt)).and_then(Result::ok);
+        got.push(value.copied().unwrap_or(0))?;
+    }
+    Ok(got)
+}
+
+/// Threads drive one future by turns, and it is done once.
+#[test]
+fn many_threads_one_future(rt: HostRuntime) -> Result<(), Fail> {
+    let (done, mut lazies) = (AtomicU64::new(0), Vec::new(rt.alloc()));
+    for number in 0..CELLS {
+        lazies.push(Lazy::new(Slow {
+            pending: number % 5,
+            answer: number.wrapping_add(1),
+            done: &done,
+        }))?;
+    }
+    let shared = lazies.as_slice();
+    let work = |thread: usize| all_forced(&rt, rt.alloc(), shared, thread);
+    for got in thread::map_indices(&rt, rt.alloc(), THREADS, &work)? {
+        let got = got?;
+        assert_eq!(rt; got.len(), shared.len());
+        for (number, value) in (1..).zip(&got) {
+            assert_eq!(rt; *value, number);
+        }
+    }
+    assert_eq!(rt; done.load(Ordering::SeqCst), CELLS);
+    Ok(())
+}

@@ -1,0 +1,104 @@
+//! Several futures of one cell: an init that fails hands the right on.
+
+use crate::inits::{Script, Tried, calm, ends, shows};
+use async_once_cell::once::InitError;
+use async_once_cell::{Lazy, OnceCell};
+use futures::task::Poll;
+use futures::test::MockTask;
+use std::test::Fail;
+
+/// The first init fails, and one of those who waited goes on with its own.
+#[test]
+fn second_try(rt: HostRuntime) -> Result<(), Fail> {
+    let (cell, task) = (OnceCell::new(), MockTask::new(&rt)?);
+    let (off, on): (Script<Tried>, Script<Tried>) = (Script::new(), Script::new());
+    let mut f1 = cell.get_or_try_init(&rt, off.init());
+    let mut f2 = cell.get_or_try_init(&rt, on.init());
+    let mut f3 = cell.get_or_try_init(&rt, on.init());
+    let mut f4 = cell.get_or_try_init(&rt, on.init());
+    assert!(rt; task.poll(&mut f1).is_pending());
+    calm(&task);
+    ends(
+        &rt,
+        &cell,
+        "ready: false, quick_init: true, refcount: 0, queue: false } }",
+    )?;
+    assert!(rt; task.poll(&mut f2).is_pending());
+    assert!(rt; task.poll(&mut f3).is_pending());
+    assert!(rt; task.poll(&mut f4).is_pending());
+    ends(
+        &rt,
+        &cell,
+        "ready: false, quick_init: true, refcount: 3, queue: true } }",
+    )?;
+    assert!(rt; task.poll(&mut f2).is_pending());
+    assert!(rt; !task.is_woken());
+    off.answer.set(Some(Err(1)));
+    assert_eq!(rt; task.poll(&mut f1), Poll::Ready(Err(InitError::Init(1))));
+    assert!(rt; task.is_woken());
+    ends(
+        &rt,
+        &cell,
+        "ready: false, quick_init: false, refcount: 3, queue: true } }",
+    )?;
+    f4 = cell.get_or_try_init(&rt, on.init());
+    ends(
+        &rt,
+        &cell,
+        "ready: false, quick_init: false, refcount: 2, queue: true } }",
+    )?;
+    assert!(rt; task.poll(&mut f2).is_pending());
+    calm(&task);
+    assert!(rt; task.poll(&mut f3).is_pending());
+    assert!(rt; !task.is_woken());
+    on.answer.set(Some(Ok(2)));
+    assert_eq!(rt; task.poll(&mut f2), Poll::Ready(Ok(&2)));
+    assert!(rt; task.is_woken());
+    assert_eq!(rt; task.poll(&mut f4), Poll::Ready(Ok(&2)));
+    ends(
+        &rt,
+        &cell,
+        "ready: true, quick_init: false, refcount: 1, queue: true } }",
+    )?;
+    assert_eq!(rt; task.poll(&mut f3), Poll::Ready(Ok(&2)));
+    assert!(rt; !task.is_woken());
+    assert_eq!(rt; (off.polls.get(), on.polls.get()), (2, 2));
+    ends(
+        &rt,
+        &cell,
+        "ready: true, quick_init: false, refcount: 0, queue: false } }",
+    )
+}
+
+/// Four futures of one cell that owns its future: it is driven by the first, and all get the value.
+#[test]
+fn four_of_a_lazy(rt: HostRuntime) -> Result<(), Fail> {
+    let (script, task) = (Script::new(), MockTask::new(&rt)?);
+    let lazy = Lazy::new(script.init());
+    let (mut f1, mut f2) = (lazy.get(&rt), lazy.get_unpin(&rt));
+    let (mut f3, mut f4) = (lazy.into_future(&rt), lazy.get(&rt));
+    assert!(rt; task.poll(&mut f1).is_pending());
+    calm(&task);
+    assert!(rt; task.poll(&mut f2).is_pending());
+    assert!(rt; task.poll(&mut f3).is_pending());
+    assert!(rt; task.poll(&mut f4).is_pending());
+    assert!(rt; !task.is_woken());
+    ends(
+        &rt,
+        &lazy,
+        "ready: false, quick_init: true, refcount: 3, queue: true } }",
+    )?;
+    script.answer.set(Some(2));
+    assert_eq!(rt; task.poll(&mut f1), Poll::Ready(Ok(&2)));
+    assert!(rt; task.is_woken());
+    assert_eq!(rt; task.poll(&mut f2), Poll::Ready(Ok(&2)));
+    assert_eq!(rt; task.poll(&mut f3), Poll::Ready(Ok(&2)));
+    assert_eq!(rt; task.poll(&mut f4), Poll::Ready(Ok(&2)));
+    assert!(rt; !task.is_woken());
+    assert_eq!(rt; script.polls.get(), 2);
+    shows(
+        &rt,
+        &lazy,
+        "Lazy { value: Some(2), inner: Inner { ready: true, quick_init: false, refcount: 0, queue: false } }",
+    )
+}
