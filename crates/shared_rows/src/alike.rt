@@ -135,9 +135,13 @@ impl<'n, 'r, R: Wait + AllocGlobal + Abort> Pair<'n, 'r, R> {
         if task.plain.left() == 0 || task.shared.left() == 0 {
             return;
         }
-        let refused = if is_granted { Refused::None } else { Refused::All };
-        let plain = plain_step(self.rt, &mut self.plain, task, answer, refused, self.limit);
-        let shared = shared_step(self.rt, &self.shared, task, answer, refused, self.limit);
+        let gate = Gate::new(if is_granted {
+            Refused::None
+        } else {
+            Refused::All
+        });
+        let plain = plain_step(self.rt, &mut self.plain, task, answer, &gate, self.limit);
+        let shared = shared_step(self.rt, &self.shared, task, answer, &gate, self.limit);
         assert!(self.rt; !self.plain.is_broken, "task {t} in {}", self.name);
         assert_eq!(self.rt; shared, plain, "task {t} in {}", self.name);
     }
@@ -148,19 +152,18 @@ fn plain_step<R: AllocGlobal + Abort>(
     parts: &mut Tested,
     task: &mut Task,
     answer: Polled,
-    refused: Refused,
+    gate: &Gate,
     limit: u64,
 ) -> Seen
     requires call { in_call task.old.plain ≡ true }
     requires limit { limit ≤ 2 ^ 62 - 2 }
     ensures shared { task.new.shared ≡ task.old.shared }
 {
-    let gate = Gate::new(refused);
-    let mut side = Noting::new(rt.alloc(), &gate, answer, task.waker.unwrap_or(0));
+    let mut side = Noting::new(rt.alloc(), gate, answer, task.waker.unwrap_or(0));
     if let Some(waker) = task.waker {
         parts.core.set_waker(waker);
     }
-    parts.core.grant(!matches!(refused, Refused::All));
+    parts.core.grant(gate.is_open());
     let progress = task.plain.advance(parts, &mut side, limit);
     assert!(rt; !side.is_short);
     Seen {
@@ -179,17 +182,16 @@ fn shared_step<R: Wait + AllocGlobal + Abort>(
     inner: &Inner<u64>,
     task: &mut Task,
     answer: Polled,
-    refused: Refused,
+    gate: &Gate,
     limit: u64,
 ) -> Seen
     requires call { in_call task.old.shared ≡ true }
     requires limit { limit ≤ 2 ^ 62 - 2 }
 {
-    let gate = Gate::new(refused);
-    let mut side = Noting::new(rt.alloc(), &gate, answer, task.waker.unwrap_or(0));
+    let mut side = Noting::new(rt.alloc(), gate, answer, task.waker.unwrap_or(0));
     let mut parts = Gated {
         shared: inner.parts(rt, task.waker),
-        gate: &gate,
+        gate,
     };
     let progress = task.shared.advance(&mut parts, &mut side, limit);
     assert!(rt; !side.is_short);

@@ -2,7 +2,9 @@
 //! asked of them, shared parts that refuse memory, and a side that notes each of its calls.
 ghost use Rattle.std.specs.Prelude.{◌≡◌, ⊤, true, false, not};
 
-use async_once_cell::inner::{Answer, Core, Counted, Op, Parts, QINIT_BIT, Queue, READY_BIT, Shared};
+use async_once_cell::inner::{
+    Answer, Core, Counted, Op, Parts, QINIT_BIT, Queue, READY_BIT, Shared,
+};
 use async_once_cell::step::{Polled, Side};
 use std::alloc::{AllocGlobal, Global};
 use std::cell::Cell;
@@ -35,6 +37,11 @@ impl Gate {
     /// How many requests were made.
     pub fn asked(&self) -> u64 {
         self.asked.get()
+    }
+
+    /// Whether it does not refuse all.
+    pub fn is_open(&self) -> bool {
+        !matches!(self.refused, Refused::All)
     }
 
     fn grants(&self) -> bool {
@@ -201,9 +208,13 @@ impl Parts<u64> for Tested {
     }
 
     fn section(&mut self, queue: &u64, op: &mut Op<u64>) -> Answer<u64> {
-        let fits = !matches!(&*op, Op::Release(_)) || self.can_release();
-        if self.has_room() && fits {
-            return self.core.section(queue, op);
+        if self.has_room() {
+            match &*op {
+                Op::Look => return self.core.section(queue, op),
+                Op::List(_) => return self.core.section(queue, op),
+                Op::Release(_) if self.can_release() => return self.core.section(queue, op),
+                Op::Release(_) => {}
+            }
         }
         self.is_broken = true;
         Answer::Gone

@@ -6,4 +6,6 @@ mod alike;
 #[cfg(test)]
 mod doubles;
 #[cfg(test)]
+mod refused;
+#[cfg(test)]
 mod scripts;

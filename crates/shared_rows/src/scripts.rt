@@ -112,12 +112,7 @@ pub const POLLS: [(&str, bool, u64, &str); 10] = [
         8,
         "make 1\npoll 1 7\ngo 1 p\ngo 1 p\ngo 1 v4\ngo 1 p\ngo 1 p\ngo 1 p\n",
     ),
-    (
-        "unfitting_inputs",
-        false,
-        1,
-        "go 1 p\ndrop 1\n",
-    ),
+    ("unfitting_inputs", false, 1, "go 1 p\ndrop 1\n"),
 ];
 
 /// Scripts of limits, and of memory that is refused; as in [`POLLS`].
