@@ -16,7 +16,7 @@ use std::{fmt, mem};
 /// A cell with the future that fills it, or with its value.
 #[derive(Drop)]
 pub struct Lazy<T, F: Future> {
-    cell: OnceCell<T>,
+    pub(crate) cell: OnceCell<T>,
     // None while it is polled, and once it gave its value.
     future: Mutex<Option<Held<F>>>,
 }
