@@ -1,4 +1,5 @@
 //! What the clauses do not say: worked examples, and that each call can succeed.
 
+mod hostile;
 mod layers;
 mod replays;

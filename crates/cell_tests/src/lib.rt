@@ -1,4 +1,4 @@
-//! What the cells do, by their public calls alone.
+//! What the cells and their parts do, by their public calls alone.
 #![tactic(auto)]
 
 #[cfg(test)]
@@ -19,6 +19,8 @@ mod owner;
 mod paths;
 #[cfg(test)]
 mod refusal;
+#[cfg(test)]
+mod shared_rows;
 #[cfg(test)]
 mod stress;
 #[cfg(test)]
