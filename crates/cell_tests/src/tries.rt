@@ -5,7 +5,18 @@ use async_once_cell::once::InitError;
 use async_once_cell::{Lazy, OnceCell};
 use futures::task::Poll;
 use futures::test::MockTask;
+use std::alloc::AllocGlobal;
+use std::fmt::Debug;
+use std::process::Abort;
 use std::test::Fail;
+
+const DONE: &str = "ready: true, quick_init: false, refcount: 0, queue: false } }";
+
+// That the flag of a quick holder, the count and the queue of a cell are shown so.
+fn stands<R: Abort + AllocGlobal>(rt: &R, cell: &impl Debug, state: &str) -> Result<(), Fail> {
+    let wanted = format!(in rt.alloc(); "{state} }} }}")?;
+    ends(rt, cell, wanted.as_str())
+}
 
 /// The first init fails, and one of those who waited goes on with its own.
 #[test]
@@ -18,35 +29,19 @@ fn second_try(rt: HostRuntime) -> Result<(), Fail> {
     let mut f4 = cell.get_or_try_init(&rt, on.init());
     assert!(rt; task.poll(&mut f1).is_pending());
     calm(&task);
-    ends(
-        &rt,
-        &cell,
-        "ready: false, quick_init: true, refcount: 0, queue: false } }",
-    )?;
+    stands(&rt, &cell, "quick_init: true, refcount: 0, queue: false")?;
     assert!(rt; task.poll(&mut f2).is_pending());
     assert!(rt; task.poll(&mut f3).is_pending());
     assert!(rt; task.poll(&mut f4).is_pending());
-    ends(
-        &rt,
-        &cell,
-        "ready: false, quick_init: true, refcount: 3, queue: true } }",
-    )?;
+    stands(&rt, &cell, "quick_init: true, refcount: 3, queue: true")?;
     assert!(rt; task.poll(&mut f2).is_pending());
     assert!(rt; !task.is_woken());
     off.answer.set(Some(Err(1)));
     assert_eq!(rt; task.poll(&mut f1), Poll::Ready(Err(InitError::Init(1))));
     assert!(rt; task.is_woken());
-    ends(
-        &rt,
-        &cell,
-        "ready: false, quick_init: false, refcount: 3, queue: true } }",
-    )?;
+    stands(&rt, &cell, "quick_init: false, refcount: 3, queue: true")?;
     f4 = cell.get_or_try_init(&rt, on.init());
-    ends(
-        &rt,
-        &cell,
-        "ready: false, quick_init: false, refcount: 2, queue: true } }",
-    )?;
+    stands(&rt, &cell, "quick_init: false, refcount: 2, queue: true")?;
     assert!(rt; task.poll(&mut f2).is_pending());
     calm(&task);
     assert!(rt; task.poll(&mut f3).is_pending());
@@ -55,19 +50,11 @@ fn second_try(rt: HostRuntime) -> Result<(), Fail> {
     assert_eq!(rt; task.poll(&mut f2), Poll::Ready(Ok(&2)));
     assert!(rt; task.is_woken());
     assert_eq!(rt; task.poll(&mut f4), Poll::Ready(Ok(&2)));
-    ends(
-        &rt,
-        &cell,
-        "ready: true, quick_init: false, refcount: 1, queue: true } }",
-    )?;
+    stands(&rt, &cell, "quick_init: false, refcount: 1, queue: true")?;
     assert_eq!(rt; task.poll(&mut f3), Poll::Ready(Ok(&2)));
     assert!(rt; !task.is_woken());
     assert_eq!(rt; (off.polls.get(), on.polls.get()), (2, 2));
-    ends(
-        &rt,
-        &cell,
-        "ready: true, quick_init: false, refcount: 0, queue: false } }",
-    )
+    ends(&rt, &cell, DONE)
 }
 
 /// Four futures of one cell that owns its future: it is driven by the first, and all get the value.
@@ -83,11 +70,7 @@ fn four_of_a_lazy(rt: HostRuntime) -> Result<(), Fail> {
     assert!(rt; task.poll(&mut f3).is_pending());
     assert!(rt; task.poll(&mut f4).is_pending());
     assert!(rt; !task.is_woken());
-    ends(
-        &rt,
-        &lazy,
-        "ready: false, quick_init: true, refcount: 3, queue: true } }",
-    )?;
+    stands(&rt, &lazy, "quick_init: true, refcount: 3, queue: true")?;
     script.answer.set(Some(2));
     assert_eq!(rt; task.poll(&mut f1), Poll::Ready(Ok(&2)));
     assert!(rt; task.is_woken());
