@@ -57,7 +57,7 @@ fn steps_in(text: &str, times: u64) -> Option<Order> {
 
 /// Scripts of polls in turn: the name, whether a queue stands at the door at the end, the limit, and
 /// the lines.
-pub const POLLS: [(&str, bool, u64, &str); 10] = [
+pub const POLLS: [(&str, bool, u64, &str); 11] = [
     (
         "plain_path",
         false,
@@ -113,6 +113,12 @@ pub const POLLS: [(&str, bool, u64, &str); 10] = [
         "make 1\npoll 1 7\ngo 1 p\ngo 1 p\ngo 1 v4\ngo 1 p\ngo 1 p\ngo 1 p\n",
     ),
     ("unfitting_inputs", false, 1, "go 1 p\ndrop 1\n"),
+    (
+        "two_put_a_queue_to_the_door",
+        false,
+        8,
+        "make 1\nmake 2\nmake 3\npoll 1 5\nrun 1 p\npoll 2 7\ngo 2 p\ngo 2 p\npoll 3 8\ngo 3 p\ngo 3 p\nrun 2 p\nrun 3 p\npoll 1 5\nrun 1 v4\npoll 2 7\nrun 2 p\npoll 3 8\nrun 3 p\n",
+    ),
 ];
 
 /// Scripts of limits, and of memory that is refused; as in [`POLLS`].
