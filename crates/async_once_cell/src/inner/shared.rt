@@ -189,7 +189,8 @@ impl<W: WakerId + Drop, R: Wait + AllocGlobal> Shared<'_, '_, W, R> {
     ghost use Rattle.std.specs.Prelude.{◌≡◌, true, false};
     ghost use Rattle.async_once_cell.specs.Steps.{is_resting, in_call};
 
-    /// A whole poll: begins it, and makes its steps until it ends.
+    /// A whole poll: begins it, and makes its steps until it ends. It may wait for the locks of door
+    /// and queue, and for whatever the side waits for.
     pub fn poll<S: Side<W>>(&mut self, step: &mut Step<W, Queue<W>>, side: &mut S) -> Ending
         requires { is_resting step.old ≡ true }
         ensures ended { in_call step.new ≡ false }
@@ -199,7 +200,7 @@ impl<W: WakerId + Drop, R: Wait + AllocGlobal> Shared<'_, '_, W, R> {
         self.go_on(step, side)
     }
 
-    /// A whole drop of a task that is not finished.
+    /// A whole drop of a task that is not finished. It may wait as [`Shared::poll`].
     pub fn finish<S: Side<W>>(&mut self, step: &mut Step<W, Queue<W>>, side: &mut S)
         requires { is_resting step.old ≡ true }
         ensures ended { in_call step.new ≡ false }

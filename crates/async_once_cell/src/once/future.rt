@@ -20,8 +20,10 @@ use std::sync::Wait;
 /// Future of [`OnceCell::get_or_try_init`].
 ///
 /// A poll answers the value that is set. While the cell is empty, the task that gets the right polls
-/// its init; the others are Pending until they are woken. To drop a future drops its init, and then
-/// gives back its place among those who wait, or the right.
+/// its init; the others are Pending until they are woken. The init is dropped as soon as it is not
+/// needed any more: when it gave a value or an error, when the value is found set, when the poll is
+/// refused, and when the future is dropped. Only then is the place among those who wait, or the
+/// right, given back.
 ///
 /// A poll or a drop may wait for the locks of the door, of the queue and of the places of those who
 /// wait. A task has each for a few operations, and none while an init is polled or dropped, a value
