@@ -1,13 +1,15 @@
 //! Inits that do as a test tells them, and what all tests ask of tasks and cells.
 
+use async_once_cell::once::{InitError, Refused};
 use futures::Future;
+use futures::future::TryOutput;
 use futures::task::{Context, Poll};
 use futures::test::MockTask;
 use std::alloc::AllocGlobal;
 use std::cell::Cell;
+use std::fmt;
 use std::fmt::Debug;
 use std::process::Abort;
-use std::test::Fail;
 
 /// The answer of an init that may fail.
 pub type Tried = Result<u64, u64>;
@@ -80,16 +82,79 @@ pub fn calm(task: &MockTask) {
     task.enter(|_| ());
 }
 
-/// That a cell's Debug text is this.
-pub fn shows<R: Abort + AllocGlobal>(rt: &R, cell: &impl Debug, wanted: &str) -> Result<(), Fail> {
-    let text = format!(in rt.alloc(); "{cell:?}")?;
-    assert_eq!(rt; text.as_str(), wanted);
-    Ok(())
+/// Asserts that a cell's Debug text is this.
+pub fn shows<R: Abort + AllocGlobal>(rt: &R, cell: &impl Debug, wanted: &str) {
+    match format!(in rt.alloc(); "{cell:?}") {
+        Ok(text) => assert_eq!(rt; text.as_str(), wanted),
+        Err(_) => assert!(rt; false, "no memory for the text"),
+    }
 }
 
-/// That a cell's Debug text ends so.
-pub fn ends<R: Abort + AllocGlobal>(rt: &R, cell: &impl Debug, wanted: &str) -> Result<(), Fail> {
-    let text = format!(in rt.alloc(); "{cell:?}")?;
-    assert!(rt; text.as_str().ends_with(wanted), "{text}");
-    Ok(())
+/// Asserts that a cell's Debug text ends so.
+pub fn ends<R: Abort + AllocGlobal>(rt: &R, cell: &impl Debug, wanted: &str) {
+    match format!(in rt.alloc(); "{cell:?}") {
+        Ok(text) => assert!(rt; text.as_str().ends_with(wanted), "{text}"),
+        Err(_) => assert!(rt; false, "no memory for the text"),
+    }
+}
+
+/// What a poll answered.
+#[derive(Clone, Copy, Debug, PartialEq, Eq)]
+pub enum Answer {
+    Pending,
+    Value(u64),
+    Init(u64),
+    Memory,
+    Full,
+}
+
+impl fmt::Display for Answer {
+    fn fmt<W: fmt::Write>(&self, f: &mut fmt::Formatter<W>) -> fmt::Result {
+        match self {
+            Answer::Pending => f.write_str("pending"),
+            Answer::Value(value) => write!(f, "v{value}"),
+            Answer::Init(error) => write!(f, "e{error}"),
+            Answer::Memory => f.write_str("memory"),
+            Answer::Full => f.write_str("full"),
+        }
+    }
+}
+
+/// Why a poll ended without a value.
+pub trait Refusal: Drop {
+    fn answer(self) -> Answer;
+}
+
+impl Refusal for Refused {
+    fn answer(self) -> Answer {
+        match self {
+            Refused::Memory => Answer::Memory,
+            Refused::Full => Answer::Full,
+        }
+    }
+}
+
+impl Refusal for InitError<u64> {
+    fn answer(self) -> Answer {
+        match self {
+            InitError::Init(error) => Answer::Init(error),
+            InitError::Memory => Answer::Memory,
+            InitError::Full => Answer::Full,
+        }
+    }
+}
+
+/// What a poll of a future of a cell answers.
+pub fn polled<'a, E: Refusal, F>(task: &MockTask, future: &mut F) -> Answer
+where
+    F: Future<Output: TryOutput<Ok = &'a u64, Error = E>>,
+    requires { F.can_poll future.old }
+{
+    match task.poll(future) {
+        Poll::Pending => Answer::Pending,
+        Poll::Ready(output) => match output.into_result() {
+            Ok(value) => Answer::Value(*value),
+            Err(refusal) => refusal.answer(),
+        },
+    }
 }

@@ -1,6 +1,6 @@
 //! Inits that use the cell that they are to fill.
 
-use crate::inits::{Script, shows};
+use crate::inits::{Answer, Script, polled, shows};
 use async_once_cell::OnceCell;
 use futures::Future;
 use futures::task::{Context, Poll};
@@ -45,12 +45,13 @@ fn polled_within_the_init(rt: HostRuntime) -> Result<(), Fail> {
         script: &script,
     };
     let mut f = cell.get_or_init(&rt, init);
-    assert_eq!(rt; task.poll(&mut f), Poll::Ready(Ok(&6)));
+    assert_eq!(rt; polled(&task, &mut f), Answer::Value(6));
     assert_eq!(rt; seen.get(), Some((true, None)));
     assert_eq!(rt; (script.polls.get(), script.drops.get()), (0, 1));
     shows(
         &rt,
         &cell,
         "OnceCell { value: Some(6), inner: Inner { ready: true, quick_init: false, refcount: 0, queue: false } }",
-    )
+    );
+    Ok(())
 }

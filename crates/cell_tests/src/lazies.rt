@@ -1,6 +1,6 @@
 //! The calls of a cell that owns its future, by whoever has the cell alone.
 
-use crate::inits::{Init, Script, shows};
+use crate::inits::{Answer, Init, Script, polled, shows};
 use async_once_cell::Lazy;
 use futures::task::Poll;
 use futures::test::MockTask;
@@ -13,7 +13,7 @@ fn future_handed_back(rt: HostRuntime) -> Result<(), Fail> {
     let lazy = Lazy::new(script.init());
     assert_eq!(rt; lazy.try_get(), None);
     let mut f = lazy.get(&rt);
-    assert!(rt; task.poll(&mut f).is_pending());
+    assert_eq!(rt; polled(&task, &mut f), Answer::Pending);
     drop(f);
     assert_eq!(rt; lazy.try_get(), None);
     let Err(Some(mut future)) = lazy.into_parts() else {
@@ -67,7 +67,7 @@ fn value_lent_for_writing(rt: HostRuntime) -> Result<(), Fail> {
         &rt,
         &lazy,
         "Lazy { value: Some(8), inner: Inner { ready: true, quick_init: false, refcount: 0, queue: false } }",
-    )?;
+    );
     assert_eq!(rt; lazy.into_inner(), Some(8));
     let script = Script::giving(9);
     let mut fresh = Lazy::new(script.init());
@@ -82,7 +82,7 @@ fn value_of_the_future(rt: HostRuntime) -> Result<(), Fail> {
     let (script, task) = (Script::giving(9), MockTask::new(&rt)?);
     let lazy = Lazy::new(script.init());
     let mut f = lazy.into_future(&rt);
-    assert_eq!(rt; task.poll(&mut f), Poll::Ready(Ok(&9)));
+    assert_eq!(rt; polled(&task, &mut f), Answer::Value(9));
     drop(f);
     assert_eq!(rt; lazy.try_get(), Some(&9));
     assert_eq!(rt; script.drops.get(), 1);

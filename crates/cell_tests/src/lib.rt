@@ -4,8 +4,6 @@
 #[cfg(test)]
 mod drops;
 #[cfg(test)]
-mod hostile;
-#[cfg(test)]
 mod inits;
 #[cfg(test)]
 mod inside;
@@ -16,9 +14,9 @@ mod meeting;
 #[cfg(test)]
 mod owner;
 #[cfg(test)]
-mod paths;
+mod play;
 #[cfg(test)]
-mod refusal;
+mod plays;
 #[cfg(test)]
 mod shared_rows;
 #[cfg(test)]
@@ -29,5 +27,3 @@ mod threads;
 mod tokens;
 #[cfg(test)]
 mod told;
-#[cfg(test)]
-mod tries;

@@ -1,8 +1,7 @@
 //! The calls of whoever has the cell alone.
 
-use crate::inits::{Script, calm, shows};
+use crate::inits::{Answer, Script, calm, polled, shows};
 use async_once_cell::OnceCell;
-use futures::task::Poll;
 use futures::test::MockTask;
 use std::mem;
 use std::test::Fail;
@@ -22,9 +21,9 @@ fn value_of_the_owner(rt: HostRuntime) -> Result<(), Fail> {
         &rt,
         &cell,
         "OnceCell { value: Some(6), inner: Inner { ready: true, quick_init: false, refcount: 0, queue: false } }",
-    )?;
+    );
     assert_eq!(rt; cell.take(), Some(6));
-    shows(&rt, &cell, EMPTY)?;
+    shows(&rt, &cell, EMPTY);
     assert_eq!(rt; cell.get(), None);
     assert_eq!(rt; cell.get_mut(), None);
     assert_eq!(rt; cell.take(), None);
@@ -38,7 +37,7 @@ fn made_and_taken_apart(rt: HostRuntime) -> Result<(), Fail> {
     assert_eq!(rt; OnceCell::new_with(5u64).into_inner(), Some(5));
     assert_eq!(rt; OnceCell::from(7u64).into_inner(), Some(7));
     let cell: OnceCell<u64> = OnceCell::default();
-    shows(&rt, &cell, EMPTY)?;
+    shows(&rt, &cell, EMPTY);
     assert_eq!(rt; cell.into_inner(), None);
     Ok(())
 }
@@ -50,7 +49,7 @@ fn filled_twice(rt: HostRuntime) -> Result<(), Fail> {
     assert_eq!(rt; cell.take(), Some(5));
     let script = Script::giving(8);
     let mut f = cell.get_or_init(&rt, script.init());
-    assert_eq!(rt; task.poll(&mut f), Poll::Ready(Ok(&8)));
+    assert_eq!(rt; polled(&task, &mut f), Answer::Value(8));
     drop(f);
     assert_eq!(rt; cell.into_inner(), Some(8));
     Ok(())
@@ -64,23 +63,23 @@ fn taken_while_a_queue_stands(rt: HostRuntime) -> Result<(), Fail> {
     let (one, two) = (MockTask::new(&rt)?, MockTask::new(&rt)?);
     let mut f1 = cell.get_or_init(&rt, script.init());
     let mut f2 = cell.get_or_init(&rt, script.init());
-    assert!(rt; one.poll(&mut f1).is_pending());
+    assert_eq!(rt; polled(&one, &mut f1), Answer::Pending);
     calm(&one);
-    assert!(rt; two.poll(&mut f2).is_pending());
+    assert_eq!(rt; polled(&two, &mut f2), Answer::Pending);
     drop(f2);
     mem::forget(f1);
     shows(
         &rt,
         &cell,
         "OnceCell { value: None, inner: Inner { ready: false, quick_init: true, refcount: 0, queue: true } }",
-    )?;
+    );
     assert!(rt; !two.is_woken());
     assert_eq!(rt; cell.take(), None);
     assert!(rt; two.is_woken());
     assert!(rt; !one.is_woken());
-    shows(&rt, &cell, EMPTY)?;
+    shows(&rt, &cell, EMPTY);
     script.answer.set(Some(3));
     let mut f3 = cell.get_or_init(&rt, script.init());
-    assert_eq!(rt; one.poll(&mut f3), Poll::Ready(Ok(&3)));
+    assert_eq!(rt; polled(&one, &mut f3), Answer::Value(3));
     Ok(())
 }

@@ -1,6 +1,6 @@
 //! Tokens: what they know, and when two of them know one value.
 
-use crate::inits::{Init, Script, ends};
+use crate::inits::{Answer, Init, Script, ends, polled};
 use async_once_cell::once::Known;
 use async_once_cell::{Lazy, OnceCell};
 use futures::task::{Context, Poll};
@@ -85,13 +85,14 @@ fn leave_with_a_token<'a, R: Wait + AllocGlobal + Abort>(
     }
     script.answer.set(Some(2));
     assert_eq!(rt; f1.poll(cx), Poll::Ready(Ok(&2)));
-    ends(rt, cell, "quick_init: false, refcount: 1, queue: true } }")?;
+    ends(rt, cell, "quick_init: false, refcount: 1, queue: true } }");
     let mut token = cell.token();
     assert_eq!(rt; cell.get_as(&mut token), Some(&2));
     assert_eq!(rt; f2.poll_as(cx, &mut token), Poll::Ready(Ok(&2)));
     assert!(rt; f2.is_finished());
     assert_eq!(rt; (script.polls.get(), script.drops.get()), (2, 2));
-    ends(rt, cell, "quick_init: false, refcount: 0, queue: false } }")
+    ends(rt, cell, "quick_init: false, refcount: 0, queue: false } }");
+    Ok(())
 }
 
 /// A future that waits leaves its cell when it is polled with a token that knows the value.
@@ -99,4 +100,30 @@ fn leave_with_a_token<'a, R: Wait + AllocGlobal + Abort>(
 fn waiter_with_a_knowing_token(rt: HostRuntime) -> Result<(), Fail> {
     let (cell, task, script) = (OnceCell::new(), MockTask::new(&rt)?, Script::new());
     task.enter(|cx| leave_with_a_token(&rt, cx, &cell, &script))
+}
+
+// Learns the value that the cell has, and polls a future with the token.
+fn poll_knowing<'a, R: Wait + AllocGlobal + Abort>(
+    rt: &'a R,
+    cx: &mut Context<'_>,
+    cell: &'a OnceCell<u64>,
+) {
+    let script = Script::giving(9);
+    let mut token = cell.token();
+    assert_eq!(rt; cell.get_as(&mut token), Some(&4));
+    let mut third = cell.get_or_init(rt, script.init());
+    assert_eq!(rt; third.poll_as(cx, &mut token), Poll::Ready(Ok(&4)));
+    assert!(rt; third.is_finished());
+    assert_eq!(rt; (script.polls.get(), script.drops.get()), (0, 1));
+}
+
+/// A token that knows the value answers it, and the init is dropped and not polled.
+#[test]
+fn path_of_a_token(rt: HostRuntime) -> Result<(), Fail> {
+    let (cell, task, script) = (OnceCell::new(), MockTask::new(&rt)?, Script::giving(4));
+    let mut first = cell.get_or_init(&rt, script.init());
+    assert_eq!(rt; polled(&task, &mut first), Answer::Value(4));
+    task.enter(|cx| poll_knowing(&rt, cx, &cell));
+    assert!(rt; !task.is_woken());
+    Ok(())
 }

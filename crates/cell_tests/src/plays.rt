@@ -1,0 +1,301 @@
+//! Schedules of polls and drops over the cells, line by line.
+//!
+//! `init T` and `try T` make future T of a cell by `get_or_init` and `get_or_try_init`, and `get T` one
+//! of a lazy cell; `drop T` drops it. `poll T A` polls it by task T, `poll T A W` by task W; where
+//! its init is polled, it answers A: `p`, `v` with a value, or `e` with an error. After `=>` stands what
+//! the poll answered, whether the future is done, and the tasks that were woken since the last line. An
+//! init that is Pending asks for another poll of its task, which counts as a wake. After `starve` every
+//! request for memory is refused.
+
+use crate::play::{Inits, Stage, play};
+use async_once_cell::{Lazy, OnceCell};
+use std::alloc::AllocGlobal;
+use std::process::Abort;
+use std::random::RandomSource;
+use std::sync::Wait;
+use std::test::Fail;
+
+/// Schedules over a `OnceCell`.
+const ONCE: [(&str, &str); 9] = [
+    (
+        "plain_path",
+        "show => OnceCell { value: None, inner: Inner { ready: false, quick_init: false, refcount: 0, queue: false } }
+init 0
+poll 0 v4 => v4, done
+init 1
+poll 1 v9 => v4, done
+inits => 1 polls, 2 drops
+show => OnceCell { value: Some(4), inner: Inner { ready: true, quick_init: false, refcount: 0, queue: false } }",
+    ),
+    (
+        "slow_path",
+        "init 0
+init 1
+poll 0 p => pending, wakes 0
+poll 1 v9 => pending
+poll 1 v9 => pending
+poll 0 v2 => v2, done, wakes 1
+poll 1 v9 => v2, done
+inits => 2 polls, 2 drops
+show => OnceCell { value: Some(2), inner: Inner { ready: true, quick_init: false, refcount: 0, queue: false } }",
+    ),
+    // A waiter is gone when the value is set, so the right is given back as if nobody had waited. Its
+    // waker is still listed; it is let go with the queue, which wakes its task.
+    (
+        "tricked_fast_path",
+        "init 0
+init 1
+poll 0 p => pending, wakes 0
+poll 1 v9 => pending
+init 1
+poll 0 v2 => v2, done, wakes 1
+show => OnceCell { value: Some(2), inner: Inner { ready: true, quick_init: false, refcount: 0, queue: false } }
+poll 1 v9 => v2, done
+show => OnceCell { value: Some(2), inner: Inner { ready: true, quick_init: false, refcount: 0, queue: false } }",
+    ),
+    (
+        "second_try",
+        "try 1
+try 2
+try 3
+try 4
+poll 1 p => pending, wakes 1
+show => OnceCell { value: None, inner: Inner { ready: false, quick_init: true, refcount: 0, queue: false } }
+poll 2 v9 => pending
+poll 3 v9 => pending
+poll 4 v9 => pending
+show => OnceCell { value: None, inner: Inner { ready: false, quick_init: true, refcount: 3, queue: true } }
+poll 2 v9 => pending
+poll 1 e1 => e1, done, wakes 2, wakes 3, wakes 4
+show => OnceCell { value: None, inner: Inner { ready: false, quick_init: false, refcount: 3, queue: true } }
+try 4
+show => OnceCell { value: None, inner: Inner { ready: false, quick_init: false, refcount: 2, queue: true } }
+poll 2 p => pending, wakes 2
+poll 3 v9 => pending
+poll 2 v2 => v2, done, wakes 3
+poll 4 v9 => v2, done
+show => OnceCell { value: Some(2), inner: Inner { ready: true, quick_init: false, refcount: 1, queue: true } }
+poll 3 v9 => v2, done
+inits => 4 polls, 5 drops
+show => OnceCell { value: Some(2), inner: Inner { ready: true, quick_init: false, refcount: 0, queue: false } }",
+    ),
+    (
+        "dropped_holder",
+        "init 0
+init 1
+poll 0 p => pending, wakes 0
+poll 1 v9 => pending
+drop 0 => so, wakes 1
+inits => 1 polls, 1 drops
+show => OnceCell { value: None, inner: Inner { ready: false, quick_init: false, refcount: 1, queue: true } }
+poll 1 v5 => v5, done
+inits => 2 polls, 2 drops
+show => OnceCell { value: Some(5), inner: Inner { ready: true, quick_init: false, refcount: 0, queue: false } }",
+    ),
+    // An init is dropped once: when it is done, when it fails, or with its future.
+    (
+        "inits_dropped_once",
+        "try 0
+poll 0 p => pending, wakes 0
+inits => 1 polls, 0 drops
+drop 0
+inits => 1 polls, 1 drops
+try 0
+poll 0 e1 => e1, done
+inits => 2 polls, 2 drops
+drop 0
+try 1
+poll 1 v3 => v3, done
+inits => 3 polls, 3 drops
+drop 1
+try 2
+poll 2 e1 => v3, done
+inits => 3 polls, 4 drops
+drop 2
+try 3
+drop 3
+inits => 3 polls, 5 drops",
+    ),
+    (
+        "polled_without_a_call",
+        "init 0
+init 1
+poll 0 p => pending, wakes 0
+100 * poll 1 v9 => pending
+show => OnceCell { value: None, inner: Inner { ready: false, quick_init: true, refcount: 1, queue: true } }
+poll 0 v2 => v2, done, wakes 1
+poll 1 v9 => v2, done",
+    ),
+    // Where a waker takes the place of another task's, that one is let go, which wakes its task.
+    (
+        "moved_from_task_to_task",
+        "init 0
+init 1
+poll 0 p => pending, wakes 0
+poll 1 v9 1 => pending
+poll 1 v9 2 => pending, wakes 1
+poll 1 v9 1 => pending, wakes 2
+show => OnceCell { value: None, inner: Inner { ready: false, quick_init: true, refcount: 1, queue: true } }
+poll 0 v3 => v3, done, wakes 1
+poll 1 v9 2 => v3, done",
+    ),
+    // A future that is done asks for another poll, and leaves its cell as it is.
+    (
+        "polled_when_done",
+        "try 0
+poll 0 e1 => e1, done
+show => OnceCell { value: None, inner: Inner { ready: false, quick_init: false, refcount: 0, queue: false } }
+poll 0 v9 => pending, done, wakes 0
+poll 0 v9 => pending, done, wakes 0
+show => OnceCell { value: None, inner: Inner { ready: false, quick_init: false, refcount: 0, queue: false } }
+init 1
+poll 1 v2 => v2, done
+poll 1 v9 => pending, done, wakes 1
+inits => 2 polls, 2 drops
+show => OnceCell { value: Some(2), inner: Inner { ready: true, quick_init: false, refcount: 0, queue: false } }",
+    ),
+];
+
+/// Schedules over a `Lazy`.
+const LAZY: [(&str, &str); 3] = [
+    (
+        "four_of_a_lazy",
+        "get 1
+get 2
+get 3
+get 4
+poll 1 p => pending, wakes 1
+poll 2 p => pending
+poll 3 p => pending
+poll 4 p => pending
+show => Lazy { value: None, inner: Inner { ready: false, quick_init: true, refcount: 3, queue: true } }
+poll 1 v2 => v2, done, wakes 2, wakes 3, wakes 4
+poll 2 p => v2, done
+poll 3 p => v2, done
+poll 4 p => v2, done
+inits => 2 polls, 1 drops
+show => Lazy { value: Some(2), inner: Inner { ready: true, quick_init: false, refcount: 0, queue: false } }",
+    ),
+    // The future stays, and goes on where it stood.
+    (
+        "dropped_holder",
+        "get 0
+get 1
+poll 0 p => pending, wakes 0
+poll 1 p => pending
+drop 0 => so, wakes 1
+inits => 1 polls, 0 drops
+poll 1 p => pending, wakes 1
+inits => 2 polls, 0 drops
+poll 1 v5 => v5, done
+inits => 3 polls, 1 drops",
+    ),
+    (
+        "polled_when_done",
+        "get 0
+poll 0 v2 => v2, done
+poll 0 v9 => pending, done, wakes 0
+inits => 1 polls, 1 drops
+show => Lazy { value: Some(2), inner: Inner { ready: true, quick_init: false, refcount: 0, queue: false } }",
+    ),
+];
+
+/// Schedules over a `OnceCell` for which memory runs out.
+const STARVED_ONCE: [(&str, &str); 3] = [
+    (
+        "nobody_waits",
+        "starve
+init 0
+poll 0 p => pending, wakes 0
+drop 0
+try 1
+poll 1 e1 => e1, done
+init 2
+poll 2 v4 => v4, done
+inits => 3 polls, 3 drops
+show => OnceCell { value: Some(4), inner: Inner { ready: true, quick_init: false, refcount: 0, queue: false } }",
+    ),
+    (
+        "no_memory_to_wait",
+        "init 0
+init 1
+starve
+poll 0 p => pending, wakes 0
+poll 1 v9 => memory, done
+inits => 1 polls, 1 drops
+show => OnceCell { value: None, inner: Inner { ready: false, quick_init: true, refcount: 0, queue: false } }
+poll 0 v4 => v4, done
+inits => 2 polls, 2 drops
+show => OnceCell { value: Some(4), inner: Inner { ready: true, quick_init: false, refcount: 0, queue: false } }",
+    ),
+    // A future that waited before keeps its place, and takes the right over.
+    (
+        "waited_before",
+        "init 0
+init 1
+poll 0 p => pending, wakes 0
+poll 1 v9 => pending
+starve
+drop 0 => so, wakes 1
+poll 1 v4 => v4, done
+show => OnceCell { value: Some(4), inner: Inner { ready: true, quick_init: false, refcount: 0, queue: false } }",
+    ),
+];
+
+/// The same over a `Lazy`, whose future goes on unharmed.
+const STARVED_LAZY: [(&str, &str); 1] = [(
+    "no_memory_to_wait",
+    "get 0
+get 1
+starve
+poll 0 p => pending, wakes 0
+poll 1 p => memory, done
+inits => 1 polls, 0 drops
+show => Lazy { value: None, inner: Inner { ready: false, quick_init: true, refcount: 0, queue: false } }
+poll 0 v4 => v4, done
+inits => 2 polls, 1 drops
+show => Lazy { value: Some(4), inner: Inner { ready: true, quick_init: false, refcount: 0, queue: false } }",
+)];
+
+fn play_once<R>(rt: &R, rows: &[(&str, &str)]) -> Result<(), Fail>
+where
+    R: Wait + AllocGlobal + RandomSource + Abort,
+{
+    for (name, lines) in rows {
+        let (cell, inits) = (OnceCell::new(), Inits::new());
+        play(rt, name, Stage::Once(&cell), &inits, lines)?;
+    }
+    Ok(())
+}
+
+fn play_lazy<R>(rt: &R, rows: &[(&str, &str)]) -> Result<(), Fail>
+where
+    R: Wait + AllocGlobal + RandomSource + Abort,
+{
+    for (name, lines) in rows {
+        let inits = Inits::new();
+        let lazy = Lazy::new(inits.lazy());
+        play(rt, name, Stage::Lazy(&lazy), &inits, lines)?;
+    }
+    Ok(())
+}
+
+#[test]
+fn schedules_of_once_cells(rt: HostRuntime) -> Result<(), Fail> {
+    play_once(&rt, &ONCE)
+}
+
+#[test]
+fn schedules_of_lazy_cells(rt: HostRuntime) -> Result<(), Fail> {
+    play_lazy(&rt, &LAZY)
+}
+
+#[test]
+fn starved_once_cells(rt: HostRuntime) -> Result<(), Fail> {
+    play_once(&rt, &STARVED_ONCE)
+}
+
+#[test]
+fn starved_lazy_cells(rt: HostRuntime) -> Result<(), Fail> {
+    play_lazy(&rt, &STARVED_LAZY)
+}
