@@ -4,8 +4,8 @@
 use async_once_cell::once::Known;
 use async_once_cell::{Lazy, OnceCell};
 use futures::executor::block_on;
-use futures::future::{err, ok, pending, ready};
-use futures::task::Poll;
+use futures::future::{Ready, err, ok, pending, ready};
+use futures::task::{Context, Poll};
 use futures::test::MockTask;
 use std::alloc::AllocGlobal;
 use std::random::RandomSource;
@@ -54,22 +54,32 @@ where
     R: Wait + RandomSource + AllocGlobal + Threads + Sync,
 {
     let lazy = Lazy::new(ready(3));
-    let (here, there) = thread::join(
-        rt,
-        || block_on(rt, lazy.get(rt)),
-        || block_on(rt, lazy.get(rt)),
-    );
-    Ok((here?.copied().unwrap_or(0), there?.copied().unwrap_or(0)))
+    let (here, there) = thread::join(rt, || forced(rt, &lazy), || forced(rt, &lazy));
+    Ok((here?, there?))
+}
+
+fn forced<R>(rt: &R, lazy: &Lazy<u64, Ready<u64>>) -> io::Result<u64>
+where
+    R: Wait + RandomSource + AllocGlobal,
+{
+    Ok(block_on(rt, lazy.get(rt))?.copied().unwrap_or(0))
 }
 
 /// A poll by hand, with a token: once it knows the value, it gets that value from every call.
 fn by_hand<R: Wait + RandomSource + AllocGlobal>(rt: &R) -> io::Result<bool> {
     let (cell, task) = (OnceCell::new(), MockTask::new(rt)?);
+    Ok(task.enter(|cx| learns(rt, cx, &cell)))
+}
+
+fn learns<'a, R>(rt: &'a R, cx: &mut Context<'_>, cell: &'a OnceCell<u64>) -> bool
+where
+    R: Wait + AllocGlobal,
+{
     let (mut mine, mut other) = (cell.token(), cell.token());
     let mut future = cell.get_or_init(rt, ready(6));
-    let polled = task.enter(|cx| future.poll_as(cx, &mut mine).is_ready());
+    let is_ready = future.poll_as(cx, &mut mine).is_ready();
     let seen = cell.get_as(&mut other) == Some(&6);
-    Ok(polled && seen && Known::compare(&mine, &other))
+    is_ready && seen && Known::compare(&mine, &other)
 }
 
 fn main(rt: HostRuntime) -> io::Result<()> {
