@@ -144,6 +144,15 @@ impl Refusal for InitError<u64> {
     }
 }
 
+/// What a poll answered, without the borrow of the value.
+pub fn heard<E: Refusal>(polled: Poll<Result<&u64, E>>) -> Answer {
+    match polled {
+        Poll::Pending => Answer::Pending,
+        Poll::Ready(Ok(value)) => Answer::Value(*value),
+        Poll::Ready(Err(refusal)) => refusal.answer(),
+    }
+}
+
 /// What a poll of a future of a cell answers.
 pub fn polled<'a, E: Refusal, F>(task: &MockTask, future: &mut F) -> Answer
 where

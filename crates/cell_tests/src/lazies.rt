@@ -1,6 +1,7 @@
-//! The calls of a cell that owns its future, by whoever has the cell alone.
+//! A cell that owns its future: who drives it, and the calls of whoever has the cell alone.
 
-use crate::inits::{Answer, Init, Script, polled, shows};
+use crate::inits::{Answer, Init, Script, calm, ends, polled, shows};
+use crate::play::hoard;
 use async_once_cell::Lazy;
 use futures::task::Poll;
 use futures::test::MockTask;
@@ -87,5 +88,84 @@ fn value_of_the_future(rt: HostRuntime) -> Result<(), Fail> {
     assert_eq!(rt; lazy.try_get(), Some(&9));
     assert_eq!(rt; script.drops.get(), 1);
     assert!(rt; matches!(lazy.into_parts(), Ok(9)));
+    Ok(())
+}
+
+/// Four futures of one cell: its own future is driven by the first, and all get the value.
+#[test]
+fn four_of_one_cell(rt: HostRuntime) -> Result<(), Fail> {
+    let (script, task) = (Script::new(), MockTask::new(&rt)?);
+    let lazy = Lazy::new(script.init());
+    let (mut f1, mut f2) = (lazy.get(&rt), lazy.get_unpin(&rt));
+    let (mut f3, mut f4) = (lazy.into_future(&rt), lazy.get(&rt));
+    assert_eq!(rt; polled(&task, &mut f1), Answer::Pending);
+    calm(&task);
+    assert_eq!(rt; polled(&task, &mut f2), Answer::Pending);
+    assert_eq!(rt; polled(&task, &mut f3), Answer::Pending);
+    assert_eq!(rt; polled(&task, &mut f4), Answer::Pending);
+    assert!(rt; !task.is_woken());
+    ends(&rt, &lazy, "quick_init: true, refcount: 3, queue: true } }");
+    script.answer.set(Some(2));
+    assert_eq!(rt; polled(&task, &mut f1), Answer::Value(2));
+    assert!(rt; task.is_woken());
+    assert_eq!(rt; polled(&task, &mut f2), Answer::Value(2));
+    assert_eq!(rt; polled(&task, &mut f3), Answer::Value(2));
+    assert_eq!(rt; polled(&task, &mut f4), Answer::Value(2));
+    assert!(rt; !task.is_woken());
+    assert_eq!(rt; script.polls.get(), 2);
+    ends(
+        &rt,
+        &lazy,
+        "ready: true, quick_init: false, refcount: 0, queue: false } }",
+    );
+    Ok(())
+}
+
+/// A holder is dropped: the cell's future stays, and goes on where it stood. A future that is done
+/// asks for another poll.
+#[test]
+fn holder_dropped(rt: HostRuntime) -> Result<(), Fail> {
+    let (one, two) = (MockTask::new(&rt)?, MockTask::new(&rt)?);
+    let script = Script::new();
+    let lazy = Lazy::new(script.init());
+    let (mut f1, mut f2) = (lazy.get(&rt), lazy.get(&rt));
+    assert_eq!(rt; polled(&one, &mut f1), Answer::Pending);
+    assert_eq!(rt; polled(&two, &mut f2), Answer::Pending);
+    drop(f1);
+    assert!(rt; two.is_woken());
+    assert_eq!(rt; (script.polls.get(), script.drops.get()), (1, 0));
+    assert_eq!(rt; polled(&two, &mut f2), Answer::Pending);
+    script.answer.set(Some(5));
+    assert_eq!(rt; polled(&two, &mut f2), Answer::Value(5));
+    assert_eq!(rt; (script.polls.get(), script.drops.get()), (3, 1));
+    calm(&two);
+    assert_eq!(rt; polled(&two, &mut f2), Answer::Pending);
+    assert!(rt; two.is_woken() && f2.is_finished());
+    Ok(())
+}
+
+/// Every request for memory is refused: a future that would wait is refused, and the cell's own
+/// goes on unharmed.
+#[test]
+fn no_memory_to_wait(rt: HostRuntime) -> Result<(), Fail> {
+    let (one, two) = (MockTask::new(&rt)?, MockTask::new(&rt)?);
+    let script = Script::new();
+    let lazy = Lazy::new(script.init());
+    let (mut f1, mut f2) = (lazy.get(&rt), lazy.get(&rt));
+    let held = hoard(rt.alloc())?;
+    let first = polled(&one, &mut f1);
+    let second = polled(&two, &mut f2);
+    script.answer.set(Some(4));
+    let third = polled(&one, &mut f1);
+    drop(held);
+    assert_eq!(rt; (first, second), (Answer::Pending, Answer::Memory));
+    assert_eq!(rt; third, Answer::Value(4));
+    assert!(rt; f2.is_finished() && !two.is_woken());
+    assert_eq!(rt; (script.polls.get(), script.drops.get()), (2, 1));
+    ends(
+        &rt,
+        &lazy,
+        "ready: true, quick_init: false, refcount: 0, queue: false } }",
+    );
     Ok(())
 }

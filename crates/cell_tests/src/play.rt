@@ -1,8 +1,10 @@
 //! Scripts over a cell: futures that are made, polled and dropped, and what each line leads to.
 
-use crate::inits::{Answer, Init, Script, Tried, polled};
+use crate::inits::{Answer, Init, Script, Tried, heard};
+use async_once_cell::OnceCell;
 use async_once_cell::once::{InitFuture, TryInitFuture};
-use async_once_cell::{Lazy, LazyFuturePin, OnceCell};
+use futures::Future;
+use futures::task::Context;
 use futures::test::MockTask;
 use std::alloc::{AllocError, AllocGlobal, Global};
 use std::process::Abort;
@@ -28,11 +30,6 @@ impl Inits {
         }
     }
 
-    /// The init of a lazy cell.
-    pub fn lazy(&self) -> Init<'_, u64> {
-        self.sure.init()
-    }
-
     fn set(&self, answer: Option<Tried>) {
         self.tried.answer.set(answer);
         self.sure.answer.set(answer.and_then(Result::ok));
@@ -47,26 +44,17 @@ impl Inits {
     }
 }
 
-/// The cell of a script.
-#[derive(Clone, Copy)]
-pub enum Stage<'c, 'i> {
-    Once(&'c OnceCell<u64>),
-    Lazy(&'c Lazy<u64, Init<'i, u64>>),
-}
-
 #[derive(Drop)]
-enum Actor<'c, 'i, R: Wait + AllocGlobal> {
-    Sure(InitFuture<'c, u64, Init<'i, u64>, R>),
-    Trying(TryInitFuture<'c, u64, u64, Init<'i, Tried>, R>),
-    Lazy(LazyFuturePin<'c, u64, Init<'i, u64>, R>),
+enum Actor<'a, R: Wait + AllocGlobal> {
+    Sure(InitFuture<'a, u64, Init<'a, u64>, R>),
+    Trying(TryInitFuture<'a, u64, u64, Init<'a, Tried>, R>),
 }
 
-impl<R: Wait + AllocGlobal> Actor<'_, '_, R> {
-    fn poll(&mut self, task: &MockTask) -> Answer {
+impl<R: Wait + AllocGlobal> Actor<'_, R> {
+    fn poll(&mut self, cx: &mut Context<'_>) -> Answer {
         match self {
-            Actor::Sure(future) => polled(task, future),
-            Actor::Trying(future) => polled(task, future),
-            Actor::Lazy(future) => polled(task, future),
+            Actor::Sure(future) => heard(Future::poll(future, cx)),
+            Actor::Trying(future) => heard(Future::poll(future, cx)),
         }
     }
 
@@ -74,24 +62,23 @@ impl<R: Wait + AllocGlobal> Actor<'_, '_, R> {
         match self {
             Actor::Sure(future) => future.is_finished(),
             Actor::Trying(future) => future.is_finished(),
-            Actor::Lazy(future) => future.is_finished(),
         }
     }
 }
 
 /// A script under way.
 #[derive(Drop)]
-struct Scene<'c, 'i, R: Wait + AllocGlobal> {
-    rt: &'c R,
-    stage: Stage<'c, 'i>,
-    inits: &'i Inits,
+struct Scene<'a, R: Wait + AllocGlobal> {
+    rt: &'a R,
+    cell: &'a OnceCell<u64>,
+    inits: &'a Inits,
     tasks: Vec<MockTask>,
-    actors: Vec<Option<Actor<'c, 'i, R>>>,
+    actors: Vec<Option<Actor<'a, R>>>,
     // Whether every request for memory is refused while a future is made, polled or dropped.
     starves: bool,
 }
 
-impl<R: Wait + AllocGlobal> Scene<'_, '_, R> {
+impl<R: Wait + AllocGlobal> Scene<'_, R> {
     // What a line leads to. None says that it can't be read.
     fn obey(&mut self, line: &str) -> Result<Option<String>, AllocError> {
         let (word, rest) = line.split_once(' ').unwrap_or((line, ""));
@@ -114,14 +101,10 @@ impl<R: Wait + AllocGlobal> Scene<'_, '_, R> {
             return Ok(None);
         };
         let hoarded = self.hoarded()?;
-        let actor = match (word, self.stage) {
-            ("init", Stage::Once(cell)) => {
-                Some(Actor::Sure(cell.get_or_init(rt, inits.sure.init())))
-            }
-            ("try", Stage::Once(cell)) => {
-                Some(Actor::Trying(cell.get_or_try_init(rt, inits.tried.init())))
-            }
-            ("get", Stage::Lazy(cell)) => Some(Actor::Lazy(cell.get(rt))),
+        let cell = self.cell;
+        let actor = match word {
+            "init" => Some(Actor::Sure(cell.get_or_init(rt, inits.sure.init()))),
+            "try" => Some(Actor::Trying(cell.get_or_try_init(rt, inits.tried.init()))),
             _ => None,
         };
         if let Some(place) = self.actors.get_mut(number) {
@@ -149,7 +132,7 @@ impl<R: Wait + AllocGlobal> Scene<'_, '_, R> {
         let Some(task) = self.tasks.get(task) else {
             return Ok(None);
         };
-        let answer = actor.poll(task);
+        let answer = task.enter(|cx| actor.poll(cx));
         drop(hoarded);
         let end = if actor.is_finished() { ", done" } else { "" };
         let text = format!(in self.rt.alloc(); "{answer}{end}")?;
@@ -172,10 +155,8 @@ impl<R: Wait + AllocGlobal> Scene<'_, '_, R> {
     }
 
     fn shown(&self) -> Result<String, AllocError> {
-        match self.stage {
-            Stage::Once(cell) => format!(in self.rt.alloc(); "{cell:?}"),
-            Stage::Lazy(cell) => format!(in self.rt.alloc(); "{cell:?}"),
-        }
+        let cell = self.cell;
+        format!(in self.rt.alloc(); "{cell:?}")
     }
 
     fn counted(&self) -> Result<String, AllocError> {
@@ -197,8 +178,8 @@ impl<R: Wait + AllocGlobal> Scene<'_, '_, R> {
     }
 }
 
-// Takes memory until no request for a byte is granted. To drop it gives all back.
-fn hoard(alloc: Global) -> Result<Vec<Vec<u8>>, AllocError> {
+/// Takes memory until no request for a byte is granted. To drop it gives all back.
+pub fn hoard(alloc: Global) -> Result<Vec<Vec<u8>>, AllocError> {
     let mut held = Vec::with_capacity(alloc, 200_000)?;
     let mut size = 0x4000_0000_0000usize;
     for _ in 0..43 {
@@ -223,11 +204,11 @@ fn answer_in(text: &str) -> Option<Tried> {
 
 /// Plays a script: each line must lead to what stands after its `=>`, or wake nobody where nothing
 /// stands there. `N * ` before a line stands for N such lines.
-pub fn play<'c, 'i, R>(
-    rt: &'c R,
+pub fn play<'a, R>(
+    rt: &'a R,
     name: &str,
-    stage: Stage<'c, 'i>,
-    inits: &'i Inits,
+    cell: &'a OnceCell<u64>,
+    inits: &'a Inits,
     lines: &str,
 ) -> Result<(), Fail>
 where
@@ -240,7 +221,7 @@ where
     }
     let mut scene = Scene {
         rt,
-        stage,
+        cell,
         inits,
         tasks,
         actors,

@@ -1,14 +1,13 @@
 //! Schedules of polls and drops over the cells, line by line.
 //!
-//! `init T` and `try T` make future T of a cell by `get_or_init` and `get_or_try_init`, and `get T` one
-//! of a lazy cell; `drop T` drops it. `poll T A` polls it by task T, `poll T A W` by task W; where
+//! `init T` and `try T` make future T of a cell by `get_or_init` and `get_or_try_init`, `drop T` drops it. `poll T A` polls it by task T, `poll T A W` by task W; where
 //! its init is polled, it answers A: `p`, `v` with a value, or `e` with an error. After `=>` stands what
 //! the poll answered, whether the future is done, and the tasks that were woken since the last line. An
 //! init that is Pending asks for another poll of its task, which counts as a wake. After `starve` every
 //! request for memory is refused.
 
-use crate::play::{Inits, Stage, play};
-use async_once_cell::{Lazy, OnceCell};
+use crate::play::{Inits, play};
+use async_once_cell::OnceCell;
 use std::alloc::AllocGlobal;
 use std::process::Abort;
 use std::random::RandomSource;
@@ -156,50 +155,6 @@ show => OnceCell { value: Some(2), inner: Inner { ready: true, quick_init: false
     ),
 ];
 
-/// Schedules over a `Lazy`.
-const LAZY: [(&str, &str); 3] = [
-    (
-        "four_of_a_lazy",
-        "get 1
-get 2
-get 3
-get 4
-poll 1 p => pending, wakes 1
-poll 2 p => pending
-poll 3 p => pending
-poll 4 p => pending
-show => Lazy { value: None, inner: Inner { ready: false, quick_init: true, refcount: 3, queue: true } }
-poll 1 v2 => v2, done, wakes 2, wakes 3, wakes 4
-poll 2 p => v2, done
-poll 3 p => v2, done
-poll 4 p => v2, done
-inits => 2 polls, 1 drops
-show => Lazy { value: Some(2), inner: Inner { ready: true, quick_init: false, refcount: 0, queue: false } }",
-    ),
-    // The future stays, and goes on where it stood.
-    (
-        "dropped_holder",
-        "get 0
-get 1
-poll 0 p => pending, wakes 0
-poll 1 p => pending
-drop 0 => so, wakes 1
-inits => 1 polls, 0 drops
-poll 1 p => pending, wakes 1
-inits => 2 polls, 0 drops
-poll 1 v5 => v5, done
-inits => 3 polls, 1 drops",
-    ),
-    (
-        "polled_when_done",
-        "get 0
-poll 0 v2 => v2, done
-poll 0 v9 => pending, done, wakes 0
-inits => 1 polls, 1 drops
-show => Lazy { value: Some(2), inner: Inner { ready: true, quick_init: false, refcount: 0, queue: false } }",
-    ),
-];
-
 /// Schedules over a `OnceCell` for which memory runs out.
 const STARVED_ONCE: [(&str, &str); 3] = [
     (
@@ -242,40 +197,13 @@ show => OnceCell { value: Some(4), inner: Inner { ready: true, quick_init: false
     ),
 ];
 
-/// The same over a `Lazy`, whose future goes on unharmed.
-const STARVED_LAZY: [(&str, &str); 1] = [(
-    "no_memory_to_wait",
-    "get 0
-get 1
-starve
-poll 0 p => pending, wakes 0
-poll 1 p => memory, done
-inits => 1 polls, 0 drops
-show => Lazy { value: None, inner: Inner { ready: false, quick_init: true, refcount: 0, queue: false } }
-poll 0 v4 => v4, done
-inits => 2 polls, 1 drops
-show => Lazy { value: Some(4), inner: Inner { ready: true, quick_init: false, refcount: 0, queue: false } }",
-)];
-
 fn play_once<R>(rt: &R, rows: &[(&str, &str)]) -> Result<(), Fail>
 where
     R: Wait + AllocGlobal + RandomSource + Abort,
 {
     for (name, lines) in rows {
         let (cell, inits) = (OnceCell::new(), Inits::new());
-        play(rt, name, Stage::Once(&cell), &inits, lines)?;
-    }
-    Ok(())
-}
-
-fn play_lazy<R>(rt: &R, rows: &[(&str, &str)]) -> Result<(), Fail>
-where
-    R: Wait + AllocGlobal + RandomSource + Abort,
-{
-    for (name, lines) in rows {
-        let inits = Inits::new();
-        let lazy = Lazy::new(inits.lazy());
-        play(rt, name, Stage::Lazy(&lazy), &inits, lines)?;
+        play(rt, name, &cell, &inits, lines)?;
     }
     Ok(())
 }
@@ -286,16 +214,6 @@ fn schedules_of_once_cells(rt: HostRuntime) -> Result<(), Fail> {
 }
 
 #[test]
-fn schedules_of_lazy_cells(rt: HostRuntime) -> Result<(), Fail> {
-    play_lazy(&rt, &LAZY)
-}
-
-#[test]
 fn starved_once_cells(rt: HostRuntime) -> Result<(), Fail> {
     play_once(&rt, &STARVED_ONCE)
-}
-
-#[test]
-fn starved_lazy_cells(rt: HostRuntime) -> Result<(), Fail> {
-    play_lazy(&rt, &STARVED_LAZY)
 }

@@ -1,7 +1,8 @@
 //! Four threads and two hundred cells: what comes out does not depend on who was first.
 
-use async_once_cell::once::InitError;
-use async_once_cell::{Lazy, OnceCell};
+use crate::inits::{Answer, Tried, heard};
+use async_once_cell::once::TryInitFuture;
+use async_once_cell::{Lazy, LazyFuturePin, OnceCell};
 use futures::Future;
 use futures::task::{Context, Poll};
 use futures::test::MockTask;
@@ -49,21 +50,28 @@ struct Ground {
     failed: AtomicU64,
 }
 
-// Polls a future whenever its task was woken, and at first. None says that the turns are used up.
-fn ended<R: Clock, F: Future>(rt: &R, task: &MockTask, future: &mut F) -> Option<F::Output>
-    requires { F.can_poll future.old }
+// Polls a future at first, and then whenever its task was woken. Pending says that the turns are
+// used up.
+fn ended<R>(
+    rt: &R,
+    task: &MockTask,
+    future: &mut TryInitFuture<'_, u64, u64, Slow<'_, Tried>, R>,
+) -> Answer
+where
+    R: Wait + AllocGlobal + Clock,
 {
-    if let Poll::Ready(output) = task.poll(future) {
-        return Some(output);
-    }
+    let mut answer = task.enter(|cx| heard(Future::poll(future, cx)));
     for _ in 0..50_000 {
-        if !task.is_woken() {
+        if answer != Answer::Pending {
+            break;
+        }
+        if task.is_woken() {
+            answer = task.enter(|cx| heard(Future::poll(future, cx)));
+        } else {
             thread::sleep(rt, Duration::from_micros(100));
-        } else if let Poll::Ready(output) = task.poll(future) {
-            return Some(output);
         }
     }
-    None
+    answer
 }
 
 // What the thread gets of the cell. It drops one of its futures midway, and another fails.
@@ -79,8 +87,8 @@ where
         done: &ground.made,
     };
     if kind.is_multiple_of(3) {
-        let mut dropped = cell.get_or_try_init::<u64, _, _>(rt, gives());
-        let _ = task.poll(&mut dropped);
+        let mut dropped = cell.get_or_try_init(rt, gives());
+        task.enter(|cx| heard(Future::poll(&mut dropped, cx)));
     }
     if kind.is_multiple_of(5) {
         let fails = Slow {
@@ -89,13 +97,16 @@ where
             done: &ground.failed,
         };
         let mut failing = cell.get_or_try_init(rt, fails);
-        match ended(rt, task, &mut failing)? {
-            Ok(_) | Err(InitError::Init(7)) => {}
-            Err(_) => return None,
+        let answer = ended(rt, task, &mut failing);
+        if !matches!(answer, Answer::Value(_) | Answer::Init(7)) {
+            return None;
         }
     }
-    let mut last = cell.get_or_try_init::<u64, _, _>(rt, gives());
-    ended(rt, task, &mut last)?.ok().copied()
+    let mut last = cell.get_or_try_init(rt, gives());
+    match ended(rt, task, &mut last) {
+        Answer::Value(value) => Some(value),
+        _ => None,
+    }
 }
 
 // What a thread gets of each cell, in order. 0 stands where it got no value.
@@ -142,6 +153,29 @@ fn many_threads_one_value(rt: HostRuntime) -> Result<(), Fail> {
     Ok(())
 }
 
+// The same for a cell that owns its future.
+fn forced<R>(
+    rt: &R,
+    task: &MockTask,
+    future: &mut LazyFuturePin<'_, u64, Slow<'_, u64>, R>,
+) -> Answer
+where
+    R: Wait + AllocGlobal + Clock,
+{
+    let mut answer = task.enter(|cx| heard(Future::poll(future, cx)));
+    for _ in 0..50_000 {
+        if answer != Answer::Pending {
+            break;
+        }
+        if task.is_woken() {
+            answer = task.enter(|cx| heard(Future::poll(future, cx)));
+        } else {
+            thread::sleep(rt, Duration::from_micros(100));
+        }
+    }
+    answer
+}
+
 // What a thread gets of each cell that owns its future, in order. It drops some futures midway.
 fn all_forced<R>(
     rt: &R,
@@ -155,10 +189,13 @@ where
     let (task, mut got) = (MockTask::new(rt)?, Vec::new(alloc));
     for (number, lazy) in (thread as u64..4000).zip(lazies) {
         if number.is_multiple_of(3) {
-            let _ = task.poll(&mut lazy.get(rt));
+            let mut dropped = lazy.get(rt);
+            task.enter(|cx| heard(Future::poll(&mut dropped, cx)));
         }
-        let value = ended(rt, &task, &mut lazy.get(rt)).and_then(Result::ok);
-        got.push(value.copied().unwrap_or(0))?;
+        match forced(rt, &task, &mut lazy.get(rt)) {
+            Answer::Value(value) => got.push(value)?,
+            _ => got.push(0)?,
+        }
     }
     Ok(got)
 }

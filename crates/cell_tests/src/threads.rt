@@ -1,8 +1,9 @@
 //! Two threads: one polls while the other is inside the init.
 
-use crate::inits::{Answer, polled};
+use crate::inits::{Answer, heard, polled};
 use crate::meeting::{Keeps, KeepsOn, Meeting};
-use async_once_cell::{Lazy, OnceCell};
+use async_once_cell::{Lazy, LazyFuturePin, OnceCell};
+use futures::Future;
 use futures::task::Poll;
 use futures::test::MockTask;
 use std::alloc::AllocGlobal;
@@ -33,33 +34,41 @@ fn waits_for_another_thread(rt: HostRuntime) -> Result<(), Fail> {
     Ok(())
 }
 
+fn once<R>(task: &MockTask, future: &mut LazyFuturePin<'_, u64, KeepsOn<'_>, R>) -> Answer
+where
+    R: Wait + AllocGlobal + Clock,
+{
+    task.enter(|cx| heard(Future::poll(future, cx)))
+}
+
 // Whether a future of the cell answers 5 at its first poll.
-fn answers<'a, R>(rt: &'a R, task: &MockTask, lazy: &'a Lazy<u64, KeepsOn<'_, '_, R>>) -> bool
+fn answers<'a, R>(rt: &'a R, task: &MockTask, lazy: &'a Lazy<u64, KeepsOn<'_>>) -> bool
 where
     R: Wait + AllocGlobal + Clock,
 {
     let mut f = lazy.get(rt);
-    task.poll(&mut f) == Poll::Ready(Ok(&5))
+    once(task, &mut f) == Answer::Value(5)
 }
 
 // Whether a future of the cell waits for the other, and answers 5 once its task is woken.
 fn waits<'a, R>(
     rt: &'a R,
     task: &MockTask,
-    lazy: &'a Lazy<u64, KeepsOn<'_, '_, R>>,
+    lazy: &'a Lazy<u64, KeepsOn<'_>>,
     meeting: &Meeting,
 ) -> bool
 where
     R: Wait + AllocGlobal + Clock,
 {
     let mut f = lazy.get_unpin(rt);
-    if !meeting.has_begun(rt) || task.poll(&mut f).is_ready() || task.is_woken() {
+    let waits = meeting.has_begun(rt) && once(task, &mut f) == Answer::Pending && !task.is_woken();
+    if !waits {
         return false;
     }
     meeting.let_go();
     for _ in 0..10_000 {
         if task.is_woken() {
-            return task.poll(&mut f) == Poll::Ready(Ok(&5));
+            return once(task, &mut f) == Answer::Value(5);
         }
         thread::sleep(rt, Duration::from_millis(1));
     }
@@ -71,7 +80,7 @@ where
 fn lazy_waits_for_another_thread(rt: HostRuntime) -> Result<(), Fail> {
     let meeting = Meeting::new();
     let (one, two) = (MockTask::new(&rt)?, MockTask::new(&rt)?);
-    let lazy = Lazy::new(KeepsOn::new(&rt, &meeting));
+    let lazy = Lazy::new(KeepsOn::new(&meeting));
     let answered = thread::join(
         &rt,
         || answers(&rt, &one, &lazy),
