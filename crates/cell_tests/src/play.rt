@@ -100,7 +100,7 @@ impl<R: Wait + AllocGlobal> Scene<'_, R> {
         let Some(number) = number.parse::<usize>().ok() else {
             return Ok(None);
         };
-        let hoarded = self.hoarded()?;
+        let hoarded = hoarded(rt.alloc(), self.starves)?;
         let cell = self.cell;
         let actor = match word {
             "init" => Some(Actor::Sure(cell.get_or_init(rt, inits.sure.init()))),
@@ -125,26 +125,22 @@ impl<R: Wait + AllocGlobal> Scene<'_, R> {
             return Ok(None);
         };
         self.inits.set(answer_in(answer));
-        let hoarded = self.hoarded()?;
+        let (alloc, starves) = (self.rt.alloc(), self.starves);
         let Some(Some(actor)) = self.actors.get_mut(number) else {
             return Ok(None);
         };
         let Some(task) = self.tasks.get(task) else {
             return Ok(None);
         };
-        let answer = task.enter(|cx| actor.poll(cx));
-        drop(hoarded);
+        let answer = task.enter(|cx| {
+            let hoarded = hoarded(alloc, starves)?;
+            let answer = actor.poll(cx);
+            drop(hoarded);
+            Ok::<Answer, AllocError>(answer)
+        })?;
         let end = if actor.is_finished() { ", done" } else { "" };
         let text = format!(in self.rt.alloc(); "{answer}{end}")?;
         Ok(Some(self.woken(text.as_str())?))
-    }
-
-    // All memory, where the scene starves.
-    fn hoarded(&self) -> Result<Option<Vec<Vec<u8>>>, AllocError> {
-        if !self.starves {
-            return Ok(None);
-        }
-        Ok(Some(hoard(self.rt.alloc())?))
     }
 
     // A new task counts as woken.
@@ -176,6 +172,14 @@ impl<R: Wait + AllocGlobal> Scene<'_, R> {
         }
         Ok(text)
     }
+}
+
+// All memory, where a scene starves.
+fn hoarded(alloc: Global, starves: bool) -> Result<Option<Vec<Vec<u8>>>, AllocError> {
+    if starves {
+        return Ok(Some(hoard(alloc)?));
+    }
+    Ok(None)
 }
 
 /// Takes memory until no request for a byte is granted. To drop it gives all back.
