@@ -18,6 +18,8 @@ mod play;
 #[cfg(test)]
 mod plays;
 #[cfg(test)]
+mod refused;
+#[cfg(test)]
 mod shared_rows;
 #[cfg(test)]
 mod stress;

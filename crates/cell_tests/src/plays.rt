@@ -155,8 +155,8 @@ show => OnceCell { value: Some(2), inner: Inner { ready: true, quick_init: false
     ),
 ];
 
-/// Schedules over a `OnceCell` for which memory runs out.
-const STARVED_ONCE: [(&str, &str); 3] = [
+/// Schedules over a `OnceCell` that need no memory from some point on, and get none.
+const STARVED_ONCE: [(&str, &str); 2] = [
     (
         "nobody_waits",
         "starve
@@ -168,19 +168,6 @@ poll 1 e1 => e1, done
 init 2
 poll 2 v4 => v4, done
 inits => 3 polls, 3 drops
-show => OnceCell { value: Some(4), inner: Inner { ready: true, quick_init: false, refcount: 0, queue: false } }",
-    ),
-    (
-        "no_memory_to_wait",
-        "init 0
-init 1
-starve
-poll 0 p => pending, wakes 0
-poll 1 v9 => memory, done
-inits => 1 polls, 1 drops
-show => OnceCell { value: None, inner: Inner { ready: false, quick_init: true, refcount: 0, queue: false } }
-poll 0 v4 => v4, done
-inits => 2 polls, 2 drops
 show => OnceCell { value: Some(4), inner: Inner { ready: true, quick_init: false, refcount: 0, queue: false } }",
     ),
     // A future that waited before keeps its place, and takes the right over.
