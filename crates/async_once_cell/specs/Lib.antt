@@ -21,4 +21,5 @@ pub mod Script
 pub mod Shown
 pub mod Refused
 pub mod Tokens
+pub mod Sure
 pub mod Stays

@@ -26,7 +26,7 @@ use std::{fmt, mem};
 /// ```
 #[derive(Drop)]
 pub struct Lazy<T, F: Future> {
-    pub(crate) cell: OnceCell<T>,
+    cell: OnceCell<T>,
     // None while it is polled, and once it gave its value.
     future: Mutex<Option<Held<F>>>,
 }

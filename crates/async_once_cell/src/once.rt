@@ -156,21 +156,17 @@ impl<T> OnceCell<T> {
     }
 
     // The parts as one call uses them, with the seat of a future that has one.
-    pub(crate) fn parts<'a, 'r, R>(
-        &'a self,
-        rt: &'r R,
-        seat: Option<Seat>,
-    ) -> Shared<'a, 'r, Seat, R> {
+    fn parts<'a, 'r, R>(&'a self, rt: &'r R, seat: Option<Seat>) -> Shared<'a, 'r, Seat, R> {
         self.inner.parts(rt, seat)
     }
 
-    pub(crate) fn new_seat<R: AllocGlobal>(&self, rt: &R) -> Option<Seat> {
+    fn new_seat<R: AllocGlobal>(&self, rt: &R) -> Option<Seat> {
         let number = self.seats.fetch_add(1, Ordering::SeqCst);
         Seat::new(rt.alloc(), number).ok()
     }
 
     // A value that is there already stays, and this one is dropped.
-    pub(crate) fn set<R: Wait>(&self, rt: &R, value: T)
+    fn set<R: Wait>(&self, rt: &R, value: T)
     where
         T: Drop,
     {

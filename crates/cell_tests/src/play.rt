@@ -1,6 +1,6 @@
 //! Scripts over a cell: futures that are made, polled and dropped, and what each line leads to.
 
-use crate::inits::{Answer, Init, Script, Tried, heard};
+use crate::inits::{Answer, Init, Script, Tried, calm, heard};
 use async_once_cell::OnceCell;
 use async_once_cell::once::{InitFuture, TryInitFuture};
 use futures::Future;
@@ -143,13 +143,6 @@ impl<R: Wait + AllocGlobal> Scene<'_, R> {
         Ok(Some(self.woken(text.as_str())?))
     }
 
-    // A new task counts as woken.
-    fn calm(&self) {
-        for task in self.tasks.iter() {
-            task.enter(|_| ());
-        }
-    }
-
     fn shown(&self) -> Result<String, AllocError> {
         let cell = self.cell;
         format!(in self.rt.alloc(); "{cell:?}")
@@ -165,7 +158,7 @@ impl<R: Wait + AllocGlobal> Scene<'_, R> {
         let mut text = format!(in self.rt.alloc(); "{text}")?;
         for (number, task) in self.tasks.iter().enumerate() {
             if task.is_woken() {
-                task.enter(|_| ());
+                calm(task);
                 let woken = format!(in self.rt.alloc(); ", wakes {number}")?;
                 text.push_str(woken.as_str())?;
             }
@@ -220,7 +213,10 @@ where
 {
     let (mut tasks, mut actors) = (Vec::new(rt.alloc()), Vec::new(rt.alloc()));
     for _ in 0..MOST {
-        tasks.push(MockTask::new(rt)?)?;
+        // A new task counts as woken.
+        let task = MockTask::new(rt)?;
+        calm(&task);
+        tasks.push(task)?;
         actors.push(None)?;
     }
     let mut scene = Scene {
@@ -231,7 +227,6 @@ where
         actors,
         starves: false,
     };
-    scene.calm();
     for line in lines.lines() {
         let (order, wanted) = line.split_once(" => ").unwrap_or((line, "so"));
         let (times, order) = order.split_once(" * ").unwrap_or(("1", order));

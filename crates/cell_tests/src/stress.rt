@@ -50,23 +50,33 @@ struct Ground {
     failed: AtomicU64,
 }
 
+// A future of a cell, as a thread runs it.
+trait Polled {
+    fn polled(&mut self, task: &MockTask) -> Answer;
+}
+
+impl<R: Wait + AllocGlobal> Polled for TryInitFuture<'_, u64, u64, Slow<'_, Tried>, R> {
+    fn polled(&mut self, task: &MockTask) -> Answer {
+        task.enter(|cx| heard(Future::poll(self, cx)))
+    }
+}
+
+impl<R: Wait + AllocGlobal> Polled for LazyFuturePin<'_, u64, Slow<'_, u64>, R> {
+    fn polled(&mut self, task: &MockTask) -> Answer {
+        task.enter(|cx| heard(Future::poll(self, cx)))
+    }
+}
+
 // Polls a future at first, and then whenever its task was woken. Pending says that the turns are
 // used up.
-fn ended<R>(
-    rt: &R,
-    task: &MockTask,
-    future: &mut TryInitFuture<'_, u64, u64, Slow<'_, Tried>, R>,
-) -> Answer
-where
-    R: Wait + AllocGlobal + Clock,
-{
-    let mut answer = task.enter(|cx| heard(Future::poll(future, cx)));
+fn ended<R: Wait + Clock, F: Polled>(rt: &R, task: &MockTask, future: &mut F) -> Answer {
+    let mut answer = future.polled(task);
     for _ in 0..50_000 {
         if answer != Answer::Pending {
             break;
         }
         if task.is_woken() {
-            answer = task.enter(|cx| heard(Future::poll(future, cx)));
+            answer = future.polled(task);
         } else {
             thread::sleep(rt, Duration::from_micros(100));
         }
@@ -88,7 +98,7 @@ where
     };
     if kind.is_multiple_of(3) {
         let mut dropped = cell.get_or_try_init(rt, gives());
-        task.enter(|cx| heard(Future::poll(&mut dropped, cx)));
+        dropped.polled(task);
     }
     if kind.is_multiple_of(5) {
         let fails = Slow {
@@ -153,29 +163,6 @@ fn many_threads_one_value(rt: HostRuntime) -> Result<(), Fail> {
     Ok(())
 }
 
-// The same for a cell that owns its future.
-fn forced<R>(
-    rt: &R,
-    task: &MockTask,
-    future: &mut LazyFuturePin<'_, u64, Slow<'_, u64>, R>,
-) -> Answer
-where
-    R: Wait + AllocGlobal + Clock,
-{
-    let mut answer = task.enter(|cx| heard(Future::poll(future, cx)));
-    for _ in 0..50_000 {
-        if answer != Answer::Pending {
-            break;
-        }
-        if task.is_woken() {
-            answer = task.enter(|cx| heard(Future::poll(future, cx)));
-        } else {
-            thread::sleep(rt, Duration::from_micros(100));
-        }
-    }
-    answer
-}
-
 // What a thread gets of each cell that owns its future, in order. It drops some futures midway.
 fn all_forced<R>(
     rt: &R,
@@ -190,9 +177,9 @@ where
     for (number, lazy) in (thread as u64..4000).zip(lazies) {
         if number.is_multiple_of(3) {
             let mut dropped = lazy.get(rt);
-            task.enter(|cx| heard(Future::poll(&mut dropped, cx)));
+            dropped.polled(&task);
         }
-        match forced(rt, &task, &mut lazy.get(rt)) {
+        match ended(rt, &task, &mut lazy.get(rt)) {
             Answer::Value(value) => got.push(value)?,
             _ => got.push(0)?,
         }

@@ -1,7 +1,9 @@
 //! Two threads: one polls while the other is inside the init.
+ghost use Rattle.std.specs.Prelude.{◌≡◌, IfSome};
 
 use crate::inits::{Answer, heard, polled};
 use crate::meeting::{Keeps, KeepsOn, Meeting};
+use async_once_cell::once::Known;
 use async_once_cell::{Lazy, LazyFuturePin, OnceCell};
 use futures::Future;
 use futures::task::Poll;
@@ -9,7 +11,7 @@ use futures::test::MockTask;
 use std::alloc::AllocGlobal;
 use std::sync::Wait;
 use std::test::Fail;
-use std::thread;
+use std::thread::{self, Threads};
 use std::time::{Clock, Duration};
 
 /// The second future waits while the first thread is inside its init, and is called when that ends.
@@ -41,51 +43,93 @@ where
     task.enter(|cx| heard(Future::poll(future, cx)))
 }
 
-// Whether a future of the cell answers 5 at its first poll.
-fn answers<'a, R>(rt: &'a R, task: &MockTask, lazy: &'a Lazy<u64, KeepsOn<'_>>) -> bool
-where
-    R: Wait + AllocGlobal + Clock,
+// A token that was told the cell's value, where that is set.
+fn told<'a>(lazy: &'a Lazy<u64, KeepsOn<'_>>) -> Option<Known<'a, u64>>
+    ensures { IfSome result (λ token. token.cell ≡ lazy.now) }
 {
-    let mut f = lazy.get(rt);
-    once(task, &mut f) == Answer::Value(5)
+    let mut token = lazy.token();
+    lazy.try_get_as(&mut token)?;
+    Some(token)
 }
 
-// Whether a future of the cell waits for the other, and answers 5 once its task is woken.
+// The token of a thread whose future answers 5 at its first poll.
+fn answers<'a, R>(
+    rt: &'a R,
+    task: &MockTask,
+    lazy: &'a Lazy<u64, KeepsOn<'_>>,
+) -> Option<Known<'a, u64>>
+where
+    R: Wait + AllocGlobal + Clock,
+    ensures { IfSome result (λ token. token.cell ≡ lazy.now) }
+{
+    let mut f = lazy.get(rt);
+    if once(task, &mut f) != Answer::Value(5) {
+        return None;
+    }
+    told(lazy)
+}
+
+// The token of a thread whose future waits for the other's, and answers 5 once its task is woken.
 fn waits<'a, R>(
     rt: &'a R,
     task: &MockTask,
     lazy: &'a Lazy<u64, KeepsOn<'_>>,
     meeting: &Meeting,
-) -> bool
+) -> Option<Known<'a, u64>>
 where
     R: Wait + AllocGlobal + Clock,
+    ensures { IfSome result (λ token. token.cell ≡ lazy.now) }
 {
     let mut f = lazy.get_unpin(rt);
     let waits = meeting.has_begun(rt) && once(task, &mut f) == Answer::Pending && !task.is_woken();
     if !waits {
-        return false;
+        return None;
     }
     meeting.let_go();
     for _ in 0..10_000 {
         if task.is_woken() {
-            return once(task, &mut f) == Answer::Value(5);
+            break;
         }
         thread::sleep(rt, Duration::from_millis(1));
     }
-    false
+    if once(task, &mut f) != Answer::Value(5) {
+        return None;
+    }
+    told(lazy)
 }
 
-/// The same with two futures of one cell that owns its future.
+// Whether both threads answered 5, and their tokens agree.
+fn both_told<'a, R>(
+    rt: &'a R,
+    (first, second): (&MockTask, &MockTask),
+    lazy: &'a Lazy<u64, KeepsOn<'_>>,
+    meeting: &Meeting,
+) -> bool
+where
+    R: Threads + Wait + AllocGlobal + Clock + Sync,
+{
+    let one = move || -> Option<Known<'_, u64>>
+        ensures { IfSome result (λ token. token.cell ≡ lazy.entry.now) }
+    { answers(rt, first, lazy) };
+    let two = move || -> Option<Known<'_, u64>>
+        ensures { IfSome result (λ token. token.cell ≡ lazy.entry.now) }
+    { waits(rt, second, lazy, meeting) };
+    let (a, b) = thread::join(rt, one, two);
+    let Some(a) = a else {
+        return false;
+    };
+    let Some(b) = b else {
+        return false;
+    };
+    Known::compare(&a, &b)
+}
+
+/// The same with two futures of one cell that owns its future, and the tokens of both threads agree.
 #[test]
 fn lazy_waits_for_another_thread(rt: HostRuntime) -> Result<(), Fail> {
     let meeting = Meeting::new();
-    let (one, two) = (MockTask::new(&rt)?, MockTask::new(&rt)?);
+    let tasks = (MockTask::new(&rt)?, MockTask::new(&rt)?);
     let lazy = Lazy::new(KeepsOn::new(&meeting));
-    let answered = thread::join(
-        &rt,
-        || answers(&rt, &one, &lazy),
-        || waits(&rt, &two, &lazy, &meeting),
-    );
-    assert_eq!(rt; answered, (true, true));
+    assert!(rt; both_told(&rt, (&tasks.0, &tasks.1), &lazy, &meeting));
     Ok(())
 }

@@ -2,7 +2,8 @@
 ghost use Rattle.std.specs.Prelude.{◌≡◌, true, false};
 ghost use Rattle.futures.specs.Task.{IsArmed, Keeps};
 ghost use Rattle.futures.specs.Poll.{IfReady, OnPending};
-ghost use Rattle.async_once_cell.specs.Tokens.{Call, Polls, IsSame};
+ghost use Rattle.async_once_cell.specs.Tokens.{Call, Polls};
+ghost use Rattle.async_once_cell.specs.Sure.{IsSame};
 
 use super::{InitError, Known, OnceCell, Refused, TryInitFuture};
 use futures::Future;

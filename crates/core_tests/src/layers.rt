@@ -1,10 +1,9 @@
 //! The layers below the replay: each call once.
-ghost use Rattle.std.specs.Prelude.{◌≡◌, ⊤};
-ghost use Rattle.std.proofs.Common.{rules};
 
-use crate::inner::{Core, Counted, Parts, QueueLine};
-use crate::queue::{Answer, Lists, NEW, Op, QINIT_BIT, READY_BIT};
-use crate::step::{Ending, Polled, Progress, Side, Step};
+use crate::counting::Counting;
+use async_once_cell::inner::{Core, Counted, Parts, QueueLine};
+use async_once_cell::queue::{Answer, Lists, NEW, Op, QINIT_BIT, READY_BIT};
+use async_once_cell::step::{Ending, Polled, Progress, Step};
 use std::alloc::{AllocError, Global};
 use std::test::Fail;
 
@@ -42,61 +41,6 @@ fn a_list_has_each_waker_once(rt: HostRuntime) -> Result<(), Fail> {
     assert_eq!(rt; lists.look(Some(&7), NEW), Answer::Claimed);
     assert!(rt; lists.release().is_empty());
     Ok(())
-}
-
-/// A side whose init answers this, and which counts what is asked of it.
-#[derive(Drop)]
-struct Counting {
-    answer: Polled,
-    waker: u64,
-    closes: u64,
-    puts: u64,
-    woken: Vec<u64>,
-}
-
-impl Counting {
-    fn new(alloc: Global, answer: Polled, waker: u64) -> Counting {
-        Counting {
-            answer,
-            waker,
-            closes: 0,
-            puts: 0,
-            woken: Vec::new(alloc),
-        }
-    }
-}
-
-impl Side<u64> for Counting {
-    ghost did_wake = { λ _ wakers after. after.woken ≡ wakers };
-
-    ghost stays = { λ _ _. ⊤ };
-
-    ghost stays_same = { λ a. Prim.search rules };
-
-    ghost stays_on = { λ a b c p q. Prim.search rules };
-
-    fn run(&mut self) -> Polled {
-        self.answer
-    }
-
-    fn close(&mut self) {
-        self.closes = self.closes.saturating_add(1);
-    }
-
-    fn put(&mut self) {
-        self.puts = self.puts.saturating_add(1);
-    }
-
-    fn copy(&mut self) -> Option<u64> {
-        Some(self.waker)
-    }
-
-    fn wake(&mut self, wakers: Vec<u64>)
-        ensures did { self.new.woken ≡ wakers }
-        ensures stays { ⊤ }
-    {
-        self.woken = wakers;
-    }
 }
 
 /// Parts of a cell that nobody else uses: the right is free, and no queue stands at the door.
@@ -177,7 +121,7 @@ fn a_holder_polls_its_init_and_sets_the_value(rt: HostRuntime) -> Result<(), Fai
     let pending = Progress::Ended(Ending::Pending);
     let wanted = [(more, 15), (more, 8), (pending, 0)];
     assert_eq!(rt; steps.as_slice(), wanted.as_slice());
-    side.answer = Polled::Value;
+    side.answers(Polled::Value);
     let steps = poll(alloc, &mut step, &mut side)?;
     let value = Progress::Ended(Ending::Value);
     let wanted = [(more, 7), (more, 6), (more, 1), (value, 0)];

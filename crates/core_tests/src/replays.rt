@@ -1,6 +1,8 @@
 //! The worked scenarios, replayed.
 
-use crate::world::{Call, Entry, Got, Input, Kind, QueueLine, Ran, Record, Reply, replay};
+use async_once_cell::world::{
+    Call, Entry, Got, Input, Kind, QueueLine, Ran, Record, Reply, replay,
+};
 use std::alloc::AllocError;
 use std::test::Fail;
 

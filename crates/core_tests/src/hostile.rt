@@ -1,0 +1,155 @@
+//! Sides that use their own cell in the middle of a step.
+ghost use Rattle.std.specs.Prelude.{⊤};
+
+use crate::counting::Counting;
+use async_once_cell::inner::{Inner, NEW, QINIT_BIT, Queue, READY_BIT};
+use async_once_cell::step::{Ending, Polled, Side, Step};
+use std::alloc::AllocGlobal;
+use std::sync::Wait;
+use std::test::Fail;
+
+/// A task over shared parts, and its side.
+#[derive(Drop)]
+struct Task {
+    step: Step<u64, Queue<u64>>,
+    side: Counting,
+}
+
+impl Task {
+    fn new<R: AllocGlobal>(rt: &R, answer: Polled, waker: u64) -> Task {
+        Task {
+            step: Step::new(),
+            side: Counting::new(rt.alloc(), answer, waker),
+        }
+    }
+
+    // A whole poll, where the task is not finished.
+    fn poll<R: Wait + AllocGlobal>(&mut self, rt: &R, inner: &Inner<u64>) -> Option<Ending> {
+        if !self.step.is_resting() {
+            return None;
+        }
+        let mut parts = inner.parts(rt, Some(self.side.waker));
+        Some(parts.poll(&mut self.step, &mut self.side))
+    }
+}
+
+/// A side that polls another task of its cell wherever it is asked for something: in its init, where
+/// its waker is copied, and where it wakes others.
+#[derive(Drop)]
+struct Meddling<'a, R> {
+    rt: &'a R,
+    inner: &'a Inner<u64>,
+    side: Counting,
+    other: Task,
+    // How the other's last poll ended.
+    heard: Option<Ending>,
+}
+
+impl<'a, R: Wait + AllocGlobal> Meddling<'a, R> {
+    fn new(rt: &'a R, inner: &'a Inner<u64>, answer: Polled) -> Self {
+        Meddling {
+            rt,
+            inner,
+            side: Counting::new(rt.alloc(), answer, 7),
+            other: Task::new(rt, Polled::Error, 9),
+            heard: None,
+        }
+    }
+
+    fn poll_other(&mut self) {
+        let (rt, inner) = (self.rt, self.inner);
+        self.heard = self.other.poll(rt, inner);
+    }
+}
+
+impl<R: Wait + AllocGlobal> Side<u64> for Meddling<'_, R> {
+    ghost stays = { λ _ _. ⊤ };
+
+    ghost stays_same = { λ _. tt };
+
+    ghost stays_on = { λ _ _ _ _ _. tt };
+
+    fn run(&mut self) -> Polled {
+        self.poll_other();
+        self.side.run()
+    }
+
+    fn close(&mut self) {
+        self.side.close();
+    }
+
+    fn put(&mut self) {
+        self.side.put();
+    }
+
+    fn copy(&mut self) -> Option<u64> {
+        self.poll_other();
+        self.side.copy()
+    }
+
+    fn wake(&mut self, wakers: Vec<u64>)
+        ensures stays { ⊤ }
+    {
+        self.side.wake(wakers);
+        self.poll_other();
+    }
+}
+
+// While a waiter's waker is copied another task of the cell is polled, and waits too.
+#[test]
+fn a_copy_that_polls(rt: HostRuntime) -> Result<(), Fail> {
+    let inner = Inner::new(false);
+    let mut holder = Task::new(&rt, Polled::Pending, 5);
+    assert_eq!(rt; holder.poll(&rt, &inner), Some(Ending::Pending));
+    let (mut step, mut side) = (Step::new(), Meddling::new(&rt, &inner, Polled::Error));
+    let ending = inner.parts(&rt, Some(7)).poll(&mut step, &mut side);
+    assert_eq!(rt;
+        (ending, side.heard),
+        (Ending::Pending, Some(Ending::Pending))
+    );
+    assert_eq!(rt; inner.word(), QINIT_BIT + 2);
+
+    holder.side.answers(Polled::Value);
+    assert_eq!(rt; holder.poll(&rt, &inner), Some(Ending::Value));
+    assert_eq!(rt; holder.side.woken.as_slice(), [9u64, 7].as_slice());
+    assert_eq!(rt; side.other.poll(&rt, &inner), Some(Ending::Value));
+    assert!(rt; step.is_resting());
+    let ending = inner.parts(&rt, Some(7)).poll(&mut step, &mut side);
+    assert_eq!(rt; ending, Ending::Value);
+    assert_eq!(rt; (inner.word(), inner.has_queue()), (READY_BIT, Some(false)));
+    Ok(())
+}
+
+// An init polls another task of its cell, which waits. The holder gives its value and calls who
+// waits, and the other is polled inside that call.
+#[test]
+fn an_init_and_a_wake_that_poll(rt: HostRuntime) -> Result<(), Fail> {
+    let inner = Inner::new(false);
+    let (mut step, mut side) = (Step::new(), Meddling::new(&rt, &inner, Polled::Pending));
+    let ending = inner.parts(&rt, Some(7)).poll(&mut step, &mut side);
+    assert_eq!(rt;
+        (ending, side.heard),
+        (Ending::Pending, Some(Ending::Pending))
+    );
+    assert_eq!(rt; inner.word(), QINIT_BIT + 1);
+
+    side.side.answers(Polled::Value);
+    assert!(rt; step.is_resting());
+    let ending = inner.parts(&rt, Some(7)).poll(&mut step, &mut side);
+    assert_eq!(rt; (ending, side.heard), (Ending::Value, Some(Ending::Value)));
+    assert_eq!(rt; side.side.woken.as_slice(), [9u64].as_slice());
+    assert_eq!(rt; (inner.word(), inner.has_queue()), (READY_BIT, Some(false)));
+    Ok(())
+}
+
+// The same where the init fails: the right is free when the other is called, and it takes the right.
+#[test]
+fn a_wake_that_takes_the_right(rt: HostRuntime) -> Result<(), Fail> {
+    let inner = Inner::new(false);
+    let (mut step, mut side) = (Step::new(), Meddling::new(&rt, &inner, Polled::Error));
+    let ending = inner.parts(&rt, Some(7)).poll(&mut step, &mut side);
+    assert_eq!(rt; (ending, side.heard), (Ending::Error, Some(Ending::Error)));
+    assert_eq!(rt; (side.side.closes, side.other.side.closes), (1, 1));
+    assert_eq!(rt; inner.word(), NEW);
+    Ok(())
+}

@@ -1,0 +1,11 @@
+//! What the layers below the cells do, by their public calls alone, and that each call can succeed.
+#![tactic(auto)]
+
+#[cfg(test)]
+mod counting;
+#[cfg(test)]
+mod hostile;
+#[cfg(test)]
+mod layers;
+#[cfg(test)]
+mod replays;
