@@ -17,7 +17,8 @@ use std::{fmt, mem};
 ///
 /// Whoever polls it while no other task does drives that future on. It is never restarted, also
 /// where the task that drives it is dropped, and never polled after it gave its value: it is dropped
-/// then, before the value is set.
+/// then, before the value is set. A cell may be sent to another thread where `T: Send` and `F: Send`,
+/// and shared between threads where besides `T: Sync`.
 ///
 /// ```
 /// let lazy = Lazy::new(ready(3));
@@ -103,7 +104,7 @@ impl<T, F: Future> Lazy<T, F> {
         self.cell.get()
     }
 
-    /// The value for writing, where it is set.
+    /// The value for writing, where it is set. It waits for nobody.
     pub fn try_get_mut(&mut self) -> Option<&mut T> {
         self.cell.get_mut()
     }
@@ -113,13 +114,15 @@ impl<T, F: Future> Lazy<T, F> {
         self.cell.get_mut()
     }
 
-    /// The value, where it was set. It is None even where one poll of the future would give it.
+    /// The value, where it was set; else the future is dropped, and the answer is None even where one
+    /// poll of it would give the value. A queue goes as in [`OnceCell::take`]. It waits for nobody.
     pub fn into_inner(self) -> Option<T> {
         self.into_parts().ok()
     }
 
     /// The value where it was set, else the future in the state that it is in. `Err(None)` would say
-    /// that there is neither; no schedule of calls is known to lead there.
+    /// that there is neither; no schedule of calls is known to lead there. A queue goes as in
+    /// [`OnceCell::take`]. It waits for nobody.
     pub fn into_parts(self) -> Result<T, Option<F>> {
         let Lazy { cell, future } = self;
         match cell.into_inner() {
@@ -128,13 +131,12 @@ impl<T, F: Future> Lazy<T, F> {
         }
     }
 
-    /// Puts another cell in place of this one. The value, where it was set; else the future is
-    /// dropped.
+    /// Puts another cell in place of this one, and answers as [`Lazy::into_inner`] does of that.
     pub fn replace_and_take(&mut self, replacement: Self) -> Option<T> {
         mem::replace(self, replacement).into_inner()
     }
 
-    /// A token that knows nothing yet. See [`Known`].
+    /// A token that knows nothing yet. See [`Known`]. It takes no memory, and waits for nobody.
     pub fn token(&self) -> Known<'_, T>
         ensures cell { result.cell ≡ self.now }
         ensures knows { result.value ≡ None }

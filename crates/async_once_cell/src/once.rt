@@ -32,7 +32,12 @@ use std::{fmt, mem};
 /// let second = block_on(rt, cell.get_or_init(rt, ready(5)))?; // Ok(&4): this init is not polled
 /// ```
 ///
-/// Memory is taken only where tasks meet: for the queue of those who wait, and for a place in it.
+/// Memory is taken only where tasks meet: for the queue of those who wait, and for the seat of each and
+/// its place in the queue.
+///
+/// An init may borrow whatever outlives its future. One that asks its own cell for the value waits
+/// there like any other task, and may give its own value all the same. A cell may be sent to another
+/// thread where `T: Send`, and shared between threads where `T: Send + Sync`.
 #[derive(Drop)]
 pub struct OnceCell<T> {
     inner: Inner<Seat>,
@@ -80,17 +85,19 @@ impl<T> OnceCell<T> {
         }
     }
 
-    /// The value for writing, where it is set.
+    /// The value for writing, where it is set. It waits for nobody.
     pub fn get_mut(&mut self) -> Option<&mut T> {
         self.value.get_mut()
     }
 
-    /// The value, where it was set. The cell is empty after, as a new one.
+    /// The value, where it was set. The cell is empty after, as a new one: a queue that futures left
+    /// there goes as well, and tasks that are listed in it are woken. It waits for nobody.
     pub fn take(&mut self) -> Option<T> {
         mem::replace(self, OnceCell::new()).into_inner()
     }
 
-    /// The value, where it was set.
+    /// The value, where it was set. All else of the cell goes as in [`OnceCell::take`]. It waits for
+    /// nobody.
     pub fn into_inner(self) -> Option<T> {
         let OnceCell {
             inner: _,
@@ -137,7 +144,7 @@ impl<T> OnceCell<T> {
         TryInitFuture::new(self, rt, init)
     }
 
-    /// A token that knows nothing yet. See [`Known`].
+    /// A token that knows nothing yet. See [`Known`]. It takes no memory, and waits for nobody.
     pub fn token(&self) -> Known<'_, T>
         ensures cell { result.cell ≡ self.now }
         ensures knows { result.value ≡ None }

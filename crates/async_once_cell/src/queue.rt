@@ -23,7 +23,7 @@ pub fn largest_limit()
     ensures { MAX_WAITERS ≡ 2 ^ 62 - 2 }
 {}
 
-/// Tells whether two wakers wake the same task.
+/// Tells whether two wakers are the same.
 pub trait WakerId {
     // What the answers true and false tell of the two wakers.
     ghost tells_same: { Self → Self → Type 0 };

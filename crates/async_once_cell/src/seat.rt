@@ -11,7 +11,7 @@ use std::sync::{Arc, Mutex, Wait};
 // Who sits there.
 #[derive(Drop)]
 struct Sitter {
-    // The seat was called since it was last shared.
+    // The seat was called since it was last shared for the list, or was last found called.
     called: bool,
     waker: Option<Waker>,
 }

@@ -1,7 +1,7 @@
 //! The loops: each makes one operation so many times, and gives the sum of the values.
 //!
-//! Each is a function of its own and is passed a cell that is set, so that nothing of it is known to
-//! the compiler before the loop.
+//! Each is a function of its own, and is passed its cell where that is set before the loop, so that
+//! nothing of it is known to the compiler there.
 use crate::operation::Operation;
 use crate::switch::Switched;
 use async_once_cell::{Lazy, OnceCell};

@@ -60,13 +60,15 @@ fn value_dropped_once(rt: HostRuntime) -> Result<(), Fail> {
     assert_eq!(rt; drops.get(), 1);
     drop(cell);
     assert_eq!(rt; drops.get(), 1);
+    drop(OnceCell::new_with(Counted { drops: &drops }));
+    assert_eq!(rt; drops.get(), 2);
     let lazy = Lazy::new(Makes { drops: &drops });
     let mut f = lazy.get(&rt);
     assert!(rt; task.poll(&mut f).is_ready());
     drop(f);
-    assert_eq!(rt; drops.get(), 1);
-    drop(lazy);
     assert_eq!(rt; drops.get(), 2);
+    drop(lazy);
+    assert_eq!(rt; drops.get(), 3);
     Ok(())
 }
 
@@ -74,7 +76,9 @@ fn value_dropped_once(rt: HostRuntime) -> Result<(), Fail> {
 struct Looks<'a> {
     cell: &'a OnceCell<u64>,
     alloc: Global,
-    // Whether the right was still held then, and no value set.
+    // How the cell is to look then.
+    wanted: &'a str,
+    // Whether it looked so.
     held: &'a Cell<Option<bool>>,
     answer: &'a Cell<Option<u64>>,
 }
@@ -84,12 +88,11 @@ impl Drop for Looks<'_> {
         let Looks {
             cell,
             alloc,
+            wanted,
             held,
             answer: _,
         } = self;
         if let Ok(text) = format!(in alloc; "{cell:?}") {
-            let wanted =
-                "value: None, inner: Inner { ready: false, quick_init: true, refcount: 0, queue: false } }";
             held.set(Some(text.as_str().ends_with(wanted)));
         }
     }
@@ -114,6 +117,7 @@ fn right_held_while_the_init_is_dropped(rt: HostRuntime) -> Result<(), Fail> {
     let init = || Looks {
         cell: &cell,
         alloc: rt.alloc(),
+        wanted: "ready: false, quick_init: true, refcount: 0, queue: false } }",
         held: &held,
         answer: &answer,
     };
@@ -132,5 +136,31 @@ fn right_held_while_the_init_is_dropped(rt: HostRuntime) -> Result<(), Fail> {
     let mut f2 = cell.get_or_init(&rt, init());
     assert_eq!(rt; polled(&task, &mut f2), Answer::Value(4));
     assert_eq!(rt; held.get(), Some(true));
+    Ok(())
+}
+
+/// A waiter's init is dropped before its place among those who wait is given back.
+#[test]
+fn place_held_while_the_init_is_dropped(rt: HostRuntime) -> Result<(), Fail> {
+    let (cell, task) = (OnceCell::new(), MockTask::new(&rt)?);
+    let (held, answer) = (Cell::new(None), Cell::new(None));
+    let init = || Looks {
+        cell: &cell,
+        alloc: rt.alloc(),
+        wanted: "ready: false, quick_init: true, refcount: 1, queue: true } }",
+        held: &held,
+        answer: &answer,
+    };
+    let mut f1 = cell.get_or_init(&rt, init());
+    let mut f2 = cell.get_or_init(&rt, init());
+    assert_eq!(rt; polled(&task, &mut f1), Answer::Pending);
+    assert_eq!(rt; polled(&task, &mut f2), Answer::Pending);
+    drop(f2);
+    assert_eq!(rt; held.get(), Some(true));
+    ends(
+        &rt,
+        &cell,
+        "ready: false, quick_init: true, refcount: 0, queue: true } }",
+    );
     Ok(())
 }

@@ -68,7 +68,8 @@ impl<R: Clock> Future for Keeps<'_, '_, R> {
     }
 }
 
-/// The same where it may not fail, without pauses: 5, or 9.
+/// The same for a cell that owns it, which may not fail: 5, or 9. Such a cell would have to outlive
+/// a runtime that its init borrows, so this one has none to pause by, and yields its thread instead.
 #[derive(Drop)]
 pub struct KeepsOn<'m> {
     meeting: &'m Meeting,

@@ -15,7 +15,7 @@ use std::sync::Wait;
 use std::test::Fail;
 
 /// Schedules over a `OnceCell`.
-const ONCE: [(&str, &str); 9] = [
+const ONCE: [(&str, &str); 11] = [
     (
         "plain_path",
         "show => OnceCell { value: None, inner: Inner { ready: false, quick_init: false, refcount: 0, queue: false } }
@@ -91,6 +91,47 @@ poll 1 v5 => v5, done
 inits => 2 polls, 2 drops
 show => OnceCell { value: Some(5), inner: Inner { ready: true, quick_init: false, refcount: 0, queue: false } }",
     ),
+    // The same where one task polls them all.
+    (
+        "second_try_of_one_task",
+        "try 1
+try 2
+try 3
+try 4
+poll 1 p 0 => pending, wakes 0
+poll 2 v9 0 => pending
+poll 3 v9 0 => pending
+poll 4 v9 0 => pending
+show => OnceCell { value: None, inner: Inner { ready: false, quick_init: true, refcount: 3, queue: true } }
+poll 2 v9 0 => pending
+poll 1 e1 0 => e1, done, wakes 0
+try 4
+poll 2 p 0 => pending, wakes 0
+poll 3 v9 0 => pending
+poll 2 v2 0 => v2, done, wakes 0
+poll 4 v9 0 => v2, done
+show => OnceCell { value: Some(2), inner: Inner { ready: true, quick_init: false, refcount: 1, queue: true } }
+poll 3 v9 0 => v2, done
+show => OnceCell { value: Some(2), inner: Inner { ready: true, quick_init: false, refcount: 0, queue: false } }",
+    ),
+    // A waiter that took the right over is dropped in its turn.
+    (
+        "second_holder_dropped",
+        "init 0
+init 1
+poll 0 p => pending, wakes 0
+poll 1 v9 => pending
+drop 0 => so, wakes 1
+poll 1 p => pending, wakes 1
+show => OnceCell { value: None, inner: Inner { ready: false, quick_init: false, refcount: 1, queue: true } }
+init 2
+poll 2 v9 => pending
+drop 1 => so, wakes 2
+inits => 2 polls, 2 drops
+poll 2 v5 => v5, done
+inits => 3 polls, 3 drops
+show => OnceCell { value: Some(5), inner: Inner { ready: true, quick_init: false, refcount: 0, queue: false } }",
+    ),
     // An init is dropped once: when it is done, when it fails, or with its future.
     (
         "inits_dropped_once",
@@ -156,7 +197,13 @@ show => OnceCell { value: Some(2), inner: Inner { ready: true, quick_init: false
 ];
 
 /// Schedules over a `OnceCell` that need no memory from some point on, and get none.
-const STARVED_ONCE: [(&str, &str); 2] = [
+const STARVED_ONCE: [(&str, &str); 3] = [
+    (
+        "ready_at_once",
+        "starve
+init 0
+poll 0 v4 => v4, done",
+    ),
     (
         "nobody_waits",
         "starve

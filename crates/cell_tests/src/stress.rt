@@ -46,7 +46,7 @@ struct Ground {
     cell: OnceCell<u64>,
     // How many inits gave a value.
     made: AtomicU64,
-    // How many failed.
+    // How many failed. One thread at most brings one that does.
     failed: AtomicU64,
 }
 
@@ -154,6 +154,7 @@ fn many_threads_one_value(rt: HostRuntime) -> Result<(), Fail> {
     }
     for (number, ground) in (1..).zip(shared) {
         assert_eq!(rt; ground.made.load(Ordering::SeqCst), 1);
+        assert!(rt; ground.failed.load(Ordering::SeqCst) <= 1);
         let value = ground.cell.get().copied().unwrap_or(0);
         assert!(rt;
             value % 1000 == number && value < 4000,

@@ -6,6 +6,7 @@ use crate::meeting::{Keeps, KeepsOn, Meeting};
 use async_once_cell::once::Known;
 use async_once_cell::{Lazy, LazyFuturePin, OnceCell};
 use futures::Future;
+use futures::future::ready;
 use futures::task::Poll;
 use futures::test::MockTask;
 use std::alloc::AllocGlobal;
@@ -131,5 +132,18 @@ fn lazy_waits_for_another_thread(rt: HostRuntime) -> Result<(), Fail> {
     let tasks = (MockTask::new(&rt)?, MockTask::new(&rt)?);
     let lazy = Lazy::new(KeepsOn::new(&meeting));
     assert!(rt; both_told(&rt, (&tasks.0, &tasks.1), &lazy, &meeting));
+    Ok(())
+}
+
+/// Cells are sent to other threads, which take them apart.
+#[test]
+fn sent_to_another_thread(rt: HostRuntime) -> Result<(), Fail> {
+    let (cell, lazy) = (OnceCell::new_with(5u64), Lazy::new(ready(7u64)));
+    let (value, unfinished) = thread::join(
+        &rt,
+        move || cell.into_inner(),
+        move || lazy.into_inner(),
+    );
+    assert_eq!(rt; (value, unfinished), (Some(5), None));
     Ok(())
 }

@@ -46,12 +46,13 @@ struct Meddling<'a, R> {
 }
 
 impl<'a, R: Wait + AllocGlobal> Meddling<'a, R> {
-    fn new(rt: &'a R, inner: &'a Inner<u64>, answer: Polled) -> Self {
+    // A side with waker 7, and another task with this waker.
+    fn new(rt: &'a R, inner: &'a Inner<u64>, answer: Polled, other: u64) -> Self {
         Meddling {
             rt,
             inner,
             side: Counting::new(rt.alloc(), answer, 7),
-            other: Task::new(rt, Polled::Error, 9),
+            other: Task::new(rt, Polled::Error, other),
             heard: None,
         }
     }
@@ -95,13 +96,14 @@ impl<R: Wait + AllocGlobal> Side<u64> for Meddling<'_, R> {
     }
 }
 
-// While a waiter's waker is copied another task of the cell is polled, and waits too.
+// While a waiter's waker is copied, another task with the same waker is polled and waits. The waiter
+// then finds its waker listed, and it is called once.
 #[test]
 fn a_copy_that_polls(rt: HostRuntime) -> Result<(), Fail> {
     let inner = Inner::new(false);
     let mut holder = Task::new(&rt, Polled::Pending, 5);
     assert_eq!(rt; holder.poll(&rt, &inner), Some(Ending::Pending));
-    let (mut step, mut side) = (Step::new(), Meddling::new(&rt, &inner, Polled::Error));
+    let (mut step, mut side) = (Step::new(), Meddling::new(&rt, &inner, Polled::Error, 7));
     let ending = inner.parts(&rt, Some(7)).poll(&mut step, &mut side);
     assert_eq!(rt;
         (ending, side.heard),
@@ -111,7 +113,7 @@ fn a_copy_that_polls(rt: HostRuntime) -> Result<(), Fail> {
 
     holder.side.answers(Polled::Value);
     assert_eq!(rt; holder.poll(&rt, &inner), Some(Ending::Value));
-    assert_eq!(rt; holder.side.woken.as_slice(), [9u64, 7].as_slice());
+    assert_eq!(rt; holder.side.woken.as_slice(), [7u64].as_slice());
     assert_eq!(rt; side.other.poll(&rt, &inner), Some(Ending::Value));
     assert!(rt; step.is_resting());
     let ending = inner.parts(&rt, Some(7)).poll(&mut step, &mut side);
@@ -125,7 +127,7 @@ fn a_copy_that_polls(rt: HostRuntime) -> Result<(), Fail> {
 #[test]
 fn an_init_and_a_wake_that_poll(rt: HostRuntime) -> Result<(), Fail> {
     let inner = Inner::new(false);
-    let (mut step, mut side) = (Step::new(), Meddling::new(&rt, &inner, Polled::Pending));
+    let (mut step, mut side) = (Step::new(), Meddling::new(&rt, &inner, Polled::Pending, 9));
     let ending = inner.parts(&rt, Some(7)).poll(&mut step, &mut side);
     assert_eq!(rt;
         (ending, side.heard),
@@ -146,7 +148,7 @@ fn an_init_and_a_wake_that_poll(rt: HostRuntime) -> Result<(), Fail> {
 #[test]
 fn a_wake_that_takes_the_right(rt: HostRuntime) -> Result<(), Fail> {
     let inner = Inner::new(false);
-    let (mut step, mut side) = (Step::new(), Meddling::new(&rt, &inner, Polled::Error));
+    let (mut step, mut side) = (Step::new(), Meddling::new(&rt, &inner, Polled::Error, 9));
     let ending = inner.parts(&rt, Some(7)).poll(&mut step, &mut side);
     assert_eq!(rt; (ending, side.heard), (Ending::Error, Some(Ending::Error)));
     assert_eq!(rt; (side.side.closes, side.other.side.closes), (1, 1));

@@ -1,4 +1,4 @@
-//! The layers below the replay: each call once.
+//! The calls of `Lists`, `Step` and `Core`, one by one.
 
 use crate::counting::Counting;
 use async_once_cell::inner::{Core, Counted, Parts, QueueLine};

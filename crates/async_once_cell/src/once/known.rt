@@ -34,7 +34,8 @@ impl<'a, T> Known<'a, T> {
         Known { cell, token: None }
     }
 
-    /// Whether both tokens know a value. Then the two values are one. The tokens are of one cell.
+    /// Whether both tokens know a value. Then the two values are one. The tokens are of one cell. It
+    /// waits for nobody.
     pub fn compare(a: &Known<'a, T>, b: &Known<'a, T>) -> bool
         requires { a.now.cell ≡ b.now.cell }
         ensures both { IsTrue result ↔ (IsSome a.now.value × IsSome b.now.value) }

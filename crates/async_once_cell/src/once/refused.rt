@@ -32,7 +32,8 @@ impl Error for Refused {}
 /// Why a poll ended without a value: the caller's own init failed, or the poll was refused.
 #[derive(Clone, Copy, Debug, Drop, PartialEq, Eq)]
 pub enum InitError<E> {
-    /// The caller's init answered this error. The cell is empty, and another caller may fill it.
+    /// The caller's init answered this error. The right was given back, and another caller may fill
+    /// the cell.
     Init(E),
     /// As [`Refused::Memory`].
     Memory,
