@@ -91,7 +91,8 @@ impl<T> OnceCell<T> {
     }
 
     /// The value, where it was set. The cell is empty after, as a new one: a queue that futures left
-    /// there goes as well, and tasks that are listed in it are woken. It waits for nobody.
+    /// there goes as well, which wakes the tasks of those that were dropped while they waited. It
+    /// waits for nobody.
     pub fn take(&mut self) -> Option<T> {
         mem::replace(self, OnceCell::new()).into_inner()
     }

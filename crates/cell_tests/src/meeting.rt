@@ -68,8 +68,8 @@ impl<R: Clock> Future for Keeps<'_, '_, R> {
     }
 }
 
-/// The same for a cell that owns it, which may not fail: 5, or 9. Such a cell would have to outlive
-/// a runtime that its init borrows, so this one has none to pause by, and yields its thread instead.
+/// The same for a cell that owns it, which may not fail: 5, or 9. It yields its thread and does not
+/// pause: in a function over any runtime, the drop of a cell whose init borrows that was not proved.
 #[derive(Drop)]
 pub struct KeepsOn<'m> {
     meeting: &'m Meeting,

@@ -91,7 +91,7 @@ poll 1 v5 => v5, done
 inits => 2 polls, 2 drops
 show => OnceCell { value: Some(5), inner: Inner { ready: true, quick_init: false, refcount: 0, queue: false } }",
     ),
-    // The same where one task polls them all.
+    // As second_try, where one task polls them all.
     (
         "second_try_of_one_task",
         "try 1

@@ -70,7 +70,8 @@ where
     told(lazy)
 }
 
-// The token of a thread whose future waits for the other's, and answers 5 once its task is woken.
+// The token of a thread whose future waits for the other's, and answers 5 when it is polled again:
+// once its task is woken, or after ten thousand turns without that.
 fn waits<'a, R>(
     rt: &'a R,
     task: &MockTask,
@@ -135,7 +136,8 @@ fn lazy_waits_for_another_thread(rt: HostRuntime) -> Result<(), Fail> {
     Ok(())
 }
 
-/// Cells are sent to other threads, which take them apart.
+/// A cell is sent to another thread, which takes it apart. A lazy one is taken apart beside it, on this
+/// thread.
 #[test]
 fn sent_to_another_thread(rt: HostRuntime) -> Result<(), Fail> {
     let (cell, lazy) = (OnceCell::new_with(5u64), Lazy::new(ready(7u64)));
