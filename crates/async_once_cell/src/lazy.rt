@@ -27,7 +27,7 @@ use std::{fmt, mem};
 /// ```
 #[derive(Drop)]
 pub struct Lazy<T, F: Future> {
-    cell: OnceCell<T>,
+    pub(crate) cell: OnceCell<T>,
     // None while it is polled, and once it gave its value.
     future: Mutex<Option<Held<F>>>,
 }

@@ -9,6 +9,8 @@ pub mod once;
 pub mod queue;
 mod seat;
 pub mod step;
+#[cfg(test)]
+mod tests;
 pub mod world;
 
 pub use lazy::{Lazy, LazyFuturePin, LazyFutureUnpin};

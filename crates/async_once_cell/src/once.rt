@@ -164,17 +164,21 @@ impl<T> OnceCell<T> {
     }
 
     // The parts as one call uses them, with the seat of a future that has one.
-    fn parts<'a, 'r, R>(&'a self, rt: &'r R, seat: Option<Seat>) -> Shared<'a, 'r, Seat, R> {
+    pub(crate) fn parts<'a, 'r, R>(
+        &'a self,
+        rt: &'r R,
+        seat: Option<Seat>,
+    ) -> Shared<'a, 'r, Seat, R> {
         self.inner.parts(rt, seat)
     }
 
-    fn new_seat<R: AllocGlobal>(&self, rt: &R) -> Option<Seat> {
+    pub(crate) fn new_seat<R: AllocGlobal>(&self, rt: &R) -> Option<Seat> {
         let number = self.seats.fetch_add(1, Ordering::SeqCst);
         Seat::new(rt.alloc(), number).ok()
     }
 
     // A value that is there already stays, and this one is dropped.
-    fn set<R: Wait>(&self, rt: &R, value: T)
+    pub(crate) fn set<R: Wait>(&self, rt: &R, value: T)
     where
         T: Drop,
     {

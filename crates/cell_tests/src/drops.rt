@@ -78,8 +78,7 @@ struct Looks<'a> {
     alloc: Global,
     // How the cell is to look then.
     wanted: &'a str,
-    // Whether it looked so.
-    held: &'a Cell<Option<bool>>,
+    as_wanted: &'a Cell<Option<bool>>,
     answer: &'a Cell<Option<u64>>,
 }
 
@@ -89,11 +88,11 @@ impl Drop for Looks<'_> {
             cell,
             alloc,
             wanted,
-            held,
+            as_wanted,
             answer: _,
         } = self;
         if let Ok(text) = format!(in alloc; "{cell:?}") {
-            held.set(Some(text.as_str().ends_with(wanted)));
+            as_wanted.set(Some(text.as_str().ends_with(wanted)));
         }
     }
 }
@@ -113,29 +112,29 @@ impl Future for Looks<'_> {
 #[test]
 fn right_held_while_the_init_is_dropped(rt: HostRuntime) -> Result<(), Fail> {
     let (cell, task) = (OnceCell::new(), MockTask::new(&rt)?);
-    let (held, answer) = (Cell::new(None), Cell::new(None));
+    let (as_wanted, answer) = (Cell::new(None), Cell::new(None));
     let init = || Looks {
         cell: &cell,
         alloc: rt.alloc(),
         wanted: "ready: false, quick_init: true, refcount: 0, queue: false } }",
-        held: &held,
+        as_wanted: &as_wanted,
         answer: &answer,
     };
     let mut f1 = cell.get_or_init(&rt, init());
     assert_eq!(rt; polled(&task, &mut f1), Answer::Pending);
-    assert_eq!(rt; held.get(), None);
+    assert_eq!(rt; as_wanted.get(), None);
     drop(f1);
-    assert_eq!(rt; held.get(), Some(true));
+    assert_eq!(rt; as_wanted.get(), Some(true));
     ends(
         &rt,
         &cell,
         "ready: false, quick_init: false, refcount: 0, queue: false } }",
     );
-    held.set(None);
+    as_wanted.set(None);
     answer.set(Some(4));
     let mut f2 = cell.get_or_init(&rt, init());
     assert_eq!(rt; polled(&task, &mut f2), Answer::Value(4));
-    assert_eq!(rt; held.get(), Some(true));
+    assert_eq!(rt; as_wanted.get(), Some(true));
     Ok(())
 }
 
@@ -143,12 +142,12 @@ fn right_held_while_the_init_is_dropped(rt: HostRuntime) -> Result<(), Fail> {
 #[test]
 fn place_held_while_the_init_is_dropped(rt: HostRuntime) -> Result<(), Fail> {
     let (cell, task) = (OnceCell::new(), MockTask::new(&rt)?);
-    let (held, answer) = (Cell::new(None), Cell::new(None));
+    let (as_wanted, answer) = (Cell::new(None), Cell::new(None));
     let init = || Looks {
         cell: &cell,
         alloc: rt.alloc(),
         wanted: "ready: false, quick_init: true, refcount: 1, queue: true } }",
-        held: &held,
+        as_wanted: &as_wanted,
         answer: &answer,
     };
     let mut f1 = cell.get_or_init(&rt, init());
@@ -156,7 +155,7 @@ fn place_held_while_the_init_is_dropped(rt: HostRuntime) -> Result<(), Fail> {
     assert_eq!(rt; polled(&task, &mut f1), Answer::Pending);
     assert_eq!(rt; polled(&task, &mut f2), Answer::Pending);
     drop(f2);
-    assert_eq!(rt; held.get(), Some(true));
+    assert_eq!(rt; as_wanted.get(), Some(true));
     ends(
         &rt,
         &cell,

@@ -70,8 +70,7 @@ where
     told(lazy)
 }
 
-// The token of a thread whose future waits for the other's, and answers 5 when it is polled again:
-// once its task is woken, or after ten thousand turns without that.
+// The token of a thread whose future waits for the other's, and answers 5 once its task is woken.
 fn waits<'a, R>(
     rt: &'a R,
     task: &MockTask,
@@ -94,7 +93,7 @@ where
         }
         thread::sleep(rt, Duration::from_millis(1));
     }
-    if once(task, &mut f) != Answer::Value(5) {
+    if !task.is_woken() || once(task, &mut f) != Answer::Value(5) {
         return None;
     }
     told(lazy)
@@ -136,16 +135,11 @@ fn lazy_waits_for_another_thread(rt: HostRuntime) -> Result<(), Fail> {
     Ok(())
 }
 
-/// A cell is sent to another thread, which takes it apart. A lazy one is taken apart beside it, on this
-/// thread.
+/// Cells are sent to another thread, which takes them apart.
 #[test]
 fn sent_to_another_thread(rt: HostRuntime) -> Result<(), Fail> {
     let (cell, lazy) = (OnceCell::new_with(5u64), Lazy::new(ready(7u64)));
-    let (value, unfinished) = thread::join(
-        &rt,
-        move || cell.into_inner(),
-        move || lazy.into_inner(),
-    );
-    assert_eq!(rt; (value, unfinished), (Some(5), None));
+    let (taken, ()) = thread::join(&rt, move || (cell.into_inner(), lazy.into_inner()), || ());
+    assert_eq!(rt; taken, (Some(5), None));
     Ok(())
 }
