@@ -1,0 +1,96 @@
+//! Threads that ask a table for the values of its keys.
+ghost use Rattle.std.specs.Prelude.{◌≡◌, ◌*◌, ◌^◌, ◌<◌, IfOk, false};
+
+use crate::fault::Fault;
+use crate::fetch::Fetch;
+use crate::memo::Memo;
+use async_once_cell::once::InitFuture;
+use futures::task::{Doorbell, Poll, Solo};
+use std::alloc::AllocGlobal;
+use std::random::RandomSource;
+use std::sync::Wait;
+use std::sync::atomic::AtomicU64;
+use std::thread::{self, Threads};
+use std::time::{Clock, Duration};
+
+/// How often a future is polled before its thread gives up.
+const TURNS: u64 = 10_000;
+
+/// The keys that are asked, in this order.
+const KEYS: [u64; 3] = [1, 2, 3];
+
+/// A key, and the value that a thread was told.
+#[derive(Clone, Copy, Debug, PartialEq, Eq)]
+pub struct Answer {
+    pub key: u64,
+    pub value: u64,
+}
+
+/// What the future answers within so many turns. After a turn that is Pending it pauses for a
+/// millisecond.
+pub fn answer_within<R>(
+    rt: &R,
+    mut future: InitFuture<'_, u64, Fetch<'_>, R>,
+    turns: u64,
+) -> Result<u64, Fault>
+where
+    R: Wait + RandomSource + AllocGlobal + Clock,
+    requires { future.finished ≡ false }
+{
+    let task = Solo::new(rt, Doorbell::parking())?;
+    for _ in 0..turns {
+        let mut cx = task.begin();
+        let polled = future.poll(&mut cx);
+        cx.end(&polled);
+        match polled {
+            Poll::Ready(answer) => return Ok(*answer?),
+            Poll::Pending => thread::sleep(rt, Duration::from_millis(1)),
+        }
+    }
+    Err(Fault::Turns)
+}
+
+/// Asks for the value of a key, and fetches it where nobody did.
+pub fn ask<R>(rt: &R, memo: &Memo<u64>, fetches: &AtomicU64, key: u64) -> Result<Answer, Fault>
+where
+    R: Wait + RandomSource + AllocGlobal + Clock,
+    requires { key * 10 < 2 ^ 64 }
+    ensures { IfOk result (λ answer. answer.key ≡ key) }
+{
+    let cell = memo.cell(key).ok_or(Fault::NoKey(key))?;
+    let future = cell.get_or_init(rt, Fetch::new(key, fetches));
+    let value = answer_within(rt, future, TURNS)?;
+    Ok(Answer { key, value })
+}
+
+/// Asks for the value of each key in turn.
+fn ask_all<R>(rt: &R, memo: &Memo<u64>, fetches: &AtomicU64) -> Result<Vec<Answer>, Fault>
+where
+    R: Wait + RandomSource + AllocGlobal + Clock,
+{
+    let mut answers = Vec::new(rt.alloc());
+    for key in KEYS {
+        answers.push(ask(rt, memo, fetches, key)?)?;
+    }
+    Ok(answers)
+}
+
+/// What two threads are told that ask for each key at once.
+pub fn ask_twice<R>(rt: &R, memo: &Memo<u64>, fetches: &AtomicU64) -> Result<Vec<Answer>, Fault>
+where
+    R: Threads + Wait + RandomSource + AllocGlobal + Clock + Sync,
+{
+    let (first, second) = thread::scope(thread::scope_env(), rt, |scope| {
+        let first = scope.spawn(move || ask_all(rt, memo, fetches));
+        let second = scope.spawn(move || ask_all(rt, memo, fetches));
+        match (first, second) {
+            (Ok(first), Ok(second)) => (first.join(rt), second.join(rt)),
+            _ => (Err(Fault::Thread), Err(Fault::Thread)),
+        }
+    });
+    let (first, second) = (first?, second?);
+    if first != second {
+        return Err(Fault::Differ);
+    }
+    Ok(first)
+}

@@ -1,0 +1,64 @@
+//! Two threads ask a table for its values: each key is fetched once.
+#![tactic(auto)]
+
+mod ask;
+mod fault;
+mod fetch;
+mod memo;
+#[cfg(test)]
+mod tests;
+
+use ask::{Answer, ask_twice};
+use fault::Fault;
+use memo::Memo;
+use std::alloc::AllocGlobal;
+use std::io;
+use std::io::Write;
+use std::process::ExitCode;
+use std::random::RandomSource;
+use std::sync::Wait;
+use std::sync::atomic::{AtomicU64, Ordering};
+use std::thread::Threads;
+use std::time::Clock;
+
+/// Has two threads ask for the keys 1, 2 and 3, and prints what they were told, and how often a key
+/// was fetched. Nothing is written before all is known.
+pub fn run<R, O>(rt: &R, output: &mut O) -> Result<(), Fault>
+where
+    R: Threads + Wait + RandomSource + AllocGlobal + Clock + Sync,
+    O: Write,
+{
+    let fetches = AtomicU64::new(0);
+    let memo = Memo::new(rt.alloc(), vec![in rt.alloc(); 1, 2, 3]?)?;
+    let answers = ask_twice(rt, &memo, &fetches)?;
+    print_answers(output, &answers, fetches.load(Ordering::SeqCst))?;
+    Ok(())
+}
+
+/// Writes a line for each answer, and one for the fetches.
+fn print_answers<O: Write>(output: &mut O, answers: &[Answer], fetches: u64) -> io::Result<()> {
+    for Answer { key, value } in answers {
+        writeln!(output, "{key} {value}")?;
+    }
+    writeln!(output, "fetches {fetches}")?;
+    output.flush()
+}
+
+/// The status that a run ends with. Where it gave up, its reason goes to standard error.
+pub fn status<R, O>(rt: &R, output: &mut O) -> u8
+where
+    R: Threads + Wait + RandomSource + AllocGlobal + Clock + Sync + Eprint,
+    O: Write,
+{
+    match run(rt, output) {
+        Ok(()) => 0,
+        Err(fault) => {
+            let _ = rt.eprintln(fault);
+            1
+        }
+    }
+}
+
+fn main(rt: HostRuntime) -> ExitCode {
+    ExitCode::from(status(&rt, &mut io::writer(&rt)))
+}
