@@ -1,5 +1,5 @@
 //! Threads that ask a table for the values of its keys.
-ghost use Rattle.std.specs.Prelude.{◌≡◌, ◌*◌, ◌^◌, ◌<◌, IfOk, false};
+ghost use Rattle.std.specs.Prelude.{◌≡◌, ◌≢◌, ◌*◌, ◌^◌, ◌<◌, false, IfOk, IfErr, map};
 
 use crate::fault::Fault;
 use crate::fetch::Fetch;
@@ -13,11 +13,11 @@ use std::sync::atomic::AtomicU64;
 use std::thread::{self, Threads};
 use std::time::{Clock, Duration};
 
+/// The keys that each thread asks for, in this order.
+pub const KEYS: [u64; 3] = [1, 2, 3];
+
 /// How often a future is polled before its thread gives up.
 const TURNS: u64 = 10_000;
-
-/// The keys that are asked, in this order.
-const KEYS: [u64; 3] = [1, 2, 3];
 
 /// A key, and the value that a thread was told.
 #[derive(Clone, Copy, Debug, PartialEq, Eq)]
@@ -26,8 +26,8 @@ pub struct Answer {
     pub value: u64,
 }
 
-/// What the future answers within so many turns. After a turn that is Pending it pauses for a
-/// millisecond.
+/// What a future answers within so many turns. After each turn at which it is Pending the thread
+/// pauses for a millisecond; it waits for nobody else.
 pub fn answer_within<R>(
     rt: &R,
     mut future: InitFuture<'_, u64, Fetch<'_>, R>,
@@ -50,7 +50,7 @@ where
     Err(Fault::Turns)
 }
 
-/// Asks for the value of a key, and fetches it where nobody did.
+/// Asks for the value of a key, with a fetch that is polled where no other was.
 pub fn ask<R>(rt: &R, memo: &Memo<u64>, fetches: &AtomicU64, key: u64) -> Result<Answer, Fault>
 where
     R: Wait + RandomSource + AllocGlobal + Clock,
@@ -67,6 +67,7 @@ where
 fn ask_all<R>(rt: &R, memo: &Memo<u64>, fetches: &AtomicU64) -> Result<Vec<Answer>, Fault>
 where
     R: Wait + RandomSource + AllocGlobal + Clock,
+    ensures { IfOk result (λ answers. map (λ answer. answer.key) answers.items ≡ KEYS) }
 {
     let mut answers = Vec::new(rt.alloc());
     for key in KEYS {
@@ -75,7 +76,7 @@ where
     Ok(answers)
 }
 
-/// What two threads are told that ask for each key at once.
+/// What two threads are told that ask for each key at once. Both are told the same.
 pub fn ask_twice<R>(rt: &R, memo: &Memo<u64>, fetches: &AtomicU64) -> Result<Vec<Answer>, Fault>
 where
     R: Threads + Wait + RandomSource + AllocGlobal + Clock + Sync,
@@ -88,7 +89,14 @@ where
             _ => (Err(Fault::Thread), Err(Fault::Thread)),
         }
     });
-    let (first, second) = (first?, second?);
+    agreed(first?, second?)
+}
+
+/// The answers of two threads, where they are the same.
+pub fn agreed(first: Vec<Answer>, second: Vec<Answer>) -> Result<Vec<Answer>, Fault>
+    ensures same { IfOk result (λ told. (told.items ≡ first.items) × (told.items ≡ second.items)) }
+    ensures other { IfErr result (λ _. first.items ≢ second.items) }
+{
     if first != second {
         return Err(Fault::Differ);
     }

@@ -8,7 +8,7 @@ mod memo;
 #[cfg(test)]
 mod tests;
 
-use ask::{Answer, ask_twice};
+use ask::{Answer, KEYS, ask_twice};
 use fault::Fault;
 use memo::Memo;
 use std::alloc::AllocGlobal;
@@ -21,15 +21,15 @@ use std::sync::atomic::{AtomicU64, Ordering};
 use std::thread::Threads;
 use std::time::Clock;
 
-/// Has two threads ask for the keys 1, 2 and 3, and prints what they were told, and how often a key
-/// was fetched. Nothing is written before all is known.
+/// Has two threads ask for each key, and prints what they were told, and how often a key was fetched.
+/// Nothing is written before all is known.
 pub fn run<R, O>(rt: &R, output: &mut O) -> Result<(), Fault>
 where
     R: Threads + Wait + RandomSource + AllocGlobal + Clock + Sync,
     O: Write,
 {
     let fetches = AtomicU64::new(0);
-    let memo = Memo::new(rt.alloc(), vec![in rt.alloc(); 1, 2, 3]?)?;
+    let memo = Memo::new(rt.alloc(), Vec::from_array(rt.alloc(), KEYS)?)?;
     let answers = ask_twice(rt, &memo, &fetches)?;
     print_answers(output, &answers, fetches.load(Ordering::SeqCst))?;
     Ok(())

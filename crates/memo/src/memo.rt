@@ -10,12 +10,24 @@ use std::alloc::{AllocError, Global};
 use std::collections::BTreeMap;
 use std::marker::Model;
 
+/// A table of values that are fetched once: it has a cell for each of its keys.
+///
+/// The keys are given when the table is made. Whoever asks for a key brings a fetch of its own; the
+/// first fills the key's cell, and all others get that value. Threads may share a table where they
+/// may share its cells.
+///
+/// ```
+/// let memo = Memo::new(alloc, vec![in alloc; 1, 2]?)?;
+/// let cell = memo.cell(1).unwrap();
+/// let first = block_on(rt, cell.get_or_init(rt, ready(10)))?; // Ok(&10)
+/// let second = block_on(rt, cell.get_or_init(rt, ready(11)))?; // Ok(&10): this fetch is not polled
+/// ```
 #[derive(Drop)]
 pub struct Memo<T> {
     cells: BTreeMap<u64, OnceCell<T>>,
 }
 
-/// A clause sees a table as the map from each key to the number of its cell.
+/// A clause sees a table as its keys, each with the number of its cell.
 impl<T> Model for Memo<T> {
     ghost Value = { List (ℕ × ℕ) };
 
@@ -23,10 +35,17 @@ impl<T> Model for Memo<T> {
 }
 
 impl<T> Memo<T> {
+    /// A table with an empty cell for each of these keys. A key that is given again has the cell of
+    /// its first place. Where memory is refused, all is given back. It waits for nobody.
+    ///
+    /// ```
+    /// let memo = Memo::<u64>::new(alloc, vec![in alloc; 7, 5, 7]?)?; // cells for 5 and 7
+    /// ```
     pub fn new(alloc: Global, keys: Vec<u64>) -> Result<Self, AllocError>
     where
         T: Drop,
-        ensures { IfOk result (λ memo. (key : ℕ) → IsSome (cell_of memo key) ↔ Contains keys.items key) }
+        ensures keys { IfOk result
+            (λ memo. (key : ℕ) → IsSome (cell_of memo key) ↔ Contains keys.items key) }
     {
         let mut cells = BTreeMap::new(alloc);
         for key in keys {
@@ -37,12 +56,24 @@ impl<T> Memo<T> {
         Ok(Memo { cells })
     }
 
+    /// The cell of a key; None where the table was made without the key. It waits for nobody.
+    ///
+    /// ```
+    /// let value = memo.cell(7).and_then(|cell| cell.get()); // None until a fetch gave a value
+    /// ```
     pub fn cell(&self, key: u64) -> Option<&OnceCell<T>>
         ensures { option_copied result ≡ cell_of self.now key }
     {
         self.cells.get(&key)
     }
 
+    /// A token of a key's cell, which knows nothing yet; None where the table was made without the
+    /// key. It takes no memory, and waits for nobody.
+    ///
+    /// ```
+    /// let token = memo.token(7); // Some
+    /// let missing = memo.token(6); // None
+    /// ```
     pub fn token(&self, key: u64) -> Option<Known<'_, T>>
         ensures cell { option_map (λ token. token.cell) result ≡ cell_of self.now key }
         ensures knows { IfSome result (λ token. token.value ≡ None) }
@@ -50,10 +81,26 @@ impl<T> Memo<T> {
         Some(self.cell(key)?.token())
     }
 
+    /// The value of a key, where it was fetched, and the token learns it. A token that knows a value
+    /// gets that value, always. None where the key has no value yet, or where the table was made
+    /// without the key; the token is then as it was. The token is of the key's cell. It waits for
+    /// nobody.
+    ///
+    /// ```
+    /// let mut token = memo.token(7).unwrap();
+    /// let early = memo.get_as(7, &mut token); // None
+    /// block_on(rt, memo.cell(7).unwrap().get_or_init(rt, ready(70)))?;
+    /// let value = memo.get_as(7, &mut token); // Some(&70), and so at each later call
+    /// ```
     pub fn get_as<'a>(&'a self, key: u64, token: &mut Known<'a, T>) -> Option<&'a T>
         requires { ForSome (cell_of self.now key) (λ cell. token.old.cell ≡ cell) }
+
+        // A key of the table.
         ensures cell { token.new.cell ≡ token.old.cell }
-        ensures value { IsSome (cell_of self.now key) → Learns token.old.value token.new.value result }
+        ensures value { IsSome (cell_of self.now key)
+            → Learns token.old.value token.new.value result }
+
+        // Any other key.
         ensures absent { IsNone (cell_of self.now key) → IsNone result }
         ensures unchanged { IsNone (cell_of self.now key) → token.new ≡ token.old }
     {
