@@ -96,6 +96,7 @@ where
 pub fn agreed(first: Vec<Answer>, second: Vec<Answer>) -> Result<Vec<Answer>, Fault>
     ensures same { IfOk result (λ told. (told.items ≡ first.items) × (told.items ≡ second.items)) }
     ensures other { IfErr result (λ _. first.items ≢ second.items) }
+    ensures fault { IfErr result (λ fault. fault ≡ Fault.Differ) }
 {
     if first != second {
         return Err(Fault::Differ);

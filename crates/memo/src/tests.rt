@@ -48,7 +48,10 @@ fn keys_without_a_cell(rt: HostRuntime) -> Result<(), Fail> {
             assert!(rt; memo.cell(key).is_none(), "at {key}");
             assert!(rt; memo.token(key).is_none(), "at {key}");
             let answer = ask(&rt, memo, &fetches, key);
-            assert!(rt; matches!(answer, Err(Fault::NoKey(at)) if at == key), "at {key}");
+            assert!(rt;
+                matches!(answer, Err(Fault::NoKey(at)) if at == key),
+                "at {key}"
+            );
         }
     }
     assert_eq!(rt; fetches.load(Ordering::SeqCst), 0);

@@ -20,14 +20,13 @@ has_one_more : (found : Option ℕ) (keys : List ℕ) (key cell q : ℕ) (b : Bo
 has_one_more found keys key cell q true is had =
     let same = eqb-true key q (sym (unsigned_tied key q) ∙ is) in
     (λ _. Contains-append_right keys (key ∷ []) q (0, omega arith, same), λ _. refl)
-has_one_more found keys key cell q false is had =
-    (
-      λ some. Contains-append_left keys (key ∷ []) q (had.0 some),
-      λ has. elim (Contains-append_cases keys (key ∷ []) q has) [
-        | inl before ↦ had.1 before
-        | inr last ↦ absurd (other_key key q is (only_key key q last))
-      ],
-    )
+has_one_more found keys key cell q false is had = (
+  λ some. Contains-append_left keys (key ∷ []) q (had.0 some),
+  λ has. elim (Contains-append_cases keys (key ∷ []) q has) [
+    | inl before ↦ had.1 before
+    | inr last ↦ absurd (other_key key q is (only_key key q last))
+  ],
+)
 
 pub loop-key-preserved-in_ok-insert-2 : goal.loop-key-preserved-in_ok-insert-2
 loop-key-preserved-in_ok-insert-2 g c = λ q.

@@ -1,4 +1,4 @@
-use Rattle.std.proofs.Common.{◌≡◌, ◌↔◌, ℕ, IsSome, Contains}
+use Rattle.std.proofs.Common.{◌↔◌, ℕ, IsSome, Contains}
 use Rattle.memo.specs.Memo.{cell_of}
 use Rattle.memo.proofs.memo.Memo.new.Given as goal
 
