@@ -27,7 +27,7 @@ pub struct Answer {
 }
 
 /// What a future answers within so many turns. After each turn at which it is Pending the thread
-/// pauses for a millisecond; it waits for nobody else.
+/// pauses for a millisecond. A turn may wait for the locks of the cell, which no init is run under.
 pub fn answer_within<R>(
     rt: &R,
     mut future: InitFuture<'_, u64, Fetch<'_>, R>,
@@ -50,7 +50,8 @@ where
     Err(Fault::Turns)
 }
 
-/// Asks for the value of a key, with a fetch that is polled where no other was.
+/// Asks for the value of a key, with a fetch that is polled where no other was. It may wait as
+/// [`answer_within`] does, for each of its turns.
 pub fn ask<R>(rt: &R, memo: &Memo<u64>, fetches: &AtomicU64, key: u64) -> Result<Answer, Fault>
 where
     R: Wait + RandomSource + AllocGlobal + Clock,
@@ -76,7 +77,8 @@ where
     Ok(answers)
 }
 
-/// What two threads are told that ask for each key at once. Both are told the same.
+/// What two threads are told that ask for each key at once. It waits for both to end, also where it
+/// gives up.
 pub fn ask_twice<R>(rt: &R, memo: &Memo<u64>, fetches: &AtomicU64) -> Result<Vec<Answer>, Fault>
 where
     R: Threads + Wait + RandomSource + AllocGlobal + Clock + Sync,
