@@ -57,6 +57,13 @@ mod rounds {
     /// Counts how often it was called.
     struct Calls(AtomicU64);
 
+    impl Calls {
+        /// Whether it was called since this was last asked.
+        fn were_made(&self) -> bool {
+            self.0.swap(0, Ordering::Relaxed) > 0
+        }
+    }
+
     impl Wake for Calls {
         fn wake(self: Arc<Self>) {
             self.0.fetch_add(1, Ordering::Relaxed);
@@ -84,6 +91,21 @@ mod rounds {
         }
     }
 
+    /// Is pending once, and then fails with 1.
+    struct Failing(bool);
+
+    impl Future for Failing {
+        type Output = Result<u64, u64>;
+
+        fn poll(mut self: Pin<&mut Self>, cx: &mut Context<'_>) -> Poll<Result<u64, u64>> {
+            if std::mem::replace(&mut self.0, true) {
+                return Poll::Ready(Err(1));
+            }
+            cx.waker().wake_by_ref();
+            Poll::Pending
+        }
+    }
+
     pub fn perform(operation: &str, count: u64) -> Option<u64> {
         match operation {
             "get" => Some(get(black_box(&OnceCell::new_with(1)), count)),
@@ -92,6 +114,11 @@ mod rounds {
             "waiters1" => Some(waiters(1, count)),
             "waiters10" => Some(waiters(10, count)),
             "waiters100" => Some(waiters(100, count)),
+            "failure1" => Some(failures(1, count)),
+            "failure10" => Some(failures(10, count)),
+            "failure100" => Some(failures(100, count)),
+            "turns10" => Some(turns(10, count)),
+            "turns100" => Some(turns(100, count)),
             "lazy_first" => Some(lazy_first(count)),
             "lazy_later" => Some(lazy_later(black_box(&Lazy::with_value(1)), count)),
             _ => None,
@@ -173,6 +200,90 @@ mod rounds {
         sum
     }
 
+    /// A future that waits, and the waker of its task.
+    struct Waiter<F> {
+        future: Pin<Box<F>>,
+        calls: Arc<Calls>,
+        waker: Waker,
+        has_ended: bool,
+    }
+
+    impl<F> Waiter<F> {
+        fn new(future: F) -> Self {
+            let calls = Arc::new(Calls(AtomicU64::new(0)));
+            let waker = Waker::from(calls.clone());
+            let future = Box::pin(future);
+            Waiter { future, calls, waker, has_ended: false }
+        }
+
+        /// Polls it: the value or the error, and 0 where it is pending.
+        fn poll<'a>(&mut self) -> u64
+        where
+            F: Future<Output = Result<&'a u64, u64>>,
+        {
+            let answer = self.future.as_mut().poll(&mut Context::from_waker(&self.waker));
+            self.has_ended = answer.is_ready();
+            number_of(answer)
+        }
+    }
+
+    // A new holder gets the right, whoever was called waits again, and the holder fails.
+    #[inline(never)]
+    fn failures(waiting: usize, count: u64) -> u64 {
+        let cell = OnceCell::new();
+        let new = || black_box(&cell).get_or_try_init(Failing(false));
+        let wakers = wakers(1);
+        let mut cx = Context::from_waker(&wakers[0]);
+        let mut first = Waiter::new(new());
+        let mut sum = first.poll();
+        let mut waiters: Vec<_> = (0..waiting).map(|_| Waiter::new(new())).collect();
+        for waiter in &mut waiters {
+            sum = sum.wrapping_add(waiter.poll());
+        }
+        drop(first);
+        for _ in 0..count {
+            let mut holder = pin!(new());
+            sum = sum.wrapping_add(number_of(holder.as_mut().poll(&mut cx)));
+            for waiter in &mut waiters {
+                if waiter.calls.were_made() {
+                    sum = sum.wrapping_add(waiter.poll());
+                }
+            }
+            sum = sum.wrapping_add(number_of(holder.as_mut().poll(&mut cx)));
+        }
+        sum
+    }
+
+    #[inline(never)]
+    fn turns(waiting: usize, count: u64) -> u64 {
+        let mut sum: u64 = 0;
+        for _ in 0..count {
+            sum = sum.wrapping_add(all_turns(waiting));
+        }
+        sum
+    }
+
+    // A holder fails, and then each who waits. Whoever was called is polled, in turn, until all ended.
+    fn all_turns(waiting: usize) -> u64 {
+        let cell = OnceCell::new();
+        let new = || Waiter::new(black_box(&cell).get_or_try_init(Failing(false)));
+        let mut holder = new();
+        let mut sum = holder.poll();
+        let mut waiters: Vec<_> = (0..waiting).map(|_| new()).collect();
+        for waiter in &mut waiters {
+            sum = sum.wrapping_add(waiter.poll());
+        }
+        sum = sum.wrapping_add(holder.poll());
+        while waiters.iter().any(|waiter| !waiter.has_ended) {
+            for waiter in &mut waiters {
+                if waiter.calls.were_made() && !waiter.has_ended {
+                    sum = sum.wrapping_add(waiter.poll());
+                }
+            }
+        }
+        sum
+    }
+
     #[inline(never)]
     fn lazy_first(count: u64) -> u64 {
         let wakers = wakers(1);
@@ -196,6 +307,15 @@ mod rounds {
             sum = sum.wrapping_add(value_of(future.poll(&mut cx)));
         }
         sum
+    }
+
+    /// The value or the error of a poll, and 0 where it is pending.
+    fn number_of(polled: Poll<Result<&u64, u64>>) -> u64 {
+        match polled {
+            Poll::Ready(Ok(value)) => *value,
+            Poll::Ready(Err(error)) => error,
+            Poll::Pending => 0,
+        }
     }
 
     /// The value of a poll, and 0 where it is pending.

@@ -1,7 +1,7 @@
 -- Which record belongs to which inputs. The newest input, entry and part stand first.
 use Rattle.std.specs.Prelude.{◌≡◌, ◌≤◌, ℕ, suc, Bool, true, false, cond, ◌==◌, not, List, [], ◌∷◌, ◌++◌}
 use Rattle.async_once_cell.specs.declared.inner.QueueLine.{QueueLine}
-use Rattle.async_once_cell.specs.Record.{Answer, Memory, Kind, Once, OnceWith, OwnerCall, Got, Entry, Made, Begin, Claim, Ran, Free, Fill, End, DropBegin, DropEnd, Look, Own, has_call}
+use Rattle.async_once_cell.specs.Record.{Answer, Memory, Kind, Once, OnceWith, OwnerCall, Got, Entry, Made, Begin, Claim, Ran, Free, Fill, Pass, End, DropBegin, DropEnd, Look, Own, has_call}
 use Rattle.async_once_cell.specs.Cell.{cell, value_in, answers_left, got}
 use Rattle.async_once_cell.specs.Tasks.{Status, Unmade, Fresh, Waiting, Holding, status, is_under_way, all_gone}
 
@@ -57,6 +57,7 @@ IsOfStep kind t a (Claim u) = u ≡ t
 IsOfStep kind t a (Ran u b) = (u ≡ t) × IsAsked kind a b
 IsOfStep kind t a (Free u X) = u ≡ t
 IsOfStep kind t a (Fill u v X) = u ≡ t
+IsOfStep kind t a (Pass u X) = u ≡ t
 IsOfStep kind t a (End u r) = u ≡ t
 IsOfStep kind t a (DropEnd u) = u ≡ t
 IsOfStep kind t a _ = ⊥

@@ -1,9 +1,11 @@
-pub mod Apart
+pub mod Numbers
 pub mod Word
+pub mod Listings
+pub mod Marks
+pub mod Room
 pub mod Sections
 pub mod Core
 pub mod Steps
-pub mod Numbers
 pub mod Record
 pub mod Cell
 pub mod Tasks
@@ -11,6 +13,7 @@ pub mod Wakers
 pub mod Refusals
 pub mod Crowd
 pub mod Run
+pub mod Called
 pub mod Values
 pub mod Inputs
 pub mod Granted

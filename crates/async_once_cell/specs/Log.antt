@@ -2,9 +2,9 @@
 use Rattle.std.specs.Prelude.{◌≡◌, ◌≢◌, ℕ, Bool, true, false, cond, ◌==◌, List, [], ◌∷◌, ◌++◌, Option, Some, None}
 use Rattle.async_once_cell.specs.declared.inner.QueueLine.{QueueLine}
 use Rattle.async_once_cell.specs.declared.inner.QueueLine.TheVariants.{Put, Entered, Taken}
-use Rattle.async_once_cell.specs.Record.{Answer, Pending, Kind, Entry, Free, Fill, End, replaces}
+use Rattle.async_once_cell.specs.Record.{Answer, Pending, Kind, Entry, Free, Fill, Pass, End, replaces}
 use Rattle.async_once_cell.specs.Cell.{cell, is_set}
-use Rattle.async_once_cell.specs.Tasks.{Waiting, status, is_under_way, last_poll}
+use Rattle.async_once_cell.specs.Tasks.{Waiting, status, is_under_way, last_call}
 use Rattle.async_once_cell.specs.Inputs.{Input, Go, Owns, Part, entries_of, fits_owner, Always}
 
 -- the queue that stands at the door after these lines
@@ -42,7 +42,8 @@ did_not_run _ = false
 abbrev pub needs_queue : Kind → Entry → List Entry → Bool
 needs_queue kind (Free t X) before = is_some_waker X
 needs_queue kind (Fill t v X) before = is_some_waker X
-needs_queue kind (End t Pending) before = did_not_run (last_poll kind t before).ran
+needs_queue kind (Pass t X) before = is_some_waker X
+needs_queue kind (End t Pending) before = did_not_run (last_call kind t before).ran
 needs_queue kind _ before = false
 
 -- some of these entries, which follow those before, needs the queue

@@ -1,23 +1,24 @@
 -- The machine: what all tasks share, the place at which each task stands, and what each input does.
 use Rattle.std.specs.Prelude.{ℕ, suc, Bool, true, false, cond, ◌==◌, ◌-◌, nat_lt, ◌||◌, not, List, [], ◌∷◌, ◌++◌, Option, Some, None}
-pub use Rattle.async_once_cell.specs.Steps.{Ending, EndPending, EndValue, EndError, EndMemory, EndFull, EndDropped, is_value, Rest, RestStart, RestWait, RestRun, Place, AtStart, AtTryQuick, AtDoorGet, AtDoorPut, AtCountIn, AtWaitLoad, AtLook, AtList, AtRun, AtPut, AtFast, AtAddOne, AtDoorAgain, AtRelease, AtCountOut, AtDoorTake, Step, Resting, UnderWay, Finished, left_at, left_of, is_resting, in_call, is_finished, begun_at, begun, give_back, dropped_at, dropped}
+use Rattle.std.specs.Option.{is_some}
+pub use Rattle.async_once_cell.specs.Steps.{Ending, EndPending, EndValue, EndError, EndMemory, EndFull, EndDropped, is_value, Rest, RestStart, RestWait, RestRun, Place, AtStart, AtTryQuick, AtDoorGet, AtDoorPut, AtCountIn, AtWaitLoad, AtLook, AtList, AtRun, AtPut, AtFast, AtAddOne, AtDoorAgain, AtRelease, AtLeave, AtCountOut, AtDoorTake, Step, Resting, UnderWay, Finished, left_at, left_of, is_resting, in_call, is_leaving, is_finished, begun_at, begun, give_back, leave_by, dropped_at, dropped}
 pub use Rattle.async_once_cell.specs.declared.world.play.Task.{Task}
 pub use Rattle.async_once_cell.specs.declared.inner.QueueLine.{QueueLine}
 pub use Rattle.async_once_cell.specs.declared.inner.QueueLine.TheVariants.{Put as PutLine, Entered as EnteredLine, Taken as TakenLine}
-use Rattle.async_once_cell.specs.Numbers.{member}
-use Rattle.async_once_cell.specs.Record.{Answer, RanPending, RanValue, RanError, Pending, Value, Error, Memory, Full, Kind, is_lazy, has_call, replaces, OwnerCall, Take, Write, Parts, ReplaceValue, ReplaceAnswers, Got, GotNone, GotValue, GotAnswers, Entry, Made, Begin, Claim, Ran, Free, Fill, End, DropBegin, DropEnd, Look, Own}
+pub use Rattle.async_once_cell.specs.Listings.{Listing, own_listing, kept_ticket, ticket_for, listed_anew, without, passes_turn, next_waker, left_list, first_waker, call_first, all_out, one_out, is_waker}
+use Rattle.async_once_cell.specs.Record.{Answer, RanPending, RanValue, RanError, Pending, Value, Error, Memory, Full, Kind, is_lazy, has_call, replaces, OwnerCall, Take, Write, Parts, ReplaceValue, ReplaceAnswers, Got, GotNone, GotValue, GotAnswers, Entry, Made, Begin, Claim, Ran, Free, Fill, Pass, End, DropBegin, DropEnd, Look, Own}
 use Rattle.async_once_cell.specs.Cell.{is_set, value_in, starts, first_answers, rest_of, next_answer}
 use Rattle.async_once_cell.specs.Inputs.{Input, Make, Poll, Drop, Go, Looks, Owns}
 use Rattle.async_once_cell.specs.Log.{taken_out}
 
--- what all tasks share: the word's count and two flags; the queue at the door; that queue's flag and list; how many queues were made; the value that was put last; and what a lazy init will still answer
+-- what all tasks share: the word's count and two flags; the queue at the door; that queue's flag and listings; how many queues were made; the value that was put last; and what a lazy init will still answer
 pub record Inner : Type 0 where
   pub count : ℕ
   pub quick : Bool
   pub ready : Bool
   pub door : Option ℕ
   pub head : Bool
-  pub wakers : List ℕ
+  pub listings : List (Listing ℕ)
   pub queues : ℕ
   pub value : ℕ
   pub answers : List (Option ℕ)
@@ -37,6 +38,10 @@ is_last_out c = cond (c.count - 1 == 0) (cond c.quick false c.ready) false
 -- some task holds
 abbrev pub is_taken : Inner → Bool
 is_taken c = c.quick || c.head
+
+-- nobody holds, and the value is not set
+abbrev pub is_free : Inner → Bool
+is_free c = cond c.ready false (not (is_taken c))
 
 abbrev pub is_at_door : ℕ → Option ℕ → Bool
 is_at_door q None = false
@@ -63,6 +68,11 @@ abbrev pub release_entry : Answer → ℕ → List ℕ → Entry
 release_entry (RanValue v) t X = Fill t v X
 release_entry _ t X = Free t X
 
+-- who leaves passes its turn on to these wakers, if there are some
+abbrev pub pass_entries : ℕ → List ℕ → List Entry
+pass_entries t [] = []
+pass_entries t X = Pass t X ∷ []
+
 -- how the call of t ends, where this value is set and this was kept
 abbrev pub end_entry : Ending → ℕ → ℕ → Answer → Entry
 end_entry EndPending t v k = End t Pending
@@ -81,8 +91,8 @@ abbrev pub ends : Inner → ℕ → Answer → Ending → Outcome
 ends c t k e = record { inner = c; step = Finished; kept = k; entries = end_entry e t c.value k ∷ [] }
 
 -- the poll ends Pending, and waits
-abbrev pub waits : Inner → ℕ → Answer → ℕ → Outcome
-waits c t k q = record { inner = c; step = Resting (RestWait q); kept = k; entries = End t Pending ∷ [] }
+abbrev pub waits : Inner → ℕ → Answer → ℕ → Option ℕ → Outcome
+waits c t k q n = record { inner = c; step = Resting (RestWait q n); kept = k; entries = End t Pending ∷ [] }
 
 -- the task claims the right
 abbrev pub claims : Inner → ℕ → Answer → Option ℕ → Outcome
@@ -107,35 +117,42 @@ door_step None c k = goes_to c k AtDoorPut
 abbrev pub put_step : Bool → Option ℕ → Inner → ℕ → Answer → Outcome
 put_step false _ c t k = ends c t k EndMemory
 put_step true (Some q) c t k = goes_to c k (AtCountIn q)
-put_step true None c t k = goes_to (record c { door = Some (suc c.queues); head = false; wakers = []; queues = suc c.queues }) k (AtCountIn (suc c.queues))
+put_step true None c t k = goes_to (record c { door = Some (suc c.queues); head = false; listings = []; queues = suc c.queues }) k (AtCountIn (suc c.queues))
 
 -- below the limit, ready
 abbrev pub in_step : Bool → Bool → Inner → ℕ → Answer → ℕ → Outcome
 in_step true true c t k q = goes_to (record c { count = suc c.count }) k (AtCountOut EndValue)
-in_step true false c t k q = goes_to (record c { count = suc c.count }) k (AtWaitLoad q)
+in_step true false c t k q = goes_to (record c { count = suc c.count }) k (AtWaitLoad q None)
 in_step false true c t k q = ends c t k EndValue
 in_step false false c t k q = ends c t k EndFull
 
-abbrev pub load_step : Bool → Inner → Answer → ℕ → Outcome
-load_step true c k q = goes_to c k (AtCountOut EndValue)
-load_step false c k q = goes_to c k (AtLook q)
+abbrev pub load_step : Bool → Inner → Answer → ℕ → Option ℕ → Outcome
+load_step true c k q n = goes_to c k (AtCountOut EndValue)
+load_step false c k q n = goes_to c k (AtLook q n)
+
+-- what a claim under the lock leaves, by the ticket of who claims
+abbrev pub claimed : Inner → Option ℕ → Inner
+claimed c n = record c { head = true; listings = without n c.listings }
 
 -- at the door, ready, taken, listed, granted
-abbrev pub look_step : Bool → Bool → Bool → Bool → Bool → Inner → ℕ → ℕ → Answer → ℕ → Outcome
-look_step true true _ _ _ c t w k q = goes_to c k (AtCountOut EndValue)
-look_step true false false _ _ c t w k q = claims (record c { head = true }) t k (Some q)
-look_step true false true true _ c t w k q = waits c t k q
-look_step _ _ _ _ true c t w k q = goes_to c k (AtList q w)
-look_step _ _ _ _ false c t w k q = goes_to c k (AtCountOut EndMemory)
+abbrev pub look_step : Bool → Bool → Bool → Bool → Bool → Inner → ℕ → ℕ → Answer → ℕ → Option ℕ → Outcome
+look_step true true _ _ _ c t w k q n = goes_to c k (AtCountOut EndValue)
+look_step true false false _ _ c t w k q n = claims (claimed c n) t k (Some q)
+look_step true false true true _ c t w k q n = waits c t k q n
+look_step _ _ _ _ true c t w k q n = goes_to c k (AtList q n w)
+look_step _ _ _ _ false c t w k q n = goes_to c k (leave_by q n EndMemory)
 
--- at the door, ready, taken, listed, granted
-abbrev pub list_step : Bool → Bool → Bool → Bool → Bool → Inner → ℕ → ℕ → Answer → ℕ → Outcome
-list_step false _ _ _ _ c t w k q = waits c t k q
-list_step true true _ _ _ c t w k q = goes_to c k (AtCountOut EndValue)
-list_step true false false _ _ c t w k q = claims (record c { head = true }) t k (Some q)
-list_step true false true true _ c t w k q = waits c t k q
-list_step true false true false true c t w k q = waits (record c { wakers = c.wakers ++ w ∷ [] }) t k q
-list_step true false true false false c t w k q = goes_to c k (AtCountOut EndMemory)
+-- what a listing with this ticket leaves
+abbrev pub listed : Inner → ℕ → ℕ → Inner
+listed c n w = record c { listings = listed_anew n w c.listings }
+
+-- at the door, ready, taken, there or granted
+abbrev pub list_step : Bool → Bool → Bool → Bool → Inner → ℕ → ℕ → Answer → ℕ → Option ℕ → Outcome
+list_step false _ _ _ c t w k q n = waits c t k q n
+list_step true true _ _ c t w k q n = goes_to c k (AtCountOut EndValue)
+list_step true false false _ c t w k q n = claims (claimed c n) t k (Some q)
+list_step true false true true c t w k q n = waits (listed c (ticket_for n c.listings) w) t k q (Some (ticket_for n c.listings))
+list_step true false true false c t w k q n = goes_to c k (leave_by q n EndMemory)
 
 -- the answer of the init: of a lazy one the next, of another what the input says
 abbrev pub given : Bool → List (Option ℕ) → Answer → Answer
@@ -163,13 +180,32 @@ again_step None c k e = goes_to c k (AtCountOut e)
 
 -- what a release leaves, by whether the quick flag stood, with the value set or not
 abbrev pub released : Bool → Bool → Inner → Inner
-released true r c = record c { quick = false; ready = r; wakers = [] }
-released false r c = record c { head = false; ready = r; wakers = [] }
+released true r c = record c { quick = false; ready = r }
+released false r c = record c { head = false; ready = r }
+
+-- a release with the value lets all listings leave; one without calls the first that was not called
+abbrev pub kept_list : Bool → List (Listing ℕ) → List (Listing ℕ)
+kept_list true xs = []
+kept_list false xs = call_first xs
+
+-- and hands out these wakers
+abbrev pub handed : Bool → List (Listing ℕ) → List ℕ
+handed true xs = all_out xs []
+handed false xs = one_out (first_waker xs)
 
 -- at the door
 abbrev pub release_step : Bool → Inner → ℕ → Answer → Ending → Outcome
-release_step true c t k e = record { inner = released c.quick (is_value e) c; step = UnderWay (AtCountOut e); kept = k; entries = release_entry k t c.wakers ∷ [] }
-release_step false c t k e = goes_to c k (AtCountOut e)
+release_step true c t k e = record { inner = record (released c.quick (is_value e) c) { listings = kept_list (is_value e) c.listings }; step = UnderWay (AtCountOut e); kept = k; entries = release_entry k t (handed (is_value e) c.listings) ∷ [] }
+release_step false c t k e = record { inner = c; step = UnderWay (AtCountOut e); kept = k; entries = release_entry k t [] ∷ [] }
+
+-- who leaves with this ticket passes its turn on
+abbrev pub passes : Inner → ℕ → Bool
+passes c n = passes_turn (is_free c) n c.listings
+
+-- at the door
+abbrev pub leave_step : Bool → Inner → ℕ → Answer → ℕ → Ending → Outcome
+leave_step true c t k n e = record { inner = record c { listings = left_list (passes c n) n c.listings }; step = UnderWay (AtCountOut e); kept = k; entries = pass_entries t (one_out (next_waker (passes c n) n c.listings)) }
+leave_step false c t k n e = goes_to c k (AtCountOut e)
 
 abbrev pub counted_out : Inner → Inner
 counted_out c = record c { count = c.count - 1 }
@@ -180,7 +216,7 @@ out_step true c t k e = goes_to c k (AtDoorTake e)
 out_step false c t k e = ends c t k e
 
 abbrev pub door_taken : Inner → Inner
-door_taken c = record c { door = None; head = false; wakers = [] }
+door_taken c = record c { door = None; head = false; listings = [] }
 
 -- one step at a place: of the task t with the waker w and what its init gave so far, the init answering a, memory being given or not
 abbrev pub place_step : Bool → ℕ → Inner → ℕ → ℕ → Answer → Answer → Bool → Place ℕ ℕ → Outcome
@@ -189,15 +225,16 @@ place_step lazy limit c t w k a granted AtTryQuick = quick_step c.ready (is_new 
 place_step lazy limit c t w k a granted AtDoorGet = door_step c.door c k
 place_step lazy limit c t w k a granted AtDoorPut = put_step granted c.door c t k
 place_step lazy limit c t w k a granted (AtCountIn q) = in_step (nat_lt c.count limit) c.ready c t k q
-place_step lazy limit c t w k a granted (AtWaitLoad q) = load_step c.ready c k q
-place_step lazy limit c t w k a granted (AtLook q) = look_step (is_at_door q c.door) c.ready (is_taken c) (member w c.wakers) granted c t w k q
-place_step lazy limit c t w k a granted (AtList q v) = list_step (is_at_door q c.door) c.ready (is_taken c) (member v c.wakers) granted c t v k q
+place_step lazy limit c t w k a granted (AtWaitLoad q n) = load_step c.ready c k q n
+place_step lazy limit c t w k a granted (AtLook q n) = look_step (is_at_door q c.door) c.ready (is_taken c) (is_waker w (own_listing n c.listings)) granted c t w k q n
+place_step lazy limit c t w k a granted (AtList q n v) = list_step (is_at_door q c.door) c.ready (is_taken c) (is_some (kept_ticket n c.listings) || granted) c t v k q n
 place_step lazy limit c t w k a granted (AtRun by) = run_step (given lazy c.answers a) (ran_once c) t k by
 place_step lazy limit c t w k a granted (AtPut by) = goes_to (record c { value = put_value k c.value }) k (give_back by EndValue)
 place_step lazy limit c t w k a granted (AtFast e) = fast_step (is_quick_alone c) (is_value e) c t k e
 place_step lazy limit c t w k a granted (AtAddOne e) = goes_to (record c { count = suc c.count }) k (AtDoorAgain e)
 place_step lazy limit c t w k a granted (AtDoorAgain e) = again_step c.door c k e
 place_step lazy limit c t w k a granted (AtRelease q e) = release_step (is_at_door q c.door) c t k e
+place_step lazy limit c t w k a granted (AtLeave q n e) = leave_step (is_at_door q c.door) c t k n e
 place_step lazy limit c t w k a granted (AtCountOut e) = out_step (is_last_out c) (counted_out c) t k e
 place_step lazy limit c t w k a granted (AtDoorTake e) = ends (door_taken c) t k e
 
@@ -217,9 +254,10 @@ put_lines _ _ n = []
 -- what one step logs
 abbrev pub place_lines : Bool → Inner → Place ℕ ℕ → List QueueLine
 place_lines granted c AtDoorPut = put_lines granted c.door c.queues
-place_lines granted c (AtLook q) = EnteredLine q ∷ []
-place_lines granted c (AtList q v) = EnteredLine q ∷ []
+place_lines granted c (AtLook q n) = EnteredLine q ∷ []
+place_lines granted c (AtList q n v) = EnteredLine q ∷ []
 place_lines granted c (AtRelease q e) = EnteredLine q ∷ []
+place_lines granted c (AtLeave q n e) = EnteredLine q ∷ []
 place_lines granted c (AtDoorTake e) = taken_out c.door
 place_lines granted c _ = []
 
@@ -353,7 +391,7 @@ value_at_start None = 0
 -- a cell of the kind that nobody used
 abbrev pub opening : Kind → World
 opening kind = record {
-  inner = record { count = 0; quick = false; ready = is_set (starts kind); door = None; head = false; wakers = []; queues = 0; value = value_at_start (value_in (starts kind)); answers = first_answers kind };
+  inner = record { count = 0; quick = false; ready = is_set (starts kind); door = None; head = false; listings = []; queues = 0; value = value_at_start (value_in (starts kind)); answers = first_answers kind };
   tasks = λ t. None;
   unfinished = 0;
   history = [];

@@ -26,7 +26,7 @@ pub data Got : Type 0 where
   GotValue : (value : ℕ) → Got
   GotAnswers : (answers : List (Option ℕ)) → Got
 
--- one entry of a record. Free and Fill are the releases: they give the right back, and hand the wakers out
+-- one entry of a record. Free and Fill are the releases: they give the right back, and hand the wakers out. By Pass a waiter that was called and leaves passes its turn on, to the wakers
 pub data Entry : Type 0 where
   Made : (task : ℕ) → Entry
   Begin : (task : ℕ) → (waker : ℕ) → Entry
@@ -34,6 +34,7 @@ pub data Entry : Type 0 where
   Ran : (task : ℕ) → (answer : Answer) → Entry
   Free : (task : ℕ) → (wakers : List ℕ) → Entry
   Fill : (task : ℕ) → (value : ℕ) → (wakers : List ℕ) → Entry
+  Pass : (task : ℕ) → (wakers : List ℕ) → Entry
   End : (task : ℕ) → (reply : Reply) → Entry
   DropBegin : (task : ℕ) → Entry
   DropEnd : (task : ℕ) → Entry
@@ -48,6 +49,7 @@ is_of t (Claim u) = u == t
 is_of t (Ran u a) = u == t
 is_of t (Free u X) = u == t
 is_of t (Fill u v X) = u == t
+is_of t (Pass u X) = u == t
 is_of t (End u r) = u == t
 is_of t (DropBegin u) = u == t
 is_of t (DropEnd u) = u == t
@@ -58,6 +60,7 @@ is_of t (Own o g) = false
 abbrev pub handed_by : Entry → List ℕ
 handed_by (Free t X) = X
 handed_by (Fill t v X) = X
+handed_by (Pass t X) = X
 handed_by _ = []
 
 -- the tasks that were made

@@ -3,7 +3,7 @@ use Rattle.std.specs.Prelude.{◌≡◌, ◌≢◌, ◌≤◌, ℕ, Bool, true, 
 use Rattle.async_once_cell.specs.Numbers.{how_many}
 use Rattle.async_once_cell.specs.Record.{Kind, Entry, Begin, made_in}
 use Rattle.async_once_cell.specs.Cell.{Held, is_set, cell}
-use Rattle.async_once_cell.specs.Tasks.{Status, Fresh, Polling, Dropping, Waiting, Holding, status, is_under_way, last_poll}
+use Rattle.async_once_cell.specs.Tasks.{Status, Fresh, Polling, Dropping, Waiting, Holding, status, is_under_way, last_call}
 
 abbrev pub is_begin_of : ℕ → Entry → Bool
 is_begin_of t (Begin u w) = u == t
@@ -40,16 +40,16 @@ IsCrowded kind limit t history = limit ≤ crowd kind t history
 
 -- memory may be refused, by what t was at its Begin: to a fresh task where the cell was not set then and another task acted since, to a waiting one where another task held since
 abbrev pub MemoryFrom : Kind → Status → ℕ → List Entry → Type 0
-MemoryFrom kind Fresh t history = ((last_poll kind t history).set_then ≡ false) × Since t (OtherActs kind t) history
+MemoryFrom kind Fresh t history = ((last_call kind t history).set_then ≡ false) × Since t (OtherActs kind t) history
 MemoryFrom kind Waiting t history = Since t (OtherHolds kind t) history
 MemoryFrom kind _ t history = ⊥
 
 -- a poll that claimed is never refused memory
 abbrev pub MayWantMemory : Kind → ℕ → List Entry → Type 0
-MayWantMemory kind t history = ((last_poll kind t history).claimed ≡ false) × MemoryFrom kind (last_poll kind t history).began t history
+MayWantMemory kind t history = ((last_call kind t history).claimed ≡ false) × MemoryFrom kind (last_call kind t history).began t history
 
 -- the first poll of a task may find the place full, where its crowd had limit tasks since and the cell is not set
 abbrev pub MayFindFull : Kind → ℕ → ℕ → List Entry → Type 0
 MayFindFull kind limit t history =
-    ((last_poll kind t history).began ≡ Fresh) × ((last_poll kind t history).claimed ≡ false)
+    ((last_call kind t history).began ≡ Fresh) × ((last_call kind t history).claimed ≡ false)
     × Since t (IsCrowded kind limit t) history × (is_set (cell kind history) ≡ false)

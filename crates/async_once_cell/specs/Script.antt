@@ -1,7 +1,6 @@
 -- What the side of a replayed task answers and leaves.
 use Rattle.std.specs.Prelude.{◌≡◌, ℕ, cond, List, Option, Some, None, reverse, ⊤}
-use Rattle.std.specs.declared.vec.Vec.{Vec}
-use Rattle.std.specs.declared.alloc.Global.{Global}
+use Rattle.async_once_cell.specs.declared.queue.Out.{Out}
 use Rattle.async_once_cell.specs.declared.world.script.Script.{Script}
 use Rattle.async_once_cell.specs.declared.step.Polled.{Polled}
 use Rattle.async_once_cell.specs.declared.step.Polled.TheVariants.{Pending as PolledPending, Value as PolledValue, Error as PolledError}
@@ -45,8 +44,8 @@ DidPut s t = t ≡ record s { value = put_value s.kept s.value }
 abbrev pub DidCopy : Script → Option ℕ → Script → Type 0
 DidCopy s w t = (w ≡ cond s.granted (Some s.waker) None) × (t ≡ s)
 
-abbrev pub DidWake : Script → Vec ℕ Global → Script → Type 0
-DidWake s X t = t ≡ record s { handed = Some X }
+abbrev pub DidWake : Script → Out ℕ → Script → Type 0
+DidWake s out t = t ≡ record s { handed = Some out }
 
 -- nothing more is said of a script's calls
 abbrev pub Stays : Script → Script → Type 0

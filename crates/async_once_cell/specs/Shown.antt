@@ -2,8 +2,9 @@
 use Rattle.std.specs.Prelude.{ℕ, Bool, true, false, List, [], ◌∷◌, ◌++◌, Option, Some, None, map, reverse}
 use Rattle.std.specs.Ordering.{nat_cmp}
 use Rattle.std.specs.BTreeMap.{get}
-use Rattle.std.specs.declared.vec.Vec.{Vec}
-use Rattle.std.specs.declared.alloc.Global.{Global}
+use Rattle.async_once_cell.specs.declared.queue.Out.{Out}
+use Rattle.async_once_cell.specs.declared.queue.Out.TheVariants.{One, All}
+use Rattle.async_once_cell.specs.Listings.{one_out, wakers_of}
 use Rattle.async_once_cell.specs.declared.world.Kind.{Kind as GivenKind}
 use Rattle.async_once_cell.specs.declared.world.Kind.TheVariants.{Once as GivenOnce, OnceWith as GivenOnceWith, Lazy as GivenLazy, LazyWith as GivenLazyWith}
 use Rattle.async_once_cell.specs.declared.world.Call.{Call}
@@ -13,16 +14,16 @@ use Rattle.async_once_cell.specs.declared.world.Got.TheVariants.{None as NoneGot
 use Rattle.async_once_cell.specs.declared.world.Input.{Input as GivenInput}
 use Rattle.async_once_cell.specs.declared.world.Input.TheVariants.{Make as InputMake, Poll as InputPoll, Drop as InputDrop, Go as InputGo, Look as InputLook, Own as InputOwn}
 use Rattle.async_once_cell.specs.declared.world.Entry.{Entry as Written}
-use Rattle.async_once_cell.specs.declared.world.Entry.TheVariants.{Made as WrittenMade, Begin as WrittenBegin, Claim as WrittenClaim, Ran as WrittenRan, Free as WrittenFree, Fill as WrittenFill, End as WrittenEnd, DropBegin as WrittenDropBegin, DropEnd as WrittenDropEnd, Look as WrittenLook, Own as WrittenOwn}
+use Rattle.async_once_cell.specs.declared.world.Entry.TheVariants.{Made as WrittenMade, Begin as WrittenBegin, Claim as WrittenClaim, Ran as WrittenRan, Free as WrittenFree, Fill as WrittenFill, Pass as WrittenPass, End as WrittenEnd, DropBegin as WrittenDropBegin, DropEnd as WrittenDropEnd, Look as WrittenLook, Own as WrittenOwn}
 use Rattle.async_once_cell.specs.declared.world.Record.{Record as GivenRecord}
 use Rattle.async_once_cell.specs.declared.inner.QueueLine.{QueueLine}
 use Rattle.async_once_cell.specs.declared.world.play.Shared.{Shared}
 use Rattle.async_once_cell.specs.declared.world.play.Seen.{Seen}
 use Rattle.async_once_cell.specs.declared.world.play.World.{World}
-use Rattle.async_once_cell.specs.Record.{Answer, Kind, Once, OnceWith, Lazy, LazyWith, OwnerCall, Take, Write, Parts, ReplaceValue, ReplaceAnswers, Got, GotNone, GotValue, GotAnswers, Entry, Made, Begin, Claim, Ran, Free, Fill, End, DropBegin, DropEnd, Look, Own}
+use Rattle.async_once_cell.specs.Record.{Answer, Kind, Once, OnceWith, Lazy, LazyWith, OwnerCall, Take, Write, Parts, ReplaceValue, ReplaceAnswers, Got, GotNone, GotValue, GotAnswers, Entry, Made, Begin, Claim, Ran, Free, Fill, Pass, End, DropBegin, DropEnd, Look, Own}
 use Rattle.async_once_cell.specs.Inputs.{Input, Make, Poll, Drop, Go, Looks, Owns}
 use Rattle.async_once_cell.specs.Steps.{Progress, More, Ended}
-use Rattle.async_once_cell.specs.Machine.{Inner, World as MachineWorld, release_entry, end_entry}
+use Rattle.async_once_cell.specs.Machine.{Inner, World as MachineWorld, release_entry, pass_entries, end_entry}
 
 abbrev pub kind_of : GivenKind → Kind
 kind_of GivenOnce = Once
@@ -57,6 +58,7 @@ entry_of (WrittenClaim t) = Claim t
 entry_of (WrittenRan t a) = Ran t a
 entry_of (WrittenFree t X) = Free t X.items
 entry_of (WrittenFill t v X) = Fill t v X.items
+entry_of (WrittenPass t X) = Pass t X.items
 entry_of (WrittenEnd t r) = End t r
 entry_of (WrittenDropBegin t) = DropBegin t
 entry_of (WrittenDropEnd t) = DropEnd t
@@ -78,7 +80,7 @@ inner_of c = record {
   ready = c.core.word.ready;
   door = c.core.door;
   head = c.core.lists.head;
-  wakers = c.core.lists.wakers.items;
+  listings = c.core.lists.listings.items;
   queues = c.core.made;
   value = c.script.value;
   answers = reverse c.script.answers.items;
@@ -101,9 +103,19 @@ abbrev pub freed_entries : Bool → ℕ → Answer → List Entry
 freed_entries true t k = release_entry k t [] ∷ []
 freed_entries false t k = []
 
-abbrev pub handed_entries : Option (Vec ℕ Global) → ℕ → Answer → List Entry
-handed_entries (Some X) t k = release_entry k t X.items ∷ []
-handed_entries None t k = []
+-- the wakers in what was handed out, in their order
+abbrev pub wakers_in : Out ℕ → List ℕ
+wakers_in (One w) = one_out w
+wakers_in (All X) = wakers_of X.items
+
+-- by one who leaves, or by one who gives the right back
+abbrev pub out_entries : Bool → List ℕ → ℕ → Answer → List Entry
+out_entries true X t k = pass_entries t X
+out_entries false X t k = release_entry k t X ∷ []
+
+abbrev pub handed_entries : Bool → Option (Out ℕ) → ℕ → Answer → List Entry
+handed_entries leaving (Some out) t k = out_entries leaving (wakers_in out) t k
+handed_entries leaving None t k = []
 
 abbrev pub progress_entries : Progress → ℕ → ℕ → Answer → List Entry
 progress_entries (Ended e) t v k = end_entry e t v k ∷ []
@@ -111,7 +123,7 @@ progress_entries More t v k = []
 
 -- the entries of a step of t that was seen to do this, where its init gave k and the value v is set
 abbrev pub told : ℕ → Seen → Answer → ℕ → List Entry
-told t s k v = progress_entries s.progress t v k ++ handed_entries s.handed t k ++ freed_entries s.freed t k ++ ran_entries s.ran t ++ claim_entries s.claimed t
+told t s k v = progress_entries s.progress t v k ++ handed_entries s.leaving s.handed t k ++ freed_entries s.freed t k ++ ran_entries s.ran t ++ claim_entries s.claimed t
 
 -- the world of a replay under way
 abbrev pub world_in : World → MachineWorld

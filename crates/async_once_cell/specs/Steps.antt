@@ -1,13 +1,13 @@
 -- The table of places: what one step does, by what the calls of the parts and of the side tell.
 use Rattle.std.specs.Prelude.{◌≡◌, ℕ, Bool, true, false, Option, Some, None}
-use Rattle.std.specs.declared.vec.Vec.{Vec}
-use Rattle.std.specs.declared.alloc.Global.{Global}
 use Rattle.async_once_cell.specs.declared.inner.Counted.{Counted}
 use Rattle.async_once_cell.specs.declared.inner.Counted.TheVariants.{In, Full as CountFull, SeenReady}
 use Rattle.async_once_cell.specs.declared.queue.Op.{Op}
-use Rattle.async_once_cell.specs.declared.queue.Op.TheVariants.{Look as LookOp, List as ListOp, Release as ReleaseOp}
+use Rattle.async_once_cell.specs.declared.queue.Op.TheVariants.{Look as LookOp, List as ListOp, Release as ReleaseOp, Leave as LeaveOp}
 use Rattle.async_once_cell.specs.declared.queue.Answer.{Answer as SectionAnswer}
-use Rattle.async_once_cell.specs.declared.queue.Answer.TheVariants.{Ready, Claimed, Listed, Memory as NoMemory, Released}
+use Rattle.async_once_cell.specs.declared.queue.Answer.TheVariants.{Ready, Claimed, Listed, Memory as NoMemory, Released, Left}
+use Rattle.async_once_cell.specs.declared.queue.Out.{Out}
+use Rattle.async_once_cell.specs.declared.queue.Out.TheVariants.{One}
 use Rattle.async_once_cell.specs.declared.step.Polled.{Polled}
 use Rattle.async_once_cell.specs.declared.step.Polled.TheVariants.{Pending as PolledPending, Value as PolledValue, Error as PolledError}
 pub use Rattle.async_once_cell.specs.declared.step.Ending.{Ending}
@@ -17,15 +17,27 @@ pub use Rattle.async_once_cell.specs.declared.step.Progress.TheVariants.{More, E
 pub use Rattle.async_once_cell.specs.declared.step.Rest.{Rest}
 pub use Rattle.async_once_cell.specs.declared.step.Rest.TheVariants.{Start as RestStart, Wait as RestWait, Run as RestRun}
 pub use Rattle.async_once_cell.specs.declared.step.Place.{Place}
-pub use Rattle.async_once_cell.specs.declared.step.Place.TheVariants.{Start as AtStart, TryQuick as AtTryQuick, DoorGet as AtDoorGet, DoorPut as AtDoorPut, CountIn as AtCountIn, WaitLoad as AtWaitLoad, Look as AtLook, List as AtList, Run as AtRun, Put as AtPut, Fast as AtFast, AddOne as AtAddOne, DoorAgain as AtDoorAgain, Release as AtRelease, CountOut as AtCountOut, DoorTake as AtDoorTake}
+pub use Rattle.async_once_cell.specs.declared.step.Place.TheVariants.{Start as AtStart, TryQuick as AtTryQuick, DoorGet as AtDoorGet, DoorPut as AtDoorPut, CountIn as AtCountIn, WaitLoad as AtWaitLoad, Look as AtLook, List as AtList, Run as AtRun, Put as AtPut, Fast as AtFast, AddOne as AtAddOne, DoorAgain as AtDoorAgain, Release as AtRelease, Leave as AtLeave, CountOut as AtCountOut, DoorTake as AtDoorTake}
 pub use Rattle.async_once_cell.specs.declared.step.Step.{Step}
 pub use Rattle.async_once_cell.specs.declared.step.Step.TheVariants.{Resting, UnderWay, Finished}
 use Rattle.async_once_cell.specs.Word.{flags_of, is_zero, is_ready_bit}
 
 -- a listing has its waker
 abbrev pub HasWaker : {W : Type 0} → Op W → Type 0
-HasWaker (ListOp None) = ⊥
+HasWaker (ListOp k None) = ⊥
 HasWaker _ = Unit {0}
+
+-- the ticket of a look or a listing
+abbrev pub ticket_in : {W : Type 0} → Op W → Option ℕ
+ticket_in (LookOp k) = k
+ticket_in (ListOp k w) = k
+ticket_in _ = None
+
+-- the same without its ticket
+abbrev pub given_up : {W : Type 0} → Op W → Op W
+given_up (LookOp k) = LookOp None
+given_up (ListOp k w) = ListOp None w
+given_up op = op
 
 -- only a call that stops with the value gives the right back with the value set
 abbrev pub is_value : Ending → Bool
@@ -40,15 +52,16 @@ module _ {W Q : Type 0} where
   left_at AtDoorGet = 14
   left_at AtDoorPut = 13
   left_at (AtCountIn q) = 12
-  left_at (AtWaitLoad q) = 11
-  left_at (AtLook q) = 10
-  left_at (AtList q w) = 9
+  left_at (AtWaitLoad q k) = 11
+  left_at (AtLook q k) = 10
+  left_at (AtList q k w) = 9
   left_at (AtRun by) = 8
   left_at (AtPut by) = 7
   left_at (AtFast e) = 6
   left_at (AtAddOne e) = 5
   left_at (AtDoorAgain e) = 4
   left_at (AtRelease q e) = 3
+  left_at (AtLeave q n e) = 3
   left_at (AtCountOut e) = 2
   left_at (AtDoorTake e) = 1
 
@@ -76,10 +89,15 @@ module _ {W Q : Type 0} where
   is_running (UnderWay (AtRun by)) = true
   is_running _ = false
 
+  -- the next step takes the listing out
+  abbrev pub is_leaving : Step W Q → Bool
+  is_leaving (UnderWay (AtLeave q n e)) = true
+  is_leaving _ = false
+
   -- a poll goes on from the place at rest
   abbrev pub begun_at : Rest Q → Place W Q
   begun_at RestStart = AtStart
-  begun_at (RestWait q) = AtWaitLoad q
+  begun_at (RestWait q k) = AtWaitLoad q k
   begun_at (RestRun by) = AtRun by
 
   abbrev pub begun : Step W Q → Step W Q
@@ -91,10 +109,15 @@ module _ {W Q : Type 0} where
   give_back None e = AtFast e
   give_back (Some q) e = AtRelease q e
 
+  -- where a waiter goes that is dropped or refused: it takes its listing out, if it has a ticket
+  abbrev pub leave_by : Q → Option ℕ → Ending → Place W Q
+  leave_by q None e = AtCountOut e
+  leave_by q (Some n) e = AtLeave q n e
+
   -- a drop goes on from the place at rest; it is over where the task was never polled
   abbrev pub dropped_at : Rest Q → Step W Q
   dropped_at RestStart = Finished
-  dropped_at (RestWait q) = UnderWay (AtCountOut EndDropped)
+  dropped_at (RestWait q k) = UnderWay (leave_by q k EndDropped)
   dropped_at (RestRun by) = UnderWay (give_back by EndDropped)
 
   abbrev pub dropped : Step W Q → Step W Q
@@ -148,26 +171,27 @@ module _ {W Q : Type 0} where
   -- the word of a counted task says that the value is set, or not
   abbrev pub after_in : Bool → Q → Next W Q
   after_in true q = closes_on (AtCountOut EndValue)
-  after_in false q = on (AtWaitLoad q)
+  after_in false q = on (AtWaitLoad q None)
 
   abbrev pub after_count_in : Counted → Q → Next W Q
   after_count_in (In w) q = after_in (flags_of w).ready q
   after_count_in CountFull q = closes_stops EndFull
   after_count_in SeenReady q = closes_stops EndValue
 
-  abbrev pub after_load : Bool → Q → Next W Q
-  after_load true q = closes_on (AtCountOut EndValue)
-  after_load false q = on (AtLook q)
+  abbrev pub after_load : Bool → Q → Option ℕ → Next W Q
+  after_load true q k = closes_on (AtCountOut EndValue)
+  after_load false q k = on (AtLook q k)
 
-  abbrev pub after_copy : Option W → Q → Next W Q
-  after_copy (Some w) q = on (AtList q w)
-  after_copy None q = closes_on (AtCountOut EndMemory)
+  abbrev pub after_copy : Option W → Q → Option ℕ → Next W Q
+  after_copy (Some w) q k = on (AtList q k w)
+  after_copy None q k = closes_on (leave_by q k EndMemory)
 
-  abbrev pub after_list : SectionAnswer W → Q → Next W Q
-  after_list Ready q = closes_on (AtCountOut EndValue)
-  after_list Claimed q = on (AtRun (Some q))
-  after_list NoMemory q = closes_on (AtCountOut EndMemory)
-  after_list _ q = rests (RestWait q)
+  -- with the ticket that the section left
+  abbrev pub after_list : SectionAnswer W → Q → Option ℕ → Next W Q
+  after_list Ready q k = closes_on (AtCountOut EndValue)
+  after_list Claimed q k = on (AtRun (Some q))
+  after_list NoMemory q k = closes_on (leave_by q k EndMemory)
+  after_list _ q k = rests (RestWait q k)
 
   abbrev pub after_run : Polled → Option Q → Next W Q
   after_run PolledPending by = rests (RestRun by)
@@ -205,27 +229,32 @@ module _ {S W Q : Type 0} (close : S → S → Type 0) where
   Follows n s s' r t = MayClose close n.closes s s' × (r ≡ n.progress) × (t ≡ n.step)
 
 module _ {S W Q : Type 0} (close : S → S → Type 0) (copy : S → Option W → S → Type 0) where
-  -- after a look: where another task holds and the waker is not listed, it is copied
-  abbrev pub AfterLook : SectionAnswer W → Q → S → S → Progress → Step W Q → Type 0
-  AfterLook Ready q s s' r t = Follows close (closes_on (AtCountOut EndValue)) s s' r t
-  AfterLook Claimed q s s' r t = Follows close (on (AtRun (Some q))) s s' r t
-  AfterLook Listed q s s' r t = Follows close (rests (RestWait q)) s s' r t
-  AfterLook _ q s s' r t = (c : Option W) × (m : S) × copy s c m × Follows close (after_copy c q) m s' r t
+  -- after a look, with the ticket that it left: where another task holds and the waker is not listed, it is copied
+  abbrev pub AfterLook : SectionAnswer W → Q → Option ℕ → S → S → Progress → Step W Q → Type 0
+  AfterLook Ready q k s s' r t = Follows close (closes_on (AtCountOut EndValue)) s s' r t
+  AfterLook Claimed q k s s' r t = Follows close (on (AtRun (Some q))) s s' r t
+  AfterLook Listed q k s s' r t = Follows close (rests (RestWait q k)) s s' r t
+  AfterLook _ q k s s' r t = (c : Option W) × (m : S) × copy s c m × Follows close (after_copy c q k) m s' r t
 
-module _ {S W : Type 0} (wake : S → Vec W Global → S → Type 0) where
-  -- after a release: the wakers that were listed are called
-  abbrev pub AfterRelease : SectionAnswer W → S → S → Type 0
-  AfterRelease (Released wakers) s s' = wake s wakers s'
-  AfterRelease _ s s' = s' ≡ s
+-- what a release hands out; any other answer hands nobody out
+abbrev pub released_by : {W : Type 0} → SectionAnswer W → Out W
+released_by (Released out) = out
+released_by _ = One None
+
+-- whom one who leaves calls
+abbrev pub left_by : {W : Type 0} → SectionAnswer W → Out W
+left_by (Left w) = One w
+left_by _ = One None
 
 module _ {P W Q : Type 0} (can_add_one can_count_out can_log : P → Type 0) (can_section : P → Q → Op W → Type 0) where
   -- what the call of a place asks of the parts
   abbrev pub AsksAt : Place W Q → P → Type 0
   AsksAt AtDoorPut p = can_log p
-  AsksAt (AtLook q) p = can_log p × can_section p q LookOp
-  AsksAt (AtList q w) p = can_log p × can_section p q (ListOp (Some w))
+  AsksAt (AtLook q k) p = can_log p × can_section p q (LookOp k)
+  AsksAt (AtList q k w) p = can_log p × can_section p q (ListOp k (Some w))
   AsksAt (AtAddOne e) p = can_add_one p
   AsksAt (AtRelease q e) p = can_log p × can_section p q (ReleaseOp (is_value e))
+  AsksAt (AtLeave q n e) p = can_log p × can_section p q (LeaveOp n)
   AsksAt (AtCountOut e) p = can_count_out p
   AsksAt (AtDoorTake e) p = can_log p
   AsksAt _ p = Unit {0}
@@ -239,7 +268,7 @@ module _ {P S W Q : Type 0}
     (count_in : P → ℕ → Counted → P → Type 0) (add_one : P → P → Type 0) (count_out : P → ℕ → P → Type 0)
     (door_get door_put : P → Option Q → P → Type 0) (door_take : P → Bool → P → Type 0)
     (section : P → Q → Op W → SectionAnswer W → Op W → P → Type 0)
-    (run : S → Polled → S → Type 0) (close put : S → S → Type 0) (copy : S → Option W → S → Type 0) (wake : S → Vec W Global → S → Type 0) where
+    (run : S → Polled → S → Type 0) (close put : S → S → Type 0) (copy : S → Option W → S → Type 0) (wake : S → Out W → S → Type 0) where
   -- one line of the table: the limit, the place, parts and side before, the progress, and the step, parts and side after
   abbrev pub Line : ℕ → Place W Q → P → S → Progress → Step W Q → P → S → Type 0
   Line limit AtStart p s r t p' s' = (w : ℕ) × load p w p' × Follows close (after_start (flags_of w).ready (is_zero (flags_of w))) s s' r t
@@ -247,16 +276,18 @@ module _ {P S W Q : Type 0}
   Line limit AtDoorGet p s r t p' s' = (q : Option Q) × door_get p q p' × Follows close (after_door_get q) s s' r t
   Line limit AtDoorPut p s r t p' s' = (q : Option Q) × door_put p q p' × Follows close (after_door_put q) s s' r t
   Line limit (AtCountIn q) p s r t p' s' = (c : Counted) × count_in p limit c p' × Follows close (after_count_in c q) s s' r t
-  Line limit (AtWaitLoad q) p s r t p' s' = (w : ℕ) × load p w p' × Follows close (after_load (flags_of w).ready q) s s' r t
-  Line limit (AtLook q) p s r t p' s' = (a : SectionAnswer W) × (o : Op W) × section p q LookOp a o p' × AfterLook close copy a q s s' r t
-  Line limit (AtList q w) p s r t p' s' = (a : SectionAnswer W) × (o : Op W) × section p q (ListOp (Some w)) a o p' × Follows close (after_list a q) s s' r t
+  Line limit (AtWaitLoad q k) p s r t p' s' = (w : ℕ) × load p w p' × Follows close (after_load (flags_of w).ready q k) s s' r t
+  Line limit (AtLook q k) p s r t p' s' = (a : SectionAnswer W) × (o : Op W) × section p q (LookOp k) a o p' × AfterLook close copy a q (ticket_in o) s s' r t
+  Line limit (AtList q k w) p s r t p' s' = (a : SectionAnswer W) × (o : Op W) × section p q (ListOp k (Some w)) a o p' × Follows close (after_list a q (ticket_in o)) s s' r t
   Line limit (AtRun by) p s r t p' s' = (a : Polled) × (m : S) × run s a m × (p' ≡ p) × Follows close (after_run a by) m s' r t
   Line limit (AtPut by) p s r t p' s' = put s s' × (p' ≡ p) × (r ≡ More) × (t ≡ UnderWay (give_back by EndValue))
   Line limit (AtFast e) p s r t p' s' = (b : Bool) × fast p (is_value e) b p' × Follows close (after_fast b (is_value e) e) s s' r t
   Line limit (AtAddOne e) p s r t p' s' = add_one p p' × Follows close (on (AtDoorAgain e)) s s' r t
   Line limit (AtDoorAgain e) p s r t p' s' = (q : Option Q) × door_get p q p' × Follows close (after_door_again q e) s s' r t
   Line limit (AtRelease q e) p s r t p' s' =
-      (a : SectionAnswer W) × (o : Op W) × section p q (ReleaseOp (is_value e)) a o p' × AfterRelease wake a s s' × (r ≡ More) × (t ≡ UnderWay (AtCountOut e))
+      (a : SectionAnswer W) × (o : Op W) × section p q (ReleaseOp (is_value e)) a o p' × wake s (released_by a) s' × (r ≡ More) × (t ≡ UnderWay (AtCountOut e))
+  Line limit (AtLeave q n e) p s r t p' s' =
+      (a : SectionAnswer W) × (o : Op W) × section p q (LeaveOp n) a o p' × wake s (left_by a) s' × (r ≡ More) × (t ≡ UnderWay (AtCountOut e))
   Line limit (AtCountOut e) p s r t p' s' = (w : ℕ) × count_out p w p' × Follows close (after_count_out (is_ready_bit (flags_of w)) e) s s' r t
   Line limit (AtDoorTake e) p s r t p' s' = (b : Bool) × door_take p b p' × Follows close (stops e) s s' r t
 

@@ -4,7 +4,7 @@ ghost use Rattle.std.specs.Prelude.{◌≡◌, ◌<◌, ◌≤◌, ◌+◌, ◌-
 
 mod shared;
 
-pub use crate::queue::{Answer, MAX_WAITERS, NEW, Op, QINIT_BIT, READY_BIT};
+pub use crate::queue::{Answer, Listing, MAX_WAITERS, NEW, Op, Out, QINIT_BIT, READY_BIT};
 use crate::queue::{Lists, WakerId};
 pub use shared::{Inner, Queue, Shared};
 use std::alloc::{AllocError, Global};
@@ -229,16 +229,19 @@ pub struct Core<W: WakerId> {
     pub log: Vec<QueueLine>,
     ghost counted: { made ≤ vec_len log },
     // Where no queue stands at the door, nobody holds by its flag and nobody is listed.
-    ghost bare: { door ≡ None → (lists.head ≡ false) × (lists.wakers.items ≡ []) },
+    ghost bare: { door ≡ None → (lists.head ≡ false) × (lists.listings.items ≡ []) },
 }
 
 impl<W: WakerId + Drop> Core<W> {
     ghost use Rattle.async_once_cell.specs.Word.{flags_alone};
-    ghost use Rattle.async_once_cell.specs.Core.{CoreState, state_of, HasRoom, take_state, release_state, Found};
+    ghost use Rattle.async_once_cell.specs.Core.{CoreState, state_of, HasRoom, take_state, release_state, leave_state, passes, Found};
+    ghost use Rattle.async_once_cell.specs.Listings.{next_waker};
+    ghost use Rattle.async_once_cell.specs.Room.{HasSpace};
+    ghost use Rattle.async_once_cell.specs.Sections.{Releases};
 
     /// A core that nobody used, made with a value or not. It takes no memory.
     pub fn new(alloc: Global, ready: bool) -> Self
-        ensures { state_of result ≡ record { word = flags_alone false ready; door = None; head = false; wakers = []; made = 0; granted = true; current = None; log = [] } }
+        ensures { state_of result ≡ record { word = flags_alone false ready; door = None; head = false; listings = []; made = 0; granted = true; current = None; log = [] } }
     {
         Core {
             word: Word::new(ready),
@@ -267,7 +270,7 @@ impl<W: WakerId + Drop> Core<W> {
         self.granted = granted;
     }
 
-    /// Makes room for one more waker and for one more line of the log. Where that is refused all is
+    /// Makes room for one more listing and for one more line of the log. Where that is refused all is
     /// as it was.
     pub fn reserve(&mut self) -> Result<(), AllocError>
         ensures room { OnOk result (HasRoom self.new) }
@@ -294,41 +297,51 @@ impl<W: WakerId + Drop> Core<W> {
     }
 
     // The section of a look, on the queue at the door.
-    fn look(&mut self) -> Answer<W>
+    fn look(&mut self, ticket: &mut Option<u64>) -> Answer<W>
         requires door { IsSome self.old.door }
-        ensures { Found W.tells_same W.tells_other (state_of self.old) Op.Look result Op.Look (state_of self.new) }
+        ensures { Found W.tells_same W.tells_other (state_of self.old) (Op.Look ticket.old) result (Op.Look ticket.new) (state_of self.new) }
     {
         let word = self.word.bits();
-        self.lists.look(self.current.as_ref(), word)
+        self.lists.look(ticket, self.current.as_ref(), word)
     }
 
-    // The section of a listing: where memory is not given, a waker that is not listed is refused.
-    fn list(&mut self, waker: &mut Option<W>) -> Answer<W>
+    // The section of a listing: where memory is not given, one that was not there is refused.
+    fn list(&mut self, ticket: &mut Option<u64>, waker: &mut Option<W>) -> Answer<W>
         requires door { IsSome self.old.door }
         requires waker { IsSome waker.old }
-        requires room { vec_len self.old.lists.wakers < vec_capacity self.old.lists.wakers }
-        ensures { Found W.tells_same W.tells_other (state_of self.old) (Op.List waker.old) result (Op.List waker.new) (state_of self.new) }
+        requires room { HasSpace self.old.lists }
+        ensures { Found W.tells_same W.tells_other (state_of self.old) (Op.List ticket.old waker.old) result (Op.List ticket.new waker.new) (state_of self.new) }
     {
         let word = self.word.bits();
-        if self.granted {
-            return self.lists.list(waker, word);
+        if self.granted || self.lists.is_listed(*ticket) {
+            return self.lists.list(ticket, waker, word);
         }
-        match self.lists.look(waker.as_ref(), word) {
+        match self.lists.look(ticket, waker.as_ref(), word) {
             Answer::Held => Answer::Memory,
             answer => answer,
         }
     }
 
     // The section of a release: clears the quick flag if it stood, else the flag beside the list.
-    fn release(&mut self, ready: bool) -> Vec<W>
+    fn release(&mut self, ready: bool) -> Out<W>
         requires door { IsSome self.old.door }
         requires unset { self.old.word.ready ≡ false }
         requires one { self.old.lists.head ≡ not self.old.word.quick }
-        ensures wakers { result.items ≡ (state_of self.old).wakers }
-        ensures state { state_of self.new ≡ release_state ready (state_of self.old) }
+        ensures out { Releases W.tells_same W.tells_other ready (state_of self.old).listings result (state_of self.new).listings }
+        ensures state { state_of self.new ≡ release_state ready (state_of self.new).listings (state_of self.old) }
     {
         self.word.give_back(ready);
-        self.lists.release()
+        self.lists.release(ready)
+    }
+
+    // The section of one who leaves.
+    fn leave(&mut self, ticket: u64) -> Option<W>
+        requires door { IsSome self.old.door }
+        ensures waker { result ≡ next_waker (passes ticket (state_of self.old)) ticket (state_of self.old).listings }
+        ensures state { state_of self.new ≡ leave_state ticket (state_of self.old) }
+    {
+        let word = self.word.bits();
+        self.lists.leave(ticket, word)
     }
 
     // Takes the queue out of the door, with all that was listed in it, where one stands.
@@ -340,7 +353,7 @@ impl<W: WakerId + Drop> Core<W> {
         let Some(queue) = self.door else {
             return false;
         };
-        drop(self.lists.release());
+        self.lists = Lists::new(*self.log.allocator());
         self.door = None;
         self.write(QueueLine::Taken(queue));
         true
@@ -434,7 +447,7 @@ impl<W: WakerId + Drop> Parts<W> for Core<W> {
         if self.door.is_some() {
             return self.door;
         }
-        drop(self.lists.release());
+        self.lists = Lists::new(*self.log.allocator());
         let queue = self.made + 1;
         self.write(QueueLine::Put(queue));
         self.made = queue;
@@ -452,9 +465,10 @@ impl<W: WakerId + Drop> Parts<W> for Core<W> {
             return Answer::Gone;
         }
         match op {
-            Op::Look => self.look(),
-            Op::List(waker) => self.list(waker),
+            Op::Look(ticket) => self.look(ticket),
+            Op::List(ticket, waker) => self.list(ticket, waker),
             Op::Release(ready) => Answer::Released(self.release(*ready)),
+            Op::Leave(ticket) => Answer::Left(self.leave(*ticket)),
         }
     }
 }

@@ -23,8 +23,9 @@ use std::{fmt, mem};
 /// A cell that is empty or has one value, and is filled by a future.
 ///
 /// Each call brings its own init. One task at a time has the right to run its init; the others wait,
-/// and are woken when the cell is filled or the right is given back. An init that fails, or whose
-/// future is dropped, leaves the cell empty, and another caller runs its own.
+/// and are woken when the cell is filled. An init that fails, or whose future is dropped, leaves the
+/// cell empty and wakes one who waits, which runs its own. One that was woken and leaves instead, by a
+/// drop or a refusal, wakes the next.
 ///
 /// ```
 /// let cell = OnceCell::new();
@@ -91,8 +92,7 @@ impl<T> OnceCell<T> {
     }
 
     /// The value, where it was set. The cell is empty after, as a new one: a queue that futures left
-    /// there goes as well, which wakes the tasks of those that were dropped while they waited. It
-    /// waits for nobody.
+    /// there goes as well. It waits for nobody.
     pub fn take(&mut self) -> Option<T> {
         mem::replace(self, OnceCell::new()).into_inner()
     }

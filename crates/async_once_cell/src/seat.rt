@@ -3,7 +3,7 @@ ghost use Rattle.std.specs.Prelude.{◌≡◌, ◌≢◌};
 ghost use Rattle.std.specs.Arc.{arc_value};
 ghost use Rattle.futures.specs.Task.{IsArmed, Keeps};
 
-use crate::queue::WakerId;
+use crate::queue::{Out, WakerId};
 use futures::task::{Context, Poll, Source, Waker};
 use std::alloc::{AllocError, Global};
 use std::sync::{Arc, Mutex, Wait};
@@ -97,5 +97,22 @@ impl Seat {
         let waker = sitter.waker.take();
         drop(sitter);
         drop(waker);
+    }
+}
+
+impl Out<Seat> {
+    /// Calls whom a section handed out, in their order.
+    pub(crate) fn call<R: Wait>(self, rt: &R) {
+        match self {
+            Out::One(None) => {}
+            Out::One(Some(seat)) => seat.call(rt),
+            Out::All(listings) => {
+                for listing in listings {
+                    if let Some(seat) = listing.waker {
+                        seat.call(rt);
+                    }
+                }
+            }
+        }
     }
 }

@@ -4,7 +4,7 @@ ghost use Rattle.async_once_cell.specs.declared.queue.Answer.{Answer};
 ghost use Rattle.async_once_cell.specs.declared.queue.Op.{Op};
 ghost use Rattle.async_once_cell.specs.declared.step.Polled.{Polled};
 
-use crate::inner::{Answer, Counted, NEW, Op, Parts, READY_BIT};
+use crate::inner::{Answer, Counted, NEW, Op, Out, Parts, READY_BIT};
 use std::mem;
 
 /// What one poll of an init answered. The side keeps the value or the error.
@@ -50,8 +50,7 @@ pub enum Progress {
 /// them keep `stays`.
 pub trait Side<W> {
     ghost use Rattle.std.specs.Prelude.{⊤, Option};
-    ghost use Rattle.std.specs.declared.vec.Vec.{Vec};
-    ghost use Rattle.std.specs.declared.alloc.Global.{Global};
+    ghost use Rattle.async_once_cell.specs.declared.queue.Out.{Out};
     ghost use Rattle.async_once_cell.specs.declared.step.Polled.{Polled};
 
     ghost did_run: { Self → Polled → Self → Type 0 } = { λ _ _ _. ⊤ };
@@ -62,7 +61,7 @@ pub trait Side<W> {
 
     ghost did_copy: { Self → Option W → Self → Type 0 } = { λ _ _ _. ⊤ };
 
-    ghost did_wake: { Self → Vec W Global → Self → Type 0 } = { λ _ _ _. ⊤ };
+    ghost did_wake: { Self → Out W → Self → Type 0 } = { λ _ _ _. ⊤ };
 
     ghost stays: { Self → Self → Type 0 };
 
@@ -87,9 +86,9 @@ pub trait Side<W> {
         ensures did { did_copy self.old result self.new }
         ensures stays { stays self.old self.new };
 
-    /// Calls these wakers.
-    fn wake(&mut self, wakers: Vec<W>)
-        ensures did { did_wake self.old wakers self.new }
+    /// Calls whom a section handed out: one, all, or nobody.
+    fn wake(&mut self, out: Out<W>)
+        ensures did { did_wake self.old out self.new }
         ensures stays { stays self.old self.new };
 
     ghost stays_same: { (a : Self) → stays a a };
@@ -102,8 +101,8 @@ pub trait Side<W> {
 pub enum Rest<Q> {
     /// The task was not polled yet.
     Start,
-    /// The task waits, and keeps this queue.
-    Wait(Q),
+    /// The task waits, and keeps this queue and the ticket of its listing there.
+    Wait(Q, Option<u64>),
     /// The task holds the right: by the quick claim, or under the lock of this queue.
     Run(Option<Q>),
 }
@@ -121,12 +120,12 @@ pub enum Place<W, Q> {
     DoorPut,
     /// Count in, keeping this queue.
     CountIn(Q),
-    /// Load the word as a counted waiter.
-    WaitLoad(Q),
+    /// Load the word as a counted waiter, with a ticket as in [`Rest::Wait`].
+    WaitLoad(Q, Option<u64>),
     /// Claim the right under the lock, or see whether the waker is listed.
-    Look(Q),
+    Look(Q, Option<u64>),
     /// Claim the right under the lock, or list this copy of the waker.
-    List(Q, W),
+    List(Q, Option<u64>, W),
     /// Poll the init, holding the right as in [`Rest::Run`].
     Run(Option<Q>),
     /// Set the value that the init gave.
@@ -137,8 +136,10 @@ pub enum Place<W, Q> {
     AddOne(Ending),
     /// Look for their queue.
     DoorAgain(Ending),
-    /// Give the right back under the lock, and call who is listed.
+    /// Give the right back under the lock, and call one who waits, or all.
     Release(Q, Ending),
+    /// Take the listing with this ticket out, and pass the turn on where it had it.
+    Leave(Q, u64, Ending),
     /// Count out.
     CountOut(Ending),
     /// Take the queue out of the door.
@@ -160,15 +161,15 @@ impl<W, Q> Place<W, Q> {
             Place::DoorGet => 14,
             Place::DoorPut => 13,
             Place::CountIn(_) => 12,
-            Place::WaitLoad(_) => 11,
-            Place::Look(_) => 10,
-            Place::List(_, _) => 9,
+            Place::WaitLoad(_, _) => 11,
+            Place::Look(_, _) => 10,
+            Place::List(_, _, _) => 9,
             Place::Run(_) => 8,
             Place::Put(_) => 7,
             Place::Fast(_) => 6,
             Place::AddOne(_) => 5,
             Place::DoorAgain(_) => 4,
-            Place::Release(_, _) => 3,
+            Place::Release(_, _) | Place::Leave(_, _, _) => 3,
             Place::CountOut(_) => 2,
             Place::DoorTake(_) => 1,
         }
@@ -181,6 +182,20 @@ impl<W, Q> Place<W, Q> {
         match by {
             None => Place::Fast(ending),
             Some(queue) => Place::Release(queue, ending),
+        }
+    }
+}
+
+impl<W, Q: Drop> Place<W, Q> {
+    ghost use Rattle.async_once_cell.specs.Steps.{leave_by};
+
+    // Where a waiter leaves that is dropped or refused.
+    fn leaving(queue: Q, ticket: Option<u64>, ending: Ending) -> Self
+        ensures { result ≡ leave_by queue ticket ending }
+    {
+        match ticket {
+            None => Place::CountOut(ending),
+            Some(ticket) => Place::Leave(queue, ticket, ending),
         }
     }
 }
@@ -199,7 +214,7 @@ pub enum Step<W, Q> {
 impl<W: Drop, Q: Drop> Step<W, Q> {
     ghost use Rattle.async_once_cell.specs.declared.inner.Counted.{Counted};
     ghost use Rattle.async_once_cell.specs.Word.{flags_of, is_zero, is_ready_bit};
-    ghost use Rattle.async_once_cell.specs.Steps.{left_of, is_resting, in_call, is_running, is_value, begun, dropped, give_back, Asks, Advances, LeadsTo, Follows, AfterLook, AfterRelease, after_start, after_quick, after_door_get, after_door_put, after_count_in, after_load, after_copy, after_list, after_run, after_fast, after_door_again, after_count_out};
+    ghost use Rattle.async_once_cell.specs.Steps.{left_of, is_resting, in_call, is_running, is_leaving, is_value, begun, dropped, give_back, Asks, Advances, LeadsTo, Follows, AfterLook, released_by, left_by, ticket_in, after_start, after_quick, after_door_get, after_door_put, after_count_in, after_load, after_copy, after_list, after_run, after_fast, after_door_again, after_count_out};
 
     /// A task that was not polled yet.
     pub fn new() -> Self
@@ -229,6 +244,13 @@ impl<W: Drop, Q: Drop> Step<W, Q> {
         matches!(self, Step::UnderWay(Place::Run(_)))
     }
 
+    /// Whether the next step takes the task's listing out.
+    pub fn is_leaving(&self) -> bool
+        ensures { result ≡ is_leaving self.now }
+    {
+        matches!(self, Step::UnderWay(Place::Leave(_, _, _)))
+    }
+
     /// How many steps the call may still take at most; 0 where none is under way.
     pub fn left(&self) -> u32
         ensures left { result ≡ left_of self.now }
@@ -248,7 +270,9 @@ impl<W: Drop, Q: Drop> Step<W, Q> {
     {
         *self = match mem::replace(self, Step::Finished) {
             Step::Resting(Rest::Start) => Step::UnderWay(Place::Start),
-            Step::Resting(Rest::Wait(queue)) => Step::UnderWay(Place::WaitLoad(queue)),
+            Step::Resting(Rest::Wait(queue, ticket)) => Step::UnderWay(Place::WaitLoad(
+                queue, ticket,
+            )),
             Step::Resting(Rest::Run(by)) => Step::UnderWay(Place::Run(by)),
             other => other,
         };
@@ -266,7 +290,9 @@ impl<W: Drop, Q: Drop> Step<W, Q> {
         side.close();
         *self = match mem::replace(self, Step::Finished) {
             Step::Resting(Rest::Start) => Step::Finished,
-            Step::Resting(Rest::Wait(_queue)) => Step::UnderWay(Place::CountOut(Ending::Dropped)),
+            Step::Resting(Rest::Wait(queue, ticket)) => {
+                Step::UnderWay(Place::leaving(queue, ticket, Ending::Dropped))
+            }
             Step::Resting(Rest::Run(by)) => Step::UnderWay(Place::giving_back(by, Ending::Dropped)),
             other => other,
         };
@@ -299,9 +325,9 @@ impl<W: Drop, Q: Drop> Step<W, Q> {
             Place::DoorGet => self.door_get(parts),
             Place::DoorPut => self.door_put(parts, side),
             Place::CountIn(queue) => self.count_in(queue, parts, side, limit),
-            Place::WaitLoad(queue) => self.wait_load(queue, parts, side),
-            Place::Look(queue) => self.look(queue, parts, side),
-            Place::List(queue, waker) => self.list(queue, waker, parts, side),
+            Place::WaitLoad(queue, ticket) => self.wait_load(queue, ticket, parts, side),
+            Place::Look(queue, ticket) => self.look(queue, ticket, parts, side),
+            Place::List(queue, ticket, waker) => self.list(queue, ticket, waker, parts, side),
             Place::Run(by) => self.run(by, side),
             Place::Put(by) => {
                 side.put();
@@ -314,6 +340,7 @@ impl<W: Drop, Q: Drop> Step<W, Q> {
             }
             Place::DoorAgain(ending) => self.door_again(ending, parts),
             Place::Release(queue, ending) => self.release(queue, ending, parts, side),
+            Place::Leave(queue, ticket, ending) => self.leave(queue, ticket, ending, parts, side),
             Place::CountOut(ending) => self.count_out(ending, parts),
             Place::DoorTake(ending) => {
                 parts.door_take();
@@ -419,7 +446,7 @@ impl<W: Drop, Q: Drop> Step<W, Q> {
                 side.close();
                 self.on(Place::CountOut(Ending::Value))
             }
-            Counted::In(_) => self.on(Place::WaitLoad(queue)),
+            Counted::In(_) => self.on(Place::WaitLoad(queue, None)),
             Counted::Full => {
                 side.close();
                 self.end(Ending::Full)
@@ -434,54 +461,57 @@ impl<W: Drop, Q: Drop> Step<W, Q> {
     fn wait_load<P: Parts<W, Queue = Q>, S: Side<W>>(
         &mut self,
         queue: Q,
+        ticket: Option<u64>,
         parts: &mut P,
         side: &mut S,
     ) -> Progress
         ensures line { (w : ℕ) × P.did_load parts.old w parts.new
-            × Follows S.did_close (after_load (flags_of w).ready queue) side.old side.new result self.new }
+            × Follows S.did_close (after_load (flags_of w).ready queue ticket) side.old side.new result self.new }
         ensures stays { S.stays side.old side.new }
     {
         if parts.load() >= READY_BIT {
             side.close();
             return self.on(Place::CountOut(Ending::Value));
         }
-        self.on(Place::Look(queue))
+        self.on(Place::Look(queue, ticket))
     }
 
     fn look<P: Parts<W, Queue = Q>, S: Side<W>>(
         &mut self,
         queue: Q,
+        ticket: Option<u64>,
         parts: &mut P,
         side: &mut S,
     ) -> Progress
         requires log { P.can_log parts.old }
-        requires can { P.can_section parts.old queue Op.Look }
-        ensures line { (a : Answer W) × (o : Op W) × P.did_section parts.old queue Op.Look a o parts.new
-            × AfterLook S.did_close S.did_copy a queue side.old side.new result self.new }
+        requires can { P.can_section parts.old queue (Op.Look ticket) }
+        ensures line { (a : Answer W) × (o : Op W) × P.did_section parts.old queue (Op.Look ticket) a o parts.new
+            × AfterLook S.did_close S.did_copy a queue (ticket_in o) side.old side.new result self.new }
         ensures stays { S.stays side.old side.new }
     {
-        match parts.section(&queue, &mut Op::Look) {
+        let mut op = Op::Look(ticket);
+        match parts.section(&queue, &mut op) {
             Answer::Ready => {
                 side.close();
                 self.on(Place::CountOut(Ending::Value))
             }
             Answer::Claimed => self.on(Place::Run(Some(queue))),
-            Answer::Listed => self.rest(Rest::Wait(queue)),
-            _ => self.copy(queue, side),
+            Answer::Listed => self.rest(Rest::Wait(queue, op.ticket())),
+            _ => self.copy(queue, op.ticket(), side),
         }
     }
 
     // Copies the waker, while another task holds.
-    fn copy<S: Side<W>>(&mut self, queue: Q, side: &mut S) -> Progress
+    fn copy<S: Side<W>>(&mut self, queue: Q, ticket: Option<u64>, side: &mut S) -> Progress
         ensures line { (c : Option W) × (m : S) × S.did_copy side.old c m
-            × Follows S.did_close (after_copy c queue) m side.new result self.new }
+            × Follows S.did_close (after_copy c queue ticket) m side.new result self.new }
         ensures stays { S.stays side.old side.new }
     {
         match side.copy() {
-            Some(waker) => self.on(Place::List(queue, waker)),
+            Some(waker) => self.on(Place::List(queue, ticket, waker)),
             None => {
                 side.close();
-                self.on(Place::CountOut(Ending::Memory))
+                self.on(Place::leaving(queue, ticket, Ending::Memory))
             }
         }
     }
@@ -489,17 +519,19 @@ impl<W: Drop, Q: Drop> Step<W, Q> {
     fn list<P: Parts<W, Queue = Q>, S: Side<W>>(
         &mut self,
         queue: Q,
+        ticket: Option<u64>,
         waker: W,
         parts: &mut P,
         side: &mut S,
     ) -> Progress
         requires log { P.can_log parts.old }
-        requires can { P.can_section parts.old queue (Op.List (Some waker)) }
-        ensures line { (a : Answer W) × (o : Op W) × P.did_section parts.old queue (Op.List (Some waker)) a o parts.new
-            × Follows S.did_close (after_list a queue) side.old side.new result self.new }
+        requires can { P.can_section parts.old queue (Op.List ticket (Some waker)) }
+        ensures line { (a : Answer W) × (o : Op W) × P.did_section parts.old queue (Op.List ticket (Some waker)) a o parts.new
+            × Follows S.did_close (after_list a queue (ticket_in o)) side.old side.new result self.new }
         ensures stays { S.stays side.old side.new }
     {
-        match parts.section(&queue, &mut Op::List(Some(waker))) {
+        let mut op = Op::List(ticket, Some(waker));
+        match parts.section(&queue, &mut op) {
             Answer::Ready => {
                 side.close();
                 self.on(Place::CountOut(Ending::Value))
@@ -507,9 +539,9 @@ impl<W: Drop, Q: Drop> Step<W, Q> {
             Answer::Claimed => self.on(Place::Run(Some(queue))),
             Answer::Memory => {
                 side.close();
-                self.on(Place::CountOut(Ending::Memory))
+                self.on(Place::leaving(queue, op.ticket(), Ending::Memory))
             }
-            _ => self.rest(Rest::Wait(queue)),
+            _ => self.rest(Rest::Wait(queue, op.ticket())),
         }
     }
 
@@ -565,18 +597,41 @@ impl<W: Drop, Q: Drop> Step<W, Q> {
         requires log { P.can_log parts.old }
         requires can { P.can_section parts.old queue (Op.Release (is_value ending)) }
         ensures section { (a : Answer W) × (o : Op W) × P.did_section parts.old queue (Op.Release (is_value ending)) a o parts.new
-            × AfterRelease S.did_wake a side.old side.new }
+            × S.did_wake side.old (released_by a) side.new }
         ensures more { result ≡ Progress.More }
         ensures step { self.new ≡ Step.UnderWay (Place.CountOut ending) }
         ensures stays { S.stays side.old side.new }
     {
-        match parts.section(&queue, &mut Op::Release(ending.is_value())) {
-            Answer::Released(wakers) => {
-                side.wake(wakers);
-                self.on(Place::CountOut(ending))
-            }
-            _ => self.on(Place::CountOut(ending)),
-        }
+        let out = match parts.section(&queue, &mut Op::Release(ending.is_value())) {
+            Answer::Released(out) => out,
+            _ => Out::One(None),
+        };
+        side.wake(out);
+        self.on(Place::CountOut(ending))
+    }
+
+    fn leave<P: Parts<W, Queue = Q>, S: Side<W>>(
+        &mut self,
+        queue: Q,
+        ticket: u64,
+        ending: Ending,
+        parts: &mut P,
+        side: &mut S,
+    ) -> Progress
+        requires log { P.can_log parts.old }
+        requires can { P.can_section parts.old queue (Op.Leave ticket) }
+        ensures section { (a : Answer W) × (o : Op W) × P.did_section parts.old queue (Op.Leave ticket) a o parts.new
+            × S.did_wake side.old (left_by a) side.new }
+        ensures more { result ≡ Progress.More }
+        ensures step { self.new ≡ Step.UnderWay (Place.CountOut ending) }
+        ensures stays { S.stays side.old side.new }
+    {
+        let next = match parts.section(&queue, &mut Op::Leave(ticket)) {
+            Answer::Left(waker) => waker,
+            _ => None,
+        };
+        side.wake(Out::One(next));
+        self.on(Place::CountOut(ending))
     }
 
     fn count_out<P: Parts<W, Queue = Q>>(&mut self, ending: Ending, parts: &mut P) -> Progress

@@ -2,6 +2,7 @@
 
 ghost use Rattle.std.specs.Prelude.{◌≡◌, ◌<◌, ◌≤◌, ◌-◌, ◌^◌, ℕ, List, IfOk, true, false};
 ghost use Rattle.async_once_cell.specs.Run.{IsRun, AtEvery, NobodyForgotten};
+ghost use Rattle.async_once_cell.specs.Called.{SomebodyCalled, WaiterCalled};
 ghost use Rattle.async_once_cell.specs.Values.{IsOneValue};
 ghost use Rattle.async_once_cell.specs.Inputs.{Part, FallsInto, ends_for_memory};
 ghost use Rattle.async_once_cell.specs.Granted.{all_granted};
@@ -110,6 +111,8 @@ pub enum Entry {
     Free(u64, Vec<u64>),
     /// The task set the value, and handed these wakers out.
     Fill(u64, u64, Vec<u64>),
+    /// The task, which was called and leaves, passed its turn on, and handed these wakers out.
+    Pass(u64, Vec<u64>),
     /// The task's poll ended.
     End(u64, Reply),
     /// A drop of the task began.
@@ -146,10 +149,14 @@ pub fn replay(alloc: Global, kind: Kind, limit: u64, inputs: &[Input]) -> Result
     ensures exact_log { IfOk result (λ r. logged r ≡ log_of (kind_of kind) limit (inputs_in inputs.now)) }
     ensures exact_queue { IfOk result (λ r. r.queue ≡ queue_of (kind_of kind) limit (inputs_in inputs.now)) }
 
-    // The record is a run of the cell, in which nobody who waits is forgotten, and every poll that
-    // is answered a value is answered the one that is set until the owner changes it.
+    // The record is a run of the cell. Nobody who waits is forgotten once the value is set. While
+    // the cell is empty and a task waits, some task was called; one that waits, where no call is
+    // under way. Every poll that is answered a value is answered the one that is set until the owner
+    // changes it.
     ensures run { IfOk result (λ r. IsRun (kind_of kind) limit (recorded r)) }
     ensures nobody_forgotten { IfOk result (λ r. AtEvery (NobodyForgotten (kind_of kind)) (recorded r)) }
+    ensures one_is_called { IfOk result (λ r. AtEvery (SomebodyCalled (kind_of kind)) (recorded r)) }
+    ensures idle { IfOk result (λ r. AtEvery (WaiterCalled (kind_of kind)) (recorded r)) }
     ensures one_value { IfOk result (λ r. IsOneValue (kind_of kind) (recorded r)) }
 
     // It belongs to the inputs, and the log falls into the same parts.

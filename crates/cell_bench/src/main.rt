@@ -1,8 +1,8 @@
 //! Makes operations of the cells, each as often as it is told to.
 //!
 //! Each line of standard input names an operation and says how often it is made, as `get 1000`. For
-//! each line one is printed: the same words, and the sum of the values that the polls and looks
-//! answered. Each of these values is 1.
+//! each line one is printed: the same words, and the sum of the values and errors that the polls and
+//! looks answered. Each of these is 1.
 #![tactic(auto)]
 
 use futures::task::{Context, Doorbell, Solo};
@@ -12,6 +12,7 @@ use std::alloc::AllocGlobal;
 use std::io;
 use std::sync::Wait;
 
+mod failures;
 mod operation;
 mod rounds;
 mod switch;

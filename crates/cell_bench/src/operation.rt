@@ -19,6 +19,18 @@ pub enum Operation {
     TenWait,
     /// The same where 100 wait.
     HundredWait,
+    /// 1 waits: a new future gets the right, whoever the failure before called is polled and waits
+    /// again, and the new future fails.
+    FailureBeforeOne,
+    /// The same where 10 wait.
+    FailureBeforeTen,
+    /// The same where 100 wait.
+    FailureBeforeHundred,
+    /// A new cell: one future holds, 10 wait; the holder fails, and then each of them, once it was
+    /// called and its init was pending once.
+    TenTurns,
+    /// The same where 100 wait.
+    HundredTurns,
     /// A new lazy cell, and a poll whose init gives the value at once.
     LazyFirst,
     /// A new future of a lazy cell that is set, polled to its end.
@@ -37,6 +49,11 @@ pub fn parse_operation(name: &str) -> Option<Operation>
         "waiters1" => Some(Operation::OneWaits),
         "waiters10" => Some(Operation::TenWait),
         "waiters100" => Some(Operation::HundredWait),
+        "failure1" => Some(Operation::FailureBeforeOne),
+        "failure10" => Some(Operation::FailureBeforeTen),
+        "failure100" => Some(Operation::FailureBeforeHundred),
+        "turns10" => Some(Operation::TenTurns),
+        "turns100" => Some(Operation::HundredTurns),
         "lazy_first" => Some(Operation::LazyFirst),
         "lazy_later" => Some(Operation::LazyLater),
         _ => None,

@@ -2,6 +2,7 @@
 //!
 //! Each is a function of its own, and is passed its cell where that is set before the loop, so that
 //! nothing of it is known to the compiler there.
+use crate::failures::{failures, turns};
 use crate::operation::Operation;
 use crate::switch::Switched;
 use async_once_cell::{Lazy, OnceCell};
@@ -26,6 +27,11 @@ pub fn perform<R: Wait + AllocGlobal>(
         Operation::OneWaits => waiters(rt, 1, count, cx),
         Operation::TenWait => waiters(rt, 10, count, cx),
         Operation::HundredWait => waiters(rt, 100, count, cx),
+        Operation::FailureBeforeOne => failures(rt, 1, count, cx),
+        Operation::FailureBeforeTen => failures(rt, 10, count, cx),
+        Operation::FailureBeforeHundred => failures(rt, 100, count, cx),
+        Operation::TenTurns => turns(rt, 10, count, cx),
+        Operation::HundredTurns => turns(rt, 100, count, cx),
         Operation::LazyFirst => lazy_first(rt, count, cx),
         Operation::LazyLater => lazy_later(rt, &Lazy::with_value(1), count, cx),
     }

@@ -47,7 +47,7 @@ fn polled_within_the_init(rt: HostRuntime) -> Result<(), Fail> {
     let mut f = cell.get_or_init(&rt, init);
     assert_eq!(rt; polled(&task, &mut f), Answer::Value(6));
     assert_eq!(rt; seen.get(), Some((true, None)));
-    // The second future left its place in the list, and its task is called when the queue goes.
+    // The second future took its place out of the list, and with it its waker, which wakes its task.
     assert!(rt; task.is_woken());
     assert_eq!(rt; (script.polls.get(), script.drops.get()), (0, 1));
     shows(

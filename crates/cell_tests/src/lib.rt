@@ -1,8 +1,10 @@
-//! What the cells and their parts do, by their public calls alone.
+//! What the cells do, by their public calls alone.
 #![tactic(auto)]
 
 #[cfg(test)]
 mod drops;
+#[cfg(test)]
+mod failing;
 #[cfg(test)]
 mod inits;
 #[cfg(test)]
@@ -20,8 +22,6 @@ mod plays;
 #[cfg(test)]
 mod refused;
 #[cfg(test)]
-mod shared_rows;
-#[cfg(test)]
 mod stress;
 #[cfg(test)]
 mod threads;
@@ -29,3 +29,5 @@ mod threads;
 mod tokens;
 #[cfg(test)]
 mod told;
+#[cfg(test)]
+mod turns;

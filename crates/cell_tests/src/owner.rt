@@ -55,8 +55,8 @@ fn filled_twice(rt: HostRuntime) -> Result<(), Fail> {
     Ok(())
 }
 
-/// Futures that were forgotten leave their right, their count and the queue behind. What the owner
-/// calls puts it all away, and wakes the task that was listed.
+/// A future that was forgotten leaves its right behind, and the queue stands. What the owner calls puts
+/// it all away, and wakes nobody.
 #[test]
 fn taken_while_a_queue_stands(rt: HostRuntime) -> Result<(), Fail> {
     let (mut cell, script) = (OnceCell::new(), Script::new());
@@ -67,16 +67,15 @@ fn taken_while_a_queue_stands(rt: HostRuntime) -> Result<(), Fail> {
     calm(&one);
     assert_eq!(rt; polled(&two, &mut f2), Answer::Pending);
     drop(f2);
+    calm(&two);
     mem::forget(f1);
     shows(
         &rt,
         &cell,
         "OnceCell { value: None, inner: Inner { ready: false, quick_init: true, refcount: 0, queue: true } }",
     );
-    assert!(rt; !two.is_woken());
     assert_eq!(rt; cell.take(), None);
-    assert!(rt; two.is_woken());
-    assert!(rt; !one.is_woken());
+    assert!(rt; !one.is_woken() && !two.is_woken());
     shows(&rt, &cell, EMPTY);
     script.answer.set(Some(3));
     let mut f3 = cell.get_or_init(&rt, script.init());

@@ -38,16 +38,16 @@ poll 1 v9 => v2, done
 inits => 2 polls, 2 drops
 show => OnceCell { value: Some(2), inner: Inner { ready: true, quick_init: false, refcount: 0, queue: false } }",
     ),
-    // A waiter is gone when the value is set, so the right is given back as if nobody had waited. Its
-    // waker is still listed; it is let go with the queue, which wakes its task.
+    // A waiter is gone when the value is set, so the right is given back as if nobody had waited. With
+    // its place in the list its waker is let go, which wakes its task.
     (
         "tricked_fast_path",
         "init 0
 init 1
 poll 0 p => pending, wakes 0
 poll 1 v9 => pending
-init 1
-poll 0 v2 => v2, done, wakes 1
+init 1 => so, wakes 1
+poll 0 v2 => v2, done
 show => OnceCell { value: Some(2), inner: Inner { ready: true, quick_init: false, refcount: 0, queue: false } }
 poll 1 v9 => v2, done
 show => OnceCell { value: Some(2), inner: Inner { ready: true, quick_init: false, refcount: 0, queue: false } }",
@@ -65,9 +65,9 @@ poll 3 v9 => pending
 poll 4 v9 => pending
 show => OnceCell { value: None, inner: Inner { ready: false, quick_init: true, refcount: 3, queue: true } }
 poll 2 v9 => pending
-poll 1 e1 => e1, done, wakes 2, wakes 3, wakes 4
+poll 1 e1 => e1, done, wakes 2
 show => OnceCell { value: None, inner: Inner { ready: false, quick_init: false, refcount: 3, queue: true } }
-try 4
+try 4 => so, wakes 4
 show => OnceCell { value: None, inner: Inner { ready: false, quick_init: false, refcount: 2, queue: true } }
 poll 2 p => pending, wakes 2
 poll 3 v9 => pending
@@ -105,7 +105,7 @@ poll 4 v9 0 => pending
 show => OnceCell { value: None, inner: Inner { ready: false, quick_init: true, refcount: 3, queue: true } }
 poll 2 v9 0 => pending
 poll 1 e1 0 => e1, done, wakes 0
-try 4
+try 4 => so, wakes 0
 poll 2 p 0 => pending, wakes 0
 poll 3 v9 0 => pending
 poll 2 v2 0 => v2, done, wakes 0
@@ -231,7 +231,8 @@ show => OnceCell { value: Some(4), inner: Inner { ready: true, quick_init: false
     ),
 ];
 
-fn play_once<R>(rt: &R, rows: &[(&str, &str)]) -> Result<(), Fail>
+/// Plays schedules, each over a cell of its own.
+pub fn play_once<R>(rt: &R, rows: &[(&str, &str)]) -> Result<(), Fail>
 where
     R: Wait + AllocGlobal + RandomSource + Abort,
 {

@@ -14,16 +14,16 @@ use std::test::Fail;
 use std::time::{Clock, Duration};
 use std::{io, thread};
 
-const THREADS: usize = 4;
+pub const THREADS: usize = 4;
 
-const CELLS: u64 = 200;
+pub const CELLS: u64 = 200;
 
-// An init that is Pending a few times, and counts when it is done.
+/// An init that is Pending a few times, and counts when it is done.
 #[derive(Drop)]
-struct Slow<'a, O: Copy> {
-    pending: u64,
-    answer: O,
-    done: &'a AtomicU64,
+pub struct Slow<'a, O: Copy> {
+    pub pending: u64,
+    pub answer: O,
+    pub done: &'a AtomicU64,
 }
 
 impl<O: Copy> Future for Slow<'_, O> {
@@ -50,8 +50,8 @@ struct Ground {
     failed: AtomicU64,
 }
 
-// A future of a cell, as a thread runs it.
-trait Polled {
+/// A future of a cell, as a thread runs it.
+pub trait Polled {
     fn polled(&mut self, task: &MockTask) -> Answer;
 }
 
@@ -67,9 +67,9 @@ impl<R: Wait + AllocGlobal> Polled for LazyFuturePin<'_, u64, Slow<'_, u64>, R> 
     }
 }
 
-// Polls a future at first, and then whenever its task was woken. Pending says that the turns are
-// used up.
-fn ended<R: Wait + Clock, F: Polled>(rt: &R, task: &MockTask, future: &mut F) -> Answer {
+/// Polls a future at first, and then whenever its task was woken. Pending says that the turns are
+/// used up.
+pub fn ended<R: Wait + Clock, F: Polled>(rt: &R, task: &MockTask, future: &mut F) -> Answer {
     let mut answer = future.polled(task);
     for _ in 0..50_000 {
         if answer != Answer::Pending {

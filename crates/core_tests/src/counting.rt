@@ -1,7 +1,8 @@
 //! A side that notes what a call asks of it.
-ghost use Rattle.std.specs.Prelude.{◌≡◌, ⊤};
+ghost use Rattle.std.specs.Prelude.{◌≡◌, ⊤, Some};
 ghost use Rattle.std.proofs.Common.{rules};
 
+use async_once_cell::inner::{Listing, Out};
 use async_once_cell::step::{Polled, Side};
 use std::alloc::Global;
 
@@ -14,8 +15,8 @@ pub struct Counting {
     pub closes: u64,
     /// How often the value was put.
     pub puts: u64,
-    /// Whom the last release called.
-    pub woken: Vec<u64>,
+    /// Whom the last release, or the last who left, called. None says that there was none.
+    pub woken: Option<Out<u64>>,
 }
 
 impl Counting {
@@ -25,7 +26,7 @@ impl Counting {
             waker,
             closes: 0,
             puts: 0,
-            woken: Vec::new(alloc),
+            woken: None,
         }
     }
 
@@ -36,7 +37,7 @@ impl Counting {
 }
 
 impl Side<u64> for Counting {
-    ghost did_wake = { λ _ wakers after. after.woken ≡ wakers };
+    ghost did_wake = { λ _ out after. after.woken ≡ Some out };
 
     ghost stays = { λ _ _. ⊤ };
 
@@ -60,10 +61,15 @@ impl Side<u64> for Counting {
         Some(self.waker)
     }
 
-    fn wake(&mut self, wakers: Vec<u64>)
-        ensures did { self.new.woken ≡ wakers }
+    fn wake(&mut self, out: Out<u64>)
+        ensures did { self.new.woken ≡ Some out }
         ensures stays { ⊤ }
     {
-        self.woken = wakers;
+        self.woken = Some(out);
     }
+}
+
+/// A listing, as a section hands it out.
+pub fn at(ticket: u64, waker: Option<u64>) -> Listing<u64> {
+    Listing { ticket, waker }
 }

@@ -1,8 +1,8 @@
 //! Sides that use their own cell in the middle of a step.
 ghost use Rattle.std.specs.Prelude.{⊤};
 
-use crate::counting::Counting;
-use async_once_cell::inner::{Inner, NEW, QINIT_BIT, Queue, READY_BIT};
+use crate::counting::{Counting, at};
+use async_once_cell::inner::{Inner, NEW, Out, QINIT_BIT, Queue, READY_BIT};
 use async_once_cell::step::{Ending, Polled, Side, Step};
 use std::alloc::AllocGlobal;
 use std::sync::Wait;
@@ -88,16 +88,16 @@ impl<R: Wait + AllocGlobal> Side<u64> for Meddling<'_, R> {
         self.side.copy()
     }
 
-    fn wake(&mut self, wakers: Vec<u64>)
+    fn wake(&mut self, out: Out<u64>)
         ensures stays { ⊤ }
     {
-        self.side.wake(wakers);
+        self.side.wake(out);
         self.poll_other();
     }
 }
 
-// While a waiter's waker is copied, another task with the same waker is polled and waits. The waiter
-// then finds its waker listed, and it is called once.
+// While a waiter's waker is copied, another task with the same waker is polled and waits. Each has a
+// listing of its own, and the waker is called once.
 #[test]
 fn a_copy_that_polls(rt: HostRuntime) -> Result<(), Fail> {
     let inner = Inner::new(false);
@@ -113,7 +113,8 @@ fn a_copy_that_polls(rt: HostRuntime) -> Result<(), Fail> {
 
     holder.side.answers(Polled::Value);
     assert_eq!(rt; holder.poll(&rt, &inner), Some(Ending::Value));
-    assert_eq!(rt; holder.side.woken.as_slice(), [7u64].as_slice());
+    let all = vec![in rt.alloc(); at(0, Some(7)), at(1, None)]?;
+    assert_eq!(rt; holder.side.woken, Some(Out::All(all)));
     assert_eq!(rt; side.other.poll(&rt, &inner), Some(Ending::Value));
     assert!(rt; step.is_resting());
     let ending = inner.parts(&rt, Some(7)).poll(&mut step, &mut side);
@@ -139,7 +140,8 @@ fn an_init_and_a_wake_that_poll(rt: HostRuntime) -> Result<(), Fail> {
     assert!(rt; step.is_resting());
     let ending = inner.parts(&rt, Some(7)).poll(&mut step, &mut side);
     assert_eq!(rt; (ending, side.heard), (Ending::Value, Some(Ending::Value)));
-    assert_eq!(rt; side.side.woken.as_slice(), [9u64].as_slice());
+    let all = vec![in rt.alloc(); at(0, Some(9))]?;
+    assert_eq!(rt; side.side.woken, Some(Out::All(all)));
     assert_eq!(rt; (inner.word(), inner.has_queue()), (READY_BIT, Some(false)));
     Ok(())
 }
@@ -153,5 +155,28 @@ fn a_wake_that_takes_the_right(rt: HostRuntime) -> Result<(), Fail> {
     assert_eq!(rt; (ending, side.heard), (Ending::Error, Some(Ending::Error)));
     assert_eq!(rt; (side.side.closes, side.other.side.closes), (1, 1));
     assert_eq!(rt; inner.word(), NEW);
+    Ok(())
+}
+
+// A waiter that was called is dropped, and the one to whom it passes its turn on is polled inside that
+// call: it takes the right, and fails.
+#[test]
+fn a_turn_taken_while_it_is_passed_on(rt: HostRuntime) -> Result<(), Fail> {
+    let inner = Inner::new(false);
+    let mut holder = Task::new(&rt, Polled::Pending, 5);
+    assert_eq!(rt; holder.poll(&rt, &inner), Some(Ending::Pending));
+    let mut waiter = Task::new(&rt, Polled::Error, 7);
+    assert_eq!(rt; waiter.poll(&rt, &inner), Some(Ending::Pending));
+    let mut side = Meddling::new(&rt, &inner, Polled::Error, 9);
+    assert_eq!(rt; side.other.poll(&rt, &inner), Some(Ending::Pending));
+
+    holder.side.answers(Polled::Error);
+    assert_eq!(rt; holder.poll(&rt, &inner), Some(Ending::Error));
+    assert_eq!(rt; holder.side.woken, Some(Out::One(Some(7))));
+    assert!(rt; waiter.step.is_resting());
+    inner.parts(&rt, None).finish(&mut waiter.step, &mut side);
+    assert_eq!(rt; side.side.woken, Some(Out::One(Some(9))));
+    assert_eq!(rt; side.heard, Some(Ending::Error));
+    assert_eq!(rt; (inner.word(), inner.has_queue()), (NEW, Some(true)));
     Ok(())
 }

@@ -1,46 +1,88 @@
 //! The calls of `Lists`, `Step` and `Core`, one by one.
 
-use crate::counting::Counting;
+use crate::counting::{Counting, at};
 use async_once_cell::inner::{Core, Counted, Parts, QueueLine};
-use async_once_cell::queue::{Answer, Lists, NEW, Op, QINIT_BIT, READY_BIT};
+use async_once_cell::queue::{Answer, Lists, NEW, Op, Out, QINIT_BIT, READY_BIT};
 use async_once_cell::step::{Ending, Polled, Progress, Step};
 use std::alloc::{AllocError, Global};
 use std::test::Fail;
 
+// Who waits is listed once, by its ticket. Listed anew it goes to the end, with its new waker.
 #[test]
-fn a_list_has_each_waker_once(rt: HostRuntime) -> Result<(), Fail> {
+fn a_list_has_who_waits_once(rt: HostRuntime) -> Result<(), Fail> {
     let mut lists = Lists::new(rt.alloc());
     lists.reserve()?;
-    for (waker, word, answer) in [
-        (7, READY_BIT, Answer::Ready),
-        (7, NEW, Answer::Claimed),
-        (7, NEW, Answer::Listed),
-        (8, NEW, Answer::Listed),
-        (7, NEW, Answer::Listed),
-        (9, READY_BIT, Answer::Ready),
+    for (before, waker, word, answer, after) in [
+        (None, 7, READY_BIT, Answer::Ready, None),
+        (None, 7, NEW, Answer::Claimed, None),
+        (None, 7, NEW, Answer::Listed, Some(0)),
+        (None, 8, NEW, Answer::Listed, Some(1)),
+        (Some(0), 9, NEW, Answer::Listed, Some(0)),
+        (Some(5), 8, NEW, Answer::Listed, Some(2)),
     ] {
-        assert_eq!(rt;
-            lists.list(&mut Some(waker), word),
-            answer,
-            "at {waker} {word}"
-        );
+        let (mut ticket, mut listed) = (before, Some(waker));
+        let heard = lists.list(&mut ticket, &mut listed, word);
+        assert_eq!(rt; heard, answer, "at {before:?} {waker}");
+        assert_eq!(rt; ticket, after, "at {before:?} {waker}");
     }
-    for (waker, word, answer) in [
-        (Some(8), NEW, Answer::Listed),
-        (Some(9), NEW, Answer::Held),
-        (None, NEW, Answer::Held),
-        (Some(8), READY_BIT, Answer::Ready),
-    ] {
-        assert_eq!(rt;
-            lists.look(waker.as_ref(), word),
-            answer,
-            "at {waker:?} {word}"
-        );
-    }
-    assert_eq!(rt; lists.release().as_slice(), [7u64, 8].as_slice());
-    assert_eq!(rt; lists.look(Some(&7), NEW), Answer::Claimed);
-    assert!(rt; lists.release().is_empty());
+    let all = vec![in rt.alloc(); at(1, Some(8)), at(0, Some(9)), at(2, None)]?;
+    assert_eq!(rt; lists.release(true), Out::All(all));
+    assert!(rt; lists.listings.is_empty() && !lists.head);
     Ok(())
+}
+
+// A look finds the own listing, while it has the waker.
+#[test]
+fn a_look_finds_the_own_listing(rt: HostRuntime) -> Result<(), Fail> {
+    let mut lists = two_listed(rt.alloc());
+    for (ticket, waker, word, answer) in [
+        (Some(0), Some(7), NEW, Answer::Listed),
+        (Some(1), Some(7), NEW, Answer::Held),
+        (Some(9), Some(7), NEW, Answer::Held),
+        (None, Some(7), NEW, Answer::Held),
+        (Some(0), None, NEW, Answer::Held),
+        (Some(0), Some(7), READY_BIT, Answer::Ready),
+    ] {
+        let mut kept = ticket;
+        let heard = lists.look(&mut kept, waker.as_ref(), word);
+        assert_eq!(rt; heard, answer, "at {ticket:?} {waker:?}");
+        assert_eq!(rt; kept, ticket, "at {ticket:?} {waker:?}");
+    }
+    Ok(())
+}
+
+// Two who wait, with the wakers 7 and 8, while a third holds.
+fn two_listed(alloc: Global) -> Lists<u64> {
+    let mut lists = Lists::new(alloc);
+    lists.look(&mut None, None, NEW);
+    lists.list(&mut None, &mut Some(7), NEW);
+    lists.list(&mut None, &mut Some(8), NEW);
+    lists
+}
+
+// A failure calls the first. Called, it is listed no more, and when it leaves it calls the next.
+#[test]
+fn one_is_called_and_leaves(rt: HostRuntime) {
+    let mut lists = two_listed(rt.alloc());
+    assert_eq!(rt; lists.release(false), Out::One(Some(7)));
+    assert!(rt; lists.is_listed(Some(0)) && lists.is_listed(Some(1)));
+    assert_eq!(rt; lists.leave(0, QINIT_BIT), None);
+    assert!(rt; !lists.is_listed(Some(0)));
+    assert_eq!(rt; lists.leave(0, NEW), None);
+    assert_eq!(rt; lists.release(false), Out::One(Some(8)));
+    assert_eq!(rt; lists.release(false), Out::One(None));
+}
+
+// A turn is passed on where nobody holds. A claim takes the own listing out, and the ticket.
+#[test]
+fn a_turn_is_passed_on_or_taken(rt: HostRuntime) {
+    let mut lists = two_listed(rt.alloc());
+    assert_eq!(rt; lists.release(false), Out::One(Some(7)));
+    assert_eq!(rt; lists.leave(0, NEW), Some(8));
+    let mut ticket = Some(1);
+    assert_eq!(rt; lists.look(&mut ticket, Some(&8), NEW), Answer::Claimed);
+    assert_eq!(rt; ticket, None);
+    assert!(rt; lists.head && lists.listings.is_empty());
 }
 
 /// Parts of a cell that nobody else uses: the right is free, and no queue stands at the door.
@@ -176,9 +218,9 @@ fn a_core_is_claimed_counted_in_and_looked_at(rt: HostRuntime) -> Result<(), Fai
     assert_eq!(rt; core.count_in(1), Counted::Full);
     core.set_waker(7);
     core.reserve()?;
-    assert_eq!(rt; core.section(&1, &mut Op::Look), Answer::Held);
+    assert_eq!(rt; core.section(&1, &mut Op::Look(None)), Answer::Held);
     core.reserve()?;
-    assert_eq!(rt; core.section(&2, &mut Op::Look), Answer::Gone);
+    assert_eq!(rt; core.section(&2, &mut Op::Look(None)), Answer::Gone);
     assert!(rt; !core.fast(true));
     Ok(())
 }
@@ -205,11 +247,12 @@ fn a_core_releases_the_listed_and_loses_its_queue(rt: HostRuntime) -> Result<(),
     core.reserve()?;
     assert_eq!(rt; core.door_put(), Some(1));
     core.reserve()?;
-    let listed = core.section(&1, &mut Op::List(Some(7)));
+    let listed = core.section(&1, &mut Op::List(None, Some(7)));
     assert_eq!(rt; listed, Answer::Listed);
     core.reserve()?;
     let released = core.section(&1, &mut Op::Release(true));
-    assert_eq!(rt; released, Answer::Released(vec![in rt.alloc(); 7]?));
+    let all = vec![in rt.alloc(); at(0, Some(7))]?;
+    assert_eq!(rt; released, Answer::Released(Out::All(all)));
     assert_eq!(rt; core.load(), READY_BIT);
     core.reserve()?;
     assert!(rt; core.door_take());
@@ -221,6 +264,26 @@ fn a_core_releases_the_listed_and_loses_its_queue(rt: HostRuntime) -> Result<(),
         QueueLine::Taken(1),
     ];
     assert_eq!(rt; core.into_log().as_slice(), log.as_slice());
+    Ok(())
+}
+
+#[test]
+fn a_core_calls_one_who_leaves(rt: HostRuntime) -> Result<(), Fail> {
+    let mut core = Core::new(rt.alloc(), false);
+    assert!(rt; core.quick());
+    core.reserve()?;
+    assert_eq!(rt; core.door_put(), Some(1));
+    core.reserve()?;
+    let mut op = Op::List(None, Some(7));
+    assert_eq!(rt; core.section(&1, &mut op), Answer::Listed);
+    assert_eq!(rt; op, Op::List(Some(0), None));
+    core.reserve()?;
+    let released = core.section(&1, &mut Op::Release(false));
+    assert_eq!(rt; released, Answer::Released(Out::One(Some(7))));
+    core.reserve()?;
+    let left = core.section(&1, &mut Op::Leave(0));
+    assert_eq!(rt; left, Answer::Left(None));
+    assert!(rt; core.lists.listings.is_empty());
     Ok(())
 }
 

@@ -29,6 +29,7 @@ impl fmt::Display for EntryLine<'_> {
             Entry::Fill(task, value, wakers) => {
                 write!(f, "fill {task} {value} {}", Wakers(wakers))
             }
+            Entry::Pass(task, wakers) => write!(f, "pass {task} {}", Wakers(wakers)),
             Entry::End(task, reply) => write!(f, "end {task} {}", ReplyText(*reply)),
             Entry::DropBegin(task) => write!(f, "dropbegin {task}"),
             Entry::DropEnd(task) => write!(f, "dropend {task}"),

@@ -1,11 +1,13 @@
 //! Scenarios, each with what it must print.
 use crate::tests::run_text;
+use calls::CALLS;
 use drops::DROPS;
 use owner::OWNER;
 use plain::PLAIN;
 use refusals::REFUSALS;
 use std::process::Abort;
 
+mod calls;
 mod drops;
 mod owner;
 mod plain;
@@ -34,6 +36,11 @@ fn limits_and_refused_memory(rt: HostRuntime) {
 #[test]
 fn drops_between_steps(rt: HostRuntime) {
     run_rows(&rt, &DROPS);
+}
+
+#[test]
+fn failures_call_one(rt: HostRuntime) {
+    run_rows(&rt, &CALLS);
 }
 
 #[test]

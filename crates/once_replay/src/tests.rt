@@ -341,6 +341,7 @@ fn all_entries(alloc: Global) -> Result<Vec<Entry>, AllocError> {
     entries.push(Entry::Ran(1, Ran::Error(5)))?;
     entries.push(Entry::Free(1, vec![in alloc; 7, 8]?))?;
     entries.push(Entry::Fill(1, 4, Vec::new(alloc)))?;
+    entries.push(Entry::Pass(2, vec![in alloc; 8]?))?;
     entries.push(Entry::End(1, Reply::Pending))?;
     entries.push(Entry::End(1, Reply::Value(4)))?;
     entries.push(Entry::End(1, Reply::Error(5)))?;
@@ -370,7 +371,7 @@ fn all_owner_entries(alloc: Global) -> Result<Vec<Entry>, AllocError> {
 }
 
 const ALL_ENTRIES: &str =
-    "made 1\nbegin 1 7\nclaim 1\nran 1 p\nran 1 v4\nran 1 e5\nfree 1 [7 8]\nfill 1 4 []\nend 1 p\nend 1 v4\nend 1 e5\nend 1 memory\nend 1 full\ndropbegin 1\ndropend 1\nlook none\nlook v4\nqueue none\n";
+    "made 1\nbegin 1 7\nclaim 1\nran 1 p\nran 1 v4\nran 1 e5\nfree 1 [7 8]\nfill 1 4 []\npass 2 [8]\nend 1 p\nend 1 v4\nend 1 e5\nend 1 memory\nend 1 full\ndropbegin 1\ndropend 1\nlook none\nlook v4\nqueue none\n";
 
 const ALL_OWNER_ENTRIES: &str =
     "own take none\nown take v4\nown write none\nown write v4\nown parts v4\nown parts [p v9]\nown parts []\nown replace none\nown replace v4\nqueue 1\n";

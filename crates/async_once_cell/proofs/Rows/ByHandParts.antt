@@ -1,9 +1,9 @@
 -- The late queue's record and log fall into parts by hand: what each input adds to the record and to the queue log.
 use Rattle.std.proofs.Common.{◌≡◌, Bool, true, false, List, [], ◌∷◌, refl}
-use Rattle.async_once_cell.specs.Record.{Begin, Claim, End, Entry, Fill, Made, Once, Pending, Ran, RanPending, RanValue, Value}
-use Rattle.async_once_cell.specs.Inputs.{AreAdded, Go, Input, Make, Part, Poll, entries_of, inputs_of}
-use Rattle.async_once_cell.specs.Log.{AreLogged, lines_of}
-use Rattle.async_once_cell.specs.Machine.{PutLine, QueueLine, TakenLine, history_of, log_of}
+use Rattle.async_once_cell.specs.Record.{Begin, Claim, DropBegin, DropEnd, End, Entry, Fill, Free, Made, Once, Pass, Pending, Ran, RanPending, RanValue, Value}
+use Rattle.async_once_cell.specs.Inputs.{Adds, AreAdded, Go, Input, Make, Part, Poll, entries_of, inputs_of}
+use Rattle.async_once_cell.specs.Log.{AddsLines, AreLogged, lines_of}
+use Rattle.async_once_cell.specs.Machine.{EnteredLine, PutLine, QueueLine, TakenLine, history_of, log_of}
 use Rattle.async_once_cell.proofs.Rows.Script.{newest_first}
 use Rattle.async_once_cell.proofs.Rows.Late.{late_queue_record}
 
@@ -70,3 +70,16 @@ calm = (tt, λ n. n)
 late_parts_logged : AreLogged Once late_parts
 late_parts_logged =
     (calm, (calm, (calm, (calm, (calm, (calm, (calm, (calm, (refl, (calm, (calm, (refl, (calm, (calm, (calm, (refl, (refl, (refl, tt))))))))))))))))))
+
+-- a called task is in its drop
+abbrev leaving : List Entry
+leaving = newest_first (
+    Made 1 ∷ Made 2 ∷ Made 3 ∷ Begin 1 5 ∷ Claim 1 ∷ Ran 1 RanPending ∷ End 1 Pending ∷ Begin 2 7 ∷ End 2 Pending ∷ Begin 3 8 ∷ End 3 Pending
+    ∷ DropBegin 1 ∷ Free 1 (7 ∷ []) ∷ DropEnd 1 ∷ DropBegin 2 ∷ [])
+
+-- its step adds the Pass and the line of the queue that it entered
+pass_added : Adds Once (Go 2 RanPending true) leaving (Pass 2 (8 ∷ []) ∷ [])
+pass_added = refl
+
+pass_logged : AddsLines Once (Go 2 RanPending true) leaving (Pass 2 (8 ∷ []) ∷ []) (PutLine 1 ∷ []) (EnteredLine 1 ∷ [])
+pass_logged = (tt, λ n. refl)

@@ -5,15 +5,15 @@ use Rattle.async_once_cell.specs.Run.{IsRun}
 use Rattle.async_once_cell.specs.Inputs.{Input, Make, Poll, Drop, Go, Owns}
 use Rattle.async_once_cell.specs.Log.{IsSound}
 use Rattle.async_once_cell.specs.Machine.{EnteredLine, PutLine, TakenLine, history_of, log_of, queue_of}
-use Rattle.async_once_cell.proofs.Headline.{every_run}
+use Rattle.async_once_cell.proofs.Input.Headline.{every_run}
 use Rattle.async_once_cell.proofs.Rows.Script.{newest_first, run, script}
 
--- a holder fails, and so does the next: the third makes the value
+-- a holder fails and calls the next, which fails and calls the third: that makes the value
 abbrev head_holder_fails_inputs : List Input
 head_holder_fails_inputs = script (Make 1 ∷ Make 2 ∷ Make 3 ∷ Poll 1 5 ∷ run 1 RanPending ++ Poll 2 7 ∷ run 2 RanPending ++ Poll 3 8 ∷ run 3 RanPending ++ Poll 1 5 ∷ run 1 (RanError 9) ++ Poll 2 7 ∷ run 2 (RanError 4) ++ Poll 3 8 ∷ run 3 (RanValue 6))
 
 abbrev pub head_holder_fails_record : List Entry
-head_holder_fails_record = newest_first (Made 1 ∷ Made 2 ∷ Made 3 ∷ Begin 1 5 ∷ Claim 1 ∷ Ran 1 RanPending ∷ End 1 Pending ∷ Begin 2 7 ∷ End 2 Pending ∷ Begin 3 8 ∷ End 3 Pending ∷ Begin 1 5 ∷ Ran 1 (RanError 9) ∷ Free 1 (7 ∷ 8 ∷ []) ∷ End 1 (Error 9) ∷ Begin 2 7 ∷ Claim 2 ∷ Ran 2 (RanError 4) ∷ Free 2 [] ∷ End 2 (Error 4) ∷ Begin 3 8 ∷ Claim 3 ∷ Ran 3 (RanValue 6) ∷ Fill 3 6 [] ∷ End 3 (Value 6) ∷ [])
+head_holder_fails_record = newest_first (Made 1 ∷ Made 2 ∷ Made 3 ∷ Begin 1 5 ∷ Claim 1 ∷ Ran 1 RanPending ∷ End 1 Pending ∷ Begin 2 7 ∷ End 2 Pending ∷ Begin 3 8 ∷ End 3 Pending ∷ Begin 1 5 ∷ Ran 1 (RanError 9) ∷ Free 1 (7 ∷ []) ∷ End 1 (Error 9) ∷ Begin 2 7 ∷ Claim 2 ∷ Ran 2 (RanError 4) ∷ Free 2 (8 ∷ []) ∷ End 2 (Error 4) ∷ Begin 3 8 ∷ Claim 3 ∷ Ran 3 (RanValue 6) ∷ Fill 3 6 [] ∷ End 3 (Value 6) ∷ [])
 
 head_holder_fails : history_of Once 8 head_holder_fails_inputs ≡ head_holder_fails_record
 head_holder_fails = refl
@@ -24,12 +24,12 @@ head_holder_fails_door = refl
 head_holder_fails_run : IsRun Once 8 head_holder_fails_record
 head_holder_fails_run = every_run Once 8 head_holder_fails_inputs (omega arith)
 
--- a holder is dropped, and so is the next: the third makes the value
+-- a holder is dropped and calls the next, which is dropped too and calls the third: that makes the value
 abbrev head_holder_dropped_inputs : List Input
 head_holder_dropped_inputs = script (Make 1 ∷ Make 2 ∷ Make 3 ∷ Poll 1 5 ∷ run 1 RanPending ++ Poll 2 7 ∷ run 2 RanPending ++ Poll 3 8 ∷ run 3 RanPending ++ Drop 1 ∷ run 1 RanPending ++ Poll 2 7 ∷ run 2 RanPending ++ Poll 3 8 ∷ run 3 RanPending ++ Drop 2 ∷ run 2 RanPending ++ Poll 3 8 ∷ run 3 (RanValue 6))
 
 abbrev pub head_holder_dropped_record : List Entry
-head_holder_dropped_record = newest_first (Made 1 ∷ Made 2 ∷ Made 3 ∷ Begin 1 5 ∷ Claim 1 ∷ Ran 1 RanPending ∷ End 1 Pending ∷ Begin 2 7 ∷ End 2 Pending ∷ Begin 3 8 ∷ End 3 Pending ∷ DropBegin 1 ∷ Free 1 (7 ∷ 8 ∷ []) ∷ DropEnd 1 ∷ Begin 2 7 ∷ Claim 2 ∷ Ran 2 RanPending ∷ End 2 Pending ∷ Begin 3 8 ∷ End 3 Pending ∷ DropBegin 2 ∷ Free 2 (8 ∷ []) ∷ DropEnd 2 ∷ Begin 3 8 ∷ Claim 3 ∷ Ran 3 (RanValue 6) ∷ Fill 3 6 [] ∷ End 3 (Value 6) ∷ [])
+head_holder_dropped_record = newest_first (Made 1 ∷ Made 2 ∷ Made 3 ∷ Begin 1 5 ∷ Claim 1 ∷ Ran 1 RanPending ∷ End 1 Pending ∷ Begin 2 7 ∷ End 2 Pending ∷ Begin 3 8 ∷ End 3 Pending ∷ DropBegin 1 ∷ Free 1 (7 ∷ []) ∷ DropEnd 1 ∷ Begin 2 7 ∷ Claim 2 ∷ Ran 2 RanPending ∷ End 2 Pending ∷ Begin 3 8 ∷ End 3 Pending ∷ DropBegin 2 ∷ Free 2 (8 ∷ []) ∷ DropEnd 2 ∷ Begin 3 8 ∷ Claim 3 ∷ Ran 3 (RanValue 6) ∷ Fill 3 6 [] ∷ End 3 (Value 6) ∷ [])
 
 head_holder_dropped : history_of Once 8 head_holder_dropped_inputs ≡ head_holder_dropped_record
 head_holder_dropped = refl
@@ -88,8 +88,8 @@ second_queue_door = refl
 second_queue_run : IsRun Once 8 second_queue_record
 second_queue_run = every_run Once 8 second_queue_inputs (omega arith)
 
-second_queue_log : log_of Once 8 second_queue_inputs ≡ newest_first (PutLine 1 ∷ EnteredLine 1 ∷ EnteredLine 1 ∷ TakenLine 1 ∷ PutLine 2 ∷ EnteredLine 2 ∷ EnteredLine 2 ∷ [])
+second_queue_log : log_of Once 8 second_queue_inputs ≡ newest_first (PutLine 1 ∷ EnteredLine 1 ∷ EnteredLine 1 ∷ EnteredLine 1 ∷ TakenLine 1 ∷ PutLine 2 ∷ EnteredLine 2 ∷ EnteredLine 2 ∷ [])
 second_queue_log = refl
 
 second_queue_sound : IsSound (log_of Once 8 second_queue_inputs)
-second_queue_sound = (refl, (refl, (refl, refl, (refl, (refl, (refl, (refl, refl, tt)))))))
+second_queue_sound = (refl, (refl, (refl, refl, (refl, (refl, (refl, (refl, (refl, refl, tt))))))))

@@ -5,7 +5,7 @@ use Rattle.async_once_cell.specs.Run.{IsRun}
 use Rattle.async_once_cell.specs.Inputs.{Input, Make, Poll, Drop, Go}
 use Rattle.async_once_cell.specs.Log.{IsSound}
 use Rattle.async_once_cell.specs.Machine.{EnteredLine, PutLine, TakenLine, history_of, log_of, queue_of}
-use Rattle.async_once_cell.proofs.Headline.{every_run}
+use Rattle.async_once_cell.proofs.Input.Headline.{every_run}
 use Rattle.async_once_cell.proofs.Rows.Script.{newest_first, run, script}
 
 -- a task puts a queue just before the holder fills the cell and takes the queue out
@@ -52,12 +52,12 @@ late_queue_at_limit_log = refl
 late_queue_at_limit_sound : IsSound (log_of Once 1 late_queue_at_limit_inputs)
 late_queue_at_limit_sound = (refl, (refl, (refl, (refl, (refl, refl, tt)))))
 
--- a holder fails while a task stands before the count: nobody new is listed, and that task claims the right
+-- a holder fails while a task stands before the count: nobody is listed, and that task claims the right
 abbrev lost_wake_inputs : List Input
 lost_wake_inputs = script (Make 1 ∷ Make 2 ∷ Make 3 ∷ Poll 1 5 ∷ run 1 RanPending ++ Poll 2 7 ∷ run 2 RanPending ++ Drop 2 ∷ run 2 RanPending ++ Poll 3 9 ∷ Go 3 RanPending true ∷ Poll 1 5 ∷ run 1 (RanError 5) ++ run 3 (RanValue 6))
 
 abbrev pub lost_wake_record : List Entry
-lost_wake_record = newest_first (Made 1 ∷ Made 2 ∷ Made 3 ∷ Begin 1 5 ∷ Claim 1 ∷ Ran 1 RanPending ∷ End 1 Pending ∷ Begin 2 7 ∷ End 2 Pending ∷ DropBegin 2 ∷ DropEnd 2 ∷ Begin 3 9 ∷ Begin 1 5 ∷ Ran 1 (RanError 5) ∷ Free 1 [] ∷ End 1 (Error 5) ∷ Claim 3 ∷ Ran 3 (RanValue 6) ∷ Fill 3 6 (7 ∷ []) ∷ End 3 (Value 6) ∷ [])
+lost_wake_record = newest_first (Made 1 ∷ Made 2 ∷ Made 3 ∷ Begin 1 5 ∷ Claim 1 ∷ Ran 1 RanPending ∷ End 1 Pending ∷ Begin 2 7 ∷ End 2 Pending ∷ DropBegin 2 ∷ DropEnd 2 ∷ Begin 3 9 ∷ Begin 1 5 ∷ Ran 1 (RanError 5) ∷ Free 1 [] ∷ End 1 (Error 5) ∷ Claim 3 ∷ Ran 3 (RanValue 6) ∷ Fill 3 6 [] ∷ End 3 (Value 6) ∷ [])
 
 lost_wake : history_of Once 8 lost_wake_inputs ≡ lost_wake_record
 lost_wake = refl

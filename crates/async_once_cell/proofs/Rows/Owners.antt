@@ -4,7 +4,7 @@ use Rattle.async_once_cell.specs.Record.{RanPending, RanValue, Pending, Once, On
 use Rattle.async_once_cell.specs.Run.{IsRun}
 use Rattle.async_once_cell.specs.Inputs.{Input, Make, Poll, Drop, Go, Looks, Owns}
 use Rattle.async_once_cell.specs.Machine.{history_of, queue_of}
-use Rattle.async_once_cell.proofs.Headline.{every_run}
+use Rattle.async_once_cell.proofs.Input.Headline.{every_run}
 use Rattle.async_once_cell.proofs.Rows.Script.{newest_first, run, script}
 
 -- a value is looked at, changed and taken, and an empty cell gives nothing

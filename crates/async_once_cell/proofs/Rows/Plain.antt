@@ -1,11 +1,11 @@
 -- Rows in which one task makes the value, or frees the cell.
-use Rattle.std.proofs.Common.{◌≡◌, true, List, [], ◌∷◌, ◌++◌, Some, None, refl, arith}
+use Rattle.std.proofs.Common.{◌≡◌, List, [], ◌∷◌, ◌++◌, Some, None, refl, arith}
 use Rattle.async_once_cell.specs.Record.{RanPending, RanValue, RanError, Pending, Value, Once, Entry, Made, Begin, Claim, Ran, Fill, End, DropBegin, DropEnd}
 use Rattle.async_once_cell.specs.Run.{IsRun}
-use Rattle.async_once_cell.specs.Inputs.{Input, Make, Poll, Drop, Go}
+use Rattle.async_once_cell.specs.Inputs.{Input, Make, Poll, Drop}
 use Rattle.async_once_cell.specs.Machine.{history_of, queue_of}
-use Rattle.async_once_cell.proofs.Headline.{every_run}
-use Rattle.async_once_cell.proofs.Rows.Script.{newest_first, run, script}
+use Rattle.async_once_cell.proofs.Input.Headline.{every_run}
+use Rattle.async_once_cell.proofs.Rows.Script.{newest_first, run, script, steps}
 
 -- one task makes the value in its first poll, and a later task finds it
 abbrev plain_path_inputs : List Input
@@ -39,12 +39,12 @@ slow_path_door = refl
 slow_path_run : IsRun Once 8 slow_path_record
 slow_path_run = every_run Once 8 slow_path_inputs (omega arith)
 
--- a task that waits polls again with another waker: both are handed out
+-- a task that waits polls again with another waker: the newer one alone is handed out
 abbrev changed_waker_inputs : List Input
 changed_waker_inputs = script (Make 1 ∷ Make 2 ∷ Poll 1 5 ∷ run 1 RanPending ++ Poll 2 7 ∷ run 2 RanPending ++ Poll 2 8 ∷ run 2 RanPending ++ Poll 1 5 ∷ run 1 (RanValue 3))
 
 abbrev pub changed_waker_record : List Entry
-changed_waker_record = newest_first (Made 1 ∷ Made 2 ∷ Begin 1 5 ∷ Claim 1 ∷ Ran 1 RanPending ∷ End 1 Pending ∷ Begin 2 7 ∷ End 2 Pending ∷ Begin 2 8 ∷ End 2 Pending ∷ Begin 1 5 ∷ Ran 1 (RanValue 3) ∷ Fill 1 3 (7 ∷ 8 ∷ []) ∷ End 1 (Value 3) ∷ [])
+changed_waker_record = newest_first (Made 1 ∷ Made 2 ∷ Begin 1 5 ∷ Claim 1 ∷ Ran 1 RanPending ∷ End 1 Pending ∷ Begin 2 7 ∷ End 2 Pending ∷ Begin 2 8 ∷ End 2 Pending ∷ Begin 1 5 ∷ Ran 1 (RanValue 3) ∷ Fill 1 3 (8 ∷ []) ∷ End 1 (Value 3) ∷ [])
 
 changed_waker : history_of Once 8 changed_waker_inputs ≡ changed_waker_record
 changed_waker = refl
@@ -57,7 +57,7 @@ changed_waker_run = every_run Once 8 changed_waker_inputs (omega arith)
 
 -- a waiting task is dropped after the fill: as the last one out it takes the queue away
 abbrev dropped_after_the_fill_inputs : List Input
-dropped_after_the_fill_inputs = script (Make 1 ∷ Make 2 ∷ Poll 1 5 ∷ run 1 RanPending ++ Poll 2 7 ∷ run 2 RanPending ++ Poll 1 5 ∷ run 1 (RanValue 4) ++ Drop 2 ∷ Go 2 RanPending true ∷ Go 2 RanPending true ∷ [])
+dropped_after_the_fill_inputs = script (Make 1 ∷ Make 2 ∷ Poll 1 5 ∷ run 1 RanPending ++ Poll 2 7 ∷ run 2 RanPending ++ Poll 1 5 ∷ run 1 (RanValue 4) ++ Drop 2 ∷ steps 3 2 RanPending)
 
 abbrev pub dropped_after_the_fill_record : List Entry
 dropped_after_the_fill_record = newest_first (Made 1 ∷ Made 2 ∷ Begin 1 5 ∷ Claim 1 ∷ Ran 1 RanPending ∷ End 1 Pending ∷ Begin 2 7 ∷ End 2 Pending ∷ Begin 1 5 ∷ Ran 1 (RanValue 4) ∷ Fill 1 4 (7 ∷ []) ∷ End 1 (Value 4) ∷ DropBegin 2 ∷ DropEnd 2 ∷ [])

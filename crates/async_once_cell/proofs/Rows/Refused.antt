@@ -4,8 +4,8 @@ use Rattle.async_once_cell.specs.Record.{RanPending, RanValue, RanError, Pending
 use Rattle.async_once_cell.specs.Run.{IsRun}
 use Rattle.async_once_cell.specs.Inputs.{Input, Make, Poll, Go}
 use Rattle.async_once_cell.specs.Machine.{history_of, queue_of}
-use Rattle.async_once_cell.proofs.Headline.{every_run}
-use Rattle.async_once_cell.proofs.Rows.Script.{newest_first, run, script}
+use Rattle.async_once_cell.proofs.Input.Headline.{every_run}
+use Rattle.async_once_cell.proofs.Rows.Script.{newest_first, run, script, steps}
 
 -- as many tasks wait as may: one more finds the place full
 abbrev limit_of_the_count_inputs : List Input
@@ -71,12 +71,12 @@ waker_copy_refused_door = refl
 waker_copy_refused_run : IsRun Once 8 waker_copy_refused_record
 waker_copy_refused_run = every_run Once 8 waker_copy_refused_inputs (omega arith)
 
--- no memory is needed for a waker that another task listed
+-- no memory for a listing, though another task is listed with the same waker
 abbrev listed_by_another_and_no_memory_inputs : List Input
 listed_by_another_and_no_memory_inputs = script (Make 1 ∷ Make 2 ∷ Make 3 ∷ Poll 1 5 ∷ run 1 RanPending ++ Poll 2 7 ∷ Go 2 RanPending true ∷ Go 2 RanPending true ∷ Go 2 RanPending true ∷ Go 2 RanPending true ∷ Go 2 RanPending true ∷ Go 2 RanPending true ∷ Poll 3 7 ∷ run 3 RanPending ++ Go 2 RanPending false ∷ run 2 RanPending)
 
 abbrev pub listed_by_another_and_no_memory_record : List Entry
-listed_by_another_and_no_memory_record = newest_first (Made 1 ∷ Made 2 ∷ Made 3 ∷ Begin 1 5 ∷ Claim 1 ∷ Ran 1 RanPending ∷ End 1 Pending ∷ Begin 2 7 ∷ Begin 3 7 ∷ End 3 Pending ∷ End 2 Pending ∷ [])
+listed_by_another_and_no_memory_record = newest_first (Made 1 ∷ Made 2 ∷ Made 3 ∷ Begin 1 5 ∷ Claim 1 ∷ Ran 1 RanPending ∷ End 1 Pending ∷ Begin 2 7 ∷ Begin 3 7 ∷ End 3 Pending ∷ End 2 Memory ∷ [])
 
 listed_by_another_and_no_memory : history_of Once 8 listed_by_another_and_no_memory_inputs ≡ listed_by_another_and_no_memory_record
 listed_by_another_and_no_memory = refl
@@ -86,3 +86,19 @@ listed_by_another_and_no_memory_door = refl
 
 listed_by_another_and_no_memory_run : IsRun Once 8 listed_by_another_and_no_memory_record
 listed_by_another_and_no_memory_run = every_run Once 8 listed_by_another_and_no_memory_inputs (omega arith)
+
+-- no memory is needed to list another waker of a task that is listed
+abbrev relisted_without_memory_inputs : List Input
+relisted_without_memory_inputs = script (Make 1 ∷ Make 2 ∷ Poll 1 5 ∷ run 1 RanPending ++ Poll 2 7 ∷ run 2 RanPending ++ Poll 2 8 ∷ steps 2 2 RanPending ++ Go 2 RanPending false ∷ run 2 RanPending ++ Poll 1 5 ∷ run 1 (RanError 9))
+
+abbrev pub relisted_without_memory_record : List Entry
+relisted_without_memory_record = newest_first (Made 1 ∷ Made 2 ∷ Begin 1 5 ∷ Claim 1 ∷ Ran 1 RanPending ∷ End 1 Pending ∷ Begin 2 7 ∷ End 2 Pending ∷ Begin 2 8 ∷ End 2 Pending ∷ Begin 1 5 ∷ Ran 1 (RanError 9) ∷ Free 1 (8 ∷ []) ∷ End 1 (Error 9) ∷ [])
+
+relisted_without_memory : history_of Once 8 relisted_without_memory_inputs ≡ relisted_without_memory_record
+relisted_without_memory = refl
+
+relisted_without_memory_door : queue_of Once 8 relisted_without_memory_inputs ≡ Some 1
+relisted_without_memory_door = refl
+
+relisted_without_memory_run : IsRun Once 8 relisted_without_memory_record
+relisted_without_memory_run = every_run Once 8 relisted_without_memory_inputs (omega arith)

@@ -2,8 +2,8 @@
 use Rattle.std.proofs.Common.{◌≡◌, ℕ, true, [], ◌∷◌, ◌++◌, arith}
 use Rattle.async_once_cell.specs.Record.{Begin, Claim, DropBegin, DropEnd, End, Fill, Free, Made, Once, OnceWith, Pending, Ran, RanError, RanPending, RanValue, Value}
 use Rattle.async_once_cell.specs.Inputs.{Make, Poll, Drop, Go}
-use Rattle.async_once_cell.proofs.Headline.{every_run}
-use Rattle.async_once_cell.proofs.Cells.{held_not_set, same_holder}
+use Rattle.async_once_cell.proofs.Input.Headline.{every_run}
+use Rattle.async_once_cell.proofs.History.Cells.{held_not_set, same_holder}
 use Rattle.async_once_cell.proofs.Rows.Script.{newest_first, script, steps}
 use Rattle.async_once_cell.proofs.Rows.Spoilt.{Spoilt}
 

@@ -5,8 +5,8 @@ use Rattle.async_once_cell.specs.Record.{Begin, Claim, End, Entry, Error, Fill, 
 use Rattle.async_once_cell.specs.Tasks.{is_under_way, status}
 use Rattle.async_once_cell.specs.Refusals.{OtherActs}
 use Rattle.async_once_cell.specs.Inputs.{Make, Poll}
-use Rattle.async_once_cell.proofs.Headline.{every_run}
-use Rattle.async_once_cell.proofs.Cells.{held_not_set, same_value}
+use Rattle.async_once_cell.proofs.Input.Headline.{every_run}
+use Rattle.async_once_cell.proofs.History.Cells.{held_not_set, same_value}
 use Rattle.async_once_cell.proofs.Rows.Script.{newest_first, script, steps}
 use Rattle.async_once_cell.proofs.Rows.Spoilt.{Spoilt}
 

@@ -1,12 +1,12 @@
 -- Parts whose lines in the queue log are wrong, and queues that stand where they may not. Where a queue is wanted at the door from the start, a look is written that puts it.
 use Rattle.std.proofs.Common.{◌≡◌, true, List, [], ◌∷◌, ◌++◌, Some, refl, sym}
 use Rattle.std.proofs.lemmas.Bool.{false≢true}
-use Rattle.async_once_cell.specs.Record.{Begin, Claim, DropBegin, End, Entry, Fill, Free, GotValue, Look, Made, Once, OnceWith, Own, Pending, Ran, RanPending, RanValue, Take, Write}
+use Rattle.async_once_cell.specs.Record.{Begin, Claim, DropBegin, End, Entry, Fill, Free, GotValue, Look, Made, Once, OnceWith, Own, Pass, Pending, Ran, RanPending, RanValue, Take, Write}
 use Rattle.async_once_cell.specs.Tasks.{Unmade, Waiting}
 use Rattle.async_once_cell.specs.Inputs.{Drop, Go, Input, Looks, Make, Owns, Part, Poll}
 use Rattle.async_once_cell.specs.Log.{AreLogged, NoneKept, WaitingStands}
 use Rattle.async_once_cell.specs.Machine.{EnteredLine, PutLine, QueueLine, TakenLine}
-use Rattle.async_once_cell.proofs.Cells.{none_some}
+use Rattle.async_once_cell.proofs.History.Cells.{none_some}
 use Rattle.async_once_cell.proofs.Rows.Script.{newest_first}
 
 -- an input and what it adds to the record and to the queue log
@@ -41,6 +41,10 @@ hands_out_outside l = false≢true (l.0.1 refl)
 -- a fill hands a waker out without entering the queue
 fills_outside : AreLogged Once (newest_first (second_polls ++ part (Go 2 RanPending true) (End 2 Pending ∷ []) (EnteredLine 1 ∷ []) ∷ part (Poll 1 5) (Begin 1 5 ∷ []) [] ∷ part (Go 1 (RanValue 4) true) (Ran 1 (RanValue 4) ∷ []) [] ∷ part (Go 1 (RanValue 4) true) (Fill 1 4 (7 ∷ []) ∷ []) [] ∷ [])) → ⊥
 fills_outside l = false≢true (l.0.1 refl)
+
+-- a task that leaves hands a waker out without entering the queue
+passes_outside : AreLogged Once (newest_first (second_polls ++ part (Go 2 RanPending true) (Pass 2 (8 ∷ []) ∷ []) [] ∷ [])) → ⊥
+passes_outside l = false≢true (l.0.1 refl)
 
 -- the owner takes the value, and the queue stays at the door
 take_leaves_the_queue : AreLogged (OnceWith 4) (newest_first (part Looks (Look (Some 4) ∷ []) (PutLine 1 ∷ []) ∷ part (Owns Take) (Own Take (GotValue 4) ∷ []) [] ∷ [])) → ⊥

@@ -2,7 +2,7 @@
 use Rattle.std.proofs.Common.{◌≡◌, ℕ, [], ◌∷◌, Option, Some, refl, sym, arith}
 use Rattle.std.proofs.lemmas.Bool.{false≢true}
 use Rattle.async_once_cell.specs.Machine.{EnteredLine, PutLine, TakenLine}
-use Rattle.async_once_cell.proofs.Cells.{none_some}
+use Rattle.async_once_cell.proofs.History.Cells.{none_some}
 use Rattle.async_once_cell.proofs.Rows.Script.{newest_first}
 use Rattle.async_once_cell.proofs.Rows.Spoilt.{SpoiltLog}
 

@@ -1,7 +1,7 @@
 -- Parts with one thing wrong: an input adds what it may not add.
 use Rattle.std.proofs.Common.{◌≡◌, ℕ, zero, suc, true, false, List, [], ◌∷◌, ◌++◌, refl, sym, arith}
 use Rattle.std.proofs.lemmas.Bool.{false≢true}
-use Rattle.async_once_cell.specs.Record.{Begin, Claim, DropBegin, End, Entry, GotNone, Made, Memory, Once, OnceWith, Own, Pending, Ran, RanPending, RanValue, Take}
+use Rattle.async_once_cell.specs.Record.{Begin, Claim, DropBegin, End, Entry, GotNone, Made, Memory, Once, OnceWith, Own, Pass, Pending, Ran, RanPending, RanValue, Take}
 use Rattle.async_once_cell.specs.Inputs.{AreAdded, Drop, Go, Input, Looks, Make, Owns, Part, Poll, SixteenEnd, WantsMemoryOnlyUngranted}
 use Rattle.async_once_cell.specs.Granted.{all_granted}
 use Rattle.async_once_cell.proofs.Rows.Script.{newest_first}
@@ -45,6 +45,14 @@ drop_without_end a = let e = a.0 in let z : ⊥ = cc in z
 -- a step of one task claims for another
 claim_for_another : AreAdded Once (newest_first (polling ++ part (Go 1 RanPending true) (Claim 2 ∷ []) ∷ [])) → ⊥
 claim_for_another a = two_not_one a.0
+
+-- a step of one task passes the turn of another on
+pass_for_another : AreAdded Once (newest_first (polling ++ part (Go 1 RanPending true) (Pass 2 (8 ∷ []) ∷ []) ∷ [])) → ⊥
+pass_for_another a = two_not_one a.0
+
+-- a drop passes the turn on as it begins
+pass_without_a_step : AreAdded Once (newest_first (part (Make 1) (Made 1 ∷ []) ∷ part (Drop 1) (Pass 1 (8 ∷ []) ∷ DropBegin 1 ∷ []) ∷ [])) → ⊥
+pass_without_a_step a = let e = a.0 in let z : ⊥ = cc in z
 
 -- a step makes a task
 step_makes : AreAdded Once (newest_first (polling ++ part (Go 1 RanPending true) (Made 1 ∷ []) ∷ [])) → ⊥

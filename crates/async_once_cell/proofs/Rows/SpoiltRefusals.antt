@@ -1,9 +1,9 @@
 -- Records in which a poll is refused as it may not be: none is a run.
-use Rattle.std.proofs.Common.{◌≤◌, true, ⊎_elim, [], ◌∷◌, ◌++◌, sym, arith}
+use Rattle.std.proofs.Common.{◌≤◌, ⊎_elim, [], ◌∷◌, ◌++◌, sym, arith}
 use Rattle.std.proofs.lemmas.Bool.{false≢true}
 use Rattle.async_once_cell.specs.Record.{Begin, Claim, DropBegin, DropEnd, End, Free, Full, Made, Memory, Once, OnceWith, Pending, Ran, RanPending, RanValue}
-use Rattle.async_once_cell.specs.Inputs.{Make, Poll, Drop, Go}
-use Rattle.async_once_cell.proofs.Headline.{every_run}
+use Rattle.async_once_cell.specs.Inputs.{Make, Poll, Drop}
+use Rattle.async_once_cell.proofs.Input.Headline.{every_run}
 use Rattle.async_once_cell.proofs.Rows.Script.{newest_first, script, steps}
 use Rattle.async_once_cell.proofs.Rows.Spoilt.{Spoilt}
 
@@ -29,7 +29,7 @@ memory_for_one_long_gone = (every_run Once 8 (script (Make 1 ∷ Make 2 ∷ Make
 
 -- two others were about, but one was gone when the poll began
 full_for_one_long_gone : Spoilt Once 2 (newest_first (Made 1 ∷ Made 2 ∷ Made 3 ∷ Begin 1 5 ∷ Claim 1 ∷ Ran 1 RanPending ∷ End 1 Pending ∷ Begin 2 7 ∷ End 2 Pending ∷ DropBegin 2 ∷ DropEnd 2 ∷ Begin 3 8 ∷ End 3 Full ∷ []))
-full_for_one_long_gone = (every_run Once 2 (script (Make 1 ∷ Make 2 ∷ Make 3 ∷ Poll 1 5 ∷ steps 3 1 RanPending ++ Poll 2 7 ∷ steps 7 2 RanPending ++ Drop 2 ∷ Go 2 RanPending true ∷ Poll 3 8 ∷ [])) (omega arith), λ r. ⊎_elim (λ (c : 2 ≤ 1). let z : ⊥ = omega arith in z) (λ z. z) r.0.1.2)
+full_for_one_long_gone = (every_run Once 2 (script (Make 1 ∷ Make 2 ∷ Make 3 ∷ Poll 1 5 ∷ steps 3 1 RanPending ++ Poll 2 7 ∷ steps 7 2 RanPending ++ Drop 2 ∷ steps 2 2 RanPending ++ Poll 3 8 ∷ [])) (omega arith), λ r. ⊎_elim (λ (c : 2 ≤ 1). let z : ⊥ = omega arith in z) (λ z. z) r.0.1.2)
 
 -- the place is full for a task that claimed
 full_for_a_holder : Spoilt Once 1 (newest_first (Made 1 ∷ Made 2 ∷ Begin 1 5 ∷ Begin 2 7 ∷ Claim 1 ∷ End 1 Full ∷ []))

@@ -3,8 +3,8 @@ use Rattle.std.proofs.Common.{◌≡◌, ℕ, true, [], ◌∷◌, ◌++◌, Opt
 use Rattle.std.proofs.lemmas.Bool.{false≢true}
 use Rattle.async_once_cell.specs.Record.{Answer, Begin, Claim, DropBegin, DropEnd, End, Fill, Free, Got, GotAnswers, GotNone, GotValue, Lazy, Look, Made, Once, OnceWith, Own, Parts, Pending, Ran, RanPending, RanValue, Take, Value}
 use Rattle.async_once_cell.specs.Inputs.{Make, Poll, Drop, Go, Owns}
-use Rattle.async_once_cell.proofs.Headline.{every_run}
-use Rattle.async_once_cell.proofs.Cells.{empty_not_set, held_not_empty, same_holder}
+use Rattle.async_once_cell.proofs.Input.Headline.{every_run}
+use Rattle.async_once_cell.proofs.History.Cells.{empty_not_set, held_not_empty, same_holder}
 use Rattle.async_once_cell.proofs.Rows.Script.{newest_first, script, steps}
 use Rattle.async_once_cell.proofs.Rows.Spoilt.{Spoilt}
 

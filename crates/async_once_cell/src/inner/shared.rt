@@ -179,12 +179,13 @@ impl<W: WakerId + Drop, R: Wait + AllocGlobal> Parts<W> for Shared<'_, '_, W, R>
     fn section(&mut self, queue: &Queue<W>, op: &mut Op<W>) -> Answer<W> {
         let mut lists = queue.lock(self.rt);
         match op {
-            Op::Look => lists.look(self.current.as_ref(), self.inner.word()),
-            Op::List(waker) => lists.list(waker, self.inner.word()),
+            Op::Look(ticket) => lists.look(ticket, self.current.as_ref(), self.inner.word()),
+            Op::List(ticket, waker) => lists.list(ticket, waker, self.inner.word()),
             Op::Release(ready) => {
                 self.inner.give_back(*ready);
-                Answer::Released(lists.release())
+                Answer::Released(lists.release(*ready))
             }
+            Op::Leave(ticket) => Answer::Left(lists.leave(*ticket, self.inner.word())),
         }
     }
 }

@@ -7,7 +7,7 @@ ghost use Rattle.async_once_cell.specs.Steps.{in_call, is_finished as is_done};
 
 use super::{InitError, Known, OnceCell};
 use crate::held::Held;
-use crate::inner::Queue;
+use crate::inner::{Out, Queue};
 use crate::seat::Seat;
 use crate::step::{Ending, Polled, Side, Step};
 use futures::Future;
@@ -20,10 +20,11 @@ use std::sync::Wait;
 /// Future of [`OnceCell::get_or_try_init`].
 ///
 /// A poll answers the value that is set. While the cell is empty, the task that gets the right polls
-/// its init; the others are Pending until they are woken. The init is dropped as soon as it is not
-/// needed any more: when it gave a value or an error, when the value is found set, when the poll is
-/// refused, and when the future is dropped. Only then is the place among those who wait, or the
-/// right, given back.
+/// its init; the others are Pending until they are woken: all of them by the value, and one by an
+/// error or by the drop of a future that had the right. Who was woken by these and is dropped or
+/// refused wakes the next. The init is dropped as soon as it is not needed any more: when it gave a
+/// value or an error, when the value is found set, when the poll is refused, and when the future is
+/// dropped. Only then is the place among those who wait, or the right, given back.
 ///
 /// A poll or a drop may wait for the locks of the door, of the queue and of the places of those who
 /// wait, and a poll that fills the cell for that of the value. A task has each of the first three for
@@ -313,10 +314,10 @@ where
         self.seat.as_ref()?.share_anew(self.rt)
     }
 
-    fn wake(&mut self, wakers: Vec<Seat>)
+    fn wake(&mut self, out: Out<Seat>)
         ensures stays { Stays self.old self.new }
     {
-        call_all(self.rt, wakers);
+        out.call(self.rt);
     }
 
     ghost stays_same = { λ a. Prim.search rules };
@@ -350,19 +351,13 @@ impl<H: Drop, R: Wait + AllocGlobal> Side<Seat> for Leaving<'_, H, R> {
         None
     }
 
-    fn wake(&mut self, wakers: Vec<Seat>)
+    fn wake(&mut self, out: Out<Seat>)
         ensures stays { ⊤ }
     {
-        call_all(self.rt, wakers);
+        out.call(self.rt);
     }
 
     ghost stays_same = { λ _. tt };
 
     ghost stays_on = { λ _ _ _ _ _. tt };
-}
-
-fn call_all<R: Wait>(rt: &R, seats: Vec<Seat>) {
-    for seat in seats {
-        seat.call(rt);
-    }
 }

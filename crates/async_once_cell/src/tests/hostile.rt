@@ -1,7 +1,7 @@
 //! Callers that use a cell in the middle of one of its own steps.
 ghost use Rattle.std.specs.Prelude.{⊤};
 
-use crate::inner::Queue;
+use crate::inner::{Out, Queue};
 use crate::lazy::Lazy;
 use crate::once::{InitFuture, OnceCell, Refused};
 use crate::seat::Seat;
@@ -88,12 +88,10 @@ impl<R: Wait + AllocGlobal> Side<Seat> for Meddling<'_, '_, R> {
         self.seat.as_ref()?.share_anew(self.rt)
     }
 
-    fn wake(&mut self, wakers: Vec<Seat>)
+    fn wake(&mut self, out: Out<Seat>)
         ensures stays { ⊤ }
     {
-        for seat in wakers {
-            seat.call(self.rt);
-        }
+        out.call(self.rt);
         self.poll_other();
     }
 }
@@ -193,12 +191,10 @@ impl<R: Wait + AllocGlobal> Side<Seat> for Nested<'_, '_, R> {
         None
     }
 
-    fn wake(&mut self, wakers: Vec<Seat>)
+    fn wake(&mut self, out: Out<Seat>)
         ensures stays { ⊤ }
     {
-        for seat in wakers {
-            seat.call(self.rt);
-        }
+        out.call(self.rt);
     }
 }
 

@@ -1,11 +1,11 @@
 //! A replay under way.
 ghost use Rattle.std.specs.Prelude.{◌≡◌, ◌<◌, ◌≤◌, ◌+◌, ◌-◌, ◌^◌, ◌++◌, ◌==◌, ℕ, Bool, true, false, [], Some, None, OnOk, IfOk, reverse};
 ghost use Rattle.async_once_cell.specs.Machine.{unfinished_after, error_in as error_of, release_entry as release_of, end_entry as end_of};
-ghost use Rattle.async_once_cell.specs.Shown.{call_of, entry_of, history_in, claim_entries, ran_entries, told};
+ghost use Rattle.async_once_cell.specs.Shown.{call_of, entry_of, history_in, claim_entries, ran_entries, out_entries, wakers_in, told};
 
 use super::script::Script;
 use super::{Call, Entry, Got, Input, Kind, QueueLine, Ran, Record, Reply};
-use crate::inner::{Core, Parts};
+use crate::inner::{Core, Out, Parts};
 use crate::step::{Ending, Progress, Step};
 use std::alloc::{AllocError, Global};
 use std::collections::BTreeMap;
@@ -34,8 +34,10 @@ pub(super) struct Seen {
     pub ran: Option<Ran>,
     /// Whether the right was given back by the fast release, which hands nobody out.
     pub freed: bool,
-    /// The wakers that a release under the lock handed out.
-    pub handed: Option<Vec<u64>>,
+    /// Whom a release under the lock handed out, or one who left.
+    pub handed: Option<Out<u64>>,
+    /// Whether the step took the task's listing out.
+    pub leaving: bool,
     pub progress: Progress,
 }
 
@@ -129,6 +131,7 @@ impl Shared {
         self.core.set_waker(task.waker);
         self.core.grant(granted);
         let before = task.step.left();
+        let leaving = task.step.is_leaving();
         let progress = task.step.advance(&mut self.core, &mut self.script, limit);
         task.kept = self.script.kept;
         Seen {
@@ -136,6 +139,7 @@ impl Shared {
             ran: self.script.ran.take(),
             freed: before == FAST && task.step.left() != ADD_ONE,
             handed: self.script.handed.take(),
+            leaving,
             progress,
         }
     }
@@ -414,6 +418,7 @@ fn record_step(
         ran,
         freed,
         handed,
+        leaving,
         progress,
     } = seen;
     record_init(entries, t, claimed, ran)?;
@@ -421,8 +426,8 @@ fn record_step(
         let nobody = Vec::new(*entries.allocator());
         entries.push(release_entry(t, kept, nobody))?;
     }
-    if let Some(wakers) = handed {
-        entries.push(release_entry(t, kept, wakers))?;
+    if let Some(out) = handed {
+        record_out(entries, t, leaving, out, kept)?;
     }
     if let Progress::Ended(ending) = progress {
         entries.push(end_entry(t, ending, kept, value))?;
@@ -446,6 +451,38 @@ fn record_init(
         entries.push(Entry::Ran(t, answer))?;
     }
     Ok(())
+}
+
+// Records whom the task called, as one who leaves or as one who gives the right back.
+fn record_out(
+    entries: &mut Vec<Entry>,
+    t: u64,
+    leaving: bool,
+    out: Out<u64>,
+    kept: Ran,
+) -> Result<(), AllocError>
+    ensures { OnOk result (history_in entries.new.items ≡ out_entries leaving (wakers_in out) t kept ++ history_in entries.old.items) }
+{
+    let wakers = wakers_out(*entries.allocator(), out)?;
+    if !leaving {
+        entries.push(release_entry(t, kept, wakers))?;
+    } else if !wakers.is_empty() {
+        entries.push(Entry::Pass(t, wakers))?;
+    }
+    Ok(())
+}
+
+// The wakers that were handed out, in their order.
+fn wakers_out(alloc: Global, out: Out<u64>) -> Result<Vec<u64>, AllocError>
+    ensures { IfOk result (λ X. X.items ≡ wakers_in out) }
+{
+    match out {
+        Out::One(waker) => waker.into_iter().collect(alloc),
+        Out::All(listings) => listings
+            .into_iter()
+            .filter_map(|listing| listing.waker)
+            .collect(alloc),
+    }
 }
 
 // The release of a task whose init gave this: a value fills the cell.

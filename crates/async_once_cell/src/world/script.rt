@@ -2,6 +2,7 @@
 ghost use Rattle.std.specs.Prelude.{◌≡◌};
 
 use super::Ran;
+use crate::queue::Out;
 use crate::step::{Polled, Side};
 
 /// The side of a replayed task: its init answers as the inputs or the kind say.
@@ -18,9 +19,9 @@ pub(super) struct Script {
     pub granted: bool,
     pub waker: u64,
     pub kept: Ran,
-    // What was seen in this step: what the init answered, and the wakers handed out.
+    // What was seen in this step: what the init answered, and whom a section handed out.
     pub ran: Option<Ran>,
-    pub handed: Option<Vec<u64>>,
+    pub handed: Option<Out<u64>>,
 }
 
 impl Script {
@@ -85,11 +86,11 @@ impl Side<u64> for Script {
         if self.granted { Some(self.waker) } else { None }
     }
 
-    fn wake(&mut self, wakers: Vec<u64>)
-        ensures did { DidWake self.old wakers self.new }
+    fn wake(&mut self, out: Out<u64>)
+        ensures did { DidWake self.old out self.new }
         ensures stays { Stays self.old self.new }
     {
-        self.handed = Some(wakers);
+        self.handed = Some(out);
     }
 
     ghost stays_same = { λ a. Prim.search rules };

@@ -5,7 +5,7 @@ pub const DROPS: [(&str, &str, &str); 26] = [
     (
         "dropped_after_the_fill",
         "once 8\nmake 1\nmake 2\npoll 1 5\nrun 1 p\npoll 2 7\nrun 2 p\npoll 1 5\nrun 1 v4\ndrop 2\ngo 2 p\ngo 2 p\n",
-        "made 1\nmade 2\nbegin 1 5\nclaim 1\nran 1 p\nend 1 p\nbegin 2 7\nend 2 p\nbegin 1 5\nran 1 v4\nfill 1 4 [7]\nend 1 v4\ndropbegin 2\ndropend 2\nqueue none\n",
+        "made 1\nmade 2\nbegin 1 5\nclaim 1\nran 1 p\nend 1 p\nbegin 2 7\nend 2 p\nbegin 1 5\nran 1 v4\nfill 1 4 [7]\nend 1 v4\ndropbegin 2\nqueue 1\n",
     ),
     (
         "dropped_holder_nothing_restarted",
@@ -15,7 +15,7 @@ pub const DROPS: [(&str, &str, &str); 26] = [
     (
         "head_holder_dropped",
         "once 8\nmake 1\nmake 2\nmake 3\npoll 1 5\nrun 1 p\npoll 2 7\nrun 2 p\npoll 3 8\nrun 3 p\ndrop 1\nrun 1 p\npoll 2 7\nrun 2 p\npoll 3 8\nrun 3 p\ndrop 2\nrun 2 p\npoll 3 8\nrun 3 v6\n",
-        "made 1\nmade 2\nmade 3\nbegin 1 5\nclaim 1\nran 1 p\nend 1 p\nbegin 2 7\nend 2 p\nbegin 3 8\nend 3 p\ndropbegin 1\nfree 1 [7 8]\ndropend 1\nbegin 2 7\nclaim 2\nran 2 p\nend 2 p\nbegin 3 8\nend 3 p\ndropbegin 2\nfree 2 [8]\ndropend 2\nbegin 3 8\nclaim 3\nran 3 v6\nfill 3 6 []\nend 3 v6\nqueue none\n",
+        "made 1\nmade 2\nmade 3\nbegin 1 5\nclaim 1\nran 1 p\nend 1 p\nbegin 2 7\nend 2 p\nbegin 3 8\nend 3 p\ndropbegin 1\nfree 1 [7]\ndropend 1\nbegin 2 7\nclaim 2\nran 2 p\nend 2 p\nbegin 3 8\nend 3 p\ndropbegin 2\nfree 2 [8]\ndropend 2\nbegin 3 8\nclaim 3\nran 3 v6\nfill 3 6 []\nend 3 v6\nqueue none\n",
     ),
     (
         "holder_dropped_between_steps_0",
@@ -65,32 +65,32 @@ pub const DROPS: [(&str, &str, &str); 26] = [
     (
         "two_drops_at_once_0",
         "once 8\nmake 1\nmake 2\nmake 3\npoll 1 5\nrun 1 p\npoll 2 7\nrun 2 p\npoll 3 8\nrun 3 p\ndrop 1\ndrop 2\nrun 2 p\nrun 1 p\n",
-        "made 1\nmade 2\nmade 3\nbegin 1 5\nclaim 1\nran 1 p\nend 1 p\nbegin 2 7\nend 2 p\nbegin 3 8\nend 3 p\ndropbegin 1\ndropbegin 2\ndropend 2\nfree 1 [7 8]\ndropend 1\nqueue 1\n",
+        "made 1\nmade 2\nmade 3\nbegin 1 5\nclaim 1\nran 1 p\nend 1 p\nbegin 2 7\nend 2 p\nbegin 3 8\nend 3 p\ndropbegin 1\ndropbegin 2\ndropend 2\nfree 1 [8]\ndropend 1\nqueue 1\n",
     ),
     (
         "two_drops_at_once_1",
         "once 8\nmake 1\nmake 2\nmake 3\npoll 1 5\nrun 1 p\npoll 2 7\nrun 2 p\npoll 3 8\nrun 3 p\ndrop 1\ndrop 2\ngo 1 p\nrun 2 p\nrun 1 p\n",
-        "made 1\nmade 2\nmade 3\nbegin 1 5\nclaim 1\nran 1 p\nend 1 p\nbegin 2 7\nend 2 p\nbegin 3 8\nend 3 p\ndropbegin 1\ndropbegin 2\ndropend 2\nfree 1 [7 8]\ndropend 1\nqueue 1\n",
+        "made 1\nmade 2\nmade 3\nbegin 1 5\nclaim 1\nran 1 p\nend 1 p\nbegin 2 7\nend 2 p\nbegin 3 8\nend 3 p\ndropbegin 1\ndropbegin 2\ndropend 2\nfree 1 [8]\ndropend 1\nqueue 1\n",
     ),
     (
         "two_drops_at_once_2",
         "once 8\nmake 1\nmake 2\nmake 3\npoll 1 5\nrun 1 p\npoll 2 7\nrun 2 p\npoll 3 8\nrun 3 p\ndrop 1\ndrop 2\ngo 1 p\ngo 1 p\nrun 2 p\nrun 1 p\n",
-        "made 1\nmade 2\nmade 3\nbegin 1 5\nclaim 1\nran 1 p\nend 1 p\nbegin 2 7\nend 2 p\nbegin 3 8\nend 3 p\ndropbegin 1\ndropbegin 2\ndropend 2\nfree 1 [7 8]\ndropend 1\nqueue 1\n",
+        "made 1\nmade 2\nmade 3\nbegin 1 5\nclaim 1\nran 1 p\nend 1 p\nbegin 2 7\nend 2 p\nbegin 3 8\nend 3 p\ndropbegin 1\ndropbegin 2\ndropend 2\nfree 1 [8]\ndropend 1\nqueue 1\n",
     ),
     (
         "two_drops_at_once_3",
         "once 8\nmake 1\nmake 2\nmake 3\npoll 1 5\nrun 1 p\npoll 2 7\nrun 2 p\npoll 3 8\nrun 3 p\ndrop 1\ndrop 2\ngo 1 p\ngo 1 p\ngo 1 p\nrun 2 p\nrun 1 p\n",
-        "made 1\nmade 2\nmade 3\nbegin 1 5\nclaim 1\nran 1 p\nend 1 p\nbegin 2 7\nend 2 p\nbegin 3 8\nend 3 p\ndropbegin 1\ndropbegin 2\ndropend 2\nfree 1 [7 8]\ndropend 1\nqueue 1\n",
+        "made 1\nmade 2\nmade 3\nbegin 1 5\nclaim 1\nran 1 p\nend 1 p\nbegin 2 7\nend 2 p\nbegin 3 8\nend 3 p\ndropbegin 1\ndropbegin 2\ndropend 2\nfree 1 [8]\ndropend 1\nqueue 1\n",
     ),
     (
         "two_drops_at_once_4",
         "once 8\nmake 1\nmake 2\nmake 3\npoll 1 5\nrun 1 p\npoll 2 7\nrun 2 p\npoll 3 8\nrun 3 p\ndrop 1\ndrop 2\ngo 1 p\ngo 1 p\ngo 1 p\ngo 1 p\nrun 2 p\nrun 1 p\n",
-        "made 1\nmade 2\nmade 3\nbegin 1 5\nclaim 1\nran 1 p\nend 1 p\nbegin 2 7\nend 2 p\nbegin 3 8\nend 3 p\ndropbegin 1\ndropbegin 2\nfree 1 [7 8]\ndropend 2\ndropend 1\nqueue 1\n",
+        "made 1\nmade 2\nmade 3\nbegin 1 5\nclaim 1\nran 1 p\nend 1 p\nbegin 2 7\nend 2 p\nbegin 3 8\nend 3 p\ndropbegin 1\ndropbegin 2\nfree 1 [7]\npass 2 [8]\ndropend 2\ndropend 1\nqueue 1\n",
     ),
     (
         "two_drops_at_once_5",
         "once 8\nmake 1\nmake 2\nmake 3\npoll 1 5\nrun 1 p\npoll 2 7\nrun 2 p\npoll 3 8\nrun 3 p\ndrop 1\ndrop 2\ngo 1 p\ngo 1 p\ngo 1 p\ngo 1 p\ngo 1 p\nrun 2 p\nrun 1 p\n",
-        "made 1\nmade 2\nmade 3\nbegin 1 5\nclaim 1\nran 1 p\nend 1 p\nbegin 2 7\nend 2 p\nbegin 3 8\nend 3 p\ndropbegin 1\ndropbegin 2\nfree 1 [7 8]\ndropend 1\ndropend 2\nqueue 1\n",
+        "made 1\nmade 2\nmade 3\nbegin 1 5\nclaim 1\nran 1 p\nend 1 p\nbegin 2 7\nend 2 p\nbegin 3 8\nend 3 p\ndropbegin 1\ndropbegin 2\nfree 1 [7]\ndropend 1\npass 2 [8]\ndropend 2\nqueue 1\n",
     ),
     (
         "waiter_dropped_between_steps_0",
@@ -110,17 +110,17 @@ pub const DROPS: [(&str, &str, &str); 26] = [
     (
         "waiter_dropped_between_steps_3",
         "once 8\nmake 1\nmake 2\npoll 1 5\nrun 1 p\npoll 2 7\nrun 2 p\npoll 1 5\ngo 1 v4\ngo 1 v4\ngo 1 v4\ndrop 2\nrun 2 p\nrun 1 v4\n",
-        "made 1\nmade 2\nbegin 1 5\nclaim 1\nran 1 p\nend 1 p\nbegin 2 7\nend 2 p\nbegin 1 5\nran 1 v4\ndropbegin 2\ndropend 2\nfill 1 4 [7]\nend 1 v4\nqueue none\n",
+        "made 1\nmade 2\nbegin 1 5\nclaim 1\nran 1 p\nend 1 p\nbegin 2 7\nend 2 p\nbegin 1 5\nran 1 v4\ndropbegin 2\ndropend 2\nfill 1 4 []\nend 1 v4\nqueue none\n",
     ),
     (
         "waiter_dropped_between_steps_4",
         "once 8\nmake 1\nmake 2\npoll 1 5\nrun 1 p\npoll 2 7\nrun 2 p\npoll 1 5\ngo 1 v4\ngo 1 v4\ngo 1 v4\ngo 1 v4\ndrop 2\nrun 2 p\nrun 1 v4\n",
-        "made 1\nmade 2\nbegin 1 5\nclaim 1\nran 1 p\nend 1 p\nbegin 2 7\nend 2 p\nbegin 1 5\nran 1 v4\ndropbegin 2\ndropend 2\nfill 1 4 [7]\nend 1 v4\nqueue none\n",
+        "made 1\nmade 2\nbegin 1 5\nclaim 1\nran 1 p\nend 1 p\nbegin 2 7\nend 2 p\nbegin 1 5\nran 1 v4\ndropbegin 2\ndropend 2\nfill 1 4 []\nend 1 v4\nqueue none\n",
     ),
     (
         "waiter_dropped_between_steps_5",
         "once 8\nmake 1\nmake 2\npoll 1 5\nrun 1 p\npoll 2 7\nrun 2 p\npoll 1 5\ngo 1 v4\ngo 1 v4\ngo 1 v4\ngo 1 v4\ngo 1 v4\ndrop 2\nrun 2 p\nrun 1 v4\n",
-        "made 1\nmade 2\nbegin 1 5\nclaim 1\nran 1 p\nend 1 p\nbegin 2 7\nend 2 p\nbegin 1 5\nran 1 v4\ndropbegin 2\ndropend 2\nfill 1 4 [7]\nend 1 v4\nqueue none\n",
+        "made 1\nmade 2\nbegin 1 5\nclaim 1\nran 1 p\nend 1 p\nbegin 2 7\nend 2 p\nbegin 1 5\nran 1 v4\ndropbegin 2\ndropend 2\nfill 1 4 []\nend 1 v4\nqueue none\n",
     ),
     (
         "waiter_dropped_between_steps_6",

@@ -1,11 +1,16 @@
 //! Polls in turn, and inputs that do not fit.
 
 /// Each scenario: its name, what it reads and what it must print.
-pub const PLAIN: [(&str, &str, &str); 14] = [
+pub const PLAIN: [(&str, &str, &str); 15] = [
     (
         "changed_waker",
         "once 8\nmake 1\nmake 2\npoll 1 5\nrun 1 p\npoll 2 7\nrun 2 p\npoll 2 8\nrun 2 p\npoll 1 5\nrun 1 v3\n",
-        "made 1\nmade 2\nbegin 1 5\nclaim 1\nran 1 p\nend 1 p\nbegin 2 7\nend 2 p\nbegin 2 8\nend 2 p\nbegin 1 5\nran 1 v3\nfill 1 3 [7 8]\nend 1 v3\nqueue 1\n",
+        "made 1\nmade 2\nbegin 1 5\nclaim 1\nran 1 p\nend 1 p\nbegin 2 7\nend 2 p\nbegin 2 8\nend 2 p\nbegin 1 5\nran 1 v3\nfill 1 3 [8]\nend 1 v3\nqueue 1\n",
+    ),
+    (
+        "fill_calls_each_waker_once",
+        "once 8\nmake 1\nmake 2\nmake 3\nmake 4\npoll 1 5\nrun 1 p\npoll 2 7\nrun 2 p\npoll 3 8\nrun 3 p\npoll 4 7\nrun 4 p\npoll 1 5\nrun 1 v4\n",
+        "made 1\nmade 2\nmade 3\nmade 4\nbegin 1 5\nclaim 1\nran 1 p\nend 1 p\nbegin 2 7\nend 2 p\nbegin 3 8\nend 3 p\nbegin 4 7\nend 4 p\nbegin 1 5\nran 1 v4\nfill 1 4 [7 8]\nend 1 v4\nqueue 1\n",
     ),
     (
         "first_poll_finishes",
@@ -15,7 +20,7 @@ pub const PLAIN: [(&str, &str, &str); 14] = [
     (
         "head_holder_fails",
         "once 8\nmake 1\nmake 2\nmake 3\npoll 1 5\nrun 1 p\npoll 2 7\nrun 2 p\npoll 3 8\nrun 3 p\npoll 1 5\nrun 1 e9\npoll 2 7\nrun 2 e4\npoll 3 8\nrun 3 v6\n",
-        "made 1\nmade 2\nmade 3\nbegin 1 5\nclaim 1\nran 1 p\nend 1 p\nbegin 2 7\nend 2 p\nbegin 3 8\nend 3 p\nbegin 1 5\nran 1 e9\nfree 1 [7 8]\nend 1 e9\nbegin 2 7\nclaim 2\nran 2 e4\nfree 2 []\nend 2 e4\nbegin 3 8\nclaim 3\nran 3 v6\nfill 3 6 []\nend 3 v6\nqueue none\n",
+        "made 1\nmade 2\nmade 3\nbegin 1 5\nclaim 1\nran 1 p\nend 1 p\nbegin 2 7\nend 2 p\nbegin 3 8\nend 3 p\nbegin 1 5\nran 1 e9\nfree 1 [7]\nend 1 e9\nbegin 2 7\nclaim 2\nran 2 e4\nfree 2 [8]\nend 2 e4\nbegin 3 8\nclaim 3\nran 3 v6\nfill 3 6 []\nend 3 v6\nqueue none\n",
     ),
     (
         "largest_value",
@@ -40,7 +45,7 @@ pub const PLAIN: [(&str, &str, &str); 14] = [
     (
         "lost_wake",
         "once 8\nmake 1\nmake 2\nmake 3\npoll 1 5\nrun 1 p\npoll 2 7\nrun 2 p\ndrop 2\nrun 2 p\npoll 3 9\ngo 3 p\npoll 1 5\nrun 1 e5\nrun 3 v6\n",
-        "made 1\nmade 2\nmade 3\nbegin 1 5\nclaim 1\nran 1 p\nend 1 p\nbegin 2 7\nend 2 p\ndropbegin 2\ndropend 2\nbegin 3 9\nbegin 1 5\nran 1 e5\nfree 1 []\nend 1 e5\nclaim 3\nran 3 v6\nfill 3 6 [7]\nend 3 v6\nqueue none\n",
+        "made 1\nmade 2\nmade 3\nbegin 1 5\nclaim 1\nran 1 p\nend 1 p\nbegin 2 7\nend 2 p\ndropbegin 2\ndropend 2\nbegin 3 9\nbegin 1 5\nran 1 e5\nfree 1 []\nend 1 e5\nclaim 3\nran 3 v6\nfill 3 6 []\nend 3 v6\nqueue none\n",
     ),
     ("no_task", "once 1\n", "queue none\n"),
     (

@@ -25,7 +25,7 @@ pub const REFUSALS: [(&str, &str, &str); 11] = [
     (
         "listed_by_another_and_no_memory",
         "once 8\nmake 1\nmake 2\nmake 3\npoll 1 5\nrun 1 p\npoll 2 7\ngo 2 p\ngo 2 p\ngo 2 p\ngo 2 p\ngo 2 p\ngo 2 p\npoll 3 7\nrun 3 p\ngo 2 p x\nrun 2 p\n",
-        "made 1\nmade 2\nmade 3\nbegin 1 5\nclaim 1\nran 1 p\nend 1 p\nbegin 2 7\nbegin 3 7\nend 3 p\nend 2 p\nqueue 1\n",
+        "made 1\nmade 2\nmade 3\nbegin 1 5\nclaim 1\nran 1 p\nend 1 p\nbegin 2 7\nbegin 3 7\nend 3 p\nend 2 memory\nqueue 1\n",
     ),
     (
         "queue_refused",
@@ -50,7 +50,7 @@ pub const REFUSALS: [(&str, &str, &str); 11] = [
     (
         "relisted_without_memory",
         "once 8\nmake 1\nmake 2\npoll 1 5\nrun 1 p\npoll 2 7\nrun 2 p\npoll 2 8\ngo 2 p\ngo 2 p\ngo 2 p x\nrun 2 p\npoll 1 5\nrun 1 e9\n",
-        "made 1\nmade 2\nbegin 1 5\nclaim 1\nran 1 p\nend 1 p\nbegin 2 7\nend 2 p\nbegin 2 8\nend 2 memory\nbegin 1 5\nran 1 e9\nfree 1 []\nend 1 e9\nqueue 1\n",
+        "made 1\nmade 2\nbegin 1 5\nclaim 1\nran 1 p\nend 1 p\nbegin 2 7\nend 2 p\nbegin 2 8\nend 2 p\nbegin 1 5\nran 1 e9\nfree 1 [8]\nend 1 e9\nqueue 1\n",
     ),
     (
         "waker_copy_refused",

@@ -1,4 +1,4 @@
-use Rattle.async_once_cell.proofs.Crowded.{memory_met, full_waits}
+use Rattle.async_once_cell.proofs.Law.Crowded.{memory_met, full_waits}
 use Rattle.async_once_cell.proofs.laws.refusals_need_others.Goals as goal
 
 pub returns : goal.returns

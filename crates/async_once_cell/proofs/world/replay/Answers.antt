@@ -1,18 +1,20 @@
 -- What is proved of the machine holds of the replay.
 use Rattle.std.proofs.Common.{◌≡◌, sym, subst, ap, ◌∙◌, arith, take}
 use Rattle.std.proofs.lemmas.Grind.{common_steps}
-use Rattle.async_once_cell.specs.Run.{IsRun}
+use Rattle.async_once_cell.specs.Run.{AtEvery, IsRun}
+use Rattle.async_once_cell.specs.Called.{SomebodyCalled}
 use Rattle.async_once_cell.specs.Inputs.{FallsInto, ends_for_memory}
 use Rattle.async_once_cell.specs.Log.{IsLogOf, IsSound, stands}
 use Rattle.async_once_cell.specs.Machine.{history_of, log_of, queue_of}
 use Rattle.async_once_cell.specs.Shown.{recorded, logged, inputs_in, kind_of, input_of}
-use Rattle.async_once_cell.proofs.Headline.{every_run}
-use Rattle.async_once_cell.proofs.Nobody.{nobody_forgotten}
-use Rattle.async_once_cell.proofs.Values.{one_value}
-use Rattle.async_once_cell.proofs.Logged.{log_sound, log_stands}
-use Rattle.async_once_cell.proofs.Belonging.{belongs}
-use Rattle.async_once_cell.proofs.Ample.{ample_memory}
-use Rattle.async_once_cell.proofs.Asked.{may_take}
+use Rattle.async_once_cell.proofs.Input.Headline.{every_run, one_is_called}
+use Rattle.async_once_cell.proofs.Law.Nobody.{nobody_forgotten}
+use Rattle.async_once_cell.proofs.Law.Called.{waiter_called}
+use Rattle.async_once_cell.proofs.Law.Values.{one_value}
+use Rattle.async_once_cell.proofs.Door.Logged.{log_sound, log_stands}
+use Rattle.async_once_cell.proofs.Part.Belonging.{belongs}
+use Rattle.async_once_cell.proofs.Part.Ample.{ample_memory}
+use Rattle.async_once_cell.proofs.Exactness.Asked.{may_take}
 use Rattle.async_once_cell.proofs.world.replay.Goals as goal
 
 -- the machine may take every input, and so may the replay
@@ -31,6 +33,7 @@ returns c =
     let lines : logged c.into_record.result ≡ log_of K limit inputs = grind (arith, common_steps) in
     let door : c.into_record.result.queue ≡ queue_of K limit inputs = grind (arith, common_steps) in
     let run = subst (IsRun K limit) (sym exact) (every_run K limit inputs some) in
+    let called = subst (AtEvery (SomebodyCalled K)) (sym exact) (one_is_called K limit inputs some) in
     let b = belongs K limit inputs some in
     record {
       exact = exact;
@@ -38,6 +41,8 @@ returns c =
       exact_queue = door;
       run = run;
       nobody_forgotten = nobody_forgotten K limit (recorded c.into_record.result) run;
+      one_is_called = called;
+      idle = waiter_called K (recorded c.into_record.result) called;
       one_value = one_value K limit (recorded c.into_record.result) run;
       belongs = (b.0, subst (λ h. FallsInto K inputs h b.0) (sym exact) b.1, subst (λ l. IsLogOf K l b.0) (sym lines) b.2);
       ample = λ granted t. ap (ends_for_memory t) exact ∙ ample_memory K limit inputs t some granted;

@@ -1,5 +1,16 @@
--- Room changes no waker.
+-- Room changes no listing and no mark.
 use Rattle.async_once_cell.proofs.queue.Lists.reserve.Goals as goal
 
 pub invariant_of-self : goal.invariant_of-self
-invariant_of-self g c = record { apart = rw c.reserve.ensures.items c.args.self.now.apart }
+invariant_of-self g c =
+    let lists = c.args.self.now in
+    record { once = rw c.reserve.ensures.items lists.once; marks = rw c.reserve.ensures.items lists.marks; apart = rw c.reserve.ensures.items lists.apart }
+
+pub invariant_of-self-2 : goal.invariant_of-self-2
+invariant_of-self-2 g c =
+    let lists = c.args.self.now in
+    record {
+      once = rw c.reserve.ensures.items lists.once;
+      marks = rw (c.reserve.ensures.items, c.reserve-2.ensures.items) lists.marks;
+      apart = rw c.reserve.ensures.items lists.apart;
+    }

@@ -5,8 +5,8 @@ use Rattle.std.proofs.lemmas.Grind.{common_steps}
 use Rattle.async_once_cell.specs.Core.{CoreState, state_of}
 use Rattle.async_once_cell.specs.Machine.{Inner, Outcome, advance as outcome, step_lines}
 use Rattle.async_once_cell.specs.Steps.{left_of}
-use Rattle.async_once_cell.proofs.Outcomes.{inner_by, is_freed}
-use Rattle.async_once_cell.proofs.Exact.{advance_exact}
+use Rattle.async_once_cell.proofs.Exactness.Outcomes.{inner_by, is_freed}
+use Rattle.async_once_cell.proofs.Exactness.Exact.{advance_exact}
 use Rattle.async_once_cell.proofs.world.play.Shared.advance.Goals as goal
 use Rattle.async_once_cell.proofs.world.play.Shared.advance.Goals.{then-before-eq-FAST, else-before-eq-FAST}
 
@@ -29,7 +29,7 @@ returns c =
       step = λ t. x.step t ∙ ap (λ i. (told_by i t).step) same;
       kept = λ t. x.kept t ∙ ap (λ i. (told_by i t).kept) same;
       waker = refl;
-      seen = λ t. rw (c.is_running.ensures, c.take.ensures.value, c.take-2.ensures.value, freed) (x.told t ∙ ap (λ i. (told_by i t).entries) same);
+      seen = λ t. rw (c.is_running.ensures, c.is_leaving-leaving.ensures, c.take.ensures.value, c.take-2.ensures.value, freed) (x.told t ∙ ap (λ i. (told_by i t).entries) same);
       log = x.log ∙ ap (λ s. step_lines c.args.granted (inner_by s c.args.self.now.script) c.args.task.now.step ++ reverse s.log) state;
       lazy = x.lazy_is;
     }

@@ -4,7 +4,7 @@ use Rattle.std.specs.BTreeMap.{get}
 use Rattle.std.proofs.lemmas.Grind.{common_steps}
 use Rattle.async_once_cell.specs.Steps.{is_resting, in_call}
 use Rattle.async_once_cell.specs.Shown.{world_in, inner_of}
-use Rattle.async_once_cell.proofs.Worlds.{tasks_written, dropped_world, drop_goes_on, drop_ends}
+use Rattle.async_once_cell.proofs.Exactness.Worlds.{tasks_written, dropped_world, drop_goes_on, drop_ends}
 use Rattle.async_once_cell.proofs.world.play.World.begin_drop.Goals as goal
 
 pub returns-in_ok-push-2-clause-world : goal.returns-in_ok-push-2-clause-world

@@ -5,7 +5,7 @@ use Rattle.std.proofs.lemmas.Result.{on_ok_weaker}
 use Rattle.async_once_cell.specs.Steps.{in_call}
 use Rattle.async_once_cell.specs.Machine.{Inner, Outcome, advance, unfinished_after, step_lines}
 use Rattle.async_once_cell.specs.Shown.{world_in, inner_of, history_in, log_in}
-use Rattle.async_once_cell.proofs.Worlds.{tasks_written, stepped_world}
+use Rattle.async_once_cell.proofs.Exactness.Worlds.{tasks_written, stepped_world}
 use Rattle.async_once_cell.proofs.world.play.World.go.Goals as goal
 
 pub returns-clause-world : goal.returns-clause-world

@@ -4,7 +4,7 @@ use Rattle.std.specs.BTreeMap.{get}
 use Rattle.std.proofs.lemmas.Grind.{common_steps}
 use Rattle.async_once_cell.specs.Steps.{is_resting}
 use Rattle.async_once_cell.specs.Shown.{world_in}
-use Rattle.async_once_cell.proofs.Worlds.{tasks_written, begun_world}
+use Rattle.async_once_cell.proofs.Exactness.Worlds.{tasks_written, begun_world}
 use Rattle.async_once_cell.proofs.world.play.World.poll.Goals as goal
 
 pub returns-clause-world : goal.returns-clause-world

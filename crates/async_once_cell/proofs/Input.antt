@@ -1,0 +1,8 @@
+-- Each input keeps the invariant, so every record is a run.
+pub mod Gone
+pub mod Owner
+pub mod Moments
+pub mod Begins
+pub mod Advances
+pub mod Makes
+pub mod Headline

@@ -1,0 +1,10 @@
+-- What follows of a run alone.
+pub mod Passed
+pub mod Unmade
+pub mod Nobody
+pub mod Called
+pub mod Rights
+pub mod First
+pub mod Crowded
+pub mod Values
+pub mod Wakes

@@ -1,0 +1,13 @@
+-- Lists of numbers and of listings.
+pub mod Members
+pub mod Counting
+pub mod Tickets
+pub mod Uncalled
+pub mod AllOther
+pub mod Repeats
+pub mod Marked
+pub mod Least
+pub mod Handed
+pub mod Listings
+pub mod CalledFirst
+pub mod AllOut

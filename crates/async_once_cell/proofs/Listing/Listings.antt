@@ -1,0 +1,103 @@
+-- Lists of listings: what is found by a ticket, and how many have a waker.
+use Rattle.std.proofs.Common.{◌≡◌, ◌≢◌, ◌≤◌, ◌<◌, ◌+◌, ℕ, zero, suc, Bool, true, false, cond, ◌==◌, List, [], ◌∷◌, ◌++◌, Option, Some, None, refl, arith}
+use Rattle.std.proofs.lemmas.Bool.{ne_eqb}
+use Rattle.std.proofs.lemmas.Bool.Decides.{nat_tests}
+use Rattle.async_once_cell.specs.Numbers.{bit, member, times}
+use Rattle.async_once_cell.specs.Listings.{Listing, above, call_by, call_first, find_listing, first_by, first_waker, least_from, new_ticket, one_out, take_out, tickets}
+
+abbrev pub is_for : ℕ → Option ℕ → Bool
+is_for w None = false
+is_for w (Some k) = k == w
+
+-- how many listings have the waker
+abbrev pub asks : ℕ → List (Listing ℕ) → ℕ
+asks w [] = 0
+asks w (x ∷ xs) = bit (is_for w x.waker) + asks w xs
+
+-- what is found after a listing was taken out
+pub find_take_other : (n m : ℕ) (xs : List (Listing ℕ)) → m ≢ n → find_listing n (take_out m xs) ≡ find_listing n xs
+find_take_other n m [] d = refl
+find_take_other n m (x ∷ xs) d = grind (arith, nat_tests, find_take_other n m xs)
+
+pub find_take_same : (n : ℕ) (xs : List (Listing ℕ)) → find_listing n (take_out n xs) ≡ None
+find_take_same n [] = refl
+find_take_same n (x ∷ xs) = grind (arith, nat_tests, find_take_same n xs)
+
+-- what is found after one was put to the end
+pub find_push_other : (n m : ℕ) (k : Option ℕ) (xs : List (Listing ℕ)) → m ≢ n → find_listing n (xs ++ record { ticket = m; waker = k } ∷ []) ≡ find_listing n xs
+find_push_other n m k [] d = grind (arith, nat_tests)
+find_push_other n m k (x ∷ xs) d = grind (arith, nat_tests, find_push_other n m k xs d)
+
+pub find_push_same : (n : ℕ) (k : Option ℕ) (xs : List (Listing ℕ)) → find_listing n xs ≡ None → find_listing n (xs ++ record { ticket = n; waker = k } ∷ []) ≡ Some k
+find_push_same n k [] e = grind (arith, nat_tests)
+find_push_same n k (x ∷ xs) e = grind (arith, nat_tests, find_push_same n k xs)
+
+-- how many have the waker after the same
+pub asks_take : (w n : ℕ) (xs : List (Listing ℕ)) → asks w (take_out n xs) ≤ asks w xs
+asks_take w n [] = omega arith
+asks_take w n (x ∷ xs) = let ih = asks_take w n xs in grind arith
+
+pub asks_push : (w : ℕ) (x : Listing ℕ) (xs : List (Listing ℕ)) → asks w (xs ++ x ∷ []) ≡ asks w xs + bit (is_for w x.waker)
+asks_push w x [] = omega arith
+asks_push w x (y ∷ xs) = let ih = asks_push w x xs in omega arith
+
+for_self : (w : ℕ) (o : Option ℕ) → o ≡ Some w → bit (is_for w o) ≡ 1
+for_self w (Some k) e = grind (arith, nat_tests)
+for_self w None e = grind arith
+
+found_by : (n w : ℕ) (x : Listing ℕ) (xs : List (Listing ℕ)) (b : Bool) → (x.ticket == n) ≡ b → find_listing n (x ∷ xs) ≡ Some (Some w) → (find_listing n xs ≡ Some (Some w) → 0 < asks w xs) → 0 < asks w (x ∷ xs)
+found_by n w x xs true is e ih = let k : x.waker ≡ Some w = grind arith in let one = for_self w x.waker k in omega arith
+found_by n w x xs false is e ih = let k : find_listing n xs ≡ Some (Some w) = grind arith in let l = ih k in omega arith
+
+-- a listing that is found with a waker is one that has it
+pub asks_found : (n w : ℕ) (xs : List (Listing ℕ)) → find_listing n xs ≡ Some (Some w) → 0 < asks w xs
+asks_found n w [] e = grind arith
+asks_found n w (x ∷ xs) e = found_by n w x xs (x.ticket == n) refl e (asks_found n w xs)
+
+asks_call_by : (w : ℕ) (x : Listing ℕ) (xs : List (Listing ℕ)) (o : Option ℕ) → x.waker ≡ o → asks w (call_first xs) + times w (one_out (first_waker xs)) ≡ asks w xs
+    → asks w (call_by x o xs (call_first xs)) + times w (one_out (first_by o (first_waker xs))) ≡ bit (is_for w o) + asks w xs
+asks_call_by w x xs (Some k) is ih = omega arith
+asks_call_by w x xs None is ih = let z : bit (is_for w x.waker) ≡ 0 = rw is refl in omega arith
+
+-- the call of the first hands out what it takes away
+pub asks_call : (w : ℕ) (xs : List (Listing ℕ)) → asks w (call_first xs) + times w (one_out (first_waker xs)) ≡ asks w xs
+asks_call w [] = refl
+asks_call w (x ∷ xs) = asks_call_by w x xs x.waker refl (asks_call w xs)
+
+first_asks_by : (w : ℕ) (o rest : Option ℕ) (m : ℕ) → first_by o rest ≡ None → (rest ≡ None → m ≡ 0) → bit (is_for w o) + m ≡ 0
+first_asks_by w (Some k) rest m e ih = grind arith
+first_asks_by w None rest m e ih = let z = ih e in omega arith
+
+-- where no listing has a waker
+pub first_asks : (w : ℕ) (xs : List (Listing ℕ)) → first_waker xs ≡ None → asks w xs ≡ 0
+first_asks w [] e = refl
+first_asks w (x ∷ xs) e = first_asks_by w x.waker (first_waker xs) (asks w xs) e (first_asks w xs)
+
+pub none_found : (n w : ℕ) (xs : List (Listing ℕ)) → first_waker xs ≡ None → find_listing n xs ≡ Some (Some w) → ⊥
+none_found n w xs e f = let l = asks_found n w xs f in let z = first_asks w xs e in omega arith
+
+-- a ticket that no listing has finds none
+pub no_ticket : (n : ℕ) (xs : List (Listing ℕ)) → member n (tickets xs) ≡ false → find_listing n xs ≡ None
+no_ticket n [] e = refl
+no_ticket n (x ∷ xs) e = grind (arith, nat_tests, no_ticket n xs)
+
+-- one that finds a listing stands in the list
+pub found_ticket : (n : ℕ) (o : Option ℕ) (xs : List (Listing ℕ)) → find_listing n xs ≡ Some o → member n (tickets xs) ≡ true
+found_ticket n o [] e = grind arith
+found_ticket n o (x ∷ xs) e = grind (arith, nat_tests, found_ticket n o xs)
+
+above_all : (n : ℕ) (ns : List ℕ) → above ns ≤ n → member n ns ≡ false
+above_all n [] l = refl
+above_all n (x ∷ xs) l = let ih = above_all n xs in let d : (x == n) ≡ false = ne_eqb x n (λ e. omega arith) in rw d (ih (omega arith))
+
+least_by : (f n : ℕ) (ns : List ℕ) (b : Bool) → member n ns ≡ b → member (least_from f (suc n) ns) ns ≡ false → member (cond b (least_from f (suc n) ns) n) ns ≡ false
+least_by f n ns true m ih = ih
+least_by f n ns false m ih = m
+
+least_fresh : (f n : ℕ) (ns : List ℕ) → above ns ≤ n + f → member (least_from f n ns) ns ≡ false
+least_fresh zero n ns l = above_all n ns (omega arith)
+least_fresh (suc f) n ns l = least_by f n ns (member n ns) refl (least_fresh f (suc n) ns (omega arith))
+
+-- a new ticket stands in no listing
+pub new_fresh : (xs : List (Listing ℕ)) → member (new_ticket xs) (tickets xs) ≡ false
+new_fresh xs = least_fresh (above (tickets xs)) 0 (tickets xs) (omega arith)

@@ -1,0 +1,10 @@
+-- Record and log fall into parts, one for each input.
+pub mod Adds
+pub mod Tells
+pub mod Needs
+pub mod Apart
+pub mod Budget
+pub mod Beginnings
+pub mod Told
+pub mod Belonging
+pub mod Ample

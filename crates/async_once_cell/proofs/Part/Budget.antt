@@ -1,0 +1,100 @@
+-- The part of one input: what it adds to the record and to the log, and what it changes for each task.
+use Rattle.std.proofs.Common.{◌≡◌, ◌≤◌, ◌+◌, ℕ, Bool, true, false, ◌==◌, ◌⊎◌, inl, ⊎_elim, List, [], ◌++◌, refl, sym, ap, ◌∙◌, arith}
+use Rattle.std.proofs.lemmas.Bool.{false≢true, cases_eq, ne_eqb, eq-eqb}
+use Rattle.async_once_cell.specs.Record.{Entry, Kind}
+use Rattle.async_once_cell.specs.Inputs.{Adds, Input, begins_call, ends_for_memory, gos_after, is_fitting_go, is_ungranted, ungranted_after}
+use Rattle.async_once_cell.specs.Log.{AddsLines}
+use Rattle.async_once_cell.specs.Machine.{AtAddOne, AtCountIn, AtCountOut, AtDoorAgain, AtDoorGet, AtDoorPut, AtDoorTake, AtFast, AtLeave, AtList, AtLook, AtPut, AtRelease, AtRun, AtStart, AtTryQuick, AtWaitLoad, Finished, Place, QueueLine, Resting, Step, Task, UnderWay, World, in_call, left_at, left_of}
+use Rattle.async_once_cell.proofs.Invariant.Fits.{step_of}
+use Rattle.async_once_cell.proofs.Invariant.Moves.{Puts}
+use Rattle.async_once_cell.proofs.Part.Tells.{is_refused}
+
+-- a place has sixteen steps left at most
+left_most_at : (p : Place ℕ ℕ) → left_at p ≤ 16
+left_most_at AtStart = omega arith
+left_most_at AtTryQuick = omega arith
+left_most_at AtDoorGet = omega arith
+left_most_at AtDoorPut = omega arith
+left_most_at (AtCountIn q) = omega arith
+left_most_at (AtWaitLoad q n) = omega arith
+left_most_at (AtLook q n) = omega arith
+left_most_at (AtList q n w) = omega arith
+left_most_at (AtRun by) = omega arith
+left_most_at (AtPut by) = omega arith
+left_most_at (AtFast e) = omega arith
+left_most_at (AtAddOne e) = omega arith
+left_most_at (AtDoorAgain e) = omega arith
+left_most_at (AtRelease q e) = omega arith
+left_most_at (AtLeave q n e) = omega arith
+left_most_at (AtCountOut e) = omega arith
+left_most_at (AtDoorTake e) = omega arith
+
+-- so has each step
+left_most : (s : Step ℕ ℕ) → left_of s ≤ 16
+left_most (UnderWay p) = left_most_at p
+left_most (Resting r) = omega arith
+left_most Finished = omega arith
+
+-- n fitting steps and what is left make sixteen at most; a call that will be refused met a step without memory
+pub record Budget (n : ℕ) (u : Bool) (s : Step ℕ ℕ) : Type 0 where
+  pub steps : in_call s ≡ true → n + left_of s ≤ 16
+  pub refused : is_refused s ≡ true → u ≡ true
+
+-- the part of one input
+pub record HasPart (K : Kind) (w w' : World) (i : Input) : Type 0 where
+  pub entries : List Entry
+  pub lines : List QueueLine
+  pub history_is : w'.history ≡ entries ++ w.history
+  pub log_is : w'.log ≡ lines ++ w.log
+  pub adds : Adds K i w.history entries
+  pub adds_lines : AddsLines K i w.history entries w.log lines
+  pub budget : (t n : ℕ) (u : Bool) → Budget n u (step_of (w.tasks t)) → Budget (gos_after (begins_call t entries) (is_fitting_go K t i w.history) n) (ungranted_after (begins_call t entries) (is_fitting_go K t i w.history) (is_ungranted i) u) (step_of (w'.tasks t))
+  pub memory : (t n : ℕ) (u : Bool) → Budget n u (step_of (w.tasks t)) → ends_for_memory t entries ≡ true → ungranted_after (begins_call t entries) (is_fitting_go K t i w.history) (is_ungranted i) u ≡ true
+
+-- no call is under way, and none is refused
+abbrev IsIdle : Step ℕ ℕ → Type 0
+IsIdle s = (in_call s ≡ false) × (is_refused s ≡ false)
+
+-- an idle task keeps within every budget
+idle_budget : (n : ℕ) (u : Bool) (s : Step ℕ ℕ) → IsIdle s → Budget n u s
+idle_budget n u s i = record { steps = λ e. absurd (false≢true (sym i.0 ∙ e)); refused = λ e. absurd (false≢true (sym i.1 ∙ e)) }
+
+-- an input by which no call begins and no step is made
+pub quiet_part : (K : Kind) (w w' : World) (i : Input) (entries : List Entry) (lines : List QueueLine) → w'.history ≡ entries ++ w.history → w'.log ≡ lines ++ w.log → Adds K i w.history entries → AddsLines K i w.history entries w.log lines
+    → ((t : ℕ) → begins_call t entries ≡ false) → ((t : ℕ) → is_fitting_go K t i w.history ≡ false) → ((t : ℕ) → ends_for_memory t entries ≡ false)
+    → ((t : ℕ) → (step_of (w'.tasks t) ≡ step_of (w.tasks t)) ⊎ IsIdle (step_of (w'.tasks t))) → HasPart K w w' i
+quiet_part K w w' i entries lines h g a l b f m s = record {
+  entries = entries;
+  lines = lines;
+  history_is = h;
+  log_is = g;
+  adds = a;
+  adds_lines = l;
+  budget = λ t n u x. rw (b t, f t) (⊎_elim (λ e. rw e x) (λ e. idle_budget n u (step_of (w'.tasks t)) e) (s t));
+  memory = λ t n u x e. absurd (false≢true (sym (m t) ∙ e));
+}
+
+-- an input that does not fit
+pub nothing : (K : Kind) (w : World) (i : Input) → Adds K i w.history [] → AddsLines K i w.history [] w.log [] → ((t : ℕ) → is_fitting_go K t i w.history ≡ false) → HasPart K w w i
+nothing K w i a l f = quiet_part K w w i [] [] refl refl a l (λ t. refl) f (λ t. refl) (λ t. inl refl)
+
+-- a call that just began is within its budget
+begun_budget : (s : Step ℕ ℕ) → is_refused s ≡ false → Budget 0 false s
+begun_budget s r = record { steps = λ e. let l = left_most s in omega arith; refused = λ e. absurd (false≢true (sym r ∙ e)) }
+
+-- an input by which a call of t begins, y being the task then
+pub begin_part : (K : Kind) (w w' : World) (i : Input) (t : ℕ) (y : Task) (entries : List Entry) → Puts t y w.tasks w'.tasks → w'.history ≡ entries ++ w.history → w'.log ≡ w.log → Adds K i w.history entries → AddsLines K i w.history entries w.log []
+    → ((v : ℕ) → begins_call v entries ≡ (t == v)) → ((v : ℕ) → is_fitting_go K v i w.history ≡ false) → ((v : ℕ) → ends_for_memory v entries ≡ false) → is_refused y.step ≡ false → HasPart K w w' i
+begin_part K w w' i t y entries p h g a l b f m r = record {
+  entries = entries;
+  lines = [];
+  history_is = h;
+  log_is = g;
+  adds = a;
+  adds_lines = l;
+  budget = λ v n u z. ⊎_elim
+      (λ e. rw (b v, eq-eqb t v e) (rw (ap w'.tasks (sym e) ∙ p.there) (begun_budget y.step r)))
+      (λ d. rw (b v, ne_eqb t v d, f v) (rw (p.others v d) z))
+      (cases_eq t v);
+  memory = λ v n u z e. absurd (false≢true (sym (m v) ∙ e));
+}

@@ -1,0 +1,10 @@
+-- One lemma a place: its step pays what it owes.
+pub mod Builders
+pub mod Inners
+pub mod Waits
+pub mod Relisted
+pub mod Sections
+pub mod Holds
+pub mod Frees
+pub mod Releases
+pub mod Leaves

@@ -1,0 +1,231 @@
+//! Schedules at random, from a seed: which task does what next.
+
+use crate::doubles::Note;
+use crate::pair::{Fault, Pair, Seen, Stage};
+use async_once_cell::inner::Out;
+use async_once_cell::step::{Ending, Polled, Progress};
+use rand_core::{Rng, SeedableRng};
+use rand_xoshiro::Xoshiro256PlusPlus;
+use std::alloc::AllocGlobal;
+use std::fmt;
+use std::sync::Wait;
+
+// How many tasks there are at once.
+const TASKS: usize = 4;
+
+/// What a schedule came to.
+#[derive(Clone, Copy, Debug, PartialEq, Eq)]
+pub struct Tally {
+    pub steps: u64,
+    /// How often the value was set, with the listings of the queue handed out.
+    pub fills: u64,
+    /// How often a failure, or a holder that was dropped, called one who waits.
+    pub calls: u64,
+    /// How often one who was called left, and passed its turn on.
+    pub passes: u64,
+    /// How many polls ended for want of memory, and for want of room.
+    pub refusals: u64,
+    pub full: u64,
+    /// How often the owner put a new cell in place of the one before.
+    pub renewals: u64,
+}
+
+impl Tally {
+    fn new() -> Tally {
+        Tally {
+            steps: 0,
+            fills: 0,
+            calls: 0,
+            passes: 0,
+            refusals: 0,
+            full: 0,
+            renewals: 0,
+        }
+    }
+
+    // Counts a step, which was one that takes a listing out or not.
+    fn count(&mut self, seen: &Seen, was_leaving: bool) {
+        raise(&mut self.steps);
+        match seen.progress {
+            Progress::Ended(Ending::Memory) => raise(&mut self.refusals),
+            Progress::Ended(Ending::Full) => raise(&mut self.full),
+            _ => {}
+        }
+        for note in &seen.notes {
+            match note {
+                Note::Woke(Out::All(_)) => raise(&mut self.fills),
+                Note::Woke(Out::One(Some(_))) if was_leaving => raise(&mut self.passes),
+                Note::Woke(Out::One(Some(_))) => raise(&mut self.calls),
+                _ => {}
+            }
+        }
+    }
+}
+
+impl fmt::Display for Tally {
+    fn fmt<W: fmt::Write>(&self, f: &mut fmt::Formatter<W>) -> fmt::Result {
+        write!(
+            f,
+            "{} steps, {} fills, {} calls, {} passes, {} refusals, {} full, {} renewals",
+            self.steps, self.fills, self.calls, self.passes, self.refusals, self.full, self.renewals
+        )
+    }
+}
+
+fn raise(count: &mut u64) {
+    *count = count.saturating_add(1);
+}
+
+// How often something happens while one cell lasts: once in so many times.
+#[derive(Clone, Copy)]
+struct Odds {
+    drop: u64,
+    value: u64,
+    error: u64,
+    refusal: u64,
+    end: u64,
+    /// How many steps a task makes at most before another's turn.
+    steps: u64,
+}
+
+/// A schedule under way. Its tasks are polled, dropped and driven on one step at a time. From time to
+/// time, and soon once the value is set, all of them are dropped, and the owner makes a new cell.
+#[derive(Drop)]
+struct Schedule<'r, R> {
+    rng: Xoshiro256PlusPlus,
+    pair: Pair<'r, R>,
+    // The number of the task at each of the places, and the next number.
+    tasks: [u64; TASKS],
+    next: u64,
+    odds: Odds,
+    // Whether all tasks are to go.
+    is_ending: bool,
+    tally: Tally,
+}
+
+impl<'r, R: Wait + AllocGlobal> Schedule<'r, R> {
+    fn new(rt: &'r R, seed: u64) -> Schedule<'r, R> {
+        Schedule {
+            rng: Xoshiro256PlusPlus::seed_from_u64(seed),
+            pair: Pair::new(rt, 8),
+            tasks: [1, 2, 3, 4],
+            next: 5,
+            odds: Odds {
+                drop: 4,
+                value: 16,
+                error: 4,
+                refusal: 8,
+                end: 200,
+                steps: 4,
+            },
+            is_ending: false,
+            tally: Tally::new(),
+        }
+    }
+
+    // A number below this one, which is not 0.
+    fn draw(&mut self, below: u64) -> u64 {
+        self.rng.next_u64().checked_rem(below).unwrap_or(0)
+    }
+
+    // One of so many numbers, of which this is the least.
+    fn draw_from(&mut self, least: u64, many: u64) -> u64 {
+        least.saturating_add(self.draw(many))
+    }
+
+    fn happens(&mut self, once_in: u64) -> bool {
+        self.draw(once_in) == 0
+    }
+
+    // Some task does something.
+    fn turn(&mut self) -> Result<(), Fault> {
+        let once_in = if self.pair.is_set() { 8 } else { self.odds.end };
+        if self.happens(once_in) {
+            self.is_ending = true;
+        }
+        let place = self.draw(TASKS as u64) as usize;
+        let Some(t) = self.tasks.get(place).copied() else {
+            return Ok(());
+        };
+        match self.pair.stage(t) {
+            Stage::Unknown => self.begin(t),
+            Stage::Resting => self.call(t),
+            Stage::Calling => self.step(t),
+            Stage::Finished => {
+                self.pair.forget(t);
+                self.tasks[place] = self.next;
+                raise(&mut self.next);
+                Ok(())
+            }
+        }
+    }
+
+    // Makes a task. Where all are to go, and are gone, the owner makes a new cell.
+    fn begin(&mut self, t: u64) -> Result<(), Fault> {
+        if !self.is_ending {
+            return self.pair.make(t);
+        }
+        if self.pair.is_empty() {
+            let (is_set, limit) = (self.happens(8), self.draw_from(1, 8));
+            self.pair.renew(is_set, limit);
+            raise(&mut self.tally.renewals);
+            self.is_ending = false;
+            self.draw_odds();
+        }
+        Ok(())
+    }
+
+    fn draw_odds(&mut self) {
+        self.odds = Odds {
+            drop: self.draw_from(2, 8),
+            value: self.draw_from(8, 24),
+            error: self.draw_from(1, 6),
+            refusal: self.draw_from(2, 32),
+            end: self.draw_from(50, 400),
+            steps: self.draw_from(1, 8),
+        };
+    }
+
+    // Begins a call of a task that rests. Wakers are few, so that tasks have the same.
+    fn call(&mut self, t: u64) -> Result<(), Fault> {
+        if self.is_ending || self.happens(self.odds.drop) {
+            return self.pair.begin_drop(t);
+        }
+        let waker = self.draw_from(5, 4);
+        self.pair.poll(t, waker);
+        Ok(())
+    }
+
+    // Makes steps of a call, until it ends or they are enough.
+    fn step(&mut self, t: u64) -> Result<(), Fault> {
+        for _ in 0..=self.draw(self.odds.steps) {
+            let was_leaving = self.pair.is_leaving(t);
+            let (answer, is_granted) = (self.answer(), !self.happens(self.odds.refusal));
+            let Some(seen) = self.pair.go(t, answer, is_granted)? else {
+                break;
+            };
+            self.tally.count(&seen, was_leaving);
+        }
+        Ok(())
+    }
+
+    // What the init answers where it is polled.
+    fn answer(&mut self) -> Polled {
+        if self.happens(self.odds.value) {
+            Polled::Value
+        } else if self.happens(self.odds.error) {
+            Polled::Error
+        } else {
+            Polled::Pending
+        }
+    }
+}
+
+/// Plays so many turns of the schedule of a seed, and tells what they came to.
+pub fn play<R: Wait + AllocGlobal>(rt: &R, seed: u64, turns: u64) -> Result<Tally, Fault> {
+    let mut schedule = Schedule::new(rt, seed);
+    for _ in 0..turns {
+        schedule.turn()?;
+    }
+    Ok(schedule.tally)
+}
