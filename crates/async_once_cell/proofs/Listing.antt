@@ -3,8 +3,8 @@ pub mod Members
 pub mod Counting
 pub mod Tickets
 pub mod Uncalled
-pub mod AllOther
 pub mod Repeats
+pub mod AllOther
 pub mod Marked
 pub mod Least
 pub mod Handed

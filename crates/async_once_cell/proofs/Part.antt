@@ -3,6 +3,7 @@ pub mod Adds
 pub mod Tells
 pub mod Needs
 pub mod Apart
+pub mod Left
 pub mod Budget
 pub mod Beginnings
 pub mod Told

@@ -7,6 +7,7 @@ use Rattle.std.proofs.lemmas.List.{get_or-set_other, get_or-set_same, length-set
 use Rattle.std.proofs.lemmas.List.Quantifiers.{all_pairs_push}
 use Rattle.async_once_cell.specs.Listings.{Listing, wakers_by}
 use Rattle.async_once_cell.specs.Sections.{AreApart, HandsAll, HandsBy, IsOther}
+use Rattle.async_once_cell.proofs.Listing.Repeats.{other_by}
 
 module _ {W : Type 0} (other : W → W → Type 0) where
   -- nothing is asked of a listing that was called
@@ -49,13 +50,8 @@ module _ {W : Type 0} (same other : W → W → Type 0) where
   hands_by (Some w) seen new = inr (refl, new)
   hands_by None seen new = refl
 
-  seen_by : (v w : W) (seen : List W) → other v w → IsOther other w seen → IsOther other w (v ∷ seen)
-  seen_by v w seen o rest zero d l = o
-  seen_by v w seen o rest (suc k) d l = rest k d (omega arith)
-
   new_by : (o p : Option W) (seen : List W) → IfSome p (λ w. IfSome o (λ v. other v w)) → IfSome p (λ w. IsOther other w seen) → IfSome p (λ w. IsOther other w (wakers_by o seen))
-  new_by (Some v) (Some w) seen apart new = seen_by v w seen apart new
-  new_by None (Some w) seen apart new = new
+  new_by o (Some w) seen apart new = other_by other w o seen apart new
   new_by o None seen apart new = tt
 
   hands_new : (xs : List (Listing W)) (seen : List W) → AllPairs (AreApart other) xs → AreNew seen xs → HandsAll same other seen xs xs

@@ -1,9 +1,9 @@
 -- Lists of listings: what is found by a ticket, and how many have a waker.
 use Rattle.std.proofs.Common.{◌≡◌, ◌≢◌, ◌≤◌, ◌<◌, ◌+◌, ℕ, zero, suc, Bool, true, false, cond, ◌==◌, List, [], ◌∷◌, ◌++◌, Option, Some, None, refl, arith}
-use Rattle.std.proofs.lemmas.Bool.{ne_eqb}
 use Rattle.std.proofs.lemmas.Bool.Decides.{nat_tests}
 use Rattle.async_once_cell.specs.Numbers.{bit, member, times}
-use Rattle.async_once_cell.specs.Listings.{Listing, above, call_by, call_first, find_listing, first_by, first_waker, least_from, new_ticket, one_out, take_out, tickets}
+use Rattle.async_once_cell.specs.Listings.{Listing, call_by, call_first, find_listing, first_by, first_waker, new_ticket, one_out, take_out, tickets}
+use Rattle.async_once_cell.proofs.Listing.Least.{least_new}
 
 abbrev pub is_for : ℕ → Option ℕ → Bool
 is_for w None = false
@@ -76,28 +76,6 @@ first_asks w (x ∷ xs) e = first_asks_by w x.waker (first_waker xs) (asks w xs)
 pub none_found : (n w : ℕ) (xs : List (Listing ℕ)) → first_waker xs ≡ None → find_listing n xs ≡ Some (Some w) → ⊥
 none_found n w xs e f = let l = asks_found n w xs f in let z = first_asks w xs e in omega arith
 
--- a ticket that no listing has finds none
-pub no_ticket : (n : ℕ) (xs : List (Listing ℕ)) → member n (tickets xs) ≡ false → find_listing n xs ≡ None
-no_ticket n [] e = refl
-no_ticket n (x ∷ xs) e = grind (arith, nat_tests, no_ticket n xs)
-
--- one that finds a listing stands in the list
-pub found_ticket : (n : ℕ) (o : Option ℕ) (xs : List (Listing ℕ)) → find_listing n xs ≡ Some o → member n (tickets xs) ≡ true
-found_ticket n o [] e = grind arith
-found_ticket n o (x ∷ xs) e = grind (arith, nat_tests, found_ticket n o xs)
-
-above_all : (n : ℕ) (ns : List ℕ) → above ns ≤ n → member n ns ≡ false
-above_all n [] l = refl
-above_all n (x ∷ xs) l = let ih = above_all n xs in let d : (x == n) ≡ false = ne_eqb x n (λ e. omega arith) in rw d (ih (omega arith))
-
-least_by : (f n : ℕ) (ns : List ℕ) (b : Bool) → member n ns ≡ b → member (least_from f (suc n) ns) ns ≡ false → member (cond b (least_from f (suc n) ns) n) ns ≡ false
-least_by f n ns true m ih = ih
-least_by f n ns false m ih = m
-
-least_fresh : (f n : ℕ) (ns : List ℕ) → above ns ≤ n + f → member (least_from f n ns) ns ≡ false
-least_fresh zero n ns l = above_all n ns (omega arith)
-least_fresh (suc f) n ns l = least_by f n ns (member n ns) refl (least_fresh f (suc n) ns (omega arith))
-
 -- a new ticket stands in no listing
 pub new_fresh : (xs : List (Listing ℕ)) → member (new_ticket xs) (tickets xs) ≡ false
-new_fresh xs = least_fresh (above (tickets xs)) 0 (tickets xs) (omega arith)
+new_fresh xs = least_new (tickets xs)

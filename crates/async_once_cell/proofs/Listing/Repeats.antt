@@ -40,7 +40,8 @@ module _ {W : Type 0} (other : W → W → Type 0) (w : W) where
   other_more v seen o rest zero d l = o
   other_more v seen o rest (suc k) d l = rest k d (omega arith)
 
-  other_by : (o : Option W) (seen : List W) → IfSome o (λ v. other v w) → IsOther other w seen → IsOther other w (wakers_by o seen)
+  -- a waker that is other than those seen, and than the next
+  pub other_by : (o : Option W) (seen : List W) → IfSome o (λ v. other v w) → IsOther other w seen → IsOther other w (wakers_by o seen)
   other_by (Some v) seen o rest = other_more v seen o rest
   other_by None seen o rest = rest
 

@@ -73,6 +73,9 @@ module _ {W : Type 0} where
   find_member n [] = refl
   find_member n (x ∷ xs) = let ih = find_member n xs in grind (arith, nat_tests)
 
+  pub found_ticket : (n : ℕ) (o : Option W) (xs : List (Listing W)) → find_listing n xs ≡ Some o → member n (tickets xs) ≡ true
+  found_ticket n o xs e = sym (find_member n xs) ∙ ap is_some e
+
   pub kept_none : (n : ℕ) (xs : List (Listing W)) → find_listing n xs ≡ None → kept_ticket (Some n) xs ≡ None
   kept_none n xs e = rw (sym (find_member n xs), e) refl
 

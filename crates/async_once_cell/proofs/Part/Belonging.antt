@@ -5,40 +5,15 @@ use Rattle.async_once_cell.specs.Record.{Entry, Kind}
 use Rattle.async_once_cell.specs.Tasks.{is_under_way, status}
 use Rattle.async_once_cell.specs.Inputs.{Adds, FallsInto, Input, Part, SixteenEnd, WantsMemoryOnlyUngranted, entries_of, gos, was_ungranted}
 use Rattle.async_once_cell.specs.Log.{AddsLines, IsLogOf, NoneKept, WaitingStands, lines_of}
-use Rattle.async_once_cell.specs.Machine.{AtAddOne, AtCountIn, AtCountOut, AtDoorAgain, AtDoorGet, AtDoorPut, AtDoorTake, AtFast, AtLeave, AtList, AtLook, AtPut, AtRelease, AtRun, AtStart, AtTryQuick, AtWaitLoad, Finished, Inner, Place, Resting, Step, Task, UnderWay, World, after, history_of, in_call, left_at, left_of, log_of, world_of}
+use Rattle.async_once_cell.specs.Machine.{Inner, Step, Task, World, after, history_of, in_call, log_of, world_of}
 use Rattle.async_once_cell.proofs.Invariant.Fits.{Fits, StandsFor, step_of}
 use Rattle.async_once_cell.proofs.Input.Headline.{world_fits}
 use Rattle.async_once_cell.proofs.Door.Logged.{log_stands}
 use Rattle.async_once_cell.proofs.Door.Doors.{no_queue_kept, waits_stand}
 use Rattle.async_once_cell.proofs.Part.Budget.{Budget, HasPart}
+use Rattle.async_once_cell.proofs.Part.Left.{left_some}
 use Rattle.async_once_cell.proofs.Part.Beginnings.{step_acts}
 use Rattle.async_once_cell.proofs.Part.Told.{input_part}
-
--- a place has a step left
-left_some_at : (p : Place ℕ ℕ) → 0 < left_at p
-left_some_at AtStart = omega arith
-left_some_at AtTryQuick = omega arith
-left_some_at AtDoorGet = omega arith
-left_some_at AtDoorPut = omega arith
-left_some_at (AtCountIn q) = omega arith
-left_some_at (AtWaitLoad q n) = omega arith
-left_some_at (AtLook q n) = omega arith
-left_some_at (AtList q n w) = omega arith
-left_some_at (AtRun by) = omega arith
-left_some_at (AtPut by) = omega arith
-left_some_at (AtFast e) = omega arith
-left_some_at (AtAddOne e) = omega arith
-left_some_at (AtDoorAgain e) = omega arith
-left_some_at (AtRelease q e) = omega arith
-left_some_at (AtLeave q n e) = omega arith
-left_some_at (AtCountOut e) = omega arith
-left_some_at (AtDoorTake e) = omega arith
-
--- a call under way has a step left
-left_some : (s : Step ℕ ℕ) → in_call s ≡ true → 0 < left_of s
-left_some (UnderWay p) e = left_some_at p
-left_some (Resting r) e = absurd (false≢true e)
-left_some Finished e = absurd (false≢true e)
 
 -- a call that met sixteen fitting steps has ended
 sixteen_called : (n : ℕ) (u : Bool) (s : Step ℕ ℕ) → Budget n u s → 16 ≤ n → (b : Bool) → in_call s ≡ b → in_call s ≡ false

@@ -4,36 +4,11 @@ use Rattle.std.proofs.lemmas.Bool.{false≢true, cases_eq, ne_eqb, eq-eqb}
 use Rattle.async_once_cell.specs.Record.{Entry, Kind}
 use Rattle.async_once_cell.specs.Inputs.{Adds, Input, begins_call, ends_for_memory, gos_after, is_fitting_go, is_ungranted, ungranted_after}
 use Rattle.async_once_cell.specs.Log.{AddsLines}
-use Rattle.async_once_cell.specs.Machine.{AtAddOne, AtCountIn, AtCountOut, AtDoorAgain, AtDoorGet, AtDoorPut, AtDoorTake, AtFast, AtLeave, AtList, AtLook, AtPut, AtRelease, AtRun, AtStart, AtTryQuick, AtWaitLoad, Finished, Place, QueueLine, Resting, Step, Task, UnderWay, World, in_call, left_at, left_of}
+use Rattle.async_once_cell.specs.Machine.{QueueLine, Step, Task, World, in_call, left_of}
 use Rattle.async_once_cell.proofs.Invariant.Fits.{step_of}
 use Rattle.async_once_cell.proofs.Invariant.Moves.{Puts}
+use Rattle.async_once_cell.proofs.Part.Left.{left_most}
 use Rattle.async_once_cell.proofs.Part.Tells.{is_refused}
-
--- a place has sixteen steps left at most
-left_most_at : (p : Place ℕ ℕ) → left_at p ≤ 16
-left_most_at AtStart = omega arith
-left_most_at AtTryQuick = omega arith
-left_most_at AtDoorGet = omega arith
-left_most_at AtDoorPut = omega arith
-left_most_at (AtCountIn q) = omega arith
-left_most_at (AtWaitLoad q n) = omega arith
-left_most_at (AtLook q n) = omega arith
-left_most_at (AtList q n w) = omega arith
-left_most_at (AtRun by) = omega arith
-left_most_at (AtPut by) = omega arith
-left_most_at (AtFast e) = omega arith
-left_most_at (AtAddOne e) = omega arith
-left_most_at (AtDoorAgain e) = omega arith
-left_most_at (AtRelease q e) = omega arith
-left_most_at (AtLeave q n e) = omega arith
-left_most_at (AtCountOut e) = omega arith
-left_most_at (AtDoorTake e) = omega arith
-
--- so has each step
-left_most : (s : Step ℕ ℕ) → left_of s ≤ 16
-left_most (UnderWay p) = left_most_at p
-left_most (Resting r) = omega arith
-left_most Finished = omega arith
 
 -- n fitting steps and what is left make sixteen at most; a call that will be refused met a step without memory
 pub record Budget (n : ℕ) (u : Bool) (s : Step ℕ ℕ) : Type 0 where

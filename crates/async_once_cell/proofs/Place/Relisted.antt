@@ -7,7 +7,8 @@ use Rattle.async_once_cell.specs.Record.{Entry, Kind}
 use Rattle.async_once_cell.specs.Tasks.{last_call}
 use Rattle.async_once_cell.specs.Listings.{Listing, find_listing, is_waker, listed_anew, take_out, ticket_for, without}
 use Rattle.async_once_cell.specs.Machine.{Inner, listed}
-use Rattle.async_once_cell.proofs.Listing.Listings.{asks, asks_push, asks_take, find_push_other, find_push_same, find_take_other, find_take_same, found_ticket, new_fresh, no_ticket}
+use Rattle.async_once_cell.proofs.Listing.Listings.{asks, asks_push, asks_take, find_push_other, find_push_same, find_take_other, find_take_same, new_fresh}
+use Rattle.async_once_cell.proofs.Listing.Tickets.{find_none, found_ticket}
 use Rattle.async_once_cell.proofs.Invariant.Facts.{HasTicket}
 use Rattle.async_once_cell.proofs.Invariant.Listed.{none_not_some, same_some}
 use Rattle.async_once_cell.proofs.Invariant.Turns.{ListMoves}
@@ -50,7 +51,7 @@ kept_in n o xs f = rw (found_ticket n o xs f) refl
 
 -- so it is with the ticket of a waiter that lists its waker
 pub lists_by : (K : Kind) (t : ℕ) (k : Option ℕ) (c : Inner) (h : List Entry) → c.ready ≡ false → HasTicket K t c h k → ListsBy k (ticket_for k c.listings) c
-lists_by K t None c h r a = inr (refl, r, no_ticket (ticket_for None c.listings) c.listings (new_fresh c.listings))
+lists_by K t None c h r a = inr (refl, r, find_none (ticket_for None c.listings) c.listings (new_fresh c.listings))
 lists_by K t (Some n) c h r a = ⊎_elim (λ f. inl (kept_in n (Some (last_call K t h).listed) c.listings f)) (λ f. inl (kept_in n None c.listings f.0)) (a.1 r)
 
 new_apart : (m i : ℕ) (o : Option ℕ) (xs : List (Listing ℕ)) → find_listing m xs ≡ None → find_listing i xs ≡ Some o → m ≢ i
