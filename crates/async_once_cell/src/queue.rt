@@ -53,7 +53,7 @@ impl WakerId for u64 {
 /// A place in the list of those who wait. One that has no waker any more was called.
 #[derive(Debug, Drop, PartialEq, Eq)]
 pub struct Listing<W> {
-    /// The number by which who waits finds its listing again.
+    /// The number by which the waiting task finds its listing again.
     pub ticket: u64,
     pub waker: Option<W>,
 }
@@ -68,8 +68,8 @@ pub enum Out<W> {
     All(Vec<Listing<W>>),
 }
 
-/// What one section under the queue's lock is to do. A look and a listing carry the ticket of who
-/// waits, if it has one, and the section writes it anew there.
+/// What one section under the queue's lock is to do. A look and a listing carry the ticket of the
+/// waiting task, if it has one; the section leaves there the ticket that the task has after it.
 #[derive(Debug, Drop, PartialEq, Eq)]
 pub enum Op<W> {
     /// Claim the right where it is free, else say whether the current waker is listed.

@@ -1,5 +1,5 @@
 -- Listings of which each two wakers were told to be other.
-use Rattle.std.proofs.Common.{◌≡◌, ◌<◌, ◌⊎◌, ℕ, zero, suc, Bool, true, false, ◌||◌, List, [], ◌∷◌, ◌++◌, Option, Some, None, All, IfSome, length, get_or, set, refl, inl, inr, sym, arith}
+use Rattle.std.proofs.Common.{◌≡◌, ◌<◌, ◌⊎◌, ℕ, suc, Bool, true, false, ◌||◌, List, [], ◌∷◌, ◌++◌, Option, Some, None, All, IfSome, length, get_or, set, refl, inl, inr, sym, arith}
 use mathlib.Core.Logic.{∥∥₁_map}
 use Rattle.std.specs.List.{AllPairs}
 use Rattle.std.proofs.lemmas.Bool.{false≢true, cases_eq}

@@ -1,5 +1,5 @@
 -- Lists of listings: what is found by a ticket, and how many have a waker.
-use Rattle.std.proofs.Common.{◌≡◌, ◌≢◌, ◌≤◌, ◌<◌, ◌+◌, ℕ, zero, suc, Bool, true, false, cond, ◌==◌, List, [], ◌∷◌, ◌++◌, Option, Some, None, refl, arith}
+use Rattle.std.proofs.Common.{◌≡◌, ◌≢◌, ◌≤◌, ◌<◌, ◌+◌, ℕ, Bool, true, false, ◌==◌, List, [], ◌∷◌, ◌++◌, Option, Some, None, refl, arith}
 use Rattle.std.proofs.lemmas.Bool.Decides.{nat_tests}
 use Rattle.async_once_cell.specs.Numbers.{bit, member, times}
 use Rattle.async_once_cell.specs.Listings.{Listing, call_by, call_first, find_listing, first_by, first_waker, new_ticket, one_out, take_out, tickets}

@@ -155,6 +155,82 @@ fn a_wake_that_polls(rt: HostRuntime) -> Result<(), Fail> {
     Ok(())
 }
 
+/// A side of a waiter, whose waker is copied once. Where it is to be copied again the holder is
+/// dropped, and there is no memory for the copy.
+#[derive(Drop)]
+struct Stranding<'a, 't, R: Wait + AllocGlobal> {
+    cell: &'a OnceCell<u64>,
+    rt: &'a R,
+    holder: Option<InitFuture<'a, u64, Later, R>>,
+    was_copied: bool,
+    // The task of who waits behind, and whether the drop of the holder woke it.
+    behind: &'t MockTask,
+    is_behind_woken: bool,
+}
+
+impl<R: Wait + AllocGlobal> Side<Seat> for Stranding<'_, '_, R> {
+    ghost stays = { λ _ _. ⊤ };
+
+    ghost stays_same = { λ _. tt };
+
+    ghost stays_on = { λ _ _ _ _ _. tt };
+
+    fn run(&mut self) -> Polled {
+        Polled::Pending
+    }
+
+    fn close(&mut self) {}
+
+    fn put(&mut self) {}
+
+    fn copy(&mut self) -> Option<Seat> {
+        if !replace(&mut self.was_copied, true) {
+            return self.cell.new_seat(self.rt);
+        }
+        self.holder = None;
+        self.is_behind_woken = self.behind.is_woken();
+        None
+    }
+
+    fn wake(&mut self, out: Out<Seat>)
+        ensures stays { ⊤ }
+    {
+        out.call(self.rt);
+    }
+}
+
+// A waiter is called while its waker is copied anew, and is refused. It passes its turn on.
+#[test]
+fn a_called_waiter_that_is_refused(rt: HostRuntime) -> Result<(), Fail> {
+    let cell = OnceCell::new();
+    let (first, third) = (MockTask::new(&rt)?, MockTask::new(&rt)?);
+    let mut holder = cell.get_or_init(&rt, LATER);
+    assert!(rt; first.poll(&mut holder).is_pending());
+    let mut step: Step<Seat, Queue<Seat>> = Step::new();
+    let mut side = Stranding {
+        cell: &cell,
+        rt: &rt,
+        holder: Some(holder),
+        was_copied: false,
+        behind: &third,
+        is_behind_woken: false,
+    };
+    let ending = cell.parts(&rt, None).poll(&mut step, &mut side);
+    assert_eq!(rt; ending, Ending::Pending);
+    let mut behind = cell.get_or_init(&rt, LATER);
+    assert!(rt; third.poll(&mut behind).is_pending());
+
+    assert!(rt; step.is_resting());
+    let ending = cell.parts(&rt, None).poll(&mut step, &mut side);
+    assert_eq!(rt; ending, Ending::Memory);
+    assert!(rt; !side.is_behind_woken && third.is_woken());
+    assert!(rt; third.poll(&mut behind).is_pending());
+    assert_eq!(rt; third.poll(&mut behind), Poll::Ready(Ok(&4)));
+    let shown = format!(in rt.alloc(); "{cell:?}")?;
+    assert!(rt; shown.contains("refcount: 0, queue: false"), "{shown}");
+    Ok(())
+}
+
 /// A side of a lazy cell whose init polls another future of the cell, and drops it.
 #[derive(Drop)]
 struct Nested<'a, 't, R> {
