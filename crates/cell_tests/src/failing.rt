@@ -136,7 +136,7 @@ fn filled_after_the_failures(rt: HostRuntime) -> Result<(), Fail> {
 }
 
 // What a thread gets of each cell that owns its future, in order, up to the first that it gets nothing
-// of. Of each it drops some futures midway.
+// of. At most cells it drops some futures midway.
 fn all_left<R>(
     rt: &R,
     alloc: Global,
@@ -159,13 +159,13 @@ where
     Ok(got)
 }
 
-/// Holders and waiters of cells that own their futures are dropped, and each future is done once.
+/// Threads drive one future by turns, and drop some of those by which they do. It is done once.
 #[test]
 fn filled_after_the_drops(rt: HostRuntime) -> Result<(), Fail> {
     let (done, mut lazies) = (AtomicU64::new(0), Vec::new(rt.alloc()));
     for number in 0..CELLS {
         lazies.push(Lazy::new(Slow {
-            pending: 3 + number % 7,
+            pending: number % 10,
             answer: number,
             done: &done,
         }))?;

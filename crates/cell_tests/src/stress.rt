@@ -2,7 +2,7 @@
 
 use crate::inits::{Answer, Tried, heard};
 use async_once_cell::once::TryInitFuture;
-use async_once_cell::{Lazy, LazyFuturePin, OnceCell};
+use async_once_cell::{LazyFuturePin, OnceCell};
 use futures::Future;
 use futures::task::{Context, Poll};
 use futures::test::MockTask;
@@ -161,53 +161,5 @@ fn many_threads_one_value(rt: HostRuntime) -> Result<(), Fail> {
             "{value} of cell {number}"
         );
     }
-    Ok(())
-}
-
-// What a thread gets of each cell that owns its future, in order. It drops some futures midway.
-fn all_forced<R>(
-    rt: &R,
-    alloc: Global,
-    lazies: &[Lazy<u64, Slow<'_, u64>>],
-    thread: usize,
-) -> io::Result<Vec<u64>>
-where
-    R: Wait + AllocGlobal + Clock + RandomSource,
-{
-    let (task, mut got) = (MockTask::new(rt)?, Vec::new(alloc));
-    for (number, lazy) in (thread as u64..4000).zip(lazies) {
-        if number.is_multiple_of(3) {
-            let mut dropped = lazy.get(rt);
-            dropped.polled(&task);
-        }
-        match ended(rt, &task, &mut lazy.get(rt)) {
-            Answer::Value(value) => got.push(value)?,
-            _ => got.push(0)?,
-        }
-    }
-    Ok(got)
-}
-
-/// Threads drive one future by turns, and it is done once.
-#[test]
-fn many_threads_one_future(rt: HostRuntime) -> Result<(), Fail> {
-    let (done, mut lazies) = (AtomicU64::new(0), Vec::new(rt.alloc()));
-    for number in 0..CELLS {
-        lazies.push(Lazy::new(Slow {
-            pending: number % 5,
-            answer: number.wrapping_add(1),
-            done: &done,
-        }))?;
-    }
-    let shared = lazies.as_slice();
-    let work = |thread: usize| all_forced(&rt, rt.alloc(), shared, thread);
-    for got in thread::map_indices(&rt, rt.alloc(), THREADS, &work)? {
-        let got = got?;
-        assert_eq!(rt; got.len(), shared.len());
-        for (number, value) in (1..).zip(&got) {
-            assert_eq!(rt; *value, number);
-        }
-    }
-    assert_eq!(rt; done.load(Ordering::SeqCst), CELLS);
     Ok(())
 }
