@@ -1,17 +1,11 @@
 //! Cells that are filled once, by a future.
 #![tactic(auto)]
 
-mod held;
 pub mod inner;
-pub mod laws;
-pub mod lazy;
-pub mod once;
 pub mod queue;
-mod seat;
-pub mod step;
-#[cfg(test)]
-mod tests;
-pub mod world;
 
 pub use lazy::{Lazy, LazyFuturePin, LazyFutureUnpin};
-pub use once::OnceCell;
+pub use once::{InitError, InitFuture, Known, OnceCell, Refused, TryInitFuture};
+pub use once_cells::{lazy, once};
+pub use once_core::step;
+pub use once_world::{laws, world};

@@ -98,20 +98,26 @@ fn four_of_one_cell(rt: HostRuntime) -> Result<(), Fail> {
     let lazy = Lazy::new(script.init());
     let (mut f1, mut f2) = (lazy.get(&rt), lazy.get_unpin(&rt));
     let (mut f3, mut f4) = (lazy.into_future(&rt), lazy.get(&rt));
-    assert_eq!(rt; polled(&task, &mut f1), Answer::Pending);
+    let holds = polled(&task, &mut f1);
     calm(&task);
-    assert_eq!(rt; polled(&task, &mut f2), Answer::Pending);
-    assert_eq!(rt; polled(&task, &mut f3), Answer::Pending);
-    assert_eq!(rt; polled(&task, &mut f4), Answer::Pending);
-    assert!(rt; !task.is_woken());
+    let wait = [
+        polled(&task, &mut f2),
+        polled(&task, &mut f3),
+        polled(&task, &mut f4),
+    ];
+    let was_woken = task.is_woken();
     ends(&rt, &lazy, "quick_init: true, refcount: 3, queue: true } }");
     script.answer.set(Some(2));
-    assert_eq!(rt; polled(&task, &mut f1), Answer::Value(2));
-    assert!(rt; task.is_woken());
-    assert_eq!(rt; polled(&task, &mut f2), Answer::Value(2));
-    assert_eq!(rt; polled(&task, &mut f3), Answer::Value(2));
-    assert_eq!(rt; polled(&task, &mut f4), Answer::Value(2));
-    assert!(rt; !task.is_woken());
+    let fills = polled(&task, &mut f1);
+    let is_woken = task.is_woken();
+    let find = [
+        polled(&task, &mut f2),
+        polled(&task, &mut f3),
+        polled(&task, &mut f4),
+    ];
+    assert_eq!(rt; (holds, wait), (Answer::Pending, [Answer::Pending; 3]));
+    assert_eq!(rt; (fills, find), (Answer::Value(2), [Answer::Value(2); 3]));
+    assert!(rt; !was_woken && is_woken && !task.is_woken());
     assert_eq!(rt; script.polls.get(), 2);
     ends(
         &rt,

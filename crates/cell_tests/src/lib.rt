@@ -22,6 +22,8 @@ mod plays;
 #[cfg(test)]
 mod refused;
 #[cfg(test)]
+mod shown;
+#[cfg(test)]
 mod stress;
 #[cfg(test)]
 mod threads;

@@ -6,6 +6,8 @@ mod counting;
 #[cfg(test)]
 mod hostile;
 #[cfg(test)]
+mod inside;
+#[cfg(test)]
 mod layers;
 #[cfg(test)]
 mod replays;

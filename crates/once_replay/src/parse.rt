@@ -1,13 +1,13 @@
 //! The text of a script, line by line.
 ghost use Rattle.std.specs.Prelude.{◌≡◌, ◌≢◌, ◌<◌, ◌≤◌, ◌-◌, ◌^◌, ◌++◌, ◌∷◌, OnOk, IfOk, IfSome, IsSome, MatchOption, Bool, ℕ, List, Option, codes};
-ghost use Rattle.async_once_cell.specs.declared.world.Ran.{Ran};
-ghost use Rattle.async_once_cell.specs.declared.world.Call.{Call};
-ghost use Rattle.async_once_cell.specs.declared.world.Kind.{Kind};
+ghost use Rattle.async_once_cell.specs.world.Ran.{Ran};
+ghost use Rattle.async_once_cell.specs.world.Call.{Call};
+ghost use Rattle.async_once_cell.specs.world.Kind.{Kind};
 ghost use Rattle.once_replay.specs.Number.{number_of, limit_of};
 ghost use Rattle.once_replay.specs.Script.{lines_in, IsScript, IsFirstUnreadable};
 ghost use Rattle.once_replay.specs.Text.{inputs_of, IsWith, IsOpening, IsOnce, IsLazy, IsPair, IsGiven, IsStep, IsLine};
-ghost use Rattle.async_once_cell.specs.declared.world.Call.TheVariants.{Take, Write, Parts};
-ghost use Rattle.async_once_cell.specs.declared.world.Input.TheVariants.{Make, Poll, Drop, Go, Look, Own};
+ghost use Rattle.async_once_cell.specs.world.Call.TheVariants.{Take, Write, Parts};
+ghost use Rattle.async_once_cell.specs.world.Input.TheVariants.{Make, Poll, Drop, Go, Look, Own};
 ghost use Rattle.once_replay.specs.declared.parse.Line.{Line};
 ghost use Rattle.once_replay.specs.declared.parse.Line.TheVariants.{Single, Run};
 

@@ -1,6 +1,6 @@
 //! What an init answers.
 ghost use Rattle.std.specs.Prelude.{MatchOption, IfOk, IfSome, IsSome, Option, List, ℕ};
-ghost use Rattle.async_once_cell.specs.declared.world.Ran.{Ran};
+ghost use Rattle.async_once_cell.specs.world.Ran.{Ran};
 ghost use Rattle.once_replay.specs.Answer.{IsAnswer, IsListed, AreAnswers};
 
 use crate::parse::number::parse_number;

@@ -1,6 +1,6 @@
 //! The lines of a text.
 ghost use Rattle.std.specs.Prelude.{◌≡◌, ◌≢◌, IfOk, MatchOption, ℕ};
-ghost use Rattle.async_once_cell.specs.declared.world.Kind.{Kind};
+ghost use Rattle.async_once_cell.specs.world.Kind.{Kind};
 ghost use Rattle.once_replay.specs.Text.{IsLine, IsOpening};
 ghost use Rattle.once_replay.specs.Script.{lines_in, texts_of, without_last_feed, AreInputs, IsStop};
 ghost use Rattle.once_replay.specs.declared.parse.Line.{Line};

@@ -4,7 +4,7 @@ ghost use Rattle.once_replay.specs.Number.{is_plain, number_of, limit_of};
 
 use async_once_cell::queue::MAX_WAITERS;
 
-/// Reads how many tasks may wait.
+/// Reads how many tasks may be counted in.
 pub fn parse_limit(text: &str) -> Option<u64>
     ensures value { result ≡ limit_of text.now }
     ensures within { IfSome result (λ limit. (0 < limit) × (limit ≤ 2 ^ 62 - 2)) }

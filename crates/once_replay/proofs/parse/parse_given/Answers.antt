@@ -3,7 +3,7 @@ use Rattle.std.proofs.lemmas.Grind.{common_steps}
 use Rattle.std.proofs.lemmas.Str.Pattern.{split_once_first, split_parts}
 use Rattle.std.proofs.lemmas.Bool.Decides.{Decides-eqb}
 use Rattle.std.proofs.lemmas.Slice.Eq.{slice_eq-Decides}
-use Rattle.async_once_cell.specs.declared.world.Ran.{Ran}
+use Rattle.async_once_cell.specs.world.Ran.{Ran}
 use Rattle.once_replay.specs.Answer.{IsAnswer}
 use Rattle.once_replay.proofs.FieldLemmas.{no_given, no_given-first, no_given-mark}
 use Rattle.once_replay.proofs.parse.parse_given.Goals as goal

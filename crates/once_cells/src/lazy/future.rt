@@ -1,0 +1,148 @@
+//! The future of a cell that owns its init.
+ghost use Rattle.std.specs.Prelude.{◌≡◌, true, false};
+ghost use Rattle.futures.specs.Task.{IsArmed, Keeps};
+ghost use Rattle.futures.specs.Poll.{IfReady, OnPending};
+ghost use Rattle.once_cells.specs.Tokens.{Call, Polls};
+
+use crate::held::Held;
+use crate::once::{InitFuture, Known, OnceCell, Refused};
+use futures::Future;
+use futures::task::{Context, Poll};
+use std::alloc::AllocGlobal;
+use std::fmt;
+use std::marker::Model;
+use std::sync::{Mutex, Wait};
+
+/// Future of [`Lazy::get`](super::Lazy::get).
+///
+/// A poll answers the value that is set. While it is not, the task that gets the right polls the
+/// cell's future; the others are Pending until they are woken. To drop one of these leaves the
+/// cell's future as it is, and another task drives it on.
+///
+/// What a poll or a drop may wait for is said at [`InitFuture`]; a poll may wait besides for the
+/// lock in which the cell keeps its future, which nobody has while the future is polled.
+#[derive(Drop)]
+pub struct LazyFuturePin<'a, T, F: Future, R: Wait + AllocGlobal> {
+    future: InitFuture<'a, T, Driven<'a, F, R>, R>,
+}
+
+/// Future of [`Lazy::get_unpin`](super::Lazy::get_unpin) and of
+/// [`Lazy::into_future`](super::Lazy::into_future). All futures of a cell may be moved between their
+/// polls, so it is the same type.
+pub type LazyFutureUnpin<'a, T, F, R> = LazyFuturePin<'a, T, F, R>;
+
+impl<'a, T, F: Future, R: Wait + AllocGlobal> Model for LazyFuturePin<'a, T, F, R> {
+    ghost Value = { Call };
+
+    ghost view = { λ f. f.future };
+}
+
+impl<'a, T, F: Future, R: Wait + AllocGlobal> LazyFuturePin<'a, T, F, R> {
+    pub(super) fn new(cell: &'a OnceCell<T>, rt: &'a R, future: &'a Mutex<Option<Held<F>>>) -> Self
+        ensures cell { result.cell ≡ cell.now }
+        ensures live { result.finished ≡ false }
+    {
+        LazyFuturePin {
+            future: InitFuture::new(cell, rt, Driven { rt, future }),
+        }
+    }
+
+    /// Whether the future answered a value or a refusal. It may not be polled after that.
+    pub fn is_finished(&self) -> bool
+        ensures { result ≡ self.now.finished }
+    {
+        self.future.is_finished()
+    }
+}
+
+/// Whether the future is finished.
+impl<T, F: Future, R: Wait + AllocGlobal> fmt::Debug for LazyFuturePin<'_, T, F, R> {
+    fn fmt<W: fmt::Write>(&self, f: &mut fmt::Formatter<W>) -> fmt::Result {
+        let finished = self.is_finished();
+        write!(f, "LazyFuturePin {{ finished: {finished} }}")
+    }
+}
+
+impl<'a, T: Drop, F: Future<Output = T>, R: Wait + AllocGlobal> LazyFuturePin<'a, T, F, R> {
+    /// Polls the future once. It answers the value that is set, or a refusal, and is finished then.
+    pub fn poll(&mut self, cx: &mut Context<'_>) -> Poll<Result<&'a T, Refused>>
+        requires { self.old.finished ≡ false }
+        ensures cell { self.new.cell ≡ self.old.cell }
+        ensures live { OnPending result (self.new.finished ≡ false) }
+        ensures done { IfReady result (λ _. self.new.finished ≡ true) }
+        ensures armed { OnPending result (IsArmed cx.new) }
+        ensures kept { Keeps cx.old cx.new }
+    {
+        self.future.poll(cx)
+    }
+
+    /// As [`poll`](Self::poll), and the token learns the value that is answered. A token that knows
+    /// a value gets that value; the future leaves its cell as by a drop, and is finished.
+    pub fn poll_as(
+        &mut self,
+        cx: &mut Context<'_>,
+        token: &mut Known<'a, T>,
+    ) -> Poll<Result<&'a T, Refused>>
+        requires live { self.old.finished ≡ false }
+        requires cell { token.old.cell ≡ self.old.cell }
+        ensures cell { self.new.cell ≡ self.old.cell }
+        ensures of { token.new.cell ≡ token.old.cell }
+        ensures value { Polls token.old.value token.new.value result }
+        ensures live { OnPending result (self.new.finished ≡ false) }
+        ensures done { IfReady result (λ _. self.new.finished ≡ true) }
+        ensures armed { OnPending result (IsArmed cx.new) }
+        ensures kept { Keeps cx.old cx.new }
+    {
+        self.future.poll_as(cx, token)
+    }
+}
+
+/// Polled when it is finished, it asks for another poll and changes nothing.
+impl<'a, T: Drop, F: Future<Output = T>, R: Wait + AllocGlobal> Future
+    for LazyFuturePin<'a, T, F, R> {
+    type Output = Result<&'a T, Refused>;
+
+    fn poll(&mut self, cx: &mut Context<'_>) -> Poll<Result<&'a T, Refused>> {
+        if self.is_finished() {
+            return cx.yield_now();
+        }
+        LazyFuturePin::poll(self, cx)
+    }
+}
+
+// The future of a cell, as whoever holds the right drives it on. To drop this leaves it as it is.
+#[derive(Drop)]
+struct Driven<'a, F: Future, R> {
+    rt: &'a R,
+    future: &'a Mutex<Option<Held<F>>>,
+}
+
+impl<F: Future, R: Wait> Driven<'_, F, R> {
+    fn take_out(&self) -> Option<Held<F>> {
+        self.future.lock(self.rt).take()
+    }
+
+    fn put_back(&self, future: Held<F>) {
+        *self.future.lock(self.rt) = Some(future);
+    }
+}
+
+impl<F: Future, R: Wait> Future for Driven<'_, F, R> {
+    type Output = F::Output;
+
+    // The future is polled with the lock free. When it gave its value it is dropped, before the
+    // value is set.
+    fn poll(&mut self, cx: &mut Context<'_>) -> Poll<F::Output> {
+        let Some(held) = self.take_out() else {
+            return cx.yield_now();
+        };
+        let mut future = held.into_inner();
+        match future.poll(cx) {
+            Poll::Ready(value) => Poll::Ready(value),
+            Poll::Pending => {
+                self.put_back(Held::new(future));
+                Poll::Pending
+            }
+        }
+    }
+}

@@ -1,0 +1,222 @@
+//! A cell that is filled once, by the init of one of the calls that ask for its value.
+ghost use Rattle.std.specs.Prelude.{◌≡◌, ℕ, None, false};
+ghost use Rattle.once_cells.specs.Tokens.{Learns};
+
+mod future;
+mod init;
+mod known;
+mod refused;
+
+use crate::seat::Seat;
+use crate::shared::{Inner, Shared};
+pub use future::TryInitFuture;
+use futures::Future;
+pub use init::InitFuture;
+pub use known::Known;
+pub use refused::{InitError, Refused};
+use std::alloc::AllocGlobal;
+use std::marker::Model;
+use std::sync::atomic::{AtomicU64, Ordering};
+use std::sync::{OnceLock, Wait};
+use std::{fmt, mem};
+
+/// A cell that is empty or has one value, and is filled by a future.
+///
+/// Each call brings its own init. One task at a time has the right to run its init; the others wait,
+/// and are woken when the cell is filled. An init that fails, or whose future is dropped, leaves the
+/// cell empty and wakes one who waits, which runs its own. One that was woken and leaves instead, by a
+/// drop or a refusal, wakes the next.
+///
+/// ```
+/// let cell = OnceCell::new();
+/// let first = block_on(rt, cell.get_or_init(rt, ready(4)))?; // Ok(&4)
+/// let second = block_on(rt, cell.get_or_init(rt, ready(5)))?; // Ok(&4): this init is not polled
+/// ```
+///
+/// Memory is taken only where tasks meet: for the queue of those who wait, and for the seat of each and
+/// its place in the queue.
+///
+/// An init may borrow whatever outlives its future. One that asks its own cell for the value waits
+/// there like any other task, and may give its own value all the same. A cell may be sent to another
+/// thread where `T: Send`, and shared between threads where `T: Send + Sync`.
+#[derive(Drop)]
+pub struct OnceCell<T> {
+    inner: Inner<Seat>,
+    // How many seats were made.
+    seats: AtomicU64,
+    value: OnceLock<T>,
+}
+
+/// A clause sees a cell as the number that tells it from all others.
+impl<T> Model for OnceCell<T> {
+    ghost Value = { ℕ };
+
+    ghost view = { λ c. c.value.id };
+}
+
+impl<T> OnceCell<T> {
+    /// An empty cell. It takes no memory.
+    pub fn new() -> Self {
+        OnceCell {
+            inner: Inner::new(false),
+            seats: AtomicU64::new(0),
+            value: OnceLock::new(),
+        }
+    }
+
+    /// A cell with this value. It takes no memory.
+    pub fn new_with(value: T) -> Self
+    where
+        T: Drop,
+    {
+        OnceCell {
+            inner: Inner::new(true),
+            seats: AtomicU64::new(0),
+            value: OnceLock::from(value),
+        }
+    }
+
+    /// The value, where it is set; None where the cell is empty or being filled. It waits for
+    /// nobody.
+    pub fn get(&self) -> Option<&T> {
+        if self.inner.is_ready() {
+            self.value.get()
+        } else {
+            None
+        }
+    }
+
+    /// The value for writing, where it is set. It waits for nobody.
+    pub fn get_mut(&mut self) -> Option<&mut T> {
+        self.value.get_mut()
+    }
+
+    /// The value, where it was set. The cell is empty after, as a new one: a queue that futures left
+    /// there goes as well. It waits for nobody.
+    pub fn take(&mut self) -> Option<T> {
+        mem::replace(self, OnceCell::new()).into_inner()
+    }
+
+    /// The value, where it was set. All else of the cell goes as in [`OnceCell::take`]. It waits for
+    /// nobody.
+    pub fn into_inner(self) -> Option<T> {
+        let OnceCell {
+            inner: _,
+            seats: _,
+            value,
+        } = self;
+        value.into_inner()
+    }
+
+    /// A future of the value: the one that is set, or the one that `init` gives.
+    ///
+    /// Nothing happens before the first poll, see [`InitFuture`].
+    pub fn get_or_init<'a, F, R>(&'a self, rt: &'a R, init: F) -> InitFuture<'a, T, F, R>
+    where
+        F: Future<Output = T>,
+        R: Wait + AllocGlobal,
+        requires { F.can_poll init }
+        ensures cell { result.cell ≡ self.now }
+        ensures live { result.finished ≡ false }
+    {
+        InitFuture::new(self, rt, init)
+    }
+
+    /// As [`OnceCell::get_or_init`], with an init that may fail. An error goes to its own caller
+    /// alone, and leaves the cell empty.
+    ///
+    /// ```
+    /// let cell = OnceCell::new();
+    /// block_on(rt, cell.get_or_try_init(rt, err::<u64, _>("down")))?; // Err(Init("down"))
+    /// block_on(rt, cell.get_or_try_init(rt, ok::<u64, &str>(7)))?; // Ok(&7)
+    /// ```
+    pub fn get_or_try_init<'a, E, F, R>(
+        &'a self,
+        rt: &'a R,
+        init: F,
+    ) -> TryInitFuture<'a, T, E, F, R>
+    where
+        F: Future<Output = Result<T, E>>,
+        R: Wait + AllocGlobal,
+        requires { F.can_poll init }
+        ensures cell { result.cell ≡ self.now }
+        ensures live { result.finished ≡ false }
+    {
+        TryInitFuture::new(self, rt, init)
+    }
+
+    /// A token that knows nothing yet. See [`Known`]. It takes no memory, and waits for nobody.
+    pub fn token(&self) -> Known<'_, T>
+        ensures cell { result.cell ≡ self.now }
+        ensures knows { result.value ≡ None }
+    {
+        Known::new(self)
+    }
+
+    /// As [`OnceCell::get`], and the token learns the value that is answered. A token that knows a
+    /// value gets that value, always. It waits for nobody.
+    pub fn get_as<'a>(&'a self, token: &mut Known<'a, T>) -> Option<&'a T>
+        requires { token.old.cell ≡ self.now }
+        ensures cell { token.new.cell ≡ token.old.cell }
+        ensures value { Learns token.old.value token.new.value result }
+    {
+        token.learn(self)
+    }
+
+    // The parts as one call uses them, with the seat of a future that has one.
+    pub(crate) fn parts<'a, 'r, R>(
+        &'a self,
+        rt: &'r R,
+        seat: Option<Seat>,
+    ) -> Shared<'a, 'r, Seat, R> {
+        self.inner.parts(rt, seat)
+    }
+
+    pub(crate) fn new_seat<R: AllocGlobal>(&self, rt: &R) -> Option<Seat> {
+        let number = self.seats.fetch_add(1, Ordering::SeqCst);
+        Seat::new(rt.alloc(), number).ok()
+    }
+
+    // A value that is there already stays, and this one is dropped.
+    pub(crate) fn set<R: Wait>(&self, rt: &R, value: T)
+    where
+        T: Drop,
+    {
+        let _ = self.value.set(rt, value);
+    }
+
+    // The value that the end of a call found set.
+    fn found(&self) -> Option<&T> {
+        self.value.get()
+    }
+}
+
+impl<T> Default for OnceCell<T> {
+    fn default() -> Self {
+        OnceCell::new()
+    }
+}
+
+impl<T: Drop> From<T> for OnceCell<T> {
+    fn from(value: T) -> Self {
+        OnceCell::new_with(value)
+    }
+}
+
+impl<T: fmt::Debug> OnceCell<T> {
+    // What a cell of this name shows.
+    pub(crate) fn fmt_as<W: fmt::Write>(
+        &self,
+        name: &str,
+        f: &mut fmt::Formatter<W>,
+    ) -> fmt::Result {
+        let (value, inner) = (self.get(), &self.inner);
+        write!(f, "{name} {{ value: {value:?}, inner: {inner:?} }}")
+    }
+}
+
+impl<T: fmt::Debug> fmt::Debug for OnceCell<T> {
+    fn fmt<W: fmt::Write>(&self, f: &mut fmt::Formatter<W>) -> fmt::Result {
+        self.fmt_as("OnceCell", f)
+    }
+}

@@ -1,0 +1,373 @@
+//! The future of an init that may fail. All other futures of the cells are made of it.
+ghost use Rattle.std.specs.Prelude.{◌≡◌, true, false};
+ghost use Rattle.futures.specs.Task.{IsArmed, Keeps};
+ghost use Rattle.futures.specs.Poll.{IfReady, OnPending};
+ghost use Rattle.once_cells.specs.Tokens.{Call, Polls};
+ghost use Rattle.once_core.specs.Steps.{in_call, is_finished as is_done};
+
+use super::{InitError, Known, OnceCell};
+use crate::held::Held;
+use crate::seat::{Seat, call_all};
+use crate::shared::Queue;
+use futures::Future;
+use futures::future::TryOutput;
+use futures::task::{Context, Poll};
+use once_core::step::{Ending, Polled, Side, Step};
+use once_queue::waiters::Out;
+use std::alloc::AllocGlobal;
+use std::fmt;
+use std::marker::{Model, PhantomData};
+use std::sync::Wait;
+
+/// Future of [`OnceCell::get_or_try_init`].
+///
+/// A poll answers the value that is set. While the cell is empty, the task that gets the right polls
+/// its init; the others are Pending until they are woken: all of them by the value, and one by an
+/// error or by the drop of a future that had the right. Who was woken by these and is dropped or
+/// refused wakes the next. The init is dropped as soon as it is not needed any more: when it gave a
+/// value or an error, when the value is found set, when the poll is refused, and when the future is
+/// dropped. Only then is the place among those who wait, or the right, given back.
+///
+/// A poll or a drop may wait for the locks of the door, of the queue and of the places of those who
+/// wait, and a poll that fills the cell for that of the value. A task has each of the first three for
+/// a few operations, that of the queue also for a search of its list, and none while an init is polled
+/// or dropped, a value is dropped, or those who were listed are called. (Where a future moved to
+/// another task, the one before is woken under the lock of its place.) A poll that counts itself in
+/// tries again while others change the word.
+pub struct TryInitFuture<'a, T, E, F: Future, R: Wait + AllocGlobal> {
+    error: PhantomData<E>,
+    cell: &'a OnceCell<T>,
+    rt: &'a R,
+    init: Option<Held<F>>,
+    // Made when the future waits for the first time.
+    seat: Option<Seat>,
+    step: Step<Seat, Queue<Seat>>,
+}
+
+impl<'a, T, E, F: Future, R: Wait + AllocGlobal> Model for TryInitFuture<'a, T, E, F, R> {
+    ghost Value = { Call };
+
+    ghost view = { λ f. record { cell = f.cell.now; finished = is_done f.step } };
+
+    ghost invariant = { λ f. in_call f.step ≡ false };
+}
+
+impl<'a, T, E, F: Future, R: Wait + AllocGlobal> TryInitFuture<'a, T, E, F, R> {
+    pub(super) fn new(cell: &'a OnceCell<T>, rt: &'a R, init: F) -> Self
+        requires { F.can_poll init }
+        ensures cell { result.cell ≡ cell.now }
+        ensures live { result.finished ≡ false }
+    {
+        TryInitFuture {
+            error: PhantomData,
+            cell,
+            rt,
+            init: Some(Held::new(init)),
+            seat: None,
+            step: Step::new(),
+        }
+    }
+
+    /// Whether the future answered a value, an error or a refusal. It may not be polled after that.
+    pub fn is_finished(&self) -> bool
+        ensures { result ≡ self.now.finished }
+    {
+        self.step.is_finished()
+    }
+
+    // What a drop does: the init is dropped, and then the place or the right given back.
+    fn leave(&mut self)
+        ensures cell { self.new.cell ≡ self.old.cell }
+        ensures finished { self.new.finished ≡ true }
+    {
+        if self.step.is_resting() {
+            let mut side = Leaving {
+                rt: self.rt,
+                init: self.init.take(),
+            };
+            let mut parts = self.cell.parts(self.rt, None);
+            parts.finish(&mut self.step, &mut side);
+        }
+        self.step = Step::Finished;
+    }
+}
+
+/// Whether the future is finished.
+impl<T, E, F: Future, R: Wait + AllocGlobal> fmt::Debug for TryInitFuture<'_, T, E, F, R> {
+    fn fmt<W: fmt::Write>(&self, f: &mut fmt::Formatter<W>) -> fmt::Result {
+        let finished = self.is_finished();
+        write!(f, "TryInitFuture {{ finished: {finished} }}")
+    }
+}
+
+impl<'a, T: Drop, E: Drop, F, R: Wait + AllocGlobal> TryInitFuture<'a, T, E, F, R>
+where
+    F: Future<Output: TryOutput<Ok = T, Error = E>>,
+{
+    /// Polls the future once.
+    ///
+    /// It answers the value that is set, the error that its own init gave, or a refusal: `Memory`
+    /// where a place among those who wait could not be made, `Full` where as many tasks wait as may.
+    /// After any of these it is finished. After an error or a refusal the cell is as if the future
+    /// had been dropped.
+    pub fn poll(&mut self, cx: &mut Context<'_>) -> Poll<Result<&'a T, InitError<E>>>
+        requires { self.old.finished ≡ false }
+        ensures cell { self.new.cell ≡ self.old.cell }
+        ensures live { OnPending result (self.new.finished ≡ false) }
+        ensures done { IfReady result (λ _. self.new.finished ≡ true) }
+        ensures armed { OnPending result (IsArmed cx.new) }
+        ensures kept { Keeps cx.old cx.new }
+    {
+        let current = self.seat.as_ref().and_then(Seat::share);
+        let mut side = Polling {
+            cell: self.cell,
+            rt: self.rt,
+            cx,
+            init: &mut self.init,
+            seat: &mut self.seat,
+            value: None,
+            error: None,
+            is_armed: false,
+        };
+        let mut parts = self.cell.parts(self.rt, current);
+        let ending = parts.poll(&mut self.step, &mut side);
+        let Polling {
+            cell: _,
+            rt: _,
+            cx,
+            init: _,
+            seat: _,
+            value: _,
+            error,
+            is_armed,
+        } = side;
+        self.answer(ending, error, is_armed, cx)
+    }
+
+    /// As [`poll`](Self::poll), and the token learns the value that is answered. A token that knows
+    /// a value gets that value; the future leaves its cell as by a drop, and is finished.
+    pub fn poll_as(
+        &mut self,
+        cx: &mut Context<'_>,
+        token: &mut Known<'a, T>,
+    ) -> Poll<Result<&'a T, InitError<E>>>
+        requires live { self.old.finished ≡ false }
+        requires cell { token.old.cell ≡ self.old.cell }
+        ensures cell { self.new.cell ≡ self.old.cell }
+        ensures of { token.new.cell ≡ token.old.cell }
+        ensures value { Polls token.old.value token.new.value result }
+        ensures live { OnPending result (self.new.finished ≡ false) }
+        ensures done { IfReady result (λ _. self.new.finished ≡ true) }
+        ensures armed { OnPending result (IsArmed cx.new) }
+        ensures kept { Keeps cx.old cx.new }
+    {
+        if token.is_knowing() {
+            self.leave();
+            return Poll::Ready(Ok(token.learn(self.cell).unwrap()));
+        }
+        match self.poll(cx) {
+            Poll::Ready(Ok(_)) => {}
+            other => return other,
+        }
+        if let Some(value) = token.learn(self.cell) {
+            return Poll::Ready(Ok(value));
+        }
+        self.step = Step::new();
+        cx.yield_now()
+    }
+
+    // What a poll answers that ended so.
+    fn answer(
+        &mut self,
+        ending: Ending,
+        error: Option<E>,
+        is_armed: bool,
+        cx: &mut Context<'_>,
+    ) -> Poll<Result<&'a T, InitError<E>>>
+        requires { is_armed ≡ true → IsArmed cx.old }
+        ensures cell { self.new.cell ≡ self.old.cell }
+        ensures live { OnPending result (self.new.finished ≡ false) }
+        ensures done { IfReady result (λ _. self.new.finished ≡ true) }
+        ensures armed { OnPending result (IsArmed cx.new) }
+        ensures kept { Keeps cx.old cx.new }
+    {
+        if self.step.is_resting() {
+            return self.wait(is_armed, cx);
+        }
+        if let Some(error) = error {
+            return Poll::Ready(Err(InitError::Init(error)));
+        }
+        if ending == Ending::Memory {
+            return Poll::Ready(Err(InitError::Memory));
+        }
+        if ending == Ending::Full {
+            return Poll::Ready(Err(InitError::Full));
+        }
+        if let Some(value) = self.cell.found() {
+            return Poll::Ready(Ok(value));
+        }
+        self.step = Step::new();
+        cx.yield_now()
+    }
+
+    // Ends a poll that is Pending: the init saw to it that the task is called, or the seat does.
+    fn wait<O>(&self, is_armed: bool, cx: &mut Context<'_>) -> Poll<O>
+        requires { is_armed ≡ true → IsArmed cx.old }
+        ensures pending { result ≡ Poll.Pending }
+        ensures armed { IsArmed cx.new }
+        ensures kept { Keeps cx.old cx.new }
+    {
+        if is_armed {
+            return Poll::Pending;
+        }
+        if let Some(seat) = &self.seat {
+            return seat.sit(self.rt, cx);
+        }
+        cx.yield_now()
+    }
+}
+
+/// Polled when it is finished, it asks for another poll and changes nothing.
+impl<'a, T: Drop, E: Drop, F, R: Wait + AllocGlobal> Future for TryInitFuture<'a, T, E, F, R>
+where
+    F: Future<Output: TryOutput<Ok = T, Error = E>>,
+{
+    type Output = Result<&'a T, InitError<E>>;
+
+    fn poll(&mut self, cx: &mut Context<'_>) -> Poll<Result<&'a T, InitError<E>>> {
+        if self.is_finished() {
+            return cx.yield_now();
+        }
+        TryInitFuture::poll(self, cx)
+    }
+}
+
+/// The init is dropped first, and then the place among those who wait, or the right.
+impl<T, E, F: Future, R: Wait + AllocGlobal> Drop for TryInitFuture<'_, T, E, F, R> {
+    fn drop(self) {
+        let TryInitFuture {
+            error: _,
+            cell,
+            rt,
+            init,
+            seat: _seat,
+            mut step,
+        } = self;
+        if step.is_resting() {
+            let mut side = Leaving { rt, init };
+            cell.parts(rt, None).finish(&mut step, &mut side);
+        }
+    }
+}
+
+// What a poll brings.
+struct Polling<'a, 'c, 'd, 'i, 's, T, E, H, R> {
+    cell: &'a OnceCell<T>,
+    rt: &'a R,
+    cx: &'c mut Context<'d>,
+    init: &'i mut Option<H>,
+    seat: &'s mut Option<Seat>,
+    value: Option<T>,
+    error: Option<E>,
+    // The init was Pending, and saw to it that the task is called.
+    is_armed: bool,
+}
+
+impl<T: Drop, E: Drop, F, R: Wait + AllocGlobal> Side<Seat>
+    for Polling<'_, '_, '_, '_, '_, T, E, Held<F>, R>
+where
+    F: Future<Output: TryOutput<Ok = T, Error = E>>,
+{
+    ghost use Rattle.once_cells.specs.Stays.{Stays};
+    ghost use Rattle.std.proofs.Common.{rules};
+
+    ghost stays = { Stays };
+
+    fn run(&mut self) -> Polled {
+        let Some(held) = self.init.take() else {
+            return Polled::Pending;
+        };
+        let mut init = held.into_inner();
+        match init.poll(self.cx) {
+            Poll::Pending => {
+                *self.init = Some(Held::new(init));
+                self.is_armed = true;
+                Polled::Pending
+            }
+            Poll::Ready(output) => match output.into_result() {
+                Ok(value) => {
+                    self.value = Some(value);
+                    Polled::Value
+                }
+                Err(error) => {
+                    self.error = Some(error);
+                    Polled::Error
+                }
+            },
+        }
+    }
+
+    fn close(&mut self) {
+        *self.init = None;
+    }
+
+    fn put(&mut self) {
+        if let Some(value) = self.value.take() {
+            self.cell.set(self.rt, value);
+        }
+    }
+
+    fn copy(&mut self) -> Option<Seat> {
+        if self.seat.is_none() {
+            *self.seat = Some(self.cell.new_seat(self.rt)?);
+        }
+        self.seat.as_ref()?.share_anew(self.rt)
+    }
+
+    fn wake(&mut self, out: Out<Seat>)
+        ensures stays { Stays self.old self.new }
+    {
+        call_all(self.rt, out);
+    }
+
+    ghost stays_same = { λ a. Prim.search rules };
+
+    ghost stays_on = { λ a b c p q. Prim.search rules };
+}
+
+// What a drop brings.
+#[derive(Drop)]
+struct Leaving<'a, H, R> {
+    rt: &'a R,
+    init: Option<H>,
+}
+
+impl<H: Drop, R: Wait + AllocGlobal> Side<Seat> for Leaving<'_, H, R> {
+    ghost use Rattle.std.specs.Prelude.{⊤};
+
+    ghost stays = { λ _ _. ⊤ };
+
+    fn run(&mut self) -> Polled {
+        Polled::Pending
+    }
+
+    fn close(&mut self) {
+        self.init = None;
+    }
+
+    fn put(&mut self) {}
+
+    fn copy(&mut self) -> Option<Seat> {
+        None
+    }
+
+    fn wake(&mut self, out: Out<Seat>)
+        ensures stays { ⊤ }
+    {
+        call_all(self.rt, out);
+    }
+
+    ghost stays_same = { λ _. tt };
+
+    ghost stays_on = { λ _ _ _ _ _. tt };
+}

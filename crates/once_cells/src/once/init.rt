@@ -1,0 +1,133 @@
+//! The future of an init that does not fail.
+ghost use Rattle.std.specs.Prelude.{◌≡◌, true, false};
+ghost use Rattle.futures.specs.Task.{IsArmed, Keeps};
+ghost use Rattle.futures.specs.Poll.{IfReady, OnPending};
+ghost use Rattle.once_cells.specs.Tokens.{Call, Polls};
+ghost use Rattle.once_cells.specs.Sure.{IsSame};
+
+use super::{InitError, Known, OnceCell, Refused, TryInitFuture};
+use futures::Future;
+use futures::task::{Context, Poll};
+use std::alloc::AllocGlobal;
+use std::convert::Infallible;
+use std::fmt;
+use std::marker::Model;
+use std::sync::Wait;
+
+/// Future of [`OnceCell::get_or_init`]. All that is said of [`TryInitFuture`] holds of it, but that
+/// there is no error of an init.
+#[derive(Drop)]
+pub struct InitFuture<'a, T, F: Future, R: Wait + AllocGlobal> {
+    future: TryInitFuture<'a, T, Infallible, Sure<F>, R>,
+}
+
+impl<'a, T, F: Future, R: Wait + AllocGlobal> Model for InitFuture<'a, T, F, R> {
+    ghost Value = { Call };
+
+    ghost view = { λ f. f.future };
+}
+
+impl<'a, T, F: Future, R: Wait + AllocGlobal> InitFuture<'a, T, F, R> {
+    pub(crate) fn new(cell: &'a OnceCell<T>, rt: &'a R, init: F) -> Self
+        requires { F.can_poll init }
+        ensures cell { result.cell ≡ cell.now }
+        ensures live { result.finished ≡ false }
+    {
+        InitFuture {
+            future: TryInitFuture::new(cell, rt, Sure { init }),
+        }
+    }
+
+    /// Whether the future answered a value or a refusal. It may not be polled after that.
+    pub fn is_finished(&self) -> bool
+        ensures { result ≡ self.now.finished }
+    {
+        self.future.is_finished()
+    }
+}
+
+/// Whether the future is finished.
+impl<T, F: Future, R: Wait + AllocGlobal> fmt::Debug for InitFuture<'_, T, F, R> {
+    fn fmt<W: fmt::Write>(&self, f: &mut fmt::Formatter<W>) -> fmt::Result {
+        let finished = self.is_finished();
+        write!(f, "InitFuture {{ finished: {finished} }}")
+    }
+}
+
+impl<'a, T: Drop, F: Future<Output = T>, R: Wait + AllocGlobal> InitFuture<'a, T, F, R> {
+    /// Polls the future once. It answers the value that is set, or a refusal, and is finished then.
+    pub fn poll(&mut self, cx: &mut Context<'_>) -> Poll<Result<&'a T, Refused>>
+        requires { self.old.finished ≡ false }
+        ensures cell { self.new.cell ≡ self.old.cell }
+        ensures live { OnPending result (self.new.finished ≡ false) }
+        ensures done { IfReady result (λ _. self.new.finished ≡ true) }
+        ensures armed { OnPending result (IsArmed cx.new) }
+        ensures kept { Keeps cx.old cx.new }
+    {
+        surely(self.future.poll(cx))
+    }
+
+    /// As [`poll`](Self::poll), and the token learns the value that is answered. A token that knows
+    /// a value gets that value; the future leaves its cell as by a drop, and is finished.
+    pub fn poll_as(
+        &mut self,
+        cx: &mut Context<'_>,
+        token: &mut Known<'a, T>,
+    ) -> Poll<Result<&'a T, Refused>>
+        requires live { self.old.finished ≡ false }
+        requires cell { token.old.cell ≡ self.old.cell }
+        ensures cell { self.new.cell ≡ self.old.cell }
+        ensures of { token.new.cell ≡ token.old.cell }
+        ensures value { Polls token.old.value token.new.value result }
+        ensures live { OnPending result (self.new.finished ≡ false) }
+        ensures done { IfReady result (λ _. self.new.finished ≡ true) }
+        ensures armed { OnPending result (IsArmed cx.new) }
+        ensures kept { Keeps cx.old cx.new }
+    {
+        surely(self.future.poll_as(cx, token))
+    }
+}
+
+/// Polled when it is finished, it asks for another poll and changes nothing.
+impl<'a, T: Drop, F: Future<Output = T>, R: Wait + AllocGlobal> Future for InitFuture<'a, T, F, R> {
+    type Output = Result<&'a T, Refused>;
+
+    fn poll(&mut self, cx: &mut Context<'_>) -> Poll<Result<&'a T, Refused>> {
+        if self.is_finished() {
+            return cx.yield_now();
+        }
+        InitFuture::poll(self, cx)
+    }
+}
+
+// An init that can't fail.
+#[derive(Drop)]
+struct Sure<F> {
+    init: F,
+}
+
+impl<F: Future> Future for Sure<F> {
+    type Output = Result<F::Output, Infallible>;
+
+    ghost can_poll = { λ s. F.can_poll s.init };
+
+    fn poll(&mut self, cx: &mut Context<'_>) -> Poll<Result<F::Output, Infallible>> {
+        match self.init.poll(cx) {
+            Poll::Ready(value) => Poll::Ready(Ok(value)),
+            Poll::Pending => Poll::Pending,
+        }
+    }
+}
+
+// The answer without the error that can't be.
+fn surely<T>(polled: Poll<Result<T, InitError<Infallible>>>) -> Poll<Result<T, Refused>>
+    ensures { IsSame polled result }
+{
+    match polled {
+        Poll::Pending => Poll::Pending,
+        Poll::Ready(Ok(value)) => Poll::Ready(Ok(value)),
+        Poll::Ready(Err(InitError::Init(never))) => match never {},
+        Poll::Ready(Err(InitError::Memory)) => Poll::Ready(Err(Refused::Memory)),
+        Poll::Ready(Err(InitError::Full)) => Poll::Ready(Err(Refused::Full)),
+    }
+}

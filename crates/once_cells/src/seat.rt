@@ -1,0 +1,116 @@
+//! Where a waiting future's task is called: the waker of the cells.
+ghost use Rattle.std.specs.Prelude.{◌≡◌, ◌≢◌};
+ghost use Rattle.std.specs.Arc.{arc_value};
+ghost use Rattle.futures.specs.Task.{IsArmed, Keeps};
+
+use futures::task::{Context, Poll, Source, Waker};
+use once_queue::waiters::{Out, WakerId};
+use std::alloc::{AllocError, Global};
+use std::sync::{Arc, Mutex, Wait};
+
+// Who sits there.
+#[derive(Drop)]
+struct Sitter {
+    // The seat was called since it was last shared for the list, or was last found called.
+    called: bool,
+    waker: Option<Waker>,
+}
+
+#[derive(Drop)]
+struct Numbered {
+    number: u64,
+    source: Source,
+    sitter: Mutex<Sitter>,
+}
+
+/// A share of a seat. A future that waits has one, and one lies in the list while it is listed.
+///
+/// A waker of `futures` can't be compared or copied, and letting one go wakes its task. So what is
+/// listed is a seat, and the task's waker lies there from the end of a poll that waits until the
+/// seat is called.
+#[derive(Drop)]
+pub struct Seat {
+    shared: Arc<Numbered>,
+}
+
+impl WakerId for Seat {
+    ghost tells_same = { λ a b. (arc_value a.shared).number ≡ (arc_value b.shared).number };
+
+    ghost tells_other = { λ a b. (arc_value a.shared).number ≢ (arc_value b.shared).number };
+
+    fn same(&self, other: &Seat) -> bool {
+        self.shared.number == other.shared.number
+    }
+}
+
+impl Seat {
+    /// A seat on which nobody sits. No other seat of its cell has this number.
+    pub fn new(alloc: Global, number: u64) -> Result<Seat, AllocError> {
+        let sitter = Mutex::new(Sitter {
+            called: false,
+            waker: None,
+        });
+        let source = Source::new();
+        let shared = Arc::new(
+            alloc,
+            Numbered {
+                number,
+                source,
+                sitter,
+            },
+        )?;
+        Ok(Seat { shared })
+    }
+
+    /// Another share.
+    pub fn share(&self) -> Option<Seat> {
+        let shared = Arc::try_clone(&self.shared).ok()?;
+        Some(Seat { shared })
+    }
+
+    /// Another share, to be listed. What came before is no call of it.
+    pub fn share_anew<R: Wait>(&self, rt: &R) -> Option<Seat> {
+        let seat = self.share()?;
+        self.shared.sitter.lock(rt).called = false;
+        Some(seat)
+    }
+
+    /// Ends a poll that waits: the task sits down, or is to be polled again where the seat was
+    /// called meanwhile.
+    pub fn sit<T, R: Wait>(&self, rt: &R, cx: &mut Context<'_>) -> Poll<T>
+        ensures pending { result ≡ Poll.Pending }
+        ensures armed { IsArmed cx.new }
+        ensures kept { Keeps cx.old cx.new }
+    {
+        let mut sitter = self.shared.sitter.lock(rt);
+        if sitter.called {
+            sitter.called = false;
+            return cx.yield_now();
+        }
+        cx.register(&self.shared.source, &mut sitter.waker)
+    }
+
+    /// Calls the seat: the task that sits there is woken, with the seat's lock free.
+    pub fn call<R: Wait>(self, rt: &R) {
+        let mut sitter = self.shared.sitter.lock(rt);
+        sitter.called = true;
+        let waker = sitter.waker.take();
+        drop(sitter);
+        drop(waker);
+    }
+}
+
+/// Calls whom a section handed out, in their order.
+pub fn call_all<R: Wait>(rt: &R, out: Out<Seat>) {
+    match out {
+        Out::One(None) => {}
+        Out::One(Some(seat)) => seat.call(rt),
+        Out::All(listings) => {
+            for listing in listings {
+                if let Some(seat) = listing.waker {
+                    seat.call(rt);
+                }
+            }
+        }
+    }
+}

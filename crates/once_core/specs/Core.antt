@@ -1,0 +1,143 @@
+-- The parts of a cell as plain data, and what each of their calls asks, answers and leaves.
+use Rattle.std.specs.Prelude.{◌≡◌, ◌≢◌, ℕ, suc, ◌<◌, ◌≤◌, ◌-◌, ◌⊎◌, ◌||◌, Bool, true, false, cond, not, List, [], ◌∷◌, ◌++◌, Option, Some, None, vec_len, vec_capacity}
+use Rattle.std.specs.Option.{is_some}
+use Rattle.once_core.specs.declared.plain.Core.{Core}
+use Rattle.once_core.specs.declared.parts.QueueLine.{QueueLine}
+use Rattle.once_core.specs.declared.parts.QueueLine.TheVariants.{Put, Entered, Taken}
+use Rattle.once_core.specs.declared.parts.Counted.{Counted}
+use Rattle.once_core.specs.declared.parts.Counted.TheVariants.{In, Full, SeenReady}
+use Rattle.once_queue.specs.declared.waiters.Op.{Op}
+use Rattle.once_queue.specs.declared.waiters.Op.TheVariants.{Look, List as ListOp, Release, Leave}
+use Rattle.once_queue.specs.declared.waiters.Answer.{Answer}
+use Rattle.once_queue.specs.declared.waiters.Answer.TheVariants.{Ready, Claimed, Listed, Memory, Released, Left, Gone}
+use Rattle.once_queue.specs.Ops.{ticket_in, given_up}
+use Rattle.once_queue.specs.Room.{HasSpace}
+use Rattle.once_queue.specs.Word.{Flags, flags_of, flags_alone, is_zero, is_quick_bit}
+use Rattle.once_queue.specs.declared.waiters.Listing.{Listing}
+use Rattle.once_queue.specs.Listings.{own_listing, kept_ticket, ticket_for, listed_anew, without, passes_turn, next_waker, left_list}
+use Rattle.once_queue.specs.Sections.{shows_set, shows_free, shows_taken, Looked, Releases}
+
+-- what contracts see: the word; the number of the queue at the door, its flag and its listings; how many queues were made; whether memory is given; the current waker; and the queue log, the oldest line first
+pub record CoreState (W : Type 0) : Type 0 where
+  pub word : Flags
+  pub door : Option ℕ
+  pub head : Bool
+  pub listings : List (Listing W)
+  pub made : ℕ
+  pub granted : Bool
+  pub current : Option W
+  pub log : List QueueLine
+
+abbrev pub state_of : {W : Type 0} {g : _} → Core W g → CoreState W
+state_of c = record { word = c.word; door = c.door; head = c.lists.head; listings = c.lists.listings.items; made = c.made; granted = c.granted; current = c.current; log = c.log.items }
+
+-- room for one more listing and for one more line of the log
+abbrev pub HasRoom : {W : Type 0} {g : _} → Core W g → Type 0
+HasRoom c = HasSpace c.lists × (vec_len c.log < vec_capacity c.log)
+
+-- what is found at the door or put there, by whether memory is given and by what stands there
+abbrev pub put_answer : Bool → Option ℕ → ℕ → Option ℕ
+put_answer false door n = None
+put_answer true (Some q) n = Some q
+put_answer true None n = Some (suc n)
+
+module _ {W : Type 0} where
+  abbrev pub DidLoad : CoreState W → ℕ → CoreState W → Type 0
+  DidLoad s w t = (flags_of w ≡ s.word) × (t ≡ s)
+
+  abbrev pub DidQuick : CoreState W → Bool → CoreState W → Type 0
+  DidQuick s won t = (won ≡ is_zero s.word) × (t ≡ record s { word = cond won (flags_alone true false) s.word })
+
+  abbrev pub DidFast : CoreState W → Bool → Bool → CoreState W → Type 0
+  DidFast s ready won t = (won ≡ is_quick_bit s.word) × (t ≡ record s { word = cond won (flags_alone false ready) s.word })
+
+  -- below the limit the count grows; at it the word tells whether the value is set
+  abbrev pub DidCountIn : CoreState W → ℕ → Counted → CoreState W → Type 0
+  DidCountIn s limit (In w) t = (s.word.count < limit) × (flags_of w ≡ s.word) × (t ≡ record s { word = record s.word { count = suc s.word.count } })
+  DidCountIn s limit SeenReady t = (limit ≤ s.word.count) × (s.word.ready ≡ true) × (t ≡ s)
+  DidCountIn s limit Full t = (limit ≤ s.word.count) × (s.word.ready ≡ false) × (t ≡ s)
+
+  abbrev pub DidAddOne : CoreState W → CoreState W → Type 0
+  DidAddOne s t = t ≡ record s { word = record s.word { count = suc s.word.count } }
+
+  abbrev pub DidCountOut : CoreState W → ℕ → CoreState W → Type 0
+  DidCountOut s w t = (flags_of w ≡ t.word) × (t ≡ record s { word = record s.word { count = s.word.count - 1 } })
+
+  abbrev pub DidDoorGet : CoreState W → Option ℕ → CoreState W → Type 0
+  DidDoorGet s q t = (q ≡ s.door) × (t ≡ s)
+
+  abbrev pub put_state : Bool → Option ℕ → CoreState W → CoreState W
+  put_state true None s = record s { door = Some (suc s.made); head = false; listings = []; made = suc s.made; log = s.log ++ Put (suc s.made) ∷ [] }
+  put_state _ _ s = s
+
+  abbrev pub DidDoorPut : CoreState W → Option ℕ → CoreState W → Type 0
+  DidDoorPut s q t = (q ≡ put_answer s.granted s.door s.made) × (t ≡ put_state s.granted s.door s)
+
+  -- the queue at the door is taken out, with its flag and all who are listed; where none stands all is as it was
+  abbrev pub take_by : Option ℕ → CoreState W → CoreState W
+  take_by (Some q) s = record s { door = None; head = false; listings = []; log = s.log ++ Taken q ∷ [] }
+  take_by None s = s
+
+  abbrev pub take_state : CoreState W → CoreState W
+  take_state s = take_by s.door s
+
+  -- where no queue stands at the door, nobody holds by its flag and nobody is listed
+  abbrev pub IsBare : CoreState W → Type 0
+  IsBare s = s.door ≡ None → (s.head ≡ false) × (s.listings ≡ [])
+
+  abbrev pub DidDoorTake : CoreState W → Bool → CoreState W → Type 0
+  DidDoorTake s stood t = (stood ≡ is_some s.door) × (t ≡ take_state s)
+
+  -- a release asks that the value is not set, and that exactly one of the two flags stands
+  abbrev pub CanSection : CoreState W → Op W → Type 0
+  CanSection s (Release ready) = (s.word.ready ≡ false) × (s.head ≡ not s.word.quick)
+  CanSection s op = Unit {0}
+
+  -- nobody holds, and the value is not set
+  abbrev pub is_free : CoreState W → Bool
+  is_free s = shows_free s.word s.head
+
+  -- what a release leaves, with these listings
+  abbrev pub release_state : Bool → List (Listing W) → CoreState W → CoreState W
+  release_state ready xs s = record s { word = record s.word { quick = false; ready = ready }; head = cond s.word.quick s.head false; listings = xs }
+
+  -- who leaves takes its listing out, and passes its turn on where it had it
+  abbrev pub passes : ℕ → CoreState W → Bool
+  passes n s = passes_turn (is_free s) n s.listings
+
+  abbrev pub leave_state : ℕ → CoreState W → CoreState W
+  leave_state n s = record s { listings = left_list (passes n s) n s.listings }
+
+  -- a claim takes the own listing out, and gives the ticket up
+  abbrev pub claim_state : Op W → CoreState W → CoreState W
+  claim_state op s = record s { head = true; listings = without (ticket_in op) s.listings }
+
+module _ {W : Type 0} (same other : W → W → Type 0) where
+  -- a section on the queue at the door, where some task holds. A listing that was not there is refused where memory is not given
+  abbrev pub FindsHolder : CoreState W → Op W → Answer W → Op W → CoreState W → Type 0
+  FindsHolder s (Look k) a o t = Looked same other s.current (own_listing k s.listings) a × (t ≡ s) × (o ≡ Look k)
+  FindsHolder s (ListOp k None) a o t = ⊥
+  FindsHolder s (ListOp k (Some w)) a o t =
+      ((a ≡ Memory) × (kept_ticket k s.listings ≡ None) × (s.granted ≡ false) × (t ≡ s) × (o ≡ ListOp k (Some w)))
+      ⊎ ((a ≡ Listed) × ((is_some (kept_ticket k s.listings) || s.granted) ≡ true)
+      × (t ≡ record s { listings = listed_anew (ticket_for k s.listings) w s.listings }) × (o ≡ ListOp (Some (ticket_for k s.listings)) None))
+  FindsHolder s op a o t = ⊥
+
+  -- a look or a listing on the queue at the door, by what the flags show
+  pub record Found (s : CoreState W) (op : Op W) (a : Answer W) (o : Op W) (t : CoreState W) : Type 0 where
+    pub set : shows_set s.word ≡ true → (a ≡ Ready) × (t ≡ s) × (o ≡ op)
+    pub free : shows_free s.word s.head ≡ true → (a ≡ Claimed) × (t ≡ claim_state op s) × (o ≡ given_up op)
+    pub taken : shows_taken s.word s.head ≡ true → FindsHolder s op a o t
+
+  -- a section on the queue at the door
+  abbrev pub AtDoor : CoreState W → Op W → Answer W → Op W → CoreState W → Type 0
+  AtDoor s (Release ready) (Released out) o t = Releases same other ready s.listings out t.listings × (t ≡ release_state ready t.listings s) × (o ≡ Release ready)
+  AtDoor s (Release ready) a o t = ⊥
+  AtDoor s (Leave n) (Left w) o t = (w ≡ next_waker (passes n s) n s.listings) × (t ≡ leave_state n s) × (o ≡ Leave n)
+  AtDoor s (Leave n) a o t = ⊥
+  AtDoor s op a o t = Found s op a o t
+
+  -- a section on the queue q: it is logged, and finds its queue at the door or gone
+  pub record DidSection (s : CoreState W) (q : ℕ) (op : Op W) (a : Answer W) (o : Op W) (t : CoreState W) : Type 0 where
+    pub here : s.door ≡ Some q → AtDoor (record s { log = s.log ++ Entered q ∷ [] }) op a o t
+    pub gone : s.door ≢ Some q → (a ≡ Gone) × (t ≡ record s { log = s.log ++ Entered q ∷ [] }) × (o ≡ op)

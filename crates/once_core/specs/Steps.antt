@@ -1,0 +1,290 @@
+-- The table of places: what one step does, by what the calls of the parts and of the side tell.
+use Rattle.std.specs.Prelude.{◌≡◌, ℕ, Bool, true, false, Option, Some, None}
+use Rattle.once_core.specs.declared.parts.Counted.{Counted}
+use Rattle.once_core.specs.declared.parts.Counted.TheVariants.{In, Full as CountFull, SeenReady}
+use Rattle.once_queue.specs.declared.waiters.Op.{Op}
+use Rattle.once_queue.specs.declared.waiters.Op.TheVariants.{Look as LookOp, List as ListOp, Release as ReleaseOp, Leave as LeaveOp}
+use Rattle.once_queue.specs.declared.waiters.Answer.{Answer as SectionAnswer}
+use Rattle.once_queue.specs.declared.waiters.Answer.TheVariants.{Ready, Claimed, Listed, Memory as NoMemory, Released, Left}
+use Rattle.once_queue.specs.declared.waiters.Out.{Out}
+use Rattle.once_queue.specs.declared.waiters.Out.TheVariants.{One}
+use Rattle.once_core.specs.declared.step.Polled.{Polled}
+use Rattle.once_core.specs.declared.step.Polled.TheVariants.{Pending as PolledPending, Value as PolledValue, Error as PolledError}
+pub use Rattle.once_core.specs.declared.step.Ending.{Ending}
+pub use Rattle.once_core.specs.declared.step.Ending.TheVariants.{Pending as EndPending, Value as EndValue, Error as EndError, Memory as EndMemory, Full as EndFull, Dropped as EndDropped}
+pub use Rattle.once_core.specs.declared.step.Progress.{Progress}
+pub use Rattle.once_core.specs.declared.step.Progress.TheVariants.{More, Ended}
+pub use Rattle.once_core.specs.declared.step.place.Rest.{Rest}
+pub use Rattle.once_core.specs.declared.step.place.Rest.TheVariants.{Start as RestStart, Wait as RestWait, Run as RestRun}
+pub use Rattle.once_core.specs.declared.step.place.Place.{Place}
+pub use Rattle.once_core.specs.declared.step.place.Place.TheVariants.{Start as AtStart, TryQuick as AtTryQuick, DoorGet as AtDoorGet, DoorPut as AtDoorPut, CountIn as AtCountIn, WaitLoad as AtWaitLoad, Look as AtLook, List as AtList, Run as AtRun, Put as AtPut, Fast as AtFast, AddOne as AtAddOne, DoorAgain as AtDoorAgain, Release as AtRelease, Leave as AtLeave, CountOut as AtCountOut, DoorTake as AtDoorTake}
+pub use Rattle.once_core.specs.declared.step.Step.{Step}
+pub use Rattle.once_core.specs.declared.step.Step.TheVariants.{Resting, UnderWay, Finished}
+use Rattle.once_queue.specs.Ops.{ticket_in}
+use Rattle.once_queue.specs.Word.{flags_of, is_zero, is_ready_bit}
+
+-- only a call that stops with the value gives the right back with the value set
+abbrev pub is_value : Ending → Bool
+is_value EndValue = true
+is_value _ = false
+
+module _ {W Q : Type 0} where
+  -- how many steps a call at this place may still take
+  abbrev pub left_at : Place W Q → ℕ
+  left_at AtStart = 16
+  left_at AtTryQuick = 15
+  left_at AtDoorGet = 14
+  left_at AtDoorPut = 13
+  left_at (AtCountIn q) = 12
+  left_at (AtWaitLoad q k) = 11
+  left_at (AtLook q k) = 10
+  left_at (AtList q k w) = 9
+  left_at (AtRun by) = 8
+  left_at (AtPut by) = 7
+  left_at (AtFast e) = 6
+  left_at (AtAddOne e) = 5
+  left_at (AtDoorAgain e) = 4
+  left_at (AtRelease q e) = 3
+  left_at (AtLeave q n e) = 3
+  left_at (AtCountOut e) = 2
+  left_at (AtDoorTake e) = 1
+
+  abbrev pub left_of : Step W Q → ℕ
+  left_of (UnderWay p) = left_at p
+  left_of _ = 0
+
+  -- no call is under way, and the task is not finished
+  abbrev pub is_resting : Step W Q → Bool
+  is_resting (Resting r) = true
+  is_resting _ = false
+
+  -- a call is under way
+  abbrev pub in_call : Step W Q → Bool
+  in_call (UnderWay p) = true
+  in_call _ = false
+
+  -- the last call ended with anything but Pending
+  abbrev pub is_finished : Step W Q → Bool
+  is_finished Finished = true
+  is_finished _ = false
+
+  -- the next step polls the init
+  abbrev pub is_running : Step W Q → Bool
+  is_running (UnderWay (AtRun by)) = true
+  is_running _ = false
+
+  -- the next step takes the listing out
+  abbrev pub is_leaving : Step W Q → Bool
+  is_leaving (UnderWay (AtLeave q n e)) = true
+  is_leaving _ = false
+
+  -- the next step is the fast release
+  abbrev pub is_freeing : Step W Q → Bool
+  is_freeing (UnderWay (AtFast e)) = true
+  is_freeing _ = false
+
+  -- the next step counts a holder in, whose fast release was not done
+  abbrev pub is_adding : Step W Q → Bool
+  is_adding (UnderWay (AtAddOne e)) = true
+  is_adding _ = false
+
+  -- a poll goes on from the place at rest
+  abbrev pub begun_at : Rest Q → Place W Q
+  begun_at RestStart = AtStart
+  begun_at (RestWait q k) = AtWaitLoad q k
+  begun_at (RestRun by) = AtRun by
+
+  abbrev pub begun : Step W Q → Step W Q
+  begun (Resting r) = UnderWay (begun_at r)
+  begun s = s
+
+  -- where a holder gives the right back: by the fast release where it claimed quickly, else under the lock of its queue
+  abbrev pub give_back : Option Q → Ending → Place W Q
+  give_back None e = AtFast e
+  give_back (Some q) e = AtRelease q e
+
+  -- where a waiter goes that is dropped or refused: it takes its listing out, if it has a ticket
+  abbrev pub leave_by : Q → Option ℕ → Ending → Place W Q
+  leave_by q None e = AtCountOut e
+  leave_by q (Some n) e = AtLeave q n e
+
+  -- a drop goes on from the place at rest; it is over where the task was never polled
+  abbrev pub dropped_at : Rest Q → Step W Q
+  dropped_at RestStart = Finished
+  dropped_at (RestWait q k) = UnderWay (leave_by q k EndDropped)
+  dropped_at (RestRun by) = UnderWay (give_back by EndDropped)
+
+  abbrev pub dropped : Step W Q → Step W Q
+  dropped (Resting r) = dropped_at r
+  dropped s = s
+
+-- what follows a call: whether the init is closed, the progress, and the step after
+pub record Next (W Q : Type 0) : Type 0 where
+  pub closes : Bool
+  pub progress : Progress
+  pub step : Step W Q
+
+module _ {W Q : Type 0} where
+  -- the call goes on at the place
+  abbrev pub on : Place W Q → Next W Q
+  on p = record { closes = false; progress = More; step = UnderWay p }
+
+  -- the same, after the init was closed
+  abbrev pub closes_on : Place W Q → Next W Q
+  closes_on p = record { closes = true; progress = More; step = UnderWay p }
+
+  -- the call stops for good
+  abbrev pub stops : Ending → Next W Q
+  stops e = record { closes = false; progress = Ended e; step = Finished }
+
+  abbrev pub closes_stops : Ending → Next W Q
+  closes_stops e = record { closes = true; progress = Ended e; step = Finished }
+
+  -- the poll stops Pending
+  abbrev pub rests : Rest Q → Next W Q
+  rests r = record { closes = false; progress = Ended EndPending; step = Resting r }
+
+  -- ready, NEW
+  abbrev pub after_start : Bool → Bool → Next W Q
+  after_start true _ = closes_stops EndValue
+  after_start false true = on AtTryQuick
+  after_start false false = on AtDoorGet
+
+  abbrev pub after_quick : Bool → Next W Q
+  after_quick true = on (AtRun None)
+  after_quick false = on AtDoorGet
+
+  abbrev pub after_door_get : Option Q → Next W Q
+  after_door_get (Some q) = on (AtCountIn q)
+  after_door_get None = on AtDoorPut
+
+  abbrev pub after_door_put : Option Q → Next W Q
+  after_door_put (Some q) = on (AtCountIn q)
+  after_door_put None = closes_stops EndMemory
+
+  -- the word of a counted task says that the value is set, or not
+  abbrev pub after_in : Bool → Q → Next W Q
+  after_in true q = closes_on (AtCountOut EndValue)
+  after_in false q = on (AtWaitLoad q None)
+
+  abbrev pub after_count_in : Counted → Q → Next W Q
+  after_count_in (In w) q = after_in (flags_of w).ready q
+  after_count_in CountFull q = closes_stops EndFull
+  after_count_in SeenReady q = closes_stops EndValue
+
+  abbrev pub after_load : Bool → Q → Option ℕ → Next W Q
+  after_load true q k = closes_on (AtCountOut EndValue)
+  after_load false q k = on (AtLook q k)
+
+  abbrev pub after_copy : Option W → Q → Option ℕ → Next W Q
+  after_copy (Some w) q k = on (AtList q k w)
+  after_copy None q k = closes_on (leave_by q k EndMemory)
+
+  -- with the ticket that the section left
+  abbrev pub after_list : SectionAnswer W → Q → Option ℕ → Next W Q
+  after_list Ready q k = closes_on (AtCountOut EndValue)
+  after_list Claimed q k = on (AtRun (Some q))
+  after_list NoMemory q k = closes_on (leave_by q k EndMemory)
+  after_list _ q k = rests (RestWait q k)
+
+  abbrev pub after_run : Polled → Option Q → Next W Q
+  after_run PolledPending by = rests (RestRun by)
+  after_run PolledValue by = closes_on (AtPut by)
+  after_run PolledError by = closes_on (give_back by EndError)
+
+  -- the word was exactly the quick bit; the call stops with the value
+  abbrev pub after_fast : Bool → Bool → Ending → Next W Q
+  after_fast true true e = on (AtDoorTake e)
+  after_fast true false e = stops e
+  after_fast false fills e = on (AtAddOne e)
+
+  abbrev pub after_door_again : Option Q → Ending → Next W Q
+  after_door_again (Some q) e = on (AtRelease q e)
+  after_door_again None e = on (AtCountOut e)
+
+  -- the word is exactly the ready bit
+  abbrev pub after_count_out : Bool → Ending → Next W Q
+  after_count_out true e = on (AtDoorTake e)
+  after_count_out false e = stops e
+
+module _ {W Q : Type 0} where
+  -- what follows happened, without a close
+  abbrev pub LeadsTo : Next W Q → Progress → Step W Q → Type 0
+  LeadsTo n r t = (r ≡ n.progress) × (t ≡ n.step)
+
+module _ {S : Type 0} (close : S → S → Type 0) where
+  abbrev pub MayClose : Bool → S → S → Type 0
+  MayClose true s s' = close s s'
+  MayClose false s s' = s' ≡ s
+
+module _ {S W Q : Type 0} (close : S → S → Type 0) where
+  -- what follows happened
+  abbrev pub Follows : Next W Q → S → S → Progress → Step W Q → Type 0
+  Follows n s s' r t = MayClose close n.closes s s' × (r ≡ n.progress) × (t ≡ n.step)
+
+module _ {S W Q : Type 0} (close : S → S → Type 0) (copy : S → Option W → S → Type 0) where
+  -- after a look, with the ticket that it left: where another task holds and the waker is not listed, it is copied
+  abbrev pub AfterLook : SectionAnswer W → Q → Option ℕ → S → S → Progress → Step W Q → Type 0
+  AfterLook Ready q k s s' r t = Follows close (closes_on (AtCountOut EndValue)) s s' r t
+  AfterLook Claimed q k s s' r t = Follows close (on (AtRun (Some q))) s s' r t
+  AfterLook Listed q k s s' r t = Follows close (rests (RestWait q k)) s s' r t
+  AfterLook _ q k s s' r t = (c : Option W) × (m : S) × copy s c m × Follows close (after_copy c q k) m s' r t
+
+-- what a release hands out; any other answer hands nobody out
+abbrev pub released_by : {W : Type 0} → SectionAnswer W → Out W
+released_by (Released out) = out
+released_by _ = One None
+
+-- whom one who leaves calls
+abbrev pub left_by : {W : Type 0} → SectionAnswer W → Out W
+left_by (Left w) = One w
+left_by _ = One None
+
+module _ {P W Q : Type 0} (can_add_one can_count_out can_log : P → Type 0) (can_section : P → Q → Op W → Type 0) where
+  -- what the call of a place asks of the parts
+  abbrev pub AsksAt : Place W Q → P → Type 0
+  AsksAt AtDoorPut p = can_log p
+  AsksAt (AtLook q k) p = can_log p × can_section p q (LookOp k)
+  AsksAt (AtList q k w) p = can_log p × can_section p q (ListOp k (Some w))
+  AsksAt (AtAddOne e) p = can_add_one p
+  AsksAt (AtRelease q e) p = can_log p × can_section p q (ReleaseOp (is_value e))
+  AsksAt (AtLeave q n e) p = can_log p × can_section p q (LeaveOp n)
+  AsksAt (AtCountOut e) p = can_count_out p
+  AsksAt (AtDoorTake e) p = can_log p
+  AsksAt _ p = Unit {0}
+
+  abbrev pub Asks : Step W Q → P → Type 0
+  Asks (UnderWay at) p = AsksAt at p
+  Asks _ p = Unit {0}
+
+module _ {P S W Q : Type 0}
+    (load : P → ℕ → P → Type 0) (quick : P → Bool → P → Type 0) (fast : P → Bool → Bool → P → Type 0)
+    (count_in : P → ℕ → Counted → P → Type 0) (add_one : P → P → Type 0) (count_out : P → ℕ → P → Type 0)
+    (door_get door_put : P → Option Q → P → Type 0) (door_take : P → Bool → P → Type 0)
+    (section : P → Q → Op W → SectionAnswer W → Op W → P → Type 0)
+    (run : S → Polled → S → Type 0) (close put : S → S → Type 0) (copy : S → Option W → S → Type 0) (wake : S → Out W → S → Type 0) where
+  -- one line of the table: the limit, the place, parts and side before, the progress, and the step, parts and side after
+  abbrev pub Line : ℕ → Place W Q → P → S → Progress → Step W Q → P → S → Type 0
+  Line limit AtStart p s r t p' s' = (w : ℕ) × load p w p' × Follows close (after_start (flags_of w).ready (is_zero (flags_of w))) s s' r t
+  Line limit AtTryQuick p s r t p' s' = (b : Bool) × quick p b p' × Follows close (after_quick b) s s' r t
+  Line limit AtDoorGet p s r t p' s' = (q : Option Q) × door_get p q p' × Follows close (after_door_get q) s s' r t
+  Line limit AtDoorPut p s r t p' s' = (q : Option Q) × door_put p q p' × Follows close (after_door_put q) s s' r t
+  Line limit (AtCountIn q) p s r t p' s' = (c : Counted) × count_in p limit c p' × Follows close (after_count_in c q) s s' r t
+  Line limit (AtWaitLoad q k) p s r t p' s' = (w : ℕ) × load p w p' × Follows close (after_load (flags_of w).ready q k) s s' r t
+  Line limit (AtLook q k) p s r t p' s' = (a : SectionAnswer W) × (o : Op W) × section p q (LookOp k) a o p' × AfterLook close copy a q (ticket_in o) s s' r t
+  Line limit (AtList q k w) p s r t p' s' = (a : SectionAnswer W) × (o : Op W) × section p q (ListOp k (Some w)) a o p' × Follows close (after_list a q (ticket_in o)) s s' r t
+  Line limit (AtRun by) p s r t p' s' = (a : Polled) × (m : S) × run s a m × (p' ≡ p) × Follows close (after_run a by) m s' r t
+  Line limit (AtPut by) p s r t p' s' = put s s' × (p' ≡ p) × (r ≡ More) × (t ≡ UnderWay (give_back by EndValue))
+  Line limit (AtFast e) p s r t p' s' = (b : Bool) × fast p (is_value e) b p' × Follows close (after_fast b (is_value e) e) s s' r t
+  Line limit (AtAddOne e) p s r t p' s' = add_one p p' × Follows close (on (AtDoorAgain e)) s s' r t
+  Line limit (AtDoorAgain e) p s r t p' s' = (q : Option Q) × door_get p q p' × Follows close (after_door_again q e) s s' r t
+  Line limit (AtRelease q e) p s r t p' s' =
+      (a : SectionAnswer W) × (o : Op W) × section p q (ReleaseOp (is_value e)) a o p' × wake s (released_by a) s' × (r ≡ More) × (t ≡ UnderWay (AtCountOut e))
+  Line limit (AtLeave q n e) p s r t p' s' =
+      (a : SectionAnswer W) × (o : Op W) × section p q (LeaveOp n) a o p' × wake s (left_by a) s' × (r ≡ More) × (t ≡ UnderWay (AtCountOut e))
+  Line limit (AtCountOut e) p s r t p' s' = (w : ℕ) × count_out p w p' × Follows close (after_count_out (is_ready_bit (flags_of w)) e) s s' r t
+  Line limit (AtDoorTake e) p s r t p' s' = (b : Bool) × door_take p b p' × Follows close (stops e) s s' r t
+
+  abbrev pub Advances : ℕ → Step W Q → P → S → Progress → Step W Q → P → S → Type 0
+  Advances limit (UnderWay at) p s r t p' s' = Line limit at p s r t p' s'
+  Advances limit _ p s r t p' s' = ⊥

@@ -1,0 +1,264 @@
+//! The parts as plain data.
+ghost use Rattle.once_queue.specs.declared.waiters.Op.{Op};
+ghost use Rattle.std.specs.Prelude.{◌≡◌, ◌<◌, ◌≤◌, ◌+◌, ◌-◌, ◌^◌, ◌++◌, ◌∷◌, ℕ, Bool, true, false, [], Some, None, Option, OnOk, IsSome, IsTrue, ◌↔◌, not, cond, vec_len, vec_capacity};
+
+use crate::parts::{Counted, Parts, QueueLine};
+use once_queue::waiters::{Answer, Lists, Op, Out, WakerId};
+use once_queue::word::Word;
+use std::alloc::{AllocError, Global};
+
+/// The parts as plain data, lent to one caller at a time. Its queues are numbers, counted from 1.
+#[derive(Drop)]
+pub struct Core<W: WakerId> {
+    pub word: Word,
+    pub door: Option<u64>,
+    pub lists: Lists<W>,
+    pub made: u64,
+    pub granted: bool,
+    pub current: Option<W>,
+    pub log: Vec<QueueLine>,
+    ghost counted: { made ≤ vec_len log },
+    // Where no queue stands at the door, nobody holds by its flag and nobody is listed.
+    ghost bare: { door ≡ None → (lists.head ≡ false) × (lists.listings.items ≡ []) },
+}
+
+impl<W: WakerId + Drop> Core<W> {
+    ghost use Rattle.once_queue.specs.Word.{flags_alone};
+    ghost use Rattle.once_core.specs.Core.{CoreState, state_of, HasRoom, take_state, release_state, leave_state, passes, Found};
+    ghost use Rattle.once_queue.specs.Listings.{next_waker};
+    ghost use Rattle.once_queue.specs.Room.{HasSpace};
+    ghost use Rattle.once_queue.specs.Sections.{Releases};
+
+    /// A core that nobody used, made with a value or not. It takes no memory.
+    pub fn new(alloc: Global, ready: bool) -> Self
+        ensures { state_of result ≡ record { word = flags_alone false ready; door = None; head = false; listings = []; made = 0; granted = true; current = None; log = [] } }
+    {
+        Core {
+            word: Word::new(ready),
+            door: None,
+            lists: Lists::new(alloc),
+            made: 0,
+            granted: true,
+            current: None,
+            log: Vec::new(alloc),
+        }
+    }
+
+    /// Makes this the current waker. It is no step.
+    pub fn set_waker(&mut self, waker: W)
+        ensures state { state_of self.new ≡ record (state_of self.old) { current = Some waker } }
+        ensures room { HasRoom self.old → HasRoom self.new }
+    {
+        self.current = Some(waker);
+    }
+
+    /// Says whether the next steps are given memory.
+    pub fn grant(&mut self, granted: bool)
+        ensures state { state_of self.new ≡ record (state_of self.old) { granted = granted } }
+        ensures room { HasRoom self.old → HasRoom self.new }
+    {
+        self.granted = granted;
+    }
+
+    /// Makes room for one more listing and for one more line of the log. Where that is refused all is
+    /// as it was.
+    pub fn reserve(&mut self) -> Result<(), AllocError>
+        ensures room { OnOk result (HasRoom self.new) }
+        ensures state { state_of self.new ≡ state_of self.old }
+    {
+        self.lists.reserve()?;
+        self.log.reserve(1)
+    }
+
+    /// Takes the queue out of the door, and makes the word that of a new cell.
+    pub fn reset(&mut self, ready: bool)
+        requires { HasRoom self.old }
+        ensures { state_of self.new ≡ record (take_state (state_of self.old)) { word = flags_alone false ready } }
+    {
+        self.take_out();
+        self.word = Word::new(ready);
+    }
+
+    /// The queue log, the oldest line first.
+    pub fn into_log(self) -> Vec<QueueLine>
+        ensures { result.items ≡ (state_of self).log }
+    {
+        self.log
+    }
+
+    // The section of a look, on the queue at the door.
+    fn look(&mut self, ticket: &mut Option<u64>) -> Answer<W>
+        requires door { IsSome self.old.door }
+        ensures { Found W.tells_same W.tells_other (state_of self.old) (Op.Look ticket.old) result (Op.Look ticket.new) (state_of self.new) }
+    {
+        let word = self.word.bits();
+        self.lists.look(ticket, self.current.as_ref(), word)
+    }
+
+    // The section of a listing: where memory is not given, one that was not there is refused.
+    fn list(&mut self, ticket: &mut Option<u64>, waker: &mut Option<W>) -> Answer<W>
+        requires door { IsSome self.old.door }
+        requires waker { IsSome waker.old }
+        requires room { HasSpace self.old.lists }
+        ensures { Found W.tells_same W.tells_other (state_of self.old) (Op.List ticket.old waker.old) result (Op.List ticket.new waker.new) (state_of self.new) }
+    {
+        let word = self.word.bits();
+        if self.granted || self.lists.is_listed(*ticket) {
+            return self.lists.list(ticket, waker, word);
+        }
+        match self.lists.look(ticket, waker.as_ref(), word) {
+            Answer::Held => Answer::Memory,
+            answer => answer,
+        }
+    }
+
+    // The section of a release: clears the quick flag if it stood, else the flag beside the list.
+    fn release(&mut self, ready: bool) -> Out<W>
+        requires door { IsSome self.old.door }
+        requires unset { self.old.word.ready ≡ false }
+        requires one { self.old.lists.head ≡ not self.old.word.quick }
+        ensures out { Releases W.tells_same W.tells_other ready (state_of self.old).listings result (state_of self.new).listings }
+        ensures state { state_of self.new ≡ release_state ready (state_of self.new).listings (state_of self.old) }
+    {
+        self.word.give_back(ready);
+        self.lists.release(ready)
+    }
+
+    // The section of one who leaves.
+    fn leave(&mut self, ticket: u64) -> Option<W>
+        requires door { IsSome self.old.door }
+        ensures waker { result ≡ next_waker (passes ticket (state_of self.old)) ticket (state_of self.old).listings }
+        ensures state { state_of self.new ≡ leave_state ticket (state_of self.old) }
+    {
+        let word = self.word.bits();
+        self.lists.leave(ticket, word)
+    }
+
+    // Takes the queue out of the door, with all that was listed in it, where one stands.
+    fn take_out(&mut self) -> bool
+        requires { HasRoom self.old }
+        ensures stood { IsTrue result ↔ IsSome self.old.door }
+        ensures state { state_of self.new ≡ take_state (state_of self.old) }
+    {
+        let Some(queue) = self.door else {
+            return false;
+        };
+        self.lists = Lists::new(*self.log.allocator());
+        self.door = None;
+        self.write(QueueLine::Taken(queue));
+        true
+    }
+
+    // Writes a line of the log, for which there is room.
+    fn write(&mut self, line: QueueLine)
+        requires { vec_len self.old.log < vec_capacity self.old.log }
+        ensures state { state_of self.new ≡ record (state_of self.old) { log = self.old.log.items ++ line ∷ [] } }
+        ensures longer { vec_len self.new.log ≡ vec_len self.old.log + 1 }
+        ensures wakers { self.new.lists ≡ self.old.lists }
+    {
+        self.log.push(line).unwrap();
+    }
+}
+
+impl<W: WakerId + Drop> Parts<W> for Core<W> {
+    ghost use Rattle.once_core.specs.Core.{state_of, HasRoom, CanSection, DidLoad, DidQuick, DidFast, DidCountIn, DidAddOne, DidCountOut, DidDoorGet, DidDoorPut, DidDoorTake, DidSection};
+
+    type Queue = u64;
+
+    ghost did_load = { λ s w t. DidLoad (state_of s) w (state_of t) };
+
+    ghost did_quick = { λ s won t. DidQuick (state_of s) won (state_of t) };
+
+    ghost did_fast = { λ s ready won t. DidFast (state_of s) ready won (state_of t) };
+
+    ghost did_count_in = { λ s limit c t. DidCountIn (state_of s) limit c (state_of t) };
+
+    ghost can_add_one = { λ s. s.word.count < 2 ^ 62 - 1 };
+
+    ghost did_add_one = { λ s t. DidAddOne (state_of s) (state_of t) };
+
+    ghost can_count_out = { λ s. 0 < s.word.count };
+
+    ghost did_count_out = { λ s w t. DidCountOut (state_of s) w (state_of t) };
+
+    ghost did_door_get = { λ s q t. DidDoorGet (state_of s) q (state_of t) };
+
+    ghost can_log = { λ s. HasRoom s };
+
+    ghost did_door_put = { λ s q t. DidDoorPut (state_of s) q (state_of t) };
+
+    ghost did_door_take = { λ s stood t. DidDoorTake (state_of s) stood (state_of t) };
+
+    ghost can_section = { λ s q op. CanSection (state_of s) op };
+
+    ghost did_section = { λ s q op a o t. DidSection W.tells_same W.tells_other (state_of s) q op a o (state_of t) };
+
+    fn load(&mut self) -> u64 {
+        self.word.bits()
+    }
+
+    fn quick(&mut self) -> bool {
+        self.word.quick()
+    }
+
+    fn fast(&mut self, ready: bool) -> bool {
+        self.word.fast(ready)
+    }
+
+    fn count_in(&mut self, limit: u64) -> Counted {
+        if self.word.count() < limit {
+            let before = self.word.bits();
+            self.word.count_in();
+            Counted::In(before)
+        } else if self.word.is_ready() {
+            Counted::SeenReady
+        } else {
+            Counted::Full
+        }
+    }
+
+    fn add_one(&mut self) {
+        self.word.count_in();
+    }
+
+    fn count_out(&mut self) -> u64 {
+        self.word.count_out();
+        self.word.bits()
+    }
+
+    fn door_get(&mut self) -> Option<u64> {
+        self.door
+    }
+
+    fn door_put(&mut self) -> Option<u64> {
+        if !self.granted {
+            return None;
+        }
+        if self.door.is_some() {
+            return self.door;
+        }
+        self.lists = Lists::new(*self.log.allocator());
+        let queue = self.made + 1;
+        self.write(QueueLine::Put(queue));
+        self.made = queue;
+        self.door = Some(queue);
+        self.door
+    }
+
+    fn door_take(&mut self) -> bool {
+        self.take_out()
+    }
+
+    fn section(&mut self, queue: &u64, op: &mut Op<W>) -> Answer<W> {
+        self.write(QueueLine::Entered(*queue));
+        if self.door != Some(*queue) {
+            return Answer::Gone;
+        }
+        match op {
+            Op::Look(ticket) => self.look(ticket),
+            Op::List(ticket, waker) => self.list(ticket, waker),
+            Op::Release(ready) => Answer::Released(self.release(*ready)),
+            Op::Leave(ticket) => Answer::Left(self.leave(*ticket)),
+        }
+    }
+}

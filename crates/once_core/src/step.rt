@@ -1,0 +1,563 @@
+//! One step of a call at a time, over any parts and any side.
+ghost use Rattle.std.specs.Prelude.{◌≡◌, ◌<◌, ◌≤◌, ◌-◌, ◌^◌, ◌↔◌, IsTrue, ℕ, Bool, true, false, Option, Some, None};
+ghost use Rattle.once_queue.specs.declared.waiters.Answer.{Answer};
+ghost use Rattle.once_queue.specs.declared.waiters.Op.{Op};
+ghost use Rattle.once_core.specs.declared.step.Polled.{Polled};
+
+mod place;
+
+use crate::parts::{Counted, Parts};
+use once_queue::waiters::{Answer, Op, Out};
+use once_queue::word::{NEW, READY_BIT};
+pub use place::{Place, Rest};
+use std::mem;
+
+/// What one poll of an init answered. The side keeps the value or the error.
+#[derive(Clone, Copy, Debug, PartialEq, Eq)]
+pub enum Polled {
+    Pending,
+    Value,
+    Error,
+}
+
+/// How a call ended. The side keeps the value or the error.
+#[derive(Clone, Copy, Debug, PartialEq, Eq)]
+pub enum Ending {
+    Pending,
+    Value,
+    Error,
+    /// Memory was refused.
+    Memory,
+    /// As many tasks are counted in as may be.
+    Full,
+    Dropped,
+}
+
+impl Ending {
+    ghost use Rattle.once_core.specs.Steps.{is_value as ends_with_value};
+
+    fn is_value(self) -> bool
+        ensures { result ≡ ends_with_value self }
+    {
+        matches!(&self, Ending::Value)
+    }
+}
+
+/// Whether a call goes on after a step.
+#[derive(Clone, Copy, Debug, PartialEq, Eq)]
+pub enum Progress {
+    More,
+    Ended(Ending),
+}
+
+/// What a call brings of its own: its init, the value or error that this gave, and its waker. A
+/// member for each call says what it answers and leaves; one that is left out says nothing. All of
+/// them keep `stays`.
+pub trait Side<W> {
+    ghost use Rattle.std.specs.Prelude.{⊤, Option};
+    ghost use Rattle.once_queue.specs.declared.waiters.Out.{Out};
+    ghost use Rattle.once_core.specs.declared.step.Polled.{Polled};
+
+    ghost did_run: { Self → Polled → Self → Type 0 } = { λ _ _ _. ⊤ };
+
+    ghost did_close: { Self → Self → Type 0 } = { λ _ _. ⊤ };
+
+    ghost did_put: { Self → Self → Type 0 } = { λ _ _. ⊤ };
+
+    ghost did_copy: { Self → Option W → Self → Type 0 } = { λ _ _ _. ⊤ };
+
+    ghost did_wake: { Self → Out W → Self → Type 0 } = { λ _ _ _. ⊤ };
+
+    ghost stays: { Self → Self → Type 0 };
+
+    /// Polls the init once, and keeps a value or an error that it gave. An init that is gone answers
+    /// Pending.
+    fn run(&mut self) -> Polled
+        ensures did { did_run self.old result self.new }
+        ensures stays { stays self.old self.new };
+
+    /// Drops the init.
+    fn close(&mut self)
+        ensures did { did_close self.old self.new }
+        ensures stays { stays self.old self.new };
+
+    /// Sets the value that the init gave.
+    fn put(&mut self)
+        ensures did { did_put self.old self.new }
+        ensures stays { stays self.old self.new };
+
+    /// Copies the current waker. `None` says that memory was refused.
+    fn copy(&mut self) -> Option<W>
+        ensures did { did_copy self.old result self.new }
+        ensures stays { stays self.old self.new };
+
+    /// Calls whom a section handed out: one, all, or nobody.
+    fn wake(&mut self, out: Out<W>)
+        ensures did { did_wake self.old out self.new }
+        ensures stays { stays self.old self.new };
+
+    ghost stays_same: { (a : Self) → stays a a };
+
+    ghost stays_on: { (a b c : Self) → stays a b → stays b c → stays a c };
+}
+
+/// The place at which a task stands.
+#[derive(Drop)]
+pub enum Step<W, Q> {
+    /// No call is under way.
+    Resting(Rest<Q>),
+    /// A call is under way.
+    UnderWay(Place<W, Q>),
+    /// The last call ended with anything but Pending.
+    Finished,
+}
+
+impl<W: Drop, Q: Drop> Step<W, Q> {
+    ghost use Rattle.once_core.specs.declared.parts.Counted.{Counted};
+    ghost use Rattle.once_queue.specs.Word.{flags_of, is_zero, is_ready_bit};
+    ghost use Rattle.once_queue.specs.Ops.{ticket_in};
+    ghost use Rattle.once_core.specs.Steps.{left_of, is_resting, in_call, is_running, is_leaving, is_freeing, is_adding, is_value, begun, dropped, give_back, Asks, Advances, LeadsTo, Follows, AfterLook, released_by, left_by, after_start, after_quick, after_door_get, after_door_put, after_count_in, after_load, after_copy, after_list, after_run, after_fast, after_door_again, after_count_out};
+
+    /// A task that was not polled yet.
+    pub fn new() -> Self
+        ensures { result ≡ Step.Resting Rest.Start }
+    {
+        Step::Resting(Rest::Start)
+    }
+
+    /// Whether the last call ended with anything but Pending.
+    pub fn is_finished(&self) -> bool
+        ensures { IsTrue result ↔ (self.now ≡ Step.Finished) }
+    {
+        matches!(self, Step::Finished)
+    }
+
+    /// Whether a call may begin: none is under way, and the last one did not end for good.
+    pub fn is_resting(&self) -> bool
+        ensures { result ≡ is_resting self.now }
+    {
+        matches!(self, Step::Resting(_))
+    }
+
+    /// Whether the next step polls the init.
+    pub fn is_running(&self) -> bool
+        ensures { result ≡ is_running self.now }
+    {
+        matches!(self, Step::UnderWay(Place::Run(_)))
+    }
+
+    /// Whether the next step takes the task's listing out.
+    pub fn is_leaving(&self) -> bool
+        ensures { result ≡ is_leaving self.now }
+    {
+        matches!(self, Step::UnderWay(Place::Leave(_, _, _)))
+    }
+
+    /// Whether the next step is the fast release.
+    pub fn is_freeing(&self) -> bool
+        ensures { result ≡ is_freeing self.now }
+    {
+        matches!(self, Step::UnderWay(Place::Fast(_)))
+    }
+
+    /// Whether the next step counts a holder in, whose fast release was not done.
+    pub fn is_adding(&self) -> bool
+        ensures { result ≡ is_adding self.now }
+    {
+        matches!(self, Step::UnderWay(Place::AddOne(_)))
+    }
+
+    /// How many steps the call may still take at most; 0 where none is under way.
+    pub fn left(&self) -> u32
+        ensures left { result ≡ left_of self.now }
+        ensures most { result ≤ 16 }
+        ensures idle { (result ≡ 0) ↔ (in_call self.now ≡ false) }
+    {
+        match self {
+            Step::UnderWay(place) => place.left(),
+            _ => 0,
+        }
+    }
+
+    /// Begins a poll.
+    pub fn begin(&mut self)
+        requires { is_resting self.old ≡ true }
+        ensures { self.new ≡ begun self.old }
+    {
+        *self = match mem::replace(self, Step::Finished) {
+            Step::Resting(Rest::Start) => Step::UnderWay(Place::Start),
+            Step::Resting(Rest::Wait(queue, ticket)) => Step::UnderWay(Place::WaitLoad(
+                queue, ticket,
+            )),
+            Step::Resting(Rest::Run(by)) => Step::UnderWay(Place::Run(by)),
+            other => other,
+        };
+    }
+
+    /// Begins a drop: the init is closed first. `false` says that there is no step to do, because
+    /// the task was never polled.
+    pub fn begin_drop<S: Side<W>>(&mut self, side: &mut S) -> bool
+        requires { is_resting self.old ≡ true }
+        ensures step { self.new ≡ dropped self.old }
+        ensures more { result ≡ in_call self.new }
+        ensures close { S.did_close side.old side.new }
+        ensures stays { S.stays side.old side.new }
+    {
+        side.close();
+        *self = match mem::replace(self, Step::Finished) {
+            Step::Resting(Rest::Start) => Step::Finished,
+            Step::Resting(Rest::Wait(queue, ticket)) => {
+                Step::UnderWay(Place::leaving(queue, ticket, Ending::Dropped))
+            }
+            Step::Resting(Rest::Run(by)) => Step::UnderWay(Place::giving_back(by, Ending::Dropped)),
+            other => other,
+        };
+        matches!(self, Step::UnderWay(_))
+    }
+
+    /// Makes one step of the call that is under way.
+    pub fn advance<P: Parts<W, Queue = Q>, S: Side<W>>(
+        &mut self,
+        parts: &mut P,
+        side: &mut S,
+        limit: u64,
+    ) -> Progress
+        requires call { in_call self.old ≡ true }
+        requires limit { limit ≤ 2 ^ 62 - 2 }
+        requires asks { Asks P.can_add_one P.can_count_out P.can_log P.can_section self.old parts.old }
+        ensures lower { left_of self.new < left_of self.old }
+        ensures line { Advances P.did_load P.did_quick P.did_fast P.did_count_in P.did_add_one P.did_count_out
+            P.did_door_get P.did_door_put P.did_door_take P.did_section
+            S.did_run S.did_close S.did_put S.did_copy S.did_wake
+            limit self.old parts.old side.old result self.new parts.new side.new }
+        ensures stays { S.stays side.old side.new }
+    {
+        let Step::UnderWay(place) = mem::replace(self, Step::Finished) else {
+            unreachable!()
+        };
+        match place {
+            Place::Start => self.start(parts, side),
+            Place::TryQuick => self.try_quick(parts),
+            Place::DoorGet => self.door_get(parts),
+            Place::DoorPut => self.door_put(parts, side),
+            Place::CountIn(queue) => self.count_in(queue, parts, side, limit),
+            Place::WaitLoad(queue, ticket) => self.wait_load(queue, ticket, parts, side),
+            Place::Look(queue, ticket) => self.look(queue, ticket, parts, side),
+            Place::List(queue, ticket, waker) => self.list(queue, ticket, waker, parts, side),
+            Place::Run(by) => self.run(by, side),
+            Place::Put(by) => {
+                side.put();
+                self.on(Place::giving_back(by, Ending::Value))
+            }
+            Place::Fast(ending) => self.fast(ending, parts),
+            Place::AddOne(ending) => {
+                parts.add_one();
+                self.on(Place::DoorAgain(ending))
+            }
+            Place::DoorAgain(ending) => self.door_again(ending, parts),
+            Place::Release(queue, ending) => self.release(queue, ending, parts, side),
+            Place::Leave(queue, ticket, ending) => self.leave(queue, ticket, ending, parts, side),
+            Place::CountOut(ending) => self.count_out(ending, parts),
+            Place::DoorTake(ending) => {
+                parts.door_take();
+                self.end(ending)
+            }
+        }
+    }
+
+    // The call goes on at this place.
+    fn on(&mut self, place: Place<W, Q>) -> Progress
+        ensures more { result ≡ Progress.More }
+        ensures step { self.new ≡ Step.UnderWay place }
+    {
+        *self = Step::UnderWay(place);
+        Progress::More
+    }
+
+    // The call ends so, and the task is finished.
+    fn end(&mut self, ending: Ending) -> Progress
+        ensures ended { result ≡ Progress.Ended ending }
+        ensures step { self.new ≡ Step.Finished }
+    {
+        *self = Step::Finished;
+        Progress::Ended(ending)
+    }
+
+    // The poll ends Pending, and the next call begins here.
+    fn rest(&mut self, rest: Rest<Q>) -> Progress
+        ensures ended { result ≡ Progress.Ended Ending.Pending }
+        ensures step { self.new ≡ Step.Resting rest }
+    {
+        *self = Step::Resting(rest);
+        Progress::Ended(Ending::Pending)
+    }
+
+    fn start<P: Parts<W, Queue = Q>, S: Side<W>>(&mut self, parts: &mut P, side: &mut S) -> Progress
+        ensures line { (w : ℕ) × P.did_load parts.old w parts.new
+            × Follows S.did_close (after_start (flags_of w).ready (is_zero (flags_of w))) side.old side.new result self.new }
+        ensures stays { S.stays side.old side.new }
+    {
+        let word = parts.load();
+        if word >= READY_BIT {
+            side.close();
+            return self.end(Ending::Value);
+        }
+        if word == NEW {
+            return self.on(Place::TryQuick);
+        }
+        self.on(Place::DoorGet)
+    }
+
+    fn try_quick<P: Parts<W, Queue = Q>>(&mut self, parts: &mut P) -> Progress
+        ensures line { (b : Bool) × P.did_quick parts.old b parts.new × LeadsTo (after_quick b) result self.new }
+    {
+        if parts.quick() {
+            return self.on(Place::Run(None));
+        }
+        self.on(Place::DoorGet)
+    }
+
+    fn door_get<P: Parts<W, Queue = Q>>(&mut self, parts: &mut P) -> Progress
+        ensures line { (q : Option Q) × P.did_door_get parts.old q parts.new × LeadsTo (after_door_get q) result self.new }
+    {
+        match parts.door_get() {
+            Some(queue) => self.on(Place::CountIn(queue)),
+            None => self.on(Place::DoorPut),
+        }
+    }
+
+    fn door_put<P: Parts<W, Queue = Q>, S: Side<W>>(
+        &mut self,
+        parts: &mut P,
+        side: &mut S,
+    ) -> Progress
+        requires { P.can_log parts.old }
+        ensures line { (q : Option Q) × P.did_door_put parts.old q parts.new
+            × Follows S.did_close (after_door_put q) side.old side.new result self.new }
+        ensures stays { S.stays side.old side.new }
+    {
+        match parts.door_put() {
+            Some(queue) => self.on(Place::CountIn(queue)),
+            None => {
+                side.close();
+                self.end(Ending::Memory)
+            }
+        }
+    }
+
+    fn count_in<P: Parts<W, Queue = Q>, S: Side<W>>(
+        &mut self,
+        queue: Q,
+        parts: &mut P,
+        side: &mut S,
+        limit: u64,
+    ) -> Progress
+        requires { limit ≤ 2 ^ 62 - 2 }
+        ensures line { (c : Counted) × P.did_count_in parts.old limit c parts.new
+            × Follows S.did_close (after_count_in c queue) side.old side.new result self.new }
+        ensures stays { S.stays side.old side.new }
+    {
+        match parts.count_in(limit) {
+            Counted::In(word) if word >= READY_BIT => {
+                side.close();
+                self.on(Place::CountOut(Ending::Value))
+            }
+            Counted::In(_) => self.on(Place::WaitLoad(queue, None)),
+            Counted::Full => {
+                side.close();
+                self.end(Ending::Full)
+            }
+            Counted::SeenReady => {
+                side.close();
+                self.end(Ending::Value)
+            }
+        }
+    }
+
+    fn wait_load<P: Parts<W, Queue = Q>, S: Side<W>>(
+        &mut self,
+        queue: Q,
+        ticket: Option<u64>,
+        parts: &mut P,
+        side: &mut S,
+    ) -> Progress
+        ensures line { (w : ℕ) × P.did_load parts.old w parts.new
+            × Follows S.did_close (after_load (flags_of w).ready queue ticket) side.old side.new result self.new }
+        ensures stays { S.stays side.old side.new }
+    {
+        if parts.load() >= READY_BIT {
+            side.close();
+            return self.on(Place::CountOut(Ending::Value));
+        }
+        self.on(Place::Look(queue, ticket))
+    }
+
+    fn look<P: Parts<W, Queue = Q>, S: Side<W>>(
+        &mut self,
+        queue: Q,
+        ticket: Option<u64>,
+        parts: &mut P,
+        side: &mut S,
+    ) -> Progress
+        requires log { P.can_log parts.old }
+        requires can { P.can_section parts.old queue (Op.Look ticket) }
+        ensures line { (a : Answer W) × (o : Op W) × P.did_section parts.old queue (Op.Look ticket) a o parts.new
+            × AfterLook S.did_close S.did_copy a queue (ticket_in o) side.old side.new result self.new }
+        ensures stays { S.stays side.old side.new }
+    {
+        let mut op = Op::Look(ticket);
+        match parts.section(&queue, &mut op) {
+            Answer::Ready => {
+                side.close();
+                self.on(Place::CountOut(Ending::Value))
+            }
+            Answer::Claimed => self.on(Place::Run(Some(queue))),
+            Answer::Listed => self.rest(Rest::Wait(queue, op.ticket())),
+            _ => self.copy(queue, op.ticket(), side),
+        }
+    }
+
+    // Copies the waker, while another task holds.
+    fn copy<S: Side<W>>(&mut self, queue: Q, ticket: Option<u64>, side: &mut S) -> Progress
+        ensures line { (c : Option W) × (m : S) × S.did_copy side.old c m
+            × Follows S.did_close (after_copy c queue ticket) m side.new result self.new }
+        ensures stays { S.stays side.old side.new }
+    {
+        match side.copy() {
+            Some(waker) => self.on(Place::List(queue, ticket, waker)),
+            None => {
+                side.close();
+                self.on(Place::leaving(queue, ticket, Ending::Memory))
+            }
+        }
+    }
+
+    fn list<P: Parts<W, Queue = Q>, S: Side<W>>(
+        &mut self,
+        queue: Q,
+        ticket: Option<u64>,
+        waker: W,
+        parts: &mut P,
+        side: &mut S,
+    ) -> Progress
+        requires log { P.can_log parts.old }
+        requires can { P.can_section parts.old queue (Op.List ticket (Some waker)) }
+        ensures line { (a : Answer W) × (o : Op W) × P.did_section parts.old queue (Op.List ticket (Some waker)) a o parts.new
+            × Follows S.did_close (after_list a queue (ticket_in o)) side.old side.new result self.new }
+        ensures stays { S.stays side.old side.new }
+    {
+        let mut op = Op::List(ticket, Some(waker));
+        match parts.section(&queue, &mut op) {
+            Answer::Ready => {
+                side.close();
+                self.on(Place::CountOut(Ending::Value))
+            }
+            Answer::Claimed => self.on(Place::Run(Some(queue))),
+            Answer::Memory => {
+                side.close();
+                self.on(Place::leaving(queue, op.ticket(), Ending::Memory))
+            }
+            _ => self.rest(Rest::Wait(queue, op.ticket())),
+        }
+    }
+
+    fn run<S: Side<W>>(&mut self, by: Option<Q>, side: &mut S) -> Progress
+        ensures line { (a : Polled) × (m : S) × S.did_run side.old a m
+            × Follows S.did_close (after_run a by) m side.new result self.new }
+        ensures stays { S.stays side.old side.new }
+    {
+        match side.run() {
+            Polled::Pending => self.rest(Rest::Run(by)),
+            Polled::Value => {
+                side.close();
+                self.on(Place::Put(by))
+            }
+            Polled::Error => {
+                side.close();
+                self.on(Place::giving_back(by, Ending::Error))
+            }
+        }
+    }
+
+    fn fast<P: Parts<W, Queue = Q>>(&mut self, ending: Ending, parts: &mut P) -> Progress
+        ensures line { (b : Bool) × P.did_fast parts.old (is_value ending) b parts.new
+            × LeadsTo (after_fast b (is_value ending) ending) result self.new }
+    {
+        let filled = ending.is_value();
+        if !parts.fast(filled) {
+            return self.on(Place::AddOne(ending));
+        }
+        if filled {
+            return self.on(Place::DoorTake(ending));
+        }
+        self.end(ending)
+    }
+
+    fn door_again<P: Parts<W, Queue = Q>>(&mut self, ending: Ending, parts: &mut P) -> Progress
+        ensures line { (q : Option Q) × P.did_door_get parts.old q parts.new
+            × LeadsTo (after_door_again q ending) result self.new }
+    {
+        match parts.door_get() {
+            Some(queue) => self.on(Place::Release(queue, ending)),
+            None => self.on(Place::CountOut(ending)),
+        }
+    }
+
+    fn release<P: Parts<W, Queue = Q>, S: Side<W>>(
+        &mut self,
+        queue: Q,
+        ending: Ending,
+        parts: &mut P,
+        side: &mut S,
+    ) -> Progress
+        requires log { P.can_log parts.old }
+        requires can { P.can_section parts.old queue (Op.Release (is_value ending)) }
+        ensures section { (a : Answer W) × (o : Op W) × P.did_section parts.old queue (Op.Release (is_value ending)) a o parts.new
+            × S.did_wake side.old (released_by a) side.new }
+        ensures more { result ≡ Progress.More }
+        ensures step { self.new ≡ Step.UnderWay (Place.CountOut ending) }
+        ensures stays { S.stays side.old side.new }
+    {
+        let out = match parts.section(&queue, &mut Op::Release(ending.is_value())) {
+            Answer::Released(out) => out,
+            _ => Out::One(None),
+        };
+        side.wake(out);
+        self.on(Place::CountOut(ending))
+    }
+
+    fn leave<P: Parts<W, Queue = Q>, S: Side<W>>(
+        &mut self,
+        queue: Q,
+        ticket: u64,
+        ending: Ending,
+        parts: &mut P,
+        side: &mut S,
+    ) -> Progress
+        requires log { P.can_log parts.old }
+        requires can { P.can_section parts.old queue (Op.Leave ticket) }
+        ensures section { (a : Answer W) × (o : Op W) × P.did_section parts.old queue (Op.Leave ticket) a o parts.new
+            × S.did_wake side.old (left_by a) side.new }
+        ensures more { result ≡ Progress.More }
+        ensures step { self.new ≡ Step.UnderWay (Place.CountOut ending) }
+        ensures stays { S.stays side.old side.new }
+    {
+        let next = match parts.section(&queue, &mut Op::Leave(ticket)) {
+            Answer::Left(waker) => waker,
+            _ => None,
+        };
+        side.wake(Out::One(next));
+        self.on(Place::CountOut(ending))
+    }
+
+    fn count_out<P: Parts<W, Queue = Q>>(&mut self, ending: Ending, parts: &mut P) -> Progress
+        requires { P.can_count_out parts.old }
+        ensures line { (w : ℕ) × P.did_count_out parts.old w parts.new
+            × LeadsTo (after_count_out (is_ready_bit (flags_of w)) ending) result self.new }
+    {
+        if parts.count_out() == READY_BIT {
+            return self.on(Place::DoorTake(ending));
+        }
+        self.end(ending)
+    }
+}

@@ -1,0 +1,72 @@
+-- Listings of which each two wakers were told to be other.
+use Rattle.std.proofs.Common.{◌≡◌, ◌<◌, ◌⊎◌, ℕ, suc, Bool, true, false, ◌||◌, List, [], ◌∷◌, ◌++◌, Option, Some, None, All, IfSome, length, get_or, set, refl, inl, inr, sym, arith}
+use mathlib.Core.Logic.{∥∥₁_map}
+use Rattle.std.specs.List.{AllPairs}
+use Rattle.std.proofs.lemmas.Bool.{false≢true, cases_eq}
+use Rattle.std.proofs.lemmas.List.{get_or-set_other, get_or-set_same, length-set}
+use Rattle.std.proofs.lemmas.List.Quantifiers.{all_pairs_push}
+use Rattle.once_queue.specs.Listings.{Listing, wakers_by}
+use Rattle.once_queue.specs.Sections.{AreApart, HandsAll, HandsBy, IsOther}
+use Rattle.once_queue.proofs.Listing.Repeats.{other_by}
+
+module _ {W : Type 0} (other : W → W → Type 0) where
+  -- nothing is asked of a listing that was called
+  apart_none : (z y : Listing W) (o : Option W) → z.waker ≡ None → y.waker ≡ o → AreApart other z y
+  apart_none z y (Some w) none is = rw (is, none) tt
+  apart_none z y None none is = rw is tt
+
+  apart_set : (z : Listing W) (i j k : ℕ) (xs : List (Listing W)) (d : Listing W) → z.waker ≡ None → i < length xs → j < k → k < length xs → AllPairs (AreApart other) xs
+      → (j ≡ i) ⊎ (j ≡ i → ⊥) → (k ≡ i) ⊎ (k ≡ i → ⊥) → AreApart other (get_or (set xs i z) j d) (get_or (set xs i z) k d)
+  apart_set z i j k xs d none li l lk apart (inl s) t = rw (s, get_or-set_same xs i z d li) (apart_none z (get_or (set xs i z) k d) (get_or (set xs i z) k d).waker none refl)
+  apart_set z i j k xs d none li l lk apart (inr s) (inl t) = rw (t, get_or-set_same xs i z d li, none) tt
+  apart_set z i j k xs d none li l lk apart (inr s) (inr t) = rw (get_or-set_other xs i j z d s, get_or-set_other xs i k z d t) (apart j k d l lk)
+
+  pub apart_called : (i : ℕ) (xs : List (Listing W)) (z : Listing W) → z.waker ≡ None → i < length xs → AllPairs (AreApart other) xs → AllPairs (AreApart other) (set xs i z)
+  apart_called i xs z none li apart j k d l lk =
+      let s = length-set xs i z in
+      apart_set z i j k xs d none li l (omega arith) apart (cases_eq j i) (cases_eq k i)
+
+  -- a new waker that was told to be other than each
+  other_at : (k : ℕ) (xs : List (Listing W)) (d : Listing W) (o : Option W) → k < length xs → IfSome o (λ w. All (λ x. IfSome x.waker (λ v. other v w)) xs) → IfSome o (λ w. IfSome (get_or xs k d).waker (λ v. other v w))
+  other_at k xs d (Some w) l all = all k d l
+  other_at k xs d None l all = tt
+
+  apart_pushed : (xs : List (Listing W)) (y : Listing W) → AllPairs (AreApart other) xs → IfSome y.waker (λ w. All (λ x. IfSome x.waker (λ v. other v w)) xs) → AllPairs (AreApart other) (xs ++ y ∷ [])
+  apart_pushed xs y apart all = all_pairs_push (AreApart other) xs y apart (λ k d l. other_at k xs d y.waker l all)
+
+  -- the same, where none of the comparisons until now and of those with the new one told two to be the same
+  pub apart_listed : (mixed repeats : Bool) (xs : List (Listing W)) (y : Listing W) → (mixed || repeats) ≡ false → (mixed ≡ false → ∥ AllPairs (AreApart other) xs ∥₁)
+      → (repeats ≡ false → IfSome y.waker (λ w. All (λ x. IfSome x.waker (λ v. other v w)) xs)) → ∥ AllPairs (AreApart other) (xs ++ y ∷ []) ∥₁
+  apart_listed false false xs y e apart new = ∥∥₁_map (apart refl) (λ a. apart_pushed xs y a (new refl))
+  apart_listed false true xs y e apart new = absurd (false≢true (sym e))
+  apart_listed true repeats xs y e apart new = absurd (false≢true (sym e))
+
+module _ {W : Type 0} (same other : W → W → Type 0) where
+  -- the wakers that were seen are other than each of the list
+  abbrev AreNew : List W → List (Listing W) → Type 0
+  AreNew seen xs = All (λ x. IfSome x.waker (λ w. IsOther other w seen)) xs
+
+  hands_by : (o : Option W) (seen : List W) → IfSome o (λ w. IsOther other w seen) → HandsBy same other seen o o
+  hands_by (Some w) seen new = inr (refl, new)
+  hands_by None seen new = refl
+
+  new_by : (o p : Option W) (seen : List W) → IfSome p (λ w. IfSome o (λ v. other v w)) → IfSome p (λ w. IsOther other w seen) → IfSome p (λ w. IsOther other w (wakers_by o seen))
+  new_by o (Some w) seen apart new = other_by other w o seen apart new
+  new_by o None seen apart new = tt
+
+  hands_new : (xs : List (Listing W)) (seen : List W) → AllPairs (AreApart other) xs → AreNew seen xs → HandsAll same other seen xs xs
+  hands_new [] seen apart new = tt
+  hands_new (x ∷ xs) seen apart new = (
+    refl,
+    hands_by x.waker seen (new 0 x (omega arith)),
+    hands_new xs (wakers_by x.waker seen) (λ j k d l m. apart (suc j) (suc k) d (omega arith) (omega arith))
+        (λ k d l. new_by x.waker (get_or xs k d).waker seen (apart 0 (suc k) d (omega arith) (omega arith)) (new (suc k) d (omega arith))),
+  )
+
+  new_none : (o : Option W) → IfSome o (λ w. IsOther other w [])
+  new_none (Some w) = λ k d l. absurd (omega arith)
+  new_none None = tt
+
+  -- then all are handed out as they are
+  pub hands_apart : (xs : List (Listing W)) → AllPairs (AreApart other) xs → HandsAll same other [] xs xs
+  hands_apart xs apart = hands_new xs [] apart (λ k d l. new_none (get_or xs k d).waker)

@@ -1,0 +1,110 @@
+-- Lists of listings: which tickets they have, and what taking a listing out, adding one and calling the first leave of them.
+use Rattle.std.proofs.Common.{◌≡◌, ◌<◌, ℕ, zero, suc, Bool, true, false, cond, ◌==◌, nat_lt, List, [], ◌∷◌, ◌++◌, Option, Some, None, length, get_or, refl, sym, ap, ◌∙◌, arith}
+use Rattle.std.specs.List.{HoldsAt, remove, position, position_or_len}
+use Rattle.std.specs.Option.{is_some}
+use Rattle.std.proofs.lemmas.Bool.{eqb-true}
+use Rattle.std.proofs.lemmas.Bool.Decides.{nat_tests}
+use Rattle.std.proofs.lemmas.List.Quantifiers.{position-Some}
+use Rattle.once_queue.proofs.Listing.Members.{eqb_self, is_distinct-push}
+use Rattle.once_queue.specs.Numbers.{is_distinct, member}
+use Rattle.once_queue.specs.Listings.{Listing, find_listing, kept_by, kept_ticket, own_listing, take_out, tickets}
+
+kept_listed : (b : Bool) (n : ℕ) → b ≡ is_some (kept_by b n)
+kept_listed true n = refl
+kept_listed false n = refl
+
+module _ {W : Type 0} where
+  -- a ticket that no listing has
+  pub take_none : (n : ℕ) (xs : List (Listing W)) → member n (tickets xs) ≡ false → take_out n xs ≡ xs
+  take_none n [] m = refl
+  take_none n (x ∷ xs) m = grind (arith, nat_tests, take_none n xs)
+
+  pub find_none : (n : ℕ) (xs : List (Listing W)) → member n (tickets xs) ≡ false → find_listing n xs ≡ None
+  find_none n [] m = refl
+  find_none n (x ∷ xs) m = grind (arith, nat_tests, find_none n xs)
+
+  -- the place at which a ticket stands
+  pub at_member : (n i : ℕ) (xs : List (Listing W)) (d : Listing W) → i < length xs → (get_or xs i d).ticket ≡ n → member n (tickets xs) ≡ true
+  at_member n i [] d l e = absurd (omega arith)
+  at_member n zero (x ∷ xs) d l e = grind (arith, nat_tests)
+  at_member n (suc i) (x ∷ xs) d l e = let ih = at_member n i xs d (omega arith) e in grind arith
+
+  pub take_at : (n i : ℕ) (xs : List (Listing W)) (d : Listing W) → i < length xs → (get_or xs i d).ticket ≡ n → is_distinct (tickets xs) ≡ true → remove xs i ≡ take_out n xs
+  take_at n i [] d l e once = absurd (omega arith)
+  take_at n zero (x ∷ xs) d l e once = grind (arith, nat_tests, take_none n xs)
+  take_at n (suc i) (x ∷ xs) d l e once =
+      let m = at_member n i xs d (omega arith) e in
+      let other : (x.ticket == n) ≡ false = grind (arith, nat_tests) in
+      let rest : is_distinct (tickets xs) ≡ true = grind arith in
+      rw other (ap (λ (ys : List (Listing W)). x ∷ ys) (take_at n i xs d (omega arith) e rest))
+
+  pub find_at : (n i : ℕ) (xs : List (Listing W)) (d : Listing W) → i < length xs → (get_or xs i d).ticket ≡ n → is_distinct (tickets xs) ≡ true → find_listing n xs ≡ Some (get_or xs i d).waker
+  find_at n i [] d l e once = absurd (omega arith)
+  find_at n zero (x ∷ xs) d l e once = grind (arith, nat_tests)
+  find_at n (suc i) (x ∷ xs) d l e once = let m = at_member n i xs d (omega arith) e in let ih = find_at n i xs d (omega arith) e in grind (arith, nat_tests)
+
+  -- where the first listing with a ticket stands, if one does
+  first_member : (n : ℕ) (xs : List (Listing W)) → member n (tickets xs) ≡ nat_lt (position_or_len (λ x. x.ticket == n) xs) (length xs)
+  first_member n [] = refl
+  first_member n (x ∷ xs) = let ih = first_member n xs in grind (arith, nat_tests)
+
+  pub placed_kept : (n : ℕ) (xs : List (Listing W)) → is_some (position (λ x. x.ticket == n) xs) ≡ is_some (kept_ticket (Some n) xs)
+  placed_kept n xs = let m = first_member n xs in let k = kept_listed (member n (tickets xs)) n in grind arith
+
+  pub placed_none : (n : ℕ) (xs : List (Listing W)) → position (λ x. x.ticket == n) xs ≡ None → member n (tickets xs) ≡ false
+  placed_none n xs e = let m = first_member n xs in grind arith
+
+  pub placed : (n i : ℕ) (xs : List (Listing W)) → position (λ x. x.ticket == n) xs ≡ Some i → (i < length xs) × HoldsAt (λ x. x.ticket ≡ n) xs i
+  placed n i [] e = grind arith
+  placed n i (x ∷ xs) e = ((position-Some (λ y. y.ticket == n) (x ∷ xs) i x e).0, λ d. eqb-true (get_or (x ∷ xs) i d).ticket n (position-Some (λ y. y.ticket == n) (x ∷ xs) i d e).1)
+
+  pub placed_member : (n i : ℕ) (xs : List (Listing W)) → position (λ x. x.ticket == n) xs ≡ Some i → member n (tickets xs) ≡ true
+  placed_member n i xs e = let m = first_member n xs in grind arith
+
+  pub placed_take : (n i : ℕ) (xs : List (Listing W)) → is_distinct (tickets xs) ≡ true → position (λ x. x.ticket == n) xs ≡ Some i → remove xs i ≡ take_out n xs
+  placed_take n i [] once e = grind arith
+  placed_take n i (x ∷ xs) once e = let p = placed n i (x ∷ xs) e in take_at n i (x ∷ xs) x p.0 (p.1 x) once
+
+  pub placed_find : (n i : ℕ) (xs : List (Listing W)) (d : Listing W) → is_distinct (tickets xs) ≡ true → position (λ x. x.ticket == n) xs ≡ Some i → find_listing n xs ≡ Some (get_or xs i d).waker
+  placed_find n i xs d once e = let p = placed n i xs e in find_at n i xs d p.0 (p.1 d) once
+
+  -- a ticket is kept where its listing is found
+  find_member : (n : ℕ) (xs : List (Listing W)) → is_some (find_listing n xs) ≡ member n (tickets xs)
+  find_member n [] = refl
+  find_member n (x ∷ xs) = let ih = find_member n xs in grind (arith, nat_tests)
+
+  pub found_ticket : (n : ℕ) (o : Option W) (xs : List (Listing W)) → find_listing n xs ≡ Some o → member n (tickets xs) ≡ true
+  found_ticket n o xs e = sym (find_member n xs) ∙ ap is_some e
+
+  pub kept_none : (n : ℕ) (xs : List (Listing W)) → find_listing n xs ≡ None → kept_ticket (Some n) xs ≡ None
+  kept_none n xs e = rw (sym (find_member n xs), e) refl
+
+  pub kept_some : (n : ℕ) (w : Option W) (xs : List (Listing W)) → find_listing n xs ≡ Some w → kept_ticket (Some n) xs ≡ Some n
+  kept_some n w xs e = rw (sym (find_member n xs), e) refl
+
+  pub own_none : (k : Option ℕ) (xs : List (Listing W)) → is_some (kept_ticket k xs) ≡ false → own_listing k xs ≡ None
+  own_none None xs e = refl
+  own_none (Some n) xs e = find_none n xs (kept_listed (member n (tickets xs)) n ∙ e)
+
+  -- the tickets that are left
+  pub member_take : (m n : ℕ) (xs : List (Listing W)) → member m (tickets (take_out n xs)) ≡ cond (n == m) false (member m (tickets xs))
+  member_take m n [] = grind arith
+  member_take m n (x ∷ xs) = let ih = member_take m n xs in grind (arith, nat_tests)
+
+  pub once_take : (n : ℕ) (xs : List (Listing W)) → is_distinct (tickets xs) ≡ true → is_distinct (tickets (take_out n xs)) ≡ true
+  once_take n [] e = refl
+  once_take n (x ∷ xs) e = grind (arith, nat_tests, once_take n xs, member_take x.ticket n xs)
+
+  pub tickets_push : (x : Listing W) (xs : List (Listing W)) → tickets (xs ++ x ∷ []) ≡ tickets xs ++ x.ticket ∷ []
+  tickets_push x [] = refl
+  tickets_push x (y ∷ xs) = ap (λ (ns : List ℕ). y.ticket ∷ ns) (tickets_push x xs)
+
+  pub member_push : (n : ℕ) (x : Listing W) (xs : List (Listing W)) → member n (tickets (xs ++ x ∷ [])) ≡ cond (x.ticket == n) true (member n (tickets xs))
+  member_push n x [] = refl
+  member_push n x (y ∷ xs) = let ih = member_push n x xs in grind (arith, nat_tests)
+
+  pub once_push : (x : Listing W) (xs : List (Listing W)) → member x.ticket (tickets xs) ≡ false → is_distinct (tickets xs) ≡ true → is_distinct (tickets (xs ++ x ∷ [])) ≡ true
+  once_push x xs new once = rw (tickets_push x xs) (is_distinct-push x.ticket (tickets xs) new once)
+
+  pub member_gone : (n : ℕ) (xs : List (Listing W)) → member n (tickets (take_out n xs)) ≡ false
+  member_gone n xs = rw (member_take n n xs, eqb_self n) refl

@@ -1,0 +1,126 @@
+-- The list behind a queue's lock: the listings of those who wait, the oldest first. A listing without a waker is one that was called.
+use Rattle.std.specs.Prelude.{ℕ, zero, suc, ◌+◌, ◌==◌, Bool, true, false, cond, List, [], ◌∷◌, ◌++◌, Option, Some, None}
+pub use Rattle.once_queue.specs.declared.waiters.Listing.{Listing}
+use Rattle.once_queue.specs.Numbers.{member}
+
+module _ {W : Type 0} where
+  abbrev pub tickets : List (Listing W) → List ℕ
+  tickets [] = []
+  tickets (x ∷ xs) = x.ticket ∷ tickets xs
+
+  -- the waker of the listing with the ticket
+  abbrev pub find_listing : ℕ → List (Listing W) → Option (Option W)
+  find_listing n [] = None
+  find_listing n (x ∷ xs) = cond (x.ticket == n) (Some x.waker) (find_listing n xs)
+
+  -- the same, where there may be no ticket
+  abbrev pub own_listing : Option ℕ → List (Listing W) → Option (Option W)
+  own_listing None xs = None
+  own_listing (Some n) xs = find_listing n xs
+
+  -- the list without the listing of the ticket
+  abbrev pub take_out : ℕ → List (Listing W) → List (Listing W)
+  take_out n [] = []
+  take_out n (x ∷ xs) = cond (x.ticket == n) (take_out n xs) (x ∷ take_out n xs)
+
+  -- the same, where there may be no ticket
+  abbrev pub without : Option ℕ → List (Listing W) → List (Listing W)
+  without None xs = xs
+  without (Some n) xs = take_out n xs
+
+  -- the waker of the first listing that has one
+  abbrev pub first_by : Option W → Option W → Option W
+  first_by (Some w) rest = Some w
+  first_by None rest = rest
+
+  abbrev pub first_waker : List (Listing W) → Option W
+  first_waker [] = None
+  first_waker (x ∷ xs) = first_by x.waker (first_waker xs)
+
+  -- the list once the first listing that has a waker was called
+  abbrev pub call_by : Listing W → Option W → List (Listing W) → List (Listing W) → List (Listing W)
+  call_by x (Some w) xs rest = record { ticket = x.ticket; waker = None } ∷ xs
+  call_by x None xs rest = x ∷ rest
+
+  abbrev pub call_first : List (Listing W) → List (Listing W)
+  call_first [] = []
+  call_first (x ∷ xs) = call_by x x.waker xs (call_first xs)
+
+  -- the wakers, in the order of their listings
+  abbrev pub wakers_by : Option W → List W → List W
+  wakers_by (Some w) rest = w ∷ rest
+  wakers_by None rest = rest
+
+  abbrev pub wakers_of : List (Listing W) → List W
+  wakers_of [] = []
+  wakers_of (x ∷ xs) = wakers_by x.waker (wakers_of xs)
+
+-- the least number from n on that is not in the list, of the next f and the one after them
+abbrev pub least_from : ℕ → ℕ → List ℕ → ℕ
+least_from zero n ns = n
+least_from (suc f) n ns = cond (member n ns) (least_from f (suc n) ns) n
+
+-- a number above each of the list
+abbrev pub above : List ℕ → ℕ
+above [] = 0
+above (x ∷ xs) = suc x + above xs
+
+abbrev pub kept_by : Bool → ℕ → Option ℕ
+kept_by true n = Some n
+kept_by false n = None
+
+abbrev pub ticket_or : Option ℕ → ℕ → ℕ
+ticket_or (Some n) new = n
+ticket_or None new = new
+
+module _ {W : Type 0} where
+  -- the least number that no listing has
+  abbrev pub new_ticket : List (Listing W) → ℕ
+  new_ticket xs = least_from (above (tickets xs)) 0 (tickets xs)
+
+  -- the own ticket counts while its listing is there
+  abbrev pub kept_ticket : Option ℕ → List (Listing W) → Option ℕ
+  kept_ticket None xs = None
+  kept_ticket (Some n) xs = kept_by (member n (tickets xs)) n
+
+  -- the ticket by which a waker is listed: the own one, or a new one
+  abbrev pub ticket_for : Option ℕ → List (Listing W) → ℕ
+  ticket_for k xs = ticket_or (kept_ticket k xs) (new_ticket xs)
+
+  -- the own listing is taken out, and one with the ticket and the waker goes to the end
+  abbrev pub listed_anew : ℕ → W → List (Listing W) → List (Listing W)
+  listed_anew n w xs = take_out n xs ++ record { ticket = n; waker = Some w } ∷ []
+
+  -- the listing was called
+  abbrev pub was_called : Option (Option W) → Bool
+  was_called (Some None) = true
+  was_called _ = false
+
+  -- who leaves passes its turn on where its listing was called and nobody holds, the value not being set
+  abbrev pub passes_turn : Bool → ℕ → List (Listing W) → Bool
+  passes_turn free n xs = cond free (was_called (find_listing n xs)) false
+
+  -- the waker that then gets the turn, and the list that is left
+  abbrev pub next_waker : Bool → ℕ → List (Listing W) → Option W
+  next_waker passes n xs = cond passes (first_waker (take_out n xs)) None
+
+  abbrev pub left_list : Bool → ℕ → List (Listing W) → List (Listing W)
+  left_list passes n xs = cond passes (call_first (take_out n xs)) (take_out n xs)
+
+-- all wakers in the order of their listings, each once: what comes after those that were seen
+abbrev pub out_by : Option ℕ → (List ℕ → List ℕ) → List ℕ → List ℕ
+out_by None rest seen = rest seen
+out_by (Some w) rest seen = cond (member w seen) (rest seen) (w ∷ rest (w ∷ seen))
+
+abbrev pub all_out : List (Listing ℕ) → List ℕ → List ℕ
+all_out [] seen = []
+all_out (x ∷ xs) seen = out_by x.waker (all_out xs) seen
+
+abbrev pub one_out : Option ℕ → List ℕ
+one_out (Some w) = w ∷ []
+one_out None = []
+
+-- the own listing has the waker
+abbrev pub is_waker : ℕ → Option (Option ℕ) → Bool
+is_waker w (Some (Some k)) = k == w
+is_waker w _ = false

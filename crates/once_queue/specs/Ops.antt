@@ -1,0 +1,21 @@
+-- What an operation on the queue carries.
+use Rattle.std.specs.Prelude.{ℕ, Option, Some, None}
+use Rattle.once_queue.specs.declared.waiters.Op.{Op}
+use Rattle.once_queue.specs.declared.waiters.Op.TheVariants.{Look as LookOp, List as ListOp}
+
+-- a listing has its waker
+abbrev pub HasWaker : {W : Type 0} → Op W → Type 0
+HasWaker (ListOp k None) = ⊥
+HasWaker _ = Unit {0}
+
+-- the ticket of a look or a listing
+abbrev pub ticket_in : {W : Type 0} → Op W → Option ℕ
+ticket_in (LookOp k) = k
+ticket_in (ListOp k w) = k
+ticket_in _ = None
+
+-- the same without its ticket
+abbrev pub given_up : {W : Type 0} → Op W → Op W
+given_up (LookOp k) = LookOp None
+given_up (ListOp k w) = ListOp None w
+given_up op = op

@@ -1,0 +1,64 @@
+-- What a section under the queue's lock sees, answers and leaves.
+use Rattle.std.specs.Prelude.{◌≡◌, ℕ, ◌<◌, ◌⊎◌, ◌||◌, not, cond, Bool, true, false, List, [], ◌∷◌, Option, Some, None, IfSome, All, HoldsAt, length}
+use Rattle.std.specs.declared.vec.Vec.{Vec}
+use Rattle.std.specs.declared.alloc.Global.{Global}
+use Rattle.once_queue.specs.declared.waiters.Answer.{Answer}
+use Rattle.once_queue.specs.declared.waiters.Out.{Out}
+use Rattle.once_queue.specs.Word.{Flags}
+use Rattle.once_queue.specs.Listings.{Listing, kept_ticket, ticket_for, listed_anew, first_waker, call_first, wakers_by}
+
+-- the word says that the value is set
+abbrev pub shows_set : Flags → Bool
+shows_set f = f.ready
+
+-- the value is not set, and neither the word nor the flag beside the list says that some task holds
+abbrev pub shows_free : Flags → Bool → Bool
+shows_free f head = cond f.ready false (not (f.quick || head))
+
+-- the value is not set, and some task holds
+abbrev pub shows_taken : Flags → Bool → Bool
+shows_taken f head = cond f.ready false (f.quick || head)
+
+module _ {W : Type 0} (same : W → W → Type 0) where
+  -- some waker of the list was told to be the same
+  abbrev pub IsAmong : W → List W → Type 0
+  IsAmong waker seen = (k : ℕ) × (k < length seen) × HoldsAt (λ w. same w waker) seen k
+
+module _ {W : Type 0} (other : W → W → Type 0) where
+  -- each waker of the list was told to be another
+  abbrev pub IsOther : W → List W → Type 0
+  IsOther waker seen = All (λ w. other w waker) seen
+
+  -- the wakers of two listings, where both have one, were told to be other
+  abbrev pub AreApart : Listing W → Listing W → Type 0
+  AreApart x y = IfSome y.waker (λ w. IfSome x.waker (λ v. other v w))
+
+module _ {W : Type 0} (same other : W → W → Type 0) where
+  -- a look where some task holds, by the current waker and the own listing: whether that has the same waker
+  abbrev pub Looked : Option W → Option (Option W) → Answer W → Type 0
+  Looked (Some w) (Some (Some v)) answer = ((answer ≡ Answer.Listed) × same v w) ⊎ ((answer ≡ Answer.Held) × other v w)
+  Looked _ _ answer = answer ≡ Answer.Held
+
+module _ {W : Type 0} where
+  -- a listing where some task holds: the own listing is taken out, and one with the waker goes to the end; or there was none, and no memory for one
+  abbrev pub Lists : Option ℕ → W → List (Listing W) → Answer W → Option ℕ → Option W → List (Listing W) → Type 0
+  Lists ticket w xs answer ticket' waker' xs' =
+      ((answer ≡ Answer.Listed) × (ticket' ≡ Some (ticket_for ticket xs)) × (waker' ≡ None) × (xs' ≡ listed_anew (ticket_for ticket xs) w xs))
+      ⊎ ((answer ≡ Answer.Memory) × (kept_ticket ticket xs ≡ None) × (ticket' ≡ ticket) × (waker' ≡ Some w) × (xs' ≡ xs))
+
+module _ {W : Type 0} (same other : W → W → Type 0) where
+  -- the waker that leaves a listing, by those of the listings before: none where it was called, or where an earlier waker is the same
+  abbrev pub HandsBy : List W → Option W → Option W → Type 0
+  HandsBy seen None out = out ≡ None
+  HandsBy seen (Some w) out = ((out ≡ None) × IsAmong same w seen) ⊎ ((out ≡ Some w) × IsOther other w seen)
+
+  -- all listings leave, in their order
+  abbrev pub HandsAll : List W → List (Listing W) → List (Listing W) → Type 0
+  HandsAll seen [] [] = Unit {0}
+  HandsAll seen (x ∷ xs) (y ∷ ys) = (y.ticket ≡ x.ticket) × HandsBy seen x.waker y.waker × HandsAll (wakers_by x.waker seen) xs ys
+  HandsAll seen _ _ = ⊥
+
+  -- a release, by whether the value is set: it calls the first who was not called, or all leave
+  abbrev pub Releases : Bool → List (Listing W) → Out W → List (Listing W) → Type 0
+  Releases false xs out xs' = (out ≡ Out.One (first_waker xs)) × (xs' ≡ call_first xs)
+  Releases true xs out xs' = (X : Vec (Listing W) Global) × (out ≡ Out.All X) × ∥ HandsAll [] xs X.items ∥₁ × (xs' ≡ [])

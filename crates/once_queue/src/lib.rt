@@ -1,0 +1,5 @@
+//! The word of a cell, and who waits for it.
+#![tactic(auto)]
+
+pub mod waiters;
+pub mod word;

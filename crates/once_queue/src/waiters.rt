@@ -1,0 +1,449 @@
+//! Who waits: the flag and the list behind a queue's lock, and what a section does with them.
+ghost use Rattle.std.specs.Prelude.{◌≡◌, ◌≢◌, ◌==◌, ◌-◌, ◌^◌, ◌||◌, ⊤, ℕ, true, false, cond, not, [], IsSome, IfSome, IsOk, IfOk, OnOk, OnErr, All, length, Some, None, ◌+◌, ◌<◌, ◌≤◌, ◌⊎◌, ◌++◌, ◌∷◌, vec_len, vec_capacity};
+ghost use Rattle.std.specs.List.{AllPairs, HoldsAt, position, position_or_len};
+ghost use Rattle.std.specs.Option.{MatchOption, option_copied, option_flatten, option_map, is_some};
+ghost use Rattle.once_queue.specs.Numbers.{bit, is_distinct, member};
+ghost use Rattle.once_queue.specs.Marks.{is_marked};
+ghost use Rattle.once_queue.specs.Listings.{tickets};
+ghost use Rattle.once_queue.specs.Sections.{AreApart, HandsAll};
+
+use crate::word::{QINIT_BIT, READY_BIT};
+use std::alloc::{AllocError, Global};
+use std::mem;
+
+/// Tells whether two wakers are the same.
+pub trait WakerId {
+    // What the answers true and false tell of the two wakers.
+    ghost tells_same: { Self → Self → Type 0 };
+
+    ghost tells_other: { Self → Self → Type 0 };
+
+    /// Whether the two are the same waker.
+    fn same(&self, other: &Self) -> bool
+        ensures same { result ≡ true → tells_same self.now other.now }
+        ensures other { result ≡ false → tells_other self.now other.now };
+}
+
+impl WakerId for u64 {
+    ghost tells_same = { λ a b. a ≡ b };
+
+    ghost tells_other = { λ a b. a ≢ b };
+
+    fn same(&self, other: &u64) -> bool {
+        *self == *other
+    }
+}
+
+/// A place in the list of those who wait. One that has no waker any more was called.
+#[derive(Debug, Drop, PartialEq, Eq)]
+pub struct Listing<W> {
+    /// The number by which the waiting task finds its listing again.
+    pub ticket: u64,
+    pub waker: Option<W>,
+}
+
+/// Whom a section calls. The wakers in it are handed out, in their order.
+#[derive(Debug, Drop, PartialEq, Eq)]
+pub enum Out<W> {
+    /// One who waits, or nobody.
+    One(Option<W>),
+    /// All who wait: their listings, the oldest first. A waker that is the same as one before it
+    /// is not there.
+    All(Vec<Listing<W>>),
+}
+
+/// What one section under the queue's lock is to do. A look and a listing carry the ticket of the
+/// waiting task, if it has one; the section leaves there the ticket that the task has after it.
+#[derive(Debug, Drop, PartialEq, Eq)]
+pub enum Op<W> {
+    /// Claim the right where it is free, else say whether the current waker is listed.
+    Look(Option<u64>),
+    /// Claim the right where it is free, else list this waker.
+    List(Option<u64>, Option<W>),
+    /// Give the right back: with the value set, and call all; or without, and call one.
+    Release(bool),
+    /// Take the listing with this ticket out. Where it was called and nobody holds, call the next.
+    Leave(u64),
+}
+
+impl<W> Op<W> {
+    ghost use Rattle.once_queue.specs.Ops.{ticket_in};
+
+    /// The ticket of a look or a listing.
+    pub fn ticket(&self) -> Option<u64>
+        ensures { result ≡ ticket_in self.now }
+    {
+        match self {
+            Op::Look(ticket) | Op::List(ticket, _) => *ticket,
+            Op::Release(_) | Op::Leave(_) => None,
+        }
+    }
+}
+
+/// What one section answers.
+#[derive(Debug, Drop, PartialEq, Eq)]
+pub enum Answer<W> {
+    /// The value is set.
+    Ready,
+    /// The right was free, and is the caller's now.
+    Claimed,
+    /// Another task holds the right, and the waker is listed.
+    Listed,
+    /// Another task holds the right, and the waker is not listed.
+    Held,
+    /// The list could not grow.
+    Memory,
+    /// The right was given back, and these are to be called.
+    Released(Out<W>),
+    /// The listing is out, and this waker is to be called.
+    Left(Option<W>),
+    /// The queue does not stand at the door any more.
+    Gone,
+}
+
+/// The flag of a holder that took the right under the lock, and the listings of those who wait.
+///
+/// No ticket stands in the list twice. Each section takes time in proportion to the listings, but for
+/// a release with the value where two listed wakers are the same: there each is compared with all
+/// before it.
+#[derive(Drop)]
+pub struct Lists<W: WakerId> {
+    pub head: bool,
+    pub listings: Vec<Listing<W>>,
+    // For each ticket that was ever given out, whether a listing has it.
+    used: Vec<bool>,
+    // Whether some waker was told to be the same as one listed before it, since the value was last
+    // released.
+    mixed: bool,
+    ghost once: { is_distinct (tickets listings.items) ≡ true },
+    ghost marks: { (n : ℕ) → is_marked n used.items ≡ member n (tickets listings.items) },
+    // Else each two wakers were told to be other.
+    ghost apart: { mixed ≡ false → ∥ AllPairs (AreApart W.tells_other) listings.items ∥₁ },
+}
+
+impl<W: WakerId + Drop> Lists<W> {
+    ghost use Rattle.once_queue.specs.Word.{flags_of};
+    ghost use Rattle.once_queue.specs.Listings.{Listing, find_listing, own_listing, take_out, without, first_waker, call_first, new_ticket, kept_ticket, ticket_for, passes_turn, next_waker, left_list};
+    ghost use Rattle.once_queue.specs.Room.{HasSpace};
+    ghost use Rattle.once_queue.specs.Sections.{shows_set, shows_free, shows_taken, Looked, Lists as DidList, Releases};
+
+    /// No holder, and nobody listed. It takes no memory.
+    pub fn new(alloc: Global) -> Self
+        ensures head { result.head ≡ false }
+        ensures listings { result.listings.items ≡ [] }
+    {
+        Lists {
+            head: false,
+            listings: Vec::new(alloc),
+            used: Vec::new(alloc),
+            mixed: false,
+        }
+    }
+
+    /// Claims the right where the word and the flag leave it free: the own listing is taken out, and
+    /// the ticket given up. Else says whether the own listing has this waker. With no waker, no
+    /// ticket, or where it was called, it has not.
+    pub fn look(&mut self, ticket: &mut Option<u64>, waker: Option<&W>, word: u64) -> Answer<W>
+        // The first case that holds gives the answer.
+        ensures ready { shows_set (flags_of word) ≡ true → result ≡ Answer.Ready }
+        ensures claimed { shows_free (flags_of word) self.old.head ≡ true → result ≡ Answer.Claimed }
+        ensures held { shows_taken (flags_of word) self.old.head ≡ true → Looked W.tells_same W.tells_other (option_copied waker.entry) (own_listing ticket.old self.old.listings.items) result }
+
+        // Only a claim changes anything.
+        ensures head { self.new.head ≡ (self.old.head || shows_free (flags_of word) self.old.head) }
+        ensures listings { self.new.listings.items ≡ cond (shows_free (flags_of word) self.old.head) (without ticket.old self.old.listings.items) self.old.listings.items }
+        ensures ticket { ticket.new ≡ cond (shows_free (flags_of word) self.old.head) None ticket.old }
+    {
+        if let Some(answer) = self.claim(ticket, word) {
+            return answer;
+        }
+        match (waker, self.own(*ticket)) {
+            (Some(waker), Some(listed)) if listed.same(waker) => Answer::Listed,
+            _ => Answer::Held,
+        }
+    }
+
+    /// Claims the right where the word and the flag leave it free, as [`look`](Self::look). Else lists
+    /// the waker at the end: with the own ticket, whose listing is taken out, or with the least one
+    /// that no listing has. A ticket whose listing is gone counts as none. A waker that was not listed
+    /// stays in the option.
+    ///
+    /// `Memory` says that the list could not grow; it is as it was then. That comes only where the
+    /// own ticket has no listing, and the list had no room.
+    pub fn list(&mut self, ticket: &mut Option<u64>, waker: &mut Option<W>, word: u64) -> Answer<W>
+        requires { IsSome waker.old }
+
+        // The first case that holds gives the answer.
+        ensures ready { shows_set (flags_of word) ≡ true → result ≡ Answer.Ready }
+        ensures claimed { shows_free (flags_of word) self.old.head ≡ true → result ≡ Answer.Claimed }
+        ensures held { shows_taken (flags_of word) self.old.head ≡ true → IfSome waker.old (λ w. DidList ticket.old w self.old.listings.items result ticket.new waker.new self.new.listings.items) }
+        ensures room { HasSpace self.old → result ≢ Answer.Memory }
+
+        // Only a claim changes the flag, and takes a listing out where no task holds.
+        ensures head { self.new.head ≡ (self.old.head || shows_free (flags_of word) self.old.head) }
+        ensures listings { shows_taken (flags_of word) self.old.head ≡ false → self.new.listings.items ≡ cond (shows_free (flags_of word) self.old.head) (without ticket.old self.old.listings.items) self.old.listings.items }
+        ensures ticket { shows_taken (flags_of word) self.old.head ≡ false → ticket.new ≡ cond (shows_free (flags_of word) self.old.head) None ticket.old }
+        ensures waker { shows_taken (flags_of word) self.old.head ≡ false → waker.new ≡ waker.old }
+    {
+        if let Some(answer) = self.claim(ticket, word) {
+            return answer;
+        }
+        let Ok(mine) = self.make_place(*ticket) else {
+            return Answer::Memory;
+        };
+        *ticket = Some(mine);
+        self.push(Listing {
+            ticket: mine,
+            waker: waker.take(),
+        });
+        Answer::Listed
+    }
+
+    /// Lowers the flag. With the value set all listings leave; without it the first that was not
+    /// called yet gives its waker, and stays. It takes no memory.
+    pub fn release(&mut self, ready: bool) -> Out<W>
+        ensures listings { Releases W.tells_same W.tells_other ready self.old.listings.items result self.new.listings.items }
+        ensures head { self.new.head ≡ false }
+    {
+        self.head = false;
+        if !ready {
+            return Out::One(self.call_first());
+        }
+        let alloc = *self.listings.allocator();
+        let mut listings = mem::replace(&mut self.listings, Vec::new(alloc));
+        self.used.clear();
+        let mixed = mem::replace(&mut self.mixed, false);
+        once_each(&mut listings, mixed);
+        Out::All(listings)
+    }
+
+    /// Takes the listing with this ticket out. Where it was called, and neither word nor flag says
+    /// that a task holds, and the value is not set, the first that was not called yet gives its waker,
+    /// and stays. It takes no memory.
+    pub fn leave(&mut self, ticket: u64, word: u64) -> Option<W>
+        ensures waker { result ≡ next_waker (passes_turn (shows_free (flags_of word) self.old.head) ticket self.old.listings.items) ticket self.old.listings.items }
+        ensures listings { self.new.listings.items ≡ left_list (passes_turn (shows_free (flags_of word) self.old.head) ticket self.old.listings.items) ticket self.old.listings.items }
+        ensures head { self.new.head ≡ self.old.head }
+    {
+        let mine = self.take_out(ticket)?;
+        if mine.waker.is_some() || word >= QINIT_BIT || self.head {
+            return None;
+        }
+        self.call_first()
+    }
+
+    /// Makes room for one more listing. Where that is refused all is as it was.
+    pub fn reserve(&mut self) -> Result<(), AllocError>
+        ensures room { OnOk result (HasSpace self.new) }
+        ensures succeeds { HasSpace self.old → IsOk result }
+        ensures head { self.new.head ≡ self.old.head }
+        ensures listings { self.new.listings.items ≡ self.old.listings.items }
+    {
+        self.listings.reserve(1)?;
+        self.used.reserve(1)
+    }
+
+    // The right where it is free, and None where some task holds it.
+    fn claim(&mut self, ticket: &mut Option<u64>, word: u64) -> Option<Answer<W>>
+        ensures ready { shows_set (flags_of word) ≡ true → result ≡ Some Answer.Ready }
+        ensures claimed { shows_free (flags_of word) self.old.head ≡ true → result ≡ Some Answer.Claimed }
+        ensures held { shows_taken (flags_of word) self.old.head ≡ true → result ≡ None }
+        ensures head { self.new.head ≡ (self.old.head || shows_free (flags_of word) self.old.head) }
+        ensures listings { self.new.listings.items ≡ cond (shows_free (flags_of word) self.old.head) (without ticket.old self.old.listings.items) self.old.listings.items }
+        ensures ticket { ticket.new ≡ cond (shows_free (flags_of word) self.old.head) None ticket.old }
+        ensures room { shows_free (flags_of word) self.old.head ≡ false → self.new ≡ self.old }
+    {
+        if word >= READY_BIT {
+            return Some(Answer::Ready);
+        }
+        if word >= QINIT_BIT || self.head {
+            return None;
+        }
+        if let Some(mine) = ticket.take() {
+            drop(self.take_out(mine));
+        }
+        self.head = true;
+        Some(Answer::Claimed)
+    }
+
+    /// Whether the own ticket has a listing.
+    pub fn is_listed(&self, ticket: Option<u64>) -> bool
+        ensures { result ≡ is_some (kept_ticket ticket self.now.listings.items) }
+    {
+        match ticket {
+            Some(ticket) => self.place(ticket).is_some(),
+            None => false,
+        }
+    }
+
+    // The waker of the own listing.
+    fn own(&self, ticket: Option<u64>) -> Option<&W>
+        ensures { option_copied result ≡ option_flatten (own_listing ticket self.now.listings.items) }
+    {
+        let place = self.place(ticket?)?;
+        self.listings[place].waker.as_ref()
+    }
+
+    // Where the listing with this ticket stands.
+    fn place(&self, ticket: u64) -> Option<usize>
+        ensures { result ≡ position (λ x. x.ticket == ticket) self.now.listings.items }
+    {
+        self.listings
+            .iter()
+            .position(|listing| listing.ticket == ticket)
+    }
+
+    // Takes the own listing out, or where there is none makes room for one: the ticket to list by.
+    fn make_place(&mut self, ticket: Option<u64>) -> Result<u64, AllocError>
+        ensures ticket { IfOk result (λ n. n ≡ ticket_for ticket self.old.listings.items) }
+        ensures listings { IfOk result (λ n. self.new.listings.items ≡ take_out n self.old.listings.items) }
+        ensures new { IfOk result (λ n. member n (tickets self.new.listings.items) ≡ false) }
+        ensures place { OnOk result (vec_len self.new.listings < vec_capacity self.new.listings) }
+        ensures mark { IfOk result (λ n. (n < vec_len self.new.used) ⊎ ((n ≡ vec_len self.new.used) × (vec_len self.new.used < vec_capacity self.new.used))) }
+        ensures refused { OnErr result ((kept_ticket ticket self.old.listings.items ≡ None) × (self.new.listings.items ≡ self.old.listings.items)) }
+        ensures room { HasSpace self.old → IsOk result }
+        ensures head { self.new.head ≡ self.old.head }
+    {
+        if let Some(kept) = self.take_own(ticket) {
+            return Ok(kept);
+        }
+        self.reserve()?;
+        Ok(self.free_ticket())
+    }
+
+    // Takes the own listing out, if the ticket has one: the ticket then.
+    fn take_own(&mut self, ticket: Option<u64>) -> Option<u64>
+        ensures kept { result ≡ kept_ticket ticket self.old.listings.items }
+        ensures listings { self.new.listings.items ≡ without ticket self.old.listings.items }
+        ensures head { self.new.head ≡ self.old.head }
+        ensures some { IfSome result (λ n. (n < vec_len self.new.used) × (vec_len self.new.listings < vec_capacity self.new.listings)) }
+        ensures none { result ≡ None → self.new ≡ self.old }
+    {
+        let mine = ticket?;
+        self.take_out(mine)?;
+        Some(mine)
+    }
+
+    // Takes the listing with this ticket out, if one has it.
+    fn take_out(&mut self, ticket: u64) -> Option<Listing<W>>
+        ensures waker { option_map (λ x. x.waker) result ≡ find_listing ticket self.old.listings.items }
+        ensures listings { self.new.listings.items ≡ take_out ticket self.old.listings.items }
+        ensures head { self.new.head ≡ self.old.head }
+        ensures none { result ≡ None → self.new ≡ self.old }
+        ensures some { IsSome result → (ticket < vec_len self.new.used) × (vec_len self.new.listings < vec_capacity self.new.listings) }
+    {
+        let place = self.place(ticket)?;
+        unmark(&mut self.used, ticket);
+        Some(self.listings.remove(place))
+    }
+
+    // The least ticket that no listing has.
+    fn free_ticket(&self) -> u64
+        ensures least { result ≡ new_ticket self.now.listings.items }
+        ensures new { member result (tickets self.now.listings.items) ≡ false }
+        ensures mark { result ≤ vec_len self.now.used }
+    {
+        first_unmarked(&self.used) as u64
+    }
+
+    // Puts a listing to the end, for which there is room, and whose ticket no listing has.
+    fn push(&mut self, listing: Listing<W>)
+        requires new { member listing.ticket (tickets self.old.listings.items) ≡ false }
+        requires place { vec_len self.old.listings < vec_capacity self.old.listings }
+        requires mark { (listing.ticket < vec_len self.old.used) ⊎ ((listing.ticket ≡ vec_len self.old.used) × (vec_len self.old.used < vec_capacity self.old.used)) }
+        ensures listings { self.new.listings.items ≡ self.old.listings.items ++ listing ∷ [] }
+        ensures head { self.new.head ≡ self.old.head }
+    {
+        mark(&mut self.used, listing.ticket);
+        self.mixed |= repeats(&listing, &self.listings);
+        self.listings.push(listing).unwrap();
+    }
+
+    // The first listing that has a waker gives it.
+    fn call_first(&mut self) -> Option<W>
+        ensures waker { result ≡ first_waker self.old.listings.items }
+        ensures listings { self.new.listings.items ≡ call_first self.old.listings.items }
+        ensures head { self.new.head ≡ self.old.head }
+    {
+        let first = self.first_uncalled()?;
+        self.listings[first].waker.take()
+    }
+
+    // Where the first listing stands that has a waker.
+    fn first_uncalled(&self) -> Option<usize>
+        ensures { result ≡ position (λ x. is_some x.waker) self.now.listings.items }
+    {
+        self.listings
+            .iter()
+            .position(|listing| listing.waker.is_some())
+    }
+}
+
+// Takes each waker away that is the same as one before it. Where there is none, nothing is to be
+// done. Else each listing is compared with all before it.
+fn once_each<W: WakerId + Drop>(listings: &mut Vec<Listing<W>>, mixed: bool)
+    requires apart { mixed ≡ false → ∥ AllPairs (AreApart W.tells_other) listings.old.items ∥₁ }
+    ensures { ∥ HandsAll W.tells_same W.tells_other [] listings.old.items listings.new.items ∥₁ }
+{
+    if !mixed {
+        return;
+    }
+    let mut end = listings.len();
+    while end > 0 {
+        end -= 1;
+        if repeats(&listings[end], &listings[..end]) {
+            listings[end].waker = None;
+        }
+    }
+}
+
+// Whether the listing has a waker that is the same as one of those before it.
+fn repeats<W: WakerId>(listing: &Listing<W>, before: &[Listing<W>]) -> bool
+    ensures yes { result ≡ true → MatchOption listing.now.waker ⊥ (λ w. (k : ℕ) × (k < length before.now) × HoldsAt (λ x. MatchOption x.waker ⊥ (λ v. W.tells_same v w)) before.now k) }
+    ensures no { result ≡ false → IfSome listing.now.waker (λ w. All (λ x. IfSome x.waker (λ v. W.tells_other v w)) before.now) }
+{
+    match &listing.waker {
+        Some(waker) => before.iter().any(|earlier| has(earlier, waker)),
+        None => false,
+    }
+}
+
+// Whether the listing has a waker, and that is the same.
+fn has<W: WakerId>(listing: &Listing<W>, waker: &W) -> bool
+    ensures yes { result ≡ true → MatchOption listing.now.waker ⊥ (λ w. W.tells_same w waker.now) }
+    ensures no { result ≡ false → IfSome listing.now.waker (λ w. W.tells_other w waker.now) }
+{
+    match &listing.waker {
+        Some(mine) => mine.same(waker),
+        None => false,
+    }
+}
+
+// Marks this number, which is within the marks, or the next, for which there is room.
+fn mark(marks: &mut Vec<bool>, number: u64)
+    requires { (number < vec_len marks.old) ⊎ ((number ≡ vec_len marks.old) × (vec_len marks.old < vec_capacity marks.old)) }
+    ensures { (n : ℕ) → is_marked n marks.new.items ≡ cond (number == n) true (is_marked n marks.old.items) }
+{
+    match marks.get_mut(number as usize) {
+        Some(mark) => *mark = true,
+        None => marks.push(true).unwrap(),
+    }
+}
+
+// Takes the mark of this number away, if it has one.
+fn unmark(marks: &mut Vec<bool>, number: u64)
+    ensures marks { (n : ℕ) → is_marked n marks.new.items ≡ cond (number == n) false (is_marked n marks.old.items) }
+    ensures len { vec_len marks.new ≡ vec_len marks.old }
+{
+    if let Some(mark) = marks.get_mut(number as usize) {
+        *mark = false;
+    }
+}
+
+// The first number that has no mark.
+fn first_unmarked(marks: &[bool]) -> usize
+    ensures { result ≡ position_or_len not marks.now }
+{
+    let free = marks.iter().position(|mark| !*mark);
+    free.unwrap_or(marks.len())
+}

@@ -1,0 +1,129 @@
+//! The word of a cell: how many tasks are counted in, and two flags.
+ghost use Rattle.std.specs.Prelude.{◌≡◌, ◌<◌, ◌+◌, ◌-◌, ◌^◌, true, false, cond};
+
+use std::marker::Model;
+
+/// The word of a cell that is neither set nor held by a quick holder, and in which nobody is counted.
+pub const NEW: u64 = 0;
+
+/// The bit of the word that says that a quick holder has the right to initialise.
+pub const QINIT_BIT: u64 = 0x4000_0000_0000_0000;
+
+/// The bit of the word that says that the value is set.
+pub const READY_BIT: u64 = 0x8000_0000_0000_0000;
+
+/// The largest number of tasks that may be counted in.
+pub const MAX_WAITERS: u64 = QINIT_BIT - 2;
+
+/// This function does nothing: its contract says which number `MAX_WAITERS` is.
+pub fn largest_limit()
+    ensures { MAX_WAITERS ≡ 2 ^ 62 - 2 }
+{}
+
+/// A word: how many tasks are counted in, and the two flags.
+#[derive(Drop)]
+pub struct Word {
+    bits: u64,
+}
+
+impl Model for Word {
+    ghost use Rattle.once_queue.specs.Word.{Flags, flags_of};
+
+    ghost Value = { Flags };
+
+    ghost view = { λ w. flags_of w.bits };
+}
+
+impl Word {
+    ghost use Rattle.once_queue.specs.Word.{flags_of, flags_alone, is_zero, is_quick_bit};
+
+    pub fn new(ready: bool) -> Self
+        ensures { result ≡ flags_alone false ready }
+    {
+        Word {
+            bits: if ready { READY_BIT } else { NEW },
+        }
+    }
+
+    /// The word that this number stands for.
+    pub fn from_bits(bits: u64) -> Self
+        ensures { result ≡ flags_of bits }
+    {
+        Word { bits }
+    }
+
+    /// The word as a number.
+    pub fn bits(&self) -> u64
+        ensures { flags_of result ≡ self.now }
+    {
+        self.bits
+    }
+
+    pub fn count(&self) -> u64
+        ensures { result ≡ self.now.count }
+    {
+        self.bits % QINIT_BIT
+    }
+
+    pub fn is_ready(&self) -> bool
+        ensures { result ≡ self.now.ready }
+    {
+        self.bits >= READY_BIT
+    }
+
+    pub fn is_quick(&self) -> bool
+        ensures { result ≡ self.now.quick }
+    {
+        self.bits % READY_BIT >= QINIT_BIT
+    }
+
+    /// Exchanges `NEW` for the quick bit.
+    pub fn quick(&mut self) -> bool
+        ensures won { result ≡ is_zero self.old }
+        ensures new { self.new ≡ cond result (flags_alone true false) self.old }
+    {
+        if self.bits == NEW {
+            self.bits = QINIT_BIT;
+            return true;
+        }
+        false
+    }
+
+    /// Exchanges the quick bit for the ready bit, or for `NEW`.
+    pub fn fast(&mut self, ready: bool) -> bool
+        ensures won { result ≡ is_quick_bit self.old }
+        ensures new { self.new ≡ cond result (flags_alone false ready) self.old }
+    {
+        if self.bits == QINIT_BIT {
+            self.bits = if ready { READY_BIT } else { NEW };
+            return true;
+        }
+        false
+    }
+
+    /// Counts one task in.
+    pub fn count_in(&mut self)
+        requires { self.old.count < 2 ^ 62 - 1 }
+        ensures { self.new ≡ record self.old { count = self.old.count + 1 } }
+    {
+        self.bits += 1;
+    }
+
+    /// Counts one task out.
+    pub fn count_out(&mut self)
+        requires { 0 < self.old.count }
+        ensures { self.new ≡ record self.old { count = self.old.count - 1 } }
+    {
+        self.bits -= 1;
+    }
+
+    /// Clears the quick flag, and sets the ready flag or not.
+    pub fn give_back(&mut self, ready: bool)
+        ensures { self.new ≡ record self.old { quick = false; ready = ready } }
+    {
+        self.bits %= QINIT_BIT;
+        if ready {
+            self.bits += READY_BIT;
+        }
+    }
+}

@@ -1,0 +1,178 @@
+-- The owner's calls: where no task is unfinished they keep all that holds.
+use Rattle.std.proofs.Common.{◌≡◌, ◌≢◌, ℕ, Bool, true, false, ◌==◌, ◌⊎◌, inl, inr, ⊎_elim, List, [], ◌∷◌, Option, Some, None, refl, sym, ap, ◌∙◌, arith}
+use Rattle.std.proofs.lemmas.Bool.{false≢true, eqb-true}
+use Rattle.once_queue.specs.Numbers.{how_many}
+use Rattle.once_world.specs.Record.{Entry, Got, GotAnswers, Kind, Own, OwnerCall, Parts, ReplaceAnswers, ReplaceValue, Take, Write, made_in, replaces}
+use Rattle.once_world.specs.Cell.{Cell, Empty, Held, SetTo, answers_left, cell, got, got_parts, got_value, is_held, is_set, owned, written}
+use Rattle.once_world.specs.Tasks.{Waiting, status}
+use Rattle.once_queue.specs.Listings.{find_listing}
+use Rattle.once_world.specs.Machine.{Inner, Task, World, is_some_value, owned_by, owner_got, owner_inner, parts_got, reset, rewritten, value_got, value_or}
+use Rattle.once_queue.proofs.Listing.Members.{eqb_self}
+use Rattle.once_world.proofs.History.Others.{holds}
+use Rattle.once_world.proofs.History.Cells.{empty_cell, empty_not_set, holder_of, same_value, value_of_set}
+use Rattle.once_world.proofs.History.Waiters.{QueueFits, quiet}
+use Rattle.once_world.proofs.Listing.Counting.{count_none}
+use Rattle.once_world.proofs.Invariant.Facts.{is_counted}
+use Rattle.once_world.proofs.Invariant.Fits.{Fits, InnerFits, StandsFor, is_alive, step_of}
+use Rattle.once_world.proofs.Place.Relisted.{no_listing}
+use Rattle.once_world.proofs.Input.Gone.{Over, done_gone, finished, none_alive, over, over_at}
+
+-- a task that is not there or finished stands in the new history as it stood
+stands_over : (K : Kind) (limit t : ℕ) (c c' : Inner) (h : List Entry) (o : OwnerCall) (g : Got) (x : Option Task) → holds t (cell K (Own o g ∷ h)) ≡ false → StandsFor K limit t c h x → is_alive x ≡ false → StandsFor K limit t c' (Own o g ∷ h) x
+stands_over K limit t c c' h o g None n a d = (record { status_is = a.0.status_is; holds_is = n }, a.1, a.2)
+stands_over K limit t c c' h o g (Some x) n a d =
+    let r = over_at K limit t c h x a d in
+    record { waker_is = a.waker_is; kept_is = a.kept_is; step = rw (finished x.step d) (record { status_is = r.status_is; holds_is = n }) }
+
+-- a task that is not alive is not counted
+uncounted : (o : Option Task) → is_alive o ≡ false → is_counted (step_of o) ≡ false
+uncounted None d = refl
+uncounted (Some x) d = ap is_counted (finished x.step d)
+
+-- a cell that no task holds is free
+cell_free : (K : Kind) (h : List Entry) → ((t : ℕ) → holds t (cell K h) ≡ false) → (b : Bool) → is_held (cell K h) ≡ b → is_held (cell K h) ≡ false
+cell_free K h n false e = e
+cell_free K h n true e = let u = holder_of (cell K h) e in absurd (false≢true (sym (n u.0) ∙ ap (holds u.0) u.1 ∙ eqb_self u.0))
+
+-- a writing gives nobody the right
+written_holds : (t v : ℕ) (c : Cell) → holds t c ≡ false → holds t (written v c) ≡ false
+written_holds t v (SetTo u) n = refl
+written_holds t v Empty n = refl
+written_holds t v (Held u) n = n
+
+-- nor does another call of the owner
+owned_holds : (t : ℕ) (o : OwnerCall) (c : Cell) → holds t c ≡ false → holds t (owned o c) ≡ false
+owned_holds t Take c n = refl
+owned_holds t (Write v) c n = written_holds t v c n
+owned_holds t Parts c n = refl
+owned_holds t (ReplaceValue v) c n = refl
+owned_holds t (ReplaceAnswers l) c n = refl
+
+-- the owner is given the value that is set
+value_is_got : (K : Kind) (limit : ℕ) (c : Inner) (h : List Entry) (v : Cell) → cell K h ≡ v → InnerFits K limit c h → value_got c.ready c.value ≡ got_value (cell K h)
+value_is_got K limit c h Empty e f = rw (e, f.ready_is, e) refl
+value_is_got K limit c h (Held u) e f = rw (e, f.ready_is, e) refl
+value_is_got K limit c h (SetTo v) e f = rw (e, f.ready_is, e, f.value_is v e) refl
+
+-- or the answers that are left
+parts_are_got : (K : Kind) (limit : ℕ) (c : Inner) (h : List Entry) (v : Cell) → cell K h ≡ v → InnerFits K limit c h → parts_got c.ready c ≡ got_parts (cell K h) (answers_left K h)
+parts_are_got K limit c h Empty e f = rw (e, f.ready_is, e) (ap (λ l. GotAnswers l) f.answers_is)
+parts_are_got K limit c h (Held u) e f = rw (e, f.ready_is, e) (ap (λ l. GotAnswers l) f.answers_is)
+parts_are_got K limit c h (SetTo v) e f = rw (e, f.ready_is, e, f.value_is v e) refl
+
+-- the owner is given what the cell has
+pub owner_is_got : (K : Kind) (limit : ℕ) (o : OwnerCall) (c : Inner) (h : List Entry) → InnerFits K limit c h → owner_got o c ≡ got o (cell K h) (answers_left K h)
+owner_is_got K limit Take c h f = value_is_got K limit c h (cell K h) refl f
+owner_is_got K limit (Write v) c h f = value_is_got K limit c h (cell K h) refl f
+owner_is_got K limit Parts c h f = parts_are_got K limit c h (cell K h) refl f
+owner_is_got K limit (ReplaceValue v) c h f = value_is_got K limit c h (cell K h) refl f
+owner_is_got K limit (ReplaceAnswers l) c h f = value_is_got K limit c h (cell K h) refl f
+
+-- a cell made new fits
+reset_inner : (K : Kind) (limit : ℕ) (c : Inner) (v : Option ℕ) (l : List (Option ℕ)) (h : List Entry) → is_some_value v ≡ is_set (cell K h) → is_held (cell K h) ≡ false → ((u : ℕ) → cell K h ≡ SetTo u → value_or v c.value ≡ u) → l ≡ answers_left K h → InnerFits K limit (reset c v l) h
+reset_inner K limit c v l h r n s a = record {
+  ready_is = r;
+  held_is = n;
+  value_is = s;
+  answers_is = a;
+  within = omega arith;
+  stands = λ _ z. absurd (omega arith);
+  head_door = λ e. absurd (false≢true e);
+}
+
+-- a written value fits, and a cell without a value stays as it is
+written_inner : (K : Kind) (limit v : ℕ) (c : Inner) (g : Got) (h : List Entry) (r : Bool) → c.ready ≡ r → is_held (cell K h) ≡ false → InnerFits K limit c h → InnerFits K limit (rewritten r v c) (Own (Write v) g ∷ h)
+written_inner K limit v c g h true r n f =
+    let u = value_of_set (cell K h) (sym f.ready_is ∙ r) in
+    let now : cell K (Own (Write v) g ∷ h) ≡ SetTo v = ap (written v) u.1 in
+    record {
+      ready_is = r ∙ sym (ap is_set now);
+      held_is = ap is_held now ∙ sym n ∙ f.held_is;
+      value_is = λ w e. same_value v w (sym now ∙ e);
+      answers_is = f.answers_is;
+      within = f.within;
+      stands = f.stands;
+      head_door = f.head_door;
+    }
+written_inner K limit v c g h false r n f =
+    let was = empty_cell (cell K h) (sym f.ready_is ∙ r) n in
+    let now : cell K (Own (Write v) g ∷ h) ≡ Empty = ap (written v) was in
+    record {
+      ready_is = r ∙ sym (ap is_set now);
+      held_is = ap is_held now ∙ sym n ∙ f.held_is;
+      value_is = λ w e. absurd (empty_not_set w (sym now ∙ e));
+      answers_is = f.answers_is;
+      within = f.within;
+      stands = f.stands;
+      head_door = f.head_door;
+    }
+
+-- what an owner's call owes
+record Owned (K : Kind) (limit : ℕ) (c c' : Inner) (o : OwnerCall) (g : Got) (h : List Entry) : Type 0 where
+  inner : InnerFits K limit c' (Own o g ∷ h)
+  queue : QueueFits K c'.listings (Own o g ∷ h)
+  count : (c'.count ≡ 0) ⊎ (c'.count ≡ c.count)
+  lists : c'.ready ≡ false → (n : ℕ) (x : Option ℕ) → find_listing n c'.listings ≡ Some x → (c.ready ≡ false) × (find_listing n c.listings ≡ Some x)
+
+-- where the owner replaces the cell the counts start anew, and nobody is listed
+replaced : (K : Kind) (o : OwnerCall) (g : Got) (h : List Entry) → replaces o ≡ true → ((u : ℕ) → status K u h ≢ Waiting) → QueueFits K [] (Own o g ∷ h)
+replaced K o g h r w = record { counts = λ k. rw r (omega arith); called = λ e u s. absurd (w u s) }
+
+written_empty : (v : ℕ) (c : Cell) → written v c ≡ Empty → c ≡ Empty
+written_empty v Empty e = refl
+written_empty v (Held u) e = e
+written_empty v (SetTo u) e = absurd (empty_not_set v (sym e))
+
+-- a writing, by whether a value is set
+owned_write : (K : Kind) (limit v : ℕ) (c : Inner) (g : Got) (h : List Entry) (r : Bool) → c.ready ≡ r → is_held (cell K h) ≡ false → InnerFits K limit c h → QueueFits K c.listings (Own (Write v) g ∷ h) → Owned K limit c (rewritten r v c) (Write v) g h
+owned_write K limit v c g h true r n f q = record { inner = written_inner K limit v c g h true r n f; queue = q; count = inr refl; lists = λ z n x e. (z, e) }
+owned_write K limit v c g h false r n f q = record { inner = written_inner K limit v c g h false r n f; queue = q; count = inr refl; lists = λ z n x e. (z, e) }
+
+-- what each call owes
+owned_so : (K : Kind) (limit : ℕ) (c : Inner) (o : OwnerCall) (g : Got) (h : List Entry) → is_held (cell K h) ≡ false → InnerFits K limit c h → QueueFits K c.listings h → ((u : ℕ) → status K u h ≢ Waiting) → Owned K limit c (owner_inner o c) o g h
+owned_so K limit c Take g h n f q w = record { inner = reset_inner K limit c None c.answers (Own Take g ∷ h) refl refl (λ u e. absurd (empty_not_set u e)) f.answers_is; queue = replaced K Take g h refl w; count = inl refl; lists = λ z n x e. absurd (no_listing x e) }
+owned_so K limit c Parts g h n f q w = record { inner = reset_inner K limit c None [] (Own Parts g ∷ h) refl refl (λ u e. absurd (empty_not_set u e)) refl; queue = replaced K Parts g h refl w; count = inl refl; lists = λ z n x e. absurd (no_listing x e) }
+owned_so K limit c (ReplaceValue v) g h n f q w = record { inner = reset_inner K limit c (Some v) [] (Own (ReplaceValue v) g ∷ h) refl refl (λ u e. same_value v u e) refl; queue = replaced K (ReplaceValue v) g h refl w; count = inl refl; lists = λ z n x e. absurd (no_listing x e) }
+owned_so K limit c (ReplaceAnswers l) g h n f q w = record { inner = reset_inner K limit c None l (Own (ReplaceAnswers l) g ∷ h) refl refl (λ u e. absurd (empty_not_set u e)) refl; queue = replaced K (ReplaceAnswers l) g h refl w; count = inl refl; lists = λ z n x e. absurd (no_listing x e) }
+owned_so K limit c (Write v) g h n f q w = owned_write K limit v c g h c.ready refl n f (quiet K c.listings (Own (Write v) g) h q refl refl (λ _. refl) (λ u is. absurd (false≢true is)) (written_empty v (cell K h)))
+
+-- a task that is unmade or gone does not wait
+over_awake : (K : Kind) (t : ℕ) (h : List Entry) → Over K t h → status K t h ≢ Waiting
+over_awake K t h o w = ⊎_elim (λ e. let z : ⊥ = cc in z) (λ e. let z : ⊥ = cc in z) o.status_is
+
+-- the count is 0 before and after
+zero_is : (c c' n : ℕ) → c ≡ n → n ≡ 0 → (c' ≡ 0) ⊎ (c' ≡ c) → c' ≡ n
+zero_is c c' n a b (inl e) = omega arith
+zero_is c c' n a b (inr e) = omega arith
+
+-- a call that fits keeps all that holds
+owner_fits : (K : Kind) (limit : ℕ) (w : World) (o : OwnerCall) → Fits K limit w → w.unfinished ≡ 0 → Fits K limit (owned_by true true w o)
+owner_fits K limit w o f d =
+    let h : List Entry = w.history in
+    let g : Got = owner_got o w.inner in
+    let dead : (t : ℕ) → is_alive (w.tasks t) ≡ false = λ t. none_alive K limit t w f d in
+    let all_over : (t : ℕ) → Over K t h = λ t. over K limit t w.inner h (w.tasks t) (f.tasks t) (dead t) in
+    let n : is_held (cell K h) ≡ false = cell_free K h (λ t. let v = all_over t in v.holds_is) (is_held (cell K h)) refl in
+    let s : Owned K limit w.inner (owner_inner o w.inner) o g h = owned_so K limit w.inner o g h n f.inner f.queue (λ u. over_awake K u h (all_over u)) in
+    let zero_count = count_none (made_in h) (λ k. is_counted (step_of (w.tasks k))) (λ k. uncounted (w.tasks k) (dead k)) in
+    record {
+      run = ((done_gone K limit w f d, owner_is_got K limit o w.inner h f.inner), f.run);
+      inner = s.inner;
+      queue = s.queue;
+      tasks = λ t. stands_over K limit t w.inner (owner_inner o w.inner) h o g (w.tasks t) (owned_holds t o (cell K h) (let v = all_over t in v.holds_is)) (f.tasks t) (dead t);
+      count_is = zero_is w.inner.count (owner_inner o w.inner).count (how_many (λ k. is_counted (step_of (w.tasks k))) (made_in h)) f.count_is zero_count s.count;
+      unfinished_is = f.unfinished_is;
+      made_once = f.made_once;
+      made_all = f.made_all;
+      made_only = f.made_only;
+      alone = f.alone;
+      single = f.single;
+      owned = λ r n x e. let l = s.lists r n x e in f.owned l.0 n x l.1;
+      moments = ((λ e u k. absurd (over_awake K u h (all_over u) k)), f.moments);
+    }
+
+-- by whether the call fits
+pub owned_fits : (K : Kind) (limit : ℕ) (w : World) (o : OwnerCall) (d b : Bool) → (w.unfinished == 0) ≡ d → Fits K limit w → Fits K limit (owned_by d b w o)
+owned_fits K limit w o true true e f = owner_fits K limit w o f (eqb-true w.unfinished 0 e)
+owned_fits K limit w o true false e f = f
+owned_fits K limit w o false b e f = f

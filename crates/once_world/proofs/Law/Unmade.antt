@@ -1,0 +1,67 @@
+-- A task without a Made is unmade: where all that were made are gone, each task is unmade or gone.
+use Rattle.std.proofs.Common.{◌≡◌, ℕ, Bool, true, false, ◌==◌, ◌⊎◌, inl, inr, ⊎_elim, List, [], ◌∷◌, refl, sym, ap, ◌∙◌, subst, arith}
+use Rattle.std.proofs.lemmas.Bool.{false≢true, cases_Bool, eqb-true}
+use Rattle.std.proofs.lemmas.Bool.Decides.{nat_tests}
+use Rattle.once_queue.specs.Numbers.{member}
+use Rattle.once_world.specs.Record.{Begin, Claim, DropBegin, DropEnd, End, Entry, Fill, Free, Kind, Look, Made, Own, Pass, Ran, is_of, made_in}
+use Rattle.once_world.specs.Tasks.{Status, Unmade, all_gone, is_gone, is_under_way, last_call, status}
+use Rattle.once_world.specs.Run.{IsLegal, IsRun, MayBegin, MayFree}
+use Rattle.once_world.proofs.Input.Gone.{made_there}
+use Rattle.once_world.proofs.Law.Passed.{no_pass}
+
+-- an unmade task frees nothing
+no_free : (K : Kind) (t u : ℕ) (h : List Entry) → (u == t) ≡ true → status K t h ≡ Unmade → MayFree (status K u h) (last_call K u h).ran → ⊥
+no_free K t u h e s m =
+    let w : status K u h ≡ Unmade = ap (λ v. status K v h) (eqb-true u t e) ∙ s in
+    let P : Status → Type 0 = λ x. MayFree x (last_call K u h).ran in
+    subst P w m
+
+-- and begins nothing
+no_begin : (K : Kind) (t u : ℕ) (h : List Entry) → (u == t) ≡ true → status K t h ≡ Unmade → MayBegin (status K u h) → ⊥
+no_begin K t u h e s m =
+    let w : status K u h ≡ Unmade = ap (λ v. status K v h) (eqb-true u t e) ∙ s in
+    subst MayBegin w m
+
+-- only a Made is legal for a task that was not made
+first_made : (K : Kind) (t : ℕ) (e : Entry) (limit : ℕ) (h : List Entry) → is_of t e ≡ true → IsLegal K limit e h → status K t h ≡ Unmade → member t (made_in (e ∷ h)) ≡ true
+first_made K t (Made u) limit h n l s = rw n refl
+first_made K t (Begin u w) limit h n l s = absurd (no_begin K t u h n s l)
+first_made K t (Claim u) limit h n l s = grind (arith, nat_tests, l.1)
+first_made K t (Ran u a) limit h n l s = grind (arith, nat_tests, l.1)
+first_made K t (Free u X) limit h n l s = absurd (no_free K t u h n s l.1)
+first_made K t (Fill u k X) limit h n l s = grind (arith, nat_tests, l.1)
+first_made K t (Pass u X) limit h n l s = absurd (no_pass K t u h n (ap is_under_way s) l.1)
+first_made K t (End u r) limit h n l s = grind (arith, nat_tests, l.0)
+first_made K t (DropBegin u) limit h n l s = absurd (no_begin K t u h n s l)
+first_made K t (DropEnd u) limit h n l s = grind (arith, nat_tests, l.0)
+first_made K t (Look r) limit h n l s = absurd (false≢true n)
+first_made K t (Own o g) limit h n l s = absurd (false≢true n)
+
+-- who is made later was not made
+made_less : (t : ℕ) (e : Entry) (h : List Entry) → member t (made_in (e ∷ h)) ≡ false → member t (made_in h) ≡ false
+made_less t (Made u) h m = grind arith
+made_less t (Begin u w) h m = m
+made_less t (Claim u) h m = m
+made_less t (Ran u a) h m = m
+made_less t (Free u X) h m = m
+made_less t (Fill u k X) h m = m
+made_less t (Pass u X) h m = m
+made_less t (End u r) h m = m
+made_less t (DropBegin u) h m = m
+made_less t (DropEnd u) h m = m
+made_less t (Look r) h m = m
+made_less t (Own o g) h m = m
+
+-- by whether the entry is of the task
+unmade_by : (K : Kind) (t : ℕ) (e : Entry) (limit : ℕ) (h : List Entry) (b : Bool) → is_of t e ≡ b → IsLegal K limit e h → member t (made_in (e ∷ h)) ≡ false → status K t h ≡ Unmade → status K t (e ∷ h) ≡ Unmade
+unmade_by K t e limit h true is l m s = absurd (false≢true (sym m ∙ first_made K t e limit h is l s))
+unmade_by K t e limit h false is l m s = rw is s
+
+-- in a run a task without a Made is unmade
+unmade_status : (K : Kind) (t : ℕ) (h : List Entry) → (limit : ℕ) → IsRun K limit h → member t (made_in h) ≡ false → status K t h ≡ Unmade
+unmade_status K t [] limit r m = refl
+unmade_status K t (e ∷ h) limit r m = unmade_by K t e limit h (is_of t e) refl r.0 m (unmade_status K t h limit r.1 (made_less t e h m))
+
+-- where all that were made are gone, each task is unmade or gone
+pub over_all : (K : Kind) (limit t : ℕ) (h : List Entry) → IsRun K limit h → all_gone K h ≡ true → (status K t h ≡ Unmade) ⊎ (is_gone (status K t h) ≡ true)
+over_all K limit t h r a = ⊎_elim (λ e. inr (made_there K t (made_in h) h a e)) (λ e. inl (unmade_status K t h limit r e)) (cases_Bool (member t (made_in h)))

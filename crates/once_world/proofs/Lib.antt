@@ -1,0 +1,11 @@
+pub mod Listing
+pub mod History
+pub mod Invariant
+pub mod Place
+pub mod Input
+pub mod Law
+pub mod Door
+pub mod Part
+pub mod Exactness
+pub mod Rows
+pub mod Spoilt

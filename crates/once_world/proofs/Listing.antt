@@ -1,0 +1,6 @@
+-- Lists of numbers and of listings whose wakers are numbers.
+pub mod Counting
+pub mod Handed
+pub mod Listings
+pub mod CalledFirst
+pub mod AllOut

@@ -1,0 +1,133 @@
+-- The entries of a step are entries of its task, two at most.
+use Rattle.std.proofs.Common.{ℕ, Bool, true, false, List, [], ◌∷◌, Option, Some, None, refl}
+use Rattle.std.specs.Prelude.{◌||◌, nat_lt}
+use Rattle.std.specs.Option.{is_some}
+use Rattle.once_world.specs.Record.{Answer, Kind, Lazy, LazyWith, Once, OnceWith, RanError, RanPending, RanValue, is_lazy}
+use Rattle.once_world.specs.Inputs.{AreOfStep, IsAsked, IsOfStep}
+use Rattle.once_world.specs.Machine.{AtAddOne, AtCountIn, AtCountOut, AtDoorAgain, AtDoorGet, AtDoorPut, AtDoorTake, AtFast, AtLeave, AtList, AtLook, AtPut, AtRelease, AtRun, AtStart, AtTryQuick, AtWaitLoad, EndDropped, EndError, EndFull, EndMemory, EndPending, EndValue, Ending, Finished, Inner, Place, Resting, Step, UnderWay, again_step, counted_out, door_step, door_taken, end_entry, fast_step, given, handed, in_step, is_at_door, is_last_out, is_new, is_quick_alone, is_taken, is_value, is_waker, kept_ticket, leave_step, list_step, load_step, look_step, next_waker, one_out, out_step, own_listing, pass_entries, passes, place_step, put_step, quick_step, ran_once, release_entry, release_step, run_step, start_step, step_at}
+
+-- the last entry of a call is of its task
+last_part : (K : Kind) (t : ℕ) (a : Answer) (v : ℕ) (k : Answer) (e : Ending) → IsOfStep K t a (end_entry e t v k)
+last_part K t a v k EndPending = refl
+last_part K t a v k EndValue = refl
+last_part K t a v k EndError = refl
+last_part K t a v k EndMemory = refl
+last_part K t a v k EndFull = refl
+last_part K t a v k EndDropped = refl
+
+-- so is a release
+release_part : (K : Kind) (t : ℕ) (a k : Answer) (X : List ℕ) → IsOfStep K t a (release_entry k t X)
+release_part K t a RanPending X = refl
+release_part K t a (RanValue v) X = refl
+release_part K t a (RanError e) X = refl
+
+-- so is a turn that is passed on, if one is
+pass_part : (K : Kind) (t : ℕ) (a : Answer) (X : List ℕ) → AreOfStep K t a (pass_entries t X)
+pass_part K t a [] = tt
+pass_part K t a (w ∷ X) = refl
+
+-- an init that is asked in a step answers what the Go says, or what its list has next
+asked_so : (K : Kind) (l : List (Option ℕ)) (a : Answer) → IsAsked K a (given (is_lazy K) l a)
+asked_so Once l a = refl
+asked_so (OnceWith v) l a = refl
+asked_so (Lazy k) l a = tt
+asked_so (LazyWith v) l a = tt
+
+-- the entries of each step, by the outcome of its tests
+module _ (K : Kind) (c : Inner) (t : ℕ) (k a : Answer) where
+  part_start : (r f : Bool) → AreOfStep K t a (start_step r f c t k).entries
+  part_start true f = refl
+  part_start false true = tt
+  part_start false false = tt
+
+  part_quick : (r f : Bool) → AreOfStep K t a (quick_step r f c t k).entries
+  part_quick false true = refl
+  part_quick true f = tt
+  part_quick false false = tt
+
+  part_get : (d : Option ℕ) → AreOfStep K t a (door_step d c k).entries
+  part_get (Some q) = tt
+  part_get None = tt
+
+  part_put : (g : Bool) (d : Option ℕ) → AreOfStep K t a (put_step g d c t k).entries
+  part_put false d = refl
+  part_put true (Some q) = tt
+  part_put true None = tt
+
+  part_in : (b r : Bool) (q : ℕ) → AreOfStep K t a (in_step b r c t k q).entries
+  part_in true true q = tt
+  part_in true false q = tt
+  part_in false true q = refl
+  part_in false false q = refl
+
+  part_load : (r : Bool) (q : ℕ) (n : Option ℕ) → AreOfStep K t a (load_step r c k q n).entries
+  part_load true q n = tt
+  part_load false q n = tt
+
+  part_look : (d r f m g : Bool) (w q : ℕ) (n : Option ℕ) → AreOfStep K t a (look_step d r f m g c t w k q n).entries
+  part_look true true f m g w q n = tt
+  part_look true false false m g w q n = refl
+  part_look true false true true g w q n = refl
+  part_look true false true false true w q n = tt
+  part_look true false true false false w q n = tt
+  part_look false r f m true w q n = tt
+  part_look false r f m false w q n = tt
+
+  part_list : (d r f g : Bool) (w q : ℕ) (n : Option ℕ) → AreOfStep K t a (list_step d r f g c t w k q n).entries
+  part_list false r f g w q n = refl
+  part_list true true f g w q n = tt
+  part_list true false false g w q n = refl
+  part_list true false true true w q n = refl
+  part_list true false true false w q n = tt
+
+  part_run : (b : Answer) (by : Option ℕ) → IsAsked K a b → AreOfStep K t a (run_step b (ran_once c) t k by).entries
+  part_run RanPending by x = (refl, (refl, x))
+  part_run (RanValue v) by x = (refl, x)
+  part_run (RanError e) by x = (refl, x)
+
+  part_fast : (x f : Bool) (e : Ending) → AreOfStep K t a (fast_step x f c t k e).entries
+  part_fast true true e = release_part K t a k []
+  part_fast true false e = (last_part K t a c.value k e, release_part K t a k [])
+  part_fast false f e = tt
+
+  part_again : (d : Option ℕ) (e : Ending) → AreOfStep K t a (again_step d c k e).entries
+  part_again (Some q) e = tt
+  part_again None e = tt
+
+  part_release : (d : Bool) (e : Ending) → AreOfStep K t a (release_step d c t k e).entries
+  part_release true e = release_part K t a k (handed (is_value e) c.listings)
+  part_release false e = release_part K t a k []
+
+  part_leave : (d : Bool) (n : ℕ) (e : Ending) → AreOfStep K t a (leave_step d c t k n e).entries
+  part_leave true n e = pass_part K t a (one_out (next_waker (passes c n) n c.listings))
+  part_leave false n e = tt
+
+  part_out : (x : Bool) (e : Ending) → AreOfStep K t a (out_step x (counted_out c) t k e).entries
+  part_out true e = tt
+  part_out false e = last_part K t a c.value k e
+
+  -- one place after the other
+  part_at : (limit w : ℕ) (g : Bool) (p : Place ℕ ℕ) → AreOfStep K t a (place_step (is_lazy K) limit c t w k a g p).entries
+  part_at limit w g AtStart = part_start c.ready (is_new c)
+  part_at limit w g AtTryQuick = part_quick c.ready (is_new c)
+  part_at limit w g AtDoorGet = part_get c.door
+  part_at limit w g AtDoorPut = part_put g c.door
+  part_at limit w g (AtCountIn q) = part_in (nat_lt c.count limit) c.ready q
+  part_at limit w g (AtWaitLoad q n) = part_load c.ready q n
+  part_at limit w g (AtLook q n) = part_look (is_at_door q c.door) c.ready (is_taken c) (is_waker w (own_listing n c.listings)) g w q n
+  part_at limit w g (AtList q n v) = part_list (is_at_door q c.door) c.ready (is_taken c) (is_some (kept_ticket n c.listings) || g) v q n
+  part_at limit w g (AtRun by) = part_run (given (is_lazy K) c.answers a) by (asked_so K c.answers a)
+  part_at limit w g (AtPut by) = tt
+  part_at limit w g (AtFast e) = part_fast (is_quick_alone c) (is_value e) e
+  part_at limit w g (AtAddOne e) = tt
+  part_at limit w g (AtDoorAgain e) = part_again c.door e
+  part_at limit w g (AtRelease q e) = part_release (is_at_door q c.door) e
+  part_at limit w g (AtLeave q n e) = part_leave (is_at_door q c.door) n e
+  part_at limit w g (AtCountOut e) = part_out (is_last_out c) e
+  part_at limit w g (AtDoorTake e) = last_part K t a (door_taken c).value k e
+
+  -- the entries of a step
+  pub step_part : (limit w : ℕ) (g : Bool) (s : Step ℕ ℕ) → AreOfStep K t a (step_at (is_lazy K) limit c t w k a g s).entries
+  step_part limit w g (UnderWay p) = part_at limit w g p
+  step_part limit w g (Resting r) = tt
+  step_part limit w g Finished = tt

@@ -1,0 +1,62 @@
+-- Where every step is given memory, no call ends for want of it.
+use Rattle.std.proofs.Common.{◌≡◌, ◌<◌, ℕ, Bool, true, false, cond, ⊎_elim, List, [], ◌∷◌, ◌++◌, refl, sym, ap, ◌∙◌, arith}
+use Rattle.std.proofs.lemmas.Bool.{false≢true, cases_Bool}
+use Rattle.std.proofs.lemmas.Bool.Decides.{nat_tests}
+use Rattle.once_world.specs.Record.{Begin, Claim, DropBegin, DropEnd, End, Entry, Error, Fill, Free, Full, Kind, Look, Made, Memory, Own, Pass, Pending, Ran, Value}
+use Rattle.once_world.specs.Inputs.{Always, Belongs, Input, Part, WantsMemoryOnlyUngranted, begins_call, ends_for_memory, entries_of, inputs_of, is_fitting_go, is_ungranted, ungranted_after, was_ungranted}
+use Rattle.once_world.specs.Granted.{all_granted}
+use Rattle.once_world.specs.Machine.{history_of}
+use Rattle.once_world.proofs.Part.Belonging.{belongs}
+
+-- a poll ends for want of memory in the one part or the other
+ends_for_memory-append : (t : ℕ) (xs ys : List Entry) → ends_for_memory t (xs ++ ys) ≡ cond (ends_for_memory t xs) true (ends_for_memory t ys)
+ends_for_memory-append t [] ys = refl
+ends_for_memory-append t (Made u ∷ xs) ys = ends_for_memory-append t xs ys
+ends_for_memory-append t (Begin u w ∷ xs) ys = ends_for_memory-append t xs ys
+ends_for_memory-append t (Claim u ∷ xs) ys = ends_for_memory-append t xs ys
+ends_for_memory-append t (Ran u a ∷ xs) ys = ends_for_memory-append t xs ys
+ends_for_memory-append t (Free u X ∷ xs) ys = ends_for_memory-append t xs ys
+ends_for_memory-append t (Fill u v X ∷ xs) ys = ends_for_memory-append t xs ys
+ends_for_memory-append t (Pass u X ∷ xs) ys = ends_for_memory-append t xs ys
+ends_for_memory-append t (End u Pending ∷ xs) ys = ends_for_memory-append t xs ys
+ends_for_memory-append t (End u (Value v) ∷ xs) ys = ends_for_memory-append t xs ys
+ends_for_memory-append t (End u (Error v) ∷ xs) ys = ends_for_memory-append t xs ys
+ends_for_memory-append t (End u Memory ∷ xs) ys = let ih = ends_for_memory-append t xs ys in grind (arith, nat_tests)
+ends_for_memory-append t (End u Full ∷ xs) ys = ends_for_memory-append t xs ys
+ends_for_memory-append t (DropBegin u ∷ xs) ys = ends_for_memory-append t xs ys
+ends_for_memory-append t (DropEnd u ∷ xs) ys = ends_for_memory-append t xs ys
+ends_for_memory-append t (Look v ∷ xs) ys = ends_for_memory-append t xs ys
+ends_for_memory-append t (Own o g ∷ xs) ys = ends_for_memory-append t xs ys
+
+-- a step that was given memory refuses none
+granted_after : (begins fits none u : Bool) → none ≡ false → u ≡ false → ungranted_after begins fits none u ≡ false
+granted_after true fits none u a b = refl
+granted_after false true true u a b = absurd (false≢true (sym a))
+granted_after false true false u a b = b
+granted_after false false none u a b = b
+
+-- where every step is given memory, no call met one without
+never_ungranted : (K : Kind) (t : ℕ) (parts : List Part) → all_granted (inputs_of parts) ≡ true → was_ungranted K t parts ≡ false
+never_ungranted K t [] g = refl
+never_ungranted K t (p ∷ before) g =
+    let here : is_ungranted p.input ≡ false = grind arith in
+    let rest : all_granted (inputs_of before) ≡ true = grind arith in
+    let ih = never_ungranted K t before rest in
+    granted_after (begins_call t p.entries) (is_fitting_go K t p.input (entries_of before)) (is_ungranted p.input) (was_ungranted K t before) here ih
+
+-- no part ends a poll for want of memory then
+no_memory : (K : Kind) (t : ℕ) (parts : List Part) → Always (WantsMemoryOnlyUngranted K) parts → all_granted (inputs_of parts) ≡ true → ends_for_memory t (entries_of parts) ≡ false
+no_memory K t [] a g = refl
+no_memory K t (p ∷ before) a g =
+    let rest : all_granted (inputs_of before) ≡ true = grind arith in
+    let ih = no_memory K t before a.1 rest in
+    let here : ends_for_memory t p.entries ≡ false = ⊎_elim (λ e. absurd (false≢true (sym (never_ungranted K t (p ∷ before) g) ∙ a.0 t e))) (λ e. e) (cases_Bool (ends_for_memory t p.entries)) in
+    ends_for_memory-append t p.entries (entries_of before) ∙ rw here ih
+
+-- where every step is given memory, no record that belongs to these inputs has a call that ended for want of it
+granted_memory : (kind : Kind) (inputs : List Input) (h : List Entry) (t : ℕ) → Belongs kind inputs h → all_granted inputs ≡ true → ends_for_memory t h ≡ false
+granted_memory kind inputs h t b g = let f = b.1 in rw (← f.entries_are) (no_memory kind t b.0 f.memory (ap all_granted f.inputs_are ∙ g))
+
+-- where every step is given memory, the record has no call that ended for want of it
+pub ample_memory : (kind : Kind) (limit : ℕ) (inputs : List Input) (t : ℕ) → 0 < limit → all_granted inputs ≡ true → ends_for_memory t (history_of kind limit inputs) ≡ false
+ample_memory kind limit inputs t some g = let b = belongs kind limit inputs some in granted_memory kind inputs (history_of kind limit inputs) t (b.0, b.1) g

@@ -1,0 +1,110 @@
+-- What a release is, and what it leaves.
+use Rattle.std.proofs.Common.{◌≡◌, ◌≢◌, ◌<◌, ℕ, Bool, true, false, ◌==◌, ◌⊎◌, inl, inr, List, ◌∷◌, refl, sym, ap, ◌∙◌, arith}
+use Rattle.std.specs.Prelude.{◌-◌}
+use Rattle.std.proofs.lemmas.Bool.{false≢true, eqb-true}
+use Rattle.std.proofs.lemmas.Bool.Decides.{nat_tests}
+use Rattle.once_world.specs.Record.{Answer, Entry, Fill, Free, Kind, handed_by, is_of, is_own, made_in}
+use Rattle.once_world.specs.Cell.{Cell, cell}
+use Rattle.once_world.specs.Tasks.{LastCall, Status, Waiting, is_under_way, last_call, last_call_after, status, status_after}
+use Rattle.once_queue.specs.declared.waiters.Listing.{Listing}
+use Rattle.once_world.specs.Wakers.{CallsOne, HandsOut}
+use Rattle.once_world.specs.Run.{IsLegal}
+use Rattle.once_world.specs.Machine.{EndDropped, EndError, EndFull, EndMemory, EndPending, EndValue, Ending, Inner, is_last_out, is_quick_alone, is_value, release_entry, released}
+use Rattle.once_queue.proofs.Listing.Members.{eqb_self}
+use Rattle.once_world.proofs.History.Cells.{held_by}
+use Rattle.once_world.proofs.Invariant.Facts.{HeadFlag, Owes, QuickFlag, Releasing, kept_of}
+use Rattle.once_world.proofs.Invariant.Around.{releasing_acts}
+
+-- the word is exactly the quick bit
+pub exact : (c : Inner) → is_quick_alone c ≡ true → c.count ≡ 0
+exact c e = grind (arith, nat_tests)
+
+-- where it is not, while t holds by the quick bit, somebody is in the count
+pub inexact : (c : Inner) → c.ready ≡ false → c.quick ≡ true → is_quick_alone c ≡ false → 0 < c.count
+inexact c r q e = grind (arith, nat_tests)
+
+-- the word will be exactly the ready bit
+pub exact_out : (c : Inner) → is_last_out c ≡ true → (c.count - 1 ≡ 0) × (c.ready ≡ true)
+exact_out c e = grind (arith, nat_tests)
+
+-- a call that ends with the value fills the cell with what its init gave
+pub fills : (K : Kind) (t : ℕ) (h : List Entry) (c : Inner) (k : Answer) (X : List ℕ) → k ≡ kept_of (last_call K t h).ran → (r : Releasing K t h c EndValue) → release_entry k t X ≡ Fill t r.0 X
+fills K t h c k X a r = ap (λ x. release_entry x t X) (a ∙ ap kept_of r.1.ran_is)
+
+-- another call frees it
+pub frees : (K : Kind) (t : ℕ) (h : List Entry) (c : Inner) (k : Answer) (X : List ℕ) (e : Ending) → is_value e ≡ false → k ≡ kept_of (last_call K t h).ran → Releasing K t h c e → release_entry k t X ≡ Free t X
+frees K t h c k X EndError n a r = ap (λ x. release_entry x t X) (a ∙ ap kept_of r.1.ran_is)
+frees K t h c k X EndDropped n a r = ap (λ x. release_entry x t X) (a ∙ r.1)
+frees K t h c k X EndValue n a r = absurd (false≢true (sym n))
+frees K t h c k X EndPending n a r = absurd r
+frees K t h c k X EndMemory n a r = absurd r
+frees K t h c k X EndFull n a r = absurd r
+
+-- what stands in a call that freed the cell
+pub freed_owes : (K : Kind) (t : ℕ) (h : List Entry) (c : Inner) (X : List ℕ) (e : Ending) → is_value e ≡ false → Releasing K t h c e → Owes K t (Free t X ∷ h) e
+freed_owes K t h c X EndError n r = (r.0, record { status_is = rw (eqb_self t) r.1.status_is; ran_is = rw (eqb_self t) r.1.ran_is; holds_is = refl; unpassed = rw (eqb_self t) r.1.unpassed }, rw (eqb_self t) refl)
+freed_owes K t h c X EndDropped n r = record { status_is = rw (eqb_self t) r.0.status_is; holds_is = refl }
+freed_owes K t h c X EndValue n r = absurd (false≢true (sym n))
+freed_owes K t h c X EndPending n r = absurd r
+freed_owes K t h c X EndMemory n r = absurd r
+freed_owes K t h c X EndFull n r = absurd r
+
+-- what stands in a call that filled it
+pub filled_owes : (K : Kind) (t : ℕ) (h : List Entry) (c : Inner) (X : List ℕ) → (r : Releasing K t h c EndValue) → Owes K t (Fill t r.0 X ∷ h) EndValue
+filled_owes K t h c X r = (rw (eqb_self t) r.1.status_is, (r.0, refl, inr (rw (eqb_self t) r.1.ran_is)), rw (eqb_self t) r.1.unpassed)
+
+-- t may free the cell
+pub free_legal : (K : Kind) (limit t : ℕ) (h : List Entry) (c : Inner) (X : List ℕ) (e : Ending) → is_value e ≡ false → Releasing K t h c e → CallsOne K X h → IsLegal K limit (Free t X) h
+free_legal K limit t h c X EndError n r o = (held_by t (cell K h) r.1.holds_is, rw (r.1.status_is, r.1.ran_is) tt, o)
+free_legal K limit t h c X EndDropped n r o = (held_by t (cell K h) r.0.holds_is, rw r.0.status_is tt, o)
+free_legal K limit t h c X EndValue n r o = absurd (false≢true (sym n))
+free_legal K limit t h c X EndPending n r o = absurd r
+free_legal K limit t h c X EndMemory n r o = absurd r
+free_legal K limit t h c X EndFull n r o = absurd r
+
+-- t may fill it
+pub fill_legal : (K : Kind) (limit t : ℕ) (h : List Entry) (c : Inner) (X : List ℕ) → (r : Releasing K t h c EndValue) → HandsOut K X h → IsLegal K limit (Fill t r.0 X) h
+fill_legal K limit t h c X r o = (held_by t (cell K h) r.1.holds_is, r.1.status_is, r.1.ran_is, o)
+
+-- who acts does not wait
+under_way_awake : {s : Status} → is_under_way s ≡ true → s ≢ Waiting
+under_way_awake a w = false≢true (sym (ap is_under_way w) ∙ a)
+
+-- a task that releases does not wait
+pub releasing_awake : (K : Kind) (t u : ℕ) (h : List Entry) (c : Inner) (e : Ending) → Releasing K t h c e → (t == u) ≡ true → status K u h ≢ Waiting
+releasing_awake K t u h c e r same w = under_way_awake (releasing_acts K t c h e r) (ap (λ v. status K v h) (eqb-true t u same) ∙ w)
+
+-- what is shared after a release: the flags are cleared, these listings are left, and ready stands for a value
+pub record Cleared (c c' : Inner) (r : Bool) (xs : List (Listing ℕ)) : Type 0 where
+  pub quick_is : c'.quick ≡ false
+  pub head_is : c'.head ≡ false
+  pub ready_is : c'.ready ≡ r
+  pub listings_is : c'.listings ≡ xs
+  pub door_is : c'.door ≡ c.door
+  pub count_is : c'.count ≡ c.count
+  pub value_is : c'.value ≡ c.value
+  pub answers_is : c'.answers ≡ c.answers
+
+-- a release clears the flags
+pub cleared : (b : Bool) (c : Inner) (r : Bool) (xs : List (Listing ℕ)) → c.quick ≡ b → QuickFlag c ⊎ HeadFlag c → Cleared c (record (released b r c) { listings = xs }) r xs
+cleared true c r xs e (inl f) = record { quick_is = refl; head_is = f.head_is; ready_is = refl; listings_is = refl; door_is = refl; count_is = refl; value_is = refl; answers_is = refl }
+cleared true c r xs e (inr f) = absurd (false≢true (sym f.quick_is ∙ e))
+cleared false c r xs e f = record { quick_is = e; head_is = refl; ready_is = refl; listings_is = refl; door_is = refl; count_is = refl; value_is = refl; answers_is = refl }
+
+-- an entry by which t gives the right back and hands X out
+pub record IsRelease (t : ℕ) (X : List ℕ) (e : Entry) : Type 0 where
+  pub hands : handed_by e ≡ X
+  pub of : (u : ℕ) → is_of u e ≡ (t == u)
+  pub status_is : (c : Cell) (s : Status) → status_after e c s ≡ s
+  pub waker_is : (c : Cell) (s : Status) (k : LastCall) → (last_call_after e c s k).waker ≡ k.waker
+  pub ran_is : (c : Cell) (s : Status) (k : LastCall) → (last_call_after e c s k).ran ≡ k.ran
+  pub owns : is_own e ≡ false
+  pub made : (h : List Entry) → made_in (e ∷ h) ≡ made_in h
+
+-- a filling is a release
+pub fill_releases : (t v : ℕ) (X : List ℕ) → IsRelease t X (Fill t v X)
+fill_releases t v X = record { hands = refl; of = λ u. refl; status_is = λ x s. refl; waker_is = λ x s y. refl; ran_is = λ x s y. refl; owns = refl; made = λ x. refl }
+
+-- so is a freeing
+pub free_releases : (t : ℕ) (X : List ℕ) → IsRelease t X (Free t X)
+free_releases t X = record { hands = refl; of = λ u. refl; status_is = λ x s. refl; waker_is = λ x s y. refl; ran_is = λ x s y. refl; owns = refl; made = λ x. refl }

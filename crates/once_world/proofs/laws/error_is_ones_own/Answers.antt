@@ -1,0 +1,5 @@
+use Rattle.once_world.proofs.Law.Rights.{own_error}
+use Rattle.once_world.proofs.laws.error_is_ones_own.Goals as goal
+
+pub returns : goal.returns
+returns c = own_error

@@ -1,0 +1,51 @@
+-- What is proved of the machine holds of the replay.
+use Rattle.std.proofs.Common.{◌≡◌, sym, subst, ap, ◌∙◌, arith, take}
+use Rattle.std.proofs.lemmas.Grind.{common_steps}
+use Rattle.once_world.specs.Run.{AtEvery, IsRun}
+use Rattle.once_world.specs.Called.{SomebodyCalled}
+use Rattle.once_world.specs.Inputs.{FallsInto, ends_for_memory}
+use Rattle.once_world.specs.Log.{IsLogOf, IsSound, stands}
+use Rattle.once_world.specs.Machine.{history_of, log_of, queue_of}
+use Rattle.once_world.specs.Shown.{recorded, logged, inputs_in, kind_of, input_of}
+use Rattle.once_world.proofs.Input.Headline.{every_run, one_is_called}
+use Rattle.once_world.proofs.Law.Nobody.{nobody_forgotten}
+use Rattle.once_world.proofs.Law.Called.{waiter_called}
+use Rattle.once_world.proofs.Law.Values.{one_value}
+use Rattle.once_world.proofs.Door.Logged.{log_sound, log_stands}
+use Rattle.once_world.proofs.Part.Belonging.{belongs}
+use Rattle.once_world.proofs.Part.Ample.{ample_memory}
+use Rattle.once_world.proofs.Exactness.Asked.{may_take}
+use Rattle.once_world.proofs.world.replay.Goals as goal
+
+-- the machine may take every input, and so may the replay
+pub take-requires-clause-may : goal.take-requires-clause-may
+take-requires-clause-may c =
+    let i = c.loop-input.invariant in
+    rw (i.2, i.0) (may_take (kind_of c.args.kind) c.args.limit (inputs_in (take c.loop-input.input-index c.args.inputs.now)) (input_of c.input-item.result) c.requires.some)
+
+pub returns : goal.returns
+returns c =
+    let K = kind_of c.args.kind in
+    let limit = c.args.limit in
+    let inputs = inputs_in c.args.inputs.now in
+    let some = c.requires.some in
+    let exact : recorded c.into_record.result ≡ history_of K limit inputs = grind (arith, common_steps) in
+    let lines : logged c.into_record.result ≡ log_of K limit inputs = grind (arith, common_steps) in
+    let door : c.into_record.result.queue ≡ queue_of K limit inputs = grind (arith, common_steps) in
+    let run = subst (IsRun K limit) (sym exact) (every_run K limit inputs some) in
+    let called = subst (AtEvery (SomebodyCalled K)) (sym exact) (one_is_called K limit inputs some) in
+    let b = belongs K limit inputs some in
+    record {
+      exact = exact;
+      exact_log = lines;
+      exact_queue = door;
+      run = run;
+      nobody_forgotten = nobody_forgotten K limit (recorded c.into_record.result) run;
+      one_is_called = called;
+      idle = waiter_called K (recorded c.into_record.result) called;
+      one_value = one_value K limit (recorded c.into_record.result) run;
+      belongs = (b.0, subst (λ h. FallsInto K inputs h b.0) (sym exact) b.1, subst (λ l. IsLogOf K l b.0) (sym lines) b.2);
+      ample = λ granted t. ap (ends_for_memory t) exact ∙ ample_memory K limit inputs t some granted;
+      sound = subst IsSound (sym lines) (log_sound K limit inputs some);
+      stands = ap stands lines ∙ log_stands K limit inputs some ∙ sym door;
+    }

@@ -1,0 +1,24 @@
+-- What a replay's step asks of what is shared. It holds in every world that the machine reaches.
+use Rattle.std.specs.Prelude.{◌≡◌, ◌≤◌, ◌<◌, ℕ, false, not, Option, Some, None}
+use Rattle.once_world.specs.Inputs.{Input, Go}
+use Rattle.once_world.specs.Machine.{Task, Step, UnderWay, Place, AtAddOne, AtRelease, AtCountOut, Inner, World}
+
+-- what the call of a place asks of what is shared: a free place in the count, a counted task, or a holder that may release
+abbrev pub CanStep : ℕ → Inner → Place ℕ ℕ → Type 0
+CanStep limit c (AtAddOne e) = c.count ≤ limit
+CanStep limit c (AtRelease q e) = (c.ready ≡ false) × (c.head ≡ not c.quick)
+CanStep limit c (AtCountOut e) = 0 < c.count
+CanStep limit c p = Unit {0}
+
+abbrev pub CanAdvance : ℕ → Inner → Step ℕ ℕ → Type 0
+CanAdvance limit c (UnderWay p) = CanStep limit c p
+CanAdvance limit c s = Unit {0}
+
+abbrev pub TaskCan : ℕ → Inner → Option Task → Type 0
+TaskCan limit c (Some x) = CanAdvance limit c x.step
+TaskCan limit c None = Unit {0}
+
+-- the input may be taken: a task that it moves may make its step
+abbrev pub MayTake : ℕ → World → Input → Type 0
+MayTake limit w (Go t a granted) = TaskCan limit w.inner (w.tasks t)
+MayTake limit w i = Unit {0}

@@ -1,0 +1,107 @@
+-- The cell that a history leaves: empty, held by one task or set, and the answers that a lazy init has left.
+use Rattle.std.specs.Prelude.{◌≡◌, ℕ, Bool, true, false, List, [], ◌∷◌, Option, Some, None}
+use Rattle.once_world.specs.Record.{Answer, RanPending, RanValue, Kind, Once, OnceWith, Lazy, LazyWith, OwnerCall, Take, Write, Parts, ReplaceValue, ReplaceAnswers, Got, GotNone, GotValue, GotAnswers, Entry, Claim, Ran, Free, Fill, Own}
+
+pub data Cell : Type 0 where
+  Empty : Cell
+  Held : (task : ℕ) → Cell
+  SetTo : (value : ℕ) → Cell
+
+abbrev pub is_set : Cell → Bool
+is_set (SetTo v) = true
+is_set _ = false
+
+abbrev pub is_held : Cell → Bool
+is_held (Held t) = true
+is_held _ = false
+
+-- what a look finds
+abbrev pub value_in : Cell → Option ℕ
+value_in (SetTo v) = Some v
+value_in _ = None
+
+-- how the cell starts
+abbrev pub starts : Kind → Cell
+starts Once = Empty
+starts (OnceWith v) = SetTo v
+starts (Lazy l) = Empty
+starts (LazyWith v) = SetTo v
+
+-- Write changes the value where one is set
+abbrev pub written : ℕ → Cell → Cell
+written v (SetTo u) = SetTo v
+written v c = c
+
+-- the cell after an owner's call
+abbrev pub owned : OwnerCall → Cell → Cell
+owned Take c = Empty
+owned (Write v) c = written v c
+owned Parts c = Empty
+owned (ReplaceValue v) c = SetTo v
+owned (ReplaceAnswers l) c = Empty
+
+-- a claim, a release and an owner's call change the cell, and nothing else does
+abbrev pub cell_after : Entry → Cell → Cell
+cell_after (Claim t) c = Held t
+cell_after (Free t X) c = Empty
+cell_after (Fill t v X) c = SetTo v
+cell_after (Own o g) c = owned o c
+cell_after _ c = c
+
+-- the cell after these entries
+abbrev pub cell : Kind → List Entry → Cell
+cell kind [] = starts kind
+cell kind (e ∷ before) = cell_after e (cell kind before)
+
+-- the answers that a lazy init will give
+abbrev pub first_answers : Kind → List (Option ℕ)
+first_answers (Lazy l) = l
+first_answers _ = []
+
+abbrev pub rest_of : List (Option ℕ) → List (Option ℕ)
+rest_of [] = []
+rest_of (a ∷ l) = l
+
+-- the answers after an owner's call
+abbrev pub owned_answers : OwnerCall → List (Option ℕ) → List (Option ℕ)
+owned_answers Parts l = []
+owned_answers (ReplaceValue v) l = []
+owned_answers (ReplaceAnswers k) l = k
+owned_answers _ l = l
+
+-- each poll of the init takes the first answer off, and an owner's call may replace them
+abbrev pub answers_after : Entry → List (Option ℕ) → List (Option ℕ)
+answers_after (Ran t a) l = rest_of l
+answers_after (Own o g) l = owned_answers o l
+answers_after _ l = l
+
+-- the answers left after these entries
+abbrev pub answers_left : Kind → List Entry → List (Option ℕ)
+answers_left kind [] = first_answers kind
+answers_left kind (e ∷ before) = answers_after e (answers_left kind before)
+
+-- the next answer of a lazy init: pending where none is left
+abbrev pub next_answer : List (Option ℕ) → Answer
+next_answer (Some v ∷ l) = RanValue v
+next_answer _ = RanPending
+
+-- the init of a lazy cell gives the next answer
+abbrev pub IsNext : Kind → Answer → List (Option ℕ) → Type 0
+IsNext (Lazy k) a l = a ≡ next_answer l
+IsNext (LazyWith v) a l = a ≡ next_answer l
+IsNext _ a l = Unit {0}
+
+-- the value where one is set
+abbrev pub got_value : Cell → Got
+got_value (SetTo v) = GotValue v
+got_value _ = GotNone
+
+-- the value where one is set, else the answers left
+abbrev pub got_parts : Cell → List (Option ℕ) → Got
+got_parts (SetTo v) l = GotValue v
+got_parts _ l = GotAnswers l
+
+-- what an owner's call is given
+abbrev pub got : OwnerCall → Cell → List (Option ℕ) → Got
+got Parts c l = got_parts c l
+got _ c l = got_value c

@@ -1,0 +1,7 @@
+-- Inputs by which every step is given memory.
+use Rattle.std.specs.Prelude.{Bool, true, false, cond, List, [], ◌∷◌}
+use Rattle.once_world.specs.Inputs.{Input, is_ungranted}
+
+abbrev pub all_granted : List Input → Bool
+all_granted [] = true
+all_granted (i ∷ inputs) = cond (is_ungranted i) false (all_granted inputs)

@@ -1,0 +1,17 @@
+pub mod Places
+pub mod Record
+pub mod Cell
+pub mod Tasks
+pub mod Wakers
+pub mod Refusals
+pub mod Crowd
+pub mod Run
+pub mod Called
+pub mod Values
+pub mod Inputs
+pub mod Granted
+pub mod Log
+pub mod Machine
+pub mod Can
+pub mod Script
+pub mod Shown

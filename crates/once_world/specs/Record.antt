@@ -1,0 +1,96 @@
+-- What a record tells. A list of entries is a history here: the newest entry stands first.
+use Rattle.std.specs.Prelude.{ℕ, Bool, true, false, not, ◌==◌, List, [], ◌∷◌, Option}
+pub use Rattle.once_world.specs.declared.world.Ran.{Ran as Answer}
+pub use Rattle.once_world.specs.declared.world.Ran.TheVariants.{Pending as RanPending, Value as RanValue, Error as RanError}
+pub use Rattle.once_world.specs.declared.world.Reply.{Reply}
+pub use Rattle.once_world.specs.declared.world.Reply.TheVariants.{Pending, Value, Error, Memory, Full}
+
+-- the kinds of cell: empty or with a value, and either each caller brings an init, or the cell owns one init that gives these answers (None is pending, Some v is the value v)
+pub data Kind : Type 0 where
+  Once : Kind
+  OnceWith : (value : ℕ) → Kind
+  Lazy : (answers : List (Option ℕ)) → Kind
+  LazyWith : (value : ℕ) → Kind
+
+-- what the owner of the cell may do with it
+pub data OwnerCall : Type 0 where
+  Take : OwnerCall
+  Write : (value : ℕ) → OwnerCall
+  Parts : OwnerCall
+  ReplaceValue : (value : ℕ) → OwnerCall
+  ReplaceAnswers : (answers : List (Option ℕ)) → OwnerCall
+
+-- what the owner is given
+pub data Got : Type 0 where
+  GotNone : Got
+  GotValue : (value : ℕ) → Got
+  GotAnswers : (answers : List (Option ℕ)) → Got
+
+-- one entry of a record. Free and Fill are the releases: they give the right back, and hand the wakers out. By Pass a waiter that was called and leaves passes its turn on, to the wakers
+pub data Entry : Type 0 where
+  Made : (task : ℕ) → Entry
+  Begin : (task : ℕ) → (waker : ℕ) → Entry
+  Claim : (task : ℕ) → Entry
+  Ran : (task : ℕ) → (answer : Answer) → Entry
+  Free : (task : ℕ) → (wakers : List ℕ) → Entry
+  Fill : (task : ℕ) → (value : ℕ) → (wakers : List ℕ) → Entry
+  Pass : (task : ℕ) → (wakers : List ℕ) → Entry
+  End : (task : ℕ) → (reply : Reply) → Entry
+  DropBegin : (task : ℕ) → Entry
+  DropEnd : (task : ℕ) → Entry
+  Look : (found : Option ℕ) → Entry
+  Own : (owner_call : OwnerCall) → (got : Got) → Entry
+
+-- whether the entry is one of the task
+abbrev pub is_of : ℕ → Entry → Bool
+is_of t (Made u) = u == t
+is_of t (Begin u w) = u == t
+is_of t (Claim u) = u == t
+is_of t (Ran u a) = u == t
+is_of t (Free u X) = u == t
+is_of t (Fill u v X) = u == t
+is_of t (Pass u X) = u == t
+is_of t (End u r) = u == t
+is_of t (DropBegin u) = u == t
+is_of t (DropEnd u) = u == t
+is_of t (Look found) = false
+is_of t (Own o g) = false
+
+-- the wakers that the entry hands out
+abbrev pub handed_by : Entry → List ℕ
+handed_by (Free t X) = X
+handed_by (Fill t v X) = X
+handed_by (Pass t X) = X
+handed_by _ = []
+
+-- the tasks that were made
+abbrev pub made_in : List Entry → List ℕ
+made_in [] = []
+made_in (Made t ∷ before) = t ∷ made_in before
+made_in (_ ∷ before) = made_in before
+
+abbrev pub is_lazy : Kind → Bool
+is_lazy (Lazy l) = true
+is_lazy (LazyWith v) = true
+is_lazy _ = false
+
+-- which owner's calls a kind has
+abbrev pub has_call : Kind → OwnerCall → Bool
+has_call kind Take = not (is_lazy kind)
+has_call kind (Write v) = true
+has_call kind Parts = is_lazy kind
+has_call kind (ReplaceValue v) = is_lazy kind
+has_call kind (ReplaceAnswers l) = is_lazy kind
+
+-- the owner's calls that put another cell in the place of this one: all but Write
+abbrev pub replaces : OwnerCall → Bool
+replaces (Write v) = false
+replaces _ = true
+
+abbrev pub is_own : Entry → Bool
+is_own (Own o g) = true
+is_own _ = false
+
+abbrev pub is_replacing : Entry → Bool
+is_replacing (Own o g) = replaces o
+is_replacing _ = false

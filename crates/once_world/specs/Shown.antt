@@ -1,0 +1,143 @@
+-- The program's values, with their vectors, as the definitions see them.
+use Rattle.std.specs.Prelude.{ℕ, Bool, true, false, List, [], ◌∷◌, ◌++◌, Option, Some, None, map, reverse}
+use Rattle.std.specs.Ordering.{nat_cmp}
+use Rattle.std.specs.BTreeMap.{get}
+use Rattle.once_queue.specs.declared.waiters.Out.{Out}
+use Rattle.once_queue.specs.declared.waiters.Out.TheVariants.{One, All}
+use Rattle.once_queue.specs.Listings.{one_out, wakers_of}
+use Rattle.once_world.specs.declared.world.Kind.{Kind as GivenKind}
+use Rattle.once_world.specs.declared.world.Kind.TheVariants.{Once as GivenOnce, OnceWith as GivenOnceWith, Lazy as GivenLazy, LazyWith as GivenLazyWith}
+use Rattle.once_world.specs.declared.world.Call.{Call}
+use Rattle.once_world.specs.declared.world.Call.TheVariants.{Take as CallTake, Write as CallWrite, Parts as CallParts, ReplaceValue as CallReplaceValue, ReplaceAnswers as CallReplaceAnswers}
+use Rattle.once_world.specs.declared.world.Got.{Got as GivenGot}
+use Rattle.once_world.specs.declared.world.Got.TheVariants.{None as NoneGot, Value as ValueGot, Answers as AnswersGot}
+use Rattle.once_world.specs.declared.world.Input.{Input as GivenInput}
+use Rattle.once_world.specs.declared.world.Input.TheVariants.{Make as InputMake, Poll as InputPoll, Drop as InputDrop, Go as InputGo, Look as InputLook, Own as InputOwn}
+use Rattle.once_world.specs.declared.world.Entry.{Entry as Written}
+use Rattle.once_world.specs.declared.world.Entry.TheVariants.{Made as WrittenMade, Begin as WrittenBegin, Claim as WrittenClaim, Ran as WrittenRan, Free as WrittenFree, Fill as WrittenFill, Pass as WrittenPass, End as WrittenEnd, DropBegin as WrittenDropBegin, DropEnd as WrittenDropEnd, Look as WrittenLook, Own as WrittenOwn}
+use Rattle.once_world.specs.declared.world.Record.{Record as GivenRecord}
+use Rattle.once_core.specs.declared.parts.QueueLine.{QueueLine}
+use Rattle.once_world.specs.declared.world.play.Shared.{Shared}
+use Rattle.once_world.specs.declared.world.play.Seen.{Seen}
+use Rattle.once_world.specs.declared.world.play.World.{World}
+use Rattle.once_world.specs.Record.{Answer, Kind, Once, OnceWith, Lazy, LazyWith, OwnerCall, Take, Write, Parts, ReplaceValue, ReplaceAnswers, Got, GotNone, GotValue, GotAnswers, Entry, Made, Begin, Claim, Ran, Free, Fill, Pass, End, DropBegin, DropEnd, Look, Own}
+use Rattle.once_world.specs.Inputs.{Input, Make, Poll, Drop, Go, Looks, Owns}
+use Rattle.once_world.specs.Places.{Progress, More, Ended}
+use Rattle.once_world.specs.Machine.{Inner, World as MachineWorld, release_entry, pass_entries, end_entry}
+
+abbrev pub kind_of : GivenKind → Kind
+kind_of GivenOnce = Once
+kind_of (GivenOnceWith v) = OnceWith v
+kind_of (GivenLazy l) = Lazy l.items
+kind_of (GivenLazyWith v) = LazyWith v
+
+abbrev pub call_of : Call → OwnerCall
+call_of CallTake = Take
+call_of (CallWrite v) = Write v
+call_of CallParts = Parts
+call_of (CallReplaceValue v) = ReplaceValue v
+call_of (CallReplaceAnswers l) = ReplaceAnswers l.items
+
+abbrev pub got_of : GivenGot → Got
+got_of NoneGot = GotNone
+got_of (ValueGot v) = GotValue v
+got_of (AnswersGot l) = GotAnswers l.items
+
+abbrev pub input_of : GivenInput → Input
+input_of (InputMake t) = Make t
+input_of (InputPoll t w) = Poll t w
+input_of (InputDrop t) = Drop t
+input_of (InputGo t a granted) = Go t a granted
+input_of InputLook = Looks
+input_of (InputOwn c) = Owns (call_of c)
+
+abbrev pub entry_of : Written → Entry
+entry_of (WrittenMade t) = Made t
+entry_of (WrittenBegin t w) = Begin t w
+entry_of (WrittenClaim t) = Claim t
+entry_of (WrittenRan t a) = Ran t a
+entry_of (WrittenFree t X) = Free t X.items
+entry_of (WrittenFill t v X) = Fill t v X.items
+entry_of (WrittenPass t X) = Pass t X.items
+entry_of (WrittenEnd t r) = End t r
+entry_of (WrittenDropBegin t) = DropBegin t
+entry_of (WrittenDropEnd t) = DropEnd t
+entry_of (WrittenLook found) = Look found
+entry_of (WrittenOwn c g) = Own (call_of c) (got_of g)
+
+-- the newest first
+abbrev pub inputs_in : List GivenInput → List Input
+inputs_in inputs = reverse (map input_of inputs)
+
+abbrev pub history_in : List Written → List Entry
+history_in entries = reverse (map entry_of entries)
+
+-- what all tasks share, as the machine sees it
+abbrev pub inner_of : Shared → Inner
+inner_of c = record {
+  count = c.core.word.count;
+  quick = c.core.word.quick;
+  ready = c.core.word.ready;
+  door = c.core.door;
+  head = c.core.lists.head;
+  listings = c.core.lists.listings.items;
+  queues = c.core.made;
+  value = c.script.value;
+  answers = reverse c.script.answers.items;
+}
+
+-- the queue log, the newest line first
+abbrev pub log_in : Shared → List QueueLine
+log_in c = reverse c.core.log.items
+
+-- the entries of what a step was seen to do, the newest first
+abbrev pub claim_entries : Bool → ℕ → List Entry
+claim_entries true t = Claim t ∷ []
+claim_entries false t = []
+
+abbrev pub ran_entries : Option Answer → ℕ → List Entry
+ran_entries (Some a) t = Ran t a ∷ []
+ran_entries None t = []
+
+abbrev pub freed_entries : Bool → ℕ → Answer → List Entry
+freed_entries true t k = release_entry k t [] ∷ []
+freed_entries false t k = []
+
+-- the wakers in what was handed out, in their order
+abbrev pub wakers_in : Out ℕ → List ℕ
+wakers_in (One w) = one_out w
+wakers_in (All X) = wakers_of X.items
+
+-- by one who leaves, or by one who gives the right back
+abbrev pub out_entries : Bool → List ℕ → ℕ → Answer → List Entry
+out_entries true X t k = pass_entries t X
+out_entries false X t k = release_entry k t X ∷ []
+
+abbrev pub handed_entries : Bool → Option (Out ℕ) → ℕ → Answer → List Entry
+handed_entries leaving (Some out) t k = out_entries leaving (wakers_in out) t k
+handed_entries leaving None t k = []
+
+abbrev pub progress_entries : Progress → ℕ → ℕ → Answer → List Entry
+progress_entries (Ended e) t v k = end_entry e t v k ∷ []
+progress_entries More t v k = []
+
+-- the entries of a step of t that was seen to do this, where its init gave k and the value v is set
+abbrev pub told : ℕ → Seen → Answer → ℕ → List Entry
+told t s k v = progress_entries s.progress t v k ++ handed_entries s.leaving s.handed t k ++ freed_entries s.freed t k ++ ran_entries s.ran t ++ claim_entries s.claimed t
+
+-- the world of a replay under way
+abbrev pub world_in : World → MachineWorld
+world_in w = record {
+  inner = inner_of w.shared;
+  tasks = λ t. get nat_cmp w.tasks t;
+  unfinished = w.unfinished;
+  history = history_in w.entries.items;
+  log = log_in w.shared;
+}
+
+-- the record of a replay and its queue log, the newest first
+abbrev pub recorded : GivenRecord → List Entry
+recorded r = history_in r.entries.items
+
+abbrev pub logged : GivenRecord → List QueueLine
+logged r = reverse r.queues.items

@@ -1,0 +1,55 @@
+-- Which wakers a release has to hand out, and which it may hand out.
+use Rattle.std.specs.Prelude.{◌≡◌, ◌≢◌, ◌≤◌, ◌<◌, ◌+◌, ℕ, Bool, true, false, cond, ◌==◌, List, [], ◌∷◌, ◌++◌, length}
+use Rattle.once_queue.specs.Numbers.{member, is_distinct, bit, times}
+use Rattle.once_world.specs.Record.{Kind, Pending, Entry, End, is_of, handed_by, is_replacing}
+use Rattle.once_world.specs.Cell.{Cell, Held, cell}
+use Rattle.once_world.specs.Tasks.{Waiting, status, last_call}
+
+abbrev pub is_end : Entry → Bool
+is_end (End t r) = true
+is_end _ = false
+
+-- the wakers handed out since the last End of t
+abbrev pub handed_since : ℕ → List Entry → List ℕ
+handed_since t [] = []
+handed_since t (e ∷ before) = cond (is_of t e) (cond (is_end e) [] (handed_by e ++ handed_since t before)) (handed_by e ++ handed_since t before)
+
+-- w is due: some task waits, w is the waker of its last poll, and w was not handed out since that poll's End
+abbrev pub IsDue : Kind → ℕ → List Entry → Type 0
+IsDue kind w history = (t : ℕ) × (status kind t history ≡ Waiting) × ((last_call kind t history).waker ≡ w) × (member w (handed_since t history) ≡ false)
+
+-- another task than t holds
+abbrev pub is_held_by_other : ℕ → Cell → Bool
+is_held_by_other t (Held u) = cond (u == t) false true
+is_held_by_other t _ = false
+
+-- the entry ends a poll begun with w, Pending, while another task holds
+abbrev pub opens : Kind → ℕ → Entry → List Entry → Bool
+opens kind w (End t Pending) before = cond ((last_call kind t before).waker == w) (is_held_by_other t (cell kind before)) false
+opens kind w _ before = false
+
+-- how many polls begun with w ended Pending while another task held, since the owner last replaced the cell
+abbrev pub opened : Kind → ℕ → List Entry → ℕ
+opened kind w [] = 0
+opened kind w (e ∷ before) = cond (is_replacing e) 0 (bit (opens kind w e before) + opened kind w before)
+
+-- how often w was handed out since the owner last replaced the cell
+abbrev pub handed_out : ℕ → List Entry → ℕ
+handed_out w [] = 0
+handed_out w (e ∷ before) = cond (is_replacing e) 0 (times w (handed_by e) + handed_out w before)
+
+-- w is open: it was handed out less often than polls opened it
+abbrev pub IsOpen : Kind → ℕ → List Entry → Type 0
+IsOpen kind w history = handed_out w history < opened kind w history
+
+-- what a release with a value hands out: no waker twice, every waker that is due, and none that is not open
+pub record HandsOut (kind : Kind) (X : List ℕ) (history : List Entry) : Type 0 where
+  pub once : is_distinct X ≡ true
+  pub due : (w : ℕ) → IsDue kind w history → member w X ≡ true
+  pub open_alone : (w : ℕ) → member w X ≡ true → IsOpen kind w history
+
+-- what a release without a value hands out: one waker at most, some waker where one is due, and none that is not open
+pub record CallsOne (kind : Kind) (X : List ℕ) (history : List Entry) : Type 0 where
+  pub one : length X ≤ 1
+  pub due : (w : ℕ) → IsDue kind w history → X ≢ []
+  pub open_alone : (w : ℕ) → member w X ≡ true → IsOpen kind w history

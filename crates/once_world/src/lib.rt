@@ -1,0 +1,5 @@
+//! Replays of a cell, and the laws of every run.
+#![tactic(auto)]
+
+pub mod laws;
+pub mod world;

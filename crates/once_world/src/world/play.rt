@@ -1,0 +1,517 @@
+//! A replay under way.
+ghost use Rattle.std.specs.Prelude.{◌≡◌, ◌<◌, ◌≤◌, ◌+◌, ◌-◌, ◌^◌, ◌++◌, ◌==◌, ℕ, Bool, true, false, [], Some, None, OnOk, IfOk, reverse};
+ghost use Rattle.once_world.specs.Machine.{unfinished_after, error_in as error_of, release_entry as release_of, end_entry as end_of};
+ghost use Rattle.once_world.specs.Shown.{call_of, entry_of, history_in, claim_entries, ran_entries, out_entries, wakers_in, told};
+
+use super::script::Script;
+use super::{Call, Entry, Got, Input, Kind, QueueLine, Ran, Record, Reply};
+use once_core::parts::Parts;
+use once_core::plain::Core;
+use once_core::step::{Ending, Progress, Step};
+use once_queue::waiters::Out;
+use std::alloc::{AllocError, Global};
+use std::collections::BTreeMap;
+use std::mem::replace;
+
+/// A task of a replay: the waker of its last poll, what its init gave, and the step at which it
+/// stands.
+#[derive(Drop)]
+pub(super) struct Task {
+    pub waker: u64,
+    pub kept: Ran,
+    pub step: Step<u64, u64>,
+}
+
+/// What all tasks of a replay share.
+#[derive(Drop)]
+pub(super) struct Shared {
+    pub core: Core<u64>,
+    pub script: Script,
+}
+
+/// What one step of a task was seen to do.
+#[derive(Drop)]
+pub(super) struct Seen {
+    pub claimed: bool,
+    pub ran: Option<Ran>,
+    /// Whether the right was given back by the fast release, which hands nobody out.
+    pub freed: bool,
+    /// Whom a release under the lock handed out, or one who left.
+    pub handed: Option<Out<u64>>,
+    /// Whether the step took the task's listing out.
+    pub leaving: bool,
+    pub progress: Progress,
+}
+
+impl Shared {
+    ghost use Rattle.once_world.specs.Record.{Kind as RecordedKind, is_lazy, replaces, has_call as owner_has};
+    ghost use Rattle.once_world.specs.Log.{taken_out};
+    ghost use Rattle.once_world.specs.Can.{CanAdvance};
+    ghost use Rattle.once_core.specs.Core.{HasRoom, state_of};
+    ghost use Rattle.once_core.specs.Steps.{in_call};
+    ghost use Rattle.once_world.specs.Machine.{opening, looked, step_lines, reset, owner_inner, owner_got, owner_lines, advance as outcome};
+    ghost use Rattle.once_world.specs.Shown.{kind_of, call_of, got_of, inner_of, log_in, told};
+
+    fn new(alloc: Global, kind: Kind) -> Self
+        ensures inner { inner_of result ≡ (opening (kind_of kind)).inner }
+        ensures log { log_in result ≡ [] }
+        ensures lazy { result.script.lazy ≡ is_lazy (kind_of kind) }
+    {
+        let lazy = matches!(&kind, Kind::Lazy(_) | Kind::LazyWith(_));
+        let (value, answers) = match kind {
+            Kind::Once => (None, Vec::new(alloc)),
+            Kind::OnceWith(v) => (Some(v), Vec::new(alloc)),
+            Kind::Lazy(mut answers) => {
+                answers.reverse();
+                (None, answers)
+            }
+            Kind::LazyWith(v) => (Some(v), Vec::new(alloc)),
+        };
+        Shared {
+            core: Core::new(alloc, value.is_some()),
+            script: Script {
+                lazy,
+                answers,
+                value: value.unwrap_or(0),
+                answer: Ran::Pending,
+                granted: true,
+                waker: 0,
+                kept: Ran::Pending,
+                ran: None,
+                handed: None,
+            },
+        }
+    }
+
+    // What a look finds.
+    fn look(&self) -> Option<u64>
+        ensures { result ≡ looked (inner_of self.now) }
+    {
+        if self.core.word.is_ready() {
+            Some(self.script.value)
+        } else {
+            None
+        }
+    }
+
+    // Makes the room that one step may need. Where that is refused all is as it was.
+    fn reserve(&mut self) -> Result<(), AllocError>
+        ensures room { OnOk result (HasRoom self.new.core) }
+        ensures inner { inner_of self.new ≡ inner_of self.old }
+        ensures log { log_in self.new ≡ log_in self.old }
+        ensures script { self.new.script ≡ self.old.script }
+    {
+        self.core.reserve()
+    }
+
+    // Makes one step of a task with a call under way, whose init answers so and which is given
+    // memory or not.
+    fn advance(&mut self, task: &mut Task, answer: Ran, granted: bool, limit: u64) -> Seen
+        requires call { in_call task.old.step ≡ true }
+        requires limit { limit ≤ 2 ^ 62 - 2 }
+        requires room { HasRoom self.old.core }
+        requires can { CanAdvance limit (inner_of self.old) task.old.step }
+        ensures inner { (t : ℕ) → inner_of self.new ≡ (outcome self.old.script.lazy limit (inner_of self.old) t task.old answer granted).inner }
+        ensures step { (t : ℕ) → task.new.step ≡ (outcome self.old.script.lazy limit (inner_of self.old) t task.old answer granted).step }
+        ensures kept { (t : ℕ) → task.new.kept ≡ (outcome self.old.script.lazy limit (inner_of self.old) t task.old answer granted).kept }
+        ensures waker { task.new.waker ≡ task.old.waker }
+        ensures seen { (t : ℕ) → told t result task.new.kept self.new.script.value ≡ (outcome self.old.script.lazy limit (inner_of self.old) t task.old answer granted).entries }
+        ensures log { log_in self.new ≡ step_lines granted (inner_of self.old) task.old.step ++ log_in self.old }
+        ensures lazy { self.new.script.lazy ≡ self.old.script.lazy }
+    {
+        self.script.ran = None;
+        self.script.handed = None;
+        self.script.answer = answer;
+        self.script.granted = granted;
+        self.script.waker = task.waker;
+        self.script.kept = task.kept;
+        self.core.set_waker(task.waker);
+        self.core.grant(granted);
+        let freeing = task.step.is_freeing();
+        let leaving = task.step.is_leaving();
+        let progress = task.step.advance(&mut self.core, &mut self.script, limit);
+        task.kept = self.script.kept;
+        Seen {
+            claimed: task.step.is_running(),
+            ran: self.script.ran.take(),
+            freed: freeing && !task.step.is_adding(),
+            handed: self.script.handed.take(),
+            leaving,
+            progress,
+        }
+    }
+
+    // Whether this kind of cell has the call.
+    fn has_call(&self, call: &Call) -> bool
+        ensures { (kind : RecordedKind) → is_lazy kind ≡ self.now.script.lazy → result ≡ owner_has kind (call_of call.now) }
+    {
+        match call {
+            Call::Take => !self.script.lazy,
+            Call::Write(_) => true,
+            Call::Parts | Call::ReplaceValue(_) | Call::ReplaceAnswers(_) => self.script.lazy,
+        }
+    }
+
+    // Makes a call of the cell's owner, and answers what the owner is given.
+    fn own(&mut self, call: &Call) -> Result<Got, AllocError>
+        ensures inner { OnOk result (inner_of self.new ≡ owner_inner (call_of call.now) (inner_of self.old)) }
+        ensures got { IfOk result (λ g. got_of g ≡ owner_got (call_of call.now) (inner_of self.old)) }
+        ensures log { OnOk result (log_in self.new ≡ owner_lines (replaces (call_of call.now)) (inner_of self.old) ++ log_in self.old) }
+        ensures lazy { self.new.script.lazy ≡ self.old.script.lazy }
+    {
+        self.core.reserve()?;
+        let value = self.look();
+        let got = value.map_or(Got::None, Got::Value);
+        match call {
+            Call::Take => {
+                self.renew(None);
+                Ok(got)
+            }
+            Call::Write(v) => {
+                if value.is_some() {
+                    self.script.value = *v;
+                }
+                Ok(got)
+            }
+            Call::Parts => {
+                let alloc = *self.script.answers.allocator();
+                let mut answers = replace(&mut self.script.answers, Vec::new(alloc));
+                self.renew(None);
+                if value.is_some() {
+                    return Ok(got);
+                }
+                answers.reverse();
+                Ok(Got::Answers(answers))
+            }
+            Call::ReplaceValue(v) => {
+                self.script.answers.clear();
+                self.renew(Some(*v));
+                Ok(got)
+            }
+            Call::ReplaceAnswers(answers) => {
+                let mut answers = Vec::from_slice(*answers.allocator(), answers)?;
+                answers.reverse();
+                self.script.answers = answers;
+                self.renew(None);
+                Ok(got)
+            }
+        }
+    }
+
+    // Puts a new cell with this value or none in the place of this one.
+    fn renew(&mut self, value: Option<u64>)
+        requires room { HasRoom self.old.core }
+        ensures inner { inner_of self.new ≡ reset (inner_of self.old) value (inner_of self.old).answers }
+        ensures log { log_in self.new ≡ taken_out self.old.core.door ++ log_in self.old }
+        ensures lazy { self.new.script.lazy ≡ self.old.script.lazy }
+    {
+        self.core.reset(value.is_some());
+        if let Some(v) = value {
+            self.script.value = v;
+        }
+    }
+}
+
+/// A replay under way.
+#[derive(Drop)]
+pub(super) struct World {
+    limit: u64,
+    shared: Shared,
+    tasks: BTreeMap<u64, Task>,
+    /// How many tasks are not finished.
+    unfinished: u64,
+    entries: Vec<Entry>,
+}
+
+impl World {
+    ghost use Rattle.once_world.specs.Record.{Kind as RecordedKind, is_lazy, has_call as owner_has};
+    ghost use Rattle.once_world.specs.Machine.{opening, after, made, polled, drops, goes, owned_by};
+    ghost use Rattle.once_world.specs.Can.{MayTake, TaskCan};
+    ghost use Rattle.once_world.specs.Shown.{kind_of, call_of, input_of, inner_of, world_in};
+
+    pub(super) fn new(alloc: Global, kind: Kind, limit: u64) -> Self
+        ensures world { world_in result ≡ opening (kind_of kind) }
+        ensures lazy { result.shared.script.lazy ≡ is_lazy (kind_of kind) }
+        ensures limit { result.limit ≡ limit }
+    {
+        World {
+            limit,
+            shared: Shared::new(alloc, kind),
+            tasks: BTreeMap::new(alloc),
+            unfinished: 0,
+            entries: Vec::new(alloc),
+        }
+    }
+
+    // Takes one input.
+    pub(super) fn take(&mut self, input: &Input) -> Result<(), AllocError>
+        requires limit { self.old.limit ≤ 2 ^ 62 - 2 }
+        requires may { MayTake self.old.limit (world_in self.old) (input_of input.now) }
+        ensures world { (kind : RecordedKind) → is_lazy kind ≡ self.old.shared.script.lazy → OnOk result (world_in self.new ≡ after kind self.old.limit (world_in self.old) (input_of input.now)) }
+        ensures lazy { self.new.shared.script.lazy ≡ self.old.shared.script.lazy }
+        ensures limit { self.new.limit ≡ self.old.limit }
+    {
+        match input {
+            Input::Make(t) => self.make(*t),
+            Input::Poll(t, waker) => self.poll(*t, *waker),
+            Input::Drop(t) => self.begin_drop(*t),
+            Input::Go(t, answer, granted) => self.go(*t, *answer, *granted),
+            Input::Look => {
+                self.entries.push(Entry::Look(self.shared.look()))?;
+                Ok(())
+            }
+            Input::Own(call) => self.own(call),
+        }
+    }
+
+    fn make(&mut self, t: u64) -> Result<(), AllocError>
+        ensures world { OnOk result (world_in self.new ≡ made (world_in self.old) t ((world_in self.old).tasks t)) }
+        ensures shared { self.new.shared ≡ self.old.shared }
+        ensures limit { self.new.limit ≡ self.old.limit }
+    {
+        if self.tasks.contains_key(&t) {
+            return Ok(());
+        }
+        let Some(unfinished) = self.unfinished.checked_add(1) else {
+            return Err(AllocError);
+        };
+        self.tasks.insert(
+            t,
+            Task {
+                waker: 0,
+                kept: Ran::Pending,
+                step: Step::new(),
+            },
+        )?;
+        self.unfinished = unfinished;
+        self.entries.push(Entry::Made(t))?;
+        Ok(())
+    }
+
+    fn poll(&mut self, t: u64, waker: u64) -> Result<(), AllocError>
+        ensures world { OnOk result (world_in self.new ≡ polled (world_in self.old) t waker ((world_in self.old).tasks t)) }
+        ensures shared { self.new.shared ≡ self.old.shared }
+        ensures limit { self.new.limit ≡ self.old.limit }
+    {
+        let Some(task) = self.tasks.get_mut(&t) else {
+            return Ok(());
+        };
+        if !task.step.is_resting() {
+            return Ok(());
+        }
+        task.waker = waker;
+        task.step.begin();
+        self.entries.push(Entry::Begin(t, waker))?;
+        Ok(())
+    }
+
+    fn begin_drop(&mut self, t: u64) -> Result<(), AllocError>
+        ensures world { OnOk result (world_in self.new ≡ drops (world_in self.old) t ((world_in self.old).tasks t)) }
+        ensures lazy { self.new.shared.script.lazy ≡ self.old.shared.script.lazy }
+        ensures limit { self.new.limit ≡ self.old.limit }
+    {
+        let Some(task) = self.tasks.get_mut(&t) else {
+            return Ok(());
+        };
+        if !task.step.is_resting() {
+            return Ok(());
+        }
+        let more = task.step.begin_drop(&mut self.shared.script);
+        self.unfinished = still_unfinished(&task.step, self.unfinished);
+        self.entries.push(Entry::DropBegin(t))?;
+        if !more {
+            self.entries.push(Entry::DropEnd(t))?;
+        }
+        Ok(())
+    }
+
+    fn go(&mut self, t: u64, answer: Ran, granted: bool) -> Result<(), AllocError>
+        requires limit { self.old.limit ≤ 2 ^ 62 - 2 }
+        requires can { TaskCan self.old.limit (inner_of self.old.shared) ((world_in self.old).tasks t) }
+        ensures world { OnOk result (world_in self.new ≡ goes self.old.shared.script.lazy self.old.limit (world_in self.old) t answer granted ((world_in self.old).tasks t)) }
+        ensures lazy { self.new.shared.script.lazy ≡ self.old.shared.script.lazy }
+        ensures limit { self.new.limit ≡ self.old.limit }
+    {
+        let Some(task) = self.tasks.get_mut(&t) else {
+            return Ok(());
+        };
+        if task.step.left() == 0 {
+            return Ok(());
+        }
+        self.shared.reserve()?;
+        let seen = self.shared.advance(task, answer, granted, self.limit);
+        self.unfinished = still_unfinished(&task.step, self.unfinished);
+        let kept = task.kept;
+        record_step(&mut self.entries, t, seen, kept, self.shared.script.value)
+    }
+
+    fn own(&mut self, call: &Call) -> Result<(), AllocError>
+        ensures world { (kind : RecordedKind) → is_lazy kind ≡ self.old.shared.script.lazy → OnOk result (world_in self.new ≡ owned_by (self.old.unfinished == 0) (owner_has kind (call_of call.now)) (world_in self.old) (call_of call.now)) }
+        ensures lazy { self.new.shared.script.lazy ≡ self.old.shared.script.lazy }
+        ensures limit { self.new.limit ≡ self.old.limit }
+    {
+        if self.unfinished != 0 || !self.shared.has_call(call) {
+            return Ok(());
+        }
+        let recorded = copied(call)?;
+        let got = self.shared.own(call)?;
+        self.entries.push(Entry::Own(recorded, got))?;
+        Ok(())
+    }
+
+    // The record so far.
+    pub(super) fn into_record(self) -> Record
+        ensures entries { history_in result.entries.items ≡ (world_in self).history }
+        ensures queues { reverse result.queues.items ≡ (world_in self).log }
+        ensures queue { result.queue ≡ (world_in self).inner.door }
+    {
+        let queue = self.shared.core.door;
+        Record {
+            entries: self.entries,
+            queues: self.shared.core.into_log(),
+            queue,
+        }
+    }
+}
+
+// The same call, to be recorded.
+fn copied(call: &Call) -> Result<Call, AllocError>
+    ensures { IfOk result (λ c. call_of c ≡ call_of call.now) }
+{
+    Ok(match call {
+        Call::Take => Call::Take,
+        Call::Write(v) => Call::Write(*v),
+        Call::Parts => Call::Parts,
+        Call::ReplaceValue(v) => Call::ReplaceValue(*v),
+        Call::ReplaceAnswers(answers) => {
+            Call::ReplaceAnswers(Vec::from_slice(*answers.allocator(), answers)?)
+        }
+    })
+}
+
+// How many tasks are not finished, where one of so many came to this step.
+fn still_unfinished(step: &Step<u64, u64>, unfinished: u64) -> u64
+    ensures { result ≡ unfinished_after step.now unfinished }
+{
+    if step.is_finished() {
+        unfinished.saturating_sub(1)
+    } else {
+        unfinished
+    }
+}
+
+// Records what a step of the task was seen to do, where its init gave `kept` and this value is set.
+fn record_step(
+    entries: &mut Vec<Entry>,
+    t: u64,
+    seen: Seen,
+    kept: Ran,
+    value: u64,
+) -> Result<(), AllocError>
+    ensures { OnOk result (history_in entries.new.items ≡ told t seen kept value ++ history_in entries.old.items) }
+{
+    let Seen {
+        claimed,
+        ran,
+        freed,
+        handed,
+        leaving,
+        progress,
+    } = seen;
+    record_init(entries, t, claimed, ran)?;
+    if freed {
+        let nobody = Vec::new(*entries.allocator());
+        entries.push(release_entry(t, kept, nobody))?;
+    }
+    if let Some(out) = handed {
+        record_out(entries, t, leaving, out, kept)?;
+    }
+    if let Progress::Ended(ending) = progress {
+        entries.push(end_entry(t, ending, kept, value))?;
+    }
+    Ok(())
+}
+
+// Records that the task got the right, and what its init answered.
+fn record_init(
+    entries: &mut Vec<Entry>,
+    t: u64,
+    claimed: bool,
+    ran: Option<Ran>,
+) -> Result<(), AllocError>
+    ensures { OnOk result (history_in entries.new.items ≡ ran_entries ran t ++ claim_entries claimed t ++ history_in entries.old.items) }
+{
+    if claimed {
+        entries.push(Entry::Claim(t))?;
+    }
+    if let Some(answer) = ran {
+        entries.push(Entry::Ran(t, answer))?;
+    }
+    Ok(())
+}
+
+// Records whom the task called, as one who leaves or as one who gives the right back.
+fn record_out(
+    entries: &mut Vec<Entry>,
+    t: u64,
+    leaving: bool,
+    out: Out<u64>,
+    kept: Ran,
+) -> Result<(), AllocError>
+    ensures { OnOk result (history_in entries.new.items ≡ out_entries leaving (wakers_in out) t kept ++ history_in entries.old.items) }
+{
+    let wakers = wakers_out(*entries.allocator(), out)?;
+    if !leaving {
+        entries.push(release_entry(t, kept, wakers))?;
+    } else if !wakers.is_empty() {
+        entries.push(Entry::Pass(t, wakers))?;
+    }
+    Ok(())
+}
+
+// The wakers that were handed out, in their order.
+fn wakers_out(alloc: Global, out: Out<u64>) -> Result<Vec<u64>, AllocError>
+    ensures { IfOk result (λ X. X.items ≡ wakers_in out) }
+{
+    match out {
+        Out::One(waker) => waker.into_iter().collect(alloc),
+        Out::All(listings) => listings
+            .into_iter()
+            .filter_map(|listing| listing.waker)
+            .collect(alloc),
+    }
+}
+
+// The release of a task whose init gave this: a value fills the cell.
+fn release_entry(t: u64, kept: Ran, wakers: Vec<u64>) -> Entry
+    ensures { entry_of result ≡ release_of kept t wakers.items }
+{
+    match kept {
+        Ran::Value(v) => Entry::Fill(t, v, wakers),
+        _ => Entry::Free(t, wakers),
+    }
+}
+
+// How a call ends, where its init gave this and this value is set.
+fn end_entry(t: u64, ending: Ending, kept: Ran, value: u64) -> Entry
+    ensures { entry_of result ≡ end_of ending t value kept }
+{
+    match ending {
+        Ending::Pending => Entry::End(t, Reply::Pending),
+        Ending::Value => Entry::End(t, Reply::Value(value)),
+        Ending::Error => Entry::End(t, Reply::Error(error_in(kept))),
+        Ending::Memory => Entry::End(t, Reply::Memory),
+        Ending::Full => Entry::End(t, Reply::Full),
+        Ending::Dropped => Entry::DropEnd(t),
+    }
+}
+
+// The error that an init gave.
+fn error_in(kept: Ran) -> u64
+    ensures { result ≡ error_of kept }
+{
+    match kept {
+        Ran::Error(e) => e,
+        _ => 0,
+    }
+}

@@ -1,0 +1,99 @@
+//! The side of a replayed task.
+ghost use Rattle.std.specs.Prelude.{◌≡◌};
+
+use super::Ran;
+use once_core::step::{Polled, Side};
+use once_queue::waiters::Out;
+
+/// The side of a replayed task: its init answers as the inputs or the kind say.
+#[derive(Drop)]
+pub(super) struct Script {
+    pub lazy: bool,
+    /// What a lazy init will still answer, the next one last.
+    pub answers: Vec<Option<u64>>,
+    /// The value that was put last.
+    pub value: u64,
+    // What the task under way brings: the answer for its init, whether memory is given, its waker,
+    // and what its init gave.
+    pub answer: Ran,
+    pub granted: bool,
+    pub waker: u64,
+    pub kept: Ran,
+    // What was seen in this step: what the init answered, and whom a section handed out.
+    pub ran: Option<Ran>,
+    pub handed: Option<Out<u64>>,
+}
+
+impl Script {
+    ghost use Rattle.once_world.specs.Cell.{rest_of};
+    ghost use Rattle.once_world.specs.Script.{answers_in, next_of};
+
+    // What the init answers now.
+    fn next_answer(&mut self) -> Ran
+        ensures answer { result ≡ next_of self.old }
+        ensures answers { answers_in self.new ≡ rest_of (answers_in self.old) }
+        ensures others { self.new ≡ record self.old { answers = self.new.answers } }
+    {
+        match self.answers.pop() {
+            _ if !self.lazy => self.answer,
+            Some(Some(v)) => Ran::Value(v),
+            _ => Ran::Pending,
+        }
+    }
+}
+
+impl Side<u64> for Script {
+    ghost use Rattle.std.proofs.Common.{rules};
+    ghost use Rattle.once_world.specs.Script.{DidRun, DidClose, DidPut, DidCopy, DidWake, Stays};
+
+    ghost did_run = { DidRun };
+
+    ghost did_close = { DidClose };
+
+    ghost did_put = { DidPut };
+
+    ghost did_copy = { DidCopy };
+
+    ghost did_wake = { DidWake };
+
+    ghost stays = { Stays };
+
+    fn run(&mut self) -> Polled {
+        let answer = self.next_answer();
+        self.ran = Some(answer);
+        match answer {
+            Ran::Pending => Polled::Pending,
+            Ran::Value(_) => {
+                self.kept = answer;
+                Polled::Value
+            }
+            Ran::Error(_) => {
+                self.kept = answer;
+                Polled::Error
+            }
+        }
+    }
+
+    fn close(&mut self) {}
+
+    fn put(&mut self) {
+        if let Ran::Value(v) = self.kept {
+            self.value = v;
+        }
+    }
+
+    fn copy(&mut self) -> Option<u64> {
+        if self.granted { Some(self.waker) } else { None }
+    }
+
+    fn wake(&mut self, out: Out<u64>)
+        ensures did { DidWake self.old out self.new }
+        ensures stays { Stays self.old self.new }
+    {
+        self.handed = Some(out);
+    }
+
+    ghost stays_same = { λ a. Prim.search rules };
+
+    ghost stays_on = { λ a b c p q. Prim.search rules };
+}
