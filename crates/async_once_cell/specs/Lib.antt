@@ -22,7 +22,7 @@ pub use Rattle.once_world.specs.Granted
 pub use Rattle.once_world.specs.Log
 pub use Rattle.once_world.specs.Machine
 pub use Rattle.once_world.specs.Can
-pub use Rattle.once_world.specs.Script
+pub use Rattle.once_world.specs.Side
 pub use Rattle.once_world.specs.Shown
 pub use Rattle.once_cells.specs.Refused
 pub use Rattle.once_cells.specs.Tokens

@@ -10,11 +10,11 @@ use Rattle.once_queue.specs.declared.waiters.Op.{Op}
 use Rattle.once_queue.specs.declared.waiters.Op.TheVariants.{Look, List as ListOp, Release, Leave}
 use Rattle.once_queue.specs.declared.waiters.Answer.{Answer}
 use Rattle.once_queue.specs.declared.waiters.Answer.TheVariants.{Ready, Claimed, Listed, Memory, Released, Left, Gone}
-use Rattle.once_queue.specs.Ops.{ticket_in, given_up}
+use Rattle.once_queue.specs.Ops.{ticket_in, without_ticket}
 use Rattle.once_queue.specs.Room.{HasSpace}
 use Rattle.once_queue.specs.Word.{Flags, flags_of, flags_alone, is_zero, is_quick_bit}
 use Rattle.once_queue.specs.declared.waiters.Listing.{Listing}
-use Rattle.once_queue.specs.Listings.{own_listing, kept_ticket, ticket_for, listed_anew, without, passes_turn, next_waker, left_list}
+use Rattle.once_queue.specs.Listings.{own_listing, kept_ticket, ticket_for, list_with, list_without, passes_turn, next_waker, left_list}
 use Rattle.once_queue.specs.Sections.{shows_set, shows_free, shows_taken, Looked, Releases}
 
 -- what contracts see: the word; the number of the queue at the door, its flag and its listings; how many queues were made; whether memory is given; the current waker; and the queue log, the oldest line first
@@ -102,15 +102,15 @@ module _ {W : Type 0} where
   release_state ready xs s = record s { word = record s.word { quick = false; ready = ready }; head = cond s.word.quick s.head false; listings = xs }
 
   -- who leaves takes its listing out, and passes its turn on where it had it
-  abbrev pub passes : ℕ → CoreState W → Bool
-  passes n s = passes_turn (is_free s) n s.listings
+  abbrev pub is_passing : ℕ → CoreState W → Bool
+  is_passing n s = passes_turn (is_free s) n s.listings
 
   abbrev pub leave_state : ℕ → CoreState W → CoreState W
-  leave_state n s = record s { listings = left_list (passes n s) n s.listings }
+  leave_state n s = record s { listings = left_list (is_passing n s) n s.listings }
 
   -- a claim takes the own listing out, and gives the ticket up
   abbrev pub claim_state : Op W → CoreState W → CoreState W
-  claim_state op s = record s { head = true; listings = without (ticket_in op) s.listings }
+  claim_state op s = record s { head = true; listings = list_without (ticket_in op) s.listings }
 
 module _ {W : Type 0} (same other : W → W → Type 0) where
   -- a section on the queue at the door, where some task holds. A listing that was not there is refused where memory is not given
@@ -120,20 +120,20 @@ module _ {W : Type 0} (same other : W → W → Type 0) where
   FindsHolder s (ListOp k (Some w)) a o t =
       ((a ≡ Memory) × (kept_ticket k s.listings ≡ None) × (s.granted ≡ false) × (t ≡ s) × (o ≡ ListOp k (Some w)))
       ⊎ ((a ≡ Listed) × ((is_some (kept_ticket k s.listings) || s.granted) ≡ true)
-      × (t ≡ record s { listings = listed_anew (ticket_for k s.listings) w s.listings }) × (o ≡ ListOp (Some (ticket_for k s.listings)) None))
+      × (t ≡ record s { listings = list_with (ticket_for k s.listings) w s.listings }) × (o ≡ ListOp (Some (ticket_for k s.listings)) None))
   FindsHolder s op a o t = ⊥
 
   -- a look or a listing on the queue at the door, by what the flags show
   pub record Found (s : CoreState W) (op : Op W) (a : Answer W) (o : Op W) (t : CoreState W) : Type 0 where
     pub set : shows_set s.word ≡ true → (a ≡ Ready) × (t ≡ s) × (o ≡ op)
-    pub free : shows_free s.word s.head ≡ true → (a ≡ Claimed) × (t ≡ claim_state op s) × (o ≡ given_up op)
+    pub free : shows_free s.word s.head ≡ true → (a ≡ Claimed) × (t ≡ claim_state op s) × (o ≡ without_ticket op)
     pub taken : shows_taken s.word s.head ≡ true → FindsHolder s op a o t
 
   -- a section on the queue at the door
   abbrev pub AtDoor : CoreState W → Op W → Answer W → Op W → CoreState W → Type 0
   AtDoor s (Release ready) (Released out) o t = Releases same other ready s.listings out t.listings × (t ≡ release_state ready t.listings s) × (o ≡ Release ready)
   AtDoor s (Release ready) a o t = ⊥
-  AtDoor s (Leave n) (Left w) o t = (w ≡ next_waker (passes n s) n s.listings) × (t ≡ leave_state n s) × (o ≡ Leave n)
+  AtDoor s (Leave n) (Left w) o t = (w ≡ next_waker (is_passing n s) n s.listings) × (t ≡ leave_state n s) × (o ≡ Leave n)
   AtDoor s (Leave n) a o t = ⊥
   AtDoor s op a o t = Found s op a o t
 

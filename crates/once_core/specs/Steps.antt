@@ -89,34 +89,34 @@ module _ {W Q : Type 0} where
   is_adding _ = false
 
   -- a poll goes on from the place at rest
-  abbrev pub begun_at : Rest Q → Place W Q
-  begun_at RestStart = AtStart
-  begun_at (RestWait q k) = AtWaitLoad q k
-  begun_at (RestRun by) = AtRun by
+  abbrev pub place_of_poll : Rest Q → Place W Q
+  place_of_poll RestStart = AtStart
+  place_of_poll (RestWait q k) = AtWaitLoad q k
+  place_of_poll (RestRun by) = AtRun by
 
-  abbrev pub begun : Step W Q → Step W Q
-  begun (Resting r) = UnderWay (begun_at r)
-  begun s = s
+  abbrev pub step_of_poll : Step W Q → Step W Q
+  step_of_poll (Resting r) = UnderWay (place_of_poll r)
+  step_of_poll s = s
 
   -- where a holder gives the right back: by the fast release where it claimed quickly, else under the lock of its queue
-  abbrev pub give_back : Option Q → Ending → Place W Q
-  give_back None e = AtFast e
-  give_back (Some q) e = AtRelease q e
+  abbrev pub release_place : Option Q → Ending → Place W Q
+  release_place None e = AtFast e
+  release_place (Some q) e = AtRelease q e
 
   -- where a waiter goes that is dropped or refused: it takes its listing out, if it has a ticket
-  abbrev pub leave_by : Q → Option ℕ → Ending → Place W Q
-  leave_by q None e = AtCountOut e
-  leave_by q (Some n) e = AtLeave q n e
+  abbrev pub leave_place : Q → Option ℕ → Ending → Place W Q
+  leave_place q None e = AtCountOut e
+  leave_place q (Some n) e = AtLeave q n e
 
   -- a drop goes on from the place at rest; it is over where the task was never polled
-  abbrev pub dropped_at : Rest Q → Step W Q
-  dropped_at RestStart = Finished
-  dropped_at (RestWait q k) = UnderWay (leave_by q k EndDropped)
-  dropped_at (RestRun by) = UnderWay (give_back by EndDropped)
+  abbrev pub step_of_drop_at : Rest Q → Step W Q
+  step_of_drop_at RestStart = Finished
+  step_of_drop_at (RestWait q k) = UnderWay (leave_place q k EndDropped)
+  step_of_drop_at (RestRun by) = UnderWay (release_place by EndDropped)
 
-  abbrev pub dropped : Step W Q → Step W Q
-  dropped (Resting r) = dropped_at r
-  dropped s = s
+  abbrev pub step_of_drop : Step W Q → Step W Q
+  step_of_drop (Resting r) = step_of_drop_at r
+  step_of_drop s = s
 
 -- what follows a call: whether the init is closed, the progress, and the step after
 pub record Next (W Q : Type 0) : Type 0 where
@@ -126,86 +126,93 @@ pub record Next (W Q : Type 0) : Type 0 where
 
 module _ {W Q : Type 0} where
   -- the call goes on at the place
-  abbrev pub on : Place W Q → Next W Q
-  on p = record { closes = false; progress = More; step = UnderWay p }
+  abbrev pub next_at : Place W Q → Next W Q
+  next_at p = record { closes = false; progress = More; step = UnderWay p }
 
   -- the same, after the init was closed
-  abbrev pub closes_on : Place W Q → Next W Q
-  closes_on p = record { closes = true; progress = More; step = UnderWay p }
+  abbrev pub closing_at : Place W Q → Next W Q
+  closing_at p = record { closes = true; progress = More; step = UnderWay p }
 
   -- the call stops for good
-  abbrev pub stops : Ending → Next W Q
-  stops e = record { closes = false; progress = Ended e; step = Finished }
+  abbrev pub next_end : Ending → Next W Q
+  next_end e = record { closes = false; progress = Ended e; step = Finished }
 
-  abbrev pub closes_stops : Ending → Next W Q
-  closes_stops e = record { closes = true; progress = Ended e; step = Finished }
+  abbrev pub closing_end : Ending → Next W Q
+  closing_end e = record { closes = true; progress = Ended e; step = Finished }
 
   -- the poll stops Pending
-  abbrev pub rests : Rest Q → Next W Q
-  rests r = record { closes = false; progress = Ended EndPending; step = Resting r }
+  abbrev pub next_rest : Rest Q → Next W Q
+  next_rest r = record { closes = false; progress = Ended EndPending; step = Resting r }
 
   -- ready, NEW
   abbrev pub after_start : Bool → Bool → Next W Q
-  after_start true _ = closes_stops EndValue
-  after_start false true = on AtTryQuick
-  after_start false false = on AtDoorGet
+  after_start true _ = closing_end EndValue
+  after_start false true = next_at AtTryQuick
+  after_start false false = next_at AtDoorGet
 
   abbrev pub after_quick : Bool → Next W Q
-  after_quick true = on (AtRun None)
-  after_quick false = on AtDoorGet
+  after_quick true = next_at (AtRun None)
+  after_quick false = next_at AtDoorGet
 
   abbrev pub after_door_get : Option Q → Next W Q
-  after_door_get (Some q) = on (AtCountIn q)
-  after_door_get None = on AtDoorPut
+  after_door_get (Some q) = next_at (AtCountIn q)
+  after_door_get None = next_at AtDoorPut
 
   abbrev pub after_door_put : Option Q → Next W Q
-  after_door_put (Some q) = on (AtCountIn q)
-  after_door_put None = closes_stops EndMemory
+  after_door_put (Some q) = next_at (AtCountIn q)
+  after_door_put None = closing_end EndMemory
 
   -- the word of a counted task says that the value is set, or not
   abbrev pub after_in : Bool → Q → Next W Q
-  after_in true q = closes_on (AtCountOut EndValue)
-  after_in false q = on (AtWaitLoad q None)
+  after_in true q = closing_at (AtCountOut EndValue)
+  after_in false q = next_at (AtWaitLoad q None)
 
   abbrev pub after_count_in : Counted → Q → Next W Q
   after_count_in (In w) q = after_in (flags_of w).ready q
-  after_count_in CountFull q = closes_stops EndFull
-  after_count_in SeenReady q = closes_stops EndValue
+  after_count_in CountFull q = closing_end EndFull
+  after_count_in SeenReady q = closing_end EndValue
 
   abbrev pub after_load : Bool → Q → Option ℕ → Next W Q
-  after_load true q k = closes_on (AtCountOut EndValue)
-  after_load false q k = on (AtLook q k)
+  after_load true q k = closing_at (AtCountOut EndValue)
+  after_load false q k = next_at (AtLook q k)
 
   abbrev pub after_copy : Option W → Q → Option ℕ → Next W Q
-  after_copy (Some w) q k = on (AtList q k w)
-  after_copy None q k = closes_on (leave_by q k EndMemory)
+  after_copy (Some w) q k = next_at (AtList q k w)
+  after_copy None q k = closing_at (leave_place q k EndMemory)
+
+  -- after a look with this ticket, where the waker that was copied is this
+  abbrev pub after_look : SectionAnswer W → Option W → Q → Option ℕ → Next W Q
+  after_look Ready w q k = closing_at (AtCountOut EndValue)
+  after_look Claimed w q k = next_at (AtRun (Some q))
+  after_look Listed w q k = next_rest (RestWait q k)
+  after_look _ w q k = after_copy w q k
 
   -- with the ticket that the section left
   abbrev pub after_list : SectionAnswer W → Q → Option ℕ → Next W Q
-  after_list Ready q k = closes_on (AtCountOut EndValue)
-  after_list Claimed q k = on (AtRun (Some q))
-  after_list NoMemory q k = closes_on (leave_by q k EndMemory)
-  after_list _ q k = rests (RestWait q k)
+  after_list Ready q k = closing_at (AtCountOut EndValue)
+  after_list Claimed q k = next_at (AtRun (Some q))
+  after_list NoMemory q k = closing_at (leave_place q k EndMemory)
+  after_list _ q k = next_rest (RestWait q k)
 
   abbrev pub after_run : Polled → Option Q → Next W Q
-  after_run PolledPending by = rests (RestRun by)
-  after_run PolledValue by = closes_on (AtPut by)
-  after_run PolledError by = closes_on (give_back by EndError)
+  after_run PolledPending by = next_rest (RestRun by)
+  after_run PolledValue by = closing_at (AtPut by)
+  after_run PolledError by = closing_at (release_place by EndError)
 
   -- the word was exactly the quick bit; the call stops with the value
   abbrev pub after_fast : Bool → Bool → Ending → Next W Q
-  after_fast true true e = on (AtDoorTake e)
-  after_fast true false e = stops e
-  after_fast false fills e = on (AtAddOne e)
+  after_fast true true e = next_at (AtDoorTake e)
+  after_fast true false e = next_end e
+  after_fast false fills e = next_at (AtAddOne e)
 
   abbrev pub after_door_again : Option Q → Ending → Next W Q
-  after_door_again (Some q) e = on (AtRelease q e)
-  after_door_again None e = on (AtCountOut e)
+  after_door_again (Some q) e = next_at (AtRelease q e)
+  after_door_again None e = next_at (AtCountOut e)
 
   -- the word is exactly the ready bit
   abbrev pub after_count_out : Bool → Ending → Next W Q
-  after_count_out true e = on (AtDoorTake e)
-  after_count_out false e = stops e
+  after_count_out true e = next_at (AtDoorTake e)
+  after_count_out false e = next_end e
 
 module _ {W Q : Type 0} where
   -- what follows happened, without a close
@@ -225,20 +232,20 @@ module _ {S W Q : Type 0} (close : S → S → Type 0) where
 module _ {S W Q : Type 0} (close : S → S → Type 0) (copy : S → Option W → S → Type 0) where
   -- after a look, with the ticket that it left: where another task holds and the waker is not listed, it is copied
   abbrev pub AfterLook : SectionAnswer W → Q → Option ℕ → S → S → Progress → Step W Q → Type 0
-  AfterLook Ready q k s s' r t = Follows close (closes_on (AtCountOut EndValue)) s s' r t
-  AfterLook Claimed q k s s' r t = Follows close (on (AtRun (Some q))) s s' r t
-  AfterLook Listed q k s s' r t = Follows close (rests (RestWait q k)) s s' r t
-  AfterLook _ q k s s' r t = (c : Option W) × (m : S) × copy s c m × Follows close (after_copy c q k) m s' r t
+  AfterLook Ready q k s s' r t = Follows close (after_look Ready None q k) s s' r t
+  AfterLook Claimed q k s s' r t = Follows close (after_look Claimed None q k) s s' r t
+  AfterLook Listed q k s s' r t = Follows close (after_look Listed None q k) s s' r t
+  AfterLook a q k s s' r t = (c : Option W) × (m : S) × copy s c m × Follows close (after_look a c q k) m s' r t
 
 -- what a release hands out; any other answer hands nobody out
-abbrev pub released_by : {W : Type 0} → SectionAnswer W → Out W
-released_by (Released out) = out
-released_by _ = One None
+abbrev pub out_of_release : {W : Type 0} → SectionAnswer W → Out W
+out_of_release (Released out) = out
+out_of_release _ = One None
 
 -- whom one who leaves calls
-abbrev pub left_by : {W : Type 0} → SectionAnswer W → Out W
-left_by (Left w) = One w
-left_by _ = One None
+abbrev pub out_of_leave : {W : Type 0} → SectionAnswer W → Out W
+out_of_leave (Left w) = One w
+out_of_leave _ = One None
 
 module _ {P W Q : Type 0} (can_add_one can_count_out can_log : P → Type 0) (can_section : P → Q → Op W → Type 0) where
   -- what the call of a place asks of the parts
@@ -274,16 +281,16 @@ module _ {P S W Q : Type 0}
   Line limit (AtLook q k) p s r t p' s' = (a : SectionAnswer W) × (o : Op W) × section p q (LookOp k) a o p' × AfterLook close copy a q (ticket_in o) s s' r t
   Line limit (AtList q k w) p s r t p' s' = (a : SectionAnswer W) × (o : Op W) × section p q (ListOp k (Some w)) a o p' × Follows close (after_list a q (ticket_in o)) s s' r t
   Line limit (AtRun by) p s r t p' s' = (a : Polled) × (m : S) × run s a m × (p' ≡ p) × Follows close (after_run a by) m s' r t
-  Line limit (AtPut by) p s r t p' s' = put s s' × (p' ≡ p) × (r ≡ More) × (t ≡ UnderWay (give_back by EndValue))
+  Line limit (AtPut by) p s r t p' s' = put s s' × (p' ≡ p) × (r ≡ More) × (t ≡ UnderWay (release_place by EndValue))
   Line limit (AtFast e) p s r t p' s' = (b : Bool) × fast p (is_value e) b p' × Follows close (after_fast b (is_value e) e) s s' r t
-  Line limit (AtAddOne e) p s r t p' s' = add_one p p' × Follows close (on (AtDoorAgain e)) s s' r t
+  Line limit (AtAddOne e) p s r t p' s' = add_one p p' × Follows close (next_at (AtDoorAgain e)) s s' r t
   Line limit (AtDoorAgain e) p s r t p' s' = (q : Option Q) × door_get p q p' × Follows close (after_door_again q e) s s' r t
   Line limit (AtRelease q e) p s r t p' s' =
-      (a : SectionAnswer W) × (o : Op W) × section p q (ReleaseOp (is_value e)) a o p' × wake s (released_by a) s' × (r ≡ More) × (t ≡ UnderWay (AtCountOut e))
+      (a : SectionAnswer W) × (o : Op W) × section p q (ReleaseOp (is_value e)) a o p' × wake s (out_of_release a) s' × (r ≡ More) × (t ≡ UnderWay (AtCountOut e))
   Line limit (AtLeave q n e) p s r t p' s' =
-      (a : SectionAnswer W) × (o : Op W) × section p q (LeaveOp n) a o p' × wake s (left_by a) s' × (r ≡ More) × (t ≡ UnderWay (AtCountOut e))
+      (a : SectionAnswer W) × (o : Op W) × section p q (LeaveOp n) a o p' × wake s (out_of_leave a) s' × (r ≡ More) × (t ≡ UnderWay (AtCountOut e))
   Line limit (AtCountOut e) p s r t p' s' = (w : ℕ) × count_out p w p' × Follows close (after_count_out (is_ready_bit (flags_of w)) e) s s' r t
-  Line limit (AtDoorTake e) p s r t p' s' = (b : Bool) × door_take p b p' × Follows close (stops e) s s' r t
+  Line limit (AtDoorTake e) p s r t p' s' = (b : Bool) × door_take p b p' × Follows close (next_end e) s s' r t
 
   abbrev pub Advances : ℕ → Step W Q → P → S → Progress → Step W Q → P → S → Type 0
   Advances limit (UnderWay at) p s r t p' s' = Line limit at p s r t p' s'

@@ -24,7 +24,7 @@ pub struct Core<W: WakerId> {
 
 impl<W: WakerId + Drop> Core<W> {
     ghost use Rattle.once_queue.specs.Word.{flags_alone};
-    ghost use Rattle.once_core.specs.Core.{CoreState, state_of, HasRoom, take_state, release_state, leave_state, passes, Found};
+    ghost use Rattle.once_core.specs.Core.{CoreState, state_of, HasRoom, take_state, release_state, leave_state, is_passing, Found};
     ghost use Rattle.once_queue.specs.Listings.{next_waker};
     ghost use Rattle.once_queue.specs.Room.{HasSpace};
     ghost use Rattle.once_queue.specs.Sections.{Releases};
@@ -127,7 +127,7 @@ impl<W: WakerId + Drop> Core<W> {
     // The section of one who leaves.
     fn leave(&mut self, ticket: u64) -> Option<W>
         requires door { IsSome self.old.door }
-        ensures waker { result ≡ next_waker (passes ticket (state_of self.old)) ticket (state_of self.old).listings }
+        ensures waker { result ≡ next_waker (is_passing ticket (state_of self.old)) ticket (state_of self.old).listings }
         ensures state { state_of self.new ≡ leave_state ticket (state_of self.old) }
     {
         let word = self.word.bits();

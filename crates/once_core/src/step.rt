@@ -116,7 +116,7 @@ impl<W: Drop, Q: Drop> Step<W, Q> {
     ghost use Rattle.once_core.specs.declared.parts.Counted.{Counted};
     ghost use Rattle.once_queue.specs.Word.{flags_of, is_zero, is_ready_bit};
     ghost use Rattle.once_queue.specs.Ops.{ticket_in};
-    ghost use Rattle.once_core.specs.Steps.{left_of, is_resting, in_call, is_running, is_leaving, is_freeing, is_adding, is_value, begun, dropped, give_back, Asks, Advances, LeadsTo, Follows, AfterLook, released_by, left_by, after_start, after_quick, after_door_get, after_door_put, after_count_in, after_load, after_copy, after_list, after_run, after_fast, after_door_again, after_count_out};
+    ghost use Rattle.once_core.specs.Steps.{left_of, is_resting, in_call, is_running, is_leaving, is_freeing, is_adding, is_value, step_of_poll, step_of_drop, release_place, Asks, Advances, LeadsTo, Follows, AfterLook, out_of_release, out_of_leave, after_start, after_quick, after_door_get, after_door_put, after_count_in, after_load, after_copy, after_list, after_run, after_fast, after_door_again, after_count_out};
 
     /// A task that was not polled yet.
     pub fn new() -> Self
@@ -182,7 +182,7 @@ impl<W: Drop, Q: Drop> Step<W, Q> {
     /// Begins a poll.
     pub fn begin(&mut self)
         requires { is_resting self.old ≡ true }
-        ensures { self.new ≡ begun self.old }
+        ensures { self.new ≡ step_of_poll self.old }
     {
         *self = match mem::replace(self, Step::Finished) {
             Step::Resting(Rest::Start) => Step::UnderWay(Place::Start),
@@ -198,7 +198,7 @@ impl<W: Drop, Q: Drop> Step<W, Q> {
     /// the task was never polled.
     pub fn begin_drop<S: Side<W>>(&mut self, side: &mut S) -> bool
         requires { is_resting self.old ≡ true }
-        ensures step { self.new ≡ dropped self.old }
+        ensures step { self.new ≡ step_of_drop self.old }
         ensures more { result ≡ in_call self.new }
         ensures close { S.did_close side.old side.new }
         ensures stays { S.stays side.old side.new }
@@ -513,7 +513,7 @@ impl<W: Drop, Q: Drop> Step<W, Q> {
         requires log { P.can_log parts.old }
         requires can { P.can_section parts.old queue (Op.Release (is_value ending)) }
         ensures section { (a : Answer W) × (o : Op W) × P.did_section parts.old queue (Op.Release (is_value ending)) a o parts.new
-            × S.did_wake side.old (released_by a) side.new }
+            × S.did_wake side.old (out_of_release a) side.new }
         ensures more { result ≡ Progress.More }
         ensures step { self.new ≡ Step.UnderWay (Place.CountOut ending) }
         ensures stays { S.stays side.old side.new }
@@ -537,7 +537,7 @@ impl<W: Drop, Q: Drop> Step<W, Q> {
         requires log { P.can_log parts.old }
         requires can { P.can_section parts.old queue (Op.Leave ticket) }
         ensures section { (a : Answer W) × (o : Op W) × P.did_section parts.old queue (Op.Leave ticket) a o parts.new
-            × S.did_wake side.old (left_by a) side.new }
+            × S.did_wake side.old (out_of_leave a) side.new }
         ensures more { result ≡ Progress.More }
         ensures step { self.new ≡ Step.UnderWay (Place.CountOut ending) }
         ensures stays { S.stays side.old side.new }

@@ -24,9 +24,9 @@ module _ {W : Type 0} where
   take_out n (x ∷ xs) = cond (x.ticket == n) (take_out n xs) (x ∷ take_out n xs)
 
   -- the same, where there may be no ticket
-  abbrev pub without : Option ℕ → List (Listing W) → List (Listing W)
-  without None xs = xs
-  without (Some n) xs = take_out n xs
+  abbrev pub list_without : Option ℕ → List (Listing W) → List (Listing W)
+  list_without None xs = xs
+  list_without (Some n) xs = take_out n xs
 
   -- the waker of the first listing that has one
   abbrev pub first_by : Option W → Option W → Option W
@@ -61,9 +61,9 @@ least_from zero n ns = n
 least_from (suc f) n ns = cond (member n ns) (least_from f (suc n) ns) n
 
 -- a number above each of the list
-abbrev pub above : List ℕ → ℕ
-above [] = 0
-above (x ∷ xs) = suc x + above xs
+abbrev pub above_each : List ℕ → ℕ
+above_each [] = 0
+above_each (x ∷ xs) = suc x + above_each xs
 
 abbrev pub kept_by : Bool → ℕ → Option ℕ
 kept_by true n = Some n
@@ -76,7 +76,7 @@ ticket_or None new = new
 module _ {W : Type 0} where
   -- the least number that no listing has
   abbrev pub new_ticket : List (Listing W) → ℕ
-  new_ticket xs = least_from (above (tickets xs)) 0 (tickets xs)
+  new_ticket xs = least_from (above_each (tickets xs)) 0 (tickets xs)
 
   -- the own ticket counts while its listing is there
   abbrev pub kept_ticket : Option ℕ → List (Listing W) → Option ℕ
@@ -88,8 +88,8 @@ module _ {W : Type 0} where
   ticket_for k xs = ticket_or (kept_ticket k xs) (new_ticket xs)
 
   -- the own listing is taken out, and one with the ticket and the waker goes to the end
-  abbrev pub listed_anew : ℕ → W → List (Listing W) → List (Listing W)
-  listed_anew n w xs = take_out n xs ++ record { ticket = n; waker = Some w } ∷ []
+  abbrev pub list_with : ℕ → W → List (Listing W) → List (Listing W)
+  list_with n w xs = take_out n xs ++ record { ticket = n; waker = Some w } ∷ []
 
   -- the listing was called
   abbrev pub was_called : Option (Option W) → Bool

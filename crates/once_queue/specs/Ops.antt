@@ -15,7 +15,7 @@ ticket_in (ListOp k w) = k
 ticket_in _ = None
 
 -- the same without its ticket
-abbrev pub given_up : {W : Type 0} → Op W → Op W
-given_up (LookOp k) = LookOp None
-given_up (ListOp k w) = ListOp None w
-given_up op = op
+abbrev pub without_ticket : {W : Type 0} → Op W → Op W
+without_ticket (LookOp k) = LookOp None
+without_ticket (ListOp k w) = ListOp None w
+without_ticket op = op

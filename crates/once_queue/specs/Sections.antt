@@ -5,7 +5,7 @@ use Rattle.std.specs.declared.alloc.Global.{Global}
 use Rattle.once_queue.specs.declared.waiters.Answer.{Answer}
 use Rattle.once_queue.specs.declared.waiters.Out.{Out}
 use Rattle.once_queue.specs.Word.{Flags}
-use Rattle.once_queue.specs.Listings.{Listing, kept_ticket, ticket_for, listed_anew, first_waker, call_first, wakers_by}
+use Rattle.once_queue.specs.Listings.{Listing, kept_ticket, ticket_for, list_with, first_waker, call_first, wakers_by}
 
 -- the word says that the value is set
 abbrev pub shows_set : Flags → Bool
@@ -43,7 +43,7 @@ module _ {W : Type 0} where
   -- a listing where some task holds: the own listing is taken out, and one with the waker goes to the end; or there was none, and no memory for one
   abbrev pub Lists : Option ℕ → W → List (Listing W) → Answer W → Option ℕ → Option W → List (Listing W) → Type 0
   Lists ticket w xs answer ticket' waker' xs' =
-      ((answer ≡ Answer.Listed) × (ticket' ≡ Some (ticket_for ticket xs)) × (waker' ≡ None) × (xs' ≡ listed_anew (ticket_for ticket xs) w xs))
+      ((answer ≡ Answer.Listed) × (ticket' ≡ Some (ticket_for ticket xs)) × (waker' ≡ None) × (xs' ≡ list_with (ticket_for ticket xs) w xs))
       ⊎ ((answer ≡ Answer.Memory) × (kept_ticket ticket xs ≡ None) × (ticket' ≡ ticket) × (waker' ≡ Some w) × (xs' ≡ xs))
 
 module _ {W : Type 0} (same other : W → W → Type 0) where

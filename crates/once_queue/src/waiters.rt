@@ -123,7 +123,7 @@ pub struct Lists<W: WakerId> {
 
 impl<W: WakerId + Drop> Lists<W> {
     ghost use Rattle.once_queue.specs.Word.{flags_of};
-    ghost use Rattle.once_queue.specs.Listings.{Listing, find_listing, own_listing, take_out, without, first_waker, call_first, new_ticket, kept_ticket, ticket_for, passes_turn, next_waker, left_list};
+    ghost use Rattle.once_queue.specs.Listings.{Listing, find_listing, own_listing, take_out, list_without, first_waker, call_first, new_ticket, kept_ticket, ticket_for, passes_turn, next_waker, left_list};
     ghost use Rattle.once_queue.specs.Room.{HasSpace};
     ghost use Rattle.once_queue.specs.Sections.{shows_set, shows_free, shows_taken, Looked, Lists as DidList, Releases};
 
@@ -151,7 +151,7 @@ impl<W: WakerId + Drop> Lists<W> {
 
         // Only a claim changes anything.
         ensures head { self.new.head ≡ (self.old.head || shows_free (flags_of word) self.old.head) }
-        ensures listings { self.new.listings.items ≡ cond (shows_free (flags_of word) self.old.head) (without ticket.old self.old.listings.items) self.old.listings.items }
+        ensures listings { self.new.listings.items ≡ cond (shows_free (flags_of word) self.old.head) (list_without ticket.old self.old.listings.items) self.old.listings.items }
         ensures ticket { ticket.new ≡ cond (shows_free (flags_of word) self.old.head) None ticket.old }
     {
         if let Some(answer) = self.claim(ticket, word) {
@@ -181,7 +181,7 @@ impl<W: WakerId + Drop> Lists<W> {
 
         // Only a claim changes the flag, and takes a listing out where no task holds.
         ensures head { self.new.head ≡ (self.old.head || shows_free (flags_of word) self.old.head) }
-        ensures listings { shows_taken (flags_of word) self.old.head ≡ false → self.new.listings.items ≡ cond (shows_free (flags_of word) self.old.head) (without ticket.old self.old.listings.items) self.old.listings.items }
+        ensures listings { shows_taken (flags_of word) self.old.head ≡ false → self.new.listings.items ≡ cond (shows_free (flags_of word) self.old.head) (list_without ticket.old self.old.listings.items) self.old.listings.items }
         ensures ticket { shows_taken (flags_of word) self.old.head ≡ false → ticket.new ≡ cond (shows_free (flags_of word) self.old.head) None ticket.old }
         ensures waker { shows_taken (flags_of word) self.old.head ≡ false → waker.new ≡ waker.old }
     {
@@ -249,7 +249,7 @@ impl<W: WakerId + Drop> Lists<W> {
         ensures claimed { shows_free (flags_of word) self.old.head ≡ true → result ≡ Some Answer.Claimed }
         ensures held { shows_taken (flags_of word) self.old.head ≡ true → result ≡ None }
         ensures head { self.new.head ≡ (self.old.head || shows_free (flags_of word) self.old.head) }
-        ensures listings { self.new.listings.items ≡ cond (shows_free (flags_of word) self.old.head) (without ticket.old self.old.listings.items) self.old.listings.items }
+        ensures listings { self.new.listings.items ≡ cond (shows_free (flags_of word) self.old.head) (list_without ticket.old self.old.listings.items) self.old.listings.items }
         ensures ticket { ticket.new ≡ cond (shows_free (flags_of word) self.old.head) None ticket.old }
         ensures room { shows_free (flags_of word) self.old.head ≡ false → self.new ≡ self.old }
     {
@@ -314,7 +314,7 @@ impl<W: WakerId + Drop> Lists<W> {
     // Takes the own listing out, if the ticket has one: the ticket then.
     fn take_own(&mut self, ticket: Option<u64>) -> Option<u64>
         ensures kept { result ≡ kept_ticket ticket self.old.listings.items }
-        ensures listings { self.new.listings.items ≡ without ticket self.old.listings.items }
+        ensures listings { self.new.listings.items ≡ list_without ticket self.old.listings.items }
         ensures head { self.new.head ≡ self.old.head }
         ensures some { IfSome result (λ n. (n < vec_len self.new.used) × (vec_len self.new.listings < vec_capacity self.new.listings)) }
         ensures none { result ≡ None → self.new ≡ self.old }

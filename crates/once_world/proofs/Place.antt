@@ -1,4 +1,5 @@
 -- One lemma a place: its step pays what it owes.
+pub mod Outcomes
 pub mod Builders
 pub mod Inners
 pub mod Waits

@@ -1,5 +1,5 @@
 -- Worked schedules, computed over the definitions.
-pub mod Script
+pub mod Order
 pub mod Tasks
 pub mod Plain
 pub mod Late

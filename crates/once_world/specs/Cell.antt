@@ -21,36 +21,36 @@ value_in (SetTo v) = Some v
 value_in _ = None
 
 -- how the cell starts
-abbrev pub starts : Kind → Cell
-starts Once = Empty
-starts (OnceWith v) = SetTo v
-starts (Lazy l) = Empty
-starts (LazyWith v) = SetTo v
+abbrev pub first_cell : Kind → Cell
+first_cell Once = Empty
+first_cell (OnceWith v) = SetTo v
+first_cell (Lazy l) = Empty
+first_cell (LazyWith v) = SetTo v
 
 -- Write changes the value where one is set
-abbrev pub written : ℕ → Cell → Cell
-written v (SetTo u) = SetTo v
-written v c = c
+abbrev pub write_cell : ℕ → Cell → Cell
+write_cell v (SetTo u) = SetTo v
+write_cell v c = c
 
 -- the cell after an owner's call
-abbrev pub owned : OwnerCall → Cell → Cell
-owned Take c = Empty
-owned (Write v) c = written v c
-owned Parts c = Empty
-owned (ReplaceValue v) c = SetTo v
-owned (ReplaceAnswers l) c = Empty
+abbrev pub cell_after_call : OwnerCall → Cell → Cell
+cell_after_call Take c = Empty
+cell_after_call (Write v) c = write_cell v c
+cell_after_call Parts c = Empty
+cell_after_call (ReplaceValue v) c = SetTo v
+cell_after_call (ReplaceAnswers l) c = Empty
 
 -- a claim, a release and an owner's call change the cell, and nothing else does
 abbrev pub cell_after : Entry → Cell → Cell
 cell_after (Claim t) c = Held t
 cell_after (Free t X) c = Empty
 cell_after (Fill t v X) c = SetTo v
-cell_after (Own o g) c = owned o c
+cell_after (Own o g) c = cell_after_call o c
 cell_after _ c = c
 
 -- the cell after these entries
 abbrev pub cell : Kind → List Entry → Cell
-cell kind [] = starts kind
+cell kind [] = first_cell kind
 cell kind (e ∷ before) = cell_after e (cell kind before)
 
 -- the answers that a lazy init will give
@@ -63,16 +63,16 @@ rest_of [] = []
 rest_of (a ∷ l) = l
 
 -- the answers after an owner's call
-abbrev pub owned_answers : OwnerCall → List (Option ℕ) → List (Option ℕ)
-owned_answers Parts l = []
-owned_answers (ReplaceValue v) l = []
-owned_answers (ReplaceAnswers k) l = k
-owned_answers _ l = l
+abbrev pub answers_after_call : OwnerCall → List (Option ℕ) → List (Option ℕ)
+answers_after_call Parts l = []
+answers_after_call (ReplaceValue v) l = []
+answers_after_call (ReplaceAnswers k) l = k
+answers_after_call _ l = l
 
 -- each poll of the init takes the first answer off, and an owner's call may replace them
 abbrev pub answers_after : Entry → List (Option ℕ) → List (Option ℕ)
 answers_after (Ran t a) l = rest_of l
-answers_after (Own o g) l = owned_answers o l
+answers_after (Own o g) l = answers_after_call o l
 answers_after _ l = l
 
 -- the answers left after these entries

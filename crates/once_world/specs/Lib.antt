@@ -13,5 +13,5 @@ pub mod Granted
 pub mod Log
 pub mod Machine
 pub mod Can
-pub mod Script
+pub mod Side
 pub mod Shown

@@ -8,11 +8,11 @@ use Rattle.once_world.specs.Tasks.{Waiting, status, is_under_way, last_call}
 use Rattle.once_world.specs.Inputs.{Input, Go, Owns, Part, entries_of, fits_owner, Always}
 
 -- the queue that stands at the door after these lines
-abbrev pub stands : List QueueLine → Option ℕ
-stands [] = None
-stands (Put q ∷ before) = Some q
-stands (Entered q ∷ before) = stands before
-stands (Taken q ∷ before) = None
+abbrev pub standing_queue : List QueueLine → Option ℕ
+standing_queue [] = None
+standing_queue (Put q ∷ before) = Some q
+standing_queue (Entered q ∷ before) = standing_queue before
+standing_queue (Taken q ∷ before) = None
 
 abbrev pub was_put : ℕ → List QueueLine → Bool
 was_put q [] = false
@@ -22,9 +22,9 @@ was_put q (_ ∷ before) = was_put q before
 -- a queue is put where none stands, with a new number; entered and taken out only while it stands there
 abbrev pub IsSound : List QueueLine → Type 0
 IsSound [] = Unit {0}
-IsSound (Put q ∷ before) = (stands before ≡ None) × (was_put q before ≡ false) × IsSound before
-IsSound (Entered q ∷ before) = (stands before ≡ Some q) × IsSound before
-IsSound (Taken q ∷ before) = (stands before ≡ Some q) × IsSound before
+IsSound (Put q ∷ before) = (standing_queue before ≡ None) × (was_put q before ≡ false) × IsSound before
+IsSound (Entered q ∷ before) = (standing_queue before ≡ Some q) × IsSound before
+IsSound (Taken q ∷ before) = (standing_queue before ≡ Some q) × IsSound before
 
 abbrev pub lines_of : List Part → List QueueLine
 lines_of [] = []
@@ -61,19 +61,19 @@ IsAtMostOne (l ∷ k ∷ more) = ⊥
 IsAtMostOne _ = Unit {0}
 
 -- the queue at the door is taken out
-abbrev pub taken_out : Option ℕ → List QueueLine
-taken_out (Some q) = Taken q ∷ []
-taken_out None = []
+abbrev pub take_lines : Option ℕ → List QueueLine
+take_lines (Some q) = Taken q ∷ []
+take_lines None = []
 
 -- the lines of an owner's call, by whether it fits and whether it replaces the cell
 abbrev pub owned_lines : Bool → Bool → Option ℕ → List QueueLine
-owned_lines true true door = taken_out door
+owned_lines true true door = take_lines door
 owned_lines _ _ door = []
 
 -- an input whose entries are these adds these lines: a Go at most one, and one that enters the queue where it needs it; an owner's call takes the queue out where it replaces the cell; all others none
 abbrev pub AddsLines : Kind → Input → List Entry → List Entry → List QueueLine → List QueueLine → Type 0
 AddsLines kind (Go t a granted) before entries log lines = IsAtMostOne lines × (need_queue kind entries before ≡ true → has_entered lines ≡ true)
-AddsLines kind (Owns o) before entries log lines = lines ≡ owned_lines (fits_owner kind o before) (replaces o) (stands log)
+AddsLines kind (Owns o) before entries log lines = lines ≡ owned_lines (fits_owner kind o before) (replaces o) (standing_queue log)
 AddsLines kind _ before entries log lines = lines ≡ []
 
 -- each part has the lines that its input adds
@@ -83,13 +83,13 @@ AreLogged kind (p ∷ before) = AddsLines kind p.input (entries_of before) p.ent
 
 -- a queue stands at the door while a task waits
 abbrev pub WaitingStands : Kind → List Part → Type 0
-WaitingStands kind parts = (t : ℕ) → status kind t (entries_of parts) ≡ Waiting → (q : ℕ) × (stands (lines_of parts) ≡ Some q)
+WaitingStands kind parts = (t : ℕ) → status kind t (entries_of parts) ≡ Waiting → (q : ℕ) × (standing_queue (lines_of parts) ≡ Some q)
 
 -- none stands there where the cell is set, no call is under way and no task waits
 abbrev pub NoneKept : Kind → List Part → Type 0
 NoneKept kind parts =
     is_set (cell kind (entries_of parts)) ≡ true → ((t : ℕ) → is_under_way (status kind t (entries_of parts)) ≡ false)
-    → ((t : ℕ) → status kind t (entries_of parts) ≢ Waiting) → stands (lines_of parts) ≡ None
+    → ((t : ℕ) → status kind t (entries_of parts) ≢ Waiting) → standing_queue (lines_of parts) ≡ None
 
 -- the log falls into the lines of these parts
 pub record IsLogOf (kind : Kind) (log : List QueueLine) (parts : List Part) : Type 0 where

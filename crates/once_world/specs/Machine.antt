@@ -2,16 +2,25 @@
 use Rattle.std.specs.Prelude.{ℕ, suc, Bool, true, false, cond, ◌==◌, ◌-◌, nat_lt, ◌||◌, not, List, [], ◌∷◌, ◌++◌, Option, Some, None}
 use Rattle.std.specs.Option.{is_some}
 pub use Rattle.once_world.specs.Places.{Ending, EndPending, EndValue, EndError, EndMemory, EndFull, EndDropped, Rest, RestStart, RestWait, RestRun, Place, AtStart, AtTryQuick, AtDoorGet, AtDoorPut, AtCountIn, AtWaitLoad, AtLook, AtList, AtRun, AtPut, AtFast, AtAddOne, AtDoorAgain, AtRelease, AtLeave, AtCountOut, AtDoorTake, Step, Resting, UnderWay, Finished}
-pub use Rattle.once_core.specs.Steps.{is_value, left_at, left_of, is_resting, in_call, is_leaving, is_finished, begun_at, begun, give_back, leave_by, dropped_at, dropped}
+use Rattle.once_world.specs.Places.{Progress, More, Ended}
+pub use Rattle.once_core.specs.Steps.{is_value, left_at, left_of, is_resting, in_call, is_leaving, is_finished, place_of_poll, step_of_poll, release_place, leave_place, step_of_drop_at, step_of_drop}
+use Rattle.once_core.specs.Steps.{Next, next_at, next_end, after_start, after_quick, after_door_get, after_door_put, after_in, after_count_in, after_load, after_look, after_list, after_run, after_fast, after_door_again, after_count_out}
+use Rattle.once_core.specs.Core.{put_answer}
+use Rattle.once_core.specs.declared.parts.Counted.TheVariants.{Full as CountFull, SeenReady}
+use Rattle.once_core.specs.declared.step.Polled.{Polled}
+use Rattle.once_core.specs.declared.step.Polled.TheVariants.{Pending as PolledPending, Value as PolledValue, Error as PolledError}
+use Rattle.once_queue.specs.declared.waiters.Answer.{Answer as SectionAnswer}
+use Rattle.once_queue.specs.declared.waiters.Answer.TheVariants.{Ready, Claimed, Listed, Held, Memory as NoMemory, Gone}
+use Rattle.once_queue.specs.Word.{Flags, is_zero, is_quick_bit, is_ready_bit}
 pub use Rattle.once_world.specs.declared.world.play.Task.{Task}
 pub use Rattle.once_core.specs.declared.parts.QueueLine.{QueueLine}
 pub use Rattle.once_core.specs.declared.parts.QueueLine.TheVariants.{Put as PutLine, Entered as EnteredLine, Taken as TakenLine}
 pub use Rattle.once_queue.specs.declared.waiters.Listing.{Listing}
-pub use Rattle.once_queue.specs.Listings.{own_listing, kept_ticket, ticket_for, listed_anew, without, passes_turn, next_waker, left_list, first_waker, call_first, all_out, one_out, is_waker}
+pub use Rattle.once_queue.specs.Listings.{own_listing, kept_ticket, ticket_for, list_with, list_without, passes_turn, next_waker, left_list, first_waker, call_first, all_out, one_out, is_waker}
 use Rattle.once_world.specs.Record.{Answer, RanPending, RanValue, RanError, Pending, Value, Error, Memory, Full, Kind, is_lazy, has_call, replaces, OwnerCall, Take, Write, Parts, ReplaceValue, ReplaceAnswers, Got, GotNone, GotValue, GotAnswers, Entry, Made, Begin, Claim, Ran, Free, Fill, Pass, End, DropBegin, DropEnd, Look, Own}
-use Rattle.once_world.specs.Cell.{is_set, value_in, starts, first_answers, rest_of, next_answer}
+use Rattle.once_world.specs.Cell.{is_set, value_in, first_cell, first_answers, rest_of, next_answer}
 use Rattle.once_world.specs.Inputs.{Input, Make, Poll, Drop, Go, Looks, Owns}
-use Rattle.once_world.specs.Log.{taken_out}
+use Rattle.once_world.specs.Log.{take_lines}
 
 -- what all tasks share: the word's count and two flags; the queue at the door; that queue's flag and listings; how many queues were made; the value that was put last; and what a lazy init will still answer
 pub record Inner : Type 0 where
@@ -25,17 +34,9 @@ pub record Inner : Type 0 where
   pub value : ℕ
   pub answers : List (Option ℕ)
 
--- the word is 0, the ready bit aside
-abbrev pub is_new : Inner → Bool
-is_new c = cond (c.count == 0) (not c.quick) false
-
--- the word is exactly the quick bit
-abbrev pub is_quick_alone : Inner → Bool
-is_quick_alone c = cond (c.count == 0) (cond c.ready false c.quick) false
-
--- the word will be exactly the ready bit when one task counts out
-abbrev pub is_last_out : Inner → Bool
-is_last_out c = cond (c.count - 1 == 0) (cond c.quick false c.ready) false
+-- the word as a count and two flags
+abbrev pub word_of : Inner → Flags
+word_of c = record { count = c.count; quick = c.quick; ready = c.ready }
 
 -- some task holds
 abbrev pub is_taken : Inner → Bool
@@ -84,161 +85,211 @@ end_entry EndMemory t v k = End t Memory
 end_entry EndFull t v k = End t Full
 end_entry EndDropped t v k = DropEnd t
 
--- the call goes on
-abbrev pub goes_to : Inner → Answer → Place ℕ ℕ → Outcome
-goes_to c k p = record { inner = c; step = UnderWay p; kept = k; entries = [] }
+-- the entry of a call that ends, with the value v set
+abbrev pub progress_entries : Progress → ℕ → ℕ → Answer → List Entry
+progress_entries (Ended e) t v k = end_entry e t v k ∷ []
+progress_entries More t v k = []
 
--- the call ends for good
-abbrev pub ends : Inner → ℕ → Answer → Ending → Outcome
-ends c t k e = record { inner = c; step = Finished; kept = k; entries = end_entry e t c.value k ∷ [] }
+abbrev pub claim_entries : Bool → ℕ → List Entry
+claim_entries true t = Claim t ∷ []
+claim_entries false t = []
 
--- the poll ends Pending, and waits
-abbrev pub waits : Inner → ℕ → Answer → ℕ → Option ℕ → Outcome
-waits c t k q n = record { inner = c; step = Resting (RestWait q n); kept = k; entries = End t Pending ∷ [] }
+-- the fast release hands nobody out
+abbrev pub freed_entries : Bool → ℕ → Answer → List Entry
+freed_entries true t k = release_entry k t [] ∷ []
+freed_entries false t k = []
 
--- the task claims the right
-abbrev pub claims : Inner → ℕ → Answer → Option ℕ → Outcome
-claims c t k by = record { inner = c; step = UnderWay (AtRun by); kept = k; entries = Claim t ∷ [] }
+-- the outcome of a step of t: what it leaves, what its init gave, what it did, and what the table of places says of the call
+abbrev pub outcome_of : Inner → ℕ → Answer → List Entry → Next ℕ ℕ → Outcome
+outcome_of c t k did n = record { inner = c; step = n.step; kept = k; entries = progress_entries n.progress t c.value k ++ did }
 
--- ready, new
+-- ready, NEW
 abbrev pub start_step : Bool → Bool → Inner → ℕ → Answer → Outcome
-start_step true _ c t k = ends c t k EndValue
-start_step false true c t k = goes_to c k AtTryQuick
-start_step false false c t k = goes_to c k AtDoorGet
+start_step ready new c t k = outcome_of c t k [] (after_start ready new)
 
--- ready, new
-abbrev pub quick_step : Bool → Bool → Inner → ℕ → Answer → Outcome
-quick_step false true c t k = claims (record c { quick = true }) t k None
-quick_step _ _ c t k = goes_to c k AtDoorGet
+-- what a quick claim leaves, by whether the word was NEW
+abbrev pub quick_inner : Bool → Inner → Inner
+quick_inner true c = record c { quick = true }
+quick_inner false c = c
 
-abbrev pub door_step : Option ℕ → Inner → Answer → Outcome
-door_step (Some q) c k = goes_to c k (AtCountIn q)
-door_step None c k = goes_to c k AtDoorPut
+abbrev pub quick_step : Bool → Inner → ℕ → Answer → Outcome
+quick_step won c t k = outcome_of (quick_inner won c) t k (claim_entries won t) (after_quick won)
+
+abbrev pub door_step : Option ℕ → Inner → ℕ → Answer → Outcome
+door_step door c t k = outcome_of c t k [] (after_door_get door)
+
+-- a queue is put where memory is given and none stands
+abbrev pub put_inner : Bool → Option ℕ → Inner → Inner
+put_inner true None c = record c { door = Some (suc c.queues); head = false; listings = []; queues = suc c.queues }
+put_inner _ _ c = c
 
 -- granted, door
 abbrev pub put_step : Bool → Option ℕ → Inner → ℕ → Answer → Outcome
-put_step false _ c t k = ends c t k EndMemory
-put_step true (Some q) c t k = goes_to c k (AtCountIn q)
-put_step true None c t k = goes_to (record c { door = Some (suc c.queues); head = false; listings = []; queues = suc c.queues }) k (AtCountIn (suc c.queues))
+put_step granted door c t k = outcome_of (put_inner granted door c) t k [] (after_door_put (put_answer granted door c.queues))
+
+-- what counting in leaves, by whether the count is below the limit
+abbrev pub in_inner : Bool → Inner → Inner
+in_inner true c = record c { count = suc c.count }
+in_inner false c = c
 
 -- below the limit, ready
-abbrev pub in_step : Bool → Bool → Inner → ℕ → Answer → ℕ → Outcome
-in_step true true c t k q = goes_to (record c { count = suc c.count }) k (AtCountOut EndValue)
-in_step true false c t k q = goes_to (record c { count = suc c.count }) k (AtWaitLoad q None)
-in_step false true c t k q = ends c t k EndValue
-in_step false false c t k q = ends c t k EndFull
+abbrev pub next_in : Bool → Bool → ℕ → Next ℕ ℕ
+next_in true ready q = after_in ready q
+next_in false true q = after_count_in SeenReady q
+next_in false false q = after_count_in CountFull q
 
-abbrev pub load_step : Bool → Inner → Answer → ℕ → Option ℕ → Outcome
-load_step true c k q n = goes_to c k (AtCountOut EndValue)
-load_step false c k q n = goes_to c k (AtLook q n)
+abbrev pub in_step : Bool → Bool → Inner → ℕ → Answer → ℕ → Outcome
+in_step below ready c t k q = outcome_of (in_inner below c) t k [] (next_in below ready q)
+
+abbrev pub load_step : Bool → Inner → ℕ → Answer → ℕ → Option ℕ → Outcome
+load_step ready c t k q n = outcome_of c t k [] (after_load ready q n)
 
 -- what a claim under the lock leaves, by the ticket of who claims
-abbrev pub claimed : Inner → Option ℕ → Inner
-claimed c n = record c { head = true; listings = without n c.listings }
+abbrev pub claim_inner : Inner → Option ℕ → Inner
+claim_inner c n = record c { head = true; listings = list_without n c.listings }
+
+abbrev pub claim_entry : SectionAnswer ℕ → ℕ → List Entry
+claim_entry Claimed t = Claim t ∷ []
+claim_entry _ t = []
+
+-- what a look finds: at the door, ready, taken, listed
+abbrev pub look_answer : Bool → Bool → Bool → Bool → SectionAnswer ℕ
+look_answer true true _ _ = Ready
+look_answer true false false _ = Claimed
+look_answer true false true true = Listed
+look_answer true false true false = Held
+look_answer false _ _ _ = Gone
+
+abbrev pub look_inner : SectionAnswer ℕ → Inner → Option ℕ → Inner
+look_inner Claimed c n = claim_inner c n
+look_inner _ c n = c
 
 -- at the door, ready, taken, listed, granted
 abbrev pub look_step : Bool → Bool → Bool → Bool → Bool → Inner → ℕ → ℕ → Answer → ℕ → Option ℕ → Outcome
-look_step true true _ _ _ c t w k q n = goes_to c k (AtCountOut EndValue)
-look_step true false false _ _ c t w k q n = claims (claimed c n) t k (Some q)
-look_step true false true true _ c t w k q n = waits c t k q n
-look_step _ _ _ _ true c t w k q n = goes_to c k (AtList q n w)
-look_step _ _ _ _ false c t w k q n = goes_to c k (leave_by q n EndMemory)
+look_step at ready taken is granted c t w k q n =
+    let a = look_answer at ready taken is in
+    outcome_of (look_inner a c n) t k (claim_entry a t) (after_look a (cond granted (Some w) None) q n)
+
+-- what a listing finds: at the door, ready, taken, there or granted
+abbrev pub list_answer : Bool → Bool → Bool → Bool → SectionAnswer ℕ
+list_answer true true _ _ = Ready
+list_answer true false false _ = Claimed
+list_answer true false true true = Listed
+list_answer true false true false = NoMemory
+list_answer false _ _ _ = Gone
 
 -- what a listing with this ticket leaves
-abbrev pub listed : Inner → ℕ → ℕ → Inner
-listed c n w = record c { listings = listed_anew n w c.listings }
+abbrev pub listing_inner : Inner → ℕ → ℕ → Inner
+listing_inner c n w = record c { listings = list_with n w c.listings }
+
+abbrev pub list_inner : SectionAnswer ℕ → Inner → Option ℕ → ℕ → Inner
+list_inner Claimed c n w = claim_inner c n
+list_inner Listed c n w = listing_inner c (ticket_for n c.listings) w
+list_inner _ c n w = c
+
+-- the ticket of a task after it listed itself
+abbrev pub list_ticket : SectionAnswer ℕ → Inner → Option ℕ → Option ℕ
+list_ticket Listed c n = Some (ticket_for n c.listings)
+list_ticket _ c n = n
 
 -- at the door, ready, taken, there or granted
 abbrev pub list_step : Bool → Bool → Bool → Bool → Inner → ℕ → ℕ → Answer → ℕ → Option ℕ → Outcome
-list_step false _ _ _ c t w k q n = waits c t k q n
-list_step true true _ _ c t w k q n = goes_to c k (AtCountOut EndValue)
-list_step true false false _ c t w k q n = claims (claimed c n) t k (Some q)
-list_step true false true true c t w k q n = waits (listed c (ticket_for n c.listings) w) t k q (Some (ticket_for n c.listings))
-list_step true false true false c t w k q n = goes_to c k (leave_by q n EndMemory)
+list_step at ready taken room c t w k q n =
+    let a = list_answer at ready taken room in
+    outcome_of (list_inner a c n w) t k (claim_entry a t) (after_list a q (list_ticket a c n))
 
 -- the answer of the init: of a lazy one the next, of another what the input says
-abbrev pub given : Bool → List (Option ℕ) → Answer → Answer
-given true l a = next_answer l
-given false l a = a
+abbrev pub init_answer : Bool → List (Option ℕ) → Answer → Answer
+init_answer true l a = next_answer l
+init_answer false l a = a
+
+abbrev pub polled_of : Answer → Polled
+polled_of RanPending = PolledPending
+polled_of (RanValue v) = PolledValue
+polled_of (RanError e) = PolledError
+
+-- a value or an error is kept
+abbrev pub kept_after : Answer → Answer → Answer
+kept_after RanPending old = old
+kept_after a old = a
 
 -- a poll of the init, by its answer
 abbrev pub run_step : Answer → Inner → ℕ → Answer → Option ℕ → Outcome
-run_step RanPending c t k by = record { inner = c; step = Resting (RestRun by); kept = k; entries = End t Pending ∷ Ran t RanPending ∷ [] }
-run_step (RanValue v) c t k by = record { inner = c; step = UnderWay (AtPut by); kept = RanValue v; entries = Ran t (RanValue v) ∷ [] }
-run_step (RanError e) c t k by = record { inner = c; step = UnderWay (give_back by EndError); kept = RanError e; entries = Ran t (RanError e) ∷ [] }
+run_step a c t k by = outcome_of c t (kept_after a k) (Ran t a ∷ []) (after_run (polled_of a) by)
 
-abbrev pub ran_once : Inner → Inner
-ran_once c = record c { answers = rest_of c.answers }
+abbrev pub run_inner : Inner → Inner
+run_inner c = record c { answers = rest_of c.answers }
 
--- the word is exactly the quick bit, the call ends with the value
+-- what the fast release leaves, by whether the word was exactly the quick bit and whether the value is set
+abbrev pub fast_inner : Bool → Bool → Inner → Inner
+fast_inner true true c = record c { quick = false; ready = true }
+fast_inner true false c = record c { quick = false }
+fast_inner false fills c = c
+
 abbrev pub fast_step : Bool → Bool → Inner → ℕ → Answer → Ending → Outcome
-fast_step true true c t k e = record { inner = record c { quick = false; ready = true }; step = UnderWay (AtDoorTake e); kept = k; entries = release_entry k t [] ∷ [] }
-fast_step true false c t k e = record { inner = record c { quick = false }; step = Finished; kept = k; entries = end_entry e t c.value k ∷ release_entry k t [] ∷ [] }
-fast_step false fills c t k e = goes_to c k (AtAddOne e)
+fast_step won fills c t k e = outcome_of (fast_inner won fills c) t k (freed_entries won t k) (after_fast won fills e)
 
-abbrev pub again_step : Option ℕ → Inner → Answer → Ending → Outcome
-again_step (Some q) c k e = goes_to c k (AtRelease q e)
-again_step None c k e = goes_to c k (AtCountOut e)
+abbrev pub again_step : Option ℕ → Inner → ℕ → Answer → Ending → Outcome
+again_step door c t k e = outcome_of c t k [] (after_door_again door e)
 
 -- what a release leaves, by whether the quick flag stood, with the value set or not
-abbrev pub released : Bool → Bool → Inner → Inner
-released true r c = record c { quick = false; ready = r }
-released false r c = record c { head = false; ready = r }
+abbrev pub release_flags : Bool → Bool → Inner → Inner
+release_flags true r c = record c { quick = false; ready = r }
+release_flags false r c = record c { head = false; ready = r }
 
 -- a release with the value lets all listings leave; one without calls the first that was not called
-abbrev pub kept_list : Bool → List (Listing ℕ) → List (Listing ℕ)
-kept_list true xs = []
-kept_list false xs = call_first xs
+abbrev pub release_list : Bool → List (Listing ℕ) → List (Listing ℕ)
+release_list true xs = []
+release_list false xs = call_first xs
 
 -- and hands out these wakers
-abbrev pub handed : Bool → List (Listing ℕ) → List ℕ
-handed true xs = all_out xs []
-handed false xs = one_out (first_waker xs)
+abbrev pub release_wakers : Bool → List (Listing ℕ) → List ℕ
+release_wakers true xs = all_out xs []
+release_wakers false xs = one_out (first_waker xs)
 
 -- at the door
 abbrev pub release_step : Bool → Inner → ℕ → Answer → Ending → Outcome
-release_step true c t k e = record { inner = record (released c.quick (is_value e) c) { listings = kept_list (is_value e) c.listings }; step = UnderWay (AtCountOut e); kept = k; entries = release_entry k t (handed (is_value e) c.listings) ∷ [] }
-release_step false c t k e = record { inner = c; step = UnderWay (AtCountOut e); kept = k; entries = release_entry k t [] ∷ [] }
+release_step true c t k e = outcome_of (record (release_flags c.quick (is_value e) c) { listings = release_list (is_value e) c.listings }) t k (release_entry k t (release_wakers (is_value e) c.listings) ∷ []) (next_at (AtCountOut e))
+release_step false c t k e = outcome_of c t k (release_entry k t [] ∷ []) (next_at (AtCountOut e))
 
 -- who leaves with this ticket passes its turn on
-abbrev pub passes : Inner → ℕ → Bool
-passes c n = passes_turn (is_free c) n c.listings
+abbrev pub is_passing : Inner → ℕ → Bool
+is_passing c n = passes_turn (is_free c) n c.listings
 
 -- at the door
 abbrev pub leave_step : Bool → Inner → ℕ → Answer → ℕ → Ending → Outcome
-leave_step true c t k n e = record { inner = record c { listings = left_list (passes c n) n c.listings }; step = UnderWay (AtCountOut e); kept = k; entries = pass_entries t (one_out (next_waker (passes c n) n c.listings)) }
-leave_step false c t k n e = goes_to c k (AtCountOut e)
+leave_step true c t k n e = outcome_of (record c { listings = left_list (is_passing c n) n c.listings }) t k (pass_entries t (one_out (next_waker (is_passing c n) n c.listings))) (next_at (AtCountOut e))
+leave_step false c t k n e = outcome_of c t k [] (next_at (AtCountOut e))
 
-abbrev pub counted_out : Inner → Inner
-counted_out c = record c { count = c.count - 1 }
+abbrev pub out_inner : Inner → Inner
+out_inner c = record c { count = c.count - 1 }
 
 -- the word after is exactly the ready bit
 abbrev pub out_step : Bool → Inner → ℕ → Answer → Ending → Outcome
-out_step true c t k e = goes_to c k (AtDoorTake e)
-out_step false c t k e = ends c t k e
+out_step last c t k e = outcome_of c t k [] (after_count_out last e)
 
-abbrev pub door_taken : Inner → Inner
-door_taken c = record c { door = None; head = false; listings = [] }
+abbrev pub take_inner : Inner → Inner
+take_inner c = record c { door = None; head = false; listings = [] }
 
 -- one step at a place: of the task t with the waker w and what its init gave so far, the init answering a, memory being given or not
 abbrev pub place_step : Bool → ℕ → Inner → ℕ → ℕ → Answer → Answer → Bool → Place ℕ ℕ → Outcome
-place_step lazy limit c t w k a granted AtStart = start_step c.ready (is_new c) c t k
-place_step lazy limit c t w k a granted AtTryQuick = quick_step c.ready (is_new c) c t k
-place_step lazy limit c t w k a granted AtDoorGet = door_step c.door c k
+place_step lazy limit c t w k a granted AtStart = start_step c.ready (is_zero (word_of c)) c t k
+place_step lazy limit c t w k a granted AtTryQuick = quick_step (is_zero (word_of c)) c t k
+place_step lazy limit c t w k a granted AtDoorGet = door_step c.door c t k
 place_step lazy limit c t w k a granted AtDoorPut = put_step granted c.door c t k
 place_step lazy limit c t w k a granted (AtCountIn q) = in_step (nat_lt c.count limit) c.ready c t k q
-place_step lazy limit c t w k a granted (AtWaitLoad q n) = load_step c.ready c k q n
+place_step lazy limit c t w k a granted (AtWaitLoad q n) = load_step c.ready c t k q n
 place_step lazy limit c t w k a granted (AtLook q n) = look_step (is_at_door q c.door) c.ready (is_taken c) (is_waker w (own_listing n c.listings)) granted c t w k q n
 place_step lazy limit c t w k a granted (AtList q n v) = list_step (is_at_door q c.door) c.ready (is_taken c) (is_some (kept_ticket n c.listings) || granted) c t v k q n
-place_step lazy limit c t w k a granted (AtRun by) = run_step (given lazy c.answers a) (ran_once c) t k by
-place_step lazy limit c t w k a granted (AtPut by) = goes_to (record c { value = put_value k c.value }) k (give_back by EndValue)
-place_step lazy limit c t w k a granted (AtFast e) = fast_step (is_quick_alone c) (is_value e) c t k e
-place_step lazy limit c t w k a granted (AtAddOne e) = goes_to (record c { count = suc c.count }) k (AtDoorAgain e)
-place_step lazy limit c t w k a granted (AtDoorAgain e) = again_step c.door c k e
+place_step lazy limit c t w k a granted (AtRun by) = run_step (init_answer lazy c.answers a) (run_inner c) t k by
+place_step lazy limit c t w k a granted (AtPut by) = outcome_of (record c { value = put_value k c.value }) t k [] (next_at (release_place by EndValue))
+place_step lazy limit c t w k a granted (AtFast e) = fast_step (is_quick_bit (word_of c)) (is_value e) c t k e
+place_step lazy limit c t w k a granted (AtAddOne e) = outcome_of (record c { count = suc c.count }) t k [] (next_at (AtDoorAgain e))
+place_step lazy limit c t w k a granted (AtDoorAgain e) = again_step c.door c t k e
 place_step lazy limit c t w k a granted (AtRelease q e) = release_step (is_at_door q c.door) c t k e
 place_step lazy limit c t w k a granted (AtLeave q n e) = leave_step (is_at_door q c.door) c t k n e
-place_step lazy limit c t w k a granted (AtCountOut e) = out_step (is_last_out c) (counted_out c) t k e
-place_step lazy limit c t w k a granted (AtDoorTake e) = ends (door_taken c) t k e
+place_step lazy limit c t w k a granted (AtCountOut e) = out_step (is_ready_bit (word_of (out_inner c))) (out_inner c) t k e
+place_step lazy limit c t w k a granted (AtDoorTake e) = outcome_of (take_inner c) t k [] (next_end e)
 
 abbrev pub step_at : Bool → ℕ → Inner → ℕ → ℕ → Answer → Answer → Bool → Step ℕ ℕ → Outcome
 step_at lazy limit c t w k a granted (UnderWay p) = place_step lazy limit c t w k a granted p
@@ -260,7 +311,7 @@ place_lines granted c (AtLook q n) = EnteredLine q ∷ []
 place_lines granted c (AtList q n v) = EnteredLine q ∷ []
 place_lines granted c (AtRelease q e) = EnteredLine q ∷ []
 place_lines granted c (AtLeave q n e) = EnteredLine q ∷ []
-place_lines granted c (AtDoorTake e) = taken_out c.door
+place_lines granted c (AtDoorTake e) = take_lines c.door
 place_lines granted c _ = []
 
 abbrev pub step_lines : Bool → Inner → Step ℕ ℕ → List QueueLine
@@ -292,43 +343,43 @@ unfinished_after _ n = n
 abbrev pub fresh_task : Task
 fresh_task = record { waker = 0; kept = RanPending; step = Resting RestStart }
 
-abbrev pub made : World → ℕ → Option Task → World
-made w t None = record w { tasks = put_task t fresh_task w.tasks; unfinished = suc w.unfinished; history = Made t ∷ w.history }
-made w t (Some x) = w
+abbrev pub make_world : World → ℕ → Option Task → World
+make_world w t None = record w { tasks = put_task t fresh_task w.tasks; unfinished = suc w.unfinished; history = Made t ∷ w.history }
+make_world w t (Some x) = w
 
 -- a poll of t, by whether it is at rest
-abbrev pub begun_by : Bool → World → ℕ → ℕ → Task → World
-begun_by true w t k x = record w { tasks = put_task t (record x { waker = k; step = begun x.step }) w.tasks; history = Begin t k ∷ w.history }
-begun_by false w t k x = w
+abbrev pub poll_world_by : Bool → World → ℕ → ℕ → Task → World
+poll_world_by true w t k x = record w { tasks = put_task t (record x { waker = k; step = step_of_poll x.step }) w.tasks; history = Begin t k ∷ w.history }
+poll_world_by false w t k x = w
 
-abbrev pub polled : World → ℕ → ℕ → Option Task → World
-polled w t k None = w
-polled w t k (Some x) = begun_by (is_resting x.step) w t k x
+abbrev pub poll_world : World → ℕ → ℕ → Option Task → World
+poll_world w t k None = w
+poll_world w t k (Some x) = poll_world_by (is_resting x.step) w t k x
 
 -- a drop of t, by whether it is at rest
-abbrev pub dropped_by : Bool → World → ℕ → Task → World
-dropped_by true w t x = record w { tasks = put_task t (record x { step = dropped x.step }) w.tasks; unfinished = unfinished_after (dropped x.step) w.unfinished; history = drop_entries t (dropped x.step) ++ w.history }
-dropped_by false w t x = w
+abbrev pub drop_world_by : Bool → World → ℕ → Task → World
+drop_world_by true w t x = record w { tasks = put_task t (record x { step = step_of_drop x.step }) w.tasks; unfinished = unfinished_after (step_of_drop x.step) w.unfinished; history = drop_entries t (step_of_drop x.step) ++ w.history }
+drop_world_by false w t x = w
 
-abbrev pub drops : World → ℕ → Option Task → World
-drops w t None = w
-drops w t (Some x) = dropped_by (is_resting x.step) w t x
+abbrev pub drop_world : World → ℕ → Option Task → World
+drop_world w t None = w
+drop_world w t (Some x) = drop_world_by (is_resting x.step) w t x
 
-abbrev pub stepped : World → ℕ → Task → Outcome → List QueueLine → World
-stepped w t x o lines = record { inner = o.inner; tasks = put_task t (record x { step = o.step; kept = o.kept }) w.tasks; unfinished = unfinished_after o.step w.unfinished; history = o.entries ++ w.history; log = lines ++ w.log }
+abbrev pub step_world : World → ℕ → Task → Outcome → List QueueLine → World
+step_world w t x o lines = record { inner = o.inner; tasks = put_task t (record x { step = o.step; kept = o.kept }) w.tasks; unfinished = unfinished_after o.step w.unfinished; history = o.entries ++ w.history; log = lines ++ w.log }
 
 -- a step of t, by whether a call is under way
-abbrev pub gone_on : Bool → Bool → ℕ → World → ℕ → Answer → Bool → Task → World
-gone_on true lazy limit w t a granted x = stepped w t x (advance lazy limit w.inner t x a granted) (step_lines granted w.inner x.step)
-gone_on false lazy limit w t a granted x = w
+abbrev pub go_world_by : Bool → Bool → ℕ → World → ℕ → Answer → Bool → Task → World
+go_world_by true lazy limit w t a granted x = step_world w t x (advance lazy limit w.inner t x a granted) (step_lines granted w.inner x.step)
+go_world_by false lazy limit w t a granted x = w
 
-abbrev pub goes : Bool → ℕ → World → ℕ → Answer → Bool → Option Task → World
-goes lazy limit w t a granted None = w
-goes lazy limit w t a granted (Some x) = gone_on (in_call x.step) lazy limit w t a granted x
+abbrev pub go_world : Bool → ℕ → World → ℕ → Answer → Bool → Option Task → World
+go_world lazy limit w t a granted None = w
+go_world lazy limit w t a granted (Some x) = go_world_by (in_call x.step) lazy limit w t a granted x
 
 -- what a look finds
-abbrev pub looked : Inner → Option ℕ
-looked c = cond c.ready (Some c.value) None
+abbrev pub look_value : Inner → Option ℕ
+look_value c = cond c.ready (Some c.value) None
 
 -- what the owner is given, by whether the value is set
 abbrev pub value_got : Bool → ℕ → Got
@@ -352,48 +403,48 @@ value_or (Some v) old = v
 value_or None old = old
 
 -- the cell as a new one, with this value or none and with these answers, without a queue at the door
-abbrev pub reset : Inner → Option ℕ → List (Option ℕ) → Inner
-reset c v l = record (door_taken c) { count = 0; quick = false; ready = is_some_value v; value = value_or v c.value; answers = l }
+abbrev pub reset_inner : Inner → Option ℕ → List (Option ℕ) → Inner
+reset_inner c v l = record (take_inner c) { count = 0; quick = false; ready = is_some_value v; value = value_or v c.value; answers = l }
 
 -- another value where one is set
-abbrev pub rewritten : Bool → ℕ → Inner → Inner
-rewritten true v c = record c { value = v }
-rewritten false v c = c
+abbrev pub write_inner : Bool → ℕ → Inner → Inner
+write_inner true v c = record c { value = v }
+write_inner false v c = c
 
 abbrev pub owner_inner : OwnerCall → Inner → Inner
-owner_inner Take c = reset c None c.answers
-owner_inner (Write v) c = rewritten c.ready v c
-owner_inner Parts c = reset c None []
-owner_inner (ReplaceValue v) c = reset c (Some v) []
-owner_inner (ReplaceAnswers l) c = reset c None l
+owner_inner Take c = reset_inner c None c.answers
+owner_inner (Write v) c = write_inner c.ready v c
+owner_inner Parts c = reset_inner c None []
+owner_inner (ReplaceValue v) c = reset_inner c (Some v) []
+owner_inner (ReplaceAnswers l) c = reset_inner c None l
 
 -- what an owner's call logs, by whether it replaces the cell
 abbrev pub owner_lines : Bool → Inner → List QueueLine
-owner_lines true c = taken_out c.door
+owner_lines true c = take_lines c.door
 owner_lines false c = []
 
 -- an owner's call, by whether every task is finished and whether the kind has the call
-abbrev pub owned_by : Bool → Bool → World → OwnerCall → World
-owned_by true true w o = record w { inner = owner_inner o w.inner; history = Own o (owner_got o w.inner) ∷ w.history; log = owner_lines (replaces o) w.inner ++ w.log }
-owned_by _ _ w o = w
+abbrev pub own_world_by : Bool → Bool → World → OwnerCall → World
+own_world_by true true w o = record w { inner = owner_inner o w.inner; history = Own o (owner_got o w.inner) ∷ w.history; log = owner_lines (replaces o) w.inner ++ w.log }
+own_world_by _ _ w o = w
 
 -- the world after one input
-abbrev pub after : Kind → ℕ → World → Input → World
-after kind limit w (Make t) = made w t (w.tasks t)
-after kind limit w (Poll t k) = polled w t k (w.tasks t)
-after kind limit w (Drop t) = drops w t (w.tasks t)
-after kind limit w (Go t a granted) = goes (is_lazy kind) limit w t a granted (w.tasks t)
-after kind limit w (Owns o) = owned_by (w.unfinished == 0) (has_call kind o) w o
-after kind limit w Looks = record w { history = Look (looked w.inner) ∷ w.history }
+abbrev pub world_after : Kind → ℕ → World → Input → World
+world_after kind limit w (Make t) = make_world w t (w.tasks t)
+world_after kind limit w (Poll t k) = poll_world w t k (w.tasks t)
+world_after kind limit w (Drop t) = drop_world w t (w.tasks t)
+world_after kind limit w (Go t a granted) = go_world (is_lazy kind) limit w t a granted (w.tasks t)
+world_after kind limit w (Owns o) = own_world_by (w.unfinished == 0) (has_call kind o) w o
+world_after kind limit w Looks = record w { history = Look (look_value w.inner) ∷ w.history }
 
 abbrev pub value_at_start : Option ℕ → ℕ
 value_at_start (Some v) = v
 value_at_start None = 0
 
 -- a cell of the kind that nobody used
-abbrev pub opening : Kind → World
-opening kind = record {
-  inner = record { count = 0; quick = false; ready = is_set (starts kind); door = None; head = false; listings = []; queues = 0; value = value_at_start (value_in (starts kind)); answers = first_answers kind };
+abbrev pub first_world : Kind → World
+first_world kind = record {
+  inner = record { count = 0; quick = false; ready = is_set (first_cell kind); door = None; head = false; listings = []; queues = 0; value = value_at_start (value_in (first_cell kind)); answers = first_answers kind };
   tasks = λ t. None;
   unfinished = 0;
   history = [];
@@ -402,8 +453,8 @@ opening kind = record {
 
 -- the world after these inputs, the newest input first
 abbrev pub world_of : Kind → ℕ → List Input → World
-world_of kind limit [] = opening kind
-world_of kind limit (i ∷ before) = after kind limit (world_of kind limit before) i
+world_of kind limit [] = first_world kind
+world_of kind limit (i ∷ before) = world_after kind limit (world_of kind limit before) i
 
 -- the record, the queue log and the queue at the door after these inputs
 abbrev pub history_of : Kind → ℕ → List Input → List Entry

@@ -17,13 +17,13 @@ use Rattle.once_world.specs.declared.world.Entry.{Entry as Written}
 use Rattle.once_world.specs.declared.world.Entry.TheVariants.{Made as WrittenMade, Begin as WrittenBegin, Claim as WrittenClaim, Ran as WrittenRan, Free as WrittenFree, Fill as WrittenFill, Pass as WrittenPass, End as WrittenEnd, DropBegin as WrittenDropBegin, DropEnd as WrittenDropEnd, Look as WrittenLook, Own as WrittenOwn}
 use Rattle.once_world.specs.declared.world.Record.{Record as GivenRecord}
 use Rattle.once_core.specs.declared.parts.QueueLine.{QueueLine}
-use Rattle.once_world.specs.declared.world.play.Shared.{Shared}
-use Rattle.once_world.specs.declared.world.play.Seen.{Seen}
+use Rattle.once_world.specs.declared.world.play.ReplayCell.{ReplayCell}
+use Rattle.once_world.specs.declared.world.play.StepSeen.{StepSeen}
 use Rattle.once_world.specs.declared.world.play.World.{World}
 use Rattle.once_world.specs.Record.{Answer, Kind, Once, OnceWith, Lazy, LazyWith, OwnerCall, Take, Write, Parts, ReplaceValue, ReplaceAnswers, Got, GotNone, GotValue, GotAnswers, Entry, Made, Begin, Claim, Ran, Free, Fill, Pass, End, DropBegin, DropEnd, Look, Own}
 use Rattle.once_world.specs.Inputs.{Input, Make, Poll, Drop, Go, Looks, Owns}
-use Rattle.once_world.specs.Places.{Progress, More, Ended}
-use Rattle.once_world.specs.Machine.{Inner, World as MachineWorld, release_entry, pass_entries, end_entry}
+pub use Rattle.once_world.specs.Machine.{claim_entries, freed_entries, progress_entries}
+use Rattle.once_world.specs.Machine.{Inner, World as MachineWorld, release_entry, pass_entries}
 
 abbrev pub kind_of : GivenKind → Kind
 kind_of GivenOnce = Once
@@ -73,7 +73,7 @@ abbrev pub history_in : List Written → List Entry
 history_in entries = reverse (map entry_of entries)
 
 -- what all tasks share, as the machine sees it
-abbrev pub inner_of : Shared → Inner
+abbrev pub inner_of : ReplayCell → Inner
 inner_of c = record {
   count = c.core.word.count;
   quick = c.core.word.quick;
@@ -82,26 +82,18 @@ inner_of c = record {
   head = c.core.lists.head;
   listings = c.core.lists.listings.items;
   queues = c.core.made;
-  value = c.script.value;
-  answers = reverse c.script.answers.items;
+  value = c.side.value;
+  answers = reverse c.side.answers.items;
 }
 
 -- the queue log, the newest line first
-abbrev pub log_in : Shared → List QueueLine
+abbrev pub log_in : ReplayCell → List QueueLine
 log_in c = reverse c.core.log.items
 
 -- the entries of what a step was seen to do, the newest first
-abbrev pub claim_entries : Bool → ℕ → List Entry
-claim_entries true t = Claim t ∷ []
-claim_entries false t = []
-
 abbrev pub ran_entries : Option Answer → ℕ → List Entry
 ran_entries (Some a) t = Ran t a ∷ []
 ran_entries None t = []
-
-abbrev pub freed_entries : Bool → ℕ → Answer → List Entry
-freed_entries true t k = release_entry k t [] ∷ []
-freed_entries false t k = []
 
 -- the wakers in what was handed out, in their order
 abbrev pub wakers_in : Out ℕ → List ℕ
@@ -117,13 +109,9 @@ abbrev pub handed_entries : Bool → Option (Out ℕ) → ℕ → Answer → Lis
 handed_entries leaving (Some out) t k = out_entries leaving (wakers_in out) t k
 handed_entries leaving None t k = []
 
-abbrev pub progress_entries : Progress → ℕ → ℕ → Answer → List Entry
-progress_entries (Ended e) t v k = end_entry e t v k ∷ []
-progress_entries More t v k = []
-
 -- the entries of a step of t that was seen to do this, where its init gave k and the value v is set
-abbrev pub told : ℕ → Seen → Answer → ℕ → List Entry
-told t s k v = progress_entries s.progress t v k ++ handed_entries s.leaving s.handed t k ++ freed_entries s.freed t k ++ ran_entries s.ran t ++ claim_entries s.claimed t
+abbrev pub step_entries : ℕ → StepSeen → Answer → ℕ → List Entry
+step_entries t s k v = progress_entries s.progress t v k ++ handed_entries s.leaving s.handed t k ++ freed_entries s.freed t k ++ ran_entries s.ran t ++ claim_entries s.claimed t
 
 -- the world of a replay under way
 abbrev pub world_in : World → MachineWorld
@@ -136,8 +124,8 @@ world_in w = record {
 }
 
 -- the record of a replay and its queue log, the newest first
-abbrev pub recorded : GivenRecord → List Entry
-recorded r = history_in r.entries.items
+abbrev pub record_entries : GivenRecord → List Entry
+record_entries r = history_in r.entries.items
 
-abbrev pub logged : GivenRecord → List QueueLine
-logged r = reverse r.queues.items
+abbrev pub record_lines : GivenRecord → List QueueLine
+record_lines r = reverse r.queues.items

@@ -1,6 +1,6 @@
 -- Which wakers a release has to hand out, and which it may hand out.
 use Rattle.std.specs.Prelude.{◌≡◌, ◌≢◌, ◌≤◌, ◌<◌, ◌+◌, ℕ, Bool, true, false, cond, ◌==◌, List, [], ◌∷◌, ◌++◌, length}
-use Rattle.once_queue.specs.Numbers.{member, is_distinct, bit, times}
+use Rattle.once_queue.specs.Numbers.{member, is_distinct, bit, times_in}
 use Rattle.once_world.specs.Record.{Kind, Pending, Entry, End, is_of, handed_by, is_replacing}
 use Rattle.once_world.specs.Cell.{Cell, Held, cell}
 use Rattle.once_world.specs.Tasks.{Waiting, status, last_call}
@@ -29,18 +29,18 @@ opens kind w (End t Pending) before = cond ((last_call kind t before).waker == w
 opens kind w _ before = false
 
 -- how many polls begun with w ended Pending while another task held, since the owner last replaced the cell
-abbrev pub opened : Kind → ℕ → List Entry → ℕ
-opened kind w [] = 0
-opened kind w (e ∷ before) = cond (is_replacing e) 0 (bit (opens kind w e before) + opened kind w before)
+abbrev pub times_opened : Kind → ℕ → List Entry → ℕ
+times_opened kind w [] = 0
+times_opened kind w (e ∷ before) = cond (is_replacing e) 0 (bit (opens kind w e before) + times_opened kind w before)
 
 -- how often w was handed out since the owner last replaced the cell
-abbrev pub handed_out : ℕ → List Entry → ℕ
-handed_out w [] = 0
-handed_out w (e ∷ before) = cond (is_replacing e) 0 (times w (handed_by e) + handed_out w before)
+abbrev pub times_handed : ℕ → List Entry → ℕ
+times_handed w [] = 0
+times_handed w (e ∷ before) = cond (is_replacing e) 0 (times_in w (handed_by e) + times_handed w before)
 
 -- w is open: it was handed out less often than polls opened it
 abbrev pub IsOpen : Kind → ℕ → List Entry → Type 0
-IsOpen kind w history = handed_out w history < opened kind w history
+IsOpen kind w history = times_handed w history < times_opened kind w history
 
 -- what a release with a value hands out: no waker twice, every waker that is due, and none that is not open
 pub record HandsOut (kind : Kind) (X : List ℕ) (history : List Entry) : Type 0 where

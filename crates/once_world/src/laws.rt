@@ -6,7 +6,7 @@ ghost use Rattle.std.specs.Prelude.{◌≡◌, ◌≢◌, ◌≤◌, ◌⊎◌, 
 ghost use Rattle.once_world.specs.Record.{Answer, RanError, Kind, Reply, Value, Error, Memory, Full, Entry, Claim, Ran, Free, Pass, End, DropEnd, is_own};
 ghost use Rattle.once_world.specs.Cell.{Empty, Held, SetTo, cell, answers_left};
 ghost use Rattle.once_world.specs.Tasks.{Fresh, Dropping, Holding, Gone, status, is_under_way, last_call};
-ghost use Rattle.once_world.specs.Wakers.{IsDue, IsOpen, opened, handed_out};
+ghost use Rattle.once_world.specs.Wakers.{IsDue, IsOpen, times_opened, times_handed};
 ghost use Rattle.once_world.specs.Refusals.{Since, OtherActs};
 ghost use Rattle.once_world.specs.Crowd.{AreWaiting};
 ghost use Rattle.once_world.specs.Run.{IsRun};
@@ -76,5 +76,5 @@ pub fn leaver_passes_its_turn_on()
 /// No waker is handed out more often than it waited: since the owner last replaced the cell, at most
 /// once for each poll begun with it that ended Pending while another task held.
 pub fn wakes_answer_waits()
-    ensures { (kind : Kind) (limit w : ℕ) (h : List Entry) → IsRun kind limit h → handed_out w h ≤ opened kind w h }
+    ensures { (kind : Kind) (limit w : ℕ) (h : List Entry) → IsRun kind limit h → times_handed w h ≤ times_opened kind w h }
 {}

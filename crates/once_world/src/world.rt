@@ -6,15 +6,15 @@ ghost use Rattle.once_world.specs.Called.{SomebodyCalled, WaiterCalled};
 ghost use Rattle.once_world.specs.Values.{IsOneValue};
 ghost use Rattle.once_world.specs.Inputs.{Part, FallsInto, ends_for_memory};
 ghost use Rattle.once_world.specs.Granted.{all_granted};
-ghost use Rattle.once_world.specs.Log.{IsLogOf, IsSound, stands as standing};
+ghost use Rattle.once_world.specs.Log.{IsLogOf, IsSound, standing_queue};
 ghost use Rattle.once_world.specs.Machine.{history_of, log_of, queue_of};
-ghost use Rattle.once_world.specs.Shown.{kind_of, inputs_in, recorded, logged};
+ghost use Rattle.once_world.specs.Shown.{kind_of, inputs_in, record_entries, record_lines};
 
 pub use once_core::parts::QueueLine;
 use std::alloc::{AllocError, Global};
 
 mod play;
-mod script;
+mod side;
 
 use play::World;
 
@@ -145,29 +145,29 @@ pub fn replay(alloc: Global, kind: Kind, limit: u64, inputs: &[Input]) -> Result
     requires within { limit ≤ 2 ^ 62 - 2 }
 
     // The record, the queue log and the queue at the door are the machine's.
-    ensures exact { IfOk result (λ r. recorded r ≡ history_of (kind_of kind) limit (inputs_in inputs.now)) }
-    ensures exact_log { IfOk result (λ r. logged r ≡ log_of (kind_of kind) limit (inputs_in inputs.now)) }
+    ensures exact { IfOk result (λ r. record_entries r ≡ history_of (kind_of kind) limit (inputs_in inputs.now)) }
+    ensures exact_log { IfOk result (λ r. record_lines r ≡ log_of (kind_of kind) limit (inputs_in inputs.now)) }
     ensures exact_queue { IfOk result (λ r. r.queue ≡ queue_of (kind_of kind) limit (inputs_in inputs.now)) }
 
     // The record is a run of the cell. Nobody who waits is forgotten once the value is set. While
     // the cell is empty and a task waits, some task was called; one that waits, where no call is
     // under way. Every poll that is answered a value is answered the one that is set until the owner
     // changes it.
-    ensures run { IfOk result (λ r. IsRun (kind_of kind) limit (recorded r)) }
-    ensures nobody_forgotten { IfOk result (λ r. AtEvery (NobodyForgotten (kind_of kind)) (recorded r)) }
-    ensures one_is_called { IfOk result (λ r. AtEvery (SomebodyCalled (kind_of kind)) (recorded r)) }
-    ensures idle { IfOk result (λ r. AtEvery (WaiterCalled (kind_of kind)) (recorded r)) }
-    ensures one_value { IfOk result (λ r. IsOneValue (kind_of kind) (recorded r)) }
+    ensures run { IfOk result (λ r. IsRun (kind_of kind) limit (record_entries r)) }
+    ensures nobody_forgotten { IfOk result (λ r. AtEvery (NobodyForgotten (kind_of kind)) (record_entries r)) }
+    ensures one_is_called { IfOk result (λ r. AtEvery (SomebodyCalled (kind_of kind)) (record_entries r)) }
+    ensures idle { IfOk result (λ r. AtEvery (WaiterCalled (kind_of kind)) (record_entries r)) }
+    ensures one_value { IfOk result (λ r. IsOneValue (kind_of kind) (record_entries r)) }
 
     // It belongs to the inputs, and the log falls into the same parts.
-    ensures belongs { IfOk result (λ r. (parts : List Part) × FallsInto (kind_of kind) (inputs_in inputs.now) (recorded r) parts × IsLogOf (kind_of kind) (logged r) parts) }
+    ensures belongs { IfOk result (λ r. (parts : List Part) × FallsInto (kind_of kind) (inputs_in inputs.now) (record_entries r) parts × IsLogOf (kind_of kind) (record_lines r) parts) }
 
     // Where every step is given memory no call ends for want of it.
-    ensures ample { all_granted (inputs_in inputs.now) ≡ true → IfOk result (λ r. (t : ℕ) → ends_for_memory t (recorded r) ≡ false) }
+    ensures ample { all_granted (inputs_in inputs.now) ≡ true → IfOk result (λ r. (t : ℕ) → ends_for_memory t (record_entries r) ≡ false) }
 
     // A queue is entered only while it stands at the door, and never after it was taken out.
-    ensures sound { IfOk result (λ r. IsSound (logged r)) }
-    ensures stands { IfOk result (λ r. standing (logged r) ≡ r.queue) }
+    ensures sound { IfOk result (λ r. IsSound (record_lines r)) }
+    ensures stands { IfOk result (λ r. standing_queue (record_lines r) ≡ r.queue) }
 {
     let mut world = World::new(alloc, kind, limit);
     for input in inputs {

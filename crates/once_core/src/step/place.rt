@@ -54,7 +54,7 @@ pub enum Place<W, Q> {
 }
 
 impl<W, Q> Place<W, Q> {
-    ghost use Rattle.once_core.specs.Steps.{left_at, give_back};
+    ghost use Rattle.once_core.specs.Steps.{left_at, release_place};
 
     // How many steps a call here may still take.
     pub(super) fn left(&self) -> u32
@@ -84,7 +84,7 @@ impl<W, Q> Place<W, Q> {
 
     // Where a holder gives the right back.
     pub(super) fn giving_back(by: Option<Q>, ending: Ending) -> Self
-        ensures { result ≡ give_back by ending }
+        ensures { result ≡ release_place by ending }
     {
         match by {
             None => Place::Fast(ending),
@@ -94,11 +94,11 @@ impl<W, Q> Place<W, Q> {
 }
 
 impl<W, Q: Drop> Place<W, Q> {
-    ghost use Rattle.once_core.specs.Steps.{leave_by};
+    ghost use Rattle.once_core.specs.Steps.{leave_place};
 
     // Where a waiter leaves that is dropped or refused.
     pub(super) fn leaving(queue: Q, ticket: Option<u64>, ending: Ending) -> Self
-        ensures { result ≡ leave_by queue ticket ending }
+        ensures { result ≡ leave_place queue ticket ending }
     {
         match ticket {
             None => Place::CountOut(ending),

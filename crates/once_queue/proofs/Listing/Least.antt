@@ -2,10 +2,10 @@
 use Rattle.std.proofs.Common.{◌≡◌, ◌<◌, ◌≤◌, ◌+◌, ℕ, zero, suc, Bool, true, false, cond, ◌==◌, List, [], ◌∷◌, refl, sym, ◌∙◌, subst, arith, ⊎_elim}
 use Rattle.std.proofs.lemmas.Bool.{false≢true, ne_eqb, cases_eq, cases_order}
 use Rattle.once_queue.specs.Numbers.{member}
-use Rattle.once_queue.specs.Listings.{above, least_from}
+use Rattle.once_queue.specs.Listings.{above_each, least_from}
 
 -- a number above all is not in the list
-above_all : (n : ℕ) (ns : List ℕ) → above ns ≤ n → member n ns ≡ false
+above_all : (n : ℕ) (ns : List ℕ) → above_each ns ≤ n → member n ns ≡ false
 above_all n [] l = refl
 above_all n (x ∷ ns) l = let ih = above_all n ns in let d : (x == n) ≡ false = ne_eqb x n (λ e. omega arith) in rw d (ih (omega arith))
 
@@ -14,7 +14,7 @@ least_by : (f n : ℕ) (ns : List ℕ) (b : Bool) → member n ns ≡ b → memb
 least_by f n ns true m ih = ih
 least_by f n ns false m ih = m
 
-least_fresh : (f n : ℕ) (ns : List ℕ) → above ns ≤ n + f → member (least_from f n ns) ns ≡ false
+least_fresh : (f n : ℕ) (ns : List ℕ) → above_each ns ≤ n + f → member (least_from f n ns) ns ≡ false
 least_fresh zero n ns l = above_all n ns (omega arith)
 least_fresh (suc f) n ns l = least_by f n ns (member n ns) refl (least_fresh f (suc n) ns (omega arith))
 
@@ -27,15 +27,15 @@ least_low zero n m ns a l = absurd (omega arith)
 least_low (suc f) n m ns a l = low_by f n m ns (member n ns) refl a l (least_low f (suc n) m ns)
 
 -- the least number is not in the list
-pub least_new : (ns : List ℕ) → member (least_from (above ns) 0 ns) ns ≡ false
-least_new ns = least_fresh (above ns) 0 ns (omega arith)
+pub least_new : (ns : List ℕ) → member (least_from (above_each ns) 0 ns) ns ≡ false
+least_new ns = least_fresh (above_each ns) 0 ns (omega arith)
 
 -- a number that is not in the list, while each smaller one is, is the least
-pub least_alone : (n : ℕ) (ns : List ℕ) → member n ns ≡ false → ((m : ℕ) → m < n → member m ns ≡ true) → n ≡ least_from (above ns) 0 ns
+pub least_alone : (n : ℕ) (ns : List ℕ) → member n ns ≡ false → ((m : ℕ) → m < n → member m ns ≡ true) → n ≡ least_from (above_each ns) 0 ns
 least_alone n ns fresh low =
-    let k = least_from (above ns) 0 ns in
+    let k = least_from (above_each ns) 0 ns in
     let f = least_new ns in
     ⊎_elim (λ e. e) (λ d. absurd (false≢true (⊎_elim
-    (λ l. sym fresh ∙ least_low (above ns) 0 n ns (omega arith) l)
+    (λ l. sym fresh ∙ least_low (above_each ns) 0 n ns (omega arith) l)
     (λ l. sym f ∙ low k l)
     d))) (cases_order n k)

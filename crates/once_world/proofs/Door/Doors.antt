@@ -5,8 +5,8 @@ use Rattle.once_world.specs.Record.{Answer, Entry, Kind, OwnerCall, Parts, Repla
 use Rattle.once_world.specs.Cell.{cell, is_set}
 use Rattle.once_world.specs.Tasks.{Waiting, is_under_way, status}
 use Rattle.once_world.specs.Inputs.{Drop, Go, Input, Looks, Make, Owns, Poll}
-use Rattle.once_world.specs.Log.{stands}
-use Rattle.once_world.specs.Machine.{Finished, Inner, Outcome, Resting, Step, Task, UnderWay, World, advance, after, begun, begun_by, dropped, dropped_by, drops, fresh_task, goes, gone_on, history_of, in_call, is_resting, log_of, made, owned_by, owner_inner, polled, put_task, rewritten, world_of}
+use Rattle.once_world.specs.Log.{standing_queue}
+use Rattle.once_world.specs.Machine.{Finished, Inner, Outcome, Resting, Step, Task, UnderWay, World, advance, world_after, step_of_poll, poll_world_by, step_of_drop, drop_world_by, drop_world, fresh_task, go_world, go_world_by, history_of, in_call, is_resting, log_of, make_world, own_world_by, owner_inner, poll_world, put_task, write_inner, world_of}
 use Rattle.once_world.proofs.History.Cells.{holder_unset, none_some}
 use Rattle.once_world.proofs.Listing.Counting.{count_some}
 use Rattle.once_world.proofs.Invariant.Facts.{AtStep, IsSomeDoor, is_counted}
@@ -18,7 +18,7 @@ use Rattle.once_world.proofs.Door.Logged.{log_stands}
 use Rattle.once_world.proofs.Door.Late.{Clean, clean_step, is_late}
 
 -- a queue stands at the door wherever some task waits
-pub waits_stand : (K : Kind) (limit : ℕ) (inputs : List Input) (t : ℕ) → 0 < limit → status K t (history_of K limit inputs) ≡ Waiting → (q : ℕ) × (stands (log_of K limit inputs) ≡ Some q)
+pub waits_stand : (K : Kind) (limit : ℕ) (inputs : List Input) (t : ℕ) → 0 < limit → status K t (history_of K limit inputs) ≡ Waiting → (q : ℕ) × (standing_queue (log_of K limit inputs) ≡ Some q)
 waits_stand K limit inputs t some s =
     let f = world_fits K limit inputs some in
     let d = stands_waiting K limit t (world_of K limit inputs).inner (history_of K limit inputs) ((world_of K limit inputs).tasks t) (f.tasks t) s in
@@ -55,7 +55,7 @@ resting_early (UnderWay p) e = absurd (false≢true e)
 resting_early Finished e = refl
 
 -- a step keeps the door clean
-goes_clean : (K : Kind) (limit : ℕ) (w : World) (t : ℕ) (a : Answer) (g : Bool) (x : Task) → 0 < limit → Fits K limit w → w.tasks t ≡ Some x → IsClean w → (r : Bool) → IsClean (gone_on r (is_lazy K) limit w t a g x)
+goes_clean : (K : Kind) (limit : ℕ) (w : World) (t : ℕ) (a : Answer) (g : Bool) (x : Task) → 0 < limit → Fits K limit w → w.tasks t ≡ Some x → IsClean w → (r : Bool) → IsClean (go_world_by r (is_lazy K) limit w t a g x)
 goes_clean K limit w t a g x some f found k false = k
 goes_clean K limit w t a g x some f found k true =
     let o : Outcome = advance (is_lazy K) limit w.inner t x a g in
@@ -67,7 +67,7 @@ goes_clean K limit w t a g x some f found k true =
     λ r d. ⊎_elim (λ l. inl l) (λ s. inr (⊎_elim (λ e. (t, ap (λ v. is_late (step_of v)) p.there ∙ e)) (λ q. other_kept t y w.tasks (put_task t y w.tasks) p q) s)) (later r d)
 
 -- so does a Go
-gone_clean : (K : Kind) (limit : ℕ) (w : World) (t : ℕ) (a : Answer) (g : Bool) → 0 < limit → Fits K limit w → IsClean w → (o : Option Task) → w.tasks t ≡ o → IsClean (goes (is_lazy K) limit w t a g o)
+gone_clean : (K : Kind) (limit : ℕ) (w : World) (t : ℕ) (a : Answer) (g : Bool) → 0 < limit → Fits K limit w → IsClean w → (o : Option Task) → w.tasks t ≡ o → IsClean (go_world (is_lazy K) limit w t a g o)
 gone_clean K limit w t a g some f k None is = k
 gone_clean K limit w t a g some f k (Some x) is = goes_clean K limit w t a g x some f is k (in_call x.step)
 
@@ -80,29 +80,29 @@ early : (x : Task) (t : ℕ) (w : World) → w.tasks t ≡ Some x → is_resting
 early x t w found r = ap (λ o. is_late (step_of o)) found ∙ resting_early x.step r
 
 -- the beginnings of a poll and of a drop change no late task
-begun_clean : (w : World) (t k : ℕ) (x : Task) → w.tasks t ≡ Some x → IsClean w → (r : Bool) → is_resting x.step ≡ r → IsClean (begun_by r w t k x)
+begun_clean : (w : World) (t k : ℕ) (x : Task) → w.tasks t ≡ Some x → IsClean w → (r : Bool) → is_resting x.step ≡ r → IsClean (poll_world_by r w t k x)
 begun_clean w t k x found c false r = c
-begun_clean w t k x found c true r = changed_clean w t (record x { waker = k; step = begun x.step }) (early x t w found r) c
+begun_clean w t k x found c true r = changed_clean w t (record x { waker = k; step = step_of_poll x.step }) (early x t w found r) c
 
-drop_clean : (w : World) (t : ℕ) (x : Task) → w.tasks t ≡ Some x → IsClean w → (r : Bool) → is_resting x.step ≡ r → IsClean (dropped_by r w t x)
+drop_clean : (w : World) (t : ℕ) (x : Task) → w.tasks t ≡ Some x → IsClean w → (r : Bool) → is_resting x.step ≡ r → IsClean (drop_world_by r w t x)
 drop_clean w t x found c false r = c
-drop_clean w t x found c true r = changed_clean w t (record x { step = dropped x.step }) (early x t w found r) c
+drop_clean w t x found c true r = changed_clean w t (record x { step = step_of_drop x.step }) (early x t w found r) c
 
-polled_clean : (w : World) (t k : ℕ) → IsClean w → (o : Option Task) → w.tasks t ≡ o → IsClean (polled w t k o)
+polled_clean : (w : World) (t k : ℕ) → IsClean w → (o : Option Task) → w.tasks t ≡ o → IsClean (poll_world w t k o)
 polled_clean w t k c None is = c
 polled_clean w t k c (Some x) is = begun_clean w t k x is c (is_resting x.step) refl
 
-dropped_clean : (w : World) (t : ℕ) → IsClean w → (o : Option Task) → w.tasks t ≡ o → IsClean (drops w t o)
+dropped_clean : (w : World) (t : ℕ) → IsClean w → (o : Option Task) → w.tasks t ≡ o → IsClean (drop_world w t o)
 dropped_clean w t c None is = c
 dropped_clean w t c (Some x) is = drop_clean w t x is c (is_resting x.step) refl
 
 -- nor does the making of a task
-made_clean : (w : World) (t : ℕ) → IsClean w → (o : Option Task) → w.tasks t ≡ o → IsClean (made w t o)
+made_clean : (w : World) (t : ℕ) → IsClean w → (o : Option Task) → w.tasks t ≡ o → IsClean (make_world w t o)
 made_clean w t c (Some x) is = c
 made_clean w t c None is = changed_clean w t fresh_task (ap (λ o. is_late (step_of o)) is) c
 
 -- nor do the calls of the owner
-write_clean : (w : World) (v : ℕ) (r : Bool) → IsClean w → IsClean (record w { inner = rewritten r v w.inner })
+write_clean : (w : World) (v : ℕ) (r : Bool) → IsClean w → IsClean (record w { inner = write_inner r v w.inner })
 write_clean w v true k = k
 write_clean w v false k = k
 
@@ -113,13 +113,13 @@ owner_clean w Parts k = λ r d. absurd (none_some d.0 d.1)
 owner_clean w (ReplaceValue v) k = λ r d. absurd (none_some d.0 d.1)
 owner_clean w (ReplaceAnswers l) k = λ r d. absurd (none_some d.0 d.1)
 
-owned_clean : (w : World) (o : OwnerCall) (d b : Bool) → IsClean w → IsClean (owned_by d b w o)
+owned_clean : (w : World) (o : OwnerCall) (d b : Bool) → IsClean w → IsClean (own_world_by d b w o)
 owned_clean w o true true k = owner_clean w o k
 owned_clean w o true false k = k
 owned_clean w o false b k = k
 
 -- each input keeps the door clean
-after_clean : (K : Kind) (limit : ℕ) (w : World) (i : Input) → 0 < limit → Fits K limit w → IsClean w → IsClean (after K limit w i)
+after_clean : (K : Kind) (limit : ℕ) (w : World) (i : Input) → 0 < limit → Fits K limit w → IsClean w → IsClean (world_after K limit w i)
 after_clean K limit w (Make t) some f c = made_clean w t c (w.tasks t) refl
 after_clean K limit w (Poll t k) some f c = polled_clean w t k c (w.tasks t) refl
 after_clean K limit w (Drop t) some f c = dropped_clean w t c (w.tasks t) refl
@@ -150,7 +150,7 @@ none_left (Some q) n = absurd (n q refl)
 
 -- no queue stands at the door where no call is under way, the cell is set and no task waits
 pub no_queue_kept : (K : Kind) (limit : ℕ) (inputs : List Input) → 0 < limit → is_set (cell K (history_of K limit inputs)) ≡ true
-    → ((t : ℕ) → is_under_way (status K t (history_of K limit inputs)) ≡ false) → ((t : ℕ) → status K t (history_of K limit inputs) ≢ Waiting) → stands (log_of K limit inputs) ≡ None
+    → ((t : ℕ) → is_under_way (status K t (history_of K limit inputs)) ≡ false) → ((t : ℕ) → status K t (history_of K limit inputs) ≢ Waiting) → standing_queue (log_of K limit inputs) ≡ None
 no_queue_kept K limit inputs some set idle awake =
     let w : World = world_of K limit inputs in
     let f = world_fits K limit inputs some in

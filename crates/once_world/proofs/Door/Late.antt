@@ -6,13 +6,14 @@ use Rattle.std.proofs.lemmas.Bool.{false≢true, ltb-false}
 use Rattle.std.proofs.lemmas.Bool.Decides.{nat_tests}
 use Rattle.once_world.specs.Record.{Answer, Entry, Kind, RanError, RanPending, RanValue, is_lazy}
 use Rattle.once_world.specs.Cell.{cell}
-use Rattle.once_world.specs.Machine.{AtAddOne, AtCountIn, AtCountOut, AtDoorAgain, AtDoorGet, AtDoorPut, AtDoorTake, AtFast, AtLeave, AtList, AtLook, AtPut, AtRelease, AtRun, AtStart, AtTryQuick, AtWaitLoad, EndError, EndMemory, EndValue, Ending, Finished, Inner, Place, RestRun, RestWait, Resting, Step, UnderWay, again_step, claimed, counted_out, door_step, door_taken, fast_step, give_back, given, in_step, is_at_door, is_last_out, is_new, is_quick_alone, is_taken, is_value, is_waker, kept_ticket, leave_by, leave_step, list_step, load_step, look_step, out_step, own_listing, place_step, put_step, put_value, quick_step, ran_once, release_step, released, run_step, start_step, step_at}
+use Rattle.once_world.specs.Machine.{AtAddOne, AtCountIn, AtCountOut, AtDoorAgain, AtDoorGet, AtDoorPut, AtDoorTake, AtFast, AtLeave, AtList, AtLook, AtPut, AtRelease, AtRun, AtStart, AtTryQuick, AtWaitLoad, EndError, EndMemory, EndValue, Ending, Finished, Inner, Place, RestRun, RestWait, Resting, Step, UnderWay, again_step, claim_inner, out_inner, door_step, take_inner, fast_step, release_place, init_answer, in_step, is_at_door, is_taken, is_value, is_waker, kept_ticket, leave_place, leave_step, list_step, load_step, look_step, out_step, own_listing, place_step, put_step, put_value, quick_step, run_inner, release_step, release_flags, run_step, start_step, step_at, word_of}
 use Rattle.once_world.proofs.History.Others.{holds}
 use Rattle.once_world.proofs.History.Cells.{holder_unset, none_some, set_free}
 use Rattle.once_world.proofs.Invariant.Facts.{AtPlace, AtStep, IsSomeDoor, is_counted, is_counted_at, is_take, is_take_at}
 use Rattle.once_world.proofs.Invariant.Fits.{InnerFits}
 use Rattle.once_world.proofs.Invariant.Kept.{releasing_holds}
 use Rattle.once_world.proofs.Invariant.Around.{Around}
+use Rattle.once_queue.specs.Word.{is_zero, is_quick_bit, is_ready_bit}
 
 -- the places whose task will see to the queue at the door of a set cell
 abbrev is_late_at : Place ℕ ℕ → Bool
@@ -50,8 +51,12 @@ left_false : (a b : Bool) → false ≡ (a || b) → a ≡ false
 left_false a b e = grind arith
 
 -- a counting out that leaves more than the ready bit leaves somebody in the count
-out_count : (c : Inner) → c.quick ≡ false → c.ready ≡ true → is_last_out c ≡ false → 0 < c.count - 1
+out_count : (c : Inner) → c.quick ≡ false → c.ready ≡ true → is_ready_bit (word_of (out_inner c)) ≡ false → 0 < c.count - 1
 out_count c q r e = grind (arith, nat_tests)
+
+-- a word that is NEW does not say that the value is set
+zero_unset : (c : Inner) → is_zero (word_of c) ≡ true → c.ready ≡ false
+zero_unset c z = grind (arith, nat_tests)
 
 -- each step, by the outcome of its tests
 module _ (K : Kind) (limit t w : ℕ) (k : Answer) (c : Inner) (h : List Entry) (some : 0 < limit) (inner : InnerFits K limit c h) (Other : Type 0) where
@@ -60,12 +65,11 @@ module _ (K : Kind) (limit t w : ℕ) (k : Answer) (c : Inner) (h : List Entry) 
   clean_start false true n = clean_same c (UnderWay AtStart) (UnderWay AtTryQuick) Other refl n
   clean_start false false n = clean_same c (UnderWay AtStart) (UnderWay AtDoorGet) Other refl n
 
-  clean_quick : (r f : Bool) → c.ready ≡ r → Clean c (UnderWay AtTryQuick) Other → Clean (quick_step r f c t k).inner (quick_step r f c t k).step Other
-  clean_quick false true r n = clean_held (record c { quick = true }) (UnderWay (AtRun None)) Other r
-  clean_quick true f r n = clean_same c (UnderWay AtTryQuick) (UnderWay AtDoorGet) Other refl n
-  clean_quick false false r n = clean_same c (UnderWay AtTryQuick) (UnderWay AtDoorGet) Other refl n
+  clean_quick : (won : Bool) → is_zero (word_of c) ≡ won → Clean c (UnderWay AtTryQuick) Other → Clean (quick_step won c t k).inner (quick_step won c t k).step Other
+  clean_quick true z n = clean_held (record c { quick = true }) (UnderWay (AtRun None)) Other (zero_unset c z)
+  clean_quick false z n = clean_same c (UnderWay AtTryQuick) (UnderWay AtDoorGet) Other refl n
 
-  clean_get : (d : Option ℕ) → Clean c (UnderWay AtDoorGet) Other → Clean (door_step d c k).inner (door_step d c k).step Other
+  clean_get : (d : Option ℕ) → Clean c (UnderWay AtDoorGet) Other → Clean (door_step d c t k).inner (door_step d c t k).step Other
   clean_get (Some q) n = clean_late c (UnderWay (AtCountIn q)) Other refl
   clean_get None n = clean_same c (UnderWay AtDoorGet) (UnderWay AtDoorPut) Other refl n
 
@@ -80,18 +84,18 @@ module _ (K : Kind) (limit t w : ℕ) (k : Answer) (c : Inner) (h : List Entry) 
   clean_in false true q b r = clean_counted c Finished Other (let l = ltb-false c.count limit b in omega arith)
   clean_in false false q b r = clean_held c Finished Other r
 
-  clean_load : (r : Bool) (q : ℕ) (m : Option ℕ) → Clean c (UnderWay (AtWaitLoad q m)) Other → Clean (load_step r c k q m).inner (load_step r c k q m).step Other
+  clean_load : (r : Bool) (q : ℕ) (m : Option ℕ) → Clean c (UnderWay (AtWaitLoad q m)) Other → Clean (load_step r c t k q m).inner (load_step r c t k q m).step Other
   clean_load true q m n = clean_same c (UnderWay (AtWaitLoad q m)) (UnderWay (AtCountOut EndValue)) Other refl n
   clean_load false q m n = clean_same c (UnderWay (AtWaitLoad q m)) (UnderWay (AtLook q m)) Other refl n
 
   -- a call that is refused memory leaves
-  clean_refused : (p : Place ℕ ℕ) (q : ℕ) (m : Option ℕ) → is_late_at p ≡ false → Clean c (UnderWay p) Other → Clean c (UnderWay (leave_by q m EndMemory)) Other
+  clean_refused : (p : Place ℕ ℕ) (q : ℕ) (m : Option ℕ) → is_late_at p ≡ false → Clean c (UnderWay p) Other → Clean c (UnderWay (leave_place q m EndMemory)) Other
   clean_refused p q None l n = clean_same c (UnderWay p) (UnderWay (AtCountOut EndMemory)) Other l n
   clean_refused p q (Some m) l n = clean_same c (UnderWay p) (UnderWay (AtLeave q m EndMemory)) Other l n
 
   clean_look : (d r f b g : Bool) (q : ℕ) (m : Option ℕ) → c.ready ≡ r → Clean c (UnderWay (AtLook q m)) Other → Clean (look_step d r f b g c t w k q m).inner (look_step d r f b g c t w k q m).step Other
   clean_look true true f b g q m x n = clean_same c (UnderWay (AtLook q m)) (UnderWay (AtCountOut EndValue)) Other refl n
-  clean_look true false false b g q m x n = clean_held (claimed c m) (UnderWay (AtRun (Some q))) Other x
+  clean_look true false false b g q m x n = clean_held (claim_inner c m) (UnderWay (AtRun (Some q))) Other x
   clean_look true false true true g q m x n = clean_same c (UnderWay (AtLook q m)) (Resting (RestWait q m)) Other refl n
   clean_look true false true false true q m x n = clean_same c (UnderWay (AtLook q m)) (UnderWay (AtList q m w)) Other refl n
   clean_look true false true false false q m x n = clean_refused (AtLook q m) q m refl n
@@ -101,25 +105,25 @@ module _ (K : Kind) (limit t w : ℕ) (k : Answer) (c : Inner) (h : List Entry) 
   clean_list : (d r f g : Bool) (q v : ℕ) (m : Option ℕ) → c.ready ≡ r → Clean c (UnderWay (AtList q m v)) Other → Clean (list_step d r f g c t v k q m).inner (list_step d r f g c t v k q m).step Other
   clean_list false r f g q v m x n = clean_same c (UnderWay (AtList q m v)) (Resting (RestWait q m)) Other refl n
   clean_list true true f g q v m x n = clean_same c (UnderWay (AtList q m v)) (UnderWay (AtCountOut EndValue)) Other refl n
-  clean_list true false false g q v m x n = clean_held (claimed c m) (UnderWay (AtRun (Some q))) Other x
+  clean_list true false false g q v m x n = clean_held (claim_inner c m) (UnderWay (AtRun (Some q))) Other x
   clean_list true false true true q v m x n = clean_held (list_step true false true true c t v k q m).inner (list_step true false true true c t v k q m).step Other x
   clean_list true false true false q v m x n = clean_refused (AtList q m v) q m refl n
 
-  clean_run : (a : Answer) (by : Option ℕ) → c.ready ≡ false → Clean (run_step a (ran_once c) t k by).inner (run_step a (ran_once c) t k by).step Other
-  clean_run RanPending by r = clean_held (ran_once c) (Resting (RestRun by)) Other r
-  clean_run (RanValue v) by r = clean_held (ran_once c) (UnderWay (AtPut by)) Other r
-  clean_run (RanError e) by r = clean_held (ran_once c) (UnderWay (give_back by EndError)) Other r
+  clean_run : (a : Answer) (by : Option ℕ) → c.ready ≡ false → Clean (run_step a (run_inner c) t k by).inner (run_step a (run_inner c) t k by).step Other
+  clean_run RanPending by r = clean_held (run_inner c) (Resting (RestRun by)) Other r
+  clean_run (RanValue v) by r = clean_held (run_inner c) (UnderWay (AtPut by)) Other r
+  clean_run (RanError e) by r = clean_held (run_inner c) (UnderWay (release_place by EndError)) Other r
 
   clean_fast : (x f : Bool) (e : Ending) → c.ready ≡ false → Clean (fast_step x f c t k e).inner (fast_step x f c t k e).step Other
   clean_fast true true e r = clean_late (record c { quick = false; ready = true }) (UnderWay (AtDoorTake e)) Other refl
   clean_fast true false e r = clean_held (record c { quick = false }) Finished Other r
   clean_fast false f e r = clean_held c (UnderWay (AtAddOne e)) Other r
 
-  clean_again : (d : Option ℕ) (e : Ending) → c.ready ≡ false → Clean (again_step d c k e).inner (again_step d c k e).step Other
+  clean_again : (d : Option ℕ) (e : Ending) → c.ready ≡ false → Clean (again_step d c t k e).inner (again_step d c t k e).step Other
   clean_again (Some q) e r = clean_held c (UnderWay (AtRelease q e)) Other r
   clean_again None e r = clean_held c (UnderWay (AtCountOut e)) Other r
 
-  released_count : (b r : Bool) → (released b r c).count ≡ c.count
+  released_count : (b r : Bool) → (release_flags b r c).count ≡ c.count
   released_count true r = refl
   released_count false r = refl
 
@@ -132,11 +136,11 @@ module _ (K : Kind) (limit t w : ℕ) (k : Answer) (c : Inner) (h : List Entry) 
   clean_leave false m e l = clean_counted c (UnderWay (AtCountOut e)) Other l
 
   -- a counting out that leaves exactly the ready bit leaves the queue to the one who takes it
-  clean_out : (x : Bool) (e : Ending) → is_last_out c ≡ x → Clean (out_step x (counted_out c) t k e).inner (out_step x (counted_out c) t k e).step Other
-  clean_out true e x = clean_late (counted_out c) (UnderWay (AtDoorTake e)) Other refl
+  clean_out : (x : Bool) (e : Ending) → is_ready_bit (word_of (out_inner c)) ≡ x → Clean (out_step x (out_inner c) t k e).inner (out_step x (out_inner c) t k e).step Other
+  clean_out true e x = clean_late (out_inner c) (UnderWay (AtDoorTake e)) Other refl
   clean_out false e x = λ r d. inl (out_count c (left_false c.quick c.head (sym (set_free (cell K h) (sym inner.ready_is ∙ r)) ∙ inner.held_is)) r x)
 
-  clean_take : (e : Ending) → Clean (door_taken c) Finished Other
+  clean_take : (e : Ending) → Clean (take_inner c) Finished Other
   clean_take e r d = absurd (none_some d.0 d.1)
 
   -- a holder's cell is not set
@@ -145,22 +149,22 @@ module _ (K : Kind) (limit t w : ℕ) (k : Answer) (c : Inner) (h : List Entry) 
 
   -- one place after the other
   clean_at : (a : Answer) (g : Bool) (p : Place ℕ ℕ) → Around K t (is_counted_at p) (is_take_at p) c h → AtPlace K limit t c h p → Clean c (UnderWay p) Other → Clean (place_step (is_lazy K) limit c t w k a g p).inner (place_step (is_lazy K) limit c t w k a g p).step Other
-  clean_at a g AtStart ar at n = clean_start c.ready (is_new c) n
-  clean_at a g AtTryQuick ar at n = clean_quick c.ready (is_new c) refl n
+  clean_at a g AtStart ar at n = clean_start c.ready (is_zero (word_of c)) n
+  clean_at a g AtTryQuick ar at n = clean_quick (is_zero (word_of c)) refl n
   clean_at a g AtDoorGet ar at n = clean_get c.door n
   clean_at a g AtDoorPut ar at n = clean_put g c.door n
   clean_at a g (AtCountIn q) ar at n = clean_in (nat_lt c.count limit) c.ready q refl refl
   clean_at a g (AtWaitLoad q m) ar at n = clean_load c.ready q m n
   clean_at a g (AtLook q m) ar at n = clean_look (is_at_door q c.door) c.ready (is_taken c) (is_waker w (own_listing m c.listings)) g q m refl n
   clean_at a g (AtList q m v) ar at n = clean_list (is_at_door q c.door) c.ready (is_taken c) (is_some (kept_ticket m c.listings) || g) q v m refl n
-  clean_at a g (AtRun by) ar at n = clean_run (given (is_lazy K) c.answers a) by (unset_by at.0.holds_is)
-  clean_at a g (AtPut by) ar at n = clean_held (record c { value = put_value k c.value }) (UnderWay (give_back by EndValue)) Other (unset_by at.1.holds_is)
-  clean_at a g (AtFast e) ar at n = clean_fast (is_quick_alone c) (is_value e) e (unset_by (releasing_holds K t c h e at.0))
+  clean_at a g (AtRun by) ar at n = clean_run (init_answer (is_lazy K) c.answers a) by (unset_by at.0.holds_is)
+  clean_at a g (AtPut by) ar at n = clean_held (record c { value = put_value k c.value }) (UnderWay (release_place by EndValue)) Other (unset_by at.1.holds_is)
+  clean_at a g (AtFast e) ar at n = clean_fast (is_quick_bit (word_of c)) (is_value e) e (unset_by (releasing_holds K t c h e at.0))
   clean_at a g (AtAddOne e) ar at n = clean_counted (record c { count = suc c.count }) (UnderWay (AtDoorAgain e)) Other (omega arith)
   clean_at a g (AtDoorAgain e) ar at n = clean_again c.door e (unset_by (releasing_holds K t c h e at.0))
   clean_at a g (AtRelease q e) ar at n = clean_release (is_at_door q c.door) e (ar.own_count refl)
   clean_at a g (AtLeave q m e) ar at n = clean_leave (is_at_door q c.door) m e (ar.own_count refl)
-  clean_at a g (AtCountOut e) ar at n = clean_out (is_last_out c) e refl
+  clean_at a g (AtCountOut e) ar at n = clean_out (is_ready_bit (word_of (out_inner c))) e refl
   clean_at a g (AtDoorTake e) ar at n = clean_take e
 
   -- every step of a task whose call is under way

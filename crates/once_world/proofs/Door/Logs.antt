@@ -4,13 +4,14 @@ use Rattle.std.specs.Prelude.{◌||◌, nat_lt}
 use Rattle.std.specs.Option.{is_some}
 use Rattle.std.proofs.lemmas.Bool.Decides.{nat_tests}
 use Rattle.once_world.specs.Record.{Answer, Entry, Kind, RanError, RanPending, RanValue, is_lazy}
-use Rattle.once_world.specs.Log.{IsSound, stands, taken_out, was_put}
-use Rattle.once_world.specs.Machine.{AtAddOne, AtCountIn, AtCountOut, AtDoorAgain, AtDoorGet, AtDoorPut, AtDoorTake, AtFast, AtLeave, AtList, AtLook, AtPut, AtRelease, AtRun, AtStart, AtTryQuick, AtWaitLoad, Ending, EnteredLine, Finished, Inner, Place, QueueLine, Resting, Step, UnderWay, again_step, counted_out, door_step, door_taken, fast_step, given, in_step, is_at_door, is_last_out, is_new, is_quick_alone, is_taken, is_value, is_waker, kept_ticket, leave_step, list_step, load_step, look_step, out_step, own_listing, place_lines, place_step, put_lines, put_step, quick_step, ran_once, release_step, released, run_step, start_step, step_at, step_lines}
+use Rattle.once_world.specs.Log.{IsSound, standing_queue, take_lines, was_put}
+use Rattle.once_world.specs.Machine.{AtAddOne, AtCountIn, AtCountOut, AtDoorAgain, AtDoorGet, AtDoorPut, AtDoorTake, AtFast, AtLeave, AtList, AtLook, AtPut, AtRelease, AtRun, AtStart, AtTryQuick, AtWaitLoad, Ending, EnteredLine, Finished, Inner, Place, QueueLine, Resting, Step, UnderWay, out_inner, take_inner, fast_step, init_answer, in_step, is_at_door, is_taken, is_value, is_waker, kept_ticket, leave_step, list_step, look_step, out_step, own_listing, place_lines, place_step, put_lines, put_step, quick_step, run_inner, release_step, release_flags, run_step, step_at, step_lines, word_of}
 use Rattle.once_world.proofs.Invariant.Facts.{AtPlace, AtStep}
+use Rattle.once_queue.specs.Word.{is_zero, is_quick_bit, is_ready_bit}
 
 -- the log against what is shared: a number that no queue was made with yet was never put
 pub record LogFits (c : Inner) (log : List QueueLine) : Type 0 where
-  pub door_is : stands log ≡ c.door
+  pub door_is : standing_queue log ≡ c.door
   pub sound : IsSound log
   pub fresh : (q : ℕ) → c.queues < q → was_put q log ≡ false
 
@@ -42,34 +43,21 @@ log_put c t k true None log e f = record {
 }
 
 -- the queue is taken out where it stands
-pub log_take : (c : Inner) (d : Option ℕ) (log : List QueueLine) → c.door ≡ d → LogFits c log → LogFits (door_taken c) (taken_out d ++ log)
+pub log_take : (c : Inner) (d : Option ℕ) (log : List QueueLine) → c.door ≡ d → LogFits c log → LogFits (take_inner c) (take_lines d ++ log)
 log_take c (Some q) log e f = record { door_is = refl; sound = (f.door_is ∙ e, f.sound); fresh = f.fresh }
 log_take c None log e f = record { door_is = f.door_is ∙ e; sound = f.sound; fresh = f.fresh }
 
 -- each step but the putting and the taking leaves the door
-same_start : (r f : Bool) (c : Inner) (t : ℕ) (k : Answer) → SameDoor c (start_step r f c t k).inner
-same_start true f c t k = same c
-same_start false true c t k = same c
-same_start false false c t k = same c
 
-same_quick : (r f : Bool) (c : Inner) (t : ℕ) (k : Answer) → SameDoor c (quick_step r f c t k).inner
-same_quick false true c t k = record { door_is = refl; queues_is = refl }
-same_quick true f c t k = same c
-same_quick false false c t k = same c
-
-same_get : (d : Option ℕ) (c : Inner) (k : Answer) → SameDoor c (door_step d c k).inner
-same_get (Some q) c k = same c
-same_get None c k = same c
+same_quick : (won : Bool) (c : Inner) (t : ℕ) (k : Answer) → SameDoor c (quick_step won c t k).inner
+same_quick true c t k = record { door_is = refl; queues_is = refl }
+same_quick false c t k = same c
 
 same_in : (b r : Bool) (c : Inner) (t : ℕ) (k : Answer) (q : ℕ) → SameDoor c (in_step b r c t k q).inner
 same_in true true c t k q = record { door_is = refl; queues_is = refl }
 same_in true false c t k q = record { door_is = refl; queues_is = refl }
 same_in false true c t k q = same c
 same_in false false c t k q = same c
-
-same_load : (r : Bool) (c : Inner) (k : Answer) (q : ℕ) (n : Option ℕ) → SameDoor c (load_step r c k q n).inner
-same_load true c k q n = same c
-same_load false c k q n = same c
 
 same_look : (d r f m g : Bool) (c : Inner) (t w : ℕ) (k : Answer) (q : ℕ) (n : Option ℕ) → SameDoor c (look_step d r f m g c t w k q n).inner
 same_look true true f m g c t w k q n = same c
@@ -87,7 +75,7 @@ same_list true false false g c t w k q n = record { door_is = refl; queues_is = 
 same_list true false true true c t w k q n = record { door_is = refl; queues_is = refl }
 same_list true false true false c t w k q n = same c
 
-same_run : (a : Answer) (c : Inner) (t : ℕ) (k : Answer) (by : Option ℕ) → SameDoor c (run_step a (ran_once c) t k by).inner
+same_run : (a : Answer) (c : Inner) (t : ℕ) (k : Answer) (by : Option ℕ) → SameDoor c (run_step a (run_inner c) t k by).inner
 same_run RanPending c t k by = record { door_is = refl; queues_is = refl }
 same_run (RanValue v) c t k by = record { door_is = refl; queues_is = refl }
 same_run (RanError e) c t k by = record { door_is = refl; queues_is = refl }
@@ -97,11 +85,7 @@ same_fast true true c t k e = record { door_is = refl; queues_is = refl }
 same_fast true false c t k e = record { door_is = refl; queues_is = refl }
 same_fast false f c t k e = same c
 
-same_again : (d : Option ℕ) (c : Inner) (k : Answer) (e : Ending) → SameDoor c (again_step d c k e).inner
-same_again (Some q) c k e = same c
-same_again None c k e = same c
-
-same_released : (b r : Bool) (c : Inner) → SameDoor c (released b r c)
+same_released : (b r : Bool) (c : Inner) → SameDoor c (release_flags b r c)
 same_released true r c = record { door_is = refl; queues_is = refl }
 same_released false r c = record { door_is = refl; queues_is = refl }
 
@@ -113,7 +97,7 @@ same_leave : (d : Bool) (c : Inner) (t : ℕ) (k : Answer) (n : ℕ) (e : Ending
 same_leave true c t k n e = record { door_is = refl; queues_is = refl }
 same_leave false c t k n e = same c
 
-same_out : (x : Bool) (c : Inner) (t : ℕ) (k : Answer) (e : Ending) → SameDoor c (out_step x (counted_out c) t k e).inner
+same_out : (x : Bool) (c : Inner) (t : ℕ) (k : Answer) (e : Ending) → SameDoor c (out_step x (out_inner c) t k e).inner
 same_out true c t k e = record { door_is = refl; queues_is = refl }
 same_out false c t k e = record { door_is = refl; queues_is = refl }
 
@@ -121,22 +105,22 @@ same_out false c t k e = record { door_is = refl; queues_is = refl }
 module _ (K : Kind) (limit : ℕ) (c : Inner) (t w : ℕ) (k a : Answer) (g : Bool) (h : List Entry) (log : List QueueLine) (f : LogFits c log) where
   -- one place after the other
   log_at : (p : Place ℕ ℕ) → AtPlace K limit t c h p → LogFits (place_step (is_lazy K) limit c t w k a g p).inner (place_lines g c p ++ log)
-  log_at AtStart at = log_same c (place_step (is_lazy K) limit c t w k a g AtStart).inner log (same_start c.ready (is_new c) c t k) f
-  log_at AtTryQuick at = log_same c (place_step (is_lazy K) limit c t w k a g AtTryQuick).inner log (same_quick c.ready (is_new c) c t k) f
-  log_at AtDoorGet at = log_same c (place_step (is_lazy K) limit c t w k a g AtDoorGet).inner log (same_get c.door c k) f
+  log_at AtStart at = f
+  log_at AtTryQuick at = log_same c (place_step (is_lazy K) limit c t w k a g AtTryQuick).inner log (same_quick (is_zero (word_of c)) c t k) f
+  log_at AtDoorGet at = f
   log_at AtDoorPut at = log_put c t k g c.door log refl f
   log_at (AtCountIn q) at = log_same c (place_step (is_lazy K) limit c t w k a g (AtCountIn q)).inner log (same_in (nat_lt c.count limit) c.ready c t k q) f
-  log_at (AtWaitLoad q n) at = log_same c (place_step (is_lazy K) limit c t w k a g (AtWaitLoad q n)).inner log (same_load c.ready c k q n) f
+  log_at (AtWaitLoad q n) at = f
   log_at (AtLook q n) at = log_entered c (place_step (is_lazy K) limit c t w k a g (AtLook q n)).inner q log at.1 (same_look (is_at_door q c.door) c.ready (is_taken c) (is_waker w (own_listing n c.listings)) g c t w k q n) f
   log_at (AtList q n v) at = log_entered c (place_step (is_lazy K) limit c t w k a g (AtList q n v)).inner q log at.1 (same_list (is_at_door q c.door) c.ready (is_taken c) (is_some (kept_ticket n c.listings) || g) c t v k q n) f
-  log_at (AtRun by) at = log_same c (place_step (is_lazy K) limit c t w k a g (AtRun by)).inner log (same_run (given (is_lazy K) c.answers a) c t k by) f
+  log_at (AtRun by) at = log_same c (place_step (is_lazy K) limit c t w k a g (AtRun by)).inner log (same_run (init_answer (is_lazy K) c.answers a) c t k by) f
   log_at (AtPut by) at = record { door_is = f.door_is; sound = f.sound; fresh = f.fresh }
-  log_at (AtFast e) at = log_same c (place_step (is_lazy K) limit c t w k a g (AtFast e)).inner log (same_fast (is_quick_alone c) (is_value e) c t k e) f
+  log_at (AtFast e) at = log_same c (place_step (is_lazy K) limit c t w k a g (AtFast e)).inner log (same_fast (is_quick_bit (word_of c)) (is_value e) c t k e) f
   log_at (AtAddOne e) at = record { door_is = f.door_is; sound = f.sound; fresh = f.fresh }
-  log_at (AtDoorAgain e) at = log_same c (place_step (is_lazy K) limit c t w k a g (AtDoorAgain e)).inner log (same_again c.door c k e) f
+  log_at (AtDoorAgain e) at = f
   log_at (AtRelease q e) at = log_entered c (place_step (is_lazy K) limit c t w k a g (AtRelease q e)).inner q log at.2 (same_release (is_at_door q c.door) c t k e) f
   log_at (AtLeave q n e) at = log_entered c (place_step (is_lazy K) limit c t w k a g (AtLeave q n e)).inner q log at.1 (same_leave (is_at_door q c.door) c t k n e) f
-  log_at (AtCountOut e) at = log_same c (place_step (is_lazy K) limit c t w k a g (AtCountOut e)).inner log (same_out (is_last_out c) c t k e) f
+  log_at (AtCountOut e) at = log_same c (place_step (is_lazy K) limit c t w k a g (AtCountOut e)).inner log (same_out (is_ready_bit (word_of (out_inner c))) c t k e) f
   log_at (AtDoorTake e) at = log_take c c.door log refl f
 
   -- a step keeps the log fitting

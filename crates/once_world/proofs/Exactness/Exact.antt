@@ -1,77 +1,64 @@
--- One step over the core and the script is one step of the machine.
-use Rattle.std.proofs.Common.{◌≡◌, ℕ, Bool, true, false, [], ◌∷◌, Some, refl, ap, ◌∙◌, subst}
+-- One step over the core and the side is one step of the machine.
+use Rattle.std.proofs.Common.{◌≡◌, ℕ, [], ◌∷◌, Some, refl, sym, ap, ◌∙◌, subst}
 use Rattle.std.specs.Prelude.{◌||◌}
 use Rattle.std.specs.Option.{is_some}
-use Rattle.once_world.specs.declared.world.script.Script.{Script}
+use Rattle.once_world.specs.declared.world.side.ReplaySide.{ReplaySide}
 use Rattle.once_queue.specs.Word.{flags_of, is_ready_bit, is_zero}
 use Rattle.once_queue.specs.Listings.{kept_ticket}
 use Rattle.once_core.specs.Core.{CoreState, IsBare, DidAddOne, DidCountIn, DidCountOut, DidDoorGet, DidDoorPut, DidDoorTake, DidFast, DidLoad, DidQuick, put_answer, put_state}
 use Rattle.once_world.specs.Places.{AtAddOne, AtCountIn, AtCountOut, AtDoorAgain, AtDoorGet, AtDoorPut, AtDoorTake, AtFast, AtLeave, AtList, AtLook, AtPut, AtRelease, AtRun, AtStart, AtTryQuick, AtWaitLoad, Finished, Place, Progress, Resting, Step, UnderWay}
-use Rattle.once_core.specs.Steps.{Advances, Follows, Line, MayClose, after_count_out, after_door_again, after_door_get, after_door_put, after_fast, after_load, after_quick, after_start, is_value}
-use Rattle.once_world.specs.Machine.{EnteredLine, fast_step, given, is_at_door, is_last_out, is_new, list_step, place_lines, place_step, step_at, step_lines}
-use Rattle.once_world.specs.Script.{DidClose, DidCopy, DidPut, DidRun, DidWake, answers_in}
+use Rattle.once_core.specs.Steps.{Advances, Follows, Line, after_count_out, after_door_again, after_door_get, after_door_put, after_load, after_start, is_value}
+use Rattle.once_world.specs.Machine.{EnteredLine, out_inner, fast_step, init_answer, is_at_door, list_step, place_lines, place_step, quick_step, step_at, step_lines, word_of}
+use Rattle.once_world.specs.Side.{DidClose, DidCopy, DidPut, DidRun, DidWake, answers_in}
 use Rattle.once_world.proofs.Exactness.Outcomes.{IsFresh, IsOutcome, inner_by}
-use Rattle.once_world.proofs.Exactness.ExactWaits.{door_exact, door_put_exact, in_exact, load_exact, quick_exact, start_exact, zero_new}
+use Rattle.once_world.proofs.Exactness.ExactWaits.{door_exact, door_put_exact, in_exact, load_exact, quick_exact, start_exact}
 use Rattle.once_world.proofs.Exactness.ExactSections.{NumberSection, list_exact, look_exact}
 use Rattle.once_world.proofs.Exactness.ExactReleases.{leave_exact, release_exact}
 use Rattle.once_world.proofs.Exactness.ExactHolds.{add_exact, again_exact, fast_exact, out_exact, put_exact, run_exact, take_exact}
 
--- a script does nothing when its init is closed
-unclosed : (c c' : Script) (b : Bool) → MayClose DidClose b c c' → c' ≡ c
-unclosed c c' true e = e
-unclosed c c' false e = e
-
 -- parts of any type, by what contracts see of them
 module _ {P : Type 0} (see : P → CoreState ℕ) where
-  abbrev SeenLine : ℕ → Place ℕ ℕ → P → Script → Progress → Step ℕ ℕ → P → Script → Type 0
+  abbrev SeenLine : ℕ → Place ℕ ℕ → P → ReplaySide → Progress → Step ℕ ℕ → P → ReplaySide → Type 0
   SeenLine limit = Line (λ x w y. DidLoad (see x) w (see y)) (λ x b y. DidQuick (see x) b (see y)) (λ x r b y. DidFast (see x) r b (see y)) (λ x l n y. DidCountIn (see x) l n (see y))
       (λ x y. DidAddOne (see x) (see y)) (λ x w y. DidCountOut (see x) w (see y)) (λ x q y. DidDoorGet (see x) q (see y)) (λ x q y. DidDoorPut (see x) q (see y)) (λ x b y. DidDoorTake (see x) b (see y))
       (λ x q op a o y. NumberSection (see x) q op a o (see y)) DidRun DidClose DidPut DidCopy DidWake limit
 
-  line_exact : (limit : ℕ) (at : Place ℕ ℕ) (x y : P) (c c' : Script) (p : Progress) (t : Step ℕ ℕ) → IsFresh c → IsBare (see x) → (see x).current ≡ Some c.waker → (see x).granted ≡ c.granted
+  line_exact : (limit : ℕ) (at : Place ℕ ℕ) (x y : P) (c c' : ReplaySide) (p : Progress) (t : Step ℕ ℕ) → IsFresh c → IsBare (see x) → (see x).current ≡ Some c.waker → (see x).granted ≡ c.granted
       → SeenLine limit at x c p t y c'
       → IsOutcome (UnderWay at) (λ n. place_step c.lazy limit (inner_by (see x) c) n c.waker c.kept c.answer c.granted at) (place_lines c.granted (inner_by (see x) c) at) (see x) c (see y) c' p t
   line_exact limit AtStart x y c c' p t f bare w g (b, d, z) =
-      let next = subst (λ l. Follows DidClose (after_start l.ready (is_zero l)) c c' p t) d.0 z in
-      start_exact c f (see x) c' p t (see x).word.ready (is_zero (see x).word) (is_new (inner_by (see x) c)) (zero_new (see x).word) (see y) d.1 next
-  line_exact limit AtTryQuick x y c c' p t f bare w g (b, d, z) = quick_exact c f (see x) c' p t b d.0 (see x).word.ready (is_new (inner_by (see x) c)) refl refl (see y) d.1 (z.1, z.2) (unclosed c c' (after_quick {W = ℕ} {Q = ℕ} b).closes z.0)
-  line_exact limit AtDoorGet x y c c' p t f bare w g (q, d, z) =
-      let next = subst (λ o. Follows DidClose (after_door_get o) c c' p t) d.0 z in
-      door_exact c f (see x) c' p t (see x).door refl (see y) d.1 (next.1, next.2) (unclosed c c' (after_door_get {W = ℕ} (see x).door).closes next.0)
+      start_exact c f (see x) c' p t (see y) (see x).word.ready (is_zero (see x).word) d.1 (subst (λ l. Follows DidClose (after_start l.ready (is_zero l)) c c' p t) d.0 z)
+  line_exact limit AtTryQuick x y c c' p t f bare w g (b, d, z) =
+      subst (λ won. IsOutcome (UnderWay AtTryQuick) (λ n. quick_step won (inner_by (see x) c) n c.kept) [] (see x) c (see y) c' p t) d.0 (quick_exact c f (see x) c' p t (see y) b (sym d.0) d.1 z)
+  line_exact limit AtDoorGet x y c c' p t f bare w g (q, d, z) = door_exact c f (see x) c' p t (see y) (see x).door d.1 (subst (λ o. Follows DidClose (after_door_get o) c c' p t) d.0 z)
   line_exact limit AtDoorPut x y c c' p t f bare w g (q, d, z) =
       let next = subst (λ o. Follows DidClose (after_door_put o) c c' p t) (d.0 ∙ ap (λ b. put_answer b (see x).door (see x).made) g) z in
-      door_put_exact c f (see x) c' p t c.granted (see x).door (see y) (d.1 ∙ ap (λ b. put_state b (see x).door (see x)) g) next
-  line_exact limit (AtCountIn q) x y c c' p t f bare w g (n, d, z) = in_exact c f (see x) c' p t limit q n (see y) d z
-  line_exact limit (AtWaitLoad q k) x y c c' p t f bare w g (b, d, z) =
-      let next = subst (λ l. Follows DidClose (after_load l.ready q k) c c' p t) d.0 z in
-      load_exact c f (see x) c' p t (see x).word.ready q k (see y) d.1 next
+      door_put_exact c f (see x) c' p t (see y) c.granted (see x).door (d.1 ∙ ap (λ b. put_state b (see x).door (see x)) g) next
+  line_exact limit (AtCountIn q) x y c c' p t f bare w g (n, d, z) = in_exact c f (see x) c' p t (see y) limit q n d z
+  line_exact limit (AtWaitLoad q k) x y c c' p t f bare w g (b, d, z) = load_exact c f (see x) c' p t (see y) (see x).word.ready q k d.1 (subst (λ l. Follows DidClose (after_load l.ready q k) c c' p t) d.0 z)
   line_exact limit (AtLook q k) x y c c' p t f bare w g (a, o, d, z) = look_exact c f (see x) c' p t q k a o (see y) w d z
   line_exact limit (AtList q k v) x y c c' p t f bare w g (a, o, d, z) =
       subst (λ b. IsOutcome (UnderWay (AtList q k v)) (λ n. list_step (is_at_door q (see x).door) (see x).word.ready ((see x).word.quick || (see x).head) (is_some (kept_ticket k (see x).listings) || b) (inner_by (see x) c) n v c.kept q k) (EnteredLine q ∷ []) (see x) c (see y) c' p t)
       g (list_exact c f (see x) c' p t q k a o (see y) v d z)
-  line_exact limit (AtRun by) x y c c' p t f bare w g (a, m, d, same, z) = run_exact c f (see x) c' p t (given c.lazy (answers_in c) c.answer) by (see y) (ap see same) a m refl d z
+  line_exact limit (AtRun by) x y c c' p t f bare w g (a, m, d, same, z) = run_exact c f (see x) c' p t (init_answer c.lazy (answers_in c) c.answer) by (see y) (ap see same) a m refl d z
   line_exact limit (AtPut by) x y c c' p t f bare w g (d, same, more, step) = put_exact c f (see x) c' p t by (see y) (ap see same) d more step
   line_exact limit (AtFast e) x y c c' p t f bare w g (b, d, z) =
-      subst (λ won. IsOutcome (UnderWay (AtFast e)) (λ n. fast_step won (is_value e) (inner_by (see x) c) n c.kept e) [] (see x) c (see y) c' p t)
-      d.0 (fast_exact c f (see x) c' p t e b (is_value e) d.0 (see y) d.1 (z.1, z.2) (unclosed c c' (after_fast {W = ℕ} {Q = ℕ} b (is_value e) e).closes z.0))
+      subst (λ won. IsOutcome (UnderWay (AtFast e)) (λ n. fast_step won (is_value e) (inner_by (see x) c) n c.kept e) [] (see x) c (see y) c' p t) d.0 (fast_exact c f (see x) c' p t e b (is_value e) (sym d.0) (see y) d.1 z)
   line_exact limit (AtAddOne e) x y c c' p t f bare w g (d, z) = add_exact c f (see x) c' p t e (see y) d z
-  line_exact limit (AtDoorAgain e) x y c c' p t f bare w g (q, d, z) =
-      let next = subst (λ o. Follows DidClose (after_door_again o e) c c' p t) d.0 z in
-      again_exact c f (see x) c' p t e (see x).door (see y) d.1 (next.1, next.2) (unclosed c c' (after_door_again {W = ℕ} (see x).door e).closes next.0)
+  line_exact limit (AtDoorAgain e) x y c c' p t f bare w g (q, d, z) = again_exact c f (see x) c' p t e (see x).door (see y) d.1 (subst (λ o. Follows DidClose (after_door_again o e) c c' p t) d.0 z)
   line_exact limit (AtRelease q e) x y c c' p t f bare w g (a, o, d, wake, more, step) = release_exact c f (see x) c' p t q e o (see y) more step a d wake
   line_exact limit (AtLeave q k e) x y c c' p t f bare w g (a, o, d, wake, more, step) = leave_exact c f (see x) c' p t q e o (see y) more step k a d wake
   line_exact limit (AtCountOut e) x y c c' p t f bare w g (b, d, z) =
-      let last : is_ready_bit (flags_of b) ≡ is_last_out (inner_by (see x) c) = ap is_ready_bit (d.0 ∙ ap (λ y. y.word) d.1) in
-      let next = subst (λ l. Follows DidClose (after_count_out l e) c c' p t) last z in
-      out_exact c f (see x) c' p t e (is_last_out (inner_by (see x) c)) (see y) d.1 (next.1, next.2) (unclosed c c' (after_count_out {W = ℕ} {Q = ℕ} (is_last_out (inner_by (see x) c)) e).closes next.0)
+      let last : is_ready_bit (flags_of b) ≡ is_ready_bit (word_of (out_inner (inner_by (see x) c))) = ap is_ready_bit (d.0 ∙ ap (λ y. y.word) d.1) in
+      out_exact c f (see x) c' p t e (is_ready_bit (word_of (out_inner (inner_by (see x) c)))) (see y) d.1 (subst (λ l. Follows DidClose (after_count_out l e) c c' p t) last z)
   line_exact limit (AtDoorTake e) x y c c' p t f bare w g (b, d, z) = take_exact c f (see x) c' p t e (see y) bare d.1 z
 
-  abbrev SeenAdvances : ℕ → Step ℕ ℕ → P → Script → Progress → Step ℕ ℕ → P → Script → Type 0
+  abbrev SeenAdvances : ℕ → Step ℕ ℕ → P → ReplaySide → Progress → Step ℕ ℕ → P → ReplaySide → Type 0
   SeenAdvances limit = Advances (λ x w y. DidLoad (see x) w (see y)) (λ x b y. DidQuick (see x) b (see y)) (λ x r b y. DidFast (see x) r b (see y)) (λ x l n y. DidCountIn (see x) l n (see y))
       (λ x y. DidAddOne (see x) (see y)) (λ x w y. DidCountOut (see x) w (see y)) (λ x q y. DidDoorGet (see x) q (see y)) (λ x q y. DidDoorPut (see x) q (see y)) (λ x b y. DidDoorTake (see x) b (see y))
       (λ x q op a o y. NumberSection (see x) q op a o (see y)) DidRun DidClose DidPut DidCopy DidWake limit
 
-  pub advance_exact : (limit : ℕ) (at : Step ℕ ℕ) (x y : P) (c c' : Script) (p : Progress) (t : Step ℕ ℕ) → IsFresh c → IsBare (see x) → (see x).current ≡ Some c.waker → (see x).granted ≡ c.granted
+  pub advance_exact : (limit : ℕ) (at : Step ℕ ℕ) (x y : P) (c c' : ReplaySide) (p : Progress) (t : Step ℕ ℕ) → IsFresh c → IsBare (see x) → (see x).current ≡ Some c.waker → (see x).granted ≡ c.granted
       → SeenAdvances limit at x c p t y c'
       → IsOutcome at (λ n. step_at c.lazy limit (inner_by (see x) c) n c.waker c.kept c.answer c.granted at) (step_lines c.granted (inner_by (see x) c) at) (see x) c (see y) c' p t
   advance_exact limit (UnderWay at) x y c c' p t f bare w g d = line_exact limit at x y c c' p t f bare w g d

@@ -2,21 +2,21 @@
 use Rattle.std.proofs.Common.{◌≡◌, ℕ, suc, Bool, true, false, cond, [], ◌∷◌, ◌++◌, Option, Some, None, refl, sym, ap, ◌∙◌, subst, arith, reverse, ◌-◌}
 use Rattle.std.proofs.lemmas.Bool.Decides.{nat_tests}
 use Rattle.once_core.specs.declared.step.Polled.{Polled}
-use Rattle.once_world.specs.declared.world.script.Script.{Script}
+use Rattle.once_world.specs.declared.world.side.ReplaySide.{ReplaySide}
 use Rattle.once_queue.specs.Word.{flags_alone, is_quick_bit}
 use Rattle.once_core.specs.Core.{CoreState, DidAddOne, IsBare, take_by, take_state}
-use Rattle.once_world.specs.Places.{AtAddOne, AtCountOut, AtDoorAgain, AtDoorTake, AtFast, AtPut, AtRelease, AtRun, EndError, EndValue, Ending, More, Place, Progress, Step, UnderWay}
-use Rattle.once_core.specs.Steps.{Follows, LeadsTo, after_count_out, after_door_again, after_fast, after_run, give_back, is_running, on, stops}
+use Rattle.once_world.specs.Places.{AtAddOne, AtCountOut, AtDoorAgain, AtDoorTake, AtFast, AtPut, AtRun, EndValue, Ending, More, Progress, Step, UnderWay}
+use Rattle.once_core.specs.Steps.{Follows, after_count_out, after_door_again, after_fast, after_run, release_place, is_running, next_at, next_end}
 use Rattle.once_world.specs.Record.{Answer, RanError, RanPending, RanValue}
 use Rattle.once_world.specs.Cell.{rest_of}
-use Rattle.once_world.specs.Log.{taken_out}
-use Rattle.once_world.specs.Machine.{TakenLine, again_step, counted_out, door_taken, ends, fast_step, goes_to, out_step, put_value, ran_once, run_step}
-use Rattle.once_world.specs.Script.{DidClose, DidPut, DidRun, answers_in, kept_after, next_of, polled_of}
-use Rattle.once_world.specs.Shown.{claim_entries, freed_entries, handed_entries, progress_entries, ran_entries, told}
-use Rattle.once_world.proofs.Exactness.Outcomes.{IsFresh, IsOutcome, ends_by, goes_by, inner_by, reverse_push}
+use Rattle.once_world.specs.Log.{take_lines}
+use Rattle.once_world.specs.Machine.{TakenLine, again_step, claim_entries, out_inner, take_inner, fast_step, outcome_of, fast_inner, freed_entries, kept_after, out_step, polled_of, put_value, run_inner, run_step}
+use Rattle.once_world.specs.Side.{DidClose, DidPut, DidRun, answers_in, next_of}
+use Rattle.once_world.proofs.Exactness.Outcomes.{IsFresh, IsOutcome, follows_by, inner_by, is_freed, ran_by, reverse_push, unclosed}
+use Rattle.once_world.proofs.Exactness.ExactWaits.{IsIdle}
 
--- the script after a poll of the init that answered x, where nothing else was seen
-record HasRun (x : Answer) (c c' : Script) : Type 0 where
+-- the side after a poll of the init that answered x, where nothing else was seen
+record HasRun (x : Answer) (c c' : ReplaySide) : Type 0 where
   ran : c'.ran ≡ Some x
   kept : c'.kept ≡ kept_after x c.kept
   answers : answers_in c' ≡ rest_of (answers_in c)
@@ -24,7 +24,7 @@ record HasRun (x : Answer) (c c' : Script) : Type 0 where
   value : c'.value ≡ c.value
   handed : c'.handed ≡ None
 
-run_of : (x : Answer) (c m c' : Script) (a : Polled) → IsFresh c → next_of c ≡ x → DidRun c a m → c' ≡ m → HasRun x c c'
+run_of : (x : Answer) (c m c' : ReplaySide) (a : Polled) → IsFresh c → next_of c ≡ x → DidRun c a m → c' ≡ m → HasRun x c c'
 run_of x c m c' a f is d e = record {
   ran = rw e (d.ran ∙ ap Some is);
   kept = rw e (d.kept ∙ ap (λ y. kept_after y c.kept) is);
@@ -34,52 +34,57 @@ run_of x c m c' a f is d e = record {
   handed = rw e (d.handed ∙ f.handed);
 }
 
-module _ (c : Script) (f : IsFresh c) (s : CoreState ℕ) (c' : Script) (p : Progress) (t : Step ℕ ℕ) where
-  run_ends : (x : Answer) (by : Option ℕ) (s' : CoreState ℕ) → s' ≡ s → HasRun x c c' → ((n : ℕ) → t ≡ (run_step x (ran_once (inner_by s c)) n c.kept by).step)
-      → ((n : ℕ) → (run_step x (ran_once (inner_by s c)) n c.kept by).inner ≡ ran_once (inner_by s c)) → ((n : ℕ) → (run_step x (ran_once (inner_by s c)) n c.kept by).kept ≡ kept_after x c.kept)
-      → ((n : ℕ) → progress_entries p n c.value (kept_after x c.kept) ++ handed_entries false None n (kept_after x c.kept) ++ freed_entries false n (kept_after x c.kept) ++ ran_entries (Some x) n ++ claim_entries (is_running t) n ≡ (run_step x (ran_once (inner_by s c)) n c.kept by).entries)
-      → IsOutcome (UnderWay (AtRun by)) (λ n. run_step x (ran_once (inner_by s c)) n c.kept by) [] s c s' c' p t
-  run_ends x by s' same d step inner kept told = record {
-    inner = λ n. rw (same, d.value, d.answers) (sym (inner n));
-    step = step;
-    kept = λ n. d.kept ∙ sym (kept n);
-    told = λ n. rw (d.value, d.kept, d.handed, d.ran) (told n);
-    log = ap (λ y. reverse y.log) same;
-    lazy_is = d.lazy;
-  }
+-- one who polled its init does not poll it in the next step
+run_idle : (x : Answer) (by : Option ℕ) → IsIdle (after_run (polled_of x) by)
+run_idle RanPending by n = refl
+run_idle (RanValue v) by n = refl
+run_idle (RanError e) (Some q) n = refl
+run_idle (RanError e) None n = refl
 
-  fail_by : (by : Option ℕ) (e : ℕ) (s' : CoreState ℕ) → s' ≡ s → HasRun (RanError e) c c' → p ≡ More → t ≡ UnderWay (give_back by EndError)
-      → IsOutcome (UnderWay (AtRun by)) (λ n. run_step (RanError e) (ran_once (inner_by s c)) n c.kept by) [] s c s' c' p t
-  fail_by None e s' same d more step = run_ends (RanError e) None s' same d (λ n. step) (λ n. refl) (λ n. refl) (λ n. rw (more, step) refl)
-  fail_by (Some q) e s' same d more step = run_ends (RanError e) (Some q) s' same d (λ n. step) (λ n. refl) (λ n. refl) (λ n. rw (more, step) refl)
+-- nor does one who gives the right back
+back_idle : (by : Option ℕ) (e : Ending) → IsIdle (next_at (release_place by e))
+back_idle (Some q) e n = refl
+back_idle None e n = refl
 
-  pub run_exact : (x : Answer) (by : Option ℕ) (s' : CoreState ℕ) → s' ≡ s → (a : Polled) (m : Script) → next_of c ≡ x → DidRun c a m → Follows DidClose (after_run a by) m c' p t
-      → IsOutcome (UnderWay (AtRun by)) (λ n. run_step x (ran_once (inner_by s c)) n c.kept by) [] s c s' c' p t
-  run_exact RanPending by s' same a m is d x =
-      let y = subst (λ a. Follows DidClose (after_run a by) m c' p t) (d.polled ∙ ap polled_of is) x in
-      run_ends RanPending by s' same (run_of RanPending c m c' a f is d y.0) (λ n. y.2) (λ n. refl) (λ n. refl) (λ n. rw (y.1, y.2) refl)
-  run_exact (RanValue v) by s' same a m is d x =
-      let y = subst (λ a. Follows DidClose (after_run a by) m c' p t) (d.polled ∙ ap polled_of is) x in
-      run_ends (RanValue v) by s' same (run_of (RanValue v) c m c' a f is d y.0) (λ n. y.2) (λ n. refl) (λ n. refl) (λ n. rw (y.1, y.2) refl)
-  run_exact (RanError e) by s' same a m is d x =
-      let y = subst (λ a. Follows DidClose (after_run a by) m c' p t) (d.polled ∙ ap polled_of is) x in
-      fail_by by e s' same (run_of (RanError e) c m c' a f is d y.0) y.1 y.2
+again_idle : (q : Option ℕ) (e : Ending) → IsIdle (after_door_again q e)
+again_idle (Some q) e n = refl
+again_idle None e n = refl
 
-  put_by : (by : Option ℕ) (at : Place ℕ ℕ) (s' : CoreState ℕ) → s' ≡ s → DidPut c c' → p ≡ More → t ≡ UnderWay at → is_running (UnderWay at) ≡ false
-      → IsOutcome (UnderWay (AtPut by)) (λ n. goes_to (record (inner_by s c) { value = put_value c.kept c.value }) c.kept at) [] s c s' c' p t
-  put_by by at s' same d more step idle = record {
+out_idle : (last : Bool) (e : Ending) → IsIdle (after_count_out last e)
+out_idle true e n = refl
+out_idle false e n = refl
+
+-- the fast release is seen where it was done
+fast_seen : (e : Ending) (won fills : Bool) (n : ℕ) (k : Answer) → freed_entries (is_freed (UnderWay (AtFast e)) (after_fast won fills e).step) n k ++ claim_entries (is_running (after_fast {W = ℕ} {Q = ℕ} won fills e).step) n ≡ freed_entries won n k
+fast_seen e true true n k = refl
+fast_seen e true false n k = refl
+fast_seen e false fills n k = refl
+
+module _ (c : ReplaySide) (f : IsFresh c) (s : CoreState ℕ) (c' : ReplaySide) (p : Progress) (t : Step ℕ ℕ) where
+  pub run_exact : (x : Answer) (by : Option ℕ) (s' : CoreState ℕ) → s' ≡ s → (a : Polled) (m : ReplaySide) → next_of c ≡ x → DidRun c a m → Follows DidClose (after_run a by) m c' p t
+      → IsOutcome (UnderWay (AtRun by)) (λ n. run_step x (run_inner (inner_by s c)) n c.kept by) [] s c s' c' p t
+  run_exact x by s' same a m is d z =
+      let y = subst (λ a. Follows DidClose (after_run a by) m c' p t) (d.polled ∙ ap polled_of is) z in
+      let r = run_of x c m c' a f is d (unclosed m c' (after_run {W = ℕ} (polled_of x) by).closes y.0) in
+      record {
+        inner = λ n. rw (same, r.value, r.answers) refl;
+        step = λ n. y.2;
+        kept = λ n. r.kept;
+        told = λ n. rw (y.1, y.2, r.value, r.kept, r.handed, r.ran) (ran_by (after_run {W = ℕ} (polled_of x) by).progress n c.value (kept_after x c.kept) x (claim_entries (is_running (after_run {W = ℕ} (polled_of x) by).step) n) (run_idle x by n));
+        log = ap (λ y. reverse y.log) same;
+        lazy_is = r.lazy;
+      }
+
+  pub put_exact : (by : Option ℕ) (s' : CoreState ℕ) → s' ≡ s → DidPut c c' → p ≡ More → t ≡ UnderWay (release_place by EndValue)
+      → IsOutcome (UnderWay (AtPut by)) (λ n. outcome_of (record (inner_by s c) { value = put_value c.kept c.value }) n c.kept [] (next_at (release_place by EndValue))) [] s c s' c' p t
+  put_exact by s' same d more step = record {
     inner = λ n. rw (same, d) refl;
     step = λ n. step;
     kept = λ n. ap (λ x. x.kept) d;
-    told = λ n. rw (more, step, d, idle, f.ran, f.handed) refl;
+    told = λ n. rw (more, step, d, f.ran, f.handed) (back_idle by EndValue n);
     log = ap (λ y. reverse y.log) same;
     lazy_is = ap (λ x. x.lazy) d;
   }
-
-  pub put_exact : (by : Option ℕ) (s' : CoreState ℕ) → s' ≡ s → DidPut c c' → p ≡ More → t ≡ UnderWay (give_back by EndValue)
-      → IsOutcome (UnderWay (AtPut by)) (λ n. goes_to (record (inner_by s c) { value = put_value c.kept c.value }) c.kept (give_back by EndValue)) [] s c s' c' p t
-  put_exact None s' same d more step = put_by None (AtFast EndValue) s' same d more step refl
-  put_exact (Some q) s' same d more step = put_by (Some q) (AtRelease q EndValue) s' same d more step refl
 
   -- the word was exactly the quick bit
   quick_count : is_quick_bit s.word ≡ true → s.word.count ≡ 0
@@ -88,55 +93,45 @@ module _ (c : Script) (f : IsFresh c) (s : CoreState ℕ) (c' : Script) (p : Pro
   quick_unset : is_quick_bit s.word ≡ true → s.word.ready ≡ false
   quick_unset z = grind (arith, nat_tests)
 
-  freed_inner : s.word.count ≡ 0 → (r : Bool) (s' : CoreState ℕ) → s' ≡ record s { word = flags_alone false r } → inner_by s' c ≡ record (inner_by s c) { quick = false; ready = r }
-  freed_inner e r s' same = ap (λ y. inner_by y c) same ∙ (λ i. record { count = sym e i; quick = false; ready = r; door = s.door; head = s.head; listings = s.listings; queues = s.made; value = c.value; answers = answers_in c })
+  fast_left_by : s.word.count ≡ 0 → (r : Bool) (s' : CoreState ℕ) → s' ≡ record s { word = flags_alone false r } → inner_by s' c ≡ record (inner_by s c) { quick = false; ready = r }
+  fast_left_by e r s' same = ap (λ y. inner_by y c) same ∙ (λ i. record { count = sym e i; quick = false; ready = r; door = s.door; head = s.head; listings = s.listings; queues = s.made; value = c.value; answers = answers_in c })
 
   same_ready : s.word.ready ≡ false → record (inner_by s c) { quick = false; ready = false } ≡ record (inner_by s c) { quick = false }
   same_ready r = λ i. record { count = s.word.count; quick = false; ready = sym r i; door = s.door; head = s.head; listings = s.listings; queues = s.made; value = c.value; answers = answers_in c }
 
-  pub fast_exact : (e : Ending) (won fills : Bool) → won ≡ is_quick_bit s.word → (s' : CoreState ℕ) → s' ≡ record s { word = cond won (flags_alone false fills) s.word } → LeadsTo (after_fast won fills e) p t → c' ≡ c
+  fast_left : (won fills : Bool) → is_quick_bit s.word ≡ won → (s' : CoreState ℕ) → s' ≡ record s { word = cond won (flags_alone false fills) s.word } → inner_by s' c ≡ fast_inner won fills (inner_by s c)
+  fast_left true true z s' same = fast_left_by (quick_count z) true s' same
+  fast_left true false z s' same = fast_left_by (quick_count z) false s' same ∙ same_ready (quick_unset z)
+  fast_left false fills z s' same = ap (λ y. inner_by y c) same
+
+  pub fast_exact : (e : Ending) (won fills : Bool) → is_quick_bit s.word ≡ won → (s' : CoreState ℕ) → s' ≡ record s { word = cond won (flags_alone false fills) s.word } → Follows DidClose (after_fast won fills e) c c' p t
       → IsOutcome (UnderWay (AtFast e)) (λ n. fast_step won fills (inner_by s c) n c.kept e) [] s c s' c' p t
-  fast_exact e true true z s' same x y = record {
-    inner = λ n. rw y (freed_inner (quick_count (sym z)) true s' same);
-    step = λ n. x.1;
-    kept = λ n. ap (λ x. x.kept) y;
-    told = λ n. rw (x.0, x.1, y, f.ran, f.handed) refl;
-    log = ap (λ y. reverse y.log) same;
-    lazy_is = ap (λ x. x.lazy) y;
-  }
-  fast_exact e true false z s' same x y = record {
-    inner = λ n. rw y (freed_inner (quick_count (sym z)) false s' same ∙ same_ready (quick_unset (sym z)));
-    step = λ n. x.1;
-    kept = λ n. ap (λ x. x.kept) y;
-    told = λ n. rw (x.0, x.1, y, f.ran, f.handed) refl;
-    log = ap (λ y. reverse y.log) same;
-    lazy_is = ap (λ x. x.lazy) y;
-  }
-  fast_exact e false fills z s' same x y = goes_by (UnderWay (AtFast e)) s c f s' c' p t [] (ap (λ y. reverse y.log) same) y (inner_by s c) (AtAddOne e) (ap (λ y. inner_by y c) same) x.0 x.1 refl refl
+  fast_exact e won fills z s' same x = follows_by (UnderWay (AtFast e)) s c f s' c' p t [] (fast_inner won fills (inner_by s c)) (λ n. freed_entries won n c.kept) (after_fast won fills e) (ap (λ y. reverse y.log) same) (fast_left won fills z s' same) x (λ n. fast_seen e won fills n c.kept)
 
-  pub add_exact : (e : Ending) (s' : CoreState ℕ) → DidAddOne s s' → Follows DidClose (on (AtDoorAgain e)) c c' p t
-      → IsOutcome (UnderWay (AtAddOne e)) (λ n. goes_to (record (inner_by s c) { count = suc s.word.count }) c.kept (AtDoorAgain e)) [] s c s' c' p t
-  add_exact e s' same x = goes_by (UnderWay (AtAddOne e)) s c f s' c' p t [] (ap (λ y. reverse y.log) same) x.0 (record (inner_by s c) { count = suc s.word.count }) (AtDoorAgain e) (ap (λ y. inner_by y c) same) x.1 x.2 refl refl
+  pub add_exact : (e : Ending) (s' : CoreState ℕ) → DidAddOne s s' → Follows DidClose (next_at (AtDoorAgain e)) c c' p t
+      → IsOutcome (UnderWay (AtAddOne e)) (λ n. outcome_of (record (inner_by s c) { count = suc s.word.count }) n c.kept [] (next_at (AtDoorAgain e))) [] s c s' c' p t
+  add_exact e s' same x = follows_by (UnderWay (AtAddOne e)) s c f s' c' p t [] (record (inner_by s c) { count = suc s.word.count }) (λ n. []) (next_at (AtDoorAgain e)) (ap (λ y. reverse y.log) same) (ap (λ y. inner_by y c) same) x (λ n. refl)
 
-  pub again_exact : (e : Ending) (q : Option ℕ) (s' : CoreState ℕ) → s' ≡ s → LeadsTo (after_door_again q e) p t → c' ≡ c
-      → IsOutcome (UnderWay (AtDoorAgain e)) (λ n. again_step q (inner_by s c) c.kept e) [] s c s' c' p t
-  again_exact e (Some q) s' same x y = goes_by (UnderWay (AtDoorAgain e)) s c f s' c' p t [] (ap (λ y. reverse y.log) same) y (inner_by s c) (AtRelease q e) (ap (λ y. inner_by y c) same) x.0 x.1 refl refl
-  again_exact e None s' same x y = goes_by (UnderWay (AtDoorAgain e)) s c f s' c' p t [] (ap (λ y. reverse y.log) same) y (inner_by s c) (AtCountOut e) (ap (λ y. inner_by y c) same) x.0 x.1 refl refl
+  pub again_exact : (e : Ending) (q : Option ℕ) (s' : CoreState ℕ) → s' ≡ s → Follows DidClose (after_door_again q e) c c' p t
+      → IsOutcome (UnderWay (AtDoorAgain e)) (λ n. again_step q (inner_by s c) n c.kept e) [] s c s' c' p t
+  again_exact e q s' same x = follows_by (UnderWay (AtDoorAgain e)) s c f s' c' p t [] (inner_by s c) (λ n. []) (after_door_again q e) (ap (λ y. reverse y.log) same) (ap (λ y. inner_by y c) same) x (again_idle q e)
 
-  pub out_exact : (e : Ending) (last : Bool) (s' : CoreState ℕ) → s' ≡ record s { word = record s.word { count = s.word.count - 1 } } → LeadsTo (after_count_out last e) p t → c' ≡ c
-      → IsOutcome (UnderWay (AtCountOut e)) (λ n. out_step last (counted_out (inner_by s c)) n c.kept e) [] s c s' c' p t
-  out_exact e true s' same x y = goes_by (UnderWay (AtCountOut e)) s c f s' c' p t [] (ap (λ y. reverse y.log) same) y (counted_out (inner_by s c)) (AtDoorTake e) (ap (λ y. inner_by y c) same) x.0 x.1 refl refl
-  out_exact e false s' same x y = ends_by (UnderWay (AtCountOut e)) s c f s' c' p t [] (ap (λ y. reverse y.log) same) y (counted_out (inner_by s c)) e (ap (λ y. inner_by y c) same) x.0 x.1 refl
+  pub out_exact : (e : Ending) (last : Bool) (s' : CoreState ℕ) → s' ≡ record s { word = record s.word { count = s.word.count - 1 } } → Follows DidClose (after_count_out last e) c c' p t
+      → IsOutcome (UnderWay (AtCountOut e)) (λ n. out_step last (out_inner (inner_by s c)) n c.kept e) [] s c s' c' p t
+  out_exact e last s' same x = follows_by (UnderWay (AtCountOut e)) s c f s' c' p t [] (out_inner (inner_by s c)) (λ n. []) (after_count_out last e) (ap (λ y. reverse y.log) same) (ap (λ y. inner_by y c) same) x (out_idle last e)
 
   -- the queue at the door is taken out, and where none stands nothing is left to clear
-  take_by_is : (e : Ending) (d : Option ℕ) (s' : CoreState ℕ) → s.door ≡ d → IsBare s → s' ≡ take_by d s → Follows DidClose (stops e) c c' p t
-      → IsOutcome (UnderWay (AtDoorTake e)) (λ n. ends (door_taken (inner_by s c)) n c.kept e) (taken_out d) s c s' c' p t
-  take_by_is e (Some q) s' at bare same x = ends_by (UnderWay (AtDoorTake e)) s c f s' c' p t (TakenLine q ∷ []) (ap (λ y. reverse y.log) same ∙ reverse_push s.log (TakenLine q)) x.0 (door_taken (inner_by s c)) e (ap (λ y. inner_by y c) same) x.1 x.2 refl
-  take_by_is e None s' at bare same x =
+  take_left : (d : Option ℕ) (s' : CoreState ℕ) → s.door ≡ d → IsBare s → s' ≡ take_by d s → inner_by s' c ≡ take_inner (inner_by s c)
+  take_left (Some q) s' at bare same = ap (λ y. inner_by y c) same
+  take_left None s' at bare same =
       let b = bare at in
-      let left : inner_by s c ≡ door_taken (inner_by s c) = λ i. record (inner_by s c) { door = at i; head = b.0 i; listings = b.1 i } in
-      ends_by (UnderWay (AtDoorTake e)) s c f s' c' p t [] (ap (λ y. reverse y.log) same) x.0 (door_taken (inner_by s c)) e (ap (λ y. inner_by y c) same ∙ left) x.1 x.2 refl
+      let left : inner_by s c ≡ take_inner (inner_by s c) = λ i. record (inner_by s c) { door = at i; head = b.0 i; listings = b.1 i } in
+      ap (λ y. inner_by y c) same ∙ left
 
-  pub take_exact : (e : Ending) (s' : CoreState ℕ) → IsBare s → s' ≡ take_state s → Follows DidClose (stops e) c c' p t
-      → IsOutcome (UnderWay (AtDoorTake e)) (λ n. ends (door_taken (inner_by s c)) n c.kept e) (taken_out s.door) s c s' c' p t
-  take_exact e s' bare same x = take_by_is e s.door s' refl bare same x
+  taken_log : (d : Option ℕ) (s' : CoreState ℕ) → s' ≡ take_by d s → reverse s'.log ≡ take_lines d ++ reverse s.log
+  taken_log (Some q) s' same = ap (λ y. reverse y.log) same ∙ reverse_push s.log (TakenLine q)
+  taken_log None s' same = ap (λ y. reverse y.log) same
+
+  pub take_exact : (e : Ending) (s' : CoreState ℕ) → IsBare s → s' ≡ take_state s → Follows DidClose (next_end e) c c' p t
+      → IsOutcome (UnderWay (AtDoorTake e)) (λ n. outcome_of (take_inner (inner_by s c)) n c.kept [] (next_end e)) (take_lines s.door) s c s' c' p t
+  take_exact e s' bare same x = follows_by (UnderWay (AtDoorTake e)) s c f s' c' p t (take_lines s.door) (take_inner (inner_by s c)) (λ n. []) (next_end e) (taken_log s.door s' same) (take_left s.door s' refl bare same) x (λ n. refl)

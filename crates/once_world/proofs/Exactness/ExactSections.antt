@@ -6,18 +6,19 @@ use Rattle.std.proofs.lemmas.Bool.{false≢true, eqb-true, eq-eqb, ne_eqb}
 use Rattle.once_queue.specs.declared.waiters.Op.{Op}
 use Rattle.once_queue.specs.declared.waiters.Op.TheVariants.{Look as LookOp, List as ListOp}
 use Rattle.once_queue.specs.declared.waiters.Answer.{Answer as SectionAnswer}
-use Rattle.once_queue.specs.declared.waiters.Answer.TheVariants.{Ready, Claimed, Listed, Held, Memory as NoMemory, Gone}
-use Rattle.once_world.specs.declared.world.script.Script.{Script}
+use Rattle.once_queue.specs.declared.waiters.Answer.TheVariants.{Ready, Claimed, Listed, Held, Memory as NoMemory, Released, Left, Gone}
+use Rattle.once_world.specs.declared.world.side.ReplaySide.{ReplaySide}
 use Rattle.once_queue.specs.Listings.{is_waker, kept_ticket, own_listing, ticket_for}
 use Rattle.once_queue.specs.Sections.{Looked}
 use Rattle.once_core.specs.Core.{CoreState, DidSection, FindsHolder}
-use Rattle.once_world.specs.Places.{AtCountOut, AtList, AtLook, EndMemory, EndValue, Progress, Step, UnderWay}
+use Rattle.once_world.specs.Places.{AtList, AtLook, Progress, Step, UnderWay}
 use Rattle.once_queue.specs.Ops.{ticket_in}
-use Rattle.once_core.specs.Steps.{AfterLook, Follows, after_copy, after_list, leave_by}
-use Rattle.once_world.specs.Machine.{EnteredLine, claimed, goes_to, is_at_door, list_step, listed, look_step}
-use Rattle.once_world.specs.Script.{DidClose, DidCopy}
+use Rattle.once_core.specs.Steps.{AfterLook, Follows, after_copy, after_list, after_look, is_running}
+use Rattle.once_world.specs.Machine.{EnteredLine, claim_entries, claim_entry, is_at_door, list_answer, list_inner, list_step, list_ticket, look_answer, look_inner, look_step}
+use Rattle.once_world.specs.Side.{DidClose, DidCopy}
 use Rattle.once_queue.proofs.Listing.Members.{eqb_self}
-use Rattle.once_world.proofs.Exactness.Outcomes.{IsFresh, IsOutcome, claims_by, goes_by, inner_by, leaving_idle, reverse_push, waits_by}
+use Rattle.once_world.proofs.Exactness.Outcomes.{IsFresh, IsOutcome, follows_by, inner_by, reverse_push}
+use Rattle.once_world.proofs.Exactness.ExactWaits.{IsIdle}
 
 -- the state after a section was entered on q
 abbrev pub entered : ℕ → CoreState ℕ → CoreState ℕ
@@ -47,7 +48,35 @@ looked_as w (Some (Some v)) a (inr d) = rw (ne_eqb v w d.1) d.0
 looked_as w (Some None) a d = d
 looked_as w None a d = d
 
-module _ (c : Script) (f : IsFresh c) (s : CoreState ℕ) (c' : Script) (p : Progress) (t : Step ℕ ℕ) (q : ℕ) (k : Option ℕ) (a : SectionAnswer ℕ) (o : Op ℕ) (s' : CoreState ℕ) where
+-- where no memory is given for its waker a waiter leaves
+copy_idle : (w : Option ℕ) (q : ℕ) (k : Option ℕ) → IsIdle (after_copy w q k)
+copy_idle (Some w) q k n = refl
+copy_idle None q (Some m) n = refl
+copy_idle None q None n = refl
+
+-- only a claim comes to poll the init
+look_claims : (a : SectionAnswer ℕ) (w : Option ℕ) (q : ℕ) (k : Option ℕ) (n : ℕ) → claim_entries (is_running (after_look a w q k).step) n ≡ claim_entry a n
+look_claims Ready w q k n = refl
+look_claims Claimed w q k n = refl
+look_claims Listed w q k n = refl
+look_claims Held w q k n = copy_idle w q k n
+look_claims NoMemory w q k n = copy_idle w q k n
+look_claims (Released out) w q k n = copy_idle w q k n
+look_claims (Left v) w q k n = copy_idle w q k n
+look_claims Gone w q k n = copy_idle w q k n
+
+list_claims : (a : SectionAnswer ℕ) (q : ℕ) (k : Option ℕ) (n : ℕ) → claim_entries (is_running (after_list {W = ℕ} a q k).step) n ≡ claim_entry a n
+list_claims Ready q k n = refl
+list_claims Claimed q k n = refl
+list_claims Listed q k n = refl
+list_claims Held q k n = refl
+list_claims NoMemory q (Some m) n = refl
+list_claims NoMemory q None n = refl
+list_claims (Released out) q k n = refl
+list_claims (Left v) q k n = refl
+list_claims Gone q k n = refl
+
+module _ (c : ReplaySide) (f : IsFresh c) (s : CoreState ℕ) (c' : ReplaySide) (p : Progress) (t : Step ℕ ℕ) (q : ℕ) (k : Option ℕ) (a : SectionAnswer ℕ) (o : Op ℕ) (s' : CoreState ℕ) where
   -- what follows the look
   abbrev Looks : SectionAnswer ℕ → Op ℕ → Type 0
   Looks b r = AfterLook DidClose DidCopy b q (ticket_in r) c c' p t
@@ -56,53 +85,58 @@ module _ (c : Script) (f : IsFresh c) (s : CoreState ℕ) (c' : Script) (p : Pro
   looks_as : (b : SectionAnswer ℕ) (r : Op ℕ) → a ≡ b → o ≡ r → Looks a o → Looks b r
   looks_as b r e d x = subst (λ z. Looks z r) e (subst (λ z. Looks a z) d x)
 
-  -- a copy of the waker, while another task holds
-  copy_exact : (g : Bool) → c.granted ≡ g → s' ≡ entered q s → Looks Held (LookOp k)
-      → IsOutcome (UnderWay (AtLook q k)) (λ n. cond g (goes_to (inner_by s c) c.kept (AtList q k c.waker)) (goes_to (inner_by s c) c.kept (leave_by q k EndMemory))) (EnteredLine q ∷ []) s c s' c' p t
-  copy_exact true g same (w, m, d, x) =
-      let given : w ≡ Some c.waker = d.0 ∙ ap (λ b. cond b (Some c.waker) None) g in
-      let y : Follows DidClose (after_copy (Some c.waker) q k) m c' p t = subst (λ o. Follows DidClose (after_copy o q k) m c' p t) given x in
-      goes_by (UnderWay (AtLook q k)) s c f s' c' p t (EnteredLine q ∷ []) (entered_log q s s' (ap (λ y. y.log) same)) (y.0 ∙ d.1) (inner_by s c) (AtList q k c.waker) (ap (λ y. inner_by y c) same) y.1 y.2 refl refl
-  copy_exact false g same (w, m, d, x) =
-      let none : w ≡ None = d.0 ∙ ap (λ b. cond b (Some c.waker) None) g in
-      let y : Follows DidClose (after_copy None q k) m c' p t = subst (λ o. Follows DidClose (after_copy o q k) m c' p t) none x in
-      goes_by (UnderWay (AtLook q k)) s c f s' c' p t (EnteredLine q ∷ []) (entered_log q s s' (ap (λ y. y.log) same)) (y.0 ∙ d.1) (inner_by s c) (leave_by q k EndMemory) (ap (λ y. inner_by y c) same) y.1 y.2 (leaving_idle q k EndMemory) refl
+  -- what the side may copy of its waker
+  abbrev copy : Option ℕ
+  copy = cond c.granted (Some c.waker) None
 
-  -- a look that finds the holder
-  look_holder : (is g : Bool) → is_waker c.waker (own_listing k s.listings) ≡ is → c.granted ≡ g → s' ≡ entered q s → o ≡ LookOp k → a ≡ cond (is_waker c.waker (own_listing k s.listings)) Listed Held → Looks a o
-      → IsOutcome (UnderWay (AtLook q k)) (λ n. look_step true false true is g (inner_by s c) n c.waker c.kept q k) (EnteredLine q ∷ []) s c s' c' p t
-  look_holder true g m n same r d x =
-      let y = looks_as Listed (LookOp k) (d ∙ ap (λ b. cond b Listed Held) m) r x in
-      waits_by (UnderWay (AtLook q k)) s c f s' c' p t (EnteredLine q ∷ []) (entered_log q s s' (ap (λ y. y.log) same)) y.0 (inner_by s c) q k (ap (λ y. inner_by y c) same) y.1 y.2 refl
-  look_holder false true m n same r d x = copy_exact true n same (looks_as Held (LookOp k) (d ∙ ap (λ b. cond b Listed Held) m) r x)
-  look_holder false false m n same r d x = copy_exact false n same (looks_as Held (LookOp k) (d ∙ ap (λ b. cond b Listed Held) m) r x)
+  -- the copy is what follows, where one is made
+  copied : (b : SectionAnswer ℕ) → ((w : Option ℕ) × (m : ReplaySide) × DidCopy c w m × Follows DidClose (after_look b w q k) m c' p t) → Follows DidClose (after_look b copy q k) c c' p t
+  copied b (w, m, d, x) = subst (λ y. Follows DidClose (after_look b copy q k) y c' p t) d.1 (subst (λ v. Follows DidClose (after_look b v q k) m c' p t) d.0 x)
+
+  look_follows : (b : SectionAnswer ℕ) → AfterLook DidClose DidCopy b q k c c' p t → Follows DidClose (after_look b copy q k) c c' p t
+  look_follows Ready x = x
+  look_follows Claimed x = x
+  look_follows Listed x = x
+  look_follows Held x = copied Held x
+  look_follows NoMemory x = copied NoMemory x
+  look_follows (Released out) x = copied (Released out) x
+  look_follows (Left v) x = copied (Left v) x
+  look_follows Gone x = copied Gone x
+
+  -- a look that answers b
+  record LookFinds (b : SectionAnswer ℕ) : Type 0 where
+    inner : inner_by s' c ≡ look_inner b (inner_by s c) k
+    log : s'.log ≡ (entered q s).log
+    after : AfterLook DidClose DidCopy b q k c c' p t
 
   -- a look, by what it finds
-  look_by : (at ready taken is g : Bool) → is_at_door q s.door ≡ at → s.word.ready ≡ ready → (s.word.quick || s.head) ≡ taken → is_waker c.waker (own_listing k s.listings) ≡ is → c.granted ≡ g → s.current ≡ Some c.waker
-      → NumberSection s q (LookOp k) a o s' → Looks a o
-      → IsOutcome (UnderWay (AtLook q k)) (λ n. look_step at ready taken is g (inner_by s c) n c.waker c.kept q k) (EnteredLine q ∷ []) s c s' c' p t
-  look_by true true taken is g d r h m n w x y =
+  look_by : (at ready taken is : Bool) → is_at_door q s.door ≡ at → s.word.ready ≡ ready → (s.word.quick || s.head) ≡ taken → is_waker c.waker (own_listing k s.listings) ≡ is → s.current ≡ Some c.waker
+      → NumberSection s q (LookOp k) a o s' → Looks a o → LookFinds (look_answer at ready taken is)
+  look_by true true taken is d r h m w x y =
       let z = (x.here (at_door q s.door d)).set r in
-      let after = looks_as Ready (LookOp k) z.0 z.2 y in
-      goes_by (UnderWay (AtLook q k)) s c f s' c' p t (EnteredLine q ∷ []) (entered_log q s s' (ap (λ y. y.log) z.1)) after.0 (inner_by s c) (AtCountOut EndValue) (ap (λ y. inner_by y c) z.1) after.1 after.2 refl refl
-  look_by true false false is g d r h m n w x y =
+      record { inner = ap (λ y. inner_by y c) z.1; log = ap (λ y. y.log) z.1; after = looks_as Ready (LookOp k) z.0 z.2 y }
+  look_by true false false is d r h m w x y =
       let z = (x.here (at_door q s.door d)).free (rw (r, h) refl) in
-      let after = looks_as Claimed (LookOp None) z.0 z.2 y in
-      claims_by (UnderWay (AtLook q k)) s c f s' c' p t (EnteredLine q ∷ []) (entered_log q s s' (ap (λ y. y.log) z.1)) after.0 (claimed (inner_by s c) k) (Some q) (ap (λ y. inner_by y c) z.1) after.1 after.2 refl
-  look_by true false true is g d r h m n w x y =
+      record { inner = ap (λ y. inner_by y c) z.1; log = ap (λ y. y.log) z.1; after = looks_as Claimed (LookOp None) z.0 z.2 y }
+  look_by true false true true d r h m w x y =
       let z = (x.here (at_door q s.door d)).taken (rw (r, h) refl) in
-      look_holder is g m n z.1 z.2 (looked_as c.waker (own_listing k s.listings) a (subst (λ v. Looked (λ x y. x ≡ y) (λ x y. x ≢ y) v (own_listing k s.listings) a) w z.0)) y
-  look_by false ready taken is true d r h m n w x y =
+      let is = looked_as c.waker (own_listing k s.listings) a (subst (λ v. Looked (λ x y. x ≡ y) (λ x y. x ≢ y) v (own_listing k s.listings) a) w z.0) in
+      record { inner = ap (λ y. inner_by y c) z.1; log = ap (λ y. y.log) z.1; after = looks_as Listed (LookOp k) (is ∙ ap (λ b. cond b Listed Held) m) z.2 y }
+  look_by true false true false d r h m w x y =
+      let z = (x.here (at_door q s.door d)).taken (rw (r, h) refl) in
+      let is = looked_as c.waker (own_listing k s.listings) a (subst (λ v. Looked (λ x y. x ≡ y) (λ x y. x ≢ y) v (own_listing k s.listings) a) w z.0) in
+      record { inner = ap (λ y. inner_by y c) z.1; log = ap (λ y. y.log) z.1; after = looks_as Held (LookOp k) (is ∙ ap (λ b. cond b Listed Held) m) z.2 y }
+  look_by false ready taken is d r h m w x y =
       let z = x.gone (not_at_door q s.door d) in
-      copy_exact true n z.1 (looks_as Gone (LookOp k) z.0 z.2 y)
-  look_by false ready taken is false d r h m n w x y =
-      let z = x.gone (not_at_door q s.door d) in
-      copy_exact false n z.1 (looks_as Gone (LookOp k) z.0 z.2 y)
+      record { inner = ap (λ y. inner_by y c) z.1; log = ap (λ y. y.log) z.1; after = looks_as Gone (LookOp k) z.0 z.2 y }
 
   -- a look is the machine's
   pub look_exact : s.current ≡ Some c.waker → NumberSection s q (LookOp k) a o s' → Looks a o
       → IsOutcome (UnderWay (AtLook q k)) (λ n. look_step (is_at_door q s.door) s.word.ready (s.word.quick || s.head) (is_waker c.waker (own_listing k s.listings)) c.granted (inner_by s c) n c.waker c.kept q k) (EnteredLine q ∷ []) s c s' c' p t
-  look_exact w x y = look_by (is_at_door q s.door) s.word.ready (s.word.quick || s.head) (is_waker c.waker (own_listing k s.listings)) c.granted refl refl refl refl refl w x y
+  look_exact w x y =
+      let b = look_answer (is_at_door q s.door) s.word.ready (s.word.quick || s.head) (is_waker c.waker (own_listing k s.listings)) in
+      let z : LookFinds b = look_by (is_at_door q s.door) s.word.ready (s.word.quick || s.head) (is_waker c.waker (own_listing k s.listings)) refl refl refl refl w x y in
+      follows_by (UnderWay (AtLook q k)) s c f s' c' p t (EnteredLine q ∷ []) (look_inner b (inner_by s c) k) (λ n. claim_entry b n) (after_look b copy q k) (entered_log q s s' z.log) z.inner (look_follows b z.after) (look_claims b copy q k)
 
   -- what follows the listing
   abbrev Lists : SectionAnswer ℕ → Op ℕ → Type 0
@@ -112,37 +146,39 @@ module _ (c : Script) (f : IsFresh c) (s : CoreState ℕ) (c' : Script) (p : Pro
   lists_as : (b : SectionAnswer ℕ) (r : Op ℕ) → a ≡ b → o ≡ r → Lists a o → Lists b r
   lists_as b r e d x = subst (λ z. Lists z r) e (subst (λ z. Lists a z) d x)
 
+  -- a listing of the waker w that answers b
+  record ListFinds (w : ℕ) (b : SectionAnswer ℕ) : Type 0 where
+    inner : inner_by s' c ≡ list_inner b (inner_by s c) k w
+    log : s'.log ≡ (entered q s).log
+    after : Follows DidClose (after_list b q (list_ticket b (inner_by s c) k)) c c' p t
+
   -- a listing that finds the holder
   list_holder : (w : ℕ) (room : Bool) → (is_some (kept_ticket k s.listings) || s.granted) ≡ room → FindsHolder (λ x y. x ≡ y) (λ x y. x ≢ y) (entered q s) (ListOp k (Some w)) a o s' → Lists a o
-      → IsOutcome (UnderWay (AtList q k w)) (λ n. list_step true false true room (inner_by s c) n w c.kept q k) (EnteredLine q ∷ []) s c s' c' p t
+      → ListFinds w (list_answer true false true room)
   list_holder w true m (inl d) x = absurd (false≢true (sym (ap (λ b. is_some b || s.granted) d.1 ∙ d.2) ∙ m))
-  list_holder w false m (inl d) x =
-      let y = lists_as NoMemory (ListOp k (Some w)) d.0 d.4 x in
-      goes_by (UnderWay (AtList q k w)) s c f s' c' p t (EnteredLine q ∷ []) (entered_log q s s' (ap (λ y. y.log) d.3)) y.0 (inner_by s c) (leave_by q k EndMemory) (ap (λ y. inner_by y c) d.3) y.1 y.2 (leaving_idle q k EndMemory) refl
-  list_holder w true m (inr d) x =
-      let y = lists_as Listed (ListOp (Some (ticket_for k s.listings)) None) d.0 d.3 x in
-      waits_by (UnderWay (AtList q k w)) s c f s' c' p t (EnteredLine q ∷ []) (entered_log q s s' (ap (λ y. y.log) d.2)) y.0 (listed (inner_by s c) (ticket_for k s.listings) w) q (Some (ticket_for k s.listings)) (ap (λ y. inner_by y c) d.2) y.1 y.2 refl
+  list_holder w false m (inl d) x = record { inner = ap (λ y. inner_by y c) d.3; log = ap (λ y. y.log) d.3; after = lists_as NoMemory (ListOp k (Some w)) d.0 d.4 x }
+  list_holder w true m (inr d) x = record { inner = ap (λ y. inner_by y c) d.2; log = ap (λ y. y.log) d.2; after = lists_as Listed (ListOp (Some (ticket_for k s.listings)) None) d.0 d.3 x }
   list_holder w false m (inr d) x = absurd (false≢true (sym m ∙ d.1))
 
   -- a listing of the waker w, by what it finds
   list_by : (w : ℕ) (at ready taken room : Bool) → is_at_door q s.door ≡ at → s.word.ready ≡ ready → (s.word.quick || s.head) ≡ taken → (is_some (kept_ticket k s.listings) || s.granted) ≡ room
-      → NumberSection s q (ListOp k (Some w)) a o s' → Lists a o
-      → IsOutcome (UnderWay (AtList q k w)) (λ n. list_step at ready taken room (inner_by s c) n w c.kept q k) (EnteredLine q ∷ []) s c s' c' p t
+      → NumberSection s q (ListOp k (Some w)) a o s' → Lists a o → ListFinds w (list_answer at ready taken room)
   list_by w true true taken room d r h m x y =
       let z = (x.here (at_door q s.door d)).set r in
-      let after = lists_as Ready (ListOp k (Some w)) z.0 z.2 y in
-      goes_by (UnderWay (AtList q k w)) s c f s' c' p t (EnteredLine q ∷ []) (entered_log q s s' (ap (λ y. y.log) z.1)) after.0 (inner_by s c) (AtCountOut EndValue) (ap (λ y. inner_by y c) z.1) after.1 after.2 refl refl
+      record { inner = ap (λ y. inner_by y c) z.1; log = ap (λ y. y.log) z.1; after = lists_as Ready (ListOp k (Some w)) z.0 z.2 y }
   list_by w true false false room d r h m x y =
       let z = (x.here (at_door q s.door d)).free (rw (r, h) refl) in
-      let after = lists_as Claimed (ListOp None (Some w)) z.0 z.2 y in
-      claims_by (UnderWay (AtList q k w)) s c f s' c' p t (EnteredLine q ∷ []) (entered_log q s s' (ap (λ y. y.log) z.1)) after.0 (claimed (inner_by s c) k) (Some q) (ap (λ y. inner_by y c) z.1) after.1 after.2 refl
+      record { inner = ap (λ y. inner_by y c) z.1; log = ap (λ y. y.log) z.1; after = lists_as Claimed (ListOp None (Some w)) z.0 z.2 y }
   list_by w true false true room d r h m x y = list_holder w room m ((x.here (at_door q s.door d)).taken (rw (r, h) refl)) y
   list_by w false ready taken room d r h m x y =
       let z = x.gone (not_at_door q s.door d) in
-      let after = lists_as Gone (ListOp k (Some w)) z.0 z.2 y in
-      waits_by (UnderWay (AtList q k w)) s c f s' c' p t (EnteredLine q ∷ []) (entered_log q s s' (ap (λ y. y.log) z.1)) after.0 (inner_by s c) q k (ap (λ y. inner_by y c) z.1) after.1 after.2 refl
+      record { inner = ap (λ y. inner_by y c) z.1; log = ap (λ y. y.log) z.1; after = lists_as Gone (ListOp k (Some w)) z.0 z.2 y }
 
   -- a listing is the machine's
   pub list_exact : (w : ℕ) → NumberSection s q (ListOp k (Some w)) a o s' → Lists a o
       → IsOutcome (UnderWay (AtList q k w)) (λ n. list_step (is_at_door q s.door) s.word.ready (s.word.quick || s.head) (is_some (kept_ticket k s.listings) || s.granted) (inner_by s c) n w c.kept q k) (EnteredLine q ∷ []) s c s' c' p t
-  list_exact w x y = list_by w (is_at_door q s.door) s.word.ready (s.word.quick || s.head) (is_some (kept_ticket k s.listings) || s.granted) refl refl refl refl x y
+  list_exact w x y =
+      let b = list_answer (is_at_door q s.door) s.word.ready (s.word.quick || s.head) (is_some (kept_ticket k s.listings) || s.granted) in
+      let m = list_ticket b (inner_by s c) k in
+      let z : ListFinds w b = list_by w (is_at_door q s.door) s.word.ready (s.word.quick || s.head) (is_some (kept_ticket k s.listings) || s.granted) refl refl refl refl x y in
+      follows_by (UnderWay (AtList q k w)) s c f s' c' p t (EnteredLine q ∷ []) (list_inner b (inner_by s c) k w) (λ n. claim_entry b n) (after_list b q m) (entered_log q s s' z.log) z.inner z.after (list_claims b q m)

@@ -1,90 +1,105 @@
 -- The steps of a poll that has not claimed are exactly the machine's.
-use Rattle.std.proofs.Common.{◌≡◌, ℕ, suc, Bool, true, false, cond, ◌==◌, [], ◌∷◌, Option, Some, None, refl, sym, ap, ◌∙◌, subst, arith, reverse}
+use Rattle.std.proofs.Common.{◌≡◌, ◌≤◌, ℕ, suc, Bool, true, false, cond, ◌==◌, [], ◌∷◌, ◌++◌, Option, Some, None, refl, sym, ap, ◌∙◌, subst, arith, reverse}
 use Rattle.std.specs.Prelude.{not, nat_lt}
-use Rattle.std.proofs.lemmas.Bool.{false≢true}
 use Rattle.std.proofs.lemmas.Bool.Decides.{nat_tests}
 use Rattle.once_core.specs.declared.parts.Counted.{Counted}
 use Rattle.once_core.specs.declared.parts.Counted.TheVariants.{In, Full as CountFull, SeenReady}
-use Rattle.once_world.specs.declared.world.script.Script.{Script}
+use Rattle.once_world.specs.declared.world.side.ReplaySide.{ReplaySide}
 use Rattle.once_queue.specs.Word.{Flags, flags_alone, is_zero}
 use Rattle.once_core.specs.Core.{CoreState, DidCountIn, put_answer, put_state}
-use Rattle.once_world.specs.Places.{AtCountIn, AtCountOut, AtDoorGet, AtDoorPut, AtLook, AtStart, AtTryQuick, AtWaitLoad, EndFull, EndMemory, EndValue, Progress, Step, UnderWay}
-use Rattle.once_core.specs.Steps.{Follows, LeadsTo, after_count_in, after_door_get, after_door_put, after_in, after_load, after_quick, after_start, closes_stops}
-use Rattle.once_world.specs.Machine.{PutLine, door_step, in_step, is_new, load_step, put_lines, put_step, quick_step, start_step}
-use Rattle.once_world.specs.Script.{DidClose, answers_in}
-use Rattle.once_world.proofs.Exactness.Outcomes.{IsFresh, IsOutcome, claims_by, ends_by, goes_by, inner_by, reverse_push}
+use Rattle.once_world.specs.Places.{AtCountIn, AtDoorGet, AtDoorPut, AtStart, AtTryQuick, AtWaitLoad, Progress, Step, UnderWay}
+use Rattle.once_core.specs.Steps.{Follows, Next, after_count_in, after_door_get, after_door_put, after_in, after_load, after_quick, after_start, is_running}
+use Rattle.once_world.specs.Record.{Claim, Entry}
+use Rattle.once_world.specs.Machine.{PutLine, claim_entries, in_inner, door_step, in_step, load_step, next_in, put_lines, put_step, put_inner, quick_step, start_step}
+use Rattle.once_world.specs.Side.{DidClose, answers_in}
+use Rattle.once_world.proofs.Exactness.Outcomes.{IsFresh, IsOutcome, follows_by, inner_by, reverse_push}
 
--- the tests of the word are the machine's
-zero_ready : (f : Flags) → f.ready ≡ true → is_zero f ≡ false
-zero_ready f r = grind arith
-
-pub zero_new : (f : Flags) → f.ready ≡ false → is_zero f ≡ cond (f.count == 0) (not f.quick) false
-zero_new f r = grind arith
+-- what the word NEW says
+zero_ready : (f : Flags) → is_zero f ≡ true → f.ready ≡ false
+zero_ready f z = grind (arith, nat_tests)
 
 zero_count : (f : Flags) → is_zero f ≡ true → f.count ≡ 0
 zero_count f z = grind (arith, nat_tests)
 
-module _ (c : Script) (f : IsFresh c) (s : CoreState ℕ) (c' : Script) (p : Progress) (t : Step ℕ ℕ) where
-  pub start_exact : (ready zero new : Bool) → (ready ≡ false → zero ≡ new) → (s' : CoreState ℕ) → s' ≡ s → Follows DidClose (after_start ready zero) c c' p t
+-- the step that follows does not poll the init
+abbrev pub IsIdle : Next ℕ ℕ → Type 0
+IsIdle next = (n : ℕ) → claim_entries (is_running next.step) n ≡ []
+
+start_idle : (ready new : Bool) → IsIdle (after_start ready new)
+start_idle true new n = refl
+start_idle false true n = refl
+start_idle false false n = refl
+
+door_idle : (q : Option ℕ) → IsIdle (after_door_get q)
+door_idle (Some q) n = refl
+door_idle None n = refl
+
+put_idle : (q : Option ℕ) → IsIdle (after_door_put q)
+put_idle (Some q) n = refl
+put_idle None n = refl
+
+in_idle : (below ready : Bool) (q : ℕ) → IsIdle (next_in below ready q)
+in_idle true true q n = refl
+in_idle true false q n = refl
+in_idle false true q n = refl
+in_idle false false q n = refl
+
+load_idle : (ready : Bool) (q : ℕ) (k : Option ℕ) → IsIdle (after_load ready q k)
+load_idle true q k n = refl
+load_idle false q k n = refl
+
+module _ (c : ReplaySide) (f : IsFresh c) (s : CoreState ℕ) (c' : ReplaySide) (p : Progress) (t : Step ℕ ℕ) (s' : CoreState ℕ) where
+  pub start_exact : (ready new : Bool) → s' ≡ s → Follows DidClose (after_start ready new) c c' p t
       → IsOutcome (UnderWay AtStart) (λ n. start_step ready new (inner_by s c) n c.kept) [] s c s' c' p t
-  start_exact true zero new e s' same x = ends_by (UnderWay AtStart) s c f s' c' p t [] (ap (λ y. reverse y.log) same) x.0 (inner_by s c) EndValue (ap (λ y. inner_by y c) same) x.1 x.2 refl
-  start_exact false true new e s' same x = rw (← e refl) (goes_by (UnderWay AtStart) s c f s' c' p t [] (ap (λ y. reverse y.log) same) x.0 (inner_by s c) AtTryQuick (ap (λ y. inner_by y c) same) x.1 x.2 refl refl)
-  start_exact false false new e s' same x = rw (← e refl) (goes_by (UnderWay AtStart) s c f s' c' p t [] (ap (λ y. reverse y.log) same) x.0 (inner_by s c) AtDoorGet (ap (λ y. inner_by y c) same) x.1 x.2 refl refl)
+  start_exact ready new same x = follows_by (UnderWay AtStart) s c f s' c' p t [] (inner_by s c) (λ n. []) (after_start ready new) (ap (λ y. reverse y.log) same) (ap (λ y. inner_by y c) same) x (start_idle ready new)
 
   -- the word was NEW, and is the quick bit now
-  quick_inner : s.word.count ≡ 0 → s.word.ready ≡ false → (s' : CoreState ℕ) → s' ≡ record s { word = flags_alone true false } → inner_by s' c ≡ record (inner_by s c) { quick = true }
-  quick_inner e r s' same = ap (λ y. inner_by y c) same ∙ (λ i. record { count = sym e i; quick = true; ready = sym r i; door = s.door; head = s.head; listings = s.listings; queues = s.made; value = c.value; answers = answers_in c })
+  quick_left : s.word.count ≡ 0 → s.word.ready ≡ false → s' ≡ record s { word = flags_alone true false } → inner_by s' c ≡ record (inner_by s c) { quick = true }
+  quick_left e r same = ap (λ y. inner_by y c) same ∙ (λ i. record { count = sym e i; quick = true; ready = sym r i; door = s.door; head = s.head; listings = s.listings; queues = s.made; value = c.value; answers = answers_in c })
 
-  pub quick_exact : (won : Bool) → won ≡ is_zero s.word → (ready new : Bool) → s.word.ready ≡ ready → is_new (inner_by s c) ≡ new → (s' : CoreState ℕ) → s' ≡ record s { word = cond won (flags_alone true false) s.word } → LeadsTo (after_quick won) p t → c' ≡ c
-      → IsOutcome (UnderWay AtTryQuick) (λ n. quick_step ready new (inner_by s c) n c.kept) [] s c s' c' p t
-  quick_exact true z true new r m s' same x y = absurd (false≢true (sym (zero_ready s.word r) ∙ sym z))
-  quick_exact true z false false r m s' same x y = absurd (false≢true (sym (zero_new s.word r ∙ m) ∙ sym z))
-  quick_exact true z false true r m s' same x y = claims_by (UnderWay AtTryQuick) s c f s' c' p t [] (ap (λ y. reverse y.log) same) y (record (inner_by s c) { quick = true }) None (quick_inner (zero_count s.word (sym z)) r s' same) x.0 x.1 refl
-  quick_exact false z true new r m s' same x y = goes_by (UnderWay AtTryQuick) s c f s' c' p t [] (ap (λ y. reverse y.log) same) y (inner_by s c) AtDoorGet (ap (λ y. inner_by y c) same) x.0 x.1 refl refl
-  quick_exact false z false true r m s' same x y = absurd (false≢true (z ∙ zero_new s.word r ∙ m))
-  quick_exact false z false false r m s' same x y = goes_by (UnderWay AtTryQuick) s c f s' c' p t [] (ap (λ y. reverse y.log) same) y (inner_by s c) AtDoorGet (ap (λ y. inner_by y c) same) x.0 x.1 refl refl
+  pub quick_exact : (won : Bool) → is_zero s.word ≡ won → s' ≡ record s { word = cond won (flags_alone true false) s.word } → Follows DidClose (after_quick won) c c' p t
+      → IsOutcome (UnderWay AtTryQuick) (λ n. quick_step won (inner_by s c) n c.kept) [] s c s' c' p t
+  quick_exact true z same x = follows_by (UnderWay AtTryQuick) s c f s' c' p t [] (record (inner_by s c) { quick = true }) (λ n. Claim n ∷ []) (after_quick true) (ap (λ y. reverse y.log) same) (quick_left (zero_count s.word z) (zero_ready s.word z) same) x (λ n. refl)
+  quick_exact false z same x = follows_by (UnderWay AtTryQuick) s c f s' c' p t [] (inner_by s c) (λ n. []) (after_quick false) (ap (λ y. reverse y.log) same) (ap (λ y. inner_by y c) same) x (λ n. refl)
 
-  pub door_exact : (q : Option ℕ) → s.door ≡ q → (s' : CoreState ℕ) → s' ≡ s → LeadsTo (after_door_get q) p t → c' ≡ c
-      → IsOutcome (UnderWay AtDoorGet) (λ n. door_step q (inner_by s c) c.kept) [] s c s' c' p t
-  door_exact (Some q) d s' same x y = goes_by (UnderWay AtDoorGet) s c f s' c' p t [] (ap (λ y. reverse y.log) same) y (inner_by s c) (AtCountIn q) (ap (λ y. inner_by y c) same) x.0 x.1 refl refl
-  door_exact None d s' same x y = goes_by (UnderWay AtDoorGet) s c f s' c' p t [] (ap (λ y. reverse y.log) same) y (inner_by s c) AtDoorPut (ap (λ y. inner_by y c) same) x.0 x.1 refl refl
+  pub door_exact : (q : Option ℕ) → s' ≡ s → Follows DidClose (after_door_get q) c c' p t
+      → IsOutcome (UnderWay AtDoorGet) (λ n. door_step q (inner_by s c) n c.kept) [] s c s' c' p t
+  door_exact q same x = follows_by (UnderWay AtDoorGet) s c f s' c' p t [] (inner_by s c) (λ n. []) (after_door_get q) (ap (λ y. reverse y.log) same) (ap (λ y. inner_by y c) same) x (door_idle q)
 
-  pub door_put_exact : (g : Bool) (d : Option ℕ) → (s' : CoreState ℕ) → s' ≡ put_state g d s → Follows DidClose (after_door_put (put_answer g d s.made)) c c' p t
+  put_log : (g : Bool) (d : Option ℕ) → s' ≡ put_state g d s → reverse s'.log ≡ put_lines g d s.made ++ reverse s.log
+  put_log false d same = ap (λ y. reverse y.log) same
+  put_log true (Some q) same = ap (λ y. reverse y.log) same
+  put_log true None same = ap (λ y. reverse y.log) same ∙ reverse_push s.log (PutLine (suc s.made))
+
+  put_left : (g : Bool) (d : Option ℕ) → s' ≡ put_state g d s → inner_by s' c ≡ put_inner g d (inner_by s c)
+  put_left false d same = ap (λ y. inner_by y c) same
+  put_left true (Some q) same = ap (λ y. inner_by y c) same
+  put_left true None same = ap (λ y. inner_by y c) same
+
+  pub door_put_exact : (g : Bool) (d : Option ℕ) → s' ≡ put_state g d s → Follows DidClose (after_door_put (put_answer g d s.made)) c c' p t
       → IsOutcome (UnderWay AtDoorPut) (λ n. put_step g d (inner_by s c) n c.kept) (put_lines g d s.made) s c s' c' p t
-  door_put_exact false d s' same x = ends_by (UnderWay AtDoorPut) s c f s' c' p t [] (ap (λ y. reverse y.log) same) x.0 (inner_by s c) EndMemory (ap (λ y. inner_by y c) same) x.1 x.2 refl
-  door_put_exact true (Some q) s' same x = goes_by (UnderWay AtDoorPut) s c f s' c' p t [] (ap (λ y. reverse y.log) same) x.0 (inner_by s c) (AtCountIn q) (ap (λ y. inner_by y c) same) x.1 x.2 refl refl
-  door_put_exact true None s' same x =
-      goes_by (UnderWay AtDoorPut) s c f s' c' p t (PutLine (suc s.made) ∷ []) (ap (λ y. reverse y.log) same ∙ reverse_push s.log (PutLine (suc s.made))) x.0 (inner_by (put_state true None s) c) (AtCountIn (suc s.made)) (ap (λ y. inner_by y c) same) x.1 x.2 refl refl
+  door_put_exact g d same x = follows_by (UnderWay AtDoorPut) s c f s' c' p t (put_lines g d s.made) (put_inner g d (inner_by s c)) (λ n. []) (after_door_put (put_answer g d s.made)) (put_log g d same) (put_left g d same) x (put_idle (put_answer g d s.made))
 
-  in_counted : (ready : Bool) (q : ℕ) → (s' : CoreState ℕ) → s' ≡ record s { word = record s.word { count = suc s.word.count } } → Follows DidClose (after_in ready q) c c' p t
-      → IsOutcome (UnderWay (AtCountIn q)) (λ n. in_step true ready (inner_by s c) n c.kept q) [] s c s' c' p t
-  in_counted true q s' same x = goes_by (UnderWay (AtCountIn q)) s c f s' c' p t [] (ap (λ y. reverse y.log) same) x.0 (record (inner_by s c) { count = suc s.word.count }) (AtCountOut EndValue) (ap (λ y. inner_by y c) same) x.1 x.2 refl refl
-  in_counted false q s' same x = goes_by (UnderWay (AtCountIn q)) s c f s' c' p t [] (ap (λ y. reverse y.log) same) x.0 (record (inner_by s c) { count = suc s.word.count }) (AtWaitLoad q None) (ap (λ y. inner_by y c) same) x.1 x.2 refl refl
+  in_by : (below ready : Bool) (q : ℕ) → reverse s'.log ≡ reverse s.log → inner_by s' c ≡ in_inner below (inner_by s c) → Follows DidClose (next_in below ready q) c c' p t
+      → IsOutcome (UnderWay (AtCountIn q)) (λ n. in_step below ready (inner_by s c) n c.kept q) [] s c s' c' p t
+  in_by below ready q log is x = follows_by (UnderWay (AtCountIn q)) s c f s' c' p t [] (in_inner below (inner_by s c)) (λ n. []) (next_in below ready q) log is x (in_idle below ready q)
 
-  in_seen : (ready : Bool) (q : ℕ) → ready ≡ true → (s' : CoreState ℕ) → s' ≡ s → Follows DidClose (closes_stops EndValue) c c' p t
-      → IsOutcome (UnderWay (AtCountIn q)) (λ n. in_step false ready (inner_by s c) n c.kept q) [] s c s' c' p t
-  in_seen true q r s' same x = ends_by (UnderWay (AtCountIn q)) s c f s' c' p t [] (ap (λ y. reverse y.log) same) x.0 (inner_by s c) EndValue (ap (λ y. inner_by y c) same) x.1 x.2 refl
-  in_seen false q r s' same x = absurd (false≢true r)
-
-  in_full : (ready : Bool) (q : ℕ) → ready ≡ false → (s' : CoreState ℕ) → s' ≡ s → Follows DidClose (closes_stops EndFull) c c' p t
-      → IsOutcome (UnderWay (AtCountIn q)) (λ n. in_step false ready (inner_by s c) n c.kept q) [] s c s' c' p t
-  in_full false q r s' same x = ends_by (UnderWay (AtCountIn q)) s c f s' c' p t [] (ap (λ y. reverse y.log) same) x.0 (inner_by s c) EndFull (ap (λ y. inner_by y c) same) x.1 x.2 refl
-  in_full true q r s' same x = absurd (false≢true (sym r))
-
-  pub in_exact : (limit q : ℕ) (n : Counted) → (s' : CoreState ℕ) → DidCountIn s limit n s' → Follows DidClose (after_count_in n q) c c' p t
+  -- at the limit, by what the word says
+  in_above : (limit q : ℕ) (b : Bool) → limit ≤ s.word.count → s.word.ready ≡ b → s' ≡ s → Follows DidClose (next_in false b q) c c' p t
       → IsOutcome (UnderWay (AtCountIn q)) (λ n. in_step (nat_lt s.word.count limit) s.word.ready (inner_by s c) n c.kept q) [] s c s' c' p t
-  in_exact limit q (In w) s' d x =
+  in_above limit q b above ready same x =
+      let at_limit : nat_lt s.word.count limit ≡ false = grind (arith, nat_tests, above) in
+      rw at_limit (subst (λ r. IsOutcome (UnderWay (AtCountIn q)) (λ n. in_step false r (inner_by s c) n c.kept q) [] s c s' c' p t) (sym ready) (in_by false b q (ap (λ y. reverse y.log) same) (ap (λ y. inner_by y c) same) x))
+
+  pub in_exact : (limit q : ℕ) (n : Counted) → DidCountIn s limit n s' → Follows DidClose (after_count_in n q) c c' p t
+      → IsOutcome (UnderWay (AtCountIn q)) (λ n. in_step (nat_lt s.word.count limit) s.word.ready (inner_by s c) n c.kept q) [] s c s' c' p t
+  in_exact limit q (In w) d x =
       let below : nat_lt s.word.count limit ≡ true = grind (arith, nat_tests, d.0) in
       let y : Follows DidClose (after_in s.word.ready q) c c' p t = subst (λ z. Follows DidClose (after_in z.ready q) c c' p t) d.1 x in
-      rw below (in_counted s.word.ready q s' d.2 y)
-  in_exact limit q SeenReady s' d x =
-      let above : nat_lt s.word.count limit ≡ false = grind (arith, nat_tests, d.0) in
-      rw above (in_seen s.word.ready q d.1 s' d.2 x)
-  in_exact limit q CountFull s' d x =
-      let above : nat_lt s.word.count limit ≡ false = grind (arith, nat_tests, d.0) in
-      rw above (in_full s.word.ready q d.1 s' d.2 x)
+      rw below (in_by true s.word.ready q (ap (λ y. reverse y.log) d.2) (ap (λ y. inner_by y c) d.2) y)
+  in_exact limit q SeenReady d x = in_above limit q true d.0 d.1 d.2 x
+  in_exact limit q CountFull d x = in_above limit q false d.0 d.1 d.2 x
 
-  pub load_exact : (ready : Bool) (q : ℕ) (k : Option ℕ) → (s' : CoreState ℕ) → s' ≡ s → Follows DidClose (after_load ready q k) c c' p t
-      → IsOutcome (UnderWay (AtWaitLoad q k)) (λ n. load_step ready (inner_by s c) c.kept q k) [] s c s' c' p t
-  load_exact true q k s' same x = goes_by (UnderWay (AtWaitLoad q k)) s c f s' c' p t [] (ap (λ y. reverse y.log) same) x.0 (inner_by s c) (AtCountOut EndValue) (ap (λ y. inner_by y c) same) x.1 x.2 refl refl
-  load_exact false q k s' same x = goes_by (UnderWay (AtWaitLoad q k)) s c f s' c' p t [] (ap (λ y. reverse y.log) same) x.0 (inner_by s c) (AtLook q k) (ap (λ y. inner_by y c) same) x.1 x.2 refl refl
+  pub load_exact : (ready : Bool) (q : ℕ) (k : Option ℕ) → s' ≡ s → Follows DidClose (after_load ready q k) c c' p t
+      → IsOutcome (UnderWay (AtWaitLoad q k)) (λ n. load_step ready (inner_by s c) n c.kept q k) [] s c s' c' p t
+  load_exact ready q k same x = follows_by (UnderWay (AtWaitLoad q k)) s c f s' c' p t [] (inner_by s c) (λ n. []) (after_load ready q k) (ap (λ y. reverse y.log) same) (ap (λ y. inner_by y c) same) x (load_idle ready q k)

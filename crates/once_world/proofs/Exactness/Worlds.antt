@@ -6,8 +6,8 @@ use Rattle.std.specs.BTreeMap.{BTreeMap, get, WritesThrough}
 use Rattle.std.proofs.lemmas.Bool.{false≢true}
 use Rattle.once_world.specs.Record.{Answer, Begin, DropBegin}
 use Rattle.once_world.specs.Places.{Step, Resting, UnderWay, Finished, RestStart, RestWait, RestRun}
-use Rattle.once_core.specs.Steps.{is_resting, in_call, begun, dropped}
-use Rattle.once_world.specs.Machine.{Task, Outcome, World, QueueLine, put_task, polled, drops, drop_entries, unfinished_after, stepped, advance, step_lines, goes}
+use Rattle.once_core.specs.Steps.{is_resting, in_call, step_of_poll, step_of_drop}
+use Rattle.once_world.specs.Machine.{Task, Outcome, World, QueueLine, put_task, poll_world, drop_world, drop_entries, unfinished_after, step_world, advance, step_lines, go_world}
 
 -- a map in which y was written over x at t, as a function from numbers to tasks
 pub tasks_written : (m n : BTreeMap ℕ Task) (t : ℕ) (x y : Task) → get nat_cmp m t ≡ Some x → WritesThrough nat_cmp (nat_cmp t) m y n
@@ -21,16 +21,16 @@ same_world : (w w' : World) → w'.inner ≡ w.inner → w'.tasks ≡ w.tasks �
 same_world w w' a b n c d = λ i. record { inner = a i; tasks = b i; unfinished = n i; history = c i; log = d i }
 
 -- a poll that began
-pub begun_world : (w w' : World) (t k : ℕ) (x : Task) (s : Step ℕ ℕ) → w.tasks t ≡ Some x → is_resting x.step ≡ true → s ≡ begun x.step → w'.inner ≡ w.inner
+pub begun_world : (w w' : World) (t k : ℕ) (x : Task) (s : Step ℕ ℕ) → w.tasks t ≡ Some x → is_resting x.step ≡ true → s ≡ step_of_poll x.step → w'.inner ≡ w.inner
     → w'.tasks ≡ put_task t (record x { waker = k; step = s }) w.tasks → w'.unfinished ≡ w.unfinished → w'.history ≡ Begin t k ∷ w.history → w'.log ≡ w.log
-    → w' ≡ polled w t k (w.tasks t)
+    → w' ≡ poll_world w t k (w.tasks t)
 begun_world w w' t k x s found rests is a b n c d =
-    rw (found, rests) (same_world (record w { tasks = put_task t (record x { waker = k; step = begun x.step }) w.tasks; history = Begin t k ∷ w.history }) w' a (rw is at b) n c d)
+    rw (found, rests) (same_world (record w { tasks = put_task t (record x { waker = k; step = step_of_poll x.step }) w.tasks; history = Begin t k ∷ w.history }) w' a (rw is at b) n c d)
 
 -- a drop that began
-pub dropped_world : (w w' : World) (t : ℕ) (x : Task) (s : Step ℕ ℕ) → w.tasks t ≡ Some x → is_resting x.step ≡ true → s ≡ dropped x.step → w'.inner ≡ w.inner
+pub dropped_world : (w w' : World) (t : ℕ) (x : Task) (s : Step ℕ ℕ) → w.tasks t ≡ Some x → is_resting x.step ≡ true → s ≡ step_of_drop x.step → w'.inner ≡ w.inner
     → w'.tasks ≡ put_task t (record x { step = s }) w.tasks → w'.unfinished ≡ unfinished_after s w.unfinished → w'.history ≡ drop_entries t s ++ w.history → w'.log ≡ w.log
-    → w' ≡ drops w t (w.tasks t)
+    → w' ≡ drop_world w t (w.tasks t)
 dropped_world w w' t x s found rests is a b n c d =
     rw (found, rests) (subst (λ z. w' ≡ record w { tasks = put_task t (record x { step = z }) w.tasks; unfinished = unfinished_after z w.unfinished; history = drop_entries t z ++ w.history }) is
     (same_world (record w { tasks = put_task t (record x { step = s }) w.tasks; unfinished = unfinished_after s w.unfinished; history = drop_entries t s ++ w.history }) w' a b n c d))
@@ -42,7 +42,7 @@ drop_goes_on t (Resting r) e = absurd (false≢true e)
 drop_goes_on t Finished e = absurd (false≢true e)
 
 -- a drop without a step ends there
-pub drop_ends : (s : Step ℕ ℕ) → is_resting s ≡ true → in_call (dropped s) ≡ false → dropped s ≡ Finished
+pub drop_ends : (s : Step ℕ ℕ) → is_resting s ≡ true → in_call (step_of_drop s) ≡ false → step_of_drop s ≡ Finished
 drop_ends (Resting RestStart) rests e = refl
 drop_ends (Resting (RestWait q None)) rests e = absurd (false≢true (sym e))
 drop_ends (Resting (RestWait q (Some n))) rests e = absurd (false≢true (sym e))
@@ -59,7 +59,7 @@ pub stepped_world : (lazy : Bool) (limit : ℕ) (w w' : World) (t : ℕ) (a : An
     → o ≡ advance lazy limit w.inner t x a granted → lines ≡ step_lines granted w.inner x.step → w.tasks t ≡ Some x → in_call x.step ≡ true
     → w'.inner ≡ o.inner → y.waker ≡ x.waker → y.step ≡ o.step → y.kept ≡ o.kept → w'.tasks ≡ put_task t y w.tasks
     → w'.unfinished ≡ unfinished_after o.step w.unfinished → w'.history ≡ o.entries ++ w.history → w'.log ≡ lines ++ w.log
-    → w' ≡ goes lazy limit w t a granted (w.tasks t)
+    → w' ≡ go_world lazy limit w t a granted (w.tasks t)
 stepped_world lazy limit w w' t a granted x y o lines is line found calls i waker step kept b n c d =
-    let e = same_world (stepped w t x o lines) w' i (b ∙ ap (λ z. put_task t z w.tasks) (same_task x y o.step o.kept waker step kept)) n c d in
-    rw (found, calls) (e ∙ ap (λ z. stepped w t x z lines) is ∙ ap (λ z. stepped w t x (advance lazy limit w.inner t x a granted) z) line)
+    let e = same_world (step_world w t x o lines) w' i (b ∙ ap (λ z. put_task t z w.tasks) (same_task x y o.step o.kept waker step kept)) n c d in
+    rw (found, calls) (e ∙ ap (λ z. step_world w t x z lines) is ∙ ap (λ z. step_world w t x (advance lazy limit w.inner t x a granted) z) line)

@@ -1,13 +1,13 @@
 -- The listings against the history.
 use Rattle.std.proofs.Common.{◌≡◌, ◌≢◌, ◌≤◌, ◌<◌, ◌+◌, ℕ, true, false, List, [], ◌∷◌, Option, Some, None, length, refl, arith}
 use Rattle.std.proofs.lemmas.Bool.{false≢true}
-use Rattle.once_queue.specs.Numbers.{bit, member, times}
+use Rattle.once_queue.specs.Numbers.{bit, member, times_in}
 use Rattle.once_world.specs.Record.{Entry, Kind, handed_by, is_of, is_replacing}
 use Rattle.once_world.specs.Cell.{Empty, cell, cell_after}
 use Rattle.once_world.specs.Tasks.{Waiting, status, status_after}
 use Rattle.once_queue.specs.declared.waiters.Listing.{Listing}
 use Rattle.once_queue.specs.Listings.{all_out, find_listing, first_waker, one_out}
-use Rattle.once_world.specs.Wakers.{CallsOne, HandsOut, IsDue, IsOpen, handed_out, opened, opens}
+use Rattle.once_world.specs.Wakers.{CallsOne, HandsOut, IsDue, IsOpen, times_handed, times_opened, opens}
 use Rattle.once_world.proofs.Listing.Listings.{asks, asks_call, first_asks}
 use Rattle.once_world.proofs.Listing.AllOut.{all_due, all_once, all_times, member_times}
 
@@ -17,12 +17,12 @@ CalledAt K xs h = cell K h ≡ Empty → (u : ℕ) → status K u h ≡ Waiting 
 
 -- each waker handed out and each that is listed was opened by a poll of its own
 pub record QueueFits (K : Kind) (xs : List (Listing ℕ)) (h : List Entry) : Type 0 where
-  pub counts : (w : ℕ) → handed_out w h + asks w xs ≤ opened K w h
+  pub counts : (w : ℕ) → times_handed w h + asks w xs ≤ times_opened K w h
   pub called : CalledAt K xs h
 
 -- one more entry, which hands out what the list loses
 pub entry_fits : (K : Kind) (xs ys : List (Listing ℕ)) (e : Entry) (h : List Entry) → QueueFits K xs h → is_replacing e ≡ false
-    → ((w : ℕ) → times w (handed_by e) + asks w ys ≤ asks w xs + bit (opens K w e h)) → CalledAt K ys (e ∷ h) → QueueFits K ys (e ∷ h)
+    → ((w : ℕ) → times_in w (handed_by e) + asks w ys ≤ asks w xs + bit (opens K w e h)) → CalledAt K ys (e ∷ h) → QueueFits K ys (e ∷ h)
 entry_fits K xs ys e h q stays less called = record {
   counts = λ w. let a = q.counts w in let b = less w in rw stays (omega arith);
   called = called;
@@ -51,7 +51,7 @@ pub nobody_called : (K : Kind) (xs : List (Listing ℕ)) (h : List Entry) → ((
 nobody_called K xs h n c u s = absurd (n u s)
 
 -- what is handed out no oftener than listings have it is open
-pub open_by : (K : Kind) (w : ℕ) (X : List ℕ) (xs : List (Listing ℕ)) (h : List Entry) → QueueFits K xs h → ((k : ℕ) → times k X ≤ asks k xs) → member w X ≡ true → IsOpen K w h
+pub open_by : (K : Kind) (w : ℕ) (X : List ℕ) (xs : List (Listing ℕ)) (h : List Entry) → QueueFits K xs h → ((k : ℕ) → times_in k X ≤ asks k xs) → member w X ≡ true → IsOpen K w h
 open_by K w X xs h q less m = let a = member_times w X m in let b = less w in let c = q.counts w in omega arith
 
 -- what a release with the value hands out meets what the cell asks of it

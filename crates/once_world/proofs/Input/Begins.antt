@@ -6,7 +6,7 @@ use Rattle.once_world.specs.Cell.{cell}
 use Rattle.once_world.specs.Tasks.{Dropping, Fresh, Waiting, last_call, status}
 use Rattle.once_world.specs.Called.{SomebodyCalled}
 use Rattle.once_world.specs.Run.{IsLegal, IsRun, MayBegin}
-use Rattle.once_world.specs.Machine.{AtFast, AtLeave, AtRelease, EndDropped, Finished, Inner, Place, Rest, RestRun, RestStart, RestWait, Resting, Step, UnderWay, begun, begun_at, drop_entries, dropped, dropped_at, is_resting}
+use Rattle.once_world.specs.Machine.{AtFast, AtLeave, AtRelease, EndDropped, Finished, Inner, Place, Rest, RestRun, RestStart, RestWait, Resting, Step, UnderWay, step_of_poll, place_of_poll, drop_entries, step_of_drop, step_of_drop_at, is_resting}
 use Rattle.once_queue.proofs.Listing.Members.{eqb_self}
 use Rattle.once_world.proofs.History.Others.{holds, keeps_both, legal_keeps}
 use Rattle.once_world.proofs.History.Waiters.{QueueFits, quiet}
@@ -19,8 +19,8 @@ use Rattle.once_world.proofs.Input.Moments.{drop_moment, now}
 
 module _ (K : Kind) (limit t w : ℕ) (k : Answer) (c : Inner) (h : List Entry) (run : IsRun K limit h) (inner : InnerFits K limit c h) (queue : QueueFits K c.listings h) where
   -- a poll that begins
-  begin_moves : (r : Rest ℕ) → MayBegin (status K t h) → k ≡ RanPending → AtPlace K limit t c (Begin t w ∷ h) (begun_at r) → is_take_at (begun_at r) ≡ false
-      → Moves K limit t (Resting r) (record { waker = w; kept = k; step = UnderWay (begun_at r) }) c c h (Begin t w ∷ h)
+  begin_moves : (r : Rest ℕ) → MayBegin (status K t h) → k ≡ RanPending → AtPlace K limit t c (Begin t w ∷ h) (place_of_poll r) → is_take_at (place_of_poll r) ≡ false
+      → Moves K limit t (Resting r) (record { waker = w; kept = k; step = UnderWay (place_of_poll r) }) c c h (Begin t w ∷ h)
   begin_moves r legal nothing own take = record {
     run = (legal, run);
     inner = inner_at K limit c h (Begin t w ∷ h) refl refl inner;
@@ -98,20 +98,20 @@ begun_ticket K t w c h None s a = tt
 begun_ticket K t w c h (Some n) s a = (rw (eqb_self t) s, λ r. rw (eqb_self t) (a.1 r))
 
 -- the poll begins, by the place at rest
-begins_at : (K : Kind) (limit t w : ℕ) (k : Answer) (c : Inner) (h : List Entry) (r : Rest ℕ) → IsRun K limit h → InnerFits K limit c h → QueueFits K c.listings h → k ≡ RanPending → AtRest K limit t c h r → Moves K limit t (Resting r) (record { waker = w; kept = k; step = UnderWay (begun_at r) }) c c h (Begin t w ∷ h)
+begins_at : (K : Kind) (limit t w : ℕ) (k : Answer) (c : Inner) (h : List Entry) (r : Rest ℕ) → IsRun K limit h → InnerFits K limit c h → QueueFits K c.listings h → k ≡ RanPending → AtRest K limit t c h r → Moves K limit t (Resting r) (record { waker = w; kept = k; step = UnderWay (place_of_poll r) }) c c h (Begin t w ∷ h)
 begins_at K limit t w k c h RestStart run inner queue g a = begin_moves K limit t w k c h run inner queue RestStart (rw a.status_is tt) g (begun_entered K t w h a.holds_is, rw (eqb_self t) a.status_is, λ e. (rw (eqb_self t) at e)) refl
 begins_at K limit t w k c h (RestWait q n) run inner queue g a = begin_moves K limit t w k c h run inner queue (RestWait q n) (rw a.0.status_is tt) g (record { entered = begun_entered K t w h a.0.holds_is; from = inr (rw (eqb_self t) a.0.status_is) }, a.1, begun_ticket K t w c h n a.0.status_is a.2) refl
 begins_at K limit t w k c h (RestRun by) run inner queue g a = begin_moves K limit t w k c h run inner queue (RestRun by) (rw a.0.status_is tt) g (begun_holds K t w h a.0.holds_is, a.1) refl
 
 -- a poll begins from the step at rest
-pub begins : (K : Kind) (limit t w : ℕ) (k : Answer) (c : Inner) (h : List Entry) (s : Step ℕ ℕ) → IsRun K limit h → InnerFits K limit c h → QueueFits K c.listings h → k ≡ kept_of (last_call K t h).ran → is_resting s ≡ true → AtStep K limit t c h s → Moves K limit t s (record { waker = w; kept = k; step = begun s }) c c h (Begin t w ∷ h)
+pub begins : (K : Kind) (limit t w : ℕ) (k : Answer) (c : Inner) (h : List Entry) (s : Step ℕ ℕ) → IsRun K limit h → InnerFits K limit c h → QueueFits K c.listings h → k ≡ kept_of (last_call K t h).ran → is_resting s ≡ true → AtStep K limit t c h s → Moves K limit t s (record { waker = w; kept = k; step = step_of_poll s }) c c h (Begin t w ∷ h)
 begins K limit t w k c h (Resting r) run inner queue kk n a = begins_at K limit t w k c h r run inner queue (kk ∙ a.1) a.0
 begins K limit t w k c h (UnderWay p) run inner queue kk n a = absurd (false≢true n)
 begins K limit t w k c h Finished run inner queue kk n a = absurd (false≢true n)
 
 -- the drop begins, by the place at rest
 drops_at : (K : Kind) (limit t w : ℕ) (k : Answer) (c : Inner) (h : List Entry) (r : Rest ℕ) → IsRun K limit h → InnerFits K limit c h → QueueFits K c.listings h → (last_call K t h).waker ≡ w → k ≡ kept_of (last_call K t h).ran → AtStep K limit t c h (Resting r)
-    → Moves K limit t (Resting r) (record { waker = w; kept = k; step = dropped_at r }) c c h (drop_entries t (dropped_at r) ++ h)
+    → Moves K limit t (Resting r) (record { waker = w; kept = k; step = step_of_drop_at r }) c c h (drop_entries t (step_of_drop_at r) ++ h)
 drops_at K limit t w k c h RestStart run inner queue wk kk a = drop_fresh K limit t w k c h run inner queue a.0 wk (kk ∙ a.1)
 drops_at K limit t w k c h (RestWait q None) run inner queue wk kk a = absurd a.0.2
 drops_at K limit t w k c h (RestWait q (Some n)) run inner queue wk kk a = drop_moves K limit t w k c h run inner queue (RestWait q (Some n)) (AtLeave q n EndDropped) (rw a.0.0.status_is tt) wk (kk ∙ a.1)
@@ -123,7 +123,7 @@ drops_at K limit t w k c h (RestRun (Some q)) run inner queue wk kk a = drop_mov
 
 -- a drop begins from the step at rest
 pub drop_begins : (K : Kind) (limit t w : ℕ) (k : Answer) (c : Inner) (h : List Entry) (s : Step ℕ ℕ) → IsRun K limit h → InnerFits K limit c h → QueueFits K c.listings h → (last_call K t h).waker ≡ w → k ≡ kept_of (last_call K t h).ran → is_resting s ≡ true → AtStep K limit t c h s
-    → Moves K limit t s (record { waker = w; kept = k; step = dropped s }) c c h (drop_entries t (dropped s) ++ h)
+    → Moves K limit t s (record { waker = w; kept = k; step = step_of_drop s }) c c h (drop_entries t (step_of_drop s) ++ h)
 drop_begins K limit t w k c h (Resting r) run inner queue wk kk n a = drops_at K limit t w k c h r run inner queue wk kk a
 drop_begins K limit t w k c h (UnderWay p) run inner queue wk kk n a = absurd (false≢true n)
 drop_begins K limit t w k c h Finished run inner queue wk kk n a = absurd (false≢true n)

@@ -6,7 +6,7 @@ use Rattle.once_world.specs.Cell.{cell}
 use Rattle.once_world.specs.Run.{AtEvery, IsRun}
 use Rattle.once_world.specs.Called.{SomebodyCalled}
 use Rattle.once_world.specs.Inputs.{Drop, Go, Input, Looks, Make, Owns, Poll}
-use Rattle.once_world.specs.Machine.{Finished, Outcome, Resting, Step, Task, UnderWay, World, advance, after, begun, begun_by, dropped, dropped_by, drops, goes, gone_on, history_of, in_call, is_finished, is_resting, opening, polled, unfinished_after, world_of}
+use Rattle.once_world.specs.Machine.{Finished, Outcome, Resting, Step, Task, UnderWay, World, advance, world_after, step_of_poll, poll_world_by, step_of_drop, drop_world_by, drop_world, go_world, go_world_by, history_of, in_call, is_finished, is_resting, first_world, poll_world, unfinished_after, world_of}
 use Rattle.once_world.proofs.History.Others.{holds}
 use Rattle.once_world.proofs.History.Cells.{empty_not_set, same_value}
 use Rattle.once_world.proofs.Invariant.Fits.{Fits, InnerFits, TaskFits}
@@ -37,54 +37,54 @@ calling_live (UnderWay p) e = refl
 calling_live Finished e = absurd (false≢true e)
 
 -- a poll that begins finishes no task
-begun_live : (s : Step ℕ ℕ) (n : ℕ) → is_resting s ≡ true → n ≡ unfinished_after (begun s) n
+begun_live : (s : Step ℕ ℕ) (n : ℕ) → is_resting s ≡ true → n ≡ unfinished_after (step_of_poll s) n
 begun_live (Resting r) n e = refl
 begun_live (UnderWay p) n e = refl
 begun_live Finished n e = absurd (false≢true e)
 
 -- the beginning of a poll
-begun_fits : (K : Kind) (limit : ℕ) (w : World) (t k : ℕ) (x : Task) → Fits K limit w → w.tasks t ≡ Some x → (r : Bool) → is_resting x.step ≡ r → Fits K limit (begun_by r w t k x)
+begun_fits : (K : Kind) (limit : ℕ) (w : World) (t k : ℕ) (x : Task) → Fits K limit w → w.tasks t ≡ Some x → (r : Bool) → is_resting x.step ≡ r → Fits K limit (poll_world_by r w t k x)
 begun_fits K limit w t k x f found false r = f
 begun_fits K limit w t k x f found true r =
-    let y : Task = record x { waker = k; step = begun x.step } in
+    let y : Task = record x { waker = k; step = step_of_poll x.step } in
     let own = task_fits K limit t w x f found in
-    moved_fits K limit t x y w (begun_by true w t k x) f found (resting_live x.step r) (puts t y w.tasks) (begun_live x.step w.unfinished r)
+    moved_fits K limit t x y w (poll_world_by true w t k x) f found (resting_live x.step r) (puts t y w.tasks) (begun_live x.step w.unfinished r)
     (begins K limit t k x.kept w.inner w.history x.step f.run f.inner f.queue own.kept_is r own.step)
 
 -- the beginning of a drop
-drop_fits : (K : Kind) (limit : ℕ) (w : World) (t : ℕ) (x : Task) → Fits K limit w → w.tasks t ≡ Some x → (r : Bool) → is_resting x.step ≡ r → Fits K limit (dropped_by r w t x)
+drop_fits : (K : Kind) (limit : ℕ) (w : World) (t : ℕ) (x : Task) → Fits K limit w → w.tasks t ≡ Some x → (r : Bool) → is_resting x.step ≡ r → Fits K limit (drop_world_by r w t x)
 drop_fits K limit w t x f found false r = f
 drop_fits K limit w t x f found true r =
-    let y : Task = record x { step = dropped x.step } in
+    let y : Task = record x { step = step_of_drop x.step } in
     let own = task_fits K limit t w x f found in
-    moved_fits K limit t x y w (dropped_by true w t x) f found (resting_live x.step r) (puts t y w.tasks) refl
+    moved_fits K limit t x y w (drop_world_by true w t x) f found (resting_live x.step r) (puts t y w.tasks) refl
     (drop_begins K limit t x.waker x.kept w.inner w.history x.step f.run f.inner f.queue own.waker_is own.kept_is r own.step)
 
 -- a step
-goes_fits : (K : Kind) (limit : ℕ) (w : World) (t : ℕ) (a : Answer) (g : Bool) (x : Task) → 0 < limit → Fits K limit w → w.tasks t ≡ Some x → (r : Bool) → in_call x.step ≡ r → Fits K limit (gone_on r (is_lazy K) limit w t a g x)
+goes_fits : (K : Kind) (limit : ℕ) (w : World) (t : ℕ) (a : Answer) (g : Bool) (x : Task) → 0 < limit → Fits K limit w → w.tasks t ≡ Some x → (r : Bool) → in_call x.step ≡ r → Fits K limit (go_world_by r (is_lazy K) limit w t a g x)
 goes_fits K limit w t a g x some f found false r = f
 goes_fits K limit w t a g x some f found true r =
     let o : Outcome = advance (is_lazy K) limit w.inner t x a g in
     let y : Task = record x { step = o.step; kept = o.kept } in
     let own = task_fits K limit t w x f found in
-    moved_fits K limit t x y w (gone_on true (is_lazy K) limit w t a g x) f found (calling_live x.step r) (puts t y w.tasks) refl
+    moved_fits K limit t x y w (go_world_by true (is_lazy K) limit w t a g x) f found (calling_live x.step r) (puts t y w.tasks) refl
     (advances K limit t x.waker x.kept w.inner w.history a g some f.run f.inner f.queue own.waker_is own.kept_is x.step r (around K limit t x w f found) (around_list K limit t x w f found) own.step)
 
 -- the inputs, by whether the task is there
-polled_fits : (K : Kind) (limit : ℕ) (w : World) (t k : ℕ) → Fits K limit w → (o : Option Task) → w.tasks t ≡ o → Fits K limit (polled w t k o)
+polled_fits : (K : Kind) (limit : ℕ) (w : World) (t k : ℕ) → Fits K limit w → (o : Option Task) → w.tasks t ≡ o → Fits K limit (poll_world w t k o)
 polled_fits K limit w t k f None is = f
 polled_fits K limit w t k f (Some x) is = begun_fits K limit w t k x f is (is_resting x.step) refl
 
-dropped_fits : (K : Kind) (limit : ℕ) (w : World) (t : ℕ) → Fits K limit w → (o : Option Task) → w.tasks t ≡ o → Fits K limit (drops w t o)
+dropped_fits : (K : Kind) (limit : ℕ) (w : World) (t : ℕ) → Fits K limit w → (o : Option Task) → w.tasks t ≡ o → Fits K limit (drop_world w t o)
 dropped_fits K limit w t f None is = f
 dropped_fits K limit w t f (Some x) is = drop_fits K limit w t x f is (is_resting x.step) refl
 
-gone_fits : (K : Kind) (limit : ℕ) (w : World) (t : ℕ) (a : Answer) (g : Bool) → 0 < limit → Fits K limit w → (o : Option Task) → w.tasks t ≡ o → Fits K limit (goes (is_lazy K) limit w t a g o)
+gone_fits : (K : Kind) (limit : ℕ) (w : World) (t : ℕ) (a : Answer) (g : Bool) → 0 < limit → Fits K limit w → (o : Option Task) → w.tasks t ≡ o → Fits K limit (go_world (is_lazy K) limit w t a g o)
 gone_fits K limit w t a g some f None is = f
 gone_fits K limit w t a g some f (Some x) is = goes_fits K limit w t a g x some f is (in_call x.step) refl
 
 -- how what is shared starts
-starting : (K : Kind) (limit : ℕ) → InnerFits K limit (opening K).inner []
+starting : (K : Kind) (limit : ℕ) → InnerFits K limit (first_world K).inner []
 starting Once limit = record { ready_is = refl; held_is = refl; value_is = λ v e. absurd (empty_not_set v e); answers_is = refl; within = omega arith; stands = λ _ l. absurd (omega arith); head_door = λ e. absurd (false≢true e) }
 starting (OnceWith k) limit = record { ready_is = refl; held_is = refl; value_is = λ v e. same_value k v e; answers_is = refl; within = omega arith; stands = λ _ l. absurd (omega arith); head_door = λ e. absurd (false≢true e) }
 starting (Lazy k) limit = record { ready_is = refl; held_is = refl; value_is = λ v e. absurd (empty_not_set v e); answers_is = refl; within = omega arith; stands = λ _ l. absurd (omega arith); head_door = λ e. absurd (false≢true e) }
@@ -98,7 +98,7 @@ unheld (Lazy l) t = refl
 unheld (LazyWith v) t = refl
 
 -- all holds at the start
-opening_fits : (K : Kind) (limit : ℕ) → Fits K limit (opening K)
+opening_fits : (K : Kind) (limit : ℕ) → Fits K limit (first_world K)
 opening_fits K limit = record {
   run = tt;
   inner = starting K limit;
@@ -116,7 +116,7 @@ opening_fits K limit = record {
 }
 
 -- each input keeps all that holds
-after_fits : (K : Kind) (limit : ℕ) (w : World) (i : Input) → 0 < limit → Fits K limit w → Fits K limit (after K limit w i)
+after_fits : (K : Kind) (limit : ℕ) (w : World) (i : Input) → 0 < limit → Fits K limit w → Fits K limit (world_after K limit w i)
 after_fits K limit w (Make t) some f = made_fits K limit w t f (w.tasks t) refl
 after_fits K limit w (Poll t k) some f = polled_fits K limit w t k f (w.tasks t) refl
 after_fits K limit w (Drop t) some f = dropped_fits K limit w t f (w.tasks t) refl

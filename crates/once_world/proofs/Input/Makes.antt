@@ -8,7 +8,7 @@ use Rattle.once_world.specs.Cell.{Cell, Empty, Held, SetTo, cell, value_in}
 use Rattle.once_world.specs.Tasks.{last_call}
 use Rattle.once_queue.specs.Listings.{find_listing}
 use Rattle.once_world.specs.Run.{IsLegal}
-use Rattle.once_world.specs.Machine.{Inner, Task, World, fresh_task, looked, made, put_task}
+use Rattle.once_world.specs.Machine.{Inner, Task, World, fresh_task, look_value, make_world, put_task}
 use Rattle.once_queue.proofs.Listing.Members.{eqb_self}
 use Rattle.once_world.proofs.History.Others.{legal_keeps}
 use Rattle.once_world.proofs.History.Waiters.{QueueFits, quiet}
@@ -62,7 +62,7 @@ owned_made K limit w new t f is others r n o e =
     (v.0, ap (λ i. ticket_of (step_of i)) (others v.0 d) ∙ v.1)
 
 -- the making of a task keeps all that holds
-pub made_fits : (K : Kind) (limit : ℕ) (w : World) (t : ℕ) → Fits K limit w → (o : Option Task) → w.tasks t ≡ o → Fits K limit (made w t o)
+pub made_fits : (K : Kind) (limit : ℕ) (w : World) (t : ℕ) → Fits K limit w → (o : Option Task) → w.tasks t ≡ o → Fits K limit (make_world w t o)
 made_fits K limit w t f (Some x) is = f
 made_fits K limit w t f None is =
     let y : Task = fresh_task in
@@ -108,24 +108,24 @@ made_fits K limit w t f None is =
     }
 
 -- by the state of the cell
-looked_by : (K : Kind) (limit : ℕ) (c : Inner) (h : List Entry) (v : Cell) → cell K h ≡ v → InnerFits K limit c h → looked c ≡ value_in (cell K h)
+looked_by : (K : Kind) (limit : ℕ) (c : Inner) (h : List Entry) (v : Cell) → cell K h ≡ v → InnerFits K limit c h → look_value c ≡ value_in (cell K h)
 looked_by K limit c h Empty e f = rw (e, f.ready_is, e) refl
 looked_by K limit c h (Held u) e f = rw (e, f.ready_is, e) refl
 looked_by K limit c h (SetTo v) e f = rw (e, f.ready_is, e, f.value_is v e) refl
 
 -- a look finds the value that is set
-pub looked_is : (K : Kind) (limit : ℕ) (c : Inner) (h : List Entry) → InnerFits K limit c h → looked c ≡ value_in (cell K h)
+pub looked_is : (K : Kind) (limit : ℕ) (c : Inner) (h : List Entry) → InnerFits K limit c h → look_value c ≡ value_in (cell K h)
 looked_is K limit c h f = looked_by K limit c h (cell K h) refl f
 
 -- a look keeps all that holds
-pub look_fits : (K : Kind) (limit : ℕ) (w : World) → Fits K limit w → Fits K limit (record w { history = Look (looked w.inner) ∷ w.history })
+pub look_fits : (K : Kind) (limit : ℕ) (w : World) → Fits K limit w → Fits K limit (record w { history = Look (look_value w.inner) ∷ w.history })
 look_fits K limit w f =
     let h : List Entry = w.history in
-    let h' : List Entry = Look (looked w.inner) ∷ h in
-    let legal : IsLegal K limit (Look (looked w.inner)) h = looked_is K limit w.inner h f.inner in
+    let h' : List Entry = Look (look_value w.inner) ∷ h in
+    let legal : IsLegal K limit (Look (look_value w.inner)) h = looked_is K limit w.inner h f.inner in
     let inner' : InnerFits K limit w.inner h' = inner_at K limit w.inner h h' refl refl f.inner in
-    let queue' : QueueFits K w.inner.listings h' = quiet K w.inner.listings (Look (looked w.inner)) h f.queue refl refl (λ _. refl) (λ u is. grind arith) (λ x. x) in
-    let stands : (u : ℕ) → StandsFor K limit u w.inner h' (w.tasks u) = λ u. stands_kept K limit u w.inner w.inner h h' (w.tasks u) f.inner.ready_is (legal_keeps K u (Look (looked w.inner)) limit h refl legal refl)
+    let queue' : QueueFits K w.inner.listings h' = quiet K w.inner.listings (Look (look_value w.inner)) h f.queue refl refl (λ _. refl) (λ u is. grind arith) (λ x. x) in
+    let stands : (u : ℕ) → StandsFor K limit u w.inner h' (w.tasks u) = λ u. stands_kept K limit u w.inner w.inner h h' (w.tasks u) f.inner.ready_is (legal_keeps K u (Look (look_value w.inner)) limit h refl legal refl)
     (same_inner K limit w.inner w.inner u h (is_inside (step_of (w.tasks u))) refl refl refl refl refl (λ x. x)) (λ n o k r e. inl e) (f.tasks u) in
     record {
       run = (legal, f.run);

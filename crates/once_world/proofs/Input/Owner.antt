@@ -3,10 +3,10 @@ use Rattle.std.proofs.Common.{◌≡◌, ◌≢◌, ℕ, Bool, true, false, ◌=
 use Rattle.std.proofs.lemmas.Bool.{false≢true, eqb-true}
 use Rattle.once_queue.specs.Numbers.{how_many}
 use Rattle.once_world.specs.Record.{Entry, Got, GotAnswers, Kind, Own, OwnerCall, Parts, ReplaceAnswers, ReplaceValue, Take, Write, made_in, replaces}
-use Rattle.once_world.specs.Cell.{Cell, Empty, Held, SetTo, answers_left, cell, got, got_parts, got_value, is_held, is_set, owned, written}
+use Rattle.once_world.specs.Cell.{Cell, Empty, Held, SetTo, answers_left, cell, got, got_parts, got_value, is_held, is_set, cell_after_call, write_cell}
 use Rattle.once_world.specs.Tasks.{Waiting, status}
 use Rattle.once_queue.specs.Listings.{find_listing}
-use Rattle.once_world.specs.Machine.{Inner, Task, World, is_some_value, owned_by, owner_got, owner_inner, parts_got, reset, rewritten, value_got, value_or}
+use Rattle.once_world.specs.Machine.{Inner, Task, World, is_some_value, own_world_by, owner_got, owner_inner, parts_got, reset_inner, write_inner, value_got, value_or}
 use Rattle.once_queue.proofs.Listing.Members.{eqb_self}
 use Rattle.once_world.proofs.History.Others.{holds}
 use Rattle.once_world.proofs.History.Cells.{empty_cell, empty_not_set, holder_of, same_value, value_of_set}
@@ -35,13 +35,13 @@ cell_free K h n false e = e
 cell_free K h n true e = let u = holder_of (cell K h) e in absurd (false≢true (sym (n u.0) ∙ ap (holds u.0) u.1 ∙ eqb_self u.0))
 
 -- a writing gives nobody the right
-written_holds : (t v : ℕ) (c : Cell) → holds t c ≡ false → holds t (written v c) ≡ false
+written_holds : (t v : ℕ) (c : Cell) → holds t c ≡ false → holds t (write_cell v c) ≡ false
 written_holds t v (SetTo u) n = refl
 written_holds t v Empty n = refl
 written_holds t v (Held u) n = n
 
 -- nor does another call of the owner
-owned_holds : (t : ℕ) (o : OwnerCall) (c : Cell) → holds t c ≡ false → holds t (owned o c) ≡ false
+owned_holds : (t : ℕ) (o : OwnerCall) (c : Cell) → holds t c ≡ false → holds t (cell_after_call o c) ≡ false
 owned_holds t Take c n = refl
 owned_holds t (Write v) c n = written_holds t v c n
 owned_holds t Parts c n = refl
@@ -69,8 +69,8 @@ owner_is_got K limit (ReplaceValue v) c h f = value_is_got K limit c h (cell K h
 owner_is_got K limit (ReplaceAnswers l) c h f = value_is_got K limit c h (cell K h) refl f
 
 -- a cell made new fits
-reset_inner : (K : Kind) (limit : ℕ) (c : Inner) (v : Option ℕ) (l : List (Option ℕ)) (h : List Entry) → is_some_value v ≡ is_set (cell K h) → is_held (cell K h) ≡ false → ((u : ℕ) → cell K h ≡ SetTo u → value_or v c.value ≡ u) → l ≡ answers_left K h → InnerFits K limit (reset c v l) h
-reset_inner K limit c v l h r n s a = record {
+reset_fits : (K : Kind) (limit : ℕ) (c : Inner) (v : Option ℕ) (l : List (Option ℕ)) (h : List Entry) → is_some_value v ≡ is_set (cell K h) → is_held (cell K h) ≡ false → ((u : ℕ) → cell K h ≡ SetTo u → value_or v c.value ≡ u) → l ≡ answers_left K h → InnerFits K limit (reset_inner c v l) h
+reset_fits K limit c v l h r n s a = record {
   ready_is = r;
   held_is = n;
   value_is = s;
@@ -81,10 +81,10 @@ reset_inner K limit c v l h r n s a = record {
 }
 
 -- a written value fits, and a cell without a value stays as it is
-written_inner : (K : Kind) (limit v : ℕ) (c : Inner) (g : Got) (h : List Entry) (r : Bool) → c.ready ≡ r → is_held (cell K h) ≡ false → InnerFits K limit c h → InnerFits K limit (rewritten r v c) (Own (Write v) g ∷ h)
+written_inner : (K : Kind) (limit v : ℕ) (c : Inner) (g : Got) (h : List Entry) (r : Bool) → c.ready ≡ r → is_held (cell K h) ≡ false → InnerFits K limit c h → InnerFits K limit (write_inner r v c) (Own (Write v) g ∷ h)
 written_inner K limit v c g h true r n f =
     let u = value_of_set (cell K h) (sym f.ready_is ∙ r) in
-    let now : cell K (Own (Write v) g ∷ h) ≡ SetTo v = ap (written v) u.1 in
+    let now : cell K (Own (Write v) g ∷ h) ≡ SetTo v = ap (write_cell v) u.1 in
     record {
       ready_is = r ∙ sym (ap is_set now);
       held_is = ap is_held now ∙ sym n ∙ f.held_is;
@@ -96,7 +96,7 @@ written_inner K limit v c g h true r n f =
     }
 written_inner K limit v c g h false r n f =
     let was = empty_cell (cell K h) (sym f.ready_is ∙ r) n in
-    let now : cell K (Own (Write v) g ∷ h) ≡ Empty = ap (written v) was in
+    let now : cell K (Own (Write v) g ∷ h) ≡ Empty = ap (write_cell v) was in
     record {
       ready_is = r ∙ sym (ap is_set now);
       held_is = ap is_held now ∙ sym n ∙ f.held_is;
@@ -118,22 +118,22 @@ record Owned (K : Kind) (limit : ℕ) (c c' : Inner) (o : OwnerCall) (g : Got) (
 replaced : (K : Kind) (o : OwnerCall) (g : Got) (h : List Entry) → replaces o ≡ true → ((u : ℕ) → status K u h ≢ Waiting) → QueueFits K [] (Own o g ∷ h)
 replaced K o g h r w = record { counts = λ k. rw r (omega arith); called = λ e u s. absurd (w u s) }
 
-written_empty : (v : ℕ) (c : Cell) → written v c ≡ Empty → c ≡ Empty
+written_empty : (v : ℕ) (c : Cell) → write_cell v c ≡ Empty → c ≡ Empty
 written_empty v Empty e = refl
 written_empty v (Held u) e = e
 written_empty v (SetTo u) e = absurd (empty_not_set v (sym e))
 
 -- a writing, by whether a value is set
-owned_write : (K : Kind) (limit v : ℕ) (c : Inner) (g : Got) (h : List Entry) (r : Bool) → c.ready ≡ r → is_held (cell K h) ≡ false → InnerFits K limit c h → QueueFits K c.listings (Own (Write v) g ∷ h) → Owned K limit c (rewritten r v c) (Write v) g h
+owned_write : (K : Kind) (limit v : ℕ) (c : Inner) (g : Got) (h : List Entry) (r : Bool) → c.ready ≡ r → is_held (cell K h) ≡ false → InnerFits K limit c h → QueueFits K c.listings (Own (Write v) g ∷ h) → Owned K limit c (write_inner r v c) (Write v) g h
 owned_write K limit v c g h true r n f q = record { inner = written_inner K limit v c g h true r n f; queue = q; count = inr refl; lists = λ z n x e. (z, e) }
 owned_write K limit v c g h false r n f q = record { inner = written_inner K limit v c g h false r n f; queue = q; count = inr refl; lists = λ z n x e. (z, e) }
 
 -- what each call owes
 owned_so : (K : Kind) (limit : ℕ) (c : Inner) (o : OwnerCall) (g : Got) (h : List Entry) → is_held (cell K h) ≡ false → InnerFits K limit c h → QueueFits K c.listings h → ((u : ℕ) → status K u h ≢ Waiting) → Owned K limit c (owner_inner o c) o g h
-owned_so K limit c Take g h n f q w = record { inner = reset_inner K limit c None c.answers (Own Take g ∷ h) refl refl (λ u e. absurd (empty_not_set u e)) f.answers_is; queue = replaced K Take g h refl w; count = inl refl; lists = λ z n x e. absurd (no_listing x e) }
-owned_so K limit c Parts g h n f q w = record { inner = reset_inner K limit c None [] (Own Parts g ∷ h) refl refl (λ u e. absurd (empty_not_set u e)) refl; queue = replaced K Parts g h refl w; count = inl refl; lists = λ z n x e. absurd (no_listing x e) }
-owned_so K limit c (ReplaceValue v) g h n f q w = record { inner = reset_inner K limit c (Some v) [] (Own (ReplaceValue v) g ∷ h) refl refl (λ u e. same_value v u e) refl; queue = replaced K (ReplaceValue v) g h refl w; count = inl refl; lists = λ z n x e. absurd (no_listing x e) }
-owned_so K limit c (ReplaceAnswers l) g h n f q w = record { inner = reset_inner K limit c None l (Own (ReplaceAnswers l) g ∷ h) refl refl (λ u e. absurd (empty_not_set u e)) refl; queue = replaced K (ReplaceAnswers l) g h refl w; count = inl refl; lists = λ z n x e. absurd (no_listing x e) }
+owned_so K limit c Take g h n f q w = record { inner = reset_fits K limit c None c.answers (Own Take g ∷ h) refl refl (λ u e. absurd (empty_not_set u e)) f.answers_is; queue = replaced K Take g h refl w; count = inl refl; lists = λ z n x e. absurd (no_listing x e) }
+owned_so K limit c Parts g h n f q w = record { inner = reset_fits K limit c None [] (Own Parts g ∷ h) refl refl (λ u e. absurd (empty_not_set u e)) refl; queue = replaced K Parts g h refl w; count = inl refl; lists = λ z n x e. absurd (no_listing x e) }
+owned_so K limit c (ReplaceValue v) g h n f q w = record { inner = reset_fits K limit c (Some v) [] (Own (ReplaceValue v) g ∷ h) refl refl (λ u e. same_value v u e) refl; queue = replaced K (ReplaceValue v) g h refl w; count = inl refl; lists = λ z n x e. absurd (no_listing x e) }
+owned_so K limit c (ReplaceAnswers l) g h n f q w = record { inner = reset_fits K limit c None l (Own (ReplaceAnswers l) g ∷ h) refl refl (λ u e. absurd (empty_not_set u e)) refl; queue = replaced K (ReplaceAnswers l) g h refl w; count = inl refl; lists = λ z n x e. absurd (no_listing x e) }
 owned_so K limit c (Write v) g h n f q w = owned_write K limit v c g h c.ready refl n f (quiet K c.listings (Own (Write v) g) h q refl refl (λ _. refl) (λ u is. absurd (false≢true is)) (written_empty v (cell K h)))
 
 -- a task that is unmade or gone does not wait
@@ -146,7 +146,7 @@ zero_is c c' n a b (inl e) = omega arith
 zero_is c c' n a b (inr e) = omega arith
 
 -- a call that fits keeps all that holds
-owner_fits : (K : Kind) (limit : ℕ) (w : World) (o : OwnerCall) → Fits K limit w → w.unfinished ≡ 0 → Fits K limit (owned_by true true w o)
+owner_fits : (K : Kind) (limit : ℕ) (w : World) (o : OwnerCall) → Fits K limit w → w.unfinished ≡ 0 → Fits K limit (own_world_by true true w o)
 owner_fits K limit w o f d =
     let h : List Entry = w.history in
     let g : Got = owner_got o w.inner in
@@ -172,7 +172,7 @@ owner_fits K limit w o f d =
     }
 
 -- by whether the call fits
-pub owned_fits : (K : Kind) (limit : ℕ) (w : World) (o : OwnerCall) (d b : Bool) → (w.unfinished == 0) ≡ d → Fits K limit w → Fits K limit (owned_by d b w o)
+pub owned_fits : (K : Kind) (limit : ℕ) (w : World) (o : OwnerCall) (d b : Bool) → (w.unfinished == 0) ≡ d → Fits K limit w → Fits K limit (own_world_by d b w o)
 owned_fits K limit w o true true e f = owner_fits K limit w o f (eqb-true w.unfinished 0 e)
 owned_fits K limit w o true false e f = f
 owned_fits K limit w o false b e f = f

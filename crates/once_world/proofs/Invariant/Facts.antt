@@ -7,7 +7,7 @@ use Rattle.once_world.specs.Tasks.{Dropping, Fresh, Gone, Holding, Polling, Stat
 use Rattle.once_queue.specs.Listings.{find_listing}
 use Rattle.once_world.specs.Refusals.{MemoryFrom}
 use Rattle.once_world.specs.Wakers.{handed_since}
-use Rattle.once_world.specs.Machine.{AtAddOne, AtCountIn, AtCountOut, AtDoorAgain, AtDoorGet, AtDoorPut, AtDoorTake, AtFast, AtList, AtLook, AtPut, AtLeave, AtRelease, AtRun, AtStart, AtTryQuick, AtWaitLoad, EndDropped, EndError, EndFull, EndMemory, EndPending, EndValue, Ending, Finished, Inner, Place, Rest, RestRun, RestStart, RestWait, Resting, Step, UnderWay, begun_at}
+use Rattle.once_world.specs.Machine.{AtAddOne, AtCountIn, AtCountOut, AtDoorAgain, AtDoorGet, AtDoorPut, AtDoorTake, AtFast, AtList, AtLook, AtPut, AtLeave, AtRelease, AtRun, AtStart, AtTryQuick, AtWaitLoad, EndDropped, EndError, EndFull, EndMemory, EndPending, EndValue, Ending, Finished, Inner, Place, Rest, RestRun, RestStart, RestWait, Resting, Step, UnderWay, place_of_poll}
 use Rattle.once_world.proofs.History.Others.{Met, MetHolder, SomeoneWaits, holds}
 
 -- what is kept of the last answer of an init
@@ -164,7 +164,7 @@ is_counted_at _ = false
 
 -- a task at rest is where its next poll goes on
 abbrev pub is_counted : Step ℕ ℕ → Bool
-is_counted (Resting r) = is_counted_at (begun_at r)
+is_counted (Resting r) = is_counted_at (place_of_poll r)
 is_counted (UnderWay p) = is_counted_at p
 is_counted Finished = false
 
@@ -178,7 +178,7 @@ is_inside_at _ = false
 
 -- the same of a step
 abbrev pub is_inside : Step ℕ ℕ → Bool
-is_inside (Resting r) = is_inside_at (begun_at r)
+is_inside (Resting r) = is_inside_at (place_of_poll r)
 is_inside (UnderWay p) = is_inside_at p
 is_inside Finished = false
 
@@ -202,6 +202,6 @@ ticket_at _ = None
 
 -- the same of a step
 abbrev pub ticket_of : Step ℕ ℕ → Option ℕ
-ticket_of (Resting r) = ticket_at (begun_at r)
+ticket_of (Resting r) = ticket_at (place_of_poll r)
 ticket_of (UnderWay p) = ticket_at p
 ticket_of Finished = None

@@ -10,7 +10,7 @@ use Rattle.once_queue.specs.declared.waiters.Listing.{Listing}
 use Rattle.once_queue.specs.Listings.{find_listing}
 use Rattle.once_world.specs.Run.{AtEvery, IsRun}
 use Rattle.once_world.specs.Called.{SomebodyCalled}
-use Rattle.once_world.specs.Machine.{AtDoorTake, AtLeave, AtList, AtLook, AtWaitLoad, Finished, Inner, Place, Resting, Step, Task, UnderWay, World, begun_at, is_finished, put_task, unfinished_after}
+use Rattle.once_world.specs.Machine.{AtDoorTake, AtLeave, AtList, AtLook, AtWaitLoad, Finished, Inner, Place, Resting, Step, Task, UnderWay, World, place_of_poll, is_finished, put_task, unfinished_after}
 use Rattle.once_queue.proofs.Listing.Members.{eqb_self}
 use Rattle.once_world.proofs.History.Others.{Keeps}
 use Rattle.once_world.proofs.History.Waiters.{QueueFits}
@@ -88,7 +88,7 @@ inside_counted_at _ e = absurd (false≢true e)
 
 -- a waiter stands in the count
 pub inside_counted : (s : Step ℕ ℕ) → is_inside s ≡ true → is_counted s ≡ true
-inside_counted (Resting r) e = inside_counted_at (begun_at r) e
+inside_counted (Resting r) e = inside_counted_at (place_of_poll r) e
 inside_counted (UnderWay p) e = inside_counted_at p e
 inside_counted Finished e = absurd (false≢true e)
 

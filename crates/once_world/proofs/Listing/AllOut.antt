@@ -2,7 +2,7 @@
 use Rattle.std.proofs.Common.{◌≡◌, ◌≤◌, ◌<◌, ◌+◌, ℕ, Bool, true, false, cond, ◌==◌, ⊎_elim, List, [], ◌∷◌, Option, Some, None, refl, sym, subst, arith}
 use Rattle.std.proofs.lemmas.Bool.{cases_eq, ne_eqb}
 use Rattle.std.proofs.lemmas.Bool.Decides.{nat_tests}
-use Rattle.once_queue.specs.Numbers.{bit, is_distinct, member, times}
+use Rattle.once_queue.specs.Numbers.{bit, is_distinct, member, times_in}
 use Rattle.once_queue.specs.declared.waiters.Listing.{Listing}
 use Rattle.once_queue.specs.Listings.{all_out, out_by}
 use Rattle.once_queue.proofs.Listing.Members.{eqb_self}
@@ -30,16 +30,16 @@ module _ (k : ℕ) where
   all_due [] seen m l = absurd (omega arith)
   all_due (x ∷ xs) seen m l = due_by x.waker xs seen m l (all_due xs)
 
-  times_cond : (b : Bool) (w : ℕ) (xs : List (Listing ℕ)) (seen : List ℕ) → ((s : List ℕ) → times k (all_out xs s) ≤ asks k xs) → times k (cond b (all_out xs seen) (w ∷ all_out xs (w ∷ seen))) ≤ bit (w == k) + asks k xs
+  times_cond : (b : Bool) (w : ℕ) (xs : List (Listing ℕ)) (seen : List ℕ) → ((s : List ℕ) → times_in k (all_out xs s) ≤ asks k xs) → times_in k (cond b (all_out xs seen) (w ∷ all_out xs (w ∷ seen))) ≤ bit (w == k) + asks k xs
   times_cond true w xs seen ih = let a = ih seen in omega arith
   times_cond false w xs seen ih = let a = ih (w ∷ seen) in omega arith
 
-  times_by : (o : Option ℕ) (xs : List (Listing ℕ)) (seen : List ℕ) → ((s : List ℕ) → times k (all_out xs s) ≤ asks k xs) → times k (out_by o (all_out xs) seen) ≤ bit (is_for k o) + asks k xs
+  times_by : (o : Option ℕ) (xs : List (Listing ℕ)) (seen : List ℕ) → ((s : List ℕ) → times_in k (all_out xs s) ≤ asks k xs) → times_in k (out_by o (all_out xs) seen) ≤ bit (is_for k o) + asks k xs
   times_by None xs seen ih = let a = ih seen in omega arith
   times_by (Some w) xs seen ih = times_cond (member w seen) w xs seen ih
 
   -- and no oftener than listings have it
-  pub all_times : (xs : List (Listing ℕ)) (seen : List ℕ) → times k (all_out xs seen) ≤ asks k xs
+  pub all_times : (xs : List (Listing ℕ)) (seen : List ℕ) → times_in k (all_out xs seen) ≤ asks k xs
   all_times [] seen = omega arith
   all_times (x ∷ xs) seen = times_by x.waker xs seen (all_times xs)
 
@@ -53,6 +53,6 @@ all_once [] seen = refl
 all_once (x ∷ xs) seen = once_by x.waker xs seen (all_once xs)
 
 -- what stands in a list stands there some times
-pub member_times : (w : ℕ) (xs : List ℕ) → member w xs ≡ true → 0 < times w xs
+pub member_times : (w : ℕ) (xs : List ℕ) → member w xs ≡ true → 0 < times_in w xs
 member_times w [] m = grind arith
 member_times w (x ∷ xs) m = grind (arith, nat_tests, member_times w xs)

@@ -7,7 +7,7 @@ use Rattle.once_queue.specs.declared.waiters.Listing.{Listing}
 use Rattle.once_queue.specs.Listings.{all_out, out_by, wakers_by, wakers_of}
 use Rattle.once_queue.specs.Sections.{HandsAll, HandsBy, IsAmong, IsOther, Releases}
 use Rattle.once_queue.specs.Numbers.{member}
-use Rattle.once_world.specs.Machine.{handed, kept_list}
+use Rattle.once_world.specs.Machine.{release_wakers, release_list}
 use Rattle.once_world.specs.Shown.{wakers_in}
 use mathlib.Core.Logic.{∥∥₁_elim}
 use base.Stored.{Coded-set, coded_list, coded_ℕ}
@@ -53,11 +53,11 @@ hands_all [] (y ∷ ys) seen before same d = absurd d
 hands_all (x ∷ xs) [] seen before same d = absurd d
 
 -- the wakers that a release hands out are the machine's
-pub released_wakers : (ready : Bool) (xs rest : List (Listing ℕ)) (out : Out ℕ) → Releases (λ a b. a ≡ b) (λ a b. a ≢ b) ready xs out rest → wakers_in out ≡ handed ready xs
+pub released_wakers : (ready : Bool) (xs rest : List (Listing ℕ)) (out : Out ℕ) → Releases (λ a b. a ≡ b) (λ a b. a ≢ b) ready xs out rest → wakers_in out ≡ release_wakers ready xs
 released_wakers false xs rest out d = ap wakers_in d.0
 released_wakers true xs rest out (X, is, all, none) = ap wakers_in is ∙ ∥∥₁_elim all (Coded-set (coded_list coded_ℕ) _ _) (hands_all xs X.items [] [] (λ w. refl))
 
 -- and so are the listings that it leaves
-pub released_list : (ready : Bool) (xs rest : List (Listing ℕ)) (out : Out ℕ) → Releases (λ a b. a ≡ b) (λ a b. a ≢ b) ready xs out rest → rest ≡ kept_list ready xs
+pub released_list : (ready : Bool) (xs rest : List (Listing ℕ)) (out : Out ℕ) → Releases (λ a b. a ≡ b) (λ a b. a ≢ b) ready xs out rest → rest ≡ release_list ready xs
 released_list false xs rest out d = d.1
 released_list true xs rest out (X, is, all, none) = none

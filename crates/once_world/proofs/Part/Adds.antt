@@ -4,7 +4,8 @@ use Rattle.std.specs.Prelude.{◌||◌, nat_lt}
 use Rattle.std.specs.Option.{is_some}
 use Rattle.once_world.specs.Record.{Answer, Kind, Lazy, LazyWith, Once, OnceWith, RanError, RanPending, RanValue, is_lazy}
 use Rattle.once_world.specs.Inputs.{AreOfStep, IsAsked, IsOfStep}
-use Rattle.once_world.specs.Machine.{AtAddOne, AtCountIn, AtCountOut, AtDoorAgain, AtDoorGet, AtDoorPut, AtDoorTake, AtFast, AtLeave, AtList, AtLook, AtPut, AtRelease, AtRun, AtStart, AtTryQuick, AtWaitLoad, EndDropped, EndError, EndFull, EndMemory, EndPending, EndValue, Ending, Finished, Inner, Place, Resting, Step, UnderWay, again_step, counted_out, door_step, door_taken, end_entry, fast_step, given, handed, in_step, is_at_door, is_last_out, is_new, is_quick_alone, is_taken, is_value, is_waker, kept_ticket, leave_step, list_step, load_step, look_step, next_waker, one_out, out_step, own_listing, pass_entries, passes, place_step, put_step, quick_step, ran_once, release_entry, release_step, run_step, start_step, step_at}
+use Rattle.once_world.specs.Machine.{AtAddOne, AtCountIn, AtCountOut, AtDoorAgain, AtDoorGet, AtDoorPut, AtDoorTake, AtFast, AtLeave, AtList, AtLook, AtPut, AtRelease, AtRun, AtStart, AtTryQuick, AtWaitLoad, EndDropped, EndError, EndFull, EndMemory, EndPending, EndValue, Ending, Finished, Inner, Place, Resting, Step, UnderWay, again_step, out_inner, door_step, take_inner, end_entry, fast_step, init_answer, release_wakers, in_step, is_at_door, is_taken, is_value, is_waker, kept_ticket, leave_step, list_step, load_step, look_step, next_waker, one_out, out_step, own_listing, pass_entries, is_passing, place_step, put_step, quick_step, run_inner, release_entry, release_step, run_step, start_step, step_at, word_of}
+use Rattle.once_queue.specs.Word.{is_zero, is_quick_bit, is_ready_bit}
 
 -- the last entry of a call is of its task
 last_part : (K : Kind) (t : ℕ) (a : Answer) (v : ℕ) (k : Answer) (e : Ending) → IsOfStep K t a (end_entry e t v k)
@@ -27,7 +28,7 @@ pass_part K t a [] = tt
 pass_part K t a (w ∷ X) = refl
 
 -- an init that is asked in a step answers what the Go says, or what its list has next
-asked_so : (K : Kind) (l : List (Option ℕ)) (a : Answer) → IsAsked K a (given (is_lazy K) l a)
+asked_so : (K : Kind) (l : List (Option ℕ)) (a : Answer) → IsAsked K a (init_answer (is_lazy K) l a)
 asked_so Once l a = refl
 asked_so (OnceWith v) l a = refl
 asked_so (Lazy k) l a = tt
@@ -40,12 +41,11 @@ module _ (K : Kind) (c : Inner) (t : ℕ) (k a : Answer) where
   part_start false true = tt
   part_start false false = tt
 
-  part_quick : (r f : Bool) → AreOfStep K t a (quick_step r f c t k).entries
-  part_quick false true = refl
-  part_quick true f = tt
-  part_quick false false = tt
+  part_quick : (won : Bool) → AreOfStep K t a (quick_step won c t k).entries
+  part_quick true = refl
+  part_quick false = tt
 
-  part_get : (d : Option ℕ) → AreOfStep K t a (door_step d c k).entries
+  part_get : (d : Option ℕ) → AreOfStep K t a (door_step d c t k).entries
   part_get (Some q) = tt
   part_get None = tt
 
@@ -60,7 +60,7 @@ module _ (K : Kind) (c : Inner) (t : ℕ) (k a : Answer) where
   part_in false true q = refl
   part_in false false q = refl
 
-  part_load : (r : Bool) (q : ℕ) (n : Option ℕ) → AreOfStep K t a (load_step r c k q n).entries
+  part_load : (r : Bool) (q : ℕ) (n : Option ℕ) → AreOfStep K t a (load_step r c t k q n).entries
   part_load true q n = tt
   part_load false q n = tt
 
@@ -80,7 +80,7 @@ module _ (K : Kind) (c : Inner) (t : ℕ) (k a : Answer) where
   part_list true false true true w q n = refl
   part_list true false true false w q n = tt
 
-  part_run : (b : Answer) (by : Option ℕ) → IsAsked K a b → AreOfStep K t a (run_step b (ran_once c) t k by).entries
+  part_run : (b : Answer) (by : Option ℕ) → IsAsked K a b → AreOfStep K t a (run_step b (run_inner c) t k by).entries
   part_run RanPending by x = (refl, (refl, x))
   part_run (RanValue v) by x = (refl, x)
   part_run (RanError e) by x = (refl, x)
@@ -90,41 +90,41 @@ module _ (K : Kind) (c : Inner) (t : ℕ) (k a : Answer) where
   part_fast true false e = (last_part K t a c.value k e, release_part K t a k [])
   part_fast false f e = tt
 
-  part_again : (d : Option ℕ) (e : Ending) → AreOfStep K t a (again_step d c k e).entries
+  part_again : (d : Option ℕ) (e : Ending) → AreOfStep K t a (again_step d c t k e).entries
   part_again (Some q) e = tt
   part_again None e = tt
 
   part_release : (d : Bool) (e : Ending) → AreOfStep K t a (release_step d c t k e).entries
-  part_release true e = release_part K t a k (handed (is_value e) c.listings)
+  part_release true e = release_part K t a k (release_wakers (is_value e) c.listings)
   part_release false e = release_part K t a k []
 
   part_leave : (d : Bool) (n : ℕ) (e : Ending) → AreOfStep K t a (leave_step d c t k n e).entries
-  part_leave true n e = pass_part K t a (one_out (next_waker (passes c n) n c.listings))
+  part_leave true n e = pass_part K t a (one_out (next_waker (is_passing c n) n c.listings))
   part_leave false n e = tt
 
-  part_out : (x : Bool) (e : Ending) → AreOfStep K t a (out_step x (counted_out c) t k e).entries
+  part_out : (x : Bool) (e : Ending) → AreOfStep K t a (out_step x (out_inner c) t k e).entries
   part_out true e = tt
   part_out false e = last_part K t a c.value k e
 
   -- one place after the other
   part_at : (limit w : ℕ) (g : Bool) (p : Place ℕ ℕ) → AreOfStep K t a (place_step (is_lazy K) limit c t w k a g p).entries
-  part_at limit w g AtStart = part_start c.ready (is_new c)
-  part_at limit w g AtTryQuick = part_quick c.ready (is_new c)
+  part_at limit w g AtStart = part_start c.ready (is_zero (word_of c))
+  part_at limit w g AtTryQuick = part_quick (is_zero (word_of c))
   part_at limit w g AtDoorGet = part_get c.door
   part_at limit w g AtDoorPut = part_put g c.door
   part_at limit w g (AtCountIn q) = part_in (nat_lt c.count limit) c.ready q
   part_at limit w g (AtWaitLoad q n) = part_load c.ready q n
   part_at limit w g (AtLook q n) = part_look (is_at_door q c.door) c.ready (is_taken c) (is_waker w (own_listing n c.listings)) g w q n
   part_at limit w g (AtList q n v) = part_list (is_at_door q c.door) c.ready (is_taken c) (is_some (kept_ticket n c.listings) || g) v q n
-  part_at limit w g (AtRun by) = part_run (given (is_lazy K) c.answers a) by (asked_so K c.answers a)
+  part_at limit w g (AtRun by) = part_run (init_answer (is_lazy K) c.answers a) by (asked_so K c.answers a)
   part_at limit w g (AtPut by) = tt
-  part_at limit w g (AtFast e) = part_fast (is_quick_alone c) (is_value e) e
+  part_at limit w g (AtFast e) = part_fast (is_quick_bit (word_of c)) (is_value e) e
   part_at limit w g (AtAddOne e) = tt
   part_at limit w g (AtDoorAgain e) = part_again c.door e
   part_at limit w g (AtRelease q e) = part_release (is_at_door q c.door) e
   part_at limit w g (AtLeave q n e) = part_leave (is_at_door q c.door) n e
-  part_at limit w g (AtCountOut e) = part_out (is_last_out c) e
-  part_at limit w g (AtDoorTake e) = last_part K t a (door_taken c).value k e
+  part_at limit w g (AtCountOut e) = part_out (is_ready_bit (word_of (out_inner c))) e
+  part_at limit w g (AtDoorTake e) = last_part K t a (take_inner c).value k e
 
   -- the entries of a step
   pub step_part : (limit w : ℕ) (g : Bool) (s : Step ℕ ℕ) → AreOfStep K t a (step_at (is_lazy K) limit c t w k a g s).entries

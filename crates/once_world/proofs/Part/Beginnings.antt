@@ -4,7 +4,7 @@ use Rattle.std.proofs.lemmas.Bool.{false≢true}
 use Rattle.once_world.specs.Record.{Begin, Entry, Kind}
 use Rattle.once_world.specs.Tasks.{Dropping, Fresh, Gone, Holding, Polling, Status, Unmade, Waiting, is_under_way, status}
 use Rattle.once_world.specs.Inputs.{begins_call, drop_part, ends_for_memory, make_part, poll_part}
-use Rattle.once_world.specs.Machine.{Finished, Inner, Rest, RestRun, RestStart, RestWait, Resting, Step, UnderWay, begun, drop_entries, dropped, dropped_at, in_call, is_resting}
+use Rattle.once_world.specs.Machine.{Finished, Inner, Rest, RestRun, RestStart, RestWait, Resting, Step, UnderWay, step_of_poll, drop_entries, step_of_drop, step_of_drop_at, in_call, is_resting}
 use Rattle.once_world.proofs.Invariant.Facts.{AtRest, AtStep}
 use Rattle.once_world.proofs.Invariant.Around.{place_acts}
 use Rattle.once_world.proofs.Part.Tells.{is_refused}
@@ -27,7 +27,7 @@ drop_memory n v (Resting r) = refl
 drop_memory n v (UnderWay p) = refl
 
 -- a call that just began is refused nothing
-pub dropped_granted : (s : Step ℕ ℕ) → is_resting s ≡ true → is_refused (dropped s) ≡ false
+pub dropped_granted : (s : Step ℕ ℕ) → is_resting s ≡ true → is_refused (step_of_drop s) ≡ false
 dropped_granted (Resting RestStart) e = refl
 dropped_granted (Resting (RestWait q None)) e = refl
 dropped_granted (Resting (RestWait q (Some n))) e = refl
@@ -36,7 +36,7 @@ dropped_granted (Resting (RestRun (Some q))) e = refl
 dropped_granted (UnderWay p) e = absurd (false≢true e)
 dropped_granted Finished e = refl
 
-pub begun_granted : (s : Step ℕ ℕ) → is_resting s ≡ true → is_refused (begun s) ≡ false
+pub begun_granted : (s : Step ℕ ℕ) → is_resting s ≡ true → is_refused (step_of_poll s) ≡ false
 begun_granted (Resting RestStart) e = refl
 begun_granted (Resting (RestWait q n)) e = refl
 begun_granted (Resting (RestRun by)) e = refl
@@ -49,7 +49,7 @@ rest_begins K limit t k c h RestStart a = rw a.status_is refl
 rest_begins K limit t k c h (RestWait q n) a = rw a.0.status_is refl
 rest_begins K limit t k c h (RestRun by) a = rw a.0.status_is refl
 
-rest_drops : (K : Kind) (limit t : ℕ) (c : Inner) (h : List Entry) (r : Rest ℕ) → AtRest K limit t c h r → drop_entries t (dropped_at r) ≡ drop_part (status K t h) t
+rest_drops : (K : Kind) (limit t : ℕ) (c : Inner) (h : List Entry) (r : Rest ℕ) → AtRest K limit t c h r → drop_entries t (step_of_drop_at r) ≡ drop_part (status K t h) t
 rest_drops K limit t c h RestStart a = rw a.status_is refl
 rest_drops K limit t c h (RestWait q n) a = rw a.0.status_is refl
 rest_drops K limit t c h (RestRun by) a = rw a.0.status_is refl
@@ -86,7 +86,7 @@ step_begins_so K limit t k c h Finished a = rw a.status_is refl
 
 -- what a drop adds
 abbrev pub drops_if : Bool → ℕ → Step ℕ ℕ → List Entry
-drops_if true t s = drop_entries t (dropped s)
+drops_if true t s = drop_entries t (step_of_drop s)
 drops_if false t s = []
 
 -- so does a drop

@@ -5,7 +5,7 @@ use Rattle.once_world.specs.Record.{Entry, Kind}
 use Rattle.once_world.specs.Tasks.{is_under_way, status}
 use Rattle.once_world.specs.Inputs.{Adds, FallsInto, Input, Part, SixteenEnd, WantsMemoryOnlyUngranted, entries_of, gos, was_ungranted}
 use Rattle.once_world.specs.Log.{AddsLines, IsLogOf, NoneKept, WaitingStands, lines_of}
-use Rattle.once_world.specs.Machine.{Inner, Step, Task, World, after, history_of, in_call, log_of, world_of}
+use Rattle.once_world.specs.Machine.{Inner, Step, Task, World, world_after, history_of, in_call, log_of, world_of}
 use Rattle.once_world.proofs.Invariant.Fits.{Fits, StandsFor, step_of}
 use Rattle.once_world.proofs.Input.Headline.{world_fits}
 use Rattle.once_world.proofs.Door.Logged.{log_stands}
@@ -59,7 +59,7 @@ module _ (K : Kind) (limit : ℕ) (some : 0 < limit) where
       let k = b.is_log in
       let w : World = world_of K limit before in
       let f : Fits K limit w = world_fits K limit before some in
-      let p : HasPart K w (after K limit w i) i = input_part K limit w i f (log_stands K limit before some) in
+      let p : HasPart K w (world_after K limit w i) i = input_part K limit w i f (log_stands K limit before some) in
       let n : Part = record { input = i; entries = p.entries; lines = p.lines } in
       let ps : List Part = n ∷ b.parts in
       let r : entries_of ps ≡ history_of K limit (i ∷ before) = ap (λ h. p.entries ++ h) d.entries_are ∙ sym p.history_is in

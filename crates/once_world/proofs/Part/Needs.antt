@@ -3,11 +3,12 @@ use Rattle.std.proofs.Common.{◌≡◌, ◌≢◌, ℕ, Bool, true, false, List
 use Rattle.std.specs.Prelude.{nat_lt}
 use Rattle.std.proofs.lemmas.Bool.{false≢true}
 use Rattle.once_world.specs.Record.{Answer, Entry, Kind, RanError, RanPending, RanValue, is_lazy}
-use Rattle.once_world.specs.Log.{IsAtMostOne, has_entered, need_queue, taken_out}
-use Rattle.once_world.specs.Machine.{AtAddOne, AtCountIn, AtCountOut, AtDoorAgain, AtDoorGet, AtDoorPut, AtDoorTake, AtFast, AtLeave, AtList, AtLook, AtPut, AtRelease, AtRun, AtStart, AtTryQuick, AtWaitLoad, EndDropped, EndError, EndFull, EndMemory, EndPending, EndValue, Ending, Finished, Inner, Place, Resting, Step, UnderWay, again_step, counted_out, door_step, end_entry, fast_step, given, in_step, is_last_out, is_new, is_quick_alone, is_value, load_step, out_step, place_lines, place_step, put_lines, put_step, quick_step, ran_once, release_entry, run_step, start_step, step_at, step_lines}
+use Rattle.once_world.specs.Log.{IsAtMostOne, has_entered, need_queue, take_lines}
+use Rattle.once_world.specs.Machine.{AtAddOne, AtCountIn, AtCountOut, AtDoorAgain, AtDoorGet, AtDoorPut, AtDoorTake, AtFast, AtLeave, AtList, AtLook, AtPut, AtRelease, AtRun, AtStart, AtTryQuick, AtWaitLoad, EndDropped, EndError, EndFull, EndMemory, EndPending, EndValue, Ending, Finished, Inner, Place, Resting, Step, UnderWay, again_step, out_inner, door_step, end_entry, fast_step, init_answer, in_step, is_value, load_step, out_step, place_lines, place_step, put_lines, put_step, quick_step, run_inner, release_entry, run_step, start_step, step_at, step_lines, word_of}
 use Rattle.once_queue.proofs.Listing.Members.{eqb_self}
 use Rattle.once_world.proofs.Invariant.Facts.{AtPlace, AtStep, Releasing}
 use Rattle.once_world.proofs.Place.Builders.{owes_lasts}
+use Rattle.once_queue.specs.Word.{is_zero, is_quick_bit, is_ready_bit}
 
 -- a last entry but Pending needs no queue
 need_last : (K : Kind) (t v : ℕ) (k : Answer) (e : Ending) (r h : List Entry) → e ≢ EndPending → need_queue K (end_entry e t v k ∷ r) h ≡ need_queue K r h
@@ -44,12 +45,11 @@ module _ (K : Kind) (c : Inner) (t : ℕ) (k : Answer) (h : List Entry) where
   need_start false true = refl
   need_start false false = refl
 
-  need_quick : (r f : Bool) → need_queue K (quick_step r f c t k).entries h ≡ false
-  need_quick false true = refl
-  need_quick true f = refl
-  need_quick false false = refl
+  need_quick : (won : Bool) → need_queue K (quick_step won c t k).entries h ≡ false
+  need_quick true = refl
+  need_quick false = refl
 
-  need_get : (d : Option ℕ) → need_queue K (door_step d c k).entries h ≡ false
+  need_get : (d : Option ℕ) → need_queue K (door_step d c t k).entries h ≡ false
   need_get (Some q) = refl
   need_get None = refl
 
@@ -64,11 +64,11 @@ module _ (K : Kind) (c : Inner) (t : ℕ) (k : Answer) (h : List Entry) where
   need_in false true q = refl
   need_in false false q = refl
 
-  need_load : (r : Bool) (q : ℕ) (n : Option ℕ) → need_queue K (load_step r c k q n).entries h ≡ false
+  need_load : (r : Bool) (q : ℕ) (n : Option ℕ) → need_queue K (load_step r c t k q n).entries h ≡ false
   need_load true q n = refl
   need_load false q n = refl
 
-  need_run : (a : Answer) (by : Option ℕ) → need_queue K (run_step a (ran_once c) t k by).entries h ≡ false
+  need_run : (a : Answer) (by : Option ℕ) → need_queue K (run_step a (run_inner c) t k by).entries h ≡ false
   need_run RanPending by = rw (eqb_self t) refl
   need_run (RanValue v) by = refl
   need_run (RanError e) by = refl
@@ -78,32 +78,32 @@ module _ (K : Kind) (c : Inner) (t : ℕ) (k : Answer) (h : List Entry) where
   need_fast true false e n = need_last K t c.value k e (release_entry k t [] ∷ []) h n ∙ need_released K t k h
   need_fast false f e n = refl
 
-  need_again : (d : Option ℕ) (e : Ending) → need_queue K (again_step d c k e).entries h ≡ false
+  need_again : (d : Option ℕ) (e : Ending) → need_queue K (again_step d c t k e).entries h ≡ false
   need_again (Some q) e = refl
   need_again None e = refl
 
-  need_out : (x : Bool) (e : Ending) → e ≢ EndPending → need_queue K (out_step x (counted_out c) t k e).entries h ≡ false
+  need_out : (x : Bool) (e : Ending) → e ≢ EndPending → need_queue K (out_step x (out_inner c) t k e).entries h ≡ false
   need_out true e n = refl
   need_out false e n = need_last K t c.value k e [] h n
 
   -- one place after the other
   need_at : (limit w : ℕ) (a : Answer) (g : Bool) (p : Place ℕ ℕ) → AtPlace K limit t c h p → need_queue K (place_step (is_lazy K) limit c t w k a g p).entries h ≡ true → has_entered (place_lines g c p) ≡ true
-  need_at limit w a g AtStart at e = needless (need_start c.ready (is_new c)) e
-  need_at limit w a g AtTryQuick at e = needless (need_quick c.ready (is_new c)) e
+  need_at limit w a g AtStart at e = needless (need_start c.ready (is_zero (word_of c))) e
+  need_at limit w a g AtTryQuick at e = needless (need_quick (is_zero (word_of c))) e
   need_at limit w a g AtDoorGet at e = needless (need_get c.door) e
   need_at limit w a g AtDoorPut at e = needless (need_put g c.door) e
   need_at limit w a g (AtCountIn q) at e = needless (need_in (nat_lt c.count limit) c.ready q) e
   need_at limit w a g (AtWaitLoad q n) at e = needless (need_load c.ready q n) e
   need_at limit w a g (AtLook q n) at e = refl
   need_at limit w a g (AtList q n v) at e = refl
-  need_at limit w a g (AtRun by) at e = needless (need_run (given (is_lazy K) c.answers a) by) e
+  need_at limit w a g (AtRun by) at e = needless (need_run (init_answer (is_lazy K) c.answers a) by) e
   need_at limit w a g (AtPut by) at e = absurd (false≢true e)
-  need_at limit w a g (AtFast x) at e = needless (need_fast (is_quick_alone c) (is_value x) x (releasing_lasts K t h c x at.0)) e
+  need_at limit w a g (AtFast x) at e = needless (need_fast (is_quick_bit (word_of c)) (is_value x) x (releasing_lasts K t h c x at.0)) e
   need_at limit w a g (AtAddOne x) at e = absurd (false≢true e)
   need_at limit w a g (AtDoorAgain x) at e = needless (need_again c.door x) e
   need_at limit w a g (AtRelease q x) at e = refl
   need_at limit w a g (AtLeave q n x) at e = refl
-  need_at limit w a g (AtCountOut x) at e = needless (need_out (is_last_out c) x (owes_lasts K t h x at)) e
+  need_at limit w a g (AtCountOut x) at e = needless (need_out (is_ready_bit (word_of (out_inner c))) x (owes_lasts K t h x at)) e
   need_at limit w a g (AtDoorTake x) at e = needless (need_last K t c.value k x [] h (owes_lasts K t h x at.0)) e
 
   -- a step that needs the queue enters it
@@ -118,7 +118,7 @@ one_put true None n = tt
 one_put true (Some q) n = tt
 one_put false d n = tt
 
-one_take : (d : Option ℕ) → IsAtMostOne (taken_out d)
+one_take : (d : Option ℕ) → IsAtMostOne (take_lines d)
 one_take None = tt
 one_take (Some q) = tt
 

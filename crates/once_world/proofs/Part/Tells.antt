@@ -5,7 +5,9 @@ use Rattle.std.specs.Option.{is_some}
 use Rattle.std.proofs.lemmas.Bool.{false≢true}
 use Rattle.once_world.specs.Record.{Answer, Entry, RanError, RanPending, RanValue}
 use Rattle.once_world.specs.Inputs.{ends_for_memory}
-use Rattle.once_world.specs.Machine.{AtAddOne, AtCountIn, AtCountOut, AtDoorAgain, AtDoorGet, AtDoorPut, AtDoorTake, AtFast, AtLeave, AtList, AtLook, AtPut, AtRelease, AtRun, AtStart, AtTryQuick, AtWaitLoad, EndDropped, EndError, EndFull, EndMemory, EndPending, EndValue, Ending, Finished, Inner, Outcome, Place, Resting, Step, UnderWay, again_step, counted_out, door_step, door_taken, end_entry, ends, fast_step, give_back, given, goes_to, handed, in_call, in_step, is_at_door, is_last_out, is_new, is_quick_alone, is_taken, is_value, is_waker, kept_ticket, leave_by, leave_step, left_at, left_of, list_step, load_step, look_step, next_waker, one_out, out_step, own_listing, pass_entries, passes, place_step, put_step, put_value, quick_step, ran_once, release_entry, release_step, run_step, start_step, step_at}
+use Rattle.once_world.specs.Machine.{AtAddOne, AtCountIn, AtCountOut, AtDoorAgain, AtDoorGet, AtDoorPut, AtDoorTake, AtFast, AtLeave, AtList, AtLook, AtPut, AtRelease, AtRun, AtStart, AtTryQuick, AtWaitLoad, EndDropped, EndError, EndFull, EndMemory, EndPending, EndValue, Ending, Finished, Inner, Outcome, Place, Resting, Step, UnderWay, again_step, out_inner, door_step, take_inner, end_entry, fast_step, release_place, init_answer, release_wakers, in_call, in_step, is_at_door, is_taken, is_value, is_waker, kept_ticket, leave_place, leave_step, left_at, left_of, list_step, load_step, look_step, next_waker, one_out, out_step, own_listing, pass_entries, is_passing, place_step, put_step, put_value, quick_step, run_inner, release_entry, release_step, run_step, start_step, step_at, word_of}
+use Rattle.once_queue.specs.Word.{is_zero, is_quick_bit, is_ready_bit}
+use Rattle.once_world.proofs.Place.Outcomes.{ends, goes_to}
 
 -- the call ends for want of memory
 abbrev is_memory : Ending → Bool
@@ -82,12 +84,11 @@ module _ (c : Inner) (t : ℕ) (k : Answer) (g : Bool) where
   tell_start false true = on_to g AtStart AtTryQuick c k (omega arith) (λ e. none_refuses e)
   tell_start false false = on_to g AtStart AtDoorGet c k (omega arith) (λ e. none_refuses e)
 
-  tell_quick : (r f : Bool) → Tells g (UnderWay AtTryQuick) (quick_step r f c t k)
-  tell_quick false true = goes_by g AtTryQuick (quick_step false true c t k) (omega arith) refl (λ u. refl)
-  tell_quick true f = on_to g AtTryQuick AtDoorGet c k (omega arith) (λ e. none_refuses e)
-  tell_quick false false = on_to g AtTryQuick AtDoorGet c k (omega arith) (λ e. none_refuses e)
+  tell_quick : (won : Bool) → Tells g (UnderWay AtTryQuick) (quick_step won c t k)
+  tell_quick true = goes_by g AtTryQuick (quick_step true c t k) (omega arith) refl (λ u. refl)
+  tell_quick false = on_to g AtTryQuick AtDoorGet c k (omega arith) (λ e. none_refuses e)
 
-  tell_get : (d : Option ℕ) → Tells g (UnderWay AtDoorGet) (door_step d c k)
+  tell_get : (d : Option ℕ) → Tells g (UnderWay AtDoorGet) (door_step d c t k)
   tell_get (Some q) = on_to g AtDoorGet (AtCountIn q) c k (omega arith) (λ e. none_refuses e)
   tell_get None = on_to g AtDoorGet AtDoorPut c k (omega arith) (λ e. none_refuses e)
 
@@ -102,12 +103,12 @@ module _ (c : Inner) (t : ℕ) (k : Answer) (g : Bool) where
   tell_in false true q = stops g (AtCountIn q) (in_step false true c t k q) refl refl (λ u e. none_refuses e)
   tell_in false false q = stops g (AtCountIn q) (in_step false false c t k q) refl refl (λ u e. none_refuses e)
 
-  tell_load : (r : Bool) (q : ℕ) (n : Option ℕ) → Tells g (UnderWay (AtWaitLoad q n)) (load_step r c k q n)
+  tell_load : (r : Bool) (q : ℕ) (n : Option ℕ) → Tells g (UnderWay (AtWaitLoad q n)) (load_step r c t k q n)
   tell_load true q n = on_to g (AtWaitLoad q n) (AtCountOut EndValue) c k (omega arith) (λ e. none_refuses e)
   tell_load false q n = on_to g (AtWaitLoad q n) (AtLook q n) c k (omega arith) (λ e. none_refuses e)
 
   -- a call that is given no memory in this step leaves, and is refused
-  tell_refused : (p : Place ℕ ℕ) (q : ℕ) (n : Option ℕ) → 3 < left_at p → g ≡ false → Tells g (UnderWay p) (goes_to c k (leave_by q n EndMemory))
+  tell_refused : (p : Place ℕ ℕ) (q : ℕ) (n : Option ℕ) → 3 < left_at p → g ≡ false → Tells g (UnderWay p) (goes_to c k (leave_place q n EndMemory))
   tell_refused p q None l z = on_to g p (AtCountOut EndMemory) c k (omega arith) (λ e. inr z)
   tell_refused p q (Some m) l z = on_to g p (AtLeave q m EndMemory) c k l (λ e. inr z)
 
@@ -127,13 +128,13 @@ module _ (c : Inner) (t : ℕ) (k : Answer) (g : Bool) where
   tell_list true false true true w q n z = stops g (AtList q n w) (list_step true false true true c t w k q n) refl refl (λ u e. none_refuses e)
   tell_list true false true false w q n z = tell_refused (AtList q n w) q n (omega arith) (z refl)
 
-  tell_run : (a : Answer) (by : Option ℕ) → Tells g (UnderWay (AtRun by)) (run_step a (ran_once c) t k by)
-  tell_run RanPending by = stops g (AtRun by) (run_step RanPending (ran_once c) t k by) refl refl (λ u e. none_refuses e)
-  tell_run (RanValue v) by = goes_by g (AtRun by) (run_step (RanValue v) (ran_once c) t k by) (omega arith) refl (λ u. refl)
-  tell_run (RanError e) None = goes_by g (AtRun None) (run_step (RanError e) (ran_once c) t k None) (omega arith) refl (λ u. refl)
-  tell_run (RanError e) (Some q) = goes_by g (AtRun (Some q)) (run_step (RanError e) (ran_once c) t k (Some q)) (omega arith) refl (λ u. refl)
+  tell_run : (a : Answer) (by : Option ℕ) → Tells g (UnderWay (AtRun by)) (run_step a (run_inner c) t k by)
+  tell_run RanPending by = stops g (AtRun by) (run_step RanPending (run_inner c) t k by) refl refl (λ u e. none_refuses e)
+  tell_run (RanValue v) by = goes_by g (AtRun by) (run_step (RanValue v) (run_inner c) t k by) (omega arith) refl (λ u. refl)
+  tell_run (RanError e) None = goes_by g (AtRun None) (run_step (RanError e) (run_inner c) t k None) (omega arith) refl (λ u. refl)
+  tell_run (RanError e) (Some q) = goes_by g (AtRun (Some q)) (run_step (RanError e) (run_inner c) t k (Some q)) (omega arith) refl (λ u. refl)
 
-  tell_value : (by : Option ℕ) (c' : Inner) → Tells g (UnderWay (AtPut by)) (goes_to c' k (give_back by EndValue))
+  tell_value : (by : Option ℕ) (c' : Inner) → Tells g (UnderWay (AtPut by)) (goes_to c' k (release_place by EndValue))
   tell_value None c' = on_to g (AtPut None) (AtFast EndValue) c' k (omega arith) (λ e. none_refuses e)
   tell_value (Some q) c' = on_to g (AtPut (Some q)) (AtRelease q EndValue) c' k (omega arith) (λ e. none_refuses e)
 
@@ -142,43 +143,43 @@ module _ (c : Inner) (t : ℕ) (k : Answer) (g : Bool) where
   tell_fast true false e = stops g (AtFast e) (fast_step true false c t k e) refl refl (λ u z. inl (last_memory t c.value k e (release_entry k t [] ∷ []) u (released_memory t k [] u) z))
   tell_fast false f e = on_to g (AtFast e) (AtAddOne e) c k (omega arith) (λ z. inl z)
 
-  tell_again : (d : Option ℕ) (e : Ending) → Tells g (UnderWay (AtDoorAgain e)) (again_step d c k e)
+  tell_again : (d : Option ℕ) (e : Ending) → Tells g (UnderWay (AtDoorAgain e)) (again_step d c t k e)
   tell_again (Some q) e = on_to g (AtDoorAgain e) (AtRelease q e) c k (omega arith) (λ z. inl z)
   tell_again None e = on_to g (AtDoorAgain e) (AtCountOut e) c k (omega arith) (λ z. inl z)
 
   tell_release : (d : Bool) (q : ℕ) (e : Ending) → Tells g (UnderWay (AtRelease q e)) (release_step d c t k e)
-  tell_release true q e = record { lowers = λ z. omega arith; refuses = λ z. inl z; memory = λ u z. absurd (false≢true (sym (released_memory t k (handed (is_value e) c.listings) u) ∙ z)) }
+  tell_release true q e = record { lowers = λ z. omega arith; refuses = λ z. inl z; memory = λ u z. absurd (false≢true (sym (released_memory t k (release_wakers (is_value e) c.listings) u) ∙ z)) }
   tell_release false q e = record { lowers = λ z. omega arith; refuses = λ z. inl z; memory = λ u z. absurd (false≢true (sym (released_memory t k [] u) ∙ z)) }
 
   tell_leave : (d : Bool) (q n : ℕ) (e : Ending) → Tells g (UnderWay (AtLeave q n e)) (leave_step d c t k n e)
-  tell_leave true q n e = record { lowers = λ z. omega arith; refuses = λ z. inl z; memory = λ u z. absurd (false≢true (sym (passed_memory t (one_out (next_waker (passes c n) n c.listings)) u) ∙ z)) }
+  tell_leave true q n e = record { lowers = λ z. omega arith; refuses = λ z. inl z; memory = λ u z. absurd (false≢true (sym (passed_memory t (one_out (next_waker (is_passing c n) n c.listings)) u) ∙ z)) }
   tell_leave false q n e = on_to g (AtLeave q n e) (AtCountOut e) c k (omega arith) (λ z. inl z)
 
-  tell_out : (x : Bool) (e : Ending) → Tells g (UnderWay (AtCountOut e)) (out_step x (counted_out c) t k e)
-  tell_out true e = on_to g (AtCountOut e) (AtDoorTake e) (counted_out c) k (omega arith) (λ z. inl z)
-  tell_out false e = stops g (AtCountOut e) (out_step false (counted_out c) t k e) refl refl (λ u z. inl (last_memory t c.value k e [] u refl z))
+  tell_out : (x : Bool) (e : Ending) → Tells g (UnderWay (AtCountOut e)) (out_step x (out_inner c) t k e)
+  tell_out true e = on_to g (AtCountOut e) (AtDoorTake e) (out_inner c) k (omega arith) (λ z. inl z)
+  tell_out false e = stops g (AtCountOut e) (out_step false (out_inner c) t k e) refl refl (λ u z. inl (last_memory t c.value k e [] u refl z))
 
-  tell_take : (e : Ending) → Tells g (UnderWay (AtDoorTake e)) (ends (door_taken c) t k e)
-  tell_take e = stops g (AtDoorTake e) (ends (door_taken c) t k e) refl refl (λ u z. inl (last_memory t c.value k e [] u refl z))
+  tell_take : (e : Ending) → Tells g (UnderWay (AtDoorTake e)) (ends (take_inner c) t k e)
+  tell_take e = stops g (AtDoorTake e) (ends (take_inner c) t k e) refl refl (λ u z. inl (last_memory t c.value k e [] u refl z))
 
   -- one place after the other
   tells_at : (lazy : Bool) (limit w : ℕ) (a : Answer) (p : Place ℕ ℕ) → Tells g (UnderWay p) (place_step lazy limit c t w k a g p)
-  tells_at lazy limit w a AtStart = tell_start c.ready (is_new c)
-  tells_at lazy limit w a AtTryQuick = tell_quick c.ready (is_new c)
+  tells_at lazy limit w a AtStart = tell_start c.ready (is_zero (word_of c))
+  tells_at lazy limit w a AtTryQuick = tell_quick (is_zero (word_of c))
   tells_at lazy limit w a AtDoorGet = tell_get c.door
   tells_at lazy limit w a AtDoorPut = tell_put c.door g refl
   tells_at lazy limit w a (AtCountIn q) = tell_in (nat_lt c.count limit) c.ready q
   tells_at lazy limit w a (AtWaitLoad q n) = tell_load c.ready q n
   tells_at lazy limit w a (AtLook q n) = tell_look (is_at_door q c.door) c.ready (is_taken c) (is_waker w (own_listing n c.listings)) g w q n refl
   tells_at lazy limit w a (AtList q n v) = tell_list (is_at_door q c.door) c.ready (is_taken c) (is_some (kept_ticket n c.listings) || g) v q n (right_false (is_some (kept_ticket n c.listings)) g)
-  tells_at lazy limit w a (AtRun by) = tell_run (given lazy c.answers a) by
+  tells_at lazy limit w a (AtRun by) = tell_run (init_answer lazy c.answers a) by
   tells_at lazy limit w a (AtPut by) = tell_value by (record c { value = put_value k c.value })
-  tells_at lazy limit w a (AtFast e) = tell_fast (is_quick_alone c) (is_value e) e
+  tells_at lazy limit w a (AtFast e) = tell_fast (is_quick_bit (word_of c)) (is_value e) e
   tells_at lazy limit w a (AtAddOne e) = on_to g (AtAddOne e) (AtDoorAgain e) (record c { count = suc c.count }) k (omega arith) (λ z. inl z)
   tells_at lazy limit w a (AtDoorAgain e) = tell_again c.door e
   tells_at lazy limit w a (AtRelease q e) = tell_release (is_at_door q c.door) q e
   tells_at lazy limit w a (AtLeave q n e) = tell_leave (is_at_door q c.door) q n e
-  tells_at lazy limit w a (AtCountOut e) = tell_out (is_last_out c) e
+  tells_at lazy limit w a (AtCountOut e) = tell_out (is_ready_bit (word_of (out_inner c))) e
   tells_at lazy limit w a (AtDoorTake e) = tell_take e
 
   -- what each step tells

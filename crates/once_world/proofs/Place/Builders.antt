@@ -8,7 +8,7 @@ use Rattle.once_world.specs.Tasks.{Gone, LastCall, Polling, Status, Waiting, las
 use Rattle.once_queue.specs.Listings.{find_listing}
 use Rattle.once_world.specs.Wakers.{opens}
 use Rattle.once_world.specs.Run.{IsLegal, IsRun, MayEnd}
-use Rattle.once_world.specs.Machine.{AtRun, EndDropped, EndError, EndFull, EndMemory, EndPending, EndValue, Ending, Inner, Outcome, Place, UnderWay, claims, end_entry, ends, error_in, goes_to, waits}
+use Rattle.once_world.specs.Machine.{AtRun, EndDropped, EndError, EndFull, EndMemory, EndPending, EndValue, Ending, Inner, Outcome, Place, UnderWay, end_entry, error_in}
 use Rattle.once_queue.proofs.Listing.Members.{eqb_self}
 use Rattle.once_world.proofs.History.Others.{holds, keeps_all, legal_keeps}
 use Rattle.once_world.proofs.History.Cells.{held_not_empty}
@@ -20,6 +20,7 @@ use Rattle.once_world.proofs.Invariant.Kept.{InnerKeeps}
 use Rattle.once_world.proofs.Invariant.Turns.{ListMoves, lists_stay}
 use Rattle.once_world.proofs.Invariant.Moves.{Moves}
 use Rattle.once_world.proofs.Invariant.Around.{owes_holds}
+use Rattle.once_world.proofs.Place.Outcomes.{claims, ends, goes_to, waits}
 
 -- an entry of t is of no other task
 pub of_other : (t u : ℕ) → t ≢ u → (t == u) ≡ false

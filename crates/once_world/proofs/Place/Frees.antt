@@ -9,22 +9,23 @@ use Rattle.once_world.specs.Tasks.{LastCall, Status, Waiting, is_under_way, last
 use Rattle.once_queue.specs.declared.waiters.Listing.{Listing}
 use Rattle.once_world.specs.Wakers.{CallsOne, HandsOut}
 use Rattle.once_world.specs.Run.{IsLegal}
-use Rattle.once_world.specs.Machine.{EndDropped, EndError, EndFull, EndMemory, EndPending, EndValue, Ending, Inner, is_last_out, is_quick_alone, is_value, release_entry, released}
+use Rattle.once_world.specs.Machine.{EndDropped, EndError, EndFull, EndMemory, EndPending, EndValue, Ending, Inner, out_inner, is_value, release_entry, release_flags, word_of}
 use Rattle.once_queue.proofs.Listing.Members.{eqb_self}
 use Rattle.once_world.proofs.History.Cells.{held_by}
 use Rattle.once_world.proofs.Invariant.Facts.{HeadFlag, Owes, QuickFlag, Releasing, kept_of}
 use Rattle.once_world.proofs.Invariant.Around.{releasing_acts}
+use Rattle.once_queue.specs.Word.{is_quick_bit, is_ready_bit}
 
 -- the word is exactly the quick bit
-pub exact : (c : Inner) → is_quick_alone c ≡ true → c.count ≡ 0
+pub exact : (c : Inner) → is_quick_bit (word_of c) ≡ true → c.count ≡ 0
 exact c e = grind (arith, nat_tests)
 
 -- where it is not, while t holds by the quick bit, somebody is in the count
-pub inexact : (c : Inner) → c.ready ≡ false → c.quick ≡ true → is_quick_alone c ≡ false → 0 < c.count
+pub inexact : (c : Inner) → c.ready ≡ false → c.quick ≡ true → is_quick_bit (word_of c) ≡ false → 0 < c.count
 inexact c r q e = grind (arith, nat_tests)
 
 -- the word will be exactly the ready bit
-pub exact_out : (c : Inner) → is_last_out c ≡ true → (c.count - 1 ≡ 0) × (c.ready ≡ true)
+pub exact_out : (c : Inner) → is_ready_bit (word_of (out_inner c)) ≡ true → (c.count - 1 ≡ 0) × (c.ready ≡ true)
 exact_out c e = grind (arith, nat_tests)
 
 -- a call that ends with the value fills the cell with what its init gave
@@ -86,7 +87,7 @@ pub record Cleared (c c' : Inner) (r : Bool) (xs : List (Listing ℕ)) : Type 0 
   pub answers_is : c'.answers ≡ c.answers
 
 -- a release clears the flags
-pub cleared : (b : Bool) (c : Inner) (r : Bool) (xs : List (Listing ℕ)) → c.quick ≡ b → QuickFlag c ⊎ HeadFlag c → Cleared c (record (released b r c) { listings = xs }) r xs
+pub cleared : (b : Bool) (c : Inner) (r : Bool) (xs : List (Listing ℕ)) → c.quick ≡ b → QuickFlag c ⊎ HeadFlag c → Cleared c (record (release_flags b r c) { listings = xs }) r xs
 cleared true c r xs e (inl f) = record { quick_is = refl; head_is = f.head_is; ready_is = refl; listings_is = refl; door_is = refl; count_is = refl; value_is = refl; answers_is = refl }
 cleared true c r xs e (inr f) = absurd (false≢true (sym f.quick_is ∙ e))
 cleared false c r xs e f = record { quick_is = e; head_is = refl; ready_is = refl; listings_is = refl; door_is = refl; count_is = refl; value_is = refl; answers_is = refl }

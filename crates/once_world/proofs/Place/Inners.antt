@@ -6,7 +6,7 @@ use Rattle.once_world.specs.Record.{Answer, Claim, Entry, Kind, Ran}
 use Rattle.once_world.specs.Cell.{Held, SetTo, answers_left, cell, is_held, is_set, rest_of}
 use Rattle.once_world.specs.Tasks.{Waiting, status}
 use Rattle.once_queue.specs.declared.waiters.Listing.{Listing}
-use Rattle.once_world.specs.Machine.{Inner, door_taken, is_at_door, ran_once}
+use Rattle.once_world.specs.Machine.{Inner, take_inner, is_at_door, run_inner}
 use Rattle.once_queue.proofs.Listing.Members.{eqb_self}
 use Rattle.once_world.proofs.History.Others.{holds}
 use Rattle.once_world.proofs.History.Cells.{held_not_set, none_some, set_free}
@@ -16,8 +16,8 @@ use Rattle.once_world.proofs.Invariant.Fits.{InnerFits}
 use Rattle.once_world.proofs.Invariant.Kept.{InnerKeeps}
 
 -- after a claim
-pub claim_inner : (K : Kind) (limit t : ℕ) (c c' : Inner) (h : List Entry) → InnerFits K limit c h → c'.ready ≡ false → (c'.quick || c'.head) ≡ true → c'.count ≡ c.count → c'.door ≡ c.door → c.ready ≡ false → (c'.head ≡ true → IsSomeDoor c') → c'.answers ≡ c.answers → InnerFits K limit c' (Claim t ∷ h)
-claim_inner K limit t c c' h f r b n d z hd w = record {
+pub claim_fits : (K : Kind) (limit t : ℕ) (c c' : Inner) (h : List Entry) → InnerFits K limit c h → c'.ready ≡ false → (c'.quick || c'.head) ≡ true → c'.count ≡ c.count → c'.door ≡ c.door → c.ready ≡ false → (c'.head ≡ true → IsSomeDoor c') → c'.answers ≡ c.answers → InnerFits K limit c' (Claim t ∷ h)
+claim_fits K limit t c c' h f r b n d z hd w = record {
   answers_is = w ∙ f.answers_is;
   ready_is = r;
   held_is = sym b;
@@ -28,8 +28,8 @@ claim_inner K limit t c c' h f r b n d z hd w = record {
 }
 
 -- with another count
-pub count_inner : (K : Kind) (limit : ℕ) (c : Inner) (n : ℕ) (h : List Entry) → InnerFits K limit c h → n ≤ suc limit → (c.ready ≡ false → 0 < n → IsSomeDoor c) → InnerFits K limit (record c { count = n }) h
-count_inner K limit c n h f le st = record {
+pub count_fits : (K : Kind) (limit : ℕ) (c : Inner) (n : ℕ) (h : List Entry) → InnerFits K limit c h → n ≤ suc limit → (c.ready ≡ false → 0 < n → IsSomeDoor c) → InnerFits K limit (record c { count = n }) h
+count_fits K limit c n h f le st = record {
   ready_is = f.ready_is;
   held_is = f.held_is;
   value_is = f.value_is;
@@ -40,8 +40,8 @@ count_inner K limit c n h f le st = record {
 }
 
 -- with other listings
-pub list_inner : (K : Kind) (limit : ℕ) (c : Inner) (xs : List (Listing ℕ)) (h : List Entry) → InnerFits K limit c h → InnerFits K limit (record c { listings = xs }) h
-list_inner K limit c xs h f = record {
+pub relisted_fits : (K : Kind) (limit : ℕ) (c : Inner) (xs : List (Listing ℕ)) (h : List Entry) → InnerFits K limit c h → InnerFits K limit (record c { listings = xs }) h
+relisted_fits K limit c xs h f = record {
   ready_is = f.ready_is;
   held_is = f.held_is;
   value_is = f.value_is;
@@ -56,8 +56,8 @@ pub headless : (K : Kind) (limit : ℕ) (c : Inner) (h : List Entry) → InnerFi
 headless K limit c h f d = ⊎_elim (λ e. let s = f.head_door e in let q = s.1 in cc) (λ e. e) (cases_Bool c.head)
 
 -- with a new queue at the door
-pub put_inner : (K : Kind) (limit : ℕ) (c : Inner) (h : List Entry) → InnerFits K limit c h → c.head ≡ false → (q : ℕ) → InnerFits K limit (record c { door = Some q; head = false; listings = []; queues = q }) h
-put_inner K limit c h f n q = record {
+pub put_fits : (K : Kind) (limit : ℕ) (c : Inner) (h : List Entry) → InnerFits K limit c h → c.head ≡ false → (q : ℕ) → InnerFits K limit (record c { door = Some q; head = false; listings = []; queues = q }) h
+put_fits K limit c h f n q = record {
   ready_is = f.ready_is;
   held_is = rw n at f.held_is;
   value_is = f.value_is;
@@ -77,8 +77,8 @@ put_keeps K limit c u h b d n q = record {
 }
 
 -- after the init answered
-pub ran_inner : (K : Kind) (limit t : ℕ) (c : Inner) (h : List Entry) (a : Answer) → InnerFits K limit c h → InnerFits K limit (ran_once c) (Ran t a ∷ h)
-ran_inner K limit t c h a f = record {
+pub ran_fits : (K : Kind) (limit t : ℕ) (c : Inner) (h : List Entry) (a : Answer) → InnerFits K limit c h → InnerFits K limit (run_inner c) (Ran t a ∷ h)
+ran_fits K limit t c h a f = record {
   ready_is = f.ready_is;
   held_is = f.held_is;
   value_is = f.value_is;
@@ -89,8 +89,8 @@ ran_inner K limit t c h a f = record {
 }
 
 -- with another value, while t holds
-pub value_inner : (K : Kind) (limit t : ℕ) (c : Inner) (h : List Entry) (v : ℕ) → InnerFits K limit c h → cell K h ≡ Held t → InnerFits K limit (record c { value = v }) h
-value_inner K limit t c h v f held = record {
+pub value_fits : (K : Kind) (limit t : ℕ) (c : Inner) (h : List Entry) (v : ℕ) → InnerFits K limit c h → cell K h ≡ Held t → InnerFits K limit (record c { value = v }) h
+value_fits K limit t c h v f held = record {
   ready_is = f.ready_is;
   held_is = f.held_is;
   value_is = λ x e. absurd (held_not_set t x (sym held ∙ e));
@@ -101,9 +101,9 @@ value_inner K limit t c h v f held = record {
 }
 
 -- after a release by t: the flags are cleared, and ready stands for a value
-pub release_inner : (K : Kind) (limit t : ℕ) (c c' : Inner) (h h' : List Entry) → InnerFits K limit c h → holds t (cell K h) ≡ true → c'.ready ≡ is_set (cell K h') → is_held (cell K h') ≡ false → c'.quick ≡ false → c'.head ≡ false
+pub release_fits : (K : Kind) (limit t : ℕ) (c c' : Inner) (h h' : List Entry) → InnerFits K limit c h → holds t (cell K h) ≡ true → c'.ready ≡ is_set (cell K h') → is_held (cell K h') ≡ false → c'.quick ≡ false → c'.head ≡ false
     → ((v : ℕ) → cell K h' ≡ SetTo v → c'.value ≡ v) → c'.count ≡ c.count → (0 < c.count → IsSomeDoor c') → c'.answers ≡ c.answers → answers_left K h' ≡ answers_left K h → InnerFits K limit c' h'
-release_inner K limit t c c' h h' f hold r n q e v same d w z = record {
+release_fits K limit t c c' h h' f hold r n q e v same d w z = record {
   answers_is = w ∙ f.answers_is ∙ sym z;
   ready_is = r;
   held_is = n ∙ sym (rw (q, e) refl);
@@ -118,8 +118,8 @@ quick_free : (a b : Bool) → false ≡ (a || b) → false ≡ (a || false)
 quick_free a b e = grind arith
 
 -- after the queue is taken out of the door, where the value is set
-pub take_inner : (K : Kind) (limit : ℕ) (c : Inner) (h : List Entry) → InnerFits K limit c h → c.ready ≡ true → InnerFits K limit (door_taken c) h
-take_inner K limit c h f r =
+pub take_fits : (K : Kind) (limit : ℕ) (c : Inner) (h : List Entry) → InnerFits K limit c h → c.ready ≡ true → InnerFits K limit (take_inner c) h
+take_fits K limit c h f r =
     let n = set_free (cell K h) (sym f.ready_is ∙ r) in
     record {
       ready_is = f.ready_is;

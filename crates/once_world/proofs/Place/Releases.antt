@@ -8,7 +8,7 @@ use Rattle.once_world.specs.Tasks.{Waiting, last_call, status}
 use Rattle.once_queue.specs.declared.waiters.Listing.{Listing}
 use Rattle.once_queue.specs.Listings.{all_out, call_first, first_waker, one_out}
 use Rattle.once_world.specs.Run.{IsLegal, IsRun}
-use Rattle.once_world.specs.Machine.{AtAddOne, AtCountOut, AtDoorTake, AtFast, AtRelease, EndDropped, EndError, EndFull, EndMemory, EndPending, EndValue, Ending, Finished, Inner, UnderWay, counted_out, door_taken, end_entry, ends, fast_step, is_at_door, is_last_out, is_quick_alone, is_value, out_step, handed, kept_list, release_entry, release_step, released}
+use Rattle.once_world.specs.Machine.{AtAddOne, AtCountOut, AtDoorTake, AtFast, AtRelease, EndDropped, EndError, EndFull, EndMemory, EndPending, EndValue, Ending, Finished, Inner, UnderWay, out_inner, take_inner, end_entry, fast_step, release_wakers, is_at_door, is_value, release_list, out_step, release_entry, release_step, release_flags, word_of}
 use Rattle.once_queue.proofs.Listing.Members.{eqb_self}
 use Rattle.once_world.proofs.History.Others.{keeps_both, legal_keeps}
 use Rattle.once_world.proofs.History.Cells.{empty_not_set, holder_unset, same_value, set_unheld}
@@ -25,9 +25,11 @@ use Rattle.once_world.proofs.Invariant.Fits.{InnerFits}
 use Rattle.once_world.proofs.Invariant.Kept.{releasing_holds}
 use Rattle.once_world.proofs.Invariant.Around.{Around}
 use Rattle.once_world.proofs.Place.Builders.{Goes, ends_so, moves_on, of_other, polls_not_waits, same_inner, stays}
-use Rattle.once_world.proofs.Place.Inners.{at_door, count_inner, nobody, release_inner, take_inner}
+use Rattle.once_world.proofs.Place.Inners.{at_door, count_fits, nobody, release_fits, take_fits}
 use Rattle.once_world.proofs.Place.Holds.{holder_inner}
 use Rattle.once_world.proofs.Place.Frees.{Cleared, IsRelease, cleared, exact, exact_out, fill_legal, fill_releases, filled_owes, fills, free_legal, free_releases, freed_owes, frees, inexact, releasing_awake}
+use Rattle.once_queue.specs.Word.{is_quick_bit, is_ready_bit}
+use Rattle.once_world.proofs.Place.Outcomes.{ends}
 
 module _ (K : Kind) (limit t w : ℕ) (k : Answer) (c : Inner) (h : List Entry) (run : IsRun K limit h) (inner : InnerFits K limit c h) (queue : QueueFits K c.listings h) (wk : (last_call K t h).waker ≡ w) (kk : k ≡ kept_of (last_call K t h).ran) where
   -- a fast release with a value
@@ -40,7 +42,7 @@ module _ (K : Kind) (limit t w : ℕ) (k : Answer) (c : Inner) (h : List Entry) 
       let P : Entry → Type 0 = λ x. Goes K limit t w (AtFast EndValue) c h (record { inner = c'; step = UnderWay (AtDoorTake EndValue); kept = k; entries = x ∷ [] }) in
       subst P (sym (fills K t h c k [] kk a.0)) (record {
         run = (legal, run);
-        inner = release_inner K limit t c c' h (e ∷ h) inner a.0.1.holds_is refl refl refl a.1.head_is (λ x i. a.0.2 ∙ same_value v x i) refl (λ l. absurd (omega arith)) refl refl;
+        inner = release_fits K limit t c c' h (e ∷ h) inner a.0.1.holds_is refl refl refl a.1.head_is (λ x i. a.0.2 ∙ same_value v x i) refl (λ l. absurd (omega arith)) refl refl;
         queue = quiet K c.listings e h queue refl refl (λ _. refl) (λ u is. polls_not_waits K t u h is a.0.1.status_is) (λ x. absurd (empty_not_set v (sym x)));
         own = (filled_owes K t h c [] a.0, refl);
         waker_is = rw (eqb_self t) wk;
@@ -65,7 +67,7 @@ module _ (K : Kind) (limit t w : ℕ) (k : Answer) (c : Inner) (h : List Entry) 
       let legal : IsLegal K limit (Free t []) h = free_legal K limit t h c [] e nv a.0 (calls_none K h (ar.none_waits z)) in
       let none : (u : ℕ) → status K u h1 ≢ Waiting = λ u s. ar.none_waits z u (waited K (Free t []) h (λ u is. releasing_awake K t u h c e a.0 is) u s) in
       let owes : Owes K t h1 e = freed_owes K t h c [] e nv a.0 in
-      let inner1 : InnerFits K limit c' h1 = release_inner K limit t c c' h h1 inner hold (inner.ready_is ∙ holder_unset t (cell K h) hold) refl refl a.1.head_is (λ x i. absurd (empty_not_set x i)) refl (λ l. absurd (omega arith)) refl refl in
+      let inner1 : InnerFits K limit c' h1 = release_fits K limit t c c' h h1 inner hold (inner.ready_is ∙ holder_unset t (cell K h) hold) refl refl a.1.head_is (λ x i. absurd (empty_not_set x i)) refl (λ l. absurd (omega arith)) refl refl in
       let queue1 : QueueFits K c.listings h1 = entry_fits K c.listings c.listings (Free t []) h queue refl (λ w. omega arith) (nobody_called K c.listings h1 none) in
       let wk1 : (last_call K t h1).waker ≡ w = rw (eqb_self t) wk in
       let kk1 : k ≡ kept_of (last_call K t h1).ran = rw (eqb_self t) kk in
@@ -89,7 +91,7 @@ module _ (K : Kind) (limit t w : ℕ) (k : Answer) (c : Inner) (h : List Entry) 
       })
 
   -- a fast release, by whether the word is exactly the quick bit
-  pub fast_goes : (x : Bool) (e : Ending) → is_quick_alone c ≡ x → Around K t false false c h → AtPlace K limit t c h (AtFast e) → Goes K limit t w (AtFast e) c h (fast_step x (is_value e) c t k e)
+  pub fast_goes : (x : Bool) (e : Ending) → is_quick_bit (word_of c) ≡ x → Around K t false false c h → AtPlace K limit t c h (AtFast e) → Goes K limit t w (AtFast e) c h (fast_step x (is_value e) c t k e)
   fast_goes true EndValue x ar a = fast_fills (exact c x) ar a
   fast_goes true EndError x ar a = fast_frees EndError refl (exact c x) ar a
   fast_goes true EndDropped x ar a = fast_frees EndDropped refl (exact c x) ar a
@@ -132,7 +134,7 @@ module _ (K : Kind) (limit t w : ℕ) (k : Answer) (c : Inner) (h : List Entry) 
       let e : Entry = Fill t v X in
       let unset : c.ready ≡ false = inner.ready_is ∙ holder_unset t (cell K h) a.0.1.holds_is in
       release_moves q EndValue e c' X [] a cl (fill_legal K limit t h c X a.0 (hands_out K c.listings h queue (due_asks K t None c h unset al))) (filled_owes K t h c X a.0)
-      (release_inner K limit t c c' h (e ∷ h) inner a.0.1.holds_is cl.ready_is refl cl.quick_is cl.head_is (λ x i. cl.value_is ∙ a.0.2 ∙ same_value v x i) cl.count_is (λ l. (q, cl.door_is ∙ a.2)) cl.answers_is refl)
+      (release_fits K limit t c c' h (e ∷ h) inner a.0.1.holds_is cl.ready_is refl cl.quick_is cl.head_is (λ x i. cl.value_is ∙ a.0.2 ∙ same_value v x i) cl.count_is (λ l. (q, cl.door_is ∙ a.2)) cl.answers_is refl)
       (fill_releases t v X) (fills K t h c k X kk a.0)
       (entry_fits K c.listings [] e h queue refl (λ n. let i = all_times n c.listings [] in omega arith) (λ x. absurd (empty_not_set v (sym x))))
       (ready_lists t None c c' (e ∷ h) cl.ready_is)
@@ -151,7 +153,7 @@ module _ (K : Kind) (limit t w : ℕ) (k : Answer) (c : Inner) (h : List Entry) 
       let X : List ℕ = one_out (first_waker c.listings) in
       let unset : c.ready ≡ false = inner.ready_is ∙ holder_unset t (cell K h) (releasing_holds K t c h e a.0) in
       release_moves q e (Free t X) c' X (call_first c.listings) a cl (free_legal K limit t h c X e nv a.0 (calls_one K c.listings h queue (due_asks K t None c h unset al))) (freed_owes K t h c X e nv a.0)
-      (release_inner K limit t c c' h (Free t X ∷ h) inner (releasing_holds K t c h e a.0) (cl.ready_is ∙ nv) refl cl.quick_is cl.head_is (λ x i. absurd (empty_not_set x i)) cl.count_is (λ l. (q, cl.door_is ∙ a.2)) cl.answers_is refl)
+      (release_fits K limit t c c' h (Free t X ∷ h) inner (releasing_holds K t c h e a.0) (cl.ready_is ∙ nv) refl cl.quick_is cl.head_is (λ x i. absurd (empty_not_set x i)) cl.count_is (λ l. (q, cl.door_is ∙ a.2)) cl.answers_is refl)
       (free_releases t X) (frees K t h c k X e nv kk a.0)
       (entry_fits K c.listings (call_first c.listings) (Free t X) h queue refl (λ n. let i = asks_call n c.listings in omega arith) (free_called (first_waker c.listings) e refl unset al a.0))
       (record {
@@ -162,8 +164,8 @@ module _ (K : Kind) (limit t w : ℕ) (k : Answer) (c : Inner) (h : List Entry) 
       })
 
   -- by the ending
-  release_by : (q : ℕ) (e : Ending) (c' : Inner) → Cleared c c' (is_value e) (kept_list (is_value e) c.listings) → AroundList K t None c h → AtPlace K limit t c h (AtRelease q e)
-      → Goes K limit t w (AtRelease q e) c h (record { inner = c'; step = UnderWay (AtCountOut e); kept = k; entries = release_entry k t (handed (is_value e) c.listings) ∷ [] })
+  release_by : (q : ℕ) (e : Ending) (c' : Inner) → Cleared c c' (is_value e) (release_list (is_value e) c.listings) → AroundList K t None c h → AtPlace K limit t c h (AtRelease q e)
+      → Goes K limit t w (AtRelease q e) c h (record { inner = c'; step = UnderWay (AtCountOut e); kept = k; entries = release_entry k t (release_wakers (is_value e) c.listings) ∷ [] })
   release_by q EndValue c' cl al a = release_fills q c' cl al a
   release_by q EndError c' cl al a = release_frees q EndError c' refl cl al a
   release_by q EndDropped c' cl al a = release_frees q EndDropped c' refl cl al a
@@ -174,20 +176,20 @@ module _ (K : Kind) (limit t w : ℕ) (k : Answer) (c : Inner) (h : List Entry) 
   -- the queue of a releaser is at the door
   pub release_goes : (door : Bool) (q : ℕ) (e : Ending) → is_at_door q c.door ≡ door → AroundList K t None c h → AtPlace K limit t c h (AtRelease q e) → Goes K limit t w (AtRelease q e) c h (release_step door c t k e)
   release_goes false q e d al a = absurd (false≢true (sym d ∙ at_door q c.door a.2))
-  release_goes true q e d al a = release_by q e (record (released c.quick (is_value e) c) { listings = kept_list (is_value e) c.listings }) (cleared c.quick c (is_value e) (kept_list (is_value e) c.listings) refl a.1) al a
+  release_goes true q e d al a = release_by q e (record (release_flags c.quick (is_value e) c) { listings = release_list (is_value e) c.listings }) (cleared c.quick c (is_value e) (release_list (is_value e) c.listings) refl a.1) al a
 
   -- a counting out
-  pub out_goes : (x : Bool) (e : Ending) → is_last_out c ≡ x → Around K t true false c h → AtPlace K limit t c h (AtCountOut e) → Goes K limit t w (AtCountOut e) c h (out_step x (counted_out c) t k e)
+  pub out_goes : (x : Bool) (e : Ending) → is_ready_bit (word_of (out_inner c)) ≡ x → Around K t true false c h → AtPlace K limit t c h (AtCountOut e) → Goes K limit t w (AtCountOut e) c h (out_step x (out_inner c) t k e)
   out_goes true e x ar a =
       let l = ar.own_count refl in let y = exact_out c x in
-      moves_on K limit t w k (AtCountOut e) c h run inner queue wk kk (counted_out c) (AtDoorTake e) (count_inner K limit c (c.count - 1) h inner (let b = inner.within in omega arith) (λ n _. absurd (false≢true (sym n ∙ y.1)))) queue (a, y.1)
-      (λ u n b i. same_inner K limit c (counted_out c) u h b refl refl refl refl refl (λ le. omega arith)) (omega arith) (λ _. y.0) (λ e. absurd (false≢true e)) (lists_stay t None None c (counted_out c) h refl (λ r. r) (inl refl))
+      moves_on K limit t w k (AtCountOut e) c h run inner queue wk kk (out_inner c) (AtDoorTake e) (count_fits K limit c (c.count - 1) h inner (let b = inner.within in omega arith) (λ n _. absurd (false≢true (sym n ∙ y.1)))) queue (a, y.1)
+      (λ u n b i. same_inner K limit c (out_inner c) u h b refl refl refl refl refl (λ le. omega arith)) (omega arith) (λ _. y.0) (λ e. absurd (false≢true e)) (lists_stay t None None c (out_inner c) h refl (λ r. r) (inl refl))
   out_goes false e x ar a =
       let l = ar.own_count refl in
-      ends_so K limit t w k (AtCountOut e) c h run inner queue wk kk (counted_out c) e a (count_inner K limit c (c.count - 1) h inner (let b = inner.within in omega arith) (λ n p. inner.stands n (omega arith))) queue
-      (λ u n b i. same_inner K limit c (counted_out c) u h b refl refl refl refl refl (λ le. omega arith)) (omega arith) (lists_stay t None None c (counted_out c) (end_entry e t c.value k ∷ h) refl (λ r. r) (inl refl))
+      ends_so K limit t w k (AtCountOut e) c h run inner queue wk kk (out_inner c) e a (count_fits K limit c (c.count - 1) h inner (let b = inner.within in omega arith) (λ n p. inner.stands n (omega arith))) queue
+      (λ u n b i. same_inner K limit c (out_inner c) u h b refl refl refl refl refl (λ le. omega arith)) (omega arith) (lists_stay t None None c (out_inner c) (end_entry e t c.value k ∷ h) refl (λ r. r) (inl refl))
 
   -- the taking of the queue
-  pub take_goes : (e : Ending) → Around K t false true c h → AtPlace K limit t c h (AtDoorTake e) → Goes K limit t w (AtDoorTake e) c h (ends (door_taken c) t k e)
-  take_goes e ar a = ends_so K limit t w k (AtDoorTake e) c h run inner queue wk kk (door_taken c) e a.0 (take_inner K limit c h inner a.1) (nobody K c.listings h queue (ar.take_waits refl))
-      (λ u n b i. record { ready = λ r. r; door = λ q d. inr (a.1, i refl); flags = inr (set_unheld u (cell K h) (sym inner.ready_is ∙ a.1)); within = inl (λ x. x) }) (omega arith) (ready_lists t None c (door_taken c) (end_entry e t c.value k ∷ h) a.1)
+  pub take_goes : (e : Ending) → Around K t false true c h → AtPlace K limit t c h (AtDoorTake e) → Goes K limit t w (AtDoorTake e) c h (ends (take_inner c) t k e)
+  take_goes e ar a = ends_so K limit t w k (AtDoorTake e) c h run inner queue wk kk (take_inner c) e a.0 (take_fits K limit c h inner a.1) (nobody K c.listings h queue (ar.take_waits refl))
+      (λ u n b i. record { ready = λ r. r; door = λ q d. inr (a.1, i refl); flags = inr (set_unheld u (cell K h) (sym inner.ready_is ∙ a.1)); within = inl (λ x. x) }) (omega arith) (ready_lists t None c (take_inner c) (end_entry e t c.value k ∷ h) a.1)

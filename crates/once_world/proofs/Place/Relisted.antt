@@ -6,8 +6,8 @@ use Rattle.once_queue.specs.Numbers.{bit}
 use Rattle.once_world.specs.Record.{Entry, Kind}
 use Rattle.once_world.specs.Tasks.{last_call}
 use Rattle.once_queue.specs.declared.waiters.Listing.{Listing}
-use Rattle.once_queue.specs.Listings.{find_listing, is_waker, listed_anew, take_out, ticket_for, without}
-use Rattle.once_world.specs.Machine.{Inner, listed}
+use Rattle.once_queue.specs.Listings.{find_listing, is_waker, list_with, take_out, ticket_for, list_without}
+use Rattle.once_world.specs.Machine.{Inner, listing_inner}
 use Rattle.once_world.proofs.Listing.Listings.{asks, asks_push, asks_take, find_push_other, find_push_same, find_take_other, find_take_same, new_fresh}
 use Rattle.once_queue.proofs.Listing.Tickets.{find_none, found_ticket}
 use Rattle.once_world.proofs.Invariant.Facts.{HasTicket}
@@ -17,7 +17,7 @@ use Rattle.once_world.proofs.Invariant.Turns.{ListMoves}
 pub no_listing : (o : Option ℕ) → ◌≡◌ {A = Option (Option ℕ)} None (Some o) → ⊥
 no_listing o e = cc
 
-without_find : (n : ℕ) (o : Option ℕ) (k : Option ℕ) (xs : List (Listing ℕ)) → (k ≡ Some n → ⊥) → find_listing n xs ≡ Some o → find_listing n (without k xs) ≡ Some o
+without_find : (n : ℕ) (o : Option ℕ) (k : Option ℕ) (xs : List (Listing ℕ)) → (k ≡ Some n → ⊥) → find_listing n xs ≡ Some o → find_listing n (list_without k xs) ≡ Some o
 without_find n o None xs x f = f
 without_find n o (Some m) xs x f = find_take_other n m xs (λ e. x (ap (λ (v : ℕ). Some v) e)) ∙ f
 
@@ -26,16 +26,16 @@ pub take_back : (n m : ℕ) (o : Option ℕ) (xs : List (Listing ℕ)) → (m �
 take_back n m o xs (inl e) f = absurd (no_listing o (sym (subst (λ v. find_listing n (take_out v xs) ≡ None) (sym e) (find_take_same n xs)) ∙ f))
 take_back n m o xs (inr d) f = (d, sym (find_take_other n m xs d) ∙ f)
 
-without_back : (n : ℕ) (o : Option ℕ) (k : Option ℕ) (xs : List (Listing ℕ)) → find_listing n (without k xs) ≡ Some o → (k ≡ Some n → ⊥) × ((o' : Option ℕ) × (find_listing n xs ≡ Some o'))
+without_back : (n : ℕ) (o : Option ℕ) (k : Option ℕ) (xs : List (Listing ℕ)) → find_listing n (list_without k xs) ≡ Some o → (k ≡ Some n → ⊥) × ((o' : Option ℕ) × (find_listing n xs ≡ Some o'))
 without_back n o None xs f = (none_not_some n, (o, f))
 without_back n o (Some m) xs f = let b = take_back n m o xs (cases_eq m n) f in ((λ e. b.0 (same_some m n e)), (o, b.1))
 
-pub without_asks : (w : ℕ) (k : Option ℕ) (xs : List (Listing ℕ)) → asks w (without k xs) ≤ asks w xs
+pub without_asks : (w : ℕ) (k : Option ℕ) (xs : List (Listing ℕ)) → asks w (list_without k xs) ≤ asks w xs
 without_asks w None xs = omega arith
 without_asks w (Some n) xs = asks_take w n xs
 
 -- the own listing is taken out, and the ticket given up
-pub without_lists : (t : ℕ) (k : Option ℕ) (c c' : Inner) (h' : List Entry) → c'.listings ≡ without k c.listings → (c.ready ≡ true → c'.ready ≡ true) → ListMoves t k None c c' h'
+pub without_lists : (t : ℕ) (k : Option ℕ) (c c' : Inner) (h' : List Entry) → c'.listings ≡ list_without k c.listings → (c.ready ≡ true → c'.ready ≡ true) → ListMoves t k None c c' h'
 without_lists t k c c' h' same up = record {
   up = up;
   lists = λ u n o d x r f. inl (rw same (without_find n o k c.listings x f));
@@ -72,17 +72,17 @@ fresh_by k n i c (inl e) s = inl (e ∙ ap (λ (v : ℕ). Some v) s)
 fresh_by k n i c (inr e) s = inr (e.1, subst (λ v. find_listing v c.listings ≡ None) s e.2)
 
 -- what is found after t was listed with the ticket n
-find_anew : (i n w : ℕ) (xs : List (Listing ℕ)) → n ≢ i → find_listing i (listed_anew n w xs) ≡ find_listing i xs
+find_anew : (i n w : ℕ) (xs : List (Listing ℕ)) → n ≢ i → find_listing i (list_with n w xs) ≡ find_listing i xs
 find_anew i n w xs d = find_push_other i n (Some w) (take_out n xs) d ∙ find_take_other i n xs d
 
-pub find_own : (n w : ℕ) (xs : List (Listing ℕ)) → find_listing n (listed_anew n w xs) ≡ Some (Some w)
+pub find_own : (n w : ℕ) (xs : List (Listing ℕ)) → find_listing n (list_with n w xs) ≡ Some (Some w)
 find_own n w xs = find_push_same n (Some w) (take_out n xs) (find_take_same n xs)
 
-pub anew_asks : (v n w : ℕ) (xs : List (Listing ℕ)) → asks v (listed_anew n w xs) ≤ asks v xs + bit (w == v)
+pub anew_asks : (v n w : ℕ) (xs : List (Listing ℕ)) → asks v (list_with n w xs) ≤ asks v xs + bit (w == v)
 anew_asks v n w xs = let a = asks_push v (record { ticket = n; waker = Some w }) (take_out n xs) in let b = asks_take v n xs in omega arith
 
 -- the waker is listed at the end
-pub anew_lists : (t n w : ℕ) (k : Option ℕ) (c : Inner) (h' : List Entry) → ListsBy k n c → ListMoves t k (Some n) c (listed c n w) h'
+pub anew_lists : (t n w : ℕ) (k : Option ℕ) (c : Inner) (h' : List Entry) → ListsBy k n c → ListMoves t k (Some n) c (listing_inner c n w) h'
 anew_lists t n w k c h' by = record {
   up = λ r. r;
   lists = λ u i o d x r f. inl (find_anew i n w c.listings (other_ticket k n i o c by x f) ∙ f);

@@ -5,20 +5,21 @@ use Rattle.std.proofs.lemmas.Bool.{false≢true, or_parts}
 use Rattle.once_world.specs.Record.{Answer, Claim, End, Entry, Kind, Pending}
 use Rattle.once_world.specs.Cell.{cell}
 use Rattle.once_world.specs.Tasks.{Dropping, Fresh, Gone, Holding, Polling, Status, Unmade, Waiting, last_call}
-use Rattle.once_queue.specs.Listings.{find_listing, is_waker, listed_anew, own_listing, ticket_for}
+use Rattle.once_queue.specs.Listings.{find_listing, is_waker, list_with, own_listing, ticket_for}
 use Rattle.once_world.specs.Refusals.{MemoryFrom, OtherHolds, is_begin_of}
 use Rattle.once_world.specs.Run.{IsRun}
-use Rattle.once_world.specs.Machine.{AtCountOut, AtLeave, AtList, AtLook, AtWaitLoad, EndMemory, EndValue, Inner, Place, claimed, claims, goes_to, is_at_door, is_taken, leave_by, list_step, listed, load_step, look_step, waits}
+use Rattle.once_world.specs.Machine.{AtCountOut, AtLeave, AtList, AtLook, AtWaitLoad, EndMemory, EndValue, Inner, Place, claim_inner, is_at_door, is_taken, leave_place, list_step, listing_inner, load_step, look_step}
 use Rattle.once_world.proofs.History.Others.{Met, MetHolder, since_now_holder}
 use Rattle.once_world.proofs.History.Cells.{empty_cell}
 use Rattle.once_world.proofs.History.Waiters.{QueueFits}
 use Rattle.once_world.proofs.Invariant.Facts.{AnyIn, AtPlace, Entered, HasTicket, is_counted_at, is_inside_at, kept_of, refused_in, ticket_at}
 use Rattle.once_world.proofs.Invariant.Fits.{InnerFits}
 use Rattle.once_world.proofs.Place.Builders.{Goes, claims_so, same_inner, stays, waits_so}
-use Rattle.once_world.proofs.Place.Inners.{at_door, claim_inner, list_inner}
+use Rattle.once_world.proofs.Place.Inners.{at_door, claim_fits, relisted_fits}
 use Rattle.once_world.proofs.Invariant.Turns.{lists_stay}
 use Rattle.once_world.proofs.Place.Relisted.{anew_asks, anew_lists, find_own, is_waker_found, lists_by, without_asks, without_lists}
 use Rattle.once_world.proofs.Place.Waits.{other_holds, owes_value}
+use Rattle.once_world.proofs.Place.Outcomes.{claims, goes_to, waits}
 
 -- what holds since the Begin weakens
 begin_by : (b : Bool) {A B : Type 0} → (A → B) → MatchBool b ⊥ A → MatchBool b ⊥ B
@@ -48,18 +49,18 @@ any_memory K t h a m = memory_from K t h (last_call K t h).began a.from m
 
 module _ (K : Kind) (limit t w : ℕ) (k : Answer) (c : Inner) (h : List Entry) (run : IsRun K limit h) (inner : InnerFits K limit c h) (queue : QueueFits K c.listings h) (wk : (last_call K t h).waker ≡ w) (kk : k ≡ kept_of (last_call K t h).ran) where
   -- the load
-  pub load_goes : (ready : Bool) (q : ℕ) (n : Option ℕ) → c.ready ≡ ready → AtPlace K limit t c h (AtWaitLoad q n) → Goes K limit t w (AtWaitLoad q n) c h (load_step ready c k q n)
+  pub load_goes : (ready : Bool) (q : ℕ) (n : Option ℕ) → c.ready ≡ ready → AtPlace K limit t c h (AtWaitLoad q n) → Goes K limit t w (AtWaitLoad q n) c h (load_step ready c t k q n)
   load_goes true q n r a = stays K limit t w k (AtWaitLoad q n) c h run inner queue wk kk (AtCountOut EndValue) (owes_value K t h a.0.entered (sym inner.ready_is ∙ r)) refl refl (λ e. inl refl) (inr (refl, r))
   load_goes false q n r a = stays K limit t w k (AtWaitLoad q n) c h run inner queue wk kk (AtLook q n) a refl refl (λ e. inl refl) (inl refl)
 
   -- a waiter claims under the lock, and its listing is taken out
-  claims_head : (p : Place ℕ ℕ) (q : ℕ) → is_counted_at p ≡ true → c.ready ≡ false → is_taken c ≡ false → Entered K t h → c.door ≡ Some q → Goes K limit t w p c h (claims (claimed c (ticket_at p)) t k (Some q))
+  claims_head : (p : Place ℕ ℕ) (q : ℕ) → is_counted_at p ≡ true → c.ready ≡ false → is_taken c ≡ false → Entered K t h → c.door ≡ Some q → Goes K limit t w p c h (claims (claim_inner c (ticket_at p)) t k (Some q))
   claims_head p q n r f e d =
-      let c' : Inner = claimed c (ticket_at p) in
+      let c' : Inner = claim_inner c (ticket_at p) in
       let empty = empty_cell (cell K h) (sym inner.ready_is ∙ r) (inner.held_is ∙ f) in
       let z = or_parts c.quick c.head f in
       claims_so K limit t w k p c h run inner queue wk kk c' (Some q) empty e
-      (claim_inner K limit t c c' h inner r (rw z.0 refl) refl refl r (λ _. (q, d)) refl) (λ v. without_asks v (ticket_at p) c.listings)
+      (claim_fits K limit t c c' h inner r (rw z.0 refl) refl refl r (λ _. (q, d)) refl) (λ v. without_asks v (ticket_at p) c.listings)
       (record { quick_is = z.0; head_is = refl }, d) refl refl refl n (without_lists t (ticket_at p) c c' (Claim t ∷ h) refl (λ x. x))
 
   -- a waiter waits whose own listing has its waker
@@ -70,7 +71,7 @@ module _ (K : Kind) (limit t w : ℕ) (k : Answer) (c : Inner) (h : List Entry) 
       (lists_stay t (ticket_at p) (Some n) c c (End t Pending ∷ h) refl (λ x. x) (inl (sym own)))
 
   -- a waiter is refused memory
-  refused_at : (p : Place ℕ ℕ) (q : ℕ) (n : Option ℕ) → ticket_at p ≡ n → is_counted_at p ≡ true → is_inside_at p ≡ true → AnyIn K t h → c.door ≡ Some q → HasTicket K t c h n → MetHolder K t h → Goes K limit t w p c h (goes_to c k (leave_by q n EndMemory))
+  refused_at : (p : Place ℕ ℕ) (q : ℕ) (n : Option ℕ) → ticket_at p ≡ n → is_counted_at p ≡ true → is_inside_at p ≡ true → AnyIn K t h → c.door ≡ Some q → HasTicket K t c h n → MetHolder K t h → Goes K limit t w p c h (goes_to c k (leave_place q n EndMemory))
   refused_at p q None own cnt i a d f m = stays K limit t w k p c h run inner queue wk kk (AtCountOut EndMemory) (refused_in K t h a.entered, any_memory K t h a m) cnt refl (λ e. inl i) (inl (sym own))
   refused_at p q (Some n) own cnt i a d f m = stays K limit t w k p c h run inner queue wk kk (AtLeave q n EndMemory) ((a.entered, any_memory K t h a m), d, f.0, f.1) cnt refl (λ e. inl i) (inl (sym own))
 
@@ -94,7 +95,7 @@ module _ (K : Kind) (limit t w : ℕ) (k : Answer) (c : Inner) (h : List Entry) 
       let m : ℕ = ticket_for n c.listings in
       let o = other_holds K t c h inner.held_is a.0.entered.poll.holds_is f in
       let same : v ≡ w = sym a.4 ∙ wk in
-      waits_so K limit t w k (AtList q n v) c h run inner queue wk kk (listed c m v) q m o.0 o.2 o.1 a.0.entered (list_inner K limit c (listed_anew m v c.listings) h inner)
-      (rw same (λ x. anew_asks x m w c.listings)) (λ r. rw same (find_own m w c.listings)) refl a.1 (λ u x b j. same_inner K limit c (listed c m v) u h b refl refl refl refl refl (λ y. y)) refl refl refl
+      waits_so K limit t w k (AtList q n v) c h run inner queue wk kk (listing_inner c m v) q m o.0 o.2 o.1 a.0.entered (relisted_fits K limit c (list_with m v c.listings) h inner)
+      (rw same (λ x. anew_asks x m w c.listings)) (λ r. rw same (find_own m w c.listings)) refl a.1 (λ u x b j. same_inner K limit c (listing_inner c m v) u h b refl refl refl refl refl (λ y. y)) refl refl refl
       (anew_lists t m v n c (End t Pending ∷ h) (lists_by K t n c h r a.2))
   list_goes true false true false q n v d r f a = refused_at (AtList q n v) q n refl refl refl a.0 a.1 a.2 a.3

@@ -8,7 +8,7 @@ use Rattle.once_world.specs.Cell.{cell, is_held, is_set}
 use Rattle.once_world.specs.Tasks.{Fresh, Polling, last_call, status}
 use Rattle.once_world.specs.Refusals.{IsCrowded, OtherHolds, Since, crowd}
 use Rattle.once_world.specs.Run.{IsLegal, IsRun}
-use Rattle.once_world.specs.Machine.{AtCountIn, AtCountOut, AtDoorGet, AtDoorPut, AtStart, AtTryQuick, AtWaitLoad, EndFull, EndMemory, EndPending, EndValue, Inner, door_step, in_step, is_new, put_step, quick_step, start_step}
+use Rattle.once_world.specs.Machine.{AtCountIn, AtCountOut, AtDoorGet, AtDoorPut, AtStart, AtTryQuick, AtWaitLoad, EndFull, EndMemory, EndPending, EndValue, Inner, door_step, in_step, put_step, quick_step, start_step, word_of}
 use Rattle.once_queue.proofs.Listing.Members.{eqb_self}
 use Rattle.once_world.proofs.History.Others.{Met, SomeoneWaits, holds, since_now}
 use Rattle.once_world.proofs.History.Cells.{empty_cell, holder_of, value_of_set}
@@ -20,7 +20,8 @@ use Rattle.once_world.proofs.Invariant.AroundLists.{AroundList}
 use Rattle.once_world.proofs.Invariant.Turns.{ListMoves, lists_stay}
 use Rattle.once_world.proofs.Place.Relisted.{no_listing}
 use Rattle.once_world.proofs.Place.Builders.{Goes, claims_so, ends_by, ends_plain, moves_on, same_inner, stays}
-use Rattle.once_world.proofs.Place.Inners.{claim_inner, count_inner, headless, nobody, put_inner, put_keeps}
+use Rattle.once_world.proofs.Place.Inners.{claim_fits, count_fits, headless, nobody, put_fits, put_keeps}
+use Rattle.once_queue.specs.Word.{is_zero}
 
 -- a poll that did not claim, where the cell is set
 pub owes_value : (K : Kind) (t : ℕ) (h : List Entry) → Entered K t h → is_set (cell K h) ≡ true → Owes K t h EndValue
@@ -41,18 +42,18 @@ since_here K t P (e ∷ h) s p = inl p
 fresh_from : (K : Kind) (t : ℕ) (h : List Entry) → Entered K t h → (last_call K t h).began ≡ Fresh → ((last_call K t h).set_then ≡ true → is_set (cell K h) ≡ true) → is_set (cell K h) ≡ false → FreshIn K t h
 fresh_from K t h e b f n = record { entered = e; began_is = b; unset = ⊎_elim (λ k. absurd (false≢true (sym n ∙ f k))) (λ k. k) (cases_Bool (last_call K t h).set_then) }
 
--- a word that is not 0 has a count or the quick bit
-busy : (c : Inner) → is_new c ≡ false → (0 < c.count) ⊎ (c.quick ≡ true)
-busy c n = grind (arith, nat_tests)
+-- a word that is not NEW has a count or the quick bit
+busy : (c : Inner) → c.ready ≡ false → is_zero (word_of c) ≡ false → (0 < c.count) ⊎ (c.quick ≡ true)
+busy c r n = grind (arith, nat_tests)
 
--- a word that is 0 has neither
-idle : (c : Inner) → is_new c ≡ true → (c.count ≡ 0) × (c.quick ≡ false)
+-- a word that is NEW has neither, and not the ready bit
+idle : (c : Inner) → is_zero (word_of c) ≡ true → (c.count ≡ 0) × (c.quick ≡ false) × (c.ready ≡ false)
 idle c n = grind (arith, nat_tests)
 
--- where the word is not 0 somebody acts or waits
-met_busy : (K : Kind) (limit t : ℕ) (c : Inner) (h : List Entry) → InnerFits K limit c h → Around K t false false c h → holds t (cell K h) ≡ false → is_new c ≡ false → Met K t h ⊎ SomeoneWaits K h
-met_busy K limit t c h inner ar n f = ⊎_elim (λ l. ar.acts refl l)
-    (λ q. let o = other_holds K t c h inner.held_is n (rw q refl) in inl (since_now K t o.0 h o.1 o.2)) (busy c f)
+-- where the word is not NEW somebody acts or waits
+met_busy : (K : Kind) (limit t : ℕ) (c : Inner) (h : List Entry) → InnerFits K limit c h → Around K t false false c h → holds t (cell K h) ≡ false → c.ready ≡ false → is_zero (word_of c) ≡ false → Met K t h ⊎ SomeoneWaits K h
+met_busy K limit t c h inner ar n r f = ⊎_elim (λ l. ar.acts refl l)
+    (λ q. let o = other_holds K t c h inner.held_is n (rw q refl) in inl (since_now K t o.0 h o.1 o.2)) (busy c r f)
 
 -- nobody holds under the lock where the count is 0
 no_head : (K : Kind) (t : ℕ) (counted take : Bool) (c : Inner) (h : List Entry) → Around K t counted take c h → c.count ≡ 0 → c.head ≡ false
@@ -82,25 +83,28 @@ full_lasts e = cc
 
 module _ (K : Kind) (limit t w : ℕ) (k : Answer) (c : Inner) (h : List Entry) (run : IsRun K limit h) (inner : InnerFits K limit c h) (queue : QueueFits K c.listings h) (wk : (last_call K t h).waker ≡ w) (kk : k ≡ kept_of (last_call K t h).ran) where
   -- the start
-  pub start_goes : (ready new : Bool) → c.ready ≡ ready → is_new c ≡ new → Around K t false false c h → AtPlace K limit t c h AtStart → Goes K limit t w AtStart c h (start_step ready new c t k)
+  pub start_goes : (ready new : Bool) → c.ready ≡ ready → is_zero (word_of c) ≡ new → Around K t false false c h → AtPlace K limit t c h AtStart → Goes K limit t w AtStart c h (start_step ready new c t k)
   start_goes true new r f ar a = ends_plain K limit t w k AtStart c h run inner queue wk kk EndValue (owes_value K t h a.0 (sym inner.ready_is ∙ r)) refl refl
   start_goes false true r f ar a = stays K limit t w k AtStart c h run inner queue wk kk AtTryQuick (fresh_from K t h a.0 a.1 a.2 (sym inner.ready_is ∙ r), inl (sym inner.ready_is ∙ r)) refl refl (λ e. absurd (false≢true e)) (inl refl)
-  start_goes false false r f ar a = stays K limit t w k AtStart c h run inner queue wk kk AtDoorGet (fresh_from K t h a.0 a.1 a.2 (sym inner.ready_is ∙ r), met_busy K limit t c h inner ar a.0.poll.holds_is f) refl refl (λ e. absurd (false≢true e)) (inl refl)
+  start_goes false false r f ar a = stays K limit t w k AtStart c h run inner queue wk kk AtDoorGet (fresh_from K t h a.0 a.1 a.2 (sym inner.ready_is ∙ r), met_busy K limit t c h inner ar a.0.poll.holds_is r f) refl refl (λ e. absurd (false≢true e)) (inl refl)
 
   -- the quick claim
-  pub quick_goes : (ready new : Bool) → c.ready ≡ ready → is_new c ≡ new → Around K t false false c h → AtPlace K limit t c h AtTryQuick → Goes K limit t w AtTryQuick c h (quick_step ready new c t k)
-  quick_goes false true r f ar a =
+  pub quick_goes : (won : Bool) → is_zero (word_of c) ≡ won → Around K t false false c h → AtPlace K limit t c h AtTryQuick → Goes K limit t w AtTryQuick c h (quick_step won c t k)
+  quick_goes true f ar a =
       let z = idle c f in
+      let r = z.2 in
       let n = no_head K t false false c h ar z.0 in
       let empty = empty_cell (cell K h) (sym inner.ready_is ∙ r) (inner.held_is ∙ or_from c.quick c.head z.1 n) in
       claims_so K limit t w k AtTryQuick c h run inner queue wk kk (record c { quick = true }) None empty a.0.entered
-      (claim_inner K limit t c (record c { quick = true }) h inner r refl refl refl r inner.head_door refl) (λ n. omega arith)
+      (claim_fits K limit t c (record c { quick = true }) h inner r refl refl refl r inner.head_door refl) (λ n. omega arith)
       (record { quick_is = refl; head_is = n }, omega arith) refl refl refl refl (lists_stay t None None c (record c { quick = true }) (Claim t ∷ h) refl (λ r. r) (inl refl))
-  quick_goes false false r f ar a = stays K limit t w k AtTryQuick c h run inner queue wk kk AtDoorGet (a.0, met_busy K limit t c h inner ar a.0.entered.poll.holds_is f) refl refl (λ e. absurd (false≢true e)) (inl refl)
-  quick_goes true new r f ar a = stays K limit t w k AtTryQuick c h run inner queue wk kk AtDoorGet (a.0, ⊎_elim (λ n. absurd (false≢true (sym n ∙ sym inner.ready_is ∙ r))) (λ m. inl m) a.1) refl refl (λ e. absurd (false≢true e)) (inl refl)
+  quick_goes false f ar a =
+      let unset : c.ready ≡ false → Met K t h ⊎ SomeoneWaits K h = λ r. met_busy K limit t c h inner ar a.0.entered.poll.holds_is r f in
+      let set : c.ready ≡ true → Met K t h ⊎ SomeoneWaits K h = λ r. ⊎_elim (λ n. absurd (false≢true (sym n ∙ sym inner.ready_is ∙ r))) (λ m. inl m) a.1 in
+      stays K limit t w k AtTryQuick c h run inner queue wk kk AtDoorGet (a.0, ⊎_elim set unset (cases_Bool c.ready)) refl refl (λ e. absurd (false≢true e)) (inl refl)
 
   -- a look at the door
-  pub door_get_goes : (door : Option ℕ) → c.door ≡ door → Around K t false false c h → AtPlace K limit t c h AtDoorGet → Goes K limit t w AtDoorGet c h (door_step door c k)
+  pub door_get_goes : (door : Option ℕ) → c.door ≡ door → Around K t false false c h → AtPlace K limit t c h AtDoorGet → Goes K limit t w AtDoorGet c h (door_step door c t k)
   door_get_goes (Some q) d ar a = stays K limit t w k AtDoorGet c h run inner queue wk kk (AtCountIn q) (a.0, inl d) refl refl (λ e. absurd (false≢true e)) (inl refl)
   door_get_goes None d ar a = stays K limit t w k AtDoorGet c h run inner queue wk kk AtDoorPut (a.0, ⊎_elim (λ m. m) (λ x. absurd (ar.door_waits d x.0 x.1)) a.1) refl refl (λ e. absurd (false≢true e)) (inl refl)
 
@@ -111,17 +115,17 @@ module _ (K : Kind) (limit t w : ℕ) (k : Answer) (c : Inner) (h : List Entry) 
   door_put_goes true None d ar al a =
       let n = headless K limit c h inner d in
       moves_on K limit t w k AtDoorPut c h run inner queue wk kk (record c { door = Some (suc c.queues); head = false; listings = []; queues = suc c.queues }) (AtCountIn (suc c.queues))
-      (put_inner K limit c h inner n (suc c.queues)) (nobody K c.listings h queue (ar.door_waits d)) (a.0, inl refl) (λ u x b i. put_keeps K limit c u h b d n (suc c.queues)) refl (λ e. absurd (false≢true e)) (λ e. absurd (false≢true e)) (put_lists K t c (suc c.queues) h d al)
+      (put_fits K limit c h inner n (suc c.queues)) (nobody K c.listings h queue (ar.door_waits d)) (a.0, inl refl) (λ u x b i. put_keeps K limit c u h b d n (suc c.queues)) refl (λ e. absurd (false≢true e)) (λ e. absurd (false≢true e)) (put_lists K t c (suc c.queues) h d al)
 
   -- the counting in
   pub in_goes : (below ready : Bool) (q : ℕ) → nat_lt c.count limit ≡ below → c.ready ≡ ready → 0 < limit → Around K t false false c h → AtPlace K limit t c h (AtCountIn q) → Goes K limit t w (AtCountIn q) c h (in_step below ready c t k q)
   in_goes true true q b r some ar a =
       let l = ltb-true c.count limit b in
-      moves_on K limit t w k (AtCountIn q) c h run inner queue wk kk (record c { count = suc c.count }) (AtCountOut EndValue) (count_inner K limit c (suc c.count) h inner (omega arith) (λ n. absurd (false≢true (sym n ∙ r)))) queue (owes_value K t h a.0.entered (sym inner.ready_is ∙ r))
+      moves_on K limit t w k (AtCountIn q) c h run inner queue wk kk (record c { count = suc c.count }) (AtCountOut EndValue) (count_fits K limit c (suc c.count) h inner (omega arith) (λ n. absurd (false≢true (sym n ∙ r)))) queue (owes_value K t h a.0.entered (sym inner.ready_is ∙ r))
       (λ u n d i. same_inner K limit c (record c { count = suc c.count }) u h d refl refl refl refl refl (λ _. ltb-true c.count limit b)) (omega arith) (λ e. absurd (false≢true e)) (λ e. absurd (false≢true e)) (lists_stay t None None c (record c { count = suc c.count }) h refl (λ r. r) (inl refl))
   in_goes true false q b r some ar a =
       let l = ltb-true c.count limit b in
-      moves_on K limit t w k (AtCountIn q) c h run inner queue wk kk (record c { count = suc c.count }) (AtWaitLoad q None) (count_inner K limit c (suc c.count) h inner (omega arith) (λ _ _. (q, in_door c q r a.1))) queue (record { entered = a.0.entered; from = inl (a.0.began_is, a.0.unset) }, in_door c q r a.1, tt)
+      moves_on K limit t w k (AtCountIn q) c h run inner queue wk kk (record c { count = suc c.count }) (AtWaitLoad q None) (count_fits K limit c (suc c.count) h inner (omega arith) (λ _ _. (q, in_door c q r a.1))) queue (record { entered = a.0.entered; from = inl (a.0.began_is, a.0.unset) }, in_door c q r a.1, tt)
       (λ u n d i. same_inner K limit c (record c { count = suc c.count }) u h d refl refl refl refl refl (λ _. ltb-true c.count limit b)) (omega arith) (λ e. absurd (false≢true e)) (λ e. inr r) (lists_stay t None None c (record c { count = suc c.count }) h refl (λ r. r) (inl refl))
   in_goes false true q b r some ar a = ends_plain K limit t w k (AtCountIn q) c h run inner queue wk kk EndValue (owes_value K t h a.0.entered (sym inner.ready_is ∙ r)) refl refl
   in_goes false false q b r some ar a = ends_by K limit t w k (AtCountIn q) c h run inner queue wk kk c EndFull full_lasts (crowd_legal K limit t h a.0 (sym inner.ready_is ∙ r) (let l = ltb-false c.count limit b in let m = ar.crowded refl in omega arith)) a.0.entered.poll.holds_is inner queue

@@ -7,7 +7,7 @@ use Rattle.once_world.specs.Record.{Begin, Claim, End, Entry, Kind, Lazy, LazyWi
 use Rattle.once_world.specs.Tasks.{Polling, Unmade, Waiting, last_call, status}
 use Rattle.once_world.specs.Wakers.{HandsOut, IsOpen}
 use Rattle.once_world.specs.Run.{IsRun}
-use Rattle.once_world.proofs.Rows.Script.{newest_first}
+use Rattle.once_world.proofs.Rows.Order.{newest_first}
 use Rattle.once_world.proofs.Rows.Tasks.{by_two, not_waiting}
 use Rattle.once_world.proofs.Rows.Plain.{plain_path_record, slow_path_record}
 use Rattle.once_world.proofs.Rows.Refused.{limit_of_the_count_record, queue_refused_record}

@@ -10,7 +10,7 @@ use Rattle.once_world.specs.Crowd.{is_waiting}
 use Rattle.once_world.specs.Run.{AtEvery, IsRun}
 use Rattle.once_world.specs.Called.{SomebodyCalled}
 use Rattle.once_world.proofs.History.Cells.{empty_not_set, held_not_empty}
-use Rattle.once_world.proofs.Rows.Script.{newest_first}
+use Rattle.once_world.proofs.Rows.Order.{newest_first}
 use Rattle.once_world.proofs.Rows.Tasks.{by_three, not_waiting}
 use Rattle.once_world.proofs.Rows.Passes.{called_waiter_leaves_record}
 use Rattle.once_world.proofs.Rows.ByHand.{Covers, may_hand, two_not_one}

@@ -4,7 +4,7 @@ use Rattle.once_world.specs.Record.{Begin, Claim, DropBegin, DropEnd, End, Entry
 use Rattle.once_world.specs.Inputs.{Adds, AreAdded, Go, Input, Make, Part, Poll, entries_of, inputs_of}
 use Rattle.once_world.specs.Log.{AddsLines, AreLogged, lines_of}
 use Rattle.once_world.specs.Machine.{EnteredLine, PutLine, QueueLine, TakenLine, history_of, log_of}
-use Rattle.once_world.proofs.Rows.Script.{newest_first}
+use Rattle.once_world.proofs.Rows.Order.{newest_first}
 use Rattle.once_world.proofs.Rows.Late.{late_queue_record}
 
 -- an input and what it adds to the record and to the queue log

@@ -3,7 +3,7 @@ use Rattle.std.proofs.Common.{◌≡◌, ◌≤◌, List, [], ◌∷◌, refl, a
 use Rattle.once_world.specs.Record.{Begin, Claim, DropBegin, End, Entry, Made, Once, Pending, Ran, RanPending}
 use Rattle.once_world.specs.Refusals.{crowd}
 use Rattle.once_world.specs.Crowd.{AreWaiting, waiters}
-use Rattle.once_world.proofs.Rows.Script.{newest_first}
+use Rattle.once_world.proofs.Rows.Order.{newest_first}
 
 -- the first task holds, the second waits, the third is in its drop, the fourth was never polled, and the fifth polls
 abbrev five : List Entry

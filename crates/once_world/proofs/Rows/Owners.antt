@@ -5,11 +5,11 @@ use Rattle.once_world.specs.Run.{IsRun}
 use Rattle.once_world.specs.Inputs.{Input, Make, Poll, Drop, Go, Looks, Owns}
 use Rattle.once_world.specs.Machine.{history_of, queue_of}
 use Rattle.once_world.proofs.Input.Headline.{every_run}
-use Rattle.once_world.proofs.Rows.Script.{newest_first, run, script}
+use Rattle.once_world.proofs.Rows.Order.{newest_first, run}
 
 -- a value is looked at, changed and taken, and an empty cell gives nothing
 abbrev repeat_after_emptying_inputs : List Input
-repeat_after_emptying_inputs = script (Looks ∷ Owns (Write 6) ∷ Owns Take ∷ Looks ∷ Owns (Write 7) ∷ Owns Take ∷ [])
+repeat_after_emptying_inputs = newest_first (Looks ∷ Owns (Write 6) ∷ Owns Take ∷ Looks ∷ Owns (Write 7) ∷ Owns Take ∷ [])
 
 abbrev pub repeat_after_emptying_record : List Entry
 repeat_after_emptying_record = newest_first (Look (Some 5) ∷ Own (Write 6) (GotValue 5) ∷ Own Take (GotValue 6) ∷ Look None ∷ Own (Write 7) GotNone ∷ Own Take GotNone ∷ [])
@@ -25,7 +25,7 @@ repeat_after_emptying_run = every_run (OnceWith 5) 8 repeat_after_emptying_input
 
 -- a lazy cell is replaced by a value, then by an init with other answers, and is taken apart
 abbrev replacements_inputs : List Input
-replacements_inputs = script (Owns (ReplaceValue 8) ∷ Looks ∷ Owns (ReplaceAnswers (None ∷ Some 3 ∷ [])) ∷ Owns Parts ∷ [])
+replacements_inputs = newest_first (Owns (ReplaceValue 8) ∷ Looks ∷ Owns (ReplaceAnswers (None ∷ Some 3 ∷ [])) ∷ Owns Parts ∷ [])
 
 abbrev pub replacements_record : List Entry
 replacements_record = newest_first (Own (ReplaceValue 8) (GotValue 7) ∷ Look (Some 8) ∷ Own (ReplaceAnswers (None ∷ Some 3 ∷ [])) (GotValue 8) ∷ Own Parts (GotAnswers (None ∷ Some 3 ∷ [])) ∷ [])
@@ -41,7 +41,7 @@ replacements_run = every_run (LazyWith 7) 8 replacements_inputs (omega arith)
 
 -- a lazy cell whose init was never polled gives all its answers back
 abbrev unfinished_handed_back_inputs : List Input
-unfinished_handed_back_inputs = script (Looks ∷ Owns Parts ∷ [])
+unfinished_handed_back_inputs = newest_first (Looks ∷ Owns Parts ∷ [])
 
 abbrev pub unfinished_handed_back_record : List Entry
 unfinished_handed_back_record = newest_first (Look None ∷ Own Parts (GotAnswers (None ∷ Some 9 ∷ [])) ∷ [])
@@ -57,7 +57,7 @@ unfinished_handed_back_run = every_run (Lazy (None ∷ Some 9 ∷ [])) 8 unfinis
 
 -- an init without answers left is pending, whatever the step says
 abbrev lazy_answers_used_up_inputs : List Input
-lazy_answers_used_up_inputs = script (Make 1 ∷ Poll 1 7 ∷ run 1 (RanValue 3) ++ Poll 1 7 ∷ run 1 (RanValue 3))
+lazy_answers_used_up_inputs = newest_first (Make 1 ∷ Poll 1 7 ∷ run 1 (RanValue 3) ++ Poll 1 7 ∷ run 1 (RanValue 3))
 
 abbrev pub lazy_answers_used_up_record : List Entry
 lazy_answers_used_up_record = newest_first (Made 1 ∷ Begin 1 7 ∷ Claim 1 ∷ Ran 1 RanPending ∷ End 1 Pending ∷ Begin 1 7 ∷ Ran 1 RanPending ∷ End 1 Pending ∷ [])
@@ -73,7 +73,7 @@ lazy_answers_used_up_run = every_run (Lazy []) 8 lazy_answers_used_up_inputs (om
 
 -- calls that the kind does not have do nothing
 abbrev calls_of_the_other_kind_inputs : List Input
-calls_of_the_other_kind_inputs = script (Owns Parts ∷ Owns (ReplaceValue 4) ∷ Owns (ReplaceAnswers (None ∷ [])) ∷ Owns (ReplaceAnswers []) ∷ Looks ∷ [])
+calls_of_the_other_kind_inputs = newest_first (Owns Parts ∷ Owns (ReplaceValue 4) ∷ Owns (ReplaceAnswers (None ∷ [])) ∷ Owns (ReplaceAnswers []) ∷ Looks ∷ [])
 
 abbrev pub calls_of_the_other_kind_record : List Entry
 calls_of_the_other_kind_record = newest_first (Look (Some 3) ∷ [])
@@ -89,7 +89,7 @@ calls_of_the_other_kind_run = every_run (OnceWith 3) 8 calls_of_the_other_kind_i
 
 -- a step and a drop of a task that was not made do nothing
 abbrev unfitting_inputs_inputs : List Input
-unfitting_inputs_inputs = script (Go 1 RanPending true ∷ Drop 1 ∷ [])
+unfitting_inputs_inputs = newest_first (Go 1 RanPending true ∷ Drop 1 ∷ [])
 
 abbrev pub unfitting_inputs_record : List Entry
 unfitting_inputs_record = []

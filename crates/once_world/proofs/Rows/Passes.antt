@@ -6,11 +6,11 @@ use Rattle.once_world.specs.Inputs.{Input, Make, Poll, Drop, Go}
 use Rattle.once_world.specs.Log.{IsSound}
 use Rattle.once_world.specs.Machine.{EnteredLine, PutLine, TakenLine, history_of, log_of, queue_of}
 use Rattle.once_world.proofs.Input.Headline.{every_run}
-use Rattle.once_world.proofs.Rows.Script.{newest_first, run, script}
+use Rattle.once_world.proofs.Rows.Order.{newest_first, run}
 
 -- a called task is dropped, and calls the next: that task makes the value
 abbrev called_waiter_leaves_inputs : List Input
-called_waiter_leaves_inputs = script (Make 1 ∷ Make 2 ∷ Make 3 ∷ Poll 1 5 ∷ run 1 RanPending ++ Poll 2 7 ∷ run 2 RanPending ++ Poll 3 8 ∷ run 3 RanPending ++ Poll 1 5 ∷ run 1 (RanError 9) ++ Drop 2 ∷ run 2 RanPending ++ Poll 3 8 ∷ run 3 (RanValue 4))
+called_waiter_leaves_inputs = newest_first (Make 1 ∷ Make 2 ∷ Make 3 ∷ Poll 1 5 ∷ run 1 RanPending ++ Poll 2 7 ∷ run 2 RanPending ++ Poll 3 8 ∷ run 3 RanPending ++ Poll 1 5 ∷ run 1 (RanError 9) ++ Drop 2 ∷ run 2 RanPending ++ Poll 3 8 ∷ run 3 (RanValue 4))
 
 abbrev pub called_waiter_leaves_record : List Entry
 called_waiter_leaves_record = newest_first (Made 1 ∷ Made 2 ∷ Made 3 ∷ Begin 1 5 ∷ Claim 1 ∷ Ran 1 RanPending ∷ End 1 Pending ∷ Begin 2 7 ∷ End 2 Pending ∷ Begin 3 8 ∷ End 3 Pending ∷ Begin 1 5 ∷ Ran 1 (RanError 9) ∷ Free 1 (7 ∷ []) ∷ End 1 (Error 9) ∷ DropBegin 2 ∷ Pass 2 (8 ∷ []) ∷ DropEnd 2 ∷ Begin 3 8 ∷ Claim 3 ∷ Ran 3 (RanValue 4) ∷ Fill 3 4 [] ∷ End 3 (Value 4) ∷ [])
@@ -32,7 +32,7 @@ called_waiter_leaves_sound = (refl, (refl, (refl, (refl, (refl, (refl, (refl, (r
 
 -- a task is refused memory, is called before it leaves, and calls the next
 abbrev called_waiter_refused_inputs : List Input
-called_waiter_refused_inputs = script (Make 1 ∷ Make 2 ∷ Make 3 ∷ Poll 1 5 ∷ run 1 RanPending ++ Poll 2 7 ∷ run 2 RanPending ++ Poll 3 8 ∷ run 3 RanPending ++ Poll 2 6 ∷ Go 2 RanPending true ∷ Go 2 RanPending false ∷ Poll 1 5 ∷ run 1 (RanError 9) ++ run 2 RanPending)
+called_waiter_refused_inputs = newest_first (Make 1 ∷ Make 2 ∷ Make 3 ∷ Poll 1 5 ∷ run 1 RanPending ++ Poll 2 7 ∷ run 2 RanPending ++ Poll 3 8 ∷ run 3 RanPending ++ Poll 2 6 ∷ Go 2 RanPending true ∷ Go 2 RanPending false ∷ Poll 1 5 ∷ run 1 (RanError 9) ++ run 2 RanPending)
 
 abbrev pub called_waiter_refused_record : List Entry
 called_waiter_refused_record = newest_first (Made 1 ∷ Made 2 ∷ Made 3 ∷ Begin 1 5 ∷ Claim 1 ∷ Ran 1 RanPending ∷ End 1 Pending ∷ Begin 2 7 ∷ End 2 Pending ∷ Begin 3 8 ∷ End 3 Pending ∷ Begin 2 6 ∷ Begin 1 5 ∷ Ran 1 (RanError 9) ∷ Free 1 (7 ∷ []) ∷ End 1 (Error 9) ∷ Pass 2 (8 ∷ []) ∷ End 2 Memory ∷ [])
@@ -54,7 +54,7 @@ called_waiter_refused_sound = (refl, (refl, (refl, (refl, (refl, (refl, (refl, (
 
 -- a task that was not called is refused memory, and calls nobody: the failure calls the next
 abbrev refused_and_not_called_inputs : List Input
-refused_and_not_called_inputs = script (Make 1 ∷ Make 2 ∷ Make 3 ∷ Poll 1 5 ∷ run 1 RanPending ++ Poll 2 7 ∷ run 2 RanPending ++ Poll 3 8 ∷ run 3 RanPending ++ Poll 2 6 ∷ Go 2 RanPending true ∷ Go 2 RanPending false ∷ run 2 RanPending ++ Poll 1 5 ∷ run 1 (RanError 9))
+refused_and_not_called_inputs = newest_first (Make 1 ∷ Make 2 ∷ Make 3 ∷ Poll 1 5 ∷ run 1 RanPending ++ Poll 2 7 ∷ run 2 RanPending ++ Poll 3 8 ∷ run 3 RanPending ++ Poll 2 6 ∷ Go 2 RanPending true ∷ Go 2 RanPending false ∷ run 2 RanPending ++ Poll 1 5 ∷ run 1 (RanError 9))
 
 abbrev pub refused_and_not_called_record : List Entry
 refused_and_not_called_record = newest_first (Made 1 ∷ Made 2 ∷ Made 3 ∷ Begin 1 5 ∷ Claim 1 ∷ Ran 1 RanPending ∷ End 1 Pending ∷ Begin 2 7 ∷ End 2 Pending ∷ Begin 3 8 ∷ End 3 Pending ∷ Begin 2 6 ∷ End 2 Memory ∷ Begin 1 5 ∷ Ran 1 (RanError 9) ∷ Free 1 (8 ∷ []) ∷ End 1 (Error 9) ∷ [])
@@ -70,7 +70,7 @@ refused_and_not_called_run = every_run Once 8 refused_and_not_called_inputs (ome
 
 -- a task that was not called is dropped and calls nobody; the called one is dropped and calls the next
 abbrev only_a_called_waiter_passes_on_inputs : List Input
-only_a_called_waiter_passes_on_inputs = script (Make 1 ∷ Make 2 ∷ Make 3 ∷ Make 4 ∷ Poll 1 5 ∷ run 1 RanPending ++ Poll 2 7 ∷ run 2 RanPending ++ Poll 3 8 ∷ run 3 RanPending ++ Poll 4 9 ∷ run 4 RanPending ++ Poll 1 5 ∷ run 1 (RanError 9) ++ Drop 3 ∷ run 3 RanPending ++ Drop 2 ∷ run 2 RanPending)
+only_a_called_waiter_passes_on_inputs = newest_first (Make 1 ∷ Make 2 ∷ Make 3 ∷ Make 4 ∷ Poll 1 5 ∷ run 1 RanPending ++ Poll 2 7 ∷ run 2 RanPending ++ Poll 3 8 ∷ run 3 RanPending ++ Poll 4 9 ∷ run 4 RanPending ++ Poll 1 5 ∷ run 1 (RanError 9) ++ Drop 3 ∷ run 3 RanPending ++ Drop 2 ∷ run 2 RanPending)
 
 abbrev pub only_a_called_waiter_passes_on_record : List Entry
 only_a_called_waiter_passes_on_record = newest_first (Made 1 ∷ Made 2 ∷ Made 3 ∷ Made 4 ∷ Begin 1 5 ∷ Claim 1 ∷ Ran 1 RanPending ∷ End 1 Pending ∷ Begin 2 7 ∷ End 2 Pending ∷ Begin 3 8 ∷ End 3 Pending ∷ Begin 4 9 ∷ End 4 Pending ∷ Begin 1 5 ∷ Ran 1 (RanError 9) ∷ Free 1 (7 ∷ []) ∷ End 1 (Error 9) ∷ DropBegin 3 ∷ DropEnd 3 ∷ DropBegin 2 ∷ Pass 2 (9 ∷ []) ∷ DropEnd 2 ∷ [])
@@ -86,7 +86,7 @@ only_a_called_waiter_passes_on_run = every_run Once 8 only_a_called_waiter_passe
 
 -- a called task is dropped while another holds, and calls nobody: the failure of that holder does
 abbrev no_pass_while_a_head_holds_inputs : List Input
-no_pass_while_a_head_holds_inputs = script (Make 1 ∷ Make 2 ∷ Make 3 ∷ Make 4 ∷ Poll 1 5 ∷ run 1 RanPending ++ Poll 2 7 ∷ run 2 RanPending ++ Poll 3 8 ∷ run 3 RanPending ++ Poll 1 5 ∷ run 1 (RanError 9) ++ Poll 4 6 ∷ run 4 RanPending ++ Drop 2 ∷ run 2 RanPending ++ Poll 4 6 ∷ run 4 (RanError 9))
+no_pass_while_a_head_holds_inputs = newest_first (Make 1 ∷ Make 2 ∷ Make 3 ∷ Make 4 ∷ Poll 1 5 ∷ run 1 RanPending ++ Poll 2 7 ∷ run 2 RanPending ++ Poll 3 8 ∷ run 3 RanPending ++ Poll 1 5 ∷ run 1 (RanError 9) ++ Poll 4 6 ∷ run 4 RanPending ++ Drop 2 ∷ run 2 RanPending ++ Poll 4 6 ∷ run 4 (RanError 9))
 
 abbrev pub no_pass_while_a_head_holds_record : List Entry
 no_pass_while_a_head_holds_record = newest_first (Made 1 ∷ Made 2 ∷ Made 3 ∷ Made 4 ∷ Begin 1 5 ∷ Claim 1 ∷ Ran 1 RanPending ∷ End 1 Pending ∷ Begin 2 7 ∷ End 2 Pending ∷ Begin 3 8 ∷ End 3 Pending ∷ Begin 1 5 ∷ Ran 1 (RanError 9) ∷ Free 1 (7 ∷ []) ∷ End 1 (Error 9) ∷ Begin 4 6 ∷ Claim 4 ∷ Ran 4 RanPending ∷ End 4 Pending ∷ DropBegin 2 ∷ DropEnd 2 ∷ Begin 4 6 ∷ Ran 4 (RanError 9) ∷ Free 4 (8 ∷ []) ∷ End 4 (Error 9) ∷ [])
@@ -102,7 +102,7 @@ no_pass_while_a_head_holds_run = every_run Once 8 no_pass_while_a_head_holds_inp
 
 -- two called tasks are dropped in turn, and each calls the next
 abbrev two_pass_on_in_turn_inputs : List Input
-two_pass_on_in_turn_inputs = script (Make 1 ∷ Make 2 ∷ Make 3 ∷ Make 4 ∷ Poll 1 5 ∷ run 1 RanPending ++ Poll 2 7 ∷ run 2 RanPending ++ Poll 3 8 ∷ run 3 RanPending ++ Poll 4 9 ∷ run 4 RanPending ++ Poll 1 5 ∷ run 1 (RanError 9) ++ Drop 2 ∷ run 2 RanPending ++ Drop 3 ∷ run 3 RanPending ++ Poll 4 9 ∷ run 4 (RanValue 6))
+two_pass_on_in_turn_inputs = newest_first (Make 1 ∷ Make 2 ∷ Make 3 ∷ Make 4 ∷ Poll 1 5 ∷ run 1 RanPending ++ Poll 2 7 ∷ run 2 RanPending ++ Poll 3 8 ∷ run 3 RanPending ++ Poll 4 9 ∷ run 4 RanPending ++ Poll 1 5 ∷ run 1 (RanError 9) ++ Drop 2 ∷ run 2 RanPending ++ Drop 3 ∷ run 3 RanPending ++ Poll 4 9 ∷ run 4 (RanValue 6))
 
 abbrev pub two_pass_on_in_turn_record : List Entry
 two_pass_on_in_turn_record = newest_first (Made 1 ∷ Made 2 ∷ Made 3 ∷ Made 4 ∷ Begin 1 5 ∷ Claim 1 ∷ Ran 1 RanPending ∷ End 1 Pending ∷ Begin 2 7 ∷ End 2 Pending ∷ Begin 3 8 ∷ End 3 Pending ∷ Begin 4 9 ∷ End 4 Pending ∷ Begin 1 5 ∷ Ran 1 (RanError 9) ∷ Free 1 (7 ∷ []) ∷ End 1 (Error 9) ∷ DropBegin 2 ∷ Pass 2 (8 ∷ []) ∷ DropEnd 2 ∷ DropBegin 3 ∷ Pass 3 (9 ∷ []) ∷ DropEnd 3 ∷ Begin 4 9 ∷ Claim 4 ∷ Ran 4 (RanValue 6) ∷ Fill 4 6 [] ∷ End 4 (Value 6) ∷ [])
@@ -118,7 +118,7 @@ two_pass_on_in_turn_run = every_run Once 8 two_pass_on_in_turn_inputs (omega ari
 
 -- the called task is dropped, and nobody else waits: it calls nobody
 abbrev last_one_leaves_inputs : List Input
-last_one_leaves_inputs = script (Make 1 ∷ Make 2 ∷ Poll 1 5 ∷ run 1 RanPending ++ Poll 2 7 ∷ run 2 RanPending ++ Poll 1 5 ∷ run 1 (RanError 9) ++ Drop 2 ∷ run 2 RanPending ++ Make 3 ∷ Poll 3 8 ∷ run 3 (RanValue 4))
+last_one_leaves_inputs = newest_first (Make 1 ∷ Make 2 ∷ Poll 1 5 ∷ run 1 RanPending ++ Poll 2 7 ∷ run 2 RanPending ++ Poll 1 5 ∷ run 1 (RanError 9) ++ Drop 2 ∷ run 2 RanPending ++ Make 3 ∷ Poll 3 8 ∷ run 3 (RanValue 4))
 
 abbrev pub last_one_leaves_record : List Entry
 last_one_leaves_record = newest_first (Made 1 ∷ Made 2 ∷ Begin 1 5 ∷ Claim 1 ∷ Ran 1 RanPending ∷ End 1 Pending ∷ Begin 2 7 ∷ End 2 Pending ∷ Begin 1 5 ∷ Ran 1 (RanError 9) ∷ Free 1 (7 ∷ []) ∷ End 1 (Error 9) ∷ DropBegin 2 ∷ DropEnd 2 ∷ Made 3 ∷ Begin 3 8 ∷ Claim 3 ∷ Ran 3 (RanValue 4) ∷ Fill 3 4 [] ∷ End 3 (Value 4) ∷ [])

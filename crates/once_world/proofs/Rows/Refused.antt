@@ -5,11 +5,11 @@ use Rattle.once_world.specs.Run.{IsRun}
 use Rattle.once_world.specs.Inputs.{Input, Make, Poll, Go}
 use Rattle.once_world.specs.Machine.{history_of, queue_of}
 use Rattle.once_world.proofs.Input.Headline.{every_run}
-use Rattle.once_world.proofs.Rows.Script.{newest_first, run, script, steps}
+use Rattle.once_world.proofs.Rows.Order.{newest_first, run, steps}
 
 -- as many tasks wait as may: one more finds the place full
 abbrev limit_of_the_count_inputs : List Input
-limit_of_the_count_inputs = script (Make 1 ∷ Make 2 ∷ Make 3 ∷ Poll 1 5 ∷ run 1 RanPending ++ Poll 2 7 ∷ run 2 RanPending ++ Poll 3 9 ∷ run 3 RanPending)
+limit_of_the_count_inputs = newest_first (Make 1 ∷ Make 2 ∷ Make 3 ∷ Poll 1 5 ∷ run 1 RanPending ++ Poll 2 7 ∷ run 2 RanPending ++ Poll 3 9 ∷ run 3 RanPending)
 
 abbrev pub limit_of_the_count_record : List Entry
 limit_of_the_count_record = newest_first (Made 1 ∷ Made 2 ∷ Made 3 ∷ Begin 1 5 ∷ Claim 1 ∷ Ran 1 RanPending ∷ End 1 Pending ∷ Begin 2 7 ∷ End 2 Pending ∷ Begin 3 9 ∷ End 3 Full ∷ [])
@@ -25,7 +25,7 @@ limit_of_the_count_run = every_run Once 1 limit_of_the_count_inputs (omega arith
 
 -- the holder itself needs a place in the count for its release, and takes it at the limit too
 abbrev release_beyond_the_limit_inputs : List Input
-release_beyond_the_limit_inputs = script (Make 1 ∷ Make 2 ∷ Make 3 ∷ Poll 1 5 ∷ run 1 RanPending ++ Poll 2 7 ∷ run 2 RanPending ++ Poll 3 9 ∷ run 3 RanPending ++ Poll 1 5 ∷ run 1 (RanError 5) ++ Poll 2 7 ∷ run 2 (RanValue 6))
+release_beyond_the_limit_inputs = newest_first (Make 1 ∷ Make 2 ∷ Make 3 ∷ Poll 1 5 ∷ run 1 RanPending ++ Poll 2 7 ∷ run 2 RanPending ++ Poll 3 9 ∷ run 3 RanPending ++ Poll 1 5 ∷ run 1 (RanError 5) ++ Poll 2 7 ∷ run 2 (RanValue 6))
 
 abbrev pub release_beyond_the_limit_record : List Entry
 release_beyond_the_limit_record = newest_first (Made 1 ∷ Made 2 ∷ Made 3 ∷ Begin 1 5 ∷ Claim 1 ∷ Ran 1 RanPending ∷ End 1 Pending ∷ Begin 2 7 ∷ End 2 Pending ∷ Begin 3 9 ∷ End 3 Full ∷ Begin 1 5 ∷ Ran 1 (RanError 5) ∷ Free 1 (7 ∷ []) ∷ End 1 (Error 5) ∷ Begin 2 7 ∷ Claim 2 ∷ Ran 2 (RanValue 6) ∷ Fill 2 6 [] ∷ End 2 (Value 6) ∷ [])
@@ -41,7 +41,7 @@ release_beyond_the_limit_run = every_run Once 1 release_beyond_the_limit_inputs 
 
 -- no memory for a queue
 abbrev queue_refused_inputs : List Input
-queue_refused_inputs = script (Make 1 ∷ Make 2 ∷ Poll 1 5 ∷ run 1 RanPending ++ Poll 2 7 ∷ Go 2 RanPending true ∷ Go 2 RanPending true ∷ Go 2 RanPending false ∷ run 2 RanPending)
+queue_refused_inputs = newest_first (Make 1 ∷ Make 2 ∷ Poll 1 5 ∷ run 1 RanPending ++ Poll 2 7 ∷ Go 2 RanPending true ∷ Go 2 RanPending true ∷ Go 2 RanPending false ∷ run 2 RanPending)
 
 abbrev pub queue_refused_record : List Entry
 queue_refused_record = newest_first (Made 1 ∷ Made 2 ∷ Begin 1 5 ∷ Claim 1 ∷ Ran 1 RanPending ∷ End 1 Pending ∷ Begin 2 7 ∷ End 2 Memory ∷ [])
@@ -57,7 +57,7 @@ queue_refused_run = every_run Once 8 queue_refused_inputs (omega arith)
 
 -- no memory for the copy of a waker
 abbrev waker_copy_refused_inputs : List Input
-waker_copy_refused_inputs = script (Make 1 ∷ Make 2 ∷ Poll 1 5 ∷ run 1 RanPending ++ Poll 2 7 ∷ Go 2 RanPending true ∷ Go 2 RanPending true ∷ Go 2 RanPending true ∷ Go 2 RanPending true ∷ Go 2 RanPending true ∷ Go 2 RanPending false ∷ run 2 RanPending)
+waker_copy_refused_inputs = newest_first (Make 1 ∷ Make 2 ∷ Poll 1 5 ∷ run 1 RanPending ++ Poll 2 7 ∷ Go 2 RanPending true ∷ Go 2 RanPending true ∷ Go 2 RanPending true ∷ Go 2 RanPending true ∷ Go 2 RanPending true ∷ Go 2 RanPending false ∷ run 2 RanPending)
 
 abbrev pub waker_copy_refused_record : List Entry
 waker_copy_refused_record = newest_first (Made 1 ∷ Made 2 ∷ Begin 1 5 ∷ Claim 1 ∷ Ran 1 RanPending ∷ End 1 Pending ∷ Begin 2 7 ∷ End 2 Memory ∷ [])
@@ -73,7 +73,7 @@ waker_copy_refused_run = every_run Once 8 waker_copy_refused_inputs (omega arith
 
 -- no memory for a listing, though another task is listed with the same waker
 abbrev listed_by_another_and_no_memory_inputs : List Input
-listed_by_another_and_no_memory_inputs = script (Make 1 ∷ Make 2 ∷ Make 3 ∷ Poll 1 5 ∷ run 1 RanPending ++ Poll 2 7 ∷ Go 2 RanPending true ∷ Go 2 RanPending true ∷ Go 2 RanPending true ∷ Go 2 RanPending true ∷ Go 2 RanPending true ∷ Go 2 RanPending true ∷ Poll 3 7 ∷ run 3 RanPending ++ Go 2 RanPending false ∷ run 2 RanPending)
+listed_by_another_and_no_memory_inputs = newest_first (Make 1 ∷ Make 2 ∷ Make 3 ∷ Poll 1 5 ∷ run 1 RanPending ++ Poll 2 7 ∷ Go 2 RanPending true ∷ Go 2 RanPending true ∷ Go 2 RanPending true ∷ Go 2 RanPending true ∷ Go 2 RanPending true ∷ Go 2 RanPending true ∷ Poll 3 7 ∷ run 3 RanPending ++ Go 2 RanPending false ∷ run 2 RanPending)
 
 abbrev pub listed_by_another_and_no_memory_record : List Entry
 listed_by_another_and_no_memory_record = newest_first (Made 1 ∷ Made 2 ∷ Made 3 ∷ Begin 1 5 ∷ Claim 1 ∷ Ran 1 RanPending ∷ End 1 Pending ∷ Begin 2 7 ∷ Begin 3 7 ∷ End 3 Pending ∷ End 2 Memory ∷ [])
@@ -89,7 +89,7 @@ listed_by_another_and_no_memory_run = every_run Once 8 listed_by_another_and_no_
 
 -- no memory is needed to list another waker of a task that is listed
 abbrev relisted_without_memory_inputs : List Input
-relisted_without_memory_inputs = script (Make 1 ∷ Make 2 ∷ Poll 1 5 ∷ run 1 RanPending ++ Poll 2 7 ∷ run 2 RanPending ++ Poll 2 8 ∷ steps 2 2 RanPending ++ Go 2 RanPending false ∷ run 2 RanPending ++ Poll 1 5 ∷ run 1 (RanError 9))
+relisted_without_memory_inputs = newest_first (Make 1 ∷ Make 2 ∷ Poll 1 5 ∷ run 1 RanPending ++ Poll 2 7 ∷ run 2 RanPending ++ Poll 2 8 ∷ steps 2 2 RanPending ++ Go 2 RanPending false ∷ run 2 RanPending ++ Poll 1 5 ∷ run 1 (RanError 9))
 
 abbrev pub relisted_without_memory_record : List Entry
 relisted_without_memory_record = newest_first (Made 1 ∷ Made 2 ∷ Begin 1 5 ∷ Claim 1 ∷ Ran 1 RanPending ∷ End 1 Pending ∷ Begin 2 7 ∷ End 2 Pending ∷ Begin 2 8 ∷ End 2 Pending ∷ Begin 1 5 ∷ Ran 1 (RanError 9) ∷ Free 1 (8 ∷ []) ∷ End 1 (Error 9) ∷ [])

@@ -3,7 +3,7 @@ use Rattle.std.proofs.Common.{inl, inr, List, [], ◌∷◌, ◌++◌, refl, sym
 use Rattle.std.proofs.lemmas.Bool.{false≢true}
 use Rattle.once_world.specs.Record.{Begin, Claim, DropBegin, End, Entry, Error, Free, Made, Once, Pass, Pending, Ran, RanError, RanPending}
 use Rattle.once_world.specs.Called.{HasTurn, IsCalled}
-use Rattle.once_world.proofs.Rows.Script.{newest_first}
+use Rattle.once_world.proofs.Rows.Order.{newest_first}
 
 -- the first task held, failed and called the second; the third waits, and the fourth was never polled
 abbrev called : List Entry

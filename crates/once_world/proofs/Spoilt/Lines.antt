@@ -7,7 +7,7 @@ use Rattle.once_world.specs.Inputs.{Drop, Go, Input, Looks, Make, Owns, Part, Po
 use Rattle.once_world.specs.Log.{AreLogged, NoneKept, WaitingStands}
 use Rattle.once_world.specs.Machine.{EnteredLine, PutLine, QueueLine, TakenLine}
 use Rattle.once_world.proofs.History.Cells.{none_some}
-use Rattle.once_world.proofs.Rows.Script.{newest_first}
+use Rattle.once_world.proofs.Rows.Order.{newest_first}
 
 -- an input and what it adds to the record and to the queue log
 abbrev part : Input → List Entry → List QueueLine → Part

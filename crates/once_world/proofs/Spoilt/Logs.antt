@@ -3,7 +3,7 @@ use Rattle.std.proofs.Common.{◌≡◌, ℕ, [], ◌∷◌, Option, Some, refl,
 use Rattle.std.proofs.lemmas.Bool.{false≢true}
 use Rattle.once_world.specs.Machine.{EnteredLine, PutLine, TakenLine}
 use Rattle.once_world.proofs.History.Cells.{none_some}
-use Rattle.once_world.proofs.Rows.Script.{newest_first}
+use Rattle.once_world.proofs.Rows.Order.{newest_first}
 use Rattle.once_world.proofs.Spoilt.Records.{SpoiltLog}
 
 other_queue : ◌≡◌ {A = Option ℕ} (Some 1) (Some 2) → ⊥

@@ -3,11 +3,11 @@ use Rattle.std.proofs.Common.{◌≡◌, ◌<◌, ℕ, true, List, [], ◌∷◌
 use Rattle.std.proofs.lemmas.Bool.{eqb-true}
 use Rattle.once_queue.specs.Numbers.{member}
 use Rattle.once_world.specs.Record.{Begin, Claim, DropBegin, DropEnd, End, Entry, Free, Got, GotNone, Made, Once, Own, OwnerCall, Pass, Pending, Ran, RanError, RanPending, Take, Write, replaces}
-use Rattle.once_world.specs.Wakers.{CallsOne, IsOpen, handed_out, opened}
+use Rattle.once_world.specs.Wakers.{CallsOne, IsOpen, times_handed, times_opened}
 use Rattle.once_world.specs.Run.{IsRun}
 use Rattle.once_world.specs.Inputs.{Drop, Input, Make, Owns, Poll}
 use Rattle.once_world.proofs.Input.Headline.{every_run}
-use Rattle.once_world.proofs.Rows.Script.{newest_first, run, script, steps}
+use Rattle.once_world.proofs.Rows.Order.{newest_first, run, steps}
 use Rattle.once_world.proofs.Spoilt.Records.{Spoilt}
 
 -- a waiting task and its holder are dropped, the oldest first
@@ -47,17 +47,17 @@ calls_seven : CallsOne Once (7 ∷ []) written
 calls_seven = record { one = omega arith; due = λ w d e. let z : ⊥ = cc in z; open_alone = seven_open }
 
 called_after_write : IsRun Once 8 (Free 3 (7 ∷ []) ∷ written)
-called_after_write = ((refl, tt, calls_seven), every_run Once 8 (script (left_inputs ++ Owns (Write 4) ∷ failing_inputs)) (omega arith))
+called_after_write = ((refl, tt, calls_seven), every_run Once 8 (newest_first (left_inputs ++ Owns (Write 4) ∷ failing_inputs)) (omega arith))
 
 -- and one after a Take may not
 called_after_take : Spoilt Once 8 (newest_first (left ++ Own Take GotNone ∷ failing ++ Free 3 (7 ∷ []) ∷ []))
-called_after_take = (every_run Once 8 (script (left_inputs ++ Owns Take ∷ failing_inputs)) (omega arith), λ r. shut_after_another_call Take GotNone refl (r.0.2.open_alone 7 refl))
+called_after_take = (every_run Once 8 (newest_first (left_inputs ++ Owns Take ∷ failing_inputs)) (omega arith), λ r. shut_after_another_call Take GotNone refl (r.0.2.open_alone 7 refl))
 
 -- two tasks wait with one waker: it is open twice
 abbrev twice : List Entry
 twice = Made 1 ∷ Made 2 ∷ Made 3 ∷ Begin 1 5 ∷ Claim 1 ∷ Ran 1 RanPending ∷ End 1 Pending ∷ Begin 2 7 ∷ End 2 Pending ∷ Begin 3 7 ∷ End 3 Pending ∷ []
 
-opened_twice : (opened Once 7 (newest_first twice) ≡ 2) × (handed_out 7 (newest_first twice) ≡ 0)
+opened_twice : (times_opened Once 7 (newest_first twice) ≡ 2) × (times_handed 7 (newest_first twice) ≡ 0)
 opened_twice = (refl, refl)
 
 -- so it may be handed out for each, by a release and by a turn passed on
@@ -68,9 +68,9 @@ open_for_nobody_more : IsOpen Once 7 (newest_first (twice ++ DropBegin 1 ∷ Fre
 open_for_nobody_more o = omega arith
 
 -- each poll that ends pending while another holds opens its waker once more
-opened_by_each_poll : opened Once 7 (newest_first (twice ++ Begin 2 7 ∷ End 2 Pending ∷ [])) ≡ 3
+opened_by_each_poll : times_opened Once 7 (newest_first (twice ++ Begin 2 7 ∷ End 2 Pending ∷ [])) ≡ 3
 opened_by_each_poll = refl
 
 -- a poll of the holder opens none
-opened_by_no_holder : opened Once 5 (newest_first twice) ≡ 0
+opened_by_no_holder : times_opened Once 5 (newest_first twice) ≡ 0
 opened_by_no_holder = refl

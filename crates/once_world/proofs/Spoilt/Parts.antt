@@ -4,7 +4,7 @@ use Rattle.std.proofs.lemmas.Bool.{false≢true}
 use Rattle.once_world.specs.Record.{Begin, Claim, DropBegin, End, Entry, GotNone, Made, Memory, Once, OnceWith, Own, Pass, Pending, Ran, RanPending, RanValue, Take}
 use Rattle.once_world.specs.Inputs.{AreAdded, Drop, Go, Input, Looks, Make, Owns, Part, Poll, SixteenEnd, WantsMemoryOnlyUngranted}
 use Rattle.once_world.specs.Granted.{all_granted}
-use Rattle.once_world.proofs.Rows.Script.{newest_first}
+use Rattle.once_world.proofs.Rows.Order.{newest_first}
 
 -- an input and what it adds to the record
 abbrev part : Input → List Entry → Part

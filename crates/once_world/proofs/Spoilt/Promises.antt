@@ -4,7 +4,7 @@ use Rattle.once_world.specs.Record.{Begin, Claim, End, Fill, Free, Made, Once, O
 use Rattle.once_world.specs.Run.{NobodyForgotten}
 use Rattle.once_world.specs.Values.{IsOneValue}
 use Rattle.once_world.proofs.History.Cells.{same_value}
-use Rattle.once_world.proofs.Rows.Script.{newest_first}
+use Rattle.once_world.proofs.Rows.Order.{newest_first}
 
 four_not_five : ◌≡◌ {A = ℕ} 4 5 → ⊥
 four_not_five e = omega arith

@@ -10,7 +10,7 @@ use Rattle.once_world.specs.Called.{IsCalled, SomebodyCalled, WaiterCalled}
 use Rattle.once_world.specs.Inputs.{Go, Input, Make, Poll}
 use Rattle.once_world.proofs.Input.Headline.{every_run}
 use Rattle.once_world.proofs.History.Cells.{held_not_empty}
-use Rattle.once_world.proofs.Rows.Script.{newest_first, run, script}
+use Rattle.once_world.proofs.Rows.Order.{newest_first, run}
 use Rattle.once_world.proofs.Rows.Tasks.{by_three, not_called, not_waiting}
 
 -- the first task holds and two wait, the oldest first
@@ -33,7 +33,7 @@ lost = newest_first (called ++ DropBegin 2 ∷ DropEnd 2 ∷ [])
 
 -- each entry may come
 lost_run : IsRun Once 8 lost
-lost_run = ((refl, λ e. held_not_empty 2 (sym e)), (tt, every_run Once 8 (script called_inputs) (omega arith)))
+lost_run = ((refl, λ e. held_not_empty 2 (sym e)), (tt, every_run Once 8 (newest_first called_inputs) (omega arith)))
 
 -- the third waits and was not called, and no other waits or is in a call
 lost_uncalled : (t : ℕ) → IsCalled Once t lost → ⊥
@@ -65,7 +65,7 @@ two_not_one e = omega arith
 
 -- each entry may come: another task held since the poll began
 lost_for_memory_run : IsRun Once 8 lost_for_memory
-lost_for_memory_run = ((refl, (refl, inr (inr (inl (1, two_not_one, refl)))), inl refl), every_run Once 8 (script (waiting_inputs ++ Poll 2 6 ∷ Poll 1 5 ∷ run 1 (RanError 9))) (omega arith))
+lost_for_memory_run = ((refl, (refl, inr (inr (inl (1, two_not_one, refl)))), inl refl), every_run Once 8 (newest_first (waiting_inputs ++ Poll 2 6 ∷ Poll 1 5 ∷ run 1 (RanError 9))) (omega arith))
 
 lost_for_memory_uncalled : (t : ℕ) → IsCalled Once t lost_for_memory → ⊥
 lost_for_memory_uncalled = by_three (λ t. IsCalled Once t lost_for_memory → ⊥) (not_called Once 1 lost_for_memory Gone refl refl refl) (not_called Once 2 lost_for_memory Gone refl refl refl) (λ k. false≢true k.1)
@@ -90,7 +90,7 @@ older_called : CallsOne Once (7 ∷ []) before_older
 older_called = record { one = omega arith; due = λ w d e. let z : ⊥ = cc in z; open_alone = older_open }
 
 older_run : IsRun Once 8 older
-older_run = ((refl, (refl, refl), inl refl), ((refl, tt, older_called), every_run Once 8 (script (waiting_inputs ++ Poll 2 6 ∷ run 2 RanPending ++ Poll 1 5 ∷ Go 1 (RanError 9) true ∷ [])) (omega arith)))
+older_run = ((refl, (refl, refl), inl refl), ((refl, tt, older_called), every_run Once 8 (newest_first (waiting_inputs ++ Poll 2 6 ∷ run 2 RanPending ++ Poll 1 5 ∷ Go 1 (RanError 9) true ∷ [])) (omega arith)))
 
 older_uncalled : (t : ℕ) → IsCalled Once t older → ⊥
 older_uncalled = by_three (λ t. IsCalled Once t older → ⊥) (not_called Once 1 older Gone refl refl refl) (λ k. false≢true k.1) (λ k. false≢true k.1)

@@ -1,9 +1,9 @@
 //! A replay under way.
 ghost use Rattle.std.specs.Prelude.{◌≡◌, ◌<◌, ◌≤◌, ◌+◌, ◌-◌, ◌^◌, ◌++◌, ◌==◌, ℕ, Bool, true, false, [], Some, None, OnOk, IfOk, reverse};
 ghost use Rattle.once_world.specs.Machine.{unfinished_after, error_in as error_of, release_entry as release_of, end_entry as end_of};
-ghost use Rattle.once_world.specs.Shown.{call_of, entry_of, history_in, claim_entries, ran_entries, out_entries, wakers_in, told};
+ghost use Rattle.once_world.specs.Shown.{call_of, entry_of, history_in, claim_entries, ran_entries, out_entries, wakers_in, step_entries};
 
-use super::script::Script;
+use super::side::ReplaySide;
 use super::{Call, Entry, Got, Input, Kind, QueueLine, Ran, Record, Reply};
 use once_core::parts::Parts;
 use once_core::plain::Core;
@@ -24,14 +24,14 @@ pub(super) struct Task {
 
 /// What all tasks of a replay share.
 #[derive(Drop)]
-pub(super) struct Shared {
+pub(super) struct ReplayCell {
     pub core: Core<u64>,
-    pub script: Script,
+    pub side: ReplaySide,
 }
 
 /// What one step of a task was seen to do.
 #[derive(Drop)]
-pub(super) struct Seen {
+pub(super) struct StepSeen {
     pub claimed: bool,
     pub ran: Option<Ran>,
     /// Whether the right was given back by the fast release, which hands nobody out.
@@ -43,19 +43,19 @@ pub(super) struct Seen {
     pub progress: Progress,
 }
 
-impl Shared {
+impl ReplayCell {
     ghost use Rattle.once_world.specs.Record.{Kind as RecordedKind, is_lazy, replaces, has_call as owner_has};
-    ghost use Rattle.once_world.specs.Log.{taken_out};
+    ghost use Rattle.once_world.specs.Log.{take_lines};
     ghost use Rattle.once_world.specs.Can.{CanAdvance};
     ghost use Rattle.once_core.specs.Core.{HasRoom, state_of};
     ghost use Rattle.once_core.specs.Steps.{in_call};
-    ghost use Rattle.once_world.specs.Machine.{opening, looked, step_lines, reset, owner_inner, owner_got, owner_lines, advance as outcome};
-    ghost use Rattle.once_world.specs.Shown.{kind_of, call_of, got_of, inner_of, log_in, told};
+    ghost use Rattle.once_world.specs.Machine.{first_world, look_value, step_lines, reset_inner, owner_inner, owner_got, owner_lines, advance as outcome};
+    ghost use Rattle.once_world.specs.Shown.{kind_of, call_of, got_of, inner_of, log_in, step_entries};
 
     fn new(alloc: Global, kind: Kind) -> Self
-        ensures inner { inner_of result ≡ (opening (kind_of kind)).inner }
+        ensures inner { inner_of result ≡ (first_world (kind_of kind)).inner }
         ensures log { log_in result ≡ [] }
-        ensures lazy { result.script.lazy ≡ is_lazy (kind_of kind) }
+        ensures lazy { result.side.lazy ≡ is_lazy (kind_of kind) }
     {
         let lazy = matches!(&kind, Kind::Lazy(_) | Kind::LazyWith(_));
         let (value, answers) = match kind {
@@ -67,9 +67,9 @@ impl Shared {
             }
             Kind::LazyWith(v) => (Some(v), Vec::new(alloc)),
         };
-        Shared {
+        ReplayCell {
             core: Core::new(alloc, value.is_some()),
-            script: Script {
+            side: ReplaySide {
                 lazy,
                 answers,
                 value: value.unwrap_or(0),
@@ -85,10 +85,10 @@ impl Shared {
 
     // What a look finds.
     fn look(&self) -> Option<u64>
-        ensures { result ≡ looked (inner_of self.now) }
+        ensures { result ≡ look_value (inner_of self.now) }
     {
         if self.core.word.is_ready() {
-            Some(self.script.value)
+            Some(self.side.value)
         } else {
             None
         }
@@ -99,43 +99,43 @@ impl Shared {
         ensures room { OnOk result (HasRoom self.new.core) }
         ensures inner { inner_of self.new ≡ inner_of self.old }
         ensures log { log_in self.new ≡ log_in self.old }
-        ensures script { self.new.script ≡ self.old.script }
+        ensures side { self.new.side ≡ self.old.side }
     {
         self.core.reserve()
     }
 
     // Makes one step of a task with a call under way, whose init answers so and which is given
     // memory or not.
-    fn advance(&mut self, task: &mut Task, answer: Ran, granted: bool, limit: u64) -> Seen
+    fn advance(&mut self, task: &mut Task, answer: Ran, granted: bool, limit: u64) -> StepSeen
         requires call { in_call task.old.step ≡ true }
         requires limit { limit ≤ 2 ^ 62 - 2 }
         requires room { HasRoom self.old.core }
         requires can { CanAdvance limit (inner_of self.old) task.old.step }
-        ensures inner { (t : ℕ) → inner_of self.new ≡ (outcome self.old.script.lazy limit (inner_of self.old) t task.old answer granted).inner }
-        ensures step { (t : ℕ) → task.new.step ≡ (outcome self.old.script.lazy limit (inner_of self.old) t task.old answer granted).step }
-        ensures kept { (t : ℕ) → task.new.kept ≡ (outcome self.old.script.lazy limit (inner_of self.old) t task.old answer granted).kept }
+        ensures inner { (t : ℕ) → inner_of self.new ≡ (outcome self.old.side.lazy limit (inner_of self.old) t task.old answer granted).inner }
+        ensures step { (t : ℕ) → task.new.step ≡ (outcome self.old.side.lazy limit (inner_of self.old) t task.old answer granted).step }
+        ensures kept { (t : ℕ) → task.new.kept ≡ (outcome self.old.side.lazy limit (inner_of self.old) t task.old answer granted).kept }
         ensures waker { task.new.waker ≡ task.old.waker }
-        ensures seen { (t : ℕ) → told t result task.new.kept self.new.script.value ≡ (outcome self.old.script.lazy limit (inner_of self.old) t task.old answer granted).entries }
+        ensures seen { (t : ℕ) → step_entries t result task.new.kept self.new.side.value ≡ (outcome self.old.side.lazy limit (inner_of self.old) t task.old answer granted).entries }
         ensures log { log_in self.new ≡ step_lines granted (inner_of self.old) task.old.step ++ log_in self.old }
-        ensures lazy { self.new.script.lazy ≡ self.old.script.lazy }
+        ensures lazy { self.new.side.lazy ≡ self.old.side.lazy }
     {
-        self.script.ran = None;
-        self.script.handed = None;
-        self.script.answer = answer;
-        self.script.granted = granted;
-        self.script.waker = task.waker;
-        self.script.kept = task.kept;
+        self.side.ran = None;
+        self.side.handed = None;
+        self.side.answer = answer;
+        self.side.granted = granted;
+        self.side.waker = task.waker;
+        self.side.kept = task.kept;
         self.core.set_waker(task.waker);
         self.core.grant(granted);
         let freeing = task.step.is_freeing();
         let leaving = task.step.is_leaving();
-        let progress = task.step.advance(&mut self.core, &mut self.script, limit);
-        task.kept = self.script.kept;
-        Seen {
+        let progress = task.step.advance(&mut self.core, &mut self.side, limit);
+        task.kept = self.side.kept;
+        StepSeen {
             claimed: task.step.is_running(),
-            ran: self.script.ran.take(),
+            ran: self.side.ran.take(),
             freed: freeing && !task.step.is_adding(),
-            handed: self.script.handed.take(),
+            handed: self.side.handed.take(),
             leaving,
             progress,
         }
@@ -143,12 +143,12 @@ impl Shared {
 
     // Whether this kind of cell has the call.
     fn has_call(&self, call: &Call) -> bool
-        ensures { (kind : RecordedKind) → is_lazy kind ≡ self.now.script.lazy → result ≡ owner_has kind (call_of call.now) }
+        ensures { (kind : RecordedKind) → is_lazy kind ≡ self.now.side.lazy → result ≡ owner_has kind (call_of call.now) }
     {
         match call {
-            Call::Take => !self.script.lazy,
+            Call::Take => !self.side.lazy,
             Call::Write(_) => true,
-            Call::Parts | Call::ReplaceValue(_) | Call::ReplaceAnswers(_) => self.script.lazy,
+            Call::Parts | Call::ReplaceValue(_) | Call::ReplaceAnswers(_) => self.side.lazy,
         }
     }
 
@@ -157,7 +157,7 @@ impl Shared {
         ensures inner { OnOk result (inner_of self.new ≡ owner_inner (call_of call.now) (inner_of self.old)) }
         ensures got { IfOk result (λ g. got_of g ≡ owner_got (call_of call.now) (inner_of self.old)) }
         ensures log { OnOk result (log_in self.new ≡ owner_lines (replaces (call_of call.now)) (inner_of self.old) ++ log_in self.old) }
-        ensures lazy { self.new.script.lazy ≡ self.old.script.lazy }
+        ensures lazy { self.new.side.lazy ≡ self.old.side.lazy }
     {
         self.core.reserve()?;
         let value = self.look();
@@ -169,13 +169,13 @@ impl Shared {
             }
             Call::Write(v) => {
                 if value.is_some() {
-                    self.script.value = *v;
+                    self.side.value = *v;
                 }
                 Ok(got)
             }
             Call::Parts => {
-                let alloc = *self.script.answers.allocator();
-                let mut answers = replace(&mut self.script.answers, Vec::new(alloc));
+                let alloc = *self.side.answers.allocator();
+                let mut answers = replace(&mut self.side.answers, Vec::new(alloc));
                 self.renew(None);
                 if value.is_some() {
                     return Ok(got);
@@ -184,14 +184,14 @@ impl Shared {
                 Ok(Got::Answers(answers))
             }
             Call::ReplaceValue(v) => {
-                self.script.answers.clear();
+                self.side.answers.clear();
                 self.renew(Some(*v));
                 Ok(got)
             }
             Call::ReplaceAnswers(answers) => {
                 let mut answers = Vec::from_slice(*answers.allocator(), answers)?;
                 answers.reverse();
-                self.script.answers = answers;
+                self.side.answers = answers;
                 self.renew(None);
                 Ok(got)
             }
@@ -201,13 +201,13 @@ impl Shared {
     // Puts a new cell with this value or none in the place of this one.
     fn renew(&mut self, value: Option<u64>)
         requires room { HasRoom self.old.core }
-        ensures inner { inner_of self.new ≡ reset (inner_of self.old) value (inner_of self.old).answers }
-        ensures log { log_in self.new ≡ taken_out self.old.core.door ++ log_in self.old }
-        ensures lazy { self.new.script.lazy ≡ self.old.script.lazy }
+        ensures inner { inner_of self.new ≡ reset_inner (inner_of self.old) value (inner_of self.old).answers }
+        ensures log { log_in self.new ≡ take_lines self.old.core.door ++ log_in self.old }
+        ensures lazy { self.new.side.lazy ≡ self.old.side.lazy }
     {
         self.core.reset(value.is_some());
         if let Some(v) = value {
-            self.script.value = v;
+            self.side.value = v;
         }
     }
 }
@@ -216,7 +216,7 @@ impl Shared {
 #[derive(Drop)]
 pub(super) struct World {
     limit: u64,
-    shared: Shared,
+    shared: ReplayCell,
     tasks: BTreeMap<u64, Task>,
     /// How many tasks are not finished.
     unfinished: u64,
@@ -225,18 +225,18 @@ pub(super) struct World {
 
 impl World {
     ghost use Rattle.once_world.specs.Record.{Kind as RecordedKind, is_lazy, has_call as owner_has};
-    ghost use Rattle.once_world.specs.Machine.{opening, after, made, polled, drops, goes, owned_by};
+    ghost use Rattle.once_world.specs.Machine.{first_world, world_after, make_world, poll_world, drop_world, go_world, own_world_by};
     ghost use Rattle.once_world.specs.Can.{MayTake, TaskCan};
     ghost use Rattle.once_world.specs.Shown.{kind_of, call_of, input_of, inner_of, world_in};
 
     pub(super) fn new(alloc: Global, kind: Kind, limit: u64) -> Self
-        ensures world { world_in result ≡ opening (kind_of kind) }
-        ensures lazy { result.shared.script.lazy ≡ is_lazy (kind_of kind) }
+        ensures world { world_in result ≡ first_world (kind_of kind) }
+        ensures lazy { result.shared.side.lazy ≡ is_lazy (kind_of kind) }
         ensures limit { result.limit ≡ limit }
     {
         World {
             limit,
-            shared: Shared::new(alloc, kind),
+            shared: ReplayCell::new(alloc, kind),
             tasks: BTreeMap::new(alloc),
             unfinished: 0,
             entries: Vec::new(alloc),
@@ -247,8 +247,8 @@ impl World {
     pub(super) fn take(&mut self, input: &Input) -> Result<(), AllocError>
         requires limit { self.old.limit ≤ 2 ^ 62 - 2 }
         requires may { MayTake self.old.limit (world_in self.old) (input_of input.now) }
-        ensures world { (kind : RecordedKind) → is_lazy kind ≡ self.old.shared.script.lazy → OnOk result (world_in self.new ≡ after kind self.old.limit (world_in self.old) (input_of input.now)) }
-        ensures lazy { self.new.shared.script.lazy ≡ self.old.shared.script.lazy }
+        ensures world { (kind : RecordedKind) → is_lazy kind ≡ self.old.shared.side.lazy → OnOk result (world_in self.new ≡ world_after kind self.old.limit (world_in self.old) (input_of input.now)) }
+        ensures lazy { self.new.shared.side.lazy ≡ self.old.shared.side.lazy }
         ensures limit { self.new.limit ≡ self.old.limit }
     {
         match input {
@@ -265,7 +265,7 @@ impl World {
     }
 
     fn make(&mut self, t: u64) -> Result<(), AllocError>
-        ensures world { OnOk result (world_in self.new ≡ made (world_in self.old) t ((world_in self.old).tasks t)) }
+        ensures world { OnOk result (world_in self.new ≡ make_world (world_in self.old) t ((world_in self.old).tasks t)) }
         ensures shared { self.new.shared ≡ self.old.shared }
         ensures limit { self.new.limit ≡ self.old.limit }
     {
@@ -289,7 +289,7 @@ impl World {
     }
 
     fn poll(&mut self, t: u64, waker: u64) -> Result<(), AllocError>
-        ensures world { OnOk result (world_in self.new ≡ polled (world_in self.old) t waker ((world_in self.old).tasks t)) }
+        ensures world { OnOk result (world_in self.new ≡ poll_world (world_in self.old) t waker ((world_in self.old).tasks t)) }
         ensures shared { self.new.shared ≡ self.old.shared }
         ensures limit { self.new.limit ≡ self.old.limit }
     {
@@ -306,8 +306,8 @@ impl World {
     }
 
     fn begin_drop(&mut self, t: u64) -> Result<(), AllocError>
-        ensures world { OnOk result (world_in self.new ≡ drops (world_in self.old) t ((world_in self.old).tasks t)) }
-        ensures lazy { self.new.shared.script.lazy ≡ self.old.shared.script.lazy }
+        ensures world { OnOk result (world_in self.new ≡ drop_world (world_in self.old) t ((world_in self.old).tasks t)) }
+        ensures lazy { self.new.shared.side.lazy ≡ self.old.shared.side.lazy }
         ensures limit { self.new.limit ≡ self.old.limit }
     {
         let Some(task) = self.tasks.get_mut(&t) else {
@@ -316,7 +316,7 @@ impl World {
         if !task.step.is_resting() {
             return Ok(());
         }
-        let more = task.step.begin_drop(&mut self.shared.script);
+        let more = task.step.begin_drop(&mut self.shared.side);
         self.unfinished = still_unfinished(&task.step, self.unfinished);
         self.entries.push(Entry::DropBegin(t))?;
         if !more {
@@ -328,8 +328,8 @@ impl World {
     fn go(&mut self, t: u64, answer: Ran, granted: bool) -> Result<(), AllocError>
         requires limit { self.old.limit ≤ 2 ^ 62 - 2 }
         requires can { TaskCan self.old.limit (inner_of self.old.shared) ((world_in self.old).tasks t) }
-        ensures world { OnOk result (world_in self.new ≡ goes self.old.shared.script.lazy self.old.limit (world_in self.old) t answer granted ((world_in self.old).tasks t)) }
-        ensures lazy { self.new.shared.script.lazy ≡ self.old.shared.script.lazy }
+        ensures world { OnOk result (world_in self.new ≡ go_world self.old.shared.side.lazy self.old.limit (world_in self.old) t answer granted ((world_in self.old).tasks t)) }
+        ensures lazy { self.new.shared.side.lazy ≡ self.old.shared.side.lazy }
         ensures limit { self.new.limit ≡ self.old.limit }
     {
         let Some(task) = self.tasks.get_mut(&t) else {
@@ -342,12 +342,12 @@ impl World {
         let seen = self.shared.advance(task, answer, granted, self.limit);
         self.unfinished = still_unfinished(&task.step, self.unfinished);
         let kept = task.kept;
-        record_step(&mut self.entries, t, seen, kept, self.shared.script.value)
+        record_step(&mut self.entries, t, seen, kept, self.shared.side.value)
     }
 
     fn own(&mut self, call: &Call) -> Result<(), AllocError>
-        ensures world { (kind : RecordedKind) → is_lazy kind ≡ self.old.shared.script.lazy → OnOk result (world_in self.new ≡ owned_by (self.old.unfinished == 0) (owner_has kind (call_of call.now)) (world_in self.old) (call_of call.now)) }
-        ensures lazy { self.new.shared.script.lazy ≡ self.old.shared.script.lazy }
+        ensures world { (kind : RecordedKind) → is_lazy kind ≡ self.old.shared.side.lazy → OnOk result (world_in self.new ≡ own_world_by (self.old.unfinished == 0) (owner_has kind (call_of call.now)) (world_in self.old) (call_of call.now)) }
+        ensures lazy { self.new.shared.side.lazy ≡ self.old.shared.side.lazy }
         ensures limit { self.new.limit ≡ self.old.limit }
     {
         if self.unfinished != 0 || !self.shared.has_call(call) {
@@ -404,13 +404,13 @@ fn still_unfinished(step: &Step<u64, u64>, unfinished: u64) -> u64
 fn record_step(
     entries: &mut Vec<Entry>,
     t: u64,
-    seen: Seen,
+    seen: StepSeen,
     kept: Ran,
     value: u64,
 ) -> Result<(), AllocError>
-    ensures { OnOk result (history_in entries.new.items ≡ told t seen kept value ++ history_in entries.old.items) }
+    ensures { OnOk result (history_in entries.new.items ≡ step_entries t seen kept value ++ history_in entries.old.items) }
 {
-    let Seen {
+    let StepSeen {
         claimed,
         ran,
         freed,

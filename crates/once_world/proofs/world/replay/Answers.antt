@@ -4,9 +4,9 @@ use Rattle.std.proofs.lemmas.Grind.{common_steps}
 use Rattle.once_world.specs.Run.{AtEvery, IsRun}
 use Rattle.once_world.specs.Called.{SomebodyCalled}
 use Rattle.once_world.specs.Inputs.{FallsInto, ends_for_memory}
-use Rattle.once_world.specs.Log.{IsLogOf, IsSound, stands}
+use Rattle.once_world.specs.Log.{IsLogOf, IsSound, standing_queue}
 use Rattle.once_world.specs.Machine.{history_of, log_of, queue_of}
-use Rattle.once_world.specs.Shown.{recorded, logged, inputs_in, kind_of, input_of}
+use Rattle.once_world.specs.Shown.{record_entries, record_lines, inputs_in, kind_of, input_of}
 use Rattle.once_world.proofs.Input.Headline.{every_run, one_is_called}
 use Rattle.once_world.proofs.Law.Nobody.{nobody_forgotten}
 use Rattle.once_world.proofs.Law.Called.{waiter_called}
@@ -29,8 +29,8 @@ returns c =
     let limit = c.args.limit in
     let inputs = inputs_in c.args.inputs.now in
     let some = c.requires.some in
-    let exact : recorded c.into_record.result ≡ history_of K limit inputs = grind (arith, common_steps) in
-    let lines : logged c.into_record.result ≡ log_of K limit inputs = grind (arith, common_steps) in
+    let exact : record_entries c.into_record.result ≡ history_of K limit inputs = grind (arith, common_steps) in
+    let lines : record_lines c.into_record.result ≡ log_of K limit inputs = grind (arith, common_steps) in
     let door : c.into_record.result.queue ≡ queue_of K limit inputs = grind (arith, common_steps) in
     let run = subst (IsRun K limit) (sym exact) (every_run K limit inputs some) in
     let called = subst (AtEvery (SomebodyCalled K)) (sym exact) (one_is_called K limit inputs some) in
@@ -40,12 +40,12 @@ returns c =
       exact_log = lines;
       exact_queue = door;
       run = run;
-      nobody_forgotten = nobody_forgotten K limit (recorded c.into_record.result) run;
+      nobody_forgotten = nobody_forgotten K limit (record_entries c.into_record.result) run;
       one_is_called = called;
-      idle = waiter_called K (recorded c.into_record.result) called;
-      one_value = one_value K limit (recorded c.into_record.result) run;
+      idle = waiter_called K (record_entries c.into_record.result) called;
+      one_value = one_value K limit (record_entries c.into_record.result) run;
       belongs = (b.0, subst (λ h. FallsInto K inputs h b.0) (sym exact) b.1, subst (λ l. IsLogOf K l b.0) (sym lines) b.2);
       ample = λ granted t. ap (ends_for_memory t) exact ∙ ample_memory K limit inputs t some granted;
       sound = subst IsSound (sym lines) (log_sound K limit inputs some);
-      stands = ap stands lines ∙ log_stands K limit inputs some ∙ sym door;
+      stands = ap standing_queue lines ∙ log_stands K limit inputs some ∙ sym door;
     }

@@ -8,5 +8,5 @@ use Rattle.once_world.proofs.world.replay.Given as goal
 abbrev pub invariant-loop-input : goal.invariant-loop-input
 invariant-loop-input l =
     (world_in l.world ≡ world_of (kind_of l.fn.kind) l.fn.limit (inputs_in (take l.input-index l.inputs)))
-    × (l.world.shared.script.lazy ≡ is_lazy (kind_of l.fn.kind))
+    × (l.world.shared.side.lazy ≡ is_lazy (kind_of l.fn.kind))
     × (l.world.limit ≡ l.fn.limit)

@@ -15,11 +15,11 @@ returns-clause-world c =
     let y = c.advance-seen.new.task in
     let tasks = tasks_written c.args.self.now.tasks (c.get_mut.follows.lender y) _ _ y found (c.get_mut.follows.holds y) in
     let seen = c.advance-seen.ensures in
-    let told_by : Inner → Outcome = λ i. advance c.args.self.now.shared.script.lazy c.args.self.now.limit i c.args.t c.in-Some.task.now c.args.answer c.args.granted in
+    let told_by : Inner → Outcome = λ i. advance c.args.self.now.shared.side.lazy c.args.self.now.limit i c.args.t c.in-Some.task.now c.args.answer c.args.granted in
     let by : Bool → Inner → Outcome = λ lazy i. advance lazy c.args.self.now.limit i c.args.t c.in-Some.task.now c.args.answer c.args.granted in
-    let same : by c.reserve.new.self.script.lazy (inner_of c.reserve.new.self) ≡ told_by (inner_of c.args.self.now.shared) = ap (λ l. by l (inner_of c.reserve.new.self)) (ap (λ z. z.lazy) c.in_ok-reserve.ensures.script) ∙ ap (by c.args.self.now.shared.script.lazy) c.in_ok-reserve.ensures.inner in
+    let same : by c.reserve.new.self.side.lazy (inner_of c.reserve.new.self) ≡ told_by (inner_of c.args.self.now.shared) = ap (λ l. by l (inner_of c.reserve.new.self)) (ap (λ z. z.lazy) c.in_ok-reserve.ensures.side) ∙ ap (by c.args.self.now.shared.side.lazy) c.in_ok-reserve.ensures.inner in
     on_ok_weaker c.record_step.result
-    (λ h. stepped_world c.args.self.now.shared.script.lazy c.args.self.now.limit (world_in c.args.self.now) _ c.args.t c.args.answer c.args.granted c.in-Some.task.now y
+    (λ h. stepped_world c.args.self.now.shared.side.lazy c.args.self.now.limit (world_in c.args.self.now) _ c.args.t c.args.answer c.args.granted c.in-Some.task.now y
     (told_by (inner_of c.args.self.now.shared)) (step_lines c.args.granted (inner_of c.args.self.now.shared) c.in-Some.task.now.step)
     refl refl found calls
     (seen.inner c.args.t ∙ ap (λ o. o.inner) same) seen.waker (seen.step c.args.t ∙ ap (λ o. o.step) same) (seen.kept c.args.t ∙ ap (λ o. o.kept) same) tasks

@@ -7,7 +7,7 @@ use once_queue::waiters::Out;
 
 /// The side of a replayed task: its init answers as the inputs or the kind say.
 #[derive(Drop)]
-pub(super) struct Script {
+pub(super) struct ReplaySide {
     pub lazy: bool,
     /// What a lazy init will still answer, the next one last.
     pub answers: Vec<Option<u64>>,
@@ -24,9 +24,9 @@ pub(super) struct Script {
     pub handed: Option<Out<u64>>,
 }
 
-impl Script {
+impl ReplaySide {
     ghost use Rattle.once_world.specs.Cell.{rest_of};
-    ghost use Rattle.once_world.specs.Script.{answers_in, next_of};
+    ghost use Rattle.once_world.specs.Side.{answers_in, next_of};
 
     // What the init answers now.
     fn next_answer(&mut self) -> Ran
@@ -42,9 +42,9 @@ impl Script {
     }
 }
 
-impl Side<u64> for Script {
+impl Side<u64> for ReplaySide {
     ghost use Rattle.std.proofs.Common.{rules};
-    ghost use Rattle.once_world.specs.Script.{DidRun, DidClose, DidPut, DidCopy, DidWake, Stays};
+    ghost use Rattle.once_world.specs.Side.{DidRun, DidClose, DidPut, DidCopy, DidWake, Stays};
 
     ghost did_run = { DidRun };
 

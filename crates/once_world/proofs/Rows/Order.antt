@@ -12,10 +12,6 @@ turned (x ∷ xs) ys = turned xs (x ∷ ys)
 abbrev pub newest_first : {X : Type 0} → List X → List X
 newest_first xs = turned xs []
 
--- the inputs, the oldest written first
-abbrev pub script : List Input → List Input
-script inputs = newest_first inputs
-
 -- n steps of t
 abbrev pub steps : ℕ → ℕ → Answer → List Input
 steps zero t a = []

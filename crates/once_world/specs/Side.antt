@@ -1,0 +1,41 @@
+-- What the side of a replayed task answers and leaves.
+use Rattle.std.specs.Prelude.{◌≡◌, ℕ, cond, List, Option, Some, None, reverse, ⊤}
+use Rattle.once_queue.specs.declared.waiters.Out.{Out}
+use Rattle.once_world.specs.declared.world.side.ReplaySide.{ReplaySide}
+use Rattle.once_core.specs.declared.step.Polled.{Polled}
+use Rattle.once_world.specs.Record.{Answer, RanPending, RanValue, RanError}
+use Rattle.once_world.specs.Cell.{rest_of}
+use Rattle.once_world.specs.Machine.{init_answer, put_value, polled_of, kept_after}
+
+-- the answers of a lazy init that are left, the next one first
+abbrev pub answers_in : ReplaySide → List (Option ℕ)
+answers_in s = reverse s.answers.items
+
+-- what the init answers now
+abbrev pub next_of : ReplaySide → Answer
+next_of s = init_answer s.lazy (answers_in s) s.answer
+
+pub record DidRun (s : ReplaySide) (r : Polled) (t : ReplaySide) : Type 0 where
+  pub ran : t.ran ≡ Some (next_of s)
+  pub polled : r ≡ polled_of (next_of s)
+  pub kept : t.kept ≡ kept_after (next_of s) s.kept
+  pub answers : answers_in t ≡ rest_of (answers_in s)
+  pub lazy : t.lazy ≡ s.lazy
+  pub value : t.value ≡ s.value
+  pub handed : t.handed ≡ s.handed
+
+abbrev pub DidClose : ReplaySide → ReplaySide → Type 0
+DidClose s t = t ≡ s
+
+abbrev pub DidPut : ReplaySide → ReplaySide → Type 0
+DidPut s t = t ≡ record s { value = put_value s.kept s.value }
+
+abbrev pub DidCopy : ReplaySide → Option ℕ → ReplaySide → Type 0
+DidCopy s w t = (w ≡ cond s.granted (Some s.waker) None) × (t ≡ s)
+
+abbrev pub DidWake : ReplaySide → Out ℕ → ReplaySide → Type 0
+DidWake s out t = t ≡ record s { handed = Some out }
+
+-- nothing more is said of a side's calls
+abbrev pub Stays : ReplaySide → ReplaySide → Type 0
+Stays s t = ⊤
