@@ -22,7 +22,7 @@ fn waiting<'a, R: Wait + AllocGlobal>(
     let mut waiters = Vec::with_capacity(rt.alloc(), number)?;
     for _ in 0..number {
         let mut waiter = cell.get_or_try_init(rt, Failing::new());
-        number_of(Future::poll(&mut waiter, cx))?;
+        number_of(Future::poll(&mut waiter, cx));
         waiters.push(waiter)?;
     }
     Ok(waiters)
@@ -38,21 +38,21 @@ pub fn failures<R: Wait + AllocGlobal>(
 ) -> Result<u64, AllocError> {
     let cell = OnceCell::new();
     let mut first = cell.get_or_try_init(rt, Failing::new());
-    let mut sum = number_of(Future::poll(&mut first, cx))?;
+    let mut sum = number_of(Future::poll(&mut first, cx));
     let mut waiters = waiting(rt, &cell, number, cx)?;
     drop(first);
     let mut called = 0;
     for _ in 0..count {
         let mut holder = cell.get_or_try_init(rt, Failing::new());
-        sum = sum.wrapping_add(number_of(Future::poll(&mut holder, cx))?);
+        sum = sum.wrapping_add(number_of(Future::poll(&mut holder, cx)));
         if let Some(waiter) = waiters.get_mut(called) {
-            sum = sum.wrapping_add(number_of(Future::poll(waiter, cx))?);
+            sum = sum.wrapping_add(number_of(Future::poll(waiter, cx)));
         }
         called = called.wrapping_add(1);
         if called >= number {
             called = 0;
         }
-        sum = sum.wrapping_add(number_of(Future::poll(&mut holder, cx))?);
+        sum = sum.wrapping_add(number_of(Future::poll(&mut holder, cx)));
     }
     Ok(sum)
 }
@@ -79,22 +79,21 @@ fn all_turns<R: Wait + AllocGlobal>(
 ) -> Result<u64, AllocError> {
     let cell = OnceCell::new();
     let mut holder = cell.get_or_try_init(rt, Failing::new());
-    number_of(Future::poll(&mut holder, cx))?;
+    number_of(Future::poll(&mut holder, cx));
     let mut waiters = waiting(rt, &cell, number, cx)?;
-    let mut sum = number_of(Future::poll(&mut holder, cx))?;
+    let mut sum = number_of(Future::poll(&mut holder, cx));
     for waiter in waiters.iter_mut() {
-        sum = sum.wrapping_add(number_of(Future::poll(waiter, cx))?);
-        sum = sum.wrapping_add(number_of(Future::poll(waiter, cx))?);
+        sum = sum.wrapping_add(number_of(Future::poll(waiter, cx)));
+        sum = sum.wrapping_add(number_of(Future::poll(waiter, cx)));
     }
     Ok(sum)
 }
 
-/// The value or the error of a poll, and 0 where it is pending.
-fn number_of(polled: Poll<Result<&u64, InitError<u64>>>) -> Result<u64, AllocError> {
+/// The value or the error of a poll, and 0 where it is pending or refused.
+fn number_of(polled: Poll<Result<&u64, InitError<u64>>>) -> u64 {
     match polled {
-        Poll::Ready(Ok(value)) => Ok(*value),
-        Poll::Ready(Err(InitError::Init(error))) => Ok(error),
-        Poll::Ready(Err(_refused)) => Err(AllocError),
-        Poll::Pending => Ok(0),
+        Poll::Ready(Ok(value)) => *value,
+        Poll::Ready(Err(InitError::Init(error))) => error,
+        Poll::Ready(Err(InitError::Memory | InitError::Full)) | Poll::Pending => 0,
     }
 }

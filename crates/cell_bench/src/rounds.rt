@@ -22,8 +22,8 @@ pub fn perform<R: Wait + AllocGlobal>(
 ) -> Result<u64, AllocError> {
     match operation {
         Operation::Get => Ok(get(&OnceCell::new_with(1), count)),
-        Operation::Init => init(rt, count, cx),
-        Operation::Listed => listed(rt, count, cx),
+        Operation::Init => Ok(init(rt, count, cx)),
+        Operation::Listed => Ok(listed(rt, count, cx)),
         Operation::OneWaits => waiters(rt, 1, count, cx),
         Operation::TenWait => waiters(rt, 10, count, cx),
         Operation::HundredWait => waiters(rt, 100, count, cx),
@@ -32,8 +32,8 @@ pub fn perform<R: Wait + AllocGlobal>(
         Operation::FailureBeforeHundred => failures(rt, 100, count, cx),
         Operation::TenTurns => turns(rt, 10, count, cx),
         Operation::HundredTurns => turns(rt, 100, count, cx),
-        Operation::LazyFirst => lazy_first(rt, count, cx),
-        Operation::LazyLater => lazy_later(rt, &Lazy::with_value(1), count, cx),
+        Operation::LazyFirst => Ok(lazy_first(rt, count, cx)),
+        Operation::LazyLater => Ok(lazy_later(rt, &Lazy::with_value(1), count, cx)),
     }
 }
 
@@ -47,36 +47,28 @@ fn get(cell: &OnceCell<u64>, count: u64) -> u64 {
 }
 
 #[inline(never)]
-fn init<R: Wait + AllocGlobal>(
-    rt: &R,
-    count: u64,
-    cx: &mut Context<'_>,
-) -> Result<u64, AllocError> {
+fn init<R: Wait + AllocGlobal>(rt: &R, count: u64, cx: &mut Context<'_>) -> u64 {
     let mut sum: u64 = 0;
     for _ in 0..count {
         let cell = OnceCell::new();
         let mut future = cell.get_or_init(rt, ready(1));
-        sum = sum.wrapping_add(value_of(Future::poll(&mut future, cx))?);
+        sum = sum.wrapping_add(value_of(Future::poll(&mut future, cx)));
     }
-    Ok(sum)
+    sum
 }
 
 #[inline(never)]
-fn listed<R: Wait + AllocGlobal>(
-    rt: &R,
-    count: u64,
-    cx: &mut Context<'_>,
-) -> Result<u64, AllocError> {
+fn listed<R: Wait + AllocGlobal>(rt: &R, count: u64, cx: &mut Context<'_>) -> u64 {
     let (cell, switch) = (OnceCell::new(), Cell::new(false));
     let mut holder = cell.get_or_init(rt, Switched::new(&switch));
     let mut waiter = cell.get_or_init(rt, Switched::new(&switch));
-    let mut sum = value_of(Future::poll(&mut holder, cx))?;
+    let mut sum = value_of(Future::poll(&mut holder, cx));
     for _ in 0..=count {
-        sum = sum.wrapping_add(value_of(Future::poll(&mut waiter, cx))?);
+        sum = sum.wrapping_add(value_of(Future::poll(&mut waiter, cx)));
     }
     switch.set(true);
-    sum = sum.wrapping_add(value_of(Future::poll(&mut holder, cx))?);
-    Ok(sum.wrapping_add(value_of(Future::poll(&mut waiter, cx))?))
+    sum = sum.wrapping_add(value_of(Future::poll(&mut holder, cx)));
+    sum.wrapping_add(value_of(Future::poll(&mut waiter, cx)))
 }
 
 #[inline(never)]
@@ -100,35 +92,31 @@ fn round<R: Wait + AllocGlobal>(
 ) -> Result<u64, AllocError> {
     let (cell, switch) = (OnceCell::new(), Cell::new(false));
     let mut holder = cell.get_or_init(rt, Switched::new(&switch));
-    let mut sum = value_of(Future::poll(&mut holder, cx))?;
+    let mut sum = value_of(Future::poll(&mut holder, cx));
     let mut waiters = Vec::with_capacity(rt.alloc(), waiting)?;
     for _ in 0..waiting {
         waiters.push(cell.get_or_init(rt, Switched::new(&switch)))?;
     }
     for waiter in waiters.iter_mut() {
-        sum = sum.wrapping_add(value_of(Future::poll(waiter, cx))?);
+        sum = sum.wrapping_add(value_of(Future::poll(waiter, cx)));
     }
     switch.set(true);
-    sum = sum.wrapping_add(value_of(Future::poll(&mut holder, cx))?);
+    sum = sum.wrapping_add(value_of(Future::poll(&mut holder, cx)));
     for waiter in waiters.iter_mut() {
-        sum = sum.wrapping_add(value_of(Future::poll(waiter, cx))?);
+        sum = sum.wrapping_add(value_of(Future::poll(waiter, cx)));
     }
     Ok(sum)
 }
 
 #[inline(never)]
-fn lazy_first<R: Wait + AllocGlobal>(
-    rt: &R,
-    count: u64,
-    cx: &mut Context<'_>,
-) -> Result<u64, AllocError> {
+fn lazy_first<R: Wait + AllocGlobal>(rt: &R, count: u64, cx: &mut Context<'_>) -> u64 {
     let mut sum: u64 = 0;
     for _ in 0..count {
         let lazy = Lazy::new(ready(1));
         let mut future = lazy.get(rt);
-        sum = sum.wrapping_add(value_of(Future::poll(&mut future, cx))?);
+        sum = sum.wrapping_add(value_of(Future::poll(&mut future, cx)));
     }
-    Ok(sum)
+    sum
 }
 
 #[inline(never)]
@@ -137,21 +125,19 @@ fn lazy_later<R: Wait + AllocGlobal>(
     lazy: &Lazy<u64, Ready<u64>>,
     count: u64,
     cx: &mut Context<'_>,
-) -> Result<u64, AllocError> {
+) -> u64 {
     let mut sum: u64 = 0;
     for _ in 0..count {
         let mut future = lazy.get(rt);
-        sum = sum.wrapping_add(value_of(Future::poll(&mut future, cx))?);
+        sum = sum.wrapping_add(value_of(Future::poll(&mut future, cx)));
     }
-    Ok(sum)
+    sum
 }
 
-/// The value of a poll, and 0 where it is pending. A refusal is one of memory, since the limit of a
-/// new cell is beyond any number that waits here.
-fn value_of<E: Drop>(polled: Poll<Result<&u64, E>>) -> Result<u64, AllocError> {
+/// The value of a poll, and 0 where it is pending or refused: a sum that is too small tells of it.
+fn value_of<E: Drop>(polled: Poll<Result<&u64, E>>) -> u64 {
     match polled {
-        Poll::Ready(Ok(value)) => Ok(*value),
-        Poll::Ready(Err(_refused)) => Err(AllocError),
-        Poll::Pending => Ok(0),
+        Poll::Ready(Ok(value)) => *value,
+        Poll::Ready(Err(_)) | Poll::Pending => 0,
     }
 }

@@ -200,42 +200,59 @@ fn a_task_that_was_never_polled_is_dropped_without_a_step(rt: HostRuntime) -> Re
     Ok(())
 }
 
-#[test]
-fn a_core_is_claimed_counted_in_and_looked_at(rt: HostRuntime) -> Result<(), Fail> {
-    let mut core = Core::new(rt.alloc(), false);
-    core.reserve()?;
-    assert_eq!(rt; core.load(), NEW);
-    assert!(rt; core.quick());
-    assert!(rt; !core.quick());
-    assert_eq!(rt; core.door_get(), None);
-    core.grant(false);
-    core.reserve()?;
-    assert_eq!(rt; core.door_put(), None);
-    core.grant(true);
-    core.reserve()?;
-    assert_eq!(rt; core.door_put(), Some(1));
-    assert_eq!(rt; core.count_in(1), Counted::In(QINIT_BIT));
-    assert_eq!(rt; core.count_in(1), Counted::Full);
-    core.set_waker(7);
-    core.reserve()?;
-    assert_eq!(rt; core.section(&1, &mut Op::Look(None)), Answer::Held);
-    core.reserve()?;
-    assert_eq!(rt; core.section(&2, &mut Op::Look(None)), Answer::Gone);
-    assert!(rt; !core.fast(true));
-    Ok(())
+// A queue is put to the door, where memory is given and there is room for the log.
+fn put(core: &mut Core<u64>, is_given: bool) -> Option<u64> {
+    core.grant(is_given);
+    core.reserve().ok()?;
+    core.door_put()
+}
+
+// A look at this queue, without a ticket.
+fn look(core: &mut Core<u64>, queue: u64) -> Option<Answer<u64>> {
+    core.reserve().ok()?;
+    Some(core.section(&queue, &mut Op::Look(None)))
+}
+
+// The waker 7 is listed.
+fn list(core: &mut Core<u64>, queue: u64) -> Option<Answer<u64>> {
+    core.reserve().ok()?;
+    Some(core.section(&queue, &mut Op::List(None, Some(7))))
 }
 
 #[test]
-fn a_core_counts_beyond_the_limit_and_out(rt: HostRuntime) -> Result<(), Fail> {
+fn a_core_is_claimed_and_has_a_queue_put(rt: HostRuntime) {
+    let mut core = Core::new(rt.alloc(), false);
+    let word = core.load();
+    let claims = [core.quick(), core.quick()];
+    let found = core.door_get();
+    let queues = [put(&mut core, false), put(&mut core, true)];
+    assert_eq!(rt; (word, claims, found), (NEW, [true, false], None));
+    assert_eq!(rt; queues, [None, Some(1)]);
+    assert_eq!(rt; core.door_get(), Some(1));
+}
+
+#[test]
+fn a_core_is_looked_at(rt: HostRuntime) {
+    let mut core = Core::new(rt.alloc(), false);
+    let won = core.quick();
+    let queue = put(&mut core, true);
+    core.set_waker(7);
+    let here = matches!(look(&mut core, 1), Some(Answer::Held));
+    let gone = matches!(look(&mut core, 2), Some(Answer::Gone));
+    assert!(rt; won && queue == Some(1) && here && gone && core.fast(true));
+}
+
+#[test]
+fn a_core_counts_beyond_the_limit_and_out(rt: HostRuntime) {
     let mut core: Core<u64> = Core::new(rt.alloc(), false);
     assert!(rt; core.quick());
     assert_eq!(rt; core.count_in(1), Counted::In(QINIT_BIT));
     assert_eq!(rt; core.count_in(1), Counted::Full);
+    assert!(rt; !core.fast(true));
     core.add_one();
     assert_eq!(rt; core.load(), QINIT_BIT + 2);
     assert_eq!(rt; core.count_out(), QINIT_BIT + 1);
     assert_eq!(rt; core.count_out(), QINIT_BIT);
-    Ok(())
 }
 
 #[test]

@@ -9,5 +9,3 @@ mod hostile;
 mod inside;
 #[cfg(test)]
 mod layers;
-#[cfg(test)]
-mod replays;

@@ -10,17 +10,7 @@ use std::alloc::AllocGlobal;
 use std::io;
 use std::sync::Wait;
 
-mod doubles;
-#[cfg(test)]
-mod gated;
-mod pair;
-#[cfg(test)]
-mod rows;
 mod schedule;
-#[cfg(test)]
-mod stranded;
-#[cfg(test)]
-mod whole;
 
 /// Plays what each line of the input says.
 pub fn run<R: Input + Print + AllocGlobal + Wait>(rt: &R) -> io::Result<()> {

@@ -1,11 +1,11 @@
 //! Schedules at random, from a seed: which task does what next.
 
-use crate::doubles::Note;
-use crate::pair::{Fault, Pair, Seen, Stage};
 use async_once_cell::inner::Out;
 use async_once_cell::step::{Ending, Polled, Progress};
 use rand_core::{Rng, SeedableRng};
 use rand_xoshiro::Xoshiro256PlusPlus;
+use side_by_side::doubles::Note;
+use side_by_side::pair::{Fault, Pair, Seen, Stage};
 use std::alloc::AllocGlobal;
 use std::fmt;
 use std::sync::Wait;

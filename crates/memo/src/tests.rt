@@ -12,7 +12,7 @@ use async_once_cell::OnceCell;
 use async_once_cell::once::Known;
 use futures::future::pending;
 use futures::test::MockTask;
-use std::alloc::{AllocError, Global};
+use no_memory::hoard;
 use std::io;
 use std::io::{ErrorKind, Write};
 use std::sync::atomic::{AtomicU64, Ordering};
@@ -119,22 +119,6 @@ fn answers_that_differ(rt: HostRuntime) -> Result<(), Fail> {
     assert_eq!(rt; agreed(told(10)?, told(10)?)?, told(10)?);
     assert!(rt; matches!(agreed(told(10)?, told(11)?), Err(Fault::Differ)));
     Ok(())
-}
-
-/// Takes memory until no request for a byte is granted.
-fn hoard(alloc: Global) -> Result<Vec<Vec<u8>>, AllocError> {
-    let mut held = Vec::with_capacity(alloc, 200_000)?;
-    let mut size = 0x4000_0000_0000usize;
-    for _ in 0..47 {
-        for _ in 0..60_000 {
-            let Ok(block) = Vec::with_capacity(alloc, size) else {
-                break;
-            };
-            let _ = held.push(block);
-        }
-        size = size / 2 + 1;
-    }
-    Ok(held)
 }
 
 /// Where all memory is refused, no table is made, and the program prints nothing.

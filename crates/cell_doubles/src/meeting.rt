@@ -1,0 +1,97 @@
+//! Two threads that meet while one is inside an init.
+
+use futures::Future;
+use futures::task::{Context, Poll};
+use std::sync::atomic::{AtomicU64, Ordering};
+use std::thread;
+use std::time::{Clock, Duration};
+
+/// Where two threads meet.
+#[derive(Drop)]
+pub struct Meeting {
+    begun: AtomicU64,
+    flag: AtomicU64,
+}
+
+impl Meeting {
+    pub fn new() -> Self {
+        Meeting {
+            begun: AtomicU64::new(0),
+            flag: AtomicU64::new(0),
+        }
+    }
+
+    /// Whether the init is being polled, within ten thousand turns.
+    pub fn has_begun<R: Clock>(&self, rt: &R) -> bool {
+        was_set(rt, &self.begun)
+    }
+
+    /// Lets the init go on.
+    pub fn let_go(&self) {
+        self.flag.store(1, Ordering::SeqCst);
+    }
+}
+
+// Whether the word was set within ten thousand turns.
+fn was_set<R: Clock>(rt: &R, word: &AtomicU64) -> bool {
+    for _ in 0..10_000 {
+        if word.load(Ordering::SeqCst) == 1 {
+            return true;
+        }
+        thread::sleep(rt, Duration::from_millis(1));
+    }
+    false
+}
+
+/// An init that keeps its thread until the other lets it go: 5, or 1 where nobody did.
+#[derive(Drop)]
+pub struct Blocking<'r, 'm, R> {
+    rt: &'r R,
+    meeting: &'m Meeting,
+}
+
+impl<'r, 'm, R> Blocking<'r, 'm, R> {
+    pub fn new(rt: &'r R, meeting: &'m Meeting) -> Self {
+        Blocking { rt, meeting }
+    }
+}
+
+impl<R: Clock> Future for Blocking<'_, '_, R> {
+    type Output = Result<u64, u64>;
+
+    fn poll(&mut self, _cx: &mut Context<'_>) -> Poll<Result<u64, u64>> {
+        self.meeting.begun.store(1, Ordering::SeqCst);
+        if was_set(self.rt, &self.meeting.flag) {
+            return Poll::Ready(Ok(5));
+        }
+        Poll::Ready(Err(1))
+    }
+}
+
+/// The same for a cell that owns it, which may not fail: 5, or 9. It yields its thread and does not
+/// pause: in a function over any runtime, the drop of a cell whose init borrows that was not proved.
+#[derive(Drop)]
+pub struct Spinning<'m> {
+    meeting: &'m Meeting,
+}
+
+impl<'m> Spinning<'m> {
+    pub fn new(meeting: &'m Meeting) -> Self {
+        Spinning { meeting }
+    }
+}
+
+impl Future for Spinning<'_> {
+    type Output = u64;
+
+    fn poll(&mut self, _cx: &mut Context<'_>) -> Poll<u64> {
+        self.meeting.begun.store(1, Ordering::SeqCst);
+        for _ in 0..100_000_000 {
+            if self.meeting.flag.load(Ordering::SeqCst) == 1 {
+                return Poll::Ready(5);
+            }
+            thread::yield_now();
+        }
+        Poll::Ready(9)
+    }
+}

@@ -1,0 +1,76 @@
+//! Inits that do as a test tells them.
+
+use futures::Future;
+use futures::task::{Context, Poll};
+use std::cell::Cell;
+
+/// The answer of an init that may fail.
+pub type Tried = Result<u64, u64>;
+
+/// What a test tells its inits, and what they went through.
+#[derive(Drop)]
+pub struct Stub<O: Copy> {
+    /// What the inits answer. None has them be Pending.
+    pub answer: Cell<Option<O>>,
+    /// How often they were polled.
+    pub polls: Cell<u64>,
+    /// How many were dropped.
+    pub drops: Cell<u64>,
+}
+
+impl<O: Copy> Stub<O> {
+    /// For inits that are Pending until the test tells them an answer.
+    pub fn new() -> Self {
+        Stub {
+            answer: Cell::new(None),
+            polls: Cell::new(0),
+            drops: Cell::new(0),
+        }
+    }
+
+    /// For inits that have this answer at once.
+    pub fn giving(answer: O) -> Self {
+        let stub = Stub::new();
+        stub.answer.set(Some(answer));
+        stub
+    }
+
+    /// An init that does as the stub says.
+    pub fn init(&self) -> Init<'_, O> {
+        Init { stub: self }
+    }
+
+    /// How often its inits were polled, and how many were dropped.
+    pub fn counts(&self) -> (u64, u64) {
+        (self.polls.get(), self.drops.get())
+    }
+}
+
+/// An init that does as a stub says. It lets its task be polled again when it is Pending.
+pub struct Init<'a, O: Copy> {
+    stub: &'a Stub<O>,
+}
+
+impl<O: Copy> Drop for Init<'_, O> {
+    fn drop(self) {
+        let Init { stub } = self;
+        count(&stub.drops);
+    }
+}
+
+impl<O: Copy> Future for Init<'_, O> {
+    type Output = O;
+
+    fn poll(&mut self, cx: &mut Context<'_>) -> Poll<O> {
+        count(&self.stub.polls);
+        if let Some(answer) = self.stub.answer.get() {
+            return Poll::Ready(answer);
+        }
+        cx.yield_now()
+    }
+}
+
+/// Counts one more.
+pub fn count(times: &Cell<u64>) {
+    times.set(times.get().wrapping_add(1));
+}

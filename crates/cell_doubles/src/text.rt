@@ -1,0 +1,17 @@
+//! What a cell shows of itself.
+
+use std::alloc::AllocGlobal;
+use std::fmt::Debug;
+use std::io::Eprint;
+
+/// Whether a value's Debug text ends so. Where it does not, the text is printed.
+pub fn shows<R: AllocGlobal + Eprint>(rt: &R, value: &impl Debug, wanted: &str) -> bool {
+    let Ok(text) = format!(in rt.alloc(); "{value:?}") else {
+        return false;
+    };
+    let is_so = text.as_str().ends_with(wanted);
+    if !is_so {
+        let _ = rt.eprintln(format_args!("it shows {text}, and not {wanted}"));
+    }
+    is_so
+}

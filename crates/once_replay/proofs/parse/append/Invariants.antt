@@ -1,6 +1,0 @@
-use Rattle.std.proofs.Common.{◌≡◌, ◌++◌, replicate}
-use Rattle.async_once_cell.specs.world.Input.TheVariants.{Go}
-use Rattle.once_replay.proofs.parse.append.Given as goal
-
-abbrev pub invariant-loop : goal.invariant-loop
-invariant-loop l = l.inputs.items ≡ l.initial.inputs.items ++ replicate l.counter (Go l.task l.answer l.memory)

@@ -1,0 +1,6 @@
+use Rattle.std.proofs.Common.{◌≡◌, ◌++◌, replicate}
+use Rattle.async_once_cell.specs.world.Input.TheVariants.{Go}
+use Rattle.once_script.proofs.parse.append.Given as goal
+
+abbrev pub invariant-loop : goal.invariant-loop
+invariant-loop l = l.inputs.items ≡ l.initial.inputs.items ++ replicate l.counter (Go l.task l.answer l.memory)

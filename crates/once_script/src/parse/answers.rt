@@ -1,0 +1,53 @@
+//! What an init answers.
+ghost use Rattle.std.specs.Prelude.{MatchOption, IfOk, IfSome, IsSome, Option, List, ℕ};
+ghost use Rattle.async_once_cell.specs.world.Ran.{Ran};
+ghost use Rattle.once_script.specs.Answer.{IsAnswer, IsListed, AreAnswers};
+
+use crate::parse::number::parse_number;
+use async_once_cell::world::Ran;
+use std::alloc::{AllocError, Global};
+
+/// Reads what one poll of an init answers.
+pub fn parse_answer(text: &str) -> Option<Ran>
+    ensures { MatchOption result ((a : Ran) → ¬ IsAnswer a text.now)
+        (λ answer. IsAnswer answer text.now) }
+{
+    if text == "p" {
+        return Some(Ran::Pending);
+    }
+    if let Some(digits) = text.strip_prefix('v') {
+        return Some(Ran::Value(parse_number(digits)?));
+    }
+    if let Some(digits) = text.strip_prefix('e') {
+        return Some(Ran::Error(parse_number(digits)?));
+    }
+    None
+}
+
+/// Reads one answer of a list, which holds no error.
+pub fn parse_listed(text: &str) -> Option<Option<u64>>
+    ensures { MatchOption result ((a : Option ℕ) → ¬ IsListed a text.now)
+        (λ answer. IsListed answer text.now) }
+{
+    match parse_answer(text)? {
+        Ran::Pending => Some(None),
+        Ran::Value(value) => Some(Some(value)),
+        Ran::Error(_) => None,
+    }
+}
+
+/// Reads one or more answers, parted by one space each.
+pub fn parse_answers(alloc: Global, text: &str) -> Result<Option<Vec<Option<u64>>>, AllocError>
+    ensures read { IfOk result (λ read. IfSome read (λ list. AreAnswers list.items text.now)) }
+    ensures all { (answers : List (Option ℕ)) → AreAnswers answers text.now
+        → IfOk result (λ read. IsSome read) }
+{
+    let mut answers = Vec::new(alloc);
+    for field in text.split(' ') {
+        let Some(answer) = parse_listed(field) else {
+            return Ok(None);
+        };
+        answers.push(answer)?;
+    }
+    Ok(Some(answers))
+}

@@ -1,0 +1,17 @@
+//! What cells do for many threads at a time, by their public calls alone.
+#![tactic(auto)]
+
+#[cfg(test)]
+mod failing;
+#[cfg(test)]
+mod stress;
+#[cfg(test)]
+mod threads;
+#[cfg(test)]
+mod told;
+
+#[cfg(test)]
+const THREADS: usize = 4;
+
+#[cfg(test)]
+const CELLS: u64 = 200;
