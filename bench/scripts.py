@@ -1,12 +1,12 @@
 """The long scripts that replay_growth and replay_memory replay, and how once_replay is built and run.
 
-    rounds   a once cell; 100 tasks to a round, 98 of which wait, so a longer script has more rounds.
-             The holder keeps the right over one Pending and fails; its release hands all wakers out.
+    rounds   a once cell; 100 tasks to a round, 99 of which wait, so a longer script has more rounds.
+             The holder keeps the right over one Pending and fails; its release calls one.
              Of the others some are dropped while they wait, some get a waker of their own for a
              second poll, one holds and is dropped, and the rest take the right in turn and fail. The
              last one fills the cell. Then all tasks are gone, and the owner looks, writes and takes.
     waiting  a once cell; 1,000 tasks wait from near the first line to the last. One more task holds.
-             In each turn every waiting task polls, the holder fails and hands 1,000 wakers out, one
+             In each turn every waiting task polls, the holder fails and calls one, one
              that waits takes the right, one is dropped, and two new ones come.
 
 Lines that do not fit, and are passed over, stand in both.
