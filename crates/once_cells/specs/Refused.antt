@@ -5,6 +5,7 @@ use Rattle.once_cells.specs.declared.once.refused.Refused.TheVariants.{Memory, F
 use Rattle.once_cells.specs.declared.once.refused.InitError.{InitError}
 use Rattle.once_cells.specs.declared.once.refused.InitError.TheVariants.{Init, Memory as NoMemory, Full as TooMany}
 
+-- what a refusal prints
 abbrev pub message : Refused → List ℕ
 message Memory = codes "out of memory"
 message Full = codes "too many waiters"

@@ -28,6 +28,7 @@ pub record CoreState (W : Type 0) : Type 0 where
   pub current : Option W
   pub log : List QueueLine
 
+-- all that a core holds
 abbrev pub state_of : {W : Type 0} {g : _} → Core W g → CoreState W
 state_of c = record { word = c.word; door = c.door; head = c.lists.head; listings = c.lists.listings.items; made = c.made; granted = c.granted; current = c.current; log = c.log.items }
 
@@ -42,12 +43,15 @@ put_answer true (Some q) n = Some q
 put_answer true None n = Some (suc n)
 
 module _ {W : Type 0} where
+  -- a load answers the word
   abbrev pub DidLoad : CoreState W → ℕ → CoreState W → Type 0
   DidLoad s w t = (flags_of w ≡ s.word) × (t ≡ s)
 
+  -- a quick claim is won where the word is NEW, and sets the quick bit
   abbrev pub DidQuick : CoreState W → Bool → CoreState W → Type 0
   DidQuick s won t = (won ≡ is_zero s.word) × (t ≡ record s { word = cond won (flags_alone true false) s.word })
 
+  -- a fast release is done where the word is exactly the quick bit; it gives the right back, and tells whether the value is set
   abbrev pub DidFast : CoreState W → Bool → Bool → CoreState W → Type 0
   DidFast s ready won t = (won ≡ is_quick_bit s.word) × (t ≡ record s { word = cond won (flags_alone false ready) s.word })
 
@@ -57,19 +61,24 @@ module _ {W : Type 0} where
   DidCountIn s limit SeenReady t = (limit ≤ s.word.count) × (s.word.ready ≡ true) × (t ≡ s)
   DidCountIn s limit Full t = (limit ≤ s.word.count) × (s.word.ready ≡ false) × (t ≡ s)
 
+  -- one more is counted, whatever the limit
   abbrev pub DidAddOne : CoreState W → CoreState W → Type 0
   DidAddOne s t = t ≡ record s { word = record s.word { count = suc s.word.count } }
 
+  -- one less is counted; the answer is the word after
   abbrev pub DidCountOut : CoreState W → ℕ → CoreState W → Type 0
   DidCountOut s w t = (flags_of w ≡ t.word) × (t ≡ record s { word = record s.word { count = s.word.count - 1 } })
 
+  -- what stands at the door
   abbrev pub DidDoorGet : CoreState W → Option ℕ → CoreState W → Type 0
   DidDoorGet s q t = (q ≡ s.door) × (t ≡ s)
 
+  -- a new queue is put where memory is given and none stands
   abbrev pub put_state : Bool → Option ℕ → CoreState W → CoreState W
   put_state true None s = record s { door = Some (suc s.made); head = false; listings = []; made = suc s.made; log = s.log ++ Put (suc s.made) ∷ [] }
   put_state _ _ s = s
 
+  -- what stands at the door after the put, if there was memory
   abbrev pub DidDoorPut : CoreState W → Option ℕ → CoreState W → Type 0
   DidDoorPut s q t = (q ≡ put_answer s.granted s.door s.made) × (t ≡ put_state s.granted s.door s)
 
@@ -78,6 +87,7 @@ module _ {W : Type 0} where
   take_by (Some q) s = record s { door = None; head = false; listings = []; log = s.log ++ Taken q ∷ [] }
   take_by None s = s
 
+  -- the queue at the door is taken out
   abbrev pub take_state : CoreState W → CoreState W
   take_state s = take_by s.door s
 
@@ -85,6 +95,7 @@ module _ {W : Type 0} where
   abbrev pub IsBare : CoreState W → Type 0
   IsBare s = s.door ≡ None → (s.head ≡ false) × (s.listings ≡ [])
 
+  -- whether a queue was taken out
   abbrev pub DidDoorTake : CoreState W → Bool → CoreState W → Type 0
   DidDoorTake s stood t = (stood ≡ is_some s.door) × (t ≡ take_state s)
 
@@ -105,6 +116,7 @@ module _ {W : Type 0} where
   abbrev pub is_passing : ℕ → CoreState W → Bool
   is_passing n s = passes_turn (is_free s) n s.listings
 
+  -- what is left when who has this ticket left
   abbrev pub leave_state : ℕ → CoreState W → CoreState W
   leave_state n s = record s { listings = left_list (is_passing n s) n s.listings }
 

@@ -4,6 +4,7 @@ pub use Rattle.once_queue.specs.declared.waiters.Listing.{Listing}
 use Rattle.once_queue.specs.Numbers.{member}
 
 module _ {W : Type 0} where
+  -- the tickets of the listings, in their order
   abbrev pub tickets : List (Listing W) → List ℕ
   tickets [] = []
   tickets (x ∷ xs) = x.ticket ∷ tickets xs
@@ -28,29 +29,32 @@ module _ {W : Type 0} where
   list_without None xs = xs
   list_without (Some n) xs = take_out n xs
 
-  -- the waker of the first listing that has one
+  -- this waker, or else the rest
   abbrev pub first_by : Option W → Option W → Option W
   first_by (Some w) rest = Some w
   first_by None rest = rest
 
+  -- the waker of the first listing that has one
   abbrev pub first_waker : List (Listing W) → Option W
   first_waker [] = None
   first_waker (x ∷ xs) = first_by x.waker (first_waker xs)
 
-  -- the list once the first listing that has a waker was called
+  -- a listing is called where it has a waker, or else the rest is
   abbrev pub call_by : Listing W → Option W → List (Listing W) → List (Listing W) → List (Listing W)
   call_by x (Some w) xs rest = record { ticket = x.ticket; waker = None } ∷ xs
   call_by x None xs rest = x ∷ rest
 
+  -- the list once the first listing that has a waker was called
   abbrev pub call_first : List (Listing W) → List (Listing W)
   call_first [] = []
   call_first (x ∷ xs) = call_by x x.waker xs (call_first xs)
 
-  -- the wakers, in the order of their listings
+  -- this waker, where there is one, and the rest
   abbrev pub wakers_by : Option W → List W → List W
   wakers_by (Some w) rest = w ∷ rest
   wakers_by None rest = rest
 
+  -- the wakers, in the order of their listings
   abbrev pub wakers_of : List (Listing W) → List W
   wakers_of [] = []
   wakers_of (x ∷ xs) = wakers_by x.waker (wakers_of xs)
@@ -65,10 +69,12 @@ abbrev pub above_each : List ℕ → ℕ
 above_each [] = 0
 above_each (x ∷ xs) = suc x + above_each xs
 
+-- the number where the test holds
 abbrev pub kept_by : Bool → ℕ → Option ℕ
 kept_by true n = Some n
 kept_by false n = None
 
+-- the own ticket, or else the new one
 abbrev pub ticket_or : Option ℕ → ℕ → ℕ
 ticket_or (Some n) new = n
 ticket_or None new = new
@@ -104,6 +110,7 @@ module _ {W : Type 0} where
   abbrev pub next_waker : Bool → ℕ → List (Listing W) → Option W
   next_waker passes n xs = cond passes (first_waker (take_out n xs)) None
 
+  -- the list that is left when the listing of who leaves is taken out
   abbrev pub left_list : Bool → ℕ → List (Listing W) → List (Listing W)
   left_list passes n xs = cond passes (call_first (take_out n xs)) (take_out n xs)
 
@@ -112,10 +119,12 @@ abbrev pub out_by : Option ℕ → (List ℕ → List ℕ) → List ℕ → List
 out_by None rest seen = rest seen
 out_by (Some w) rest seen = cond (member w seen) (rest seen) (w ∷ rest (w ∷ seen))
 
+-- the wakers of the list in order, each once, but for those that were seen
 abbrev pub all_out : List (Listing ℕ) → List ℕ → List ℕ
 all_out [] seen = []
 all_out (x ∷ xs) seen = out_by x.waker (all_out xs) seen
 
+-- the one waker as a list, or nobody
 abbrev pub one_out : Option ℕ → List ℕ
 one_out (Some w) = w ∷ []
 one_out None = []

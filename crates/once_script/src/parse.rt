@@ -18,9 +18,9 @@ use lines::{opening_in, parse_lines, split_lines};
 use number::{parse_limit, parse_number};
 use std::alloc::{AllocError, Global};
 
-pub mod answers;
-pub mod lines;
-pub mod number;
+mod answers;
+mod lines;
+mod number;
 
 /// How many steps a `run` line makes.
 const RUN_STEPS: u64 = 16;
@@ -76,7 +76,7 @@ pub fn parse_script(alloc: Global, text: &[u8]) -> Result<Script, Fault>
 }
 
 /// Adds the inputs that a line stands for.
-pub fn append(inputs: &mut Vec<Input>, line: Line) -> Result<(), AllocError>
+fn append(inputs: &mut Vec<Input>, line: Line) -> Result<(), AllocError>
     ensures { OnOk result (inputs.new.items ≡ inputs.old.items ++ inputs_of line) }
 {
     match line {
@@ -91,7 +91,7 @@ pub fn append(inputs: &mut Vec<Input>, line: Line) -> Result<(), AllocError>
 }
 
 /// Reads the first line.
-pub fn parse_opening(alloc: Global, text: &str) -> Result<Option<Opening>, AllocError>
+fn parse_opening(alloc: Global, text: &str) -> Result<Option<Opening>, AllocError>
     ensures read { IfOk result
         (λ read. IfSome read (λ opening. IsOpening opening.kind opening.limit text.now)) }
     ensures all { (kind : Kind) (limit : ℕ) → IsOpening kind limit text.now
@@ -107,7 +107,7 @@ pub fn parse_opening(alloc: Global, text: &str) -> Result<Option<Opening>, Alloc
 }
 
 /// Reads what a once cell has after its word.
-pub fn parse_once(text: &str) -> Option<Opening>
+fn parse_once(text: &str) -> Option<Opening>
     ensures read { IfSome result (λ opening. IsOnce opening.kind opening.limit text.now) }
     ensures all { (kind : Kind) (limit : ℕ) → IsOnce kind limit text.now → IsSome result }
 {
@@ -118,7 +118,7 @@ pub fn parse_once(text: &str) -> Option<Opening>
 }
 
 /// Reads what a lazy cell has after its word.
-pub fn parse_lazy(alloc: Global, text: &str) -> Result<Option<Opening>, AllocError>
+fn parse_lazy(alloc: Global, text: &str) -> Result<Option<Opening>, AllocError>
     ensures read { IfOk result
         (λ read. IfSome read (λ opening. IsLazy opening.kind opening.limit text.now)) }
     ensures all { (kind : Kind) (limit : ℕ) → IsLazy kind limit text.now
@@ -146,7 +146,7 @@ fn with_limit(kind: Kind, text: &str) -> Option<Opening>
 }
 
 /// Reads the value that a cell is made with.
-pub fn parse_with(text: &str) -> Option<u64>
+fn parse_with(text: &str) -> Option<u64>
     ensures { MatchOption result ((v : ℕ) → ¬ IsWith v text.now)
         (λ value. IsWith value text.now) }
 {
@@ -175,7 +175,7 @@ pub fn parse_line(alloc: Global, text: &str) -> Result<Option<Line>, AllocError>
 }
 
 /// Reads what a lazy cell is replaced by.
-pub fn parse_replacement(alloc: Global, text: &str) -> Result<Option<Call>, AllocError>
+fn parse_replacement(alloc: Global, text: &str) -> Result<Option<Call>, AllocError>
     ensures read { IfOk result
         (λ read. IfSome read (λ call. IsLine (Single (Own call)) (codes "replace " ++ text.now))) }
     ensures all { (call : Call) → IsLine (Single (Own call)) (codes "replace " ++ text.now)
@@ -205,20 +205,62 @@ fn parse_short_line(text: &str) -> Option<Line>
     ensures run { (task : ℕ) (answer : Ran) (memory : Bool)
         → IsLine (Run task answer memory) text.now → IsSome result }
 {
-    match text {
-        "look" => return Some(Line::Single(Input::Look)),
-        "take" => return Some(Line::Single(Input::Own(Call::Take))),
-        "parts" => return Some(Line::Single(Input::Own(Call::Parts))),
-        _ => {}
+    if let Some(line) = parse_word_line(text) {
+        return Some(line);
     }
+    if let Some(line) = parse_number_line(text) {
+        return Some(line);
+    }
+    parse_step_line(text)
+}
+
+/// Reads a line that is one word.
+fn parse_word_line(text: &str) -> Option<Line>
+    ensures read { IfSome result (λ line. IsLine line text.now) }
+    ensures look { IsLine (Single Look) text.now → IsSome result }
+    ensures take { IsLine (Single (Own Take)) text.now → IsSome result }
+    ensures parts { IsLine (Single (Own Parts)) text.now → IsSome result }
+{
+    match text {
+        "look" => Some(Line::Single(Input::Look)),
+        "take" => Some(Line::Single(Input::Own(Call::Take))),
+        "parts" => Some(Line::Single(Input::Own(Call::Parts))),
+        _ => None,
+    }
+}
+
+/// Reads a line that is a word and a number.
+fn parse_number_line(text: &str) -> Option<Line>
+    ensures read { IfSome result (λ line. IsLine line text.now) }
+    ensures make { (task : ℕ) → IsLine (Single (Make task)) text.now → IsSome result }
+    ensures drop { (task : ℕ) → IsLine (Single (Drop task)) text.now → IsSome result }
+    ensures write { (value : ℕ) → IsLine (Single (Own (Write value))) text.now → IsSome result }
+{
+    let (word, rest) = text.split_once(' ')?;
+    let number = parse_number(rest)?;
+    match word {
+        "make" => Some(Line::Single(Input::Make(number))),
+        "drop" => Some(Line::Single(Input::Drop(number))),
+        "write" => Some(Line::Single(Input::Own(Call::Write(number)))),
+        _ => None,
+    }
+}
+
+/// Reads a line that is a word, a task, and what the task is given.
+fn parse_step_line(text: &str) -> Option<Line>
+    ensures read { IfSome result (λ line. IsLine line text.now) }
+    ensures poll { (task waker : ℕ) → IsLine (Single (Poll task waker)) text.now → IsSome result }
+    ensures go { (task : ℕ) (answer : Ran) (memory : Bool)
+        → IsLine (Single (Go task answer memory)) text.now → IsSome result }
+    ensures run { (task : ℕ) (answer : Ran) (memory : Bool)
+        → IsLine (Run task answer memory) text.now → IsSome result }
+{
     let (word, rest) = text.split_once(' ')?;
     match word {
-        "make" => Some(Line::Single(Input::Make(parse_number(rest)?))),
         "poll" => {
             let (task, waker) = parse_pair(rest)?;
             Some(Line::Single(Input::Poll(task, waker)))
         }
-        "drop" => Some(Line::Single(Input::Drop(parse_number(rest)?))),
         "go" => {
             let (task, answer, memory) = parse_step(rest)?;
             Some(Line::Single(Input::Go(task, answer, memory)))
@@ -227,13 +269,12 @@ fn parse_short_line(text: &str) -> Option<Line>
             let (task, answer, memory) = parse_step(rest)?;
             Some(Line::Run(task, answer, memory))
         }
-        "write" => Some(Line::Single(Input::Own(Call::Write(parse_number(rest)?)))),
         _ => None,
     }
 }
 
 /// Reads two numbers.
-pub fn parse_pair(text: &str) -> Option<(u64, u64)>
+fn parse_pair(text: &str) -> Option<(u64, u64)>
     ensures read { IfSome result (λ pair. IsPair pair.0 pair.1 text.now) }
     ensures all { (first second : ℕ) → IsPair first second text.now → IsSome result }
 {
@@ -242,7 +283,7 @@ pub fn parse_pair(text: &str) -> Option<(u64, u64)>
 }
 
 /// Reads a task, the answer that its init gives, and whether memory is granted.
-pub fn parse_step(text: &str) -> Option<(u64, Ran, bool)>
+fn parse_step(text: &str) -> Option<(u64, Ran, bool)>
     ensures read { IfSome result (λ step. IsStep step.0 step.1 step.2 text.now) }
     ensures all { (task : ℕ) (answer : Ran) (memory : Bool) → IsStep task answer memory text.now
         → IsSome result }
@@ -254,7 +295,7 @@ pub fn parse_step(text: &str) -> Option<(u64, Ran, bool)>
 }
 
 /// Reads the answer that an init gives, and whether memory is granted.
-pub fn parse_given(text: &str) -> Option<(Ran, bool)>
+fn parse_given(text: &str) -> Option<(Ran, bool)>
     ensures { MatchOption result ((a : Ran) (memory : Bool) → ¬ IsGiven a memory text.now)
         (λ given. IsGiven given.0 given.1 text.now) }
 {

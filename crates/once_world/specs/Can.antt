@@ -10,10 +10,12 @@ CanStep limit c (AtRelease q e) = (c.ready ≡ false) × (c.head ≡ not c.quick
 CanStep limit c (AtCountOut e) = 0 < c.count
 CanStep limit c p = Unit {0}
 
+-- the same of a step: nothing where no call is under way
 abbrev pub CanAdvance : ℕ → Inner → Step ℕ ℕ → Type 0
 CanAdvance limit c (UnderWay p) = CanStep limit c p
 CanAdvance limit c s = Unit {0}
 
+-- the same of a task: nothing where it was not made
 abbrev pub TaskCan : ℕ → Inner → Option Task → Type 0
 TaskCan limit c (Some x) = CanAdvance limit c x.step
 TaskCan limit c None = Unit {0}

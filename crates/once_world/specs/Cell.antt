@@ -2,15 +2,18 @@
 use Rattle.std.specs.Prelude.{◌≡◌, ℕ, Bool, true, false, List, [], ◌∷◌, Option, Some, None}
 use Rattle.once_world.specs.Record.{Answer, RanPending, RanValue, Kind, Once, OnceWith, Lazy, LazyWith, OwnerCall, Take, Write, Parts, ReplaceValue, ReplaceAnswers, Got, GotNone, GotValue, GotAnswers, Entry, Claim, Ran, Free, Fill, Own}
 
+-- what a cell is: empty, held by a task, or set to a value
 pub data Cell : Type 0 where
   Empty : Cell
   Held : (task : ℕ) → Cell
   SetTo : (value : ℕ) → Cell
 
+-- the value is set
 abbrev pub is_set : Cell → Bool
 is_set (SetTo v) = true
 is_set _ = false
 
+-- some task holds
 abbrev pub is_held : Cell → Bool
 is_held (Held t) = true
 is_held _ = false
@@ -58,6 +61,7 @@ abbrev pub first_answers : Kind → List (Option ℕ)
 first_answers (Lazy l) = l
 first_answers _ = []
 
+-- the answers without the first
 abbrev pub rest_of : List (Option ℕ) → List (Option ℕ)
 rest_of [] = []
 rest_of (a ∷ l) = l

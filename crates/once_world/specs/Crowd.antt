@@ -4,6 +4,7 @@ use Rattle.once_queue.specs.Numbers.{how_many}
 use Rattle.once_world.specs.Record.{Kind, Entry, made_in}
 use Rattle.once_world.specs.Tasks.{Status, Waiting, status}
 
+-- the task waits
 abbrev pub is_waiting : Status → Bool
 is_waiting Waiting = true
 is_waiting _ = false

@@ -20,10 +20,12 @@ pub record Part : Type 0 where
   pub entries : List Entry
   pub lines : List QueueLine
 
+-- the inputs of the parts
 abbrev pub inputs_of : List Part → List Input
 inputs_of [] = []
 inputs_of (p ∷ before) = p.input ∷ inputs_of before
 
+-- the entries that the parts add
 abbrev pub entries_of : List Part → List Entry
 entries_of [] = []
 entries_of (p ∷ before) = p.entries ++ entries_of before
@@ -33,12 +35,14 @@ abbrev pub make_part : Status → ℕ → List Entry
 make_part Unmade t = Made t ∷ []
 make_part _ t = []
 
+-- a Poll begins a call of a task that is fresh, waits or holds
 abbrev pub poll_part : Status → ℕ → ℕ → List Entry
 poll_part Fresh t w = Begin t w ∷ []
 poll_part Waiting t w = Begin t w ∷ []
 poll_part Holding t w = Begin t w ∷ []
 poll_part _ t w = []
 
+-- a Drop begins a call of such a task; that of a fresh one ends at once
 abbrev pub drop_part : Status → ℕ → List Entry
 drop_part Fresh t = DropEnd t ∷ DropBegin t ∷ []
 drop_part Waiting t = DropBegin t ∷ []
@@ -78,6 +82,7 @@ AreOfGo false kind t a entries = entries ≡ []
 abbrev pub fits_owner : Kind → OwnerCall → List Entry → Bool
 fits_owner kind o before = cond (all_gone kind before) (has_call kind o) false
 
+-- an owner's call and what it is given, where it fits
 abbrev pub own_part : Bool → OwnerCall → Got → List Entry
 own_part true o g = Own o g ∷ []
 own_part false o g = []
@@ -98,6 +103,7 @@ begins_call t (Begin u w ∷ before) = cond (u == t) true (begins_call t before)
 begins_call t (DropBegin u ∷ before) = cond (u == t) true (begins_call t before)
 begins_call t (_ ∷ before) = begins_call t before
 
+-- the input is a Go of t
 abbrev pub is_go_of : ℕ → Input → Bool
 is_go_of t (Go u a granted) = u == t
 is_go_of t _ = false
@@ -117,6 +123,7 @@ abbrev pub gos : Kind → ℕ → List Part → ℕ
 gos kind t [] = 0
 gos kind t (p ∷ before) = gos_after (begins_call t p.entries) (is_fitting_go kind t p.input (entries_of before)) (gos kind t before)
 
+-- the input is a Go that is given no memory
 abbrev pub is_ungranted : Input → Bool
 is_ungranted (Go u a granted) = not granted
 is_ungranted _ = false

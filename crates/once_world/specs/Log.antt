@@ -14,6 +14,7 @@ standing_queue (Put q ∷ before) = Some q
 standing_queue (Entered q ∷ before) = standing_queue before
 standing_queue (Taken q ∷ before) = None
 
+-- the queue q was put
 abbrev pub was_put : ℕ → List QueueLine → Bool
 was_put q [] = false
 was_put q (Put n ∷ before) = cond (n == q) true (was_put q before)
@@ -26,14 +27,17 @@ IsSound (Put q ∷ before) = (standing_queue before ≡ None) × (was_put q befo
 IsSound (Entered q ∷ before) = (standing_queue before ≡ Some q) × IsSound before
 IsSound (Taken q ∷ before) = (standing_queue before ≡ Some q) × IsSound before
 
+-- the lines that the parts add
 abbrev pub lines_of : List Part → List QueueLine
 lines_of [] = []
 lines_of (p ∷ before) = p.lines ++ lines_of before
 
+-- somebody is handed out
 abbrev pub is_some_waker : List ℕ → Bool
 is_some_waker [] = false
 is_some_waker _ = true
 
+-- the init was not polled
 abbrev pub did_not_run : Option Answer → Bool
 did_not_run None = true
 did_not_run _ = false
@@ -51,11 +55,13 @@ abbrev pub need_queue : Kind → List Entry → List Entry → Bool
 need_queue kind [] before = false
 need_queue kind (e ∷ entries) before = cond (needs_queue kind e (entries ++ before)) true (need_queue kind entries before)
 
+-- some queue was entered
 abbrev pub has_entered : List QueueLine → Bool
 has_entered [] = false
 has_entered (Entered q ∷ before) = true
 has_entered (_ ∷ before) = has_entered before
 
+-- one line at most
 abbrev pub IsAtMostOne : List QueueLine → Type 0
 IsAtMostOne (l ∷ k ∷ more) = ⊥
 IsAtMostOne _ = Unit {0}

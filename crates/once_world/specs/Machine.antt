@@ -46,6 +46,7 @@ is_taken c = c.quick || c.head
 abbrev pub is_free : Inner → Bool
 is_free c = cond c.ready false (not (is_taken c))
 
+-- the queue q stands at the door
 abbrev pub is_at_door : ℕ → Option ℕ → Bool
 is_at_door q None = false
 is_at_door q (Some d) = d == q
@@ -57,6 +58,7 @@ pub record Outcome : Type 0 where
   pub kept : Answer
   pub entries : List Entry
 
+-- the error that the init gave
 abbrev pub error_in : Answer → ℕ
 error_in (RanError e) = e
 error_in _ = 0
@@ -90,6 +92,7 @@ abbrev pub progress_entries : Progress → ℕ → ℕ → Answer → List Entry
 progress_entries (Ended e) t v k = end_entry e t v k ∷ []
 progress_entries More t v k = []
 
+-- a claim of t is recorded where there was one
 abbrev pub claim_entries : Bool → ℕ → List Entry
 claim_entries true t = Claim t ∷ []
 claim_entries false t = []
@@ -112,9 +115,11 @@ abbrev pub quick_inner : Bool → Inner → Inner
 quick_inner true c = record c { quick = true }
 quick_inner false c = c
 
+-- whether the claim was won
 abbrev pub quick_step : Bool → Inner → ℕ → Answer → Outcome
 quick_step won c t k = outcome_of (quick_inner won c) t k (claim_entries won t) (after_quick won)
 
+-- what stands at the door
 abbrev pub door_step : Option ℕ → Inner → ℕ → Answer → Outcome
 door_step door c t k = outcome_of c t k [] (after_door_get door)
 
@@ -138,9 +143,11 @@ next_in true ready q = after_in ready q
 next_in false true q = after_count_in SeenReady q
 next_in false false q = after_count_in CountFull q
 
+-- below the limit, ready
 abbrev pub in_step : Bool → Bool → Inner → ℕ → Answer → ℕ → Outcome
 in_step below ready c t k q = outcome_of (in_inner below c) t k [] (next_in below ready q)
 
+-- ready
 abbrev pub load_step : Bool → Inner → ℕ → Answer → ℕ → Option ℕ → Outcome
 load_step ready c t k q n = outcome_of c t k [] (after_load ready q n)
 
@@ -148,9 +155,10 @@ load_step ready c t k q n = outcome_of c t k [] (after_load ready q n)
 abbrev pub claim_inner : Inner → Option ℕ → Inner
 claim_inner c n = record c { head = true; listings = list_without n c.listings }
 
-abbrev pub claim_entry : SectionAnswer ℕ → ℕ → List Entry
-claim_entry Claimed t = Claim t ∷ []
-claim_entry _ t = []
+-- a section claimed the right
+abbrev pub is_claim : SectionAnswer ℕ → Bool
+is_claim Claimed = true
+is_claim _ = false
 
 -- what a look finds: at the door, ready, taken, listed
 abbrev pub look_answer : Bool → Bool → Bool → Bool → SectionAnswer ℕ
@@ -160,6 +168,7 @@ look_answer true false true true = Listed
 look_answer true false true false = Held
 look_answer false _ _ _ = Gone
 
+-- what a look leaves: only a claim changes something
 abbrev pub look_inner : SectionAnswer ℕ → Inner → Option ℕ → Inner
 look_inner Claimed c n = claim_inner c n
 look_inner _ c n = c
@@ -168,7 +177,7 @@ look_inner _ c n = c
 abbrev pub look_step : Bool → Bool → Bool → Bool → Bool → Inner → ℕ → ℕ → Answer → ℕ → Option ℕ → Outcome
 look_step at ready taken is granted c t w k q n =
     let a = look_answer at ready taken is in
-    outcome_of (look_inner a c n) t k (claim_entry a t) (after_look a (cond granted (Some w) None) q n)
+    outcome_of (look_inner a c n) t k (claim_entries (is_claim a) t) (after_look a (cond granted (Some w) None) q n)
 
 -- what a listing finds: at the door, ready, taken, there or granted
 abbrev pub list_answer : Bool → Bool → Bool → Bool → SectionAnswer ℕ
@@ -182,6 +191,7 @@ list_answer false _ _ _ = Gone
 abbrev pub listing_inner : Inner → ℕ → ℕ → Inner
 listing_inner c n w = record c { listings = list_with n w c.listings }
 
+-- what a call to list oneself leaves, by its answer
 abbrev pub list_inner : SectionAnswer ℕ → Inner → Option ℕ → ℕ → Inner
 list_inner Claimed c n w = claim_inner c n
 list_inner Listed c n w = listing_inner c (ticket_for n c.listings) w
@@ -196,13 +206,14 @@ list_ticket _ c n = n
 abbrev pub list_step : Bool → Bool → Bool → Bool → Inner → ℕ → ℕ → Answer → ℕ → Option ℕ → Outcome
 list_step at ready taken room c t w k q n =
     let a = list_answer at ready taken room in
-    outcome_of (list_inner a c n w) t k (claim_entry a t) (after_list a q (list_ticket a c n))
+    outcome_of (list_inner a c n w) t k (claim_entries (is_claim a) t) (after_list a q (list_ticket a c n))
 
 -- the answer of the init: of a lazy one the next, of another what the input says
 abbrev pub init_answer : Bool → List (Option ℕ) → Answer → Answer
 init_answer true l a = next_answer l
 init_answer false l a = a
 
+-- what the step is told of the init's answer
 abbrev pub polled_of : Answer → Polled
 polled_of RanPending = PolledPending
 polled_of (RanValue v) = PolledValue
@@ -217,6 +228,7 @@ kept_after a old = a
 abbrev pub run_step : Answer → Inner → ℕ → Answer → Option ℕ → Outcome
 run_step a c t k by = outcome_of c t (kept_after a k) (Ran t a ∷ []) (after_run (polled_of a) by)
 
+-- a poll of the init takes the first answer of a lazy one off
 abbrev pub run_inner : Inner → Inner
 run_inner c = record c { answers = rest_of c.answers }
 
@@ -226,9 +238,11 @@ fast_inner true true c = record c { quick = false; ready = true }
 fast_inner true false c = record c { quick = false }
 fast_inner false fills c = c
 
+-- whether the release was done, and whether the value is set
 abbrev pub fast_step : Bool → Bool → Inner → ℕ → Answer → Ending → Outcome
 fast_step won fills c t k e = outcome_of (fast_inner won fills c) t k (freed_entries won t k) (after_fast won fills e)
 
+-- what stands at the door
 abbrev pub again_step : Option ℕ → Inner → ℕ → Answer → Ending → Outcome
 again_step door c t k e = outcome_of c t k [] (after_door_again door e)
 
@@ -261,6 +275,7 @@ abbrev pub leave_step : Bool → Inner → ℕ → Answer → ℕ → Ending →
 leave_step true c t k n e = outcome_of (record c { listings = left_list (is_passing c n) n c.listings }) t k (pass_entries t (one_out (next_waker (is_passing c n) n c.listings))) (next_at (AtCountOut e))
 leave_step false c t k n e = outcome_of c t k [] (next_at (AtCountOut e))
 
+-- one less is counted
 abbrev pub out_inner : Inner → Inner
 out_inner c = record c { count = c.count - 1 }
 
@@ -268,6 +283,7 @@ out_inner c = record c { count = c.count - 1 }
 abbrev pub out_step : Bool → Inner → ℕ → Answer → Ending → Outcome
 out_step last c t k e = outcome_of c t k [] (after_count_out last e)
 
+-- no queue stands at the door
 abbrev pub take_inner : Inner → Inner
 take_inner c = record c { door = None; head = false; listings = [] }
 
@@ -291,6 +307,7 @@ place_step lazy limit c t w k a granted (AtLeave q n e) = leave_step (is_at_door
 place_step lazy limit c t w k a granted (AtCountOut e) = out_step (is_ready_bit (word_of (out_inner c))) (out_inner c) t k e
 place_step lazy limit c t w k a granted (AtDoorTake e) = outcome_of (take_inner c) t k [] (next_end e)
 
+-- one step of a call that is under way; nothing else makes one
 abbrev pub step_at : Bool → ℕ → Inner → ℕ → ℕ → Answer → Answer → Bool → Step ℕ ℕ → Outcome
 step_at lazy limit c t w k a granted (UnderWay p) = place_step lazy limit c t w k a granted p
 step_at lazy limit c t w k a granted s = record { inner = c; step = s; kept = k; entries = [] }
@@ -314,6 +331,7 @@ place_lines granted c (AtLeave q n e) = EnteredLine q ∷ []
 place_lines granted c (AtDoorTake e) = take_lines c.door
 place_lines granted c _ = []
 
+-- what one step of a call logs
 abbrev pub step_lines : Bool → Inner → Step ℕ ℕ → List QueueLine
 step_lines granted c (UnderWay p) = place_lines granted c p
 step_lines granted c s = []
@@ -340,9 +358,11 @@ abbrev pub unfinished_after : Step ℕ ℕ → ℕ → ℕ
 unfinished_after Finished n = n - 1
 unfinished_after _ n = n
 
+-- a task that was made
 abbrev pub fresh_task : Task
 fresh_task = record { waker = 0; kept = RanPending; step = Resting RestStart }
 
+-- a new task where none has the number t
 abbrev pub make_world : World → ℕ → Option Task → World
 make_world w t None = record w { tasks = put_task t fresh_task w.tasks; unfinished = suc w.unfinished; history = Made t ∷ w.history }
 make_world w t (Some x) = w
@@ -352,6 +372,7 @@ abbrev pub poll_world_by : Bool → World → ℕ → ℕ → Task → World
 poll_world_by true w t k x = record w { tasks = put_task t (record x { waker = k; step = step_of_poll x.step }) w.tasks; history = Begin t k ∷ w.history }
 poll_world_by false w t k x = w
 
+-- a poll of t, which does nothing where there is no such task
 abbrev pub poll_world : World → ℕ → ℕ → Option Task → World
 poll_world w t k None = w
 poll_world w t k (Some x) = poll_world_by (is_resting x.step) w t k x
@@ -361,10 +382,12 @@ abbrev pub drop_world_by : Bool → World → ℕ → Task → World
 drop_world_by true w t x = record w { tasks = put_task t (record x { step = step_of_drop x.step }) w.tasks; unfinished = unfinished_after (step_of_drop x.step) w.unfinished; history = drop_entries t (step_of_drop x.step) ++ w.history }
 drop_world_by false w t x = w
 
+-- a drop of t, which does nothing where there is no such task
 abbrev pub drop_world : World → ℕ → Option Task → World
 drop_world w t None = w
 drop_world w t (Some x) = drop_world_by (is_resting x.step) w t x
 
+-- what a step of t leaves of the world
 abbrev pub step_world : World → ℕ → Task → Outcome → List QueueLine → World
 step_world w t x o lines = record { inner = o.inner; tasks = put_task t (record x { step = o.step; kept = o.kept }) w.tasks; unfinished = unfinished_after o.step w.unfinished; history = o.entries ++ w.history; log = lines ++ w.log }
 
@@ -373,6 +396,7 @@ abbrev pub go_world_by : Bool → Bool → ℕ → World → ℕ → Answer → 
 go_world_by true lazy limit w t a granted x = step_world w t x (advance lazy limit w.inner t x a granted) (step_lines granted w.inner x.step)
 go_world_by false lazy limit w t a granted x = w
 
+-- a step of t, which does nothing where there is no such task
 abbrev pub go_world : Bool → ℕ → World → ℕ → Answer → Bool → Option Task → World
 go_world lazy limit w t a granted None = w
 go_world lazy limit w t a granted (Some x) = go_world_by (in_call x.step) lazy limit w t a granted x
@@ -386,18 +410,22 @@ abbrev pub value_got : Bool → ℕ → Got
 value_got true v = GotValue v
 value_got false v = GotNone
 
+-- what is left of a cell that is taken apart: the value, or the answers of its init
 abbrev pub parts_got : Bool → Inner → Got
 parts_got true c = GotValue c.value
 parts_got false c = GotAnswers c.answers
 
+-- what an owner's call is given
 abbrev pub owner_got : OwnerCall → Inner → Got
 owner_got Parts c = parts_got c.ready c
 owner_got _ c = value_got c.ready c.value
 
+-- there is a value
 abbrev pub is_some_value : Option ℕ → Bool
 is_some_value (Some v) = true
 is_some_value None = false
 
+-- the new value, or else the old one
 abbrev pub value_or : Option ℕ → ℕ → ℕ
 value_or (Some v) old = v
 value_or None old = old
@@ -411,6 +439,7 @@ abbrev pub write_inner : Bool → ℕ → Inner → Inner
 write_inner true v c = record c { value = v }
 write_inner false v c = c
 
+-- what an owner's call leaves
 abbrev pub owner_inner : OwnerCall → Inner → Inner
 owner_inner Take c = reset_inner c None c.answers
 owner_inner (Write v) c = write_inner c.ready v c
@@ -437,6 +466,7 @@ world_after kind limit w (Go t a granted) = go_world (is_lazy kind) limit w t a 
 world_after kind limit w (Owns o) = own_world_by (w.unfinished == 0) (has_call kind o) w o
 world_after kind limit w Looks = record w { history = Look (look_value w.inner) ∷ w.history }
 
+-- the value that a cell is made with, or 0
 abbrev pub value_at_start : Option ℕ → ℕ
 value_at_start (Some v) = v
 value_at_start None = 0
@@ -460,8 +490,10 @@ world_of kind limit (i ∷ before) = world_after kind limit (world_of kind limit
 abbrev pub history_of : Kind → ℕ → List Input → List Entry
 history_of kind limit inputs = (world_of kind limit inputs).history
 
+-- the queue log
 abbrev pub log_of : Kind → ℕ → List Input → List QueueLine
 log_of kind limit inputs = (world_of kind limit inputs).log
 
+-- the queue at the door
 abbrev pub queue_of : Kind → ℕ → List Input → Option ℕ
 queue_of kind limit inputs = (world_of kind limit inputs).inner.door

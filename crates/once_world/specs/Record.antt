@@ -69,6 +69,7 @@ made_in [] = []
 made_in (Made t ∷ before) = t ∷ made_in before
 made_in (_ ∷ before) = made_in before
 
+-- the kind is lazy
 abbrev pub is_lazy : Kind → Bool
 is_lazy (Lazy l) = true
 is_lazy (LazyWith v) = true
@@ -87,10 +88,12 @@ abbrev pub replaces : OwnerCall → Bool
 replaces (Write v) = false
 replaces _ = true
 
+-- the entry is an owner's call
 abbrev pub is_own : Entry → Bool
 is_own (Own o g) = true
 is_own _ = false
 
+-- the entry is an owner's call that replaces the cell
 abbrev pub is_replacing : Entry → Bool
 is_replacing (Own o g) = replaces o
 is_replacing _ = false

@@ -5,6 +5,7 @@ use Rattle.once_world.specs.Record.{Kind, Entry, Begin, made_in}
 use Rattle.once_world.specs.Cell.{Held, is_set, cell}
 use Rattle.once_world.specs.Tasks.{Status, Fresh, Polling, Dropping, Waiting, Holding, status, is_under_way, last_call}
 
+-- the entry begins a poll of t
 abbrev pub is_begin_of : ℕ → Entry → Bool
 is_begin_of t (Begin u w) = u == t
 is_begin_of t _ = false

@@ -25,12 +25,14 @@ use Rattle.once_world.specs.Inputs.{Input, Make, Poll, Drop, Go, Looks, Owns}
 pub use Rattle.once_world.specs.Machine.{claim_entries, freed_entries, progress_entries}
 use Rattle.once_world.specs.Machine.{Inner, World as MachineWorld, release_entry, pass_entries}
 
+-- a kind
 abbrev pub kind_of : GivenKind → Kind
 kind_of GivenOnce = Once
 kind_of (GivenOnceWith v) = OnceWith v
 kind_of (GivenLazy l) = Lazy l.items
 kind_of (GivenLazyWith v) = LazyWith v
 
+-- an owner's call
 abbrev pub call_of : Call → OwnerCall
 call_of CallTake = Take
 call_of (CallWrite v) = Write v
@@ -38,11 +40,13 @@ call_of CallParts = Parts
 call_of (CallReplaceValue v) = ReplaceValue v
 call_of (CallReplaceAnswers l) = ReplaceAnswers l.items
 
+-- what an owner's call is given
 abbrev pub got_of : GivenGot → Got
 got_of NoneGot = GotNone
 got_of (ValueGot v) = GotValue v
 got_of (AnswersGot l) = GotAnswers l.items
 
+-- an input
 abbrev pub input_of : GivenInput → Input
 input_of (InputMake t) = Make t
 input_of (InputPoll t w) = Poll t w
@@ -51,6 +55,7 @@ input_of (InputGo t a granted) = Go t a granted
 input_of InputLook = Looks
 input_of (InputOwn c) = Owns (call_of c)
 
+-- an entry
 abbrev pub entry_of : Written → Entry
 entry_of (WrittenMade t) = Made t
 entry_of (WrittenBegin t w) = Begin t w
@@ -69,6 +74,7 @@ entry_of (WrittenOwn c g) = Own (call_of c) (got_of g)
 abbrev pub inputs_in : List GivenInput → List Input
 inputs_in inputs = reverse (map input_of inputs)
 
+-- a record, the newest entry first
 abbrev pub history_in : List Written → List Entry
 history_in entries = reverse (map entry_of entries)
 
@@ -105,6 +111,7 @@ abbrev pub out_entries : Bool → List ℕ → ℕ → Answer → List Entry
 out_entries true X t k = pass_entries t X
 out_entries false X t k = release_entry k t X ∷ []
 
+-- the entry of a step that handed somebody out
 abbrev pub handed_entries : Bool → Option (Out ℕ) → ℕ → Answer → List Entry
 handed_entries leaving (Some out) t k = out_entries leaving (wakers_in out) t k
 handed_entries leaving None t k = []
@@ -127,5 +134,6 @@ world_in w = record {
 abbrev pub record_entries : GivenRecord → List Entry
 record_entries r = history_in r.entries.items
 
+-- the queue log of a replay, the newest line first
 abbrev pub record_lines : GivenRecord → List QueueLine
 record_lines r = reverse r.queues.items

@@ -3,7 +3,7 @@ use Rattle.std.specs.Prelude.{◌≡◌, ℕ, cond, List, Option, Some, None, re
 use Rattle.once_queue.specs.declared.waiters.Out.{Out}
 use Rattle.once_world.specs.declared.world.side.ReplaySide.{ReplaySide}
 use Rattle.once_core.specs.declared.step.Polled.{Polled}
-use Rattle.once_world.specs.Record.{Answer, RanPending, RanValue, RanError}
+use Rattle.once_world.specs.Record.{Answer}
 use Rattle.once_world.specs.Cell.{rest_of}
 use Rattle.once_world.specs.Machine.{init_answer, put_value, polled_of, kept_after}
 
@@ -15,6 +15,7 @@ answers_in s = reverse s.answers.items
 abbrev pub next_of : ReplaySide → Answer
 next_of s = init_answer s.lazy (answers_in s) s.answer
 
+-- a poll of the init answers the next answer, and keeps it
 pub record DidRun (s : ReplaySide) (r : Polled) (t : ReplaySide) : Type 0 where
   pub ran : t.ran ≡ Some (next_of s)
   pub polled : r ≡ polled_of (next_of s)
@@ -24,15 +25,19 @@ pub record DidRun (s : ReplaySide) (r : Polled) (t : ReplaySide) : Type 0 where
   pub value : t.value ≡ s.value
   pub handed : t.handed ≡ s.handed
 
+-- a close changes nothing
 abbrev pub DidClose : ReplaySide → ReplaySide → Type 0
 DidClose s t = t ≡ s
 
+-- a put sets the value that was kept
 abbrev pub DidPut : ReplaySide → ReplaySide → Type 0
 DidPut s t = t ≡ record s { value = put_value s.kept s.value }
 
+-- a copy gives the waker where memory is granted
 abbrev pub DidCopy : ReplaySide → Option ℕ → ReplaySide → Type 0
 DidCopy s w t = (w ≡ cond s.granted (Some s.waker) None) × (t ≡ s)
 
+-- a wake notes who was handed out
 abbrev pub DidWake : ReplaySide → Out ℕ → ReplaySide → Type 0
 DidWake s out t = t ≡ record s { handed = Some out }
 

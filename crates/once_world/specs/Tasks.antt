@@ -39,10 +39,12 @@ is_under_way Polling = true
 is_under_way Dropping = true
 is_under_way _ = false
 
+-- the task is gone
 abbrev pub is_gone : Status → Bool
 is_gone Gone = true
 is_gone _ = false
 
+-- each of these tasks is gone
 abbrev pub are_gone : Kind → List ℕ → List Entry → Bool
 are_gone kind [] history = true
 are_gone kind (t ∷ ts) history = cond (is_gone (status kind t history)) (are_gone kind ts history) false

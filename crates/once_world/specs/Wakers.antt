@@ -5,6 +5,7 @@ use Rattle.once_world.specs.Record.{Kind, Pending, Entry, End, is_of, handed_by,
 use Rattle.once_world.specs.Cell.{Cell, Held, cell}
 use Rattle.once_world.specs.Tasks.{Waiting, status, last_call}
 
+-- the entry ends a poll
 abbrev pub is_end : Entry → Bool
 is_end (End t r) = true
 is_end _ = false

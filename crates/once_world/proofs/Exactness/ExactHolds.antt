@@ -1,5 +1,5 @@
 -- The steps of a holder, and of a call that gives its place back, are exactly the machine's.
-use Rattle.std.proofs.Common.{◌≡◌, ℕ, suc, Bool, true, false, cond, [], ◌∷◌, ◌++◌, Option, Some, None, refl, sym, ap, ◌∙◌, subst, arith, reverse, ◌-◌}
+use Rattle.std.proofs.Common.{◌≡◌, ℕ, suc, Bool, true, false, cond, [], ◌++◌, Option, Some, None, refl, sym, ap, ◌∙◌, subst, arith, reverse, ◌-◌}
 use Rattle.std.proofs.lemmas.Bool.Decides.{nat_tests}
 use Rattle.once_core.specs.declared.step.Polled.{Polled}
 use Rattle.once_world.specs.declared.world.side.ReplaySide.{ReplaySide}

@@ -14,7 +14,7 @@ use Rattle.once_core.specs.Core.{CoreState, DidSection, FindsHolder}
 use Rattle.once_world.specs.Places.{AtList, AtLook, Progress, Step, UnderWay}
 use Rattle.once_queue.specs.Ops.{ticket_in}
 use Rattle.once_core.specs.Steps.{AfterLook, Follows, after_copy, after_list, after_look, is_running}
-use Rattle.once_world.specs.Machine.{EnteredLine, claim_entries, claim_entry, is_at_door, list_answer, list_inner, list_step, list_ticket, look_answer, look_inner, look_step}
+use Rattle.once_world.specs.Machine.{EnteredLine, claim_entries, is_claim, is_at_door, list_answer, list_inner, list_step, list_ticket, look_answer, look_inner, look_step}
 use Rattle.once_world.specs.Side.{DidClose, DidCopy}
 use Rattle.once_queue.proofs.Listing.Members.{eqb_self}
 use Rattle.once_world.proofs.Exactness.Outcomes.{IsFresh, IsOutcome, follows_by, inner_by, reverse_push}
@@ -55,7 +55,7 @@ copy_idle None q (Some m) n = refl
 copy_idle None q None n = refl
 
 -- only a claim comes to poll the init
-look_claims : (a : SectionAnswer ℕ) (w : Option ℕ) (q : ℕ) (k : Option ℕ) (n : ℕ) → claim_entries (is_running (after_look a w q k).step) n ≡ claim_entry a n
+look_claims : (a : SectionAnswer ℕ) (w : Option ℕ) (q : ℕ) (k : Option ℕ) (n : ℕ) → claim_entries (is_running (after_look a w q k).step) n ≡ claim_entries (is_claim a) n
 look_claims Ready w q k n = refl
 look_claims Claimed w q k n = refl
 look_claims Listed w q k n = refl
@@ -65,7 +65,7 @@ look_claims (Released out) w q k n = copy_idle w q k n
 look_claims (Left v) w q k n = copy_idle w q k n
 look_claims Gone w q k n = copy_idle w q k n
 
-list_claims : (a : SectionAnswer ℕ) (q : ℕ) (k : Option ℕ) (n : ℕ) → claim_entries (is_running (after_list {W = ℕ} a q k).step) n ≡ claim_entry a n
+list_claims : (a : SectionAnswer ℕ) (q : ℕ) (k : Option ℕ) (n : ℕ) → claim_entries (is_running (after_list {W = ℕ} a q k).step) n ≡ claim_entries (is_claim a) n
 list_claims Ready q k n = refl
 list_claims Claimed q k n = refl
 list_claims Listed q k n = refl
@@ -136,7 +136,7 @@ module _ (c : ReplaySide) (f : IsFresh c) (s : CoreState ℕ) (c' : ReplaySide) 
   look_exact w x y =
       let b = look_answer (is_at_door q s.door) s.word.ready (s.word.quick || s.head) (is_waker c.waker (own_listing k s.listings)) in
       let z : LookFinds b = look_by (is_at_door q s.door) s.word.ready (s.word.quick || s.head) (is_waker c.waker (own_listing k s.listings)) refl refl refl refl w x y in
-      follows_by (UnderWay (AtLook q k)) s c f s' c' p t (EnteredLine q ∷ []) (look_inner b (inner_by s c) k) (λ n. claim_entry b n) (after_look b copy q k) (entered_log q s s' z.log) z.inner (look_follows b z.after) (look_claims b copy q k)
+      follows_by (UnderWay (AtLook q k)) s c f s' c' p t (EnteredLine q ∷ []) (look_inner b (inner_by s c) k) (λ n. claim_entries (is_claim b) n) (after_look b copy q k) (entered_log q s s' z.log) z.inner (look_follows b z.after) (look_claims b copy q k)
 
   -- what follows the listing
   abbrev Lists : SectionAnswer ℕ → Op ℕ → Type 0
@@ -181,4 +181,4 @@ module _ (c : ReplaySide) (f : IsFresh c) (s : CoreState ℕ) (c' : ReplaySide) 
       let b = list_answer (is_at_door q s.door) s.word.ready (s.word.quick || s.head) (is_some (kept_ticket k s.listings) || s.granted) in
       let m = list_ticket b (inner_by s c) k in
       let z : ListFinds w b = list_by w (is_at_door q s.door) s.word.ready (s.word.quick || s.head) (is_some (kept_ticket k s.listings) || s.granted) refl refl refl refl x y in
-      follows_by (UnderWay (AtList q k w)) s c f s' c' p t (EnteredLine q ∷ []) (list_inner b (inner_by s c) k w) (λ n. claim_entry b n) (after_list b q m) (entered_log q s s' z.log) z.inner z.after (list_claims b q m)
+      follows_by (UnderWay (AtList q k w)) s c f s' c' p t (EnteredLine q ∷ []) (list_inner b (inner_by s c) k w) (λ n. claim_entries (is_claim b) n) (after_list b q m) (entered_log q s s' z.log) z.inner z.after (list_claims b q m)

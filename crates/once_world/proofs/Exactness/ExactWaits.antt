@@ -1,6 +1,6 @@
 -- The steps of a poll that has not claimed are exactly the machine's.
-use Rattle.std.proofs.Common.{◌≡◌, ◌≤◌, ℕ, suc, Bool, true, false, cond, ◌==◌, [], ◌∷◌, ◌++◌, Option, Some, None, refl, sym, ap, ◌∙◌, subst, arith, reverse}
-use Rattle.std.specs.Prelude.{not, nat_lt}
+use Rattle.std.proofs.Common.{◌≡◌, ◌≤◌, ℕ, suc, Bool, true, false, cond, [], ◌∷◌, ◌++◌, Option, Some, None, refl, sym, ap, ◌∙◌, subst, arith, reverse}
+use Rattle.std.specs.Prelude.{nat_lt}
 use Rattle.std.proofs.lemmas.Bool.Decides.{nat_tests}
 use Rattle.once_core.specs.declared.parts.Counted.{Counted}
 use Rattle.once_core.specs.declared.parts.Counted.TheVariants.{In, Full as CountFull, SeenReady}
@@ -9,7 +9,7 @@ use Rattle.once_queue.specs.Word.{Flags, flags_alone, is_zero}
 use Rattle.once_core.specs.Core.{CoreState, DidCountIn, put_answer, put_state}
 use Rattle.once_world.specs.Places.{AtCountIn, AtDoorGet, AtDoorPut, AtStart, AtTryQuick, AtWaitLoad, Progress, Step, UnderWay}
 use Rattle.once_core.specs.Steps.{Follows, Next, after_count_in, after_door_get, after_door_put, after_in, after_load, after_quick, after_start, is_running}
-use Rattle.once_world.specs.Record.{Claim, Entry}
+use Rattle.once_world.specs.Record.{Claim}
 use Rattle.once_world.specs.Machine.{PutLine, claim_entries, in_inner, door_step, in_step, load_step, next_in, put_lines, put_step, put_inner, quick_step, start_step}
 use Rattle.once_world.specs.Side.{DidClose, answers_in}
 use Rattle.once_world.proofs.Exactness.Outcomes.{IsFresh, IsOutcome, follows_by, inner_by, reverse_push}
