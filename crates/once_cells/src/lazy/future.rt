@@ -1,7 +1,6 @@
 //! The future of a cell that owns its init.
-ghost use Rattle.std.specs.Prelude.{◌≡◌, true, false};
-ghost use Rattle.futures.specs.Task.{IsArmed, Keeps};
-ghost use Rattle.futures.specs.Poll.{IfReady, OnPending};
+ghost use Rattle.std.specs.Prelude.{◌≡◌, false};
+ghost use Rattle.once_cells.specs.Polls.{DidPoll};
 ghost use Rattle.once_cells.specs.Tokens.{Call, Polls};
 
 use crate::held::Held;
@@ -67,11 +66,7 @@ impl<'a, T: Drop, F: Future<Output = T>, R: Wait + AllocGlobal> LazyFuturePin<'a
     /// Polls the future once. It answers the value that is set, or a refusal, and is finished then.
     pub fn poll(&mut self, cx: &mut Context<'_>) -> Poll<Result<&'a T, Refused>>
         requires { self.old.finished ≡ false }
-        ensures cell { self.new.cell ≡ self.old.cell }
-        ensures live { OnPending result (self.new.finished ≡ false) }
-        ensures done { IfReady result (λ _. self.new.finished ≡ true) }
-        ensures armed { OnPending result (IsArmed cx.new) }
-        ensures kept { Keeps cx.old cx.new }
+        ensures call { DidPoll self.old self.new cx.old cx.new result }
     {
         self.future.poll(cx)
     }
@@ -85,13 +80,9 @@ impl<'a, T: Drop, F: Future<Output = T>, R: Wait + AllocGlobal> LazyFuturePin<'a
     ) -> Poll<Result<&'a T, Refused>>
         requires live { self.old.finished ≡ false }
         requires cell { token.old.cell ≡ self.old.cell }
-        ensures cell { self.new.cell ≡ self.old.cell }
+        ensures call { DidPoll self.old self.new cx.old cx.new result }
         ensures of { token.new.cell ≡ token.old.cell }
         ensures value { Polls token.old.value token.new.value result }
-        ensures live { OnPending result (self.new.finished ≡ false) }
-        ensures done { IfReady result (λ _. self.new.finished ≡ true) }
-        ensures armed { OnPending result (IsArmed cx.new) }
-        ensures kept { Keeps cx.old cx.new }
     {
         self.future.poll_as(cx, token)
     }

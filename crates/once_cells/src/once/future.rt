@@ -1,7 +1,7 @@
 //! The future of an init that may fail. All other futures of the cells are made of it.
 ghost use Rattle.std.specs.Prelude.{◌≡◌, true, false};
 ghost use Rattle.futures.specs.Task.{IsArmed, Keeps};
-ghost use Rattle.futures.specs.Poll.{IfReady, OnPending};
+ghost use Rattle.once_cells.specs.Polls.{DidPoll};
 ghost use Rattle.once_cells.specs.Tokens.{Call, Polls};
 ghost use Rattle.once_core.specs.Steps.{in_call, is_finished as is_done};
 
@@ -112,11 +112,7 @@ where
     /// had been dropped.
     pub fn poll(&mut self, cx: &mut Context<'_>) -> Poll<Result<&'a T, InitError<E>>>
         requires { self.old.finished ≡ false }
-        ensures cell { self.new.cell ≡ self.old.cell }
-        ensures live { OnPending result (self.new.finished ≡ false) }
-        ensures done { IfReady result (λ _. self.new.finished ≡ true) }
-        ensures armed { OnPending result (IsArmed cx.new) }
-        ensures kept { Keeps cx.old cx.new }
+        ensures call { DidPoll self.old self.new cx.old cx.new result }
     {
         let current = self.seat.as_ref().and_then(Seat::share);
         let mut side = Polling {
@@ -153,13 +149,9 @@ where
     ) -> Poll<Result<&'a T, InitError<E>>>
         requires live { self.old.finished ≡ false }
         requires cell { token.old.cell ≡ self.old.cell }
-        ensures cell { self.new.cell ≡ self.old.cell }
+        ensures call { DidPoll self.old self.new cx.old cx.new result }
         ensures of { token.new.cell ≡ token.old.cell }
         ensures value { Polls token.old.value token.new.value result }
-        ensures live { OnPending result (self.new.finished ≡ false) }
-        ensures done { IfReady result (λ _. self.new.finished ≡ true) }
-        ensures armed { OnPending result (IsArmed cx.new) }
-        ensures kept { Keeps cx.old cx.new }
     {
         if token.is_knowing() {
             self.leave();
@@ -185,11 +177,7 @@ where
         cx: &mut Context<'_>,
     ) -> Poll<Result<&'a T, InitError<E>>>
         requires { is_armed ≡ true → IsArmed cx.old }
-        ensures cell { self.new.cell ≡ self.old.cell }
-        ensures live { OnPending result (self.new.finished ≡ false) }
-        ensures done { IfReady result (λ _. self.new.finished ≡ true) }
-        ensures armed { OnPending result (IsArmed cx.new) }
-        ensures kept { Keeps cx.old cx.new }
+        ensures call { DidPoll self.old self.new cx.old cx.new result }
     {
         if self.step.is_resting() {
             return self.wait(is_armed, cx);

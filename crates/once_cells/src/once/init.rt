@@ -1,7 +1,6 @@
 //! The future of an init that does not fail.
-ghost use Rattle.std.specs.Prelude.{◌≡◌, true, false};
-ghost use Rattle.futures.specs.Task.{IsArmed, Keeps};
-ghost use Rattle.futures.specs.Poll.{IfReady, OnPending};
+ghost use Rattle.std.specs.Prelude.{◌≡◌, false};
+ghost use Rattle.once_cells.specs.Polls.{DidPoll};
 ghost use Rattle.once_cells.specs.Tokens.{Call, Polls};
 ghost use Rattle.once_cells.specs.Sure.{IsSame};
 
@@ -58,11 +57,7 @@ impl<'a, T: Drop, F: Future<Output = T>, R: Wait + AllocGlobal> InitFuture<'a, T
     /// Polls the future once. It answers the value that is set, or a refusal, and is finished then.
     pub fn poll(&mut self, cx: &mut Context<'_>) -> Poll<Result<&'a T, Refused>>
         requires { self.old.finished ≡ false }
-        ensures cell { self.new.cell ≡ self.old.cell }
-        ensures live { OnPending result (self.new.finished ≡ false) }
-        ensures done { IfReady result (λ _. self.new.finished ≡ true) }
-        ensures armed { OnPending result (IsArmed cx.new) }
-        ensures kept { Keeps cx.old cx.new }
+        ensures call { DidPoll self.old self.new cx.old cx.new result }
     {
         surely(self.future.poll(cx))
     }
@@ -76,13 +71,9 @@ impl<'a, T: Drop, F: Future<Output = T>, R: Wait + AllocGlobal> InitFuture<'a, T
     ) -> Poll<Result<&'a T, Refused>>
         requires live { self.old.finished ≡ false }
         requires cell { token.old.cell ≡ self.old.cell }
-        ensures cell { self.new.cell ≡ self.old.cell }
+        ensures call { DidPoll self.old self.new cx.old cx.new result }
         ensures of { token.new.cell ≡ token.old.cell }
         ensures value { Polls token.old.value token.new.value result }
-        ensures live { OnPending result (self.new.finished ≡ false) }
-        ensures done { IfReady result (λ _. self.new.finished ≡ true) }
-        ensures armed { OnPending result (IsArmed cx.new) }
-        ensures kept { Keeps cx.old cx.new }
     {
         surely(self.future.poll_as(cx, token))
     }
