@@ -1,5 +1,5 @@
 -- When a poll may be refused: for want of memory, or because as many tasks wait as may.
-use Rattle.std.specs.Prelude.{◌≡◌, ◌≢◌, ◌≤◌, ℕ, Bool, true, false, cond, ◌==◌, ◌⊎◌, List, [], ◌∷◌, MatchBool}
+use Rattle.std.specs.Prelude.{◌≡◌, ◌≢◌, ◌≤◌, ℕ, Bool, true, false, cond, ◌==◌, ◌⊎◌, List, [], ◌∷◌}
 use Rattle.once_queue.specs.Numbers.{how_many}
 use Rattle.once_world.specs.Record.{Kind, Entry, Begin, made_in}
 use Rattle.once_world.specs.Cell.{Held, is_set, cell}
@@ -10,10 +10,19 @@ abbrev pub is_begin_of : ℕ → Entry → Bool
 is_begin_of t (Begin u w) = u == t
 is_begin_of t _ = false
 
+-- the moments since the last Begin of t, the latest first: each is the history that there was then
+abbrev pub moments_since : ℕ → List Entry → List (List Entry)
+moments_since t [] = []
+moments_since t (e ∷ before) = (e ∷ before) ∷ cond (is_begin_of t e) [] (moments_since t before)
+
+-- P holds at one of these moments
+abbrev pub AtSome : (List Entry → Type 0) → List (List Entry) → Type 0
+AtSome P [] = ⊥
+AtSome P (moment ∷ moments) = P moment ⊎ AtSome P moments
+
 -- P held at some moment since the last Begin of t
 abbrev pub Since : ℕ → (List Entry → Type 0) → List Entry → Type 0
-Since t P [] = ⊥
-Since t P (e ∷ before) = P (e ∷ before) ⊎ MatchBool (is_begin_of t e) ⊥ (Since t P before)
+Since t P history = AtSome P (moments_since t history)
 
 -- another task holds the right
 abbrev pub OtherHolds : Kind → ℕ → List Entry → Type 0

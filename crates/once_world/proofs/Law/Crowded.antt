@@ -1,11 +1,10 @@
 -- Refusals need a crowd, and a poll that completes answers the value that is set. From the run alone.
 use Rattle.std.proofs.Common.{◌≡◌, ◌≢◌, ◌≤◌, ℕ, Bool, true, false, cond, ◌==◌, inl, inr, List, [], ◌∷◌, Option, Some, None, refl, sym, ap, ◌∙◌, subst, arith}
-use Rattle.std.specs.Prelude.{MatchBool}
 use Rattle.std.proofs.lemmas.Bool.{false≢true, eq-eqb}
 use Rattle.once_world.specs.Record.{Answer, End, Entry, Full, Kind, Memory, RanError, RanPending, RanValue, Value, made_in}
 use Rattle.once_world.specs.Cell.{SetTo, cell}
 use Rattle.once_world.specs.Tasks.{Dropping, Fresh, Gone, Holding, Polling, Status, Unmade, Waiting, is_under_way, last_call, status}
-use Rattle.once_world.specs.Refusals.{IsCrowded, MemoryFrom, OtherActs, Since, crowd, is_about, is_begin_of}
+use Rattle.once_world.specs.Refusals.{AtSome, IsCrowded, MemoryFrom, OtherActs, Since, crowd, is_about, is_begin_of, moments_since}
 use Rattle.once_world.specs.Crowd.{AreWaiting, is_waiting, waiters}
 use Rattle.once_world.specs.Run.{IsRun, MayEnd}
 use Rattle.once_world.proofs.Listing.Counting.{count_weaker}
@@ -47,20 +46,20 @@ crowd_waits : (K : Kind) (limit t : ℕ) (h : List Entry) → IsRun K limit h �
 crowd_waits K limit t h r n = count_weaker (made_in h) (λ u. cond (u == t) false (is_about (status K u h))) (λ u. cond (u == t) false (is_waiting (status K u h))) (λ u a. waits_by K limit t u h r n (u == t) refl a)
 
 -- no Begin came between
-since_put : (b : Bool) {A : Type 0} → b ≡ false → A → MatchBool b ⊥ A
-since_put false e a = a
-since_put true e a = absurd (false≢true (sym e))
+since_put : (P : List Entry → Type 0) (moments : List (List Entry)) (b : Bool) → b ≡ false → AtSome P moments → AtSome P (cond b [] moments)
+since_put P moments false e a = a
+since_put P moments true e a = absurd (false≢true (sym e))
 
 -- the moments since the Begin
-since_by : (b : Bool) {A B : Type 0} → MatchBool b ⊥ A → (b ≡ false → A → B) → MatchBool b ⊥ B
-since_by true m f = m
-since_by false m f = f refl m
+since_by : (P Q : List Entry → Type 0) (moments : List (List Entry)) (b : Bool) → AtSome P (cond b [] moments) → (b ≡ false → AtSome P moments → AtSome Q moments) → AtSome Q (cond b [] moments)
+since_by P Q moments true m f = absurd m
+since_by P Q moments false m f = f refl m
 
 -- since the Begin, where the crowd had limit tasks, so many waited
 crowded_waits : (K : Kind) (limit t : ℕ) (h : List Entry) → IsRun K limit h → (Since t (OtherActs K t) h → ⊥) → Since t (IsCrowded K limit t) h → Since t (AreWaiting K limit t) h
 crowded_waits K limit t [] r n s = s
 crowded_waits K limit t (e ∷ h) r n (inl c) = inl (let k = crowd_waits K limit t (e ∷ h) r (λ o. n (inl o)) in omega arith)
-crowded_waits K limit t (e ∷ h) r n (inr s) = inr (since_by (is_begin_of t e) s (λ b k. crowded_waits K limit t h r.1 (λ o. n (inr (since_put (is_begin_of t e) b o))) k))
+crowded_waits K limit t (e ∷ h) r n (inr s) = inr (since_by (IsCrowded K limit t) (AreWaiting K limit t) (moments_since t h) (is_begin_of t e) s (λ b k. crowded_waits K limit t h r.1 (λ o. n (inr (since_put (OtherActs K t) (moments_since t h) (is_begin_of t e) b o))) k))
 
 -- Full needs a crowd
 full_by : (K : Kind) (limit t : ℕ) (h : List Entry) (a : Option Answer) → MayEnd K limit t Full a h → Since t (IsCrowded K limit t) h

@@ -1,12 +1,11 @@
 -- The sections of a waiter: the load, the look and the listing.
-use Rattle.std.proofs.Common.{◌≡◌, ℕ, Bool, true, false, ◌⊎◌, inl, inr, List, [], ◌∷◌, Option, Some, None, refl, sym, ◌∙◌, arith}
-use Rattle.std.specs.Prelude.{MatchBool}
+use Rattle.std.proofs.Common.{◌≡◌, ℕ, Bool, true, false, cond, ◌⊎◌, inl, inr, List, [], ◌∷◌, Option, Some, None, refl, sym, ◌∙◌, arith}
 use Rattle.std.proofs.lemmas.Bool.{false≢true, or_parts}
 use Rattle.once_world.specs.Record.{Answer, Claim, End, Entry, Kind, Pending}
 use Rattle.once_world.specs.Cell.{cell}
 use Rattle.once_world.specs.Tasks.{Dropping, Fresh, Gone, Holding, Polling, Status, Unmade, Waiting, last_call}
 use Rattle.once_queue.specs.Listings.{find_listing, is_waker, list_with, own_listing, ticket_for}
-use Rattle.once_world.specs.Refusals.{MemoryFrom, OtherHolds, is_begin_of}
+use Rattle.once_world.specs.Refusals.{AtSome, MemoryFrom, OtherActs, OtherHolds, is_begin_of, moments_since}
 use Rattle.once_world.specs.Run.{IsRun}
 use Rattle.once_world.specs.Machine.{AtCountOut, AtLeave, AtList, AtLook, AtWaitLoad, EndMemory, EndValue, Inner, Place, claim_inner, is_at_door, is_taken, leave_place, list_step, listing_inner, load_step, look_step}
 use Rattle.once_world.proofs.History.Others.{Met, MetHolder, since_now_holder}
@@ -22,15 +21,15 @@ use Rattle.once_world.proofs.Place.Waits.{other_holds, owes_value}
 use Rattle.once_world.proofs.Place.Outcomes.{claims, goes_to, waits}
 
 -- what holds since the Begin weakens
-begin_by : (b : Bool) {A B : Type 0} → (A → B) → MatchBool b ⊥ A → MatchBool b ⊥ B
-begin_by true f x = x
-begin_by false f x = f x
+begin_by : (P Q : List Entry → Type 0) (moments : List (List Entry)) (b : Bool) → (AtSome P moments → AtSome Q moments) → AtSome P (cond b [] moments) → AtSome Q (cond b [] moments)
+begin_by P Q moments true f x = absurd x
+begin_by P Q moments false f x = f x
 
 -- another task that held acted
 pub since_weaken : (K : Kind) (t : ℕ) (h : List Entry) → MetHolder K t h → Met K t h
 since_weaken K t [] m = m
 since_weaken K t (e ∷ h) (inl o) = inl (inl o)
-since_weaken K t (e ∷ h) (inr r) = inr (begin_by (is_begin_of t e) (since_weaken K t h) r)
+since_weaken K t (e ∷ h) (inr r) = inr (begin_by (OtherHolds K t) (OtherActs K t) (moments_since t h) (is_begin_of t e) (since_weaken K t h) r)
 
 -- by what the task was at its Begin
 memory_from : (K : Kind) (t : ℕ) (h : List Entry) (s : Status) → ((s ≡ Fresh) × ((last_call K t h).set_then ≡ false)) ⊎ (s ≡ Waiting) → MetHolder K t h → MemoryFrom K s t h
