@@ -1,19 +1,19 @@
 -- Which wakers a release has to hand out, and which it may hand out.
 use Rattle.std.specs.Prelude.{◌≡◌, ◌≢◌, ◌≤◌, ◌<◌, ◌+◌, ℕ, Bool, true, false, cond, ◌==◌, List, [], ◌∷◌, ◌++◌, length}
 use Rattle.once_queue.specs.Numbers.{member, is_distinct, bit, times_in}
-use Rattle.once_world.specs.Record.{Kind, Pending, Entry, End, is_of, handed_by, is_replacing}
+use Rattle.once_world.specs.Record.{Kind, Pending, Entry, End, handed_by, is_replacing}
 use Rattle.once_world.specs.Cell.{Cell, Held, cell}
 use Rattle.once_world.specs.Tasks.{Waiting, status, last_call}
 
--- the entry ends a poll
-abbrev pub is_end : Entry → Bool
-is_end (End t r) = true
-is_end _ = false
+-- the entry ends a poll of t
+abbrev pub is_end_of : ℕ → Entry → Bool
+is_end_of t (End u r) = u == t
+is_end_of t _ = false
 
 -- the wakers handed out since the last End of t
 abbrev pub handed_since : ℕ → List Entry → List ℕ
 handed_since t [] = []
-handed_since t (e ∷ before) = cond (is_of t e) (cond (is_end e) [] (handed_by e ++ handed_since t before)) (handed_by e ++ handed_since t before)
+handed_since t (e ∷ before) = cond (is_end_of t e) [] (handed_by e ++ handed_since t before)
 
 -- w is due: some task waits, w is the waker of its last poll, and w was not handed out since that poll's End
 abbrev pub IsDue : Kind → ℕ → List Entry → Type 0

@@ -7,7 +7,7 @@ use Rattle.once_world.specs.Record.{Begin, Claim, DropBegin, DropEnd, End, Entry
 use Rattle.once_world.specs.Cell.{Cell, Held, SetTo, cell, cell_after, is_set}
 use Rattle.once_world.specs.Tasks.{Status, Waiting, is_under_way, last_call, status, status_after}
 use Rattle.once_world.specs.Refusals.{OtherActs, OtherHolds, Since}
-use Rattle.once_world.specs.Wakers.{handed_since}
+use Rattle.once_world.specs.Wakers.{handed_since, is_end_of}
 use Rattle.once_world.specs.Run.{IsLegal, MayFree, MayPass}
 use Rattle.once_queue.proofs.Listing.Members.{member-append}
 
@@ -148,9 +148,24 @@ no_pass K t {v} e h s m =
     let P : Status → Type 0 = λ x. MayPass x (last_call K t h).claimed (last_call K t h).ran in
     subst P w m
 
+-- an entry of another task ends no poll of u
+pub no_end : (u : ℕ) (e : Entry) → is_of u e ≡ false → is_end_of u e ≡ false
+no_end u (End t r) n = n
+no_end u (Made t) n = refl
+no_end u (Begin t w) n = refl
+no_end u (Claim t) n = refl
+no_end u (Ran t a) n = refl
+no_end u (Free t X) n = refl
+no_end u (Fill t v X) n = refl
+no_end u (Pass t X) n = refl
+no_end u (DropBegin t) n = refl
+no_end u (DropEnd t) n = refl
+no_end u (Look r) n = refl
+no_end u (Own o g) n = refl
+
 -- what was handed out stays so
 handed_after : (u : ℕ) (e : Entry) (h : List Entry) (w : ℕ) → is_of u e ≡ false → member w (handed_since u h) ≡ true → member w (handed_since u (e ∷ h)) ≡ true
-handed_after u e h w n m = grind (arith, member-append)
+handed_after u e h w n m = grind (arith, member-append, no_end u e n)
 
 -- only a Begin of either kind is legal for a task that waits
 waiter_acts : (K : Kind) (v : ℕ) (e : Entry) (limit : ℕ) (h : List Entry) → is_of v e ≡ true → IsLegal K limit e h → status K v h ≡ Waiting → is_under_way (status_after e (cell K h) (status K v h)) ≡ true

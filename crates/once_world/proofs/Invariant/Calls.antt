@@ -9,11 +9,12 @@ use Rattle.once_world.specs.Wakers.{handed_since}
 use Rattle.once_world.specs.Machine.{Inner}
 use Rattle.once_queue.proofs.Listing.Members.{eqb_self, member-append}
 use Rattle.once_world.proofs.Listing.CalledFirst.{call_find}
+use Rattle.once_world.proofs.History.Others.{no_end}
 use Rattle.once_world.proofs.Invariant.Listed.{IsKept, none_not_some}
 use Rattle.once_world.proofs.Invariant.Turns.{ListMoves}
 
 handed_now : (u w : ℕ) (e : Entry) (h : List Entry) → is_of u e ≡ false → member w (handed_by e) ≡ true → member w (handed_since u (e ∷ h)) ≡ true
-handed_now u w e h n m = grind (arith, member-append)
+handed_now u w e h n m = grind (arith, member-append, no_end u e n)
 
 one_member : (w : ℕ) (o : Option ℕ) → o ≡ Some w → member w (one_out o) ≡ true
 one_member w o e = rw (e, eqb_self w) refl

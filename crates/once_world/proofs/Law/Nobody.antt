@@ -9,13 +9,14 @@ use Rattle.once_world.specs.Wakers.{HandsOut, IsDue, handed_since}
 use Rattle.once_world.specs.Run.{AtEvery, IsRun, NobodyForgotten}
 use Rattle.once_queue.proofs.Listing.Members.{member-append}
 use Rattle.once_world.proofs.Place.Builders.{polls_not_waits}
+use Rattle.once_world.proofs.History.Others.{no_end}
 use Rattle.once_world.proofs.Law.Unmade.{over_all}
 
 -- by whether the entry is of the task
 due_by : (K : Kind) (e : Entry) (h : List Entry) (w u : ℕ) (b : Bool) → is_of u e ≡ b → handed_by e ≡ [] → (is_of u e ≡ true → status_after e (cell K h) (status K u h) ≢ Waiting)
     → status K u (e ∷ h) ≡ Waiting → (last_call K u (e ∷ h)).waker ≡ w → member w (handed_since u (e ∷ h)) ≡ false → IsDue K w h
 due_by K e h w u true is none awake s k m = absurd (awake is (rw is at s))
-due_by K e h w u false is none awake s k m = (u, rw is at s, rw is at k, rw (is, none) at m)
+due_by K e h w u false is none awake s k m = (u, rw is at s, rw is at k, rw (no_end u e is, none) at m)
 
 -- a step that hands nothing out, leaves the cell and makes nobody wait leaves nobody owed
 due_kept : (K : Kind) (e : Entry) (h : List Entry) (w : ℕ) → handed_by e ≡ [] → ((u : ℕ) → is_of u e ≡ true → status_after e (cell K h) (status K u h) ≢ Waiting) → IsDue K w (e ∷ h) → IsDue K w h
@@ -28,7 +29,7 @@ release_by K e h X w u true is all o awake s k m = awake is (rw is at s)
 release_by K e h X w u false is all o awake s k m =
     let s' : status K u h ≡ Waiting = rw is at s in
     let k' : (last_call K u h).waker ≡ w = rw is at k in
-    let m' : member w (X ++ handed_since u h) ≡ false = rw (is, all) at m in
+    let m' : member w (X ++ handed_since u h) ≡ false = rw (no_end u e is, all) at m in
     let p = member-append w X (handed_since u h) in
     let none : member w (handed_since u h) ≡ false = grind arith in
     let out : member w X ≡ false = grind arith in
