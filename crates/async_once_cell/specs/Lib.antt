@@ -18,7 +18,6 @@ pub use Rattle.once_world.specs.Run
 pub use Rattle.once_world.specs.Called
 pub use Rattle.once_world.specs.Values
 pub use Rattle.once_world.specs.Inputs
-pub use Rattle.once_world.specs.Granted
 pub use Rattle.once_world.specs.Log
 pub use Rattle.once_world.specs.Machine
 pub use Rattle.once_world.specs.Can

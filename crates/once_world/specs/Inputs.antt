@@ -1,5 +1,5 @@
 -- Which record belongs to which inputs. The newest input, entry and part stand first.
-use Rattle.std.specs.Prelude.{◌≡◌, ◌≤◌, ℕ, suc, Bool, true, false, cond, ◌==◌, not, List, [], ◌∷◌, ◌++◌}
+use Rattle.std.specs.Prelude.{◌≡◌, ◌≤◌, ℕ, Bool, true, false, cond, ◌==◌, not, List, [], ◌∷◌, ◌++◌, length}
 use Rattle.once_core.specs.declared.parts.QueueLine.{QueueLine}
 use Rattle.once_world.specs.Record.{Answer, Memory, Kind, Once, OnceWith, OwnerCall, Got, Entry, Made, Begin, Claim, Ran, Free, Fill, Pass, End, DropBegin, DropEnd, Look, Own, has_call}
 use Rattle.once_world.specs.Cell.{cell, value_in, answers_left, got}
@@ -112,33 +112,20 @@ is_go_of t _ = false
 abbrev pub is_fitting_go : Kind → ℕ → Input → List Entry → Bool
 is_fitting_go kind t i before = cond (is_go_of t i) (is_under_way (status kind t before)) false
 
--- one more, by whether a call begins and whether a Go fits
-abbrev pub gos_after : Bool → Bool → ℕ → ℕ
-gos_after true fits n = 0
-gos_after false true n = suc n
-gos_after false false n = n
-
--- how many fitting Go of t came since its last call began
-abbrev pub gos : Kind → ℕ → List Part → ℕ
-gos kind t [] = 0
-gos kind t (p ∷ before) = gos_after (begins_call t p.entries) (is_fitting_go kind t p.input (entries_of before)) (gos kind t before)
+-- the Go of t that fitted since its last call began
+abbrev pub gos : Kind → ℕ → List Part → List Input
+gos kind t [] = []
+gos kind t (p ∷ before) = cond (begins_call t p.entries) [] (cond (is_fitting_go kind t p.input (entries_of before)) (p.input ∷ gos kind t before) (gos kind t before))
 
 -- the input is a Go that is given no memory
 abbrev pub is_ungranted : Input → Bool
 is_ungranted (Go u a granted) = not granted
 is_ungranted _ = false
 
--- whether one was not given memory, by whether a call begins, whether a Go fits and whether it is given none
-abbrev pub ungranted_after : Bool → Bool → Bool → Bool → Bool
-ungranted_after true fits none u = false
-ungranted_after false true true u = true
-ungranted_after false true false u = u
-ungranted_after false false none u = u
-
--- whether a fitting Go of t without memory came since its last call began
-abbrev pub was_ungranted : Kind → ℕ → List Part → Bool
-was_ungranted kind t [] = false
-was_ungranted kind t (p ∷ before) = ungranted_after (begins_call t p.entries) (is_fitting_go kind t p.input (entries_of before)) (is_ungranted p.input) (was_ungranted kind t before)
+-- no Go of the list is given no memory
+abbrev pub all_granted : List Input → Bool
+all_granted [] = true
+all_granted (i ∷ inputs) = cond (is_ungranted i) false (all_granted inputs)
 
 -- a poll of t ends for want of memory in these entries
 abbrev pub ends_for_memory : ℕ → List Entry → Bool
@@ -149,11 +136,11 @@ ends_for_memory t (_ ∷ before) = ends_for_memory t before
 -- only a call that met a Go without memory ends for want of it
 abbrev pub WantsMemoryOnlyUngranted : Kind → List Part → Type 0
 WantsMemoryOnlyUngranted kind [] = Unit {0}
-WantsMemoryOnlyUngranted kind (p ∷ before) = (t : ℕ) → ends_for_memory t p.entries ≡ true → was_ungranted kind t (p ∷ before) ≡ true
+WantsMemoryOnlyUngranted kind (p ∷ before) = (t : ℕ) → ends_for_memory t p.entries ≡ true → all_granted (gos kind t (p ∷ before)) ≡ false
 
 -- a call that met sixteen fitting Go has ended
 abbrev pub SixteenEnd : Kind → List Part → Type 0
-SixteenEnd kind parts = (t : ℕ) → 16 ≤ gos kind t parts → is_under_way (status kind t (entries_of parts)) ≡ false
+SixteenEnd kind parts = (t : ℕ) → 16 ≤ length (gos kind t parts) → is_under_way (status kind t (entries_of parts)) ≡ false
 
 -- each part has what its input adds
 abbrev pub AreAdded : Kind → List Part → Type 0

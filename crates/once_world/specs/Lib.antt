@@ -9,7 +9,6 @@ pub mod Run
 pub mod Called
 pub mod Values
 pub mod Inputs
-pub mod Granted
 pub mod Log
 pub mod Machine
 pub mod Can

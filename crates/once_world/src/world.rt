@@ -4,8 +4,7 @@ ghost use Rattle.std.specs.Prelude.{◌≡◌, ◌<◌, ◌≤◌, ◌-◌, ◌^
 ghost use Rattle.once_world.specs.Run.{IsRun, AtEvery, NobodyForgotten};
 ghost use Rattle.once_world.specs.Called.{SomebodyCalled, WaiterCalled};
 ghost use Rattle.once_world.specs.Values.{IsOneValue};
-ghost use Rattle.once_world.specs.Inputs.{Part, FallsInto, ends_for_memory};
-ghost use Rattle.once_world.specs.Granted.{all_granted};
+ghost use Rattle.once_world.specs.Inputs.{Part, FallsInto, all_granted, ends_for_memory};
 ghost use Rattle.once_world.specs.Log.{IsLogOf, IsSound, standing_queue};
 ghost use Rattle.once_world.specs.Machine.{history_of, log_of, queue_of};
 ghost use Rattle.once_world.specs.Shown.{kind_of, inputs_in, record_entries, record_lines};

@@ -3,8 +3,7 @@ use Rattle.std.proofs.Common.{◌≡◌, ◌<◌, ℕ, Bool, true, false, cond, 
 use Rattle.std.proofs.lemmas.Bool.{false≢true, cases_Bool}
 use Rattle.std.proofs.lemmas.Bool.Decides.{nat_tests}
 use Rattle.once_world.specs.Record.{Begin, Claim, DropBegin, DropEnd, End, Entry, Error, Fill, Free, Full, Kind, Look, Made, Memory, Own, Pass, Pending, Ran, Value}
-use Rattle.once_world.specs.Inputs.{Always, Belongs, Input, Part, WantsMemoryOnlyUngranted, begins_call, ends_for_memory, entries_of, inputs_of, is_fitting_go, is_ungranted, ungranted_after, was_ungranted}
-use Rattle.once_world.specs.Granted.{all_granted}
+use Rattle.once_world.specs.Inputs.{Always, Belongs, Input, Part, WantsMemoryOnlyUngranted, all_granted, begins_call, ends_for_memory, entries_of, gos, inputs_of, is_fitting_go, is_ungranted}
 use Rattle.once_world.specs.Machine.{history_of}
 use Rattle.once_world.proofs.Part.Belonging.{belongs}
 
@@ -28,21 +27,19 @@ ends_for_memory-append t (DropEnd u ∷ xs) ys = ends_for_memory-append t xs ys
 ends_for_memory-append t (Look v ∷ xs) ys = ends_for_memory-append t xs ys
 ends_for_memory-append t (Own o g ∷ xs) ys = ends_for_memory-append t xs ys
 
--- a step that was given memory refuses none
-granted_after : (begins fits none u : Bool) → none ≡ false → u ≡ false → ungranted_after begins fits none u ≡ false
-granted_after true fits none u a b = refl
-granted_after false true true u a b = absurd (false≢true (sym a))
-granted_after false true false u a b = b
-granted_after false false none u a b = b
+-- one more that is given memory
+granted_after : (begins fits : Bool) (i : Input) (g : List Input) → is_ungranted i ≡ false → all_granted g ≡ true → all_granted (cond begins [] (cond fits (i ∷ g) g)) ≡ true
+granted_after true fits i g a b = refl
+granted_after false true i g a b = rw a b
+granted_after false false i g a b = b
 
--- where every step is given memory, no call met one without
-never_ungranted : (K : Kind) (t : ℕ) (parts : List Part) → all_granted (inputs_of parts) ≡ true → was_ungranted K t parts ≡ false
-never_ungranted K t [] g = refl
-never_ungranted K t (p ∷ before) g =
+-- where every step is given memory, each Go of a call is
+always_granted : (K : Kind) (t : ℕ) (parts : List Part) → all_granted (inputs_of parts) ≡ true → all_granted (gos K t parts) ≡ true
+always_granted K t [] g = refl
+always_granted K t (p ∷ before) g =
     let here : is_ungranted p.input ≡ false = grind arith in
     let rest : all_granted (inputs_of before) ≡ true = grind arith in
-    let ih = never_ungranted K t before rest in
-    granted_after (begins_call t p.entries) (is_fitting_go K t p.input (entries_of before)) (is_ungranted p.input) (was_ungranted K t before) here ih
+    granted_after (begins_call t p.entries) (is_fitting_go K t p.input (entries_of before)) p.input (gos K t before) here (always_granted K t before rest)
 
 -- no part ends a poll for want of memory then
 no_memory : (K : Kind) (t : ℕ) (parts : List Part) → Always (WantsMemoryOnlyUngranted K) parts → all_granted (inputs_of parts) ≡ true → ends_for_memory t (entries_of parts) ≡ false
@@ -50,7 +47,7 @@ no_memory K t [] a g = refl
 no_memory K t (p ∷ before) a g =
     let rest : all_granted (inputs_of before) ≡ true = grind arith in
     let ih = no_memory K t before a.1 rest in
-    let here : ends_for_memory t p.entries ≡ false = ⊎_elim (λ e. absurd (false≢true (sym (never_ungranted K t (p ∷ before) g) ∙ a.0 t e))) (λ e. e) (cases_Bool (ends_for_memory t p.entries)) in
+    let here : ends_for_memory t p.entries ≡ false = ⊎_elim (λ e. absurd (false≢true (sym (a.0 t e) ∙ always_granted K t (p ∷ before) g))) (λ e. e) (cases_Bool (ends_for_memory t p.entries)) in
     ends_for_memory-append t p.entries (entries_of before) ∙ rw here ih
 
 -- where every step is given memory, no record that belongs to these inputs has a call that ended for want of it

@@ -1,16 +1,16 @@
 -- The record and the queue log fall into parts, one for each input.
-use Rattle.std.proofs.Common.{◌≡◌, ◌≤◌, ◌<◌, ℕ, Bool, true, false, List, [], ◌∷◌, ◌++◌, Option, Some, None, refl, sym, ap, ◌∙◌, arith}
+use Rattle.std.proofs.Common.{◌≡◌, ◌≤◌, ◌<◌, ℕ, Bool, true, false, not, List, [], ◌∷◌, ◌++◌, length, Option, Some, None, refl, sym, ap, ◌∙◌, arith}
 use Rattle.std.proofs.lemmas.Bool.{false≢true}
 use Rattle.once_world.specs.Record.{Entry, Kind}
 use Rattle.once_world.specs.Tasks.{is_under_way, status}
-use Rattle.once_world.specs.Inputs.{Adds, FallsInto, Input, Part, SixteenEnd, WantsMemoryOnlyUngranted, entries_of, gos, was_ungranted}
+use Rattle.once_world.specs.Inputs.{Adds, FallsInto, Input, Part, SixteenEnd, WantsMemoryOnlyUngranted, all_granted, begins_call, entries_of, gos, is_fitting_go}
 use Rattle.once_world.specs.Log.{AddsLines, IsLogOf, NoneKept, WaitingStands, lines_of}
 use Rattle.once_world.specs.Machine.{Inner, Step, Task, World, world_after, history_of, in_call, log_of, world_of}
 use Rattle.once_world.proofs.Invariant.Fits.{Fits, StandsFor, step_of}
 use Rattle.once_world.proofs.Input.Headline.{world_fits}
 use Rattle.once_world.proofs.Door.Logged.{log_stands}
 use Rattle.once_world.proofs.Door.Doors.{no_queue_kept, waits_stand}
-use Rattle.once_world.proofs.Part.Budget.{Budget, HasPart}
+use Rattle.once_world.proofs.Part.Budget.{Budget, HasPart, gos_length, gos_ungranted}
 use Rattle.once_world.proofs.Part.Left.{left_some}
 use Rattle.once_world.proofs.Part.Beginnings.{step_acts}
 use Rattle.once_world.proofs.Part.Told.{input_part}
@@ -25,17 +25,21 @@ sixteen_now : (K : Kind) (limit t n : ℕ) (u : Bool) (c : Inner) (h : List Entr
 sixteen_now K limit t n u c h None s b l = ap is_under_way s.0.status_is
 sixteen_now K limit t n u c h (Some x) s b l = step_acts K limit t c h x.step s.step ∙ sixteen_called n u x.step b l (in_call x.step) refl
 
+is_false : (b : Bool) → not b ≡ true → b ≡ false
+is_false true e = sym e
+is_false false e = refl
+
 -- the parts of these inputs, and what is known of each task after them
 record Tale (K : Kind) (limit : ℕ) (inputs : List Input) : Type 0 where
   parts : List Part
   falls : FallsInto K inputs (history_of K limit inputs) parts
   is_log : IsLogOf K (log_of K limit inputs) parts
-  budget : (t : ℕ) → Budget (gos K t parts) (was_ungranted K t parts) (step_of ((world_of K limit inputs).tasks t))
+  budget : (t : ℕ) → Budget (length (gos K t parts)) (not (all_granted (gos K t parts))) (step_of ((world_of K limit inputs).tasks t))
 
 module _ (K : Kind) (limit : ℕ) (some : 0 < limit) where
   -- after these parts
-  sixteen_of : (inputs : List Input) (parts : List Part) → entries_of parts ≡ history_of K limit inputs → ((t : ℕ) → Budget (gos K t parts) (was_ungranted K t parts) (step_of ((world_of K limit inputs).tasks t))) → SixteenEnd K parts
-  sixteen_of inputs parts r b t l = rw r (sixteen_now K limit t (gos K t parts) (was_ungranted K t parts) (world_of K limit inputs).inner (history_of K limit inputs) ((world_of K limit inputs).tasks t) ((world_fits K limit inputs some).tasks t) (b t) l)
+  sixteen_of : (inputs : List Input) (parts : List Part) → entries_of parts ≡ history_of K limit inputs → ((t : ℕ) → Budget (length (gos K t parts)) (not (all_granted (gos K t parts))) (step_of ((world_of K limit inputs).tasks t))) → SixteenEnd K parts
+  sixteen_of inputs parts r b t l = rw r (sixteen_now K limit t (length (gos K t parts)) (not (all_granted (gos K t parts))) (world_of K limit inputs).inner (history_of K limit inputs) ((world_of K limit inputs).tasks t) ((world_fits K limit inputs some).tasks t) (b t) l)
 
   -- a queue stands while a task waits, in the log of the parts
   waiting_of : (inputs : List Input) (parts : List Part) → entries_of parts ≡ history_of K limit inputs → lines_of parts ≡ log_of K limit inputs → WaitingStands K parts
@@ -66,8 +70,10 @@ module _ (K : Kind) (limit : ℕ) (some : 0 < limit) where
       let l : lines_of ps ≡ log_of K limit (i ∷ before) = ap (λ g. p.lines ++ g) k.lines_are ∙ sym p.log_is in
       let adds : Adds K i (entries_of b.parts) p.entries = rw d.entries_are p.adds in
       let adds_lines : AddsLines K i (entries_of b.parts) p.entries (lines_of b.parts) p.lines = rw (d.entries_are, k.lines_are) p.adds_lines in
-      let wants : WantsMemoryOnlyUngranted K ps = λ t m. rw d.entries_are (p.memory t (gos K t b.parts) (was_ungranted K t b.parts) (b.budget t) m) in
-      let budget : (t : ℕ) → Budget (gos K t ps) (was_ungranted K t ps) (step_of ((world_of K limit (i ∷ before)).tasks t)) = λ t. rw d.entries_are (p.budget t (gos K t b.parts) (was_ungranted K t b.parts) (b.budget t)) in
+      let many = λ (t : ℕ). gos_length (begins_call t p.entries) (is_fitting_go K t i (entries_of b.parts)) i (gos K t b.parts) in
+      let met = λ (t : ℕ). gos_ungranted (begins_call t p.entries) (is_fitting_go K t i (entries_of b.parts)) i (gos K t b.parts) in
+      let wants : WantsMemoryOnlyUngranted K ps = λ t m. is_false (all_granted (gos K t ps)) (met t ∙ rw d.entries_are (p.memory t (length (gos K t b.parts)) (not (all_granted (gos K t b.parts))) (b.budget t) m)) in
+      let budget : (t : ℕ) → Budget (length (gos K t ps)) (not (all_granted (gos K t ps))) (step_of ((world_of K limit (i ∷ before)).tasks t)) = λ t. rw (many t, met t, d.entries_are) (p.budget t (length (gos K t b.parts)) (not (all_granted (gos K t b.parts))) (b.budget t)) in
       record {
         parts = ps;
         falls = record { inputs_are = ap (λ x. i ∷ x) d.inputs_are; entries_are = r; added = (adds, d.added); sixteen_end = (sixteen_of (i ∷ before) ps r budget, d.sixteen_end); memory = (wants, d.memory) };

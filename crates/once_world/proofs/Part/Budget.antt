@@ -1,8 +1,8 @@
 -- The part of one input: what it adds to the record and to the log, and what it changes for each task.
-use Rattle.std.proofs.Common.{◌≡◌, ◌≤◌, ◌+◌, ℕ, Bool, true, false, ◌==◌, ◌⊎◌, inl, ⊎_elim, List, [], ◌++◌, refl, sym, ap, ◌∙◌, arith}
+use Rattle.std.proofs.Common.{◌≡◌, ◌≤◌, ◌+◌, ℕ, suc, Bool, true, false, cond, not, ◌==◌, ◌⊎◌, inl, ⊎_elim, List, [], ◌∷◌, ◌++◌, length, refl, sym, ap, ◌∙◌, arith}
 use Rattle.std.proofs.lemmas.Bool.{false≢true, cases_eq, ne_eqb, eq-eqb}
 use Rattle.once_world.specs.Record.{Entry, Kind}
-use Rattle.once_world.specs.Inputs.{Adds, Input, begins_call, ends_for_memory, gos_after, is_fitting_go, is_ungranted, ungranted_after}
+use Rattle.once_world.specs.Inputs.{Adds, Input, begins_call, all_granted, ends_for_memory, is_fitting_go, is_ungranted}
 use Rattle.once_world.specs.Log.{AddsLines}
 use Rattle.once_world.specs.Machine.{QueueLine, Step, Task, World, in_call, left_of}
 use Rattle.once_world.proofs.Invariant.Fits.{step_of}
@@ -14,6 +14,35 @@ use Rattle.once_world.proofs.Part.Tells.{is_refused}
 pub record Budget (n : ℕ) (u : Bool) (s : Step ℕ ℕ) : Type 0 where
   pub steps : in_call s ≡ true → n + left_of s ≤ 16
   pub refused : is_refused s ≡ true → u ≡ true
+
+-- one more, by whether a call begins and whether a Go fits
+abbrev pub gos_after : Bool → Bool → ℕ → ℕ
+gos_after true fits n = 0
+gos_after false true n = suc n
+gos_after false false n = n
+
+-- whether one was not given memory, by whether a call begins, whether a Go fits and whether it is given none
+abbrev pub ungranted_after : Bool → Bool → Bool → Bool → Bool
+ungranted_after true fits none u = false
+ungranted_after false true true u = true
+ungranted_after false true false u = u
+ungranted_after false false none u = u
+
+-- how many Go there are then
+pub gos_length : (begins fits : Bool) (i : Input) (g : List Input) → length (cond begins [] (cond fits (i ∷ g) g)) ≡ gos_after begins fits (length g)
+gos_length true fits i g = refl
+gos_length false true i g = refl
+gos_length false false i g = refl
+
+fitted_ungranted : (none all : Bool) → not (cond none false all) ≡ ungranted_after false true none (not all)
+fitted_ungranted true all = refl
+fitted_ungranted false all = refl
+
+-- and whether one of them was not given memory
+pub gos_ungranted : (begins fits : Bool) (i : Input) (g : List Input) → not (all_granted (cond begins [] (cond fits (i ∷ g) g))) ≡ ungranted_after begins fits (is_ungranted i) (not (all_granted g))
+gos_ungranted true fits i g = refl
+gos_ungranted false true i g = fitted_ungranted (is_ungranted i) (all_granted g)
+gos_ungranted false false i g = refl
 
 -- the part of one input
 pub record HasPart (K : Kind) (w w' : World) (i : Input) : Type 0 where

@@ -4,7 +4,7 @@ use Rattle.std.specs.Prelude.{not}
 use Rattle.std.proofs.lemmas.Bool.{false≢true, cases_eq, ne_eqb, eq-eqb}
 use Rattle.once_world.specs.Record.{Answer, Begin, Entry, Kind, Look, Made, Own, OwnerCall, has_call, is_lazy, replaces}
 use Rattle.once_world.specs.Tasks.{Unmade, all_gone, is_under_way, status}
-use Rattle.once_world.specs.Inputs.{AreOfStep, Drop, Go, Input, Looks, Make, Owns, Poll, begins_call, ends_for_memory, gos_after, is_fitting_go, ungranted_after}
+use Rattle.once_world.specs.Inputs.{AreOfStep, Drop, Go, Input, Looks, Make, Owns, Poll, begins_call, ends_for_memory, is_fitting_go}
 use Rattle.once_world.specs.Log.{owned_lines, standing_queue}
 use Rattle.once_world.specs.Machine.{Inner, Outcome, QueueLine, Step, Task, World, advance, world_after, step_of_poll, poll_world_by, drop_entries, step_of_drop, drop_world_by, drop_world, fresh_task, go_world, go_world_by, in_call, is_resting, look_value, make_world, own_world_by, owner_got, owner_lines, poll_world, put_task, step_lines}
 use Rattle.once_world.proofs.Invariant.Fits.{Fits, StandsFor, step_of}
@@ -17,7 +17,7 @@ use Rattle.once_world.proofs.Part.Adds.{step_part}
 use Rattle.once_world.proofs.Part.Tells.{Tells, is_refused, tells}
 use Rattle.once_world.proofs.Part.Needs.{need_step, one_line}
 use Rattle.once_world.proofs.Part.Apart.{step_begins, step_memory}
-use Rattle.once_world.proofs.Part.Budget.{Budget, HasPart, begin_part, nothing, quiet_part}
+use Rattle.once_world.proofs.Part.Budget.{Budget, HasPart, begin_part, gos_after, nothing, quiet_part, ungranted_after}
 use Rattle.once_world.proofs.Part.Beginnings.{begins_if, begun_granted, cond_id, drop_begins_call, drop_memory, dropped_granted, drops_if, step_acts, step_begins_so, step_drops_so, step_made}
 
 -- by whether the task is the one of the Go

@@ -2,8 +2,7 @@
 use Rattle.std.proofs.Common.{◌≡◌, ℕ, zero, suc, true, false, List, [], ◌∷◌, ◌++◌, refl, sym, arith}
 use Rattle.std.proofs.lemmas.Bool.{false≢true}
 use Rattle.once_world.specs.Record.{Begin, Claim, DropBegin, End, Entry, GotNone, Made, Memory, Once, OnceWith, Own, Pass, Pending, Ran, RanPending, RanValue, Take}
-use Rattle.once_world.specs.Inputs.{AreAdded, Drop, Go, Input, Looks, Make, Owns, Part, Poll, SixteenEnd, WantsMemoryOnlyUngranted}
-use Rattle.once_world.specs.Granted.{all_granted}
+use Rattle.once_world.specs.Inputs.{AreAdded, Drop, Go, Input, Looks, Make, Owns, Part, Poll, SixteenEnd, WantsMemoryOnlyUngranted, all_granted}
 use Rattle.once_world.proofs.Rows.Order.{newest_first}
 
 -- an input and what it adds to the record
@@ -84,15 +83,15 @@ sixteen_and_on s = false≢true (sym (s 1 (omega arith)))
 
 -- a poll ends for want of memory, and each of its steps was given memory
 memory_wanted : WantsMemoryOnlyUngranted Once (newest_first (polling ++ idle 2 ++ part (Go 1 RanPending true) (End 1 Memory ∷ []) ∷ [])) → ⊥
-memory_wanted m = false≢true (m 1 refl)
+memory_wanted m = false≢true (sym (m 1 refl))
 
 -- the same, where a step of an earlier call was given none
 memory_refused_before : WantsMemoryOnlyUngranted Once (newest_first (polling ++ part (Go 1 RanPending false) (End 1 Pending ∷ []) ∷ part (Poll 1 7) (Begin 1 7 ∷ []) ∷ part (Go 1 RanPending true) (End 1 Memory ∷ []) ∷ [])) → ⊥
-memory_refused_before m = false≢true (m 1 refl)
+memory_refused_before m = false≢true (sym (m 1 refl))
 
 -- the same, where a step of another task was given none
 memory_refused_to_another : WantsMemoryOnlyUngranted Once (newest_first (polling ++ part (Make 2) (Made 2 ∷ []) ∷ part (Poll 2 8) (Begin 2 8 ∷ []) ∷ part (Go 2 RanPending false) [] ∷ part (Go 1 RanPending true) (End 1 Memory ∷ []) ∷ [])) → ⊥
-memory_refused_to_another m = false≢true (m 1 refl)
+memory_refused_to_another m = false≢true (sym (m 1 refl))
 
 -- a step without memory is told from one with memory
 granted_told : (all_granted (Go 1 RanPending true ∷ Poll 1 7 ∷ []) ≡ true) × (all_granted (Go 1 RanPending true ∷ Go 1 RanPending false ∷ []) ≡ false)
