@@ -99,10 +99,10 @@ module _ {W : Type 0} where
   abbrev pub DidDoorTake : CoreState W → Bool → CoreState W → Type 0
   DidDoorTake s stood t = (stood ≡ is_some s.door) × (t ≡ take_state s)
 
-  -- a release asks that the value is not set, and that exactly one of the two flags stands
-  abbrev pub CanSection : CoreState W → Op W → Type 0
-  CanSection s (Release ready) = (s.word.ready ≡ false) × (s.head ≡ not s.word.quick)
-  CanSection s op = Unit {0}
+  -- a release on the queue at the door asks that the value is not set, and that exactly one of the two flags stands
+  abbrev pub CanSection : CoreState W → ℕ → Op W → Type 0
+  CanSection s q (Release ready) = s.door ≡ Some q → (s.word.ready ≡ false) × (s.head ≡ not s.word.quick)
+  CanSection s q op = Unit {0}
 
   -- nobody holds, and the value is not set
   abbrev pub is_free : CoreState W → Bool

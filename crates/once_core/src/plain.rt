@@ -189,7 +189,7 @@ impl<W: WakerId + Drop> Parts<W> for Core<W> {
 
     ghost did_door_take = { λ s stood t. DidDoorTake (state_of s) stood (state_of t) };
 
-    ghost can_section = { λ s q op. CanSection (state_of s) op };
+    ghost can_section = { λ s q op. CanSection (state_of s) q op };
 
     ghost did_section = { λ s q op a o t. DidSection W.tells_same W.tells_other (state_of s) q op a o (state_of t) };
 

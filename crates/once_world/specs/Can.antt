@@ -3,10 +3,10 @@ use Rattle.std.specs.Prelude.{◌≡◌, ◌≤◌, ◌<◌, ℕ, false, not, Op
 use Rattle.once_world.specs.Inputs.{Input, Go}
 use Rattle.once_world.specs.Machine.{Task, Step, UnderWay, Place, AtAddOne, AtRelease, AtCountOut, Inner, World}
 
--- what the call of a place asks of what is shared: a free place in the count, a counted task, or a holder that may release
+-- what the call of a place asks of what is shared: a free place in the count, a counted task, or, on the queue at the door, a holder that may release
 abbrev pub CanStep : ℕ → Inner → Place ℕ ℕ → Type 0
 CanStep limit c (AtAddOne e) = c.count ≤ limit
-CanStep limit c (AtRelease q e) = (c.ready ≡ false) × (c.head ≡ not c.quick)
+CanStep limit c (AtRelease q e) = c.door ≡ Some q → (c.ready ≡ false) × (c.head ≡ not c.quick)
 CanStep limit c (AtCountOut e) = 0 < c.count
 CanStep limit c p = Unit {0}
 

@@ -22,7 +22,7 @@ one_flag c (inr f) = f.head_is ∙ sym (ap not f.quick_is)
 asked_at : (K : Kind) (limit t : ℕ) (c : Inner) (h : List Entry) (p : Place ℕ ℕ) → InnerFits K limit c h → (is_counted_at p ≡ true → 0 < c.count) → AtPlace K limit t c h p → CanStep limit c p
 asked_at K limit t c h (AtAddOne e) f n a = a.2
 asked_at K limit t c h (AtCountOut e) f n a = n refl
-asked_at K limit t c h (AtRelease q e) f n a = (f.ready_is ∙ holder_unset t (cell K h) (releasing_holds K t c h e a.0), one_flag c a.1)
+asked_at K limit t c h (AtRelease q e) f n a = λ _. (f.ready_is ∙ holder_unset t (cell K h) (releasing_holds K t c h e a.0), one_flag c a.1)
 asked_at K limit t c h (AtLeave q k e) f n a = tt
 asked_at K limit t c h (AtLook q k) f n a = tt
 asked_at K limit t c h (AtList q k w) f n a = tt
