@@ -2,7 +2,7 @@
 ghost use Rattle.std.specs.Prelude.{◌≡◌, ⊤, Some};
 ghost use Rattle.std.proofs.Common.{rules};
 
-use async_once_cell::inner::{Listing, Out};
+use async_once_cell::inner::Out;
 use async_once_cell::step::{Polled, Side};
 use std::alloc::Global;
 
@@ -33,6 +33,19 @@ impl Counting {
     /// Has its init answer this from now on.
     pub fn answers(&mut self, answer: Polled) {
         self.answer = answer;
+    }
+
+    /// The listings of all whom it called last, as [`all_called`].
+    pub fn all_called(&self) -> [Listed; 4] {
+        match &self.woken {
+            Some(out) => all_called(out),
+            None => [None; 4],
+        }
+    }
+
+    /// The waker of the one whom it called last.
+    pub fn one_called(&self) -> Option<u64> {
+        one_called(self.woken.as_ref()?)
     }
 }
 
@@ -69,7 +82,24 @@ impl Side<u64> for Counting {
     }
 }
 
-/// A listing, as a section hands it out.
-pub fn at(ticket: u64, waker: Option<u64>) -> Listing<u64> {
-    Listing { ticket, waker }
+/// A listing: its ticket, and its waker where that was not called.
+pub type Listed = Option<(u64, Option<u64>)>;
+
+/// The listings of all who are called, the first four of them. All are None where one is called.
+pub fn all_called(out: &Out<u64>) -> [Listed; 4] {
+    let mut called = [None; 4];
+    if let Out::All(listings) = out {
+        for (place, listing) in called.iter_mut().zip(listings.iter()) {
+            *place = Some((listing.ticket, listing.waker));
+        }
+    }
+    called
+}
+
+/// The waker of the one who is called.
+pub fn one_called(out: &Out<u64>) -> Option<u64> {
+    match out {
+        Out::One(waker) => *waker,
+        Out::All(_) => None,
+    }
 }

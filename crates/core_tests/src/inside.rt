@@ -4,6 +4,7 @@ ghost use Rattle.std.specs.Prelude.{⊤};
 use async_once_cell::inner::{Out, Queue};
 use async_once_cell::once::{InitFuture, Refused};
 use async_once_cell::step::{Ending, Polled, Side, Step};
+use async_once_cell::world::Reply;
 use async_once_cell::{Lazy, OnceCell};
 use futures::Future;
 use futures::task::{Context, Poll};
@@ -11,6 +12,7 @@ use futures::test::MockTask;
 use once_cells::inside::{cell_of, new_seat, parts, set};
 use once_cells::seat::{Seat, call_all};
 use std::alloc::AllocGlobal;
+use std::fmt::Debug;
 use std::mem::replace;
 use std::sync::Wait;
 use std::test::Fail;
@@ -34,6 +36,60 @@ impl Future for Later {
 
 const LATER: Later = Later { was_polled: false };
 
+type Init<'a, R> = InitFuture<'a, u64, Later, R>;
+
+// Polls a future of a cell by this task.
+fn polled<R: Wait + AllocGlobal>(task: &MockTask, future: &mut Init<'_, R>) -> Reply {
+    match task.poll(future) {
+        Poll::Pending => Reply::Pending,
+        Poll::Ready(Ok(value)) => Reply::Value(*value),
+        Poll::Ready(Err(Refused::Memory)) => Reply::Memory,
+        Poll::Ready(Err(Refused::Full)) => Reply::Full,
+    }
+}
+
+// Whether what the cell shows has this text in it.
+fn shows<T: Debug, R: AllocGlobal>(rt: &R, cell: &T, text: &str) -> bool {
+    match format!(in rt.alloc(); "{cell:?}") {
+        Ok(shown) => shown.contains(text),
+        Err(_) => false,
+    }
+}
+
+// What a cell shows that nobody uses any more.
+const EMPTIED: &str = "refcount: 0, queue: false";
+
+const PENDING: Option<Ending> = Some(Ending::Pending);
+
+const VALUE: Option<Ending> = Some(Ending::Value);
+
+/// A task over the parts of a cell, and its side.
+#[derive(Drop)]
+struct Task<'a, S> {
+    cell: &'a OnceCell<u64>,
+    step: Step<Seat, Queue<Seat>>,
+    side: S,
+}
+
+impl<'a, S: Side<Seat>> Task<'a, S> {
+    fn new(cell: &'a OnceCell<u64>, side: S) -> Task<'a, S> {
+        Task {
+            cell,
+            step: Step::new(),
+            side,
+        }
+    }
+
+    // A whole poll, where the task is not finished.
+    fn poll<R: Wait + AllocGlobal>(&mut self, rt: &R) -> Option<Ending> {
+        if !self.step.is_resting() {
+            return None;
+        }
+        let mut parts = parts(self.cell, rt, None);
+        Some(parts.poll(&mut self.step, &mut self.side))
+    }
+}
+
 /// A side that polls another future of its cell, by a task of that future, where its waker is copied
 /// and where it wakes others.
 #[derive(Drop)]
@@ -43,9 +99,9 @@ struct Meddling<'a, 't, R: Wait + AllocGlobal> {
     seat: Option<Seat>,
     answer: Polled,
     task: &'t MockTask,
-    other: InitFuture<'a, u64, Later, R>,
-    // What the poll answered.
-    heard: Option<Poll<Result<&'a u64, Refused>>>,
+    other: Init<'a, R>,
+    // What the last such poll answered.
+    heard: Option<Reply>,
 }
 
 impl<'a, 't, R: Wait + AllocGlobal> Meddling<'a, 't, R> {
@@ -62,7 +118,20 @@ impl<'a, 't, R: Wait + AllocGlobal> Meddling<'a, 't, R> {
     }
 
     fn poll_other(&mut self) {
-        self.heard = Some(self.task.poll(&mut self.other));
+        self.heard = Some(polled(self.task, &mut self.other));
+    }
+
+    // Has its init answer this from now on.
+    fn answers(&mut self, answer: Polled) {
+        self.answer = answer;
+    }
+
+    // Whether the seat is there, and the task sits down on it.
+    fn sits(&self, task: &MockTask) -> bool {
+        match &self.seat {
+            Some(seat) => task.enter(|cx| seat.sit::<(), _>(self.rt, cx).is_pending()),
+            None => false,
+        }
     }
 }
 
@@ -100,60 +169,91 @@ impl<R: Wait + AllocGlobal> Side<Seat> for Meddling<'_, '_, R> {
 // While a waiter's waker is copied, another future of the cell is polled, and waits too.
 #[test]
 fn a_copy_that_polls(rt: HostRuntime) -> Result<(), Fail> {
+    let first = MockTask::new(&rt)?;
+    let second = MockTask::new(&rt)?;
+    let third = MockTask::new(&rt)?;
     let cell = OnceCell::new();
-    let (first, second, third) = (
-        MockTask::new(&rt)?,
-        MockTask::new(&rt)?,
-        MockTask::new(&rt)?,
-    );
-    let mut holder = cell.get_or_init(&rt, LATER);
-    assert!(rt; first.poll(&mut holder).is_pending());
-    let mut step: Step<Seat, Queue<Seat>> = Step::new();
-    let mut side = Meddling::new(&cell, &rt, &third);
-    let ending = parts(&cell, &rt, None).poll(&mut step, &mut side);
-    assert_eq!(rt; ending, Ending::Pending);
-    assert_eq!(rt; side.heard, Some(Poll::Pending));
-    let shown = format!(in rt.alloc(); "{cell:?}")?;
-    assert!(rt;
-        shown.contains("quick_init: true, refcount: 2, queue: true"),
-        "{shown}"
-    );
-
-    if let Some(seat) = &side.seat {
-        let sits = second.enter(|cx| seat.sit::<(), _>(&rt, cx).is_pending());
-        assert!(rt; sits && !second.is_woken() && !third.is_woken());
-    }
-    assert_eq!(rt; first.poll(&mut holder), Poll::Ready(Ok(&4)));
-    assert!(rt; second.is_woken() && third.is_woken());
-    assert_eq!(rt; third.poll(&mut side.other), Poll::Ready(Ok(&4)));
-    assert!(rt; step.is_resting());
-    let ending = parts(&cell, &rt, None).poll(&mut step, &mut side);
-    assert_eq!(rt; ending, Ending::Value);
-    let shown = format!(in rt.alloc(); "{cell:?}")?;
-    assert!(rt; shown.contains("refcount: 0, queue: false"), "{shown}");
+    let seen = polled_in_a_copy(&rt, &cell, &third, [&first, &second]);
+    let (pending, value) = (Some(Reply::Pending), Some(Reply::Value(4)));
+    let replies = [pending, pending, value, value];
+    let facts = [true, true, false, false, true, true, true];
+    assert_eq!(rt; seen, ([PENDING, VALUE], replies, facts));
     Ok(())
+}
+
+// A holder and a waiter, whose side has the third task.
+fn polled_in_a_copy<'a, R: Wait + AllocGlobal>(
+    rt: &'a R,
+    cell: &'a OnceCell<u64>,
+    third: &MockTask,
+    tasks: [&MockTask; 2],
+) -> ([Option<Ending>; 2], [Option<Reply>; 4], [bool; 7]) {
+    let mut holder = cell.get_or_init(rt, LATER);
+    let mut waiter = Task::new(cell, Meddling::new(cell, rt, third));
+    copied(&mut holder, &mut waiter, tasks)
+}
+
+// The holder and the waiter are polled by the first and the second task, and another by the third.
+// Then the holder gives its value, and the other and the waiter find it. How the waiter's polls ended,
+// what the others answered, whether the cell shows those two who wait, whether the waiter's seat is
+// taken, whether the second and the third task are woken, before the value and after it, and whether
+// the cell shows nobody in the end.
+fn copied<R: Wait + AllocGlobal>(
+    holder: &mut Init<'_, R>,
+    waiter: &mut Task<'_, Meddling<'_, '_, R>>,
+    [first, second]: [&MockTask; 2],
+) -> ([Option<Ending>; 2], [Option<Reply>; 4], [bool; 7]) {
+    let (rt, cell, third) = (waiter.side.rt, waiter.cell, waiter.side.task);
+    let begun = polled(first, holder);
+    let listed = waiter.poll(rt);
+    let heard = waiter.side.heard;
+    let is_shown = shows(rt, cell, "quick_init: true, refcount: 2, queue: true");
+    let sits = waiter.side.sits(second);
+    let (calm, quiet) = (second.is_woken(), third.is_woken());
+    let value = polled(first, holder);
+    let (called, woken) = (second.is_woken(), third.is_woken());
+    let other = polled(third, &mut waiter.side.other);
+    let endings = [listed, waiter.poll(rt)];
+    let replies = [Some(begun), heard, Some(value), Some(other)];
+    let is_empty = shows(rt, cell, EMPTIED);
+    let facts = [is_shown, sits, calm, quiet, called, woken, is_empty];
+    (endings, replies, facts)
 }
 
 // A holder that gives its value calls who waits, and one of those is polled inside that call.
 #[test]
 fn a_wake_that_polls(rt: HostRuntime) -> Result<(), Fail> {
+    let task = MockTask::new(&rt)?;
     let cell = OnceCell::new();
-    let waiting = MockTask::new(&rt)?;
-    let mut step: Step<Seat, Queue<Seat>> = Step::new();
-    let mut side = Meddling::new(&cell, &rt, &waiting);
-    let ending = parts(&cell, &rt, None).poll(&mut step, &mut side);
-    assert_eq!(rt; ending, Ending::Pending);
-    assert!(rt; waiting.poll(&mut side.other).is_pending());
-    assert!(rt; !waiting.is_woken() && step.is_resting());
-
-    side.answer = Polled::Value;
-    let ending = parts(&cell, &rt, None).poll(&mut step, &mut side);
-    assert_eq!(rt; ending, Ending::Value);
-    assert_eq!(rt; side.heard, Some(Poll::Ready(Ok(&4))));
-    assert_eq!(rt; cell.get(), Some(&4));
-    let shown = format!(in rt.alloc(); "{cell:?}")?;
-    assert!(rt; shown.contains("refcount: 0, queue: false"), "{shown}");
+    let seen = polled_in_a_wake(&rt, &cell, &task);
+    let replies = [Some(Reply::Pending), Some(Reply::Value(4))];
+    assert_eq!(rt; seen, ([PENDING, VALUE], replies, false, Some(4), true));
     Ok(())
+}
+
+// A holder is polled, and another by its task. Then the holder gives its value. How the holder's polls
+// ended, what the other's answered, whether the task was woken before, the cell's value, and whether
+// the cell shows nobody in the end.
+fn polled_in_a_wake<'a, R: Wait + AllocGlobal>(
+    rt: &'a R,
+    cell: &'a OnceCell<u64>,
+    task: &MockTask,
+) -> (
+    [Option<Ending>; 2],
+    [Option<Reply>; 2],
+    bool,
+    Option<u64>,
+    bool,
+) {
+    let mut holder = Task::new(cell, Meddling::new(cell, rt, task));
+    let first = holder.poll(rt);
+    let other = polled(task, &mut holder.side.other);
+    let is_woken = task.is_woken();
+    holder.side.answers(Polled::Value);
+    let endings = [first, holder.poll(rt)];
+    let replies = [Some(other), holder.side.heard];
+    let (value, is_empty) = (cell.get().copied(), shows(rt, cell, EMPTIED));
+    (endings, replies, is_woken, value, is_empty)
 }
 
 /// A side of a waiter, whose waker is copied once. Where it is to be copied again the holder is
@@ -162,7 +262,7 @@ fn a_wake_that_polls(rt: HostRuntime) -> Result<(), Fail> {
 struct Stranding<'a, 't, R: Wait + AllocGlobal> {
     cell: &'a OnceCell<u64>,
     rt: &'a R,
-    holder: Option<InitFuture<'a, u64, Later, R>>,
+    holder: Option<Init<'a, R>>,
     was_copied: bool,
     // The task of who waits behind, and whether the drop of the holder woke it.
     behind: &'t MockTask,
@@ -203,33 +303,47 @@ impl<R: Wait + AllocGlobal> Side<Seat> for Stranding<'_, '_, R> {
 // A waiter is called while its waker is copied anew, and is refused. It passes its turn on.
 #[test]
 fn a_called_waiter_that_is_refused(rt: HostRuntime) -> Result<(), Fail> {
+    let first = MockTask::new(&rt)?;
+    let second = MockTask::new(&rt)?;
     let cell = OnceCell::new();
-    let (first, third) = (MockTask::new(&rt)?, MockTask::new(&rt)?);
-    let mut holder = cell.get_or_init(&rt, LATER);
-    assert!(rt; first.poll(&mut holder).is_pending());
-    let mut step: Step<Seat, Queue<Seat>> = Step::new();
-    let mut side = Stranding {
-        cell: &cell,
-        rt: &rt,
+    let seen = refused_in_a_copy(&rt, &cell, &first, &second);
+    let endings = [PENDING, Some(Ending::Memory)];
+    let pending = Reply::Pending;
+    let replies = [pending, pending, pending, Reply::Value(4)];
+    assert_eq!(rt; seen, (endings, replies, [false, true, true]));
+    Ok(())
+}
+
+// A holder, a waiter and one behind it are polled, and the waiter again, who passes its turn on. Then
+// the one behind is polled to its value. How the waiter's polls ended, what the others answered,
+// whether the one behind was woken by the drop of the holder, and after the waiter's second poll, and
+// whether the cell shows nobody in the end.
+fn refused_in_a_copy<'a, R: Wait + AllocGlobal>(
+    rt: &'a R,
+    cell: &'a OnceCell<u64>,
+    first: &MockTask,
+    second: &MockTask,
+) -> ([Option<Ending>; 2], [Reply; 4], [bool; 3]) {
+    let mut holder = cell.get_or_init(rt, LATER);
+    let begun = polled(first, &mut holder);
+    let side = Stranding {
+        cell,
+        rt,
         holder: Some(holder),
         was_copied: false,
-        behind: &third,
+        behind: second,
         is_behind_woken: false,
     };
-    let ending = parts(&cell, &rt, None).poll(&mut step, &mut side);
-    assert_eq!(rt; ending, Ending::Pending);
-    let mut behind = cell.get_or_init(&rt, LATER);
-    assert!(rt; third.poll(&mut behind).is_pending());
-
-    assert!(rt; step.is_resting());
-    let ending = parts(&cell, &rt, None).poll(&mut step, &mut side);
-    assert_eq!(rt; ending, Ending::Memory);
-    assert!(rt; !side.is_behind_woken && third.is_woken());
-    assert!(rt; third.poll(&mut behind).is_pending());
-    assert_eq!(rt; third.poll(&mut behind), Poll::Ready(Ok(&4)));
-    let shown = format!(in rt.alloc(); "{cell:?}")?;
-    assert!(rt; shown.contains("refcount: 0, queue: false"), "{shown}");
-    Ok(())
+    let mut waiter = Task::new(cell, side);
+    let listed = waiter.poll(rt);
+    let mut behind = cell.get_or_init(rt, LATER);
+    let waits = polled(second, &mut behind);
+    let endings = [listed, waiter.poll(rt)];
+    let (early, woken) = (waiter.side.is_behind_woken, second.is_woken());
+    let taken = polled(second, &mut behind);
+    let value = polled(second, &mut behind);
+    let facts = [early, woken, shows(rt, cell, EMPTIED)];
+    (endings, [begun, waits, taken, value], facts)
 }
 
 /// A side of a lazy cell whose init polls another future of the cell, and drops it.
@@ -278,20 +392,28 @@ impl<R: Wait + AllocGlobal> Side<Seat> for Nested<'_, '_, R> {
 // The holder of a lazy cell's right asks the cell itself, and finds no value.
 #[test]
 fn an_init_that_polls_its_own_cell(rt: HostRuntime) -> Result<(), Fail> {
-    let lazy = Lazy::new(LATER);
     let task = MockTask::new(&rt)?;
-    let mut step: Step<Seat, Queue<Seat>> = Step::new();
-    let mut side = Nested {
-        lazy: &lazy,
-        rt: &rt,
-        task: &task,
+    let lazy = Lazy::new(LATER);
+    let seen = polled_in_its_init(&rt, &lazy, &task);
+    assert_eq!(rt; seen, (VALUE, true, Some(6), true));
+    Ok(())
+}
+
+// A holder is polled: how that ended, whether the poll inside its init waited, the cell's value, and
+// whether the cell shows nobody in the end.
+fn polled_in_its_init<'a, R: Wait + AllocGlobal>(
+    rt: &'a R,
+    lazy: &'a Lazy<u64, Later>,
+    task: &MockTask,
+) -> (Option<Ending>, bool, Option<u64>, bool) {
+    let side = Nested {
+        lazy,
+        rt,
+        task,
         waited: false,
     };
-    let ending = parts(cell_of(&lazy), &rt, None).poll(&mut step, &mut side);
-    assert_eq!(rt; ending, Ending::Value);
-    assert!(rt; side.waited);
-    assert_eq!(rt; lazy.try_get(), Some(&6));
-    let shown = format!(in rt.alloc(); "{lazy:?}")?;
-    assert!(rt; shown.contains("refcount: 0, queue: false"), "{shown}");
-    Ok(())
+    let mut holder = Task::new(cell_of(lazy), side);
+    let ending = holder.poll(rt);
+    let (value, is_empty) = (lazy.try_get().copied(), shows(rt, lazy, EMPTIED));
+    (ending, holder.side.waited, value, is_empty)
 }

@@ -1,54 +1,86 @@
 //! The calls of `Lists`, `Step` and `Core`, one by one.
 
-use crate::counting::{Counting, at};
+use crate::counting::{Counting, Listed, all_called};
 use async_once_cell::inner::{Core, Counted, Parts, QueueLine};
 use async_once_cell::queue::{Answer, Lists, NEW, Op, Out, QINIT_BIT, READY_BIT};
 use async_once_cell::step::{Ending, Polled, Progress, Step};
-use std::alloc::{AllocError, Global};
+use std::alloc::Global;
 use std::test::Fail;
+
+/// One listing: the ticket before, the waker and the word, and then the answer and the ticket after.
+type Row = (Option<u64>, u64, u64, Answer<u64>, Option<u64>);
 
 // Who waits is listed once, by its ticket. Listed anew it goes to the end, with its new waker.
 #[test]
 fn a_list_has_who_waits_once(rt: HostRuntime) -> Result<(), Fail> {
     let mut lists = Lists::new(rt.alloc());
     lists.reserve()?;
-    for (before, waker, word, answer, after) in [
-        (None, 7, READY_BIT, Answer::Ready, None),
-        (None, 7, NEW, Answer::Claimed, None),
-        (None, 7, NEW, Answer::Listed, Some(0)),
-        (None, 8, NEW, Answer::Listed, Some(1)),
-        (Some(0), 9, NEW, Answer::Listed, Some(0)),
-        (Some(5), 8, NEW, Answer::Listed, Some(2)),
-    ] {
-        let (mut ticket, mut listed) = (before, Some(waker));
-        let heard = lists.list(&mut ticket, &mut listed, word);
-        assert_eq!(rt; heard, answer, "at {before:?} {waker}");
-        assert_eq!(rt; ticket, after, "at {before:?} {waker}");
-    }
-    let all = vec![in rt.alloc(); at(1, Some(8)), at(0, Some(9)), at(2, None)]?;
-    assert_eq!(rt; lists.release(true), Out::All(all));
-    assert!(rt; lists.listings.is_empty() && !lists.head);
+    let other = row_listed_otherwise(
+        &mut lists,
+        &[
+            (None, 7, READY_BIT, Answer::Ready, None),
+            (None, 7, NEW, Answer::Claimed, None),
+            (None, 7, NEW, Answer::Listed, Some(0)),
+            (None, 8, NEW, Answer::Listed, Some(1)),
+            (Some(0), 9, NEW, Answer::Listed, Some(0)),
+            (Some(5), 8, NEW, Answer::Listed, Some(2)),
+        ],
+    );
+    let released = all_called(&lists.release(true));
+    let seen = (other, released, lists.listings.len(), lists.head);
+    let all = [
+        Some((1, Some(8))),
+        Some((0, Some(9))),
+        Some((2, None)),
+        None,
+    ];
+    assert_eq!(rt; seen, (None, all, 0, false));
     Ok(())
 }
 
+// Makes the listings. The first row that is answered otherwise, or leaves another ticket.
+fn row_listed_otherwise(lists: &mut Lists<u64>, rows: &[Row]) -> Option<usize> {
+    for (number, (before, waker, word, answer, after)) in rows.iter().enumerate() {
+        let mut ticket = *before;
+        let heard = lists.list(&mut ticket, &mut Some(*waker), *word);
+        if heard != *answer || ticket != *after {
+            return Some(number);
+        }
+    }
+    None
+}
+
+/// One look: the ticket, the waker and the word, and then the answer.
+type Look = (Option<u64>, Option<u64>, u64, Answer<u64>);
+
 // A look finds the own listing, while it has the waker.
 #[test]
-fn a_look_finds_the_own_listing(rt: HostRuntime) -> Result<(), Fail> {
+fn a_look_finds_the_own_listing(rt: HostRuntime) {
     let mut lists = two_listed(rt.alloc());
-    for (ticket, waker, word, answer) in [
-        (Some(0), Some(7), NEW, Answer::Listed),
-        (Some(1), Some(7), NEW, Answer::Held),
-        (Some(9), Some(7), NEW, Answer::Held),
-        (None, Some(7), NEW, Answer::Held),
-        (Some(0), None, NEW, Answer::Held),
-        (Some(0), Some(7), READY_BIT, Answer::Ready),
-    ] {
-        let mut kept = ticket;
-        let heard = lists.look(&mut kept, waker.as_ref(), word);
-        assert_eq!(rt; heard, answer, "at {ticket:?} {waker:?}");
-        assert_eq!(rt; kept, ticket, "at {ticket:?} {waker:?}");
+    let other = row_found_otherwise(
+        &mut lists,
+        &[
+            (Some(0), Some(7), NEW, Answer::Listed),
+            (Some(1), Some(7), NEW, Answer::Held),
+            (Some(9), Some(7), NEW, Answer::Held),
+            (None, Some(7), NEW, Answer::Held),
+            (Some(0), None, NEW, Answer::Held),
+            (Some(0), Some(7), READY_BIT, Answer::Ready),
+        ],
+    );
+    assert_eq!(rt; other, None);
+}
+
+// Makes the looks. The first row that is answered otherwise, or leaves another ticket.
+fn row_found_otherwise(lists: &mut Lists<u64>, rows: &[Look]) -> Option<usize> {
+    for (number, (ticket, waker, word, answer)) in rows.iter().enumerate() {
+        let mut kept = *ticket;
+        let heard = lists.look(&mut kept, waker.as_ref(), *word);
+        if heard != *answer || kept != *ticket {
+            return Some(number);
+        }
     }
-    Ok(())
+    None
 }
 
 // Two who wait, with the wakers 7 and 8, while a third holds.
@@ -60,29 +92,49 @@ fn two_listed(alloc: Global) -> Lists<u64> {
     lists
 }
 
+// A failure calls one, and this is its waker. The outer None says that it called all.
+fn called(lists: &mut Lists<u64>) -> Option<Option<u64>> {
+    match lists.release(false) {
+        Out::One(waker) => Some(waker),
+        Out::All(_) => None,
+    }
+}
+
 // A failure calls the first. Called, it is listed no more, and when it leaves it calls the next.
 #[test]
 fn one_is_called_and_leaves(rt: HostRuntime) {
-    let mut lists = two_listed(rt.alloc());
-    assert_eq!(rt; lists.release(false), Out::One(Some(7)));
-    assert!(rt; lists.is_listed(Some(0)) && lists.is_listed(Some(1)));
-    assert_eq!(rt; lists.leave(0, QINIT_BIT), None);
-    assert!(rt; !lists.is_listed(Some(0)));
-    assert_eq!(rt; lists.leave(0, NEW), None);
-    assert_eq!(rt; lists.release(false), Out::One(Some(8)));
-    assert_eq!(rt; lists.release(false), Out::One(None));
+    let seen = one_leaves(&mut two_listed(rt.alloc()));
+    let called = [Some(Some(7)), Some(Some(8)), Some(None)];
+    assert_eq!(rt; seen, (called, [true, true, false], [None, None]));
+}
+
+// The first is called, leaves while another holds, and leaves again. Then two more are called. Who
+// was called, who was listed, and whom each leave called.
+fn one_leaves(lists: &mut Lists<u64>) -> ([Option<Option<u64>>; 3], [bool; 3], [Option<u64>; 2]) {
+    let first = called(lists);
+    let listed = [lists.is_listed(Some(0)), lists.is_listed(Some(1))];
+    let left = lists.leave(0, QINIT_BIT);
+    let still = lists.is_listed(Some(0));
+    let again = lists.leave(0, NEW);
+    let more = [called(lists), called(lists)];
+    (
+        [first, more[0], more[1]],
+        [listed[0], listed[1], still],
+        [left, again],
+    )
 }
 
 // A turn is passed on where nobody holds. A claim takes the own listing out, and the ticket.
 #[test]
 fn a_turn_is_passed_on_or_taken(rt: HostRuntime) {
     let mut lists = two_listed(rt.alloc());
-    assert_eq!(rt; lists.release(false), Out::One(Some(7)));
-    assert_eq!(rt; lists.leave(0, NEW), Some(8));
+    let first = called(&mut lists);
+    let next = lists.leave(0, NEW);
     let mut ticket = Some(1);
-    assert_eq!(rt; lists.look(&mut ticket, Some(&8), NEW), Answer::Claimed);
-    assert_eq!(rt; ticket, None);
-    assert!(rt; lists.head && lists.listings.is_empty());
+    let is_claimed = lists.look(&mut ticket, Some(&8), NEW) == Answer::Claimed;
+    let left = (lists.head, lists.listings.len());
+    let seen = (first, next, is_claimed, ticket, left);
+    assert_eq!(rt; seen, (Some(Some(7)), Some(8), true, None, (true, 0)));
 }
 
 /// Parts of a cell that nobody else uses: the right is free, and no queue stands at the door.
@@ -131,64 +183,79 @@ impl Parts<u64> for Alone {
     }
 }
 
-// The steps of one poll, and how many the call may still take after each.
-fn poll(
-    alloc: Global,
-    step: &mut Step<u64, u64>,
-    side: &mut Counting,
-) -> Result<Vec<(Progress, u32)>, AllocError> {
-    let mut steps = Vec::new(alloc);
+/// The steps of one poll, and how many the call may still take after each.
+type Steps = [Option<(Progress, u32)>; 5];
+
+const MORE: Progress = Progress::More;
+
+// The steps of one poll, of which there are at most five.
+fn poll(step: &mut Step<u64, u64>, side: &mut Counting) -> Steps {
+    let mut steps = [None; 5];
     if step.is_resting() {
         step.begin();
     }
-    for _ in 0..16 {
+    for place in steps.iter_mut() {
         if step.left() == 0 {
             break;
         }
         let progress = step.advance(&mut Alone, side, 8);
-        steps.push((progress, step.left()))?;
+        *place = Some((progress, step.left()));
     }
-    Ok(steps)
+    steps
+}
+
+// Whether the task rests, runs its init and is finished.
+fn state(step: &Step<u64, u64>) -> [bool; 3] {
+    [step.is_resting(), step.is_running(), step.is_finished()]
 }
 
 #[test]
-fn a_holder_polls_its_init_and_sets_the_value(rt: HostRuntime) -> Result<(), Fail> {
-    let alloc = rt.alloc();
+fn a_holder_polls_its_init_and_sets_the_value(rt: HostRuntime) {
+    let (states, first, second, counts) = two_polls(rt.alloc());
+    let (new, finished) = ([true, false, false], [false, false, true]);
+    assert_eq!(rt; (states, counts), ([new, finished], (1, 1)));
+    let pending = Some((Progress::Ended(Ending::Pending), 0));
+    let value = Some((Progress::Ended(Ending::Value), 0));
+    let wanted = [
+        [Some((MORE, 15)), Some((MORE, 8)), pending, None, None],
+        [
+            Some((MORE, 7)),
+            Some((MORE, 6)),
+            Some((MORE, 1)),
+            value,
+            None,
+        ],
+    ];
+    assert_eq!(rt; [first, second], wanted);
+}
+
+// A new task is polled, and polled again with a value: its state before and after, its steps, and how
+// often its init was closed and its value put.
+fn two_polls(alloc: Global) -> ([[bool; 3]; 2], Steps, Steps, (u64, u64)) {
     let mut side = Counting::new(alloc, Polled::Pending, 5);
     let mut step = Step::new();
-    assert!(rt; step.is_resting() && !step.is_running() && !step.is_finished());
-
-    let more = Progress::More;
-    let steps = poll(alloc, &mut step, &mut side)?;
-    let pending = Progress::Ended(Ending::Pending);
-    let wanted = [(more, 15), (more, 8), (pending, 0)];
-    assert_eq!(rt; steps.as_slice(), wanted.as_slice());
+    let new = state(&step);
+    let first = poll(&mut step, &mut side);
     side.answers(Polled::Value);
-    let steps = poll(alloc, &mut step, &mut side)?;
-    let value = Progress::Ended(Ending::Value);
-    let wanted = [(more, 7), (more, 6), (more, 1), (value, 0)];
-    assert_eq!(rt; steps.as_slice(), wanted.as_slice());
-    assert!(rt; step.is_finished() && !step.is_resting());
-    assert_eq!(rt; (side.closes, side.puts), (1, 1));
-    Ok(())
+    let second = poll(&mut step, &mut side);
+    let states = [new, state(&step)];
+    (states, first, second, (side.closes, side.puts))
 }
 
 #[test]
-fn an_error_gives_the_right_back(rt: HostRuntime) -> Result<(), Fail> {
-    let alloc = rt.alloc();
-    let mut side = Counting::new(alloc, Polled::Error, 5);
-    let mut step = Step::new();
-    let steps = poll(alloc, &mut step, &mut side)?;
-    let error = Progress::Ended(Ending::Error);
+fn an_error_gives_the_right_back(rt: HostRuntime) {
+    let mut side = Counting::new(rt.alloc(), Polled::Error, 5);
+    let steps = poll(&mut Step::new(), &mut side);
+    let counts = (side.closes, side.puts);
+    let error = Some((Progress::Ended(Ending::Error), 0));
     let wanted = [
-        (Progress::More, 15),
-        (Progress::More, 8),
-        (Progress::More, 6),
-        (error, 0),
+        Some((MORE, 15)),
+        Some((MORE, 8)),
+        Some((MORE, 6)),
+        error,
+        None,
     ];
-    assert_eq!(rt; steps.as_slice(), wanted.as_slice());
-    assert_eq!(rt; (side.closes, side.puts), (1, 0));
-    Ok(())
+    assert_eq!(rt; (steps, counts), (wanted, (1, 0)));
 }
 
 #[test]
@@ -213,22 +280,78 @@ fn look(core: &mut Core<u64>, queue: u64) -> Option<Answer<u64>> {
     Some(core.section(&queue, &mut Op::Look(None)))
 }
 
-// The waker 7 is listed.
-fn list(core: &mut Core<u64>, queue: u64) -> Option<Answer<u64>> {
+// The waker 7 is listed: the answer, and what is left of the operation.
+fn list(core: &mut Core<u64>, queue: u64) -> Option<(Answer<u64>, Op<u64>)> {
     core.reserve().ok()?;
-    Some(core.section(&queue, &mut Op::List(None, Some(7))))
+    let mut op = Op::List(None, Some(7));
+    Some((core.section(&queue, &mut op), op))
+}
+
+// The right is given back, where a quick holder has it.
+fn release(core: &mut Core<u64>, queue: u64, is_ready: bool) -> Option<Answer<u64>> {
+    core.reserve().ok()?;
+    if core.word.is_ready() || !core.word.is_quick() || core.lists.head {
+        return None;
+    }
+    Some(core.section(&queue, &mut Op::Release(is_ready)))
+}
+
+// The listing 0 is taken out.
+fn leave(core: &mut Core<u64>, queue: u64) -> Option<Answer<u64>> {
+    core.reserve().ok()?;
+    Some(core.section(&queue, &mut Op::Leave(0)))
+}
+
+// The queue is taken out of the door: whether one stood there.
+fn take(core: &mut Core<u64>) -> Option<bool> {
+    core.reserve().ok()?;
+    Some(core.door_take())
+}
+
+// One is counted in, whatever the limit is, where there are few: the word after.
+fn add_one(core: &mut Core<u64>) -> Option<u64> {
+    if core.word.count() > 9 {
+        return None;
+    }
+    core.add_one();
+    Some(core.load())
+}
+
+// One is counted out, where one is counted in: the word after.
+fn count_out(core: &mut Core<u64>) -> Option<u64> {
+    if core.word.count() == 0 {
+        return None;
+    }
+    Some(core.count_out())
+}
+
+/// The queue log, of which there are at most five lines.
+type Log = [Option<QueueLine>; 5];
+
+fn log(core: Core<u64>) -> Log {
+    let mut log = [None; 5];
+    for (place, line) in log.iter_mut().zip(core.into_log().iter()) {
+        *place = Some(*line);
+    }
+    log
 }
 
 #[test]
 fn a_core_is_claimed_and_has_a_queue_put(rt: HostRuntime) {
-    let mut core = Core::new(rt.alloc(), false);
+    let (word, claims, doors, queues) = claimed_twice(rt.alloc());
+    assert_eq!(rt; (word, claims), (NEW, [true, false]));
+    assert_eq!(rt; (doors, queues), ([None, Some(1)], [None, Some(1)]));
+}
+
+// Two claims, and a queue is put without memory and with it: the word before, the claims, what stood
+// at the door before and after, and the queues.
+fn claimed_twice(alloc: Global) -> (u64, [bool; 2], [Option<u64>; 2], [Option<u64>; 2]) {
+    let mut core = Core::new(alloc, false);
     let word = core.load();
     let claims = [core.quick(), core.quick()];
     let found = core.door_get();
     let queues = [put(&mut core, false), put(&mut core, true)];
-    assert_eq!(rt; (word, claims, found), (NEW, [true, false], None));
-    assert_eq!(rt; queues, [None, Some(1)]);
-    assert_eq!(rt; core.door_get(), Some(1));
+    (word, claims, [found, core.door_get()], queues)
 }
 
 #[test]
@@ -244,76 +367,117 @@ fn a_core_is_looked_at(rt: HostRuntime) {
 
 #[test]
 fn a_core_counts_beyond_the_limit_and_out(rt: HostRuntime) {
-    let mut core: Core<u64> = Core::new(rt.alloc(), false);
-    assert!(rt; core.quick());
-    assert_eq!(rt; core.count_in(1), Counted::In(QINIT_BIT));
-    assert_eq!(rt; core.count_in(1), Counted::Full);
-    assert!(rt; !core.fast(true));
-    core.add_one();
-    assert_eq!(rt; core.load(), QINIT_BIT + 2);
-    assert_eq!(rt; core.count_out(), QINIT_BIT + 1);
-    assert_eq!(rt; core.count_out(), QINIT_BIT);
+    let (won, counts, is_freed, words) = counted(rt.alloc());
+    let wanted = [Counted::In(QINIT_BIT), Counted::Full];
+    assert_eq!(rt; (won, counts, is_freed), (true, wanted, false));
+    let wanted = [Some(QINIT_BIT + 2), Some(QINIT_BIT + 1), Some(QINIT_BIT)];
+    assert_eq!(rt; words, wanted);
 }
 
-#[test]
-fn a_core_releases_the_listed_and_loses_its_queue(rt: HostRuntime) -> Result<(), Fail> {
-    let mut core = Core::new(rt.alloc(), false);
-    assert!(rt; core.quick());
-    core.reserve()?;
-    assert!(rt; !core.door_take());
-    core.reserve()?;
-    assert_eq!(rt; core.door_put(), Some(1));
-    core.reserve()?;
-    let listed = core.section(&1, &mut Op::List(None, Some(7)));
-    assert_eq!(rt; listed, Answer::Listed);
-    core.reserve()?;
-    let released = core.section(&1, &mut Op::Release(true));
-    let all = vec![in rt.alloc(); at(0, Some(7))]?;
-    assert_eq!(rt; released, Answer::Released(Out::All(all)));
-    assert_eq!(rt; core.load(), READY_BIT);
-    core.reserve()?;
-    assert!(rt; core.door_take());
-    assert_eq!(rt; core.door_get(), None);
-    let log = [
-        QueueLine::Put(1),
-        QueueLine::Entered(1),
-        QueueLine::Entered(1),
-        QueueLine::Taken(1),
+// A claim, two who count in, a fast release, one more who counts in, and two who count out.
+fn counted(alloc: Global) -> (bool, [Counted; 2], bool, [Option<u64>; 3]) {
+    let mut core = Core::new(alloc, false);
+    let won = core.quick();
+    let counts = [core.count_in(1), core.count_in(1)];
+    let is_freed = core.fast(true);
+    let words = [
+        add_one(&mut core),
+        count_out(&mut core),
+        count_out(&mut core),
     ];
-    assert_eq!(rt; core.into_log().as_slice(), log.as_slice());
-    Ok(())
+    (won, counts, is_freed, words)
+}
+
+/// Whether a claim won, whether a queue stood at the door before, the queue that was put then, and
+/// whether one is listed there with the ticket 0.
+type Begun = (bool, Option<bool>, Option<u64>, bool);
+
+const BEGUN: Begun = (true, Some(false), Some(1), true);
+
+// A claim, and with the queue that is put then one who is listed.
+fn begin(core: &mut Core<u64>) -> Begun {
+    let won = core.quick();
+    let stood = take(core);
+    let queue = put(core, true);
+    let is_listed = list(core, 1) == Some((Answer::Listed, Op::List(Some(0), None)));
+    (won, stood, queue, is_listed)
 }
 
 #[test]
-fn a_core_calls_one_who_leaves(rt: HostRuntime) -> Result<(), Fail> {
-    let mut core = Core::new(rt.alloc(), false);
-    assert!(rt; core.quick());
-    core.reserve()?;
-    assert_eq!(rt; core.door_put(), Some(1));
-    core.reserve()?;
-    let mut op = Op::List(None, Some(7));
-    assert_eq!(rt; core.section(&1, &mut op), Answer::Listed);
-    assert_eq!(rt; op, Op::List(Some(0), None));
-    core.reserve()?;
-    let released = core.section(&1, &mut Op::Release(false));
-    assert_eq!(rt; released, Answer::Released(Out::One(Some(7))));
-    core.reserve()?;
-    let left = core.section(&1, &mut Op::Leave(0));
-    assert_eq!(rt; left, Answer::Left(None));
-    assert!(rt; core.lists.listings.is_empty());
-    Ok(())
+fn a_core_releases_the_listed_and_loses_its_queue(rt: HostRuntime) {
+    let (begun, called, left, log) = released(rt.alloc());
+    let all = Some([Some((0, Some(7))), None, None, None]);
+    assert_eq!(rt; (begun, called), (BEGUN, all));
+    let wanted = [
+        Some(QueueLine::Put(1)),
+        Some(QueueLine::Entered(1)),
+        Some(QueueLine::Entered(1)),
+        Some(QueueLine::Taken(1)),
+        None,
+    ];
+    assert_eq!(rt; (left, log), ((READY_BIT, Some(true), None), wanted));
+}
+
+// A release with the value: how it began, whom it calls, then the word, whether a queue was taken out
+// of the door, and the door, and the log.
+fn released(
+    alloc: Global,
+) -> (
+    Begun,
+    Option<[Listed; 4]>,
+    (u64, Option<bool>, Option<u64>),
+    Log,
+) {
+    let mut core = Core::new(alloc, false);
+    let begun = begin(&mut core);
+    let called = release_all(&mut core);
+    let left = (core.load(), take(&mut core), core.door_get());
+    (begun, called, left, log(core))
+}
+
+// A release with the value: whom it calls.
+fn release_all(core: &mut Core<u64>) -> Option<[Listed; 4]> {
+    match release(core, 1, true)? {
+        Answer::Released(out) => Some(all_called(&out)),
+        _ => None,
+    }
 }
 
 #[test]
-fn a_core_is_reset(rt: HostRuntime) -> Result<(), Fail> {
-    let mut core: Core<u64> = Core::new(rt.alloc(), false);
-    core.reserve()?;
-    assert_eq!(rt; core.door_put(), Some(1));
-    core.reserve()?;
+fn a_core_calls_one_who_leaves(rt: HostRuntime) {
+    let seen = left(rt.alloc());
+    assert_eq!(rt; seen, (BEGUN, true, true, 0));
+}
+
+// A failure, and the one whom it calls leaves: how it began, whether it called the waker 7, whether
+// the other called nobody, and how many are listed then.
+fn left(alloc: Global) -> (Begun, bool, bool, usize) {
+    let mut core = Core::new(alloc, false);
+    let begun = begin(&mut core);
+    let is_called = release(&mut core, 1, false) == Some(Answer::Released(Out::One(Some(7))));
+    let is_left = leave(&mut core, 1) == Some(Answer::Left(None));
+    (begun, is_called, is_left, core.lists.listings.len())
+}
+
+#[test]
+fn a_core_is_reset(rt: HostRuntime) {
+    let (queue, left, log) = reset(rt.alloc());
+    assert_eq!(rt; (queue, left), (Some(1), Some((READY_BIT, None))));
+    let lines = [QueueLine::Put(1), QueueLine::Taken(1)];
+    assert_eq!(rt; log, [Some(lines[0]), Some(lines[1]), None, None, None]);
+}
+
+// A queue is put, and the core is reset: the queue, the word and the door then, and the log.
+fn reset(alloc: Global) -> (Option<u64>, Option<(u64, Option<u64>)>, Log) {
+    let mut core = Core::new(alloc, false);
+    let queue = put(&mut core, true);
+    let left = reset_to_ready(&mut core);
+    (queue, left, log(core))
+}
+
+// The word and the door of a core that is reset.
+fn reset_to_ready(core: &mut Core<u64>) -> Option<(u64, Option<u64>)> {
+    core.reserve().ok()?;
     core.reset(true);
-    assert_eq!(rt; core.load(), READY_BIT);
-    assert_eq!(rt; core.door_get(), None);
-    let log = [QueueLine::Put(1), QueueLine::Taken(1)];
-    assert_eq!(rt; core.into_log().as_slice(), log.as_slice());
-    Ok(())
+    Some((core.load(), core.door_get()))
 }
