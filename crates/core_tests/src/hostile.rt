@@ -146,16 +146,24 @@ fn a_copy_that_polls(rt: HostRuntime) {
     assert_eq!(rt; seen, (endings, QINIT_BIT + 2, all, EMPTIED));
 }
 
-// A holder, the waiter and the other are polled. Then the holder gives its value, and the other and
-// the waiter find it. How the polls ended, the word before the value, whom the holder called, and what
-// is left.
-fn polled_in_a_copy<'a, R: Wait + AllocGlobal>(
-    rt: &'a R,
-    inner: &'a Inner<u64>,
-) -> ([Option<Ending>; 6], u64, [Listed; 4], Shown) {
+/// How the polls ended, the word before the holder gives its value, whom it called, and what is left.
+type Copied = ([Option<Ending>; 6], u64, [Listed; 4], Shown);
+
+// A holder, and a waiter whose side meddles.
+fn polled_in_a_copy<'a, R: Wait + AllocGlobal>(rt: &'a R, inner: &'a Inner<u64>) -> Copied {
     let mut holder = counter(rt, Polled::Pending, 5);
-    let first = holder.poll(rt, inner);
     let mut waiter = meddler(rt, inner, Polled::Error, 7);
+    copied(&mut holder, &mut waiter)
+}
+
+// The holder, the waiter and the other are polled. Then the holder gives its value, and the other and
+// the waiter find it.
+fn copied<R: Wait + AllocGlobal>(
+    holder: &mut Task<Counting>,
+    waiter: &mut Task<Meddling<'_, R>>,
+) -> Copied {
+    let (rt, inner) = (waiter.side.rt, waiter.side.inner);
+    let first = holder.poll(rt, inner);
     let second = waiter.poll(rt, inner);
     let heard = waiter.side.heard;
     let word = inner.word();
@@ -223,25 +231,32 @@ fn a_turn_taken_while_it_is_passed_on(rt: HostRuntime) {
     assert_eq!(rt; seen, (endings, [Some(7), Some(9)], (NEW, Some(true))));
 }
 
-// A holder, a waiter and another are polled. The holder fails, and the waiter leaves. How the polls
-// ended, that of the other inside the last call too, who was called, and what is left.
-fn turn_taken<'a, R: Wait + AllocGlobal>(
-    rt: &'a R,
-    inner: &'a Inner<u64>,
-) -> ([Option<Ending>; 5], [Option<u64>; 2], Shown) {
+/// How the polls ended, who was called, and what is left.
+type Passed = ([Option<Ending>; 5], [Option<u64>; 2], Shown);
+
+// A holder, a waiter and a side that meddles.
+fn turn_taken<'a, R: Wait + AllocGlobal>(rt: &'a R, inner: &'a Inner<u64>) -> Passed {
     let mut holder = counter(rt, Polled::Pending, 5);
-    let first = holder.poll(rt, inner);
     let mut waiter = counter(rt, Polled::Error, 7);
-    let second = waiter.poll(rt, inner);
     let mut side = Meddling::new(rt, inner, Polled::Error, 9);
+    passed_on(&mut holder, &mut waiter, &mut side)
+}
+
+// The holder, the waiter and the other are polled. The holder fails, and the waiter leaves: the other
+// is polled inside that.
+fn passed_on<R: Wait + AllocGlobal>(
+    holder: &mut Task<Counting>,
+    waiter: &mut Task<Counting>,
+    side: &mut Meddling<'_, R>,
+) -> Passed {
+    let (rt, inner) = (side.rt, side.inner);
+    let first = holder.poll(rt, inner);
+    let second = waiter.poll(rt, inner);
     let third = side.other.poll(rt, inner);
     holder.side.answers(Polled::Error);
     let error = holder.poll(rt, inner);
     side.finish(&mut waiter.step);
+    let endings = [first, second, third, error, side.heard];
     let called = [holder.side.one_called(), side.side.one_called()];
-    (
-        [first, second, third, error, side.heard],
-        called,
-        shown(inner),
-    )
+    (endings, called, shown(inner))
 }

@@ -231,21 +231,29 @@ fn a_wake_that_polls(rt: HostRuntime) -> Result<(), Fail> {
     Ok(())
 }
 
-// A holder is polled, and another by its task. Then the holder gives its value. How the holder's polls
-// ended, what the other's answered, whether the task was woken before, the cell's value, and whether
-// the cell shows nobody in the end.
-fn polled_in_a_wake<'a, R: Wait + AllocGlobal>(
-    rt: &'a R,
-    cell: &'a OnceCell<u64>,
-    task: &MockTask,
-) -> (
+/// How the holder's polls ended, what the other's answered, whether the task was woken before, the
+/// cell's value, and whether the cell shows nobody in the end.
+type Woken = (
     [Option<Ending>; 2],
     [Option<Reply>; 2],
     bool,
     Option<u64>,
     bool,
-) {
+);
+
+// A holder whose side meddles.
+fn polled_in_a_wake<'a, R: Wait + AllocGlobal>(
+    rt: &'a R,
+    cell: &'a OnceCell<u64>,
+    task: &MockTask,
+) -> Woken {
     let mut holder = Task::new(cell, Meddling::new(cell, rt, task));
+    woken(&mut holder)
+}
+
+// The holder is polled, and the other by its task. Then the holder gives its value.
+fn woken<R: Wait + AllocGlobal>(holder: &mut Task<'_, Meddling<'_, '_, R>>) -> Woken {
+    let (rt, cell, task) = (holder.side.rt, holder.cell, holder.side.task);
     let first = holder.poll(rt);
     let other = polled(task, &mut holder.side.other);
     let is_woken = task.is_woken();
@@ -267,6 +275,24 @@ struct Stranding<'a, 't, R: Wait + AllocGlobal> {
     // The task of who waits behind, and whether the drop of the holder woke it.
     behind: &'t MockTask,
     is_behind_woken: bool,
+}
+
+impl<'a, 't, R: Wait + AllocGlobal> Stranding<'a, 't, R> {
+    fn new(cell: &'a OnceCell<u64>, rt: &'a R, behind: &'t MockTask) -> Stranding<'a, 't, R> {
+        Stranding {
+            cell,
+            rt,
+            holder: Some(cell.get_or_init(rt, LATER)),
+            was_copied: false,
+            behind,
+            is_behind_woken: false,
+        }
+    }
+
+    // Polls the holder, where it is there.
+    fn poll_holder(&mut self, task: &MockTask) -> Option<Reply> {
+        Some(polled(task, self.holder.as_mut()?))
+    }
 }
 
 impl<R: Wait + AllocGlobal> Side<Seat> for Stranding<'_, '_, R> {
@@ -308,42 +334,46 @@ fn a_called_waiter_that_is_refused(rt: HostRuntime) -> Result<(), Fail> {
     let cell = OnceCell::new();
     let seen = refused_in_a_copy(&rt, &cell, &first, &second);
     let endings = [PENDING, Some(Ending::Memory)];
-    let pending = Reply::Pending;
-    let replies = [pending, pending, pending, Reply::Value(4)];
+    let pending = Some(Reply::Pending);
+    let replies = [pending, pending, pending, Some(Reply::Value(4))];
     assert_eq!(rt; seen, (endings, replies, [false, true, true]));
     Ok(())
 }
 
-// A holder, a waiter and one behind it are polled, and the waiter again, who passes its turn on. Then
-// the one behind is polled to its value. How the waiter's polls ended, what the others answered,
-// whether the one behind was woken by the drop of the holder, and after the waiter's second poll, and
-// whether the cell shows nobody in the end.
+/// How the waiter's polls ended, what the others answered, whether the one behind was woken by the drop
+/// of the holder, and after the waiter's second poll, and whether the cell shows nobody in the end.
+type Stranded = ([Option<Ending>; 2], [Option<Reply>; 4], [bool; 3]);
+
+// A waiter, whose side has the holder, and one behind it.
 fn refused_in_a_copy<'a, R: Wait + AllocGlobal>(
     rt: &'a R,
     cell: &'a OnceCell<u64>,
     first: &MockTask,
     second: &MockTask,
-) -> ([Option<Ending>; 2], [Reply; 4], [bool; 3]) {
-    let mut holder = cell.get_or_init(rt, LATER);
-    let begun = polled(first, &mut holder);
-    let side = Stranding {
-        cell,
-        rt,
-        holder: Some(holder),
-        was_copied: false,
-        behind: second,
-        is_behind_woken: false,
-    };
-    let mut waiter = Task::new(cell, side);
-    let listed = waiter.poll(rt);
+) -> Stranded {
+    let mut waiter = Task::new(cell, Stranding::new(cell, rt, second));
     let mut behind = cell.get_or_init(rt, LATER);
-    let waits = polled(second, &mut behind);
+    refused(&mut waiter, &mut behind, first)
+}
+
+// The holder, the waiter and the one behind it are polled, and the waiter again, who passes its turn
+// on. Then the one behind is polled to its value.
+fn refused<R: Wait + AllocGlobal>(
+    waiter: &mut Task<'_, Stranding<'_, '_, R>>,
+    behind: &mut Init<'_, R>,
+    first: &MockTask,
+) -> Stranded {
+    let (rt, cell, second) = (waiter.side.rt, waiter.cell, waiter.side.behind);
+    let begun = waiter.side.poll_holder(first);
+    let listed = waiter.poll(rt);
+    let waits = polled(second, behind);
     let endings = [listed, waiter.poll(rt)];
     let (early, woken) = (waiter.side.is_behind_woken, second.is_woken());
-    let taken = polled(second, &mut behind);
-    let value = polled(second, &mut behind);
+    let taken = polled(second, behind);
+    let value = polled(second, behind);
+    let replies = [begun, Some(waits), Some(taken), Some(value)];
     let facts = [early, woken, shows(rt, cell, EMPTIED)];
-    (endings, [begun, waits, taken, value], facts)
+    (endings, replies, facts)
 }
 
 /// A side of a lazy cell whose init polls another future of the cell, and drops it.
