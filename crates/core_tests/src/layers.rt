@@ -211,12 +211,11 @@ fn state(step: &Step<u64, u64>) -> [bool; 3] {
 
 #[test]
 fn a_holder_polls_its_init_and_sets_the_value(rt: HostRuntime) {
-    let (states, first, second, counts) = two_polls(rt.alloc());
-    let (new, finished) = ([true, false, false], [false, false, true]);
-    assert_eq!(rt; (states, counts), ([new, finished], (1, 1)));
+    let seen = two_polls(rt.alloc());
+    let states = [[true, false, false], [false, false, true]];
     let pending = Some((Progress::Ended(Ending::Pending), 0));
     let value = Some((Progress::Ended(Ending::Value), 0));
-    let wanted = [
+    let steps = [
         [Some((MORE, 15)), Some((MORE, 8)), pending, None, None],
         [
             Some((MORE, 7)),
@@ -226,20 +225,20 @@ fn a_holder_polls_its_init_and_sets_the_value(rt: HostRuntime) {
             None,
         ],
     ];
-    assert_eq!(rt; [first, second], wanted);
+    assert_eq!(rt; seen, (states, steps, (1, 1)));
 }
 
 // A new task is polled, and polled again with a value: its state before and after, its steps, and how
 // often its init was closed and its value put.
-fn two_polls(alloc: Global) -> ([[bool; 3]; 2], Steps, Steps, (u64, u64)) {
+fn two_polls(alloc: Global) -> ([[bool; 3]; 2], [Steps; 2], (u64, u64)) {
     let mut side = Counting::new(alloc, Polled::Pending, 5);
     let mut step = Step::new();
     let new = state(&step);
     let first = poll(&mut step, &mut side);
     side.answers(Polled::Value);
-    let second = poll(&mut step, &mut side);
+    let steps = [first, poll(&mut step, &mut side)];
     let states = [new, state(&step)];
-    (states, first, second, (side.closes, side.puts))
+    (states, steps, (side.closes, side.puts))
 }
 
 #[test]
@@ -338,9 +337,9 @@ fn log(core: Core<u64>) -> Log {
 
 #[test]
 fn a_core_is_claimed_and_has_a_queue_put(rt: HostRuntime) {
-    let (word, claims, doors, queues) = claimed_twice(rt.alloc());
-    assert_eq!(rt; (word, claims), (NEW, [true, false]));
-    assert_eq!(rt; (doors, queues), ([None, Some(1)], [None, Some(1)]));
+    let seen = claimed_twice(rt.alloc());
+    let put = [None, Some(1)];
+    assert_eq!(rt; seen, (NEW, [true, false], put, put));
 }
 
 // Two claims, and a queue is put without memory and with it: the word before, the claims, what stood
@@ -367,11 +366,10 @@ fn a_core_is_looked_at(rt: HostRuntime) {
 
 #[test]
 fn a_core_counts_beyond_the_limit_and_out(rt: HostRuntime) {
-    let (won, counts, is_freed, words) = counted(rt.alloc());
-    let wanted = [Counted::In(QINIT_BIT), Counted::Full];
-    assert_eq!(rt; (won, counts, is_freed), (true, wanted, false));
-    let wanted = [Some(QINIT_BIT + 2), Some(QINIT_BIT + 1), Some(QINIT_BIT)];
-    assert_eq!(rt; words, wanted);
+    let seen = counted(rt.alloc());
+    let counts = [Counted::In(QINIT_BIT), Counted::Full];
+    let words = [Some(QINIT_BIT + 2), Some(QINIT_BIT + 1), Some(QINIT_BIT)];
+    assert_eq!(rt; seen, (true, counts, false, words));
 }
 
 // A claim, two who count in, a fast release, one more who counts in, and two who count out.
@@ -405,17 +403,17 @@ fn begin(core: &mut Core<u64>) -> Begun {
 
 #[test]
 fn a_core_releases_the_listed_and_loses_its_queue(rt: HostRuntime) {
-    let (begun, called, left, log) = released(rt.alloc());
+    let seen = released(rt.alloc());
     let all = Some([Some((0, Some(7))), None, None, None]);
-    assert_eq!(rt; (begun, called), (BEGUN, all));
-    let wanted = [
+    let left = (READY_BIT, Some(true), None);
+    let log = [
         Some(QueueLine::Put(1)),
         Some(QueueLine::Entered(1)),
         Some(QueueLine::Entered(1)),
         Some(QueueLine::Taken(1)),
         None,
     ];
-    assert_eq!(rt; (left, log), ((READY_BIT, Some(true), None), wanted));
+    assert_eq!(rt; seen, (BEGUN, all, left, log));
 }
 
 // A release with the value: how it began, whom it calls, then the word, whether a queue was taken out
@@ -461,10 +459,10 @@ fn left(alloc: Global) -> (Begun, bool, bool, usize) {
 
 #[test]
 fn a_core_is_reset(rt: HostRuntime) {
-    let (queue, left, log) = reset(rt.alloc());
-    assert_eq!(rt; (queue, left), (Some(1), Some((READY_BIT, None))));
-    let lines = [QueueLine::Put(1), QueueLine::Taken(1)];
-    assert_eq!(rt; log, [Some(lines[0]), Some(lines[1]), None, None, None]);
+    let seen = reset(rt.alloc());
+    let (put, taken) = (Some(QueueLine::Put(1)), Some(QueueLine::Taken(1)));
+    let log = [put, taken, None, None, None];
+    assert_eq!(rt; seen, (Some(1), Some((READY_BIT, None)), log));
 }
 
 // A queue is put, and the core is reset: the queue, the word and the door then, and the log.
