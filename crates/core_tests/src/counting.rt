@@ -45,7 +45,10 @@ impl Counting {
 
     /// The waker of the one whom it called last.
     pub fn one_called(&self) -> Option<u64> {
-        one_called(self.woken.as_ref()?)
+        match self.woken.as_ref()? {
+            Out::One(waker) => *waker,
+            Out::All(_) => None,
+        }
     }
 }
 
@@ -94,12 +97,4 @@ pub fn all_called(out: &Out<u64>) -> [Listed; 4] {
         }
     }
     called
-}
-
-/// The waker of the one who is called.
-pub fn one_called(out: &Out<u64>) -> Option<u64> {
-    match out {
-        Out::One(waker) => *waker,
-        Out::All(_) => None,
-    }
 }
