@@ -1,8 +1,10 @@
 //! The queue log of a record: which queue was put to the door, entered and taken out.
 
+use crate::rows::compare;
 use async_once_cell::world::replay;
-use once_script::parse::{Script, parse_script};
-use std::test::Fail;
+use once_script::fault::Fault;
+use once_script::parse::parse_script;
+use std::alloc::Global;
 
 // Scripts, each with its queue log.
 const LOGS: [(&str, &str, &str); 4] = [
@@ -32,17 +34,16 @@ const LOGS: [(&str, &str, &str); 4] = [
     ),
 ];
 
+// The log of a script.
+fn log_of(alloc: Global, text: &str) -> Result<String, Fault> {
+    let script = parse_script(alloc, text.as_bytes())?;
+    let record = replay(alloc, script.kind, script.limit, script.inputs.as_slice())?;
+    Ok(format!(in alloc; "{:?}", record.queues)?)
+}
+
 #[test]
-fn logs(rt: HostRuntime) -> Result<(), Fail> {
-    for (name, text, wanted) in LOGS {
-        let Script {
-            kind,
-            limit,
-            inputs,
-        } = parse_script(rt.alloc(), text.as_bytes())?;
-        let record = replay(rt.alloc(), kind, limit, inputs.as_slice())?;
-        let log = format!(in rt.alloc(); "{:?}", record.queues)?;
-        assert_eq!(rt; log.as_str(), wanted, "in {name}");
+fn logs(rt: HostRuntime) {
+    for (name, text, wanted) in &LOGS {
+        compare(&rt, name, log_of(rt.alloc(), text), wanted);
     }
-    Ok(())
 }

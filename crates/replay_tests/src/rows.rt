@@ -1,7 +1,8 @@
 //! Scenarios, each with what it must print.
-use crate::runs::run_text;
+use crate::runs::printed_by;
 use calls::CALLS;
 use drops::DROPS;
+use once_script::fault::Fault;
 use owner::OWNER;
 use plain::PLAIN;
 use refusals::REFUSALS;
@@ -13,13 +14,19 @@ mod owner;
 mod plain;
 mod refusals;
 
+/// Compares what was made with this text.
+pub fn compare(rt: &impl Abort, name: &str, made: Result<String, Fault>, wanted: &str) {
+    let made = match &made {
+        Ok(text) => Ok(text.as_str()),
+        Err(fault) => Err(*fault),
+    };
+    assert_eq!(rt; made, Ok(wanted), "in {name}");
+}
+
 /// Runs each scenario of a table.
 fn run_rows(rt: &(impl AllocGlobal + Abort), rows: &[(&str, &str, &str)]) {
     for (name, text, wanted) in rows {
-        let (answer, printed) = run_text(rt.alloc(), text.as_bytes());
-        assert_eq!(rt; answer, Ok(()), "in {name}");
-        let printed = str::from_utf8(printed.as_slice());
-        assert_eq!(rt; printed, Ok(*wanted), "in {name}");
+        compare(rt, name, printed_by(rt.alloc(), text), wanted);
     }
 }
 

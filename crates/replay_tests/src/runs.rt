@@ -1,4 +1,5 @@
 //! Whole runs, with readers and writers that fail.
+use crate::rows::compare;
 use async_once_cell::world::{Call, Entry, Got, Ran, Record, Reply};
 use no_memory::hoard;
 use once_script::fault::Fault;
@@ -87,11 +88,20 @@ impl Write for Target {
     }
 }
 
-/// What a run answers, and what it prints.
-pub fn run_text(alloc: Global, text: &[u8]) -> (Result<(), Fault>, Vec<u8>) {
+/// What a run of this text prints.
+pub fn printed_by(alloc: Global, text: &str) -> Result<String, Fault> {
     let mut printed = Vec::new(alloc);
-    let answer = run(alloc, text, &mut printed);
-    (answer, printed)
+    run(alloc, text.as_bytes(), &mut printed)?;
+    Ok(String::from_utf8_lossy(alloc, printed.as_slice())?)
+}
+
+/// What a run answers, and how many bytes it prints.
+type Ending = (Result<(), Fault>, usize);
+
+fn ending<I: Read + Drop>(alloc: Global, input: I) -> Ending {
+    let mut printed = Vec::new(alloc);
+    let answer = run(alloc, input, &mut printed);
+    (answer, printed.len())
 }
 
 const UNREADABLE: [(&[u8], u64); 124] = [
@@ -224,40 +234,42 @@ const UNREADABLE: [(&[u8], u64); 124] = [
 #[test]
 fn finds_the_first_unreadable_line(rt: HostRuntime) {
     for (text, line) in UNREADABLE {
-        let (answer, printed) = run_text(rt.alloc(), text);
-        assert_eq!(rt; answer, Err(Fault::Unreadable(line)), "at {text:?}");
-        assert!(rt; printed.is_empty(), "at {text:?}");
+        let wanted = (Err(Fault::Unreadable(line)), 0);
+        assert_eq!(rt; ending(rt.alloc(), text), wanted, "at {text:?}");
     }
 }
 
-// First lines, each with the kind and the limit that it gives.
+// First lines, each with the kind and the limit that it gives, and the inputs after it: none.
 const FIRST_LINES: [(&str, &str); 9] = [
-    ("once 3", "Once 3"),
-    ("once 1 with 7\n", "OnceWith(7) 1"),
+    ("once 3", "Once 3 []"),
+    ("once 1 with 7\n", "OnceWith(7) 1 []"),
     (
         "once 8 with 18446744073709551615",
-        "OnceWith(18446744073709551615) 8",
+        "OnceWith(18446744073709551615) 8 []",
     ),
-    ("once 4611686018427387902", "Once 4611686018427387902"),
-    ("lazy 8", "Lazy([]) 8"),
-    ("lazy 8 p", "Lazy([None]) 8"),
-    ("lazy 2 v0", "Lazy([Some(0)]) 2"),
+    ("once 4611686018427387902", "Once 4611686018427387902 []"),
+    ("lazy 8", "Lazy([]) 8 []"),
+    ("lazy 8 p", "Lazy([None]) 8 []"),
+    ("lazy 2 v0", "Lazy([Some(0)]) 2 []"),
     (
         "lazy 8 p p v3 p v4\n",
-        "Lazy([None, None, Some(3), None, Some(4)]) 8",
+        "Lazy([None, None, Some(3), None, Some(4)]) 8 []",
     ),
-    ("lazy 8 with 5", "LazyWith(5) 8"),
+    ("lazy 8 with 5", "LazyWith(5) 8 []"),
 ];
 
+// What a first line alone is read as: its kind, its limit, and that there are no inputs.
+fn first_line(alloc: Global, text: &str) -> Result<String, Fault> {
+    let script = parse_script(alloc, text.as_bytes())?;
+    let (kind, inputs) = (&script.kind, &script.inputs);
+    Ok(format!(in alloc; "{kind:?} {} {inputs:?}", script.limit)?)
+}
+
 #[test]
-fn reads_each_first_line(rt: HostRuntime) -> Result<(), Fail> {
-    for (text, wanted) in FIRST_LINES {
-        let script = parse_script(rt.alloc(), text.as_bytes())?;
-        let read = format!(in rt.alloc(); "{:?} {}", script.kind, script.limit)?;
-        assert_eq!(rt; read.as_str(), wanted, "at {text:?}");
-        assert!(rt; script.inputs.is_empty(), "at {text:?}");
+fn reads_each_first_line(rt: HostRuntime) {
+    for (text, wanted) in &FIRST_LINES {
+        compare(&rt, text, first_line(rt.alloc(), text), wanted);
     }
-    Ok(())
 }
 
 // Later lines, each with the input that it gives.
@@ -286,47 +298,55 @@ const LATER_LINES: [(&str, &str); 19] = [
     ),
 ];
 
-#[test]
-fn reads_each_later_line(rt: HostRuntime) -> Result<(), Fail> {
-    for (text, wanted) in LATER_LINES {
-        let Some(Line::Single(input)) = parse_line(rt.alloc(), text)? else {
-            return Err(Fail::from(text));
-        };
-        let read = format!(in rt.alloc(); "{input:?}")?;
-        assert_eq!(rt; read.as_str(), wanted, "at {text:?}");
+// What a later line is read as. A `run` line is not one.
+fn later_line(alloc: Global, text: &str) -> Result<String, Fault> {
+    match parse_line(alloc, text)? {
+        Some(Line::Single(input)) => Ok(format!(in alloc; "{input:?}")?),
+        _ => Err(Fault::Unreadable(1)),
     }
-    Ok(())
+}
+
+#[test]
+fn reads_each_later_line(rt: HostRuntime) {
+    for (text, wanted) in &LATER_LINES {
+        compare(&rt, text, later_line(rt.alloc(), text), wanted);
+    }
+}
+
+// What the lines after the first are read as.
+fn inputs_of(alloc: Global, text: &str) -> Result<String, Fault> {
+    let script = parse_script(alloc, text.as_bytes())?;
+    Ok(format!(in alloc; "{:?}", script.inputs)?)
+}
+
+// This input, sixteen times.
+fn sixteen(alloc: Global, input: &str) -> Result<String, AllocError> {
+    let many = input.repeat(alloc, 15)?;
+    format!(in alloc; "[{many}{}]", input.trim_end_matches(", "))
 }
 
 #[test]
 fn a_run_line_is_sixteen_steps(rt: HostRuntime) -> Result<(), Fail> {
     for (text, wanted) in [
-        ("lazy 3\nrun 2 p", "Go(2, Pending, true)"),
-        ("once 3\nrun 2 v4\n", "Go(2, Value(4), true)"),
-        ("once 3\nrun 2 e5 x\n", "Go(2, Error(5), false)"),
+        ("lazy 3\nrun 2 p", "Go(2, Pending, true), "),
+        ("once 3\nrun 2 v4\n", "Go(2, Value(4), true), "),
+        ("once 3\nrun 2 e5 x\n", "Go(2, Error(5), false), "),
     ] {
-        let script = parse_script(rt.alloc(), text.as_bytes())?;
-        assert_eq!(rt; script.inputs.len(), 16, "at {text:?}");
-        for input in &script.inputs {
-            let read = format!(in rt.alloc(); "{input:?}")?;
-            assert_eq!(rt; read.as_str(), wanted, "at {text:?}");
-        }
+        let wanted = sixteen(rt.alloc(), wanted)?;
+        compare(&rt, text, inputs_of(rt.alloc(), text), wanted.as_str());
     }
     Ok(())
 }
 
 #[test]
-fn lines_are_read_in_their_order(rt: HostRuntime) -> Result<(), Fail> {
-    let text = b"once 3\nmake 1\npoll 1 7\ngo 1 p x\ntake\nlook";
-    let script = parse_script(rt.alloc(), text)?;
-    let read = format!(in rt.alloc(); "{:?}", script.inputs)?;
+fn lines_are_read_in_their_order(rt: HostRuntime) {
+    let text = "once 3\nmake 1\npoll 1 7\ngo 1 p x\ntake\nlook";
     let wanted = "[Make(1), Poll(1, 7), Go(1, Pending, false), Own(Take), Look]";
-    assert_eq!(rt; read.as_str(), wanted);
-    Ok(())
+    compare(&rt, text, inputs_of(rt.alloc(), text), wanted);
 }
 
 // What is printed of a record of these entries, whose last queue is this.
-fn printed(alloc: Global, entries: Vec<Entry>, queue: Option<u64>) -> Result<Vec<u8>, Fault> {
+fn printed(alloc: Global, entries: Vec<Entry>, queue: Option<u64>) -> Result<String, Fault> {
     let record = Record {
         entries,
         queues: Vec::new(alloc),
@@ -334,7 +354,7 @@ fn printed(alloc: Global, entries: Vec<Entry>, queue: Option<u64>) -> Result<Vec
     };
     let mut text = Vec::new(alloc);
     print_record(alloc, &record, &mut text)?;
-    Ok(text)
+    Ok(String::from_utf8_lossy(alloc, text.as_slice())?)
 }
 
 const TASK_ENTRIES: &str =
@@ -365,8 +385,8 @@ fn prints_the_entries_of_tasks(rt: HostRuntime) -> Result<(), Fail> {
         Entry::Look(None),
         Entry::Look(Some(4)),
     ]?;
-    let text = printed(alloc, entries, None)?;
-    assert_eq!(rt; text.as_slice(), TASK_ENTRIES.as_bytes());
+    let text = printed(alloc, entries, None);
+    compare(&rt, "entries of tasks", text, TASK_ENTRIES);
     Ok(())
 }
 
@@ -389,103 +409,114 @@ fn prints_the_entries_of_the_owner(rt: HostRuntime) -> Result<(), Fail> {
         Entry::Own(Call::ReplaceValue(3), Got::None),
         Entry::Own(Call::ReplaceAnswers(Vec::new(alloc)), Got::Value(4)),
     ]?;
-    let text = printed(alloc, entries, Some(1))?;
-    assert_eq!(rt; text.as_slice(), OWNER_ENTRIES.as_bytes());
+    let text = printed(alloc, entries, Some(1));
+    compare(&rt, "entries of the owner", text, OWNER_ENTRIES);
     Ok(())
 }
 
+// Reads that fail: the number of the read, how it fails, and the fault of the run.
+const FAILED_READS: [(u64, ErrorKind, Fault); 7] = [
+    (1, ErrorKind::ConnectionReset, Fault::Io),
+    (2, ErrorKind::ConnectionReset, Fault::Io),
+    (4, ErrorKind::TimedOut, Fault::Io),
+    (1, ErrorKind::OutOfMemory, Fault::Memory),
+    (2, ErrorKind::OutOfMemory, Fault::Memory),
+    (1, ErrorKind::Interrupted, Fault::Unreadable(2)),
+    (0, ErrorKind::Other, Fault::Unreadable(2)),
+];
+
 #[test]
 fn a_failed_read_prints_nothing(rt: HostRuntime) {
-    let alloc = rt.alloc();
-    let text = "once 8\nunreadable\n";
-    for (fails_at, kind, fault) in [
-        (1, ErrorKind::ConnectionReset, Fault::Io),
-        (2, ErrorKind::ConnectionReset, Fault::Io),
-        (4, ErrorKind::TimedOut, Fault::Io),
-        (1, ErrorKind::OutOfMemory, Fault::Memory),
-        (2, ErrorKind::OutOfMemory, Fault::Memory),
-        (1, ErrorKind::Interrupted, Fault::Unreadable(2)),
-        (0, ErrorKind::Other, Fault::Unreadable(2)),
-    ] {
-        let mut printed = Vec::new(alloc);
-        let answer = run(alloc, Source::new(text, 7, fails_at, kind), &mut printed);
-        assert_eq!(rt; answer, Err(fault), "at read {fails_at}");
-        assert!(rt; printed.is_empty(), "at read {fails_at}");
+    for (fails_at, kind, fault) in &FAILED_READS {
+        let source = Source::new("once 8\nunreadable\n", 7, *fails_at, *kind);
+        let seen = ending(rt.alloc(), source);
+        assert_eq!(rt; seen, (Err(*fault), 0), "at read {fails_at}");
     }
 }
 
-/// A script that makes so many tasks, and what it prints.
-fn many_tasks(alloc: Global) -> Result<(String, String), AllocError> {
-    let mut text = String::from_str(alloc, "once 8\n")?;
-    let mut wanted = String::new(alloc);
-    for task in 0..1500u64 {
-        text.push_str(format!(in alloc; "make {task}\n")?.as_str())?;
-        wanted.push_str(format!(in alloc; "made {task}\n")?.as_str())?;
-    }
-    wanted.push_str("queue none\n")?;
-    Ok((text, wanted))
+// Writers: the piece, the number of the write that fails, whether a flush fails, and what a run
+// answers.
+const WRITERS: [(usize, u64, bool, Result<(), Fault>); 9] = [
+    (usize::MAX, 0, false, Ok(())),
+    (1000, 0, false, Ok(())),
+    (usize::MAX, 1, false, Err(Fault::Io)),
+    (usize::MAX, 2, false, Err(Fault::Io)),
+    (1000, 1, false, Err(Fault::Io)),
+    (1000, 3, false, Err(Fault::Io)),
+    (1000, 11, false, Err(Fault::Io)),
+    (1000, 0, true, Err(Fault::Io)),
+    (0, 0, false, Err(Fault::Io)),
+];
+
+// What a run answers over a writer, and whether what it wrote is a beginning of this text, and all
+// of it where the run answers so.
+fn written(
+    alloc: Global,
+    text: &str,
+    wanted: &str,
+    mut target: Target,
+) -> (Result<(), Fault>, bool) {
+    let answer = run(alloc, text.as_bytes(), &mut target);
+    let (seen, wanted) = (target.text.as_slice(), wanted.as_bytes());
+    let is_enough = answer.is_err() || seen.len() == wanted.len();
+    (answer, is_enough && wanted.starts_with(seen))
+}
+
+// A script that looks so often, and what it prints.
+fn many_looks(alloc: Global) -> Result<(String, String), AllocError> {
+    let looks = "look\n".repeat(alloc, 1500)?;
+    let found = "look none\n".repeat(alloc, 1500)?;
+    Ok((
+        format!(in alloc; "once 8\n{looks}")?,
+        format!(in alloc; "{found}queue none\n")?,
+    ))
 }
 
 #[test]
 fn a_failed_write_leaves_a_beginning(rt: HostRuntime) -> Result<(), Fail> {
-    let alloc = rt.alloc();
-    let (text, wanted) = many_tasks(alloc)?;
-    for (piece, fails_at, flush_fails, answer) in [
-        (usize::MAX, 0, false, Ok(())),
-        (1000, 0, false, Ok(())),
-        (usize::MAX, 1, false, Err(Fault::Io)),
-        (usize::MAX, 2, false, Err(Fault::Io)),
-        (1000, 1, false, Err(Fault::Io)),
-        (1000, 3, false, Err(Fault::Io)),
-        (1000, 11, false, Err(Fault::Io)),
-        (1000, 0, true, Err(Fault::Io)),
-        (0, 0, false, Err(Fault::Io)),
-    ] {
-        let mut target = Target::new(alloc, piece, fails_at, flush_fails);
-        assert_eq!(rt;
-            run(alloc, text.as_bytes(), &mut target),
-            answer,
-            "at write {fails_at}"
-        );
-        let printed = target.text.as_slice();
-        assert!(rt;
-            wanted.as_bytes().starts_with(printed),
-            "at write {fails_at}"
-        );
-        assert!(rt;
-            answer.is_err() || printed.len() == wanted.len(),
-            "at write {fails_at}"
-        );
+    let (text, wanted) = many_looks(rt.alloc())?;
+    for (piece, fails_at, flush_fails, answer) in &WRITERS {
+        let target = Target::new(rt.alloc(), *piece, *fails_at, *flush_fails);
+        let seen = written(rt.alloc(), text.as_str(), wanted.as_str(), target);
+        assert_eq!(rt; seen, (*answer, true), "at write {fails_at}");
     }
     Ok(())
+}
+
+const SHORT: &[u8] = b"once 8\n";
+
+// How a run ends that is refused all memory.
+fn without_memory(alloc: Global) -> Result<Ending, AllocError> {
+    let held = hoard(alloc)?;
+    let refused = ending(alloc, SHORT);
+    drop(held);
+    Ok(refused)
 }
 
 #[test]
 fn refused_memory_prints_nothing(rt: HostRuntime) -> Result<(), Fail> {
-    let alloc = rt.alloc();
-    let held = hoard(alloc)?;
-    let (answer, printed) = run_text(alloc, b"once 8\n");
-    drop(held);
-    assert_eq!(rt; answer, Err(Fault::Memory));
-    assert!(rt; printed.is_empty());
-    let (answer, _) = run_text(alloc, b"once 8\n");
-    assert_eq!(rt; answer, Ok(()));
+    let seen = (without_memory(rt.alloc())?, ending(rt.alloc(), SHORT));
+    let wanted = ((Err(Fault::Memory), 0), (Ok(()), "queue none\n".len()));
+    assert_eq!(rt; seen, wanted);
     Ok(())
 }
 
+// The line of a fault, and its status.
+fn line_and_status(alloc: Global, fault: Fault) -> Result<String, Fault> {
+    Ok(format!(in alloc; "{fault}: {}", fault.status())?)
+}
+
 #[test]
-fn each_fault_has_its_line_and_status(rt: HostRuntime) -> Result<(), Fail> {
-    for (fault, line, status) in [
+fn each_fault_has_its_line_and_status(rt: HostRuntime) {
+    for (name, fault, wanted) in [
         (
+            "unreadable",
             Fault::Unreadable(12),
-            "once_replay: line 12 is unreadable",
-            2,
+            "once_replay: line 12 is unreadable: 2",
         ),
-        (Fault::Io, "once_replay: input or output failed", 3),
-        (Fault::Memory, "once_replay: out of memory", 4),
+        ("io", Fault::Io, "once_replay: input or output failed: 3"),
+        ("memory", Fault::Memory, "once_replay: out of memory: 4"),
     ] {
-        assert_eq!(rt; fault.to_string(rt.alloc())?.as_str(), line);
-        assert_eq!(rt; fault.status(), status);
+        compare(&rt, name, line_and_status(rt.alloc(), fault), wanted);
     }
-    Ok(())
 }
