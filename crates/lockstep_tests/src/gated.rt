@@ -1,118 +1,87 @@
 //! Memory that is refused: who waits is refused and leaves nothing behind, and nobody else asks.
 
-use async_once_cell::inner::{Inner, QINIT_BIT, READY_BIT};
-use async_once_cell::step::{Ending, Step};
-use side_by_side::doubles::Refused;
-use side_by_side::whole::{Call, Called, ERROR, PENDING, Told, VALUE, carry_out};
-use std::alloc::AllocGlobal;
-use std::process::Abort;
-use std::sync::Wait;
-
-// What a call tells that asks for no memory.
-fn unasked(ending: Ending, called: Option<Called>) -> Told {
-    Told {
-        ending: Some(ending),
-        asked: 0,
-        called,
-    }
-}
+use crate::scene::play;
 
 // A waiter asks three times: for the queue, for a copy of its waker and for the place in the list.
 // Where one of these is refused it is gone, and the holder finds nobody.
 #[test]
 fn each_request_of_a_waiter_refused(rt: HostRuntime) {
-    for n in 1..=4 {
-        let inner = Inner::new(false);
-        let (mut first, mut second) = (Step::new(), Step::new());
-        carry_out(&rt, &inner, &mut first, PENDING, 5, Refused::None);
-        let waits = carry_out(&rt, &inner, &mut second, PENDING, 7, Refused::Nth(n));
-        let word = inner.word();
-        let fills = carry_out(&rt, &inner, &mut first, VALUE, 5, Refused::All);
-        let (ending, waiting, called) = if n <= 3 {
-            (Ending::Memory, 0, None)
-        } else {
-            (Ending::Pending, 1, Some(VALUE.calls(7)))
-        };
-        assert_eq!(rt;
-            (waits.ending, waits.asked),
-            (Some(ending), n.min(3)),
-            "at {n}"
-        );
-        assert_eq!(rt; second.is_finished(), n <= 3, "at {n}");
-        assert_eq!(rt; fills, unasked(Ending::Value, called), "at {n}");
-        let words = (QINIT_BIT + waiting, READY_BIT + waiting);
-        assert_eq!(rt; (word, inner.word()), words, "at {n}");
-        assert_eq!(rt; inner.has_queue(), Some(n > 3), "at {n}");
-    }
+    play(
+        &rt,
+        &[
+            (
+                "1p5+w 2p71w! 1v5-w!",
+                "Some(Memory) 1 [Closed] finished 1+0 Some(false)\nSome(Value) 0 [Ran(Value), Closed, Put] finished 2+0 Some(false)\n",
+            ),
+            (
+                "1p5+w 2p72w! 1v5-w!",
+                "Some(Memory) 2 [Copied(None), Closed] finished 1+0 Some(true)\nSome(Value) 0 [Ran(Value), Closed, Put] finished 2+0 Some(false)\n",
+            ),
+            (
+                "1p5+w 2p73w! 1v5-w!",
+                "Some(Memory) 3 [Copied(Some(7)), Closed] finished 1+0 Some(true)\nSome(Value) 0 [Ran(Value), Closed, Put] finished 2+0 Some(false)\n",
+            ),
+            (
+                "1p5+w 2p74w! 1v5-w!",
+                "Some(Pending) 3 [Copied(Some(7))] rests 1+1 Some(true)\nSome(Value) 0 [Ran(Value), Closed, Put, Woke(All([Listing { ticket: 0, waker: Some(7) }]))] finished 2+1 Some(true)\n",
+            ),
+        ],
+    );
 }
 
-const ENDS: [Call; 3] = [VALUE, ERROR, Call::Drop];
-
-// A holder by the quick claim, alone or with one who waits, who ends by this call.
-fn quick_holder<R: Wait + AllocGlobal + Abort>(rt: &R, last: Call, waiting: u64) {
-    let inner = Inner::new(false);
-    let (mut first, mut second) = (Step::new(), Step::new());
-    let holds = carry_out(rt, &inner, &mut first, PENDING, 5, Refused::All);
-    if waiting == 1 {
-        carry_out(rt, &inner, &mut second, PENDING, 7, Refused::None);
-    }
-    let ends = carry_out(rt, &inner, &mut first, last, 5, Refused::All);
-    let called = if waiting == 1 {
-        Some(last.calls(7))
-    } else {
-        None
-    };
-    assert_eq!(rt; holds, unasked(Ending::Pending, None), "at {last:?}");
-    assert_eq!(rt; ends, unasked(last.ends(), called), "at {last:?}");
-    assert_eq!(rt; inner.word(), last.leaves(waiting), "at {last:?}");
-}
-
+// A holder by the quick claim, alone or with one who waits, who gives a value, fails or is dropped.
 #[test]
 fn a_quick_holder_asks_for_no_memory(rt: HostRuntime) {
-    for last in ENDS {
-        quick_holder(&rt, last, 0);
-        quick_holder(&rt, last, 1);
-    }
-}
-
-// A holder that got the right under the lock, with one who waits and then is dropped.
-fn later_holder<R: Wait + AllocGlobal + Abort>(rt: &R, last: Call) {
-    let inner = Inner::new(false);
-    let (mut first, mut second, mut third) = (Step::new(), Step::new(), Step::new());
-    carry_out(rt, &inner, &mut first, PENDING, 5, Refused::None);
-    carry_out(rt, &inner, &mut second, PENDING, 7, Refused::None);
-    carry_out(rt, &inner, &mut first, Call::Drop, 5, Refused::All);
-    let holds = carry_out(rt, &inner, &mut second, PENDING, 7, Refused::All);
-    let rests = second.is_resting();
-    carry_out(rt, &inner, &mut third, PENDING, 8, Refused::None);
-    let waits = carry_out(rt, &inner, &mut third, PENDING, 8, Refused::All);
-    let ends = carry_out(rt, &inner, &mut second, last, 7, Refused::All);
-    let leaves = carry_out(rt, &inner, &mut third, Call::Drop, 8, Refused::All);
-    assert_eq!(rt;
-        [holds, waits],
-        [unasked(Ending::Pending, None); 2],
-        "at {last:?}"
-    );
-    assert_eq!(rt;
-        ends,
-        unasked(last.ends(), Some(last.calls(8))),
-        "at {last:?}"
-    );
-    assert_eq!(rt;
-        (leaves.ending, leaves.asked),
-        (Some(Ending::Dropped), 0),
-        "at {last:?}"
-    );
-    assert_eq!(rt;
-        (rests, inner.word()),
-        (true, last.leaves(0)),
-        "at {last:?}"
+    play(
+        &rt,
+        &[
+            (
+                "1p5-w! 1v5-w!",
+                "Some(Pending) 0 [Ran(Pending)] rests 1+0 Some(false)\nSome(Value) 0 [Ran(Value), Closed, Put] finished 2+0 Some(false)\n",
+            ),
+            (
+                "1p5-w! 1e5-w!",
+                "Some(Pending) 0 [Ran(Pending)] rests 1+0 Some(false)\nSome(Error) 0 [Ran(Error), Closed] finished 0+0 Some(false)\n",
+            ),
+            (
+                "1p5-w! 1d5-w!",
+                "Some(Pending) 0 [Ran(Pending)] rests 1+0 Some(false)\nSome(Dropped) 0 [Closed] finished 0+0 Some(false)\n",
+            ),
+            (
+                "1p5-w! 2p7+w 1v5-w!",
+                "Some(Pending) 0 [Ran(Pending)] rests 1+0 Some(false)\nSome(Value) 0 [Ran(Value), Closed, Put, Woke(All([Listing { ticket: 0, waker: Some(7) }]))] finished 2+1 Some(true)\n",
+            ),
+            (
+                "1p5-w! 2p7+w 1e5-w!",
+                "Some(Pending) 0 [Ran(Pending)] rests 1+0 Some(false)\nSome(Error) 0 [Ran(Error), Closed, Woke(One(Some(7)))] finished 0+1 Some(true)\n",
+            ),
+            (
+                "1p5-w! 2p7+w 1d5-w!",
+                "Some(Pending) 0 [Ran(Pending)] rests 1+0 Some(false)\nSome(Dropped) 0 [Closed, Woke(One(Some(7)))] finished 0+1 Some(true)\n",
+            ),
+        ],
     );
 }
 
+// A holder that got the right under the lock, with one who waits and then is dropped. The holder gives
+// a value, fails or is dropped.
 #[test]
 fn a_later_holder_asks_for_no_memory(rt: HostRuntime) {
-    for last in ENDS {
-        later_holder(&rt, last);
-    }
+    play(
+        &rt,
+        &[
+            (
+                "1p5+w 2p7+w 1d5-w 2p7-w! 3p8+w 3p8-w! 2v7-w! 3d8-w!",
+                "Some(Pending) 0 [Ran(Pending)] rests 0+1 Some(true)\nSome(Pending) 0 [] rests 0+2 Some(true)\nSome(Value) 0 [Ran(Value), Closed, Put, Woke(All([Listing { ticket: 0, waker: Some(8) }]))] finished 2+1 Some(true)\nSome(Dropped) 0 [Closed, Woke(One(None))] finished 2+0 Some(false)\n",
+            ),
+            (
+                "1p5+w 2p7+w 1d5-w 2p7-w! 3p8+w 3p8-w! 2e7-w! 3d8-w!",
+                "Some(Pending) 0 [Ran(Pending)] rests 0+1 Some(true)\nSome(Pending) 0 [] rests 0+2 Some(true)\nSome(Error) 0 [Ran(Error), Closed, Woke(One(Some(8)))] finished 0+1 Some(true)\nSome(Dropped) 0 [Closed, Woke(One(None))] finished 0+0 Some(true)\n",
+            ),
+            (
+                "1p5+w 2p7+w 1d5-w 2p7-w! 3p8+w 3p8-w! 2d7-w! 3d8-w!",
+                "Some(Pending) 0 [Ran(Pending)] rests 0+1 Some(true)\nSome(Pending) 0 [] rests 0+2 Some(true)\nSome(Dropped) 0 [Closed, Woke(One(Some(8)))] finished 0+1 Some(true)\nSome(Dropped) 0 [Closed, Woke(One(None))] finished 0+0 Some(true)\n",
+            ),
+        ],
+    );
 }

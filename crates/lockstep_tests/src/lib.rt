@@ -6,4 +6,6 @@ mod gated;
 #[cfg(test)]
 mod rows;
 #[cfg(test)]
+mod scene;
+#[cfg(test)]
 mod stranded;

@@ -2,25 +2,21 @@
 
 mod scripts;
 
-use scripts::{BETWEEN, CALLS, DROPS, Order, POLLS, REFUSALS, order_in};
+use scripts::{BETWEEN, CALLS, DROPS, Order, POLLS, REFUSALS, Steps, order_in};
 use side_by_side::pair::{Fault, Pair};
 use std::alloc::AllocGlobal;
 use std::process::Abort;
 use std::sync::Wait;
 
-fn obey_all<R: Wait + AllocGlobal + Abort>(
-    rt: &R,
-    name: &str,
-    pair: &mut Pair<'_, R>,
-    lines: &str,
-) {
+// Does what each line says. A line that cannot be read is a fault of the task 0.
+fn obey_all<R: Wait + AllocGlobal>(pair: &mut Pair<'_, R>, lines: &str) -> Result<(), Fault> {
     for line in lines.lines() {
-        let Some(order) = order_in(line) else {
-            assert!(rt; false, "{line} in {name}");
-            return;
-        };
-        assert_eq!(rt; obey(pair, order), Ok(()), "{line} in {name}");
+        match order_in(line) {
+            Some(order) => obey(pair, order)?,
+            None => return Err(Fault::Unfit(0)),
+        }
     }
+    Ok(())
 }
 
 // An order that does not fit is passed over.
@@ -32,25 +28,33 @@ fn obey<R: Wait + AllocGlobal>(pair: &mut Pair<'_, R>, order: Order) -> Result<(
             Ok(())
         }
         Order::Drop(t) => pair.begin_drop(t),
-        Order::Go {
-            task,
-            answer,
-            is_granted,
-            times,
-        } => {
-            for _ in 0..times {
-                pair.go(task, answer, is_granted)?;
-            }
-            Ok(())
-        }
+        Order::Go(steps) => go(pair, steps),
     }
+}
+
+fn go<R: Wait + AllocGlobal>(pair: &mut Pair<'_, R>, steps: Steps) -> Result<(), Fault> {
+    for _ in 0..steps.times {
+        pair.go(steps.task, steps.answer, steps.is_granted)?;
+    }
+    Ok(())
+}
+
+// What came of a script: whether a queue stands at the door.
+fn queue_after<R: Wait + AllocGlobal>(
+    rt: &R,
+    limit: u64,
+    lines: &str,
+) -> Result<Option<bool>, Fault> {
+    let mut pair = Pair::new(rt, limit);
+    obey_all(&mut pair, lines)?;
+    Ok(pair.has_queue())
 }
 
 fn run_rows<R: Wait + AllocGlobal + Abort>(rt: &R, rows: &[(&str, bool, u64, &str)]) {
     for (name, has_queue, limit, lines) in rows {
-        let mut pair = Pair::new(rt, *limit);
-        obey_all(rt, name, &mut pair, lines);
-        assert_eq!(rt; pair.has_queue(), Some(*has_queue), "in {name}");
+        let seen = queue_after(rt, *limit, lines);
+        let is_so = matches!(&seen, Ok(Some(queue)) if queue == has_queue);
+        assert!(rt; is_so, "{seen:?} in {name}");
     }
 }
 
@@ -74,16 +78,26 @@ fn failures_call_one(rt: HostRuntime) {
     run_rows(&rt, &CALLS);
 }
 
+// A script in which a step is made so many times between two others.
+fn between<R: Wait + AllocGlobal>(
+    rt: &R,
+    (before, step, after): (&str, &str, &str),
+    steps: u64,
+) -> Result<(), Fault> {
+    let mut pair = Pair::new(rt, 8);
+    obey_all(&mut pair, before)?;
+    for _ in 0..steps {
+        obey_all(&mut pair, step)?;
+    }
+    obey_all(&mut pair, after)
+}
+
 #[test]
 fn steps_between_others(rt: HostRuntime) {
     for (name, most, before, step, after) in &BETWEEN {
         for steps in 0..=*most {
-            let mut pair = Pair::new(&rt, 8);
-            obey_all(&rt, name, &mut pair, before);
-            for _ in 0..steps {
-                obey_all(&rt, name, &mut pair, step);
-            }
-            obey_all(&rt, name, &mut pair, after);
+            let seen = between(&rt, (before, step, after), steps);
+            assert!(rt; seen.is_ok(), "{seen:?} in {name}");
         }
     }
 }

@@ -34,6 +34,15 @@ impl Gate {
         }
     }
 
+    /// A gate that grants all, or refuses all.
+    pub fn of(is_granted: bool) -> Gate {
+        Gate::new(if is_granted {
+            Refused::None
+        } else {
+            Refused::All
+        })
+    }
+
     /// How many requests were made.
     pub fn asked(&self) -> u64 {
         self.asked.get()
@@ -110,10 +119,15 @@ impl<R: Wait + AllocGlobal> Parts<u64> for Gated<'_, '_, '_, R> {
         if !matches!(&*op, Op::List(None, _)) || self.gate.grants() {
             return self.shared.section(queue, op);
         }
-        match self.shared.section(queue, &mut Op::Look(None)) {
-            Answer::Held => Answer::Memory,
-            answer => answer,
-        }
+        without_memory(self.shared.section(queue, &mut Op::Look(None)))
+    }
+}
+
+// The answer to who would be listed, and is refused, in place of that to who looks.
+fn without_memory(answer: Answer<u64>) -> Answer<u64> {
+    match answer {
+        Answer::Held => Answer::Memory,
+        answer => answer,
     }
 }
 
@@ -240,6 +254,14 @@ pub enum Note {
     Woke(Out<u64>),
 }
 
+/// Whom a side called.
+#[derive(Clone, Copy, Debug, PartialEq, Eq)]
+pub enum Woken {
+    Nobody,
+    One,
+    All,
+}
+
 /// A side whose init answers this, and which notes each of its calls.
 #[derive(Drop)]
 pub struct Noting<'g> {
@@ -247,6 +269,7 @@ pub struct Noting<'g> {
     pub answer: Polled,
     pub waker: u64,
     pub notes: Vec<Note>,
+    pub woken: Woken,
     /// A note was lost, since the memory for it was refused.
     pub is_short: bool,
 }
@@ -258,6 +281,7 @@ impl<'g> Noting<'g> {
             answer,
             waker,
             notes: Vec::new(alloc),
+            woken: Woken::Nobody,
             is_short: false,
         }
     }
@@ -302,6 +326,11 @@ impl Side<u64> for Noting<'_> {
     fn wake(&mut self, out: Out<u64>)
         ensures stays { ⊤ }
     {
+        self.woken = match &out {
+            Out::One(None) => Woken::Nobody,
+            Out::One(Some(_)) => Woken::One,
+            Out::All(_) => Woken::All,
+        };
         self.note(Note::Woke(out));
     }
 }

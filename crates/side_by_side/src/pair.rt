@@ -3,12 +3,19 @@
 ghost use Rattle.std.specs.Prelude.{◌≡◌, ◌≤◌, ◌^◌, ◌-◌, true};
 ghost use Rattle.async_once_cell.specs.Steps.{in_call};
 
-use crate::doubles::{Gate, Gated, Note, Noting, Refused, Tested};
+use crate::doubles::{Gate, Gated, Note, Noting, Refused, Tested, Woken};
 use async_once_cell::inner::{Inner, MAX_WAITERS, Parts, Queue};
 use async_once_cell::step::{Polled, Progress, Step};
-use std::alloc::AllocGlobal;
+use std::alloc::{AllocGlobal, Global};
 use std::collections::BTreeMap;
 use std::sync::Wait;
+
+/// What a step came to, in both cells.
+#[derive(Clone, Copy)]
+pub struct Shown {
+    pub progress: Progress,
+    pub woken: Woken,
+}
 
 /// What a step shows and leaves behind.
 #[derive(Debug, Drop, PartialEq, Eq)]
@@ -20,12 +27,13 @@ pub struct Seen {
     /// Whether the next step takes the task's listing out.
     pub is_leaving: bool,
     pub notes: Vec<Note>,
+    pub woken: Woken,
     pub word: u64,
     pub has_queue: Option<bool>,
 }
 
 /// Why the two do not go on.
-#[derive(Debug, Drop, PartialEq, Eq)]
+#[derive(Debug, Drop)]
 pub enum Fault {
     /// A step of this task: what it showed of the shared parts, and what of the plain ones.
     Step(u64, Seen, Seen),
@@ -40,7 +48,7 @@ pub enum Fault {
 }
 
 /// Where a task stands.
-#[derive(Clone, Copy, Debug, PartialEq, Eq)]
+#[derive(Clone, Copy, PartialEq, Eq)]
 pub enum Stage {
     /// There is no such task.
     Unknown,
@@ -57,6 +65,38 @@ struct Task {
     waker: Option<u64>,
     plain: Step<u64, u64>,
     shared: Step<u64, Queue<u64>>,
+}
+
+impl Task {
+    fn new() -> Task {
+        Task {
+            waker: None,
+            plain: Step::new(),
+            shared: Step::new(),
+        }
+    }
+
+    // Begins a poll, where it rests.
+    fn poll(&mut self, waker: u64) {
+        if self.plain.is_resting() && self.shared.is_resting() {
+            self.waker = Some(waker);
+            self.plain.begin();
+            self.shared.begin();
+        }
+    }
+
+    // Begins a drop, where it rests; whether it begins alike in the two cells.
+    fn begin_drop(&mut self, alloc: Global) -> bool {
+        if !self.plain.is_resting() || !self.shared.is_resting() {
+            return true;
+        }
+        self.waker = None;
+        let gate = Gate::new(Refused::None);
+        let mut plain = Noting::new(alloc, &gate, Polled::Pending, 0);
+        let mut shared = Noting::new(alloc, &gate, Polled::Pending, 0);
+        let more = self.plain.begin_drop(&mut plain);
+        self.shared.begin_drop(&mut shared) == more && shared.notes == plain.notes
+    }
 }
 
 /// The two cells and the tasks.
@@ -116,45 +156,24 @@ impl<'r, R: Wait + AllocGlobal> Pair<'r, R> {
 
     /// Makes a task, where there is none with this number.
     pub fn make(&mut self, t: u64) -> Result<(), Fault> {
-        if self.tasks.contains_key(&t) {
+        if self.tasks.contains_key(&t) || self.tasks.insert(t, Task::new()).is_ok() {
             return Ok(());
         }
-        let task = Task {
-            waker: None,
-            plain: Step::new(),
-            shared: Step::new(),
-        };
-        if self.tasks.insert(t, task).is_err() {
-            return Err(Fault::Memory);
-        }
-        Ok(())
+        Err(Fault::Memory)
     }
 
     /// Begins a poll of a task that rests.
     pub fn poll(&mut self, t: u64, waker: u64) {
-        let Some(task) = self.tasks.get_mut(&t) else {
-            return;
-        };
-        if task.plain.is_resting() && task.shared.is_resting() {
-            task.waker = Some(waker);
-            task.plain.begin();
-            task.shared.begin();
+        if let Some(task) = self.tasks.get_mut(&t) {
+            task.poll(waker);
         }
     }
 
     /// Begins a drop of a task that rests.
     pub fn begin_drop(&mut self, t: u64) -> Result<(), Fault> {
-        let Some(task) = self.tasks.get_mut(&t) else {
-            return Ok(());
-        };
-        if task.plain.is_resting() && task.shared.is_resting() {
-            let alloc = self.rt.alloc();
-            let gate = Gate::new(Refused::None);
-            let mut plain = Noting::new(alloc, &gate, Polled::Pending, 0);
-            let mut shared = Noting::new(alloc, &gate, Polled::Pending, 0);
-            task.waker = None;
-            let more = task.plain.begin_drop(&mut plain);
-            if task.shared.begin_drop(&mut shared) != more || shared.notes != plain.notes {
+        let alloc = self.rt.alloc();
+        if let Some(task) = self.tasks.get_mut(&t) {
+            if !task.begin_drop(alloc) {
                 return Err(Fault::Drop(t));
             }
         }
@@ -163,20 +182,21 @@ impl<'r, R: Wait + AllocGlobal> Pair<'r, R> {
 
     /// Makes one step of the task in each of the cells: an init that is polled answers so, and memory
     /// is given or not. None says that no call of the task is under way.
-    pub fn go(&mut self, t: u64, answer: Polled, is_granted: bool) -> Result<Option<Seen>, Fault> {
+    pub fn go(&mut self, t: u64, answer: Polled, is_granted: bool) -> Result<Option<Shown>, Fault> {
         let Some(task) = self.tasks.get_mut(&t) else {
             return Ok(None);
         };
         if task.plain.left() == 0 || task.shared.left() == 0 {
             return Ok(None);
         }
-        let gate = Gate::new(if is_granted {
-            Refused::None
-        } else {
-            Refused::All
-        });
-        let plain = plain_step(self.rt, &mut self.plain, task, answer, &gate, self.limit)?;
-        let shared = shared_step(self.rt, &self.shared, task, answer, &gate, self.limit)?;
+        let gate = Gate::of(is_granted);
+        let plain = plain_step(self.rt, &mut self.plain, task, answer, &gate, self.limit);
+        let shared = shared_step(self.rt, &self.shared, task, answer, &gate, self.limit);
+        self.compared(t, plain?, shared?)
+    }
+
+    // What a step of this task showed, where it is the same in the two cells.
+    fn compared(&self, t: u64, plain: Seen, shared: Seen) -> Result<Option<Shown>, Fault> {
         if self.plain.is_broken {
             return Err(Fault::Unfit(t));
         }
@@ -186,7 +206,10 @@ impl<'r, R: Wait + AllocGlobal> Pair<'r, R> {
         if !self.lists_agree() {
             return Err(Fault::Lists(t));
         }
-        Ok(Some(shared))
+        Ok(Some(Shown {
+            progress: shared.progress,
+            woken: shared.woken,
+        }))
     }
 
     // Whether the two queues have the same flag and the same listings.
@@ -237,19 +260,8 @@ fn plain_step<R: AllocGlobal>(
     }
     parts.core.grant(gate.is_open());
     let progress = task.plain.advance(parts, &mut side, limit);
-    if side.is_short {
-        return Err(Fault::Memory);
-    }
-    Ok(Seen {
-        progress,
-        left: task.plain.left(),
-        is_resting: task.plain.is_resting(),
-        is_running: task.plain.is_running(),
-        is_leaving: task.plain.is_leaving(),
-        notes: side.notes,
-        word: parts.core.word.bits(),
-        has_queue: Some(parts.core.door.is_some()),
-    })
+    let (word, has_queue) = (parts.core.word.bits(), Some(parts.core.door.is_some()));
+    show(&task.plain, progress, side, word, has_queue)
 }
 
 fn shared_step<R: Wait + AllocGlobal>(
@@ -269,17 +281,35 @@ fn shared_step<R: Wait + AllocGlobal>(
         gate,
     };
     let progress = task.shared.advance(&mut parts, &mut side, limit);
+    show(
+        &task.shared,
+        progress,
+        side,
+        inner.word(),
+        inner.has_queue(),
+    )
+}
+
+// What a step shows, after which a task stands so, with what it told a side, and what it left.
+fn show<Q: Drop>(
+    step: &Step<u64, Q>,
+    progress: Progress,
+    side: Noting<'_>,
+    word: u64,
+    has_queue: Option<bool>,
+) -> Result<Seen, Fault> {
     if side.is_short {
         return Err(Fault::Memory);
     }
     Ok(Seen {
         progress,
-        left: task.shared.left(),
-        is_resting: task.shared.is_resting(),
-        is_running: task.shared.is_running(),
-        is_leaving: task.shared.is_leaving(),
+        left: step.left(),
+        is_resting: step.is_resting(),
+        is_running: step.is_running(),
+        is_leaving: step.is_leaving(),
         notes: side.notes,
-        word: inner.word(),
-        has_queue: inner.has_queue(),
+        woken: side.woken,
+        word,
+        has_queue,
     })
 }

@@ -4,7 +4,7 @@ ghost use Rattle.std.specs.Prelude.{◌≡◌};
 use async_once_cell::step::Polled;
 
 /// One line of a script.
-#[derive(Clone, Copy, Debug)]
+#[derive(Clone, Copy)]
 pub enum Order {
     /// `make T`: a task is made.
     Make(u64),
@@ -12,47 +12,61 @@ pub enum Order {
     Poll(u64, u64),
     /// `drop T`: a drop of it begins.
     Drop(u64),
-    /// `go T A`, or `run T A` for sixteen such lines: it makes one step of its call, where an init
-    /// answers so. With an ` x` after it no memory is given.
-    Go {
-        task: u64,
-        answer: Polled,
-        is_granted: bool,
-        times: u64,
-    },
+    /// `go T A`, or `run T A` for sixteen such lines.
+    Go(Steps),
+}
+
+/// A task makes so many steps of its call, where an init answers so. With an ` x` after the line no
+/// memory is given.
+#[derive(Clone, Copy)]
+pub struct Steps {
+    pub task: u64,
+    pub answer: Polled,
+    pub is_granted: bool,
+    pub times: u64,
 }
 
 /// Reads a line.
 pub fn order_in(line: &str) -> Option<Order> {
     let (word, rest) = line.split_once(' ')?;
     match word {
-        "make" => Some(Order::Make(rest.parse().ok()?)),
-        "drop" => Some(Order::Drop(rest.parse().ok()?)),
-        "poll" => {
-            let (task, waker) = rest.split_once(' ')?;
-            Some(Order::Poll(task.parse().ok()?, waker.parse().ok()?))
-        }
+        "make" => Some(Order::Make(number(rest)?)),
+        "drop" => Some(Order::Drop(number(rest)?)),
+        "poll" => poll_in(rest),
         "go" => steps_in(rest, 1),
         "run" => steps_in(rest, 16),
         _ => None,
     }
 }
 
-// The answers are `p`, `v` with a value and `e` with an error. No step looks at these.
+fn number(text: &str) -> Option<u64> {
+    text.parse().ok()
+}
+
+fn poll_in(text: &str) -> Option<Order> {
+    let (task, waker) = text.split_once(' ')?;
+    Some(Order::Poll(number(task)?, number(waker)?))
+}
+
 fn steps_in(text: &str, times: u64) -> Option<Order> {
     let (task, given) = text.split_once(' ')?;
-    let answer = match given.as_bytes().first()? {
-        b'p' => Polled::Pending,
-        b'v' => Polled::Value,
-        b'e' => Polled::Error,
-        _ => return None,
-    };
-    Some(Order::Go {
-        task: task.parse().ok()?,
-        answer,
+    let steps = Steps {
+        task: number(task)?,
+        answer: answer_in(given)?,
         is_granted: !given.ends_with(" x"),
         times,
-    })
+    };
+    Some(Order::Go(steps))
+}
+
+// The answers are `p`, `v` with a value and `e` with an error. No step looks at these.
+fn answer_in(text: &str) -> Option<Polled> {
+    match text.as_bytes().first()? {
+        b'p' => Some(Polled::Pending),
+        b'v' => Some(Polled::Value),
+        b'e' => Some(Polled::Error),
+        _ => None,
+    }
 }
 
 /// Scripts of polls in turn: the name, whether a queue stands at the door at the end, the limit, and
