@@ -12,20 +12,32 @@ use std::sync::Wait;
 
 type Trying<'a, R> = TryInitFuture<'a, u64, u64, Failing, R>;
 
-// So many futures that wait, once another holds.
+// So many futures, each polled once: the first holds where no other does, and the others wait.
+fn polled<'a, R: Wait + AllocGlobal>(
+    rt: &'a R,
+    cell: &'a OnceCell<u64>,
+    number: usize,
+    cx: &mut Context<'_>,
+) -> Result<Vec<Trying<'a, R>>, AllocError> {
+    let mut futures = Vec::with_capacity(rt.alloc(), number)?;
+    for _ in 0..number {
+        let mut future = cell.get_or_try_init(rt, Failing::new());
+        number_of(Future::poll(&mut future, cx));
+        futures.push(future)?;
+    }
+    Ok(futures)
+}
+
+// So many futures that wait, and nobody holds.
 fn waiting<'a, R: Wait + AllocGlobal>(
     rt: &'a R,
     cell: &'a OnceCell<u64>,
     number: usize,
     cx: &mut Context<'_>,
 ) -> Result<Vec<Trying<'a, R>>, AllocError> {
-    let mut waiters = Vec::with_capacity(rt.alloc(), number)?;
-    for _ in 0..number {
-        let mut waiter = cell.get_or_try_init(rt, Failing::new());
-        number_of(Future::poll(&mut waiter, cx));
-        waiters.push(waiter)?;
-    }
-    Ok(waiters)
+    let mut first = cell.get_or_try_init(rt, Failing::new());
+    number_of(Future::poll(&mut first, cx));
+    polled(rt, cell, number, cx)
 }
 
 /// A new holder gets the right, whoever was called waits again, and the holder fails.
@@ -37,24 +49,31 @@ pub fn failures<R: Wait + AllocGlobal>(
     cx: &mut Context<'_>,
 ) -> Result<u64, AllocError> {
     let cell = OnceCell::new();
-    let mut first = cell.get_or_try_init(rt, Failing::new());
-    let mut sum = number_of(Future::poll(&mut first, cx));
     let mut waiters = waiting(rt, &cell, number, cx)?;
-    drop(first);
+    let mut sum: u64 = 0;
     let mut called = 0;
     for _ in 0..count {
-        let mut holder = cell.get_or_try_init(rt, Failing::new());
-        sum = sum.wrapping_add(number_of(Future::poll(&mut holder, cx)));
-        if let Some(waiter) = waiters.get_mut(called) {
-            sum = sum.wrapping_add(number_of(Future::poll(waiter, cx)));
-        }
+        sum = sum.wrapping_add(failure(rt, &cell, waiters.get_mut(called), cx));
         called = called.wrapping_add(1);
         if called >= number {
             called = 0;
         }
-        sum = sum.wrapping_add(number_of(Future::poll(&mut holder, cx)));
     }
     Ok(sum)
+}
+
+fn failure<'a, R: Wait + AllocGlobal>(
+    rt: &'a R,
+    cell: &'a OnceCell<u64>,
+    called: Option<&mut Trying<'a, R>>,
+    cx: &mut Context<'_>,
+) -> u64 {
+    let mut holder = cell.get_or_try_init(rt, Failing::new());
+    let mut sum = number_of(Future::poll(&mut holder, cx));
+    if let Some(waiter) = called {
+        sum = sum.wrapping_add(number_of(Future::poll(waiter, cx)));
+    }
+    sum.wrapping_add(number_of(Future::poll(&mut holder, cx)))
 }
 
 /// A holder fails, and then each who waits, in its turn.
@@ -78,15 +97,24 @@ fn all_turns<R: Wait + AllocGlobal>(
     cx: &mut Context<'_>,
 ) -> Result<u64, AllocError> {
     let cell = OnceCell::new();
-    let mut holder = cell.get_or_try_init(rt, Failing::new());
-    number_of(Future::poll(&mut holder, cx));
-    let mut waiters = waiting(rt, &cell, number, cx)?;
-    let mut sum = number_of(Future::poll(&mut holder, cx));
-    for waiter in waiters.iter_mut() {
+    let mut futures = polled(rt, &cell, number.saturating_add(1), cx)?;
+    match futures.split_first_mut() {
+        Some((holder, waiters)) => {
+            let sum = number_of(Future::poll(holder, cx));
+            Ok(sum.wrapping_add(poll_twice(waiters, cx)))
+        }
+        None => Ok(0),
+    }
+}
+
+// Polls each twice: it gets the right, and fails.
+fn poll_twice<R: Wait + AllocGlobal>(waiters: &mut [Trying<'_, R>], cx: &mut Context<'_>) -> u64 {
+    let mut sum: u64 = 0;
+    for waiter in waiters {
         sum = sum.wrapping_add(number_of(Future::poll(waiter, cx)));
         sum = sum.wrapping_add(number_of(Future::poll(waiter, cx)));
     }
-    Ok(sum)
+    sum
 }
 
 /// The value or the error of a poll, and 0 where it is pending or refused.

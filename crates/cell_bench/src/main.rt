@@ -23,14 +23,26 @@ where
     R: Input + Print + AllocGlobal + Wait,
 {
     for line in rt.lines(rt.alloc()) {
-        let line = line?;
-        let Some((operation, count)) = parse_line(line.as_str()) else {
-            return Err(io::Error::other("a line is an operation and a count"));
-        };
-        let sum = perform(rt, operation, count, cx)?;
-        println!(rt; "{line} {sum}")?;
+        answer(rt, line?.as_str(), cx)?;
     }
     Ok(())
+}
+
+fn answer<R: Print + AllocGlobal + Wait>(
+    rt: &R,
+    line: &str,
+    cx: &mut Context<'_>,
+) -> io::Result<()> {
+    let sum = sum_of(rt, line, cx)?;
+    println!(rt; "{line} {sum}")
+}
+
+/// Makes what a line says, and gives the sum.
+fn sum_of<R: AllocGlobal + Wait>(rt: &R, line: &str, cx: &mut Context<'_>) -> io::Result<u64> {
+    match parse_line(line) {
+        Some((operation, count)) => Ok(perform(rt, operation, count, cx)?),
+        None => Err(io::Error::other("a line is an operation and a count")),
+    }
 }
 
 fn main(rt: HostRuntime) -> io::Result<()> {

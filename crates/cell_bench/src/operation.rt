@@ -4,7 +4,7 @@ ghost use Rattle.cell_bench.specs.Name.{name_of, IsOf};
 ghost use Rattle.cell_bench.specs.declared.operation.Operation.{Operation};
 
 /// What is made.
-#[derive(Clone, Copy, Debug, PartialEq, Eq)]
+#[derive(Clone, Copy)]
 pub enum Operation {
     /// A look at a cell that is set.
     Get,

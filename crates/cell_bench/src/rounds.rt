@@ -5,6 +5,7 @@
 use crate::failures::{failures, turns};
 use crate::operation::Operation;
 use crate::switch::Switched;
+use async_once_cell::once::InitFuture;
 use async_once_cell::{Lazy, OnceCell};
 use futures::Future;
 use futures::future::{Ready, ready};
@@ -23,7 +24,7 @@ pub fn perform<R: Wait + AllocGlobal>(
     match operation {
         Operation::Get => Ok(get(&OnceCell::new_with(1), count)),
         Operation::Init => Ok(init(rt, count, cx)),
-        Operation::Listed => Ok(listed(rt, count, cx)),
+        Operation::Listed => listed(rt, count, cx),
         Operation::OneWaits => waiters(rt, 1, count, cx),
         Operation::TenWait => waiters(rt, 10, count, cx),
         Operation::HundredWait => waiters(rt, 100, count, cx),
@@ -50,25 +51,68 @@ fn get(cell: &OnceCell<u64>, count: u64) -> u64 {
 fn init<R: Wait + AllocGlobal>(rt: &R, count: u64, cx: &mut Context<'_>) -> u64 {
     let mut sum: u64 = 0;
     for _ in 0..count {
-        let cell = OnceCell::new();
-        let mut future = cell.get_or_init(rt, ready(1));
-        sum = sum.wrapping_add(value_of(Future::poll(&mut future, cx)));
+        sum = sum.wrapping_add(one_init(rt, cx));
+    }
+    sum
+}
+
+fn one_init<R: Wait + AllocGlobal>(rt: &R, cx: &mut Context<'_>) -> u64 {
+    let cell = OnceCell::new();
+    let mut future = cell.get_or_init(rt, ready(1));
+    value_of(Future::poll(&mut future, cx))
+}
+
+type Waiting<'a, R> = InitFuture<'a, u64, Switched<'a>, R>;
+
+// So many futures of a cell, each with the same switch. The first that is polled holds.
+fn futures_of<'a, R: Wait + AllocGlobal>(
+    rt: &'a R,
+    cell: &'a OnceCell<u64>,
+    switch: &'a Cell<bool>,
+    number: usize,
+) -> Result<Vec<Waiting<'a, R>>, AllocError> {
+    let mut futures = Vec::with_capacity(rt.alloc(), number)?;
+    for _ in 0..number {
+        futures.push(cell.get_or_init(rt, Switched::new(switch)))?;
+    }
+    Ok(futures)
+}
+
+// Polls each once.
+fn poll_each<R: Wait + AllocGlobal>(futures: &mut [Waiting<'_, R>], cx: &mut Context<'_>) -> u64 {
+    let mut sum: u64 = 0;
+    for future in futures {
+        sum = sum.wrapping_add(value_of(Future::poll(future, cx)));
     }
     sum
 }
 
 #[inline(never)]
-fn listed<R: Wait + AllocGlobal>(rt: &R, count: u64, cx: &mut Context<'_>) -> u64 {
+fn listed<R: Wait + AllocGlobal>(
+    rt: &R,
+    count: u64,
+    cx: &mut Context<'_>,
+) -> Result<u64, AllocError> {
     let (cell, switch) = (OnceCell::new(), Cell::new(false));
-    let mut holder = cell.get_or_init(rt, Switched::new(&switch));
-    let mut waiter = cell.get_or_init(rt, Switched::new(&switch));
-    let mut sum = value_of(Future::poll(&mut holder, cx));
-    for _ in 0..=count {
-        sum = sum.wrapping_add(value_of(Future::poll(&mut waiter, cx)));
+    let mut futures = futures_of(rt, &cell, &switch, 2)?;
+    let mut sum = poll_each(futures.as_mut_slice(), cx);
+    if let Some(waiter) = futures.get_mut(1) {
+        sum = sum.wrapping_add(poll_often(waiter, count, cx));
     }
     switch.set(true);
-    sum = sum.wrapping_add(value_of(Future::poll(&mut holder, cx)));
-    sum.wrapping_add(value_of(Future::poll(&mut waiter, cx)))
+    Ok(sum.wrapping_add(poll_each(futures.as_mut_slice(), cx)))
+}
+
+fn poll_often<R: Wait + AllocGlobal>(
+    waiter: &mut Waiting<'_, R>,
+    count: u64,
+    cx: &mut Context<'_>,
+) -> u64 {
+    let mut sum: u64 = 0;
+    for _ in 0..count {
+        sum = sum.wrapping_add(value_of(Future::poll(waiter, cx)));
+    }
+    sum
 }
 
 #[inline(never)]
@@ -91,30 +135,17 @@ fn round<R: Wait + AllocGlobal>(
     cx: &mut Context<'_>,
 ) -> Result<u64, AllocError> {
     let (cell, switch) = (OnceCell::new(), Cell::new(false));
-    let mut holder = cell.get_or_init(rt, Switched::new(&switch));
-    let mut sum = value_of(Future::poll(&mut holder, cx));
-    let mut waiters = Vec::with_capacity(rt.alloc(), waiting)?;
-    for _ in 0..waiting {
-        waiters.push(cell.get_or_init(rt, Switched::new(&switch)))?;
-    }
-    for waiter in waiters.iter_mut() {
-        sum = sum.wrapping_add(value_of(Future::poll(waiter, cx)));
-    }
+    let mut futures = futures_of(rt, &cell, &switch, waiting.saturating_add(1))?;
+    let sum = poll_each(futures.as_mut_slice(), cx);
     switch.set(true);
-    sum = sum.wrapping_add(value_of(Future::poll(&mut holder, cx)));
-    for waiter in waiters.iter_mut() {
-        sum = sum.wrapping_add(value_of(Future::poll(waiter, cx)));
-    }
-    Ok(sum)
+    Ok(sum.wrapping_add(poll_each(futures.as_mut_slice(), cx)))
 }
 
 #[inline(never)]
 fn lazy_first<R: Wait + AllocGlobal>(rt: &R, count: u64, cx: &mut Context<'_>) -> u64 {
     let mut sum: u64 = 0;
     for _ in 0..count {
-        let lazy = Lazy::new(ready(1));
-        let mut future = lazy.get(rt);
-        sum = sum.wrapping_add(value_of(Future::poll(&mut future, cx)));
+        sum = sum.wrapping_add(one_lazy(rt, &Lazy::new(ready(1)), cx));
     }
     sum
 }
@@ -128,10 +159,18 @@ fn lazy_later<R: Wait + AllocGlobal>(
 ) -> u64 {
     let mut sum: u64 = 0;
     for _ in 0..count {
-        let mut future = lazy.get(rt);
-        sum = sum.wrapping_add(value_of(Future::poll(&mut future, cx)));
+        sum = sum.wrapping_add(one_lazy(rt, lazy, cx));
     }
     sum
+}
+
+fn one_lazy<R: Wait + AllocGlobal>(
+    rt: &R,
+    lazy: &Lazy<u64, Ready<u64>>,
+    cx: &mut Context<'_>,
+) -> u64 {
+    let mut future = lazy.get(rt);
+    value_of(Future::poll(&mut future, cx))
 }
 
 /// The value of a poll, and 0 where it is pending or refused: a sum that is too small tells of it.

@@ -83,14 +83,21 @@ pub fn ask_twice<R>(rt: &R, memo: &Memo<u64>, fetches: &AtomicU64) -> Result<Vec
 where
     R: Threads + Wait + RandomSource + AllocGlobal + Clock + Sync,
 {
-    let (first, second) = thread::scope(thread::scope_env(), rt, |scope| {
+    thread::scope(thread::scope_env(), rt, |scope| {
         let first = scope.spawn(move || ask_all(rt, memo, fetches));
         let second = scope.spawn(move || ask_all(rt, memo, fetches));
         match (first, second) {
-            (Ok(first), Ok(second)) => (first.join(rt), second.join(rt)),
-            _ => (Err(Fault::Thread), Err(Fault::Thread)),
+            (Ok(first), Ok(second)) => agreed_by(first.join(rt), second.join(rt)),
+            _ => Err(Fault::Thread),
         }
-    });
+    })
+}
+
+// The answers of two threads, where neither gave up and they are the same.
+fn agreed_by(
+    first: Result<Vec<Answer>, Fault>,
+    second: Result<Vec<Answer>, Fault>,
+) -> Result<Vec<Answer>, Fault> {
     agreed(first?, second?)
 }
 

@@ -29,10 +29,18 @@ where
     O: Write,
 {
     let fetches = AtomicU64::new(0);
-    let memo = Memo::new(rt.alloc(), Vec::from_array(rt.alloc(), KEYS)?)?;
-    let answers = ask_twice(rt, &memo, &fetches)?;
+    let answers = ask_for_all(rt, &fetches)?;
     print_answers(output, &answers, fetches.load(Ordering::SeqCst))?;
     Ok(())
+}
+
+/// What two threads are told of a new table.
+fn ask_for_all<R>(rt: &R, fetches: &AtomicU64) -> Result<Vec<Answer>, Fault>
+where
+    R: Threads + Wait + RandomSource + AllocGlobal + Clock + Sync,
+{
+    let memo = Memo::new(rt.alloc(), Vec::from_array(rt.alloc(), KEYS)?)?;
+    ask_twice(rt, &memo, fetches)
 }
 
 /// Writes a line for each answer, and one for the fetches.

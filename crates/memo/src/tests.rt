@@ -1,5 +1,5 @@
 //! What the contracts do not say of the table, and whole runs of the program.
-ghost use Rattle.std.specs.Prelude.{◌≡◌, IsSome, IfSome};
+ghost use Rattle.std.specs.Prelude.{◌≡◌, ◌*◌, ◌^◌, ◌<◌, IsSome, IfSome};
 ghost use Rattle.std.specs.Option.{ForSome};
 ghost use Rattle.memo.specs.Memo.{cell_of};
 
@@ -13,48 +13,99 @@ use async_once_cell::once::Known;
 use futures::future::pending;
 use futures::test::MockTask;
 use no_memory::hoard;
+use std::alloc::{AllocError, AllocGlobal, Global};
 use std::io;
 use std::io::{ErrorKind, Write};
+use std::random::RandomSource;
+use std::sync::Wait;
 use std::sync::atomic::{AtomicU64, Ordering};
 use std::test::Fail;
+use std::thread::Threads;
+use std::time::Clock;
 
 const TEXT: &str = "1 10\n2 20\n3 30\nfetches 3\n";
+
+fn table(alloc: Global, keys: &[u64]) -> Result<Memo<u64>, AllocError> {
+    let mut given = Vec::new(alloc);
+    given.extend_from_slice(keys)?;
+    Memo::new(alloc, given)
+}
+
+// The value at a key, 0 where its cell is empty; None where there is no cell.
+fn value_at(memo: &Memo<u64>, key: u64) -> Option<u64> {
+    let cell = memo.cell(key)?;
+    Some(cell.get().copied().unwrap_or(0))
+}
+
+// The value that is told of a key.
+fn value_told<R: Wait + RandomSource + AllocGlobal + Clock>(
+    rt: &R,
+    memo: &Memo<u64>,
+    fetches: &AtomicU64,
+    key: u64,
+) -> Option<u64>
+    requires { key * 10 < 2 ^ 64 }
+{
+    match ask(rt, memo, fetches, key) {
+        Ok(answer) => Some(answer.value),
+        Err(_) => None,
+    }
+}
 
 /// A key has one cell, however often it was given, and another key another.
 #[test]
 fn cells_of_keys(rt: HostRuntime) -> Result<(), Fail> {
-    let (alloc, fetches) = (rt.alloc(), AtomicU64::new(0));
-    let memo = Memo::new(alloc, vec![in alloc; 7, 5, 7, u64::MAX]?)?;
-    assert_eq!(rt; ask(&rt, &memo, &fetches, 7)?.value, 70);
-    assert_eq!(rt; ask(&rt, &memo, &fetches, 7)?.value, 70);
-    for (key, value) in [(7, Some(&70)), (5, None), (u64::MAX, None)] {
-        let seen = memo.cell(key).map(|cell| cell.get());
-        assert_eq!(rt; seen, Some(value), "at {key}");
-    }
-    assert_eq!(rt; fetches.load(Ordering::SeqCst), 1);
+    let fetches = AtomicU64::new(0);
+    let memo = table(rt.alloc(), &[7, 5, 7, u64::MAX])?;
+    let seen = [
+        value_told(&rt, &memo, &fetches, 7),
+        value_told(&rt, &memo, &fetches, 7),
+        value_at(&memo, 7),
+        value_at(&memo, 5),
+        value_at(&memo, u64::MAX),
+        Some(fetches.load(Ordering::SeqCst)),
+    ];
+    let wanted = [70, 70, 70, 0, 0, 1].map(Some);
+    assert_eq!(rt; seen, wanted);
     Ok(())
+}
+
+// Whether a key has neither cell nor token, and whoever asks is told so.
+fn is_missing<R: Wait + RandomSource + AllocGlobal + Clock>(
+    rt: &R,
+    memo: &Memo<u64>,
+    fetches: &AtomicU64,
+    key: u64,
+) -> bool
+    requires { key * 10 < 2 ^ 64 }
+{
+    if memo.cell(key).is_some() || memo.token(key).is_some() {
+        return false;
+    }
+    matches!(ask(rt, memo, fetches, key), Err(Fault::NoKey(at)) if at == key)
+}
+
+// Which of three keys are missing in a table of these, and how many fetches there were.
+fn missing_in<R: Wait + RandomSource + AllocGlobal + Clock>(
+    rt: &R,
+    keys: &[u64],
+) -> Result<([bool; 3], u64), AllocError> {
+    let fetches = AtomicU64::new(0);
+    let memo = table(rt.alloc(), keys)?;
+    let missing = [
+        is_missing(rt, &memo, &fetches, 0),
+        is_missing(rt, &memo, &fetches, 5),
+        is_missing(rt, &memo, &fetches, 7),
+    ];
+    Ok((missing, fetches.load(Ordering::SeqCst)))
 }
 
 /// A key that was not given has nothing, and a table of no keys has nothing at all.
 #[test]
 fn keys_without_a_cell(rt: HostRuntime) -> Result<(), Fail> {
-    let (alloc, fetches) = (rt.alloc(), AtomicU64::new(0));
-    let (some, none) = (
-        Memo::<u64>::new(alloc, vec![in alloc; 4, 6]?)?,
-        Memo::<u64>::new(alloc, Vec::new(alloc))?,
-    );
-    for memo in [&some, &none] {
-        for key in [0, 5, 7] {
-            assert!(rt; memo.cell(key).is_none(), "at {key}");
-            assert!(rt; memo.token(key).is_none(), "at {key}");
-            let answer = ask(&rt, memo, &fetches, key);
-            assert!(rt;
-                matches!(answer, Err(Fault::NoKey(at)) if at == key),
-                "at {key}"
-            );
-        }
-    }
-    assert_eq!(rt; fetches.load(Ordering::SeqCst), 0);
+    let some = missing_in(&rt, &[4, 6])?;
+    let none = missing_in(&rt, &[])?;
+    assert_eq!(rt; [some, none], [([true; 3], 0); 2]);
     Ok(())
 }
 
@@ -70,70 +121,151 @@ fn twice<'a>(memo: &'a Memo<u64>, key: u64, token: &mut Known<'a, u64>) -> Optio
     Some((first, second))
 }
 
+/// What two tokens of one key get.
+#[derive(Clone, Copy, Debug, PartialEq, Eq)]
+struct Told {
+    before: Option<(u64, u64)>,
+    mine: Option<(u64, u64)>,
+    other: Option<(u64, u64)>,
+    /// Whether they agree where one knows the value, where both do, and after a call for another key.
+    agree: [bool; 3],
+    /// What that call gets.
+    missing: Option<u64>,
+}
+
+fn tokens<R: Wait + RandomSource + AllocGlobal + Clock>(
+    rt: &R,
+    memo: &Memo<u64>,
+    fetches: &AtomicU64,
+) -> Option<Told> {
+    let mut first = memo.token(2)?;
+    let mut second = memo.token(2)?;
+    let before = twice(memo, 2, &mut first);
+    value_told(rt, memo, fetches, 2)?;
+    let mine = twice(memo, 2, &mut first);
+    let early = Known::compare(&first, &second);
+    let other = twice(memo, 2, &mut second);
+    let late = Known::compare(&first, &second);
+    let missing = if memo.cell(3).is_none() {
+        memo.get_as(3, &mut first).copied()
+    } else {
+        Some(3)
+    };
+    Some(Told {
+        before,
+        mine,
+        other,
+        agree: [early, late, Known::compare(&first, &second)],
+        missing,
+    })
+}
+
 /// A token knows nothing before the value is set, and gets it at each call after; then two tokens
 /// agree.
 #[test]
 fn tokens_of_a_key(rt: HostRuntime) -> Result<(), Fail> {
-    let (alloc, fetches) = (rt.alloc(), AtomicU64::new(0));
-    let memo = Memo::new(alloc, vec![in alloc; 1, 2]?)?;
-    let Some(mut mine) = memo.token(2) else {
-        return Err(Fail::new("no token"));
+    let memo = table(rt.alloc(), &[1, 2])?;
+    let wanted = Told {
+        before: None,
+        mine: Some((20, 20)),
+        other: Some((20, 20)),
+        agree: [false, true, true],
+        missing: None,
     };
-    let Some(mut other) = memo.token(2) else {
-        return Err(Fail::new("no token"));
-    };
-    assert_eq!(rt; twice(&memo, 2, &mut mine), None);
-    ask(&rt, &memo, &fetches, 2)?;
-    assert_eq!(rt; twice(&memo, 2, &mut mine), Some((20, 20)));
-    assert!(rt; !Known::compare(&mine, &other));
-    assert_eq!(rt; twice(&memo, 2, &mut other), Some((20, 20)));
-    assert!(rt; Known::compare(&mine, &other));
-    if memo.cell(3).is_none() {
-        assert_eq!(rt; memo.get_as(3, &mut mine), None);
-    }
-    assert!(rt; Known::compare(&mine, &other));
+    assert_eq!(rt; tokens(&rt, &memo, &AtomicU64::new(0)), Some(wanted));
     Ok(())
+}
+
+// What a fetch of a key answers within so many turns; None where it gives up.
+fn within<R: Wait + RandomSource + AllocGlobal + Clock>(
+    rt: &R,
+    cell: &OnceCell<u64>,
+    fetch: Fetch<'_>,
+    turns: u64,
+) -> Result<Option<u64>, Fault> {
+    match answer_within(rt, cell.get_or_init(rt, fetch), turns) {
+        Ok(value) => Ok(Some(value)),
+        Err(Fault::Turns) => Ok(None),
+        Err(fault) => Err(fault),
+    }
+}
+
+// What a fetch answers while another task holds the cell, which is pending.
+fn within_a_hold<R: Wait + RandomSource + AllocGlobal + Clock>(
+    rt: &R,
+    cell: &OnceCell<u64>,
+    fetch: Fetch<'_>,
+) -> Result<bool, Fault> {
+    let task = MockTask::new(rt)?;
+    let mut holder = cell.get_or_init(rt, pending());
+    let holds = task.poll(&mut holder).is_pending();
+    let answer = within(rt, cell, fetch, 3)?;
+    Ok(holds && answer.is_none())
 }
 
 /// A future that is Pending at each turn gives up, and leaves the cell to the next.
 #[test]
 fn turns_are_used_up(rt: HostRuntime) -> Result<(), Fail> {
-    let (cell, task, fetches) = (OnceCell::new(), MockTask::new(&rt)?, AtomicU64::new(0));
-    let mut holder = cell.get_or_init(&rt, pending());
-    assert!(rt; task.poll(&mut holder).is_pending());
-    let waiter = cell.get_or_init(&rt, Fetch::new(1, &fetches));
-    let answer = answer_within(&rt, waiter, 3);
-    assert!(rt; matches!(answer, Err(Fault::Turns)));
-    drop(holder);
-    let next = cell.get_or_init(&rt, Fetch::new(2, &fetches));
-    assert_eq!(rt; answer_within(&rt, next, 1)?, 20);
-    assert_eq!(rt; fetches.load(Ordering::SeqCst), 1);
+    let (cell, fetches) = (OnceCell::new(), AtomicU64::new(0));
+    let gives_up = within_a_hold(&rt, &cell, Fetch::new(1, &fetches))?;
+    let next = within(&rt, &cell, Fetch::new(2, &fetches), 1)?;
+    let seen = (gives_up, next, fetches.load(Ordering::SeqCst));
+    assert_eq!(rt; seen, (true, Some(20), 1));
     Ok(())
+}
+
+fn answers(alloc: Global, value: u64) -> Result<Vec<Answer>, AllocError> {
+    Ok(vec![in alloc; Answer { key: 1, value }]?)
+}
+
+// How two threads end that were told these values.
+fn agreement(alloc: Global, first: u64, second: u64) -> Result<String, AllocError> {
+    let ended = agreed(answers(alloc, first)?, answers(alloc, second)?);
+    format!(in alloc; "{ended:?}")
 }
 
 /// Threads that were told different values are a fault.
 #[test]
 fn answers_that_differ(rt: HostRuntime) -> Result<(), Fail> {
-    let alloc = rt.alloc();
-    let told = |value| vec![in alloc; Answer { key: 1, value }];
-    assert_eq!(rt; agreed(told(10)?, told(10)?)?, told(10)?);
-    assert!(rt; matches!(agreed(told(10)?, told(11)?), Err(Fault::Differ)));
+    for (value, wanted) in [
+        (10, "Ok([Answer { key: 1, value: 10 }])"),
+        (11, "Err(Differ)"),
+    ] {
+        let ended = agreement(rt.alloc(), 10, value)?;
+        assert_eq!(rt; ended.as_str(), wanted);
+    }
     Ok(())
+}
+
+// Whether a table is refused, whether a run is refused memory, and how many bytes the run prints.
+fn refused<R: Threads + Wait + RandomSource + AllocGlobal + Clock + Sync>(
+    rt: &R,
+    keys: Vec<u64>,
+) -> (bool, bool, usize) {
+    let has_table = Memo::<u64>::new(rt.alloc(), keys).is_ok();
+    let mut printed = Vec::new(rt.alloc());
+    let answer = run(rt, &mut printed);
+    (
+        !has_table,
+        matches!(answer, Err(Fault::Memory(_))),
+        printed.len(),
+    )
+}
+
+fn without_memory<R: Threads + Wait + RandomSource + AllocGlobal + Clock + Sync>(
+    rt: &R,
+) -> Result<(bool, bool, usize), AllocError> {
+    let keys = vec![in rt.alloc(); 1, 2, 3]?;
+    let held = hoard(rt.alloc())?;
+    let seen = refused(rt, keys);
+    drop(held);
+    Ok(seen)
 }
 
 /// Where all memory is refused, no table is made, and the program prints nothing.
 #[test]
 fn refused_memory_prints_nothing(rt: HostRuntime) -> Result<(), Fail> {
-    let alloc = rt.alloc();
-    let keys = vec![in alloc; 1, 2, 3]?;
-    let mut printed = Vec::new(alloc);
-    let held = hoard(alloc)?;
-    let memo = Memo::<u64>::new(alloc, keys);
-    let answer = run(&rt, &mut printed);
-    drop(held);
-    assert!(rt; memo.is_err());
-    assert!(rt; matches!(answer, Err(Fault::Memory(_))));
-    assert!(rt; printed.is_empty());
+    assert_eq!(rt; without_memory(&rt)?, (true, true, 0));
     Ok(())
 }
 
@@ -160,21 +292,33 @@ impl Write for Target {
     }
 }
 
+// Whether a beginning went out, whether it was cut, the status, and whether a write failed.
+fn written<R: Threads + Wait + RandomSource + AllocGlobal + Clock + Sync + Eprint>(
+    rt: &R,
+    fails_at: u64,
+) -> (bool, bool, u8, bool) {
+    let mut target = Target {
+        text: Vec::new(rt.alloc()),
+        writes: 0,
+        fails_at,
+    };
+    let ended = status(rt, &mut target);
+    let printed = target.text.as_slice();
+    let failed = 0 < fails_at && fails_at <= target.writes;
+    let is_beginning = TEXT.as_bytes().starts_with(printed);
+    (is_beginning, printed.len() < TEXT.len(), ended, failed)
+}
+
 /// Where a write fails, a beginning has gone out, and the status is 1.
 #[test]
-fn a_failed_write_leaves_a_beginning(rt: HostRuntime) -> Result<(), Fail> {
+fn a_failed_write_leaves_a_beginning(rt: HostRuntime) {
     for fails_at in 0..=8 {
-        let mut target = Target {
-            text: Vec::new(rt.alloc()),
-            writes: 0,
-            fails_at,
-        };
-        let ended = status(&rt, &mut target);
-        let printed = target.text.as_slice();
-        let failed = 0 < fails_at && fails_at <= target.writes;
-        assert!(rt; TEXT.as_bytes().starts_with(printed), "at write {fails_at}");
-        assert_eq!(rt; printed.len() < TEXT.len(), failed, "at write {fails_at}");
-        assert_eq!(rt; ended, u8::from(failed), "at write {fails_at}");
+        let (is_beginning, is_cut, ended, failed) = written(&rt, fails_at);
+        let wanted = (true, failed, u8::from(failed));
+        assert_eq!(rt;
+            (is_beginning, is_cut, ended),
+            wanted,
+            "at write {fails_at}"
+        );
     }
-    Ok(())
 }
