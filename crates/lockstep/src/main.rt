@@ -6,6 +6,7 @@
 #![tactic(auto)]
 
 use schedule::play;
+use side_by_side::pair::Fault;
 use std::alloc::AllocGlobal;
 use std::io;
 use std::sync::Wait;
@@ -15,19 +16,25 @@ mod schedule;
 /// Plays what each line of the input says.
 pub fn run<R: Input + Print + AllocGlobal + Wait>(rt: &R) -> io::Result<()> {
     for line in rt.lines(rt.alloc()) {
-        let line = line?;
-        let Some((seed, turns)) = numbers_in(line.as_str()) else {
-            return Err(io::Error::other("a line is a seed and a number of turns"));
-        };
-        match play(rt, seed, turns) {
-            Ok(tally) => println!(rt; "{line}: {tally}")?,
-            Err(fault) => {
-                println!(rt; "{line}: {fault:?}")?;
-                return Err(io::Error::other("shared and plain parts differ"));
-            }
-        }
+        answer(rt, line?.as_str())?;
     }
     Ok(())
+}
+
+/// Plays what a line says, and prints what came of it.
+fn answer<R: Print + AllocGlobal + Wait>(rt: &R, line: &str) -> io::Result<()> {
+    let Some((seed, turns)) = numbers_in(line) else {
+        return Err(io::Error::other("a line is a seed and a number of turns"));
+    };
+    match play(rt, seed, turns) {
+        Ok(tally) => println!(rt; "{line}: {tally}"),
+        Err(fault) => differ(rt, line, &fault),
+    }
+}
+
+fn differ<R: Print>(rt: &R, line: &str, fault: &Fault) -> io::Result<()> {
+    println!(rt; "{line}: {fault:?}")?;
+    Err(io::Error::other("shared and plain parts differ"))
 }
 
 /// Reads two numbers, with one space between them.

@@ -1,11 +1,10 @@
 //! Schedules at random, from a seed: which task does what next.
 
-use async_once_cell::inner::Out;
 use async_once_cell::step::{Ending, Polled, Progress};
 use rand_core::{Rng, SeedableRng};
 use rand_xoshiro::Xoshiro256PlusPlus;
-use side_by_side::doubles::Note;
-use side_by_side::pair::{Fault, Pair, Seen, Stage};
+use side_by_side::doubles::Woken;
+use side_by_side::pair::{Fault, Pair, Shown, Stage};
 use std::alloc::AllocGlobal;
 use std::fmt;
 use std::sync::Wait;
@@ -14,7 +13,7 @@ use std::sync::Wait;
 const TASKS: usize = 4;
 
 /// What a schedule came to.
-#[derive(Clone, Copy, Debug, PartialEq, Eq)]
+#[derive(Clone, Copy)]
 pub struct Tally {
     pub steps: u64,
     /// How often the value was set, with the listings of the queue handed out.
@@ -44,31 +43,36 @@ impl Tally {
     }
 
     // Counts a step, which was one that takes a listing out or not.
-    fn count(&mut self, seen: &Seen, was_leaving: bool) {
+    fn count(&mut self, shown: Shown, was_leaving: bool) {
         raise(&mut self.steps);
-        match seen.progress {
+        match shown.progress {
             Progress::Ended(Ending::Memory) => raise(&mut self.refusals),
             Progress::Ended(Ending::Full) => raise(&mut self.full),
             _ => {}
         }
-        for note in &seen.notes {
-            match note {
-                Note::Woke(Out::All(_)) => raise(&mut self.fills),
-                Note::Woke(Out::One(Some(_))) if was_leaving => raise(&mut self.passes),
-                Note::Woke(Out::One(Some(_))) => raise(&mut self.calls),
-                _ => {}
-            }
+        match shown.woken {
+            Woken::Nobody => {}
+            Woken::One if was_leaving => raise(&mut self.passes),
+            Woken::One => raise(&mut self.calls),
+            Woken::All => raise(&mut self.fills),
         }
     }
 }
 
 impl fmt::Display for Tally {
     fn fmt<W: fmt::Write>(&self, f: &mut fmt::Formatter<W>) -> fmt::Result {
-        write!(
-            f,
-            "{} steps, {} fills, {} calls, {} passes, {} refusals, {} full, {} renewals",
-            self.steps, self.fills, self.calls, self.passes, self.refusals, self.full, self.renewals
-        )
+        write!(f, "{} steps", self.steps)?;
+        for (count, name) in &[
+            (self.fills, "fills"),
+            (self.calls, "calls"),
+            (self.passes, "passes"),
+            (self.refusals, "refusals"),
+            (self.full, "full"),
+            (self.renewals, "renewals"),
+        ] {
+            write!(f, ", {count} {name}")?;
+        }
+        Ok(())
     }
 }
 
@@ -201,10 +205,10 @@ impl<'r, R: Wait + AllocGlobal> Schedule<'r, R> {
         for _ in 0..=self.draw(self.odds.steps) {
             let was_leaving = self.pair.is_leaving(t);
             let (answer, is_granted) = (self.answer(), !self.happens(self.odds.refusal));
-            let Some(seen) = self.pair.go(t, answer, is_granted)? else {
+            let Some(shown) = self.pair.go(t, answer, is_granted)? else {
                 break;
             };
-            self.tally.count(&seen, was_leaving);
+            self.tally.count(shown, was_leaving);
         }
         Ok(())
     }
