@@ -82,7 +82,10 @@ fn is_missing<R: Wait + RandomSource + AllocGlobal + Clock>(
     if memo.cell(key).is_some() || memo.token(key).is_some() {
         return false;
     }
-    matches!(ask(rt, memo, fetches, key), Err(Fault::NoKey(at)) if at == key)
+    match ask(rt, memo, fetches, key) {
+        Err(Fault::NoKey(at)) => at == key,
+        _ => false,
+    }
 }
 
 // Which of three keys are missing in a table of these, and how many fetches there were.
@@ -121,23 +124,16 @@ fn twice<'a>(memo: &'a Memo<u64>, key: u64, token: &mut Known<'a, u64>) -> Optio
     Some((first, second))
 }
 
-/// What two tokens of one key get.
-#[derive(Clone, Copy, Debug, PartialEq, Eq)]
-struct Told {
-    before: Option<(u64, u64)>,
-    mine: Option<(u64, u64)>,
-    other: Option<(u64, u64)>,
-    /// Whether they agree where one knows the value, where both do, and after a call for another key.
-    agree: [bool; 3],
-    /// What that call gets.
-    missing: Option<u64>,
-}
+/// What two tokens of one key get: the first before a value is told, the first after that, and the
+/// second; whether they agree where one knows the value, where both do, and after a call for a missing
+/// key; and what that call gets.
+type Seen = ([Option<(u64, u64)>; 3], [bool; 3], Option<u64>);
 
 fn tokens<R: Wait + RandomSource + AllocGlobal + Clock>(
     rt: &R,
     memo: &Memo<u64>,
     fetches: &AtomicU64,
-) -> Option<Told> {
+) -> Option<Seen> {
     let mut first = memo.token(2)?;
     let mut second = memo.token(2)?;
     let before = twice(memo, 2, &mut first);
@@ -151,13 +147,8 @@ fn tokens<R: Wait + RandomSource + AllocGlobal + Clock>(
     } else {
         Some(3)
     };
-    Some(Told {
-        before,
-        mine,
-        other,
-        agree: [early, late, Known::compare(&first, &second)],
-        missing,
-    })
+    let agree = [early, late, Known::compare(&first, &second)];
+    Some(([before, mine, other], agree, missing))
 }
 
 /// A token knows nothing before the value is set, and gets it at each call after; then two tokens
@@ -165,14 +156,9 @@ fn tokens<R: Wait + RandomSource + AllocGlobal + Clock>(
 #[test]
 fn tokens_of_a_key(rt: HostRuntime) -> Result<(), Fail> {
     let memo = table(rt.alloc(), &[1, 2])?;
-    let wanted = Told {
-        before: None,
-        mine: Some((20, 20)),
-        other: Some((20, 20)),
-        agree: [false, true, true],
-        missing: None,
-    };
-    assert_eq!(rt; tokens(&rt, &memo, &AtomicU64::new(0)), Some(wanted));
+    let seen = tokens(&rt, &memo, &AtomicU64::new(0));
+    let got = [None, Some((20, 20)), Some((20, 20))];
+    assert_eq!(rt; seen, Some((got, [false, true, true], None)));
     Ok(())
 }
 
