@@ -51,13 +51,12 @@ fn get(cell: &OnceCell<u64>, count: u64) -> u64 {
 fn init<R: Wait + AllocGlobal>(rt: &R, count: u64, cx: &mut Context<'_>) -> u64 {
     let mut sum: u64 = 0;
     for _ in 0..count {
-        sum = sum.wrapping_add(one_init(rt, cx));
+        sum = sum.wrapping_add(one_init(rt, &OnceCell::new(), cx));
     }
     sum
 }
 
-fn one_init<R: Wait + AllocGlobal>(rt: &R, cx: &mut Context<'_>) -> u64 {
-    let cell = OnceCell::new();
+fn one_init<R: Wait + AllocGlobal>(rt: &R, cell: &OnceCell<u64>, cx: &mut Context<'_>) -> u64 {
     let mut future = cell.get_or_init(rt, ready(1));
     value_of(Future::poll(&mut future, cx))
 }
