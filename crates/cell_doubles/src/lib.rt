@@ -2,9 +2,11 @@
 //! drops, and inits that keep their thread.
 #![tactic(auto)]
 
+pub mod made;
 pub mod meeting;
 pub mod poll;
 pub mod schedule;
 pub mod slow;
 pub mod stub;
 pub mod text;
+pub mod value;

@@ -1,51 +1,121 @@
-//! Schedules: futures of a `OnceCell` that are made, polled and dropped, line by line.
+//! Schedules: futures of cells that are made, polled and dropped, line by line.
 //!
-//! `init T` and `try T` make future T by `get_or_init` and `get_or_try_init`, `drop T` drops it.
+//! There is a `OnceCell`, and a `Lazy` with a future of its own. `init T` and `try T` make future T by
+//! `get_or_init` and `get_or_try_init`, `get T`, `unpin T` and `into T` by `get`, `get_unpin` and
+//! `into_future` of the `Lazy`. `looks T TEXT` makes one whose init looks at its cell when it is
+//! dropped, and `found` says whether that showed TEXT. `within T` makes one whose init polls a second
+//! future of its cell. `drop T` and `forget T` put an end to future T.
+//!
 //! `poll T A` polls it by task T, `poll T A W` by task W; where its init is polled, it answers A: `p`,
-//! `v` with a value, or `e` with an error. `show` is the Debug text of the cell, and `inits` how often
-//! inits were polled and dropped. After `starve` every request for memory is refused. After `=>`
-//! stands what the poll answered, whether the future is done, and the tasks that were woken since the
-//! line before. An init that is Pending asks for another poll of its task, which counts as a wake.
+//! `v` with a value, or `e` with an error. `show` and `lazy` are the Debug texts of the cells, `future T`
+//! that of a future, and `inits` how often inits were polled and dropped. After `starve` every request
+//! for memory is refused while a line is obeyed. After `=>` stands what the poll answered, whether the
+//! future is done, and the tasks that were woken since the line before. An init that is Pending asks for
+//! another poll of its task, which counts as a wake.
+//!
+//! `take` is the owner's call on the `OnceCell`, and puts an end to all futures before. `end`, the last
+//! line, has what `into_inner` of both cells answers. `lazy` has what `try_get` answers before the text.
 
-use crate::poll::{calm, heard};
+use crate::made::{Looks, Made, Within};
+use crate::poll::calm;
 use crate::stub::{Init, Stub, Tried};
-use async_once_cell::OnceCell;
-use async_once_cell::once::{InitFuture, TryInitFuture};
 use async_once_cell::world::Reply;
-use futures::Future;
-use futures::task::Context;
+use async_once_cell::{Lazy, OnceCell};
 use futures::test::MockTask;
 use no_memory::hoard;
 use std::alloc::{AllocError, AllocGlobal, Global};
+use std::cell::Cell;
 use std::random::RandomSource;
 use std::sync::Wait;
 use std::test::Fail;
-use std::{fmt, io};
+use std::{fmt, io, mem};
 
-// What a poll answered, as schedules write it.
-#[derive(Drop)]
-struct Written(Reply);
+// What a line led to: what a poll answered, and whether the future is done.
+#[derive(Clone, Copy)]
+enum Outcome {
+    Obeyed,
+    Unreadable,
+    Polled(Reply, bool),
+}
 
-impl fmt::Display for Written {
+impl fmt::Display for Outcome {
     fn fmt<W: fmt::Write>(&self, f: &mut fmt::Formatter<W>) -> fmt::Result {
-        match self.0 {
-            Reply::Pending => f.write_str("pending"),
-            Reply::Value(value) => write!(f, "v{value}"),
-            Reply::Error(error) => write!(f, "e{error}"),
-            Reply::Memory => f.write_str("memory"),
-            Reply::Full => f.write_str("full"),
+        let (reply, is_done) = match *self {
+            Outcome::Obeyed => return f.write_str("so"),
+            Outcome::Unreadable => return f.write_str("unreadable"),
+            Outcome::Polled(reply, is_done) => (reply, is_done),
+        };
+        match reply {
+            Reply::Pending => f.write_str("pending")?,
+            Reply::Value(value) => write!(f, "v{value}")?,
+            Reply::Error(error) => write!(f, "e{error}")?,
+            Reply::Memory => f.write_str("memory")?,
+            Reply::Full => f.write_str("full")?,
         }
+        f.write_str(if is_done { ", done" } else { "" })
     }
 }
 
 // How many futures and tasks a schedule has. They are numbered from 0.
-const MOST: usize = 5;
+const MOST: usize = 101;
+
+// The tasks of a schedule.
+#[derive(Drop)]
+struct Tasks {
+    tasks: Vec<MockTask>,
+}
+
+impl Tasks {
+    fn new<R: AllocGlobal + RandomSource>(rt: &R) -> io::Result<Self> {
+        let mut tasks = Vec::new(rt.alloc());
+        for _ in 0..MOST {
+            tasks.push(MockTask::new(rt)?)?;
+        }
+        let tasks = Tasks { tasks };
+        // A new task counts as woken.
+        tasks.calm();
+        Ok(tasks)
+    }
+
+    fn is_woken(&self, number: usize) -> bool {
+        match self.tasks.get(number) {
+            Some(task) => task.is_woken(),
+            None => false,
+        }
+    }
+
+    fn calm(&self) {
+        for task in &self.tasks {
+            calm(task);
+        }
+    }
+}
+
+// The tasks that were woken. Where one and those after it were, the first and the last stand for them.
+impl fmt::Display for Tasks {
+    fn fmt<W: fmt::Write>(&self, f: &mut fmt::Formatter<W>) -> fmt::Result {
+        let mut before = false;
+        for number in 0..MOST {
+            let is_woken = self.is_woken(number);
+            if is_woken && !before {
+                write!(f, ", wakes {number}")?;
+            }
+            if is_woken && before && !self.is_woken(number.wrapping_add(1)) {
+                write!(f, " to {number}")?;
+            }
+            before = is_woken;
+        }
+        Ok(())
+    }
+}
 
 // What the inits of a schedule answer, and what they went through.
 #[derive(Drop)]
 struct Inits {
     sure: Stub<u64>,
     tried: Stub<Tried>,
+    // What an init found that looked at its cell.
+    found: Cell<Option<bool>>,
 }
 
 impl Inits {
@@ -53,6 +123,7 @@ impl Inits {
         Inits {
             sure: Stub::new(),
             tried: Stub::new(),
+            found: Cell::new(None),
         }
     }
 
@@ -70,142 +141,48 @@ impl Inits {
     }
 }
 
-#[derive(Drop)]
-enum Made<'a, R: Wait + AllocGlobal> {
-    Sure(InitFuture<'a, u64, Init<'a, u64>, R>),
-    Trying(TryInitFuture<'a, u64, u64, Init<'a, Tried>, R>),
-}
-
-impl<R: Wait + AllocGlobal> Made<'_, R> {
-    fn poll(&mut self, cx: &mut Context<'_>) -> Reply {
-        match self {
-            Made::Sure(future) => heard(Future::poll(future, cx)),
-            Made::Trying(future) => heard(Future::poll(future, cx)),
-        }
-    }
-
-    fn is_finished(&self) -> bool {
-        match self {
-            Made::Sure(future) => future.is_finished(),
-            Made::Trying(future) => future.is_finished(),
-        }
-    }
-}
-
-// A schedule under way.
-#[derive(Drop)]
-struct Schedule<'a, R: Wait + AllocGlobal> {
+// What the futures of a schedule are made of.
+#[derive(Clone, Copy)]
+struct Scene<'a, 'i, R> {
     rt: &'a R,
     cell: &'a OnceCell<u64>,
-    inits: &'a Inits,
-    tasks: Vec<MockTask>,
-    futures: Vec<Option<Made<'a, R>>>,
-    // Whether every request for memory is refused while a future is made, polled or dropped.
-    starves: bool,
+    lazy: &'a Lazy<u64, Init<'i, u64>>,
+    inits: &'i Inits,
+    tasks: &'a Tasks,
 }
 
-impl<'a, R: Wait + AllocGlobal> Schedule<'a, R> {
-    fn new(rt: &'a R, cell: &'a OnceCell<u64>, inits: &'a Inits) -> io::Result<Self>
-    where
-        R: RandomSource,
-    {
-        let (mut tasks, mut futures) = (Vec::new(rt.alloc()), Vec::new(rt.alloc()));
-        for _ in 0..MOST {
-            // A new task counts as woken.
-            let task = MockTask::new(rt)?;
-            calm(&task);
-            tasks.push(task)?;
-            futures.push(None)?;
-        }
-        Ok(Schedule {
-            rt,
-            cell,
-            inits,
-            tasks,
-            futures,
-            starves: false,
-        })
-    }
-
-    fn run(&mut self, name: &str, lines: &str) -> Result<(), Fail> {
-        for line in lines.lines() {
-            let (order, wanted) = line.split_once(" => ").unwrap_or((line, "so"));
-            let (times, order) = order.split_once(" * ").unwrap_or(("1", order));
-            for _ in 0..times.parse::<u64>().unwrap_or(1) {
-                let Some(text) = self.obey(order)? else {
-                    return Err(Fail::new(format_args!("{line} in {name} can't be read")));
-                };
-                if text.as_str() != wanted {
-                    return Err(Fail::new(format_args!("{line} in {name} leads to {text}")));
-                }
-            }
-        }
-        Ok(())
-    }
-
-    // What a line leads to. None says that it can't be read.
-    fn obey(&mut self, line: &str) -> Result<Option<String>, AllocError> {
-        let (word, rest) = line.split_once(' ').unwrap_or((line, ""));
+impl<'a, 'i: 'a, R: Wait + AllocGlobal> Scene<'a, 'i, R> {
+    // A future of this kind. None stands for every other word.
+    fn made(&self, word: &str, wanted: &'a str) -> Option<Made<'a, 'i, R>> {
+        let (rt, cell, inits) = (self.rt, self.cell, self.inits);
         match word {
-            "show" => Ok(Some(self.shown()?)),
-            "inits" => Ok(Some(self.counted()?)),
-            "poll" => self.poll(rest),
-            "starve" => {
-                self.starves = true;
-                Ok(Some(self.woken("so")?))
-            }
-            _ => self.make(word, rest),
-        }
-    }
-
-    // Makes a future in the place of the one with this number, or drops that.
-    fn make(&mut self, word: &str, number: &str) -> Result<Option<String>, AllocError> {
-        let (rt, inits) = (self.rt, self.inits);
-        let Some(number) = number.parse::<usize>().ok() else {
-            return Ok(None);
-        };
-        let hoarded = hoarded(rt.alloc(), self.starves)?;
-        let cell = self.cell;
-        let future = match word {
             "init" => Some(Made::Sure(cell.get_or_init(rt, inits.sure.init()))),
             "try" => Some(Made::Trying(cell.get_or_try_init(rt, inits.tried.init()))),
+            "looks" => Some(Made::Looking(cell.get_or_init(rt, self.looks(wanted)))),
+            "within" => Some(Made::Inside(cell.get_or_init(rt, self.within()))),
+            "get" => Some(Made::Lazily(self.lazy.get(rt))),
+            "unpin" => Some(Made::Lazily(self.lazy.get_unpin(rt))),
+            "into" => Some(Made::Lazily(self.lazy.into_future(rt))),
             _ => None,
-        };
-        if let Some(place) = self.futures.get_mut(number) {
-            *place = future;
         }
-        drop(hoarded);
-        Ok(Some(self.woken("so")?))
     }
 
-    // `T A` or `T A W`: polls future T by the task of its number or by task W, where an init that is
-    // polled answers A.
-    fn poll(&mut self, text: &str) -> Result<Option<String>, AllocError> {
-        let Some((number, rest)) = text.split_once(' ') else {
-            return Ok(None);
-        };
-        let (answer, task) = rest.split_once(' ').unwrap_or((rest, number));
-        let (Ok(number), Ok(task)) = (number.parse::<usize>(), task.parse::<usize>()) else {
-            return Ok(None);
-        };
-        self.inits.set(answer_in(answer));
-        let (alloc, starves) = (self.rt.alloc(), self.starves);
-        let Some(Some(future)) = self.futures.get_mut(number) else {
-            return Ok(None);
-        };
-        let Some(task) = self.tasks.get(task) else {
-            return Ok(None);
-        };
-        let reply = task.enter(|cx| {
-            let hoarded = hoarded(alloc, starves)?;
-            let reply = future.poll(cx);
-            drop(hoarded);
-            Ok::<Reply, AllocError>(reply)
-        })?;
-        let end = if future.is_finished() { ", done" } else { "" };
-        let reply = Written(reply);
-        let text = format!(in self.rt.alloc(); "{reply}{end}")?;
-        Ok(Some(self.woken(text.as_str())?))
+    fn looks(&self, wanted: &'a str) -> Looks<'a> {
+        Looks {
+            cell: self.cell,
+            alloc: self.rt.alloc(),
+            wanted,
+            found: &self.inits.found,
+            stub: &self.inits.sure,
+        }
+    }
+
+    fn within(&self) -> Within<'a, R> {
+        Within {
+            cell: self.cell,
+            rt: self.rt,
+            stub: &self.inits.sure,
+        }
     }
 
     fn shown(&self) -> Result<String, AllocError> {
@@ -213,31 +190,173 @@ impl<'a, R: Wait + AllocGlobal> Schedule<'a, R> {
         format!(in self.rt.alloc(); "{cell:?}")
     }
 
+    fn shown_lazy(&self) -> Result<String, AllocError> {
+        let (lazy, value) = (self.lazy, self.lazy.try_get());
+        format!(in self.rt.alloc(); "{value:?}, {lazy:?}")
+    }
+
     fn counted(&self) -> Result<String, AllocError> {
         let (polls, drops) = (self.inits.polls(), self.inits.drops());
         format!(in self.rt.alloc(); "{polls} polls, {drops} drops")
     }
 
-    // The text, with the tasks that were woken since the line before.
-    fn woken(&self, text: &str) -> Result<String, AllocError> {
-        let mut text = format!(in self.rt.alloc(); "{text}")?;
-        for (number, task) in self.tasks.iter().enumerate() {
-            if task.is_woken() {
-                calm(task);
-                let woken = format!(in self.rt.alloc(); ", wakes {number}")?;
-                text.push_str(woken.as_str())?;
-            }
-        }
-        Ok(text)
+    fn found(&self) -> Result<String, AllocError> {
+        let found = self.inits.found.get();
+        format!(in self.rt.alloc(); "{found:?}")
+    }
+
+    // What a line led to, with the tasks that were woken since the line before.
+    fn written(&self, outcome: Outcome) -> Result<String, AllocError> {
+        let tasks = self.tasks;
+        let text = format!(in self.rt.alloc(); "{outcome}{tasks}");
+        tasks.calm();
+        text
     }
 }
 
-// All memory, where a schedule starves.
-fn hoarded(alloc: Global, starves: bool) -> Result<Option<Vec<Vec<u8>>>, AllocError> {
-    if starves {
-        return Ok(Some(hoard(alloc)?));
+// A schedule under way.
+#[derive(Drop)]
+struct Schedule<'a, 'i, R: Wait + AllocGlobal> {
+    scene: Scene<'a, 'i, R>,
+    futures: Vec<Option<Made<'a, 'i, R>>>,
+    // Whether every request for memory is refused while a line is obeyed.
+    starves: bool,
+    // The number that `n` stands for.
+    turn: usize,
+}
+
+impl<'a, 'i: 'a, R: Wait + AllocGlobal> Schedule<'a, 'i, R> {
+    fn new(scene: Scene<'a, 'i, R>) -> Result<Self, AllocError> {
+        let mut futures = Vec::new(scene.rt.alloc());
+        for _ in 0..MOST {
+            futures.push(None)?;
+        }
+        Ok(Schedule {
+            scene,
+            futures,
+            starves: false,
+            turn: 0,
+        })
     }
-    Ok(None)
+
+    fn run(&mut self, name: &str, lines: &'a str) -> Result<(), Fail> {
+        for line in lines.lines() {
+            let (order, wanted) = line.split_once(" => ").unwrap_or((line, "so"));
+            let (turns, order) = order.split_once(" * ").unwrap_or(("1", order));
+            let (from, to) = turns.split_once("..").unwrap_or(("0", turns));
+            for turn in self.number(from)..self.number(to) {
+                self.turn = turn;
+                self.follow(name, order, wanted)?;
+            }
+        }
+        Ok(())
+    }
+
+    // `n` stands for the turn, and whatever is no number for one that no future has.
+    fn number(&self, text: &str) -> usize {
+        if text == "n" {
+            return self.turn;
+        }
+        text.parse::<usize>().unwrap_or(MOST)
+    }
+
+    fn follow(&mut self, name: &str, order: &'a str, wanted: &str) -> Result<(), Fail> {
+        let text = self.obey(order);
+        compare(name, order, text, wanted)
+    }
+
+    // What a line leads to.
+    fn obey(&mut self, line: &'a str) -> Result<String, AllocError> {
+        let (word, rest) = line.split_once(' ').unwrap_or((line, ""));
+        match word {
+            "show" => self.scene.shown(),
+            "lazy" => self.scene.shown_lazy(),
+            "inits" => self.scene.counted(),
+            "found" => self.scene.found(),
+            "future" => self.shown(rest),
+            _ => {
+                let hoarded = hoarded(self.scene.rt.alloc(), self.starves)?;
+                let outcome = self.act(word, rest);
+                drop(hoarded);
+                self.scene.written(outcome)
+            }
+        }
+    }
+
+    fn shown(&self, number: &str) -> Result<String, AllocError> {
+        let alloc = self.scene.rt.alloc();
+        match self.futures.get(self.number(number)) {
+            Some(Some(future)) => future.shown(alloc),
+            _ => format!(in alloc; "no future"),
+        }
+    }
+
+    fn act(&mut self, word: &str, rest: &'a str) -> Outcome {
+        match word {
+            "starve" => {
+                self.starves = true;
+                Outcome::Obeyed
+            }
+            "poll" => self.poll(rest),
+            "forget" => self.forget(rest),
+            _ => self.make(word, rest),
+        }
+    }
+
+    fn forget(&mut self, number: &str) -> Outcome {
+        let number = self.number(number);
+        if let Some(place) = self.futures.get_mut(number) {
+            mem::forget(place.take());
+            return Outcome::Obeyed;
+        }
+        Outcome::Unreadable
+    }
+
+    // Makes a future in the place of the one with this number, or drops that.
+    fn make(&mut self, word: &str, rest: &'a str) -> Outcome {
+        let (number, wanted) = rest.split_once(' ').unwrap_or((rest, ""));
+        let number = self.number(number);
+        if let Some(place) = self.futures.get_mut(number) {
+            *place = self.scene.made(word, wanted);
+            return Outcome::Obeyed;
+        }
+        Outcome::Unreadable
+    }
+
+    // `T A` or `T A W`: polls future T by the task of its number or by task W, where an init that is
+    // polled answers A.
+    fn poll(&mut self, text: &str) -> Outcome {
+        let (number, rest) = text.split_once(' ').unwrap_or((text, ""));
+        let (answer, task) = rest.split_once(' ').unwrap_or((rest, number));
+        let (number, task) = (self.number(number), self.number(task));
+        let Scene { inits, tasks, .. } = self.scene;
+        inits.set(answer_in(answer));
+        match (self.futures.get_mut(number), tasks.tasks.get(task)) {
+            (Some(Some(future)), Some(task)) => {
+                let (reply, is_done) = future.polled(task);
+                Outcome::Polled(reply, is_done)
+            }
+            _ => Outcome::Unreadable,
+        }
+    }
+}
+
+// All memory, where a schedule starves. An allocator may keep what was given back for requests of that
+// size alone, so small ones of each size are made too.
+fn hoarded(alloc: Global, starves: bool) -> Result<Option<Vec<Vec<u8>>>, AllocError> {
+    if !starves {
+        return Ok(None);
+    }
+    let mut held = hoard(alloc)?;
+    for step in 0..130 {
+        for _ in 0..1000 {
+            let Ok(block) = Vec::with_capacity(alloc, step * 8 + 8) else {
+                break;
+            };
+            let _ = held.push(block);
+        }
+    }
+    Ok(Some(held))
 }
 
 // `p`, `v` with a value, or `e` with an error.
@@ -248,17 +367,91 @@ fn answer_in(text: &str) -> Option<Tried> {
     Some(Err(text.strip_prefix('e')?.parse().ok()?))
 }
 
-/// Runs schedules, each with its name and over a cell of its own. Each line must lead to what stands
-/// after its `=>`, or wake nobody where nothing stands there. `N * ` before a line stands for N such
-/// lines.
+// Whether a line leads to what is wanted.
+fn compare(
+    name: &str,
+    order: &str,
+    text: Result<String, AllocError>,
+    wanted: &str,
+) -> Result<(), Fail> {
+    let text = text?;
+    if text.as_str() == wanted {
+        return Ok(());
+    }
+    Err(Fail::new(format_args!("{order} in {name} leads to {text}")))
+}
+
+fn run_part<'s, 'i: 's, R>(
+    rt: &'s R,
+    (cell, lazy): (&'s OnceCell<u64>, &'s Lazy<u64, Init<'i, u64>>),
+    (inits, tasks): (&'i Inits, &'s Tasks),
+    name: &str,
+    lines: &'s str,
+) -> Result<(), Fail>
+where
+    R: Wait + AllocGlobal,
+{
+    let scene = Scene {
+        rt,
+        cell,
+        lazy,
+        inits,
+        tasks,
+    };
+    Schedule::new(scene)?.run(name, lines)
+}
+
+// What comes out of the cell, with the tasks that this woke.
+fn taken(alloc: Global, cell: &mut OnceCell<u64>, tasks: &Tasks) -> Result<String, AllocError> {
+    let taken = cell.take();
+    let text = format!(in alloc; "{taken:?}{tasks}");
+    tasks.calm();
+    text
+}
+
+// What the cells have in the end.
+fn left(
+    alloc: Global,
+    cell: OnceCell<u64>,
+    lazy: Lazy<u64, Init<'_, u64>>,
+) -> Result<String, AllocError> {
+    let (value, lazy) = (cell.into_inner(), lazy.into_inner());
+    format!(in alloc; "{value:?}, {lazy:?}")
+}
+
+// Runs a schedule in parts, between which the owner takes the value out.
+fn run_one<R>(rt: &R, name: &str, lines: &str) -> Result<(), Fail>
+where
+    R: Wait + AllocGlobal + RandomSource,
+{
+    let (tasks, inits) = (Tasks::new(rt)?, Inits::new());
+    let (mut cell, lazy) = (OnceCell::new(), Lazy::new(inits.sure.init()));
+    let (parts, end) = lines.split_once("end => ").unwrap_or((lines, ""));
+    let (first, others) = parts.split_once("take => ").unwrap_or((parts, ""));
+    run_part(rt, (&cell, &lazy), (&inits, &tasks), name, first)?;
+    if !others.is_empty() {
+        for part in others.split("take => ") {
+            let (wanted, lines) = part.split_once('\n').unwrap_or((part, ""));
+            compare(name, "take", taken(rt.alloc(), &mut cell, &tasks), wanted)?;
+            run_part(rt, (&cell, &lazy), (&inits, &tasks), name, lines)?;
+        }
+    }
+    let text = left(rt.alloc(), cell, lazy);
+    if end.is_empty() {
+        return Ok(());
+    }
+    compare(name, "end", text, end)
+}
+
+/// Runs schedules, each with its name and over cells of its own. Each line must lead to what stands
+/// after its `=>`, or wake nobody where nothing stands there. `A..B * ` before a line stands for such
+/// lines at the numbers from A to B - 1, by which each `n` is read, and `N * ` for N of them.
 pub fn run<R>(rt: &R, schedules: &[(&str, &str)]) -> Result<(), Fail>
 where
     R: Wait + AllocGlobal + RandomSource,
 {
     for (name, lines) in schedules {
-        let (cell, inits) = (OnceCell::new(), Inits::new());
-        let mut schedule = Schedule::new(rt, &cell, &inits)?;
-        schedule.run(name, lines)?;
+        run_one(rt, name, lines)?;
     }
     Ok(())
 }

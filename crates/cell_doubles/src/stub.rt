@@ -40,6 +40,12 @@ impl<O: Copy> Stub<O> {
         Init { stub: self }
     }
 
+    /// What an init of it answers to a poll, which it counts. None says that it is Pending.
+    pub fn asked(&self) -> Option<O> {
+        count(&self.polls);
+        self.answer.get()
+    }
+
     /// How often its inits were polled, and how many were dropped.
     pub fn counts(&self) -> (u64, u64) {
         (self.polls.get(), self.drops.get())
@@ -62,11 +68,10 @@ impl<O: Copy> Future for Init<'_, O> {
     type Output = O;
 
     fn poll(&mut self, cx: &mut Context<'_>) -> Poll<O> {
-        count(&self.stub.polls);
-        if let Some(answer) = self.stub.answer.get() {
-            return Poll::Ready(answer);
+        match self.stub.asked() {
+            Some(answer) => Poll::Ready(answer),
+            None => cx.yield_now(),
         }
-        cx.yield_now()
     }
 }
 

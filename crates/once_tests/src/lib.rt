@@ -4,8 +4,6 @@
 #[cfg(test)]
 mod drops;
 #[cfg(test)]
-mod memory;
-#[cfg(test)]
 mod owner;
 #[cfg(test)]
 mod schedules;
@@ -15,5 +13,3 @@ mod shown;
 mod tokens;
 #[cfg(test)]
 mod turns;
-#[cfg(test)]
-mod within;

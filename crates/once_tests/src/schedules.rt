@@ -4,7 +4,7 @@ use cell_doubles::schedule::run;
 use std::test::Fail;
 
 // Schedules over a `OnceCell`.
-const SCHEDULES: [(&str, &str); 11] = [
+const SCHEDULES: [(&str, &str); 18] = [
     (
         "plain_path",
         "show => OnceCell { value: None, inner: Inner { ready: false, quick_init: false, refcount: 0, queue: false } }
@@ -183,10 +183,85 @@ poll 1 v9 => pending, done, wakes 1
 inits => 2 polls, 2 drops
 show => OnceCell { value: Some(2), inner: Inner { ready: true, quick_init: false, refcount: 0, queue: false } }",
     ),
+    // An init is dropped before the right is given back, when its future is dropped.
+    (
+        "right_held_until_the_init_is_dropped",
+        "looks 0 ready: false, quick_init: true, refcount: 0, queue: false } }
+poll 0 p => pending, wakes 0
+found => None
+drop 0
+found => Some(true)
+show => OnceCell { value: None, inner: Inner { ready: false, quick_init: false, refcount: 0, queue: false } }",
+    ),
+    // The same, when it is done.
+    (
+        "right_held_until_the_init_is_done",
+        "looks 0 ready: false, quick_init: true, refcount: 0, queue: false } }
+poll 0 v4 => v4, done
+found => Some(true)",
+    ),
+    // A waiter's init is dropped before its place among those who wait is given back.
+    (
+        "place_held_until_the_init_is_dropped",
+        "looks 0 ready: false, quick_init: true, refcount: 1, queue: true } }
+looks 1 ready: false, quick_init: true, refcount: 1, queue: true } }
+poll 0 p => pending, wakes 0
+poll 1 p => pending
+drop 1 => so, wakes 1
+found => Some(true)
+show => OnceCell { value: None, inner: Inner { ready: false, quick_init: true, refcount: 0, queue: true } }",
+    ),
+    // A second future of the cell waits within its init and the cell is still empty, and then the init
+    // fills it. The second took its place out of the list, and with it its waker, which wakes its task.
+    (
+        "polled_within_the_init",
+        "within 0
+poll 0 v7 => v6, done, wakes 0
+drop 0
+inits => 0 polls, 1 drops
+show => OnceCell { value: Some(6), inner: Inner { ready: true, quick_init: false, refcount: 0, queue: false } }",
+    ),
+    // A future says whether it is finished.
+    (
+        "futures_shown",
+        "try 0
+future 0 => TryInitFuture { finished: false }
+drop 0
+init 1
+future 1 => InitFuture { finished: false }
+poll 1 v4 => v4, done
+future 1 => InitFuture { finished: true }",
+    ),
+    // A cell whose value was taken is filled again as a new one is.
+    (
+        "filled_twice",
+        "init 0
+poll 0 v5 => v5, done
+take => Some(5)
+init 0
+poll 0 v8 => v8, done
+end => Some(8), None",
+    ),
+    // A future that was forgotten leaves its right behind, and the queue stands. What the owner calls puts
+    // it all away, and wakes nobody.
+    (
+        "taken_while_a_queue_stands",
+        "init 0
+init 1
+poll 0 p => pending, wakes 0
+poll 1 p => pending
+drop 1 => so, wakes 1
+forget 0
+show => OnceCell { value: None, inner: Inner { ready: false, quick_init: true, refcount: 0, queue: true } }
+take => None
+show => OnceCell { value: None, inner: Inner { ready: false, quick_init: false, refcount: 0, queue: false } }
+init 0
+poll 0 v3 => v3, done",
+    ),
 ];
 
 // Schedules over a `OnceCell` that need no memory from some point on, and get none.
-const STARVED: [(&str, &str); 3] = [
+const STARVED: [(&str, &str); 4] = [
     (
         "ready_at_once",
         "starve
@@ -216,6 +291,23 @@ poll 1 v9 => pending
 starve
 drop 0 => so, wakes 1
 poll 1 v4 => v4, done
+show => OnceCell { value: Some(4), inner: Inner { ready: true, quick_init: false, refcount: 0, queue: false } }",
+    ),
+    // A future that would wait is refused and done. The cell is as before, and so it is when that future
+    // is dropped; the holder fills it.
+    (
+        "no_memory_to_wait",
+        "init 0
+init 1
+starve
+poll 0 p => pending, wakes 0
+poll 1 p => memory, done
+show => OnceCell { value: None, inner: Inner { ready: false, quick_init: true, refcount: 0, queue: false } }
+drop 1
+show => OnceCell { value: None, inner: Inner { ready: false, quick_init: true, refcount: 0, queue: false } }
+poll 0 v4 => v4, done
+drop 0
+inits => 2 polls, 2 drops
 show => OnceCell { value: Some(4), inner: Inner { ready: true, quick_init: false, refcount: 0, queue: false } }",
     ),
 ];

@@ -9,51 +9,32 @@ use cell_doubles::text::shows;
 use futures::task::Context;
 use futures::test::MockTask;
 use std::alloc::AllocGlobal;
+use std::io;
 use std::io::Eprint;
+use std::random::RandomSource;
 use std::sync::Wait;
 use std::test::Fail;
 
-// A token learns the value by a poll, and another by a look. Whether the two agree before, between and
-// after, and what the poll answered.
+// What polls answered, and what held between them.
+type Found = ([Reply; 2], [bool; 4]);
+
+// A token learns the value by a poll, and another by a look. What the poll answered, and whether the two
+// agree before, between and after.
 fn learn_in_turn<'a, R: Wait + AllocGlobal>(
     rt: &'a R,
     cx: &mut Context<'_>,
     cell: &'a OnceCell<u64>,
     stub: &'a Stub<u64>,
-) -> ([bool; 4], Reply) {
+) -> Found {
     let (mut a, mut b) = (cell.token(), cell.token());
     let before = Known::compare(&a, &b);
-    let mut f = cell.get_or_init(rt, stub.init());
-    let reply = heard(f.poll_as(cx, &mut a));
-    drop(f);
-    let between = [Known::compare(&a, &b), Known::compare(&b, &a)];
+    let reply = heard(cell.get_or_init(rt, stub.init()).poll_as(cx, &mut a));
+    let (between, turned) = (Known::compare(&a, &b), Known::compare(&b, &a));
     let _ = cell.get_as(&mut b);
     (
-        [before, between[0], between[1], Known::compare(&a, &b)],
-        reply,
+        [reply; 2],
+        [before, between, turned, Known::compare(&a, &b)],
     )
-}
-
-/// Two tokens agree once both have learned the value, and not before.
-#[test]
-fn tokens_compared(rt: HostRuntime) -> Result<(), Fail> {
-    let (cell, task, stub) = (OnceCell::new(), MockTask::new(&rt)?, Stub::giving(4));
-    let learned = task.enter(|cx| learn_in_turn(&rt, cx, &cell, &stub));
-    assert_eq!(rt; learned, ([false, false, false, true], Reply::Value(4)));
-    Ok(())
-}
-
-/// A token learns by a look what the cell has, and keeps it.
-#[test]
-fn token_of_a_look(rt: HostRuntime) {
-    let (empty, set) = (OnceCell::<u64>::new(), OnceCell::new_with(4u64));
-    let mut token = empty.token();
-    assert_eq!(rt; empty.get_as(&mut token), None);
-    assert!(rt; !Known::compare(&token, &token));
-    let mut token = set.token();
-    assert_eq!(rt; set.get_as(&mut token), Some(&4));
-    assert_eq!(rt; set.get_as(&mut token), Some(&4));
-    assert!(rt; Known::compare(&token, &token));
 }
 
 // Polls a new future of a cell that is set, with a token that knows the value. What it answered, and
@@ -63,43 +44,28 @@ fn poll_knowing<'a, R: Wait + AllocGlobal>(
     cx: &mut Context<'_>,
     cell: &'a OnceCell<u64>,
     stub: &'a Stub<u64>,
-) -> (Reply, bool) {
+) -> Found {
     let mut token = cell.token();
     let _ = cell.get_as(&mut token);
     let mut f = cell.get_or_init(rt, stub.init());
     let reply = heard(f.poll_as(cx, &mut token));
-    (reply, f.is_finished())
-}
-
-/// A token that knows the value answers it, and the init is dropped and not polled.
-#[test]
-fn path_of_a_token(rt: HostRuntime) -> Result<(), Fail> {
-    let (cell, task, stub) = (
-        OnceCell::new_with(4u64),
-        MockTask::new(&rt)?,
-        Stub::giving(9),
-    );
-    let polled = task.enter(|cx| poll_knowing(&rt, cx, &cell, &stub));
-    assert_eq!(rt; polled, (Reply::Value(4), true));
-    assert_eq!(rt; stub.counts(), (0, 1));
-    assert!(rt; !task.is_woken());
-    Ok(())
+    ([reply; 2], [f.is_finished(); 4])
 }
 
 // A future waits until another has set the value, and is polled with a token that knows it. What the
-// last polls answered, and whether one task was counted between them. None says that a first poll was
-// ready.
+// last polls answered, and whether one task was counted between them. Where a first poll was ready, it
+// stops, and says that none was.
 fn leave_with_a_token<'a, R: Wait + AllocGlobal + Eprint>(
     rt: &'a R,
     cx: &mut Context<'_>,
     cell: &'a OnceCell<u64>,
     stub: &'a Stub<u64>,
-) -> Option<(Reply, bool, Reply)> {
+) -> Found {
     let mut f1 = cell.get_or_init(rt, stub.init());
     let mut f2 = cell.get_or_init(rt, stub.init());
     let (first, second) = (f1.poll(cx), f2.poll(cx));
     if first.is_ready() || second.is_ready() {
-        return None;
+        return ([Reply::Pending; 2], [false; 4]);
     }
     stub.answer.set(Some(2));
     let fills = heard(f1.poll(cx));
@@ -107,16 +73,90 @@ fn leave_with_a_token<'a, R: Wait + AllocGlobal + Eprint>(
     let mut token = cell.token();
     let _ = cell.get_as(&mut token);
     let leaves = heard(f2.poll_as(cx, &mut token));
-    Some((fills, counted, leaves))
+    ([fills, leaves], [counted; 4])
+}
+
+// A turn of a token.
+#[derive(Clone, Copy)]
+enum Turn {
+    Learn,
+    Know,
+    Leave,
+}
+
+fn turned<'a, R: Wait + AllocGlobal + Eprint>(
+    turn: Turn,
+    rt: &'a R,
+    cx: &mut Context<'_>,
+    cell: &'a OnceCell<u64>,
+    stub: &'a Stub<u64>,
+) -> Found {
+    match turn {
+        Turn::Learn => learn_in_turn(rt, cx, cell, stub),
+        Turn::Know => poll_knowing(rt, cx, cell, stub),
+        Turn::Leave => leave_with_a_token(rt, cx, cell, stub),
+    }
+}
+
+// What was found, how often inits were polled and dropped, and whether nobody is counted in the end.
+fn run<R>(
+    rt: &R,
+    turn: Turn,
+    cell: OnceCell<u64>,
+    answer: Option<u64>,
+) -> io::Result<(Found, (u64, u64), [bool; 2])>
+where
+    R: Wait + AllocGlobal + Eprint + RandomSource,
+{
+    let (task, stub) = (MockTask::new(rt)?, Stub::new());
+    stub.answer.set(answer);
+    let found = task.enter(|cx| turned(turn, rt, cx, &cell, &stub));
+    let is_left = shows(rt, &cell, "refcount: 0, queue: false } }");
+    Ok((found, stub.counts(), [is_left, task.is_woken()]))
+}
+
+/// Two tokens agree once both have learned the value, and not before.
+#[test]
+fn tokens_compared(rt: HostRuntime) -> Result<(), Fail> {
+    let found = run(&rt, Turn::Learn, OnceCell::new(), Some(4))?;
+    let agree = ([Reply::Value(4); 2], [false, false, false, true]);
+    assert_eq!(rt; found, (agree, (1, 1), [true, false]));
+    Ok(())
+}
+
+/// A token that knows the value answers it, and the init is dropped and not polled.
+#[test]
+fn path_of_a_token(rt: HostRuntime) -> Result<(), Fail> {
+    let found = run(&rt, Turn::Know, OnceCell::new_with(4), Some(9))?;
+    assert_eq!(rt;
+        found,
+        (([Reply::Value(4); 2], [true; 4]), (0, 1), [true, false])
+    );
+    Ok(())
 }
 
 /// A future that waits leaves its cell when it is polled with a token that knows the value.
 #[test]
 fn waiter_with_a_knowing_token(rt: HostRuntime) -> Result<(), Fail> {
-    let (cell, task, stub) = (OnceCell::new(), MockTask::new(&rt)?, Stub::new());
-    let left = task.enter(|cx| leave_with_a_token(&rt, cx, &cell, &stub));
-    assert_eq!(rt; left, Some((Reply::Value(2), true, Reply::Value(2))));
-    assert_eq!(rt; stub.counts(), (2, 2));
-    assert!(rt; shows(&rt, &cell, "refcount: 0, queue: false } }"));
+    let found = run(&rt, Turn::Leave, OnceCell::new(), None)?;
+    assert_eq!(rt;
+        found,
+        (([Reply::Value(2); 2], [true; 4]), (2, 2), [true, true])
+    );
     Ok(())
+}
+
+/// A token learns by a look what the cell has, and keeps it.
+#[test]
+fn token_of_a_look(rt: HostRuntime) {
+    let (empty, set) = (OnceCell::<u64>::new(), OnceCell::new_with(4u64));
+    let mut token = empty.token();
+    let nothing = empty.get_as(&mut token).copied();
+    let before = Known::compare(&token, &token);
+    let mut token = set.token();
+    let first = set.get_as(&mut token).copied();
+    let again = set.get_as(&mut token).copied();
+    let after = Known::compare(&token, &token);
+    assert_eq!(rt; (nothing, before), (None, false));
+    assert_eq!(rt; (first, again, after), (Some(4), Some(4), true));
 }

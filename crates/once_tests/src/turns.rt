@@ -1,20 +1,9 @@
 //! A failure calls one of those who wait, and who was called and leaves passes its turn on.
 
-use async_once_cell::OnceCell;
-use async_once_cell::once::TryInitFuture;
-use async_once_cell::world::Reply;
-use cell_doubles::poll::{calm, heard, polled};
 use cell_doubles::schedule::run;
-use cell_doubles::stub::{Init, Stub, Tried};
-use futures::Future;
-use futures::test::MockTask;
-use std::alloc::AllocGlobal;
-use std::io;
-use std::random::RandomSource;
-use std::sync::Wait;
 use std::test::Fail;
 
-const TURNS: [(&str, &str); 6] = [
+const TURNS: [(&str, &str); 10] = [
     (
         "called_waiter_dropped",
         "try 0
@@ -107,9 +96,62 @@ poll 1 v9 => pending
 poll 2 v9 => pending
 poll 3 v9 => pending
 poll 0 e1 => e1, done, wakes 1
-poll 1 v4 => v4, done, wakes 2, wakes 3
+poll 1 v4 => v4, done, wakes 2 to 3
 poll 2 v9 => v4, done
 poll 3 v9 => v4, done",
+    ),
+    // However many wait, a failure wakes one task, and a value wakes all.
+    (
+        "one_task_is_woken_of_1",
+        "try 0
+poll 0 p => pending, wakes 0
+1..2 * try n
+1..2 * poll n v9 => pending
+poll 0 e1 => e1, done, wakes 1
+poll 1 v4 => v4, done
+inits => 3 polls, 2 drops",
+    ),
+    (
+        "one_task_is_woken_of_10",
+        "try 0
+poll 0 p => pending, wakes 0
+1..11 * try n
+1..11 * poll n v9 => pending
+poll 0 e1 => e1, done, wakes 1
+poll 1 v4 => v4, done, wakes 2 to 10
+2..11 * poll n v9 => v4, done
+inits => 3 polls, 11 drops",
+    ),
+    (
+        "one_task_is_woken_of_100",
+        "try 0
+poll 0 p => pending, wakes 0
+1..101 * try n
+1..101 * poll n v9 => pending
+poll 0 e1 => e1, done, wakes 1
+poll 1 v4 => v4, done, wakes 2 to 100
+2..101 * poll n v9 => v4, done
+inits => 3 polls, 101 drops",
+    ),
+    // Ten who wait are called and dropped one after another, and the last of them fills the cell.
+    (
+        "turn_passed_on_to_the_last",
+        "try 0
+poll 0 p => pending, wakes 0
+1..11 * try n
+1..11 * poll n v9 => pending
+drop 0 => so, wakes 1
+drop 1 => so, wakes 2
+drop 2 => so, wakes 3
+drop 3 => so, wakes 4
+drop 4 => so, wakes 5
+drop 5 => so, wakes 6
+drop 6 => so, wakes 7
+drop 7 => so, wakes 8
+drop 8 => so, wakes 9
+drop 9 => so, wakes 10
+poll 10 v7 => v7, done
+inits => 2 polls, 11 drops",
     ),
 ];
 
@@ -135,94 +177,4 @@ fn memory_as_asked(rt: HostRuntime) -> Result<(), Fail> {
 #[test]
 fn starved(rt: HostRuntime) -> Result<(), Fail> {
     run(&rt, &STARVED)
-}
-
-// A future, and its task.
-#[derive(Drop)]
-struct Waiter<'a, R: Wait + AllocGlobal> {
-    task: MockTask,
-    future: TryInitFuture<'a, u64, u64, Init<'a, Tried>, R>,
-}
-
-impl<R: Wait + AllocGlobal> Waiter<'_, R> {
-    fn poll(&mut self) -> Reply {
-        let future = &mut self.future;
-        self.task.enter(|cx| heard(Future::poll(future, cx)))
-    }
-}
-
-// So many who wait, where another holds, after a poll of each.
-fn waiters<'a, R>(
-    rt: &'a R,
-    cell: &'a OnceCell<u64>,
-    stub: &'a Stub<Tried>,
-    number: u64,
-) -> io::Result<Vec<Waiter<'a, R>>>
-where
-    R: Wait + AllocGlobal + RandomSource,
-{
-    let mut waiters = Vec::new(rt.alloc());
-    for _ in 0..number {
-        let mut waiter = Waiter {
-            task: MockTask::new(rt)?,
-            future: cell.get_or_try_init(rt, stub.init()),
-        };
-        waiter.poll();
-        calm(&waiter.task);
-        waiters.push(waiter)?;
-    }
-    Ok(waiters)
-}
-
-// How many tasks were woken.
-fn woken<R: Wait + AllocGlobal>(waiters: &[Waiter<'_, R>]) -> usize {
-    waiters
-        .iter()
-        .filter(|waiter| waiter.task.is_woken())
-        .count()
-}
-
-// Whether each waiter is woken in its turn, and answers the value.
-fn all_answer<R: Wait + AllocGlobal>(waiters: &mut [Waiter<'_, R>], value: u64) -> bool {
-    waiters.iter_mut().all(|waiter| waiter.task.is_woken() && waiter.poll() == Reply::Value(value))
-}
-
-/// However many wait, a failure wakes one task, and a value wakes all.
-#[test]
-fn one_task_is_woken(rt: HostRuntime) -> Result<(), Fail> {
-    for number in [1, 10, 100] {
-        let (cell, stub, task) = (OnceCell::new(), Stub::new(), MockTask::new(&rt)?);
-        let mut first = cell.get_or_try_init(&rt, stub.init());
-        let holds = polled(&task, &mut first);
-        let mut waiting = waiters(&rt, &cell, &stub, number)?;
-        stub.answer.set(Some(Err(1)));
-        let fails = polled(&task, &mut first);
-        let by_failure = woken(&waiting);
-        stub.answer.set(Some(Ok(4)));
-        let all = all_answer(&mut waiting, 4);
-        assert_eq!(rt; (holds, fails), (Reply::Pending, Reply::Error(1)));
-        assert!(rt; by_failure == 1 && all, "of {number}");
-        assert_eq!(rt; stub.polls.get(), 3);
-    }
-    Ok(())
-}
-
-/// Ten who wait are called and dropped one after another, and the last of them fills the cell.
-#[test]
-fn turn_passed_on_to_the_last(rt: HostRuntime) -> Result<(), Fail> {
-    let (cell, stub, task) = (OnceCell::new(), Stub::new(), MockTask::new(&rt)?);
-    let mut first = cell.get_or_try_init(&rt, stub.init());
-    polled(&task, &mut first);
-    let waiting = waiters(&rt, &cell, &stub, 9)?;
-    let mut last = waiters(&rt, &cell, &stub, 1)?;
-    drop(first);
-    for (place, waiter) in waiting.into_iter().enumerate() {
-        assert!(rt; waiter.task.is_woken(), "at {place}");
-        assert_eq!(rt; woken(&last), 0, "at {place}");
-        drop(waiter);
-    }
-    stub.answer.set(Some(Ok(7)));
-    assert!(rt; all_answer(&mut last, 7));
-    assert_eq!(rt; stub.counts(), (2, 11));
-    Ok(())
 }

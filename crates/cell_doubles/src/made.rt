@@ -1,0 +1,119 @@
+//! Futures of cells that a schedule makes.
+
+use crate::poll::heard;
+use crate::stub::{Init, Stub, Tried, count};
+use async_once_cell::once::{InitFuture, TryInitFuture};
+use async_once_cell::world::Reply;
+use async_once_cell::{LazyFuturePin, OnceCell};
+use futures::Future;
+use futures::task::{Context, Poll};
+use futures::test::MockTask;
+use std::alloc::{AllocError, AllocGlobal, Global};
+use std::cell::Cell;
+use std::sync::Wait;
+
+/// An init that looks at its cell when it is dropped, and else does as its stub says.
+pub struct Looks<'a> {
+    pub cell: &'a OnceCell<u64>,
+    pub alloc: Global,
+    /// How the cell's Debug text is to end then.
+    pub wanted: &'a str,
+    /// Whether it did.
+    pub found: &'a Cell<Option<bool>>,
+    pub stub: &'a Stub<u64>,
+}
+
+impl Drop for Looks<'_> {
+    fn drop(self) {
+        let Looks {
+            cell,
+            alloc,
+            wanted,
+            found,
+            stub,
+        } = self;
+        count(&stub.drops);
+        if let Ok(text) = format!(in alloc; "{cell:?}") {
+            found.set(Some(text.as_str().ends_with(wanted)));
+        }
+    }
+}
+
+impl Future for Looks<'_> {
+    type Output = u64;
+
+    fn poll(&mut self, cx: &mut Context<'_>) -> Poll<u64> {
+        match self.stub.asked() {
+            Some(answer) => Poll::Ready(answer),
+            None => cx.yield_now(),
+        }
+    }
+}
+
+/// An init that polls a second future of its cell once, looks at the cell, and drops that future. It
+/// gives 6 where that was Pending and the cell empty, else 1. The init of the second does as the stub
+/// says.
+#[derive(Drop)]
+pub struct Within<'a, R> {
+    pub cell: &'a OnceCell<u64>,
+    pub rt: &'a R,
+    pub stub: &'a Stub<u64>,
+}
+
+impl<R: Wait + AllocGlobal> Future for Within<'_, R> {
+    type Output = u64;
+
+    fn poll(&mut self, cx: &mut Context<'_>) -> Poll<u64> {
+        let mut second = self.cell.get_or_init(self.rt, self.stub.init());
+        let is_pending = second.poll(cx).is_pending();
+        let is_empty = self.cell.get().is_none();
+        Poll::Ready(if is_pending && is_empty { 6 } else { 1 })
+    }
+}
+
+/// A future of a cell, by the kind of its init.
+#[derive(Drop)]
+pub enum Made<'a, 'i, R: Wait + AllocGlobal> {
+    Sure(InitFuture<'a, u64, Init<'i, u64>, R>),
+    Trying(TryInitFuture<'a, u64, u64, Init<'i, Tried>, R>),
+    Looking(InitFuture<'a, u64, Looks<'a>, R>),
+    Inside(InitFuture<'a, u64, Within<'a, R>, R>),
+    Lazily(LazyFuturePin<'a, u64, Init<'i, u64>, R>),
+}
+
+impl<R: Wait + AllocGlobal> Made<'_, '_, R> {
+    fn poll(&mut self, cx: &mut Context<'_>) -> Reply {
+        match self {
+            Made::Sure(future) => heard(Future::poll(future, cx)),
+            Made::Trying(future) => heard(Future::poll(future, cx)),
+            Made::Looking(future) => heard(Future::poll(future, cx)),
+            Made::Inside(future) => heard(Future::poll(future, cx)),
+            Made::Lazily(future) => heard(Future::poll(future, cx)),
+        }
+    }
+
+    /// What a poll by this task answers, and whether the future is done then.
+    pub fn polled(&mut self, task: &MockTask) -> (Reply, bool) {
+        let reply = task.enter(|cx| self.poll(cx));
+        (reply, self.is_finished())
+    }
+
+    fn is_finished(&self) -> bool {
+        match self {
+            Made::Sure(future) => future.is_finished(),
+            Made::Trying(future) => future.is_finished(),
+            Made::Looking(future) => future.is_finished(),
+            Made::Inside(future) => future.is_finished(),
+            Made::Lazily(future) => future.is_finished(),
+        }
+    }
+
+    /// The Debug text of a future of `get_or_init` or `get_or_try_init`.
+    pub fn shown(&self, alloc: Global) -> Result<String, AllocError> {
+        match self {
+            Made::Sure(future) => format!(in alloc; "{future:?}"),
+            Made::Trying(future) => format!(in alloc; "{future:?}"),
+            _ => format!(in alloc; "another future"),
+        }
+    }
+}
