@@ -1,11 +1,12 @@
 //! When the future of a cell and its value are dropped.
 
 use async_once_cell::Lazy;
-use cell_doubles::stub::{Stub, count};
-use futures::Future;
-use futures::task::{Context, Poll};
+use cell_doubles::stub::Stub;
+use cell_doubles::value::Makes;
 use futures::test::MockTask;
+use std::alloc::AllocGlobal;
 use std::cell::Cell;
+use std::sync::Wait;
 use std::test::Fail;
 
 /// A cell drops its future at its own end, where nobody had its value.
@@ -13,48 +14,26 @@ use std::test::Fail;
 fn unused_future_dropped(rt: HostRuntime) {
     let stub: Stub<u64> = Stub::new();
     let lazy = Lazy::new(stub.init());
-    assert_eq!(rt; stub.drops.get(), 0);
+    let before = stub.drops.get();
     drop(lazy);
-    assert_eq!(rt; stub.counts(), (0, 1));
+    assert_eq!(rt; (before, stub.counts()), (0, (0, 1)));
 }
 
-// A value that counts when it is dropped.
-struct Value<'a> {
-    drops: &'a Cell<u64>,
-}
-
-impl Drop for Value<'_> {
-    fn drop(self) {
-        let Value { drops } = self;
-        count(drops);
-    }
-}
-
-// A future that makes one.
-#[derive(Drop)]
-struct Makes<'a> {
-    drops: &'a Cell<u64>,
-}
-
-impl<'a> Future for Makes<'a> {
-    type Output = Value<'a>;
-
-    fn poll(&mut self, _cx: &mut Context<'_>) -> Poll<Value<'a>> {
-        Poll::Ready(Value { drops: self.drops })
-    }
+// Whether a value was made, and how often it was dropped before its cell was and after.
+fn dropped<R: Wait + AllocGlobal>(rt: &R, task: &MockTask) -> (bool, [u64; 2]) {
+    let drops = Cell::new(0);
+    let lazy = Lazy::new(Makes { drops: &drops });
+    let is_ready = task.poll(&mut lazy.get(rt)).is_ready();
+    let before = drops.get();
+    drop(lazy);
+    (is_ready, [before, drops.get()])
 }
 
 /// A value lives as long as its cell.
 #[test]
 fn value_dropped_with_the_cell(rt: HostRuntime) -> Result<(), Fail> {
-    let (drops, task) = (Cell::new(0), MockTask::new(&rt)?);
-    let lazy = Lazy::new(Makes { drops: &drops });
-    let mut f = lazy.get(&rt);
-    let is_ready = task.poll(&mut f).is_ready();
-    drop(f);
-    let before = drops.get();
-    drop(lazy);
-    assert!(rt; is_ready);
-    assert_eq!(rt; (before, drops.get()), (0, 1));
+    let task = MockTask::new(&rt)?;
+    let dropped = dropped(&rt, &task);
+    assert_eq!(rt; dropped, (true, [0, 1]));
     Ok(())
 }

@@ -32,41 +32,53 @@ fn future_handed_back(rt: HostRuntime) -> Result<(), Fail> {
 #[test]
 fn no_value_before_a_poll(rt: HostRuntime) {
     let stub = Stub::giving(9);
-    let lazy = Lazy::from_future(stub.init());
-    assert_eq!(rt; lazy.into_inner(), None);
-    assert_eq!(rt; stub.counts(), (0, 1));
+    let value = Lazy::from_future(stub.init()).into_inner();
+    assert_eq!(rt; (value, stub.counts()), (None, (0, 1)));
+}
+
+// What came out of cells that were replaced, and what those in their place lend. Then how many futures
+// were dropped when all but the last were replaced, and when that came back, if it did.
+fn replaced(stub: &Stub<u64>) -> ([Option<u64>; 6], [u64; 2], bool) {
+    let mut lazy: Lazy<u64, Init<'_, u64>> = Lazy::with_value(7);
+    let (one, set) = (
+        lazy.replace_and_take(Lazy::with_value(8)),
+        lazy.try_get().copied(),
+    );
+    let (two, empty) = (
+        lazy.replace_and_take(Lazy::new(stub.init())),
+        lazy.try_get().copied(),
+    );
+    let three = lazy.replace_and_take(Lazy::new(stub.init()));
+    let drops = stub.drops.get();
+    let still = lazy.try_get().copied();
+    let parts = lazy.into_parts();
+    let is_back = matches!(parts, Err(Some(_)));
+    let kept = stub.drops.get();
+    drop(parts);
+    ([one, set, two, empty, three, still], [drops, kept], is_back)
 }
 
 /// A cell that stands in another's place: the value of the one before comes out.
 #[test]
 fn one_in_place_of_another(rt: HostRuntime) {
     let stub: Stub<u64> = Stub::giving(9);
-    let mut lazy: Lazy<u64, Init<'_, u64>> = Lazy::with_value(7);
-    assert_eq!(rt; lazy.replace_and_take(Lazy::with_value(8)), Some(7));
-    assert_eq!(rt; lazy.try_get(), Some(&8));
-    assert_eq!(rt; lazy.replace_and_take(Lazy::new(stub.init())), Some(8));
-    assert_eq!(rt; lazy.try_get(), None);
-    assert_eq!(rt; lazy.replace_and_take(Lazy::new(stub.init())), None);
-    assert_eq!(rt; stub.drops.get(), 1);
-    let parts = lazy.into_parts();
-    assert!(rt; matches!(parts, Err(Some(_))));
-    assert_eq!(rt; stub.drops.get(), 1);
-    drop(parts);
-    assert_eq!(rt; stub.counts(), (0, 2));
+    let (values, drops, is_back) = replaced(&stub);
+    assert_eq!(rt; values, [Some(7), Some(8), Some(8), None, None, None]);
+    assert_eq!(rt; (drops, is_back, stub.counts()), ([1, 1], true, (0, 2)));
 }
 
 /// A value is lent for writing, and given away at the end.
 #[test]
 fn value_lent_for_writing(rt: HostRuntime) {
     let mut lazy: Lazy<u64, Init<'_, u64>> = Lazy::with_value(7);
-    assert_eq!(rt; lazy.try_get_mut(), Some(&mut 7));
+    let lent = lazy.try_get_mut().copied();
     if let Some(value) = lazy.try_get_mut_unpin() {
         *value = 8;
     }
     let set =
         "Lazy { value: Some(8), inner: Inner { ready: true, quick_init: false, refcount: 0, queue: false } }";
-    assert!(rt; shows(&rt, &lazy, set));
-    assert_eq!(rt; lazy.into_inner(), Some(8));
+    let is_set = shows(&rt, &lazy, set);
+    assert_eq!(rt; (lent, is_set, lazy.into_inner()), (Some(7), true, Some(8)));
 }
 
 /// There is nothing to lend before the first poll.
@@ -74,20 +86,7 @@ fn value_lent_for_writing(rt: HostRuntime) {
 fn nothing_to_lend(rt: HostRuntime) {
     let stub = Stub::giving(9);
     let mut lazy = Lazy::new(stub.init());
-    assert!(rt; lazy.try_get_mut().is_none());
-    assert!(rt; lazy.try_get_mut_unpin().is_none());
-}
-
-/// A value that the future gave is there for all calls, and the future is not.
-#[test]
-fn value_of_the_future(rt: HostRuntime) -> Result<(), Fail> {
-    let (stub, task) = (Stub::giving(9), MockTask::new(&rt)?);
-    let lazy = Lazy::new(stub.init());
-    let mut f = lazy.into_future(&rt);
-    let reply = polled(&task, &mut f);
-    drop(f);
-    assert_eq!(rt; (reply, lazy.try_get()), (Reply::Value(9), Some(&9)));
-    assert_eq!(rt; stub.drops.get(), 1);
-    assert!(rt; matches!(lazy.into_parts(), Ok(9)));
-    Ok(())
+    let lent = lazy.try_get_mut().is_some();
+    let lent_unpinned = lazy.try_get_mut_unpin().is_some();
+    assert!(rt; !lent && !lent_unpinned);
 }

@@ -1,104 +1,89 @@
-//! Who drives the future of a cell, and what the others get.
+//! Who drives the future of a cell, and what the others get, as schedules of polls and drops.
 
-use async_once_cell::Lazy;
-use async_once_cell::world::Reply;
-use cell_doubles::poll::{calm, polled};
-use cell_doubles::stub::Stub;
-use cell_doubles::text::shows;
-use futures::test::MockTask;
-use no_memory::hoard;
+use cell_doubles::schedule::run;
 use std::test::Fail;
 
-const SET: &str = "ready: true, quick_init: false, refcount: 0, queue: false } }";
+// Schedules over a `Lazy`.
+const SCHEDULES: [(&str, &str); 4] = [
+    // Four futures of one cell, polled by one task: its own future is driven by the first, and all get the
+    // value.
+    (
+        "four_of_one_cell",
+        "get 0
+unpin 1
+into 2
+get 3
+poll 0 p 0 => pending, wakes 0
+poll 1 p 0 => pending
+poll 2 p 0 => pending
+poll 3 p 0 => pending
+lazy => None, Lazy { value: None, inner: Inner { ready: false, quick_init: true, refcount: 3, queue: true } }
+poll 0 v2 0 => v2, done, wakes 0
+poll 1 v2 0 => v2, done
+poll 2 v2 0 => v2, done
+poll 3 v2 0 => v2, done
+inits => 2 polls, 1 drops
+lazy => Some(2), Lazy { value: Some(2), inner: Inner { ready: true, quick_init: false, refcount: 0, queue: false } }",
+    ),
+    // A holder is dropped: the cell's future stays, and goes on where it stood.
+    (
+        "holder_dropped",
+        "get 0
+get 1
+poll 0 p => pending, wakes 0
+poll 1 p => pending
+drop 0 => so, wakes 1
+inits => 1 polls, 0 drops
+poll 1 p => pending, wakes 1
+poll 1 v5 => v5, done
+drop 1
+inits => 3 polls, 1 drops",
+    ),
+    // A future that is done asks for another poll, and leaves its cell as it is.
+    (
+        "polled_when_done",
+        "get 0
+poll 0 v5 => v5, done
+poll 0 v5 => pending, done, wakes 0
+inits => 1 polls, 1 drops
+lazy => Some(5), Lazy { value: Some(5), inner: Inner { ready: true, quick_init: false, refcount: 0, queue: false } }",
+    ),
+    // A value that the future gave is there for all calls, and the future is not.
+    (
+        "value_of_the_future",
+        "into 0
+poll 0 v9 => v9, done
+drop 0
+lazy => Some(9), Lazy { value: Some(9), inner: Inner { ready: true, quick_init: false, refcount: 0, queue: false } }
+inits => 1 polls, 1 drops
+end => None, Some(9)",
+    ),
+];
 
-/// Four futures of one cell: its own future is driven by the first, and all get the value.
+// A schedule over a `Lazy` that needs no memory from some point on, and gets none.
+const STARVED: [(&str, &str); 1] = [
+    // A future that would wait is refused, and the cell's own goes on unharmed.
+    (
+        "no_memory_to_wait",
+        "get 0
+get 1
+starve
+poll 0 p => pending, wakes 0
+poll 1 p => memory, done
+poll 0 v4 => v4, done
+drop 0
+drop 1
+inits => 2 polls, 1 drops
+lazy => Some(4), Lazy { value: Some(4), inner: Inner { ready: true, quick_init: false, refcount: 0, queue: false } }",
+    ),
+];
+
 #[test]
-fn four_of_one_cell(rt: HostRuntime) -> Result<(), Fail> {
-    let (stub, task) = (Stub::new(), MockTask::new(&rt)?);
-    let lazy = Lazy::new(stub.init());
-    let (mut f1, mut f2) = (lazy.get(&rt), lazy.get_unpin(&rt));
-    let (mut f3, mut f4) = (lazy.into_future(&rt), lazy.get(&rt));
-    let holds = polled(&task, &mut f1);
-    calm(&task);
-    let wait = [
-        polled(&task, &mut f2),
-        polled(&task, &mut f3),
-        polled(&task, &mut f4),
-    ];
-    let was_woken = task.is_woken();
-    let stands = shows(&rt, &lazy, "quick_init: true, refcount: 3, queue: true } }");
-    stub.answer.set(Some(2));
-    let fills = polled(&task, &mut f1);
-    let is_woken = task.is_woken();
-    let find = [
-        polled(&task, &mut f2),
-        polled(&task, &mut f3),
-        polled(&task, &mut f4),
-    ];
-    assert_eq!(rt; (holds, wait), (Reply::Pending, [Reply::Pending; 3]));
-    assert_eq!(rt; (fills, find), (Reply::Value(2), [Reply::Value(2); 3]));
-    assert!(rt; stands && !was_woken && is_woken && !task.is_woken());
-    assert_eq!(rt; stub.polls.get(), 2);
-    assert!(rt; shows(&rt, &lazy, SET));
-    Ok(())
+fn memory_as_asked(rt: HostRuntime) -> Result<(), Fail> {
+    run(&rt, &SCHEDULES)
 }
 
-/// A holder is dropped: the cell's future stays, and goes on where it stood.
 #[test]
-fn holder_dropped(rt: HostRuntime) -> Result<(), Fail> {
-    let (one, two) = (MockTask::new(&rt)?, MockTask::new(&rt)?);
-    let stub = Stub::new();
-    let lazy = Lazy::new(stub.init());
-    let (mut f1, mut f2) = (lazy.get(&rt), lazy.get(&rt));
-    let wait = [polled(&one, &mut f1), polled(&two, &mut f2)];
-    drop(f1);
-    let (is_woken, counts) = (two.is_woken(), stub.counts());
-    let holds = polled(&two, &mut f2);
-    stub.answer.set(Some(5));
-    let fills = polled(&two, &mut f2);
-    drop(f2);
-    assert_eq!(rt; wait, [Reply::Pending; 2]);
-    assert_eq!(rt; (is_woken, counts), (true, (1, 0)));
-    assert_eq!(rt; (holds, fills), (Reply::Pending, Reply::Value(5)));
-    assert_eq!(rt; stub.counts(), (3, 1));
-    Ok(())
-}
-
-/// A future that is done asks for another poll, and leaves its cell as it is.
-#[test]
-fn polled_when_done(rt: HostRuntime) -> Result<(), Fail> {
-    let (task, stub) = (MockTask::new(&rt)?, Stub::giving(5));
-    let lazy = Lazy::new(stub.init());
-    let mut f = lazy.get(&rt);
-    let fills = polled(&task, &mut f);
-    calm(&task);
-    let again = polled(&task, &mut f);
-    assert_eq!(rt; (fills, again), (Reply::Value(5), Reply::Pending));
-    assert!(rt; task.is_woken() && f.is_finished());
-    assert_eq!(rt; stub.polls.get(), 1);
-    assert!(rt; shows(&rt, &lazy, SET));
-    Ok(())
-}
-
-/// Every request for memory is refused: a future that would wait is refused, and the cell's own
-/// goes on unharmed.
-#[test]
-fn no_memory_to_wait(rt: HostRuntime) -> Result<(), Fail> {
-    let (one, two) = (MockTask::new(&rt)?, MockTask::new(&rt)?);
-    let stub = Stub::new();
-    let lazy = Lazy::new(stub.init());
-    let (mut f1, mut f2) = (lazy.get(&rt), lazy.get(&rt));
-    let held = hoard(rt.alloc())?;
-    let replies = [polled(&one, &mut f1), polled(&two, &mut f2)];
-    stub.answer.set(Some(4));
-    let fills = polled(&one, &mut f1);
-    drop(held);
-    let is_done = f2.is_finished() && !two.is_woken();
-    drop(f1);
-    drop(f2);
-    assert_eq!(rt; replies, [Reply::Pending, Reply::Memory]);
-    assert_eq!(rt; (fills, is_done), (Reply::Value(4), true));
-    assert_eq!(rt; stub.counts(), (2, 1));
-    assert!(rt; shows(&rt, &lazy, SET));
-    Ok(())
+fn starved(rt: HostRuntime) -> Result<(), Fail> {
+    run(&rt, &STARVED)
 }
