@@ -243,8 +243,10 @@ impl<'a, 'i: 'a, R: Wait + AllocGlobal> Schedule<'a, 'i, R> {
         for line in lines.lines() {
             let (order, wanted) = line.split_once(" => ").unwrap_or((line, "so"));
             let (turns, order) = order.split_once(" * ").unwrap_or(("1", order));
-            let (from, to) = turns.split_once("..").unwrap_or(("0", turns));
-            for turn in self.number(from)..self.number(to) {
+            let Some((from, to)) = turns_in(turns) else {
+                return Err(Fail::new(format_args!("{line} in {name} can't be read")));
+            };
+            for turn in from..to {
                 self.turn = turn;
                 self.follow(name, order, wanted)?;
             }
@@ -341,22 +343,18 @@ impl<'a, 'i: 'a, R: Wait + AllocGlobal> Schedule<'a, 'i, R> {
     }
 }
 
-// All memory, where a schedule starves. An allocator may keep what was given back for requests of that
-// size alone, so small ones of each size are made too.
+// `A..B` for the turns from A to below B, or how many there are.
+fn turns_in(text: &str) -> Option<(usize, usize)> {
+    let (from, to) = text.split_once("..").unwrap_or(("0", text));
+    Some((from.parse().ok()?, to.parse().ok()?))
+}
+
+// All memory, where a schedule starves.
 fn hoarded(alloc: Global, starves: bool) -> Result<Option<Vec<Vec<u8>>>, AllocError> {
-    if !starves {
-        return Ok(None);
+    if starves {
+        return Ok(Some(hoard(alloc)?));
     }
-    let mut held = hoard(alloc)?;
-    for step in 0..130 {
-        for _ in 0..1000 {
-            let Ok(block) = Vec::with_capacity(alloc, step * 8 + 8) else {
-                break;
-            };
-            let _ = held.push(block);
-        }
-    }
-    Ok(Some(held))
+    Ok(None)
 }
 
 // `p`, `v` with a value, or `e` with an error.

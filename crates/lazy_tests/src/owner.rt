@@ -90,3 +90,10 @@ fn nothing_to_lend(rt: HostRuntime) {
     let lent_unpinned = lazy.try_get_mut_unpin().is_some();
     assert!(rt; !lent && !lent_unpinned);
 }
+
+/// A value comes out of a cell that is taken apart.
+#[test]
+fn value_taken_apart(rt: HostRuntime) {
+    let lazy: Lazy<u64, Init<'_, u64>> = Lazy::with_value(7);
+    assert!(rt; matches!(lazy.into_parts(), Ok(7)));
+}

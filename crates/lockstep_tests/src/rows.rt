@@ -2,33 +2,33 @@
 
 mod scripts;
 
-use scripts::{BETWEEN, CALLS, DROPS, Order, POLLS, REFUSALS, Steps, order_in};
+use scripts::{BETWEEN, CALLS, DROPS, Line, POLLS, REFUSALS, Steps, line_in};
 use side_by_side::pair::{Fault, Pair};
 use std::alloc::AllocGlobal;
 use std::process::Abort;
 use std::sync::Wait;
 
 // Does what each line says. A line that cannot be read is a fault of the task 0.
-fn obey_all<R: Wait + AllocGlobal>(pair: &mut Pair<'_, R>, lines: &str) -> Result<(), Fault> {
+fn follow_all<R: Wait + AllocGlobal>(pair: &mut Pair<'_, R>, lines: &str) -> Result<(), Fault> {
     for line in lines.lines() {
-        match order_in(line) {
-            Some(order) => obey(pair, order)?,
+        match line_in(line) {
+            Some(line) => follow(pair, line)?,
             None => return Err(Fault::Unfit(0)),
         }
     }
     Ok(())
 }
 
-// An order that does not fit is passed over.
-fn obey<R: Wait + AllocGlobal>(pair: &mut Pair<'_, R>, order: Order) -> Result<(), Fault> {
-    match order {
-        Order::Make(t) => pair.make(t),
-        Order::Poll(t, waker) => {
+// A line that does not fit is passed over.
+fn follow<R: Wait + AllocGlobal>(pair: &mut Pair<'_, R>, line: Line) -> Result<(), Fault> {
+    match line {
+        Line::Make(t) => pair.make(t),
+        Line::Poll(t, waker) => {
             pair.poll(t, waker);
             Ok(())
         }
-        Order::Drop(t) => pair.begin_drop(t),
-        Order::Go(steps) => go(pair, steps),
+        Line::Drop(t) => pair.begin_drop(t),
+        Line::Go(steps) => go(pair, steps),
     }
 }
 
@@ -46,7 +46,7 @@ fn queue_after<R: Wait + AllocGlobal>(
     lines: &str,
 ) -> Result<Option<bool>, Fault> {
     let mut pair = Pair::new(rt, limit);
-    obey_all(&mut pair, lines)?;
+    follow_all(&mut pair, lines)?;
     Ok(pair.has_queue())
 }
 
@@ -85,11 +85,11 @@ fn between<R: Wait + AllocGlobal>(
     steps: u64,
 ) -> Result<(), Fault> {
     let mut pair = Pair::new(rt, 8);
-    obey_all(&mut pair, before)?;
+    follow_all(&mut pair, before)?;
     for _ in 0..steps {
-        obey_all(&mut pair, step)?;
+        follow_all(&mut pair, step)?;
     }
-    obey_all(&mut pair, after)
+    follow_all(&mut pair, after)
 }
 
 #[test]

@@ -5,7 +5,7 @@ use async_once_cell::step::Polled;
 
 /// One line of a script.
 #[derive(Clone, Copy)]
-pub enum Order {
+pub enum Line {
     /// `make T`: a task is made.
     Make(u64),
     /// `poll T W`: a poll of it begins, with this waker.
@@ -27,11 +27,11 @@ pub struct Steps {
 }
 
 /// Reads a line.
-pub fn order_in(line: &str) -> Option<Order> {
+pub fn line_in(line: &str) -> Option<Line> {
     let (word, rest) = line.split_once(' ')?;
     match word {
-        "make" => Some(Order::Make(number(rest)?)),
-        "drop" => Some(Order::Drop(number(rest)?)),
+        "make" => Some(Line::Make(number(rest)?)),
+        "drop" => Some(Line::Drop(number(rest)?)),
         "poll" => poll_in(rest),
         "go" => steps_in(rest, 1),
         "run" => steps_in(rest, 16),
@@ -43,12 +43,12 @@ fn number(text: &str) -> Option<u64> {
     text.parse().ok()
 }
 
-fn poll_in(text: &str) -> Option<Order> {
+fn poll_in(text: &str) -> Option<Line> {
     let (task, waker) = text.split_once(' ')?;
-    Some(Order::Poll(number(task)?, number(waker)?))
+    Some(Line::Poll(number(task)?, number(waker)?))
 }
 
-fn steps_in(text: &str, times: u64) -> Option<Order> {
+fn steps_in(text: &str, times: u64) -> Option<Line> {
     let (task, given) = text.split_once(' ')?;
     let steps = Steps {
         task: number(task)?,
@@ -56,7 +56,7 @@ fn steps_in(text: &str, times: u64) -> Option<Order> {
         is_granted: !given.ends_with(" x"),
         times,
     };
-    Some(Order::Go(steps))
+    Some(Line::Go(steps))
 }
 
 // The answers are `p`, `v` with a value and `e` with an error. No step looks at these.
