@@ -4,14 +4,10 @@
 #[cfg(test)]
 mod failing;
 #[cfg(test)]
+mod gathered;
+#[cfg(test)]
 mod stress;
 #[cfg(test)]
 mod threads;
 #[cfg(test)]
 mod told;
-
-#[cfg(test)]
-const THREADS: usize = 4;
-
-#[cfg(test)]
-const CELLS: u64 = 200;

@@ -1,17 +1,16 @@
 //! Four threads and two hundred cells: what comes out does not depend on who was first.
 
-use crate::{CELLS, THREADS};
+use crate::gathered::{CELLS, THREADS, Visited, alike, gathered};
 use async_once_cell::OnceCell;
 use async_once_cell::world::Reply;
 use cell_doubles::slow::{Driven, Slow, ended};
+use cell_doubles::stub::Tried;
 use futures::test::MockTask;
-use std::alloc::{AllocGlobal, Global};
-use std::random::RandomSource;
+use std::alloc::{AllocError, AllocGlobal, Global};
 use std::sync::Wait;
 use std::sync::atomic::{AtomicU64, Ordering};
 use std::test::Fail;
 use std::time::Clock;
-use std::{io, thread};
 
 // A cell that all threads fill.
 #[derive(Drop)]
@@ -23,64 +22,54 @@ struct Contested {
     failed: AtomicU64,
 }
 
-// What the thread gets of the cell. It drops one of its futures midway, and another fails.
-fn visited<R>(
-    rt: &R,
-    task: &MockTask,
-    contested: &Contested,
-    thread: u64,
-    number: u64,
-) -> Option<u64>
-where
-    R: Wait + AllocGlobal + Clock,
-{
-    let kind = thread.wrapping_add(number);
-    let (cell, pending) = (&contested.cell, kind % 4);
-    let gives = || Slow {
-        pending,
-        answer: Ok(thread.wrapping_mul(1000).wrapping_add(number)),
-        done: &contested.made,
-    };
-    if kind.is_multiple_of(3) {
-        let mut dropped = cell.get_or_try_init(rt, gives());
-        dropped.poll_by(task);
-    }
-    if kind.is_multiple_of(5) {
-        let fails = Slow {
-            pending,
-            answer: Err(7u64),
-            done: &contested.failed,
-        };
-        let mut failing = cell.get_or_try_init(rt, fails);
-        let answer = ended(rt, task, &mut failing);
-        if !matches!(answer, Reply::Value(_) | Reply::Error(7)) {
-            return None;
+impl Contested {
+    // An init that gives the thread's value of the cell.
+    fn gives(&self, thread: u64, number: u64) -> Slow<'_, Tried> {
+        Slow {
+            pending: thread.wrapping_add(number) % 4,
+            answer: Ok(thread.wrapping_mul(1000).wrapping_add(number)),
+            done: &self.made,
         }
     }
-    let mut last = cell.get_or_try_init(rt, gives());
-    match ended(rt, task, &mut last) {
-        Reply::Value(value) => Some(value),
-        _ => None,
+
+    // An init that fails.
+    fn fails(&self, pending: u64) -> Slow<'_, Tried> {
+        Slow {
+            pending,
+            answer: Err(7),
+            done: &self.failed,
+        }
     }
 }
 
-// What a thread gets of each cell, in order. 0 stands where it got no value.
-fn all_visited<R>(rt: &R, alloc: Global, cells: &[Contested], thread: usize) -> io::Result<Vec<u64>>
-where
-    R: Wait + AllocGlobal + Clock + RandomSource,
-{
-    let (task, mut got) = (MockTask::new(rt)?, Vec::new(alloc));
-    for (number, contested) in (1..).zip(cells) {
-        let value = visited(rt, &task, contested, thread as u64, number);
-        got.push(value.unwrap_or(0))?;
+impl Visited for Contested {
+    // What the thread gets of the cell. It drops one of its futures midway, and another fails.
+    fn visited<'v, R>(&'v self, rt: &'v R, task: &MockTask, thread: u64, number: u64) -> Option<u64>
+    where
+        R: Wait + AllocGlobal + Clock,
+    {
+        let (cell, kind) = (&self.cell, thread.wrapping_add(number));
+        if kind.is_multiple_of(3) {
+            cell.get_or_try_init(rt, self.gives(thread, number))
+                .poll_by(task);
+        }
+        if kind.is_multiple_of(5) {
+            let init = self.fails(kind % 4);
+            let reply = ended(rt, task, &mut cell.get_or_try_init(rt, init));
+            if !matches!(reply, Reply::Value(_) | Reply::Error(7)) {
+                return None;
+            }
+        }
+        let init = self.gives(thread, number);
+        match ended(rt, task, &mut cell.get_or_try_init(rt, init)) {
+            Reply::Value(value) => Some(value),
+            _ => None,
+        }
     }
-    Ok(got)
 }
 
-/// All threads get one value of a cell, whose inits gave a value once.
-#[test]
-fn many_threads_one_value(rt: HostRuntime) -> Result<(), Fail> {
-    let mut cells = Vec::new(rt.alloc());
+fn all_cells(alloc: Global) -> Result<Vec<Contested>, AllocError> {
+    let mut cells = Vec::new(alloc);
     for _ in 0..CELLS {
         cells.push(Contested {
             cell: OnceCell::new(),
@@ -88,23 +77,39 @@ fn many_threads_one_value(rt: HostRuntime) -> Result<(), Fail> {
             failed: AtomicU64::new(0),
         })?;
     }
-    let shared = cells.as_slice();
-    let work = |thread: usize| all_visited(&rt, rt.alloc(), shared, thread);
-    for got in thread::map_indices(&rt, rt.alloc(), THREADS, &work)? {
-        let got = got?;
-        assert_eq!(rt; got.len(), shared.len());
-        for (contested, value) in shared.iter().zip(&got) {
-            assert_eq!(rt; contested.cell.get(), Some(value));
+    Ok(cells)
+}
+
+// The values of the cells. 4000 stands for none.
+fn values(alloc: Global, cells: &[Contested]) -> Result<Vec<u64>, AllocError> {
+    let mut values = Vec::new(alloc);
+    for contested in cells {
+        values.push(contested.cell.get().copied().unwrap_or(4000))?;
+    }
+    Ok(values)
+}
+
+// How many cells have a value that some thread brought for them, from the one init that gave one, where
+// one failed at most.
+fn sound(cells: &[Contested], values: &[u64]) -> u64 {
+    let mut sound = 0u64;
+    for (number, (contested, value)) in (0..).zip(cells.iter().zip(values)) {
+        let made = contested.made.load(Ordering::SeqCst);
+        let failed = contested.failed.load(Ordering::SeqCst);
+        if made == 1 && failed <= 1 && *value % 1000 == number && *value < 4000 {
+            sound = sound.wrapping_add(1);
         }
     }
-    for (number, contested) in (1..).zip(shared) {
-        assert_eq!(rt; contested.made.load(Ordering::SeqCst), 1);
-        assert!(rt; contested.failed.load(Ordering::SeqCst) <= 1);
-        let value = contested.cell.get().copied().unwrap_or(0);
-        assert!(rt;
-            value % 1000 == number && value < 4000,
-            "{value} of cell {number}"
-        );
-    }
+    sound
+}
+
+/// All threads get one value of a cell, whose inits gave a value once.
+#[test]
+fn many_threads_one_value(rt: HostRuntime) -> Result<(), Fail> {
+    let cells = all_cells(rt.alloc())?;
+    let got = gathered(&rt, &cells)?;
+    let values = values(rt.alloc(), &cells)?;
+    let alike = alike(&got, &values);
+    assert_eq!(rt; (alike, sound(&cells, &values)), (THREADS, CELLS));
     Ok(())
 }
