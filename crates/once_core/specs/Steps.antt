@@ -237,15 +237,16 @@ module _ {S W Q : Type 0} (close : S → S → Type 0) (copy : S → Option W �
   AfterLook Listed q k s s' r t = Follows close (after_look Listed None q k) s s' r t
   AfterLook a q k s s' r t = (c : Option W) × (m : S) × copy s c m × Follows close (after_look a c q k) m s' r t
 
--- what a release hands out; any other answer hands nobody out
-abbrev pub out_of_release : {W : Type 0} → SectionAnswer W → Out W
-out_of_release (Released out) = out
-out_of_release _ = One None
+-- what the section of a release, or of one who leaves, hands out; any other answer hands nothing out
+abbrev pub out_of : {W : Type 0} → SectionAnswer W → Option (Out W)
+out_of (Released out) = Some out
+out_of (Left w) = Some (One w)
+out_of _ = None
 
--- whom one who leaves calls
-abbrev pub out_of_leave : {W : Type 0} → SectionAnswer W → Out W
-out_of_leave (Left w) = One w
-out_of_leave _ = One None
+-- who was handed out is called; where nothing was, nothing happens
+abbrev pub Wakes : {S W : Type 0} → (S → Out W → S → Type 0) → Option (Out W) → S → S → Type 0
+Wakes wake (Some out) s s' = wake s out s'
+Wakes wake None s s' = s' ≡ s
 
 module _ {P W Q : Type 0} (can_add_one can_count_out can_log : P → Type 0) (can_section : P → Q → Op W → Type 0) where
   -- what the call of a place asks of the parts
@@ -286,9 +287,9 @@ module _ {P S W Q : Type 0}
   Line limit (AtAddOne e) p s r t p' s' = add_one p p' × Follows close (next_at (AtDoorAgain e)) s s' r t
   Line limit (AtDoorAgain e) p s r t p' s' = (q : Option Q) × door_get p q p' × Follows close (after_door_again q e) s s' r t
   Line limit (AtRelease q e) p s r t p' s' =
-      (a : SectionAnswer W) × (o : Op W) × section p q (ReleaseOp (is_value e)) a o p' × wake s (out_of_release a) s' × (r ≡ More) × (t ≡ UnderWay (AtCountOut e))
+      (a : SectionAnswer W) × (o : Op W) × section p q (ReleaseOp (is_value e)) a o p' × Wakes wake (out_of a) s s' × (r ≡ More) × (t ≡ UnderWay (AtCountOut e))
   Line limit (AtLeave q n e) p s r t p' s' =
-      (a : SectionAnswer W) × (o : Op W) × section p q (LeaveOp n) a o p' × wake s (out_of_leave a) s' × (r ≡ More) × (t ≡ UnderWay (AtCountOut e))
+      (a : SectionAnswer W) × (o : Op W) × section p q (LeaveOp n) a o p' × Wakes wake (out_of a) s s' × (r ≡ More) × (t ≡ UnderWay (AtCountOut e))
   Line limit (AtCountOut e) p s r t p' s' = (w : ℕ) × count_out p w p' × Follows close (after_count_out (is_ready_bit (flags_of w)) e) s s' r t
   Line limit (AtDoorTake e) p s r t p' s' = (b : Bool) × door_take p b p' × Follows close (next_end e) s s' r t
 

@@ -1,4 +1,5 @@
 //! One step of a call at a time, over any parts and any side.
+ghost use Rattle.once_core.specs.Steps.{Wakes, out_of};
 ghost use Rattle.std.specs.Prelude.{◌≡◌, ◌<◌, ◌≤◌, ◌-◌, ◌^◌, ◌↔◌, IsTrue, ℕ, Bool, true, false, Option, Some, None};
 ghost use Rattle.once_queue.specs.declared.waiters.Answer.{Answer};
 ghost use Rattle.once_queue.specs.declared.waiters.Op.{Op};
@@ -116,7 +117,7 @@ impl<W: Drop, Q: Drop> Step<W, Q> {
     ghost use Rattle.once_core.specs.declared.parts.Counted.{Counted};
     ghost use Rattle.once_queue.specs.Word.{flags_of, is_zero, is_ready_bit};
     ghost use Rattle.once_queue.specs.Ops.{ticket_in};
-    ghost use Rattle.once_core.specs.Steps.{left_of, is_resting, in_call, is_running, is_leaving, is_freeing, is_adding, is_value, step_of_poll, step_of_drop, release_place, Asks, Advances, LeadsTo, Follows, AfterLook, out_of_release, out_of_leave, after_start, after_quick, after_door_get, after_door_put, after_count_in, after_load, after_copy, after_list, after_run, after_fast, after_door_again, after_count_out};
+    ghost use Rattle.once_core.specs.Steps.{left_of, is_resting, in_call, is_running, is_leaving, is_freeing, is_adding, is_value, step_of_poll, step_of_drop, release_place, Asks, Advances, LeadsTo, Follows, AfterLook, after_start, after_quick, after_door_get, after_door_put, after_count_in, after_load, after_copy, after_list, after_run, after_fast, after_door_again, after_count_out};
 
     /// A task that was not polled yet.
     pub fn new() -> Self
@@ -513,16 +514,13 @@ impl<W: Drop, Q: Drop> Step<W, Q> {
         requires log { P.can_log parts.old }
         requires can { P.can_section parts.old queue (Op.Release (is_value ending)) }
         ensures section { (a : Answer W) × (o : Op W) × P.did_section parts.old queue (Op.Release (is_value ending)) a o parts.new
-            × S.did_wake side.old (out_of_release a) side.new }
+            × Wakes S.did_wake (out_of a) side.old side.new }
         ensures more { result ≡ Progress.More }
         ensures step { self.new ≡ Step.UnderWay (Place.CountOut ending) }
         ensures stays { S.stays side.old side.new }
     {
-        let out = match parts.section(&queue, &mut Op::Release(ending.is_value())) {
-            Answer::Released(out) => out,
-            _ => Out::One(None),
-        };
-        side.wake(out);
+        let answer = parts.section(&queue, &mut Op::Release(ending.is_value()));
+        wake(answer, side);
         self.on(Place::CountOut(ending))
     }
 
@@ -537,16 +535,13 @@ impl<W: Drop, Q: Drop> Step<W, Q> {
         requires log { P.can_log parts.old }
         requires can { P.can_section parts.old queue (Op.Leave ticket) }
         ensures section { (a : Answer W) × (o : Op W) × P.did_section parts.old queue (Op.Leave ticket) a o parts.new
-            × S.did_wake side.old (out_of_leave a) side.new }
+            × Wakes S.did_wake (out_of a) side.old side.new }
         ensures more { result ≡ Progress.More }
         ensures step { self.new ≡ Step.UnderWay (Place.CountOut ending) }
         ensures stays { S.stays side.old side.new }
     {
-        let next = match parts.section(&queue, &mut Op::Leave(ticket)) {
-            Answer::Left(waker) => waker,
-            _ => None,
-        };
-        side.wake(Out::One(next));
+        let answer = parts.section(&queue, &mut Op::Leave(ticket));
+        wake(answer, side);
         self.on(Place::CountOut(ending))
     }
 
@@ -559,5 +554,17 @@ impl<W: Drop, Q: Drop> Step<W, Q> {
             return self.on(Place::DoorTake(ending));
         }
         self.end(ending)
+    }
+}
+
+// Calls whom a section handed out. An answer of another kind hands nothing out.
+fn wake<W: Drop, S: Side<W>>(answer: Answer<W>, side: &mut S)
+    ensures wakes { Wakes S.did_wake (out_of answer) side.old side.new }
+    ensures stays { S.stays side.old side.new }
+{
+    match answer {
+        Answer::Released(out) => side.wake(out),
+        Answer::Left(waker) => side.wake(Out::One(waker)),
+        _ => {}
     }
 }

@@ -264,7 +264,7 @@ release_wakers false xs = one_out (first_waker xs)
 -- at the door
 abbrev pub release_step : Bool → Inner → ℕ → Answer → Ending → Outcome
 release_step true c t k e = outcome_of (record (release_flags c.quick (is_value e) c) { listings = release_list (is_value e) c.listings }) t k (release_entry k t (release_wakers (is_value e) c.listings) ∷ []) (next_at (AtCountOut e))
-release_step false c t k e = outcome_of c t k (release_entry k t [] ∷ []) (next_at (AtCountOut e))
+release_step false c t k e = outcome_of c t k [] (next_at (AtCountOut e))
 
 -- who leaves with this ticket passes its turn on
 abbrev pub is_passing : Inner → ℕ → Bool

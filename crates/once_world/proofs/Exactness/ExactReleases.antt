@@ -12,11 +12,11 @@ use Rattle.once_queue.specs.Listings.{left_list, next_waker, one_out}
 use Rattle.once_queue.specs.Sections.{Releases}
 use Rattle.once_core.specs.Core.{CoreState, leave_state, release_state}
 use Rattle.once_world.specs.Places.{AtCountOut, AtLeave, AtRelease, Ending, More, Progress, Step, UnderWay}
-use Rattle.once_core.specs.Steps.{is_value, out_of_leave, out_of_release}
+use Rattle.once_core.specs.Steps.{Wakes, is_value, next_at, out_of}
 use Rattle.once_world.specs.Machine.{EnteredLine, Inner, release_wakers, is_at_door, release_list, leave_step, pass_entries, is_passing, release_entry, release_step, release_flags}
 use Rattle.once_world.specs.Side.{DidWake, answers_in}
 use Rattle.once_world.proofs.Listing.Handed.{released_list, released_wakers}
-use Rattle.once_world.proofs.Exactness.Outcomes.{IsFresh, IsOutcome, inner_by, seen_entries, wakes_by}
+use Rattle.once_world.proofs.Exactness.Outcomes.{IsFresh, IsOutcome, follows_by, inner_by, seen_entries, wakes_by}
 use Rattle.once_world.proofs.Exactness.ExactSections.{NumberSection, at_door, entered, entered_log, not_at_door}
 
 -- what a release leaves, by the flag that stood
@@ -43,7 +43,7 @@ module _ (c : ReplaySide) (f : IsFresh c) (s : CoreState ℕ) (c' : ReplaySide) 
       (λ n. ap (λ X. release_entry c.kept n X ∷ []) all)
 
   -- a release, by where its queue is
-  release_by : (at : Bool) (a : SectionAnswer ℕ) → is_at_door q s.door ≡ at → NumberSection s q (ReleaseOp (is_value e)) a o s' → DidWake c (out_of_release a) c'
+  release_by : (at : Bool) (a : SectionAnswer ℕ) → is_at_door q s.door ≡ at → NumberSection s q (ReleaseOp (is_value e)) a o s' → Wakes DidWake (out_of a) c c'
       → IsOutcome (UnderWay (AtRelease q e)) (λ n. release_step at (inner_by s c) n c.kept e) (EnteredLine q ∷ []) s c s' c' p t
   release_by true (Released out) d x wake = let z = x.here (at_door q s.door d) in release_here out z.0 z.1 wake
   release_by true Ready d x wake = absurd (x.here (at_door q s.door d))
@@ -55,11 +55,11 @@ module _ (c : ReplaySide) (f : IsFresh c) (s : CoreState ℕ) (c' : ReplaySide) 
   release_by true Gone d x wake = absurd (x.here (at_door q s.door d))
   release_by false a d x wake =
       let z = x.gone (not_at_door q s.door d) in
-      wakes_by (UnderWay (AtRelease q e)) s c f s' c' p t (EnteredLine q ∷ []) (One None) e (inner_by s c) (λ n. release_entry c.kept n [] ∷ [])
-      (entered_log q s s' (ap (λ y. y.log) z.1)) (subst (λ b. DidWake c (out_of_release b) c') z.0 wake) more step (ap (λ y. inner_by y c) z.1) (λ n. refl)
+      follows_by (UnderWay (AtRelease q e)) s c f s' c' p t (EnteredLine q ∷ []) (inner_by s c) (λ n. []) (next_at (AtCountOut e))
+      (entered_log q s s' (ap (λ y. y.log) z.1)) (ap (λ y. inner_by y c) z.1) (subst (λ b. Wakes DidWake (out_of b) c c') z.0 wake, more, step) (λ n. refl)
 
   -- a release is the machine's
-  pub release_exact : (a : SectionAnswer ℕ) → NumberSection s q (ReleaseOp (is_value e)) a o s' → DidWake c (out_of_release a) c'
+  pub release_exact : (a : SectionAnswer ℕ) → NumberSection s q (ReleaseOp (is_value e)) a o s' → Wakes DidWake (out_of a) c c'
       → IsOutcome (UnderWay (AtRelease q e)) (λ n. release_step (is_at_door q s.door) (inner_by s c) n c.kept e) (EnteredLine q ∷ []) s c s' c' p t
   release_exact a x wake = release_by (is_at_door q s.door) a refl x wake
 
@@ -71,7 +71,7 @@ module _ (c : ReplaySide) (f : IsFresh c) (s : CoreState ℕ) (c' : ReplaySide) 
       (entered_log q s s' (ap (λ y. y.log) same)) wake more step (ap (λ y. inner_by y c) same) (λ n. pass_seen q k e c n w ∙ ap (λ x. pass_entries n (one_out x)) next)
 
   -- one who leaves, by where its queue is
-  leave_by : (k : ℕ) (at : Bool) (a : SectionAnswer ℕ) → is_at_door q s.door ≡ at → NumberSection s q (LeaveOp k) a o s' → DidWake c (out_of_leave a) c'
+  leave_by : (k : ℕ) (at : Bool) (a : SectionAnswer ℕ) → is_at_door q s.door ≡ at → NumberSection s q (LeaveOp k) a o s' → Wakes DidWake (out_of a) c c'
       → IsOutcome (UnderWay (AtLeave q k e)) (λ n. leave_step at (inner_by s c) n c.kept k e) (EnteredLine q ∷ []) s c s' c' p t
   leave_by k true (Left w) d x wake = let z = x.here (at_door q s.door d) in leave_here k w z.0 z.1 wake
   leave_by k true Ready d x wake = absurd (x.here (at_door q s.door d))
@@ -83,10 +83,10 @@ module _ (c : ReplaySide) (f : IsFresh c) (s : CoreState ℕ) (c' : ReplaySide) 
   leave_by k true Gone d x wake = absurd (x.here (at_door q s.door d))
   leave_by k false a d x wake =
       let z = x.gone (not_at_door q s.door d) in
-      wakes_by (UnderWay (AtLeave q k e)) s c f s' c' p t (EnteredLine q ∷ []) (One None) e (inner_by s c) (λ n. [])
-      (entered_log q s s' (ap (λ y. y.log) z.1)) (subst (λ b. DidWake c (out_of_leave b) c') z.0 wake) more step (ap (λ y. inner_by y c) z.1) (λ n. refl)
+      follows_by (UnderWay (AtLeave q k e)) s c f s' c' p t (EnteredLine q ∷ []) (inner_by s c) (λ n. []) (next_at (AtCountOut e))
+      (entered_log q s s' (ap (λ y. y.log) z.1)) (ap (λ y. inner_by y c) z.1) (subst (λ b. Wakes DidWake (out_of b) c c') z.0 wake, more, step) (λ n. refl)
 
   -- leaving is the machine's
-  pub leave_exact : (k : ℕ) (a : SectionAnswer ℕ) → NumberSection s q (LeaveOp k) a o s' → DidWake c (out_of_leave a) c'
+  pub leave_exact : (k : ℕ) (a : SectionAnswer ℕ) → NumberSection s q (LeaveOp k) a o s' → Wakes DidWake (out_of a) c c'
       → IsOutcome (UnderWay (AtLeave q k e)) (λ n. leave_step (is_at_door q s.door) (inner_by s c) n c.kept k e) (EnteredLine q ∷ []) s c s' c' p t
   leave_exact k a x wake = leave_by k (is_at_door q s.door) a refl x wake

@@ -96,7 +96,7 @@ module _ (K : Kind) (c : Inner) (t : ℕ) (k a : Answer) where
 
   part_release : (d : Bool) (e : Ending) → AreOfStep K t a (release_step d c t k e).entries
   part_release true e = release_part K t a k (release_wakers (is_value e) c.listings)
-  part_release false e = release_part K t a k []
+  part_release false e = tt
 
   part_leave : (d : Bool) (n : ℕ) (e : Ending) → AreOfStep K t a (leave_step d c t k n e).entries
   part_leave true n e = pass_part K t a (one_out (next_waker (is_passing c n) n c.listings))

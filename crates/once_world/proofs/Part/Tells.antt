@@ -149,7 +149,7 @@ module _ (c : Inner) (t : ℕ) (k : Answer) (g : Bool) where
 
   tell_release : (d : Bool) (q : ℕ) (e : Ending) → Tells g (UnderWay (AtRelease q e)) (release_step d c t k e)
   tell_release true q e = record { lowers = λ z. omega arith; refuses = λ z. inl z; memory = λ u z. absurd (false≢true (sym (released_memory t k (release_wakers (is_value e) c.listings) u) ∙ z)) }
-  tell_release false q e = record { lowers = λ z. omega arith; refuses = λ z. inl z; memory = λ u z. absurd (false≢true (sym (released_memory t k [] u) ∙ z)) }
+  tell_release false q e = on_to g (AtRelease q e) (AtCountOut e) c k (omega arith) (λ z. inl z)
 
   tell_leave : (d : Bool) (q n : ℕ) (e : Ending) → Tells g (UnderWay (AtLeave q n e)) (leave_step d c t k n e)
   tell_leave true q n e = record { lowers = λ z. omega arith; refuses = λ z. inl z; memory = λ u z. absurd (false≢true (sym (passed_memory t (one_out (next_waker (is_passing c n) n c.listings)) u) ∙ z)) }
