@@ -32,5 +32,5 @@ pub use Rattle.once_cells.specs.Stays
 pub use Rattle.once_queue.specs.declared.waiters
 pub use Rattle.once_core.specs.declared.parts
 pub use Rattle.once_core.specs.declared.step
-pub use Rattle.once_world.specs.declared.world
+pub use Rattle.once_record.specs.declared.world
 pub use Rattle.once_cells.specs.declared.once

@@ -4,4 +4,4 @@ pub use once_cells::shared::{Inner, Queue, Shared};
 pub use once_core::parts::{Counted, Parts, QueueLine};
 pub use once_core::plain::Core;
 pub use once_queue::waiters::{Answer, Listing, Op, Out};
-pub use once_queue::word::{MAX_WAITERS, NEW, QINIT_BIT, READY_BIT, Word};
+pub use once_queue::word::{MAX_WAITERS, NEW, QINIT_BIT, READY_BIT};

@@ -142,7 +142,7 @@ impl Inits {
 }
 
 // What the futures of a schedule are made of.
-#[derive(Clone, Copy)]
+#[derive(Drop)]
 struct Scene<'a, 'i, R> {
     rt: &'a R,
     cell: &'a OnceCell<u64>,
@@ -305,24 +305,35 @@ impl<'a, 'i: 'a, R: Wait + AllocGlobal> Schedule<'a, 'i, R> {
         }
     }
 
-    fn forget(&mut self, number: &str) -> Outcome {
+    // Puts a future in the place with this number, and gives back the one before.
+    fn replace(
+        &mut self,
+        number: &str,
+        future: Option<Made<'a, 'i, R>>,
+    ) -> Option<Option<Made<'a, 'i, R>>> {
         let number = self.number(number);
-        if let Some(place) = self.futures.get_mut(number) {
-            mem::forget(place.take());
-            return Outcome::Obeyed;
+        let place = self.futures.get_mut(number)?;
+        Some(mem::replace(place, future))
+    }
+
+    fn forget(&mut self, number: &str) -> Outcome {
+        match self.replace(number, None) {
+            Some(before) => {
+                mem::forget(before);
+                Outcome::Obeyed
+            }
+            None => Outcome::Unreadable,
         }
-        Outcome::Unreadable
     }
 
     // Makes a future in the place of the one with this number, or drops that.
     fn make(&mut self, word: &str, rest: &'a str) -> Outcome {
         let (number, wanted) = rest.split_once(' ').unwrap_or((rest, ""));
-        let number = self.number(number);
-        if let Some(place) = self.futures.get_mut(number) {
-            *place = self.scene.made(word, wanted);
-            return Outcome::Obeyed;
+        let made = self.scene.made(word, wanted);
+        match self.replace(number, made) {
+            Some(_before) => Outcome::Obeyed,
+            None => Outcome::Unreadable,
         }
-        Outcome::Unreadable
     }
 
     // `T A` or `T A W`: polls future T by the task of its number or by task W, where an init that is
@@ -331,7 +342,7 @@ impl<'a, 'i: 'a, R: Wait + AllocGlobal> Schedule<'a, 'i, R> {
         let (number, rest) = text.split_once(' ').unwrap_or((text, ""));
         let (answer, task) = rest.split_once(' ').unwrap_or((rest, number));
         let (number, task) = (self.number(number), self.number(task));
-        let Scene { inits, tasks, .. } = self.scene;
+        let (inits, tasks) = (self.scene.inits, self.scene.tasks);
         inits.set(answer_in(answer));
         match (self.futures.get_mut(number), tasks.tasks.get(task)) {
             (Some(Some(future)), Some(task)) => {
@@ -418,23 +429,40 @@ fn left(
 }
 
 // Runs a schedule in parts, between which the owner takes the value out.
+fn run_parts<'i, R>(
+    rt: &R,
+    cell: &mut OnceCell<u64>,
+    lazy: &Lazy<u64, Init<'i, u64>>,
+    (inits, tasks): (&'i Inits, &Tasks),
+    (name, parts): (&str, &str),
+) -> Result<(), Fail>
+where
+    R: Wait + AllocGlobal,
+{
+    let (first, others) = parts.split_once("take => ").unwrap_or((parts, ""));
+    run_part(rt, (&*cell, lazy), (inits, tasks), name, first)?;
+    if others.is_empty() {
+        return Ok(());
+    }
+    for part in others.split("take => ") {
+        let (wanted, lines) = part.split_once('\n').unwrap_or((part, ""));
+        compare(name, "take", taken(rt.alloc(), cell, tasks), wanted)?;
+        run_part(rt, (&*cell, lazy), (inits, tasks), name, lines)?;
+    }
+    Ok(())
+}
+
+// Runs a schedule, and looks at what is left where its last line asks for it.
 fn run_one<R>(rt: &R, name: &str, lines: &str) -> Result<(), Fail>
 where
     R: Wait + AllocGlobal + RandomSource,
 {
+    let (parts, end) = lines.split_once("end => ").unwrap_or((lines, ""));
     let (tasks, inits) = (Tasks::new(rt)?, Inits::new());
     let (mut cell, lazy) = (OnceCell::new(), Lazy::new(inits.sure.init()));
-    let (parts, end) = lines.split_once("end => ").unwrap_or((lines, ""));
-    let (first, others) = parts.split_once("take => ").unwrap_or((parts, ""));
-    run_part(rt, (&cell, &lazy), (&inits, &tasks), name, first)?;
-    if !others.is_empty() {
-        for part in others.split("take => ") {
-            let (wanted, lines) = part.split_once('\n').unwrap_or((part, ""));
-            compare(name, "take", taken(rt.alloc(), &mut cell, &tasks), wanted)?;
-            run_part(rt, (&cell, &lazy), (&inits, &tasks), name, lines)?;
-        }
-    }
+    let ran = run_parts(rt, &mut cell, &lazy, (&inits, &tasks), (name, parts));
     let text = left(rt.alloc(), cell, lazy);
+    ran?;
     if end.is_empty() {
         return Ok(());
     }

@@ -2,6 +2,7 @@
 ghost use Rattle.std.specs.Prelude.{◌≡◌, ◌<◌, ◌≤◌, ◌-◌, ◌^◌};
 
 use once_queue::waiters::{Answer, Op};
+pub use once_record::world::QueueLine;
 
 /// What counting in answers.
 #[derive(Clone, Copy, Debug, PartialEq, Eq)]
@@ -12,17 +13,6 @@ pub enum Counted {
     Full,
     /// As many tasks are counted as may be, and the value is set.
     SeenReady,
-}
-
-/// One line of the queue log.
-#[derive(Clone, Copy, Debug, PartialEq, Eq)]
-pub enum QueueLine {
-    /// The queue with this number was put to the door.
-    Put(u64),
-    /// A section was entered on the queue with this number.
-    Entered(u64),
-    /// The queue with this number was taken out of the door.
-    Taken(u64),
 }
 
 /// The word, the door and the queue of a cell. Each call is one step. A member for each call says

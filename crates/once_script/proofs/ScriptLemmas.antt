@@ -1,7 +1,7 @@
 -- What was read of the lines of a script, while some are left.
 use Rattle.std.proofs.Common.{◌≡◌, ℕ, ◌<◌, ◌≤◌, ◌+◌, suc, inr, arith, List, [], ◌++◌, length, drop, slice_index_or, Bor, refl, sym, ap, ◌∙◌, subst}
 use Rattle.std.proofs.lemmas.List.{append_assoc, append-nil, drop_all, drop_more}
-use Rattle.async_once_cell.specs.world.Input.{Input}
+use Rattle.once_record.specs.declared.world.Input.{Input}
 use Rattle.once_script.specs.declared.parse.Line.{Line}
 use Rattle.once_script.specs.Text.{inputs_of, IsLine}
 use Rattle.once_script.specs.Script.{texts_of, AreInputs, IsStop}

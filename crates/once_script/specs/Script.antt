@@ -2,8 +2,8 @@ use Rattle.std.specs.Prelude.{ℕ, suc, ◌⊎◌, Bool, List, [], ◌∷◌, �
 use Rattle.std.specs.Borrow.{Bor}
 use Rattle.std.specs.List.{slice_split}
 use lib.Pointwise.{pointwise}
-use Rattle.async_once_cell.specs.world.Input.{Input}
-use Rattle.async_once_cell.specs.world.Kind.{Kind}
+use Rattle.once_record.specs.declared.world.Input.{Input}
+use Rattle.once_record.specs.declared.world.Kind.{Kind}
 use Rattle.once_script.specs.declared.parse.Line.{Line}
 use Rattle.once_script.specs.Text.{inputs_of, IsLine, IsOpening}
 

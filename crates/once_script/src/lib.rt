@@ -1,41 +1,6 @@
-//! The text of scripts and of records: a script is read and replayed, and its record is printed.
+//! The text of scripts and of records: a script is read, and a record is printed.
 #![tactic(auto)]
-
-use async_once_cell::world::replay;
-use fault::Fault;
-use parse::{Script, parse_script};
-use print::print_record;
-use std::alloc::Global;
-use std::io;
-use std::io::{BufReader, Read, Write};
 
 pub mod fault;
 pub mod parse;
 pub mod print;
-
-/// Reads the input to its end, replays what it says, and prints the record.
-///
-/// A fault on reading, or in the text, leaves nothing printed. One on printing may leave a beginning
-/// of the record.
-pub fn run<I, O>(alloc: Global, input: I, output: O) -> Result<(), Fault>
-where
-    I: Read + Drop,
-    O: Write + Drop,
-{
-    let text = read(alloc, input)?;
-    let Script {
-        kind,
-        limit,
-        inputs,
-    } = parse_script(alloc, text.as_slice())?;
-    let record = replay(alloc, kind, limit, inputs.as_slice())?;
-    print_record(alloc, &record, output)?;
-    Ok(())
-}
-
-// All the bytes that the input has left.
-fn read<I: Read + Drop>(alloc: Global, input: I) -> io::Result<Vec<u8>> {
-    let mut text = Vec::new(alloc);
-    BufReader::new(alloc, input)?.read_to_end(&mut text)?;
-    Ok(text)
-}

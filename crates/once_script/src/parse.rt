@@ -1,21 +1,21 @@
 //! The text of a script, line by line.
 ghost use Rattle.std.specs.Prelude.{◌≡◌, ◌≢◌, ◌<◌, ◌≤◌, ◌-◌, ◌^◌, ◌++◌, ◌∷◌, OnOk, IfOk, IfSome, IsSome, MatchOption, Bool, ℕ, List, Option, codes};
-ghost use Rattle.async_once_cell.specs.world.Ran.{Ran};
-ghost use Rattle.async_once_cell.specs.world.Call.{Call};
-ghost use Rattle.async_once_cell.specs.world.Kind.{Kind};
+ghost use Rattle.once_record.specs.declared.world.Ran.{Ran};
+ghost use Rattle.once_record.specs.declared.world.Call.{Call};
+ghost use Rattle.once_record.specs.declared.world.Kind.{Kind};
 ghost use Rattle.once_script.specs.Number.{number_of, limit_of};
 ghost use Rattle.once_script.specs.Script.{lines_in, IsScript, IsFirstUnreadable};
 ghost use Rattle.once_script.specs.Text.{inputs_of, IsWith, IsOpening, IsOnce, IsLazy, IsPair, IsGiven, IsStep, IsLine};
-ghost use Rattle.async_once_cell.specs.world.Call.TheVariants.{Take, Write, Parts};
-ghost use Rattle.async_once_cell.specs.world.Input.TheVariants.{Make, Poll, Drop, Go, Look, Own};
+ghost use Rattle.once_record.specs.declared.world.Call.TheVariants.{Take, Write, Parts};
+ghost use Rattle.once_record.specs.declared.world.Input.TheVariants.{Make, Poll, Drop, Go, Look, Own};
 ghost use Rattle.once_script.specs.declared.parse.Line.{Line};
 ghost use Rattle.once_script.specs.declared.parse.Line.TheVariants.{Single, Run};
 
 use crate::fault::Fault;
 use answers::{parse_answer, parse_answers};
-use async_once_cell::world::{Call, Input, Kind, Ran};
 use lines::{opening_in, parse_lines, split_lines};
 use number::{parse_limit, parse_number};
+use once_record::world::{Call, Input, Kind, Ran};
 use std::alloc::{AllocError, Global};
 
 mod answers;

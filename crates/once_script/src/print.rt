@@ -1,5 +1,5 @@
 //! The text of a record.
-use async_once_cell::world::{Call, Entry, Got, Ran, Record, Reply};
+use once_record::world::{Call, Entry, Got, Ran, Record, Reply};
 use std::alloc::Global;
 use std::io::{BufWriter, Write};
 use std::{fmt, io};
@@ -18,23 +18,43 @@ pub fn print_record<O: Write + Drop>(alloc: Global, record: &Record, output: O) 
 #[derive(Clone, Copy)]
 struct EntryLine<'a>(&'a Entry);
 
+impl EntryLine<'_> {
+    /// The word that the line begins with.
+    fn word(&self) -> &'static str {
+        match self.0 {
+            Entry::Made(_) => "made",
+            Entry::Begin(_, _) => "begin",
+            Entry::Claim(_) => "claim",
+            Entry::Ran(_, _) => "ran",
+            Entry::Free(_, _) => "free",
+            Entry::Fill(_, _, _) => "fill",
+            Entry::Pass(_, _) => "pass",
+            Entry::End(_, _) => "end",
+            Entry::DropBegin(_) => "dropbegin",
+            Entry::DropEnd(_) => "dropend",
+            Entry::Look(_) => "look",
+            Entry::Own(_, _) => "own",
+        }
+    }
+}
+
 impl fmt::Display for EntryLine<'_> {
     fn fmt<W: fmt::Write>(&self, f: &mut fmt::Formatter<W>) -> fmt::Result {
+        f.write_str(self.word())?;
         match self.0 {
-            Entry::Made(task) => write!(f, "made {task}"),
-            Entry::Begin(task, waker) => write!(f, "begin {task} {waker}"),
-            Entry::Claim(task) => write!(f, "claim {task}"),
-            Entry::Ran(task, answer) => write!(f, "ran {task} {}", RanText(*answer)),
-            Entry::Free(task, wakers) => write!(f, "free {task} {}", Wakers(wakers)),
-            Entry::Fill(task, value, wakers) => {
-                write!(f, "fill {task} {value} {}", Wakers(wakers))
+            Entry::Made(task)
+            | Entry::Claim(task)
+            | Entry::DropBegin(task)
+            | Entry::DropEnd(task) => write!(f, " {task}"),
+            Entry::Begin(task, waker) => write!(f, " {task} {waker}"),
+            Entry::Ran(task, answer) => write!(f, " {task} {}", RanText(*answer)),
+            Entry::Free(task, wakers) | Entry::Pass(task, wakers) => {
+                write!(f, " {task} {}", Wakers(wakers))
             }
-            Entry::Pass(task, wakers) => write!(f, "pass {task} {}", Wakers(wakers)),
-            Entry::End(task, reply) => write!(f, "end {task} {}", ReplyText(*reply)),
-            Entry::DropBegin(task) => write!(f, "dropbegin {task}"),
-            Entry::DropEnd(task) => write!(f, "dropend {task}"),
-            Entry::Look(value) => write!(f, "look {}", ValueText(*value)),
-            Entry::Own(call, got) => write!(f, "own {} {}", CallWord(call), GotText(got)),
+            Entry::Fill(task, value, wakers) => write!(f, " {task} {value} {}", Wakers(wakers)),
+            Entry::End(task, reply) => write!(f, " {task} {}", ReplyText(*reply)),
+            Entry::Look(value) => write!(f, " {}", ValueText(*value)),
+            Entry::Own(call, got) => write!(f, " {} {}", CallWord(call), GotText(got)),
         }
     }
 }
@@ -46,7 +66,7 @@ struct RanText(Ran);
 impl fmt::Display for RanText {
     fn fmt<W: fmt::Write>(&self, f: &mut fmt::Formatter<W>) -> fmt::Result {
         match self.0 {
-            Ran::Pending => write!(f, "p"),
+            Ran::Pending => f.write_str("p"),
             Ran::Value(value) => write!(f, "v{value}"),
             Ran::Error(error) => write!(f, "e{error}"),
         }
@@ -60,11 +80,11 @@ struct ReplyText(Reply);
 impl fmt::Display for ReplyText {
     fn fmt<W: fmt::Write>(&self, f: &mut fmt::Formatter<W>) -> fmt::Result {
         match self.0 {
-            Reply::Pending => write!(f, "p"),
+            Reply::Pending => f.write_str("p"),
             Reply::Value(value) => write!(f, "v{value}"),
             Reply::Error(error) => write!(f, "e{error}"),
-            Reply::Memory => write!(f, "memory"),
-            Reply::Full => write!(f, "full"),
+            Reply::Memory => f.write_str("memory"),
+            Reply::Full => f.write_str("full"),
         }
     }
 }
@@ -76,7 +96,7 @@ struct ValueText(Option<u64>);
 impl fmt::Display for ValueText {
     fn fmt<W: fmt::Write>(&self, f: &mut fmt::Formatter<W>) -> fmt::Result {
         match self.0 {
-            None => write!(f, "none"),
+            None => f.write_str("none"),
             Some(value) => write!(f, "v{value}"),
         }
     }
@@ -89,7 +109,7 @@ struct QueueText(Option<u64>);
 impl fmt::Display for QueueText {
     fn fmt<W: fmt::Write>(&self, f: &mut fmt::Formatter<W>) -> fmt::Result {
         match self.0 {
-            None => write!(f, "queue none"),
+            None => f.write_str("queue none"),
             Some(queue) => write!(f, "queue {queue}"),
         }
     }
@@ -107,7 +127,7 @@ impl fmt::Display for CallWord<'_> {
             Call::Parts => "parts",
             Call::ReplaceValue(_) | Call::ReplaceAnswers(_) => "replace",
         };
-        write!(f, "{word}")
+        f.write_str(word)
     }
 }
 
@@ -118,7 +138,7 @@ struct GotText<'a>(&'a Got);
 impl fmt::Display for GotText<'_> {
     fn fmt<W: fmt::Write>(&self, f: &mut fmt::Formatter<W>) -> fmt::Result {
         match self.0 {
-            Got::None => write!(f, "none"),
+            Got::None => f.write_str("none"),
             Got::Value(value) => write!(f, "v{value}"),
             Got::Answers(answers) => write!(f, "{}", Answers(answers)),
         }
@@ -131,12 +151,12 @@ struct Wakers<'a>(&'a [u64]);
 
 impl fmt::Display for Wakers<'_> {
     fn fmt<W: fmt::Write>(&self, f: &mut fmt::Formatter<W>) -> fmt::Result {
-        write!(f, "[")?;
+        f.write_str("[")?;
         for (index, waker) in self.0.iter().enumerate() {
             let gap = if index == 0 { "" } else { " " };
             write!(f, "{gap}{waker}")?;
         }
-        write!(f, "]")
+        f.write_str("]")
     }
 }
 
@@ -146,12 +166,12 @@ struct Answers<'a>(&'a [Option<u64>]);
 
 impl fmt::Display for Answers<'_> {
     fn fmt<W: fmt::Write>(&self, f: &mut fmt::Formatter<W>) -> fmt::Result {
-        write!(f, "[")?;
+        f.write_str("[")?;
         for (index, answer) in self.0.iter().enumerate() {
             let gap = if index == 0 { "" } else { " " };
             let answer = RanText(answer.map_or(Ran::Pending, Ran::Value));
             write!(f, "{gap}{answer}")?;
         }
-        write!(f, "]")
+        f.write_str("]")
     }
 }

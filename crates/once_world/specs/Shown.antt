@@ -5,18 +5,18 @@ use Rattle.std.specs.BTreeMap.{get}
 use Rattle.once_queue.specs.declared.waiters.Out.{Out}
 use Rattle.once_queue.specs.declared.waiters.Out.TheVariants.{One, All}
 use Rattle.once_queue.specs.Listings.{one_out, wakers_of}
-use Rattle.once_world.specs.declared.world.Kind.{Kind as GivenKind}
-use Rattle.once_world.specs.declared.world.Kind.TheVariants.{Once as GivenOnce, OnceWith as GivenOnceWith, Lazy as GivenLazy, LazyWith as GivenLazyWith}
-use Rattle.once_world.specs.declared.world.Call.{Call}
-use Rattle.once_world.specs.declared.world.Call.TheVariants.{Take as CallTake, Write as CallWrite, Parts as CallParts, ReplaceValue as CallReplaceValue, ReplaceAnswers as CallReplaceAnswers}
-use Rattle.once_world.specs.declared.world.Got.{Got as GivenGot}
-use Rattle.once_world.specs.declared.world.Got.TheVariants.{None as NoneGot, Value as ValueGot, Answers as AnswersGot}
-use Rattle.once_world.specs.declared.world.Input.{Input as GivenInput}
-use Rattle.once_world.specs.declared.world.Input.TheVariants.{Make as InputMake, Poll as InputPoll, Drop as InputDrop, Go as InputGo, Look as InputLook, Own as InputOwn}
-use Rattle.once_world.specs.declared.world.Entry.{Entry as Written}
-use Rattle.once_world.specs.declared.world.Entry.TheVariants.{Made as WrittenMade, Begin as WrittenBegin, Claim as WrittenClaim, Ran as WrittenRan, Free as WrittenFree, Fill as WrittenFill, Pass as WrittenPass, End as WrittenEnd, DropBegin as WrittenDropBegin, DropEnd as WrittenDropEnd, Look as WrittenLook, Own as WrittenOwn}
-use Rattle.once_world.specs.declared.world.Record.{Record as GivenRecord}
-use Rattle.once_core.specs.declared.parts.QueueLine.{QueueLine}
+use Rattle.once_record.specs.declared.world.Kind.{Kind as GivenKind}
+use Rattle.once_record.specs.declared.world.Kind.TheVariants.{Once as GivenOnce, OnceWith as GivenOnceWith, Lazy as GivenLazy, LazyWith as GivenLazyWith}
+use Rattle.once_record.specs.declared.world.Call.{Call}
+use Rattle.once_record.specs.declared.world.Call.TheVariants.{Take as CallTake, Write as CallWrite, Parts as CallParts, ReplaceValue as CallReplaceValue, ReplaceAnswers as CallReplaceAnswers}
+use Rattle.once_record.specs.declared.world.Got.{Got as GivenGot}
+use Rattle.once_record.specs.declared.world.Got.TheVariants.{None as NoneGot, Value as ValueGot, Answers as AnswersGot}
+use Rattle.once_record.specs.declared.world.Input.{Input as GivenInput}
+use Rattle.once_record.specs.declared.world.Input.TheVariants.{Make as InputMake, Poll as InputPoll, Drop as InputDrop, Go as InputGo, Look as InputLook, Own as InputOwn}
+use Rattle.once_record.specs.declared.world.Entry.{Entry as Written}
+use Rattle.once_record.specs.declared.world.Entry.TheVariants.{Made as WrittenMade, Begin as WrittenBegin, Claim as WrittenClaim, Ran as WrittenRan, Free as WrittenFree, Fill as WrittenFill, Pass as WrittenPass, End as WrittenEnd, DropBegin as WrittenDropBegin, DropEnd as WrittenDropEnd, Look as WrittenLook, Own as WrittenOwn}
+use Rattle.once_record.specs.declared.world.Record.{Record as GivenRecord}
+use Rattle.once_record.specs.declared.world.QueueLine.{QueueLine}
 use Rattle.once_world.specs.declared.world.play.ReplayCell.{ReplayCell}
 use Rattle.once_world.specs.declared.world.play.StepSeen.{StepSeen}
 use Rattle.once_world.specs.declared.world.play.World.{World}

@@ -232,19 +232,16 @@ where
 
 /// The init is dropped first, and then the place among those who wait, or the right.
 impl<T, E, F: Future, R: Wait + AllocGlobal> Drop for TryInitFuture<'_, T, E, F, R> {
-    fn drop(self) {
+    fn drop(mut self) {
+        self.leave();
         let TryInitFuture {
             error: _,
-            cell,
-            rt,
-            init,
+            cell: _,
+            rt: _,
+            init: _init,
             seat: _seat,
-            mut step,
+            step: _step,
         } = self;
-        if step.is_resting() {
-            let mut side = Leaving { rt, init };
-            cell.parts(rt, None).finish(&mut step, &mut side);
-        }
     }
 }
 

@@ -1,13 +1,13 @@
 //! The lines of a text.
 ghost use Rattle.std.specs.Prelude.{◌≡◌, ◌≢◌, IfOk, MatchOption, ℕ};
-ghost use Rattle.async_once_cell.specs.world.Kind.{Kind};
+ghost use Rattle.once_record.specs.declared.world.Kind.{Kind};
 ghost use Rattle.once_script.specs.Text.{IsLine, IsOpening};
 ghost use Rattle.once_script.specs.Script.{lines_in, texts_of, without_last_feed, AreInputs, IsStop};
 ghost use Rattle.once_script.specs.declared.parse.Line.{Line};
 
 use crate::fault::Fault;
 use crate::parse::{Line, Opening, append, parse_line, parse_opening};
-use async_once_cell::world::Input;
+use once_record::world::Input;
 use std::alloc::{AllocError, Global};
 
 /// The lines of a text, without their ends.

@@ -2,7 +2,7 @@
 ghost use Rattle.std.specs.Prelude.{◌≡◌, ◌<◌, ◌≤◌, ◌-◌, ◌^◌, IfSome};
 ghost use Rattle.once_script.specs.Number.{is_plain, number_of, limit_of};
 
-use async_once_cell::queue::MAX_WAITERS;
+use once_queue::word::MAX_WAITERS;
 
 /// Reads how many tasks may be counted in.
 pub fn parse_limit(text: &str) -> Option<u64>

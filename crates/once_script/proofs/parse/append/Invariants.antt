@@ -1,5 +1,5 @@
 use Rattle.std.proofs.Common.{◌≡◌, ◌++◌, replicate}
-use Rattle.async_once_cell.specs.world.Input.TheVariants.{Go}
+use Rattle.once_record.specs.declared.world.Input.TheVariants.{Go}
 use Rattle.once_script.proofs.parse.append.Given as goal
 
 abbrev pub invariant-loop : goal.invariant-loop

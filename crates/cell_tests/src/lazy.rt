@@ -1,0 +1,6 @@
+//! What a `Lazy` does on one thread.
+
+mod drops;
+mod owner;
+mod polls;
+mod tokens;

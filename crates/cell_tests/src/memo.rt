@@ -1,0 +1,310 @@
+//! What the contracts of `memo` do not say of its table, and whole runs of its program.
+ghost use Rattle.std.specs.Prelude.{◌≡◌, ◌*◌, ◌^◌, ◌<◌, IsSome, IfSome};
+ghost use Rattle.std.specs.Option.{ForSome};
+ghost use Rattle.memo.specs.Memo.{cell_of};
+
+use async_once_cell::OnceCell;
+use async_once_cell::once::Known;
+use futures::future::pending;
+use futures::test::MockTask;
+use memo::ask::{Answer, agreed, answer_within, ask};
+use memo::fault::Fault;
+use memo::fetch::Fetch;
+use memo::memo::Memo;
+use memo::{run, status};
+use no_memory::hoard;
+use std::alloc::{AllocError, AllocGlobal, Global};
+use std::io;
+use std::io::{ErrorKind, Write};
+use std::random::RandomSource;
+use std::sync::Wait;
+use std::sync::atomic::{AtomicU64, Ordering};
+use std::test::Fail;
+use std::thread::Threads;
+use std::time::Clock;
+
+const TEXT: &str = "1 10\n2 20\n3 30\nfetches 3\n";
+
+fn table(alloc: Global, keys: &[u64]) -> Result<Memo<u64>, AllocError> {
+    let mut given = Vec::new(alloc);
+    given.extend_from_slice(keys)?;
+    Memo::new(alloc, given)
+}
+
+// The value at a key, 0 where its cell is empty; None where there is no cell.
+fn value_at(memo: &Memo<u64>, key: u64) -> Option<u64> {
+    let cell = memo.cell(key)?;
+    Some(cell.get().copied().unwrap_or(0))
+}
+
+// The value that is told of a key.
+fn value_told<R: Wait + RandomSource + AllocGlobal + Clock>(
+    rt: &R,
+    memo: &Memo<u64>,
+    fetches: &AtomicU64,
+    key: u64,
+) -> Option<u64>
+    requires { key * 10 < 2 ^ 64 }
+{
+    match ask(rt, memo, fetches, key) {
+        Ok(answer) => Some(answer.value),
+        Err(_) => None,
+    }
+}
+
+/// A key has one cell, however often it was given, and another key another.
+#[test]
+fn cells_of_keys(rt: HostRuntime) -> Result<(), Fail> {
+    let fetches = AtomicU64::new(0);
+    let memo = table(rt.alloc(), &[7, 5, 7, u64::MAX])?;
+    let seen = [
+        value_told(&rt, &memo, &fetches, 7),
+        value_told(&rt, &memo, &fetches, 7),
+        value_at(&memo, 7),
+        value_at(&memo, 5),
+        value_at(&memo, u64::MAX),
+        Some(fetches.load(Ordering::SeqCst)),
+    ];
+    let wanted = [70, 70, 70, 0, 0, 1].map(Some);
+    assert_eq!(rt; seen, wanted);
+    Ok(())
+}
+
+// Whether a key has neither cell nor token, and whoever asks is told so.
+fn is_missing<R: Wait + RandomSource + AllocGlobal + Clock>(
+    rt: &R,
+    memo: &Memo<u64>,
+    fetches: &AtomicU64,
+    key: u64,
+) -> bool
+    requires { key * 10 < 2 ^ 64 }
+{
+    if memo.cell(key).is_some() || memo.token(key).is_some() {
+        return false;
+    }
+    match ask(rt, memo, fetches, key) {
+        Err(Fault::NoKey(at)) => at == key,
+        _ => false,
+    }
+}
+
+// Which of three keys are missing in a table of these, and how many fetches there were.
+fn missing_in<R: Wait + RandomSource + AllocGlobal + Clock>(
+    rt: &R,
+    keys: &[u64],
+) -> Result<([bool; 3], u64), AllocError> {
+    let fetches = AtomicU64::new(0);
+    let memo = table(rt.alloc(), keys)?;
+    let missing = [
+        is_missing(rt, &memo, &fetches, 0),
+        is_missing(rt, &memo, &fetches, 5),
+        is_missing(rt, &memo, &fetches, 7),
+    ];
+    Ok((missing, fetches.load(Ordering::SeqCst)))
+}
+
+/// A key that was not given has nothing, and a table of no keys has nothing at all.
+#[test]
+fn keys_without_a_cell(rt: HostRuntime) -> Result<(), Fail> {
+    let some = missing_in(&rt, &[4, 6])?;
+    let none = missing_in(&rt, &[])?;
+    assert_eq!(rt; [some, none], [([true; 3], 0); 2]);
+    Ok(())
+}
+
+// What a token gets, and gets again: the contract says that the second call has the same value.
+fn twice<'a>(memo: &'a Memo<u64>, key: u64, token: &mut Known<'a, u64>) -> Option<(u64, u64)>
+    requires { ForSome (cell_of memo.now key) (λ cell. token.old.cell ≡ cell) }
+    ensures cell { token.new.cell ≡ token.old.cell }
+    ensures same { IfSome result (λ told. told.0 ≡ told.1) }
+    ensures knows { IfSome result (λ told. token.new.value ≡ Some told.0) }
+{
+    let first = *memo.get_as(key, token)?;
+    let second = *memo.get_as(key, token).unwrap();
+    Some((first, second))
+}
+
+/// What two tokens of one key get: the first before a value is told, the first after that, and the
+/// second; whether they agree where one knows the value, where both do, and after a call for a missing
+/// key; and what that call gets.
+type Seen = ([Option<(u64, u64)>; 3], [bool; 3], Option<u64>);
+
+fn tokens<R: Wait + RandomSource + AllocGlobal + Clock>(
+    rt: &R,
+    memo: &Memo<u64>,
+    fetches: &AtomicU64,
+) -> Option<Seen> {
+    let mut first = memo.token(2)?;
+    let mut second = memo.token(2)?;
+    let before = twice(memo, 2, &mut first);
+    value_told(rt, memo, fetches, 2)?;
+    let mine = twice(memo, 2, &mut first);
+    let early = Known::compare(&first, &second);
+    let other = twice(memo, 2, &mut second);
+    let late = Known::compare(&first, &second);
+    let missing = if memo.cell(3).is_none() {
+        memo.get_as(3, &mut first).copied()
+    } else {
+        Some(3)
+    };
+    let agree = [early, late, Known::compare(&first, &second)];
+    Some(([before, mine, other], agree, missing))
+}
+
+/// A token knows nothing before the value is set, and gets it at each call after; then two tokens
+/// agree.
+#[test]
+fn tokens_of_a_key(rt: HostRuntime) -> Result<(), Fail> {
+    let memo = table(rt.alloc(), &[1, 2])?;
+    let seen = tokens(&rt, &memo, &AtomicU64::new(0));
+    let got = [None, Some((20, 20)), Some((20, 20))];
+    assert_eq!(rt; seen, Some((got, [false, true, true], None)));
+    Ok(())
+}
+
+// What a fetch of a key answers within so many turns; None where it gives up.
+fn within<R: Wait + RandomSource + AllocGlobal + Clock>(
+    rt: &R,
+    cell: &OnceCell<u64>,
+    fetch: Fetch<'_>,
+    turns: u64,
+) -> Result<Option<u64>, Fault> {
+    match answer_within(rt, cell.get_or_init(rt, fetch), turns) {
+        Ok(value) => Ok(Some(value)),
+        Err(Fault::Turns) => Ok(None),
+        Err(fault) => Err(fault),
+    }
+}
+
+// What a fetch answers while another task holds the cell, which is pending.
+fn within_a_hold<R: Wait + RandomSource + AllocGlobal + Clock>(
+    rt: &R,
+    cell: &OnceCell<u64>,
+    fetch: Fetch<'_>,
+) -> Result<bool, Fault> {
+    let task = MockTask::new(rt)?;
+    let mut holder = cell.get_or_init(rt, pending());
+    let holds = task.poll(&mut holder).is_pending();
+    let answer = within(rt, cell, fetch, 3)?;
+    Ok(holds && answer.is_none())
+}
+
+/// A future that is Pending at each turn gives up, and leaves the cell to the next.
+#[test]
+fn turns_are_used_up(rt: HostRuntime) -> Result<(), Fail> {
+    let (cell, fetches) = (OnceCell::new(), AtomicU64::new(0));
+    let gives_up = within_a_hold(&rt, &cell, Fetch::new(1, &fetches))?;
+    let next = within(&rt, &cell, Fetch::new(2, &fetches), 1)?;
+    let seen = (gives_up, next, fetches.load(Ordering::SeqCst));
+    assert_eq!(rt; seen, (true, Some(20), 1));
+    Ok(())
+}
+
+fn answers(alloc: Global, value: u64) -> Result<Vec<Answer>, AllocError> {
+    Ok(vec![in alloc; Answer { key: 1, value }]?)
+}
+
+// How two threads end that were told these values.
+fn agreement(alloc: Global, first: u64, second: u64) -> Result<String, AllocError> {
+    let ended = agreed(answers(alloc, first)?, answers(alloc, second)?);
+    format!(in alloc; "{ended:?}")
+}
+
+/// Threads that were told different values are a fault.
+#[test]
+fn answers_that_differ(rt: HostRuntime) -> Result<(), Fail> {
+    for (value, wanted) in [
+        (10, "Ok([Answer { key: 1, value: 10 }])"),
+        (11, "Err(Differ)"),
+    ] {
+        let ended = agreement(rt.alloc(), 10, value)?;
+        assert_eq!(rt; ended.as_str(), wanted);
+    }
+    Ok(())
+}
+
+// Whether a table is refused, whether a run is refused memory, and how many bytes the run prints.
+fn refused<R: Threads + Wait + RandomSource + AllocGlobal + Clock + Sync>(
+    rt: &R,
+    keys: Vec<u64>,
+) -> (bool, bool, usize) {
+    let has_table = Memo::<u64>::new(rt.alloc(), keys).is_ok();
+    let mut printed = Vec::new(rt.alloc());
+    let answer = run(rt, &mut printed);
+    (
+        !has_table,
+        matches!(answer, Err(Fault::Memory(_))),
+        printed.len(),
+    )
+}
+
+fn without_memory<R: Threads + Wait + RandomSource + AllocGlobal + Clock + Sync>(
+    rt: &R,
+) -> Result<(bool, bool, usize), AllocError> {
+    let keys = vec![in rt.alloc(); 1, 2, 3]?;
+    let held = hoard(rt.alloc())?;
+    let seen = refused(rt, keys);
+    drop(held);
+    Ok(seen)
+}
+
+/// Where all memory is refused, no table is made, and the program prints nothing.
+#[test]
+fn refused_memory_prints_nothing(rt: HostRuntime) -> Result<(), Fail> {
+    assert_eq!(rt; without_memory(&rt)?, (true, true, 0));
+    Ok(())
+}
+
+/// A writer that fails at the write with this number.
+#[derive(Drop)]
+struct Target {
+    text: Vec<u8>,
+    writes: u64,
+    fails_at: u64,
+}
+
+impl Write for Target {
+    fn write(&mut self, bytes: &[u8]) -> io::Result<usize> {
+        self.writes = self.writes.saturating_add(1);
+        if self.writes == self.fails_at {
+            return Err(io::Error::from(ErrorKind::BrokenPipe));
+        }
+        self.text.extend_from_slice(bytes)?;
+        Ok(bytes.len())
+    }
+
+    fn flush(&mut self) -> io::Result<()> {
+        Ok(())
+    }
+}
+
+// Whether a beginning went out, whether it was cut, the status, and whether a write failed.
+fn written<R: Threads + Wait + RandomSource + AllocGlobal + Clock + Sync + Eprint>(
+    rt: &R,
+    fails_at: u64,
+) -> (bool, bool, u8, bool) {
+    let mut target = Target {
+        text: Vec::new(rt.alloc()),
+        writes: 0,
+        fails_at,
+    };
+    let ended = status(rt, &mut target);
+    let printed = target.text.as_slice();
+    let failed = 0 < fails_at && fails_at <= target.writes;
+    let is_beginning = TEXT.as_bytes().starts_with(printed);
+    (is_beginning, printed.len() < TEXT.len(), ended, failed)
+}
+
+/// Where a write fails, a beginning has gone out, and the status is 1.
+#[test]
+fn a_failed_write_leaves_a_beginning(rt: HostRuntime) {
+    for fails_at in 0..=8 {
+        let (is_beginning, is_cut, ended, failed) = written(&rt, fails_at);
+        let wanted = (true, failed, u8::from(failed));
+        assert_eq!(rt;
+            (is_beginning, is_cut, ended),
+            wanted,
+            "at write {fails_at}"
+        );
+    }
+}

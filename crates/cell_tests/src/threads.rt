@@ -1,0 +1,7 @@
+//! What cells do for many threads at a time.
+
+mod failing;
+mod gathered;
+mod pairs;
+mod stress;
+mod told;

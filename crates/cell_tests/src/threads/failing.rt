@@ -1,0 +1,132 @@
+//! Four threads and two hundred cells, whose inits fail a number of times before one gives a value: all
+//! cells are filled at last, and no thread waits in vain.
+
+use super::gathered::{CELLS, THREADS, Visited, alike, gathered};
+use async_once_cell::world::Reply;
+use async_once_cell::{Lazy, OnceCell};
+use cell_doubles::slow::{Failing, Slow, ended, left_midway};
+use futures::test::MockTask;
+use std::alloc::{AllocError, AllocGlobal, Global};
+use std::sync::Wait;
+use std::sync::atomic::{AtomicU64, Ordering};
+use std::test::Fail;
+use std::time::Clock;
+
+// How often a thread begins anew at a cell, at most: more often than the inits of one fail.
+const TRIES: u64 = 20;
+
+// A cell, and how many of its inits are still to fail.
+#[derive(Drop)]
+struct Contested {
+    cell: OnceCell<u64>,
+    failures: AtomicU64,
+    made: AtomicU64,
+}
+
+impl Contested {
+    fn init(&self) -> Failing<'_> {
+        Failing::new(&self.failures, &self.made)
+    }
+}
+
+impl Visited for Contested {
+    // What the thread gets of the cell, whose inits may fail. It drops some of its futures midway.
+    fn visited<'v, R>(&'v self, rt: &'v R, task: &MockTask, thread: u64, number: u64) -> Option<u64>
+    where
+        R: Wait + AllocGlobal + Clock,
+    {
+        let kind = thread.wrapping_add(number);
+        for turn in 0..TRIES {
+            if kind.wrapping_add(turn).is_multiple_of(3) {
+                left_midway(rt, task, self.cell.get_or_try_init(rt, self.init()));
+            }
+            match ended(rt, task, &mut self.cell.get_or_try_init(rt, self.init())) {
+                Reply::Value(value) => return Some(value),
+                Reply::Error(_) => {}
+                _ => return None,
+            }
+        }
+        None
+    }
+}
+
+fn all_cells(alloc: Global) -> Result<Vec<Contested>, AllocError> {
+    let mut cells = Vec::new(alloc);
+    for number in 0..CELLS {
+        cells.push(Contested {
+            cell: OnceCell::new(),
+            failures: AtomicU64::new(number % 12),
+            made: AtomicU64::new(0),
+        })?;
+    }
+    Ok(cells)
+}
+
+// How many cells have 1, and no init that is still to fail.
+fn filled(cells: &[Contested]) -> u64 {
+    let mut filled = 0u64;
+    for contested in cells {
+        let failures = contested.failures.load(Ordering::SeqCst);
+        if failures == 0 && contested.cell.get() == Some(&1) {
+            filled = filled.wrapping_add(1);
+        }
+    }
+    filled
+}
+
+/// Each cell is filled once, after all its failures, and all threads get that value.
+#[test]
+fn filled_after_the_failures(rt: HostRuntime) -> Result<(), Fail> {
+    let cells = all_cells(rt.alloc())?;
+    let got = gathered(&rt, &cells)?;
+    let alike = alike(&got, &[1; CELLS as usize]);
+    assert_eq!(rt; (alike, filled(&cells)), (THREADS, CELLS));
+    Ok(())
+}
+
+impl Visited for Lazy<u64, Slow<'_, u64>> {
+    // The cell owns its future. At most cells the thread drops some futures midway.
+    fn visited<'v, R>(&'v self, rt: &'v R, task: &MockTask, thread: u64, number: u64) -> Option<u64>
+    where
+        R: Wait + AllocGlobal + Clock,
+    {
+        for _ in 0..thread.wrapping_add(number) % 4 {
+            left_midway(rt, task, self.get(rt));
+        }
+        match ended(rt, task, &mut self.get(rt)) {
+            Reply::Value(value) => Some(value),
+            _ => None,
+        }
+    }
+}
+
+fn lazies(alloc: Global, done: &AtomicU64) -> Result<Vec<Lazy<u64, Slow<'_, u64>>>, AllocError> {
+    let mut lazies = Vec::new(alloc);
+    for number in 0..CELLS {
+        lazies.push(Lazy::new(Slow {
+            pending: number % 10,
+            answer: number,
+            done,
+        }))?;
+    }
+    Ok(lazies)
+}
+
+fn numbers(alloc: Global) -> Result<Vec<u64>, AllocError> {
+    let mut numbers = Vec::new(alloc);
+    for number in 0..CELLS {
+        numbers.push(number)?;
+    }
+    Ok(numbers)
+}
+
+/// Threads drive one future by turns, and drop some of those by which they do. It is done once.
+#[test]
+fn filled_after_the_drops(rt: HostRuntime) -> Result<(), Fail> {
+    let (done, numbers) = (AtomicU64::new(0), numbers(rt.alloc())?);
+    let lazies = lazies(rt.alloc(), &done)?;
+    let got = gathered(&rt, &lazies)?;
+    let alike = alike(&got, &numbers);
+    assert_eq!(rt; (alike, done.load(Ordering::SeqCst)), (THREADS, CELLS));
+    Ok(())
+}

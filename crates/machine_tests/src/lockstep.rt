@@ -1,0 +1,6 @@
+//! Worked schedules over shared and plain parts, and over shared parts whose memory is refused.
+
+mod gated;
+mod rows;
+mod scene;
+mod stranded;

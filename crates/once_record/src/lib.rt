@@ -1,0 +1,4 @@
+//! The inputs of a replay and its record.
+#![tactic(auto)]
+
+pub mod world;
