@@ -29,6 +29,7 @@ pub use Rattle.once_cells.specs.Polls
 pub use Rattle.once_cells.specs.Sure
 pub use Rattle.once_cells.specs.Stays
 -- the types that users name
+pub use Rattle.once_queue.specs.declared.log
 pub use Rattle.once_queue.specs.declared.waiters
 pub use Rattle.once_core.specs.declared.parts
 pub use Rattle.once_core.specs.declared.step

@@ -4,6 +4,7 @@
 
 pub mod made;
 pub mod meeting;
+pub mod memory;
 pub mod poll;
 pub mod schedule;
 pub mod slow;

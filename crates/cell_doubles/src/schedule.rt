@@ -17,12 +17,12 @@
 //! line, has what `into_inner` of both cells answers. `lazy` has what `try_get` answers before the text.
 
 use crate::made::{Looks, Made, Within};
+use crate::memory::hoard;
 use crate::poll::calm;
 use crate::stub::{Init, Stub, Tried};
 use async_once_cell::world::Reply;
 use async_once_cell::{Lazy, OnceCell};
 use futures::test::MockTask;
-use no_memory::hoard;
 use std::alloc::{AllocError, AllocGlobal, Global};
 use std::cell::Cell;
 use std::random::RandomSource;
@@ -57,7 +57,7 @@ impl fmt::Display for Outcome {
 }
 
 // How many futures and tasks a schedule has. They are numbered from 0.
-const MOST: usize = 101;
+const MOST: usize = 1101;
 
 // The tasks of a schedule.
 #[derive(Drop)]

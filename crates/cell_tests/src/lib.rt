@@ -5,8 +5,8 @@
 #[cfg(test)]
 mod lazy;
 #[cfg(test)]
-mod memo;
-#[cfg(test)]
 mod once;
+#[cfg(test)]
+mod table;
 #[cfg(test)]
 mod threads;

@@ -56,6 +56,7 @@ impl<T> Model for OnceCell<T> {
 
 impl<T> OnceCell<T> {
     /// An empty cell. It takes no memory.
+    #[inline(always)]
     pub fn new() -> Self {
         OnceCell {
             inner: Inner::new(false),
@@ -78,6 +79,7 @@ impl<T> OnceCell<T> {
 
     /// The value, where it is set; None where the cell is empty or being filled. It waits for
     /// nobody.
+    #[inline(always)]
     pub fn get(&self) -> Option<&T> {
         if self.inner.is_ready() {
             self.value.get()
@@ -111,6 +113,7 @@ impl<T> OnceCell<T> {
     /// A future of the value: the one that is set, or the one that `init` gives.
     ///
     /// Nothing happens before the first poll, see [`InitFuture`].
+    #[inline(always)]
     pub fn get_or_init<'a, F, R>(&'a self, rt: &'a R, init: F) -> InitFuture<'a, T, F, R>
     where
         F: Future<Output = T>,
@@ -130,6 +133,7 @@ impl<T> OnceCell<T> {
     /// block_on(rt, cell.get_or_try_init(rt, err::<u64, _>("down")))?; // Err(Init("down"))
     /// block_on(rt, cell.get_or_try_init(rt, ok::<u64, &str>(7)))?; // Ok(&7)
     /// ```
+    #[inline(always)]
     pub fn get_or_try_init<'a, E, F, R>(
         &'a self,
         rt: &'a R,
@@ -164,6 +168,7 @@ impl<T> OnceCell<T> {
     }
 
     // The parts as one call uses them, with the seat of a future that has one.
+    #[inline(always)]
     pub(crate) fn parts<'a, 'r, R>(
         &'a self,
         rt: &'r R,
@@ -172,12 +177,14 @@ impl<T> OnceCell<T> {
         self.inner.parts(rt, seat)
     }
 
+    #[inline(always)]
     pub(crate) fn new_seat<R: AllocGlobal>(&self, rt: &R) -> Option<Seat> {
         let number = self.seats.fetch_add(1, Ordering::SeqCst);
         Seat::new(rt.alloc(), number).ok()
     }
 
     // A value that is there already stays, and this one is dropped.
+    #[inline(always)]
     pub(crate) fn set<R: Wait>(&self, rt: &R, value: T)
     where
         T: Drop,
@@ -186,6 +193,7 @@ impl<T> OnceCell<T> {
     }
 
     // The value that the end of a call found set.
+    #[inline(always)]
     fn found(&self) -> Option<&T> {
         self.value.get()
     }

@@ -38,6 +38,7 @@ impl WakerId for Seat {
 
     ghost tells_other = { λ a b. (arc_value a.shared).number ≢ (arc_value b.shared).number };
 
+    #[inline(always)]
     fn same(&self, other: &Seat) -> bool {
         self.shared.number == other.shared.number
     }
@@ -45,6 +46,7 @@ impl WakerId for Seat {
 
 impl Seat {
     /// A seat on which nobody sits. No other seat of its cell has this number.
+    #[inline(always)]
     pub fn new(alloc: Global, number: u64) -> Result<Seat, AllocError> {
         let sitter = Mutex::new(Sitter {
             called: false,
@@ -63,12 +65,14 @@ impl Seat {
     }
 
     /// Another share.
+    #[inline(always)]
     pub fn share(&self) -> Option<Seat> {
         let shared = Arc::try_clone(&self.shared).ok()?;
         Some(Seat { shared })
     }
 
     /// Another share, to be listed. What came before is no call of it.
+    #[inline(always)]
     pub fn share_anew<R: Wait>(&self, rt: &R) -> Option<Seat> {
         let seat = self.share()?;
         self.shared.sitter.lock(rt).called = false;
@@ -77,6 +81,7 @@ impl Seat {
 
     /// Ends a poll that waits: the task sits down, or is to be polled again where the seat was
     /// called meanwhile.
+    #[inline(always)]
     pub fn sit<T, R: Wait>(&self, rt: &R, cx: &mut Context<'_>) -> Poll<T>
         ensures pending { result ≡ Poll.Pending }
         ensures armed { IsArmed cx.new }
@@ -91,6 +96,7 @@ impl Seat {
     }
 
     /// Calls the seat: the task that sits there is woken, with the seat's lock free.
+    #[inline(always)]
     pub fn call<R: Wait>(self, rt: &R) {
         let mut sitter = self.shared.sitter.lock(rt);
         sitter.called = true;

@@ -6,7 +6,7 @@ use once_queue::waiters::{Answer, Lists, Op, WakerId};
 use once_queue::word::{MAX_WAITERS, NEW, QINIT_BIT, Word};
 use std::alloc::AllocGlobal;
 use std::fmt;
-use std::sync::atomic::{AtomicU64, Ordering};
+use std::sync::atomic::{AtomicBool, AtomicU64, Ordering};
 use std::sync::{Arc, Mutex, Wait};
 
 /// A queue, as its door and those who wait in it keep it.
@@ -17,6 +17,8 @@ pub type Queue<W> = Arc<Mutex<Lists<W>>>;
 pub struct Inner<W: WakerId> {
     word: AtomicU64,
     door: Mutex<Option<Queue<W>>>,
+    // Whether a queue was ever put to the door.
+    has_put: AtomicBool,
 }
 
 impl<W: WakerId> Inner<W> {
@@ -25,19 +27,23 @@ impl<W: WakerId> Inner<W> {
         Inner {
             word: AtomicU64::new(Word::new(ready).bits()),
             door: Mutex::new(None),
+            has_put: AtomicBool::new(false),
         }
     }
 
     /// The word.
+    #[inline(always)]
     pub fn word(&self) -> u64 {
         self.word.load(Ordering::SeqCst)
     }
 
+    #[inline(always)]
     fn flags(&self) -> Word {
         Word::from_bits(self.word())
     }
 
     /// Whether the word says that the value is set.
+    #[inline(always)]
     pub fn is_ready(&self) -> bool {
         self.flags().is_ready()
     }
@@ -49,6 +55,7 @@ impl<W: WakerId> Inner<W> {
     }
 
     /// The parts as one call uses them. `current` is the waker that a look compares.
+    #[inline(always)]
     pub fn parts<'a, 'r, R>(&'a self, rt: &'r R, current: Option<W>) -> Shared<'a, 'r, W, R> {
         Shared {
             inner: self,
@@ -57,6 +64,7 @@ impl<W: WakerId> Inner<W> {
         }
     }
 
+    #[inline(always)]
     fn exchange(&self, from: u64, to: u64) -> bool {
         self.word
             .compare_exchange(from, to, Ordering::SeqCst, Ordering::SeqCst)
@@ -65,6 +73,7 @@ impl<W: WakerId> Inner<W> {
 
     // Gives the right back, by one addition of the difference that this makes. Nobody else changes a
     // flag meanwhile, since the caller is counted; others may count in or out.
+    #[inline(always)]
     fn give_back(&self, ready: bool) {
         let before = self.word();
         let mut word = Word::from_bits(before);
@@ -105,18 +114,22 @@ pub struct Shared<'a, 'r, W: WakerId, R> {
 impl<W: WakerId + Drop, R: Wait + AllocGlobal> Parts<W> for Shared<'_, '_, W, R> {
     type Queue = Queue<W>;
 
+    #[inline(always)]
     fn load(&mut self) -> u64 {
         self.inner.word()
     }
 
+    #[inline(always)]
     fn quick(&mut self) -> bool {
         self.inner.exchange(NEW, QINIT_BIT)
     }
 
+    #[inline(always)]
     fn fast(&mut self, ready: bool) -> bool {
         self.inner.exchange(QINIT_BIT, Word::new(ready).bits())
     }
 
+    #[inline(always)]
     fn count_in(&mut self, limit: u64) -> Counted {
         for _ in self.rt.forever() {
             let before = self.inner.word();
@@ -136,10 +149,12 @@ impl<W: WakerId + Drop, R: Wait + AllocGlobal> Parts<W> for Shared<'_, '_, W, R>
         unreachable!()
     }
 
+    #[inline(always)]
     fn add_one(&mut self) {
         self.inner.word.fetch_add(1, Ordering::SeqCst);
     }
 
+    #[inline(always)]
     fn count_out(&mut self) -> u64 {
         self.inner
             .word
@@ -147,11 +162,13 @@ impl<W: WakerId + Drop, R: Wait + AllocGlobal> Parts<W> for Shared<'_, '_, W, R>
             .wrapping_sub(1)
     }
 
+    #[inline(always)]
     fn door_get(&mut self) -> Option<Queue<W>> {
         let door = self.inner.door.lock(self.rt);
         Arc::try_clone(door.as_ref()?).ok()
     }
 
+    #[inline(always)]
     fn door_put(&mut self) -> Option<Queue<W>> {
         let alloc = self.rt.alloc();
         let made = Arc::new(alloc, Mutex::new(Lists::new(alloc))).ok()?;
@@ -160,16 +177,25 @@ impl<W: WakerId + Drop, R: Wait + AllocGlobal> Parts<W> for Shared<'_, '_, W, R>
             return Arc::try_clone(queue).ok();
         }
         let ours = Arc::try_clone(&made).ok()?;
+        self.inner.has_put.store(true, Ordering::SeqCst);
         *door = Some(made);
         Some(ours)
     }
 
-    // What was listed is let go with the lock free.
+    // Where no queue was ever put the load alone is the step: none stands at that moment. One that is
+    // put after it is taken out by the task that put it, or by a later one: that task counts itself in
+    // after the put, so somebody counts out to exactly `READY_BIT` after it. What was listed is let go
+    // with the lock free.
+    #[inline(always)]
     fn door_take(&mut self) -> bool {
+        if !self.inner.has_put.load(Ordering::SeqCst) {
+            return false;
+        }
         let taken = self.inner.door.lock(self.rt).take();
         taken.is_some()
     }
 
+    #[inline(always)]
     fn section(&mut self, queue: &Queue<W>, op: &mut Op<W>) -> Answer<W> {
         let mut lists = queue.lock(self.rt);
         match op {
@@ -188,8 +214,20 @@ impl<W: WakerId + Drop, R: Wait + AllocGlobal> Shared<'_, '_, W, R> {
     ghost use Rattle.std.specs.Prelude.{◌≡◌, true, false};
     ghost use Rattle.once_core.specs.Steps.{is_resting, in_call};
 
+    /// The waker that the call was made with.
+    #[inline(always)]
+    pub fn into_current(self) -> Option<W> {
+        let Shared {
+            inner: _,
+            rt: _,
+            current,
+        } = self;
+        current
+    }
+
     /// A whole poll: begins it, and makes its steps until it ends. It may wait for the locks of door
     /// and queue, and for whatever the side waits for.
+    #[inline(always)]
     pub fn poll<S: Side<W>>(&mut self, step: &mut Step<W, Queue<W>>, side: &mut S) -> Ending
         requires { is_resting step.old ≡ true }
         ensures ended { in_call step.new ≡ false }
@@ -210,6 +248,7 @@ impl<W: WakerId + Drop, R: Wait + AllocGlobal> Shared<'_, '_, W, R> {
     }
 
     // Makes the steps of the call that is under way. There are at most sixteen.
+    #[inline(always)]
     fn go_on<S: Side<W>>(&mut self, step: &mut Step<W, Queue<W>>, side: &mut S) -> Ending
         ensures ended { in_call step.new ≡ false }
         ensures stays { S.stays side.old side.new }

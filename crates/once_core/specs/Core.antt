@@ -2,8 +2,8 @@
 use Rattle.std.specs.Prelude.{◌≡◌, ◌≢◌, ℕ, suc, ◌<◌, ◌≤◌, ◌-◌, ◌⊎◌, ◌||◌, Bool, true, false, cond, not, List, [], ◌∷◌, ◌++◌, Option, Some, None, vec_len, vec_capacity}
 use Rattle.std.specs.Option.{is_some}
 use Rattle.once_core.specs.declared.plain.Core.{Core}
-use Rattle.once_record.specs.declared.world.QueueLine.{QueueLine}
-use Rattle.once_record.specs.declared.world.QueueLine.TheVariants.{Put, Entered, Taken}
+use Rattle.once_queue.specs.declared.log.QueueLine.{QueueLine}
+use Rattle.once_queue.specs.declared.log.QueueLine.TheVariants.{Put, Entered, Taken}
 use Rattle.once_core.specs.declared.parts.Counted.{Counted}
 use Rattle.once_core.specs.declared.parts.Counted.TheVariants.{In, Full, SeenReady}
 use Rattle.once_queue.specs.declared.waiters.Op.{Op}

@@ -1,8 +1,8 @@
 //! What a step touches of all that the tasks of a cell share.
 ghost use Rattle.std.specs.Prelude.{◌≡◌, ◌<◌, ◌≤◌, ◌-◌, ◌^◌};
 
+pub use once_queue::log::QueueLine;
 use once_queue::waiters::{Answer, Op};
-pub use once_record::world::QueueLine;
 
 /// What counting in answers.
 #[derive(Clone, Copy, Debug, PartialEq, Eq)]

@@ -37,6 +37,7 @@ pub enum Ending {
 impl Ending {
     ghost use Rattle.once_core.specs.Steps.{is_value as ends_with_value};
 
+    #[inline(always)]
     fn is_value(self) -> bool
         ensures { result ≡ ends_with_value self }
     {
@@ -120,6 +121,7 @@ impl<W: Drop, Q: Drop> Step<W, Q> {
     ghost use Rattle.once_core.specs.Steps.{left_of, is_resting, in_call, is_running, is_leaving, is_freeing, is_adding, is_value, step_of_poll, step_of_drop, release_place, Asks, Advances, LeadsTo, Follows, AfterLook, after_start, after_quick, after_door_get, after_door_put, after_count_in, after_load, after_copy, after_list, after_run, after_fast, after_door_again, after_count_out};
 
     /// A task that was not polled yet.
+    #[inline(always)]
     pub fn new() -> Self
         ensures { result ≡ Step.Resting Rest.Start }
     {
@@ -127,6 +129,7 @@ impl<W: Drop, Q: Drop> Step<W, Q> {
     }
 
     /// Whether the last call ended with anything but Pending.
+    #[inline(always)]
     pub fn is_finished(&self) -> bool
         ensures { IsTrue result ↔ (self.now ≡ Step.Finished) }
     {
@@ -134,6 +137,7 @@ impl<W: Drop, Q: Drop> Step<W, Q> {
     }
 
     /// Whether a call may begin: none is under way, and the last one did not end for good.
+    #[inline(always)]
     pub fn is_resting(&self) -> bool
         ensures { result ≡ is_resting self.now }
     {
@@ -169,6 +173,7 @@ impl<W: Drop, Q: Drop> Step<W, Q> {
     }
 
     /// How many steps the call may still take at most; 0 where none is under way.
+    #[inline(always)]
     pub fn left(&self) -> u32
         ensures left { result ≡ left_of self.now }
         ensures most { result ≤ 16 }
@@ -181,11 +186,12 @@ impl<W: Drop, Q: Drop> Step<W, Q> {
     }
 
     /// Begins a poll.
+    #[inline(always)]
     pub fn begin(&mut self)
         requires { is_resting self.old ≡ true }
         ensures { self.new ≡ step_of_poll self.old }
     {
-        *self = match mem::replace(self, Step::Finished) {
+        let next = match mem::replace(self, Step::Finished) {
             Step::Resting(Rest::Start) => Step::UnderWay(Place::Start),
             Step::Resting(Rest::Wait(queue, ticket)) => Step::UnderWay(Place::WaitLoad(
                 queue, ticket,
@@ -193,10 +199,12 @@ impl<W: Drop, Q: Drop> Step<W, Q> {
             Step::Resting(Rest::Run(by)) => Step::UnderWay(Place::Run(by)),
             other => other,
         };
+        self.set(next);
     }
 
     /// Begins a drop: the init is closed first. `false` says that there is no step to do, because
     /// the task was never polled.
+    #[inline(always)]
     pub fn begin_drop<S: Side<W>>(&mut self, side: &mut S) -> bool
         requires { is_resting self.old ≡ true }
         ensures step { self.new ≡ step_of_drop self.old }
@@ -205,7 +213,7 @@ impl<W: Drop, Q: Drop> Step<W, Q> {
         ensures stays { S.stays side.old side.new }
     {
         side.close();
-        *self = match mem::replace(self, Step::Finished) {
+        let next = match mem::replace(self, Step::Finished) {
             Step::Resting(Rest::Start) => Step::Finished,
             Step::Resting(Rest::Wait(queue, ticket)) => {
                 Step::UnderWay(Place::leaving(queue, ticket, Ending::Dropped))
@@ -213,10 +221,12 @@ impl<W: Drop, Q: Drop> Step<W, Q> {
             Step::Resting(Rest::Run(by)) => Step::UnderWay(Place::giving_back(by, Ending::Dropped)),
             other => other,
         };
+        self.set(next);
         matches!(self, Step::UnderWay(_))
     }
 
     /// Makes one step of the call that is under way.
+    #[inline(always)]
     pub fn advance<P: Parts<W, Queue = Q>, S: Side<W>>(
         &mut self,
         parts: &mut P,
@@ -266,33 +276,46 @@ impl<W: Drop, Q: Drop> Step<W, Q> {
         }
     }
 
+    // Puts a step in the place of one that was taken out, of which `Finished` was left: there is nothing
+    // to drop. Without `forget` each assignment would first test which variant it replaces.
+    #[inline(always)]
+    fn set(&mut self, step: Step<W, Q>)
+        ensures { self.new ≡ step }
+    {
+        mem::forget(mem::replace(self, step));
+    }
+
     // The call goes on at this place.
+    #[inline(always)]
     fn on(&mut self, place: Place<W, Q>) -> Progress
         ensures more { result ≡ Progress.More }
         ensures step { self.new ≡ Step.UnderWay place }
     {
-        *self = Step::UnderWay(place);
+        self.set(Step::UnderWay(place));
         Progress::More
     }
 
     // The call ends so, and the task is finished.
+    #[inline(always)]
     fn end(&mut self, ending: Ending) -> Progress
         ensures ended { result ≡ Progress.Ended ending }
         ensures step { self.new ≡ Step.Finished }
     {
-        *self = Step::Finished;
+        self.set(Step::Finished);
         Progress::Ended(ending)
     }
 
     // The poll ends Pending, and the next call begins here.
+    #[inline(always)]
     fn rest(&mut self, rest: Rest<Q>) -> Progress
         ensures ended { result ≡ Progress.Ended Ending.Pending }
         ensures step { self.new ≡ Step.Resting rest }
     {
-        *self = Step::Resting(rest);
+        self.set(Step::Resting(rest));
         Progress::Ended(Ending::Pending)
     }
 
+    #[inline(always)]
     fn start<P: Parts<W, Queue = Q>, S: Side<W>>(&mut self, parts: &mut P, side: &mut S) -> Progress
         ensures line { (w : ℕ) × P.did_load parts.old w parts.new
             × Follows S.did_close (after_start (flags_of w).ready (is_zero (flags_of w))) side.old side.new result self.new }
@@ -309,6 +332,7 @@ impl<W: Drop, Q: Drop> Step<W, Q> {
         self.on(Place::DoorGet)
     }
 
+    #[inline(always)]
     fn try_quick<P: Parts<W, Queue = Q>>(&mut self, parts: &mut P) -> Progress
         ensures line { (b : Bool) × P.did_quick parts.old b parts.new × LeadsTo (after_quick b) result self.new }
     {
@@ -462,6 +486,7 @@ impl<W: Drop, Q: Drop> Step<W, Q> {
         }
     }
 
+    #[inline(always)]
     fn run<S: Side<W>>(&mut self, by: Option<Q>, side: &mut S) -> Progress
         ensures line { (a : Polled) × (m : S) × S.did_run side.old a m
             × Follows S.did_close (after_run a by) m side.new result self.new }
@@ -480,6 +505,7 @@ impl<W: Drop, Q: Drop> Step<W, Q> {
         }
     }
 
+    #[inline(always)]
     fn fast<P: Parts<W, Queue = Q>>(&mut self, ending: Ending, parts: &mut P) -> Progress
         ensures line { (b : Bool) × P.did_fast parts.old (is_value ending) b parts.new
             × LeadsTo (after_fast b (is_value ending) ending) result self.new }

@@ -128,6 +128,7 @@ impl<W: WakerId + Drop> Lists<W> {
     ghost use Rattle.once_queue.specs.Sections.{shows_set, shows_free, shows_taken, Looked, Lists as DidList, Releases};
 
     /// No holder, and nobody listed. It takes no memory.
+    #[inline(always)]
     pub fn new(alloc: Global) -> Self
         ensures head { result.head ≡ false }
         ensures listings { result.listings.items ≡ [] }
@@ -143,6 +144,7 @@ impl<W: WakerId + Drop> Lists<W> {
     /// Claims the right where the word and the flag leave it free: the own listing is taken out, and
     /// the ticket given up. Else says whether the own listing has this waker. With no waker, no
     /// ticket, or where it was called, it has not.
+    #[inline(always)]
     pub fn look(&mut self, ticket: &mut Option<u64>, waker: Option<&W>, word: u64) -> Answer<W>
         // The first case that holds gives the answer.
         ensures ready { shows_set (flags_of word) ≡ true → result ≡ Answer.Ready }
@@ -170,6 +172,7 @@ impl<W: WakerId + Drop> Lists<W> {
     ///
     /// `Memory` says that the list could not grow; it is as it was then. That comes only where the
     /// own ticket has no listing, and the list had no room.
+    #[inline(always)]
     pub fn list(&mut self, ticket: &mut Option<u64>, waker: &mut Option<W>, word: u64) -> Answer<W>
         requires { IsSome waker.old }
 
@@ -201,6 +204,7 @@ impl<W: WakerId + Drop> Lists<W> {
 
     /// Lowers the flag. With the value set all listings leave; without it the first that was not
     /// called yet gives its waker, and stays. It takes no memory.
+    #[inline(always)]
     pub fn release(&mut self, ready: bool) -> Out<W>
         ensures listings { Releases W.tells_same W.tells_other ready self.old.listings.items result self.new.listings.items }
         ensures head { self.new.head ≡ false }
@@ -244,6 +248,7 @@ impl<W: WakerId + Drop> Lists<W> {
     }
 
     // The right where it is free, and None where some task holds it.
+    #[inline(always)]
     fn claim(&mut self, ticket: &mut Option<u64>, word: u64) -> Option<Answer<W>>
         ensures ready { shows_set (flags_of word) ≡ true → result ≡ Some Answer.Ready }
         ensures claimed { shows_free (flags_of word) self.old.head ≡ true → result ≡ Some Answer.Claimed }

@@ -37,6 +37,7 @@ impl Model for Word {
 impl Word {
     ghost use Rattle.once_queue.specs.Word.{flags_of, flags_alone, is_zero, is_quick_bit};
 
+    #[inline(always)]
     pub fn new(ready: bool) -> Self
         ensures { result ≡ flags_alone false ready }
     {
@@ -46,6 +47,7 @@ impl Word {
     }
 
     /// The word that this number stands for.
+    #[inline(always)]
     pub fn from_bits(bits: u64) -> Self
         ensures { result ≡ flags_of bits }
     {
@@ -53,24 +55,28 @@ impl Word {
     }
 
     /// The word as a number.
+    #[inline(always)]
     pub fn bits(&self) -> u64
         ensures { flags_of result ≡ self.now }
     {
         self.bits
     }
 
+    #[inline(always)]
     pub fn count(&self) -> u64
         ensures { result ≡ self.now.count }
     {
         self.bits % QINIT_BIT
     }
 
+    #[inline(always)]
     pub fn is_ready(&self) -> bool
         ensures { result ≡ self.now.ready }
     {
         self.bits >= READY_BIT
     }
 
+    #[inline(always)]
     pub fn is_quick(&self) -> bool
         ensures { result ≡ self.now.quick }
     {
@@ -78,6 +84,7 @@ impl Word {
     }
 
     /// Exchanges `NEW` for the quick bit.
+    #[inline(always)]
     pub fn quick(&mut self) -> bool
         ensures won { result ≡ is_zero self.old }
         ensures new { self.new ≡ cond result (flags_alone true false) self.old }
@@ -90,6 +97,7 @@ impl Word {
     }
 
     /// Exchanges the quick bit for the ready bit, or for `NEW`.
+    #[inline(always)]
     pub fn fast(&mut self, ready: bool) -> bool
         ensures won { result ≡ is_quick_bit self.old }
         ensures new { self.new ≡ cond result (flags_alone false ready) self.old }
@@ -102,6 +110,7 @@ impl Word {
     }
 
     /// Counts one task in.
+    #[inline(always)]
     pub fn count_in(&mut self)
         requires { self.old.count < 2 ^ 62 - 1 }
         ensures { self.new ≡ record self.old { count = self.old.count + 1 } }
@@ -110,6 +119,7 @@ impl Word {
     }
 
     /// Counts one task out.
+    #[inline(always)]
     pub fn count_out(&mut self)
         requires { 0 < self.old.count }
         ensures { self.new ≡ record self.old { count = self.old.count - 1 } }
@@ -118,6 +128,7 @@ impl Word {
     }
 
     /// Clears the quick flag, and sets the ready flag or not.
+    #[inline(always)]
     pub fn give_back(&mut self, ready: bool)
         ensures { self.new ≡ record self.old { quick = false; ready = ready } }
     {

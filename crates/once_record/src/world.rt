@@ -1,5 +1,7 @@
 //! What a replay is told, and what it tells.
 
+pub use once_queue::log::QueueLine;
+
 /// The kinds of cell.
 ///
 /// A lazy cell owns one init, whose answers are listed: `None` is one Pending, `Some(v)` is the
@@ -105,17 +107,6 @@ pub enum Entry {
     Look(Option<u64>),
     /// The owner called, and was given this.
     Own(Call, Got),
-}
-
-/// One line of the queue log.
-#[derive(Clone, Copy, Debug, PartialEq, Eq)]
-pub enum QueueLine {
-    /// The queue with this number was put to the door.
-    Put(u64),
-    /// A section was entered on the queue with this number.
-    Entered(u64),
-    /// The queue with this number was taken out of the door.
-    Taken(u64),
 }
 
 /// What a replay tells, the oldest entry and the oldest line first.

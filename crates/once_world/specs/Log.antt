@@ -1,7 +1,7 @@
 -- The queue log: which queue stands at the door, and which log belongs to which parts. The newest line stands first.
 use Rattle.std.specs.Prelude.{◌≡◌, ◌≢◌, ℕ, Bool, true, false, cond, ◌==◌, List, [], ◌∷◌, ◌++◌, Option, Some, None}
-use Rattle.once_record.specs.declared.world.QueueLine.{QueueLine}
-use Rattle.once_record.specs.declared.world.QueueLine.TheVariants.{Put, Entered, Taken}
+use Rattle.once_queue.specs.declared.log.QueueLine.{QueueLine}
+use Rattle.once_queue.specs.declared.log.QueueLine.TheVariants.{Put, Entered, Taken}
 use Rattle.once_world.specs.Record.{Answer, Pending, Kind, Entry, Free, Fill, Pass, End, replaces}
 use Rattle.once_world.specs.Cell.{cell, is_set}
 use Rattle.once_world.specs.Tasks.{Waiting, status, is_under_way, last_call}

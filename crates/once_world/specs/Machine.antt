@@ -13,8 +13,8 @@ use Rattle.once_queue.specs.declared.waiters.Answer.{Answer as SectionAnswer}
 use Rattle.once_queue.specs.declared.waiters.Answer.TheVariants.{Ready, Claimed, Listed, Held, Memory as NoMemory, Gone}
 use Rattle.once_queue.specs.Word.{Flags, is_zero, is_quick_bit, is_ready_bit}
 pub use Rattle.once_world.specs.declared.world.play.Task.{Task}
-pub use Rattle.once_record.specs.declared.world.QueueLine.{QueueLine}
-pub use Rattle.once_record.specs.declared.world.QueueLine.TheVariants.{Put as PutLine, Entered as EnteredLine, Taken as TakenLine}
+pub use Rattle.once_queue.specs.declared.log.QueueLine.{QueueLine}
+pub use Rattle.once_queue.specs.declared.log.QueueLine.TheVariants.{Put as PutLine, Entered as EnteredLine, Taken as TakenLine}
 pub use Rattle.once_queue.specs.declared.waiters.Listing.{Listing}
 pub use Rattle.once_queue.specs.Listings.{own_listing, kept_ticket, ticket_for, list_with, list_without, passes_turn, next_waker, left_list, first_waker, call_first, all_out, one_out, is_waker}
 use Rattle.once_world.specs.Record.{Answer, RanPending, RanValue, RanError, Pending, Value, Error, Memory, Full, Kind, is_lazy, has_call, replaces, OwnerCall, Take, Write, Parts, ReplaceValue, ReplaceAnswers, Got, GotNone, GotValue, GotAnswers, Entry, Made, Begin, Claim, Ran, Free, Fill, Pass, End, DropBegin, DropEnd, Look, Own}

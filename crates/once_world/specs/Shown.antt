@@ -16,7 +16,7 @@ use Rattle.once_record.specs.declared.world.Input.TheVariants.{Make as InputMake
 use Rattle.once_record.specs.declared.world.Entry.{Entry as Written}
 use Rattle.once_record.specs.declared.world.Entry.TheVariants.{Made as WrittenMade, Begin as WrittenBegin, Claim as WrittenClaim, Ran as WrittenRan, Free as WrittenFree, Fill as WrittenFill, Pass as WrittenPass, End as WrittenEnd, DropBegin as WrittenDropBegin, DropEnd as WrittenDropEnd, Look as WrittenLook, Own as WrittenOwn}
 use Rattle.once_record.specs.declared.world.Record.{Record as GivenRecord}
-use Rattle.once_record.specs.declared.world.QueueLine.{QueueLine}
+use Rattle.once_queue.specs.declared.log.QueueLine.{QueueLine}
 use Rattle.once_world.specs.declared.world.play.ReplayCell.{ReplayCell}
 use Rattle.once_world.specs.declared.world.play.StepSeen.{StepSeen}
 use Rattle.once_world.specs.declared.world.play.World.{World}

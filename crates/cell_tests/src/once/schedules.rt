@@ -4,7 +4,7 @@ use cell_doubles::schedule::run;
 use std::test::Fail;
 
 // Schedules over a `OnceCell`.
-const SCHEDULES: [(&str, &str); 18] = [
+const SCHEDULES: [(&str, &str); 20] = [
     (
         "plain_path",
         "show => OnceCell { value: None, inner: Inner { ready: false, quick_init: false, refcount: 0, queue: false } }
@@ -211,6 +211,18 @@ drop 1 => so, wakes 1
 found => Some(true)
 show => OnceCell { value: None, inner: Inner { ready: false, quick_init: true, refcount: 0, queue: true } }",
     ),
+    // The same, where it finds the value.
+    (
+        "place_held_until_the_value_is_found",
+        "init 0
+looks 1 ready: true, quick_init: false, refcount: 1, queue: true } }
+poll 0 p => pending, wakes 0
+poll 1 p => pending
+poll 0 v4 => v4, done, wakes 1
+poll 1 v9 => v4, done
+found => Some(true)
+show => OnceCell { value: Some(4), inner: Inner { ready: true, quick_init: false, refcount: 0, queue: false } }",
+    ),
     // A second future of the cell waits within its init and the cell is still empty, and then the init
     // fills it. The second took its place out of the list, and with it its waker, which wakes its task.
     (
@@ -241,6 +253,19 @@ take => Some(5)
 init 0
 poll 0 v8 => v8, done
 end => Some(8), None",
+    ),
+    // So many may wait, and the value calls each.
+    (
+        "value_for_1100",
+        "init 0
+poll 0 p => pending, wakes 0
+1..1101 * init n
+1..1101 * poll n v9 => pending
+show => OnceCell { value: None, inner: Inner { ready: false, quick_init: true, refcount: 1100, queue: true } }
+poll 0 v4 => v4, done, wakes 1 to 1100
+1..1101 * poll n v9 => v4, done
+inits => 2 polls, 1101 drops
+show => OnceCell { value: Some(4), inner: Inner { ready: true, quick_init: false, refcount: 0, queue: false } }",
     ),
     // A future that was forgotten leaves its right behind, and the queue stands. What the owner calls puts
     // it all away, and wakes nobody.

@@ -1,7 +1,7 @@
 //! Whole runs, with readers and writers that fail.
 use super::rows::compare;
 use async_once_cell::world::{Call, Entry, Got, Ran, Record, Reply};
-use no_memory::hoard;
+use cell_doubles::memory::hoard;
 use once_filter::run;
 use once_script::fault::Fault;
 use once_script::parse::{Line, parse_line, parse_script};

@@ -37,6 +37,7 @@ impl<'a, T, F: Future, R: Wait + AllocGlobal> Model for LazyFuturePin<'a, T, F, 
 }
 
 impl<'a, T, F: Future, R: Wait + AllocGlobal> LazyFuturePin<'a, T, F, R> {
+    #[inline(always)]
     pub(super) fn new(cell: &'a OnceCell<T>, rt: &'a R, future: &'a Mutex<Option<Held<F>>>) -> Self
         ensures cell { result.cell ≡ cell.now }
         ensures live { result.finished ≡ false }
@@ -47,6 +48,7 @@ impl<'a, T, F: Future, R: Wait + AllocGlobal> LazyFuturePin<'a, T, F, R> {
     }
 
     /// Whether the future answered a value or a refusal. It may not be polled after that.
+    #[inline(always)]
     pub fn is_finished(&self) -> bool
         ensures { result ≡ self.now.finished }
     {
@@ -64,6 +66,7 @@ impl<T, F: Future, R: Wait + AllocGlobal> fmt::Debug for LazyFuturePin<'_, T, F,
 
 impl<'a, T: Drop, F: Future<Output = T>, R: Wait + AllocGlobal> LazyFuturePin<'a, T, F, R> {
     /// Polls the future once. It answers the value that is set, or a refusal, and is finished then.
+    #[inline(always)]
     pub fn poll(&mut self, cx: &mut Context<'_>) -> Poll<Result<&'a T, Refused>>
         requires { self.old.finished ≡ false }
         ensures call { DidPoll self.old self.new cx.old cx.new result }
@@ -93,6 +96,7 @@ impl<'a, T: Drop, F: Future<Output = T>, R: Wait + AllocGlobal> Future
     for LazyFuturePin<'a, T, F, R> {
     type Output = Result<&'a T, Refused>;
 
+    #[inline(always)]
     fn poll(&mut self, cx: &mut Context<'_>) -> Poll<Result<&'a T, Refused>> {
         if self.is_finished() {
             return cx.yield_now();
@@ -109,10 +113,12 @@ struct Driven<'a, F: Future, R> {
 }
 
 impl<F: Future, R: Wait> Driven<'_, F, R> {
+    #[inline(always)]
     fn take_out(&self) -> Option<Held<F>> {
         self.future.lock(self.rt).take()
     }
 
+    #[inline(always)]
     fn put_back(&self, future: Held<F>) {
         *self.future.lock(self.rt) = Some(future);
     }
@@ -123,6 +129,7 @@ impl<F: Future, R: Wait> Future for Driven<'_, F, R> {
 
     // The future is polled with the lock free. When it gave its value it is dropped, before the
     // value is set.
+    #[inline(always)]
     fn poll(&mut self, cx: &mut Context<'_>) -> Poll<F::Output> {
         let Some(held) = self.take_out() else {
             return cx.yield_now();

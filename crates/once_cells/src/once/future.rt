@@ -41,6 +41,8 @@ pub struct TryInitFuture<'a, T, E, F: Future, R: Wait + AllocGlobal> {
     init: Option<Held<F>>,
     // Made when the future waits for the first time.
     seat: Option<Seat>,
+    // Another share of the seat, for the looks of the next poll.
+    current: Option<Seat>,
     step: Step<Seat, Queue<Seat>>,
 }
 
@@ -53,6 +55,7 @@ impl<'a, T, E, F: Future, R: Wait + AllocGlobal> Model for TryInitFuture<'a, T, 
 }
 
 impl<'a, T, E, F: Future, R: Wait + AllocGlobal> TryInitFuture<'a, T, E, F, R> {
+    #[inline(always)]
     pub(super) fn new(cell: &'a OnceCell<T>, rt: &'a R, init: F) -> Self
         requires { F.can_poll init }
         ensures cell { result.cell ≡ cell.now }
@@ -64,11 +67,13 @@ impl<'a, T, E, F: Future, R: Wait + AllocGlobal> TryInitFuture<'a, T, E, F, R> {
             rt,
             init: Some(Held::new(init)),
             seat: None,
+            current: None,
             step: Step::new(),
         }
     }
 
     /// Whether the future answered a value, an error or a refusal. It may not be polled after that.
+    #[inline(always)]
     pub fn is_finished(&self) -> bool
         ensures { result ≡ self.now.finished }
     {
@@ -76,6 +81,7 @@ impl<'a, T, E, F: Future, R: Wait + AllocGlobal> TryInitFuture<'a, T, E, F, R> {
     }
 
     // What a drop does: the init is dropped, and then the place or the right given back.
+    #[inline(always)]
     fn leave(&mut self)
         ensures cell { self.new.cell ≡ self.old.cell }
         ensures finished { self.new.finished ≡ true }
@@ -88,7 +94,7 @@ impl<'a, T, E, F: Future, R: Wait + AllocGlobal> TryInitFuture<'a, T, E, F, R> {
             let mut parts = self.cell.parts(self.rt, None);
             parts.finish(&mut self.step, &mut side);
         }
-        self.step = Step::Finished;
+        set(&mut self.step, Step::Finished);
     }
 }
 
@@ -110,11 +116,15 @@ where
     /// where a place among those who wait could not be made, `Full` where as many tasks wait as may.
     /// After any of these it is finished. After an error or a refusal the cell is as if the future
     /// had been dropped.
+    #[inline(always)]
     pub fn poll(&mut self, cx: &mut Context<'_>) -> Poll<Result<&'a T, InitError<E>>>
         requires { self.old.finished ≡ false }
         ensures call { DidPoll self.old self.new cx.old cx.new result }
     {
-        let current = self.seat.as_ref().and_then(Seat::share);
+        let current = match self.current.take() {
+            Some(share) => Some(share),
+            None => self.seat.as_ref().and_then(Seat::share),
+        };
         let mut side = Polling {
             cell: self.cell,
             rt: self.rt,
@@ -127,6 +137,7 @@ where
         };
         let mut parts = self.cell.parts(self.rt, current);
         let ending = parts.poll(&mut self.step, &mut side);
+        self.current = parts.into_current();
         let Polling {
             cell: _,
             rt: _,
@@ -164,11 +175,12 @@ where
         if let Some(value) = token.learn(self.cell) {
             return Poll::Ready(Ok(value));
         }
-        self.step = Step::new();
+        set(&mut self.step, Step::new());
         cx.yield_now()
     }
 
     // What a poll answers that ended so.
+    #[inline(always)]
     fn answer(
         &mut self,
         ending: Ending,
@@ -182,23 +194,18 @@ where
         if self.step.is_resting() {
             return self.wait(is_armed, cx);
         }
-        if let Some(error) = error {
-            return Poll::Ready(Err(InitError::Init(error)));
-        }
-        if ending == Ending::Memory {
-            return Poll::Ready(Err(InitError::Memory));
-        }
-        if ending == Ending::Full {
-            return Poll::Ready(Err(InitError::Full));
+        if let Some(why) = refusal(ending, error) {
+            return Poll::Ready(Err(why));
         }
         if let Some(value) = self.cell.found() {
             return Poll::Ready(Ok(value));
         }
-        self.step = Step::new();
+        set(&mut self.step, Step::new());
         cx.yield_now()
     }
 
     // Ends a poll that is Pending: the init saw to it that the task is called, or the seat does.
+    #[inline(always)]
     fn wait<O>(&self, is_armed: bool, cx: &mut Context<'_>) -> Poll<O>
         requires { is_armed ≡ true → IsArmed cx.old }
         ensures pending { result ≡ Poll.Pending }
@@ -222,6 +229,7 @@ where
 {
     type Output = Result<&'a T, InitError<E>>;
 
+    #[inline(always)]
     fn poll(&mut self, cx: &mut Context<'_>) -> Poll<Result<&'a T, InitError<E>>> {
         if self.is_finished() {
             return cx.yield_now();
@@ -240,8 +248,27 @@ impl<T, E, F: Future, R: Wait + AllocGlobal> Drop for TryInitFuture<'_, T, E, F,
             rt: _,
             init: _init,
             seat: _seat,
+            current: _current,
             step: _step,
         } = self;
+    }
+}
+
+// Puts another step in place of this one.
+#[inline(always)]
+fn set(step: &mut Step<Seat, Queue<Seat>>, to: Step<Seat, Queue<Seat>>)
+    ensures { step.new ≡ to }
+{
+    *step = to;
+}
+
+// Why a poll ended so without a value, if it did.
+#[inline(always)]
+fn refusal<E: Drop>(ending: Ending, error: Option<E>) -> Option<InitError<E>> {
+    match ending {
+        Ending::Memory => Some(InitError::Memory),
+        Ending::Full => Some(InitError::Full),
+        _ => error.map(InitError::Init),
     }
 }
 
@@ -268,6 +295,7 @@ where
 
     ghost stays = { Stays };
 
+    #[inline(always)]
     fn run(&mut self) -> Polled {
         let Some(held) = self.init.take() else {
             return Polled::Pending;
@@ -292,16 +320,19 @@ where
         }
     }
 
+    #[inline(always)]
     fn close(&mut self) {
         *self.init = None;
     }
 
+    #[inline(always)]
     fn put(&mut self) {
         if let Some(value) = self.value.take() {
             self.cell.set(self.rt, value);
         }
     }
 
+    #[inline(always)]
     fn copy(&mut self) -> Option<Seat> {
         if self.seat.is_none() {
             *self.seat = Some(self.cell.new_seat(self.rt)?);
@@ -309,6 +340,7 @@ where
         self.seat.as_ref()?.share_anew(self.rt)
     }
 
+    #[inline(always)]
     fn wake(&mut self, out: Out<Seat>)
         ensures stays { Stays self.old self.new }
     {
@@ -332,20 +364,25 @@ impl<H: Drop, R: Wait + AllocGlobal> Side<Seat> for Leaving<'_, H, R> {
 
     ghost stays = { λ _ _. ⊤ };
 
+    #[inline(always)]
     fn run(&mut self) -> Polled {
         Polled::Pending
     }
 
+    #[inline(always)]
     fn close(&mut self) {
         self.init = None;
     }
 
+    #[inline(always)]
     fn put(&mut self) {}
 
+    #[inline(always)]
     fn copy(&mut self) -> Option<Seat> {
         None
     }
 
+    #[inline(always)]
     fn wake(&mut self, out: Out<Seat>)
         ensures stays { ⊤ }
     {

@@ -27,6 +27,7 @@ impl<'a, T, F: Future, R: Wait + AllocGlobal> Model for InitFuture<'a, T, F, R> 
 }
 
 impl<'a, T, F: Future, R: Wait + AllocGlobal> InitFuture<'a, T, F, R> {
+    #[inline(always)]
     pub(crate) fn new(cell: &'a OnceCell<T>, rt: &'a R, init: F) -> Self
         requires { F.can_poll init }
         ensures cell { result.cell ≡ cell.now }
@@ -38,6 +39,7 @@ impl<'a, T, F: Future, R: Wait + AllocGlobal> InitFuture<'a, T, F, R> {
     }
 
     /// Whether the future answered a value or a refusal. It may not be polled after that.
+    #[inline(always)]
     pub fn is_finished(&self) -> bool
         ensures { result ≡ self.now.finished }
     {
@@ -55,6 +57,7 @@ impl<T, F: Future, R: Wait + AllocGlobal> fmt::Debug for InitFuture<'_, T, F, R>
 
 impl<'a, T: Drop, F: Future<Output = T>, R: Wait + AllocGlobal> InitFuture<'a, T, F, R> {
     /// Polls the future once. It answers the value that is set, or a refusal, and is finished then.
+    #[inline(always)]
     pub fn poll(&mut self, cx: &mut Context<'_>) -> Poll<Result<&'a T, Refused>>
         requires { self.old.finished ≡ false }
         ensures call { DidPoll self.old self.new cx.old cx.new result }
@@ -64,6 +67,7 @@ impl<'a, T: Drop, F: Future<Output = T>, R: Wait + AllocGlobal> InitFuture<'a, T
 
     /// As [`poll`](Self::poll), and the token learns the value that is answered. A token that knows
     /// a value gets that value; the future leaves its cell as by a drop, and is finished.
+    #[inline(always)]
     pub fn poll_as(
         &mut self,
         cx: &mut Context<'_>,
@@ -83,6 +87,7 @@ impl<'a, T: Drop, F: Future<Output = T>, R: Wait + AllocGlobal> InitFuture<'a, T
 impl<'a, T: Drop, F: Future<Output = T>, R: Wait + AllocGlobal> Future for InitFuture<'a, T, F, R> {
     type Output = Result<&'a T, Refused>;
 
+    #[inline(always)]
     fn poll(&mut self, cx: &mut Context<'_>) -> Poll<Result<&'a T, Refused>> {
         if self.is_finished() {
             return cx.yield_now();
@@ -102,6 +107,7 @@ impl<F: Future> Future for Sure<F> {
 
     ghost can_poll = { λ s. F.can_poll s.init };
 
+    #[inline(always)]
     fn poll(&mut self, cx: &mut Context<'_>) -> Poll<Result<F::Output, Infallible>> {
         match self.init.poll(cx) {
             Poll::Ready(value) => Poll::Ready(Ok(value)),
@@ -111,6 +117,7 @@ impl<F: Future> Future for Sure<F> {
 }
 
 // The answer without the error that can't be.
+#[inline(always)]
 fn surely<T>(polled: Poll<Result<T, InitError<Infallible>>>) -> Poll<Result<T, Refused>>
     ensures { IsSame polled result }
 {

@@ -57,6 +57,7 @@ impl<W, Q> Place<W, Q> {
     ghost use Rattle.once_core.specs.Steps.{left_at, release_place};
 
     // How many steps a call here may still take.
+    #[inline(always)]
     pub(super) fn left(&self) -> u32
         ensures left { result ≡ left_at self.now }
         ensures most { result ≤ 16 }
@@ -83,6 +84,7 @@ impl<W, Q> Place<W, Q> {
     }
 
     // Where a holder gives the right back.
+    #[inline(always)]
     pub(super) fn giving_back(by: Option<Q>, ending: Ending) -> Self
         ensures { result ≡ release_place by ending }
     {

@@ -1,6 +1,6 @@
 -- A row with one thing wrong, and a queue log with one.
 use Rattle.std.proofs.Common.{ℕ, List, [], ◌∷◌}
-use Rattle.once_record.specs.declared.world.QueueLine.{QueueLine}
+use Rattle.once_queue.specs.declared.log.QueueLine.{QueueLine}
 use Rattle.once_world.specs.Record.{Entry, Kind}
 use Rattle.once_world.specs.Log.{IsSound}
 use Rattle.once_world.specs.Run.{IsRun}

@@ -1,5 +1,4 @@
-//! A machine without memory, for tests.
-#![tactic(auto)]
+//! A machine without memory.
 
 use std::alloc::{AllocError, Global};
 

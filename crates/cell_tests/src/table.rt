@@ -1,10 +1,9 @@
 //! What the contracts of `memo` do not say of its table, and whole runs of its program.
-ghost use Rattle.std.specs.Prelude.{◌≡◌, ◌*◌, ◌^◌, ◌<◌, IsSome, IfSome};
-ghost use Rattle.std.specs.Option.{ForSome};
-ghost use Rattle.memo.specs.Memo.{cell_of};
+ghost use Rattle.std.specs.Prelude.{◌*◌, ◌^◌, ◌<◌};
 
 use async_once_cell::OnceCell;
 use async_once_cell::once::Known;
+use cell_doubles::memory::hoard;
 use futures::future::pending;
 use futures::test::MockTask;
 use memo::ask::{Answer, agreed, answer_within, ask};
@@ -12,7 +11,6 @@ use memo::fault::Fault;
 use memo::fetch::Fetch;
 use memo::memo::Memo;
 use memo::{run, status};
-use no_memory::hoard;
 use std::alloc::{AllocError, AllocGlobal, Global};
 use std::io;
 use std::io::{ErrorKind, Write};
@@ -112,53 +110,27 @@ fn keys_without_a_cell(rt: HostRuntime) -> Result<(), Fail> {
     Ok(())
 }
 
-// What a token gets, and gets again: the contract says that the second call has the same value.
-fn twice<'a>(memo: &'a Memo<u64>, key: u64, token: &mut Known<'a, u64>) -> Option<(u64, u64)>
-    requires { ForSome (cell_of memo.now key) (λ cell. token.old.cell ≡ cell) }
-    ensures cell { token.new.cell ≡ token.old.cell }
-    ensures same { IfSome result (λ told. told.0 ≡ told.1) }
-    ensures knows { IfSome result (λ told. token.new.value ≡ Some told.0) }
-{
-    let first = *memo.get_as(key, token)?;
-    let second = *memo.get_as(key, token).unwrap();
-    Some((first, second))
-}
-
-/// What two tokens of one key get: the first before a value is told, the first after that, and the
-/// second; whether they agree where one knows the value, where both do, and after a call for a missing
-/// key; and what that call gets.
-type Seen = ([Option<(u64, u64)>; 3], [bool; 3], Option<u64>);
-
+// What a token gets before a value is told and after that, what a second token gets, and whether the two
+// agree.
 fn tokens<R: Wait + RandomSource + AllocGlobal + Clock>(
     rt: &R,
     memo: &Memo<u64>,
-    fetches: &AtomicU64,
-) -> Option<Seen> {
-    let mut first = memo.token(2)?;
-    let mut second = memo.token(2)?;
-    let before = twice(memo, 2, &mut first);
-    value_told(rt, memo, fetches, 2)?;
-    let mine = twice(memo, 2, &mut first);
-    let early = Known::compare(&first, &second);
-    let other = twice(memo, 2, &mut second);
-    let late = Known::compare(&first, &second);
-    let missing = if memo.cell(3).is_none() {
-        memo.get_as(3, &mut first).copied()
-    } else {
-        Some(3)
-    };
-    let agree = [early, late, Known::compare(&first, &second)];
-    Some(([before, mine, other], agree, missing))
+) -> Option<([Option<u64>; 3], bool)> {
+    let (mut first, mut second) = (memo.token(2)?, memo.token(2)?);
+    let before = memo.get_as(2, &mut first).copied();
+    let told = value_told(rt, memo, &AtomicU64::new(0), 2);
+    let mine = memo.get_as(2, &mut first).copied();
+    let other = memo.get_as(2, &mut second).copied();
+    let agree = told.is_some() && Known::compare(&first, &second);
+    Some(([before, mine, other], agree))
 }
 
-/// A token knows nothing before the value is set, and gets it at each call after; then two tokens
-/// agree.
+/// A token knows nothing before the value is set, and gets it after; then two tokens agree.
 #[test]
 fn tokens_of_a_key(rt: HostRuntime) -> Result<(), Fail> {
     let memo = table(rt.alloc(), &[1, 2])?;
-    let seen = tokens(&rt, &memo, &AtomicU64::new(0));
-    let got = [None, Some((20, 20)), Some((20, 20))];
-    assert_eq!(rt; seen, Some((got, [false, true, true], None)));
+    let seen = tokens(&rt, &memo);
+    assert_eq!(rt; seen, Some(([None, Some(20), Some(20)], true)));
     Ok(())
 }
 
