@@ -40,19 +40,30 @@ enum Outcome {
 
 impl fmt::Display for Outcome {
     fn fmt<W: fmt::Write>(&self, f: &mut fmt::Formatter<W>) -> fmt::Result {
-        let (reply, is_done) = match *self {
-            Outcome::Obeyed => return f.write_str("so"),
-            Outcome::Unreadable => return f.write_str("unreadable"),
-            Outcome::Polled(reply, is_done) => (reply, is_done),
-        };
-        match reply {
-            Reply::Pending => f.write_str("pending")?,
-            Reply::Value(value) => write!(f, "v{value}")?,
-            Reply::Error(error) => write!(f, "e{error}")?,
-            Reply::Memory => f.write_str("memory")?,
-            Reply::Full => f.write_str("full")?,
+        match *self {
+            Outcome::Obeyed => f.write_str("so"),
+            Outcome::Unreadable => f.write_str("unreadable"),
+            Outcome::Polled(reply, is_done) => {
+                let done = if is_done { ", done" } else { "" };
+                write!(f, "{}{done}", Heard(reply))
+            }
         }
-        f.write_str(if is_done { ", done" } else { "" })
+    }
+}
+
+// What a poll answered.
+#[derive(Clone, Copy)]
+struct Heard(Reply);
+
+impl fmt::Display for Heard {
+    fn fmt<W: fmt::Write>(&self, f: &mut fmt::Formatter<W>) -> fmt::Result {
+        match self.0 {
+            Reply::Pending => f.write_str("pending"),
+            Reply::Value(value) => write!(f, "v{value}"),
+            Reply::Error(error) => write!(f, "e{error}"),
+            Reply::Memory => f.write_str("memory"),
+            Reply::Full => f.write_str("full"),
+        }
     }
 }
 

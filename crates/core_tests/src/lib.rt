@@ -1,0 +1,12 @@
+//! What the layers below the cells do, by their public calls alone, and that each call can succeed;
+//! and what futures of a cell do in the middle of one of its steps.
+#![tactic(auto)]
+
+#[cfg(test)]
+mod counting;
+#[cfg(test)]
+mod hostile;
+#[cfg(test)]
+mod inside;
+#[cfg(test)]
+mod layers;
