@@ -81,16 +81,13 @@ impl<'a, T, E, F: Future, R: Wait + AllocGlobal> TryInitFuture<'a, T, E, F, R> {
     }
 
     // What a drop does: the init is dropped, and then the place or the right given back.
-    #[inline(always)]
     fn leave(&mut self)
         ensures cell { self.new.cell ≡ self.old.cell }
         ensures finished { self.new.finished ≡ true }
     {
+        drop(self.init.take());
         if self.step.is_resting() {
-            let mut side = Leaving {
-                rt: self.rt,
-                init: self.init.take(),
-            };
+            let mut side = Leaving { rt: self.rt };
             let mut parts = self.cell.parts(self.rt, None);
             parts.finish(&mut self.step, &mut side);
         }
@@ -352,37 +349,30 @@ where
     ghost stays_on = { λ a b c p q. Prim.search rules };
 }
 
-// What a drop brings.
+// What a drop brings, when the init is gone. It does not name the init's type, so that a program has
+// the machine of a drop once.
 #[derive(Drop)]
-struct Leaving<'a, H, R> {
+struct Leaving<'a, R> {
     rt: &'a R,
-    init: Option<H>,
 }
 
-impl<H: Drop, R: Wait + AllocGlobal> Side<Seat> for Leaving<'_, H, R> {
+impl<R: Wait + AllocGlobal> Side<Seat> for Leaving<'_, R> {
     ghost use Rattle.std.specs.Prelude.{⊤};
 
     ghost stays = { λ _ _. ⊤ };
 
-    #[inline(always)]
     fn run(&mut self) -> Polled {
         Polled::Pending
     }
 
-    #[inline(always)]
-    fn close(&mut self) {
-        self.init = None;
-    }
+    fn close(&mut self) {}
 
-    #[inline(always)]
     fn put(&mut self) {}
 
-    #[inline(always)]
     fn copy(&mut self) -> Option<Seat> {
         None
     }
 
-    #[inline(always)]
     fn wake(&mut self, out: Out<Seat>)
         ensures stays { ⊤ }
     {
