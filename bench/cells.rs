@@ -114,6 +114,9 @@ mod rounds {
             "waiters1" => Some(waiters(1, count)),
             "waiters10" => Some(waiters(10, count)),
             "waiters100" => Some(waiters(100, count)),
+            "waiters1000" => Some(waiters(1_000, count)),
+            "waiters10000" => Some(waiters(10_000, count)),
+            "drops10000" => Some(drops(10_000, count)),
             "failure1" => Some(failures(1, count)),
             "failure10" => Some(failures(10, count)),
             "failure100" => Some(failures(100, count)),
@@ -194,6 +197,34 @@ mod rounds {
         sum = sum.wrapping_add(value_of(holder.as_mut().poll(&mut cx)));
         for (waiter, waker) in waiters.iter_mut().zip(wakers) {
             // Safety: as above.
+            let waiter = unsafe { Pin::new_unchecked(waiter) };
+            sum = sum.wrapping_add(value_of(waiter.poll(&mut Context::from_waker(waker))));
+        }
+        sum
+    }
+
+    // Nobody gets a value, so the sum is 0. Those who wait are dropped first, the oldest first.
+    #[inline(never)]
+    fn drops(waiting: usize, count: u64) -> u64 {
+        let wakers = wakers(waiting + 1);
+        let mut sum: u64 = 0;
+        for _ in 0..count {
+            sum = sum.wrapping_add(all_dropped(&wakers));
+        }
+        sum
+    }
+
+    fn all_dropped(wakers: &[Waker]) -> u64 {
+        let waiting = wakers.len() - 1;
+        let (cell, switch) = (OnceCell::new(), Cell::new(false));
+        let mut holder = pin!(cell.get_or_init(Switched(&switch)));
+        let mut sum = value_of(holder.as_mut().poll(&mut Context::from_waker(&wakers[waiting])));
+        let mut waiters = Vec::with_capacity(waiting);
+        for _ in 0..waiting {
+            waiters.push(cell.get_or_init(Switched(&switch)));
+        }
+        for (waiter, waker) in waiters.iter_mut().zip(wakers) {
+            // Safety: it stays where it lies until it is dropped there.
             let waiter = unsafe { Pin::new_unchecked(waiter) };
             sum = sum.wrapping_add(value_of(waiter.poll(&mut Context::from_waker(waker))));
         }

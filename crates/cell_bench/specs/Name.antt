@@ -1,6 +1,6 @@
 use Rattle.std.specs.Prelude.{◌≡◌, ℕ, List, ◌++◌, ◌∷◌, codes}
 use Rattle.cell_bench.specs.declared.operation.Operation.{Operation}
-use Rattle.cell_bench.specs.declared.operation.Operation.TheVariants.{Get, Init, Listed, OneWaits, TenWait, HundredWait, FailureBeforeOne, FailureBeforeTen, FailureBeforeHundred, TenTurns, HundredTurns, LazyFirst, LazyLater}
+use Rattle.cell_bench.specs.declared.operation.Operation.TheVariants.{Get, Init, Listed, OneWaits, TenWait, HundredWait, ThousandWait, TenThousandWait, HundredThousandWait, TenThousandDrop, FailureBeforeOne, FailureBeforeTen, FailureBeforeHundred, TenTurns, HundredTurns, TenThousandTurns, TwoLook, FourLook, TwoFill, FourFill, LazyFirst, LazyLater}
 
 -- what an operation is called in the input
 abbrev pub name_of : Operation → List ℕ
@@ -10,11 +10,20 @@ name_of Listed = codes "listed"
 name_of OneWaits = codes "waiters1"
 name_of TenWait = codes "waiters10"
 name_of HundredWait = codes "waiters100"
+name_of ThousandWait = codes "waiters1000"
+name_of TenThousandWait = codes "waiters10000"
+name_of HundredThousandWait = codes "waiters100000"
+name_of TenThousandDrop = codes "drops10000"
 name_of FailureBeforeOne = codes "failure1"
 name_of FailureBeforeTen = codes "failure10"
 name_of FailureBeforeHundred = codes "failure100"
 name_of TenTurns = codes "turns10"
 name_of HundredTurns = codes "turns100"
+name_of TenThousandTurns = codes "turns10000"
+name_of TwoLook = codes "get_threads2"
+name_of FourLook = codes "get_threads4"
+name_of TwoFill = codes "init_threads2"
+name_of FourFill = codes "init_threads4"
 name_of LazyFirst = codes "lazy_first"
 name_of LazyLater = codes "lazy_later"
 

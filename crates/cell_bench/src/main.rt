@@ -10,17 +10,20 @@ use operation::parse_line;
 use rounds::perform;
 use std::alloc::AllocGlobal;
 use std::io;
+use std::random::RandomSource;
 use std::sync::Wait;
+use std::thread::Threads;
 
 mod failures;
 mod operation;
 mod rounds;
 mod switch;
+mod threads;
 
 /// Makes what each line of the input says, and prints the sums. All polls are of one task.
 pub fn run<R>(rt: &R, cx: &mut Context<'_>) -> io::Result<()>
 where
-    R: Input + Print + AllocGlobal + Wait,
+    R: Input + Print + AllocGlobal + Wait + RandomSource + Threads + Sync,
 {
     for line in rt.lines(rt.alloc()) {
         answer(rt, line?.as_str(), cx)?;
@@ -28,19 +31,21 @@ where
     Ok(())
 }
 
-fn answer<R: Print + AllocGlobal + Wait>(
-    rt: &R,
-    line: &str,
-    cx: &mut Context<'_>,
-) -> io::Result<()> {
+fn answer<R>(rt: &R, line: &str, cx: &mut Context<'_>) -> io::Result<()>
+where
+    R: Print + AllocGlobal + Wait + RandomSource + Threads + Sync,
+{
     let sum = sum_of(rt, line, cx)?;
     println!(rt; "{line} {sum}")
 }
 
 /// Makes what a line says, and gives the sum.
-fn sum_of<R: AllocGlobal + Wait>(rt: &R, line: &str, cx: &mut Context<'_>) -> io::Result<u64> {
+fn sum_of<R>(rt: &R, line: &str, cx: &mut Context<'_>) -> io::Result<u64>
+where
+    R: AllocGlobal + Wait + RandomSource + Threads + Sync,
+{
     match parse_line(line) {
-        Some((operation, count)) => Ok(perform(rt, operation, count, cx)?),
+        Some((operation, count)) => perform(rt, operation, count, cx),
         None => Err(io::Error::other("a line is an operation and a count")),
     }
 }

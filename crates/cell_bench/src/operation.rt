@@ -19,6 +19,14 @@ pub enum Operation {
     TenWait,
     /// The same where 100 wait.
     HundredWait,
+    /// The same where 1,000 wait.
+    ThousandWait,
+    /// The same where 10,000 wait.
+    TenThousandWait,
+    /// The same where 100,000 wait.
+    HundredThousandWait,
+    /// A new cell: one future holds, 10,000 wait, and all are dropped, those who wait first.
+    TenThousandDrop,
     /// 1 waits: a new future gets the right, whoever the failure before called is polled and waits
     /// again, and the new future fails.
     FailureBeforeOne,
@@ -31,6 +39,16 @@ pub enum Operation {
     TenTurns,
     /// The same where 100 wait.
     HundredTurns,
+    /// The same where 10,000 wait.
+    TenThousandTurns,
+    /// Two threads look at a cell that is set.
+    TwoLook,
+    /// The same of four threads.
+    FourLook,
+    /// A new cell, which two threads ask for its value.
+    TwoFill,
+    /// The same of four threads.
+    FourFill,
     /// A new lazy cell, and a poll whose init gives the value at once.
     LazyFirst,
     /// A new future of a lazy cell that is set, polled to its end.
@@ -49,11 +67,20 @@ pub fn parse_operation(name: &str) -> Option<Operation>
         "waiters1" => Some(Operation::OneWaits),
         "waiters10" => Some(Operation::TenWait),
         "waiters100" => Some(Operation::HundredWait),
+        "waiters1000" => Some(Operation::ThousandWait),
+        "waiters10000" => Some(Operation::TenThousandWait),
+        "waiters100000" => Some(Operation::HundredThousandWait),
+        "drops10000" => Some(Operation::TenThousandDrop),
         "failure1" => Some(Operation::FailureBeforeOne),
         "failure10" => Some(Operation::FailureBeforeTen),
         "failure100" => Some(Operation::FailureBeforeHundred),
         "turns10" => Some(Operation::TenTurns),
         "turns100" => Some(Operation::HundredTurns),
+        "turns10000" => Some(Operation::TenThousandTurns),
+        "get_threads2" => Some(Operation::TwoLook),
+        "get_threads4" => Some(Operation::FourLook),
+        "init_threads2" => Some(Operation::TwoFill),
+        "init_threads4" => Some(Operation::FourFill),
         "lazy_first" => Some(Operation::LazyFirst),
         "lazy_later" => Some(Operation::LazyLater),
         _ => None,

@@ -5,6 +5,7 @@
 use crate::failures::{failures, turns};
 use crate::operation::Operation;
 use crate::switch::Switched;
+use crate::threads::{cells, fills_of_four, fills_of_two, looks_of_four, looks_of_two};
 use async_once_cell::once::InitFuture;
 use async_once_cell::{Lazy, OnceCell};
 use futures::Future;
@@ -12,34 +13,46 @@ use futures::future::{Ready, ready};
 use futures::task::{Context, Poll};
 use std::alloc::{AllocError, AllocGlobal};
 use std::cell::Cell;
+use std::io;
+use std::random::RandomSource;
 use std::sync::Wait;
+use std::thread::Threads;
 
 /// Makes an operation so many times.
-pub fn perform<R: Wait + AllocGlobal>(
-    rt: &R,
-    operation: Operation,
-    count: u64,
-    cx: &mut Context<'_>,
-) -> Result<u64, AllocError> {
-    match operation {
+pub fn perform<R>(rt: &R, operation: Operation, count: u64, cx: &mut Context<'_>) -> io::Result<u64>
+where
+    R: Wait + RandomSource + AllocGlobal + Threads + Sync,
+{
+    let sum = match operation {
+        Operation::TwoLook => Ok(looks_of_two(rt, &OnceCell::new_with(1), count)),
+        Operation::FourLook => Ok(looks_of_four(rt, &OnceCell::new_with(1), count)),
+        Operation::TwoFill => return fills_of_two(rt, &cells(rt, count)?),
+        Operation::FourFill => return fills_of_four(rt, &cells(rt, count)?),
         Operation::Get => Ok(get(&OnceCell::new_with(1), count)),
         Operation::Init => Ok(init(rt, count, cx)),
         Operation::Listed => listed(rt, count, cx),
         Operation::OneWaits => waiters(rt, 1, count, cx),
         Operation::TenWait => waiters(rt, 10, count, cx),
         Operation::HundredWait => waiters(rt, 100, count, cx),
+        Operation::ThousandWait => waiters(rt, 1_000, count, cx),
+        Operation::TenThousandWait => waiters(rt, 10_000, count, cx),
+        Operation::HundredThousandWait => waiters(rt, 100_000, count, cx),
+        Operation::TenThousandDrop => drops(rt, 10_000, count, cx),
         Operation::FailureBeforeOne => failures(rt, 1, count, cx),
         Operation::FailureBeforeTen => failures(rt, 10, count, cx),
         Operation::FailureBeforeHundred => failures(rt, 100, count, cx),
         Operation::TenTurns => turns(rt, 10, count, cx),
         Operation::HundredTurns => turns(rt, 100, count, cx),
+        Operation::TenThousandTurns => turns(rt, 10_000, count, cx),
         Operation::LazyFirst => Ok(lazy_first(rt, count, cx)),
         Operation::LazyLater => Ok(lazy_later(rt, &Lazy::with_value(1), count, cx)),
-    }
+    };
+    Ok(sum?)
 }
 
+/// Looks at a set cell so many times.
 #[inline(never)]
-fn get(cell: &OnceCell<u64>, count: u64) -> u64 {
+pub fn get(cell: &OnceCell<u64>, count: u64) -> u64 {
     let mut sum: u64 = 0;
     for _ in 0..count {
         sum = sum.wrapping_add(cell.get().copied().unwrap_or(0));
@@ -138,6 +151,33 @@ fn round<R: Wait + AllocGlobal>(
     let sum = poll_each(futures.as_mut_slice(), cx);
     switch.set(true);
     Ok(sum.wrapping_add(poll_each(futures.as_mut_slice(), cx)))
+}
+
+// Nobody gets a value, so the sum is 0.
+#[inline(never)]
+fn drops<R: Wait + AllocGlobal>(
+    rt: &R,
+    waiting: usize,
+    count: u64,
+    cx: &mut Context<'_>,
+) -> Result<u64, AllocError> {
+    let mut sum: u64 = 0;
+    for _ in 0..count {
+        sum = sum.wrapping_add(all_dropped(rt, waiting, cx)?);
+    }
+    Ok(sum)
+}
+
+fn all_dropped<R: Wait + AllocGlobal>(
+    rt: &R,
+    waiting: usize,
+    cx: &mut Context<'_>,
+) -> Result<u64, AllocError> {
+    let (cell, switch) = (OnceCell::new(), Cell::new(false));
+    let mut holder = futures_of(rt, &cell, &switch, 1)?;
+    let mut waiters = futures_of(rt, &cell, &switch, waiting)?;
+    let sum = poll_each(holder.as_mut_slice(), cx);
+    Ok(sum.wrapping_add(poll_each(waiters.as_mut_slice(), cx)))
 }
 
 #[inline(never)]

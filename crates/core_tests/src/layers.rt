@@ -27,7 +27,7 @@ fn a_list_has_who_waits_once(rt: HostRuntime) -> Result<(), Fail> {
         ],
     );
     let released = all_called(&lists.release(true));
-    let seen = (other, released, lists.listings.len(), lists.head);
+    let seen = (other, released, lists.len(), lists.head);
     let all = [
         Some((1, Some(8))),
         Some((0, Some(9))),
@@ -132,7 +132,7 @@ fn a_turn_is_passed_on_or_taken(rt: HostRuntime) {
     let next = lists.leave(0, NEW);
     let mut ticket = Some(1);
     let is_claimed = lists.look(&mut ticket, Some(&8), NEW) == Answer::Claimed;
-    let left = (lists.head, lists.listings.len());
+    let left = (lists.head, lists.len());
     let seen = (first, next, is_claimed, ticket, left);
     assert_eq!(rt; seen, (Some(Some(7)), Some(8), true, None, (true, 0)));
 }
@@ -453,7 +453,7 @@ fn left(alloc: Global) -> (Begun, bool, bool, usize) {
     let begun = begin(&mut core);
     let is_called = release(&mut core, 1, false) == Some(Answer::Released(Out::One(Some(7))));
     let is_left = leave(&mut core, 1) == Some(Answer::Left(None));
-    (begun, is_called, is_left, core.lists.listings.len())
+    (begun, is_called, is_left, core.lists.len())
 }
 
 #[test]

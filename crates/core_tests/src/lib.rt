@@ -10,3 +10,5 @@ mod hostile;
 mod inside;
 #[cfg(test)]
 mod layers;
+#[cfg(test)]
+mod random;

@@ -1,5 +1,5 @@
 //! Where a waiting future's task is called: the waker of the cells.
-ghost use Rattle.std.specs.Prelude.{◌≡◌, ◌≢◌};
+ghost use Rattle.std.specs.Prelude.{◌≡◌, ⊤};
 ghost use Rattle.std.specs.Arc.{arc_value};
 ghost use Rattle.futures.specs.Task.{IsArmed, Keeps};
 
@@ -36,7 +36,14 @@ pub struct Seat {
 impl WakerId for Seat {
     ghost tells_same = { λ a b. (arc_value a.shared).number ≡ (arc_value b.shared).number };
 
-    ghost tells_other = { λ a b. (arc_value a.shared).number ≢ (arc_value b.shared).number };
+    // Two seats that are listed are never the same, since a future lists its seat in one place alone. A
+    // fill so calls all of them, and none is compared with the others.
+    ghost tells_other = { λ _ _. ⊤ };
+
+    #[inline(always)]
+    fn are_all_other() -> bool {
+        true
+    }
 
     #[inline(always)]
     fn same(&self, other: &Seat) -> bool {

@@ -102,8 +102,9 @@ impl<W: WakerId> fmt::Debug for Inner<W> {
 /// The parts as one call of a task uses them: those that all tasks share, and the task's waker.
 ///
 /// `door_get`, `door_put`, `door_take` and `section` may wait for a lock, which each call has for a
-/// few operations, `section` also for a search of the list; `count_in` tries again while others change
-/// the word. `door_put` and `section` take memory, for a queue and for a place in its list.
+/// few operations, `section` now and then for a look at each listing; `count_in` tries again while
+/// others change the word. `door_put` and `section` take memory, for a queue and for a place in its
+/// list.
 #[derive(Drop)]
 pub struct Shared<'a, 'r, W: WakerId, R> {
     inner: &'a Inner<W>,

@@ -11,7 +11,7 @@ use Rattle.once_queue.specs.declared.waiters.Op.TheVariants.{Look, List as ListO
 use Rattle.once_queue.specs.declared.waiters.Answer.{Answer}
 use Rattle.once_queue.specs.declared.waiters.Answer.TheVariants.{Ready, Claimed, Listed, Memory, Released, Left, Gone}
 use Rattle.once_queue.specs.Ops.{ticket_in, without_ticket}
-use Rattle.once_queue.specs.Room.{HasSpace}
+use Rattle.once_queue.specs.Room.{HasSpace, listings_of}
 use Rattle.once_queue.specs.Word.{Flags, flags_of, flags_alone, is_zero, is_quick_bit}
 use Rattle.once_queue.specs.declared.waiters.Listing.{Listing}
 use Rattle.once_queue.specs.Listings.{own_listing, kept_ticket, ticket_for, list_with, list_without, passes_turn, next_waker, left_list}
@@ -30,7 +30,7 @@ pub record CoreState (W : Type 0) : Type 0 where
 
 -- all that a core holds
 abbrev pub state_of : {W : Type 0} {g : _} → Core W g → CoreState W
-state_of c = record { word = c.word; door = c.door; head = c.lists.head; listings = c.lists.listings.items; made = c.made; granted = c.granted; current = c.current; log = c.log.items }
+state_of c = record { word = c.word; door = c.door; head = c.lists.head; listings = listings_of c.lists; made = c.made; granted = c.granted; current = c.current; log = c.log.items }
 
 -- room for one more listing and for one more line of the log
 abbrev pub HasRoom : {W : Type 0} {g : _} → Core W g → Type 0

@@ -1,6 +1,7 @@
 //! The parts as plain data.
 ghost use Rattle.once_queue.specs.declared.waiters.Op.{Op};
-ghost use Rattle.std.specs.Prelude.{◌≡◌, ◌<◌, ◌≤◌, ◌+◌, ◌-◌, ◌^◌, ◌++◌, ◌∷◌, ℕ, Bool, true, false, [], Some, None, Option, OnOk, IsSome, IsTrue, ◌↔◌, not, cond, vec_len, vec_capacity};
+ghost use Rattle.once_queue.specs.Room.{listings_of};
+ghost use Rattle.std.specs.Prelude.{◌≡◌, ◌<◌, ◌≤◌, ◌+◌, ◌-◌, ◌^◌, ◌++◌, ◌∷◌, true, false, [], Some, None, Option, OnOk, IsSome, IsTrue, ◌↔◌, not, vec_len, vec_capacity};
 
 use crate::parts::{Counted, Parts, QueueLine};
 use once_queue::waiters::{Answer, Lists, Op, Out, WakerId};
@@ -19,12 +20,12 @@ pub struct Core<W: WakerId> {
     pub log: Vec<QueueLine>,
     ghost counted: { made ≤ vec_len log },
     // Where no queue stands at the door, nobody holds by its flag and nobody is listed.
-    ghost bare: { door ≡ None → (lists.head ≡ false) × (lists.listings.items ≡ []) },
+    ghost bare: { door ≡ None → (lists.head ≡ false) × (listings_of lists ≡ []) },
 }
 
 impl<W: WakerId + Drop> Core<W> {
     ghost use Rattle.once_queue.specs.Word.{flags_alone};
-    ghost use Rattle.once_core.specs.Core.{CoreState, state_of, HasRoom, take_state, release_state, leave_state, is_passing, Found};
+    ghost use Rattle.once_core.specs.Core.{state_of, HasRoom, take_state, release_state, leave_state, is_passing, Found};
     ghost use Rattle.once_queue.specs.Listings.{next_waker};
     ghost use Rattle.once_queue.specs.Room.{HasSpace};
     ghost use Rattle.once_queue.specs.Sections.{Releases};

@@ -1,6 +1,7 @@
 -- Lists of listings, their tickets and their marks.
 pub mod Members
 pub mod Tickets
+pub mod Kept
 pub mod Uncalled
 pub mod Repeats
 pub mod AllOther

@@ -2,6 +2,8 @@ pub mod Numbers
 pub mod Word
 pub mod Listings
 pub mod Marks
+pub mod Kept
+pub mod Slots
 pub mod Room
 pub mod Ops
 pub mod Sections

@@ -1,7 +1,13 @@
--- Room in the list behind a queue's lock.
-use Rattle.std.specs.Prelude.{◌<◌, vec_len, vec_capacity}
+-- Who is listed behind a queue's lock, and room for one more.
+use Rattle.std.specs.Prelude.{List}
+use Rattle.once_queue.specs.declared.waiters.Listing.{Listing}
 use Rattle.once_queue.specs.declared.waiters.Lists.{Lists}
+use Rattle.once_queue.specs.Slots.{HasMark, HasSlot, listings_in}
+
+-- the listings, the oldest first
+abbrev pub listings_of : {W : Type 0} {g : _} → Lists W g → List (Listing W)
+listings_of l = listings_in l.slots
 
 -- room for one more listing, and for the mark of its ticket
 abbrev pub HasSpace : {W : Type 0} {g : _} → Lists W g → Type 0
-HasSpace l = (vec_len l.listings < vec_capacity l.listings) × (vec_len l.used < vec_capacity l.used)
+HasSpace l = HasSlot l.slots × HasMark l.slots

@@ -2,5 +2,6 @@
 #![tactic(auto)]
 
 pub mod log;
+mod slots;
 pub mod waiters;
 pub mod word;

@@ -1,12 +1,13 @@
 //! Who waits: the flag and the list behind a queue's lock, and what a section does with them.
-ghost use Rattle.std.specs.Prelude.{◌≡◌, ◌≢◌, ◌==◌, ◌-◌, ◌^◌, ◌||◌, ⊤, ℕ, true, false, cond, not, [], IsSome, IfSome, IsOk, IfOk, OnOk, OnErr, All, length, Some, None, ◌+◌, ◌<◌, ◌≤◌, ◌⊎◌, ◌++◌, ◌∷◌, vec_len, vec_capacity};
-ghost use Rattle.std.specs.List.{AllPairs, HoldsAt, position, position_or_len};
+ghost use Rattle.std.specs.Prelude.{◌≡◌, ◌≢◌, ◌==◌, ◌-◌, ◌||◌, ℕ, true, false, cond, not, [], IsSome, IfSome, IsOk, IfOk, OnOk, OnErr, All, length, Some, None, ◌+◌, ◌<◌, ◌⊎◌, ◌++◌, ◌∷◌, vec_len};
+ghost use Rattle.std.specs.List.{AllPairs, HoldsAt};
 ghost use Rattle.std.specs.Option.{MatchOption, option_copied, option_flatten, option_map, is_some};
-ghost use Rattle.once_queue.specs.Numbers.{bit, is_distinct, member};
-ghost use Rattle.once_queue.specs.Marks.{is_marked};
+ghost use Rattle.once_queue.specs.Numbers.{member};
+ghost use Rattle.once_queue.specs.Slots.{listings_in};
 ghost use Rattle.once_queue.specs.Listings.{tickets};
 ghost use Rattle.once_queue.specs.Sections.{AreApart, HandsAll};
 
+use crate::slots::Slots;
 use crate::word::{QINIT_BIT, READY_BIT};
 use std::alloc::{AllocError, Global};
 use std::mem;
@@ -18,6 +19,10 @@ pub trait WakerId {
 
     ghost tells_other: { Self → Self → Type 0 };
 
+    /// Whether each two wakers are other, so that none has to be compared.
+    fn are_all_other() -> bool
+        ensures { result ≡ true → (a b : Self) → tells_other a b };
+
     /// Whether the two are the same waker.
     fn same(&self, other: &Self) -> bool
         ensures same { result ≡ true → tells_same self.now other.now }
@@ -28,6 +33,10 @@ impl WakerId for u64 {
     ghost tells_same = { λ a b. a ≡ b };
 
     ghost tells_other = { λ a b. a ≢ b };
+
+    fn are_all_other() -> bool {
+        false
+    }
 
     fn same(&self, other: &u64) -> bool {
         *self == *other
@@ -103,40 +112,38 @@ pub enum Answer<W> {
 
 /// The flag of a holder that took the right under the lock, and the listings of those who wait.
 ///
-/// No ticket stands in the list twice. Each section takes time in proportion to the listings, but for
-/// a release with the value where two listed wakers are the same: there each is compared with all
-/// before it.
+/// No ticket stands in the list twice. A look, a listing and a leave take the same time however many
+/// are listed, on average over many, where no two wakers can be the same; else a new listing is
+/// compared with each. So does a release without the value. One with the value takes time in
+/// proportion to the listings, but where two listed wakers are the same: there each is compared with
+/// all before it.
 #[derive(Drop)]
 pub struct Lists<W: WakerId> {
     pub head: bool,
-    pub listings: Vec<Listing<W>>,
-    // For each ticket that was ever given out, whether a listing has it.
-    used: Vec<bool>,
+    slots: Slots<W>,
     // Whether some waker was told to be the same as one listed before it, since the value was last
     // released.
     mixed: bool,
-    ghost once: { is_distinct (tickets listings.items) ≡ true },
-    ghost marks: { (n : ℕ) → is_marked n used.items ≡ member n (tickets listings.items) },
     // Else each two wakers were told to be other.
-    ghost apart: { mixed ≡ false → ∥ AllPairs (AreApart W.tells_other) listings.items ∥₁ },
+    ghost apart: { mixed ≡ false → ∥ AllPairs (AreApart W.tells_other) (listings_in slots) ∥₁ },
 }
 
 impl<W: WakerId + Drop> Lists<W> {
     ghost use Rattle.once_queue.specs.Word.{flags_of};
-    ghost use Rattle.once_queue.specs.Listings.{Listing, find_listing, own_listing, take_out, list_without, first_waker, call_first, new_ticket, kept_ticket, ticket_for, passes_turn, next_waker, left_list};
-    ghost use Rattle.once_queue.specs.Room.{HasSpace};
+    ghost use Rattle.once_queue.specs.Listings.{Listing, find_listing, own_listing, take_out, list_without, first_waker, call_first, kept_ticket, ticket_for, passes_turn, next_waker, left_list};
+    ghost use Rattle.once_queue.specs.Slots.{HasMark, HasSlot};
+    ghost use Rattle.once_queue.specs.Room.{HasSpace, listings_of};
     ghost use Rattle.once_queue.specs.Sections.{shows_set, shows_free, shows_taken, Looked, Lists as DidList, Releases};
 
     /// No holder, and nobody listed. It takes no memory.
     #[inline(always)]
     pub fn new(alloc: Global) -> Self
         ensures head { result.head ≡ false }
-        ensures listings { result.listings.items ≡ [] }
+        ensures listings { listings_of result ≡ [] }
     {
         Lists {
             head: false,
-            listings: Vec::new(alloc),
-            used: Vec::new(alloc),
+            slots: Slots::new(alloc),
             mixed: false,
         }
     }
@@ -149,11 +156,11 @@ impl<W: WakerId + Drop> Lists<W> {
         // The first case that holds gives the answer.
         ensures ready { shows_set (flags_of word) ≡ true → result ≡ Answer.Ready }
         ensures claimed { shows_free (flags_of word) self.old.head ≡ true → result ≡ Answer.Claimed }
-        ensures held { shows_taken (flags_of word) self.old.head ≡ true → Looked W.tells_same W.tells_other (option_copied waker.entry) (own_listing ticket.old self.old.listings.items) result }
+        ensures held { shows_taken (flags_of word) self.old.head ≡ true → Looked W.tells_same W.tells_other (option_copied waker.entry) (own_listing ticket.old (listings_of self.old)) result }
 
         // Only a claim changes anything.
         ensures head { self.new.head ≡ (self.old.head || shows_free (flags_of word) self.old.head) }
-        ensures listings { self.new.listings.items ≡ cond (shows_free (flags_of word) self.old.head) (list_without ticket.old self.old.listings.items) self.old.listings.items }
+        ensures listings { listings_of self.new ≡ cond (shows_free (flags_of word) self.old.head) (list_without ticket.old (listings_of self.old)) (listings_of self.old) }
         ensures ticket { ticket.new ≡ cond (shows_free (flags_of word) self.old.head) None ticket.old }
     {
         if let Some(answer) = self.claim(ticket, word) {
@@ -179,12 +186,12 @@ impl<W: WakerId + Drop> Lists<W> {
         // The first case that holds gives the answer.
         ensures ready { shows_set (flags_of word) ≡ true → result ≡ Answer.Ready }
         ensures claimed { shows_free (flags_of word) self.old.head ≡ true → result ≡ Answer.Claimed }
-        ensures held { shows_taken (flags_of word) self.old.head ≡ true → IfSome waker.old (λ w. DidList ticket.old w self.old.listings.items result ticket.new waker.new self.new.listings.items) }
+        ensures held { shows_taken (flags_of word) self.old.head ≡ true → IfSome waker.old (λ w. DidList ticket.old w (listings_of self.old) result ticket.new waker.new (listings_of self.new)) }
         ensures room { HasSpace self.old → result ≢ Answer.Memory }
 
         // Only a claim changes the flag, and takes a listing out where no task holds.
         ensures head { self.new.head ≡ (self.old.head || shows_free (flags_of word) self.old.head) }
-        ensures listings { shows_taken (flags_of word) self.old.head ≡ false → self.new.listings.items ≡ cond (shows_free (flags_of word) self.old.head) (list_without ticket.old self.old.listings.items) self.old.listings.items }
+        ensures listings { shows_taken (flags_of word) self.old.head ≡ false → listings_of self.new ≡ cond (shows_free (flags_of word) self.old.head) (list_without ticket.old (listings_of self.old)) (listings_of self.old) }
         ensures ticket { shows_taken (flags_of word) self.old.head ≡ false → ticket.new ≡ cond (shows_free (flags_of word) self.old.head) None ticket.old }
         ensures waker { shows_taken (flags_of word) self.old.head ≡ false → waker.new ≡ waker.old }
     {
@@ -206,16 +213,14 @@ impl<W: WakerId + Drop> Lists<W> {
     /// called yet gives its waker, and stays. It takes no memory.
     #[inline(always)]
     pub fn release(&mut self, ready: bool) -> Out<W>
-        ensures listings { Releases W.tells_same W.tells_other ready self.old.listings.items result self.new.listings.items }
+        ensures listings { Releases W.tells_same W.tells_other ready (listings_of self.old) result (listings_of self.new) }
         ensures head { self.new.head ≡ false }
     {
         self.head = false;
         if !ready {
             return Out::One(self.call_first());
         }
-        let alloc = *self.listings.allocator();
-        let mut listings = mem::replace(&mut self.listings, Vec::new(alloc));
-        self.used.clear();
+        let mut listings = self.slots.take_all();
         let mixed = mem::replace(&mut self.mixed, false);
         once_each(&mut listings, mixed);
         Out::All(listings)
@@ -225,8 +230,8 @@ impl<W: WakerId + Drop> Lists<W> {
     /// that a task holds, and the value is not set, the first that was not called yet gives its waker,
     /// and stays. It takes no memory.
     pub fn leave(&mut self, ticket: u64, word: u64) -> Option<W>
-        ensures waker { result ≡ next_waker (passes_turn (shows_free (flags_of word) self.old.head) ticket self.old.listings.items) ticket self.old.listings.items }
-        ensures listings { self.new.listings.items ≡ left_list (passes_turn (shows_free (flags_of word) self.old.head) ticket self.old.listings.items) ticket self.old.listings.items }
+        ensures waker { result ≡ next_waker (passes_turn (shows_free (flags_of word) self.old.head) ticket (listings_of self.old)) ticket (listings_of self.old) }
+        ensures listings { listings_of self.new ≡ left_list (passes_turn (shows_free (flags_of word) self.old.head) ticket (listings_of self.old)) ticket (listings_of self.old) }
         ensures head { self.new.head ≡ self.old.head }
     {
         let mine = self.take_out(ticket)?;
@@ -241,10 +246,24 @@ impl<W: WakerId + Drop> Lists<W> {
         ensures room { OnOk result (HasSpace self.new) }
         ensures succeeds { HasSpace self.old → IsOk result }
         ensures head { self.new.head ≡ self.old.head }
-        ensures listings { self.new.listings.items ≡ self.old.listings.items }
+        ensures listings { listings_of self.new ≡ listings_of self.old }
     {
-        self.listings.reserve(1)?;
-        self.used.reserve(1)
+        self.slots.reserve()
+    }
+
+    /// How many are listed.
+    pub fn len(&self) -> usize
+        ensures { result ≡ length (listings_of self.now) }
+    {
+        self.slots.len()
+    }
+
+    /// Whether the other list has the same listings in the same order.
+    pub fn lists_the_same(&self, other: &Self) -> bool
+    where
+        W: PartialEq,
+    {
+        self.slots.has_the_same(&other.slots)
     }
 
     // The right where it is free, and None where some task holds it.
@@ -254,7 +273,7 @@ impl<W: WakerId + Drop> Lists<W> {
         ensures claimed { shows_free (flags_of word) self.old.head ≡ true → result ≡ Some Answer.Claimed }
         ensures held { shows_taken (flags_of word) self.old.head ≡ true → result ≡ None }
         ensures head { self.new.head ≡ (self.old.head || shows_free (flags_of word) self.old.head) }
-        ensures listings { self.new.listings.items ≡ cond (shows_free (flags_of word) self.old.head) (list_without ticket.old self.old.listings.items) self.old.listings.items }
+        ensures listings { listings_of self.new ≡ cond (shows_free (flags_of word) self.old.head) (list_without ticket.old (listings_of self.old)) (listings_of self.old) }
         ensures ticket { ticket.new ≡ cond (shows_free (flags_of word) self.old.head) None ticket.old }
         ensures room { shows_free (flags_of word) self.old.head ≡ false → self.new ≡ self.old }
     {
@@ -273,56 +292,49 @@ impl<W: WakerId + Drop> Lists<W> {
 
     /// Whether the own ticket has a listing.
     pub fn is_listed(&self, ticket: Option<u64>) -> bool
-        ensures { result ≡ is_some (kept_ticket ticket self.now.listings.items) }
+        ensures { result ≡ is_some (kept_ticket ticket (listings_of self.now)) }
     {
         match ticket {
-            Some(ticket) => self.place(ticket).is_some(),
+            Some(ticket) => self.slots.find(ticket).is_some(),
             None => false,
         }
     }
 
     // The waker of the own listing.
     fn own(&self, ticket: Option<u64>) -> Option<&W>
-        ensures { option_copied result ≡ option_flatten (own_listing ticket self.now.listings.items) }
+        ensures { option_copied result ≡ option_flatten (own_listing ticket (listings_of self.now)) }
     {
-        let place = self.place(ticket?)?;
-        self.listings[place].waker.as_ref()
-    }
-
-    // Where the listing with this ticket stands.
-    fn place(&self, ticket: u64) -> Option<usize>
-        ensures { result ≡ position (λ x. x.ticket == ticket) self.now.listings.items }
-    {
-        self.listings
-            .iter()
-            .position(|listing| listing.ticket == ticket)
+        self.slots.find(ticket?)?.waker.as_ref()
     }
 
     // Takes the own listing out, or where there is none makes room for one: the ticket to list by.
     fn make_place(&mut self, ticket: Option<u64>) -> Result<u64, AllocError>
-        ensures ticket { IfOk result (λ n. n ≡ ticket_for ticket self.old.listings.items) }
-        ensures listings { IfOk result (λ n. self.new.listings.items ≡ take_out n self.old.listings.items) }
-        ensures new { IfOk result (λ n. member n (tickets self.new.listings.items) ≡ false) }
-        ensures place { OnOk result (vec_len self.new.listings < vec_capacity self.new.listings) }
-        ensures mark { IfOk result (λ n. (n < vec_len self.new.used) ⊎ ((n ≡ vec_len self.new.used) × (vec_len self.new.used < vec_capacity self.new.used))) }
-        ensures refused { OnErr result ((kept_ticket ticket self.old.listings.items ≡ None) × (self.new.listings.items ≡ self.old.listings.items)) }
+        ensures ticket { IfOk result (λ n. n ≡ ticket_for ticket (listings_of self.old)) }
+        ensures listings { IfOk result (λ n. listings_of self.new ≡ take_out n (listings_of self.old)) }
+        ensures new { IfOk result (λ n. member n (tickets (listings_of self.new)) ≡ false) }
+        ensures slot { OnOk result (HasSlot self.new.slots) }
+        ensures mark { IfOk result (λ n. (n < vec_len self.new.slots.used) ⊎ ((n ≡ vec_len self.new.slots.used) × HasMark self.new.slots)) }
+        ensures refused { OnErr result ((kept_ticket ticket (listings_of self.old) ≡ None) × (listings_of self.new ≡ listings_of self.old)) }
         ensures room { HasSpace self.old → IsOk result }
         ensures head { self.new.head ≡ self.old.head }
     {
         if let Some(kept) = self.take_own(ticket) {
+            self.slots.make_room();
             return Ok(kept);
         }
         self.reserve()?;
-        Ok(self.free_ticket())
+        Ok(self.slots.free_ticket())
     }
 
     // Takes the own listing out, if the ticket has one: the ticket then.
     fn take_own(&mut self, ticket: Option<u64>) -> Option<u64>
-        ensures kept { result ≡ kept_ticket ticket self.old.listings.items }
-        ensures listings { self.new.listings.items ≡ list_without ticket self.old.listings.items }
+        ensures kept { result ≡ kept_ticket ticket (listings_of self.old) }
+        ensures listings { listings_of self.new ≡ list_without ticket (listings_of self.old) }
         ensures head { self.new.head ≡ self.old.head }
-        ensures some { IfSome result (λ n. (n < vec_len self.new.used) × (vec_len self.new.listings < vec_capacity self.new.listings)) }
-        ensures none { result ≡ None → self.new ≡ self.old }
+        ensures mark { IfSome result (λ n. n < vec_len self.new.slots.used) }
+        ensures hole { IsSome result → length (listings_of self.new) < vec_len self.new.slots.slots }
+        ensures none { result ≡ None → listings_of self.new ≡ listings_of self.old }
+        ensures room { result ≡ None → HasSpace self.old → HasSpace self.new }
     {
         let mine = ticket?;
         self.take_out(mine)?;
@@ -331,56 +343,36 @@ impl<W: WakerId + Drop> Lists<W> {
 
     // Takes the listing with this ticket out, if one has it.
     fn take_out(&mut self, ticket: u64) -> Option<Listing<W>>
-        ensures waker { option_map (λ x. x.waker) result ≡ find_listing ticket self.old.listings.items }
-        ensures listings { self.new.listings.items ≡ take_out ticket self.old.listings.items }
+        ensures waker { option_map (λ x. x.waker) result ≡ find_listing ticket (listings_of self.old) }
+        ensures listings { listings_of self.new ≡ take_out ticket (listings_of self.old) }
         ensures head { self.new.head ≡ self.old.head }
-        ensures none { result ≡ None → self.new ≡ self.old }
-        ensures some { IsSome result → (ticket < vec_len self.new.used) × (vec_len self.new.listings < vec_capacity self.new.listings) }
+        ensures none { result ≡ None → listings_of self.new ≡ listings_of self.old }
+        ensures room { result ≡ None → HasSpace self.old → HasSpace self.new }
+        ensures mark { IsSome result → ticket < vec_len self.new.slots.used }
+        ensures hole { IsSome result → length (listings_of self.new) < vec_len self.new.slots.slots }
     {
-        let place = self.place(ticket)?;
-        unmark(&mut self.used, ticket);
-        Some(self.listings.remove(place))
-    }
-
-    // The least ticket that no listing has.
-    fn free_ticket(&self) -> u64
-        ensures least { result ≡ new_ticket self.now.listings.items }
-        ensures new { member result (tickets self.now.listings.items) ≡ false }
-        ensures mark { result ≤ vec_len self.now.used }
-    {
-        first_unmarked(&self.used) as u64
+        self.slots.take_out(ticket)
     }
 
     // Puts a listing to the end, for which there is room, and whose ticket no listing has.
     fn push(&mut self, listing: Listing<W>)
-        requires new { member listing.ticket (tickets self.old.listings.items) ≡ false }
-        requires place { vec_len self.old.listings < vec_capacity self.old.listings }
-        requires mark { (listing.ticket < vec_len self.old.used) ⊎ ((listing.ticket ≡ vec_len self.old.used) × (vec_len self.old.used < vec_capacity self.old.used)) }
-        ensures listings { self.new.listings.items ≡ self.old.listings.items ++ listing ∷ [] }
+        requires new { member listing.ticket (tickets (listings_of self.old)) ≡ false }
+        requires slot { HasSlot self.old.slots }
+        requires mark { (listing.ticket < vec_len self.old.slots.used) ⊎ ((listing.ticket ≡ vec_len self.old.slots.used) × HasMark self.old.slots) }
+        ensures listings { listings_of self.new ≡ listings_of self.old ++ listing ∷ [] }
         ensures head { self.new.head ≡ self.old.head }
     {
-        mark(&mut self.used, listing.ticket);
-        self.mixed |= repeats(&listing, &self.listings);
-        self.listings.push(listing).unwrap();
+        self.mixed |= may_repeat(&listing, self.slots.as_slice());
+        self.slots.push(listing);
     }
 
     // The first listing that has a waker gives it.
     fn call_first(&mut self) -> Option<W>
-        ensures waker { result ≡ first_waker self.old.listings.items }
-        ensures listings { self.new.listings.items ≡ call_first self.old.listings.items }
+        ensures waker { result ≡ first_waker (listings_of self.old) }
+        ensures listings { listings_of self.new ≡ call_first (listings_of self.old) }
         ensures head { self.new.head ≡ self.old.head }
     {
-        let first = self.first_uncalled()?;
-        self.listings[first].waker.take()
-    }
-
-    // Where the first listing stands that has a waker.
-    fn first_uncalled(&self) -> Option<usize>
-        ensures { result ≡ position (λ x. is_some x.waker) self.now.listings.items }
-    {
-        self.listings
-            .iter()
-            .position(|listing| listing.waker.is_some())
+        self.slots.call_first()
     }
 }
 
@@ -400,6 +392,13 @@ fn once_each<W: WakerId + Drop>(listings: &mut Vec<Listing<W>>, mixed: bool)
             listings[end].waker = None;
         }
     }
+}
+
+// Whether the listing has a waker that may be the same as one of those before it.
+fn may_repeat<W: WakerId>(listing: &Listing<W>, before: &[Listing<W>]) -> bool
+    ensures { result ≡ false → IfSome listing.now.waker (λ w. All (λ x. IfSome x.waker (λ v. W.tells_other v w)) before.now) }
+{
+    !W::are_all_other() && repeats(listing, before)
 }
 
 // Whether the listing has a waker that is the same as one of those before it.
@@ -422,33 +421,4 @@ fn has<W: WakerId>(listing: &Listing<W>, waker: &W) -> bool
         Some(mine) => mine.same(waker),
         None => false,
     }
-}
-
-// Marks this number, which is within the marks, or the next, for which there is room.
-fn mark(marks: &mut Vec<bool>, number: u64)
-    requires { (number < vec_len marks.old) ⊎ ((number ≡ vec_len marks.old) × (vec_len marks.old < vec_capacity marks.old)) }
-    ensures { (n : ℕ) → is_marked n marks.new.items ≡ cond (number == n) true (is_marked n marks.old.items) }
-{
-    match marks.get_mut(number as usize) {
-        Some(mark) => *mark = true,
-        None => marks.push(true).unwrap(),
-    }
-}
-
-// Takes the mark of this number away, if it has one.
-fn unmark(marks: &mut Vec<bool>, number: u64)
-    ensures marks { (n : ℕ) → is_marked n marks.new.items ≡ cond (number == n) false (is_marked n marks.old.items) }
-    ensures len { vec_len marks.new ≡ vec_len marks.old }
-{
-    if let Some(mark) = marks.get_mut(number as usize) {
-        *mark = false;
-    }
-}
-
-// The first number that has no mark.
-fn first_unmarked(marks: &[bool]) -> usize
-    ensures { result ≡ position_or_len not marks.now }
-{
-    let free = marks.iter().position(|mark| !*mark);
-    free.unwrap_or(marks.len())
 }

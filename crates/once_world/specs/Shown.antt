@@ -5,6 +5,7 @@ use Rattle.std.specs.BTreeMap.{get}
 use Rattle.once_queue.specs.declared.waiters.Out.{Out}
 use Rattle.once_queue.specs.declared.waiters.Out.TheVariants.{One, All}
 use Rattle.once_queue.specs.Listings.{one_out, wakers_of}
+use Rattle.once_queue.specs.Room.{listings_of}
 use Rattle.once_record.specs.declared.world.Kind.{Kind as GivenKind}
 use Rattle.once_record.specs.declared.world.Kind.TheVariants.{Once as GivenOnce, OnceWith as GivenOnceWith, Lazy as GivenLazy, LazyWith as GivenLazyWith}
 use Rattle.once_record.specs.declared.world.Call.{Call}
@@ -86,7 +87,7 @@ inner_of c = record {
   ready = c.core.word.ready;
   door = c.core.door;
   head = c.core.lists.head;
-  listings = c.core.lists.listings.items;
+  listings = listings_of c.core.lists;
   queues = c.core.made;
   value = c.side.value;
   answers = reverse c.side.answers.items;

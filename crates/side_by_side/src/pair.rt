@@ -216,10 +216,10 @@ impl<'r, R: Wait + AllocGlobal> Pair<'r, R> {
     fn lists_agree(&self) -> bool {
         let plain = &self.plain.core.lists;
         match self.shared.parts(self.rt, None).door_get() {
-            None => !plain.head && plain.listings.is_empty(),
+            None => !plain.head && plain.len() == 0,
             Some(queue) => {
                 let lists = queue.lock(self.rt);
-                lists.head == plain.head && lists.listings == plain.listings
+                lists.head == plain.head && lists.lists_the_same(plain)
             }
         }
     }

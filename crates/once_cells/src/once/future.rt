@@ -30,10 +30,10 @@ use std::sync::Wait;
 ///
 /// A poll or a drop may wait for the locks of the door, of the queue and of the places of those who
 /// wait, and a poll that fills the cell for that of the value. A task has each of the first three for
-/// a few operations, that of the queue also for a search of its list, and none while an init is polled
-/// or dropped, a value is dropped, or those who were listed are called. (Where a future moved to
-/// another task, the one before is woken under the lock of its place.) A poll that counts itself in
-/// tries again while others change the word.
+/// a few operations, that of the queue now and then for a look at each listing, and none while an
+/// init is polled or dropped, a value is dropped, or those who were listed are called. (Where a future
+/// moved to another task, the one before is woken under the lock of its place.) A poll that counts
+/// itself in tries again while others change the word.
 pub struct TryInitFuture<'a, T, E, F: Future, R: Wait + AllocGlobal> {
     error: PhantomData<E>,
     cell: &'a OnceCell<T>,

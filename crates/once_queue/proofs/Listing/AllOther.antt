@@ -1,13 +1,20 @@
 -- Listings of which each two wakers were told to be other.
-use Rattle.std.proofs.Common.{◌≡◌, ◌<◌, ◌⊎◌, ℕ, suc, Bool, true, false, ◌||◌, List, [], ◌∷◌, ◌++◌, Option, Some, None, All, IfSome, length, get_or, set, refl, inl, inr, sym, arith}
+use Rattle.std.proofs.Common.{◌≡◌, ◌<◌, ◌⊎◌, ℕ, suc, Bool, true, false, ◌||◌, List, [], ◌∷◌, ◌++◌, Option, Some, None, All, IfSome, length, get_or, set, refl, inl, inr, sym, ap, subst, arith, cond, not, ◌==◌, filter}
 use mathlib.Core.Logic.{∥∥₁_map}
-use Rattle.std.specs.List.{AllPairs}
+use Rattle.std.specs.List.{AllPairs, position}
 use Rattle.std.proofs.lemmas.Bool.{false≢true, cases_eq}
 use Rattle.std.proofs.lemmas.List.{get_or-set_other, get_or-set_same, length-set}
 use Rattle.std.proofs.lemmas.List.Quantifiers.{all_pairs_push}
-use Rattle.once_queue.specs.Listings.{Listing, wakers_by}
+use Rattle.std.proofs.lemmas.List.Elements.{All-filter}
+use Rattle.std.proofs.lemmas.List.Kept.{AllPairs-filter}
+use Rattle.once_queue.specs.Listings.{Listing, call_first, take_out, wakers_by}
 use Rattle.once_queue.specs.Sections.{AreApart, HandsAll, HandsBy, IsOther}
 use Rattle.once_queue.proofs.Listing.Repeats.{other_by}
+use Rattle.once_queue.proofs.Listing.Uncalled.{first_left, first_within, has_waker, nobody_left}
+
+taken_by : {X : Type 0} (b : Bool) (x : X) (ys zs : List X) → ys ≡ zs → cond (not b) (x ∷ ys) ys ≡ cond b zs (x ∷ zs)
+taken_by true x ys zs e = e
+taken_by false x ys zs e = ap (λ l. x ∷ l) e
 
 module _ {W : Type 0} (other : W → W → Type 0) where
   -- nothing is asked of a listing that was called
@@ -26,10 +33,34 @@ module _ {W : Type 0} (other : W → W → Type 0) where
       let s = length-set xs i z in
       apart_set z i j k xs d none li l (omega arith) apart (cases_eq j i) (cases_eq k i)
 
+  -- one is taken out
+  taken_filter : (n : ℕ) (xs : List (Listing W)) → filter (λ x. not (x.ticket == n)) xs ≡ take_out n xs
+  taken_filter n [] = refl
+  taken_filter n (x ∷ xs) = taken_by (x.ticket == n) x (filter (λ y. not (y.ticket == n)) xs) (take_out n xs) (taken_filter n xs)
+
+  pub apart_taken : (n : ℕ) (xs : List (Listing W)) → AllPairs (AreApart other) xs → AllPairs (AreApart other) (take_out n xs)
+  apart_taken n xs apart = subst (AllPairs (AreApart other)) (taken_filter n xs) (AllPairs-filter (AreApart other) (λ x. not (x.ticket == n)) xs apart)
+
+  -- the first is called
+  first_by_place : (o : Option ℕ) (xs : List (Listing W)) → o ≡ position has_waker xs → AllPairs (AreApart other) xs → AllPairs (AreApart other) (call_first xs)
+  first_by_place None xs e apart = rw (nobody_left xs (sym e)).1 apart
+  first_by_place (Some i) [] e apart = apart
+  first_by_place (Some i) (x ∷ xs) e apart =
+      let left = first_left i (x ∷ xs) x (sym e) in
+      subst (AllPairs (AreApart other)) left.1 (apart_called i (x ∷ xs) (record { ticket = (get_or (x ∷ xs) i x).ticket; waker = None }) refl (first_within i (x ∷ xs) (sym e)) apart)
+
+  pub apart_first : (xs : List (Listing W)) → AllPairs (AreApart other) xs → AllPairs (AreApart other) (call_first xs)
+  apart_first xs apart = first_by_place (position has_waker xs) xs refl apart
+
   -- a new waker that was told to be other than each
   other_at : (k : ℕ) (xs : List (Listing W)) (d : Listing W) (o : Option W) → k < length xs → IfSome o (λ w. All (λ x. IfSome x.waker (λ v. other v w)) xs) → IfSome o (λ w. IfSome (get_or xs k d).waker (λ v. other v w))
   other_at k xs d (Some w) l all = all k d l
   other_at k xs d None l all = tt
+
+  -- it is other than each that is kept
+  pub other_kept : (p : Listing W → Bool) (o : Option W) (xs : List (Listing W)) → IfSome o (λ w. All (λ x. IfSome x.waker (λ v. other v w)) xs) → IfSome o (λ w. All (λ x. IfSome x.waker (λ v. other v w)) (filter p xs))
+  other_kept p (Some w) xs all = All-filter p (λ x. IfSome x.waker (λ v. other v w)) xs all
+  other_kept p None xs all = tt
 
   apart_pushed : (xs : List (Listing W)) (y : Listing W) → AllPairs (AreApart other) xs → IfSome y.waker (λ w. All (λ x. IfSome x.waker (λ v. other v w)) xs) → AllPairs (AreApart other) (xs ++ y ∷ [])
   apart_pushed xs y apart all = all_pairs_push (AreApart other) xs y apart (λ k d l. other_at k xs d y.waker l all)

@@ -1,7 +1,5 @@
 -- Which numbers are marked after a change, and which is the first that is not.
-use Rattle.std.proofs.Common.{◌≡◌, ◌<◌, ◌≤◌, ℕ, zero, suc, Bool, true, false, cond, not, ◌==◌, List, [], ◌∷◌, ◌++◌, length, set, refl, sym, ◌∙◌, arith, ⊎_elim}
-use Rattle.std.specs.List.{position, position_or_len}
-use Rattle.std.specs.Option.{unwrap_or}
+use Rattle.std.proofs.Common.{◌≡◌, ◌<◌, ◌≤◌, ℕ, zero, suc, Bool, true, false, cond, not, ◌==◌, List, [], ◌∷◌, ◌++◌, length, get_or, set, refl, sym, ◌∙◌, arith, ⊎_elim}
 use Rattle.std.proofs.lemmas.Bool.{false≢true, ne_eqb, cases_eq, cases_lt}
 use Rattle.std.proofs.lemmas.Bool.Decides.{nat_tests}
 use Rattle.once_queue.specs.Marks.{is_marked}
@@ -35,22 +33,11 @@ unmarked n m bs l = ⊎_elim
     (λ d. rw (ne_eqb m n d) refl)
     (cases_eq m n)
 
--- the first number that is not marked
-pub first_marked : (bs : List Bool) → is_marked (position_or_len not bs) bs ≡ false
-first_marked [] = refl
-first_marked (true ∷ bs) = let next : position_or_len not (true ∷ bs) ≡ suc (position_or_len not bs) = omega arith in rw next (first_marked bs)
-first_marked (false ∷ bs) = refl
+pub marked_at : (i : ℕ) (bs : List Bool) (d : Bool) → i < length bs → is_marked i bs ≡ get_or bs i d
+marked_at i [] d l = absurd (omega arith)
+marked_at zero (b ∷ bs) d l = refl
+marked_at (suc i) (b ∷ bs) d l = marked_at i bs d (omega arith)
 
-pub marked_before : (m : ℕ) (bs : List Bool) → m < position_or_len not bs → is_marked m bs ≡ true
-marked_before m [] l = absurd (omega arith)
-marked_before zero (true ∷ bs) l = refl
-marked_before (suc m) (true ∷ bs) l = marked_before m bs (omega arith)
-marked_before m (false ∷ bs) l = absurd (omega arith)
-
-pub first_within : (bs : List Bool) → position_or_len not bs ≤ length bs
-first_within [] = omega arith
-first_within (true ∷ bs) = let ih = first_within bs in omega arith
-first_within (false ∷ bs) = omega arith
-
-pub first_or_end : (bs : List Bool) → unwrap_or (position not bs) (length bs) ≡ position_or_len not bs
-first_or_end bs = let within = first_within bs in grind (arith, nat_tests)
+-- numbers that are all marked are within the marks
+pub marked_below : (n : ℕ) (bs : List Bool) → ((m : ℕ) → m < n → is_marked m bs ≡ true) → n ≤ length bs
+marked_below n bs before = ⊎_elim (λ l. absurd (false≢true (sym (marked_past (length bs) bs (omega arith)) ∙ before (length bs) l))) (λ l. l) (cases_lt (length bs) n)

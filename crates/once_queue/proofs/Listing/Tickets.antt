@@ -1,7 +1,7 @@
 -- Lists of listings: which tickets they have, and what taking a listing out, adding one and calling the first leave of them.
-use Rattle.std.proofs.Common.{◌≡◌, ◌<◌, ℕ, zero, suc, Bool, true, false, cond, ◌==◌, nat_lt, List, [], ◌∷◌, ◌++◌, Option, Some, None, length, get_or, refl, sym, ap, ◌∙◌, arith}
+use Rattle.std.proofs.Common.{◌≡◌, ◌<◌, ℕ, zero, suc, Bool, true, false, cond, ◌==◌, nat_lt, List, [], ◌∷◌, ◌++◌, Option, Some, None, IfSome, length, get_or, refl, sym, ap, ◌∙◌, arith}
 use Rattle.std.specs.List.{HoldsAt, remove, position, position_or_len}
-use Rattle.std.specs.Option.{is_some}
+use Rattle.std.specs.Option.{is_some, option_map}
 use Rattle.std.proofs.lemmas.Bool.{eqb-true}
 use Rattle.std.proofs.lemmas.Bool.Decides.{nat_tests}
 use Rattle.std.proofs.lemmas.List.Quantifiers.{position-Some}
@@ -12,6 +12,10 @@ use Rattle.once_queue.specs.Listings.{Listing, find_listing, kept_by, kept_ticke
 kept_listed : (b : Bool) (n : ℕ) → b ≡ is_some (kept_by b n)
 kept_listed true n = refl
 kept_listed false n = refl
+
+pub mapped_some : {X Y : Type 0} (f : X → Y) (o : Option X) → is_some o ≡ is_some (option_map f o)
+mapped_some f (Some x) = refl
+mapped_some f None = refl
 
 module _ {W : Type 0} where
   -- a ticket that no listing has
@@ -29,27 +33,14 @@ module _ {W : Type 0} where
   at_member n zero (x ∷ xs) d l e = grind (arith, nat_tests)
   at_member n (suc i) (x ∷ xs) d l e = let ih = at_member n i xs d (omega arith) e in grind arith
 
-  pub take_at : (n i : ℕ) (xs : List (Listing W)) (d : Listing W) → i < length xs → (get_or xs i d).ticket ≡ n → is_distinct (tickets xs) ≡ true → remove xs i ≡ take_out n xs
-  take_at n i [] d l e once = absurd (omega arith)
-  take_at n zero (x ∷ xs) d l e once = grind (arith, nat_tests, take_none n xs)
-  take_at n (suc i) (x ∷ xs) d l e once =
-      let m = at_member n i xs d (omega arith) e in
-      let other : (x.ticket == n) ≡ false = grind (arith, nat_tests) in
-      let rest : is_distinct (tickets xs) ≡ true = grind arith in
-      rw other (ap (λ (ys : List (Listing W)). x ∷ ys) (take_at n i xs d (omega arith) e rest))
-
-  pub find_at : (n i : ℕ) (xs : List (Listing W)) (d : Listing W) → i < length xs → (get_or xs i d).ticket ≡ n → is_distinct (tickets xs) ≡ true → find_listing n xs ≡ Some (get_or xs i d).waker
-  find_at n i [] d l e once = absurd (omega arith)
-  find_at n zero (x ∷ xs) d l e once = grind (arith, nat_tests)
-  find_at n (suc i) (x ∷ xs) d l e once = let m = at_member n i xs d (omega arith) e in let ih = find_at n i xs d (omega arith) e in grind (arith, nat_tests)
-
   -- where the first listing with a ticket stands, if one does
   first_member : (n : ℕ) (xs : List (Listing W)) → member n (tickets xs) ≡ nat_lt (position_or_len (λ x. x.ticket == n) xs) (length xs)
   first_member n [] = refl
   first_member n (x ∷ xs) = let ih = first_member n xs in grind (arith, nat_tests)
 
-  pub placed_kept : (n : ℕ) (xs : List (Listing W)) → is_some (position (λ x. x.ticket == n) xs) ≡ is_some (kept_ticket (Some n) xs)
-  placed_kept n xs = let m = first_member n xs in let k = kept_listed (member n (tickets xs)) n in grind arith
+  some_by : (o : Option (Listing W)) (v : Option (Option W)) → option_map (λ x. x.waker) o ≡ v → is_some o ≡ is_some v
+  some_by (Some x) v e = ap is_some e
+  some_by None v e = ap is_some e
 
   pub placed_none : (n : ℕ) (xs : List (Listing W)) → position (λ x. x.ticket == n) xs ≡ None → member n (tickets xs) ≡ false
   placed_none n xs e = let m = first_member n xs in grind arith
@@ -58,16 +49,6 @@ module _ {W : Type 0} where
   placed n i [] e = grind arith
   placed n i (x ∷ xs) e = ((position-Some (λ y. y.ticket == n) (x ∷ xs) i x e).0, λ d. eqb-true (get_or (x ∷ xs) i d).ticket n (position-Some (λ y. y.ticket == n) (x ∷ xs) i d e).1)
 
-  pub placed_member : (n i : ℕ) (xs : List (Listing W)) → position (λ x. x.ticket == n) xs ≡ Some i → member n (tickets xs) ≡ true
-  placed_member n i xs e = let m = first_member n xs in grind arith
-
-  pub placed_take : (n i : ℕ) (xs : List (Listing W)) → is_distinct (tickets xs) ≡ true → position (λ x. x.ticket == n) xs ≡ Some i → remove xs i ≡ take_out n xs
-  placed_take n i [] once e = grind arith
-  placed_take n i (x ∷ xs) once e = let p = placed n i (x ∷ xs) e in take_at n i (x ∷ xs) x p.0 (p.1 x) once
-
-  pub placed_find : (n i : ℕ) (xs : List (Listing W)) (d : Listing W) → is_distinct (tickets xs) ≡ true → position (λ x. x.ticket == n) xs ≡ Some i → find_listing n xs ≡ Some (get_or xs i d).waker
-  placed_find n i xs d once e = let p = placed n i xs e in find_at n i xs d p.0 (p.1 d) once
-
   -- a ticket is kept where its listing is found
   find_member : (n : ℕ) (xs : List (Listing W)) → is_some (find_listing n xs) ≡ member n (tickets xs)
   find_member n [] = refl
@@ -75,6 +56,9 @@ module _ {W : Type 0} where
 
   pub found_ticket : (n : ℕ) (o : Option W) (xs : List (Listing W)) → find_listing n xs ≡ Some o → member n (tickets xs) ≡ true
   found_ticket n o xs e = sym (find_member n xs) ∙ ap is_some e
+
+  pub found_kept : (n : ℕ) (o : Option (Listing W)) (xs : List (Listing W)) → option_map (λ x. x.waker) o ≡ find_listing n xs → is_some o ≡ is_some (kept_ticket (Some n) xs)
+  found_kept n o xs e = some_by o (find_listing n xs) e ∙ find_member n xs ∙ kept_listed (member n (tickets xs)) n
 
   pub kept_none : (n : ℕ) (xs : List (Listing W)) → find_listing n xs ≡ None → kept_ticket (Some n) xs ≡ None
   kept_none n xs e = rw (sym (find_member n xs), e) refl
@@ -108,3 +92,8 @@ module _ {W : Type 0} where
 
   pub member_gone : (n : ℕ) (xs : List (Listing W)) → member n (tickets (take_out n xs)) ≡ false
   member_gone n xs = rw (member_take n n xs, eqb_self n) refl
+
+  -- a place that a search found
+  pub placed_by : (n h : ℕ) (xs : List (Listing W)) (o : Option ℕ) → o ≡ position (λ x. x.ticket == n) xs → (n == h) ≡ false → IfSome o (λ i. (i < length xs) × HoldsAt (λ x. x.ticket ≡ n) xs i × ((n == h) ≡ false))
+  placed_by n h xs (Some i) e d = let p = placed n i xs (sym e) in (p.0, p.1, d)
+  placed_by n h xs None e d = tt

@@ -9,7 +9,7 @@ use Rattle.std.proofs.lemmas.List.Quantifiers.{position-Some}
 use Rattle.once_queue.specs.Listings.{Listing, call_by, call_first, first_by, first_waker, tickets}
 
 module _ {W : Type 0} where
-  abbrev has_waker : Listing W → Bool
+  abbrev pub has_waker : Listing W → Bool
   has_waker x = is_some x.waker
 
   some_by : (o rest : Option W) → is_some o ≡ true → first_by o rest ≡ o
@@ -49,15 +49,9 @@ module _ {W : Type 0} where
       let rest = one_left i xs d (omega arith) s (λ k m. before (suc k) (omega arith)) in
       (rest.0 ∙ sym (none_by x.waker (first_waker xs) called), ap (λ (ys : List (Listing W)). x ∷ ys) rest.1 ∙ sym (call_none x x.waker xs (call_first xs) called))
 
-  first_left : (i : ℕ) (xs : List (Listing W)) (d : Listing W) → position has_waker xs ≡ Some i
+  pub first_left : (i : ℕ) (xs : List (Listing W)) (d : Listing W) → position has_waker xs ≡ Some i
       → ((get_or xs i d).waker ≡ first_waker xs) × (set xs i (record { ticket = (get_or xs i d).ticket; waker = None }) ≡ call_first xs)
   first_left i xs d e = let p = position-Some has_waker xs i d e in one_left i xs d p.0 p.1 p.2
-
-  pub first_taken : (i : ℕ) (xs : List (Listing W)) (x : Listing W) (o : Option W) → position has_waker xs ≡ Some i → x ≡ get_or xs i x → o ≡ None
-      → (x.waker ≡ first_waker xs) × (set xs i (record { ticket = x.ticket; waker = o }) ≡ call_first xs)
-  first_taken i xs x o e is none =
-      let p = first_left i xs x e in
-      (ap (λ (y : Listing W). y.waker) is ∙ p.0, rw none (ap (λ (y : Listing W). set xs i (record { ticket = y.ticket; waker = None })) is ∙ p.1))
 
   pub first_within : (i : ℕ) (xs : List (Listing W)) → position has_waker xs ≡ Some i → i < length xs
   first_within i [] e = absurd (none-some i e)

@@ -2,6 +2,7 @@
 use Rattle.std.proofs.Common.{◌≡◌, Option, Some, None, true, sym, subst, arith}
 use Rattle.std.proofs.lemmas.Grind.{common_steps}
 use Rattle.std.proofs.lemmas.Option.{none-some}
+use Rattle.once_queue.specs.Room.{listings_of}
 use Rattle.once_queue.proofs.Listing.Tickets.{own_none}
 use Rattle.once_queue.specs.declared.waiters.Answer.{Answer}
 use Rattle.once_queue.specs.declared.waiters.Answer.TheVariants.{Held}
@@ -18,7 +19,7 @@ pub returns-in_default : goal.returns-in_default
 returns-in_default g c =
     let same = g.W.WakerId.tells_same in
     let other = g.W.WakerId.tells_other in
-    let gone = own_none c.args.ticket.now c.args.self.now.lists.listings.items (sym c.if-is_listed.ensures) in
+    let gone = own_none c.args.ticket.now (listings_of c.args.self.now.lists) (sym c.if-is_listed.ensures) in
     let held = λ (e : shows_taken c.args.self.now.word c.args.self.now.lists.head ≡ true).
     c.look.ensures.held (subst (λ (f : Flags). shows_taken f c.args.self.now.lists.head ≡ true) (sym c.bits-word.ensures) e) in
     record {

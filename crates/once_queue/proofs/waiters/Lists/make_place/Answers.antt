@@ -2,17 +2,24 @@
 use Rattle.std.proofs.Common.{◌≡◌, ◌∙◌, sym, arith}
 use Rattle.once_queue.proofs.Listing.Tickets.{member_gone, take_none}
 use Rattle.once_queue.specs.Listings.{take_out}
+use Rattle.once_queue.specs.Room.{listings_of}
 use Rattle.once_queue.proofs.waiters.Lists.make_place.Goals as goal
 
 pub returns-in-Some-clause-new : goal.returns-in-Some-clause-new
 returns-in-Some-clause-new g c =
-    let xs = c.args.self.now.listings.items in
-    let taken : c.take_own.new.self.listings.items ≡ take_out c.in-Some.kept xs = grind arith in
-    rw taken (member_gone c.in-Some.kept xs)
+    let xs = listings_of c.args.self.now in
+    let taken : listings_of c.take_own.new.self ≡ take_out c.in-Some.kept xs = grind arith in
+    rw (c.make_room.ensures.listings, taken) (member_gone c.in-Some.kept xs)
 
 pub returns-clause-listings : goal.returns-clause-listings
 returns-clause-listings g c =
-    let xs = c.args.self.now.listings.items in
-    let same : c.reserve.new.self.listings.items ≡ xs = grind arith in
-    let none = take_none c.free_ticket.result c.reserve.new.self.listings.items c.free_ticket.ensures.new in
-    sym none ∙ rw same
+    let xs = listings_of c.args.self.now in
+    let same : listings_of c.reserve.new.self ≡ xs = grind arith in
+    let none = take_none c.free_ticket.result (listings_of c.reserve.new.self) c.free_ticket.ensures.new in
+    c.free_ticket.ensures.listings ∙ sym none ∙ rw same
+
+pub invariant_of-self : goal.invariant_of-self
+invariant_of-self g c = record { apart = rw c.make_room.ensures.listings c.take_own.new.self.apart }
+
+pub invariant_of-self-2 : goal.invariant_of-self-2
+invariant_of-self-2 g c = record { apart = rw c.free_ticket.ensures.listings c.reserve.new.self.apart }

@@ -1,17 +1,16 @@
--- The new ticket stands in the list, and is marked.
-use Rattle.std.proofs.Common.{◌≡◌, ◌++◌, ◌∷◌, [], arith}
-use Rattle.once_queue.proofs.Listing.AllOther.{apart_listed}
-use Rattle.once_queue.proofs.Listing.Tickets.{member_push, once_push}
+-- The new waker is other than each that is listed, or the list is mixed.
+use Rattle.std.proofs.Common.{◌≡◌, filter}
+use Rattle.once_queue.proofs.Listing.AllOther.{apart_listed, other_kept}
+use Rattle.once_queue.specs.Kept.{is_kept}
+use Rattle.once_queue.specs.Slots.{listings_in}
 use Rattle.once_queue.proofs.waiters.Lists.push.Goals as goal
 
 pub invariant_of-self : goal.invariant_of-self
 invariant_of-self g c =
     let lists = c.args.self.now in
-    let xs = lists.listings.items in
     let x = c.args.listing in
-    let pushed : c.push.new.self.items ≡ xs ++ x ∷ [] = grind arith in
+    let other = g.W.WakerId.tells_other in
     record {
-      once = rw pushed (once_push x xs c.requires.new lists.once);
-      marks = λ n. rw (pushed, member_push n x xs, c.mark.ensures n, lists.marks n);
-      apart = λ m. rw pushed (apart_listed g.W.WakerId.tells_other lists.mixed c.repeats.result xs x m lists.apart (λ r. rw c.deref.ensures.value at (c.repeats.ensures.no r)));
+      apart = λ m. rw c.push.ensures (apart_listed other lists.mixed c.may_repeat.result (listings_in lists.slots) x m lists.apart
+          (λ r. rw c.as_slice.ensures (other_kept other is_kept x.waker c.as_slice.result.now (c.may_repeat.ensures r))));
     }

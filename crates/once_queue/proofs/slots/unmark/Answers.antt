@@ -1,7 +1,7 @@
 -- Only the mark of the number changes.
 use Rattle.std.proofs.Common.{arith, false}
 use Rattle.once_queue.proofs.Listing.Marked.{marked_set, unmarked}
-use Rattle.once_queue.proofs.waiters.unmark.Goals as goal
+use Rattle.once_queue.proofs.slots.unmark.Goals as goal
 
 pub returns-in-Some-clause-marks : goal.returns-in-Some-clause-marks
 returns-in-Some-clause-marks c = λ n. marked_set n c.args.number false c.args.marks.now.items (grind arith)

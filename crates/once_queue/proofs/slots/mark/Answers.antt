@@ -1,7 +1,7 @@
 -- Only the mark of the number changes.
 use Rattle.std.proofs.Common.{◌≡◌, ◌++◌, ◌∷◌, [], true, length, arith}
 use Rattle.once_queue.proofs.Listing.Marked.{marked_set, marked_push}
-use Rattle.once_queue.proofs.waiters.mark.Goals as goal
+use Rattle.once_queue.proofs.slots.mark.Goals as goal
 
 pub returns-in-Some : goal.returns-in-Some
 returns-in-Some c = λ n. marked_set n c.args.number true c.args.marks.now.items (grind arith)

@@ -1,0 +1,317 @@
+//! The listings of those who wait, in their order, each found by its ticket without a search.
+ghost use Rattle.std.specs.Prelude.{◌≡◌, ◌==◌, ◌<◌, ◌≤◌, ◌⊎◌, ◌++◌, ◌∷◌, [], ℕ, true, false, cond, Some, None, IsSome, IfSome, IsOk, OnOk, length, vec_len, vec_capacity, HoldsAt, filter};
+ghost use Rattle.std.specs.List.{position};
+ghost use Rattle.std.specs.Option.{option_copied, option_map};
+ghost use Rattle.once_queue.specs.Numbers.{is_distinct, member};
+ghost use Rattle.once_queue.specs.Marks.{is_marked};
+ghost use Rattle.once_queue.specs.Listings.{tickets};
+ghost use Rattle.once_queue.specs.Kept.{hole, is_kept, is_open};
+
+use crate::waiters::Listing;
+use std::alloc::{AllocError, Global};
+use std::mem;
+
+// The ticket of a slot that its listing left.
+const HOLE: u64 = u64::MAX;
+
+/// Listings in their order, each in a slot.
+///
+/// A listing that is taken out leaves a hole in its slot; the holes are closed where they are half of
+/// the slots and the last one is taken. So a listing is found, taken out and put to the end without a
+/// look at the others. The least free ticket and the first listing with a waker are looked for from
+/// where they were found last.
+#[derive(Drop)]
+pub struct Slots<W> {
+    slots: Vec<Listing<W>>,
+    // Where a listing was put, by its ticket. It is looked for there first, and no proof knows of it.
+    places: Vec<usize>,
+    // For each ticket that was ever given out, whether a listing has it.
+    used: Vec<bool>,
+    // Each ticket below has a listing.
+    free: usize,
+    // No listing before this slot has a waker.
+    uncalled: usize,
+    // How many holes were made since they were closed.
+    holes: usize,
+    ghost once: { is_distinct (tickets (filter is_kept slots.items)) ≡ true },
+    ghost marks: { (n : ℕ) → is_marked n used.items ≡ member n (tickets (filter is_kept slots.items)) },
+    ghost low: { (n : ℕ) → n < free → is_marked n used.items ≡ true },
+    ghost within: { uncalled ≤ vec_len slots },
+    ghost called: { (n : ℕ) → n < uncalled → HoldsAt (λ x. is_open x ≡ false) slots.items n },
+}
+
+impl<W: Drop> Slots<W> {
+    ghost use Rattle.once_queue.specs.Listings.{find_listing, take_out, first_waker, call_first, new_ticket};
+    ghost use Rattle.once_queue.specs.Slots.{HasMark, HasSlot, listings_in};
+
+    /// No listing. It takes no memory.
+    #[inline(always)]
+    pub fn new(alloc: Global) -> Self
+        ensures { listings_in result ≡ [] }
+    {
+        Slots {
+            slots: Vec::new(alloc),
+            places: Vec::new(alloc),
+            used: Vec::new(alloc),
+            free: 0,
+            uncalled: 0,
+            holes: 0,
+        }
+    }
+
+    /// The listings, and among them holes, which have no waker to be called.
+    pub fn as_slice(&self) -> &[Listing<W>]
+        ensures { listings_in self.now ≡ filter is_kept result.now }
+    {
+        &self.slots
+    }
+
+    /// How many listings there are.
+    pub fn len(&self) -> usize
+        ensures { result ≡ length (listings_in self.now) }
+    {
+        self.slots.iter().filter(|slot| slot.ticket != HOLE).count()
+    }
+
+    /// Whether the listings of the other are the same, in the same order, wherever the holes are.
+    pub fn has_the_same(&self, other: &Self) -> bool
+    where
+        W: PartialEq,
+    {
+        let mine = self.slots.iter().filter(|slot| slot.ticket != HOLE);
+        let others = other.slots.iter().filter(|slot| slot.ticket != HOLE);
+        mine.eq(others)
+    }
+
+    /// The listing with this ticket.
+    pub fn find(&self, ticket: u64) -> Option<&Listing<W>>
+        ensures { option_map (λ x. x.waker) (option_copied result) ≡ find_listing ticket (listings_in self.now) }
+    {
+        let place = self.place(ticket)?;
+        Some(&self.slots[place])
+    }
+
+    /// Takes the listing with this ticket out, if one has it.
+    pub fn take_out(&mut self, ticket: u64) -> Option<Listing<W>>
+        ensures waker { option_map (λ x. x.waker) result ≡ find_listing ticket (listings_in self.old) }
+        ensures listings { listings_in self.new ≡ take_out ticket (listings_in self.old) }
+        ensures none { result ≡ None → self.new ≡ self.old }
+        ensures mark { IsSome result → ticket < vec_len self.new.used }
+        ensures hole { IsSome result → length (listings_in self.new) < vec_len self.new.slots }
+    {
+        let place = self.place(ticket)?;
+        unmark(&mut self.used, ticket);
+        self.free = self.free.min(ticket as usize);
+        self.holes = self.holes.saturating_add(1);
+        let hole = Listing {
+            ticket: HOLE,
+            waker: None,
+        };
+        Some(mem::replace(&mut self.slots[place], hole))
+    }
+
+    /// The least ticket that no listing has.
+    pub fn free_ticket(&mut self) -> u64
+        ensures least { result ≡ new_ticket (listings_in self.old) }
+        ensures new { member result (tickets (listings_in self.old)) ≡ false }
+        ensures mark { result ≤ vec_len self.new.used }
+        ensures listings { listings_in self.new ≡ listings_in self.old }
+        ensures slot { HasSlot self.old → HasSlot self.new }
+        ensures room { HasMark self.old → HasMark self.new }
+    {
+        self.free = first_unmarked(&self.used, self.free);
+        self.free as u64
+    }
+
+    /// Puts a listing to the end, for which there is room, and whose ticket no listing has.
+    pub fn push(&mut self, listing: Listing<W>)
+        requires new { member listing.ticket (tickets (listings_in self.old)) ≡ false }
+        requires slot { HasSlot self.old }
+        requires mark { (listing.ticket < vec_len self.old.used) ⊎ ((listing.ticket ≡ vec_len self.old.used) × HasMark self.old) }
+        ensures { listings_in self.new ≡ listings_in self.old ++ listing ∷ [] }
+    {
+        mark(&mut self.used, listing.ticket);
+        note(&mut self.places, listing.ticket as usize, self.slots.len());
+        self.slots.push(listing).unwrap();
+    }
+
+    /// The first listing that has a waker gives it, and stays.
+    pub fn call_first(&mut self) -> Option<W>
+        ensures waker { result ≡ first_waker (listings_in self.old) }
+        ensures listings { listings_in self.new ≡ call_first (listings_in self.old) }
+    {
+        self.uncalled = self.first_open();
+        if self.uncalled == self.slots.len() {
+            return None;
+        }
+        self.slots[self.uncalled].waker.take()
+    }
+
+    /// Makes room for one more listing. Where that is refused the listings are as they were.
+    pub fn reserve(&mut self) -> Result<(), AllocError>
+        ensures slot { OnOk result (HasSlot self.new) }
+        ensures mark { OnOk result (HasMark self.new) }
+        ensures succeeds { HasSlot self.old → HasMark self.old → IsOk result }
+        ensures listings { listings_in self.new ≡ listings_in self.old }
+    {
+        self.close_many_holes();
+        self.slots.reserve(1)?;
+        self.used.reserve(1)?;
+        let _ = self.places.reserve(1);
+        Ok(())
+    }
+
+    /// Sees to it that the listing that was taken out can be put to the end again, without memory.
+    pub fn make_room(&mut self)
+        requires { length (listings_in self.old) < vec_len self.old.slots }
+        ensures slot { HasSlot self.new }
+        ensures used { self.new.used ≡ self.old.used }
+        ensures listings { listings_in self.new ≡ listings_in self.old }
+    {
+        self.close_many_holes();
+        if self.slots.reserve(1).is_err() {
+            self.close_holes();
+        }
+    }
+
+    /// Takes all listings out, in their order. It takes no memory.
+    pub fn take_all(&mut self) -> Vec<Listing<W>>
+        ensures all { result.items ≡ listings_in self.old }
+        ensures none { listings_in self.new ≡ [] }
+    {
+        self.close_holes();
+        let alloc = *self.slots.allocator();
+        self.used.clear();
+        self.free = 0;
+        self.uncalled = 0;
+        mem::replace(&mut self.slots, Vec::new(alloc))
+    }
+
+    // Where the listing with this ticket stands.
+    fn place(&self, ticket: u64) -> Option<usize>
+        ensures some { IfSome result (λ i. (i < length self.now.slots.items) × HoldsAt (λ x. x.ticket ≡ ticket) self.now.slots.items i × ((ticket == hole) ≡ false)) }
+        ensures none { result ≡ None → member ticket (tickets (listings_in self.now)) ≡ false }
+    {
+        if ticket == HOLE {
+            return None;
+        }
+        match self.noted(ticket) {
+            Some(place) => Some(place),
+            None => self.searched(ticket),
+        }
+    }
+
+    // Where a listing with this ticket was put, if it stands there.
+    fn noted(&self, ticket: u64) -> Option<usize>
+        ensures { IfSome result (λ i. (i < length self.now.slots.items) × HoldsAt (λ x. x.ticket ≡ ticket) self.now.slots.items i) }
+    {
+        let place = *self.places.get(ticket as usize)?;
+        let slot = self.slots.get(place)?;
+        if slot.ticket == ticket {
+            Some(place)
+        } else {
+            None
+        }
+    }
+
+    // The first slot with this ticket.
+    fn searched(&self, ticket: u64) -> Option<usize>
+        ensures { result ≡ position (λ x. x.ticket == ticket) self.now.slots.items }
+    {
+        self.slots.iter().position(|slot| slot.ticket == ticket)
+    }
+
+    // Where the first listing stands that has a waker, or the end.
+    fn first_open(&self) -> usize
+        ensures within { result ≤ vec_len self.now.slots }
+        ensures before { (n : ℕ) → n < result → HoldsAt (λ x. is_open x ≡ false) self.now.slots.items n }
+        ensures found { result < vec_len self.now.slots → HoldsAt (λ x. is_open x ≡ true) self.now.slots.items result }
+    {
+        let mut first = self.uncalled;
+        while first < self.slots.len() && !has_waker(&self.slots[first]) {
+            first += 1;
+        }
+        first
+    }
+
+    // Closes the holes where the last slot is taken and half of all are holes, about.
+    fn close_many_holes(&mut self)
+        ensures room { HasSlot self.old → self.new ≡ self.old }
+        ensures length { length (listings_in self.old) < vec_len self.old.slots → length (listings_in self.new) < vec_capacity self.new.slots }
+        ensures used { self.new.used ≡ self.old.used }
+        ensures listings { listings_in self.new ≡ listings_in self.old }
+    {
+        if self.slots.len() == self.slots.capacity() && self.holes > self.slots.len() / 2 {
+            self.close_holes();
+        }
+    }
+
+    // Closes the holes: each listing goes to the next slot, in their order.
+    fn close_holes(&mut self)
+        ensures slots { self.new.slots.items ≡ listings_in self.old }
+        ensures capacity { vec_capacity self.new.slots ≡ vec_capacity self.old.slots }
+        ensures used { self.new.used ≡ self.old.used }
+        ensures listings { listings_in self.new ≡ listings_in self.old }
+    {
+        self.uncalled = 0;
+        self.holes = 0;
+        self.slots.retain(|slot| slot.ticket != HOLE);
+        note_all(&mut self.places, &self.slots);
+    }
+}
+
+// Notes where each ticket stands.
+fn note_all<W>(places: &mut Vec<usize>, slots: &[Listing<W>]) {
+    for (place, slot) in slots.iter().enumerate() {
+        note(places, slot.ticket as usize, place);
+    }
+}
+
+// Whether a listing stands in the slot and has a waker.
+fn has_waker<W>(slot: &Listing<W>) -> bool
+    ensures { result ≡ is_open slot.now }
+{
+    slot.ticket != HOLE && slot.waker.is_some()
+}
+
+// Notes a place by this number, which is within those noted or the next. Without memory it is not.
+fn note(places: &mut Vec<usize>, number: usize, place: usize) {
+    match places.get_mut(number) {
+        Some(noted) => *noted = place,
+        None => drop(places.push(place)),
+    }
+}
+
+// Marks this number, which is within the marks, or the next, for which there is room.
+fn mark(marks: &mut Vec<bool>, number: u64)
+    requires { (number < vec_len marks.old) ⊎ ((number ≡ vec_len marks.old) × (vec_len marks.old < vec_capacity marks.old)) }
+    ensures { (n : ℕ) → is_marked n marks.new.items ≡ cond (number == n) true (is_marked n marks.old.items) }
+{
+    match marks.get_mut(number as usize) {
+        Some(mark) => *mark = true,
+        None => marks.push(true).unwrap(),
+    }
+}
+
+// Takes the mark of this number away, if it has one.
+fn unmark(marks: &mut Vec<bool>, number: u64)
+    ensures marks { (n : ℕ) → is_marked n marks.new.items ≡ cond (number == n) false (is_marked n marks.old.items) }
+    ensures len { vec_len marks.new ≡ vec_len marks.old }
+{
+    if let Some(mark) = marks.get_mut(number as usize) {
+        *mark = false;
+    }
+}
+
+// The first number without a mark, where each before this one has one.
+fn first_unmarked(marks: &[bool], from: usize) -> usize
+    requires { (n : ℕ) → n < from → is_marked n marks.now ≡ true }
+    ensures first { is_marked result marks.now ≡ false }
+    ensures before { (n : ℕ) → n < result → is_marked n marks.now ≡ true }
+{
+    let mut free = from;
+    while free < marks.len() && marks[free] {
+        free += 1;
+    }
+    free
+}
