@@ -1,7 +1,7 @@
 //! Makes operations of a cell, each as often as it is told to: the like of crates/cell_bench.
 //!
 //! Built with `--cfg async_cells` it uses the crate async_once_cell, and without it
-//! std::sync::OnceLock, which knows `get` and `init` alone. The lines of standard input and
+//! std::sync::OnceLock, which knows `get` and `init` alone, of one thread and of several. The lines of standard input and
 //! of standard output are those of crates/cell_bench. The status is 3 at an operation that is not
 //! there.
 
@@ -9,8 +9,20 @@ use std::hint::black_box;
 use std::io::{self, BufRead};
 use std::process::ExitCode;
 
+mod threads {
+    /// The sum of what so many threads give, of which this is one.
+    pub fn sum_of(threads: usize, work: impl Fn() -> u64 + Sync) -> u64 {
+        std::thread::scope(|scope| {
+            let others: Vec<_> = (1..threads).map(|_| scope.spawn(&work)).collect();
+            let mine = work();
+            others.into_iter().fold(mine, |sum, it| sum.wrapping_add(it.join().unwrap()))
+        })
+    }
+}
+
 #[cfg(not(async_cells))]
 mod rounds {
+    use crate::threads::sum_of;
     use std::hint::black_box;
     use std::sync::OnceLock;
 
@@ -18,8 +30,22 @@ mod rounds {
         match operation {
             "get" => Some(get(black_box(&OnceLock::from(1)), count)),
             "init" => Some(init(count)),
+            "get_threads2" => Some(looks(2, count)),
+            "get_threads4" => Some(looks(4, count)),
+            "init_threads2" => Some(fills(2, count)),
+            "init_threads4" => Some(fills(4, count)),
             _ => None,
         }
+    }
+
+    fn looks(threads: usize, count: u64) -> u64 {
+        let cell = OnceLock::from(1);
+        sum_of(threads, || get(black_box(&cell), count))
+    }
+
+    fn fills(threads: usize, count: u64) -> u64 {
+        let cells: Vec<OnceLock<u64>> = (0..count).map(|_| OnceLock::new()).collect();
+        sum_of(threads, || cells.iter().map(|cell| *cell.get_or_init(|| 1)).sum())
     }
 
     #[inline(never)]
@@ -45,6 +71,7 @@ mod rounds {
 
 #[cfg(async_cells)]
 mod rounds {
+    use crate::threads::sum_of;
     use async_once_cell::{Lazy, OnceCell};
     use std::cell::Cell;
     use std::future::{Future, Ready, ready};
@@ -53,6 +80,7 @@ mod rounds {
     use std::sync::Arc;
     use std::sync::atomic::{AtomicU64, Ordering};
     use std::task::{Context, Poll, Wake, Waker};
+    use std::thread::{self, Thread};
 
     /// Counts how often it was called.
     struct Calls(AtomicU64);
@@ -122,10 +150,44 @@ mod rounds {
             "failure100" => Some(failures(100, count)),
             "turns10" => Some(turns(10, count)),
             "turns100" => Some(turns(100, count)),
+            "get_threads2" => Some(looks(2, count)),
+            "get_threads4" => Some(looks(4, count)),
+            "init_threads2" => Some(fills(2, count)),
+            "init_threads4" => Some(fills(4, count)),
             "lazy_first" => Some(lazy_first(count)),
             "lazy_later" => Some(lazy_later(black_box(&Lazy::with_value(1)), count)),
             _ => None,
         }
+    }
+
+    fn looks(threads: usize, count: u64) -> u64 {
+        let cell = OnceCell::new_with(1);
+        sum_of(threads, || get(black_box(&cell), count))
+    }
+
+    /// Wakes a thread that parked.
+    struct Parked(Thread);
+
+    impl Wake for Parked {
+        fn wake(self: Arc<Self>) {
+            self.0.unpark();
+        }
+    }
+
+    fn block_on<F: Future>(future: F) -> F::Output {
+        let waker = Waker::from(Arc::new(Parked(thread::current())));
+        let mut future = pin!(future);
+        loop {
+            match future.as_mut().poll(&mut Context::from_waker(&waker)) {
+                Poll::Ready(output) => return output,
+                Poll::Pending => thread::park(),
+            }
+        }
+    }
+
+    fn fills(threads: usize, count: u64) -> u64 {
+        let cells: Vec<OnceCell<u64>> = (0..count).map(|_| OnceCell::new()).collect();
+        sum_of(threads, || cells.iter().map(|cell| *block_on(cell.get_or_init(ready(1)))).sum())
     }
 
     #[inline(never)]
