@@ -2,7 +2,9 @@
 ghost use Rattle.std.specs.Prelude.{⊤};
 
 use crate::counting::{Counting, Listed};
-use async_once_cell::inner::{Inner, NEW, Out, QINIT_BIT, Queue, READY_BIT};
+use async_once_cell::inner::{
+    Inner, NEW, Out, QINIT_BIT, Queue, READY_BIT, whole_drop, whole_poll,
+};
 use async_once_cell::step::{Ending, Polled, Side, Step};
 use std::alloc::AllocGlobal;
 use std::sync::Wait;
@@ -28,7 +30,7 @@ impl<S: Side<u64>> Task<S> {
             return None;
         }
         let mut parts = inner.parts(rt, Some(self.waker));
-        Some(parts.poll(&mut self.step, &mut self.side))
+        Some(whole_poll(&mut parts, &mut self.step, &mut self.side))
     }
 }
 
@@ -88,7 +90,7 @@ impl<'a, R: Wait + AllocGlobal> Meddling<'a, R> {
     fn finish(&mut self, step: &mut Step<u64, Queue<u64>>) {
         if step.is_resting() {
             let mut parts = self.inner.parts(self.rt, None);
-            parts.finish(step, self);
+            whole_drop(&mut parts, step, self);
         }
     }
 }

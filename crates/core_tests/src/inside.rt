@@ -1,7 +1,7 @@
 //! Callers that use a cell in the middle of one of its own steps.
 ghost use Rattle.std.specs.Prelude.{⊤};
 
-use async_once_cell::inner::{Out, Queue};
+use async_once_cell::inner::{Out, Queue, whole_poll};
 use async_once_cell::once::{InitFuture, Refused};
 use async_once_cell::step::{Ending, Polled, Side, Step};
 use async_once_cell::world::Reply;
@@ -10,7 +10,7 @@ use futures::Future;
 use futures::task::{Context, Poll};
 use futures::test::MockTask;
 use once_cells::inside::{cell_of, new_seat, parts, set};
-use once_cells::seat::{Seat, call_all};
+use once_shared::seat::{Seat, call_all};
 use std::alloc::AllocGlobal;
 use std::fmt::Debug;
 use std::mem::replace;
@@ -86,7 +86,7 @@ impl<'a, S: Side<Seat>> Task<'a, S> {
             return None;
         }
         let mut parts = parts(self.cell, rt, None);
-        Some(parts.poll(&mut self.step, &mut self.side))
+        Some(whole_poll(&mut parts, &mut self.step, &mut self.side))
     }
 }
 

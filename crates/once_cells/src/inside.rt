@@ -1,9 +1,9 @@
 //! What tests need of the inside of a cell. Users of the cells do not see it.
 use crate::lazy::Lazy;
 use crate::once::OnceCell;
-use crate::seat::Seat;
-use crate::shared::Shared;
 use futures::Future;
+use once_shared::seat::Seat;
+use once_shared::shared::Shared;
 use std::alloc::AllocGlobal;
 use std::sync::Wait;
 

@@ -7,12 +7,12 @@ mod init;
 mod known;
 mod refused;
 
-use crate::seat::Seat;
-use crate::shared::{Inner, Shared};
 pub use future::TryInitFuture;
 use futures::Future;
 pub use init::InitFuture;
 pub use known::Known;
+use once_shared::seat::Seat;
+use once_shared::shared::{Inner, Shared};
 pub use refused::{InitError, Refused};
 use std::alloc::AllocGlobal;
 use std::marker::Model;

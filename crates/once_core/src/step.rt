@@ -125,7 +125,7 @@ impl<W: Drop, Q: Drop> Step<W, Q> {
     pub fn new() -> Self
         ensures { result ≡ Step.Resting Rest.Start }
     {
-        Step::Resting(Rest::Start)
+        Self::Resting(Rest::Start)
     }
 
     /// Whether the last call ended with anything but Pending.
@@ -237,9 +237,20 @@ impl<W: Drop, Q: Drop> Step<W, Q> {
         requires limit { limit ≤ 2 ^ 62 - 2 }
         requires asks { Asks P.can_add_one P.can_count_out P.can_log P.can_section self.old parts.old }
         ensures lower { left_of self.new < left_of self.old }
-        ensures line { Advances P.did_load P.did_quick P.did_fast P.did_count_in P.did_add_one P.did_count_out
-            P.did_door_get P.did_door_put P.did_door_take P.did_section
-            S.did_run S.did_close S.did_put S.did_copy S.did_wake
+        ensures line { Advances
+            record {
+              load = P.did_load;
+              quick = P.did_quick;
+              fast = P.did_fast;
+              count_in = P.did_count_in;
+              add_one = P.did_add_one;
+              count_out = P.did_count_out;
+              door_get = P.did_door_get;
+              door_put = P.did_door_put;
+              door_take = P.did_door_take;
+              section = P.did_section;
+            }
+            record { run = S.did_run; close = S.did_close; put = S.did_put; copy = S.did_copy; wake = S.did_wake }
             limit self.old parts.old side.old result self.new parts.new side.new }
         ensures stays { S.stays side.old side.new }
     {

@@ -1,10 +1,12 @@
 //! A script is read and replayed, and its record is printed.
 #![tactic(auto)]
 
+pub mod print;
+
+use crate::print::print_record;
 use async_once_cell::world::replay;
 use once_script::fault::Fault;
 use once_script::parse::{Script, parse_script};
-use once_script::print::print_record;
 use std::alloc::Global;
 use std::io;
 use std::io::{BufReader, Read, Write};

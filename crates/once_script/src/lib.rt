@@ -1,6 +1,5 @@
-//! The text of scripts and of records: a script is read, and a record is printed.
+//! The text of scripts, read.
 #![tactic(auto)]
 
 pub mod fault;
 pub mod parse;
-pub mod print;

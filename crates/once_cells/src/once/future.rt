@@ -6,14 +6,15 @@ ghost use Rattle.once_cells.specs.Tokens.{Call, Polls};
 ghost use Rattle.once_core.specs.Steps.{in_call, is_finished as is_done};
 
 use super::{InitError, Known, OnceCell};
+use crate::calls::{whole_drop, whole_poll};
 use crate::held::Held;
-use crate::seat::{Seat, call_all};
-use crate::shared::Queue;
 use futures::Future;
 use futures::future::TryOutput;
 use futures::task::{Context, Poll};
 use once_core::step::{Ending, Polled, Side, Step};
 use once_queue::waiters::Out;
+use once_shared::seat::{Seat, call_all};
+use once_shared::shared::Queue;
 use std::alloc::AllocGlobal;
 use std::fmt;
 use std::marker::{Model, PhantomData};
@@ -89,7 +90,7 @@ impl<'a, T, E, F: Future, R: Wait + AllocGlobal> TryInitFuture<'a, T, E, F, R> {
         if self.step.is_resting() {
             let mut side = Leaving { rt: self.rt };
             let mut parts = self.cell.parts(self.rt, None);
-            parts.finish(&mut self.step, &mut side);
+            whole_drop(&mut parts, &mut self.step, &mut side);
         }
         set(&mut self.step, Step::Finished);
     }
@@ -133,7 +134,7 @@ where
             is_armed: false,
         };
         let mut parts = self.cell.parts(self.rt, current);
-        let ending = parts.poll(&mut self.step, &mut side);
+        let ending = whole_poll(&mut parts, &mut self.step, &mut side);
         self.current = parts.into_current();
         let Polling {
             cell: _,

@@ -7,7 +7,7 @@ use Rattle.once_queue.specs.Word.{flags_of, is_ready_bit, is_zero}
 use Rattle.once_queue.specs.Listings.{kept_ticket}
 use Rattle.once_core.specs.Core.{CoreState, IsBare, DidAddOne, DidCountIn, DidCountOut, DidDoorGet, DidDoorPut, DidDoorTake, DidFast, DidLoad, DidQuick, put_answer, put_state}
 use Rattle.once_world.specs.Places.{AtAddOne, AtCountIn, AtCountOut, AtDoorAgain, AtDoorGet, AtDoorPut, AtDoorTake, AtFast, AtLeave, AtList, AtLook, AtPut, AtRelease, AtRun, AtStart, AtTryQuick, AtWaitLoad, Finished, Place, Progress, Resting, Step, UnderWay}
-use Rattle.once_core.specs.Steps.{Advances, Follows, Line, after_count_out, after_door_again, after_door_get, after_door_put, after_load, after_start, is_value}
+use Rattle.once_core.specs.Steps.{Advances, Follows, Line, PartsTell, SideTells, after_count_out, after_door_again, after_door_get, after_door_put, after_load, after_start, is_value}
 use Rattle.once_world.specs.Machine.{EnteredLine, out_inner, fast_step, init_answer, is_at_door, list_step, place_lines, place_step, quick_step, step_at, step_lines, word_of}
 use Rattle.once_world.specs.Side.{DidClose, DidCopy, DidPut, DidRun, DidWake, answers_in}
 use Rattle.once_world.proofs.Exactness.Outcomes.{IsFresh, IsOutcome, inner_by}
@@ -18,13 +18,25 @@ use Rattle.once_world.proofs.Exactness.ExactHolds.{add_exact, again_exact, fast_
 
 -- parts of any type, by what contracts see of them
 module _ {P : Type 0} (see : P → CoreState ℕ) where
-  abbrev SeenLine : ℕ → Place ℕ ℕ → P → ReplaySide → Progress → Step ℕ ℕ → P → ReplaySide → Type 0
-  SeenLine limit = Line (λ x w y. DidLoad (see x) w (see y)) (λ x b y. DidQuick (see x) b (see y)) (λ x r b y. DidFast (see x) r b (see y)) (λ x l n y. DidCountIn (see x) l n (see y))
-      (λ x y. DidAddOne (see x) (see y)) (λ x w y. DidCountOut (see x) w (see y)) (λ x q y. DidDoorGet (see x) q (see y)) (λ x q y. DidDoorPut (see x) q (see y)) (λ x b y. DidDoorTake (see x) b (see y))
-      (λ x q op a o y. NumberSection (see x) q op a o (see y)) DidRun DidClose DidPut DidCopy DidWake limit
+  abbrev parts_tell : PartsTell P ℕ ℕ
+  parts_tell = record {
+    load = λ x w y. DidLoad (see x) w (see y);
+    quick = λ x b y. DidQuick (see x) b (see y);
+    fast = λ x r b y. DidFast (see x) r b (see y);
+    count_in = λ x l n y. DidCountIn (see x) l n (see y);
+    add_one = λ x y. DidAddOne (see x) (see y);
+    count_out = λ x w y. DidCountOut (see x) w (see y);
+    door_get = λ x q y. DidDoorGet (see x) q (see y);
+    door_put = λ x q y. DidDoorPut (see x) q (see y);
+    door_take = λ x b y. DidDoorTake (see x) b (see y);
+    section = λ x q op a o y. NumberSection (see x) q op a o (see y);
+  }
+
+  abbrev side_tells : SideTells ReplaySide ℕ
+  side_tells = record { run = DidRun; close = DidClose; put = DidPut; copy = DidCopy; wake = DidWake }
 
   line_exact : (limit : ℕ) (at : Place ℕ ℕ) (x y : P) (c c' : ReplaySide) (p : Progress) (t : Step ℕ ℕ) → IsFresh c → IsBare (see x) → (see x).current ≡ Some c.waker → (see x).granted ≡ c.granted
-      → SeenLine limit at x c p t y c'
+      → Line parts_tell side_tells limit at x c p t y c'
       → IsOutcome (UnderWay at) (λ n. place_step c.lazy limit (inner_by (see x) c) n c.waker c.kept c.answer c.granted at) (place_lines c.granted (inner_by (see x) c) at) (see x) c (see y) c' p t
   line_exact limit AtStart x y c c' p t f bare w g (b, d, z) =
       start_exact c f (see x) c' p t (see y) (see x).word.ready (is_zero (see x).word) d.1 (subst (λ l. Follows DidClose (after_start l.ready (is_zero l)) c c' p t) d.0 z)
@@ -53,13 +65,8 @@ module _ {P : Type 0} (see : P → CoreState ℕ) where
       out_exact c f (see x) c' p t e (is_ready_bit (word_of (out_inner (inner_by (see x) c)))) (see y) d.1 (subst (λ l. Follows DidClose (after_count_out l e) c c' p t) last z)
   line_exact limit (AtDoorTake e) x y c c' p t f bare w g (b, d, z) = take_exact c f (see x) c' p t e (see y) bare d.1 z
 
-  abbrev SeenAdvances : ℕ → Step ℕ ℕ → P → ReplaySide → Progress → Step ℕ ℕ → P → ReplaySide → Type 0
-  SeenAdvances limit = Advances (λ x w y. DidLoad (see x) w (see y)) (λ x b y. DidQuick (see x) b (see y)) (λ x r b y. DidFast (see x) r b (see y)) (λ x l n y. DidCountIn (see x) l n (see y))
-      (λ x y. DidAddOne (see x) (see y)) (λ x w y. DidCountOut (see x) w (see y)) (λ x q y. DidDoorGet (see x) q (see y)) (λ x q y. DidDoorPut (see x) q (see y)) (λ x b y. DidDoorTake (see x) b (see y))
-      (λ x q op a o y. NumberSection (see x) q op a o (see y)) DidRun DidClose DidPut DidCopy DidWake limit
-
   pub advance_exact : (limit : ℕ) (at : Step ℕ ℕ) (x y : P) (c c' : ReplaySide) (p : Progress) (t : Step ℕ ℕ) → IsFresh c → IsBare (see x) → (see x).current ≡ Some c.waker → (see x).granted ≡ c.granted
-      → SeenAdvances limit at x c p t y c'
+      → Advances parts_tell side_tells limit at x c p t y c'
       → IsOutcome at (λ n. step_at c.lazy limit (inner_by (see x) c) n c.waker c.kept c.answer c.granted at) (step_lines c.granted (inner_by (see x) c) at) (see x) c (see y) c' p t
   advance_exact limit (UnderWay at) x y c c' p t f bare w g d = line_exact limit at x y c c' p t f bare w g d
   advance_exact limit (Resting r) x y c c' p t f bare w g d = absurd d

@@ -1,5 +1,5 @@
 -- What is proved of the machine holds of the replay.
-use Rattle.std.proofs.Common.{◌≡◌, sym, subst, ap, ◌∙◌, arith, take}
+use Rattle.std.proofs.Common.{◌≡◌, sym, subst, ap, ◌∙◌, arith, rules, take}
 use Rattle.std.proofs.lemmas.Grind.{common_steps}
 use Rattle.once_world.specs.Run.{AtEvery, IsRun}
 use Rattle.once_world.specs.Called.{SomebodyCalled}
@@ -16,6 +16,9 @@ use Rattle.once_world.proofs.Part.Belonging.{belongs}
 use Rattle.once_world.proofs.Part.Ample.{ample_memory}
 use Rattle.once_world.proofs.Exactness.Asked.{may_take}
 use Rattle.once_world.proofs.world.replay.Goals as goal
+
+pub loop-input-init : goal.loop-input-init
+loop-input-init c = search rules
 
 -- the machine may take every input, and so may the replay
 pub take-requires-clause-may : goal.take-requires-clause-may

@@ -1,5 +1,5 @@
 -- No listing has the ticket by which to list then.
-use Rattle.std.proofs.Common.{◌≡◌, ◌∙◌, sym, arith}
+use Rattle.std.proofs.Common.{◌≡◌, ◌∙◌, sym, arith, rules}
 use Rattle.once_queue.proofs.Listing.Tickets.{member_gone, take_none}
 use Rattle.once_queue.specs.Listings.{take_out}
 use Rattle.once_queue.specs.Room.{listings_of}
@@ -23,3 +23,6 @@ invariant_of-self g c = record { apart = rw c.make_room.ensures.listings c.take_
 
 pub invariant_of-self-2 : goal.invariant_of-self-2
 invariant_of-self-2 g c = record { apart = rw c.free_ticket.ensures.listings c.reserve.new.self.apart }
+
+pub returns-clause-ticket : goal.returns-clause-ticket
+returns-clause-ticket g c = search rules

@@ -1,9 +1,8 @@
 //! The parts as tasks share them: a word, a door and a queue behind locks.
 
 use once_core::parts::{Counted, Parts};
-use once_core::step::{Ending, Progress, Side, Step};
 use once_queue::waiters::{Answer, Lists, Op, WakerId};
-use once_queue::word::{MAX_WAITERS, NEW, QINIT_BIT, Word};
+use once_queue::word::{NEW, QINIT_BIT, Word};
 use std::alloc::AllocGlobal;
 use std::fmt;
 use std::sync::atomic::{AtomicBool, AtomicU64, Ordering};
@@ -211,10 +210,7 @@ impl<W: WakerId + Drop, R: Wait + AllocGlobal> Parts<W> for Shared<'_, '_, W, R>
     }
 }
 
-impl<W: WakerId + Drop, R: Wait + AllocGlobal> Shared<'_, '_, W, R> {
-    ghost use Rattle.std.specs.Prelude.{◌≡◌, true, false};
-    ghost use Rattle.once_core.specs.Steps.{is_resting, in_call};
-
+impl<W: WakerId, R> Shared<'_, '_, W, R> {
     /// The waker that the call was made with.
     #[inline(always)]
     pub fn into_current(self) -> Option<W> {
@@ -224,42 +220,5 @@ impl<W: WakerId + Drop, R: Wait + AllocGlobal> Shared<'_, '_, W, R> {
             current,
         } = self;
         current
-    }
-
-    /// A whole poll: begins it, and makes its steps until it ends. It may wait for the locks of door
-    /// and queue, and for whatever the side waits for.
-    #[inline(always)]
-    pub fn poll<S: Side<W>>(&mut self, step: &mut Step<W, Queue<W>>, side: &mut S) -> Ending
-        requires { is_resting step.old ≡ true }
-        ensures ended { in_call step.new ≡ false }
-        ensures stays { S.stays side.old side.new }
-    {
-        step.begin();
-        self.go_on(step, side)
-    }
-
-    /// A whole drop of a task that is not finished. It may wait as [`Shared::poll`].
-    pub fn finish<S: Side<W>>(&mut self, step: &mut Step<W, Queue<W>>, side: &mut S)
-        requires { is_resting step.old ≡ true }
-        ensures ended { in_call step.new ≡ false }
-        ensures stays { S.stays side.old side.new }
-    {
-        step.begin_drop(side);
-        self.go_on(step, side);
-    }
-
-    // Makes the steps of the call that is under way. There are at most sixteen.
-    #[inline(always)]
-    fn go_on<S: Side<W>>(&mut self, step: &mut Step<W, Queue<W>>, side: &mut S) -> Ending
-        ensures ended { in_call step.new ≡ false }
-        ensures stays { S.stays side.old side.new }
-    {
-        let mut last = Ending::Dropped;
-        while step.left() > 0 {
-            if let Progress::Ended(ending) = step.advance(self, side, MAX_WAITERS) {
-                last = ending;
-            }
-        }
-        last
     }
 }

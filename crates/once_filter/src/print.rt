@@ -1,5 +1,5 @@
 //! The text of a record.
-use once_record::world::{Call, Entry, Got, Ran, Record, Reply};
+use async_once_cell::world::{Call, Entry, Got, Ran, Record, Reply};
 use std::alloc::Global;
 use std::io::{BufWriter, Write};
 use std::{fmt, io};

@@ -1,0 +1,59 @@
+//! Whole calls of a task: step after step, until the call ends.
+ghost use Rattle.std.specs.Prelude.{◌≡◌, true, false};
+ghost use Rattle.once_core.specs.Steps.{is_resting, in_call};
+
+use once_core::step::{Ending, Progress, Side, Step};
+use once_queue::waiters::WakerId;
+use once_queue::word::MAX_WAITERS;
+use once_shared::shared::{Queue, Shared};
+use std::alloc::AllocGlobal;
+use std::sync::Wait;
+
+/// A whole poll: begins it, and makes its steps until it ends. It may wait for the locks of door and
+/// queue, and for whatever the side waits for.
+#[inline(always)]
+pub fn whole_poll<W: WakerId + Drop, R: Wait + AllocGlobal, S: Side<W>>(
+    parts: &mut Shared<'_, '_, W, R>,
+    step: &mut Step<W, Queue<W>>,
+    side: &mut S,
+) -> Ending
+    requires { is_resting step.old ≡ true }
+    ensures ended { in_call step.new ≡ false }
+    ensures stays { S.stays side.old side.new }
+{
+    step.begin();
+    go_on(parts, step, side)
+}
+
+/// A whole drop of a task that is not finished. It may wait as [`whole_poll`].
+pub fn whole_drop<W: WakerId + Drop, R: Wait + AllocGlobal, S: Side<W>>(
+    parts: &mut Shared<'_, '_, W, R>,
+    step: &mut Step<W, Queue<W>>,
+    side: &mut S,
+)
+    requires { is_resting step.old ≡ true }
+    ensures ended { in_call step.new ≡ false }
+    ensures stays { S.stays side.old side.new }
+{
+    step.begin_drop(side);
+    go_on(parts, step, side);
+}
+
+// Makes the steps of the call that is under way. There are at most sixteen.
+#[inline(always)]
+fn go_on<W: WakerId + Drop, R: Wait + AllocGlobal, S: Side<W>>(
+    parts: &mut Shared<'_, '_, W, R>,
+    step: &mut Step<W, Queue<W>>,
+    side: &mut S,
+) -> Ending
+    ensures ended { in_call step.new ≡ false }
+    ensures stays { S.stays side.old side.new }
+{
+    let mut last = Ending::Dropped;
+    while step.left() > 0 {
+        if let Progress::Ended(ending) = step.advance(parts, side, MAX_WAITERS) {
+            last = ending;
+        }
+    }
+    last
+}

@@ -1,0 +1,9 @@
+-- Who was called passes its turn on, where nobody holds.
+use Rattle.std.proofs.Common.{rules}
+use Rattle.once_queue.proofs.waiters.Lists.leave.Goals as goal
+
+pub returns-clause-waker : goal.returns-clause-waker
+returns-clause-waker g c = search rules
+
+pub returns-then-is_some-clause-waker : goal.returns-then-is_some-clause-waker
+returns-then-is_some-clause-waker g c = search rules
