@@ -2,7 +2,7 @@
 //!
 //! Each line of standard input names an operation and says how often it is made, as `get 1000`. For
 //! each line one is printed: the same words, and the sum of the values and errors that the polls and
-//! looks answered. Each of these is 1.
+//! looks answered, each of which is 1; for `lost_wake` it is how many waiters were lost.
 #![tactic(auto)]
 
 use futures::task::{Context, Doorbell, Solo};
@@ -15,6 +15,7 @@ use std::sync::Wait;
 use std::thread::Threads;
 
 mod failures;
+mod lost_wake;
 mod operation;
 mod rounds;
 mod switch;

@@ -53,6 +53,8 @@ pub enum Operation {
     LazyFirst,
     /// A new future of a lazy cell that is set, polled to its end.
     LazyLater,
+    /// A round of two threads in which a waiter could be lost. What is added up is how many were.
+    LostWake,
 }
 
 /// The operation of this name.
@@ -83,6 +85,7 @@ pub fn parse_operation(name: &str) -> Option<Operation>
         "init_threads4" => Some(Operation::FourFill),
         "lazy_first" => Some(Operation::LazyFirst),
         "lazy_later" => Some(Operation::LazyLater),
+        "lost_wake" => Some(Operation::LostWake),
         _ => None,
     }
 }

@@ -3,6 +3,7 @@
 //! Each is a function of its own, and is passed its cell where that is set before the loop, so that
 //! nothing of it is known to the compiler there.
 use crate::failures::{failures, turns};
+use crate::lost_wake::lost;
 use crate::operation::Operation;
 use crate::switch::Switched;
 use crate::threads::{cells, fills_of_four, fills_of_two, looks_of_four, looks_of_two};
@@ -28,6 +29,7 @@ where
         Operation::FourLook => Ok(looks_of_four(rt, &OnceCell::new_with(1), count)),
         Operation::TwoFill => return fills_of_two(rt, &cells(rt, count)?),
         Operation::FourFill => return fills_of_four(rt, &cells(rt, count)?),
+        Operation::LostWake => return lost(rt, count),
         Operation::Get => Ok(get(&OnceCell::new_with(1), count)),
         Operation::Init => Ok(init(rt, count, cx)),
         Operation::Listed => listed(rt, count, cx),

@@ -7,6 +7,8 @@ mod lazy;
 #[cfg(test)]
 mod once;
 #[cfg(test)]
+mod pending;
+#[cfg(test)]
 mod table;
 #[cfg(test)]
 mod threads;

@@ -447,3 +447,21 @@ fn polled_in_its_init<'a, R: Wait + AllocGlobal>(
     let (value, is_empty) = (lazy.try_get().copied(), shows(rt, lazy, EMPTIED));
     (ending, holder.side.waited, value, is_empty)
 }
+
+// Whether a task that sits down on a seat is woken, where the seat was called after it was listed.
+fn is_woken_late<R: Wait + AllocGlobal>(rt: &R, task: &MockTask) -> Option<bool> {
+    let cell: OnceCell<u64> = OnceCell::new();
+    let seat = new_seat(&cell, rt)?;
+    let listed = seat.share_anew(rt)?;
+    listed.call(rt);
+    let sits = task.enter(|cx| seat.sit::<u64, R>(rt, cx).is_pending());
+    Some(sits && task.is_woken())
+}
+
+/// A task that sits down on a seat that was called meanwhile is woken.
+#[test]
+fn a_seat_called_before_its_task_sits(rt: HostRuntime) -> Result<(), Fail> {
+    let task = MockTask::new(&rt)?;
+    assert_eq!(rt; is_woken_late(&rt, &task), Some(true));
+    Ok(())
+}

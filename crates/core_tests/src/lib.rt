@@ -12,3 +12,5 @@ mod inside;
 mod layers;
 #[cfg(test)]
 mod random;
+#[cfg(test)]
+mod threads;

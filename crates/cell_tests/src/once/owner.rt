@@ -1,10 +1,18 @@
 //! The calls of whoever has the cell alone.
 
 use async_once_cell::OnceCell;
+use cell_doubles::stub::Stub;
 use cell_doubles::text::shows;
+use futures::test::MockTask;
+use std::mem::forget;
+use std::test::Fail;
 
 const EMPTY: &str =
     "OnceCell { value: None, inner: Inner { ready: false, quick_init: false, refcount: 0, queue: false } }";
+
+// A set cell with a queue, in which one task is counted.
+const LEFT: &str =
+    "OnceCell { value: Some(4), inner: Inner { ready: true, quick_init: false, refcount: 1, queue: true } }";
 
 // What the cell lends. A value is 6 then.
 fn changed(cell: &mut OnceCell<u64>) -> Option<u64> {
@@ -50,4 +58,25 @@ fn made_and_taken_apart(rt: HostRuntime) {
     let (made, from) = (OnceCell::new_with(5u64), OnceCell::from(7u64));
     let apart = [empty, made.into_inner(), from.into_inner()];
     assert_eq!(rt; (is_empty, apart), (true, [None, Some(5), Some(7)]));
+}
+
+/// A value may be written while a queue stands, which a forgotten future left.
+#[test]
+fn written_beside_a_queue(rt: HostRuntime) -> Result<(), Fail> {
+    let (task, stub, mut cell) = (MockTask::new(&rt)?, Stub::new(), OnceCell::new());
+    let mut holder = cell.get_or_init(&rt, stub.init());
+    let mut waiter = cell.get_or_init(&rt, stub.init());
+    let held = task.poll(&mut holder).is_pending();
+    let waited = task.poll(&mut waiter).is_pending();
+    stub.answer.set(Some(4));
+    let filled = task.poll(&mut holder).is_ready();
+    drop(holder);
+    forget(waiter);
+    let has_queue = shows(&rt, &cell, LEFT);
+    let lent = cell.get_mut().copied();
+    assert_eq!(rt;
+        (held && waited && filled, has_queue, lent),
+        (true, true, Some(4))
+    );
+    Ok(())
 }

@@ -4,39 +4,16 @@ ghost use Rattle.std.specs.Prelude.{◌≡◌, IfSome};
 use async_once_cell::once::Known;
 use async_once_cell::world::Reply;
 use async_once_cell::{Lazy, LazyFuturePin, OnceCell};
-use cell_doubles::meeting::{Blocking, Meeting, Spinning};
-use cell_doubles::poll::{heard, polled};
+use cell_doubles::meeting::{Meeting, Spinning};
+use cell_doubles::poll::heard;
 use futures::Future;
 use futures::future::ready;
-use futures::task::Poll;
 use futures::test::MockTask;
 use std::alloc::AllocGlobal;
 use std::sync::Wait;
 use std::test::Fail;
 use std::thread::{self, Threads};
 use std::time::{Clock, Duration};
-
-/// The second future waits while the first thread is inside its init, and is called when that ends.
-#[test]
-fn waits_for_another_thread(rt: HostRuntime) -> Result<(), Fail> {
-    let (cell, meeting) = (OnceCell::new(), Meeting::new());
-    let (one, two) = (MockTask::new(&rt)?, MockTask::new(&rt)?);
-    let mut f1 = cell.get_or_try_init(&rt, Blocking::new(&rt, &meeting));
-    let mut f2 = cell.get_or_try_init(&rt, Blocking::new(&rt, &meeting));
-    let (first, ()) = thread::join(
-        &rt,
-        || one.poll(&mut f1),
-        || {
-            if meeting.has_begun(&rt) && two.poll(&mut f2).is_pending() {
-                meeting.let_go();
-            }
-        },
-    );
-    assert_eq!(rt; first, Poll::Ready(Ok(&5)));
-    assert!(rt; two.is_woken());
-    assert_eq!(rt; polled(&two, &mut f2), Reply::Value(5));
-    Ok(())
-}
 
 fn once<R>(task: &MockTask, future: &mut LazyFuturePin<'_, u64, Spinning<'_>, R>) -> Reply
 where
@@ -126,7 +103,8 @@ where
     Known::compare(&a, &b)
 }
 
-/// The same with two futures of one cell that owns its future, and the tokens of both threads agree.
+/// The second future waits while the first thread is inside the init of their cell, and is called when
+/// that ends. The tokens of both threads agree.
 #[test]
 fn lazy_waits_for_another_thread(rt: HostRuntime) -> Result<(), Fail> {
     let meeting = Meeting::new();

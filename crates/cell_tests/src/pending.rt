@@ -1,0 +1,26 @@
+//! Holders whose inits are Pending and ask for nothing.
+
+use async_once_cell::{Lazy, OnceCell};
+use futures::future::pending;
+use futures::test::MockTask;
+use std::test::Fail;
+
+/// The task of a holder is not woken while its init asks for nothing.
+#[test]
+fn pending_holder_is_not_called(rt: HostRuntime) -> Result<(), Fail> {
+    let (cell, task) = (OnceCell::new(), MockTask::new(&rt)?);
+    let mut f = cell.get_or_init(&rt, pending::<u64>());
+    let is_pending = task.poll(&mut f).is_pending();
+    assert_eq!(rt; (is_pending, task.is_woken()), (true, false));
+    Ok(())
+}
+
+/// The same of a cell that owns its init.
+#[test]
+fn pending_lazy_holder_is_not_called(rt: HostRuntime) -> Result<(), Fail> {
+    let (lazy, task) = (Lazy::new(pending::<u64>()), MockTask::new(&rt)?);
+    let mut f = lazy.get(&rt);
+    let is_pending = task.poll(&mut f).is_pending();
+    assert_eq!(rt; (is_pending, task.is_woken()), (true, false));
+    Ok(())
+}

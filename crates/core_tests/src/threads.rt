@@ -1,0 +1,276 @@
+//! Two threads that use the parts of one cell at the same time.
+ghost use Rattle.std.specs.Prelude.{⊤};
+
+use async_once_cell::OnceCell;
+use async_once_cell::inner::{
+    Answer, Counted, Inner, MAX_WAITERS, NEW, Op, Out, Parts, whole_drop, whole_poll,
+};
+use async_once_cell::queue::WakerId;
+use async_once_cell::step::{Polled, Side, Step};
+use once_cells::inside::new_seat;
+use once_shared::seat::Seat;
+use std::alloc::{AllocError, AllocGlobal};
+use std::sync::Wait;
+use std::sync::atomic::{AtomicU64, Ordering};
+use std::test::Fail;
+use std::thread::{self, Threads};
+
+const COUNTS: u64 = 300_000;
+
+const CALLS: u64 = 100_000;
+
+const ROUNDS: u64 = 2_000;
+
+const SEATS: u64 = 2_000;
+
+const LOOKS: u64 = 300_000;
+
+// Counts in and out: whether it was counted in each time.
+fn is_always_counted<R: Wait + AllocGlobal>(rt: &R, inner: &Inner<u64>) -> bool {
+    let mut parts = inner.parts(rt, None);
+    let mut is_always = true;
+    for _ in 0..COUNTS {
+        is_always = is_always && matches!(parts.count_in(MAX_WAITERS), Counted::In(_));
+        parts.count_out();
+    }
+    is_always
+}
+
+/// Two threads count in and out: neither is told that the cell is full, and nobody is counted at the
+/// end.
+#[test]
+fn two_threads_count_in_and_out(rt: HostRuntime) {
+    let inner = Inner::new(false);
+    let (one, two) = thread::join(
+        &rt,
+        || is_always_counted(&rt, &inner),
+        || is_always_counted(&rt, &inner),
+    );
+    assert_eq!(rt; (one, two, inner.word()), (true, true, NEW));
+}
+
+// A side whose init fails, and which sees whether another init is polled meanwhile.
+#[derive(Drop)]
+struct Alone<'a> {
+    inside: &'a AtomicU64,
+    is_alone: bool,
+}
+
+impl Side<u64> for Alone<'_> {
+    ghost stays = { λ _ _. ⊤ };
+
+    ghost stays_same = { λ _. tt };
+
+    ghost stays_on = { λ _ _ _ _ _. tt };
+
+    fn run(&mut self) -> Polled {
+        let before = self.inside.fetch_add(1, Ordering::SeqCst);
+        self.is_alone = self.is_alone && before == 0;
+        self.inside.fetch_sub(1, Ordering::SeqCst);
+        Polled::Error
+    }
+
+    fn close(&mut self) {}
+
+    fn put(&mut self) {}
+
+    fn copy(&mut self) -> Option<u64> {
+        Some(7)
+    }
+
+    fn wake(&mut self, _out: Out<u64>)
+        ensures stays { ⊤ }
+    {}
+}
+
+// Polls new tasks, and drops those that wait: whether no two inits were polled at a time.
+fn is_always_alone<R>(rt: &R, inner: &Inner<u64>, inside: &AtomicU64) -> bool
+where
+    R: Wait + AllocGlobal,
+{
+    let mut side = Alone {
+        inside,
+        is_alone: true,
+    };
+    for _ in 0..CALLS {
+        let mut step = Step::new();
+        whole_poll(&mut inner.parts(rt, Some(7)), &mut step, &mut side);
+        if step.is_resting() {
+            whole_drop(&mut inner.parts(rt, None), &mut step, &mut side);
+        }
+    }
+    side.is_alone
+}
+
+/// Two threads claim, wait, fail and leave: one task holds at a time, and at the end nobody holds or is
+/// counted.
+#[test]
+fn two_threads_hold_in_turn(rt: HostRuntime) {
+    let (inner, inside) = (Inner::new(false), AtomicU64::new(0));
+    let (one, two) = thread::join(
+        &rt,
+        || is_always_alone(&rt, &inner, &inside),
+        || is_always_alone(&rt, &inner, &inside),
+    );
+    assert_eq!(rt; (one, two, inner.word()), (true, true, NEW));
+}
+
+// Waits until two threads are here.
+fn meet<R: Wait>(rt: &R, arrived: &AtomicU64) {
+    arrived.fetch_add(1, Ordering::SeqCst);
+    for _ in rt.forever() {
+        if arrived.load(Ordering::SeqCst) >= 2 {
+            break;
+        }
+    }
+}
+
+// Puts a queue to the door, or finds one there, and lists a waker in it: whether it is listed.
+fn is_listed<R: Wait + AllocGlobal>(rt: &R, inner: &Inner<u64>, arrived: &AtomicU64) -> bool {
+    let mut parts = inner.parts(rt, None);
+    meet(rt, arrived);
+    let Some(queue) = parts.door_put() else {
+        return false;
+    };
+    parts.section(&queue, &mut Op::List(None, Some(7))) == Answer::Listed
+}
+
+// How many are listed behind the door.
+fn listed<R: Wait + AllocGlobal>(rt: &R, inner: &Inner<u64>) -> Option<usize> {
+    let queue = inner.parts(rt, None).door_get()?;
+    let lists = queue.lock(rt);
+    Some(lists.len())
+}
+
+// Whether two threads that put a queue to the door at the same time list their wakers in one.
+fn is_one_queue<R: Wait + AllocGlobal + Threads + Sync>(rt: &R) -> bool {
+    let (inner, arrived) = (Inner::new(false), AtomicU64::new(0));
+    let holds = inner.parts(rt, None).quick();
+    let (one, two) = thread::join(
+        rt,
+        || is_listed(rt, &inner, &arrived),
+        || is_listed(rt, &inner, &arrived),
+    );
+    holds && one && two && listed(rt, &inner) == Some(2)
+}
+
+/// Two threads that come at the same time wait in one queue.
+#[test]
+fn two_threads_put_one_queue(rt: HostRuntime) {
+    let mut is_always = true;
+    for _ in 0..ROUNDS {
+        is_always = is_always && is_one_queue(&rt);
+    }
+    assert!(rt; is_always);
+}
+
+// Takes a share of the queue at the door, again and again, until it is told to stop: whether there
+// was one each time.
+fn is_always_there<R: Wait + AllocGlobal>(rt: &R, inner: &Inner<u64>, stop: &AtomicU64) -> bool {
+    let (mut parts, mut is_always) = (inner.parts(rt, None), true);
+    for _ in rt.forever() {
+        is_always = is_always && parts.door_get().is_some();
+        if stop.load(Ordering::SeqCst) > 0 {
+            break;
+        }
+    }
+    is_always
+}
+
+// Whether the parts show now that their door is busy.
+fn is_busy<R: AllocGlobal>(rt: &R, inner: &Inner<u64>) -> bool {
+    match format!(in rt.alloc(); "{inner:?}") {
+        Ok(shown) => shown.contains("queue: busy"),
+        Err(_) => false,
+    }
+}
+
+// Whether a look at the door met another one there, and then tells that one to stop.
+fn was_busy<R: AllocGlobal>(rt: &R, inner: &Inner<u64>, stop: &AtomicU64) -> bool {
+    let mut was_busy = false;
+    for _ in 0..LOOKS {
+        if is_busy(rt, inner) {
+            was_busy = true;
+            break;
+        }
+    }
+    stop.store(1, Ordering::SeqCst);
+    was_busy
+}
+
+/// While one thread uses the door another is told that it is busy; who waits for it finds the queue.
+#[test]
+fn two_threads_at_the_door(rt: HostRuntime) {
+    let (inner, stop) = (Inner::new(false), AtomicU64::new(0));
+    let is_put = inner.parts(&rt, None).door_put().is_some();
+    let (is_there, was_busy) = thread::join(
+        &rt,
+        || is_always_there(&rt, &inner, &stop),
+        || was_busy(&rt, &inner, &stop),
+    );
+    assert_eq!(rt; (is_put, is_there, was_busy), (true, true, true));
+}
+
+// Seats of the cell.
+fn seats<R>(rt: &R, cell: &OnceCell<u64>, arrived: &AtomicU64) -> Result<Vec<Seat>, AllocError>
+where
+    R: Wait + AllocGlobal,
+{
+    let mut seats = Vec::new(rt.alloc());
+    meet(rt, arrived);
+    for _ in 0..SEATS {
+        if let Some(seat) = new_seat(cell, rt) {
+            seats.push(seat)?;
+        }
+    }
+    Ok(seats)
+}
+
+/// Two threads make seats of one cell: none of the one is the same as one of the other.
+#[test]
+fn two_threads_make_seats(rt: HostRuntime) -> Result<(), Fail> {
+    let (cell, arrived) = (OnceCell::new(), AtomicU64::new(0));
+    let (one, two) = thread::join(
+        &rt,
+        || seats(&rt, &cell, &arrived),
+        || seats(&rt, &cell, &arrived),
+    );
+    let (one, two) = (one?, two?);
+    let meets = one
+        .iter()
+        .any(|seat| two.iter().any(|other| seat.same(other)));
+    assert!(rt; !meets);
+    Ok(())
+}
+
+// Looks at the cell: whether each look found the value. Then the other thread is told to stop.
+fn is_always_set(cell: &OnceCell<u64>, stop: &AtomicU64) -> bool {
+    let mut is_always = true;
+    for _ in 0..LOOKS {
+        is_always = is_always && cell.get().is_some();
+    }
+    stop.store(1, Ordering::SeqCst);
+    is_always
+}
+
+// Shows the cell again and again, until it is told to stop.
+fn show<R: Wait + AllocGlobal>(rt: &R, cell: &OnceCell<u64>, stop: &AtomicU64) {
+    for _ in rt.forever() {
+        let _ = format!(in rt.alloc(); "{cell:?}");
+        if stop.load(Ordering::SeqCst) > 0 {
+            break;
+        }
+    }
+}
+
+/// A set cell lends its value while another thread shows it.
+#[test]
+fn two_threads_look_at_a_set_cell(rt: HostRuntime) {
+    let (cell, stop) = (OnceCell::new_with(5), AtomicU64::new(0));
+    let (is_set, ()) = thread::join(
+        &rt,
+        || is_always_set(&cell, &stop),
+        || show(&rt, &cell, &stop),
+    );
+    assert!(rt; is_set);
+}
