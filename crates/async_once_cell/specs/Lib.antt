@@ -26,6 +26,7 @@ pub use Rattle.once_world.specs.Shown
 pub use Rattle.once_cells.specs.Refused
 pub use Rattle.once_cells.specs.Tokens
 pub use Rattle.once_cells.specs.Polls
+pub use Rattle.once_cells.specs.Calls
 pub use Rattle.once_cells.specs.Sure
 pub use Rattle.once_cells.specs.Stays
 -- the types that users name

@@ -1,6 +1,7 @@
 //! Whole calls of a task: step after step, until the call ends.
 ghost use Rattle.std.specs.Prelude.{◌≡◌, true, false};
-ghost use Rattle.once_core.specs.Steps.{is_resting, in_call};
+ghost use Rattle.once_core.specs.Steps.{is_resting, in_call, step_of_poll, step_of_drop};
+ghost use Rattle.once_cells.specs.Calls.{Calls, Drops, untold};
 
 use once_core::step::{Ending, Progress, Side, Step};
 use once_queue::waiters::WakerId;
@@ -19,6 +20,9 @@ pub fn whole_poll<W: WakerId + Drop, R: Wait + AllocGlobal, S: Side<W>>(
 ) -> Ending
     requires { is_resting step.old ≡ true }
     ensures ended { in_call step.new ≡ false }
+    ensures steps { Calls untold
+        record { run = S.did_run; close = S.did_close; put = S.did_put; copy = S.did_copy; wake = S.did_wake }
+        MAX_WAITERS (step_of_poll step.old) parts.old side.old result step.new parts.new side.new }
     ensures stays { S.stays side.old side.new }
 {
     step.begin();
@@ -33,6 +37,9 @@ pub fn whole_drop<W: WakerId + Drop, R: Wait + AllocGlobal, S: Side<W>>(
 )
     requires { is_resting step.old ≡ true }
     ensures ended { in_call step.new ≡ false }
+    ensures steps { Drops untold
+        record { run = S.did_run; close = S.did_close; put = S.did_put; copy = S.did_copy; wake = S.did_wake }
+        MAX_WAITERS (step_of_drop step.old) parts.old side.old step.new parts.new side.new }
     ensures stays { S.stays side.old side.new }
 {
     step.begin_drop(side);
@@ -47,13 +54,17 @@ fn go_on<W: WakerId + Drop, R: Wait + AllocGlobal, S: Side<W>>(
     side: &mut S,
 ) -> Ending
     ensures ended { in_call step.new ≡ false }
+    ensures steps { Calls untold
+        record { run = S.did_run; close = S.did_close; put = S.did_put; copy = S.did_copy; wake = S.did_wake }
+        MAX_WAITERS step.old parts.old side.old result step.new parts.new side.new }
     ensures stays { S.stays side.old side.new }
 {
-    let mut last = Ending::Dropped;
+    let mut told = Progress::More;
     while step.left() > 0 {
-        if let Progress::Ended(ending) = step.advance(parts, side, MAX_WAITERS) {
-            last = ending;
-        }
+        told = step.advance(parts, side, MAX_WAITERS);
     }
-    last
+    match told {
+        Progress::Ended(ending) => ending,
+        Progress::More => Ending::Dropped,
+    }
 }
