@@ -19,7 +19,11 @@ const COUNTS: u64 = 300_000;
 
 const CALLS: u64 = 100_000;
 
+const LONG_CALLS: u64 = 50_000;
+
 const ROUNDS: u64 = 2_000;
+
+const TAKES: u64 = 100_000;
 
 const SEATS: u64 = 2_000;
 
@@ -53,6 +57,8 @@ fn two_threads_count_in_and_out(rt: HostRuntime) {
 #[derive(Drop)]
 struct Alone<'a> {
     inside: &'a AtomicU64,
+    // How often it looks while it is polled.
+    looks: u64,
     is_alone: bool,
 }
 
@@ -66,6 +72,9 @@ impl Side<u64> for Alone<'_> {
     fn run(&mut self) -> Polled {
         let before = self.inside.fetch_add(1, Ordering::SeqCst);
         self.is_alone = self.is_alone && before == 0;
+        for _ in 0..self.looks {
+            self.is_alone = self.is_alone && self.inside.load(Ordering::SeqCst) == 1;
+        }
         self.inside.fetch_sub(1, Ordering::SeqCst);
         Polled::Error
     }
@@ -83,16 +92,23 @@ impl Side<u64> for Alone<'_> {
     {}
 }
 
-// Polls new tasks, and drops those that wait: whether no two inits were polled at a time.
-fn is_always_alone<R>(rt: &R, inner: &Inner<u64>, inside: &AtomicU64) -> bool
+// Polls new tasks, whose inits look so often, and drops those that wait: whether no two inits were
+// polled at a time.
+fn is_always_alone<R>(
+    rt: &R,
+    inner: &Inner<u64>,
+    inside: &AtomicU64,
+    (calls, looks): (u64, u64),
+) -> bool
 where
     R: Wait + AllocGlobal,
 {
     let mut side = Alone {
         inside,
+        looks,
         is_alone: true,
     };
-    for _ in 0..CALLS {
+    for _ in 0..calls {
         let mut step = Step::new();
         whole_poll(&mut inner.parts(rt, Some(7)), &mut step, &mut side);
         if step.is_resting() {
@@ -109,10 +125,19 @@ fn two_threads_hold_in_turn(rt: HostRuntime) {
     let (inner, inside) = (Inner::new(false), AtomicU64::new(0));
     let (one, two) = thread::join(
         &rt,
-        || is_always_alone(&rt, &inner, &inside),
-        || is_always_alone(&rt, &inner, &inside),
+        || is_always_alone(&rt, &inner, &inside, (CALLS, 0)),
+        || is_always_alone(&rt, &inner, &inside, (CALLS, 0)),
     );
     assert_eq!(rt; (one, two, inner.word()), (true, true, NEW));
+}
+
+/// The same with three threads, each of which holds for a while.
+#[test]
+fn three_threads_hold_in_turn(rt: HostRuntime) {
+    let (inner, inside) = (Inner::new(false), AtomicU64::new(0));
+    let alone = || is_always_alone(&rt, &inner, &inside, (LONG_CALLS, 100));
+    let (one, (two, three)) = thread::join(&rt, alone, || thread::join(&rt, alone, alone));
+    assert_eq!(rt; (one, two, three, inner.word()), (true, true, true, NEW));
 }
 
 // Waits until two threads are here.
@@ -209,6 +234,29 @@ fn two_threads_at_the_door(rt: HostRuntime) {
         || was_busy(&rt, &inner, &stop),
     );
     assert_eq!(rt; (is_put, is_there, was_busy), (true, true, true));
+}
+
+// Puts a queue to the door and takes it out, again and again, and then tells the other thread to
+// stop: whether there was one each time.
+fn is_always_taken<R: Wait + AllocGlobal>(rt: &R, inner: &Inner<u64>, stop: &AtomicU64) -> bool {
+    let (mut parts, mut is_always) = (inner.parts(rt, None), true);
+    for _ in 0..TAKES {
+        is_always = is_always && parts.door_put().is_some() && parts.door_take();
+    }
+    stop.store(1, Ordering::SeqCst);
+    is_always
+}
+
+/// While one thread uses the door, another takes out each queue that it put there.
+#[test]
+fn two_threads_take_each_queue(rt: HostRuntime) {
+    let (inner, stop) = (Inner::new(false), AtomicU64::new(0));
+    let (is_taken, _) = thread::join(
+        &rt,
+        || is_always_taken(&rt, &inner, &stop),
+        || is_always_there(&rt, &inner, &stop),
+    );
+    assert!(rt; is_taken);
 }
 
 // Seats of the cell.
