@@ -1,4 +1,4 @@
-//! What the contracts of `memo` do not say of its table, and whole runs of its program.
+//! What the contracts of `memo` do not say of its table, and whole runs of it.
 ghost use Rattle.std.specs.Prelude.{◌*◌, ◌^◌, ◌<◌};
 
 use async_once_cell::OnceCell;
@@ -10,7 +10,7 @@ use memo::ask::{Answer, agreed, answer_within, ask};
 use memo::fault::Fault;
 use memo::fetch::Fetch;
 use memo::memo::Memo;
-use memo::{run, status};
+use memo::run;
 use std::alloc::{AllocError, AllocGlobal, Global};
 use std::io;
 use std::io::{ErrorKind, Write};
@@ -250,32 +250,31 @@ impl Write for Target {
     }
 }
 
-// Whether a beginning went out, whether it was cut, the status, and whether a write failed.
-fn written<R: Threads + Wait + RandomSource + AllocGlobal + Clock + Sync + Eprint>(
+// Whether a beginning went out, whether it was cut, whether the run gave up, and whether a write failed.
+fn written<R: Threads + Wait + RandomSource + AllocGlobal + Clock + Sync>(
     rt: &R,
     fails_at: u64,
-) -> (bool, bool, u8, bool) {
+) -> (bool, bool, bool, bool) {
     let mut target = Target {
         text: Vec::new(rt.alloc()),
         writes: 0,
         fails_at,
     };
-    let ended = status(rt, &mut target);
+    let gave_up = run(rt, &mut target).is_err();
     let printed = target.text.as_slice();
     let failed = 0 < fails_at && fails_at <= target.writes;
     let is_beginning = TEXT.as_bytes().starts_with(printed);
-    (is_beginning, printed.len() < TEXT.len(), ended, failed)
+    (is_beginning, printed.len() < TEXT.len(), gave_up, failed)
 }
 
-/// Where a write fails, a beginning has gone out, and the status is 1.
+/// Where a write fails, a beginning has gone out, and the run gives up.
 #[test]
 fn a_failed_write_leaves_a_beginning(rt: HostRuntime) {
     for fails_at in 0..=8 {
-        let (is_beginning, is_cut, ended, failed) = written(&rt, fails_at);
-        let wanted = (true, failed, u8::from(failed));
+        let (is_beginning, is_cut, gave_up, failed) = written(&rt, fails_at);
         assert_eq!(rt;
-            (is_beginning, is_cut, ended),
-            wanted,
+            (is_beginning, is_cut, gave_up),
+            (true, failed, failed),
             "at write {fails_at}"
         );
     }

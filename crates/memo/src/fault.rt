@@ -5,7 +5,7 @@ use std::alloc::AllocError;
 use std::io;
 use thiserror::Error;
 
-/// Why the program gives up. Each ends it with status 1.
+/// Why the program gives up.
 #[derive(Debug, Drop, Error)]
 pub enum Fault {
     /// The table has no cell for this key. No cell was asked.

@@ -48,18 +48,3 @@ fn print_answers<O: Write>(output: &mut O, answers: &[Answer], fetches: u64) -> 
     writeln!(output, "fetches {fetches}")?;
     output.flush()
 }
-
-/// The status that a run ends with. Where it gave up, its reason goes to standard error.
-pub fn status<R, O>(rt: &R, output: &mut O) -> u8
-where
-    R: Threads + Wait + RandomSource + AllocGlobal + Clock + Sync + Eprint,
-    O: Write,
-{
-    match run(rt, output) {
-        Ok(()) => 0,
-        Err(fault) => {
-            let _ = rt.eprintln(fault);
-            1
-        }
-    }
-}

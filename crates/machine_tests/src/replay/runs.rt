@@ -414,36 +414,44 @@ fn prints_the_entries_of_the_owner(rt: HostRuntime) -> Result<(), Fail> {
     Ok(())
 }
 
-// Reads that fail: the number of the read, how it fails, and the fault of the run.
-const FAILED_READS: [(u64, ErrorKind, Fault); 7] = [
-    (1, ErrorKind::ConnectionReset, Fault::Io),
-    (2, ErrorKind::ConnectionReset, Fault::Io),
-    (4, ErrorKind::TimedOut, Fault::Io),
-    (1, ErrorKind::OutOfMemory, Fault::Memory),
-    (2, ErrorKind::OutOfMemory, Fault::Memory),
-    (1, ErrorKind::Interrupted, Fault::Unreadable(2)),
-    (0, ErrorKind::Other, Fault::Unreadable(2)),
+// How a read fails, and the fault of the run. After one that is interrupted the text is read on.
+const FAILED_READS: [(ErrorKind, Fault); 4] = [
+    (ErrorKind::ConnectionReset, Fault::Io),
+    (ErrorKind::TimedOut, Fault::Io),
+    (ErrorKind::OutOfMemory, Fault::Memory),
+    (ErrorKind::Interrupted, Fault::Unreadable(2)),
 ];
 
+// The text is read in three pieces, and one read more finds its end.
+const READS: u64 = 4;
+
+/// Each read fails in turn, up to the first that is not made.
 #[test]
 fn a_failed_read_prints_nothing(rt: HostRuntime) {
-    for (fails_at, kind, fault) in &FAILED_READS {
-        let source = Source::new("once 8\nunreadable\n", 7, *fails_at, *kind);
-        let seen = ending(rt.alloc(), source);
-        assert_eq!(rt; seen, (Err(*fault), 0), "at read {fails_at}");
+    for (kind, fault) in &FAILED_READS {
+        for fails_at in 1..=READS + 1 {
+            let source = Source::new("once 8\nunreadable\n", 7, fails_at, *kind);
+            let wanted = if fails_at <= READS {
+                *fault
+            } else {
+                Fault::Unreadable(2)
+            };
+            assert_eq!(rt;
+                ending(rt.alloc(), source),
+                (Err(wanted), 0),
+                "at read {fails_at}"
+            );
+        }
     }
 }
 
 // Writers: the piece, the number of the write that fails, whether a flush fails, and what a run
 // answers.
-const WRITERS: [(usize, u64, bool, Result<(), Fault>); 9] = [
+const WRITERS: [(usize, u64, bool, Result<(), Fault>); 6] = [
     (usize::MAX, 0, false, Ok(())),
     (1000, 0, false, Ok(())),
     (usize::MAX, 1, false, Err(Fault::Io)),
     (usize::MAX, 2, false, Err(Fault::Io)),
-    (1000, 1, false, Err(Fault::Io)),
-    (1000, 3, false, Err(Fault::Io)),
-    (1000, 11, false, Err(Fault::Io)),
     (1000, 0, true, Err(Fault::Io)),
     (0, 0, false, Err(Fault::Io)),
 ];
@@ -479,6 +487,26 @@ fn a_failed_write_leaves_a_beginning(rt: HostRuntime) -> Result<(), Fail> {
         let target = Target::new(rt.alloc(), *piece, *fails_at, *flush_fails);
         let seen = written(rt.alloc(), text.as_str(), wanted.as_str(), target);
         assert_eq!(rt; seen, (*answer, true), "at write {fails_at}");
+    }
+    Ok(())
+}
+
+// How many writes the same text takes in pieces of a thousand bytes.
+const WRITES: u64 = 16;
+
+/// Each write fails in turn, up to the first that is not made.
+#[test]
+fn each_write_fails(rt: HostRuntime) -> Result<(), Fail> {
+    let (text, wanted) = many_looks(rt.alloc())?;
+    for fails_at in 1..=WRITES + 1 {
+        let target = Target::new(rt.alloc(), 1000, fails_at, false);
+        let seen = written(rt.alloc(), text.as_str(), wanted.as_str(), target);
+        let answer = if fails_at <= WRITES {
+            Err(Fault::Io)
+        } else {
+            Ok(())
+        };
+        assert_eq!(rt; seen, (answer, true), "at write {fails_at}");
     }
     Ok(())
 }

@@ -1,0 +1,33 @@
+//! What a cell that owns its init has.
+ghost use Rattle.std.specs.Prelude.{◌≡◌, Some, IfOk};
+ghost use Rattle.async_once_cell.specs.Tokens.{Agrees};
+
+use crate::fault::Fault;
+use async_once_cell::Lazy;
+use async_once_cell::once::Known;
+use futures::Future;
+use futures::executor::block_on;
+use std::alloc::AllocGlobal;
+use std::random::RandomSource;
+use std::sync::Wait;
+
+/// The value of a cell, which is made where nobody asked before. Who asks with a token that knows the
+/// value is told that one. It waits for whoever makes the value.
+pub fn ask<'a, T: Drop, F, R>(
+    rt: &'a R,
+    lazy: &'a Lazy<T, F>,
+    token: &mut Known<'a, T>,
+) -> Result<&'a T, Fault>
+where
+    F: Future<Output = T>,
+    R: Wait + RandomSource + AllocGlobal,
+    requires { token.old.cell ≡ lazy.now }
+    ensures cell { token.new.cell ≡ token.old.cell }
+    ensures value { IfOk result (λ value. (token.new.value ≡ Some value.now) × Agrees token.old.value value.now) }
+{
+    if let Some(value) = lazy.try_get_as(token) {
+        return Ok(value);
+    }
+    block_on(rt, lazy.get(rt))??;
+    lazy.try_get_as(token).ok_or(Fault::Empty)
+}

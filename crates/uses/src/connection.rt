@@ -1,0 +1,114 @@
+//! A connection that is tried again after an error, until it is there.
+ghost use Rattle.std.specs.Prelude.{◌≡◌, Some, IfOk};
+
+use crate::fault::Fault;
+use async_once_cell::OnceCell;
+use async_once_cell::once::{InitError, Known, Refused, TryInitFuture};
+use futures::Future;
+use futures::executor::block_on;
+use futures::task::{Context, Poll};
+use std::alloc::AllocGlobal;
+use std::cell::Cell;
+use std::io::Write;
+use std::random::RandomSource;
+use std::sync::Wait;
+
+/// A connection, with the number of the try that made it.
+#[derive(Clone, Copy, Debug, PartialEq, Eq)]
+pub struct Connection {
+    number: u64,
+}
+
+/// The other side does not answer.
+#[derive(Clone, Copy, Debug, PartialEq, Eq)]
+pub struct Down;
+
+/// The other side: it answers at its third try.
+#[derive(Drop)]
+struct Server {
+    tries: Cell<u64>,
+}
+
+/// The init: one try.
+#[derive(Drop)]
+struct Dial<'a> {
+    server: &'a Server,
+}
+
+impl Future for Dial<'_> {
+    type Output = Result<Connection, Down>;
+
+    fn poll(&mut self, _cx: &mut Context<'_>) -> Poll<Result<Connection, Down>> {
+        let number = self.server.tries.get().saturating_add(1);
+        self.server.tries.set(number);
+        if number < 3 {
+            return Poll::Ready(Err(Down));
+        }
+        Poll::Ready(Ok(Connection { number }))
+    }
+}
+
+// One try, where there is no connection yet. An error is the answer of this try alone.
+#[derive(Drop)]
+struct Trying<'a, R: Wait + AllocGlobal> {
+    future: TryInitFuture<'a, Connection, Down, Dial<'a>, R>,
+}
+
+impl<R: Wait + AllocGlobal> Future for Trying<'_, R> {
+    type Output = Result<(), Refused>;
+
+    fn poll(&mut self, cx: &mut Context<'_>) -> Poll<Result<(), Refused>> {
+        match Future::poll(&mut self.future, cx) {
+            Poll::Ready(Ok(_) | Err(InitError::Init(Down))) => Poll::Ready(Ok(())),
+            Poll::Ready(Err(InitError::Memory)) => Poll::Ready(Err(Refused::Memory)),
+            Poll::Ready(Err(InitError::Full)) => Poll::Ready(Err(Refused::Full)),
+            Poll::Pending => Poll::Pending,
+        }
+    }
+}
+
+/// The connection, after at most so many tries. It is the one that the token knows, for good.
+fn connect<'a, R>(
+    rt: &'a R,
+    cell: &'a OnceCell<Connection>,
+    server: &'a Server,
+    token: &mut Known<'a, Connection>,
+    most: u64,
+) -> Result<Connection, Fault>
+where
+    R: Wait + RandomSource + AllocGlobal,
+    requires { token.old.cell ≡ cell.now }
+    ensures cell { token.new.cell ≡ token.old.cell }
+    ensures value { IfOk result (λ connection. token.new.value ≡ Some connection) }
+{
+    for _ in 0..most {
+        if cell.get().is_some() {
+            break;
+        }
+        let future = cell.get_or_try_init(rt, Dial { server });
+        block_on(rt, Trying { future })??;
+    }
+    cell.get_as(token).copied().ok_or(Fault::Tries(most))
+}
+
+/// Connects with too few tries, and then with enough.
+pub fn show<R, O>(rt: &R, output: &mut O) -> Result<(), Fault>
+where
+    R: Wait + RandomSource + AllocGlobal,
+    O: Write,
+{
+    let (cell, server) = (
+        OnceCell::new(),
+        Server {
+            tries: Cell::new(0),
+        },
+    );
+    for most in [2, 4, 4] {
+        match connect(rt, &cell, &server, &mut cell.token(), most) {
+            Ok(Connection { number }) => writeln!(output, "connected at try {number}")?,
+            Err(Fault::Tries(tries)) => writeln!(output, "no connection after {tries} tries")?,
+            Err(other) => return Err(other),
+        }
+    }
+    Ok(())
+}

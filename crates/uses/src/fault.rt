@@ -1,0 +1,32 @@
+//! Why the program gives up.
+
+use async_once_cell::once::{InitError, Refused};
+use std::alloc::AllocError;
+use std::io;
+use thiserror::Error;
+
+/// Why the program gives up.
+#[derive(Debug, Drop, Error)]
+pub enum Fault {
+    /// A call on a cell was refused.
+    #[error("a poll was refused: {0}")]
+    Refused(#[from] Refused),
+    /// No connection was there after so many tries.
+    #[error("no connection after {0} tries")]
+    Tries(u64),
+    /// A cell was filled, and its value is not found.
+    #[error("a cell that was filled is empty")]
+    Empty,
+    /// Two tasks were told different values.
+    #[error("two tasks were told different values")]
+    Differ,
+    /// Memory was refused.
+    #[error("out of memory")]
+    Memory(#[from(alloc)] AllocError),
+    /// The table gave up.
+    #[error("{0}")]
+    Table(#[from] memo::fault::Fault),
+    /// A write failed, or the system gave no task.
+    #[error("{0}")]
+    Io(#[from] io::Error),
+}

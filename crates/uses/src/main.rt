@@ -1,0 +1,43 @@
+//! What such cells are for: settings, a connection, a graph of values, a pool of tasks and a table.
+#![tactic(auto)]
+
+mod ask;
+mod connection;
+mod fault;
+mod graph;
+mod pool;
+mod settings;
+
+use fault::Fault;
+use std::alloc::AllocGlobal;
+use std::fs::Files;
+use std::io;
+use std::io::Write;
+use std::process::ExitCode;
+use std::random::RandomSource;
+use std::sync::Wait;
+use std::thread::Threads;
+use std::time::Clock;
+
+fn run<R, O>(rt: &R, output: &mut O) -> Result<(), Fault>
+where
+    R: Files + Threads + Wait + RandomSource + AllocGlobal + Clock + Sync,
+    O: Write,
+{
+    settings::show(rt, output)?;
+    connection::show(rt, output)?;
+    graph::show(rt, output)?;
+    pool::show(rt, output)?;
+    memo::run(rt, output)?;
+    Ok(())
+}
+
+fn main(rt: HostRuntime) -> ExitCode {
+    match run(&rt, &mut io::writer(&rt)) {
+        Ok(()) => ExitCode::SUCCESS,
+        Err(fault) => {
+            let _ = eprintln!(rt; "{fault}");
+            ExitCode::FAILURE
+        }
+    }
+}
