@@ -30,5 +30,14 @@ module _ {P S W Q : Type 0} (parts : PartsTell P W Q) (side : SideTells S W) whe
 -- parts of which nothing is told
 abbrev pub untold : {P W Q : Type 0} → PartsTell P W Q
 untold = record {
-  load = λ _ _ _. ⊤; quick = λ _ _ _. ⊤; fast = λ _ _ _ _. ⊤; count_in = λ _ _ _ _. ⊤; add_one = λ _ _. ⊤;
-  count_out = λ _ _ _. ⊤; door_get = λ _ _ _. ⊤; door_put = λ _ _ _. ⊤; door_take = λ _ _ _. ⊤; section = λ _ _ _ _ _ _. ⊤ }
+  load = λ _ _ _. ⊤;
+  quick = λ _ _ _. ⊤;
+  fast = λ _ _ _ _. ⊤;
+  count_in = λ _ _ _ _. ⊤;
+  add_one = λ _ _. ⊤;
+  count_out = λ _ _ _. ⊤;
+  door_get = λ _ _ _. ⊤;
+  door_put = λ _ _ _. ⊤;
+  door_take = λ _ _ _. ⊤;
+  section = λ _ _ _ _ _ _. ⊤;
+}

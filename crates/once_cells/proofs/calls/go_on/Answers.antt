@@ -4,19 +4,19 @@ use Rattle.once_cells.specs.Calls.Makes.{none, next}
 use Rattle.once_cells.proofs.calls.go_on.Goals as goal
 
 pub loop-told-init : goal.loop-told-init
-loop-told-init g c = (search rules , none)
+loop-told-init g c = (search rules, none)
 
 pub loop-told-preserved : goal.loop-told-preserved
-loop-told-preserved g c = (search rules , next _ _ _ _ _ _ _ _ c.loop-told.invariant.1 c.advance-told.ensures.line)
+loop-told-preserved g c = (search rules, next _ _ _ _ _ _ _ _ c.loop-told.invariant.1 c.advance-told.ensures.line)
 
 pub returns-in-Ended-clause-ended : goal.returns-in-Ended-clause-ended
 returns-in-Ended-clause-ended g c = search rules
 
 pub returns-in-Ended-clause-steps : goal.returns-in-Ended-clause-steps
-returns-in-Ended-clause-steps g c = (_ , (rw (c.in-Ended.is) refl) , c.loop-told.invariant.1)
+returns-in-Ended-clause-steps g c = (_, (rw (c.in-Ended.is) refl), c.loop-told.invariant.1)
 
 pub returns-in-More-clause-ended : goal.returns-in-More-clause-ended
 returns-in-More-clause-ended g c = search rules
 
 pub returns-in-More-clause-steps : goal.returns-in-More-clause-steps
-returns-in-More-clause-steps g c = (_ , (rw (c.in-More.is) refl) , c.loop-told.invariant.1)
+returns-in-More-clause-steps g c = (_, (rw (c.in-More.is) refl), c.loop-told.invariant.1)
