@@ -1,4 +1,72 @@
 //! Cells that are filled once, by a future.
+//!
+//! A cell is empty or has one value. Tasks that need the value ask the cell for it: one of them makes
+//! it, and the others wait. So settings are read once, and a table fetches each key once.
+//!
+//! - An [`OnceCell`] is asked with an init: a future that gives the value or an error. Each caller
+//!   brings its own, and the first that gives a value fills the cell.
+//! - A [`Lazy`] is made with the future that will fill it. Whoever asks drives that future on.
+//!
+//! A poll answers the value, or why there is none: its own init failed, or it was [`Refused`].
+//!
+//! ```
+//! let cell = OnceCell::new();
+//! let first = block_on(rt, cell.get_or_init(rt, ready(4)))?; // Ok(&4)
+//! let second = block_on(rt, cell.get_or_init(rt, ready(5)))?; // Ok(&4): this init is not polled
+//!
+//! let lazy = Lazy::new(ready(3));
+//! let third = block_on(rt, lazy.get(rt))?; // Ok(&3)
+//! ```
+//!
+//! # How it works
+//!
+//! **The right.** One task at a time has the right to run its init: the holder. While its init is
+//! Pending it keeps the right.
+//!
+//! **The word.** The tasks of a cell share one number, the word. Its low 62 bits are the count: how
+//! many tasks are counted in. The next bit is the quick bit: a task holds by the quick claim. The last
+//! one is the ready bit: the value is set. The word of a new cell is 0.
+//!
+//! **The quick claim.** A task that finds the word 0 tries to exchange it for the quick bit. If that is
+//! done the task has the right. This takes no memory and no lock.
+//!
+//! **The door and the queue.** A task that finds neither the value nor the right goes to the door. The
+//! door is where the queue of the cell stands; where none stands, the task puts one there. A queue is a
+//! flag and a list, behind a lock. The flag says that a task holds which claimed under this lock. The
+//! list has a listing for each task that waits: a ticket, by which the task finds it again, and a waker.
+//!
+//! **Counting in.** A task that has found the queue counts in: the count grows by one. The quick claim
+//! needs the word 0, and the fast release (below) needs the quick bit alone. So neither is done while
+//! anybody is counted.
+//!
+//! **Waiting.** A task that is counted loads the word again, and then takes the lock and looks. If the
+//! value is set, it counts out and answers the value. If nobody holds, it raises the flag and has the
+//! right. Else it lets the lock go, copies its waker, takes the lock again and looks again; where still
+//! another task holds, it lists the copy at the end. Now its poll is Pending: the task waits.
+//!
+//! **The release.** A holder whose init gave a value puts it into the cell, and takes the lock. It gives
+//! the right back, sets the ready bit, and takes all listings out. Their wakers are called after that,
+//! with the lock free. A holder whose init failed, or that is dropped, gives the right back without a
+//! value, and one waiter is called: the first listing that still has a waker gives it, and stays in the
+//! list. Its task was called, and so has the turn.
+//!
+//! **The fast release.** A holder by the quick claim is not counted. It first tries to exchange the
+//! quick bit for the ready bit, or for 0 where it has no value. If that is done, nobody is counted, and
+//! there is nobody to call. Else it counts in, finds the queue at the door, and releases as above.
+//!
+//! **Leaving.** A waiter that is dropped or refused memory takes its listing out. If it was called and
+//! the cell is empty, it passes its turn on: the first listing that has a waker gives it.
+//!
+//! **The end of the queue.** A task that is done counts out. If the value is set and nobody is counted
+//! any more, it takes the queue out of the door. So does a holder that set the value by the fast
+//! release, since a task that was dropped may have left a queue there.
+//!
+//! # What is proved
+//!
+//! A call makes sixteen steps of [`step::Step`] at most. [`world::replay`] makes them one at a time, over
+//! plain data, and its contract is the theorem: every record is a run of a cell that is empty, held by
+//! one task or set. The cells make the same steps over parts that threads share; that those act as the
+//! plain ones do is tested, and not proved. `docs/PROVED.md` of the repository has each clause.
 #![tactic(auto)]
 
 pub mod inner;
