@@ -7,7 +7,7 @@
 //!   brings its own, and the first that gives a value fills the cell.
 //! - A [`Lazy`] is made with the future that will fill it. Whoever asks drives that future on.
 //!
-//! A poll answers the value, or why there is none: its own init failed, or it was [`Refused`].
+//! A poll is Pending, or it answers the value, the error of its own init, or that it was [`Refused`].
 //!
 //! ```
 //! let cell = OnceCell::new();
@@ -57,7 +57,7 @@
 //! **Leaving.** A waiter that is dropped or refused memory takes its listing out. If it was called and
 //! the cell is empty, it passes its turn on: the first listing that has a waker gives it.
 //!
-//! **The end of the queue.** A task that is done counts out. If the value is set and nobody is counted
+//! **The end of the queue.** A task that is counted and done counts out. If the value is set and nobody is counted
 //! any more, it takes the queue out of the door. So does a holder that set the value by the fast
 //! release, since a task that was dropped may have left a queue there.
 //!
