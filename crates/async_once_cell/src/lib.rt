@@ -57,9 +57,9 @@
 //! **Leaving.** A waiter that is dropped or refused memory takes its listing out. If it was called and
 //! the cell is empty, it passes its turn on: the first listing that has a waker gives it.
 //!
-//! **The end of the queue.** A task that is counted and done counts out. If the value is set and nobody is counted
-//! any more, it takes the queue out of the door. So does a holder that set the value by the fast
-//! release, since a task that was dropped may have left a queue there.
+//! **The end of the queue.** When a task that is counted is done, it counts out. If the value is set and
+//! nobody is counted any more, it takes the queue out of the door. So does a holder that set the value
+//! by the fast release, since a task that was dropped may have left a queue there.
 //!
 //! # What is proved
 //!
