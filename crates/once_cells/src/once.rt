@@ -177,6 +177,7 @@ impl<T> OnceCell<T> {
         self.inner.parts(rt, seat)
     }
 
+    // A seat for a future. Two additions never answer the same number, so no two seats have one.
     #[inline(always)]
     pub(crate) fn new_seat<R: AllocGlobal>(&self, rt: &R) -> Option<Seat> {
         let number = self.seats.fetch_add(1, Ordering::SeqCst);

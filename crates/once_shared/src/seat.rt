@@ -36,8 +36,8 @@ pub struct Seat {
 impl WakerId for Seat {
     ghost tells_same = { λ a b. (arc_value a.shared).number ≡ (arc_value b.shared).number };
 
-    // Two seats that are listed are never the same, since a future lists its seat in one place alone. A
-    // fill so calls all of them, and none is compared with the others.
+    // Two seats that are listed are never the same, since a future has at most one listing, with its
+    // own seat. So a fill calls all of them, and compares none with the others.
     ghost tells_other = { λ _ _. ⊤ };
 
     #[inline(always)]
@@ -52,7 +52,7 @@ impl WakerId for Seat {
 }
 
 impl Seat {
-    /// A seat on which nobody sits. No other seat of its cell has this number.
+    /// A seat on which nobody sits. The caller gives a number that no other seat of its cell has.
     #[inline(always)]
     pub fn new(alloc: Global, number: u64) -> Result<Seat, AllocError> {
         let sitter = Mutex::new(Sitter {
@@ -78,7 +78,10 @@ impl Seat {
         Some(Seat { shared })
     }
 
-    /// Another share, to be listed. What came before is no call of it.
+    /// Another share, to be listed. The seat forgets a call that came earlier.
+    //
+    // Nothing is lost by that: the waiter looks at the cell again when it lists this share. A call that
+    // comes after the listing raises the flag again.
     #[inline(always)]
     pub fn share_anew<R: Wait>(&self, rt: &R) -> Option<Seat> {
         let seat = self.share()?;
@@ -88,6 +91,9 @@ impl Seat {
 
     /// Ends a poll that waits: the task sits down, or is to be polled again where the seat was
     /// called meanwhile.
+    //
+    // Flag and waker are looked at and changed under one lock. So a call comes before, and is found
+    // here, or comes after, and finds the waker.
     #[inline(always)]
     pub fn sit<T, R: Wait>(&self, rt: &R, cx: &mut Context<'_>) -> Poll<T>
         ensures pending { result ≡ Poll.Pending }
@@ -103,6 +109,8 @@ impl Seat {
     }
 
     /// Calls the seat: the task that sits there is woken, with the seat's lock free.
+    //
+    // The flag is for a task that is listed and does not sit yet.
     #[inline(always)]
     pub fn call<R: Wait>(self, rt: &R) {
         let mut sitter = self.shared.sitter.lock(rt);
