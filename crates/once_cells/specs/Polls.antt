@@ -12,7 +12,7 @@ abbrev pub is_ready : {A : Type 0} → Poll A → Bool
 is_ready (Ready x) = true
 is_ready Pending = false
 
--- from one moment of a future and of a context to a later one: the cell is the same, the future is finished exactly where the poll answered, where it did not its task will be called, and what the context had it keeps
+-- from one moment of a future and of a context to a later one: the cell is the same, the future is finished exactly where the poll answered, a poll that did not answer has registered its task somewhere or asked for another poll, and what the context had it keeps
 pub record DidPoll {A : Type 0} (old new : Call) (before after : Context) (result : Poll A) : Type 0 where
   pub cell : new.cell ≡ old.cell
   pub finished : new.finished ≡ is_ready result

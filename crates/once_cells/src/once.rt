@@ -129,9 +129,9 @@ impl<T> OnceCell<T> {
     /// alone, and leaves the cell empty.
     ///
     /// ```
-    /// let cell = OnceCell::new();
-    /// block_on(rt, cell.get_or_try_init(rt, err::<u64, _>("down")))?; // Err(Init("down"))
-    /// block_on(rt, cell.get_or_try_init(rt, ok::<u64, &str>(7)))?; // Ok(&7)
+    /// let (cell, task) = (OnceCell::new(), MockTask::new(rt)?);
+    /// task.poll(&mut cell.get_or_try_init(rt, err::<u64, u64>(9))); // Ready(Err(Init(9)))
+    /// task.poll(&mut cell.get_or_try_init(rt, ok::<u64, u64>(7))); // Ready(Ok(&7))
     /// ```
     #[inline(always)]
     pub fn get_or_try_init<'a, E, F, R>(
