@@ -24,8 +24,8 @@ use std::{fmt, mem};
 ///
 /// Each call brings its own init. One task at a time has the right to run its init; the others wait,
 /// and are woken when the cell is filled. An init that fails, or whose future is dropped, leaves the
-/// cell empty and wakes one who waits, which runs its own. One that was woken and leaves instead, by a
-/// drop or a refusal, wakes the next.
+/// cell empty and wakes one who waits, which runs its own. If that one leaves instead, by a drop or a
+/// refusal, and nobody holds then, it wakes the next.
 ///
 /// ```
 /// let cell = OnceCell::new();
@@ -99,8 +99,8 @@ impl<T> OnceCell<T> {
         mem::replace(self, OnceCell::new()).into_inner()
     }
 
-    /// The value, where it was set. All else of the cell goes as in [`OnceCell::take`]. It waits for
-    /// nobody.
+    /// The value, where it was set. All else of the cell goes with it, also a queue that futures left
+    /// there. It waits for nobody.
     pub fn into_inner(self) -> Option<T> {
         let OnceCell {
             inner: _,

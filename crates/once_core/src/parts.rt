@@ -15,8 +15,8 @@ pub enum Counted {
     SeenReady,
 }
 
-/// The word, the door and the queue of a cell. Each call is one step. A member for each call says
-/// what it asks, answers and leaves; one that is left out says nothing.
+/// The word, the door and the queue of a cell. Each call is one step. For each call ghost members say
+/// what it asks, answers and leaves; a member that is left out says nothing.
 pub trait Parts<W> {
     /// A queue, as a waiter keeps it.
     type Queue;
@@ -59,11 +59,12 @@ pub trait Parts<W> {
     fn load(&mut self) -> u64
         ensures { did_load self.old result self.new };
 
-    /// Exchanges `NEW` for `QINIT_BIT`: whether it did.
+    /// Exchanges `NEW` for `QINIT_BIT`, where the word is `NEW`. The answer says whether it did.
     fn quick(&mut self) -> bool
         ensures { did_quick self.old result self.new };
 
-    /// Exchanges `QINIT_BIT` for `READY_BIT` or for `NEW`: whether it did.
+    /// Exchanges `QINIT_BIT` for `READY_BIT` or for `NEW`, where the word is exactly `QINIT_BIT`. The
+    /// answer says whether it did.
     fn fast(&mut self, ready: bool) -> bool
         ensures { did_fast self.old ready result self.new };
 
@@ -72,12 +73,12 @@ pub trait Parts<W> {
         requires { limit ≤ 2 ^ 62 - 2 }
         ensures { did_count_in self.old limit result self.new };
 
-    /// Counts a releasing quick holder in, whatever the limit is.
+    /// Counts in a quick holder that gives the right back, whatever the limit is.
     fn add_one(&mut self)
         requires { can_add_one self.old }
         ensures { did_add_one self.old self.new };
 
-    /// Counts the caller out: the word after.
+    /// Counts the caller out, and answers the word after it.
     fn count_out(&mut self) -> u64
         requires { can_count_out self.old }
         ensures { did_count_out self.old result self.new };
@@ -86,12 +87,12 @@ pub trait Parts<W> {
     fn door_get(&mut self) -> Option<Self::Queue>
         ensures { did_door_get self.old result self.new };
 
-    /// Makes a queue, and puts it to the door or finds another there. `None` is want of memory.
+    /// Puts a new queue to the door, or finds one there. `None` says that memory was refused.
     fn door_put(&mut self) -> Option<Self::Queue>
         requires { can_log self.old }
         ensures { did_door_put self.old result self.new };
 
-    /// Takes the queue out of the door: whether one stood there.
+    /// Takes the queue out of the door. The answer says whether one stood there.
     fn door_take(&mut self) -> bool
         requires { can_log self.old }
         ensures { did_door_take self.old result self.new };

@@ -52,9 +52,9 @@ pub enum Progress {
     Ended(Ending),
 }
 
-/// What a call brings of its own: its init, the value or error that this gave, and its waker. A
-/// member for each call says what it answers and leaves; one that is left out says nothing. All of
-/// them keep `stays`.
+/// What a call brings of its own: its init, the value or error that this gave, and its waker. For each
+/// call here a ghost member says what it answers and leaves; a member that is left out says nothing.
+/// All of these calls keep `stays`.
 pub trait Side<W> {
     ghost use Rattle.std.specs.Prelude.{⊤, Option};
     ghost use Rattle.once_queue.specs.declared.waiters.Out.{Out};
@@ -72,8 +72,8 @@ pub trait Side<W> {
 
     ghost stays: { Self → Self → Type 0 };
 
-    /// Polls the init once, and keeps a value or an error that it gave. An init that is gone answers
-    /// Pending.
+    /// Polls the init once, and keeps a value or an error that it gave. Where the init was dropped
+    /// before, the answer is Pending.
     fn run(&mut self) -> Polled
         ensures did { did_run self.old result self.new }
         ensures stays { stays self.old self.new };
@@ -136,7 +136,7 @@ impl<W: Drop, Q: Drop> Step<W, Q> {
         matches!(self, Step::Finished)
     }
 
-    /// Whether a call may begin: none is under way, and the last one did not end for good.
+    /// Whether a call may begin: none is under way, and the last one, if any, ended Pending.
     #[inline(always)]
     pub fn is_resting(&self) -> bool
         ensures { result ≡ is_resting self.now }
@@ -165,7 +165,7 @@ impl<W: Drop, Q: Drop> Step<W, Q> {
         matches!(self, Step::UnderWay(Place::Fast(_)))
     }
 
-    /// Whether the next step counts a holder in, whose fast release was not done.
+    /// Whether the next step counts a holder in, because its fast release was not done.
     pub fn is_adding(&self) -> bool
         ensures { result ≡ is_adding self.now }
     {
@@ -287,8 +287,8 @@ impl<W: Drop, Q: Drop> Step<W, Q> {
         }
     }
 
-    // Puts a step in the place of one that was taken out, of which `Finished` was left: there is nothing
-    // to drop. Without `forget` each assignment would first test which variant it replaces.
+    // Puts a step where the one before was taken out. `Finished` stands there, so there is nothing to
+    // drop. Without `forget` each assignment would first test which variant it replaces.
     #[inline(always)]
     fn set(&mut self, step: Step<W, Q>)
         ensures { self.new ≡ step }

@@ -112,11 +112,11 @@ pub enum Answer<W> {
 
 /// The flag of a holder that took the right under the lock, and the listings of those who wait.
 ///
-/// No ticket stands in the list twice. A look, a listing and a leave take the same time however many
-/// are listed, on average over many, where no two wakers can be the same; else a new listing is
-/// compared with each. So does a release without the value. One with the value takes time in
-/// proportion to the listings, but where two listed wakers are the same: there each is compared with
-/// all before it.
+/// No ticket stands in the list twice. On average over many calls, a look, a listing, a leave and a
+/// release without the value take the same time however many are listed. But where two wakers may be
+/// the same, the waker of a new listing is compared with each. A release with the value takes time in
+/// proportion to the listings. But where two listed wakers are the same, each is compared with all
+/// before it.
 #[derive(Drop)]
 pub struct Lists<W: WakerId> {
     pub head: bool,
@@ -149,8 +149,8 @@ impl<W: WakerId + Drop> Lists<W> {
     }
 
     /// Claims the right where the word and the flag leave it free: the own listing is taken out, and
-    /// the ticket given up. Else says whether the own listing has this waker. With no waker, no
-    /// ticket, or where it was called, it has not.
+    /// the ticket given up. Else says whether the own listing has this waker. It has not where there
+    /// is no waker or no ticket, or where the listing was called.
     #[inline(always)]
     pub fn look(&mut self, ticket: &mut Option<u64>, waker: Option<&W>, word: u64) -> Answer<W>
         // The first case that holds gives the answer.
@@ -307,7 +307,7 @@ impl<W: WakerId + Drop> Lists<W> {
         self.slots.find(ticket?)?.waker.as_ref()
     }
 
-    // Takes the own listing out, or where there is none makes room for one: the ticket to list by.
+    // Takes the own listing out; where there is none, makes room for one. Answers the ticket to list by.
     fn make_place(&mut self, ticket: Option<u64>) -> Result<u64, AllocError>
         ensures ticket { IfOk result (λ n. n ≡ ticket_for ticket (listings_of self.old)) }
         ensures listings { IfOk result (λ n. listings_of self.new ≡ take_out n (listings_of self.old)) }
@@ -326,7 +326,7 @@ impl<W: WakerId + Drop> Lists<W> {
         Ok(self.slots.free_ticket())
     }
 
-    // Takes the own listing out, if the ticket has one: the ticket then.
+    // Takes the own listing out, if the ticket has one, and answers the ticket then.
     fn take_own(&mut self, ticket: Option<u64>) -> Option<u64>
         ensures kept { result ≡ kept_ticket ticket (listings_of self.old) }
         ensures listings { listings_of self.new ≡ list_without ticket (listings_of self.old) }

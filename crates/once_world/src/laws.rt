@@ -1,7 +1,7 @@
 //! Laws of every run of a cell, for those who build on it.
 //!
 //! These functions do nothing: the contract of each is a law, and it follows from "the record is a
-//! run" alone, which `replay` ensures. A record stands newest entry first.
+//! run" alone, which `replay` ensures. In the contracts the newest entry stands first.
 ghost use Rattle.std.specs.Prelude.{◌≡◌, ◌≢◌, ◌≤◌, ◌⊎◌, ℕ, true, false, List, [], ◌∷◌, Some, None, length};
 ghost use Rattle.once_world.specs.Record.{Answer, RanError, Kind, Reply, Value, Error, Memory, Full, Entry, Claim, Ran, Free, Pass, End, DropEnd, is_own};
 ghost use Rattle.once_world.specs.Cell.{Empty, Held, SetTo, cell, answers_left};
@@ -11,8 +11,8 @@ ghost use Rattle.once_world.specs.Refusals.{Since, OtherActs};
 ghost use Rattle.once_world.specs.Crowd.{AreWaiting};
 ghost use Rattle.once_world.specs.Run.{IsRun};
 
-/// At most one task holds the right, whether it rests with it or is in a call. Who claims it finds the
-/// cell empty, and an init is polled by the task that holds it.
+/// At most one task holds the right, whether it rests or is in a call. Who claims the right finds the
+/// cell empty, and an init is polled by the task that holds.
 pub fn one_task_holds()
     ensures holder { (kind : Kind) (t u : ℕ) (h : List Entry) → cell kind h ≡ Held t → cell kind h ≡ Held u → t ≡ u }
     ensures rests { (kind : Kind) (limit t : ℕ) (h : List Entry) → IsRun kind limit h → status kind t h ≡ Holding → cell kind h ≡ Held t }
@@ -48,23 +48,23 @@ pub fn set_value_is_answered_first()
         → ((last_call kind t h).ran ≡ None) × ((v : ℕ) × (cell kind h ≡ SetTo v) × (r ≡ Value v)) }
 {}
 
-/// A poll ends for want of memory only where another task held or was in a call since it began. It
-/// finds the place full, where no other did, only while at least `limit` other tasks waited.
+/// A poll ends for want of memory only where another task held or was in a call since it began. Where
+/// none did, it ends as full only where at least `limit` other tasks waited at a moment since it began.
 pub fn refusals_need_others()
     ensures memory { (kind : Kind) (limit t : ℕ) (h : List Entry) → IsRun kind limit (End t Memory ∷ h) → Since t (OtherActs kind t) h }
     ensures full { (kind : Kind) (limit t : ℕ) (h : List Entry) → IsRun kind limit (End t Full ∷ h) → (Since t (OtherActs kind t) h → ⊥) → Since t (AreWaiting kind limit t) h }
 {}
 
-/// A release without a value wakes one task, and not all that wait: it hands out one waker at most.
-/// Where some task waits and was not called since its last poll ended, it hands out one, which is open.
+/// A release without a value hands out one waker at most, and not those of all who wait. Where some
+/// task waits and was not called since its last poll ended, it hands out one, which is open.
 pub fn failed_release_calls_one()
     ensures at_most_one { (kind : Kind) (limit t : ℕ) (X : List ℕ) (h : List Entry) → IsRun kind limit (Free t X ∷ h) → length X ≤ 1 }
     ensures somebody { (kind : Kind) (limit t d : ℕ) (X : List ℕ) (h : List Entry) → IsRun kind limit (Free t X ∷ h) → IsDue kind d h → (w : ℕ) × (X ≡ w ∷ []) × IsOpen kind w h }
 {}
 
 /// A task that passes its turn on leaves. It finds the cell empty and hands out one waker, which is
-/// open. It does so once in its call and claims nothing later in it, a poll ends for want of memory,
-/// and no other call begins: the task is in this one, or gone.
+/// open. It does so once in its call, and claims nothing later in that call. If the call is a poll, it
+/// ends for want of memory. No call of the task begins after it: the task is in this one, or gone.
 pub fn leaver_passes_its_turn_on()
     ensures to_one { (kind : Kind) (limit t : ℕ) (X : List ℕ) (h : List Entry) → IsRun kind limit (Pass t X ∷ h) → (cell kind h ≡ Empty) × ((w : ℕ) × (X ≡ w ∷ []) × IsOpen kind w h) }
     ensures once { (kind : Kind) (limit t : ℕ) (X : List ℕ) (h : List Entry) → IsRun kind limit (Pass t X ∷ h) → (last_call kind t h).passed ≡ false }
@@ -73,8 +73,8 @@ pub fn leaver_passes_its_turn_on()
     ensures leaves { (kind : Kind) (limit t : ℕ) (h : List Entry) → IsRun kind limit h → (last_call kind t h).passed ≡ true → (is_under_way (status kind t h) ≡ true) ⊎ (status kind t h ≡ Gone) }
 {}
 
-/// No waker is handed out more often than it waited: since the owner last replaced the cell, at most
-/// once for each poll begun with it that ended Pending while another task held.
+/// No waker is handed out more often than tasks waited with it. Since the owner last replaced the cell
+/// that is at most once for each poll begun with it that ended Pending while another task held.
 pub fn wakes_answer_waits()
     ensures { (kind : Kind) (limit w : ℕ) (h : List Entry) → IsRun kind limit h → times_handed w h ≤ times_opened kind w h }
 {}

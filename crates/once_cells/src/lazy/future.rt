@@ -14,12 +14,13 @@ use std::sync::{Mutex, Wait};
 
 /// Future of [`Lazy::get`](super::Lazy::get).
 ///
-/// A poll answers the value that is set. While it is not, the task that gets the right polls the
+/// A poll answers the value that is set. While none is set, the task that gets the right polls the
 /// cell's future; the others are Pending until they are woken. To drop one of these leaves the
 /// cell's future as it is, and another task drives it on.
 ///
-/// What a poll or a drop may wait for is said at [`InitFuture`]; a poll may wait besides for the
-/// lock in which the cell keeps its future, which nobody has while the future is polled.
+/// What a poll or a drop may wait for is said at [`TryInitFuture`](crate::once::TryInitFuture). Besides,
+/// a poll may wait for the lock in which the cell keeps its future. Nobody has that lock while the
+/// future is polled.
 #[derive(Drop)]
 pub struct LazyFuturePin<'a, T, F: Future, R: Wait + AllocGlobal> {
     future: InitFuture<'a, T, Driven<'a, F, R>, R>,

@@ -23,18 +23,20 @@ use std::sync::Wait;
 /// Future of [`OnceCell::get_or_try_init`].
 ///
 /// A poll answers the value that is set. While the cell is empty, the task that gets the right polls
-/// its init; the others are Pending until they are woken: all of them by the value, and one by an
-/// error or by the drop of a future that had the right. Who was woken by these and is dropped or
-/// refused wakes the next. The init is dropped as soon as it is not needed any more: when it gave a
-/// value or an error, when the value is found set, when the poll is refused, and when the future is
-/// dropped. Only then is the place among those who wait, or the right, given back.
+/// its init, and the others are Pending until they are woken. The value wakes all of them. An error, or
+/// the drop of a future that had the right, wakes one. If that one is dropped or refused instead, and
+/// nobody holds then, it wakes the next.
 ///
-/// A poll or a drop may wait for the locks of the door, of the queue and of the places of those who
-/// wait, and a poll that fills the cell for that of the value. A task has each of the first three for
-/// a few operations, that of the queue now and then for a look at each listing, and none while an
-/// init is polled or dropped, a value is dropped, or those who were listed are called. (Where a future
-/// moved to another task, the one before is woken under the lock of its place.) A poll that counts
-/// itself in tries again while others change the word.
+/// The init is dropped as soon as it is not needed any more: when it gave a value or an error, when the
+/// value is found set, when the poll is refused, and when the future is dropped. Only then does the task
+/// give the right back, or leave those who wait.
+///
+/// A poll or a drop may wait for the locks of the door, of the queue and of the seats of those who wait.
+/// A poll that fills the cell may wait for the lock of the value. A task has each of the first three
+/// locks for a few operations, that of the queue now and then for a look at each listing. It has none of
+/// them while an init is polled or dropped, a value is dropped, or those who were listed are called.
+/// There is one exception: where a future moved to another task, the task before is woken under the lock
+/// of the future's seat. A poll that counts itself in tries again while others change the word.
 pub struct TryInitFuture<'a, T, E, F: Future, R: Wait + AllocGlobal> {
     error: PhantomData<E>,
     cell: &'a OnceCell<T>,
@@ -81,7 +83,8 @@ impl<'a, T, E, F: Future, R: Wait + AllocGlobal> TryInitFuture<'a, T, E, F, R> {
         self.step.is_finished()
     }
 
-    // What a drop does: the init is dropped, and then the place or the right given back.
+    // What a drop does: the init is dropped, and then the task gives the right back, or leaves those who
+    // wait.
     fn leave(&mut self)
         ensures cell { self.new.cell ≡ self.old.cell }
         ensures finished { self.new.finished ≡ true }
@@ -111,9 +114,9 @@ where
     /// Polls the future once.
     ///
     /// It answers the value that is set, the error that its own init gave, or a refusal: `Memory`
-    /// where a place among those who wait could not be made, `Full` where as many tasks wait as may.
-    /// After any of these it is finished. After an error or a refusal the cell is as if the future
-    /// had been dropped.
+    /// where a place among those who wait could not be made, `Full` where as many tasks are counted in
+    /// as may be. After any of these it is finished. After an error or a refusal the cell is as if the
+    /// future had been dropped.
     #[inline(always)]
     pub fn poll(&mut self, cx: &mut Context<'_>) -> Poll<Result<&'a T, InitError<E>>>
         requires { self.old.finished ≡ false }
@@ -177,7 +180,7 @@ where
         cx.yield_now()
     }
 
-    // What a poll answers that ended so.
+    // What a poll answers whose steps ended so.
     #[inline(always)]
     fn answer(
         &mut self,
@@ -236,7 +239,7 @@ where
     }
 }
 
-/// The init is dropped first, and then the place among those who wait, or the right.
+/// The init is dropped first. Then the task gives the right back, or leaves those who wait.
 impl<T, E, F: Future, R: Wait + AllocGlobal> Drop for TryInitFuture<'_, T, E, F, R> {
     fn drop(mut self) {
         self.leave();
@@ -260,7 +263,7 @@ fn set(step: &mut Step<Seat, Queue<Seat>>, to: Step<Seat, Queue<Seat>>)
     *step = to;
 }
 
-// Why a poll ended so without a value, if it did.
+// Why a poll that ended so has no value, if it has none.
 #[inline(always)]
 fn refusal<E: Drop>(ending: Ending, error: Option<E>) -> Option<InitError<E>> {
     match ending {

@@ -10,8 +10,8 @@ use std::fmt;
 pub enum Refused {
     /// Memory was refused, for a place among those who wait.
     Memory,
-    /// As many tasks are counted in as may be: those that wait, those in a call that may come to wait or
-    /// leaves, and a holder that waited before.
+    /// As many tasks are counted in as may be. Counted are those that wait, those in a call that came to
+    /// the queue, and a holder that claimed there.
     Full,
 }
 
