@@ -24,11 +24,11 @@
 //! Pending it keeps the right.
 //!
 //! **The word.** The tasks of a cell share one number, the word. Its low 62 bits are the count: how
-//! many tasks are counted in. The next bit is the quick bit: a task holds by the quick claim. The last
-//! one is the ready bit: the value is set. The word of a new cell is 0.
+//! many tasks are counted in. The next bit is the quick bit: a quick holder has the right. The last one
+//! is the ready bit: the value is set. The word of a new cell is 0.
 //!
 //! **The quick claim.** A task that finds the word 0 tries to exchange it for the quick bit. If that is
-//! done the task has the right. This takes no memory and no lock.
+//! done, the task has the right, and is called a quick holder. This takes no memory and no lock.
 //!
 //! **The door and the queue.** A task that finds neither the value nor the right goes to the door. The
 //! door is where the queue of the cell stands; where none stands, the task puts one there. A queue is a
@@ -42,17 +42,18 @@
 //! **Waiting.** A task that is counted loads the word again, and then takes the lock and looks. If the
 //! value is set, it counts out and answers the value. If nobody holds, it raises the flag and has the
 //! right. Else it lets the lock go, copies its waker, takes the lock again and looks again; where still
-//! another task holds, it lists the copy at the end. Now its poll is Pending: the task waits.
+//! another task holds, it lists the copy at the end. Now its poll is Pending: the task waits. At its
+//! next poll it does the same again.
 //!
 //! **The release.** A holder whose init gave a value puts it into the cell, and takes the lock. It gives
-//! the right back, sets the ready bit, and takes all listings out. Their wakers are called after that,
-//! with the lock free. A holder whose init failed, or that is dropped, gives the right back without a
-//! value, and one waiter is called: the first listing that still has a waker gives it, and stays in the
-//! list. Its task was called, and so has the turn.
+//! the right back, sets the ready bit, and takes all listings out. Their wakers are handed out, and are
+//! called with the lock free. A holder whose init failed, or that is dropped, gives the right back
+//! without a value, and one waiter is called: the first listing that still has a waker gives it, and
+//! stays in the list. Its task has the turn.
 //!
-//! **The fast release.** A holder by the quick claim is not counted. It first tries to exchange the
-//! quick bit for the ready bit, or for 0 where it has no value. If that is done, nobody is counted, and
-//! there is nobody to call. Else it counts in, finds the queue at the door, and releases as above.
+//! **The fast release.** A quick holder is not counted. It first tries to exchange the quick bit for the
+//! ready bit, or for 0 where it has no value. If that is done, nobody is counted, and there is nobody to
+//! call. Else it counts in, finds the queue at the door, and releases as above.
 //!
 //! **Leaving.** A waiter that is dropped or refused memory takes its listing out. If it was called and
 //! the cell is empty, it passes its turn on: the first listing that has a waker gives it.
