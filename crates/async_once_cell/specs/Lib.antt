@@ -23,6 +23,7 @@ pub use Rattle.once_world.specs.Machine
 pub use Rattle.once_world.specs.Can
 pub use Rattle.once_world.specs.Side
 pub use Rattle.once_world.specs.Shown
+pub use Rattle.once_world.specs.Reached
 pub use Rattle.once_cells.specs.Refused
 pub use Rattle.once_cells.specs.Tokens
 pub use Rattle.once_cells.specs.Polls

@@ -1,5 +1,5 @@
 //! The listings of those who wait, in their order, each found by its ticket without a search.
-ghost use Rattle.std.specs.Prelude.{◌≡◌, ◌==◌, ◌<◌, ◌≤◌, ◌⊎◌, ◌++◌, ◌∷◌, [], ℕ, true, false, cond, Some, None, IsSome, IfSome, IsOk, OnOk, length, vec_len, vec_capacity, HoldsAt, filter};
+ghost use Rattle.std.specs.Prelude.{◌≡◌, ◌==◌, ◌<◌, ◌≤◌, ◌⊎◌, ◌++◌, ◌∷◌, [], ℕ, true, false, cond, Some, None, IsSome, IfSome, IfOk, IsOk, OnOk, length, vec_len, vec_capacity, HoldsAt, filter};
 ghost use Rattle.std.specs.List.{position};
 ghost use Rattle.std.specs.Option.{option_copied, option_map};
 ghost use Rattle.once_queue.specs.Numbers.{is_distinct, member};
@@ -42,7 +42,7 @@ pub struct Slots<W> {
 
 impl<W: Drop> Slots<W> {
     ghost use Rattle.once_queue.specs.Listings.{find_listing, take_out, first_waker, call_first, new_ticket};
-    ghost use Rattle.once_queue.specs.Slots.{HasMark, HasSlot, listings_in};
+    ghost use Rattle.once_queue.specs.Slots.{HasMark, HasSlot, listings_in, shown};
 
     /// No listing. It takes no memory.
     #[inline(always)]
@@ -64,6 +64,14 @@ impl<W: Drop> Slots<W> {
         ensures { listings_in self.now ≡ filter is_kept result.now }
     {
         &self.slots
+    }
+
+    /// The listings, in their order.
+    pub fn listings(&self, alloc: Global) -> Result<Vec<&Listing<W>>, AllocError>
+        ensures { IfOk result (λ all. shown all.items ≡ listings_in self.now) }
+    {
+        let kept = self.slots.iter().filter(|slot| slot.ticket != HOLE);
+        kept.collect(alloc)
     }
 
     /// How many listings there are.

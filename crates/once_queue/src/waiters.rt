@@ -131,7 +131,7 @@ pub struct Lists<W: WakerId> {
 impl<W: WakerId + Drop> Lists<W> {
     ghost use Rattle.once_queue.specs.Word.{flags_of};
     ghost use Rattle.once_queue.specs.Listings.{Listing, find_listing, own_listing, take_out, list_without, first_waker, call_first, kept_ticket, ticket_for, passes_turn, next_waker, left_list};
-    ghost use Rattle.once_queue.specs.Slots.{HasMark, HasSlot};
+    ghost use Rattle.once_queue.specs.Slots.{HasMark, HasSlot, shown};
     ghost use Rattle.once_queue.specs.Room.{HasSpace, listings_of};
     ghost use Rattle.once_queue.specs.Sections.{shows_set, shows_free, shows_taken, Looked, Lists as DidList, Releases};
 
@@ -249,6 +249,13 @@ impl<W: WakerId + Drop> Lists<W> {
         ensures listings { listings_of self.new ≡ listings_of self.old }
     {
         self.slots.reserve()
+    }
+
+    /// Who is listed, the oldest first.
+    pub fn listings(&self, alloc: Global) -> Result<Vec<&Listing<W>>, AllocError>
+        ensures { IfOk result (λ all. shown all.items ≡ listings_of self.now) }
+    {
+        self.slots.listings(alloc)
     }
 
     /// How many are listed.

@@ -14,3 +14,4 @@ pub mod Machine
 pub mod Can
 pub mod Side
 pub mod Shown
+pub mod Reached

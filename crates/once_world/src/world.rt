@@ -15,7 +15,7 @@ use std::alloc::{AllocError, Global};
 mod play;
 mod side;
 
-use play::World;
+pub use play::World;
 
 /// Replays these inputs over a cell of this kind, in which at most `limit` tasks may be counted in.
 ///

@@ -1,5 +1,6 @@
-//! A replay under way.
-ghost use Rattle.std.specs.Prelude.{◌≡◌, ◌<◌, ◌≤◌, ◌+◌, ◌-◌, ◌^◌, ◌++◌, ◌==◌, ℕ, Bool, true, false, [], Some, None, OnOk, IfOk, reverse};
+//! A replay under way, one input at a time.
+ghost use Rattle.std.specs.Prelude.{◌≡◌, ◌<◌, ◌≤◌, ◌+◌, ◌-◌, ◌^◌, ◌++◌, ◌∷◌, ◌==◌, ℕ, Bool, List, true, false, [], Some, None, OnOk, IfOk, reverse};
+ghost use Rattle.std.specs.Option.{option_copied, option_map};
 ghost use Rattle.once_world.specs.Machine.{unfinished_after, error_in as error_of, release_entry as release_of, end_entry as end_of};
 ghost use Rattle.once_world.specs.Shown.{call_of, entry_of, history_in, claim_entries, ran_entries, out_entries, wakers_in, step_entries};
 
@@ -212,9 +213,20 @@ impl ReplayCell {
     }
 }
 
-/// A replay under way.
+/// A cell and its tasks under replay, which take one input at a time.
+///
+/// `replay` is the loop over it. Between two inputs it shows its record so far, what all tasks share,
+/// and where each task stands:
+///
+/// ```
+/// let mut world = World::new(alloc, Kind::Once, 8);
+/// world.take(&Input::Make(1))?;
+/// world.take(&Input::Poll(1, 5))?;
+/// let begun = world.entries(); // Made(1), Begin(1, 5)
+/// let next = world.step_of(1); // under way, at its start
+/// ```
 #[derive(Drop)]
-pub(super) struct World {
+pub struct World {
     limit: u64,
     shared: ReplayCell,
     tasks: BTreeMap<u64, Task>,
@@ -225,14 +237,22 @@ pub(super) struct World {
 
 impl World {
     ghost use Rattle.once_world.specs.Record.{Kind as RecordedKind, is_lazy, has_call as owner_has};
-    ghost use Rattle.once_world.specs.Machine.{first_world, world_after, make_world, poll_world, drop_world, go_world, own_world_by};
+    ghost use Rattle.once_world.specs.Machine.{first_world, world_after, word_of, make_world, poll_world, drop_world, go_world, own_world_by};
     ghost use Rattle.once_world.specs.Can.{MayTake, TaskCan};
-    ghost use Rattle.once_world.specs.Shown.{kind_of, call_of, input_of, inner_of, world_in};
+    ghost use Rattle.once_world.specs.Run.{IsRun};
+    ghost use Rattle.once_world.specs.Shown.{kind_of, call_of, input_of, inner_of, world_in, record_entries, record_lines};
+    ghost use Rattle.once_world.specs.Reached.{IsAfter, IsReached};
+    ghost use Rattle.once_world.specs.Inputs.{Input as Taken};
+    ghost use Rattle.once_core.specs.Core.{state_of};
+    ghost use Rattle.once_queue.specs.Room.{listings_of};
 
-    pub(super) fn new(alloc: Global, kind: Kind, limit: u64) -> Self
-        ensures world { world_in result ≡ first_world (kind_of kind) }
-        ensures lazy { result.shared.side.lazy ≡ is_lazy (kind_of kind) }
-        ensures limit { result.limit ≡ limit }
+    /// A cell of this kind that nobody used, in which at most `limit` tasks may be counted in. It takes
+    /// no memory.
+    pub fn new(alloc: Global, kind: Kind, limit: u64) -> Self
+        requires some { 0 < limit }
+        requires within { limit ≤ 2 ^ 62 - 2 }
+        ensures after { IsAfter (kind_of kind) limit [] result }
+        ensures reached { IsReached result }
     {
         World {
             limit,
@@ -243,8 +263,45 @@ impl World {
         }
     }
 
-    // Takes one input.
-    pub(super) fn take(&mut self, input: &Input) -> Result<(), AllocError>
+    /// Takes one input. One that does not fit is passed over, and changes nothing.
+    ///
+    /// `AllocError` says that the record or the world could not grow. Then nothing is said of the
+    /// world: the input may have been taken in part.
+    pub fn take(&mut self, input: &Input) -> Result<(), AllocError>
+        requires reached { IsReached self.old }
+        ensures reached { OnOk result (IsReached self.new) }
+        ensures after { (kind : RecordedKind) (limit : ℕ) (inputs : List Taken) → IsAfter kind limit inputs self.old → OnOk result (IsAfter kind limit (input_of input.now ∷ inputs) self.new) }
+    {
+        self.apply(input)
+    }
+
+    /// The record so far, the oldest entry first.
+    pub fn entries(&self) -> &[Entry]
+        ensures entries { history_in result.now ≡ (world_in self.now).history }
+        ensures run { (kind : RecordedKind) (limit : ℕ) (inputs : List Taken) → IsAfter kind limit inputs self.now → IsRun kind limit (history_in result.now) }
+    {
+        &self.entries
+    }
+
+    /// What all tasks share: the word, the queue at the door, its flag, and who is listed there.
+    pub fn core(&self) -> &Core<u64>
+        ensures word { (state_of result.now).word ≡ word_of (world_in self.now).inner }
+        ensures door { result.now.door ≡ (world_in self.now).inner.door }
+        ensures flag { result.now.lists.head ≡ (world_in self.now).inner.head }
+        ensures listings { listings_of result.now.lists ≡ (world_in self.now).inner.listings }
+    {
+        &self.shared.core
+    }
+
+    /// Where a task stands, or None where it was not made.
+    pub fn step_of(&self, task: u64) -> Option<&Step<u64, u64>>
+        ensures { option_copied result ≡ option_map (λ x. x.step) ((world_in self.now).tasks task) }
+    {
+        Some(&self.tasks.get(&task)?.step)
+    }
+
+    // Takes one input, which the machine may take.
+    fn apply(&mut self, input: &Input) -> Result<(), AllocError>
         requires limit { self.old.limit ≤ 2 ^ 62 - 2 }
         requires may { MayTake self.old.limit (world_in self.old) (input_of input.now) }
         ensures world { (kind : RecordedKind) → is_lazy kind ≡ self.old.shared.side.lazy → OnOk result (world_in self.new ≡ world_after kind self.old.limit (world_in self.old) (input_of input.now)) }
@@ -359,10 +416,10 @@ impl World {
         Ok(())
     }
 
-    // The record so far.
-    pub(super) fn into_record(self) -> Record
-        ensures entries { history_in result.entries.items ≡ (world_in self).history }
-        ensures queues { reverse result.queues.items ≡ (world_in self).log }
+    /// The record, with the queue log and the queue that stands at the door.
+    pub fn into_record(self) -> Record
+        ensures entries { record_entries result ≡ (world_in self).history }
+        ensures queues { record_lines result ≡ (world_in self).log }
         ensures queue { result.queue ≡ (world_in self).inner.door }
     {
         let queue = self.shared.core.door;

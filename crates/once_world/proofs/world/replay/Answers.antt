@@ -1,12 +1,12 @@
 -- What is proved of the machine holds of the replay.
-use Rattle.std.proofs.Common.{◌≡◌, sym, subst, ap, ◌∙◌, arith, rules, take}
+use Rattle.std.proofs.Common.{◌≡◌, ◌+◌, ◌∷◌, sym, subst, ap, ◌∙◌, arith, rules, take}
 use Rattle.std.proofs.lemmas.Grind.{common_steps}
 use Rattle.once_world.specs.Run.{AtEvery, IsRun}
 use Rattle.once_world.specs.Called.{SomebodyCalled}
 use Rattle.once_world.specs.Inputs.{FallsInto, ends_for_memory}
 use Rattle.once_world.specs.Log.{IsLogOf, IsSound, standing_queue}
 use Rattle.once_world.specs.Machine.{history_of, log_of, queue_of}
-use Rattle.once_world.specs.Shown.{record_entries, record_lines, inputs_in, kind_of, input_of}
+use Rattle.once_world.specs.Shown.{record_entries, record_lines, inputs_in, input_of, kind_of}
 use Rattle.once_world.proofs.Input.Headline.{every_run, one_is_called}
 use Rattle.once_world.proofs.Law.Nobody.{nobody_forgotten}
 use Rattle.once_world.proofs.Law.Called.{waiter_called}
@@ -14,17 +14,21 @@ use Rattle.once_world.proofs.Law.Values.{one_value}
 use Rattle.once_world.proofs.Door.Logged.{log_sound, log_stands}
 use Rattle.once_world.proofs.Part.Belonging.{belongs}
 use Rattle.once_world.proofs.Part.Ample.{ample_memory}
-use Rattle.once_world.proofs.Exactness.Asked.{may_take}
 use Rattle.once_world.proofs.world.replay.Goals as goal
 
 pub loop-input-init : goal.loop-input-init
-loop-input-init c = search rules
+loop-input-init c = c.new-world.ensures.after
 
--- the machine may take every input, and so may the replay
-pub take-requires-clause-may : goal.take-requires-clause-may
-take-requires-clause-may c =
-    let i = c.loop-input.invariant in
-    rw (i.2, i.0) (may_take (kind_of c.args.kind) c.args.limit (inputs_in (take c.loop-input.input-index c.args.inputs.now)) (input_of c.input-item.result) c.requires.some)
+-- the inputs so far led here
+pub take-requires : goal.take-requires
+take-requires c = record { reached = (kind_of c.args.kind, c.args.limit, inputs_in (take c.loop-input.input-index c.args.inputs.now), c.loop-input.invariant) }
+
+-- and the next one leads on
+pub loop-input-preserved : goal.loop-input-preserved
+loop-input-preserved c =
+    let before = inputs_in (take c.loop-input.input-index c.args.inputs.now) in
+    let same : inputs_in (take (c.loop-input.input-index + 1) c.args.inputs.now) ≡ input_of c.input-item.result ∷ before = grind (arith, common_steps, c.input-item.is) in
+    rw (same) (c.in_ok-take.ensures.after (kind_of c.args.kind) c.args.limit before c.loop-input.invariant)
 
 pub returns : goal.returns
 returns c =

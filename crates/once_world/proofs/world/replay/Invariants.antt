@@ -1,12 +1,8 @@
 -- The world so far is the machine's after the inputs so far.
-use Rattle.std.proofs.Common.{◌≡◌, take}
-use Rattle.once_world.specs.Record.{is_lazy}
-use Rattle.once_world.specs.Machine.{world_of}
-use Rattle.once_world.specs.Shown.{kind_of, inputs_in, world_in}
+use Rattle.std.proofs.Common.{take}
+use Rattle.once_world.specs.Reached.{IsAfter}
+use Rattle.once_world.specs.Shown.{kind_of, inputs_in}
 use Rattle.once_world.proofs.world.replay.Given as goal
 
 abbrev pub invariant-loop-input : goal.invariant-loop-input
-invariant-loop-input l =
-    (world_in l.world ≡ world_of (kind_of l.fn.kind) l.fn.limit (inputs_in (take l.input-index l.inputs)))
-    × (l.world.shared.side.lazy ≡ is_lazy (kind_of l.fn.kind))
-    × (l.world.limit ≡ l.fn.limit)
+invariant-loop-input l = IsAfter (kind_of l.fn.kind) l.fn.limit (inputs_in (take l.input-index l.inputs)) l.world

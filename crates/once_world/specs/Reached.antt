@@ -1,0 +1,19 @@
+-- A replay under way, as the machine sees it.
+use Rattle.std.specs.Prelude.{◌≡◌, ◌<◌, ◌≤◌, ◌-◌, ◌^◌, ℕ, List}
+use Rattle.once_world.specs.declared.world.play.World.{World}
+use Rattle.once_world.specs.Record.{Kind, is_lazy}
+use Rattle.once_world.specs.Inputs.{Input}
+use Rattle.once_world.specs.Machine.{world_of}
+use Rattle.once_world.specs.Shown.{world_in}
+
+-- the world is the machine's after these inputs, the newest first, for a cell of this kind with this limit
+pub record IsAfter (kind : Kind) (limit : ℕ) (inputs : List Input) (w : World) : Type 0 where
+  pub world : world_in w ≡ world_of kind limit inputs
+  pub lazy : w.shared.side.lazy ≡ is_lazy kind
+  pub bound : w.limit ≡ limit
+  pub some : 0 < limit
+  pub within : limit ≤ 2 ^ 62 - 2
+
+-- some inputs led some cell here
+abbrev pub IsReached : World → Type 0
+IsReached w = (kind : Kind) × (limit : ℕ) × (inputs : List Input) × IsAfter kind limit inputs w
