@@ -1,5 +1,6 @@
-//! What `once_replay` makes of its input, text against text.
+//! What `once_replay` and `once_show` make of their input, text against text.
 
 mod logs;
 mod rows;
 mod runs;
+mod shown;

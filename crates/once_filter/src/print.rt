@@ -16,7 +16,7 @@ pub fn print_record<O: Write + Drop>(alloc: Global, record: &Record, output: O) 
 
 /// The line of an entry, without its end.
 #[derive(Clone, Copy)]
-struct EntryLine<'a>(&'a Entry);
+pub struct EntryLine<'a>(pub &'a Entry);
 
 impl EntryLine<'_> {
     /// The word that the line begins with.

@@ -91,7 +91,7 @@ fn append(inputs: &mut Vec<Input>, line: Line) -> Result<(), AllocError>
 }
 
 /// Reads the first line.
-fn parse_opening(alloc: Global, text: &str) -> Result<Option<Opening>, AllocError>
+pub fn parse_opening(alloc: Global, text: &str) -> Result<Option<Opening>, AllocError>
     ensures read { IfOk result
         (λ read. IfSome read (λ opening. IsOpening opening.kind opening.limit text.now)) }
     ensures all { (kind : Kind) (limit : ℕ) → IsOpening kind limit text.now

@@ -49,7 +49,7 @@ impl Read for Source<'_> {
 
 /// A writer that takes a text in pieces, and fails once, at the write with this number.
 #[derive(Drop)]
-struct Target {
+pub struct Target {
     text: Vec<u8>,
     piece: usize,
     writes: u64,
@@ -58,7 +58,7 @@ struct Target {
 }
 
 impl Target {
-    fn new(alloc: Global, piece: usize, fails_at: u64, flush_fails: bool) -> Target {
+    pub fn new(alloc: Global, piece: usize, fails_at: u64, flush_fails: bool) -> Target {
         Target {
             text: Vec::new(alloc),
             piece,

@@ -1,0 +1,228 @@
+//! What `once_show` makes of a script: its table, its picture, and what it says of a mistake.
+use super::runs::Target;
+use async_once_cell::step::{Place, Step};
+use async_once_cell::world::{Entry, Input, Kind, Ran, World};
+use once_view::fault::Fault;
+use once_view::play::{Moment, Watcher, play};
+use once_view::reading::read_script;
+use once_view::{Form, show};
+use std::alloc::{AllocError, Global};
+use std::test::Fail;
+
+// A script as it is shown.
+fn shown(alloc: Global, form: Form, text: &[u8]) -> Result<String, Fault> {
+    let mut output = Vec::new(alloc);
+    show(alloc, form, text, &mut output)?;
+    Ok(String::from_utf8_lossy(alloc, output.as_slice())?)
+}
+
+// Scripts in which one line, the last, is passed over, and what is said of it.
+const PASSED_OVER: [(&str, &str); 14] = [
+    ("once 1\nmake 1\nmake 1", "task 1 was made before"),
+    ("once 1\npoll 2 5", "task 2 was not made"),
+    ("once 1\ndrop 2", "task 2 was not made"),
+    ("once 1\ngo 2 p", "task 2 was not made"),
+    ("once 1\nmake 1\nrun 1 p", "no call of task 1 is under way"),
+    (
+        "once 1\nmake 1\ndrop 1\ngo 1 p",
+        "no call of task 1 is under way",
+    ),
+    (
+        "once 1\nmake 1\npoll 1 5\npoll 1 5",
+        "a call of task 1 is under way",
+    ),
+    (
+        "once 1\nmake 1\npoll 1 5\ndrop 1",
+        "a call of task 1 is under way",
+    ),
+    (
+        "once 1\nmake 1\npoll 1 5\nrun 1 v4\npoll 1 5",
+        "task 1 is gone",
+    ),
+    ("once 1\nmake 1\nmake 3\ndrop 1\ntake", "task 3 is not gone"),
+    ("once 1\nparts", "a once cell has no parts"),
+    ("once 1\nreplace", "a once cell has no replace"),
+    ("once 1\nreplace with 4", "a once cell has no replace"),
+    ("lazy 1\ntake", "a lazy cell has no take"),
+];
+
+#[test]
+fn what_is_passed_over_is_told(rt: HostRuntime) -> Result<(), Fail> {
+    for (script, reason) in &PASSED_OVER {
+        let Ok(table) = shown(rt.alloc(), Form::Table, script.as_bytes()) else {
+            panic!(rt; "no table of {script}");
+        };
+        let wanted = format!(in rt.alloc(); "(passed over: {reason})\n")?;
+        assert!(rt; table.ends_with(wanted.as_str()), "{table}");
+    }
+    Ok(())
+}
+
+// Sees whether each line that adds nothing is told to be passed over, but for steps and the first, and
+// whether each that is passed over adds nothing.
+#[derive(Drop)]
+struct Honest {
+    lines: u64,
+    is_always: bool,
+}
+
+impl Watcher for Honest {
+    fn see(&mut self, moment: Moment<'_>) -> Result<(), AllocError> {
+        let text = moment.at.text;
+        let may_add_nothing = self.lines == 0 || text.starts_with("go") || text.starts_with("run");
+        let is_passed_over = moment.reason.is_some();
+        let is_honest = if moment.added.is_empty() {
+            is_passed_over || may_add_nothing
+        } else {
+            !is_passed_over
+        };
+        self.is_always = self.is_always && is_honest;
+        self.lines = self.lines.saturating_add(1);
+        Ok(())
+    }
+}
+
+#[test]
+fn a_line_that_adds_nothing_is_passed_over(rt: HostRuntime) -> Result<(), Fail> {
+    for (text, _) in &PASSED_OVER {
+        let mut honest = Honest {
+            lines: 0,
+            is_always: true,
+        };
+        let Ok(script) = read_script(rt.alloc(), text.as_bytes()) else {
+            panic!(rt; "{text} is not read");
+        };
+        play(rt.alloc(), script, &mut honest)?;
+        assert!(rt; honest.is_always, "in {text}");
+    }
+    Ok(())
+}
+
+// Texts that are no scripts, and what is said of them.
+const UNREADABLE: [(&[u8], &str); 9] = [
+    (
+        b"",
+        "line 1 can't be read: ``; expected: `once LIMIT` or `lazy LIMIT`, with more after it or not",
+    ),
+    (
+        b"# alone\n",
+        "line 1 can't be read: ``; expected: `once LIMIT` or `lazy LIMIT`, with more after it or not",
+    ),
+    (
+        b"make 1\n",
+        "line 1 can't be read: `make 1`; expected: `once LIMIT` or `lazy LIMIT`, with more after it or not",
+    ),
+    (
+        b"\nonce 0\n",
+        "line 2 can't be read: `once 0`; expected: `once LIMIT` or `once LIMIT with VALUE`; the limit is from 1 to 4611686018427387902",
+    ),
+    (
+        b"once 8\n\n# one\npoll 1\n",
+        "line 4 can't be read: `poll 1`; expected: `poll TASK WAKER`",
+    ),
+    (
+        b"once 8\n poll 1 5\n",
+        "line 2 can't be read: ` poll 1 5`; expected: `poll TASK WAKER`",
+    ),
+    (
+        b"once 8\nlook\r\n",
+        "line 2 can't be read: `look\r`; expected: `look` alone",
+    ),
+    (
+        b"once 8\nmack 1\n",
+        "line 2 can't be read: `mack 1`; expected: `make`, `poll`, `drop`, `go`, `run`, `look`, `take`, `write`, `parts` or `replace`",
+    ),
+    (
+        b"once 8\nmake \xff\n",
+        "line 2 can't be read: ``; expected: text in UTF-8",
+    ),
+];
+
+#[test]
+fn a_line_that_cannot_be_read_is_told(rt: HostRuntime) -> Result<(), Fail> {
+    for (text, wanted) in &UNREADABLE {
+        let Err(fault) = shown(rt.alloc(), Form::Table, text) else {
+            panic!(rt; "shown, and not: {wanted}");
+        };
+        let told = format!(in rt.alloc(); "{fault}")?;
+        assert_eq!(rt; (told.as_str(), fault.status()), (*wanted, 2));
+    }
+    Ok(())
+}
+
+// A script with so many tasks and looks.
+fn large(alloc: Global, tasks: u64, looks: usize) -> Result<String, AllocError> {
+    let mut text = String::from_str(alloc, "once 8\n")?;
+    for task in 0..tasks {
+        writeln!(text, "make {task}")?;
+    }
+    text.push_str("look\n".repeat(alloc, looks)?.as_str())?;
+    Ok(text)
+}
+
+#[test]
+fn a_picture_says_what_it_leaves_out(rt: HostRuntime) -> Result<(), Fail> {
+    for (tasks, looks, wanted) in [
+        (2, 3, None),
+        (2, 200, Some("Left out, since there are many lines:")),
+        (60, 3, Some("Left out, since there are many tasks:")),
+        (
+            60,
+            200,
+            Some("Left out, since there are many lines and tasks:"),
+        ),
+    ] {
+        let text = large(rt.alloc(), tasks, looks)?;
+        let Ok(picture) = shown(rt.alloc(), Form::Picture, text.as_bytes()) else {
+            panic!(rt; "no picture of {tasks} and {looks}");
+        };
+        let is_told = match wanted {
+            Some(wanted) => picture.contains(wanted),
+            None => !picture.contains("Left out"),
+        };
+        assert!(rt;
+            is_told && picture.ends_with("</svg>\n"),
+            "{tasks}, {looks}"
+        );
+    }
+    Ok(())
+}
+
+/// A write that fails ends the showing, in both forms.
+#[test]
+fn a_failed_write_ends_the_showing(rt: HostRuntime) {
+    for form in [Form::Table, Form::Picture] {
+        let target = Target::new(rt.alloc(), usize::MAX, 1, false);
+        let ended = show(rt.alloc(), form, b"once 8\nlook\n", target);
+        assert_eq!(rt; ended, Err(Fault::Io));
+    }
+}
+
+#[test]
+fn a_world_takes_one_input_at_a_time(rt: HostRuntime) -> Result<(), Fail> {
+    let mut world = World::new(rt.alloc(), Kind::Once, 2);
+    world.take(&Input::Make(1))?;
+    world.take(&Input::Poll(1, 5))?;
+    world.take(&Input::Go(1, Ran::Pending, true))?;
+    world.take(&Input::Go(2, Ran::Pending, true))?;
+    let one = matches!(world.step_of(1), Some(Step::UnderWay(Place::TryQuick)));
+    let two = world.step_of(2).is_none();
+    let core = world.core();
+    let shared = (
+        core.word.bits(),
+        core.door,
+        core.lists.head,
+        core.lists.len(),
+    );
+    let is_recorded = world.entries() == [Entry::Made(1), Entry::Begin(1, 5)];
+    assert_eq!(rt;
+        (one, two, shared, is_recorded),
+        (true, true, (0, None, false, 0), true)
+    );
+    let record = world.into_record();
+    assert_eq!(rt;
+        (record.entries.len(), record.queues.len(), record.queue),
+        (2, 0, None)
+    );
+    Ok(())
+}

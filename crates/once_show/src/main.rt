@@ -1,0 +1,119 @@
+//! Shows a script: as a table with a row for each line, or as a picture.
+#![tactic(auto)]
+
+use clap::error::Error;
+use clap::{Arg, ArgAction, ArgMatches, Command};
+use once_view::fault::Fault;
+use once_view::{Form, show};
+use std::alloc::{AllocGlobal, Global};
+use std::env::{self, Env};
+use std::fmt;
+use std::fs::{self, Files};
+use std::io::{self, BufReader, ErrorKind, Read, Write};
+use std::process::ExitCode;
+
+// The command line.
+fn matches_of(alloc: Global, words: &[String]) -> Result<ArgMatches<'_>, Error> {
+    let svg = Arg::new(alloc, "svg")
+        .long("svg")
+        .action(ArgAction::SetTrue)
+        .help("Writes a picture, as SVG, in the place of the table");
+    let file = Arg::new(alloc, "FILE")
+        .action(ArgAction::Set)
+        .help("The script; the standard input where there is none");
+    Command::new(alloc, "once_show")
+        .about("Shows a script of a cell and its tasks, line by line")
+        .arg(svg)?
+        .arg(file)?
+        .try_get_matches_from(words)
+}
+
+// All the bytes of the file, or of the standard input where none is given.
+fn read<R: Files + AllocGlobal, I: Read + Drop>(
+    rt: &R,
+    file: Option<&str>,
+    input: I,
+) -> io::Result<Vec<u8>> {
+    match file {
+        Some(path) => fs::read(rt, path),
+        None => {
+            let mut text = Vec::new(rt.alloc());
+            BufReader::new(rt.alloc(), input)?.read_to_end(&mut text)?;
+            Ok(text)
+        }
+    }
+}
+
+// Why there is nothing to show, or not all.
+#[derive(Debug, Drop)]
+enum Failure<'a> {
+    // The file can't be read.
+    File(&'a str, io::Error),
+    Script(Fault),
+}
+
+impl Failure<'_> {
+    // The status that the process ends with.
+    fn status(&self) -> u8 {
+        match self {
+            Failure::File(_, error) if error.kind() == ErrorKind::OutOfMemory => 4,
+            Failure::File(_, _) => 3,
+            Failure::Script(fault) => fault.status(),
+        }
+    }
+}
+
+impl fmt::Display for Failure<'_> {
+    fn fmt<W: fmt::Write>(&self, f: &mut fmt::Formatter<W>) -> fmt::Result {
+        match self {
+            Failure::File(path, error) => write!(f, "{path}: {error}"),
+            Failure::Script(fault) => write!(f, "{fault}"),
+        }
+    }
+}
+
+// Shows the script that the command line names.
+fn run<'a, R, I, O>(
+    rt: &R,
+    matches: &ArgMatches<'a>,
+    input: I,
+    output: O,
+) -> Result<(), Failure<'a>>
+where
+    R: Files + AllocGlobal,
+    I: Read + Drop,
+    O: Write + Drop,
+{
+    let form = if matches.get_flag("svg") {
+        Form::Picture
+    } else {
+        Form::Table
+    };
+    let file = matches.get_str("FILE");
+    let text = match read(rt, file, input) {
+        Ok(text) => text,
+        Err(error) => return Err(Failure::File(file.unwrap_or("standard input"), error)),
+    };
+    match show(rt.alloc(), form, &text, output) {
+        Ok(()) => Ok(()),
+        Err(fault) => Err(Failure::Script(fault)),
+    }
+}
+
+fn main(rt: HostRuntime) -> io::Result<ExitCode> {
+    let words: Vec<String> = env::args(&rt)?.collect(rt.alloc())?;
+    let matches = match matches_of(rt.alloc(), &words) {
+        Ok(matches) => matches,
+        Err(error) => {
+            error.print(&rt)?;
+            return Ok(ExitCode::from(error.exit_code() as u8));
+        }
+    };
+    Ok(match run(&rt, &matches, rt.reader(), io::writer(&rt)) {
+        Ok(()) => ExitCode::SUCCESS,
+        Err(failure) => {
+            let _ = eprintln!(rt; "once_show: {failure}");
+            ExitCode::from(failure.status())
+        }
+    })
+}

@@ -1,0 +1,39 @@
+//! Scripts shown to people: as a table with a row for each line, and as a picture.
+#![tactic(auto)]
+
+pub mod fault;
+pub mod picture;
+pub mod play;
+pub mod reading;
+pub mod table;
+
+use crate::fault::Fault;
+use crate::reading::read_script;
+use std::alloc::Global;
+use std::io::{BufWriter, Write};
+
+/// In which form a script is shown.
+#[derive(Clone, Copy, Debug, PartialEq, Eq)]
+pub enum Form {
+    Table,
+    Picture,
+}
+
+/// Reads a script, plays it, and shows it in this form.
+///
+/// A fault on reading leaves nothing shown. One on writing may leave a beginning.
+pub fn show<O: Write + Drop>(
+    alloc: Global,
+    form: Form,
+    text: &[u8],
+    output: O,
+) -> Result<(), Fault> {
+    let script = read_script(alloc, text)?;
+    let mut output = BufWriter::new(alloc, output)?;
+    match form {
+        Form::Table => table::write_table(alloc, script, &mut output)?,
+        Form::Picture => picture::write_picture(alloc, script, &mut output)?,
+    }
+    output.flush()?;
+    Ok(())
+}

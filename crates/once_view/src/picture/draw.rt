@@ -1,0 +1,338 @@
+//! A picture's shapes as SVG.
+use super::TICKS;
+use super::lanes::{Lane, Lanes};
+use super::legend::write_legend;
+use super::shape::{CellState, LAYERS, Shape, Span};
+use async_once_cell::world::{Ran, Reply};
+use std::io;
+use std::io::Write;
+
+/// Where the first column begins, the band of the cell, and the first lane.
+const LEFT: u64 = 70;
+
+const BAND: u64 = 40;
+
+const BAND_HEIGHT: u64 = 16;
+
+const LANES: u64 = 76;
+
+/// The least width, which the legend needs.
+const LEAST_WIDTH: u64 = 760;
+
+const STYLE: &str = "text{font:11px sans-serif;fill:#222}
+.light{fill:#fff}
+.grid{stroke:#e4e4e4}
+.life{stroke:#888}
+.wait{fill:#ffe9b0;stroke:#a67c00;stroke-dasharray:3 2}
+.poll{fill:#fff;stroke:#222}
+.drop{fill:#fff;stroke:#222;stroke-dasharray:2 2}
+.hold,.held{fill:#8fb8de;stroke:#222}
+.empty{fill:#fff;stroke:#222}
+.set{fill:#222;stroke:#222}
+.pending{fill:#fff;stroke:#222;stroke-width:2}
+.value{fill:#222;stroke:#222}
+.error{fill:#b00020;stroke:#b00020}
+.wake{fill:#b00020;stroke:#b00020;stroke-width:1.5}
+.look{fill:#222}";
+
+/// How a script of this size is drawn.
+#[derive(Clone, Copy)]
+pub struct Drawing<'a> {
+    title: &'a str,
+    numbers: &'a [u64],
+    lanes: &'a [Lane],
+    /// The width of a column.
+    column: u64,
+    /// An eighth of the height of a lane.
+    unit: u64,
+}
+
+impl<'a> Drawing<'a> {
+    pub fn new(title: &'a str, numbers: &'a [u64], lanes: &'a Lanes) -> Self {
+        let lanes = lanes.as_slice();
+        Drawing {
+            title,
+            numbers,
+            lanes,
+            column: match numbers.len() {
+                0..=40 => 40,
+                41..=120 => 24,
+                _ => 8,
+            },
+            unit: match lanes.len() {
+                0..=20 => 4,
+                21..=50 => 2,
+                _ => 1,
+            },
+        }
+    }
+
+    /// Writes the whole picture.
+    pub fn write<O: Write>(&self, shapes: &[Shape], output: &mut O) -> io::Result<()> {
+        self.write_head(output)?;
+        self.write_axis(output)?;
+        self.write_lanes(output)?;
+        for layer in 0..LAYERS {
+            for shape in shapes {
+                if shape.layer() == layer {
+                    self.write_shape(shape, output)?;
+                }
+            }
+        }
+        write_legend(self.bottom().saturating_add(24), output)?;
+        self.write_left_out(output)?;
+        writeln!(output, "</svg>")
+    }
+
+    /// Whether there is room for words in the columns.
+    fn has_words(&self) -> bool {
+        self.column >= 24
+    }
+
+    fn x(&self, at: u64) -> u64 {
+        let ticks = at.saturating_mul(self.column) / TICKS;
+        ticks.saturating_add(LEFT)
+    }
+
+    /// So many units below the top of a lane.
+    fn y(&self, lane: u64, units: u64) -> u64 {
+        let all = lane.saturating_mul(8).saturating_add(units);
+        all.saturating_mul(self.unit).saturating_add(LANES)
+    }
+
+    fn right(&self) -> u64 {
+        self.x((self.numbers.len() as u64).saturating_mul(TICKS))
+    }
+
+    fn bottom(&self) -> u64 {
+        self.y(self.lanes.len() as u64, 0)
+    }
+
+    fn write_head<O: Write>(&self, output: &mut O) -> io::Result<()> {
+        let width = self.right().saturating_add(30).max(LEAST_WIDTH);
+        let height = self.bottom().saturating_add(90);
+        writeln!(
+            output,
+            "<svg xmlns='http://www.w3.org/2000/svg' width='{width}' height='{height}' viewBox='0 0 {width} {height}'>"
+        )?;
+        writeln!(output, "<style>{STYLE}</style>")?;
+        writeln!(
+            output,
+            "<rect width='{width}' height='{height}' fill='#fff'/>"
+        )?;
+        write_text(output, 8, 18, self.title)?;
+        write_text(output, 8, 52, "the cell")
+    }
+
+    /// The number of each column's line, or of each tenth.
+    fn write_axis<O: Write>(&self, output: &mut O) -> io::Result<()> {
+        let (top, bottom) = (LANES, self.bottom());
+        let words = bottom.saturating_add(14);
+        write_text(output, 8, words, "line")?;
+        for (column, number) in self.numbers.iter().enumerate() {
+            if self.has_words() || column % 10 == 0 {
+                let x = self.x((column as u64).saturating_mul(TICKS));
+                writeln!(
+                    output,
+                    "<path class='grid' d='M{x} {top}V{bottom}'/><text x='{x}' y='{words}'>{number}</text>"
+                )?;
+            }
+        }
+        Ok(())
+    }
+
+    /// The name of each task, and a line from its making to its end.
+    fn write_lanes<O: Write>(&self, output: &mut O) -> io::Result<()> {
+        let end = (self.numbers.len() as u64).saturating_mul(TICKS);
+        for (place, lane) in self.lanes.iter().enumerate() {
+            let place = place as u64;
+            let (from, to) = (self.x(lane.made), self.x(lane.gone.unwrap_or(end)));
+            let y = self.y(place, 3);
+            writeln!(output, "<path class='life' d='M{from} {y}H{to}'/>")?;
+            if self.unit > 1 || place % 2 == 0 {
+                let words = self.y(place, 3).saturating_add(4);
+                writeln!(output, "<text x='8' y='{words}'>task {}</text>", lane.task)?;
+            }
+        }
+        Ok(())
+    }
+
+    fn write_shape<O: Write>(&self, shape: &Shape, output: &mut O) -> io::Result<()> {
+        match shape {
+            Shape::Wait(span) => self.write_span(output, "wait", span, (2, 2)),
+            Shape::PollCall(span) => self.write_span(output, "poll", span, (1, 4)),
+            Shape::DropCall(span) => self.write_span(output, "drop", span, (1, 4)),
+            Shape::Hold(span) => self.write_span(output, "hold", span, (5, 1)),
+            Shape::Poll(lane, at, answer) => self.write_poll(output, *lane, *at, *answer),
+            Shape::Reply(lane, at, reply) => self.write_reply(output, *lane, *at, *reply),
+            Shape::Wake(at, from, to) => self.write_wake(output, *at, *from, *to),
+            Shape::Cell(from, to, state) => self.write_cell(output, *from, *to, *state),
+            Shape::Look(at, value) => self.write_look(output, *at, *value),
+            Shape::Owner(at, word) => {
+                let x = self.x(*at);
+                write_text(output, x, BAND.saturating_sub(4), word)
+            }
+        }
+    }
+
+    /// A bar, so many units below the top of its lane, and so many high.
+    fn write_span<O: Write>(
+        &self,
+        output: &mut O,
+        class: &str,
+        span: &Span,
+        (top, high): (u64, u64),
+    ) -> io::Result<()> {
+        let (x, y) = (self.x(span.from), self.y(span.lane, top));
+        let width = self.x(span.to).saturating_sub(x).max(2);
+        let height = high.saturating_mul(self.unit);
+        write_box(output, class, (x, y), (width, height))
+    }
+
+    fn write_poll<O: Write>(
+        &self,
+        output: &mut O,
+        lane: u64,
+        at: u64,
+        answer: Ran,
+    ) -> io::Result<()> {
+        let (x, y) = (self.x(at), self.y(lane, 3));
+        let radius = self.unit.max(2);
+        let class = match answer {
+            Ran::Pending => "pending",
+            Ran::Value(_) => "value",
+            Ran::Error(_) => {
+                let (x, y) = (x.saturating_sub(radius), y.saturating_sub(radius));
+                let side = radius.saturating_mul(2);
+                return write_box(output, "error", (x, y), (side, side));
+            }
+        };
+        writeln!(
+            output,
+            "<circle class='{class}' cx='{x}' cy='{y}' r='{radius}'/>"
+        )
+    }
+
+    fn write_reply<O: Write>(
+        &self,
+        output: &mut O,
+        lane: u64,
+        at: u64,
+        reply: Reply,
+    ) -> io::Result<()> {
+        if !self.has_words() || self.unit < 4 {
+            return Ok(());
+        }
+        let (x, y) = (self.x(at).saturating_add(3), self.y(lane, 4));
+        match reply {
+            Reply::Pending => Ok(()),
+            Reply::Value(value) => writeln!(output, "<text x='{x}' y='{y}'>v{value}</text>"),
+            Reply::Error(error) => writeln!(output, "<text x='{x}' y='{y}'>e{error}</text>"),
+            Reply::Memory => write_text(output, x, y, "memory"),
+            Reply::Full => write_text(output, x, y, "full"),
+        }
+    }
+
+    /// An arrow from one lane to another.
+    fn write_wake<O: Write>(&self, output: &mut O, at: u64, from: u64, to: u64) -> io::Result<()> {
+        let (x, start) = (self.x(at), self.y(from, 6));
+        let (left, right) = (x.saturating_sub(3), x.saturating_add(3));
+        let is_down = to > from;
+        let tip = self.y(to, if is_down { 2 } else { 4 });
+        let back = if is_down {
+            tip.saturating_sub(6)
+        } else {
+            tip.saturating_add(6)
+        };
+        writeln!(
+            output,
+            "<path class='wake' d='M{x} {start}V{tip}L{left} {back}H{right}L{x} {tip}Z'/>"
+        )
+    }
+
+    fn write_cell<O: Write>(
+        &self,
+        output: &mut O,
+        from: u64,
+        to: u64,
+        state: CellState,
+    ) -> io::Result<()> {
+        let x = self.x(from);
+        let width = self.x(to).saturating_sub(x);
+        if width == 0 {
+            return Ok(());
+        }
+        let class = match state {
+            CellState::Empty => "empty",
+            CellState::Held(_) => "held",
+            CellState::Set(_) => "set",
+        };
+        write_box(output, class, (x, BAND), (width, BAND_HEIGHT))?;
+        let (x, y) = (x.saturating_add(4), BAND.saturating_add(12));
+        match state {
+            _ if width < 60 => Ok(()),
+            CellState::Empty => write_text(output, x, y, "empty"),
+            CellState::Held(task) => {
+                writeln!(output, "<text x='{x}' y='{y}'>held by {task}</text>")
+            }
+            CellState::Set(value) => {
+                writeln!(
+                    output,
+                    "<text class='light' x='{x}' y='{y}'>set: v{value}</text>"
+                )
+            }
+        }
+    }
+
+    /// A mark below the band, with what was found.
+    fn write_look<O: Write>(&self, output: &mut O, at: u64, value: Option<u64>) -> io::Result<()> {
+        let (x, top) = (self.x(at), BAND.saturating_add(BAND_HEIGHT));
+        let (left, right) = (x.saturating_sub(4), x.saturating_add(4));
+        let back = top.saturating_add(7);
+        writeln!(
+            output,
+            "<path class='look' d='M{x} {top}L{left} {back}H{right}Z'/>"
+        )?;
+        if !self.has_words() {
+            return Ok(());
+        }
+        let (x, y) = (x.saturating_add(6), top.saturating_add(11));
+        match value {
+            Some(value) => writeln!(output, "<text x='{x}' y='{y}'>v{value}</text>"),
+            None => write_text(output, x, y, "none"),
+        }
+    }
+
+    /// Says what a large picture leaves out.
+    fn write_left_out<O: Write>(&self, output: &mut O) -> io::Result<()> {
+        let y = self.bottom().saturating_add(80);
+        let text = match (self.has_words(), self.unit > 1) {
+            (true, true) => return Ok(()),
+            (false, true) =>
+                "Left out, since there are many lines: what polls answer and looks find, and nine of ten numbers of lines.",
+            (true, false) =>
+                "Left out, since there are many tasks: what polls answer, and every other name.",
+            (false, false) =>
+                "Left out, since there are many lines and tasks: what polls answer and looks find, nine of ten numbers of lines, and every other name.",
+        };
+        write_text(output, 8, y, text)
+    }
+}
+
+/// Writes a text that needs no escapes.
+pub fn write_text<O: Write>(output: &mut O, x: u64, y: u64, text: &str) -> io::Result<()> {
+    writeln!(output, "<text x='{x}' y='{y}'>{text}</text>")
+}
+
+/// Writes a rectangle.
+pub fn write_box<O: Write>(
+    output: &mut O,
+    class: &str,
+    (x, y): (u64, u64),
+    (width, height): (u64, u64),
+) -> io::Result<()> {
+    writeln!(
+        output,
+        "<rect class='{class}' x='{x}' y='{y}' width='{width}' height='{height}'/>"
+    )
+}

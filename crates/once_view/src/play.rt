@@ -1,0 +1,176 @@
+//! A script, played line by line before one who watches.
+ghost use Rattle.std.specs.Prelude.{OnOk};
+ghost use Rattle.async_once_cell.specs.Reached.{IsReached};
+
+use crate::reading::{Script, ScriptLine, TextLine};
+use async_once_cell::step::Step;
+use async_once_cell::world::{Call, Entry, Input, Kind, World};
+use once_script::parse::{Line, Opening};
+use std::alloc::{AllocError, Global};
+use std::fmt;
+
+/// How many steps a `run` line makes.
+const RUN_STEPS: u64 = 16;
+
+/// Why an input was passed over.
+#[derive(Clone, Copy, Debug, PartialEq, Eq)]
+pub enum Reason {
+    MadeBefore(u64),
+    NotMade(u64),
+    CallUnderWay(u64),
+    NoCallUnderWay(u64),
+    Gone(u64),
+    /// The owner called while this task was not gone.
+    NotGone(u64),
+    /// A once cell has no call of this name.
+    NotOfOnce(&'static str),
+    /// A lazy cell has no call of this name.
+    NotOfLazy(&'static str),
+}
+
+impl fmt::Display for Reason {
+    fn fmt<W: fmt::Write>(&self, f: &mut fmt::Formatter<W>) -> fmt::Result {
+        match self {
+            Reason::MadeBefore(task) => write!(f, "task {task} was made before"),
+            Reason::NotMade(task) => write!(f, "task {task} was not made"),
+            Reason::CallUnderWay(task) => write!(f, "a call of task {task} is under way"),
+            Reason::NoCallUnderWay(task) => write!(f, "no call of task {task} is under way"),
+            Reason::Gone(task) => write!(f, "task {task} is gone"),
+            Reason::NotGone(task) => write!(f, "task {task} is not gone"),
+            Reason::NotOfOnce(word) => write!(f, "a once cell has no {word}"),
+            Reason::NotOfLazy(word) => write!(f, "a lazy cell has no {word}"),
+        }
+    }
+}
+
+/// What there is to see after a line.
+#[derive(Clone, Copy)]
+pub struct Moment<'a> {
+    pub at: TextLine<'a>,
+    /// Why the line was passed over, if it was.
+    pub reason: Option<Reason>,
+    /// What the line added to the record.
+    pub added: &'a [Entry],
+    pub world: &'a World,
+}
+
+/// One who watches a script being played.
+pub trait Watcher {
+    /// Sees the cell after a line, the first one included.
+    fn see(&mut self, moment: Moment<'_>) -> Result<(), AllocError>;
+}
+
+/// Plays a script before one who watches.
+pub fn play<V: Watcher>(
+    alloc: Global,
+    script: Script<'_>,
+    watcher: &mut V,
+) -> Result<(), AllocError> {
+    let Script {
+        opening: Opening { kind, limit },
+        first,
+        lines,
+    } = script;
+    let lazy = matches!(&kind, Kind::Lazy(_) | Kind::LazyWith(_));
+    let mut world = World::new(alloc, kind, limit);
+    watcher.see(moment_of(&world, first, None, 0))?;
+    for line in &lines {
+        let before = world.entries().len();
+        let reason = reason_of(&world, &line.line, lazy);
+        take_line(&mut world, line)?;
+        watcher.see(moment_of(&world, line.at, reason, before))?;
+    }
+    Ok(())
+}
+
+fn moment_of<'a>(
+    world: &'a World,
+    at: TextLine<'a>,
+    reason: Option<Reason>,
+    before: usize,
+) -> Moment<'a> {
+    Moment {
+        at,
+        reason,
+        added: world.entries().get(before..).unwrap_or(&[]),
+        world,
+    }
+}
+
+/// Takes the inputs that a line stands for.
+fn take_line(world: &mut World, line: &ScriptLine<'_>) -> Result<(), AllocError>
+    requires { IsReached world.old }
+    ensures { OnOk result (IsReached world.new) }
+{
+    match &line.line {
+        Line::Single(input) => world.take(input),
+        Line::Run(task, answer, granted) => {
+            let step = Input::Go(*task, *answer, *granted);
+            for _ in 0..RUN_STEPS {
+                world.take(&step)?;
+            }
+            Ok(())
+        }
+    }
+}
+
+/// Why the world would pass a line over, if it would.
+fn reason_of(world: &World, line: &Line, lazy: bool) -> Option<Reason> {
+    match line {
+        Line::Run(task, _, _) => no_step(world, *task),
+        Line::Single(input) => match input {
+            Input::Make(task) => world.step_of(*task).map(|_| Reason::MadeBefore(*task)),
+            Input::Poll(task, _) | Input::Drop(task) => no_rest(world, *task),
+            Input::Go(task, _, _) => no_step(world, *task),
+            Input::Look => None,
+            Input::Own(call) => match not_of_kind(call, lazy) {
+                Some(reason) => Some(reason),
+                None => not_gone(world),
+            },
+        },
+    }
+}
+
+/// Why the task can't begin a call, if it can't.
+fn no_rest(world: &World, task: u64) -> Option<Reason> {
+    match world.step_of(task) {
+        None => Some(Reason::NotMade(task)),
+        Some(Step::Resting(_)) => None,
+        Some(Step::UnderWay(_)) => Some(Reason::CallUnderWay(task)),
+        Some(Step::Finished) => Some(Reason::Gone(task)),
+    }
+}
+
+/// Why the task can't make a step, if it can't.
+fn no_step(world: &World, task: u64) -> Option<Reason> {
+    match world.step_of(task) {
+        None => Some(Reason::NotMade(task)),
+        Some(Step::UnderWay(_)) => None,
+        Some(Step::Resting(_) | Step::Finished) => Some(Reason::NoCallUnderWay(task)),
+    }
+}
+
+/// Whether this kind of cell lacks the call.
+fn not_of_kind(call: &Call, lazy: bool) -> Option<Reason> {
+    match call {
+        Call::Take if lazy => Some(Reason::NotOfLazy("take")),
+        Call::Parts if !lazy => Some(Reason::NotOfOnce("parts")),
+        Call::ReplaceValue(_) | Call::ReplaceAnswers(_) if !lazy => {
+            Some(Reason::NotOfOnce("replace"))
+        }
+        _ => None,
+    }
+}
+
+/// The first task that is not gone.
+fn not_gone(world: &World) -> Option<Reason> {
+    for entry in world.entries() {
+        if let Entry::Made(task) = entry {
+            match world.step_of(*task) {
+                Some(Step::Finished) | None => {}
+                Some(_) => return Some(Reason::NotGone(*task)),
+            }
+        }
+    }
+    None
+}
