@@ -26,15 +26,19 @@ fn a_list_has_who_waits_once(rt: HostRuntime) -> Result<(), Fail> {
             (Some(5), 8, NEW, Answer::Listed, Some(2)),
         ],
     );
+    let listings = lists.listings(rt.alloc())?;
+    let order = listings.iter().map(|listing| listing.ticket);
+    let is_in_order = order.eq([1, 0, 2]);
+    drop(listings);
     let released = all_called(&lists.release(true));
-    let seen = (other, released, lists.len(), lists.head);
+    let seen = (other, is_in_order, released, lists.len(), lists.head);
     let all = [
         Some((1, Some(8))),
         Some((0, Some(9))),
         Some((2, None)),
         None,
     ];
-    assert_eq!(rt; seen, (None, all, 0, false));
+    assert_eq!(rt; seen, (None, true, all, 0, false));
     Ok(())
 }
 

@@ -23,9 +23,11 @@ const LONG_CALLS: u64 = 50_000;
 
 const ROUNDS: u64 = 2_000;
 
-const TAKES: u64 = 100_000;
+const MEETINGS: u64 = 100;
 
-const SEATS: u64 = 2_000;
+const DOORS: u64 = 1_000;
+
+const SEATS: usize = 200;
 
 const LOOKS: u64 = 300_000;
 
@@ -51,6 +53,46 @@ fn two_threads_count_in_and_out(rt: HostRuntime) {
         || is_always_counted(&rt, &inner),
     );
     assert_eq!(rt; (one, two, inner.word()), (true, true, NEW));
+}
+
+// Counts in as a holder does, and out.
+fn adds_each_time<R: Wait + AllocGlobal>(rt: &R, inner: &Inner<u64>) {
+    let mut parts = inner.parts(rt, None);
+    for _ in 0..COUNTS {
+        parts.add_one();
+        parts.count_out();
+    }
+}
+
+/// The same where one of the two counts in as a holder does.
+#[test]
+fn two_threads_add_and_count(rt: HostRuntime) {
+    let inner = Inner::new(false);
+    let (is_always, ()) = thread::join(
+        &rt,
+        || is_always_counted(&rt, &inner),
+        || adds_each_time(&rt, &inner),
+    );
+    assert_eq!(rt; (is_always, inner.word()), (true, NEW));
+}
+
+/// A quick claim is won on a new word alone, and a fast release is done where nobody is counted.
+#[test]
+fn who_is_counted_bars_quick_and_fast(rt: HostRuntime) {
+    let inner: Inner<u64> = Inner::new(false);
+    let mut parts = inner.parts(&rt, None);
+    let counted = matches!(parts.count_in(MAX_WAITERS), Counted::In(_));
+    let beside = parts.quick();
+    parts.count_out();
+    let claims = (parts.quick(), parts.quick());
+    parts.add_one();
+    let early = parts.fast(false);
+    parts.count_out();
+    let seen = (counted, beside, claims, early, parts.fast(false));
+    assert_eq!(rt;
+        (seen, inner.word()),
+        ((true, false, (true, false), false, true), NEW)
+    );
 }
 
 // A side whose init fails, and which sees whether another init is polled meanwhile.
@@ -140,11 +182,11 @@ fn three_threads_hold_in_turn(rt: HostRuntime) {
     assert_eq!(rt; (one, two, three, inner.word()), (true, true, true, NEW));
 }
 
-// Waits until two threads are here.
-fn meet<R: Wait>(rt: &R, arrived: &AtomicU64) {
+// Waits until both threads are at this meeting, of which 0 is the first.
+fn meet<R: Wait>(rt: &R, arrived: &AtomicU64, meeting: u64) {
     arrived.fetch_add(1, Ordering::SeqCst);
     for _ in rt.forever() {
-        if arrived.load(Ordering::SeqCst) >= 2 {
+        if arrived.load(Ordering::SeqCst) / 2 > meeting {
             break;
         }
     }
@@ -153,7 +195,7 @@ fn meet<R: Wait>(rt: &R, arrived: &AtomicU64) {
 // Puts a queue to the door, or finds one there, and lists a waker in it: whether it is listed.
 fn is_listed<R: Wait + AllocGlobal>(rt: &R, inner: &Inner<u64>, arrived: &AtomicU64) -> bool {
     let mut parts = inner.parts(rt, None);
-    meet(rt, arrived);
+    meet(rt, arrived, 0);
     let Some(queue) = parts.door_put() else {
         return false;
     };
@@ -236,45 +278,86 @@ fn two_threads_at_the_door(rt: HostRuntime) {
     assert_eq!(rt; (is_put, is_there, was_busy), (true, true, true));
 }
 
-// Puts a queue to the door and takes it out, again and again, and then tells the other thread to
-// stop: whether there was one each time.
-fn is_always_taken<R: Wait + AllocGlobal>(rt: &R, inner: &Inner<u64>, stop: &AtomicU64) -> bool {
+// Looks for the queue so often after each meeting: whether it was there each time.
+fn is_found_each_time<R: Wait + AllocGlobal>(
+    rt: &R,
+    inner: &Inner<u64>,
+    arrived: &AtomicU64,
+) -> bool {
     let (mut parts, mut is_always) = (inner.parts(rt, None), true);
-    for _ in 0..TAKES {
-        is_always = is_always && parts.door_put().is_some() && parts.door_take();
+    for meeting in 0..MEETINGS {
+        meet(rt, arrived, meeting);
+        for _ in 0..DOORS {
+            is_always &= parts.door_get().is_some();
+        }
     }
-    stop.store(1, Ordering::SeqCst);
     is_always
 }
 
-/// While one thread uses the door, another takes out each queue that it put there.
+/// Two threads that look for the queue at the same time find it each time.
+#[test]
+fn two_threads_find_the_queue(rt: HostRuntime) {
+    let (inner, arrived) = (Inner::new(false), AtomicU64::new(0));
+    let is_put = inner.parts(&rt, None).door_put().is_some();
+    let found = || is_found_each_time(&rt, &inner, &arrived);
+    let (one, two) = thread::join(&rt, found, found);
+    assert_eq!(rt; (is_put, one, two), (true, true, true));
+}
+
+// Puts a queue to the door and takes it out, so often after each meeting: whether there was one each
+// time.
+fn is_taken_each_time<R: Wait + AllocGlobal>(
+    rt: &R,
+    inner: &Inner<u64>,
+    arrived: &AtomicU64,
+) -> bool {
+    let (mut parts, mut is_always) = (inner.parts(rt, None), true);
+    for meeting in 0..MEETINGS {
+        meet(rt, arrived, meeting);
+        for _ in 0..DOORS {
+            is_always = is_always && parts.door_put().is_some() && parts.door_take();
+        }
+    }
+    is_always
+}
+
+/// While one thread looks at the door, another takes out each queue that it put there.
 #[test]
 fn two_threads_take_each_queue(rt: HostRuntime) {
-    let (inner, stop) = (Inner::new(false), AtomicU64::new(0));
+    let (inner, arrived) = (Inner::new(false), AtomicU64::new(0));
     let (is_taken, _) = thread::join(
         &rt,
-        || is_always_taken(&rt, &inner, &stop),
-        || is_always_there(&rt, &inner, &stop),
+        || is_taken_each_time(&rt, &inner, &arrived),
+        || is_found_each_time(&rt, &inner, &arrived),
     );
     assert!(rt; is_taken);
 }
 
-// Seats of the cell.
+// Seats of the cell, so many after each meeting.
 fn seats<R>(rt: &R, cell: &OnceCell<u64>, arrived: &AtomicU64) -> Result<Vec<Seat>, AllocError>
 where
     R: Wait + AllocGlobal,
 {
     let mut seats = Vec::new(rt.alloc());
-    meet(rt, arrived);
-    for _ in 0..SEATS {
-        if let Some(seat) = new_seat(cell, rt) {
-            seats.push(seat)?;
+    for meeting in 0..MEETINGS {
+        meet(rt, arrived, meeting);
+        for _ in 0..SEATS {
+            if let Some(seat) = new_seat(cell, rt) {
+                seats.push(seat)?;
+            }
         }
     }
     Ok(seats)
 }
 
-/// Two threads make seats of one cell: none of the one is the same as one of the other.
+// Whether some seat of the one is the same as some of the other.
+fn meets(one: &[Seat], two: &[Seat]) -> bool {
+    one.iter()
+        .any(|seat| two.iter().any(|other| seat.same(other)))
+}
+
+/// Two threads make seats of one cell: none of the one is the same as one that the other made after
+/// the same meeting.
 #[test]
 fn two_threads_make_seats(rt: HostRuntime) -> Result<(), Fail> {
     let (cell, arrived) = (OnceCell::new(), AtomicU64::new(0));
@@ -284,10 +367,9 @@ fn two_threads_make_seats(rt: HostRuntime) -> Result<(), Fail> {
         || seats(&rt, &cell, &arrived),
     );
     let (one, two) = (one?, two?);
-    let meets = one
-        .iter()
-        .any(|seat| two.iter().any(|other| seat.same(other)));
-    assert!(rt; !meets);
+    let mut both = one.chunks(SEATS).zip(two.chunks(SEATS));
+    let is_same = both.any(|(one, two)| meets(one, two));
+    assert_eq!(rt; (one.len(), two.len(), is_same), (20_000, 20_000, false));
     Ok(())
 }
 
