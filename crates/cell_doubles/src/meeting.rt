@@ -68,8 +68,8 @@ impl<R: Clock> Future for Blocking<'_, '_, R> {
     }
 }
 
-/// The same for a cell that owns it, which may not fail: 5, or 9. It yields its thread and does not
-/// pause: in a function over any runtime, the drop of a cell whose init borrows that was not proved.
+/// The same for a cell that owns it, which may not fail: 5, or 9. It keeps no runtime, so it spins for
+/// the flag and does not pause.
 #[derive(Drop)]
 pub struct Spinning<'m> {
     meeting: &'m Meeting,

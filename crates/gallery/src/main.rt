@@ -8,7 +8,7 @@ use std::io;
 use std::process::ExitCode;
 
 /// The scripts, and whether the docs have a picture of each.
-static SCRIPTS: [(&str, bool); 8] = [
+static SCRIPTS: [(&str, bool); 9] = [
     ("late_queue", true),
     ("lazy_apart", false),
     ("lost_wake", true),
@@ -16,6 +16,7 @@ static SCRIPTS: [(&str, bool); 8] = [
     ("queue_refused", false),
     ("release_beyond_the_limit", false),
     ("slow_path", true),
+    ("turn_passed_on", false),
     ("waker_copy_refused", false),
 ];
 

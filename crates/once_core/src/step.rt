@@ -34,17 +34,6 @@ pub enum Ending {
     Dropped,
 }
 
-impl Ending {
-    ghost use Rattle.once_core.specs.Steps.{is_value as ends_with_value};
-
-    #[inline(always)]
-    fn is_value(self) -> bool
-        ensures { result ≡ ends_with_value self }
-    {
-        matches!(&self, Ending::Value)
-    }
-}
-
 /// Whether a call goes on after a step.
 #[derive(Clone, Copy, Debug, PartialEq, Eq)]
 pub enum Progress {

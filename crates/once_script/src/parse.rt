@@ -23,7 +23,7 @@ mod lines;
 mod number;
 
 /// How many steps a `run` line makes.
-const RUN_STEPS: u64 = 16;
+pub const RUN_STEPS: u64 = 16;
 
 /// What the first line says.
 #[derive(Debug, Drop)]

@@ -5,12 +5,9 @@ ghost use Rattle.async_once_cell.specs.Reached.{IsReached};
 use crate::reading::{Script, ScriptLine, TextLine};
 use async_once_cell::step::Step;
 use async_once_cell::world::{Call, Entry, Input, Kind, World};
-use once_script::parse::{Line, Opening};
+use once_script::parse::{Line, Opening, RUN_STEPS};
 use std::alloc::{AllocError, Global};
 use std::fmt;
-
-/// How many steps a `run` line makes.
-const RUN_STEPS: u64 = 16;
 
 /// Why an input was passed over.
 #[derive(Clone, Copy, Debug, PartialEq, Eq)]

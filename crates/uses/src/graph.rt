@@ -1,5 +1,6 @@
 //! Values that depend on one another, each made once, whichever is asked for first.
 ghost use Rattle.std.specs.Prelude.{◌≡◌, Some, Ok, IfOk};
+ghost use Rattle.async_once_cell.specs.Tokens.{Agrees};
 
 use crate::ask::ask;
 use crate::fault::Fault;
@@ -28,6 +29,7 @@ where
     requires { token.old.cell ≡ node.now }
     ensures cell { token.new.cell ≡ token.old.cell }
     ensures value { IfOk result (λ value. token.new.value ≡ Some (Ok value)) }
+    ensures same { IfOk result (λ value. Agrees token.old.value (Ok value)) }
 {
     Ok((*ask(rt, node, token)?)?)
 }

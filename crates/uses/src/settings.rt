@@ -1,5 +1,6 @@
 //! Settings that are read once, when they are first asked for.
 ghost use Rattle.std.specs.Prelude.{◌≡◌, Some, Ok, IfOk};
+ghost use Rattle.async_once_cell.specs.Tokens.{Agrees};
 
 use crate::ask::ask;
 use crate::fault::Fault;
@@ -104,6 +105,7 @@ where
     requires { token.old.cell ≡ lazy.now }
     ensures cell { token.new.cell ≡ token.old.cell }
     ensures value { IfOk result (λ outcome. token.new.value ≡ Some outcome) }
+    ensures same { IfOk result (λ outcome. Agrees token.old.value outcome) }
 {
     Ok(*ask(rt, lazy, token)?)
 }

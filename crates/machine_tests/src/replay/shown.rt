@@ -164,13 +164,10 @@ fn large(alloc: Global, tasks: u64, looks: usize) -> Result<String, AllocError> 
 fn a_picture_says_what_it_leaves_out(rt: HostRuntime) -> Result<(), Fail> {
     for (tasks, looks, wanted) in [
         (2, 3, None),
-        (2, 200, Some("Left out, since there are many lines:")),
-        (60, 3, Some("Left out, since there are many tasks:")),
-        (
-            60,
-            200,
-            Some("Left out, since there are many lines and tasks:"),
-        ),
+        (2, 200, Some("many lines: what polls answer")),
+        (30, 3, Some("many tasks: what polls answer.")),
+        (60, 3, Some("many tasks: what polls answer, and")),
+        (60, 200, Some("many lines and tasks: what polls answer")),
     ] {
         let text = large(rt.alloc(), tasks, looks)?;
         let Ok(picture) = shown(rt.alloc(), Form::Picture, text.as_bytes()) else {

@@ -3,6 +3,17 @@ ghost use Rattle.std.specs.Prelude.{◌≡◌, ◌<◌, ◌≤◌};
 
 use super::Ending;
 
+impl Ending {
+    ghost use Rattle.once_core.specs.Steps.{is_value as ends_with_value};
+
+    #[inline(always)]
+    pub(super) fn is_value(self) -> bool
+        ensures { result ≡ ends_with_value self }
+    {
+        matches!(&self, Ending::Value)
+    }
+}
+
 /// Where the next call of a task begins.
 #[derive(Drop)]
 pub enum Rest<Q> {

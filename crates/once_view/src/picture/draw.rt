@@ -306,14 +306,15 @@ impl<'a> Drawing<'a> {
     /// Says what a large picture leaves out.
     fn write_left_out<O: Write>(&self, output: &mut O) -> io::Result<()> {
         let y = self.bottom().saturating_add(80);
-        let text = match (self.has_words(), self.unit > 1) {
-            (true, true) => return Ok(()),
-            (false, true) =>
-                "Left out, since there are many lines: what polls answer and looks find, and nine of ten numbers of lines.",
-            (true, false) =>
+        let text = match (self.has_words(), self.unit) {
+            (true, 4) => return Ok(()),
+            (true, 2) => "Left out, since there are many tasks: what polls answer.",
+            (true, _) =>
                 "Left out, since there are many tasks: what polls answer, and every other name.",
-            (false, false) =>
+            (false, 1) =>
                 "Left out, since there are many lines and tasks: what polls answer and looks find, nine of ten numbers of lines, and every other name.",
+            (false, _) =>
+                "Left out, since there are many lines: what polls answer and looks find, and nine of ten numbers of lines.",
         };
         write_text(output, 8, y, text)
     }
