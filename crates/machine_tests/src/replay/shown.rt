@@ -211,7 +211,7 @@ fn a_world_takes_one_input_at_a_time(rt: HostRuntime) -> Result<(), Fail> {
         core.lists.head,
         core.lists.len(),
     );
-    let is_recorded = world.entries() == [Entry::Made(1), Entry::Begin(1, 5)];
+    let is_recorded = world.entries() == [Entry::Made(1), Entry::Begin(1, 5)].as_slice();
     assert_eq!(rt;
         (one, two, shared, is_recorded),
         (true, true, (0, None, false, 0), true)
