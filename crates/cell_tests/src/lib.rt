@@ -1,5 +1,4 @@
-//! What cells do, by their public calls alone: each kind on one thread, both for many threads, and
-//! a table of cells.
+//! What cells do on one thread, by their public calls alone.
 #![tactic(auto)]
 
 #[cfg(test)]
@@ -8,7 +7,3 @@ mod lazy;
 mod once;
 #[cfg(test)]
 mod pending;
-#[cfg(test)]
-mod table;
-#[cfg(test)]
-mod threads;

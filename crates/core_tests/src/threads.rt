@@ -1,4 +1,4 @@
-//! Two threads that use the parts of one cell at the same time.
+//! Threads that use the parts of one cell at the same time.
 ghost use Rattle.std.specs.Prelude.{⊤};
 
 use async_once_cell::OnceCell;
@@ -278,17 +278,23 @@ fn two_threads_at_the_door(rt: HostRuntime) {
     assert_eq!(rt; (is_put, is_there, was_busy), (true, true, true));
 }
 
-// Looks for the queue so often after each meeting: whether it was there each time.
-fn is_found_each_time<R: Wait + AllocGlobal>(
+// Comes to the door so often after each meeting, and looks for the queue, or puts one and takes it out:
+// whether there was one each time.
+fn is_met_each_time<R: Wait + AllocGlobal>(
     rt: &R,
     inner: &Inner<u64>,
     arrived: &AtomicU64,
+    takes: bool,
 ) -> bool {
     let (mut parts, mut is_always) = (inner.parts(rt, None), true);
     for meeting in 0..MEETINGS {
         meet(rt, arrived, meeting);
         for _ in 0..DOORS {
-            is_always &= parts.door_get().is_some();
+            is_always &= if takes {
+                parts.door_put().is_some() && parts.door_take()
+            } else {
+                parts.door_get().is_some()
+            };
         }
     }
     is_always
@@ -299,26 +305,9 @@ fn is_found_each_time<R: Wait + AllocGlobal>(
 fn two_threads_find_the_queue(rt: HostRuntime) {
     let (inner, arrived) = (Inner::new(false), AtomicU64::new(0));
     let is_put = inner.parts(&rt, None).door_put().is_some();
-    let found = || is_found_each_time(&rt, &inner, &arrived);
+    let found = || is_met_each_time(&rt, &inner, &arrived, false);
     let (one, two) = thread::join(&rt, found, found);
     assert_eq!(rt; (is_put, one, two), (true, true, true));
-}
-
-// Puts a queue to the door and takes it out, so often after each meeting: whether there was one each
-// time.
-fn is_taken_each_time<R: Wait + AllocGlobal>(
-    rt: &R,
-    inner: &Inner<u64>,
-    arrived: &AtomicU64,
-) -> bool {
-    let (mut parts, mut is_always) = (inner.parts(rt, None), true);
-    for meeting in 0..MEETINGS {
-        meet(rt, arrived, meeting);
-        for _ in 0..DOORS {
-            is_always = is_always && parts.door_put().is_some() && parts.door_take();
-        }
-    }
-    is_always
 }
 
 /// While one thread looks at the door, another takes out each queue that it put there.
@@ -327,8 +316,8 @@ fn two_threads_take_each_queue(rt: HostRuntime) {
     let (inner, arrived) = (Inner::new(false), AtomicU64::new(0));
     let (is_taken, _) = thread::join(
         &rt,
-        || is_taken_each_time(&rt, &inner, &arrived),
-        || is_found_each_time(&rt, &inner, &arrived),
+        || is_met_each_time(&rt, &inner, &arrived, true),
+        || is_met_each_time(&rt, &inner, &arrived, false),
     );
     assert!(rt; is_taken);
 }

@@ -1,67 +1,53 @@
-//! Makes the records and pictures of the scripts in data/ anew, and compares each with its file there.
+//! Makes the records, pictures and tables of the scripts in data/ anew, and compares each with its file there.
 #![tactic(auto)]
 
 use once_view::{Form, show};
-use std::alloc::AllocGlobal;
+use std::alloc::{AllocGlobal, Global};
 use std::fs::{self, Files};
 use std::io;
 use std::process::ExitCode;
 
-/// The scripts, and whether the docs have a picture of each.
-static SCRIPTS: [(&str, bool); 9] = [
-    ("late_queue", true),
-    ("lazy_apart", false),
-    ("lost_wake", true),
-    ("one_call", true),
-    ("queue_refused", false),
-    ("release_beyond_the_limit", false),
-    ("slow_path", true),
-    ("turn_passed_on", false),
-    ("waker_copy_refused", false),
+/// The scripts, and the endings of the files that are made of each.
+static SCRIPTS: [(&str, &[&str]); 9] = [
+    ("late_queue", &["record", "svg"]),
+    ("lazy_apart", &["record"]),
+    ("lost_wake", &["record", "svg"]),
+    ("one_call", &["record", "svg", "table"]),
+    ("queue_refused", &["record"]),
+    ("release_beyond_the_limit", &["record"]),
+    ("slow_path", &["record", "svg"]),
+    ("turn_passed_on", &["record"]),
+    ("waker_copy_refused", &["record"]),
 ];
 
-// Whether the record of a script is the one in its file.
-fn has_record<R: Files + Print + AllocGlobal>(
-    rt: &R,
-    name: &str,
-    script: &[u8],
-) -> io::Result<bool> {
-    let mut record = Vec::new(rt.alloc());
-    if let Err(fault) = once_filter::run(rt.alloc(), script, &mut record) {
-        println!(rt; "{name}: {fault}")?;
-        return Ok(false);
+// Makes of a script what a file with this ending has, unless it can't be made.
+fn make(alloc: Global, ending: &str, script: &[u8], made: &mut Vec<u8>) -> bool {
+    match ending {
+        "svg" => show(alloc, Form::Picture, script, made).is_ok(),
+        "table" => show(alloc, Form::Table, script, made).is_ok(),
+        _ => once_filter::run(alloc, script, made).is_ok(),
     }
-    let path = format!(in rt.alloc(); "{name}.record")?;
-    Ok(fs::read(rt, path)? == record)
 }
 
-// Whether the picture of a script is the one in its file.
-fn has_picture<R: Files + Print + AllocGlobal>(
-    rt: &R,
-    name: &str,
-    script: &[u8],
-) -> io::Result<bool> {
-    let mut picture = Vec::new(rt.alloc());
-    if let Err(fault) = show(rt.alloc(), Form::Picture, script, &mut picture) {
-        println!(rt; "{name}: {fault}")?;
-        return Ok(false);
-    }
-    let path = format!(in rt.alloc(); "{name}.svg")?;
-    Ok(fs::read(rt, path)? == picture)
+// Whether the file with this ending has what is made of its script.
+fn is_same<R: Files + AllocGlobal>(rt: &R, name: &str, ending: &str) -> io::Result<bool> {
+    let path = format!(in rt.alloc(); "{name}.txt")?;
+    let script = fs::read(rt, path)?;
+    let path = format!(in rt.alloc(); "{name}.{ending}")?;
+    let mut made = Vec::new(rt.alloc());
+    Ok(make(rt.alloc(), ending, &script, &mut made) && fs::read(rt, path)? == made)
 }
 
 fn main(rt: HostRuntime) -> io::Result<ExitCode> {
     let mut status = ExitCode::SUCCESS;
-    for (name, is_pictured) in &SCRIPTS {
-        let path = format!(in rt.alloc(); "{name}.txt")?;
-        let script = fs::read(&rt, path)?;
-        let is_same = has_record(&rt, name, &script)?
-            && (!*is_pictured || has_picture(&rt, name, &script)?);
-        if is_same {
-            println!(rt; "{name}: the same")?;
-        } else {
-            println!(rt; "{name}: differs")?;
-            status = ExitCode::FAILURE;
+    for (name, endings) in &SCRIPTS {
+        for ending in *endings {
+            if is_same(&rt, name, ending)? {
+                println!(rt; "{name}.{ending}: the same")?;
+            } else {
+                println!(rt; "{name}.{ending}: differs")?;
+                status = ExitCode::FAILURE;
+            }
         }
     }
     Ok(status)

@@ -16,6 +16,6 @@ is_number text = nat_lt 0 (length text) && all_ascii_digits text && is_plain tex
 abbrev pub number_of : List ℕ → Option ℕ
 number_of text = if is_number text then Some (digits_value 10 text) else None
 
--- how many tasks may wait, by a text
+-- how many tasks may be counted in, by a text
 abbrev pub limit_of : List ℕ → Option ℕ
 limit_of text = option_and_then (λ n. if nat_lt 0 n && nat_le n (2 ^ 62 - 2) then Some n else None) (number_of text)

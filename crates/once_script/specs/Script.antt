@@ -28,7 +28,7 @@ abbrev pub AreInputs : List (List ℕ) → List Input → Type 0
 AreInputs [] inputs = inputs ≡ []
 AreInputs (text ∷ texts) inputs = (line : Line) × (later : List Input) × IsLine line text × (inputs ≡ inputs_of line ++ later) × AreInputs texts later
 
--- the lines of a script: the first says the kind and how many tasks may wait, the later ones the inputs
+-- the lines of a script: the first says the kind and how many tasks may be counted in, the later ones the inputs
 abbrev pub IsScript : Kind → ℕ → List Input → List (List ℕ) → Type 0
 IsScript kind limit inputs [] = ⊥
 IsScript kind limit inputs (first ∷ later) = IsOpening kind limit first × AreInputs later inputs

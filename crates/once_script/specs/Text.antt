@@ -41,7 +41,7 @@ IsLazy (OnceWith value) limit text = ⊥
 IsLazy (Lazy answers) limit text = (digits : List ℕ) × IsListAfter digits answers.items text × (limit_of digits ≡ Some limit)
 IsLazy (LazyWith value) limit text = (digits : List ℕ) × IsWithAfter digits value text × (limit_of digits ≡ Some limit)
 
--- a text is the first line of a script of this kind, where so many tasks may wait
+-- a text is the first line of a script of this kind, where so many tasks may be counted in
 abbrev pub IsOpening : Kind → ℕ → List ℕ → Type 0
 IsOpening Once limit text = (more : List ℕ) × (text ≡ codes "once " ++ more) × IsOnce Once limit more
 IsOpening (OnceWith value) limit text = (more : List ℕ) × (text ≡ codes "once " ++ more) × IsOnce (OnceWith value) limit more

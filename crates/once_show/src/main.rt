@@ -1,16 +1,20 @@
 //! Shows a script: as a table with a row for each line, or as a picture.
 #![tactic(auto)]
 
-use clap::error::Error;
+use clap::error::{Error, ErrorKind};
 use clap::{Arg, ArgAction, ArgMatches, Command};
 use once_view::fault::Fault;
 use once_view::{Form, show};
 use std::alloc::{AllocGlobal, Global};
 use std::env::{self, Env};
-use std::fmt;
 use std::fs::{self, Files};
-use std::io::{self, BufReader, ErrorKind, Read, Write};
+use std::io::{self, BufReader, Read, Write};
 use std::process::ExitCode;
+
+// The words of the command line.
+fn words_of<R: Env + AllocGlobal>(rt: &R) -> Result<Vec<String>, Fault> {
+    Ok(env::args(rt)?.collect(rt.alloc())?)
+}
 
 // The command line.
 fn matches_of(alloc: Global, words: &[String]) -> Result<ArgMatches<'_>, Error> {
@@ -45,31 +49,11 @@ fn read<R: Files + AllocGlobal, I: Read + Drop>(
 }
 
 // Why there is nothing to show, or not all.
-#[derive(Debug, Drop)]
+#[derive(Drop)]
 enum Failure<'a> {
     // The file can't be read.
     File(&'a str, io::Error),
     Script(Fault),
-}
-
-impl Failure<'_> {
-    // The status that the process ends with.
-    fn status(&self) -> u8 {
-        match self {
-            Failure::File(_, error) if error.kind() == ErrorKind::OutOfMemory => 4,
-            Failure::File(_, _) => 3,
-            Failure::Script(fault) => fault.status(),
-        }
-    }
-}
-
-impl fmt::Display for Failure<'_> {
-    fn fmt<W: fmt::Write>(&self, f: &mut fmt::Formatter<W>) -> fmt::Result {
-        match self {
-            Failure::File(path, error) => write!(f, "{path}: {error}"),
-            Failure::Script(fault) => write!(f, "{fault}"),
-        }
-    }
 }
 
 // Shows the script that the command line names.
@@ -100,20 +84,41 @@ where
     }
 }
 
-fn main(rt: HostRuntime) -> io::Result<ExitCode> {
-    let words: Vec<String> = env::args(&rt)?.collect(rt.alloc())?;
+// Says why the command line names nothing to show, or prints the help that it asks for. Gives the status
+// that the process ends with.
+fn refuse<R: Print + Eprint>(rt: &R, error: &Error) -> u8 {
+    match error.print(rt) {
+        Ok(()) if error.kind() == ErrorKind::OutOfMemory => Fault::Memory.status(),
+        Ok(()) => error.exit_code() as u8,
+        Err(error) => Fault::from(error).status(),
+    }
+}
+
+// Says why the script is not shown. Gives the status that the process ends with.
+fn fail<R: Eprint>(rt: &R, failure: Failure<'_>) -> u8 {
+    match failure {
+        Failure::File(path, error) => {
+            let _ = eprintln!(rt; "once_show: {path}: {error}");
+            Fault::from(error).status()
+        }
+        Failure::Script(fault) => {
+            let _ = eprintln!(rt; "once_show: {fault}");
+            fault.status()
+        }
+    }
+}
+
+fn main(rt: HostRuntime) -> ExitCode {
+    let words = match words_of(&rt) {
+        Ok(words) => words,
+        Err(fault) => return ExitCode::from(fail(&rt, Failure::Script(fault))),
+    };
     let matches = match matches_of(rt.alloc(), &words) {
         Ok(matches) => matches,
-        Err(error) => {
-            error.print(&rt)?;
-            return Ok(ExitCode::from(error.exit_code() as u8));
-        }
+        Err(error) => return ExitCode::from(refuse(&rt, &error)),
     };
-    Ok(match run(&rt, &matches, rt.reader(), io::writer(&rt)) {
+    match run(&rt, &matches, rt.reader(), io::writer(&rt)) {
         Ok(()) => ExitCode::SUCCESS,
-        Err(failure) => {
-            let _ = eprintln!(rt; "once_show: {failure}");
-            ExitCode::from(failure.status())
-        }
-    })
+        Err(failure) => ExitCode::from(fail(&rt, failure)),
+    }
 }

@@ -4,7 +4,7 @@ use std::error::Error;
 use std::{fmt, io};
 
 /// The first line that can't be read, and what may stand there.
-#[derive(Debug, Drop, PartialEq, Eq)]
+#[derive(Debug, Drop)]
 pub struct Unread {
     pub number: u64,
     /// The line, or nothing where it is not UTF-8.
@@ -13,7 +13,7 @@ pub struct Unread {
 }
 
 /// Why a script is not shown.
-#[derive(Debug, Drop, PartialEq, Eq)]
+#[derive(Debug, Drop)]
 pub enum Fault {
     /// A line can't be read.
     Unreadable(Unread),
@@ -45,7 +45,7 @@ impl fmt::Display for Fault {
                 },
             ) => write!(
                 f,
-                "line {number} can't be read: `{text}`; expected: {expected}"
+                "line {number} can't be read: {text:?}; expected: {expected}"
             ),
             Fault::Io => f.write_str("input or output failed"),
             Fault::Memory => f.write_str("out of memory"),

@@ -13,7 +13,7 @@ use std::alloc::Global;
 use std::io::{BufWriter, Write};
 
 /// In which form a script is shown.
-#[derive(Clone, Copy, Debug, PartialEq, Eq)]
+#[derive(Clone, Copy)]
 pub enum Form {
     Table,
     Picture,

@@ -136,7 +136,7 @@ impl Picture {
     fn wake(&mut self, task: u64, at: u64, wakers: &[u64]) -> Result<(), AllocError> {
         let from = self.lanes.place(task);
         for waker in wakers {
-            if let Some(to) = self.lanes.place_of_waker(*waker) {
+            if let Some(to) = self.lanes.call(*waker) {
                 self.push(Shape::Wake(at, from, to))?;
             }
         }

@@ -13,7 +13,7 @@ pub struct Script<'a> {
 }
 
 /// A line of text, with its number.
-#[derive(Clone, Copy, Debug)]
+#[derive(Clone, Copy)]
 pub struct TextLine<'a> {
     pub number: u64,
     pub text: &'a str,

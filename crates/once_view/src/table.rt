@@ -10,10 +10,9 @@ use std::alloc::{AllocError, Global};
 use std::io::Write;
 use std::{fmt, io};
 
-/// The heads of the columns that each table has before those of the tasks.
-static HEADS: [&str; 8] = [
-    "line", "script", "count", "quick", "ready", "door", "flag", "listed",
-];
+/// The heads of the columns that each table has before those of the tasks. A tab stands between two cells
+/// of a row, since no script that can be read has one.
+const HEADS: &str = "line\tscript\tcount\tquick\tready\tdoor\tflag\tlisted";
 
 /// Plays a script, and writes its table.
 pub fn write_table<O: Write>(alloc: Global, script: Script<'_>, output: &mut O) -> io::Result<()> {
@@ -44,51 +43,57 @@ fn tasks_of(alloc: Global, lines: &[ScriptLine<'_>]) -> Result<Vec<u64>, AllocEr
 struct Table {
     alloc: Global,
     tasks: Vec<u64>,
-    rows: Vec<Vec<String>>,
+    rows: Vec<String>,
 }
 
 impl Table {
     fn write_heads(&mut self) -> Result<(), AllocError> {
-        let mut row = Vec::new(self.alloc);
-        for head in HEADS {
-            row.push(String::from_str(self.alloc, head)?)?;
-        }
+        let mut row = String::from_str(self.alloc, HEADS)?;
         for task in &self.tasks {
-            row.push(format!(in self.alloc; "task {task}")?)?;
+            write!(row, "\ttask {task}")?;
         }
-        row.push(String::from_str(self.alloc, "record")?)?;
+        row.push_str("\trecord")?;
         self.rows.push(row)?;
-        Ok(())
-    }
-
-    fn write_core(&self, row: &mut Vec<String>, core: &Core<u64>) -> Result<(), AllocError> {
-        let alloc = self.alloc;
-        row.push(format!(in alloc; "{}", core.word.count())?)?;
-        row.push(format!(in alloc; "{}", Mark(core.word.is_quick(), "quick"))?)?;
-        row.push(format!(in alloc; "{}", Mark(core.word.is_ready(), "ready"))?)?;
-        row.push(format!(in alloc; "{}", Door(core.door))?)?;
-        row.push(format!(in alloc; "{}", Mark(core.lists.head, "held"))?)?;
-        row.push(listed(alloc, core)?)?;
         Ok(())
     }
 }
 
 impl Watcher for Table {
     fn see(&mut self, moment: Moment<'_>) -> Result<(), AllocError> {
-        let alloc = self.alloc;
-        let mut row = Vec::new(alloc);
-        row.push(format!(in alloc; "{}", moment.at.number)?)?;
-        row.push(String::from_str(alloc, moment.at.text)?)?;
-        self.write_core(&mut row, moment.world.core())?;
+        let mut row = String::new(self.alloc);
+        write!(
+            row,
+            "{}\t{}\t{}",
+            moment.at.number,
+            moment.at.text,
+            Shared(moment.world.core())
+        )?;
+        write_listed(self.alloc, moment.world.core(), &mut row)?;
         for task in &self.tasks {
-            row.push(format!(in alloc; "{}", Stand(moment.world.step_of(*task)))?)?;
+            write!(row, "\t{}", Stand(moment.world.step_of(*task)))?;
         }
-        row.push(match moment.reason {
-            Some(reason) => format!(in alloc; "(passed over: {reason})")?,
-            None => format!(in alloc; "{}", Entries(moment.added))?,
-        })?;
+        match moment.reason {
+            Some(reason) => write!(row, "\t(passed over: {reason})")?,
+            None => write!(row, "\t{}", Entries(moment.added))?,
+        }
         self.rows.push(row)?;
         Ok(())
+    }
+}
+
+/// What all tasks share, but for who is listed.
+#[derive(Clone, Copy)]
+struct Shared<'a>(&'a Core<u64>);
+
+impl fmt::Display for Shared<'_> {
+    fn fmt<W: fmt::Write>(&self, f: &mut fmt::Formatter<W>) -> fmt::Result {
+        let word = &self.0.word;
+        let (quick, ready) = (
+            Mark(word.is_quick(), "quick"),
+            Mark(word.is_ready(), "ready"),
+        );
+        let (door, flag) = (Door(self.0.door), Mark(self.0.lists.head, "held"));
+        write!(f, "{}\t{quick}\t{ready}\t{door}\t{flag}\t", word.count())
     }
 }
 
@@ -116,19 +121,19 @@ impl fmt::Display for Door {
 }
 
 /// Who is listed: the ticket of each, and its waker, or that it was called.
-fn listed(alloc: Global, core: &Core<u64>) -> Result<String, AllocError> {
-    let mut text = String::new(alloc);
-    for listing in &core.lists.listings(alloc)? {
-        let gap = if text.is_empty() { "" } else { " " };
+fn write_listed(alloc: Global, core: &Core<u64>, row: &mut String) -> Result<(), AllocError> {
+    let listings = core.lists.listings(alloc)?;
+    if listings.is_empty() {
+        row.push_str("-")?;
+    }
+    for (index, listing) in listings.iter().enumerate() {
+        let gap = if index == 0 { "" } else { " " };
         match listing.waker {
-            Some(waker) => write!(text, "{gap}{}:{waker}", listing.ticket)?,
-            None => write!(text, "{gap}{}:called", listing.ticket)?,
+            Some(waker) => write!(row, "{gap}{}:{waker}", listing.ticket)?,
+            None => write!(row, "{gap}{}:called", listing.ticket)?,
         }
     }
-    if text.is_empty() {
-        text.push_str("-")?;
-    }
-    Ok(text)
+    Ok(())
 }
 
 /// Where a task stands.
@@ -186,7 +191,7 @@ impl fmt::Display for Entries<'_> {
 }
 
 /// Writes the rows, each column as wide as its widest cell.
-fn write_rows<O: Write>(alloc: Global, rows: &[Vec<String>], output: &mut O) -> io::Result<()> {
+fn write_rows<O: Write>(alloc: Global, rows: &[String], output: &mut O) -> io::Result<()> {
     let mut widths = Vec::new(alloc);
     for row in rows {
         widen(&mut widths, row)?;
@@ -198,8 +203,8 @@ fn write_rows<O: Write>(alloc: Global, rows: &[Vec<String>], output: &mut O) -> 
 }
 
 /// Makes each width at least that of the row's cell.
-fn widen(widths: &mut Vec<usize>, row: &[String]) -> Result<(), AllocError> {
-    for (index, cell) in row.iter().enumerate() {
+fn widen(widths: &mut Vec<usize>, row: &str) -> Result<(), AllocError> {
+    for (index, cell) in row.split('\t').enumerate() {
         match widths.get_mut(index) {
             Some(width) => *width = cell.len().max(*width),
             None => widths.push(cell.len())?,
@@ -209,14 +214,11 @@ fn widen(widths: &mut Vec<usize>, row: &[String]) -> Result<(), AllocError> {
 }
 
 // The blanks before a cell are written with it, so that no line ends with a blank.
-fn write_row<O: Write>(row: &[String], widths: &[usize], output: &mut O) -> io::Result<()> {
+fn write_row<O: Write>(row: &str, widths: &[usize], output: &mut O) -> io::Result<()> {
     let mut blanks = 0usize;
-    for (cell, width) in row.iter().zip(widths) {
+    for (cell, width) in row.split('\t').zip(widths) {
         if !cell.is_empty() {
-            for _ in 0..blanks {
-                write!(output, " ")?;
-            }
-            write!(output, "{cell}")?;
+            write!(output, "{:blanks$}{cell}", "")?;
             blanks = 0;
         }
         let rest = width.saturating_sub(cell.len());

@@ -1,4 +1,4 @@
--- When a poll may be refused: for want of memory, or because as many tasks wait as may.
+-- When a poll may be refused: for want of memory, or because as many tasks are counted in as may be.
 use Rattle.std.specs.Prelude.{◌≡◌, ◌≢◌, ◌≤◌, ℕ, Bool, true, false, cond, ◌==◌, ◌⊎◌, List, [], ◌∷◌}
 use Rattle.once_queue.specs.Numbers.{how_many}
 use Rattle.once_world.specs.Record.{Kind, Entry, Begin, made_in}

@@ -111,7 +111,7 @@ pub struct Pair<'r, R> {
 }
 
 impl<'r, R: Wait + AllocGlobal> Pair<'r, R> {
-    /// New cells, in which so many tasks may wait.
+    /// New cells, in which so many tasks may be counted in.
     pub fn new(rt: &'r R, limit: u64) -> Pair<'r, R> {
         let alloc = rt.alloc();
         Pair {
@@ -232,7 +232,7 @@ impl<'r, R: Wait + AllocGlobal> Pair<'r, R> {
     }
 
     /// What the owner does once all tasks are forgotten: puts new cells with a value or none in place
-    /// of these, in which so many tasks may wait. Where a task is left it does nothing.
+    /// of these, in which so many tasks may be counted in. Where a task is left it does nothing.
     pub fn renew(&mut self, is_set: bool, limit: u64) {
         if self.tasks.is_empty() {
             self.limit = limit.min(MAX_WAITERS);

@@ -133,7 +133,7 @@ poll 1 v4 => v4, done, wakes 2 to 100
 2..101 * poll n v9 => v4, done
 inits => 3 polls, 101 drops",
     ),
-    // Ten who wait are called and dropped one after another, and the last of them fills the cell.
+    // Ten wait. Nine are called and dropped, one after another, and the tenth fills the cell.
     (
         "turn_passed_on_to_the_last",
         "try 0

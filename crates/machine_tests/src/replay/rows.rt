@@ -23,6 +23,16 @@ pub fn compare(rt: &impl Abort, name: &str, made: Result<String, Fault>, wanted:
     assert_eq!(rt; made, Ok(wanted), "in {name}");
 }
 
+/// All scenarios.
+pub fn all_rows() -> impl Iterator<Item = &'static (&'static str, &'static str, &'static str)> {
+    PLAIN
+        .iter()
+        .chain(&REFUSALS)
+        .chain(&DROPS)
+        .chain(&CALLS)
+        .chain(&OWNER)
+}
+
 /// Runs each scenario of a table.
 fn run_rows(rt: &(impl AllocGlobal + Abort), rows: &[(&str, &str, &str)]) {
     for (name, text, wanted) in rows {

@@ -110,7 +110,7 @@ impl<'a> Drawing<'a> {
 
     fn write_head<O: Write>(&self, output: &mut O) -> io::Result<()> {
         let width = self.right().saturating_add(30).max(LEAST_WIDTH);
-        let height = self.bottom().saturating_add(90);
+        let height = self.bottom().saturating_add(106);
         writeln!(
             output,
             "<svg xmlns='http://www.w3.org/2000/svg' width='{width}' height='{height}' viewBox='0 0 {width} {height}'>"
@@ -305,7 +305,7 @@ impl<'a> Drawing<'a> {
 
     /// Says what a large picture leaves out.
     fn write_left_out<O: Write>(&self, output: &mut O) -> io::Result<()> {
-        let y = self.bottom().saturating_add(80);
+        let y = self.bottom().saturating_add(96);
         let text = match (self.has_words(), self.unit) {
             (true, 4) => return Ok(()),
             (true, 2) => "Left out, since there are many tasks: what polls answer.",
@@ -321,12 +321,12 @@ impl<'a> Drawing<'a> {
 }
 
 /// Writes a text that needs no escapes.
-pub fn write_text<O: Write>(output: &mut O, x: u64, y: u64, text: &str) -> io::Result<()> {
+fn write_text<O: Write>(output: &mut O, x: u64, y: u64, text: &str) -> io::Result<()> {
     writeln!(output, "<text x='{x}' y='{y}'>{text}</text>")
 }
 
 /// Writes a rectangle.
-pub fn write_box<O: Write>(
+fn write_box<O: Write>(
     output: &mut O,
     class: &str,
     (x, y): (u64, u64),

@@ -3,14 +3,17 @@ use super::shape::{Shape, Span};
 use std::alloc::{AllocError, Global};
 
 /// The lane of a task, with the times since which something is under way there.
-#[derive(Clone, Copy, Debug)]
+#[derive(Clone, Copy)]
 pub struct Lane {
     pub task: u64,
     place: u64,
     pub made: u64,
     /// When the task went, if it did.
     pub gone: Option<u64>,
-    waker: u64,
+    /// The waker of its last poll.
+    waker: Option<u64>,
+    /// The waker with which it waits, until it is called.
+    listed: Option<u64>,
     call: Option<u64>,
     is_drop: bool,
     waits: Option<u64>,
@@ -24,6 +27,10 @@ impl Lane {
             from,
             to,
         }
+    }
+
+    fn is_polled_with(&self, waker: u64) -> bool {
+        self.call.is_some() && self.holds.is_none() && self.waker == Some(waker)
     }
 
     /// What is still open, as it is drawn if it lasts until this time.
@@ -65,7 +72,8 @@ impl Lanes {
             place: self.lanes.len() as u64,
             made: at,
             gone: None,
-            waker: 0,
+            waker: None,
+            listed: None,
             call: None,
             is_drop: false,
             waits: None,
@@ -82,17 +90,23 @@ impl Lanes {
             .map_or(0, |lane| lane.place)
     }
 
-    /// At which place the task is that waits with this waker, or else one whose waker it was.
-    pub fn place_of_waker(&self, waker: u64) -> Option<u64> {
+    /// At which place the task is that is called by this waker: one that waits with it, or else one in
+    /// a poll with it. From now on it waits with none.
+    pub fn call(&mut self, waker: u64) -> Option<u64> {
         let waiting = self
             .lanes
             .iter()
-            .find(|lane| lane.waker == waker && lane.waits.is_some());
+            .position(|lane| lane.listed == Some(waker));
         let found = match waiting {
-            Some(lane) => Some(lane),
-            None => self.lanes.iter().find(|lane| lane.waker == waker),
+            Some(index) => Some(index),
+            None => self
+                .lanes
+                .iter()
+                .position(|lane| lane.is_polled_with(waker)),
         };
-        found.map(|lane| lane.place)
+        let lane = self.lanes.get_mut(found?)?;
+        lane.listed = None;
+        Some(lane.place)
     }
 
     fn lane(&mut self, task: u64) -> Option<&mut Lane> {
@@ -103,10 +117,8 @@ impl Lanes {
     pub fn begin(&mut self, task: u64, at: u64, waker: Option<u64>) -> Option<Span> {
         let lane = self.lane(task)?;
         lane.call = Some(at);
-        match waker {
-            Some(waker) => lane.waker = waker,
-            None => lane.is_drop = true,
-        }
+        lane.waker = waker;
+        lane.is_drop = waker.is_none();
         let waited = lane.waits.take()?;
         Some(lane.span(waited, at))
     }
@@ -123,6 +135,7 @@ impl Lanes {
         if let Some(lane) = self.lane(task) {
             if lane.holds.is_none() {
                 lane.waits = Some(at);
+                lane.listed = lane.waker;
             }
         }
     }
@@ -131,6 +144,7 @@ impl Lanes {
     pub fn hold(&mut self, task: u64, at: u64) {
         if let Some(lane) = self.lane(task) {
             lane.holds = Some(at);
+            lane.listed = None;
         }
     }
 
@@ -145,6 +159,7 @@ impl Lanes {
     pub fn leave(&mut self, task: u64, at: u64) {
         if let Some(lane) = self.lane(task) {
             lane.gone = Some(at);
+            lane.listed = None;
         }
     }
 }

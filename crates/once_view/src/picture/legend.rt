@@ -1,42 +1,34 @@
 //! What the shapes of a picture mean.
-use super::draw::{write_box, write_text};
 use std::io;
 use std::io::Write;
 
+/// The legend, as it stands at the top left.
+const LEGEND: &str = "<rect class='poll' x='8' y='6' width='24' height='12'/>
+<text x='38' y='16'>a poll</text>
+<rect class='drop' x='108' y='6' width='24' height='12'/>
+<text x='138' y='16'>a drop</text>
+<rect class='wait' x='208' y='6' width='24' height='12'/>
+<text x='238' y='16'>waits</text>
+<rect class='hold' x='308' y='6' width='24' height='12'/>
+<text x='338' y='16'>holds the right</text>
+<rect class='empty' x='458' y='6' width='24' height='12'/>
+<text x='488' y='16'>cell empty</text>
+<rect class='set' x='578' y='6' width='24' height='12'/>
+<text x='608' y='16'>value set</text>
+<circle class='pending' cx='20' cy='32' r='4'/>
+<text x='38' y='36'>init: Pending</text>
+<circle class='value' cx='120' cy='32' r='4'/>
+<text x='138' y='36'>a value</text>
+<rect class='error' x='216' y='28' width='8' height='8'/>
+<text x='238' y='36'>an error</text>
+<path class='wake' d='M320 26V38L317 32H323L320 38Z'/>
+<text x='338' y='36'>calls who waits</text>
+<path class='look' d='M470 26L466 38H474Z'/>
+<text x='488' y='36'>a look, and what it found</text>
+<text x='8' y='56'>Where the band of the cell is short, its word is left out.</text>";
+
 /// Writes the legend, below this height.
 pub fn write_legend<O: Write>(top: u64, output: &mut O) -> io::Result<()> {
-    let (first, second) = (top.saturating_add(6), top.saturating_add(26));
-    write_box(output, "poll", (8, first), (24, 12))?;
-    write_word(output, 38, first, "a poll")?;
-    write_box(output, "drop", (108, first), (24, 12))?;
-    write_word(output, 138, first, "a drop")?;
-    write_box(output, "wait", (208, first), (24, 12))?;
-    write_word(output, 238, first, "waits")?;
-    write_box(output, "hold", (308, first), (24, 12))?;
-    write_word(output, 338, first, "holds the right")?;
-    write_box(output, "empty", (458, first), (24, 12))?;
-    write_word(output, 488, first, "cell empty")?;
-    write_box(output, "set", (578, first), (24, 12))?;
-    write_word(output, 608, first, "value set")?;
-    let middle = second.saturating_add(6);
-    writeln!(
-        output,
-        "<circle class='pending' cx='20' cy='{middle}' r='4'/><circle class='value' cx='120' cy='{middle}' r='4'/>"
-    )?;
-    write_word(output, 38, second, "init: Pending")?;
-    write_word(output, 138, second, "a value")?;
-    write_box(output, "error", (216, second.saturating_add(2)), (8, 8))?;
-    write_word(output, 238, second, "an error")?;
-    let (tip, back) = (second.saturating_add(12), second.saturating_add(6));
-    writeln!(
-        output,
-        "<path class='wake' d='M320 {second}V{tip}L317 {back}H323L320 {tip}Z'/><path class='look' d='M470 {second}L466 {tip}H474Z'/>"
-    )?;
-    write_word(output, 338, second, "calls who waits")?;
-    write_word(output, 488, second, "a look, and what it found")
-}
-
-/// A word beside its shape.
-fn write_word<O: Write>(output: &mut O, x: u64, top: u64, word: &str) -> io::Result<()> {
-    write_text(output, x, top.saturating_add(10), word)
+    writeln!(output, "<g transform='translate(0 {top})'>")?;
+    writeln!(output, "{LEGEND}</g>")
 }

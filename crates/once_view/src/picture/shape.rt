@@ -2,7 +2,7 @@
 use async_once_cell::world::{Ran, Reply};
 
 /// What the cell is.
-#[derive(Clone, Copy, Debug, PartialEq, Eq)]
+#[derive(Clone, Copy)]
 pub enum CellState {
     Empty,
     /// This task holds the right.
@@ -11,7 +11,7 @@ pub enum CellState {
 }
 
 /// A stretch of time in a lane.
-#[derive(Clone, Copy, Debug, PartialEq, Eq)]
+#[derive(Clone, Copy)]
 pub struct Span {
     pub lane: u64,
     pub from: u64,
@@ -19,7 +19,7 @@ pub struct Span {
 }
 
 /// One shape of a picture.
-#[derive(Clone, Copy, Debug, PartialEq, Eq)]
+#[derive(Clone, Copy)]
 pub enum Shape {
     /// A task waits.
     Wait(Span),
