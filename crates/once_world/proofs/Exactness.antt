@@ -5,5 +5,6 @@ pub mod ExactSections
 pub mod ExactReleases
 pub mod ExactHolds
 pub mod Exact
+pub mod Unfinished
 pub mod Asked
 pub mod Worlds

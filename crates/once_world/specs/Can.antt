@@ -1,6 +1,6 @@
 -- What a replay's step asks of what is shared. It holds in every world that the machine reaches.
-use Rattle.std.specs.Prelude.{◌≡◌, ◌≤◌, ◌<◌, ℕ, false, not, Option, Some, None}
-use Rattle.once_world.specs.Inputs.{Input, Go}
+use Rattle.std.specs.Prelude.{◌≡◌, ◌≤◌, ◌<◌, ℕ, false, not, length, Option, Some, None}
+use Rattle.once_world.specs.Inputs.{Input, Go, Make}
 use Rattle.once_world.specs.Machine.{Task, Step, UnderWay, Place, AtAddOne, AtRelease, AtCountOut, Inner, World}
 
 -- what the call of a place asks of what is shared: a free place in the count, a counted task, or, on the queue at the door, a holder that may release
@@ -20,7 +20,8 @@ abbrev pub TaskCan : ℕ → Inner → Option Task → Type 0
 TaskCan limit c (Some x) = CanAdvance limit c x.step
 TaskCan limit c None = Unit {0}
 
--- the input may be taken: a task that it moves may make its step
+-- the input may be taken: a task that it moves may make its step, and where it makes one, each unfinished task has an entry
 abbrev pub MayTake : ℕ → World → Input → Type 0
 MayTake limit w (Go t a granted) = TaskCan limit w.inner (w.tasks t)
+MayTake limit w (Make t) = w.unfinished ≤ length w.history
 MayTake limit w i = Unit {0}

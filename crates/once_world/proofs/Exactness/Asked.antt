@@ -9,6 +9,7 @@ use Rattle.once_world.specs.Can.{CanAdvance, CanStep, MayTake, TaskCan}
 use Rattle.once_world.proofs.History.Cells.{holder_unset}
 use Rattle.once_world.proofs.Invariant.Facts.{AtPlace, AtStep, HeadFlag, QuickFlag, is_counted, is_counted_at}
 use Rattle.once_world.proofs.Invariant.Fits.{Fits, InnerFits, step_of}
+use Rattle.once_world.proofs.Exactness.Unfinished.{unfinished_within}
 use Rattle.once_world.proofs.Invariant.Kept.{releasing_holds}
 use Rattle.once_world.proofs.Invariant.Moves.{in_count}
 use Rattle.once_world.proofs.Input.Headline.{task_fits, world_fits}
@@ -59,7 +60,7 @@ asked_task K limit t w None f found = tt
 -- every input may be taken after every list of inputs
 pub may_take : (kind : Kind) (limit : ℕ) (inputs : List Input) (i : Input) → 0 < limit → MayTake limit (world_of kind limit inputs) i
 may_take kind limit inputs (Go t a g) some = let w = world_of kind limit inputs in asked_task kind limit t w (w.tasks t) (world_fits kind limit inputs some) refl
-may_take kind limit inputs (Make t) some = tt
+may_take kind limit inputs (Make t) some = let w = world_of kind limit inputs in unfinished_within kind limit w (world_fits kind limit inputs some)
 may_take kind limit inputs (Poll t k) some = tt
 may_take kind limit inputs (Drop t) some = tt
 may_take kind limit inputs (Owns o) some = tt

@@ -1,5 +1,5 @@
 -- How many of a list pass a test, where each number stands once.
-use Rattle.std.proofs.Common.{◌≡◌, ◌≢◌, ◌≤◌, ◌<◌, ◌+◌, ℕ, Bool, true, false, ◌⊎◌, inl, inr, List, [], ◌∷◌, refl, sym, ap, subst, arith}
+use Rattle.std.proofs.Common.{◌≡◌, ◌≢◌, ◌≤◌, ◌<◌, ◌+◌, ℕ, Bool, true, false, ◌⊎◌, inl, inr, List, [], ◌∷◌, length, refl, sym, ap, subst, arith}
 use Rattle.std.proofs.lemmas.Bool.{cases_eq}
 use Rattle.std.proofs.lemmas.Bool.Decides.{nat_tests}
 use Rattle.once_queue.specs.Numbers.{bit, how_many, is_distinct, member}
@@ -36,6 +36,11 @@ count_positive t (x ∷ xs) p m h = grind (arith, nat_tests, count_positive t xs
 pub count_weaker : (ns : List ℕ) (p q : ℕ → Bool) → ((n : ℕ) → p n ≡ true → q n ≡ true) → how_many p ns ≤ how_many q ns
 count_weaker [] p q w = omega arith
 count_weaker (x ∷ xs) p q w = let ih = count_weaker xs p q w in let here = w x in grind arith
+
+-- no more numbers pass than there are
+pub count_within : (ns : List ℕ) (p : ℕ → Bool) → how_many p ns ≤ length ns
+count_within [] p = omega arith
+count_within (x ∷ xs) p = let ih = count_within xs p in grind arith
 
 -- the first number passes, or a later one
 some_by : (x : ℕ) (xs : List ℕ) (p : ℕ → Bool) (b : Bool) → p x ≡ b → 0 < how_many p (x ∷ xs) → (0 < how_many p xs → (u : ℕ) × (p u ≡ true)) → (u : ℕ) × (p u ≡ true)

@@ -1,5 +1,5 @@
 //! A replay under way, one input at a time.
-ghost use Rattle.std.specs.Prelude.{◌≡◌, ◌<◌, ◌≤◌, ◌+◌, ◌-◌, ◌^◌, ◌++◌, ◌∷◌, ◌==◌, ℕ, Bool, List, true, false, [], Some, None, OnOk, IfOk, reverse};
+ghost use Rattle.std.specs.Prelude.{◌≡◌, ◌<◌, ◌≤◌, ◌+◌, ◌-◌, ◌^◌, ◌++◌, ◌∷◌, ◌==◌, ℕ, Bool, List, true, false, [], Some, None, OnOk, IfOk, length, reverse};
 ghost use Rattle.std.specs.Option.{option_copied, option_map};
 ghost use Rattle.once_world.specs.Machine.{unfinished_after, error_in as error_of, release_entry as release_of, end_entry as end_of};
 ghost use Rattle.once_world.specs.Shown.{call_of, entry_of, history_in, claim_entries, ran_entries, out_entries, wakers_in, step_entries};
@@ -322,6 +322,7 @@ impl World {
     }
 
     fn make(&mut self, t: u64) -> Result<(), AllocError>
+        requires counted { self.old.unfinished ≤ length self.old.entries.items }
         ensures world { OnOk result (world_in self.new ≡ make_world (world_in self.old) t ((world_in self.old).tasks t)) }
         ensures shared { self.new.shared ≡ self.old.shared }
         ensures limit { self.new.limit ≡ self.old.limit }
@@ -329,9 +330,6 @@ impl World {
         if self.tasks.contains_key(&t) {
             return Ok(());
         }
-        let Some(unfinished) = self.unfinished.checked_add(1) else {
-            return Err(AllocError);
-        };
         self.tasks.insert(
             t,
             Task {
@@ -340,7 +338,8 @@ impl World {
                 step: Step::new(),
             },
         )?;
-        self.unfinished = unfinished;
+        // Each unfinished task has an entry, so their number fits.
+        self.unfinished += 1;
         self.entries.push(Entry::Made(t))?;
         Ok(())
     }
