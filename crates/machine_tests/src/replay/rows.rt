@@ -23,14 +23,9 @@ pub fn compare(rt: &impl Abort, name: &str, made: Result<String, Fault>, wanted:
     assert_eq!(rt; made, Ok(wanted), "in {name}");
 }
 
-/// All scenarios.
-pub fn all_rows() -> impl Iterator<Item = &'static (&'static str, &'static str, &'static str)> {
-    PLAIN
-        .iter()
-        .chain(&REFUSALS)
-        .chain(&DROPS)
-        .chain(&CALLS)
-        .chain(&OWNER)
+/// All tables.
+pub fn tables() -> [&'static [(&'static str, &'static str, &'static str)]; 5] {
+    [&PLAIN, &REFUSALS, &DROPS, &CALLS, &OWNER]
 }
 
 /// Runs each scenario of a table.

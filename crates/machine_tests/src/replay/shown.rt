@@ -1,5 +1,5 @@
 //! What `once_show` makes of a script: its table, its picture, and what it says of a mistake.
-use super::rows::all_rows;
+use super::rows::tables;
 use super::runs::Target;
 use async_once_cell::step::{Place, Step};
 use async_once_cell::world::{Entry, Input, Kind, Ran, World};
@@ -98,8 +98,10 @@ fn a_line_that_adds_nothing_is_passed_over(rt: HostRuntime) {
     for (text, _) in &PASSED_OVER {
         assert!(rt; is_honest(rt.alloc(), text).unwrap_or(false), "in {text}");
     }
-    for (name, text, _) in all_rows() {
-        assert!(rt; is_honest(rt.alloc(), text).unwrap_or(false), "in {name}");
+    for table in tables() {
+        for (name, text, _) in table {
+            assert!(rt; is_honest(rt.alloc(), text).unwrap_or(false), "in {name}");
+        }
     }
 }
 
