@@ -1,11 +1,11 @@
 //! Scenarios, each with what it must print.
 use super::runs::printed_by;
-use calls::CALLS;
-use drops::DROPS;
+pub use calls::CALLS;
+pub use drops::DROPS;
 use once_script::fault::Fault;
-use owner::OWNER;
-use plain::PLAIN;
-use refusals::REFUSALS;
+pub use owner::OWNER;
+pub use plain::PLAIN;
+pub use refusals::REFUSALS;
 use std::process::Abort;
 
 mod calls;
@@ -21,11 +21,6 @@ pub fn compare(rt: &impl Abort, name: &str, made: Result<String, Fault>, wanted:
         Err(fault) => Err(*fault),
     };
     assert_eq!(rt; made, Ok(wanted), "in {name}");
-}
-
-/// All tables.
-pub fn tables() -> [&'static [(&'static str, &'static str, &'static str)]; 5] {
-    [&PLAIN, &REFUSALS, &DROPS, &CALLS, &OWNER]
 }
 
 /// Runs each scenario of a table.

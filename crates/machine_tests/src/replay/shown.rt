@@ -1,5 +1,5 @@
 //! What `once_show` makes of a script: its table, its picture, and what it says of a mistake.
-use super::rows::tables;
+use super::rows::{CALLS, DROPS, OWNER, PLAIN, REFUSALS};
 use super::runs::Target;
 use async_once_cell::step::{Place, Step};
 use async_once_cell::world::{Entry, Input, Kind, Ran, World};
@@ -98,11 +98,23 @@ fn a_line_that_adds_nothing_is_passed_over(rt: HostRuntime) {
     for (text, _) in &PASSED_OVER {
         assert!(rt; is_honest(rt.alloc(), text).unwrap_or(false), "in {text}");
     }
-    for table in tables() {
-        for (name, text, _) in table {
-            assert!(rt; is_honest(rt.alloc(), text).unwrap_or(false), "in {name}");
-        }
+}
+
+// Whether the lines of each scenario of a table are told so.
+fn are_honest(alloc: Global, rows: &[(&str, &str, &str)]) -> bool {
+    let mut are_all = true;
+    for (_, text, _) in rows {
+        are_all &= is_honest(alloc, text).unwrap_or(false);
     }
+    are_all
+}
+
+#[test]
+fn worked_schedules_are_told_honestly(rt: HostRuntime) {
+    let plain = are_honest(rt.alloc(), &PLAIN) && are_honest(rt.alloc(), &REFUSALS);
+    let dropped = are_honest(rt.alloc(), &DROPS) && are_honest(rt.alloc(), &CALLS);
+    let owned = are_honest(rt.alloc(), &OWNER);
+    assert_eq!(rt; (plain, dropped, owned), (true, true, true));
 }
 
 // Texts that are no scripts, and what is said of them.
@@ -190,6 +202,24 @@ fn a_picture_says_what_it_leaves_out(rt: HostRuntime) -> Result<(), Fail> {
         );
     }
     Ok(())
+}
+
+// Scripts in which task 2 calls task 3: beside a task that was never polled, and beside one that is gone and
+// had the same waker, while task 3 is in a poll with another one.
+const CALLED: [&str; 2] = [
+    "once 8\nmake 1\nmake 2\nmake 3\npoll 2 5\nrun 2 p\npoll 3 0\nrun 3 p\npoll 2 5\nrun 2 e1\n",
+    "once 8\nmake 1\nmake 2\nmake 3\npoll 2 5\nrun 2 p\npoll 1 7\nrun 1 p\ndrop 1\nrun 1 p\npoll 3 7\nrun 3 p\npoll 3 9\npoll 2 5\nrun 2 e1\n",
+];
+
+/// An arrow goes from the second lane to the third.
+#[test]
+fn an_arrow_goes_to_the_called_task(rt: HostRuntime) {
+    for text in CALLED {
+        let Ok(picture) = shown(rt.alloc(), Form::Picture, text.as_bytes()) else {
+            panic!(rt; "no picture of {text}");
+        };
+        assert!(rt; picture.contains(" 132V148L"), "{text}");
+    }
 }
 
 /// A write that fails ends the showing, in both forms.
