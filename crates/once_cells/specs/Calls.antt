@@ -11,7 +11,8 @@ use Rattle.once_core.specs.Steps.{PartsTell, SideTells, Advances}
 pub data Makes {P S W Q : Type 0} (parts : PartsTell P W Q) (side : SideTells S W) (limit : ℕ) (from : Step W Q) (p : P) (s : S) : Progress → Step W Q → P → S → Type 0 where
   none : Makes parts side limit from p s More from p s
   next : (before : Progress) (at : Step W Q) (q : P) (t : S) (told : Progress) (to : Step W Q) (r : P) (u : S)
-      → Makes parts side limit from p s before at q t → Advances parts side limit at q t told to r u → Makes parts side limit from p s told to r u
+      → Makes parts side limit from p s before at q t → Advances parts side limit at q t told to r u
+      → Makes parts side limit from p s told to r u
 
 -- how a call ended whose last step told this; without a step it is a drop of who never waited
 abbrev pub Ends : Progress → Ending → Type 0
@@ -25,7 +26,8 @@ module _ {P S W Q : Type 0} (parts : PartsTell P W Q) (side : SideTells S W) whe
 
   -- a drop closed the init, and then made its steps
   abbrev pub Drops : ℕ → Step W Q → P → S → Step W Q → P → S → Type 0
-  Drops limit from p s to p' s' = (closed : S) × side.close s closed × (e : Ending) × Calls limit from p closed e to p' s'
+  Drops limit from p s to p' s' =
+      (closed : S) × side.close s closed × (e : Ending) × Calls limit from p closed e to p' s'
 
 -- parts of which nothing is told
 abbrev pub untold : {P W Q : Type 0} → PartsTell P W Q

@@ -21,7 +21,13 @@ pub fn whole_poll<W: WakerId + Drop, R: Wait + AllocGlobal, S: Side<W>>(
     requires { is_resting step.old ≡ true }
     ensures ended { in_call step.new ≡ false }
     ensures steps { Calls untold
-        record { run = S.did_run; close = S.did_close; put = S.did_put; copy = S.did_copy; wake = S.did_wake }
+        record {
+          run = S.did_run;
+          close = S.did_close;
+          put = S.did_put;
+          copy = S.did_copy;
+          wake = S.did_wake;
+        }
         MAX_WAITERS (step_of_poll step.old) parts.old side.old result step.new parts.new side.new }
     ensures stays { S.stays side.old side.new }
 {
@@ -38,7 +44,13 @@ pub fn whole_drop<W: WakerId + Drop, R: Wait + AllocGlobal, S: Side<W>>(
     requires { is_resting step.old ≡ true }
     ensures ended { in_call step.new ≡ false }
     ensures steps { Drops untold
-        record { run = S.did_run; close = S.did_close; put = S.did_put; copy = S.did_copy; wake = S.did_wake }
+        record {
+          run = S.did_run;
+          close = S.did_close;
+          put = S.did_put;
+          copy = S.did_copy;
+          wake = S.did_wake;
+        }
         MAX_WAITERS (step_of_drop step.old) parts.old side.old step.new parts.new side.new }
     ensures stays { S.stays side.old side.new }
 {
@@ -55,7 +67,13 @@ fn go_on<W: WakerId + Drop, R: Wait + AllocGlobal, S: Side<W>>(
 ) -> Ending
     ensures ended { in_call step.new ≡ false }
     ensures steps { Calls untold
-        record { run = S.did_run; close = S.did_close; put = S.did_put; copy = S.did_copy; wake = S.did_wake }
+        record {
+          run = S.did_run;
+          close = S.did_close;
+          put = S.did_put;
+          copy = S.did_copy;
+          wake = S.did_wake;
+        }
         MAX_WAITERS step.old parts.old side.old result step.new parts.new side.new }
     ensures stays { S.stays side.old side.new }
 {

@@ -30,7 +30,16 @@ pub record CoreState (W : Type 0) : Type 0 where
 
 -- all that a core holds
 abbrev pub state_of : {W : Type 0} {g : _} → Core W g → CoreState W
-state_of c = record { word = c.word; door = c.door; head = c.lists.head; listings = listings_of c.lists; made = c.made; granted = c.granted; current = c.current; log = c.log.items }
+state_of c = record {
+  word = c.word;
+  door = c.door;
+  head = c.lists.head;
+  listings = listings_of c.lists;
+  made = c.made;
+  granted = c.granted;
+  current = c.current;
+  log = c.log.items;
+}
 
 -- room for one more listing and for one more line of the log
 abbrev pub HasRoom : {W : Type 0} {g : _} → Core W g → Type 0
@@ -53,11 +62,14 @@ module _ {W : Type 0} where
 
   -- a fast release is done where the word is exactly the quick bit; it gives the right back, and tells whether the value is set
   abbrev pub DidFast : CoreState W → Bool → Bool → CoreState W → Type 0
-  DidFast s ready won t = (won ≡ is_quick_bit s.word) × (t ≡ record s { word = cond won (flags_alone false ready) s.word })
+  DidFast s ready won t =
+      (won ≡ is_quick_bit s.word) × (t ≡ record s { word = cond won (flags_alone false ready) s.word })
 
   -- below the limit the count grows; at it the word tells whether the value is set
   abbrev pub DidCountIn : CoreState W → ℕ → Counted → CoreState W → Type 0
-  DidCountIn s limit (In w) t = (s.word.count < limit) × (flags_of w ≡ s.word) × (t ≡ record s { word = record s.word { count = suc s.word.count } })
+  DidCountIn s limit (In w) t =
+      (s.word.count < limit) × (flags_of w ≡ s.word)
+      × (t ≡ record s { word = record s.word { count = suc s.word.count } })
   DidCountIn s limit SeenReady t = (limit ≤ s.word.count) × (s.word.ready ≡ true) × (t ≡ s)
   DidCountIn s limit Full t = (limit ≤ s.word.count) × (s.word.ready ≡ false) × (t ≡ s)
 
@@ -75,7 +87,13 @@ module _ {W : Type 0} where
 
   -- a new queue is put where memory is given and none stands
   abbrev pub put_state : Bool → Option ℕ → CoreState W → CoreState W
-  put_state true None s = record s { door = Some (suc s.made); head = false; listings = []; made = suc s.made; log = s.log ++ Put (suc s.made) ∷ [] }
+  put_state true None s = record s {
+    door = Some (suc s.made);
+    head = false;
+    listings = [];
+    made = suc s.made;
+    log = s.log ++ Put (suc s.made) ∷ [];
+  }
   put_state _ _ s = s
 
   -- what stands at the door after the put, if there was memory
@@ -110,7 +128,11 @@ module _ {W : Type 0} where
 
   -- what a release leaves, with these listings
   abbrev pub release_state : Bool → List (Listing W) → CoreState W → CoreState W
-  release_state ready xs s = record s { word = record s.word { quick = false; ready = ready }; head = cond s.word.quick s.head false; listings = xs }
+  release_state ready xs s = record s {
+    word = record s.word { quick = false; ready = ready };
+    head = cond s.word.quick s.head false;
+    listings = xs;
+  }
 
   -- who leaves takes its listing out, and passes its turn on where it had it
   abbrev pub is_passing : ℕ → CoreState W → Bool
@@ -132,7 +154,8 @@ module _ {W : Type 0} (same other : W → W → Type 0) where
   FindsHolder s (ListOp k (Some w)) a o t =
       ((a ≡ Memory) × (kept_ticket k s.listings ≡ None) × (s.granted ≡ false) × (t ≡ s) × (o ≡ ListOp k (Some w)))
       ⊎ ((a ≡ Listed) × ((is_some (kept_ticket k s.listings) || s.granted) ≡ true)
-      × (t ≡ record s { listings = list_with (ticket_for k s.listings) w s.listings }) × (o ≡ ListOp (Some (ticket_for k s.listings)) None))
+      × (t ≡ record s { listings = list_with (ticket_for k s.listings) w s.listings })
+      × (o ≡ ListOp (Some (ticket_for k s.listings)) None))
   FindsHolder s op a o t = ⊥
 
   -- a look or a listing on the queue at the door, by what the flags show
@@ -143,9 +166,12 @@ module _ {W : Type 0} (same other : W → W → Type 0) where
 
   -- a section on the queue at the door
   abbrev pub AtDoor : CoreState W → Op W → Answer W → Op W → CoreState W → Type 0
-  AtDoor s (Release ready) (Released out) o t = Releases same other ready s.listings out t.listings × (t ≡ release_state ready t.listings s) × (o ≡ Release ready)
+  AtDoor s (Release ready) (Released out) o t =
+      Releases same other ready s.listings out t.listings × (t ≡ release_state ready t.listings s)
+      × (o ≡ Release ready)
   AtDoor s (Release ready) a o t = ⊥
-  AtDoor s (Leave n) (Left w) o t = (w ≡ next_waker (is_passing n s) n s.listings) × (t ≡ leave_state n s) × (o ≡ Leave n)
+  AtDoor s (Leave n) (Left w) o t =
+      (w ≡ next_waker (is_passing n s) n s.listings) × (t ≡ leave_state n s) × (o ≡ Leave n)
   AtDoor s (Leave n) a o t = ⊥
   AtDoor s op a o t = Found s op a o t
 

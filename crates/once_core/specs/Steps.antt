@@ -289,25 +289,44 @@ pub record SideTells (S W : Type 0) : Type 1 where
 module _ {P S W Q : Type 0} (parts : PartsTell P W Q) (side : SideTells S W) where
   -- one line of the table: the limit, the place, parts and side before, the progress, and the step, parts and side after
   abbrev pub Line : ℕ → Place W Q → P → S → Progress → Step W Q → P → S → Type 0
-  Line limit AtStart p s r t p' s' = (w : ℕ) × parts.load p w p' × Follows side.close (after_start (flags_of w).ready (is_zero (flags_of w))) s s' r t
+  Line limit AtStart p s r t p' s' =
+      (w : ℕ) × parts.load p w p'
+      × Follows side.close (after_start (flags_of w).ready (is_zero (flags_of w))) s s' r t
   Line limit AtTryQuick p s r t p' s' = (b : Bool) × parts.quick p b p' × Follows side.close (after_quick b) s s' r t
-  Line limit AtDoorGet p s r t p' s' = (q : Option Q) × parts.door_get p q p' × Follows side.close (after_door_get q) s s' r t
-  Line limit AtDoorPut p s r t p' s' = (q : Option Q) × parts.door_put p q p' × Follows side.close (after_door_put q) s s' r t
-  Line limit (AtCountIn q) p s r t p' s' = (c : Counted) × parts.count_in p limit c p' × Follows side.close (after_count_in c q) s s' r t
-  Line limit (AtWaitLoad q k) p s r t p' s' = (w : ℕ) × parts.load p w p' × Follows side.close (after_load (flags_of w).ready q k) s s' r t
-  Line limit (AtLook q k) p s r t p' s' = (a : SectionAnswer W) × (o : Op W) × parts.section p q (LookOp k) a o p' × AfterLook side.close side.copy a q (ticket_in o) s s' r t
-  Line limit (AtList q k w) p s r t p' s' = (a : SectionAnswer W) × (o : Op W) × parts.section p q (ListOp k (Some w)) a o p' × Follows side.close (after_list a q (ticket_in o)) s s' r t
-  Line limit (AtRun by) p s r t p' s' = (a : Polled) × (m : S) × side.run s a m × (p' ≡ p) × Follows side.close (after_run a by) m s' r t
-  Line limit (AtPut by) p s r t p' s' = side.put s s' × (p' ≡ p) × (r ≡ More) × (t ≡ UnderWay (release_place by EndValue))
-  Line limit (AtFast e) p s r t p' s' = (b : Bool) × parts.fast p (is_value e) b p' × Follows side.close (after_fast b (is_value e) e) s s' r t
+  Line limit AtDoorGet p s r t p' s' =
+      (q : Option Q) × parts.door_get p q p' × Follows side.close (after_door_get q) s s' r t
+  Line limit AtDoorPut p s r t p' s' =
+      (q : Option Q) × parts.door_put p q p' × Follows side.close (after_door_put q) s s' r t
+  Line limit (AtCountIn q) p s r t p' s' =
+      (c : Counted) × parts.count_in p limit c p' × Follows side.close (after_count_in c q) s s' r t
+  Line limit (AtWaitLoad q k) p s r t p' s' =
+      (w : ℕ) × parts.load p w p' × Follows side.close (after_load (flags_of w).ready q k) s s' r t
+  Line limit (AtLook q k) p s r t p' s' =
+      (a : SectionAnswer W) × (o : Op W) × parts.section p q (LookOp k) a o p'
+      × AfterLook side.close side.copy a q (ticket_in o) s s' r t
+  Line limit (AtList q k w) p s r t p' s' =
+      (a : SectionAnswer W) × (o : Op W) × parts.section p q (ListOp k (Some w)) a o p'
+      × Follows side.close (after_list a q (ticket_in o)) s s' r t
+  Line limit (AtRun by) p s r t p' s' =
+      (a : Polled) × (m : S) × side.run s a m × (p' ≡ p) × Follows side.close (after_run a by) m s' r t
+  Line limit (AtPut by) p s r t p' s' =
+      side.put s s' × (p' ≡ p) × (r ≡ More) × (t ≡ UnderWay (release_place by EndValue))
+  Line limit (AtFast e) p s r t p' s' =
+      (b : Bool) × parts.fast p (is_value e) b p' × Follows side.close (after_fast b (is_value e) e) s s' r t
   Line limit (AtAddOne e) p s r t p' s' = parts.add_one p p' × Follows side.close (next_at (AtDoorAgain e)) s s' r t
-  Line limit (AtDoorAgain e) p s r t p' s' = (q : Option Q) × parts.door_get p q p' × Follows side.close (after_door_again q e) s s' r t
+  Line limit (AtDoorAgain e) p s r t p' s' =
+      (q : Option Q) × parts.door_get p q p' × Follows side.close (after_door_again q e) s s' r t
   Line limit (AtRelease q e) p s r t p' s' =
-      (a : SectionAnswer W) × (o : Op W) × parts.section p q (ReleaseOp (is_value e)) a o p' × Wakes side.wake (out_of a) s s' × (r ≡ More) × (t ≡ UnderWay (AtCountOut e))
+      (a : SectionAnswer W) × (o : Op W) × parts.section p q (ReleaseOp (is_value e)) a o p'
+      × Wakes side.wake (out_of a) s s' × (r ≡ More) × (t ≡ UnderWay (AtCountOut e))
   Line limit (AtLeave q n e) p s r t p' s' =
-      (a : SectionAnswer W) × (o : Op W) × parts.section p q (LeaveOp n) a o p' × Wakes side.wake (out_of a) s s' × (r ≡ More) × (t ≡ UnderWay (AtCountOut e))
-  Line limit (AtCountOut e) p s r t p' s' = (w : ℕ) × parts.count_out p w p' × Follows side.close (after_count_out (is_ready_bit (flags_of w)) e) s s' r t
-  Line limit (AtDoorTake e) p s r t p' s' = (b : Bool) × parts.door_take p b p' × Follows side.close (next_end e) s s' r t
+      (a : SectionAnswer W) × (o : Op W) × parts.section p q (LeaveOp n) a o p'
+      × Wakes side.wake (out_of a) s s' × (r ≡ More) × (t ≡ UnderWay (AtCountOut e))
+  Line limit (AtCountOut e) p s r t p' s' =
+      (w : ℕ) × parts.count_out p w p'
+      × Follows side.close (after_count_out (is_ready_bit (flags_of w)) e) s s' r t
+  Line limit (AtDoorTake e) p s r t p' s' =
+      (b : Bool) × parts.door_take p b p' × Follows side.close (next_end e) s s' r t
 
   abbrev pub Advances : ℕ → Step W Q → P → S → Progress → Step W Q → P → S → Type 0
   Advances limit (UnderWay at) p s r t p' s' = Line limit at p s r t p' s'

@@ -32,7 +32,17 @@ impl<W: WakerId + Drop> Core<W> {
 
     /// A core that nobody used, made with a value or not. It takes no memory.
     pub fn new(alloc: Global, ready: bool) -> Self
-        ensures { state_of result ≡ record { word = flags_alone false ready; door = None; head = false; listings = []; made = 0; granted = true; current = None; log = [] } }
+        ensures { state_of result
+            ≡ record {
+              word = flags_alone false ready;
+              door = None;
+              head = false;
+              listings = [];
+              made = 0;
+              granted = true;
+              current = None;
+              log = [];
+            } }
     {
         Core {
             word: Word::new(ready),
@@ -74,7 +84,8 @@ impl<W: WakerId + Drop> Core<W> {
     /// Takes the queue out of the door, and makes the word that of a new cell.
     pub fn reset(&mut self, ready: bool)
         requires { HasRoom self.old }
-        ensures { state_of self.new ≡ record (take_state (state_of self.old)) { word = flags_alone false ready } }
+        ensures { state_of self.new
+            ≡ record (take_state (state_of self.old)) { word = flags_alone false ready } }
     {
         self.take_out();
         self.word = Word::new(ready);
@@ -90,7 +101,8 @@ impl<W: WakerId + Drop> Core<W> {
     // The section of a look, on the queue at the door.
     fn look(&mut self, ticket: &mut Option<u64>) -> Answer<W>
         requires door { IsSome self.old.door }
-        ensures { Found W.tells_same W.tells_other (state_of self.old) (Op.Look ticket.old) result (Op.Look ticket.new) (state_of self.new) }
+        ensures { Found W.tells_same W.tells_other
+            (state_of self.old) (Op.Look ticket.old) result (Op.Look ticket.new) (state_of self.new) }
     {
         let word = self.word.bits();
         self.lists.look(ticket, self.current.as_ref(), word)
@@ -101,7 +113,9 @@ impl<W: WakerId + Drop> Core<W> {
         requires door { IsSome self.old.door }
         requires waker { IsSome waker.old }
         requires room { HasSpace self.old.lists }
-        ensures { Found W.tells_same W.tells_other (state_of self.old) (Op.List ticket.old waker.old) result (Op.List ticket.new waker.new) (state_of self.new) }
+        ensures { Found W.tells_same W.tells_other
+            (state_of self.old) (Op.List ticket.old waker.old)
+            result (Op.List ticket.new waker.new) (state_of self.new) }
     {
         let word = self.word.bits();
         if self.granted || self.lists.is_listed(*ticket) {
@@ -118,8 +132,10 @@ impl<W: WakerId + Drop> Core<W> {
         requires door { IsSome self.old.door }
         requires unset { self.old.word.ready ≡ false }
         requires one { self.old.lists.head ≡ not self.old.word.quick }
-        ensures out { Releases W.tells_same W.tells_other ready (state_of self.old).listings result (state_of self.new).listings }
-        ensures state { state_of self.new ≡ release_state ready (state_of self.new).listings (state_of self.old) }
+        ensures out { Releases W.tells_same W.tells_other ready
+            (state_of self.old).listings result (state_of self.new).listings }
+        ensures state { state_of self.new
+            ≡ release_state ready (state_of self.new).listings (state_of self.old) }
     {
         self.word.give_back(ready);
         self.lists.release(ready)
@@ -128,7 +144,8 @@ impl<W: WakerId + Drop> Core<W> {
     // The section of one who leaves.
     fn leave(&mut self, ticket: u64) -> Option<W>
         requires door { IsSome self.old.door }
-        ensures waker { result ≡ next_waker (is_passing ticket (state_of self.old)) ticket (state_of self.old).listings }
+        ensures waker { result
+            ≡ next_waker (is_passing ticket (state_of self.old)) ticket (state_of self.old).listings }
         ensures state { state_of self.new ≡ leave_state ticket (state_of self.old) }
     {
         let word = self.word.bits();
@@ -153,7 +170,8 @@ impl<W: WakerId + Drop> Core<W> {
     // Writes a line of the log, for which there is room.
     fn write(&mut self, line: QueueLine)
         requires { vec_len self.old.log < vec_capacity self.old.log }
-        ensures state { state_of self.new ≡ record (state_of self.old) { log = self.old.log.items ++ line ∷ [] } }
+        ensures state { state_of self.new
+            ≡ record (state_of self.old) { log = self.old.log.items ++ line ∷ [] } }
         ensures longer { vec_len self.new.log ≡ vec_len self.old.log + 1 }
         ensures wakers { self.new.lists ≡ self.old.lists }
     {
@@ -192,7 +210,8 @@ impl<W: WakerId + Drop> Parts<W> for Core<W> {
 
     ghost can_section = { λ s q op. CanSection (state_of s) q op };
 
-    ghost did_section = { λ s q op a o t. DidSection W.tells_same W.tells_other (state_of s) q op a o (state_of t) };
+    ghost did_section = { λ s q op a o t.
+        DidSection W.tells_same W.tells_other (state_of s) q op a o (state_of t) };
 
     fn load(&mut self) -> u64 {
         self.word.bits()

@@ -1,5 +1,6 @@
 -- The list behind a queue's lock: the listings of those who wait, the oldest first. A listing without a waker is one that was called.
-use Rattle.std.specs.Prelude.{ℕ, zero, suc, ◌+◌, ◌==◌, Bool, true, false, cond, List, [], ◌∷◌, ◌++◌, Option, Some, None}
+use Rattle.std.specs.Prelude.{ℕ, zero, suc, ◌+◌, ◌==◌, Bool, true, false, cond, List, [], ◌∷◌, ◌++◌, Option, Some, None, map}
+use Rattle.std.specs.Borrow.{Bor}
 pub use Rattle.once_queue.specs.declared.waiters.Listing.{Listing}
 use Rattle.once_queue.specs.Numbers.{member}
 
@@ -8,6 +9,10 @@ module _ {W : Type 0} where
   abbrev pub tickets : List (Listing W) → List ℕ
   tickets [] = []
   tickets (x ∷ xs) = x.ticket ∷ tickets xs
+
+  -- the listings that these borrows show
+  abbrev pub lent_listings : List (Bor (Listing W)) → List (Listing W)
+  lent_listings all = map (λ x. x.now) all
 
   -- the waker of the listing with the ticket
   abbrev pub find_listing : ℕ → List (Listing W) → Option (Option W)

@@ -43,8 +43,10 @@ module _ {W : Type 0} where
   -- a listing where some task holds: the own listing is taken out, and one with the waker goes to the end; or there was none, and no memory for one
   abbrev pub Lists : Option ℕ → W → List (Listing W) → Answer W → Option ℕ → Option W → List (Listing W) → Type 0
   Lists ticket w xs answer ticket' waker' xs' =
-      ((answer ≡ Answer.Listed) × (ticket' ≡ Some (ticket_for ticket xs)) × (waker' ≡ None) × (xs' ≡ list_with (ticket_for ticket xs) w xs))
-      ⊎ ((answer ≡ Answer.Memory) × (kept_ticket ticket xs ≡ None) × (ticket' ≡ ticket) × (waker' ≡ Some w) × (xs' ≡ xs))
+      ((answer ≡ Answer.Listed) × (ticket' ≡ Some (ticket_for ticket xs)) × (waker' ≡ None)
+      × (xs' ≡ list_with (ticket_for ticket xs) w xs))
+      ⊎ ((answer ≡ Answer.Memory) × (kept_ticket ticket xs ≡ None) × (ticket' ≡ ticket) × (waker' ≡ Some w)
+      × (xs' ≡ xs))
 
 module _ {W : Type 0} (same other : W → W → Type 0) where
   -- the waker that leaves a listing, by those of the listings before: none where it was called, or where an earlier waker is the same
@@ -55,7 +57,8 @@ module _ {W : Type 0} (same other : W → W → Type 0) where
   -- all listings leave, in their order
   abbrev pub HandsAll : List W → List (Listing W) → List (Listing W) → Type 0
   HandsAll seen [] [] = Unit {0}
-  HandsAll seen (x ∷ xs) (y ∷ ys) = (y.ticket ≡ x.ticket) × HandsBy seen x.waker y.waker × HandsAll (wakers_by x.waker seen) xs ys
+  HandsAll seen (x ∷ xs) (y ∷ ys) =
+      (y.ticket ≡ x.ticket) × HandsBy seen x.waker y.waker × HandsAll (wakers_by x.waker seen) xs ys
   HandsAll seen _ _ = ⊥
 
   -- a release, by whether the value is set: it calls the first who was not called, or all leave

@@ -1,6 +1,5 @@
 -- What stands in the slots, and room there.
-use Rattle.std.specs.Prelude.{◌<◌, List, filter, map, vec_len, vec_capacity}
-use Rattle.std.specs.Borrow.{Bor}
+use Rattle.std.specs.Prelude.{◌<◌, List, filter, vec_len, vec_capacity}
 use Rattle.once_queue.specs.declared.waiters.Listing.{Listing}
 use Rattle.once_queue.specs.declared.slots.Slots.{Slots}
 use Rattle.once_queue.specs.Kept.{is_kept}
@@ -17,7 +16,3 @@ module _ {W : Type 0} where
   -- room for the mark of one more ticket
   abbrev pub HasMark : Slots W → Type 0
   HasMark s = vec_len s.used < vec_capacity s.used
-
-  -- the listings that these borrows show
-  abbrev pub shown : List (Bor (Listing W)) → List (Listing W)
-  shown all = map (λ x. x.now) all

@@ -34,15 +34,16 @@ pub struct Slots<W> {
     // How many holes were made since they were closed.
     holes: usize,
     ghost once: { is_distinct (tickets (filter is_kept slots.items)) ≡ true },
-    ghost marks: { (n : ℕ) → is_marked n used.items ≡ member n (tickets (filter is_kept slots.items)) },
+    ghost marks: { (n : ℕ) → is_marked n used.items
+        ≡ member n (tickets (filter is_kept slots.items)) },
     ghost low: { (n : ℕ) → n < free → is_marked n used.items ≡ true },
     ghost within: { uncalled ≤ vec_len slots },
     ghost called: { (n : ℕ) → n < uncalled → HoldsAt (λ x. is_open x ≡ false) slots.items n },
 }
 
 impl<W: Drop> Slots<W> {
-    ghost use Rattle.once_queue.specs.Listings.{find_listing, take_out, first_waker, call_first, new_ticket};
-    ghost use Rattle.once_queue.specs.Slots.{HasMark, HasSlot, listings_in, shown};
+    ghost use Rattle.once_queue.specs.Listings.{find_listing, take_out, first_waker, call_first, new_ticket, lent_listings};
+    ghost use Rattle.once_queue.specs.Slots.{HasMark, HasSlot, listings_in};
 
     /// No listing. It takes no memory.
     #[inline(always)]
@@ -68,7 +69,7 @@ impl<W: Drop> Slots<W> {
 
     /// The listings, in their order.
     pub fn listings(&self, alloc: Global) -> Result<Vec<&Listing<W>>, AllocError>
-        ensures { IfOk result (λ all. shown all.items ≡ listings_in self.now) }
+        ensures { IfOk result (λ all. lent_listings all.items ≡ listings_in self.now) }
     {
         let kept = self.slots.iter().filter(|slot| slot.ticket != HOLE);
         kept.collect(alloc)
@@ -93,7 +94,8 @@ impl<W: Drop> Slots<W> {
 
     /// The listing with this ticket.
     pub fn find(&self, ticket: u64) -> Option<&Listing<W>>
-        ensures { option_map (λ x. x.waker) (option_copied result) ≡ find_listing ticket (listings_in self.now) }
+        ensures { option_map (λ x. x.waker) (option_copied result)
+            ≡ find_listing ticket (listings_in self.now) }
     {
         let place = self.place(ticket)?;
         Some(&self.slots[place])
@@ -101,7 +103,8 @@ impl<W: Drop> Slots<W> {
 
     /// Takes the listing with this ticket out, if one has it.
     pub fn take_out(&mut self, ticket: u64) -> Option<Listing<W>>
-        ensures waker { option_map (λ x. x.waker) result ≡ find_listing ticket (listings_in self.old) }
+        ensures waker { option_map (λ x. x.waker) result
+            ≡ find_listing ticket (listings_in self.old) }
         ensures listings { listings_in self.new ≡ take_out ticket (listings_in self.old) }
         ensures none { result ≡ None → self.new ≡ self.old }
         ensures mark { IsSome result → ticket < vec_len self.new.used }
@@ -135,7 +138,8 @@ impl<W: Drop> Slots<W> {
     pub fn push(&mut self, listing: Listing<W>)
         requires new { member listing.ticket (tickets (listings_in self.old)) ≡ false }
         requires slot { HasSlot self.old }
-        requires mark { (listing.ticket < vec_len self.old.used) ⊎ ((listing.ticket ≡ vec_len self.old.used) × HasMark self.old) }
+        requires mark { (listing.ticket < vec_len self.old.used)
+            ⊎ ((listing.ticket ≡ vec_len self.old.used) × HasMark self.old) }
         ensures { listings_in self.new ≡ listings_in self.old ++ listing ∷ [] }
     {
         mark(&mut self.used, listing.ticket);
@@ -197,7 +201,9 @@ impl<W: Drop> Slots<W> {
 
     // Where the listing with this ticket stands.
     fn place(&self, ticket: u64) -> Option<usize>
-        ensures some { IfSome result (λ i. (i < length self.now.slots.items) × HoldsAt (λ x. x.ticket ≡ ticket) self.now.slots.items i × ((ticket == hole) ≡ false)) }
+        ensures some { IfSome result (λ i. (i < length self.now.slots.items)
+            × HoldsAt (λ x. x.ticket ≡ ticket) self.now.slots.items i
+            × ((ticket == hole) ≡ false)) }
         ensures none { result ≡ None → member ticket (tickets (listings_in self.now)) ≡ false }
     {
         if ticket == HOLE {
@@ -211,7 +217,8 @@ impl<W: Drop> Slots<W> {
 
     // Where a listing with this ticket was put, if it stands there.
     fn noted(&self, ticket: u64) -> Option<usize>
-        ensures { IfSome result (λ i. (i < length self.now.slots.items) × HoldsAt (λ x. x.ticket ≡ ticket) self.now.slots.items i) }
+        ensures { IfSome result (λ i. (i < length self.now.slots.items)
+            × HoldsAt (λ x. x.ticket ≡ ticket) self.now.slots.items i) }
     {
         let place = *self.places.get(ticket as usize)?;
         let slot = self.slots.get(place)?;
@@ -232,8 +239,10 @@ impl<W: Drop> Slots<W> {
     // Where the first listing stands that has a waker, or the end.
     fn first_open(&self) -> usize
         ensures within { result ≤ vec_len self.now.slots }
-        ensures before { (n : ℕ) → n < result → HoldsAt (λ x. is_open x ≡ false) self.now.slots.items n }
-        ensures found { result < vec_len self.now.slots → HoldsAt (λ x. is_open x ≡ true) self.now.slots.items result }
+        ensures before { (n : ℕ) → n < result
+            → HoldsAt (λ x. is_open x ≡ false) self.now.slots.items n }
+        ensures found { result < vec_len self.now.slots
+            → HoldsAt (λ x. is_open x ≡ true) self.now.slots.items result }
     {
         let mut first = self.uncalled;
         while first < self.slots.len() && !has_waker(&self.slots[first]) {
@@ -245,7 +254,8 @@ impl<W: Drop> Slots<W> {
     // Closes the holes where the last slot is taken and half of all are holes, about.
     fn close_many_holes(&mut self)
         ensures room { HasSlot self.old → self.new ≡ self.old }
-        ensures length { length (listings_in self.old) < vec_len self.old.slots → length (listings_in self.new) < vec_capacity self.new.slots }
+        ensures length { length (listings_in self.old) < vec_len self.old.slots
+            → length (listings_in self.new) < vec_capacity self.new.slots }
         ensures used { self.new.used ≡ self.old.used }
         ensures listings { listings_in self.new ≡ listings_in self.old }
     {
@@ -292,8 +302,10 @@ fn note(places: &mut Vec<usize>, number: usize, place: usize) {
 
 // Marks this number, which is within the marks, or the next, for which there is room.
 fn mark(marks: &mut Vec<bool>, number: u64)
-    requires { (number < vec_len marks.old) ⊎ ((number ≡ vec_len marks.old) × (vec_len marks.old < vec_capacity marks.old)) }
-    ensures { (n : ℕ) → is_marked n marks.new.items ≡ cond (number == n) true (is_marked n marks.old.items) }
+    requires { (number < vec_len marks.old)
+        ⊎ ((number ≡ vec_len marks.old) × (vec_len marks.old < vec_capacity marks.old)) }
+    ensures { (n : ℕ) → is_marked n marks.new.items
+        ≡ cond (number == n) true (is_marked n marks.old.items) }
 {
     match marks.get_mut(number as usize) {
         Some(mark) => *mark = true,
@@ -303,7 +315,8 @@ fn mark(marks: &mut Vec<bool>, number: u64)
 
 // Takes the mark of this number away, if it has one.
 fn unmark(marks: &mut Vec<bool>, number: u64)
-    ensures marks { (n : ℕ) → is_marked n marks.new.items ≡ cond (number == n) false (is_marked n marks.old.items) }
+    ensures marks { (n : ℕ) → is_marked n marks.new.items
+        ≡ cond (number == n) false (is_marked n marks.old.items) }
     ensures len { vec_len marks.new ≡ vec_len marks.old }
 {
     if let Some(mark) = marks.get_mut(number as usize) {

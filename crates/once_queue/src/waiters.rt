@@ -130,8 +130,8 @@ pub struct Lists<W: WakerId> {
 
 impl<W: WakerId + Drop> Lists<W> {
     ghost use Rattle.once_queue.specs.Word.{flags_of};
-    ghost use Rattle.once_queue.specs.Listings.{Listing, find_listing, own_listing, take_out, list_without, first_waker, call_first, kept_ticket, ticket_for, passes_turn, next_waker, left_list};
-    ghost use Rattle.once_queue.specs.Slots.{HasMark, HasSlot, shown};
+    ghost use Rattle.once_queue.specs.Listings.{Listing, find_listing, own_listing, take_out, list_without, first_waker, call_first, kept_ticket, ticket_for, passes_turn, next_waker, left_list, lent_listings};
+    ghost use Rattle.once_queue.specs.Slots.{HasMark, HasSlot};
     ghost use Rattle.once_queue.specs.Room.{HasSpace, listings_of};
     ghost use Rattle.once_queue.specs.Sections.{shows_set, shows_free, shows_taken, Looked, Lists as DidList, Releases};
 
@@ -155,13 +155,19 @@ impl<W: WakerId + Drop> Lists<W> {
     pub fn look(&mut self, ticket: &mut Option<u64>, waker: Option<&W>, word: u64) -> Answer<W>
         // The first case that holds gives the answer.
         ensures ready { shows_set (flags_of word) ≡ true → result ≡ Answer.Ready }
-        ensures claimed { shows_free (flags_of word) self.old.head ≡ true → result ≡ Answer.Claimed }
-        ensures held { shows_taken (flags_of word) self.old.head ≡ true → Looked W.tells_same W.tells_other (option_copied waker.entry) (own_listing ticket.old (listings_of self.old)) result }
+        ensures claimed { shows_free (flags_of word) self.old.head ≡ true
+            → result ≡ Answer.Claimed }
+        ensures held { shows_taken (flags_of word) self.old.head ≡ true
+            → Looked W.tells_same W.tells_other (option_copied waker.entry)
+            (own_listing ticket.old (listings_of self.old)) result }
 
         // Only a claim changes anything.
         ensures head { self.new.head ≡ (self.old.head || shows_free (flags_of word) self.old.head) }
-        ensures listings { listings_of self.new ≡ cond (shows_free (flags_of word) self.old.head) (list_without ticket.old (listings_of self.old)) (listings_of self.old) }
-        ensures ticket { ticket.new ≡ cond (shows_free (flags_of word) self.old.head) None ticket.old }
+        ensures listings { listings_of self.new
+            ≡ cond (shows_free (flags_of word) self.old.head)
+            (list_without ticket.old (listings_of self.old)) (listings_of self.old) }
+        ensures ticket { ticket.new
+            ≡ cond (shows_free (flags_of word) self.old.head) None ticket.old }
     {
         if let Some(answer) = self.claim(ticket, word) {
             return answer;
@@ -185,14 +191,22 @@ impl<W: WakerId + Drop> Lists<W> {
 
         // The first case that holds gives the answer.
         ensures ready { shows_set (flags_of word) ≡ true → result ≡ Answer.Ready }
-        ensures claimed { shows_free (flags_of word) self.old.head ≡ true → result ≡ Answer.Claimed }
-        ensures held { shows_taken (flags_of word) self.old.head ≡ true → IfSome waker.old (λ w. DidList ticket.old w (listings_of self.old) result ticket.new waker.new (listings_of self.new)) }
+        ensures claimed { shows_free (flags_of word) self.old.head ≡ true
+            → result ≡ Answer.Claimed }
+        ensures held { shows_taken (flags_of word) self.old.head ≡ true
+            → IfSome waker.old
+            (λ w. DidList ticket.old w (listings_of self.old)
+            result ticket.new waker.new (listings_of self.new)) }
         ensures room { HasSpace self.old → result ≢ Answer.Memory }
 
         // Only a claim changes the flag, and takes a listing out where no task holds.
         ensures head { self.new.head ≡ (self.old.head || shows_free (flags_of word) self.old.head) }
-        ensures listings { shows_taken (flags_of word) self.old.head ≡ false → listings_of self.new ≡ cond (shows_free (flags_of word) self.old.head) (list_without ticket.old (listings_of self.old)) (listings_of self.old) }
-        ensures ticket { shows_taken (flags_of word) self.old.head ≡ false → ticket.new ≡ cond (shows_free (flags_of word) self.old.head) None ticket.old }
+        ensures listings { shows_taken (flags_of word) self.old.head ≡ false
+            → listings_of self.new
+            ≡ cond (shows_free (flags_of word) self.old.head)
+            (list_without ticket.old (listings_of self.old)) (listings_of self.old) }
+        ensures ticket { shows_taken (flags_of word) self.old.head ≡ false
+            → ticket.new ≡ cond (shows_free (flags_of word) self.old.head) None ticket.old }
         ensures waker { shows_taken (flags_of word) self.old.head ≡ false → waker.new ≡ waker.old }
     {
         if let Some(answer) = self.claim(ticket, word) {
@@ -213,7 +227,8 @@ impl<W: WakerId + Drop> Lists<W> {
     /// called yet gives its waker, and stays. It takes no memory.
     #[inline(always)]
     pub fn release(&mut self, ready: bool) -> Out<W>
-        ensures listings { Releases W.tells_same W.tells_other ready (listings_of self.old) result (listings_of self.new) }
+        ensures listings { Releases W.tells_same W.tells_other ready
+            (listings_of self.old) result (listings_of self.new) }
         ensures head { self.new.head ≡ false }
     {
         self.head = false;
@@ -230,8 +245,14 @@ impl<W: WakerId + Drop> Lists<W> {
     /// that a task holds, and the value is not set, the first that was not called yet gives its waker,
     /// and stays. It takes no memory.
     pub fn leave(&mut self, ticket: u64, word: u64) -> Option<W>
-        ensures waker { result ≡ next_waker (passes_turn (shows_free (flags_of word) self.old.head) ticket (listings_of self.old)) ticket (listings_of self.old) }
-        ensures listings { listings_of self.new ≡ left_list (passes_turn (shows_free (flags_of word) self.old.head) ticket (listings_of self.old)) ticket (listings_of self.old) }
+        ensures waker { result
+            ≡ next_waker
+            (passes_turn (shows_free (flags_of word) self.old.head) ticket (listings_of self.old))
+            ticket (listings_of self.old) }
+        ensures listings { listings_of self.new
+            ≡ left_list
+            (passes_turn (shows_free (flags_of word) self.old.head) ticket (listings_of self.old))
+            ticket (listings_of self.old) }
         ensures head { self.new.head ≡ self.old.head }
     {
         let mine = self.take_out(ticket)?;
@@ -253,7 +274,7 @@ impl<W: WakerId + Drop> Lists<W> {
 
     /// Who is listed, the oldest first.
     pub fn listings(&self, alloc: Global) -> Result<Vec<&Listing<W>>, AllocError>
-        ensures { IfOk result (λ all. shown all.items ≡ listings_of self.now) }
+        ensures { IfOk result (λ all. lent_listings all.items ≡ listings_of self.now) }
     {
         self.slots.listings(alloc)
     }
@@ -277,11 +298,15 @@ impl<W: WakerId + Drop> Lists<W> {
     #[inline(always)]
     fn claim(&mut self, ticket: &mut Option<u64>, word: u64) -> Option<Answer<W>>
         ensures ready { shows_set (flags_of word) ≡ true → result ≡ Some Answer.Ready }
-        ensures claimed { shows_free (flags_of word) self.old.head ≡ true → result ≡ Some Answer.Claimed }
+        ensures claimed { shows_free (flags_of word) self.old.head ≡ true
+            → result ≡ Some Answer.Claimed }
         ensures held { shows_taken (flags_of word) self.old.head ≡ true → result ≡ None }
         ensures head { self.new.head ≡ (self.old.head || shows_free (flags_of word) self.old.head) }
-        ensures listings { listings_of self.new ≡ cond (shows_free (flags_of word) self.old.head) (list_without ticket.old (listings_of self.old)) (listings_of self.old) }
-        ensures ticket { ticket.new ≡ cond (shows_free (flags_of word) self.old.head) None ticket.old }
+        ensures listings { listings_of self.new
+            ≡ cond (shows_free (flags_of word) self.old.head)
+            (list_without ticket.old (listings_of self.old)) (listings_of self.old) }
+        ensures ticket { ticket.new
+            ≡ cond (shows_free (flags_of word) self.old.head) None ticket.old }
         ensures room { shows_free (flags_of word) self.old.head ≡ false → self.new ≡ self.old }
     {
         if word >= READY_BIT {
@@ -309,7 +334,8 @@ impl<W: WakerId + Drop> Lists<W> {
 
     // The waker of the own listing.
     fn own(&self, ticket: Option<u64>) -> Option<&W>
-        ensures { option_copied result ≡ option_flatten (own_listing ticket (listings_of self.now)) }
+        ensures { option_copied result
+            ≡ option_flatten (own_listing ticket (listings_of self.now)) }
     {
         self.slots.find(ticket?)?.waker.as_ref()
     }
@@ -317,11 +343,14 @@ impl<W: WakerId + Drop> Lists<W> {
     // Takes the own listing out; where there is none, makes room for one. Answers the ticket to list by.
     fn make_place(&mut self, ticket: Option<u64>) -> Result<u64, AllocError>
         ensures ticket { IfOk result (λ n. n ≡ ticket_for ticket (listings_of self.old)) }
-        ensures listings { IfOk result (λ n. listings_of self.new ≡ take_out n (listings_of self.old)) }
+        ensures listings { IfOk result (λ n. listings_of self.new
+            ≡ take_out n (listings_of self.old)) }
         ensures new { IfOk result (λ n. member n (tickets (listings_of self.new)) ≡ false) }
         ensures slot { OnOk result (HasSlot self.new.slots) }
-        ensures mark { IfOk result (λ n. (n < vec_len self.new.slots.used) ⊎ ((n ≡ vec_len self.new.slots.used) × HasMark self.new.slots)) }
-        ensures refused { OnErr result ((kept_ticket ticket (listings_of self.old) ≡ None) × (listings_of self.new ≡ listings_of self.old)) }
+        ensures mark { IfOk result (λ n. (n < vec_len self.new.slots.used)
+            ⊎ ((n ≡ vec_len self.new.slots.used) × HasMark self.new.slots)) }
+        ensures refused { OnErr result ((kept_ticket ticket (listings_of self.old) ≡ None)
+            × (listings_of self.new ≡ listings_of self.old)) }
         ensures room { HasSpace self.old → IsOk result }
         ensures head { self.new.head ≡ self.old.head }
     {
@@ -339,7 +368,8 @@ impl<W: WakerId + Drop> Lists<W> {
         ensures listings { listings_of self.new ≡ list_without ticket (listings_of self.old) }
         ensures head { self.new.head ≡ self.old.head }
         ensures mark { IfSome result (λ n. n < vec_len self.new.slots.used) }
-        ensures hole { IsSome result → length (listings_of self.new) < vec_len self.new.slots.slots }
+        ensures hole { IsSome result
+            → length (listings_of self.new) < vec_len self.new.slots.slots }
         ensures none { result ≡ None → listings_of self.new ≡ listings_of self.old }
         ensures room { result ≡ None → HasSpace self.old → HasSpace self.new }
     {
@@ -350,13 +380,15 @@ impl<W: WakerId + Drop> Lists<W> {
 
     // Takes the listing with this ticket out, if one has it.
     fn take_out(&mut self, ticket: u64) -> Option<Listing<W>>
-        ensures waker { option_map (λ x. x.waker) result ≡ find_listing ticket (listings_of self.old) }
+        ensures waker { option_map (λ x. x.waker) result
+            ≡ find_listing ticket (listings_of self.old) }
         ensures listings { listings_of self.new ≡ take_out ticket (listings_of self.old) }
         ensures head { self.new.head ≡ self.old.head }
         ensures none { result ≡ None → listings_of self.new ≡ listings_of self.old }
         ensures room { result ≡ None → HasSpace self.old → HasSpace self.new }
         ensures mark { IsSome result → ticket < vec_len self.new.slots.used }
-        ensures hole { IsSome result → length (listings_of self.new) < vec_len self.new.slots.slots }
+        ensures hole { IsSome result
+            → length (listings_of self.new) < vec_len self.new.slots.slots }
     {
         self.slots.take_out(ticket)
     }
@@ -365,7 +397,8 @@ impl<W: WakerId + Drop> Lists<W> {
     fn push(&mut self, listing: Listing<W>)
         requires new { member listing.ticket (tickets (listings_of self.old)) ≡ false }
         requires slot { HasSlot self.old.slots }
-        requires mark { (listing.ticket < vec_len self.old.slots.used) ⊎ ((listing.ticket ≡ vec_len self.old.slots.used) × HasMark self.old.slots) }
+        requires mark { (listing.ticket < vec_len self.old.slots.used)
+            ⊎ ((listing.ticket ≡ vec_len self.old.slots.used) × HasMark self.old.slots) }
         ensures listings { listings_of self.new ≡ listings_of self.old ++ listing ∷ [] }
         ensures head { self.new.head ≡ self.old.head }
     {
@@ -403,15 +436,21 @@ fn once_each<W: WakerId + Drop>(listings: &mut Vec<Listing<W>>, mixed: bool)
 
 // Whether the listing has a waker that may be the same as one of those before it.
 fn may_repeat<W: WakerId>(listing: &Listing<W>, before: &[Listing<W>]) -> bool
-    ensures { result ≡ false → IfSome listing.now.waker (λ w. All (λ x. IfSome x.waker (λ v. W.tells_other v w)) before.now) }
+    ensures { result ≡ false
+        → IfSome listing.now.waker
+        (λ w. All (λ x. IfSome x.waker (λ v. W.tells_other v w)) before.now) }
 {
     !W::are_all_other() && repeats(listing, before)
 }
 
 // Whether the listing has a waker that is the same as one of those before it.
 fn repeats<W: WakerId>(listing: &Listing<W>, before: &[Listing<W>]) -> bool
-    ensures yes { result ≡ true → MatchOption listing.now.waker ⊥ (λ w. (k : ℕ) × (k < length before.now) × HoldsAt (λ x. MatchOption x.waker ⊥ (λ v. W.tells_same v w)) before.now k) }
-    ensures no { result ≡ false → IfSome listing.now.waker (λ w. All (λ x. IfSome x.waker (λ v. W.tells_other v w)) before.now) }
+    ensures yes { result ≡ true
+        → MatchOption listing.now.waker ⊥ (λ w. (k : ℕ) × (k < length before.now)
+        × HoldsAt (λ x. MatchOption x.waker ⊥ (λ v. W.tells_same v w)) before.now k) }
+    ensures no { result ≡ false
+        → IfSome listing.now.waker
+        (λ w. All (λ x. IfSome x.waker (λ v. W.tells_other v w)) before.now) }
 {
     match &listing.waker {
         Some(waker) => before.iter().any(|earlier| has(earlier, waker)),

@@ -26,7 +26,9 @@ texts_of lines = map (λ line. line.now) lines
 -- each of these texts is a line, and the inputs are those of the lines, in their order
 abbrev pub AreInputs : List (List ℕ) → List Input → Type 0
 AreInputs [] inputs = inputs ≡ []
-AreInputs (text ∷ texts) inputs = (line : Line) × (later : List Input) × IsLine line text × (inputs ≡ inputs_of line ++ later) × AreInputs texts later
+AreInputs (text ∷ texts) inputs =
+    (line : Line) × (later : List Input) × IsLine line text × (inputs ≡ inputs_of line ++ later)
+    × AreInputs texts later
 
 -- the lines of a script: the first says the kind and how many tasks may be counted in, the later ones the inputs
 abbrev pub IsScript : Kind → ℕ → List Input → List (List ℕ) → Type 0
@@ -36,7 +38,9 @@ IsScript kind limit inputs (first ∷ later) = IsOpening kind limit first × Are
 -- of these texts, the first of which has the number at, the one with this number is the first that is no line
 abbrev pub IsStop : (at number : ℕ) → List (List ℕ) → Type 0
 IsStop at number [] = ⊥
-IsStop at number (text ∷ texts) = ((number ≡ at) × ((line : Line) → ¬ IsLine line text)) ⊎ (((line : Line) × IsLine line text) × IsStop (suc at) number texts)
+IsStop at number (text ∷ texts) =
+    ((number ≡ at) × ((line : Line) → ¬ IsLine line text))
+    ⊎ (((line : Line) × IsLine line text) × IsStop (suc at) number texts)
 
 -- the line of a script with this number is the first that cannot be read
 abbrev pub IsFirstUnreadable : ℕ → List (List ℕ) → Type 0

@@ -21,7 +21,8 @@ IsWith value text = IsWordNumber (codes "with") value text
 -- a text is this beginning and then these answers, one space before each
 abbrev pub IsListAfter : List ℕ → List (Option ℕ) → List ℕ → Type 0
 IsListAfter begin [] text = text ≡ begin
-IsListAfter begin (answer ∷ answers) text = (given : List ℕ) × (text ≡ begin ++ (32 ∷ given)) × AreAnswers (answer ∷ answers) given
+IsListAfter begin (answer ∷ answers) text =
+    (given : List ℕ) × (text ≡ begin ++ (32 ∷ given)) × AreAnswers (answer ∷ answers) given
 
 -- a text is this beginning and then the value that a cell is made with, one space between them
 abbrev pub IsWithAfter : List ℕ → ℕ → List ℕ → Type 0
@@ -38,15 +39,19 @@ IsOnce (LazyWith value) limit text = ⊥
 abbrev pub IsLazy : Kind → ℕ → List ℕ → Type 0
 IsLazy Once limit text = ⊥
 IsLazy (OnceWith value) limit text = ⊥
-IsLazy (Lazy answers) limit text = (digits : List ℕ) × IsListAfter digits answers.items text × (limit_of digits ≡ Some limit)
+IsLazy (Lazy answers) limit text =
+    (digits : List ℕ) × IsListAfter digits answers.items text × (limit_of digits ≡ Some limit)
 IsLazy (LazyWith value) limit text = (digits : List ℕ) × IsWithAfter digits value text × (limit_of digits ≡ Some limit)
 
 -- a text is the first line of a script of this kind, where so many tasks may be counted in
 abbrev pub IsOpening : Kind → ℕ → List ℕ → Type 0
 IsOpening Once limit text = (more : List ℕ) × (text ≡ codes "once " ++ more) × IsOnce Once limit more
-IsOpening (OnceWith value) limit text = (more : List ℕ) × (text ≡ codes "once " ++ more) × IsOnce (OnceWith value) limit more
-IsOpening (Lazy answers) limit text = (more : List ℕ) × (text ≡ codes "lazy " ++ more) × IsLazy (Lazy answers) limit more
-IsOpening (LazyWith value) limit text = (more : List ℕ) × (text ≡ codes "lazy " ++ more) × IsLazy (LazyWith value) limit more
+IsOpening (OnceWith value) limit text =
+    (more : List ℕ) × (text ≡ codes "once " ++ more) × IsOnce (OnceWith value) limit more
+IsOpening (Lazy answers) limit text =
+    (more : List ℕ) × (text ≡ codes "lazy " ++ more) × IsLazy (Lazy answers) limit more
+IsOpening (LazyWith value) limit text =
+    (more : List ℕ) × (text ≡ codes "lazy " ++ more) × IsLazy (LazyWith value) limit more
 
 -- the inputs that a line stands for
 abbrev pub inputs_of : Line → List Input
@@ -79,7 +84,8 @@ abbrev pub IsInputLine : Input → List ℕ → Type 0
 IsInputLine (Make task) text = IsWordNumber (codes "make") task text
 IsInputLine (Poll task waker) text = (pair : List ℕ) × (text ≡ codes "poll " ++ pair) × IsPair task waker pair
 IsInputLine (Drop task) text = IsWordNumber (codes "drop") task text
-IsInputLine (Go task answer memory) text = (step : List ℕ) × (text ≡ codes "go " ++ step) × IsStep task answer memory step
+IsInputLine (Go task answer memory) text =
+    (step : List ℕ) × (text ≡ codes "go " ++ step) × IsStep task answer memory step
 IsInputLine Look text = text ≡ codes "look"
 IsInputLine (Own Take) text = text ≡ codes "take"
 IsInputLine (Own (Write value)) text = IsWordNumber (codes "write") value text

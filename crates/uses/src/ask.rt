@@ -23,7 +23,8 @@ where
     R: Wait + RandomSource + AllocGlobal,
     requires { token.old.cell ≡ lazy.now }
     ensures cell { token.new.cell ≡ token.old.cell }
-    ensures value { IfOk result (λ value. (token.new.value ≡ Some value.now) × Agrees token.old.value value.now) }
+    ensures value { IfOk result (λ value. (token.new.value ≡ Some value.now)
+        × Agrees token.old.value value.now) }
 {
     if let Some(value) = lazy.try_get_as(token) {
         return Ok(value);

@@ -1,6 +1,6 @@
 -- Lists of listings: which tickets they have, and what taking a listing out, adding one and calling the first leave of them.
 use Rattle.std.proofs.Common.{◌≡◌, ◌<◌, ℕ, zero, suc, Bool, true, false, cond, ◌==◌, nat_lt, List, [], ◌∷◌, ◌++◌, Option, Some, None, IfSome, length, get_or, refl, sym, ap, ◌∙◌, arith}
-use Rattle.std.specs.List.{HoldsAt, remove, position, position_or_len}
+use Rattle.std.specs.List.{HoldsAt, position, position_or_len}
 use Rattle.std.specs.Option.{is_some, option_map}
 use Rattle.std.proofs.lemmas.Bool.{eqb-true}
 use Rattle.std.proofs.lemmas.Bool.Decides.{nat_tests}

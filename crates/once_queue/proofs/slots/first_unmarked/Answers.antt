@@ -1,5 +1,5 @@
 -- A number at which the search goes on has a mark.
-use Rattle.std.proofs.Common.{◌≡◌, false, ◌∙◌, arith, ⊎_elim}
+use Rattle.std.proofs.Common.{false, ◌∙◌, arith, ⊎_elim}
 use Rattle.std.proofs.lemmas.Bool.{cases_eq}
 use Rattle.once_queue.proofs.Listing.Marked.{marked_at, marked_past}
 use Rattle.once_queue.proofs.slots.first_unmarked.Goals as goal

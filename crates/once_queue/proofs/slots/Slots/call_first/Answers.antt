@@ -1,10 +1,9 @@
 -- The first listing with a waker gives it.
-use Rattle.std.proofs.Common.{◌≡◌, ◌<◌, ◌≤◌, None, true, filter, set, refl, sym, ap, ◌∙◌, length, arith}
-use Rattle.std.proofs.lemmas.List.{get_or-set_other, length-set}
-use Rattle.once_queue.proofs.Listing.Kept.{fails_set, nobody_called, one_called, kept_open}
+use Rattle.std.proofs.Common.{filter, sym, ◌∙◌, arith}
+use Rattle.std.proofs.lemmas.List.{get_or-set_other}
+use Rattle.once_queue.proofs.Listing.Kept.{nobody_called, one_called, kept_open}
 use Rattle.once_queue.proofs.Listing.Uncalled.{tickets_call}
-use Rattle.once_queue.specs.Kept.{is_kept, is_open}
-use Rattle.once_queue.specs.Listings.{call_first}
+use Rattle.once_queue.specs.Kept.{is_kept}
 use Rattle.once_queue.proofs.slots.Slots.call_first.Goals as goal
 
 pub returns-then-self-len-clause-waker : goal.returns-then-self-len-clause-waker

@@ -1,5 +1,5 @@
 -- The listings are kept, and the holes are not.
-use Rattle.std.proofs.Common.{◌≡◌, filter, rules, sym, ◌∙◌, arith}
+use Rattle.std.proofs.Common.{◌≡◌, filter, rules, arith}
 use Rattle.std.proofs.lemmas.Fn.{filter_same}
 use Rattle.once_queue.proofs.Listing.Kept.{kept_again}
 use Rattle.once_queue.specs.Kept.{is_kept}

@@ -1,5 +1,5 @@
 -- The slot with the ticket has its listing.
-use Rattle.std.proofs.Common.{◌≡◌, true, Some, refl, sym, ap, ◌∙◌}
+use Rattle.std.proofs.Common.{Some, refl, sym, ap, ◌∙◌}
 use Rattle.once_queue.proofs.Listing.Tickets.{find_none}
 use Rattle.once_queue.proofs.Listing.Kept.{kept_found, not_false}
 use Rattle.once_queue.specs.Kept.{is_kept}

@@ -1,5 +1,5 @@
 -- The first number that is not marked is the least that is no ticket.
-use Rattle.std.proofs.Common.{◌≡◌, sym, ◌∙◌, arith}
+use Rattle.std.proofs.Common.{sym, ◌∙◌, arith}
 use Rattle.once_queue.proofs.Listing.Marked.{marked_below}
 use Rattle.once_queue.proofs.Listing.Least.{least_alone}
 use Rattle.once_queue.specs.Listings.{tickets}

@@ -1,5 +1,5 @@
 -- A ticket that is in no slot has no listing, and the ticket of the holes has none.
-use Rattle.std.proofs.Common.{◌≡◌, sym, ◌∙◌}
+use Rattle.std.proofs.Common.{sym, ◌∙◌}
 use Rattle.std.proofs.lemmas.Bool.{ne_eqb}
 use Rattle.once_queue.proofs.Listing.Tickets.{placed_by, placed_none}
 use Rattle.once_queue.proofs.Listing.Kept.{holes_none, kept_none, not_true}

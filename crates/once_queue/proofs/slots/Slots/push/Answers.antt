@@ -1,5 +1,5 @@
 -- The new ticket stands among the listings, and is marked.
-use Rattle.std.proofs.Common.{◌≡◌, ◌<◌, ◌++◌, ◌∷◌, [], false, true, filter, length, suc, vec_len, ◌==◌, arith}
+use Rattle.std.proofs.Common.{◌≡◌, ◌<◌, ◌++◌, ◌∷◌, [], true, filter, suc, vec_len, ◌==◌, arith}
 use Rattle.std.proofs.lemmas.Bool.{ne_eqb}
 use Rattle.once_queue.proofs.Listing.Tickets.{member_push, once_push}
 use Rattle.once_queue.proofs.Listing.Kept.{either_true, fails_push, kept_pushed, not_false}

@@ -1,5 +1,5 @@
 -- Nothing is left.
-use Rattle.std.proofs.Common.{◌≡◌, [], refl, sym, ap, ◌∙◌, arith}
+use Rattle.std.proofs.Common.{◌≡◌, [], refl, ap, ◌∙◌, arith}
 use Rattle.once_queue.proofs.slots.Slots.take_all.Goals as goal
 
 pub invariant_of-self : goal.invariant_of-self

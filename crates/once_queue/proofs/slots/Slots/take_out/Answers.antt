@@ -1,5 +1,5 @@
 -- A hole is put in the place of the listing, and its ticket has no mark any more.
-use Rattle.std.proofs.Common.{◌≡◌, ◌<◌, false, filter, length, set, Some, refl, sym, ap, ◌∙◌, ◌==◌, arith}
+use Rattle.std.proofs.Common.{◌≡◌, false, filter, set, Some, refl, sym, ap, ◌∙◌, ◌==◌, arith}
 use Rattle.std.proofs.lemmas.Bool.{ne_eqb}
 use Rattle.once_queue.proofs.Listing.Tickets.{find_none, member_take, once_take, take_none}
 use Rattle.once_queue.proofs.Listing.Marked.{marked_within}

@@ -1,5 +1,4 @@
 -- Listings that are apart are apart still when one was called.
-use Rattle.std.proofs.Common.{◌≡◌, sym}
 use mathlib.Core.Logic.{∥∥₁_map}
 use Rattle.once_queue.proofs.Listing.AllOther.{apart_first}
 use Rattle.once_queue.specs.Slots.{listings_in}

@@ -1,5 +1,5 @@
 -- A ticket has a listing where one is found.
-use Rattle.std.proofs.Common.{sym, ap, ◌∙◌}
+use Rattle.std.proofs.Common.{◌∙◌}
 use Rattle.std.specs.Option.{option_copied}
 use Rattle.once_queue.proofs.Listing.Tickets.{found_kept, mapped_some}
 use Rattle.once_queue.specs.Room.{listings_of}

@@ -1,5 +1,4 @@
 -- The new waker is other than each that is listed, or the list is mixed.
-use Rattle.std.proofs.Common.{◌≡◌, filter}
 use Rattle.once_queue.proofs.Listing.AllOther.{apart_listed, other_kept}
 use Rattle.once_queue.specs.Kept.{is_kept}
 use Rattle.once_queue.specs.Slots.{listings_in}

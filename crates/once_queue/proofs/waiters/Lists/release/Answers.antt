@@ -1,5 +1,5 @@
 -- All leave, each waker once.
-use Rattle.std.proofs.Common.{◌≡◌, [], refl, sym, ap, ◌∙◌, rules}
+use Rattle.std.proofs.Common.{refl, sym, ◌∙◌, rules}
 use Rattle.once_queue.proofs.waiters.Lists.release.Goals as goal
 
 pub once_each-requires : goal.once_each-requires

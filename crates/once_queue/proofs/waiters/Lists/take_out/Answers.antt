@@ -1,5 +1,4 @@
 -- What is left of listings that are apart is apart.
-use Rattle.std.proofs.Common.{◌≡◌, sym}
 use mathlib.Core.Logic.{∥∥₁_map}
 use Rattle.once_queue.proofs.Listing.AllOther.{apart_taken}
 use Rattle.once_queue.specs.Slots.{listings_in}
