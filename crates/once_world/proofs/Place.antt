@@ -1,7 +1,7 @@
 -- One lemma a place: its step pays what it owes.
 pub mod Outcomes
 pub mod Builders
-pub mod Inners
+pub mod FitsAfter
 pub mod Waits
 pub mod Relisted
 pub mod Sections

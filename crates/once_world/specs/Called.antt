@@ -21,10 +21,13 @@ IsCalled kind t history =
 
 -- where the cell is empty and some task waits, some task was called
 abbrev pub SomebodyCalled : Kind → List Entry → Type 0
-SomebodyCalled kind history = cell kind history ≡ Empty → (u : ℕ) → status kind u history ≡ Waiting → (t : ℕ) × IsCalled kind t history
+SomebodyCalled kind history =
+    cell kind history ≡ Empty → (u : ℕ) → status kind u history ≡ Waiting → (t : ℕ) × IsCalled kind t history
 
 -- where besides no call is under way, some task that waits was called: the waker of its last poll was handed out since that poll ended
 abbrev pub WaiterCalled : Kind → List Entry → Type 0
 WaiterCalled kind history =
-    ((t : ℕ) → is_under_way (status kind t history) ≡ false) → cell kind history ≡ Empty → (u : ℕ) → status kind u history ≡ Waiting
-    → (t : ℕ) × (status kind t history ≡ Waiting) × (member (last_call kind t history).waker (handed_since t history) ≡ true)
+    ((t : ℕ) → is_under_way (status kind t history) ≡ false) → cell kind history ≡ Empty → (u : ℕ)
+    → status kind u history ≡ Waiting
+    → (t : ℕ) × (status kind t history ≡ Waiting)
+    × (member (last_call kind t history).waker (handed_since t history) ≡ true)

@@ -1,27 +1,27 @@
--- What a replay's step asks of what is shared. It holds in every world that the machine reaches.
+-- What an input of a replay asks of the world. It holds in every world that the machine reaches.
 use Rattle.std.specs.Prelude.{◌≡◌, ◌≤◌, ◌<◌, ℕ, false, not, length, Option, Some, None}
 use Rattle.once_world.specs.Inputs.{Input, Go, Make}
-use Rattle.once_world.specs.Machine.{Task, Step, UnderWay, Place, AtAddOne, AtRelease, AtCountOut, Inner, World}
+use Rattle.once_world.specs.Machine.{Task, Step, UnderWay, Place, AtAddOne, AtRelease, AtCountOut, SharedState, World}
 
 -- what the call of a place asks of what is shared: a free place in the count, a counted task, or, on the queue at the door, a holder that may release
-abbrev pub CanStep : ℕ → Inner → Place ℕ ℕ → Type 0
+abbrev pub CanStep : ℕ → SharedState → Place ℕ ℕ → Type 0
 CanStep limit c (AtAddOne e) = c.count ≤ limit
 CanStep limit c (AtRelease q e) = c.door ≡ Some q → (c.ready ≡ false) × (c.head ≡ not c.quick)
 CanStep limit c (AtCountOut e) = 0 < c.count
 CanStep limit c p = Unit {0}
 
 -- the same of a step: nothing where no call is under way
-abbrev pub CanAdvance : ℕ → Inner → Step ℕ ℕ → Type 0
+abbrev pub CanAdvance : ℕ → SharedState → Step ℕ ℕ → Type 0
 CanAdvance limit c (UnderWay p) = CanStep limit c p
 CanAdvance limit c s = Unit {0}
 
 -- the same of a task: nothing where it was not made
-abbrev pub TaskCan : ℕ → Inner → Option Task → Type 0
+abbrev pub TaskCan : ℕ → SharedState → Option Task → Type 0
 TaskCan limit c (Some x) = CanAdvance limit c x.step
 TaskCan limit c None = Unit {0}
 
--- the input may be taken: a task that it moves may make its step, and where it makes one, each unfinished task has an entry
+-- the input may be taken: a task that it moves may make its step; where it makes a task, no more tasks are unfinished than there are entries
 abbrev pub MayTake : ℕ → World → Input → Type 0
-MayTake limit w (Go t a granted) = TaskCan limit w.inner (w.tasks t)
+MayTake limit w (Go t a granted) = TaskCan limit w.shared (w.tasks t)
 MayTake limit w (Make t) = w.unfinished ≤ length w.history
 MayTake limit w i = Unit {0}

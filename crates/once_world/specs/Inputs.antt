@@ -93,7 +93,8 @@ Adds kind (Make t) before entries = entries ≡ make_part (status kind t before)
 Adds kind (Poll t w) before entries = entries ≡ poll_part (status kind t before) t w
 Adds kind (Drop t) before entries = entries ≡ drop_part (status kind t before) t
 Adds kind (Go t a granted) before entries = AreOfGo (is_under_way (status kind t before)) kind t a entries
-Adds kind (Owns o) before entries = entries ≡ own_part (fits_owner kind o before) o (got o (cell kind before) (answers_left kind before))
+Adds kind (Owns o) before entries =
+    entries ≡ own_part (fits_owner kind o before) o (got o (cell kind before) (answers_left kind before))
 Adds kind Looks before entries = entries ≡ Look (value_in (cell kind before)) ∷ []
 
 -- a call of t begins in these entries
@@ -115,7 +116,10 @@ is_fitting_go kind t i before = cond (is_go_of t i) (is_under_way (status kind t
 -- the Go of t that fitted since its last call began
 abbrev pub gos : Kind → ℕ → List Part → List Input
 gos kind t [] = []
-gos kind t (p ∷ before) = cond (begins_call t p.entries) [] (cond (is_fitting_go kind t p.input (entries_of before)) (p.input ∷ gos kind t before) (gos kind t before))
+gos kind t (p ∷ before) =
+    cond (begins_call t p.entries) []
+    (cond (is_fitting_go kind t p.input (entries_of before)) (p.input ∷ gos kind t before)
+    (gos kind t before))
 
 -- the input is a Go that is given no memory
 abbrev pub is_ungranted : Input → Bool
@@ -136,11 +140,13 @@ ends_for_memory t (_ ∷ before) = ends_for_memory t before
 -- only a call that met a Go without memory ends for want of it
 abbrev pub WantsMemoryOnlyUngranted : Kind → List Part → Type 0
 WantsMemoryOnlyUngranted kind [] = Unit {0}
-WantsMemoryOnlyUngranted kind (p ∷ before) = (t : ℕ) → ends_for_memory t p.entries ≡ true → all_granted (gos kind t (p ∷ before)) ≡ false
+WantsMemoryOnlyUngranted kind (p ∷ before) =
+    (t : ℕ) → ends_for_memory t p.entries ≡ true → all_granted (gos kind t (p ∷ before)) ≡ false
 
 -- a call that met sixteen fitting Go has ended
 abbrev pub SixteenEnd : Kind → List Part → Type 0
-SixteenEnd kind parts = (t : ℕ) → 16 ≤ length (gos kind t parts) → is_under_way (status kind t (entries_of parts)) ≡ false
+SixteenEnd kind parts =
+    (t : ℕ) → 16 ≤ length (gos kind t parts) → is_under_way (status kind t (entries_of parts)) ≡ false
 
 -- each part has what its input adds
 abbrev pub AreAdded : Kind → List Part → Type 0

@@ -53,7 +53,8 @@ needs_queue kind _ before = false
 -- some of these entries, which follow those before, needs the queue
 abbrev pub need_queue : Kind → List Entry → List Entry → Bool
 need_queue kind [] before = false
-need_queue kind (e ∷ entries) before = cond (needs_queue kind e (entries ++ before)) true (need_queue kind entries before)
+need_queue kind (e ∷ entries) before =
+    cond (needs_queue kind e (entries ++ before)) true (need_queue kind entries before)
 
 -- some queue was entered
 abbrev pub has_entered : List QueueLine → Bool
@@ -78,18 +79,23 @@ owned_lines _ _ door = []
 
 -- an input whose entries are these adds these lines: a Go at most one, and one that enters the queue where it needs it; an owner's call takes the queue out where it replaces the cell; all others none
 abbrev pub AddsLines : Kind → Input → List Entry → List Entry → List QueueLine → List QueueLine → Type 0
-AddsLines kind (Go t a granted) before entries log lines = IsAtMostOne lines × (need_queue kind entries before ≡ true → has_entered lines ≡ true)
-AddsLines kind (Owns o) before entries log lines = lines ≡ owned_lines (fits_owner kind o before) (replaces o) (standing_queue log)
+AddsLines kind (Go t a granted) before entries log lines =
+    IsAtMostOne lines × (need_queue kind entries before ≡ true → has_entered lines ≡ true)
+AddsLines kind (Owns o) before entries log lines =
+    lines ≡ owned_lines (fits_owner kind o before) (replaces o) (standing_queue log)
 AddsLines kind _ before entries log lines = lines ≡ []
 
 -- each part has the lines that its input adds
 abbrev pub AreLogged : Kind → List Part → Type 0
 AreLogged kind [] = Unit {0}
-AreLogged kind (p ∷ before) = AddsLines kind p.input (entries_of before) p.entries (lines_of before) p.lines × AreLogged kind before
+AreLogged kind (p ∷ before) =
+    AddsLines kind p.input (entries_of before) p.entries (lines_of before) p.lines × AreLogged kind before
 
 -- a queue stands at the door while a task waits
 abbrev pub WaitingStands : Kind → List Part → Type 0
-WaitingStands kind parts = (t : ℕ) → status kind t (entries_of parts) ≡ Waiting → (q : ℕ) × (standing_queue (lines_of parts) ≡ Some q)
+WaitingStands kind parts =
+    (t : ℕ) → status kind t (entries_of parts) ≡ Waiting
+    → (q : ℕ) × (standing_queue (lines_of parts) ≡ Some q)
 
 -- none stands there where the cell is set, no call is under way and no task waits
 abbrev pub NoneKept : Kind → List Part → Type 0

@@ -12,7 +12,7 @@ use Rattle.once_core.specs.declared.step.Polled.TheVariants.{Pending as PolledPe
 use Rattle.once_queue.specs.declared.waiters.Answer.{Answer as SectionAnswer}
 use Rattle.once_queue.specs.declared.waiters.Answer.TheVariants.{Ready, Claimed, Listed, Held, Memory as NoMemory, Gone}
 use Rattle.once_queue.specs.Word.{Flags, is_zero, is_quick_bit, is_ready_bit}
-pub use Rattle.once_world.specs.declared.world.play.Task.{Task}
+pub use Rattle.once_world.specs.declared.world.cell.Task.{Task}
 pub use Rattle.once_queue.specs.declared.log.QueueLine.{QueueLine}
 pub use Rattle.once_queue.specs.declared.log.QueueLine.TheVariants.{Put as PutLine, Entered as EnteredLine, Taken as TakenLine}
 pub use Rattle.once_queue.specs.declared.waiters.Listing.{Listing}
@@ -23,7 +23,7 @@ use Rattle.once_world.specs.Inputs.{Input, Make, Poll, Drop, Go, Looks, Owns}
 use Rattle.once_world.specs.Log.{take_lines}
 
 -- what all tasks share: the word's count and two flags; the queue at the door; that queue's flag and listings; how many queues were made; the value that was put last; and what a lazy init will still answer
-pub record Inner : Type 0 where
+pub record SharedState : Type 0 where
   pub count : ℕ
   pub quick : Bool
   pub ready : Bool
@@ -35,15 +35,15 @@ pub record Inner : Type 0 where
   pub answers : List (Option ℕ)
 
 -- the word as a count and two flags
-abbrev pub word_of : Inner → Flags
+abbrev pub word_of : SharedState → Flags
 word_of c = record { count = c.count; quick = c.quick; ready = c.ready }
 
 -- some task holds
-abbrev pub is_taken : Inner → Bool
+abbrev pub is_taken : SharedState → Bool
 is_taken c = c.quick || c.head
 
 -- nobody holds, and the value is not set
-abbrev pub is_free : Inner → Bool
+abbrev pub is_free : SharedState → Bool
 is_free c = cond c.ready false (not (is_taken c))
 
 -- the queue q stands at the door
@@ -53,7 +53,7 @@ is_at_door q (Some d) = d == q
 
 -- what one step leaves: what is shared, the task's own step and what its init gave, and the entries, the newest first
 pub record Outcome : Type 0 where
-  pub inner : Inner
+  pub shared : SharedState
   pub step : Step ℕ ℕ
   pub kept : Answer
   pub entries : List Entry
@@ -103,39 +103,45 @@ freed_entries true t k = release_entry k t [] ∷ []
 freed_entries false t k = []
 
 -- the outcome of a step of t: what it leaves, what its init gave, what it did, and what the table of places says of the call
-abbrev pub outcome_of : Inner → ℕ → Answer → List Entry → Next ℕ ℕ → Outcome
-outcome_of c t k did n = record { inner = c; step = n.step; kept = k; entries = progress_entries n.progress t c.value k ++ did }
+abbrev pub outcome_of : SharedState → ℕ → Answer → List Entry → Next ℕ ℕ → Outcome
+outcome_of c t k did n = record {
+  shared = c;
+  step = n.step;
+  kept = k;
+  entries = progress_entries n.progress t c.value k ++ did;
+}
 
 -- ready, NEW
-abbrev pub start_step : Bool → Bool → Inner → ℕ → Answer → Outcome
+abbrev pub start_step : Bool → Bool → SharedState → ℕ → Answer → Outcome
 start_step ready new c t k = outcome_of c t k [] (after_start ready new)
 
 -- what a quick claim leaves, by whether the word was NEW
-abbrev pub quick_inner : Bool → Inner → Inner
-quick_inner true c = record c { quick = true }
-quick_inner false c = c
+abbrev pub quick_shared : Bool → SharedState → SharedState
+quick_shared true c = record c { quick = true }
+quick_shared false c = c
 
 -- whether the claim was won
-abbrev pub quick_step : Bool → Inner → ℕ → Answer → Outcome
-quick_step won c t k = outcome_of (quick_inner won c) t k (claim_entries won t) (after_quick won)
+abbrev pub quick_step : Bool → SharedState → ℕ → Answer → Outcome
+quick_step won c t k = outcome_of (quick_shared won c) t k (claim_entries won t) (after_quick won)
 
 -- what stands at the door
-abbrev pub door_step : Option ℕ → Inner → ℕ → Answer → Outcome
+abbrev pub door_step : Option ℕ → SharedState → ℕ → Answer → Outcome
 door_step door c t k = outcome_of c t k [] (after_door_get door)
 
 -- a queue is put where memory is given and none stands
-abbrev pub put_inner : Bool → Option ℕ → Inner → Inner
-put_inner true None c = record c { door = Some (suc c.queues); head = false; listings = []; queues = suc c.queues }
-put_inner _ _ c = c
+abbrev pub put_shared : Bool → Option ℕ → SharedState → SharedState
+put_shared true None c = record c { door = Some (suc c.queues); head = false; listings = []; queues = suc c.queues }
+put_shared _ _ c = c
 
 -- granted, door
-abbrev pub put_step : Bool → Option ℕ → Inner → ℕ → Answer → Outcome
-put_step granted door c t k = outcome_of (put_inner granted door c) t k [] (after_door_put (put_answer granted door c.queues))
+abbrev pub put_step : Bool → Option ℕ → SharedState → ℕ → Answer → Outcome
+put_step granted door c t k =
+    outcome_of (put_shared granted door c) t k [] (after_door_put (put_answer granted door c.queues))
 
 -- what counting in leaves, by whether the count is below the limit
-abbrev pub in_inner : Bool → Inner → Inner
-in_inner true c = record c { count = suc c.count }
-in_inner false c = c
+abbrev pub in_shared : Bool → SharedState → SharedState
+in_shared true c = record c { count = suc c.count }
+in_shared false c = c
 
 -- below the limit, ready
 abbrev pub next_in : Bool → Bool → ℕ → Next ℕ ℕ
@@ -144,69 +150,87 @@ next_in false true q = after_count_in SeenReady q
 next_in false false q = after_count_in CountFull q
 
 -- below the limit, ready
-abbrev pub in_step : Bool → Bool → Inner → ℕ → Answer → ℕ → Outcome
-in_step below ready c t k q = outcome_of (in_inner below c) t k [] (next_in below ready q)
+abbrev pub in_step : Bool → Bool → SharedState → ℕ → Answer → ℕ → Outcome
+in_step below ready c t k q = outcome_of (in_shared below c) t k [] (next_in below ready q)
 
 -- ready
-abbrev pub load_step : Bool → Inner → ℕ → Answer → ℕ → Option ℕ → Outcome
+abbrev pub load_step : Bool → SharedState → ℕ → Answer → ℕ → Option ℕ → Outcome
 load_step ready c t k q n = outcome_of c t k [] (after_load ready q n)
 
 -- what a claim under the lock leaves, by the ticket of who claims
-abbrev pub claim_inner : Inner → Option ℕ → Inner
-claim_inner c n = record c { head = true; listings = list_without n c.listings }
+abbrev pub claim_shared : SharedState → Option ℕ → SharedState
+claim_shared c n = record c { head = true; listings = list_without n c.listings }
 
 -- a section claimed the right
 abbrev pub is_claim : SectionAnswer ℕ → Bool
 is_claim Claimed = true
 is_claim _ = false
 
--- what a look finds: at the door, ready, taken, listed
-abbrev pub look_answer : Bool → Bool → Bool → Bool → SectionAnswer ℕ
-look_answer true true _ _ = Ready
-look_answer true false false _ = Claimed
-look_answer true false true true = Listed
-look_answer true false true false = Held
-look_answer false _ _ _ = Gone
+-- how a call under the lock finds its queue: gone from the door, in a cell that is set, free to be claimed, or held
+pub data QueueState : Type 0 where
+  QueueGone : QueueState
+  QueueSet : QueueState
+  QueueFree : QueueState
+  QueueHeld : QueueState
+
+-- by whether it stands at the door, the value is set, some task holds
+abbrev pub queue_state_by : Bool → Bool → Bool → QueueState
+queue_state_by false _ _ = QueueGone
+queue_state_by true true _ = QueueSet
+queue_state_by true false false = QueueFree
+queue_state_by true false true = QueueHeld
+
+-- how a call finds the queue q
+abbrev pub queue_state : ℕ → SharedState → QueueState
+queue_state q c = queue_state_by (is_at_door q c.door) c.ready (is_taken c)
+
+-- what a look answers, by whether its own listing has its waker
+abbrev pub look_answer : QueueState → Bool → SectionAnswer ℕ
+look_answer QueueGone _ = Gone
+look_answer QueueSet _ = Ready
+look_answer QueueFree _ = Claimed
+look_answer QueueHeld true = Listed
+look_answer QueueHeld false = Held
 
 -- what a look leaves: only a claim changes something
-abbrev pub look_inner : SectionAnswer ℕ → Inner → Option ℕ → Inner
-look_inner Claimed c n = claim_inner c n
-look_inner _ c n = c
+abbrev pub look_shared : SectionAnswer ℕ → SharedState → Option ℕ → SharedState
+look_shared Claimed c n = claim_shared c n
+look_shared _ c n = c
 
--- at the door, ready, taken, listed, granted
-abbrev pub look_step : Bool → Bool → Bool → Bool → Bool → Inner → ℕ → ℕ → Answer → ℕ → Option ℕ → Outcome
-look_step at ready taken is granted c t w k q n =
-    let a = look_answer at ready taken is in
-    outcome_of (look_inner a c n) t k (claim_entries (is_claim a) t) (after_look a (cond granted (Some w) None) q n)
+-- how a look finds its queue, whether its own listing has its waker, and whether memory is given
+abbrev pub look_step : QueueState → Bool → Bool → SharedState → ℕ → ℕ → Answer → ℕ → Option ℕ → Outcome
+look_step state listed granted c t w k q n =
+    let a = look_answer state listed in
+    outcome_of (look_shared a c n) t k (claim_entries (is_claim a) t) (after_look a (cond granted (Some w) None) q n)
 
--- what a listing finds: at the door, ready, taken, there or granted
-abbrev pub list_answer : Bool → Bool → Bool → Bool → SectionAnswer ℕ
-list_answer true true _ _ = Ready
-list_answer true false false _ = Claimed
-list_answer true false true true = Listed
-list_answer true false true false = NoMemory
-list_answer false _ _ _ = Gone
+-- what a listing answers, by whether there is room: its listing is there, or memory is given
+abbrev pub list_answer : QueueState → Bool → SectionAnswer ℕ
+list_answer QueueGone _ = Gone
+list_answer QueueSet _ = Ready
+list_answer QueueFree _ = Claimed
+list_answer QueueHeld true = Listed
+list_answer QueueHeld false = NoMemory
 
 -- what a listing with this ticket leaves
-abbrev pub listing_inner : Inner → ℕ → ℕ → Inner
-listing_inner c n w = record c { listings = list_with n w c.listings }
+abbrev pub listing_shared : SharedState → ℕ → ℕ → SharedState
+listing_shared c n w = record c { listings = list_with n w c.listings }
 
 -- what a call to list oneself leaves, by its answer
-abbrev pub list_inner : SectionAnswer ℕ → Inner → Option ℕ → ℕ → Inner
-list_inner Claimed c n w = claim_inner c n
-list_inner Listed c n w = listing_inner c (ticket_for n c.listings) w
-list_inner _ c n w = c
+abbrev pub list_shared : SectionAnswer ℕ → SharedState → Option ℕ → ℕ → SharedState
+list_shared Claimed c n w = claim_shared c n
+list_shared Listed c n w = listing_shared c (ticket_for n c.listings) w
+list_shared _ c n w = c
 
 -- the ticket of a task after it listed itself
-abbrev pub list_ticket : SectionAnswer ℕ → Inner → Option ℕ → Option ℕ
+abbrev pub list_ticket : SectionAnswer ℕ → SharedState → Option ℕ → Option ℕ
 list_ticket Listed c n = Some (ticket_for n c.listings)
 list_ticket _ c n = n
 
--- at the door, ready, taken, there or granted
-abbrev pub list_step : Bool → Bool → Bool → Bool → Inner → ℕ → ℕ → Answer → ℕ → Option ℕ → Outcome
-list_step at ready taken room c t w k q n =
-    let a = list_answer at ready taken room in
-    outcome_of (list_inner a c n w) t k (claim_entries (is_claim a) t) (after_list a q (list_ticket a c n))
+-- how a listing finds its queue, and whether there is room
+abbrev pub list_step : QueueState → Bool → SharedState → ℕ → ℕ → Answer → ℕ → Option ℕ → Outcome
+list_step state room c t w k q n =
+    let a = list_answer state room in
+    outcome_of (list_shared a c n w) t k (claim_entries (is_claim a) t) (after_list a q (list_ticket a c n))
 
 -- the answer of the init: of a lazy one the next, of another what the input says
 abbrev pub init_answer : Bool → List (Option ℕ) → Answer → Answer
@@ -225,29 +249,29 @@ kept_after RanPending old = old
 kept_after a old = a
 
 -- a poll of the init, by its answer
-abbrev pub run_step : Answer → Inner → ℕ → Answer → Option ℕ → Outcome
+abbrev pub run_step : Answer → SharedState → ℕ → Answer → Option ℕ → Outcome
 run_step a c t k by = outcome_of c t (kept_after a k) (Ran t a ∷ []) (after_run (polled_of a) by)
 
 -- a poll of the init takes the first answer of a lazy one off
-abbrev pub run_inner : Inner → Inner
-run_inner c = record c { answers = rest_of c.answers }
+abbrev pub run_shared : SharedState → SharedState
+run_shared c = record c { answers = rest_of c.answers }
 
 -- what the fast release leaves, by whether the word was exactly the quick bit and whether the value is set
-abbrev pub fast_inner : Bool → Bool → Inner → Inner
-fast_inner true true c = record c { quick = false; ready = true }
-fast_inner true false c = record c { quick = false }
-fast_inner false fills c = c
+abbrev pub fast_shared : Bool → Bool → SharedState → SharedState
+fast_shared true true c = record c { quick = false; ready = true }
+fast_shared true false c = record c { quick = false }
+fast_shared false fills c = c
 
 -- whether the release was done, and whether the value is set
-abbrev pub fast_step : Bool → Bool → Inner → ℕ → Answer → Ending → Outcome
-fast_step won fills c t k e = outcome_of (fast_inner won fills c) t k (freed_entries won t k) (after_fast won fills e)
+abbrev pub fast_step : Bool → Bool → SharedState → ℕ → Answer → Ending → Outcome
+fast_step won fills c t k e = outcome_of (fast_shared won fills c) t k (freed_entries won t k) (after_fast won fills e)
 
 -- what stands at the door
-abbrev pub again_step : Option ℕ → Inner → ℕ → Answer → Ending → Outcome
+abbrev pub again_step : Option ℕ → SharedState → ℕ → Answer → Ending → Outcome
 again_step door c t k e = outcome_of c t k [] (after_door_again door e)
 
 -- what a release leaves, by whether the quick flag stood, with the value set or not
-abbrev pub release_flags : Bool → Bool → Inner → Inner
+abbrev pub release_flags : Bool → Bool → SharedState → SharedState
 release_flags true r c = record c { quick = false; ready = r }
 release_flags false r c = record c { head = false; ready = r }
 
@@ -262,58 +286,64 @@ release_wakers true xs = all_out xs []
 release_wakers false xs = one_out (first_waker xs)
 
 -- at the door
-abbrev pub release_step : Bool → Inner → ℕ → Answer → Ending → Outcome
-release_step true c t k e = outcome_of (record (release_flags c.quick (is_value e) c) { listings = release_list (is_value e) c.listings }) t k (release_entry k t (release_wakers (is_value e) c.listings) ∷ []) (next_at (AtCountOut e))
+abbrev pub release_step : Bool → SharedState → ℕ → Answer → Ending → Outcome
+release_step true c t k e =
+    let freed = record (release_flags c.quick (is_value e) c) { listings = release_list (is_value e) c.listings } in
+    let wakers = release_wakers (is_value e) c.listings in
+    outcome_of freed t k (release_entry k t wakers ∷ []) (next_at (AtCountOut e))
 release_step false c t k e = outcome_of c t k [] (next_at (AtCountOut e))
 
 -- who leaves with this ticket passes its turn on
-abbrev pub is_passing : Inner → ℕ → Bool
+abbrev pub is_passing : SharedState → ℕ → Bool
 is_passing c n = passes_turn (is_free c) n c.listings
 
 -- at the door
-abbrev pub leave_step : Bool → Inner → ℕ → Answer → ℕ → Ending → Outcome
-leave_step true c t k n e = outcome_of (record c { listings = left_list (is_passing c n) n c.listings }) t k (pass_entries t (one_out (next_waker (is_passing c n) n c.listings))) (next_at (AtCountOut e))
+abbrev pub leave_step : Bool → SharedState → ℕ → Answer → ℕ → Ending → Outcome
+leave_step true c t k n e =
+    let passing = is_passing c n in
+    outcome_of (record c { listings = left_list passing n c.listings }) t k
+    (pass_entries t (one_out (next_waker passing n c.listings))) (next_at (AtCountOut e))
 leave_step false c t k n e = outcome_of c t k [] (next_at (AtCountOut e))
 
 -- one less is counted
-abbrev pub out_inner : Inner → Inner
-out_inner c = record c { count = c.count - 1 }
+abbrev pub out_shared : SharedState → SharedState
+out_shared c = record c { count = c.count - 1 }
 
 -- the word after is exactly the ready bit
-abbrev pub out_step : Bool → Inner → ℕ → Answer → Ending → Outcome
+abbrev pub out_step : Bool → SharedState → ℕ → Answer → Ending → Outcome
 out_step last c t k e = outcome_of c t k [] (after_count_out last e)
 
 -- no queue stands at the door
-abbrev pub take_inner : Inner → Inner
-take_inner c = record c { door = None; head = false; listings = [] }
+abbrev pub take_shared : SharedState → SharedState
+take_shared c = record c { door = None; head = false; listings = [] }
 
 -- one step at a place: of the task t with the waker w and what its init gave so far, the init answering a, memory being given or not
-abbrev pub place_step : Bool → ℕ → Inner → ℕ → ℕ → Answer → Answer → Bool → Place ℕ ℕ → Outcome
+abbrev pub place_step : Bool → ℕ → SharedState → ℕ → ℕ → Answer → Answer → Bool → Place ℕ ℕ → Outcome
 place_step lazy limit c t w k a granted AtStart = start_step c.ready (is_zero (word_of c)) c t k
 place_step lazy limit c t w k a granted AtTryQuick = quick_step (is_zero (word_of c)) c t k
 place_step lazy limit c t w k a granted AtDoorGet = door_step c.door c t k
 place_step lazy limit c t w k a granted AtDoorPut = put_step granted c.door c t k
 place_step lazy limit c t w k a granted (AtCountIn q) = in_step (nat_lt c.count limit) c.ready c t k q
 place_step lazy limit c t w k a granted (AtWaitLoad q n) = load_step c.ready c t k q n
-place_step lazy limit c t w k a granted (AtLook q n) = look_step (is_at_door q c.door) c.ready (is_taken c) (is_waker w (own_listing n c.listings)) granted c t w k q n
-place_step lazy limit c t w k a granted (AtList q n v) = list_step (is_at_door q c.door) c.ready (is_taken c) (is_some (kept_ticket n c.listings) || granted) c t v k q n
-place_step lazy limit c t w k a granted (AtRun by) = run_step (init_answer lazy c.answers a) (run_inner c) t k by
+place_step lazy limit c t w k a granted (AtLook q n) = look_step (queue_state q c) (is_waker w (own_listing n c.listings)) granted c t w k q n
+place_step lazy limit c t w k a granted (AtList q n v) = list_step (queue_state q c) (is_some (kept_ticket n c.listings) || granted) c t v k q n
+place_step lazy limit c t w k a granted (AtRun by) = run_step (init_answer lazy c.answers a) (run_shared c) t k by
 place_step lazy limit c t w k a granted (AtPut by) = outcome_of (record c { value = put_value k c.value }) t k [] (next_at (release_place by EndValue))
 place_step lazy limit c t w k a granted (AtFast e) = fast_step (is_quick_bit (word_of c)) (is_value e) c t k e
 place_step lazy limit c t w k a granted (AtAddOne e) = outcome_of (record c { count = suc c.count }) t k [] (next_at (AtDoorAgain e))
 place_step lazy limit c t w k a granted (AtDoorAgain e) = again_step c.door c t k e
 place_step lazy limit c t w k a granted (AtRelease q e) = release_step (is_at_door q c.door) c t k e
 place_step lazy limit c t w k a granted (AtLeave q n e) = leave_step (is_at_door q c.door) c t k n e
-place_step lazy limit c t w k a granted (AtCountOut e) = out_step (is_ready_bit (word_of (out_inner c))) (out_inner c) t k e
-place_step lazy limit c t w k a granted (AtDoorTake e) = outcome_of (take_inner c) t k [] (next_end e)
+place_step lazy limit c t w k a granted (AtCountOut e) = out_step (is_ready_bit (word_of (out_shared c))) (out_shared c) t k e
+place_step lazy limit c t w k a granted (AtDoorTake e) = outcome_of (take_shared c) t k [] (next_end e)
 
 -- one step of a call that is under way; nothing else makes one
-abbrev pub step_at : Bool → ℕ → Inner → ℕ → ℕ → Answer → Answer → Bool → Step ℕ ℕ → Outcome
+abbrev pub step_at : Bool → ℕ → SharedState → ℕ → ℕ → Answer → Answer → Bool → Step ℕ ℕ → Outcome
 step_at lazy limit c t w k a granted (UnderWay p) = place_step lazy limit c t w k a granted p
-step_at lazy limit c t w k a granted s = record { inner = c; step = s; kept = k; entries = [] }
+step_at lazy limit c t w k a granted s = record { shared = c; step = s; kept = k; entries = [] }
 
 -- one step of the task t
-abbrev pub advance : Bool → ℕ → Inner → ℕ → Task → Answer → Bool → Outcome
+abbrev pub advance : Bool → ℕ → SharedState → ℕ → Task → Answer → Bool → Outcome
 advance lazy limit c t x a granted = step_at lazy limit c t x.waker x.kept a granted x.step
 
 -- granted, door, queues made: a queue is put where none stands
@@ -322,7 +352,7 @@ put_lines true None n = PutLine (suc n) ∷ []
 put_lines _ _ n = []
 
 -- what one step logs
-abbrev pub place_lines : Bool → Inner → Place ℕ ℕ → List QueueLine
+abbrev pub place_lines : Bool → SharedState → Place ℕ ℕ → List QueueLine
 place_lines granted c AtDoorPut = put_lines granted c.door c.queues
 place_lines granted c (AtLook q n) = EnteredLine q ∷ []
 place_lines granted c (AtList q n v) = EnteredLine q ∷ []
@@ -332,7 +362,7 @@ place_lines granted c (AtDoorTake e) = take_lines c.door
 place_lines granted c _ = []
 
 -- what one step of a call logs
-abbrev pub step_lines : Bool → Inner → Step ℕ ℕ → List QueueLine
+abbrev pub step_lines : Bool → SharedState → Step ℕ ℕ → List QueueLine
 step_lines granted c (UnderWay p) = place_lines granted c p
 step_lines granted c s = []
 
@@ -343,7 +373,7 @@ drop_entries t _ = DropBegin t ∷ []
 
 -- what is shared, the tasks by their numbers, how many tasks are not finished, the record and the queue log
 pub record World : Type 0 where
-  pub inner : Inner
+  pub shared : SharedState
   pub tasks : ℕ → Option Task
   pub unfinished : ℕ
   pub history : List Entry
@@ -364,12 +394,19 @@ fresh_task = record { waker = 0; kept = RanPending; step = Resting RestStart }
 
 -- a new task where none has the number t
 abbrev pub make_world : World → ℕ → Option Task → World
-make_world w t None = record w { tasks = put_task t fresh_task w.tasks; unfinished = suc w.unfinished; history = Made t ∷ w.history }
+make_world w t None = record w {
+  tasks = put_task t fresh_task w.tasks;
+  unfinished = suc w.unfinished;
+  history = Made t ∷ w.history;
+}
 make_world w t (Some x) = w
 
 -- a poll of t, by whether it is at rest
 abbrev pub poll_world_by : Bool → World → ℕ → ℕ → Task → World
-poll_world_by true w t k x = record w { tasks = put_task t (record x { waker = k; step = step_of_poll x.step }) w.tasks; history = Begin t k ∷ w.history }
+poll_world_by true w t k x = record w {
+  tasks = put_task t (record x { waker = k; step = step_of_poll x.step }) w.tasks;
+  history = Begin t k ∷ w.history;
+}
 poll_world_by false w t k x = w
 
 -- a poll of t, which does nothing where there is no such task
@@ -379,7 +416,11 @@ poll_world w t k (Some x) = poll_world_by (is_resting x.step) w t k x
 
 -- a drop of t, by whether it is at rest
 abbrev pub drop_world_by : Bool → World → ℕ → Task → World
-drop_world_by true w t x = record w { tasks = put_task t (record x { step = step_of_drop x.step }) w.tasks; unfinished = unfinished_after (step_of_drop x.step) w.unfinished; history = drop_entries t (step_of_drop x.step) ++ w.history }
+drop_world_by true w t x = record w {
+  tasks = put_task t (record x { step = step_of_drop x.step }) w.tasks;
+  unfinished = unfinished_after (step_of_drop x.step) w.unfinished;
+  history = drop_entries t (step_of_drop x.step) ++ w.history;
+}
 drop_world_by false w t x = w
 
 -- a drop of t, which does nothing where there is no such task
@@ -389,11 +430,18 @@ drop_world w t (Some x) = drop_world_by (is_resting x.step) w t x
 
 -- what a step of t leaves of the world
 abbrev pub step_world : World → ℕ → Task → Outcome → List QueueLine → World
-step_world w t x o lines = record { inner = o.inner; tasks = put_task t (record x { step = o.step; kept = o.kept }) w.tasks; unfinished = unfinished_after o.step w.unfinished; history = o.entries ++ w.history; log = lines ++ w.log }
+step_world w t x o lines = record {
+  shared = o.shared;
+  tasks = put_task t (record x { step = o.step; kept = o.kept }) w.tasks;
+  unfinished = unfinished_after o.step w.unfinished;
+  history = o.entries ++ w.history;
+  log = lines ++ w.log;
+}
 
 -- a step of t, by whether a call is under way
 abbrev pub go_world_by : Bool → Bool → ℕ → World → ℕ → Answer → Bool → Task → World
-go_world_by true lazy limit w t a granted x = step_world w t x (advance lazy limit w.inner t x a granted) (step_lines granted w.inner x.step)
+go_world_by true lazy limit w t a granted x =
+    step_world w t x (advance lazy limit w.shared t x a granted) (step_lines granted w.shared x.step)
 go_world_by false lazy limit w t a granted x = w
 
 -- a step of t, which does nothing where there is no such task
@@ -402,7 +450,7 @@ go_world lazy limit w t a granted None = w
 go_world lazy limit w t a granted (Some x) = go_world_by (in_call x.step) lazy limit w t a granted x
 
 -- what a look finds
-abbrev pub look_value : Inner → Option ℕ
+abbrev pub look_value : SharedState → Option ℕ
 look_value c = cond c.ready (Some c.value) None
 
 -- what the owner is given, by whether the value is set
@@ -411,12 +459,12 @@ value_got true v = GotValue v
 value_got false v = GotNone
 
 -- what is left of a cell that is taken apart: the value, or the answers of its init
-abbrev pub parts_got : Bool → Inner → Got
+abbrev pub parts_got : Bool → SharedState → Got
 parts_got true c = GotValue c.value
 parts_got false c = GotAnswers c.answers
 
 -- what an owner's call is given
-abbrev pub owner_got : OwnerCall → Inner → Got
+abbrev pub owner_got : OwnerCall → SharedState → Got
 owner_got Parts c = parts_got c.ready c
 owner_got _ c = value_got c.ready c.value
 
@@ -431,30 +479,40 @@ value_or (Some v) old = v
 value_or None old = old
 
 -- the cell as a new one, with this value or none and with these answers, without a queue at the door
-abbrev pub reset_inner : Inner → Option ℕ → List (Option ℕ) → Inner
-reset_inner c v l = record (take_inner c) { count = 0; quick = false; ready = is_some_value v; value = value_or v c.value; answers = l }
+abbrev pub reset_shared : SharedState → Option ℕ → List (Option ℕ) → SharedState
+reset_shared c v l = record (take_shared c) {
+  count = 0;
+  quick = false;
+  ready = is_some_value v;
+  value = value_or v c.value;
+  answers = l;
+}
 
 -- another value where one is set
-abbrev pub write_inner : Bool → ℕ → Inner → Inner
-write_inner true v c = record c { value = v }
-write_inner false v c = c
+abbrev pub write_shared : Bool → ℕ → SharedState → SharedState
+write_shared true v c = record c { value = v }
+write_shared false v c = c
 
 -- what an owner's call leaves
-abbrev pub owner_inner : OwnerCall → Inner → Inner
-owner_inner Take c = reset_inner c None c.answers
-owner_inner (Write v) c = write_inner c.ready v c
-owner_inner Parts c = reset_inner c None []
-owner_inner (ReplaceValue v) c = reset_inner c (Some v) []
-owner_inner (ReplaceAnswers l) c = reset_inner c None l
+abbrev pub owner_shared : OwnerCall → SharedState → SharedState
+owner_shared Take c = reset_shared c None c.answers
+owner_shared (Write v) c = write_shared c.ready v c
+owner_shared Parts c = reset_shared c None []
+owner_shared (ReplaceValue v) c = reset_shared c (Some v) []
+owner_shared (ReplaceAnswers l) c = reset_shared c None l
 
 -- what an owner's call logs, by whether it replaces the cell
-abbrev pub owner_lines : Bool → Inner → List QueueLine
+abbrev pub owner_lines : Bool → SharedState → List QueueLine
 owner_lines true c = take_lines c.door
 owner_lines false c = []
 
 -- an owner's call, by whether every task is finished and whether the kind has the call
 abbrev pub own_world_by : Bool → Bool → World → OwnerCall → World
-own_world_by true true w o = record w { inner = owner_inner o w.inner; history = Own o (owner_got o w.inner) ∷ w.history; log = owner_lines (replaces o) w.inner ++ w.log }
+own_world_by true true w o = record w {
+  shared = owner_shared o w.shared;
+  history = Own o (owner_got o w.shared) ∷ w.history;
+  log = owner_lines (replaces o) w.shared ++ w.log;
+}
 own_world_by _ _ w o = w
 
 -- the world after one input
@@ -464,7 +522,7 @@ world_after kind limit w (Poll t k) = poll_world w t k (w.tasks t)
 world_after kind limit w (Drop t) = drop_world w t (w.tasks t)
 world_after kind limit w (Go t a granted) = go_world (is_lazy kind) limit w t a granted (w.tasks t)
 world_after kind limit w (Owns o) = own_world_by (w.unfinished == 0) (has_call kind o) w o
-world_after kind limit w Looks = record w { history = Look (look_value w.inner) ∷ w.history }
+world_after kind limit w Looks = record w { history = Look (look_value w.shared) ∷ w.history }
 
 -- the value that a cell is made with, or 0
 abbrev pub value_at_start : Option ℕ → ℕ
@@ -474,7 +532,17 @@ value_at_start None = 0
 -- a cell of the kind that nobody used
 abbrev pub first_world : Kind → World
 first_world kind = record {
-  inner = record { count = 0; quick = false; ready = is_set (first_cell kind); door = None; head = false; listings = []; queues = 0; value = value_at_start (value_in (first_cell kind)); answers = first_answers kind };
+  shared = record {
+    count = 0;
+    quick = false;
+    ready = is_set (first_cell kind);
+    door = None;
+    head = false;
+    listings = [];
+    queues = 0;
+    value = value_at_start (value_in (first_cell kind));
+    answers = first_answers kind;
+  };
   tasks = λ t. None;
   unfinished = 0;
   history = [];
@@ -496,4 +564,4 @@ log_of kind limit inputs = (world_of kind limit inputs).log
 
 -- the queue at the door
 abbrev pub queue_of : Kind → ℕ → List Input → Option ℕ
-queue_of kind limit inputs = (world_of kind limit inputs).inner.door
+queue_of kind limit inputs = (world_of kind limit inputs).shared.door

@@ -4,13 +4,13 @@ use Rattle.once_world.specs.declared.world.play.World.{World}
 use Rattle.once_world.specs.Record.{Kind, is_lazy}
 use Rattle.once_world.specs.Inputs.{Input}
 use Rattle.once_world.specs.Machine.{world_of}
-use Rattle.once_world.specs.Shown.{world_in}
+use Rattle.once_world.specs.Shown.{lazy_in, limit_in, world_in}
 
 -- the world is the machine's after these inputs, the newest first, for a cell of this kind with this limit
 pub record IsAfter (kind : Kind) (limit : ℕ) (inputs : List Input) (w : World) : Type 0 where
   pub world : world_in w ≡ world_of kind limit inputs
-  pub lazy : w.shared.side.lazy ≡ is_lazy kind
-  pub bound : w.limit ≡ limit
+  pub lazy : lazy_in w ≡ is_lazy kind
+  pub bound : limit_in w ≡ limit
   pub some : 0 < limit
   pub within : limit ≤ 2 ^ 62 - 2
 

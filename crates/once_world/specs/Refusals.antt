@@ -30,7 +30,8 @@ OtherHolds kind t history = (u : ℕ) × (t ≢ u) × (cell kind history ≡ Hel
 
 -- another task holds the right, or is in a poll or a drop
 abbrev pub OtherActs : Kind → ℕ → List Entry → Type 0
-OtherActs kind t history = OtherHolds kind t history ⊎ ((u : ℕ) × (t ≢ u) × (is_under_way (status kind u history) ≡ true))
+OtherActs kind t history =
+    OtherHolds kind t history ⊎ ((u : ℕ) × (t ≢ u) × (is_under_way (status kind u history) ≡ true))
 
 -- in a poll or a drop, waiting or holding
 abbrev pub is_about : Status → Bool
@@ -56,7 +57,8 @@ MemoryFrom kind _ t history = ⊥
 
 -- a poll that claimed is never refused memory
 abbrev pub MayWantMemory : Kind → ℕ → List Entry → Type 0
-MayWantMemory kind t history = ((last_call kind t history).claimed ≡ false) × MemoryFrom kind (last_call kind t history).began t history
+MayWantMemory kind t history =
+    ((last_call kind t history).claimed ≡ false) × MemoryFrom kind (last_call kind t history).began t history
 
 -- the first poll of a task may find the place full, where its crowd had limit tasks since and the cell is not set
 abbrev pub MayFindFull : Kind → ℕ → ℕ → List Entry → Type 0

@@ -40,18 +40,30 @@ MayEnd kind limit t _ _ before = ⊥
 abbrev pub IsLegal : Kind → ℕ → Entry → List Entry → Type 0
 IsLegal kind limit (Made t) before = status kind t before ≡ Unmade
 IsLegal kind limit (Begin t w) before = MayBegin (status kind t before)
-IsLegal kind limit (Claim t) before = (cell kind before ≡ Empty) × (status kind t before ≡ Polling) × ((last_call kind t before).ran ≡ None) × ((last_call kind t before).passed ≡ false)
-IsLegal kind limit (Ran t a) before = (cell kind before ≡ Held t) × (status kind t before ≡ Polling) × ((last_call kind t before).ran ≡ None) × IsNext kind a (answers_left kind before)
-IsLegal kind limit (Free t X) before = (cell kind before ≡ Held t) × MayFree (status kind t before) (last_call kind t before).ran × CallsOne kind X before
-IsLegal kind limit (Fill t v X) before = (cell kind before ≡ Held t) × (status kind t before ≡ Polling) × ((last_call kind t before).ran ≡ Some (RanValue v)) × HandsOut kind X before
+IsLegal kind limit (Claim t) before =
+    (cell kind before ≡ Empty) × (status kind t before ≡ Polling) × ((last_call kind t before).ran ≡ None)
+    × ((last_call kind t before).passed ≡ false)
+IsLegal kind limit (Ran t a) before =
+    (cell kind before ≡ Held t) × (status kind t before ≡ Polling) × ((last_call kind t before).ran ≡ None)
+    × IsNext kind a (answers_left kind before)
+IsLegal kind limit (Free t X) before =
+    (cell kind before ≡ Held t) × MayFree (status kind t before) (last_call kind t before).ran
+    × CallsOne kind X before
+IsLegal kind limit (Fill t v X) before =
+    (cell kind before ≡ Held t) × (status kind t before ≡ Polling)
+    × ((last_call kind t before).ran ≡ Some (RanValue v)) × HandsOut kind X before
 IsLegal kind limit (Pass t X) before =
-    (cell kind before ≡ Empty) × MayPass (status kind t before) (last_call kind t before).claimed (last_call kind t before).ran
+    (cell kind before ≡ Empty)
+    × MayPass (status kind t before) (last_call kind t before).claimed (last_call kind t before).ran
     × ((last_call kind t before).passed ≡ false) × ((w : ℕ) × (X ≡ w ∷ []) × IsOpen kind w before)
-IsLegal kind limit (End t r) before = (status kind t before ≡ Polling) × MayEnd kind limit t r (last_call kind t before).ran before × (((last_call kind t before).passed ≡ false) ⊎ (r ≡ Memory))
+IsLegal kind limit (End t r) before =
+    (status kind t before ≡ Polling) × MayEnd kind limit t r (last_call kind t before).ran before
+    × (((last_call kind t before).passed ≡ false) ⊎ (r ≡ Memory))
 IsLegal kind limit (DropBegin t) before = MayBegin (status kind t before)
 IsLegal kind limit (DropEnd t) before = (status kind t before ≡ Dropping) × (cell kind before ≢ Held t)
 IsLegal kind limit (Look found) before = found ≡ value_in (cell kind before)
-IsLegal kind limit (Own o g) before = (all_gone kind before ≡ true) × (g ≡ got o (cell kind before) (answers_left kind before))
+IsLegal kind limit (Own o g) before =
+    (all_gone kind before ≡ true) × (g ≡ got o (cell kind before) (answers_left kind before))
 
 -- a run of the cell: each entry may come after those before it
 abbrev pub IsRun : Kind → ℕ → List Entry → Type 0

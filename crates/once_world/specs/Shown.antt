@@ -18,13 +18,13 @@ use Rattle.once_record.specs.declared.world.Entry.{Entry as Written}
 use Rattle.once_record.specs.declared.world.Entry.TheVariants.{Made as WrittenMade, Begin as WrittenBegin, Claim as WrittenClaim, Ran as WrittenRan, Free as WrittenFree, Fill as WrittenFill, Pass as WrittenPass, End as WrittenEnd, DropBegin as WrittenDropBegin, DropEnd as WrittenDropEnd, Look as WrittenLook, Own as WrittenOwn}
 use Rattle.once_record.specs.declared.world.Record.{Record as GivenRecord}
 use Rattle.once_queue.specs.declared.log.QueueLine.{QueueLine}
-use Rattle.once_world.specs.declared.world.play.ReplayCell.{ReplayCell}
-use Rattle.once_world.specs.declared.world.play.StepSeen.{StepSeen}
+use Rattle.once_world.specs.declared.world.cell.ReplayCell.{ReplayCell}
+use Rattle.once_world.specs.declared.world.cell.StepSeen.{StepSeen}
 use Rattle.once_world.specs.declared.world.play.World.{World}
 use Rattle.once_world.specs.Record.{Answer, Kind, Once, OnceWith, Lazy, LazyWith, OwnerCall, Take, Write, Parts, ReplaceValue, ReplaceAnswers, Got, GotNone, GotValue, GotAnswers, Entry, Made, Begin, Claim, Ran, Free, Fill, Pass, End, DropBegin, DropEnd, Look, Own}
 use Rattle.once_world.specs.Inputs.{Input, Make, Poll, Drop, Go, Looks, Owns}
 pub use Rattle.once_world.specs.Machine.{claim_entries, freed_entries, progress_entries}
-use Rattle.once_world.specs.Machine.{Inner, World as MachineWorld, release_entry, pass_entries}
+use Rattle.once_world.specs.Machine.{SharedState, World as MachineWorld, release_entry, pass_entries}
 
 -- a kind
 abbrev pub kind_of : GivenKind → Kind
@@ -80,8 +80,8 @@ abbrev pub history_in : List Written → List Entry
 history_in entries = reverse (map entry_of entries)
 
 -- what all tasks share, as the machine sees it
-abbrev pub inner_of : ReplayCell → Inner
-inner_of c = record {
+abbrev pub shared_of : ReplayCell → SharedState
+shared_of c = record {
   count = c.core.word.count;
   quick = c.core.word.quick;
   ready = c.core.word.ready;
@@ -119,19 +119,29 @@ handed_entries leaving None t k = []
 
 -- the entries of a step of t that was seen to do this, where its init gave k and the value v is set
 abbrev pub step_entries : ℕ → StepSeen → Answer → ℕ → List Entry
-step_entries t s k v = progress_entries s.progress t v k ++ handed_entries s.leaving s.handed t k ++ freed_entries s.freed t k ++ ran_entries s.ran t ++ claim_entries s.claimed t
+step_entries t s k v =
+    progress_entries s.progress t v k ++ handed_entries s.leaving s.handed t k ++ freed_entries s.freed t k
+    ++ ran_entries s.ran t ++ claim_entries s.claimed t
 
 -- the world of a replay under way
 abbrev pub world_in : World → MachineWorld
 world_in w = record {
-  inner = inner_of w.shared;
+  shared = shared_of w.shared;
   tasks = λ t. get nat_cmp w.tasks t;
   unfinished = w.unfinished;
   history = history_in w.entries.items;
   log = log_in w.shared;
 }
 
--- the record of a replay and its queue log, the newest first
+-- whether a replay under way is of a lazy cell
+abbrev pub lazy_in : World → Bool
+lazy_in w = w.shared.side.lazy
+
+-- the limit of a replay under way
+abbrev pub limit_in : World → ℕ
+limit_in w = w.limit
+
+-- the record of a replay, the newest entry first
 abbrev pub record_entries : GivenRecord → List Entry
 record_entries r = history_in r.entries.items
 

@@ -31,7 +31,8 @@ status_after _ c s = s
 -- the status of t after these entries
 abbrev pub status : Kind → ℕ → List Entry → Status
 status kind t [] = Unmade
-status kind t (e ∷ before) = cond (is_of t e) (status_after e (cell kind before) (status kind t before)) (status kind t before)
+status kind t (e ∷ before) =
+    cond (is_of t e) (status_after e (cell kind before) (status kind t before)) (status kind t before)
 
 -- a call is under way
 abbrev pub is_under_way : Status → Bool
@@ -66,7 +67,16 @@ pub record LastCall : Type 0 where
 
 -- a call that begins with the waker w, where the cell was c and the task s
 abbrev pub begins : ℕ → Cell → Status → LastCall → LastCall
-begins w c s p = record { waker = w; listed = p.listed; began = s; set_then = is_set c; claimed = false; freed = false; passed = false; ran = None }
+begins w c s p = record {
+  waker = w;
+  listed = p.listed;
+  began = s;
+  set_then = is_set c;
+  claimed = false;
+  freed = false;
+  passed = false;
+  ran = None;
+}
 
 -- the last call after an entry of the task, where the cell was c and the task s
 abbrev pub last_call_after : Entry → Cell → Status → LastCall → LastCall
@@ -81,5 +91,16 @@ last_call_after _ c s p = p
 
 -- the last call of t after these entries
 abbrev pub last_call : Kind → ℕ → List Entry → LastCall
-last_call kind t [] = record { waker = 0; listed = 0; began = Unmade; set_then = false; claimed = false; freed = false; passed = false; ran = None }
-last_call kind t (e ∷ before) = cond (is_of t e) (last_call_after e (cell kind before) (status kind t before) (last_call kind t before)) (last_call kind t before)
+last_call kind t [] = record {
+  waker = 0;
+  listed = 0;
+  began = Unmade;
+  set_then = false;
+  claimed = false;
+  freed = false;
+  passed = false;
+  ran = None;
+}
+last_call kind t (e ∷ before) =
+    cond (is_of t e) (last_call_after e (cell kind before) (status kind t before) (last_call kind t before))
+    (last_call kind t before)

@@ -17,7 +17,9 @@ handed_since t (e ∷ before) = cond (is_end_of t e) [] (handed_by e ++ handed_s
 
 -- w is due: some task waits, w is the waker of its last poll, and w was not handed out since that poll's End
 abbrev pub IsDue : Kind → ℕ → List Entry → Type 0
-IsDue kind w history = (t : ℕ) × (status kind t history ≡ Waiting) × ((last_call kind t history).waker ≡ w) × (member w (handed_since t history) ≡ false)
+IsDue kind w history =
+    (t : ℕ) × (status kind t history ≡ Waiting) × ((last_call kind t history).waker ≡ w)
+    × (member w (handed_since t history) ≡ false)
 
 -- another task than t holds
 abbrev pub is_held_by_other : ℕ → Cell → Bool
@@ -26,7 +28,8 @@ is_held_by_other t _ = false
 
 -- the entry ends a poll begun with w, Pending, while another task holds
 abbrev pub opens : Kind → ℕ → Entry → List Entry → Bool
-opens kind w (End t Pending) before = cond ((last_call kind t before).waker == w) (is_held_by_other t (cell kind before)) false
+opens kind w (End t Pending) before =
+    cond ((last_call kind t before).waker == w) (is_held_by_other t (cell kind before)) false
 opens kind w _ before = false
 
 -- how many polls begun with w ended Pending while another task held, since the owner last replaced the cell

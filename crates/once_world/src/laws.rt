@@ -14,67 +14,95 @@ ghost use Rattle.once_world.specs.Run.{IsRun};
 /// At most one task holds the right, whether it rests or is in a call. Who claims the right finds the
 /// cell empty, and an init is polled by the task that holds.
 pub fn one_task_holds()
-    ensures holder { (kind : Kind) (t u : ℕ) (h : List Entry) → cell kind h ≡ Held t → cell kind h ≡ Held u → t ≡ u }
-    ensures rests { (kind : Kind) (limit t : ℕ) (h : List Entry) → IsRun kind limit h → status kind t h ≡ Holding → cell kind h ≡ Held t }
-    ensures claims { (kind : Kind) (limit t : ℕ) (h : List Entry) → IsRun kind limit (Claim t ∷ h) → (cell kind h ≡ Empty) × (cell kind (Claim t ∷ h) ≡ Held t) }
-    ensures one { (kind : Kind) (limit t u : ℕ) (h : List Entry) → IsRun kind limit h → status kind t h ≡ Holding → status kind u h ≡ Holding → t ≡ u }
-    ensures runner { (kind : Kind) (limit t : ℕ) (a : Answer) (h : List Entry) → IsRun kind limit (Ran t a ∷ h) → cell kind h ≡ Held t }
+    ensures holder { (kind : Kind) (t u : ℕ) (h : List Entry) → cell kind h ≡ Held t
+        → cell kind h ≡ Held u → t ≡ u }
+    ensures rests { (kind : Kind) (limit t : ℕ) (h : List Entry) → IsRun kind limit h
+        → status kind t h ≡ Holding → cell kind h ≡ Held t }
+    ensures claims { (kind : Kind) (limit t : ℕ) (h : List Entry) → IsRun kind limit (Claim t ∷ h)
+        → (cell kind h ≡ Empty) × (cell kind (Claim t ∷ h) ≡ Held t) }
+    ensures one { (kind : Kind) (limit t u : ℕ) (h : List Entry) → IsRun kind limit h
+        → status kind t h ≡ Holding → status kind u h ≡ Holding → t ≡ u }
+    ensures runner { (kind : Kind) (limit t : ℕ) (a : Answer) (h : List Entry)
+        → IsRun kind limit (Ran t a ∷ h) → cell kind h ≡ Held t }
 {}
 
 /// A poll that ends with a value answers the one that is set, and that one lasts until the owner
 /// changes it.
 pub fn value_set_is_answered()
-    ensures answered { (kind : Kind) (limit t v : ℕ) (h : List Entry) → IsRun kind limit (End t (Value v) ∷ h) → cell kind h ≡ SetTo v }
-    ensures lasts { (kind : Kind) (limit : ℕ) (e : Entry) (h : List Entry) (v : ℕ) → IsRun kind limit (e ∷ h) → is_own e ≡ false → cell kind h ≡ SetTo v → cell kind (e ∷ h) ≡ SetTo v }
+    ensures answered { (kind : Kind) (limit t v : ℕ) (h : List Entry)
+        → IsRun kind limit (End t (Value v) ∷ h) → cell kind h ≡ SetTo v }
+    ensures lasts { (kind : Kind) (limit : ℕ) (e : Entry) (h : List Entry) (v : ℕ)
+        → IsRun kind limit (e ∷ h) → is_own e ≡ false → cell kind h ≡ SetTo v
+        → cell kind (e ∷ h) ≡ SetTo v }
 {}
 
 /// A poll that ends with an error ends with the one that its own init gave, after it gave the right
 /// back.
 pub fn error_is_ones_own()
-    ensures { (kind : Kind) (limit t e : ℕ) (h : List Entry) → IsRun kind limit (End t (Error e) ∷ h) → ((last_call kind t h).ran ≡ Some (RanError e)) × ((last_call kind t h).freed ≡ true) }
+    ensures { (kind : Kind) (limit t e : ℕ) (h : List Entry)
+        → IsRun kind limit (End t (Error e) ∷ h)
+        → ((last_call kind t h).ran ≡ Some (RanError e)) × ((last_call kind t h).freed ≡ true) }
 {}
 
 /// While a task that holds is dropped, the cell stays held or becomes empty, and a lazy init keeps
 /// the answers that it has left. When the drop ends the task does not hold.
 pub fn dropped_holder_frees()
-    ensures ended { (kind : Kind) (limit t : ℕ) (h : List Entry) → IsRun kind limit (DropEnd t ∷ h) → cell kind (DropEnd t ∷ h) ≢ Held t }
-    ensures during { (kind : Kind) (limit t : ℕ) (e : Entry) (h : List Entry) → IsRun kind limit (e ∷ h) → status kind t h ≡ Dropping → cell kind h ≡ Held t
-        → (answers_left kind (e ∷ h) ≡ answers_left kind h) × ((cell kind (e ∷ h) ≡ Held t) ⊎ (cell kind (e ∷ h) ≡ Empty)) }
+    ensures ended { (kind : Kind) (limit t : ℕ) (h : List Entry) → IsRun kind limit (DropEnd t ∷ h)
+        → cell kind (DropEnd t ∷ h) ≢ Held t }
+    ensures during { (kind : Kind) (limit t : ℕ) (e : Entry) (h : List Entry)
+        → IsRun kind limit (e ∷ h) → status kind t h ≡ Dropping → cell kind h ≡ Held t
+        → (answers_left kind (e ∷ h) ≡ answers_left kind h)
+        × ((cell kind (e ∷ h) ≡ Held t) ⊎ (cell kind (e ∷ h) ≡ Empty)) }
 {}
 
 /// A task that is first polled after the value is set answers it, and does not poll its init.
 pub fn set_value_is_answered_first()
-    ensures { (kind : Kind) (limit t : ℕ) (r : Reply) (h : List Entry) → IsRun kind limit (End t r ∷ h) → (last_call kind t h).began ≡ Fresh → (last_call kind t h).set_then ≡ true
+    ensures { (kind : Kind) (limit t : ℕ) (r : Reply) (h : List Entry)
+        → IsRun kind limit (End t r ∷ h) → (last_call kind t h).began ≡ Fresh
+        → (last_call kind t h).set_then ≡ true
         → ((last_call kind t h).ran ≡ None) × ((v : ℕ) × (cell kind h ≡ SetTo v) × (r ≡ Value v)) }
 {}
 
 /// A poll ends for want of memory only where another task held or was in a call since it began. Where
 /// none did, it ends as full only where at least `limit` other tasks waited at a moment since it began.
 pub fn refusals_need_others()
-    ensures memory { (kind : Kind) (limit t : ℕ) (h : List Entry) → IsRun kind limit (End t Memory ∷ h) → Since t (OtherActs kind t) h }
-    ensures full { (kind : Kind) (limit t : ℕ) (h : List Entry) → IsRun kind limit (End t Full ∷ h) → (Since t (OtherActs kind t) h → ⊥) → Since t (AreWaiting kind limit t) h }
+    ensures memory { (kind : Kind) (limit t : ℕ) (h : List Entry)
+        → IsRun kind limit (End t Memory ∷ h) → Since t (OtherActs kind t) h }
+    ensures full { (kind : Kind) (limit t : ℕ) (h : List Entry) → IsRun kind limit (End t Full ∷ h)
+        → (Since t (OtherActs kind t) h → ⊥) → Since t (AreWaiting kind limit t) h }
 {}
 
 /// A release without a value hands out one waker at most, and not those of all who wait. Where some
 /// task waits and was not called since its last poll ended, it hands out one, which is open.
 pub fn failed_release_calls_one()
-    ensures at_most_one { (kind : Kind) (limit t : ℕ) (X : List ℕ) (h : List Entry) → IsRun kind limit (Free t X ∷ h) → length X ≤ 1 }
-    ensures somebody { (kind : Kind) (limit t d : ℕ) (X : List ℕ) (h : List Entry) → IsRun kind limit (Free t X ∷ h) → IsDue kind d h → (w : ℕ) × (X ≡ w ∷ []) × IsOpen kind w h }
+    ensures at_most_one { (kind : Kind) (limit t : ℕ) (X : List ℕ) (h : List Entry)
+        → IsRun kind limit (Free t X ∷ h) → length X ≤ 1 }
+    ensures somebody { (kind : Kind) (limit t d : ℕ) (X : List ℕ) (h : List Entry)
+        → IsRun kind limit (Free t X ∷ h) → IsDue kind d h
+        → (w : ℕ) × (X ≡ w ∷ []) × IsOpen kind w h }
 {}
 
 /// A task that passes its turn on leaves. It finds the cell empty and hands out one waker, which is
 /// open. It does so once in its call, and claims nothing later in that call. If the call is a poll, it
 /// ends for want of memory. No call of the task begins after it: the task is in this one, or gone.
 pub fn leaver_passes_its_turn_on()
-    ensures to_one { (kind : Kind) (limit t : ℕ) (X : List ℕ) (h : List Entry) → IsRun kind limit (Pass t X ∷ h) → (cell kind h ≡ Empty) × ((w : ℕ) × (X ≡ w ∷ []) × IsOpen kind w h) }
-    ensures once { (kind : Kind) (limit t : ℕ) (X : List ℕ) (h : List Entry) → IsRun kind limit (Pass t X ∷ h) → (last_call kind t h).passed ≡ false }
-    ensures unclaimed { (kind : Kind) (limit t : ℕ) (h : List Entry) → IsRun kind limit (Claim t ∷ h) → (last_call kind t h).passed ≡ false }
-    ensures refused { (kind : Kind) (limit t : ℕ) (r : Reply) (h : List Entry) → IsRun kind limit (End t r ∷ h) → (last_call kind t h).passed ≡ true → r ≡ Memory }
-    ensures leaves { (kind : Kind) (limit t : ℕ) (h : List Entry) → IsRun kind limit h → (last_call kind t h).passed ≡ true → (is_under_way (status kind t h) ≡ true) ⊎ (status kind t h ≡ Gone) }
+    ensures to_one { (kind : Kind) (limit t : ℕ) (X : List ℕ) (h : List Entry)
+        → IsRun kind limit (Pass t X ∷ h)
+        → (cell kind h ≡ Empty) × ((w : ℕ) × (X ≡ w ∷ []) × IsOpen kind w h) }
+    ensures once { (kind : Kind) (limit t : ℕ) (X : List ℕ) (h : List Entry)
+        → IsRun kind limit (Pass t X ∷ h) → (last_call kind t h).passed ≡ false }
+    ensures unclaimed { (kind : Kind) (limit t : ℕ) (h : List Entry)
+        → IsRun kind limit (Claim t ∷ h) → (last_call kind t h).passed ≡ false }
+    ensures refused { (kind : Kind) (limit t : ℕ) (r : Reply) (h : List Entry)
+        → IsRun kind limit (End t r ∷ h) → (last_call kind t h).passed ≡ true → r ≡ Memory }
+    ensures leaves { (kind : Kind) (limit t : ℕ) (h : List Entry) → IsRun kind limit h
+        → (last_call kind t h).passed ≡ true
+        → (is_under_way (status kind t h) ≡ true) ⊎ (status kind t h ≡ Gone) }
 {}
 
 /// No waker is handed out more often than tasks waited with it. Since the owner last replaced the cell
 /// that is at most once for each poll begun with it that ended Pending while another task held.
 pub fn wakes_answer_waits()
-    ensures { (kind : Kind) (limit w : ℕ) (h : List Entry) → IsRun kind limit h → times_handed w h ≤ times_opened kind w h }
+    ensures { (kind : Kind) (limit w : ℕ) (h : List Entry) → IsRun kind limit h
+        → times_handed w h ≤ times_opened kind w h }
 {}

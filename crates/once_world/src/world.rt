@@ -12,6 +12,7 @@ ghost use Rattle.once_world.specs.Shown.{kind_of, inputs_in, record_entries, rec
 pub use once_record::world::{Call, Entry, Got, Input, Kind, QueueLine, Ran, Record, Reply};
 use std::alloc::{AllocError, Global};
 
+mod cell;
 mod play;
 mod side;
 
@@ -28,25 +29,33 @@ pub fn replay(alloc: Global, kind: Kind, limit: u64, inputs: &[Input]) -> Result
     requires within { limit ≤ 2 ^ 62 - 2 }
 
     // The record, the queue log and the queue at the door are the machine's.
-    ensures exact { IfOk result (λ r. record_entries r ≡ history_of (kind_of kind) limit (inputs_in inputs.now)) }
-    ensures exact_log { IfOk result (λ r. record_lines r ≡ log_of (kind_of kind) limit (inputs_in inputs.now)) }
-    ensures exact_queue { IfOk result (λ r. r.queue ≡ queue_of (kind_of kind) limit (inputs_in inputs.now)) }
+    ensures exact { IfOk result (λ r.
+        record_entries r ≡ history_of (kind_of kind) limit (inputs_in inputs.now)) }
+    ensures exact_log { IfOk result (λ r.
+        record_lines r ≡ log_of (kind_of kind) limit (inputs_in inputs.now)) }
+    ensures exact_queue { IfOk result (λ r.
+        r.queue ≡ queue_of (kind_of kind) limit (inputs_in inputs.now)) }
 
     // The record is a run of the cell. Nobody who waits is forgotten once the value is set. While
     // the cell is empty and a task waits, some task was called; one that waits, where no call is
     // under way. Every poll that is answered a value is answered the one that is set until the owner
     // changes it.
     ensures run { IfOk result (λ r. IsRun (kind_of kind) limit (record_entries r)) }
-    ensures nobody_forgotten { IfOk result (λ r. AtEvery (NobodyForgotten (kind_of kind)) (record_entries r)) }
-    ensures one_is_called { IfOk result (λ r. AtEvery (SomebodyCalled (kind_of kind)) (record_entries r)) }
+    ensures nobody_forgotten { IfOk result (λ r.
+        AtEvery (NobodyForgotten (kind_of kind)) (record_entries r)) }
+    ensures one_is_called { IfOk result (λ r.
+        AtEvery (SomebodyCalled (kind_of kind)) (record_entries r)) }
     ensures idle { IfOk result (λ r. AtEvery (WaiterCalled (kind_of kind)) (record_entries r)) }
     ensures one_value { IfOk result (λ r. IsOneValue (kind_of kind) (record_entries r)) }
 
     // It belongs to the inputs, and the log falls into the same parts.
-    ensures belongs { IfOk result (λ r. (parts : List Part) × FallsInto (kind_of kind) (inputs_in inputs.now) (record_entries r) parts × IsLogOf (kind_of kind) (record_lines r) parts) }
+    ensures belongs { IfOk result (λ r. (parts : List Part)
+        × FallsInto (kind_of kind) (inputs_in inputs.now) (record_entries r) parts
+        × IsLogOf (kind_of kind) (record_lines r) parts) }
 
     // Where every step is given memory no call ends for want of it.
-    ensures ample { all_granted (inputs_in inputs.now) ≡ true → IfOk result (λ r. (t : ℕ) → ends_for_memory t (record_entries r) ≡ false) }
+    ensures ample { all_granted (inputs_in inputs.now) ≡ true
+        → IfOk result (λ r. (t : ℕ) → ends_for_memory t (record_entries r) ≡ false) }
 
     // A queue is entered only while it stands at the door, and never after it was taken out.
     ensures sound { IfOk result (λ r. IsSound (record_lines r)) }

@@ -6,7 +6,7 @@ use Rattle.once_world.specs.Cell.{cell, is_set}
 use Rattle.once_world.specs.Tasks.{Waiting, is_under_way, status}
 use Rattle.once_world.specs.Inputs.{Drop, Go, Input, Looks, Make, Owns, Poll}
 use Rattle.once_world.specs.Log.{standing_queue}
-use Rattle.once_world.specs.Machine.{Finished, Inner, Outcome, Resting, Step, Task, UnderWay, World, advance, world_after, step_of_poll, poll_world_by, step_of_drop, drop_world_by, drop_world, fresh_task, go_world, go_world_by, history_of, in_call, is_resting, log_of, make_world, own_world_by, owner_inner, poll_world, put_task, write_inner, world_of}
+use Rattle.once_world.specs.Machine.{Finished, SharedState, Outcome, Resting, Step, Task, UnderWay, World, advance, world_after, step_of_poll, poll_world_by, step_of_drop, drop_world_by, drop_world, fresh_task, go_world, go_world_by, history_of, in_call, is_resting, log_of, make_world, own_world_by, owner_shared, poll_world, put_task, write_shared, world_of}
 use Rattle.once_world.proofs.History.Cells.{holder_unset, none_some}
 use Rattle.once_world.proofs.Listing.Counting.{count_some}
 use Rattle.once_world.proofs.Invariant.Facts.{AtStep, IsSomeDoor, is_counted}
@@ -21,7 +21,7 @@ use Rattle.once_world.proofs.Door.Late.{Clean, clean_step, is_late}
 pub waits_stand : (K : Kind) (limit : ℕ) (inputs : List Input) (t : ℕ) → 0 < limit → status K t (history_of K limit inputs) ≡ Waiting → (q : ℕ) × (standing_queue (log_of K limit inputs) ≡ Some q)
 waits_stand K limit inputs t some s =
     let f = world_fits K limit inputs some in
-    let d = stands_waiting K limit t (world_of K limit inputs).inner (history_of K limit inputs) ((world_of K limit inputs).tasks t) (f.tasks t) s in
+    let d = stands_waiting K limit t (world_of K limit inputs).shared (history_of K limit inputs) ((world_of K limit inputs).tasks t) (f.tasks t) s in
     (d.1.0, log_stands K limit inputs some ∙ d.1.1)
 
 -- some task is late
@@ -30,7 +30,7 @@ SomeLate tasks = (u : ℕ) × (is_late (step_of (tasks u)) ≡ true)
 
 -- a queue at the door of a set cell has somebody in the count, or somebody who is late
 abbrev IsClean : World → Type 0
-IsClean w = w.inner.ready ≡ true → IsSomeDoor w.inner → (0 < w.inner.count) ⊎ SomeLate w.tasks
+IsClean w = w.shared.ready ≡ true → IsSomeDoor w.shared → (0 < w.shared.count) ⊎ SomeLate w.tasks
 
 -- another task than t is late
 abbrev OtherLate : ℕ → (ℕ → Option Task) → Type 0
@@ -58,12 +58,12 @@ resting_early Finished e = refl
 goes_clean : (K : Kind) (limit : ℕ) (w : World) (t : ℕ) (a : Answer) (g : Bool) (x : Task) → 0 < limit → Fits K limit w → w.tasks t ≡ Some x → IsClean w → (r : Bool) → IsClean (go_world_by r (is_lazy K) limit w t a g x)
 goes_clean K limit w t a g x some f found k false = k
 goes_clean K limit w t a g x some f found k true =
-    let o : Outcome = advance (is_lazy K) limit w.inner t x a g in
+    let o : Outcome = advance (is_lazy K) limit w.shared t x a g in
     let y : Task = record x { step = o.step; kept = o.kept } in
     let p : Puts t y w.tasks (put_task t y w.tasks) = puts t y w.tasks in
     let own = task_fits K limit t w x f found in
-    let before : Clean w.inner x.step (OtherLate t w.tasks) = λ r d. ⊎_elim (λ l. inl l) (λ s. ⊎_elim (λ e. inr (inl (sym (ap (λ v. is_late (step_of v)) found) ∙ e))) (λ q. inr (inr q)) (split_late t w.tasks s)) (k r d) in
-    let later = clean_step K limit t x.waker x.kept w.inner w.history some f.inner (OtherLate t w.tasks) a g x.step (around K limit t x w f found) own.step before in
+    let before : Clean w.shared x.step (OtherLate t w.tasks) = λ r d. ⊎_elim (λ l. inl l) (λ s. ⊎_elim (λ e. inr (inl (sym (ap (λ v. is_late (step_of v)) found) ∙ e))) (λ q. inr (inr q)) (split_late t w.tasks s)) (k r d) in
+    let later = clean_step K limit t x.waker x.kept w.shared w.history some f.shared (OtherLate t w.tasks) a g x.step (around K limit t x w f found) own.step before in
     λ r d. ⊎_elim (λ l. inl l) (λ s. inr (⊎_elim (λ e. (t, ap (λ v. is_late (step_of v)) p.there ∙ e)) (λ q. other_kept t y w.tasks (put_task t y w.tasks) p q) s)) (later r d)
 
 -- so does a Go
@@ -102,13 +102,13 @@ made_clean w t c (Some x) is = c
 made_clean w t c None is = changed_clean w t fresh_task (ap (λ o. is_late (step_of o)) is) c
 
 -- nor do the calls of the owner
-write_clean : (w : World) (v : ℕ) (r : Bool) → IsClean w → IsClean (record w { inner = write_inner r v w.inner })
+write_clean : (w : World) (v : ℕ) (r : Bool) → IsClean w → IsClean (record w { shared = write_shared r v w.shared })
 write_clean w v true k = k
 write_clean w v false k = k
 
-owner_clean : (w : World) (o : OwnerCall) → IsClean w → IsClean (record w { inner = owner_inner o w.inner })
+owner_clean : (w : World) (o : OwnerCall) → IsClean w → IsClean (record w { shared = owner_shared o w.shared })
 owner_clean w Take k = λ r d. absurd (none_some d.0 d.1)
-owner_clean w (Write v) k = write_clean w v w.inner.ready k
+owner_clean w (Write v) k = write_clean w v w.shared.ready k
 owner_clean w Parts k = λ r d. absurd (none_some d.0 d.1)
 owner_clean w (ReplaceValue v) k = λ r d. absurd (none_some d.0 d.1)
 owner_clean w (ReplaceAnswers l) k = λ r d. absurd (none_some d.0 d.1)
@@ -133,13 +133,13 @@ world_clean K limit [] some = λ r d. absurd (none_some d.0 d.1)
 world_clean K limit (i ∷ before) some = after_clean K limit (world_of K limit before) i some (world_fits K limit before some) (world_clean K limit before some)
 
 -- a late task is in a call
-late_acts : (K : Kind) (limit t : ℕ) (c : Inner) (h : List Entry) (s : Step ℕ ℕ) → AtStep K limit t c h s → is_late s ≡ true → is_under_way (status K t h) ≡ true
+late_acts : (K : Kind) (limit t : ℕ) (c : SharedState) (h : List Entry) (s : Step ℕ ℕ) → AtStep K limit t c h s → is_late s ≡ true → is_under_way (status K t h) ≡ true
 late_acts K limit t c h (UnderWay p) a e = place_acts K limit t c h p a
 late_acts K limit t c h (Resting r) a e = absurd (false≢true e)
 late_acts K limit t c h Finished a e = absurd (false≢true e)
 
 -- so is one of the world
-stands_late : (K : Kind) (limit t : ℕ) (c : Inner) (h : List Entry) (o : Option Task) → StandsFor K limit t c h o → is_late (step_of o) ≡ true → is_under_way (status K t h) ≡ true
+stands_late : (K : Kind) (limit t : ℕ) (c : SharedState) (h : List Entry) (o : Option Task) → StandsFor K limit t c h o → is_late (step_of o) ≡ true → is_under_way (status K t h) ≡ true
 stands_late K limit t c h None a e = absurd (false≢true e)
 stands_late K limit t c h (Some x) a e = late_acts K limit t c h x.step a.step e
 
@@ -154,10 +154,10 @@ pub no_queue_kept : (K : Kind) (limit : ℕ) (inputs : List Input) → 0 < limit
 no_queue_kept K limit inputs some set idle awake =
     let w : World = world_of K limit inputs in
     let f = world_fits K limit inputs some in
-    let none : (q : ℕ) → w.inner.door ≡ Some q → ⊥ = λ q d. ⊎_elim
+    let none : (q : ℕ) → w.shared.door ≡ Some q → ⊥ = λ q d. ⊎_elim
     (λ l. let u = count_some (made_in w.history) (λ n. is_counted (step_of (w.tasks n))) (subst (λ n. 0 < n) f.count_is l) in
     ⊎_elim (λ e. awake u.0 e) (λ e. ⊎_elim (λ x. false≢true (sym (idle u.0) ∙ x)) (λ x. false≢true (sym (holder_unset u.0 (cell K w.history) x.1) ∙ set)) e)
-    (stands_counted K limit u.0 w.inner w.history (w.tasks u.0) (f.tasks u.0) u.1))
-    (λ s. false≢true (sym (idle s.0) ∙ stands_late K limit s.0 w.inner w.history (w.tasks s.0) (f.tasks s.0) s.1))
-    (world_clean K limit inputs some (f.inner.ready_is ∙ set) (q, d)) in
-    log_stands K limit inputs some ∙ none_left w.inner.door none
+    (stands_counted K limit u.0 w.shared w.history (w.tasks u.0) (f.tasks u.0) u.1))
+    (λ s. false≢true (sym (idle s.0) ∙ stands_late K limit s.0 w.shared w.history (w.tasks s.0) (f.tasks s.0) s.1))
+    (world_clean K limit inputs some (f.shared.ready_is ∙ set) (q, d)) in
+    log_stands K limit inputs some ∙ none_left w.shared.door none

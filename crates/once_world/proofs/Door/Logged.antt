@@ -3,53 +3,53 @@ use Rattle.std.proofs.Common.{◌≡◌, ◌<◌, ℕ, Bool, true, false, ◌==�
 use Rattle.once_world.specs.Record.{Answer, Kind, OwnerCall, Parts, ReplaceAnswers, ReplaceValue, Take, Write, has_call, is_lazy, replaces}
 use Rattle.once_world.specs.Inputs.{Drop, Go, Input, Looks, Make, Owns, Poll}
 use Rattle.once_world.specs.Log.{IsSound, standing_queue, take_lines}
-use Rattle.once_world.specs.Machine.{Inner, QueueLine, Task, World, world_after, poll_world_by, drop_world_by, drop_world, go_world, go_world_by, in_call, is_resting, log_of, make_world, own_world_by, owner_inner, owner_lines, poll_world, queue_of, reset_inner, write_inner, world_of}
+use Rattle.once_world.specs.Machine.{SharedState, QueueLine, Task, World, world_after, poll_world_by, drop_world_by, drop_world, go_world, go_world_by, in_call, is_resting, log_of, make_world, own_world_by, owner_shared, owner_lines, poll_world, queue_of, reset_shared, write_shared, world_of}
 use Rattle.once_world.proofs.Invariant.Fits.{Fits}
 use Rattle.once_world.proofs.Input.Headline.{task_fits, world_fits}
 use Rattle.once_world.proofs.Door.Logs.{LogFits, log_step, log_take}
 
 -- the inputs that log nothing
-begun_log : (w : World) (t k : ℕ) (x : Task) (r : Bool) → LogFits w.inner w.log → LogFits (poll_world_by r w t k x).inner (poll_world_by r w t k x).log
+begun_log : (w : World) (t k : ℕ) (x : Task) (r : Bool) → LogFits w.shared w.log → LogFits (poll_world_by r w t k x).shared (poll_world_by r w t k x).log
 begun_log w t k x true f = f
 begun_log w t k x false f = f
 
-drop_log : (w : World) (t : ℕ) (x : Task) (r : Bool) → LogFits w.inner w.log → LogFits (drop_world_by r w t x).inner (drop_world_by r w t x).log
+drop_log : (w : World) (t : ℕ) (x : Task) (r : Bool) → LogFits w.shared w.log → LogFits (drop_world_by r w t x).shared (drop_world_by r w t x).log
 drop_log w t x true f = f
 drop_log w t x false f = f
 
-made_log : (w : World) (t : ℕ) (o : Option Task) → LogFits w.inner w.log → LogFits (make_world w t o).inner (make_world w t o).log
+made_log : (w : World) (t : ℕ) (o : Option Task) → LogFits w.shared w.log → LogFits (make_world w t o).shared (make_world w t o).log
 made_log w t None f = f
 made_log w t (Some x) f = f
 
-polled_log : (w : World) (t k : ℕ) (o : Option Task) → LogFits w.inner w.log → LogFits (poll_world w t k o).inner (poll_world w t k o).log
+polled_log : (w : World) (t k : ℕ) (o : Option Task) → LogFits w.shared w.log → LogFits (poll_world w t k o).shared (poll_world w t k o).log
 polled_log w t k None f = f
 polled_log w t k (Some x) f = begun_log w t k x (is_resting x.step) f
 
-dropped_log : (w : World) (t : ℕ) (o : Option Task) → LogFits w.inner w.log → LogFits (drop_world w t o).inner (drop_world w t o).log
+dropped_log : (w : World) (t : ℕ) (o : Option Task) → LogFits w.shared w.log → LogFits (drop_world w t o).shared (drop_world w t o).log
 dropped_log w t None f = f
 dropped_log w t (Some x) f = drop_log w t x (is_resting x.step) f
 
 -- a step
-goes_log : (K : Kind) (limit : ℕ) (w : World) (t : ℕ) (a : Answer) (g : Bool) (x : Task) → Fits K limit w → w.tasks t ≡ Some x → LogFits w.inner w.log → (r : Bool) → LogFits (go_world_by r (is_lazy K) limit w t a g x).inner (go_world_by r (is_lazy K) limit w t a g x).log
+goes_log : (K : Kind) (limit : ℕ) (w : World) (t : ℕ) (a : Answer) (g : Bool) (x : Task) → Fits K limit w → w.tasks t ≡ Some x → LogFits w.shared w.log → (r : Bool) → LogFits (go_world_by r (is_lazy K) limit w t a g x).shared (go_world_by r (is_lazy K) limit w t a g x).log
 goes_log K limit w t a g x f found l false = l
-goes_log K limit w t a g x f found l true = let own = task_fits K limit t w x f found in log_step K limit w.inner t x.waker x.kept a g w.history w.log l x.step own.step
+goes_log K limit w t a g x f found l true = let own = task_fits K limit t w x f found in log_step K limit w.shared t x.waker x.kept a g w.history w.log l x.step own.step
 
 -- a Go
-gone_log : (K : Kind) (limit : ℕ) (w : World) (t : ℕ) (a : Answer) (g : Bool) → Fits K limit w → LogFits w.inner w.log → (o : Option Task) → w.tasks t ≡ o → LogFits (go_world (is_lazy K) limit w t a g o).inner (go_world (is_lazy K) limit w t a g o).log
+gone_log : (K : Kind) (limit : ℕ) (w : World) (t : ℕ) (a : Answer) (g : Bool) → Fits K limit w → LogFits w.shared w.log → (o : Option Task) → w.tasks t ≡ o → LogFits (go_world (is_lazy K) limit w t a g o).shared (go_world (is_lazy K) limit w t a g o).log
 gone_log K limit w t a g f l None is = l
 gone_log K limit w t a g f l (Some x) is = goes_log K limit w t a g x f is l (in_call x.step)
 
 -- the owner takes the queue out
-reset_log : (c : Inner) (v : Option ℕ) (l : List (Option ℕ)) (log : List QueueLine) → LogFits c log → LogFits (reset_inner c v l) (take_lines c.door ++ log)
+reset_log : (c : SharedState) (v : Option ℕ) (l : List (Option ℕ)) (log : List QueueLine) → LogFits c log → LogFits (reset_shared c v l) (take_lines c.door ++ log)
 reset_log c v l log f = let k = log_take c c.door log refl f in record { door_is = k.door_is; sound = k.sound; fresh = k.fresh }
 
 -- a writing logs nothing
-write_log : (c : Inner) (v : ℕ) (log : List QueueLine) (r : Bool) → LogFits c log → LogFits (write_inner r v c) log
+write_log : (c : SharedState) (v : ℕ) (log : List QueueLine) (r : Bool) → LogFits c log → LogFits (write_shared r v c) log
 write_log c v log true f = record { door_is = f.door_is; sound = f.sound; fresh = f.fresh }
 write_log c v log false f = f
 
 -- the calls of the owner
-owner_log : (c : Inner) (o : OwnerCall) (log : List QueueLine) → LogFits c log → LogFits (owner_inner o c) (owner_lines (replaces o) c ++ log)
+owner_log : (c : SharedState) (o : OwnerCall) (log : List QueueLine) → LogFits c log → LogFits (owner_shared o c) (owner_lines (replaces o) c ++ log)
 owner_log c Take log f = reset_log c None c.answers log f
 owner_log c (Write v) log f = write_log c v log c.ready f
 owner_log c Parts log f = reset_log c None [] log f
@@ -57,13 +57,13 @@ owner_log c (ReplaceValue v) log f = reset_log c (Some v) [] log f
 owner_log c (ReplaceAnswers l) log f = reset_log c None l log f
 
 -- by whether the call fits
-owned_log : (w : World) (o : OwnerCall) (d b : Bool) → LogFits w.inner w.log → LogFits (own_world_by d b w o).inner (own_world_by d b w o).log
-owned_log w o true true f = owner_log w.inner o w.log f
+owned_log : (w : World) (o : OwnerCall) (d b : Bool) → LogFits w.shared w.log → LogFits (own_world_by d b w o).shared (own_world_by d b w o).log
+owned_log w o true true f = owner_log w.shared o w.log f
 owned_log w o true false f = f
 owned_log w o false b f = f
 
 -- each input
-after_log : (K : Kind) (limit : ℕ) (w : World) (i : Input) → Fits K limit w → LogFits w.inner w.log → LogFits (world_after K limit w i).inner (world_after K limit w i).log
+after_log : (K : Kind) (limit : ℕ) (w : World) (i : Input) → Fits K limit w → LogFits w.shared w.log → LogFits (world_after K limit w i).shared (world_after K limit w i).log
 after_log K limit w (Make t) f l = made_log w t (w.tasks t) l
 after_log K limit w (Poll t k) f l = polled_log w t k (w.tasks t) l
 after_log K limit w (Drop t) f l = dropped_log w t (w.tasks t) l
@@ -72,7 +72,7 @@ after_log K limit w (Owns o) f l = owned_log w o (w.unfinished == 0) (has_call K
 after_log K limit w Looks f l = l
 
 -- the log against what is shared, for every list of inputs
-pub logs : (K : Kind) (limit : ℕ) (inputs : List Input) → 0 < limit → LogFits (world_of K limit inputs).inner (world_of K limit inputs).log
+pub logs : (K : Kind) (limit : ℕ) (inputs : List Input) → 0 < limit → LogFits (world_of K limit inputs).shared (world_of K limit inputs).log
 logs K limit [] some = record { door_is = refl; sound = tt; fresh = λ q l. refl }
 logs K limit (i ∷ before) some = after_log K limit (world_of K limit before) i (world_fits K limit before some) (logs K limit before some)
 

@@ -4,23 +4,23 @@ use Rattle.std.specs.Prelude.{not}
 use Rattle.once_world.specs.Record.{Entry, Kind}
 use Rattle.once_world.specs.Cell.{cell}
 use Rattle.once_world.specs.Inputs.{Drop, Go, Input, Looks, Make, Owns, Poll}
-use Rattle.once_world.specs.Machine.{AtAddOne, AtCountIn, AtCountOut, AtDoorAgain, AtDoorGet, AtDoorPut, AtDoorTake, AtFast, AtLeave, AtList, AtLook, AtPut, AtRelease, AtRun, AtStart, AtTryQuick, AtWaitLoad, Finished, Inner, Place, Resting, Step, Task, UnderWay, World, world_of}
+use Rattle.once_world.specs.Machine.{AtAddOne, AtCountIn, AtCountOut, AtDoorAgain, AtDoorGet, AtDoorPut, AtDoorTake, AtFast, AtLeave, AtList, AtLook, AtPut, AtRelease, AtRun, AtStart, AtTryQuick, AtWaitLoad, Finished, SharedState, Place, Resting, Step, Task, UnderWay, World, world_of}
 use Rattle.once_world.specs.Can.{CanAdvance, CanStep, MayTake, TaskCan}
 use Rattle.once_world.proofs.History.Cells.{holder_unset}
 use Rattle.once_world.proofs.Invariant.Facts.{AtPlace, AtStep, HeadFlag, QuickFlag, is_counted, is_counted_at}
-use Rattle.once_world.proofs.Invariant.Fits.{Fits, InnerFits, step_of}
+use Rattle.once_world.proofs.Invariant.Fits.{Fits, SharedFits, step_of}
 use Rattle.once_world.proofs.Exactness.Unfinished.{unfinished_within}
 use Rattle.once_world.proofs.Invariant.Kept.{releasing_holds}
 use Rattle.once_world.proofs.Invariant.Moves.{in_count}
 use Rattle.once_world.proofs.Input.Headline.{task_fits, world_fits}
 
 -- exactly one flag stands for a holder
-one_flag : (c : Inner) → QuickFlag c ⊎ HeadFlag c → c.head ≡ not c.quick
+one_flag : (c : SharedState) → QuickFlag c ⊎ HeadFlag c → c.head ≡ not c.quick
 one_flag c (inl f) = f.head_is ∙ sym (ap not f.quick_is)
 one_flag c (inr f) = f.head_is ∙ sym (ap not f.quick_is)
 
 -- one place after the other
-asked_at : (K : Kind) (limit t : ℕ) (c : Inner) (h : List Entry) (p : Place ℕ ℕ) → InnerFits K limit c h → (is_counted_at p ≡ true → 0 < c.count) → AtPlace K limit t c h p → CanStep limit c p
+asked_at : (K : Kind) (limit t : ℕ) (c : SharedState) (h : List Entry) (p : Place ℕ ℕ) → SharedFits K limit c h → (is_counted_at p ≡ true → 0 < c.count) → AtPlace K limit t c h p → CanStep limit c p
 asked_at K limit t c h (AtAddOne e) f n a = a.2
 asked_at K limit t c h (AtCountOut e) f n a = n refl
 asked_at K limit t c h (AtRelease q e) f n a = λ _. (f.ready_is ∙ holder_unset t (cell K h) (releasing_holds K t c h e a.0), one_flag c a.1)
@@ -40,20 +40,20 @@ asked_at K limit t c h (AtDoorAgain e) f n a = tt
 asked_at K limit t c h (AtDoorTake e) f n a = tt
 
 -- what the next step of a task with a call under way asks
-pub asked : (K : Kind) (limit t : ℕ) (w : World) (x : Task) (p : Place ℕ ℕ) → Fits K limit w → w.tasks t ≡ Some x → x.step ≡ UnderWay p → CanStep limit w.inner p
+pub asked : (K : Kind) (limit t : ℕ) (w : World) (x : Task) (p : Place ℕ ℕ) → Fits K limit w → w.tasks t ≡ Some x → x.step ≡ UnderWay p → CanStep limit w.shared p
 asked K limit t w x p f found at =
     let own = task_fits K limit t w x f found in
-    let stands : AtPlace K limit t w.inner w.history p = subst (λ s. AtStep K limit t w.inner w.history s) at own.step in
-    asked_at K limit t w.inner w.history p f.inner (λ e. in_count K limit w t f (ap (λ o. is_counted (step_of o)) found ∙ ap is_counted at ∙ e)) stands
+    let stands : AtPlace K limit t w.shared w.history p = subst (λ s. AtStep K limit t w.shared w.history s) at own.step in
+    asked_at K limit t w.shared w.history p f.shared (λ e. in_count K limit w t f (ap (λ o. is_counted (step_of o)) found ∙ ap is_counted at ∙ e)) stands
 
 -- the same by the step of the task: without a call under way nothing is asked
-asked_step : (K : Kind) (limit t : ℕ) (w : World) (x : Task) (s : Step ℕ ℕ) → Fits K limit w → w.tasks t ≡ Some x → x.step ≡ s → CanAdvance limit w.inner s
+asked_step : (K : Kind) (limit t : ℕ) (w : World) (x : Task) (s : Step ℕ ℕ) → Fits K limit w → w.tasks t ≡ Some x → x.step ≡ s → CanAdvance limit w.shared s
 asked_step K limit t w x (UnderWay p) f found at = asked K limit t w x p f found at
 asked_step K limit t w x (Resting r) f found at = tt
 asked_step K limit t w x Finished f found at = tt
 
 -- and by whether the task is there
-asked_task : (K : Kind) (limit t : ℕ) (w : World) (o : Option Task) → Fits K limit w → w.tasks t ≡ o → TaskCan limit w.inner o
+asked_task : (K : Kind) (limit t : ℕ) (w : World) (o : Option Task) → Fits K limit w → w.tasks t ≡ o → TaskCan limit w.shared o
 asked_task K limit t w (Some x) f found = asked_step K limit t w x x.step f found refl
 asked_task K limit t w None f found = tt
 

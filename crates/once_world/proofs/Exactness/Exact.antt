@@ -8,9 +8,9 @@ use Rattle.once_queue.specs.Listings.{kept_ticket}
 use Rattle.once_core.specs.Core.{CoreState, IsBare, DidAddOne, DidCountIn, DidCountOut, DidDoorGet, DidDoorPut, DidDoorTake, DidFast, DidLoad, DidQuick, put_answer, put_state}
 use Rattle.once_world.specs.Places.{AtAddOne, AtCountIn, AtCountOut, AtDoorAgain, AtDoorGet, AtDoorPut, AtDoorTake, AtFast, AtLeave, AtList, AtLook, AtPut, AtRelease, AtRun, AtStart, AtTryQuick, AtWaitLoad, Finished, Place, Progress, Resting, Step, UnderWay}
 use Rattle.once_core.specs.Steps.{Advances, Follows, Line, PartsTell, SideTells, after_count_out, after_door_again, after_door_get, after_door_put, after_load, after_start, is_value}
-use Rattle.once_world.specs.Machine.{EnteredLine, out_inner, fast_step, init_answer, is_at_door, list_step, place_lines, place_step, quick_step, step_at, step_lines, word_of}
+use Rattle.once_world.specs.Machine.{EnteredLine, out_shared, fast_step, init_answer, list_step, place_lines, place_step, quick_step, step_at, step_lines, word_of, queue_state}
 use Rattle.once_world.specs.Side.{DidClose, DidCopy, DidPut, DidRun, DidWake, answers_in}
-use Rattle.once_world.proofs.Exactness.Outcomes.{IsFresh, IsOutcome, inner_by}
+use Rattle.once_world.proofs.Exactness.Outcomes.{IsFresh, IsOutcome, shared_by}
 use Rattle.once_world.proofs.Exactness.ExactWaits.{door_exact, door_put_exact, in_exact, load_exact, quick_exact, start_exact}
 use Rattle.once_world.proofs.Exactness.ExactSections.{NumberSection, list_exact, look_exact}
 use Rattle.once_world.proofs.Exactness.ExactReleases.{leave_exact, release_exact}
@@ -37,11 +37,11 @@ module _ {P : Type 0} (see : P → CoreState ℕ) where
 
   line_exact : (limit : ℕ) (at : Place ℕ ℕ) (x y : P) (c c' : ReplaySide) (p : Progress) (t : Step ℕ ℕ) → IsFresh c → IsBare (see x) → (see x).current ≡ Some c.waker → (see x).granted ≡ c.granted
       → Line parts_tell side_tells limit at x c p t y c'
-      → IsOutcome (UnderWay at) (λ n. place_step c.lazy limit (inner_by (see x) c) n c.waker c.kept c.answer c.granted at) (place_lines c.granted (inner_by (see x) c) at) (see x) c (see y) c' p t
+      → IsOutcome (UnderWay at) (λ n. place_step c.lazy limit (shared_by (see x) c) n c.waker c.kept c.answer c.granted at) (place_lines c.granted (shared_by (see x) c) at) (see x) c (see y) c' p t
   line_exact limit AtStart x y c c' p t f bare w g (b, d, z) =
       start_exact c f (see x) c' p t (see y) (see x).word.ready (is_zero (see x).word) d.1 (subst (λ l. Follows DidClose (after_start l.ready (is_zero l)) c c' p t) d.0 z)
   line_exact limit AtTryQuick x y c c' p t f bare w g (b, d, z) =
-      subst (λ won. IsOutcome (UnderWay AtTryQuick) (λ n. quick_step won (inner_by (see x) c) n c.kept) [] (see x) c (see y) c' p t) d.0 (quick_exact c f (see x) c' p t (see y) b (sym d.0) d.1 z)
+      subst (λ won. IsOutcome (UnderWay AtTryQuick) (λ n. quick_step won (shared_by (see x) c) n c.kept) [] (see x) c (see y) c' p t) d.0 (quick_exact c f (see x) c' p t (see y) b (sym d.0) d.1 z)
   line_exact limit AtDoorGet x y c c' p t f bare w g (q, d, z) = door_exact c f (see x) c' p t (see y) (see x).door d.1 (subst (λ o. Follows DidClose (after_door_get o) c c' p t) d.0 z)
   line_exact limit AtDoorPut x y c c' p t f bare w g (q, d, z) =
       let next = subst (λ o. Follows DidClose (after_door_put o) c c' p t) (d.0 ∙ ap (λ b. put_answer b (see x).door (see x).made) g) z in
@@ -50,24 +50,24 @@ module _ {P : Type 0} (see : P → CoreState ℕ) where
   line_exact limit (AtWaitLoad q k) x y c c' p t f bare w g (b, d, z) = load_exact c f (see x) c' p t (see y) (see x).word.ready q k d.1 (subst (λ l. Follows DidClose (after_load l.ready q k) c c' p t) d.0 z)
   line_exact limit (AtLook q k) x y c c' p t f bare w g (a, o, d, z) = look_exact c f (see x) c' p t q k a o (see y) w d z
   line_exact limit (AtList q k v) x y c c' p t f bare w g (a, o, d, z) =
-      subst (λ b. IsOutcome (UnderWay (AtList q k v)) (λ n. list_step (is_at_door q (see x).door) (see x).word.ready ((see x).word.quick || (see x).head) (is_some (kept_ticket k (see x).listings) || b) (inner_by (see x) c) n v c.kept q k) (EnteredLine q ∷ []) (see x) c (see y) c' p t)
+      subst (λ b. IsOutcome (UnderWay (AtList q k v)) (λ n. list_step (queue_state q (shared_by (see x) c)) (is_some (kept_ticket k (see x).listings) || b) (shared_by (see x) c) n v c.kept q k) (EnteredLine q ∷ []) (see x) c (see y) c' p t)
       g (list_exact c f (see x) c' p t q k a o (see y) v d z)
   line_exact limit (AtRun by) x y c c' p t f bare w g (a, m, d, same, z) = run_exact c f (see x) c' p t (init_answer c.lazy (answers_in c) c.answer) by (see y) (ap see same) a m refl d z
   line_exact limit (AtPut by) x y c c' p t f bare w g (d, same, more, step) = put_exact c f (see x) c' p t by (see y) (ap see same) d more step
   line_exact limit (AtFast e) x y c c' p t f bare w g (b, d, z) =
-      subst (λ won. IsOutcome (UnderWay (AtFast e)) (λ n. fast_step won (is_value e) (inner_by (see x) c) n c.kept e) [] (see x) c (see y) c' p t) d.0 (fast_exact c f (see x) c' p t e b (is_value e) (sym d.0) (see y) d.1 z)
+      subst (λ won. IsOutcome (UnderWay (AtFast e)) (λ n. fast_step won (is_value e) (shared_by (see x) c) n c.kept e) [] (see x) c (see y) c' p t) d.0 (fast_exact c f (see x) c' p t e b (is_value e) (sym d.0) (see y) d.1 z)
   line_exact limit (AtAddOne e) x y c c' p t f bare w g (d, z) = add_exact c f (see x) c' p t e (see y) d z
   line_exact limit (AtDoorAgain e) x y c c' p t f bare w g (q, d, z) = again_exact c f (see x) c' p t e (see x).door (see y) d.1 (subst (λ o. Follows DidClose (after_door_again o e) c c' p t) d.0 z)
   line_exact limit (AtRelease q e) x y c c' p t f bare w g (a, o, d, wake, more, step) = release_exact c f (see x) c' p t q e o (see y) more step a d wake
   line_exact limit (AtLeave q k e) x y c c' p t f bare w g (a, o, d, wake, more, step) = leave_exact c f (see x) c' p t q e o (see y) more step k a d wake
   line_exact limit (AtCountOut e) x y c c' p t f bare w g (b, d, z) =
-      let last : is_ready_bit (flags_of b) ≡ is_ready_bit (word_of (out_inner (inner_by (see x) c))) = ap is_ready_bit (d.0 ∙ ap (λ y. y.word) d.1) in
-      out_exact c f (see x) c' p t e (is_ready_bit (word_of (out_inner (inner_by (see x) c)))) (see y) d.1 (subst (λ l. Follows DidClose (after_count_out l e) c c' p t) last z)
+      let last : is_ready_bit (flags_of b) ≡ is_ready_bit (word_of (out_shared (shared_by (see x) c))) = ap is_ready_bit (d.0 ∙ ap (λ y. y.word) d.1) in
+      out_exact c f (see x) c' p t e (is_ready_bit (word_of (out_shared (shared_by (see x) c)))) (see y) d.1 (subst (λ l. Follows DidClose (after_count_out l e) c c' p t) last z)
   line_exact limit (AtDoorTake e) x y c c' p t f bare w g (b, d, z) = take_exact c f (see x) c' p t e (see y) bare d.1 z
 
   pub advance_exact : (limit : ℕ) (at : Step ℕ ℕ) (x y : P) (c c' : ReplaySide) (p : Progress) (t : Step ℕ ℕ) → IsFresh c → IsBare (see x) → (see x).current ≡ Some c.waker → (see x).granted ≡ c.granted
       → Advances parts_tell side_tells limit at x c p t y c'
-      → IsOutcome at (λ n. step_at c.lazy limit (inner_by (see x) c) n c.waker c.kept c.answer c.granted at) (step_lines c.granted (inner_by (see x) c) at) (see x) c (see y) c' p t
+      → IsOutcome at (λ n. step_at c.lazy limit (shared_by (see x) c) n c.waker c.kept c.answer c.granted at) (step_lines c.granted (shared_by (see x) c) at) (see x) c (see y) c' p t
   advance_exact limit (UnderWay at) x y c c' p t f bare w g d = line_exact limit at x y c c' p t f bare w g d
   advance_exact limit (Resting r) x y c c' p t f bare w g d = absurd d
   advance_exact limit Finished x y c c' p t f bare w g d = absurd d

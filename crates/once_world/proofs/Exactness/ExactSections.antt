@@ -14,10 +14,10 @@ use Rattle.once_core.specs.Core.{CoreState, DidSection, FindsHolder}
 use Rattle.once_world.specs.Places.{AtList, AtLook, Progress, Step, UnderWay}
 use Rattle.once_queue.specs.Ops.{ticket_in}
 use Rattle.once_core.specs.Steps.{AfterLook, Follows, after_copy, after_list, after_look, is_running}
-use Rattle.once_world.specs.Machine.{EnteredLine, claim_entries, is_claim, is_at_door, list_answer, list_inner, list_step, list_ticket, look_answer, look_inner, look_step}
+use Rattle.once_world.specs.Machine.{EnteredLine, claim_entries, is_claim, is_at_door, list_answer, list_shared, list_step, list_ticket, look_answer, look_shared, look_step, queue_state_by, queue_state, QueueHeld}
 use Rattle.once_world.specs.Side.{DidClose, DidCopy}
 use Rattle.once_queue.proofs.Listing.Members.{eqb_self}
-use Rattle.once_world.proofs.Exactness.Outcomes.{IsFresh, IsOutcome, follows_by, inner_by, reverse_push}
+use Rattle.once_world.proofs.Exactness.Outcomes.{IsFresh, IsOutcome, follows_by, shared_by, reverse_push}
 use Rattle.once_world.proofs.Exactness.ExactWaits.{IsIdle}
 
 -- the state after a section was entered on q
@@ -105,38 +105,38 @@ module _ (c : ReplaySide) (f : IsFresh c) (s : CoreState ℕ) (c' : ReplaySide) 
 
   -- a look that answers b
   record LookFinds (b : SectionAnswer ℕ) : Type 0 where
-    inner : inner_by s' c ≡ look_inner b (inner_by s c) k
+    shared : shared_by s' c ≡ look_shared b (shared_by s c) k
     log : s'.log ≡ (entered q s).log
     after : AfterLook DidClose DidCopy b q k c c' p t
 
   -- a look, by what it finds
   look_by : (at ready taken is : Bool) → is_at_door q s.door ≡ at → s.word.ready ≡ ready → (s.word.quick || s.head) ≡ taken → is_waker c.waker (own_listing k s.listings) ≡ is → s.current ≡ Some c.waker
-      → NumberSection s q (LookOp k) a o s' → Looks a o → LookFinds (look_answer at ready taken is)
+      → NumberSection s q (LookOp k) a o s' → Looks a o → LookFinds (look_answer (queue_state_by at ready taken) is)
   look_by true true taken is d r h m w x y =
       let z = (x.here (at_door q s.door d)).set r in
-      record { inner = ap (λ y. inner_by y c) z.1; log = ap (λ y. y.log) z.1; after = looks_as Ready (LookOp k) z.0 z.2 y }
+      record { shared = ap (λ y. shared_by y c) z.1; log = ap (λ y. y.log) z.1; after = looks_as Ready (LookOp k) z.0 z.2 y }
   look_by true false false is d r h m w x y =
       let z = (x.here (at_door q s.door d)).free (rw (r, h) refl) in
-      record { inner = ap (λ y. inner_by y c) z.1; log = ap (λ y. y.log) z.1; after = looks_as Claimed (LookOp None) z.0 z.2 y }
+      record { shared = ap (λ y. shared_by y c) z.1; log = ap (λ y. y.log) z.1; after = looks_as Claimed (LookOp None) z.0 z.2 y }
   look_by true false true true d r h m w x y =
       let z = (x.here (at_door q s.door d)).taken (rw (r, h) refl) in
       let is = looked_as c.waker (own_listing k s.listings) a (subst (λ v. Looked (λ x y. x ≡ y) (λ x y. x ≢ y) v (own_listing k s.listings) a) w z.0) in
-      record { inner = ap (λ y. inner_by y c) z.1; log = ap (λ y. y.log) z.1; after = looks_as Listed (LookOp k) (is ∙ ap (λ b. cond b Listed Held) m) z.2 y }
+      record { shared = ap (λ y. shared_by y c) z.1; log = ap (λ y. y.log) z.1; after = looks_as Listed (LookOp k) (is ∙ ap (λ b. cond b Listed Held) m) z.2 y }
   look_by true false true false d r h m w x y =
       let z = (x.here (at_door q s.door d)).taken (rw (r, h) refl) in
       let is = looked_as c.waker (own_listing k s.listings) a (subst (λ v. Looked (λ x y. x ≡ y) (λ x y. x ≢ y) v (own_listing k s.listings) a) w z.0) in
-      record { inner = ap (λ y. inner_by y c) z.1; log = ap (λ y. y.log) z.1; after = looks_as Held (LookOp k) (is ∙ ap (λ b. cond b Listed Held) m) z.2 y }
+      record { shared = ap (λ y. shared_by y c) z.1; log = ap (λ y. y.log) z.1; after = looks_as Held (LookOp k) (is ∙ ap (λ b. cond b Listed Held) m) z.2 y }
   look_by false ready taken is d r h m w x y =
       let z = x.gone (not_at_door q s.door d) in
-      record { inner = ap (λ y. inner_by y c) z.1; log = ap (λ y. y.log) z.1; after = looks_as Gone (LookOp k) z.0 z.2 y }
+      record { shared = ap (λ y. shared_by y c) z.1; log = ap (λ y. y.log) z.1; after = looks_as Gone (LookOp k) z.0 z.2 y }
 
   -- a look is the machine's
   pub look_exact : s.current ≡ Some c.waker → NumberSection s q (LookOp k) a o s' → Looks a o
-      → IsOutcome (UnderWay (AtLook q k)) (λ n. look_step (is_at_door q s.door) s.word.ready (s.word.quick || s.head) (is_waker c.waker (own_listing k s.listings)) c.granted (inner_by s c) n c.waker c.kept q k) (EnteredLine q ∷ []) s c s' c' p t
+      → IsOutcome (UnderWay (AtLook q k)) (λ n. look_step (queue_state q (shared_by s c)) (is_waker c.waker (own_listing k s.listings)) c.granted (shared_by s c) n c.waker c.kept q k) (EnteredLine q ∷ []) s c s' c' p t
   look_exact w x y =
-      let b = look_answer (is_at_door q s.door) s.word.ready (s.word.quick || s.head) (is_waker c.waker (own_listing k s.listings)) in
+      let b = look_answer (queue_state q (shared_by s c)) (is_waker c.waker (own_listing k s.listings)) in
       let z : LookFinds b = look_by (is_at_door q s.door) s.word.ready (s.word.quick || s.head) (is_waker c.waker (own_listing k s.listings)) refl refl refl refl w x y in
-      follows_by (UnderWay (AtLook q k)) s c f s' c' p t (EnteredLine q ∷ []) (look_inner b (inner_by s c) k) (λ n. claim_entries (is_claim b) n) (after_look b copy q k) (entered_log q s s' z.log) z.inner (look_follows b z.after) (look_claims b copy q k)
+      follows_by (UnderWay (AtLook q k)) s c f s' c' p t (EnteredLine q ∷ []) (look_shared b (shared_by s c) k) (λ n. claim_entries (is_claim b) n) (after_look b copy q k) (entered_log q s s' z.log) z.shared (look_follows b z.after) (look_claims b copy q k)
 
   -- what follows the listing
   abbrev Lists : SectionAnswer ℕ → Op ℕ → Type 0
@@ -148,37 +148,37 @@ module _ (c : ReplaySide) (f : IsFresh c) (s : CoreState ℕ) (c' : ReplaySide) 
 
   -- a listing of the waker w that answers b
   record ListFinds (w : ℕ) (b : SectionAnswer ℕ) : Type 0 where
-    inner : inner_by s' c ≡ list_inner b (inner_by s c) k w
+    shared : shared_by s' c ≡ list_shared b (shared_by s c) k w
     log : s'.log ≡ (entered q s).log
-    after : Follows DidClose (after_list b q (list_ticket b (inner_by s c) k)) c c' p t
+    after : Follows DidClose (after_list b q (list_ticket b (shared_by s c) k)) c c' p t
 
   -- a listing that finds the holder
   list_holder : (w : ℕ) (room : Bool) → (is_some (kept_ticket k s.listings) || s.granted) ≡ room → FindsHolder (λ x y. x ≡ y) (λ x y. x ≢ y) (entered q s) (ListOp k (Some w)) a o s' → Lists a o
-      → ListFinds w (list_answer true false true room)
+      → ListFinds w (list_answer QueueHeld room)
   list_holder w true m (inl d) x = absurd (false≢true (sym (ap (λ b. is_some b || s.granted) d.1 ∙ d.2) ∙ m))
-  list_holder w false m (inl d) x = record { inner = ap (λ y. inner_by y c) d.3; log = ap (λ y. y.log) d.3; after = lists_as NoMemory (ListOp k (Some w)) d.0 d.4 x }
-  list_holder w true m (inr d) x = record { inner = ap (λ y. inner_by y c) d.2; log = ap (λ y. y.log) d.2; after = lists_as Listed (ListOp (Some (ticket_for k s.listings)) None) d.0 d.3 x }
+  list_holder w false m (inl d) x = record { shared = ap (λ y. shared_by y c) d.3; log = ap (λ y. y.log) d.3; after = lists_as NoMemory (ListOp k (Some w)) d.0 d.4 x }
+  list_holder w true m (inr d) x = record { shared = ap (λ y. shared_by y c) d.2; log = ap (λ y. y.log) d.2; after = lists_as Listed (ListOp (Some (ticket_for k s.listings)) None) d.0 d.3 x }
   list_holder w false m (inr d) x = absurd (false≢true (sym m ∙ d.1))
 
   -- a listing of the waker w, by what it finds
   list_by : (w : ℕ) (at ready taken room : Bool) → is_at_door q s.door ≡ at → s.word.ready ≡ ready → (s.word.quick || s.head) ≡ taken → (is_some (kept_ticket k s.listings) || s.granted) ≡ room
-      → NumberSection s q (ListOp k (Some w)) a o s' → Lists a o → ListFinds w (list_answer at ready taken room)
+      → NumberSection s q (ListOp k (Some w)) a o s' → Lists a o → ListFinds w (list_answer (queue_state_by at ready taken) room)
   list_by w true true taken room d r h m x y =
       let z = (x.here (at_door q s.door d)).set r in
-      record { inner = ap (λ y. inner_by y c) z.1; log = ap (λ y. y.log) z.1; after = lists_as Ready (ListOp k (Some w)) z.0 z.2 y }
+      record { shared = ap (λ y. shared_by y c) z.1; log = ap (λ y. y.log) z.1; after = lists_as Ready (ListOp k (Some w)) z.0 z.2 y }
   list_by w true false false room d r h m x y =
       let z = (x.here (at_door q s.door d)).free (rw (r, h) refl) in
-      record { inner = ap (λ y. inner_by y c) z.1; log = ap (λ y. y.log) z.1; after = lists_as Claimed (ListOp None (Some w)) z.0 z.2 y }
+      record { shared = ap (λ y. shared_by y c) z.1; log = ap (λ y. y.log) z.1; after = lists_as Claimed (ListOp None (Some w)) z.0 z.2 y }
   list_by w true false true room d r h m x y = list_holder w room m ((x.here (at_door q s.door d)).taken (rw (r, h) refl)) y
   list_by w false ready taken room d r h m x y =
       let z = x.gone (not_at_door q s.door d) in
-      record { inner = ap (λ y. inner_by y c) z.1; log = ap (λ y. y.log) z.1; after = lists_as Gone (ListOp k (Some w)) z.0 z.2 y }
+      record { shared = ap (λ y. shared_by y c) z.1; log = ap (λ y. y.log) z.1; after = lists_as Gone (ListOp k (Some w)) z.0 z.2 y }
 
   -- a listing is the machine's
   pub list_exact : (w : ℕ) → NumberSection s q (ListOp k (Some w)) a o s' → Lists a o
-      → IsOutcome (UnderWay (AtList q k w)) (λ n. list_step (is_at_door q s.door) s.word.ready (s.word.quick || s.head) (is_some (kept_ticket k s.listings) || s.granted) (inner_by s c) n w c.kept q k) (EnteredLine q ∷ []) s c s' c' p t
+      → IsOutcome (UnderWay (AtList q k w)) (λ n. list_step (queue_state q (shared_by s c)) (is_some (kept_ticket k s.listings) || s.granted) (shared_by s c) n w c.kept q k) (EnteredLine q ∷ []) s c s' c' p t
   list_exact w x y =
-      let b = list_answer (is_at_door q s.door) s.word.ready (s.word.quick || s.head) (is_some (kept_ticket k s.listings) || s.granted) in
-      let m = list_ticket b (inner_by s c) k in
+      let b = list_answer (queue_state q (shared_by s c)) (is_some (kept_ticket k s.listings) || s.granted) in
+      let m = list_ticket b (shared_by s c) k in
       let z : ListFinds w b = list_by w (is_at_door q s.door) s.word.ready (s.word.quick || s.head) (is_some (kept_ticket k s.listings) || s.granted) refl refl refl refl x y in
-      follows_by (UnderWay (AtList q k w)) s c f s' c' p t (EnteredLine q ∷ []) (list_inner b (inner_by s c) k w) (λ n. claim_entries (is_claim b) n) (after_list b q m) (entered_log q s s' z.log) z.inner z.after (list_claims b q m)
+      follows_by (UnderWay (AtList q k w)) s c f s' c' p t (EnteredLine q ∷ []) (list_shared b (shared_by s c) k w) (λ n. claim_entries (is_claim b) n) (after_list b q m) (entered_log q s s' z.log) z.shared z.after (list_claims b q m)

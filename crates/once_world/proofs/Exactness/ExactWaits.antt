@@ -10,9 +10,9 @@ use Rattle.once_core.specs.Core.{CoreState, DidCountIn, put_answer, put_state}
 use Rattle.once_world.specs.Places.{AtCountIn, AtDoorGet, AtDoorPut, AtStart, AtTryQuick, AtWaitLoad, Progress, Step, UnderWay}
 use Rattle.once_core.specs.Steps.{Follows, Next, after_count_in, after_door_get, after_door_put, after_in, after_load, after_quick, after_start, is_running}
 use Rattle.once_world.specs.Record.{Claim}
-use Rattle.once_world.specs.Machine.{PutLine, claim_entries, in_inner, door_step, in_step, load_step, next_in, put_lines, put_step, put_inner, quick_step, start_step}
+use Rattle.once_world.specs.Machine.{PutLine, claim_entries, in_shared, door_step, in_step, load_step, next_in, put_lines, put_step, put_shared, quick_step, start_step}
 use Rattle.once_world.specs.Side.{DidClose, answers_in}
-use Rattle.once_world.proofs.Exactness.Outcomes.{IsFresh, IsOutcome, follows_by, inner_by, reverse_push}
+use Rattle.once_world.proofs.Exactness.Outcomes.{IsFresh, IsOutcome, follows_by, shared_by, reverse_push}
 
 -- what the word NEW says
 zero_ready : (f : Flags) → is_zero f ≡ true → f.ready ≡ false
@@ -50,56 +50,56 @@ load_idle false q k n = refl
 
 module _ (c : ReplaySide) (f : IsFresh c) (s : CoreState ℕ) (c' : ReplaySide) (p : Progress) (t : Step ℕ ℕ) (s' : CoreState ℕ) where
   pub start_exact : (ready new : Bool) → s' ≡ s → Follows DidClose (after_start ready new) c c' p t
-      → IsOutcome (UnderWay AtStart) (λ n. start_step ready new (inner_by s c) n c.kept) [] s c s' c' p t
-  start_exact ready new same x = follows_by (UnderWay AtStart) s c f s' c' p t [] (inner_by s c) (λ n. []) (after_start ready new) (ap (λ y. reverse y.log) same) (ap (λ y. inner_by y c) same) x (start_idle ready new)
+      → IsOutcome (UnderWay AtStart) (λ n. start_step ready new (shared_by s c) n c.kept) [] s c s' c' p t
+  start_exact ready new same x = follows_by (UnderWay AtStart) s c f s' c' p t [] (shared_by s c) (λ n. []) (after_start ready new) (ap (λ y. reverse y.log) same) (ap (λ y. shared_by y c) same) x (start_idle ready new)
 
   -- the word was NEW, and is the quick bit now
-  quick_left : s.word.count ≡ 0 → s.word.ready ≡ false → s' ≡ record s { word = flags_alone true false } → inner_by s' c ≡ record (inner_by s c) { quick = true }
-  quick_left e r same = ap (λ y. inner_by y c) same ∙ (λ i. record { count = sym e i; quick = true; ready = sym r i; door = s.door; head = s.head; listings = s.listings; queues = s.made; value = c.value; answers = answers_in c })
+  quick_left : s.word.count ≡ 0 → s.word.ready ≡ false → s' ≡ record s { word = flags_alone true false } → shared_by s' c ≡ record (shared_by s c) { quick = true }
+  quick_left e r same = ap (λ y. shared_by y c) same ∙ (λ i. record { count = sym e i; quick = true; ready = sym r i; door = s.door; head = s.head; listings = s.listings; queues = s.made; value = c.value; answers = answers_in c })
 
   pub quick_exact : (won : Bool) → is_zero s.word ≡ won → s' ≡ record s { word = cond won (flags_alone true false) s.word } → Follows DidClose (after_quick won) c c' p t
-      → IsOutcome (UnderWay AtTryQuick) (λ n. quick_step won (inner_by s c) n c.kept) [] s c s' c' p t
-  quick_exact true z same x = follows_by (UnderWay AtTryQuick) s c f s' c' p t [] (record (inner_by s c) { quick = true }) (λ n. Claim n ∷ []) (after_quick true) (ap (λ y. reverse y.log) same) (quick_left (zero_count s.word z) (zero_ready s.word z) same) x (λ n. refl)
-  quick_exact false z same x = follows_by (UnderWay AtTryQuick) s c f s' c' p t [] (inner_by s c) (λ n. []) (after_quick false) (ap (λ y. reverse y.log) same) (ap (λ y. inner_by y c) same) x (λ n. refl)
+      → IsOutcome (UnderWay AtTryQuick) (λ n. quick_step won (shared_by s c) n c.kept) [] s c s' c' p t
+  quick_exact true z same x = follows_by (UnderWay AtTryQuick) s c f s' c' p t [] (record (shared_by s c) { quick = true }) (λ n. Claim n ∷ []) (after_quick true) (ap (λ y. reverse y.log) same) (quick_left (zero_count s.word z) (zero_ready s.word z) same) x (λ n. refl)
+  quick_exact false z same x = follows_by (UnderWay AtTryQuick) s c f s' c' p t [] (shared_by s c) (λ n. []) (after_quick false) (ap (λ y. reverse y.log) same) (ap (λ y. shared_by y c) same) x (λ n. refl)
 
   pub door_exact : (q : Option ℕ) → s' ≡ s → Follows DidClose (after_door_get q) c c' p t
-      → IsOutcome (UnderWay AtDoorGet) (λ n. door_step q (inner_by s c) n c.kept) [] s c s' c' p t
-  door_exact q same x = follows_by (UnderWay AtDoorGet) s c f s' c' p t [] (inner_by s c) (λ n. []) (after_door_get q) (ap (λ y. reverse y.log) same) (ap (λ y. inner_by y c) same) x (door_idle q)
+      → IsOutcome (UnderWay AtDoorGet) (λ n. door_step q (shared_by s c) n c.kept) [] s c s' c' p t
+  door_exact q same x = follows_by (UnderWay AtDoorGet) s c f s' c' p t [] (shared_by s c) (λ n. []) (after_door_get q) (ap (λ y. reverse y.log) same) (ap (λ y. shared_by y c) same) x (door_idle q)
 
   put_log : (g : Bool) (d : Option ℕ) → s' ≡ put_state g d s → reverse s'.log ≡ put_lines g d s.made ++ reverse s.log
   put_log false d same = ap (λ y. reverse y.log) same
   put_log true (Some q) same = ap (λ y. reverse y.log) same
   put_log true None same = ap (λ y. reverse y.log) same ∙ reverse_push s.log (PutLine (suc s.made))
 
-  put_left : (g : Bool) (d : Option ℕ) → s' ≡ put_state g d s → inner_by s' c ≡ put_inner g d (inner_by s c)
-  put_left false d same = ap (λ y. inner_by y c) same
-  put_left true (Some q) same = ap (λ y. inner_by y c) same
-  put_left true None same = ap (λ y. inner_by y c) same
+  put_left : (g : Bool) (d : Option ℕ) → s' ≡ put_state g d s → shared_by s' c ≡ put_shared g d (shared_by s c)
+  put_left false d same = ap (λ y. shared_by y c) same
+  put_left true (Some q) same = ap (λ y. shared_by y c) same
+  put_left true None same = ap (λ y. shared_by y c) same
 
   pub door_put_exact : (g : Bool) (d : Option ℕ) → s' ≡ put_state g d s → Follows DidClose (after_door_put (put_answer g d s.made)) c c' p t
-      → IsOutcome (UnderWay AtDoorPut) (λ n. put_step g d (inner_by s c) n c.kept) (put_lines g d s.made) s c s' c' p t
-  door_put_exact g d same x = follows_by (UnderWay AtDoorPut) s c f s' c' p t (put_lines g d s.made) (put_inner g d (inner_by s c)) (λ n. []) (after_door_put (put_answer g d s.made)) (put_log g d same) (put_left g d same) x (put_idle (put_answer g d s.made))
+      → IsOutcome (UnderWay AtDoorPut) (λ n. put_step g d (shared_by s c) n c.kept) (put_lines g d s.made) s c s' c' p t
+  door_put_exact g d same x = follows_by (UnderWay AtDoorPut) s c f s' c' p t (put_lines g d s.made) (put_shared g d (shared_by s c)) (λ n. []) (after_door_put (put_answer g d s.made)) (put_log g d same) (put_left g d same) x (put_idle (put_answer g d s.made))
 
-  in_by : (below ready : Bool) (q : ℕ) → reverse s'.log ≡ reverse s.log → inner_by s' c ≡ in_inner below (inner_by s c) → Follows DidClose (next_in below ready q) c c' p t
-      → IsOutcome (UnderWay (AtCountIn q)) (λ n. in_step below ready (inner_by s c) n c.kept q) [] s c s' c' p t
-  in_by below ready q log is x = follows_by (UnderWay (AtCountIn q)) s c f s' c' p t [] (in_inner below (inner_by s c)) (λ n. []) (next_in below ready q) log is x (in_idle below ready q)
+  in_by : (below ready : Bool) (q : ℕ) → reverse s'.log ≡ reverse s.log → shared_by s' c ≡ in_shared below (shared_by s c) → Follows DidClose (next_in below ready q) c c' p t
+      → IsOutcome (UnderWay (AtCountIn q)) (λ n. in_step below ready (shared_by s c) n c.kept q) [] s c s' c' p t
+  in_by below ready q log is x = follows_by (UnderWay (AtCountIn q)) s c f s' c' p t [] (in_shared below (shared_by s c)) (λ n. []) (next_in below ready q) log is x (in_idle below ready q)
 
   -- at the limit, by what the word says
   in_above : (limit q : ℕ) (b : Bool) → limit ≤ s.word.count → s.word.ready ≡ b → s' ≡ s → Follows DidClose (next_in false b q) c c' p t
-      → IsOutcome (UnderWay (AtCountIn q)) (λ n. in_step (nat_lt s.word.count limit) s.word.ready (inner_by s c) n c.kept q) [] s c s' c' p t
+      → IsOutcome (UnderWay (AtCountIn q)) (λ n. in_step (nat_lt s.word.count limit) s.word.ready (shared_by s c) n c.kept q) [] s c s' c' p t
   in_above limit q b above ready same x =
       let at_limit : nat_lt s.word.count limit ≡ false = grind (arith, nat_tests, above) in
-      rw at_limit (subst (λ r. IsOutcome (UnderWay (AtCountIn q)) (λ n. in_step false r (inner_by s c) n c.kept q) [] s c s' c' p t) (sym ready) (in_by false b q (ap (λ y. reverse y.log) same) (ap (λ y. inner_by y c) same) x))
+      rw at_limit (subst (λ r. IsOutcome (UnderWay (AtCountIn q)) (λ n. in_step false r (shared_by s c) n c.kept q) [] s c s' c' p t) (sym ready) (in_by false b q (ap (λ y. reverse y.log) same) (ap (λ y. shared_by y c) same) x))
 
   pub in_exact : (limit q : ℕ) (n : Counted) → DidCountIn s limit n s' → Follows DidClose (after_count_in n q) c c' p t
-      → IsOutcome (UnderWay (AtCountIn q)) (λ n. in_step (nat_lt s.word.count limit) s.word.ready (inner_by s c) n c.kept q) [] s c s' c' p t
+      → IsOutcome (UnderWay (AtCountIn q)) (λ n. in_step (nat_lt s.word.count limit) s.word.ready (shared_by s c) n c.kept q) [] s c s' c' p t
   in_exact limit q (In w) d x =
       let below : nat_lt s.word.count limit ≡ true = grind (arith, nat_tests, d.0) in
       let y : Follows DidClose (after_in s.word.ready q) c c' p t = subst (λ z. Follows DidClose (after_in z.ready q) c c' p t) d.1 x in
-      rw below (in_by true s.word.ready q (ap (λ y. reverse y.log) d.2) (ap (λ y. inner_by y c) d.2) y)
+      rw below (in_by true s.word.ready q (ap (λ y. reverse y.log) d.2) (ap (λ y. shared_by y c) d.2) y)
   in_exact limit q SeenReady d x = in_above limit q true d.0 d.1 d.2 x
   in_exact limit q CountFull d x = in_above limit q false d.0 d.1 d.2 x
 
   pub load_exact : (ready : Bool) (q : ℕ) (k : Option ℕ) → s' ≡ s → Follows DidClose (after_load ready q k) c c' p t
-      → IsOutcome (UnderWay (AtWaitLoad q k)) (λ n. load_step ready (inner_by s c) n c.kept q k) [] s c s' c' p t
-  load_exact ready q k same x = follows_by (UnderWay (AtWaitLoad q k)) s c f s' c' p t [] (inner_by s c) (λ n. []) (after_load ready q k) (ap (λ y. reverse y.log) same) (ap (λ y. inner_by y c) same) x (load_idle ready q k)
+      → IsOutcome (UnderWay (AtWaitLoad q k)) (λ n. load_step ready (shared_by s c) n c.kept q k) [] s c s' c' p t
+  load_exact ready q k same x = follows_by (UnderWay (AtWaitLoad q k)) s c f s' c' p t [] (shared_by s c) (λ n. []) (after_load ready q k) (ap (λ y. reverse y.log) same) (ap (λ y. shared_by y c) same) x (load_idle ready q k)

@@ -9,7 +9,7 @@ use Rattle.once_core.specs.Core.{CoreState}
 use Rattle.once_world.specs.Places.{AtCountOut, Ended, Ending, More, Progress, Step, UnderWay}
 use Rattle.once_core.specs.Steps.{Follows, MayClose, Next, is_adding, is_freeing, is_leaving, is_running, next_at}
 use Rattle.once_world.specs.Record.{Answer, Entry, Ran}
-use Rattle.once_world.specs.Machine.{Inner, Outcome, end_entry, outcome_of}
+use Rattle.once_world.specs.Machine.{SharedState, Outcome, end_entry, outcome_of}
 use Rattle.once_world.specs.Side.{DidClose, DidWake, answers_in}
 use Rattle.once_world.specs.Shown.{claim_entries, freed_entries, handed_entries, progress_entries, ran_entries}
 
@@ -18,8 +18,8 @@ pub reverse_push : (ls : List QueueLine) (x : QueueLine) → reverse (ls ++ x �
 reverse_push ls x = grind (arith, common_steps)
 
 -- what all tasks share, as the machine sees it
-abbrev pub inner_by : CoreState ℕ → ReplaySide → Inner
-inner_by s c = record { count = s.word.count; quick = s.word.quick; ready = s.word.ready; door = s.door; head = s.head; listings = s.listings; queues = s.made; value = c.value; answers = answers_in c }
+abbrev pub shared_by : CoreState ℕ → ReplaySide → SharedState
+shared_by s c = record { count = s.word.count; quick = s.word.quick; ready = s.word.ready; door = s.door; head = s.head; listings = s.listings; queues = s.made; value = c.value; answers = answers_in c }
 
 -- a step from here to t gave the right back by the fast release
 abbrev pub is_freed : Step ℕ ℕ → Step ℕ ℕ → Bool
@@ -31,7 +31,7 @@ seen_entries from n c p t = progress_entries p n c.value c.kept ++ handed_entrie
 
 -- a step from here is the machine's outcome o, with these lines logged
 pub record IsOutcome (from : Step ℕ ℕ) (o : ℕ → Outcome) (lines : List QueueLine) (s : CoreState ℕ) (c : ReplaySide) (s' : CoreState ℕ) (c' : ReplaySide) (p : Progress) (t : Step ℕ ℕ) : Type 0 where
-  pub inner : (n : ℕ) → inner_by s' c' ≡ (o n).inner
+  pub shared : (n : ℕ) → shared_by s' c' ≡ (o n).shared
   pub step : (n : ℕ) → t ≡ (o n).step
   pub kept : (n : ℕ) → c'.kept ≡ (o n).kept
   pub told : (n : ℕ) → seen_entries from n c' p t ≡ (o n).entries
@@ -61,13 +61,13 @@ ran_by (Ended e) n v k x C s = ap (λ l. end_entry e n v k ∷ Ran n x ∷ l) s
 ran_by More n v k x C s = ap (λ l. Ran n x ∷ l) s
 
 -- what the table of places says follows a step that left d and was seen to do this
-pub follows_by : (from : Step ℕ ℕ) (s : CoreState ℕ) (c : ReplaySide) (f : IsFresh c) (s' : CoreState ℕ) (c' : ReplaySide) (p : Progress) (t : Step ℕ ℕ) (lines : List QueueLine) (d : Inner) (did : ℕ → List Entry) (next : Next ℕ ℕ)
-    → reverse s'.log ≡ lines ++ reverse s.log → inner_by s' c ≡ d → Follows DidClose next c c' p t → ((n : ℕ) → freed_entries (is_freed from next.step) n c.kept ++ claim_entries (is_running next.step) n ≡ did n)
+pub follows_by : (from : Step ℕ ℕ) (s : CoreState ℕ) (c : ReplaySide) (f : IsFresh c) (s' : CoreState ℕ) (c' : ReplaySide) (p : Progress) (t : Step ℕ ℕ) (lines : List QueueLine) (d : SharedState) (did : ℕ → List Entry) (next : Next ℕ ℕ)
+    → reverse s'.log ≡ lines ++ reverse s.log → shared_by s' c ≡ d → Follows DidClose next c c' p t → ((n : ℕ) → freed_entries (is_freed from next.step) n c.kept ++ claim_entries (is_running next.step) n ≡ did n)
     → IsOutcome from (λ n. outcome_of d n c.kept (did n) next) lines s c s' c' p t
 follows_by from s c f s' c' p t lines d did next log is x seen =
     let same = unclosed c c' next.closes x.0 in
     record {
-      inner = λ n. rw same is;
+      shared = λ n. rw same is;
       step = λ n. x.2;
       kept = λ n. ap (λ y. y.kept) same;
       told = λ n. rw (x.1, x.2, same, f.ran, f.handed) (told_by next.progress (is_freed from next.step) n c.value c.kept (claim_entries (is_running next.step) n) (did n) (seen n) ∙ ap (λ v. progress_entries next.progress n v c.kept ++ did n) (ap (λ y. y.value) is));
@@ -76,12 +76,12 @@ follows_by from s c f s' c' p t lines d did next log is x seen =
     }
 
 -- those who are handed out are called, and the call goes on to count out
-pub wakes_by : (from : Step ℕ ℕ) (s : CoreState ℕ) (c : ReplaySide) (f : IsFresh c) (s' : CoreState ℕ) (c' : ReplaySide) (p : Progress) (t : Step ℕ ℕ) (lines : List QueueLine) (out : Out ℕ) (e : Ending) (d : Inner) (told : ℕ → List Entry)
+pub wakes_by : (from : Step ℕ ℕ) (s : CoreState ℕ) (c : ReplaySide) (f : IsFresh c) (s' : CoreState ℕ) (c' : ReplaySide) (p : Progress) (t : Step ℕ ℕ) (lines : List QueueLine) (out : Out ℕ) (e : Ending) (d : SharedState) (told : ℕ → List Entry)
     → reverse s'.log ≡ lines ++ reverse s.log → DidWake c out c' → p ≡ More → t ≡ UnderWay (AtCountOut e)
-    → inner_by s' c ≡ d → ((n : ℕ) → seen_entries from n (record c { ran = None; handed = Some out }) More (UnderWay (AtCountOut e)) ≡ told n)
+    → shared_by s' c ≡ d → ((n : ℕ) → seen_entries from n (record c { ran = None; handed = Some out }) More (UnderWay (AtCountOut e)) ≡ told n)
     → IsOutcome from (λ n. outcome_of d n c.kept (told n) (next_at (AtCountOut e))) lines s c s' c' p t
 wakes_by from s c f s' c' p t lines out e d told log wake more step is handed = record {
-  inner = λ n. rw wake is;
+  shared = λ n. rw wake is;
   step = λ n. step;
   kept = λ n. ap (λ x. x.kept) wake;
   told = λ n. rw (more, step, wake, f.ran) (handed n);

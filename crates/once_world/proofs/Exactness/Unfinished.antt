@@ -1,5 +1,5 @@
 -- Each unfinished task has an entry.
-use Rattle.std.proofs.Common.{◌≡◌, ◌≤◌, ℕ, List, [], ◌∷◌, length, suc, arith}
+use Rattle.std.proofs.Common.{◌≤◌, ℕ, List, [], ◌∷◌, length, suc, arith}
 use Rattle.once_world.specs.Record.{Entry, Kind, made_in, Begin, Claim, DropBegin, DropEnd, End, Fill, Free, Look, Made, Own, Pass, Ran}
 use Rattle.once_world.specs.Machine.{World}
 use Rattle.once_world.proofs.Invariant.Fits.{Fits, is_alive}

@@ -17,18 +17,18 @@ tasks_written m n t x y found d =
     let k = d.3 there in
     λ i. λ u. let e : get nat_cmp n u ≡ put_task t y (λ v. get nat_cmp m v) u = k.0 u ∙ ap (λ b. cond b (Some y) (get nat_cmp m u)) (unsigned_tied t u) in e i
 
-same_world : (w w' : World) → w'.inner ≡ w.inner → w'.tasks ≡ w.tasks → w'.unfinished ≡ w.unfinished → w'.history ≡ w.history → w'.log ≡ w.log → w' ≡ w
-same_world w w' a b n c d = λ i. record { inner = a i; tasks = b i; unfinished = n i; history = c i; log = d i }
+same_world : (w w' : World) → w'.shared ≡ w.shared → w'.tasks ≡ w.tasks → w'.unfinished ≡ w.unfinished → w'.history ≡ w.history → w'.log ≡ w.log → w' ≡ w
+same_world w w' a b n c d = λ i. record { shared = a i; tasks = b i; unfinished = n i; history = c i; log = d i }
 
 -- a poll that began
-pub begun_world : (w w' : World) (t k : ℕ) (x : Task) (s : Step ℕ ℕ) → w.tasks t ≡ Some x → is_resting x.step ≡ true → s ≡ step_of_poll x.step → w'.inner ≡ w.inner
+pub begun_world : (w w' : World) (t k : ℕ) (x : Task) (s : Step ℕ ℕ) → w.tasks t ≡ Some x → is_resting x.step ≡ true → s ≡ step_of_poll x.step → w'.shared ≡ w.shared
     → w'.tasks ≡ put_task t (record x { waker = k; step = s }) w.tasks → w'.unfinished ≡ w.unfinished → w'.history ≡ Begin t k ∷ w.history → w'.log ≡ w.log
     → w' ≡ poll_world w t k (w.tasks t)
 begun_world w w' t k x s found rests is a b n c d =
     rw (found, rests) (same_world (record w { tasks = put_task t (record x { waker = k; step = step_of_poll x.step }) w.tasks; history = Begin t k ∷ w.history }) w' a (rw is at b) n c d)
 
 -- a drop that began
-pub dropped_world : (w w' : World) (t : ℕ) (x : Task) (s : Step ℕ ℕ) → w.tasks t ≡ Some x → is_resting x.step ≡ true → s ≡ step_of_drop x.step → w'.inner ≡ w.inner
+pub dropped_world : (w w' : World) (t : ℕ) (x : Task) (s : Step ℕ ℕ) → w.tasks t ≡ Some x → is_resting x.step ≡ true → s ≡ step_of_drop x.step → w'.shared ≡ w.shared
     → w'.tasks ≡ put_task t (record x { step = s }) w.tasks → w'.unfinished ≡ unfinished_after s w.unfinished → w'.history ≡ drop_entries t s ++ w.history → w'.log ≡ w.log
     → w' ≡ drop_world w t (w.tasks t)
 dropped_world w w' t x s found rests is a b n c d =
@@ -56,10 +56,10 @@ same_task x y s k a b c = λ i. record { waker = a i; kept = c i; step = b i }
 
 -- a step that was made, with the outcome o and these lines of the log
 pub stepped_world : (lazy : Bool) (limit : ℕ) (w w' : World) (t : ℕ) (a : Answer) (granted : Bool) (x y : Task) (o : Outcome) (lines : List QueueLine)
-    → o ≡ advance lazy limit w.inner t x a granted → lines ≡ step_lines granted w.inner x.step → w.tasks t ≡ Some x → in_call x.step ≡ true
-    → w'.inner ≡ o.inner → y.waker ≡ x.waker → y.step ≡ o.step → y.kept ≡ o.kept → w'.tasks ≡ put_task t y w.tasks
+    → o ≡ advance lazy limit w.shared t x a granted → lines ≡ step_lines granted w.shared x.step → w.tasks t ≡ Some x → in_call x.step ≡ true
+    → w'.shared ≡ o.shared → y.waker ≡ x.waker → y.step ≡ o.step → y.kept ≡ o.kept → w'.tasks ≡ put_task t y w.tasks
     → w'.unfinished ≡ unfinished_after o.step w.unfinished → w'.history ≡ o.entries ++ w.history → w'.log ≡ lines ++ w.log
     → w' ≡ go_world lazy limit w t a granted (w.tasks t)
 stepped_world lazy limit w w' t a granted x y o lines is line found calls i waker step kept b n c d =
     let e = same_world (step_world w t x o lines) w' i (b ∙ ap (λ z. put_task t z w.tasks) (same_task x y o.step o.kept waker step kept)) n c d in
-    rw (found, calls) (e ∙ ap (λ z. step_world w t x z lines) is ∙ ap (λ z. step_world w t x (advance lazy limit w.inner t x a granted) z) line)
+    rw (found, calls) (e ∙ ap (λ z. step_world w t x z lines) is ∙ ap (λ z. step_world w t x (advance lazy limit w.shared t x a granted) z) line)

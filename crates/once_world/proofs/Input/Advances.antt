@@ -8,10 +8,10 @@ use Rattle.once_world.specs.Cell.{answers_left}
 use Rattle.once_world.specs.Tasks.{last_call}
 use Rattle.once_queue.specs.Listings.{is_waker, kept_ticket, own_listing}
 use Rattle.once_world.specs.Run.{IsRun}
-use Rattle.once_world.specs.Machine.{AtAddOne, AtCountIn, AtCountOut, AtDoorAgain, AtDoorGet, AtDoorPut, AtDoorTake, AtFast, AtLeave, AtList, AtLook, AtPut, AtRelease, AtRun, AtStart, AtTryQuick, AtWaitLoad, Finished, Inner, Place, Resting, Step, UnderWay, out_inner, init_answer, in_call, is_at_door, is_taken, place_step, step_at, word_of}
+use Rattle.once_world.specs.Machine.{AtAddOne, AtCountIn, AtCountOut, AtDoorAgain, AtDoorGet, AtDoorPut, AtDoorTake, AtFast, AtLeave, AtList, AtLook, AtPut, AtRelease, AtRun, AtStart, AtTryQuick, AtWaitLoad, Finished, SharedState, Place, Resting, Step, UnderWay, out_shared, init_answer, in_call, is_at_door, is_taken, place_step, step_at, word_of}
 use Rattle.once_world.proofs.History.Waiters.{QueueFits}
 use Rattle.once_world.proofs.Invariant.Facts.{AtPlace, AtStep, is_counted, is_counted_at, is_take, is_take_at, kept_of, ticket_at, ticket_of}
-use Rattle.once_world.proofs.Invariant.Fits.{InnerFits}
+use Rattle.once_world.proofs.Invariant.Fits.{SharedFits}
 use Rattle.once_world.proofs.Invariant.Moves.{Moves}
 use Rattle.once_world.proofs.Invariant.Around.{Around}
 use Rattle.once_world.proofs.Invariant.AroundLists.{AroundList}
@@ -24,30 +24,30 @@ use Rattle.once_world.proofs.Place.Leaves.{leave_goes}
 use Rattle.once_queue.specs.Word.{is_zero, is_quick_bit, is_ready_bit}
 
 -- all that stands before the step
-module _ (K : Kind) (limit t w : ℕ) (k : Answer) (c : Inner) (h : List Entry) (a : Answer) (g : Bool) (some : 0 < limit) (run : IsRun K limit h) (inner : InnerFits K limit c h) (queue : QueueFits K c.listings h) (wk : (last_call K t h).waker ≡ w) (kk : k ≡ kept_of (last_call K t h).ran) where
+module _ (K : Kind) (limit t w : ℕ) (k : Answer) (c : SharedState) (h : List Entry) (a : Answer) (g : Bool) (some : 0 < limit) (run : IsRun K limit h) (shared : SharedFits K limit c h) (queue : QueueFits K c.listings h) (wk : (last_call K t h).waker ≡ w) (kk : k ≡ kept_of (last_call K t h).ran) where
   -- one place after the other
   advances_at : (p : Place ℕ ℕ) → Around K t (is_counted_at p) (is_take_at p) c h → AroundList K t (ticket_at p) c h → AtPlace K limit t c h p → Goes K limit t w p c h (place_step (is_lazy K) limit c t w k a g p)
-  advances_at AtStart ar al at = start_goes K limit t w k c h run inner queue wk kk c.ready (is_zero (word_of c)) refl refl ar at
-  advances_at AtTryQuick ar al at = quick_goes K limit t w k c h run inner queue wk kk (is_zero (word_of c)) refl ar at
-  advances_at AtDoorGet ar al at = door_get_goes K limit t w k c h run inner queue wk kk c.door refl ar at
-  advances_at AtDoorPut ar al at = door_put_goes K limit t w k c h run inner queue wk kk g c.door refl ar al at
-  advances_at (AtCountIn q) ar al at = in_goes K limit t w k c h run inner queue wk kk (nat_lt c.count limit) c.ready q refl refl some ar at
-  advances_at (AtWaitLoad q n) ar al at = load_goes K limit t w k c h run inner queue wk kk c.ready q n refl at
-  advances_at (AtLook q n) ar al at = look_goes K limit t w k c h run inner queue wk kk (is_at_door q c.door) c.ready (is_taken c) (is_waker w (own_listing n c.listings)) g q n refl refl refl refl at
-  advances_at (AtList q n v) ar al at = list_goes K limit t w k c h run inner queue wk kk (is_at_door q c.door) c.ready (is_taken c) (is_some (kept_ticket n c.listings) || g) q n v refl refl refl at
-  advances_at (AtRun by) ar al at = run_goes K limit t w k c h run inner queue wk kk (init_answer (is_lazy K) c.answers a) by (next_given K c.answers (answers_left K h) a inner.answers_is) at
-  advances_at (AtPut by) ar al at = put_goes K limit t w k c h run inner queue wk kk by at
-  advances_at (AtFast e) ar al at = fast_goes K limit t w k c h run inner queue wk kk (is_quick_bit (word_of c)) e refl ar at
-  advances_at (AtAddOne e) ar al at = add_goes K limit t w k c h run inner queue wk kk e at
-  advances_at (AtDoorAgain e) ar al at = again_goes K limit t w k c h run inner queue wk kk c.door e refl at
-  advances_at (AtRelease q e) ar al at = release_goes K limit t w k c h run inner queue wk kk (is_at_door q c.door) q e refl al at
-  advances_at (AtLeave q n e) ar al at = leave_goes K limit t w k c h run inner queue wk kk (is_at_door q c.door) q n e refl al at
-  advances_at (AtCountOut e) ar al at = out_goes K limit t w k c h run inner queue wk kk (is_ready_bit (word_of (out_inner c))) e refl ar at
-  advances_at (AtDoorTake e) ar al at = take_goes K limit t w k c h run inner queue wk kk e ar at
+  advances_at AtStart ar al at = start_goes K limit t w k c h run shared queue wk kk c.ready (is_zero (word_of c)) refl refl ar at
+  advances_at AtTryQuick ar al at = quick_goes K limit t w k c h run shared queue wk kk (is_zero (word_of c)) refl ar at
+  advances_at AtDoorGet ar al at = door_get_goes K limit t w k c h run shared queue wk kk c.door refl ar at
+  advances_at AtDoorPut ar al at = door_put_goes K limit t w k c h run shared queue wk kk g c.door refl ar al at
+  advances_at (AtCountIn q) ar al at = in_goes K limit t w k c h run shared queue wk kk (nat_lt c.count limit) c.ready q refl refl some ar at
+  advances_at (AtWaitLoad q n) ar al at = load_goes K limit t w k c h run shared queue wk kk c.ready q n refl at
+  advances_at (AtLook q n) ar al at = look_goes K limit t w k c h run shared queue wk kk (is_at_door q c.door) c.ready (is_taken c) (is_waker w (own_listing n c.listings)) g q n refl refl refl refl at
+  advances_at (AtList q n v) ar al at = list_goes K limit t w k c h run shared queue wk kk (is_at_door q c.door) c.ready (is_taken c) (is_some (kept_ticket n c.listings) || g) q n v refl refl refl at
+  advances_at (AtRun by) ar al at = run_goes K limit t w k c h run shared queue wk kk (init_answer (is_lazy K) c.answers a) by (next_given K c.answers (answers_left K h) a shared.answers_is) at
+  advances_at (AtPut by) ar al at = put_goes K limit t w k c h run shared queue wk kk by at
+  advances_at (AtFast e) ar al at = fast_goes K limit t w k c h run shared queue wk kk (is_quick_bit (word_of c)) e refl ar at
+  advances_at (AtAddOne e) ar al at = add_goes K limit t w k c h run shared queue wk kk e at
+  advances_at (AtDoorAgain e) ar al at = again_goes K limit t w k c h run shared queue wk kk c.door e refl at
+  advances_at (AtRelease q e) ar al at = release_goes K limit t w k c h run shared queue wk kk (is_at_door q c.door) q e refl al at
+  advances_at (AtLeave q n e) ar al at = leave_goes K limit t w k c h run shared queue wk kk (is_at_door q c.door) q n e refl al at
+  advances_at (AtCountOut e) ar al at = out_goes K limit t w k c h run shared queue wk kk (is_ready_bit (word_of (out_shared c))) e refl ar at
+  advances_at (AtDoorTake e) ar al at = take_goes K limit t w k c h run shared queue wk kk e ar at
 
   -- a step keeps what a step owes
   pub advances : (s : Step ℕ ℕ) → in_call s ≡ true → Around K t (is_counted s) (is_take s) c h → AroundList K t (ticket_of s) c h → AtStep K limit t c h s
-      → Moves K limit t s (record { waker = w; kept = (step_at (is_lazy K) limit c t w k a g s).kept; step = (step_at (is_lazy K) limit c t w k a g s).step }) c (step_at (is_lazy K) limit c t w k a g s).inner h ((step_at (is_lazy K) limit c t w k a g s).entries ++ h)
+      → Moves K limit t s (record { waker = w; kept = (step_at (is_lazy K) limit c t w k a g s).kept; step = (step_at (is_lazy K) limit c t w k a g s).step }) c (step_at (is_lazy K) limit c t w k a g s).shared h ((step_at (is_lazy K) limit c t w k a g s).entries ++ h)
   advances (UnderWay p) n ar al at = advances_at p ar al at
   advances (Resting r) n ar al at = absurd (false≢true n)
   advances Finished n ar al at = absurd (false≢true n)

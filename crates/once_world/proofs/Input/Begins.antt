@@ -6,30 +6,30 @@ use Rattle.once_world.specs.Cell.{cell}
 use Rattle.once_world.specs.Tasks.{Dropping, Fresh, Waiting, last_call, status}
 use Rattle.once_world.specs.Called.{SomebodyCalled}
 use Rattle.once_world.specs.Run.{IsLegal, IsRun, MayBegin}
-use Rattle.once_world.specs.Machine.{AtFast, AtLeave, AtRelease, EndDropped, Finished, Inner, Place, Rest, RestRun, RestStart, RestWait, Resting, Step, UnderWay, step_of_poll, place_of_poll, drop_entries, step_of_drop, step_of_drop_at, is_resting}
+use Rattle.once_world.specs.Machine.{AtFast, AtLeave, AtRelease, EndDropped, Finished, SharedState, Place, Rest, RestRun, RestStart, RestWait, Resting, Step, UnderWay, step_of_poll, place_of_poll, drop_entries, step_of_drop, step_of_drop_at, is_resting}
 use Rattle.once_queue.proofs.Listing.Members.{eqb_self}
 use Rattle.once_world.proofs.History.Others.{holds, keeps_both, legal_keeps}
 use Rattle.once_world.proofs.History.Waiters.{QueueFits, quiet}
 use Rattle.once_world.proofs.Invariant.Facts.{AtPlace, AtRest, AtStep, Entered, HasTicket, InPoll, InStatus, RestsOn, is_counted, is_counted_at, is_inside, is_inside_at, is_take_at, kept_of, ticket_at, ticket_of}
-use Rattle.once_world.proofs.Invariant.Fits.{InnerFits}
+use Rattle.once_world.proofs.Invariant.Fits.{SharedFits}
 use Rattle.once_world.proofs.Invariant.Turns.{lists_stay}
 use Rattle.once_world.proofs.Invariant.Moves.{Moves}
-use Rattle.once_world.proofs.Place.Builders.{inner_at, of_other, same_inner}
+use Rattle.once_world.proofs.Place.Builders.{shared_at, of_other, same_shared}
 use Rattle.once_world.proofs.Input.Moments.{drop_moment, now}
 
-module _ (K : Kind) (limit t w : ℕ) (k : Answer) (c : Inner) (h : List Entry) (run : IsRun K limit h) (inner : InnerFits K limit c h) (queue : QueueFits K c.listings h) where
+module _ (K : Kind) (limit t w : ℕ) (k : Answer) (c : SharedState) (h : List Entry) (run : IsRun K limit h) (shared : SharedFits K limit c h) (queue : QueueFits K c.listings h) where
   -- a poll that begins
   begin_moves : (r : Rest ℕ) → MayBegin (status K t h) → k ≡ RanPending → AtPlace K limit t c (Begin t w ∷ h) (place_of_poll r) → is_take_at (place_of_poll r) ≡ false
       → Moves K limit t (Resting r) (record { waker = w; kept = k; step = UnderWay (place_of_poll r) }) c c h (Begin t w ∷ h)
   begin_moves r legal nothing own take = record {
     run = (legal, run);
-    inner = inner_at K limit c h (Begin t w ∷ h) refl refl inner;
+    shared = shared_at K limit c h (Begin t w ∷ h) refl refl shared;
     queue = quiet K c.listings (Begin t w) h queue refl refl (λ _. refl) (λ u is. grind arith) (λ x. x);
     own = own;
     waker_is = rw (eqb_self t) refl;
     kept_is = rw (eqb_self t) nothing;
     others = λ u n. legal_keeps K u (Begin t w) limit h (of_other t u n) legal refl;
-    keeps = λ u n b i. same_inner K limit c c u h b refl refl refl refl refl (λ x. x);
+    keeps = λ u n b i. same_shared K limit c c u h b refl refl refl refl refl (λ x. x);
     count = refl;
     made = refl;
     takes = λ e. absurd (false≢true (sym take ∙ e));
@@ -43,13 +43,13 @@ module _ (K : Kind) (limit t w : ℕ) (k : Answer) (c : Inner) (h : List Entry) 
       → Moves K limit t (Resting r) (record { waker = w; kept = k; step = UnderWay p }) c c h (DropBegin t ∷ h)
   drop_moves r p legal wk nothing own n take inside ticket = record {
     run = (legal, run);
-    inner = inner_at K limit c h (DropBegin t ∷ h) refl refl inner;
+    shared = shared_at K limit c h (DropBegin t ∷ h) refl refl shared;
     queue = quiet K c.listings (DropBegin t) h queue refl refl (λ _. refl) (λ u is. grind arith) (λ x. x);
     own = own;
     waker_is = rw (eqb_self t) wk;
     kept_is = rw (eqb_self t) nothing;
     others = λ u n. legal_keeps K u (DropBegin t) limit h (of_other t u n) legal refl;
-    keeps = λ u n b i. same_inner K limit c c u h b refl refl refl refl refl (λ x. x);
+    keeps = λ u n b i. same_shared K limit c c u h b refl refl refl refl refl (λ x. x);
     count = rw n refl;
     made = refl;
     takes = λ e. absurd (false≢true (sym take ∙ e));
@@ -65,13 +65,13 @@ module _ (K : Kind) (limit t w : ℕ) (k : Answer) (c : Inner) (h : List Entry) 
       let legal1 : IsLegal K limit (DropEnd t) (DropBegin t ∷ h) = (rw (eqb_self t) refl, λ e. false≢true (sym a.holds_is ∙ ap (holds t) e ∙ eqb_self t)) in
       record {
         run = (legal1, (legal, run));
-        inner = inner_at K limit c h (DropEnd t ∷ DropBegin t ∷ h) refl refl inner;
+        shared = shared_at K limit c h (DropEnd t ∷ DropBegin t ∷ h) refl refl shared;
         queue = quiet K c.listings (DropEnd t) (DropBegin t ∷ h) (quiet K c.listings (DropBegin t) h queue refl refl (λ _. refl) (λ u is. grind arith) (λ x. x)) refl refl (λ _. refl) (λ u is. grind arith) (λ x. x);
         own = record { status_is = rw (eqb_self t) refl; holds_is = a.holds_is };
         waker_is = rw (eqb_self t) wk;
         kept_is = rw (eqb_self t) nothing;
         others = λ u d. keeps_both K u h (DropBegin t ∷ h) (DropEnd t ∷ DropBegin t ∷ h) (legal_keeps K u (DropBegin t) limit h (of_other t u d) legal refl) (legal_keeps K u (DropEnd t) limit (DropBegin t ∷ h) (of_other t u d) legal1 refl);
-        keeps = λ u d b i. same_inner K limit c c u h b refl refl refl refl refl (λ x. x);
+        keeps = λ u d b i. same_shared K limit c c u h b refl refl refl refl refl (λ x. x);
         count = refl;
         made = refl;
         takes = λ e. absurd (false≢true e);
@@ -93,37 +93,37 @@ dropping : (K : Kind) (t : ℕ) (h : List Entry) (b : Bool) → holds t (cell K 
 dropping K t h b n = record { status_is = rw (eqb_self t) refl; holds_is = n }
 
 -- a waiter keeps its ticket in its next poll
-begun_ticket : (K : Kind) (t w : ℕ) (c : Inner) (h : List Entry) (n : Option ℕ) → status K t h ≡ Waiting → RestsOn K t c h n → HasTicket K t c (Begin t w ∷ h) n
+begun_ticket : (K : Kind) (t w : ℕ) (c : SharedState) (h : List Entry) (n : Option ℕ) → status K t h ≡ Waiting → RestsOn K t c h n → HasTicket K t c (Begin t w ∷ h) n
 begun_ticket K t w c h None s a = tt
 begun_ticket K t w c h (Some n) s a = (rw (eqb_self t) s, λ r. rw (eqb_self t) (a.1 r))
 
 -- the poll begins, by the place at rest
-begins_at : (K : Kind) (limit t w : ℕ) (k : Answer) (c : Inner) (h : List Entry) (r : Rest ℕ) → IsRun K limit h → InnerFits K limit c h → QueueFits K c.listings h → k ≡ RanPending → AtRest K limit t c h r → Moves K limit t (Resting r) (record { waker = w; kept = k; step = UnderWay (place_of_poll r) }) c c h (Begin t w ∷ h)
-begins_at K limit t w k c h RestStart run inner queue g a = begin_moves K limit t w k c h run inner queue RestStart (rw a.status_is tt) g (begun_entered K t w h a.holds_is, rw (eqb_self t) a.status_is, λ e. (rw (eqb_self t) at e)) refl
-begins_at K limit t w k c h (RestWait q n) run inner queue g a = begin_moves K limit t w k c h run inner queue (RestWait q n) (rw a.0.status_is tt) g (record { entered = begun_entered K t w h a.0.holds_is; from = inr (rw (eqb_self t) a.0.status_is) }, a.1, begun_ticket K t w c h n a.0.status_is a.2) refl
-begins_at K limit t w k c h (RestRun by) run inner queue g a = begin_moves K limit t w k c h run inner queue (RestRun by) (rw a.0.status_is tt) g (begun_holds K t w h a.0.holds_is, a.1) refl
+begins_at : (K : Kind) (limit t w : ℕ) (k : Answer) (c : SharedState) (h : List Entry) (r : Rest ℕ) → IsRun K limit h → SharedFits K limit c h → QueueFits K c.listings h → k ≡ RanPending → AtRest K limit t c h r → Moves K limit t (Resting r) (record { waker = w; kept = k; step = UnderWay (place_of_poll r) }) c c h (Begin t w ∷ h)
+begins_at K limit t w k c h RestStart run shared queue g a = begin_moves K limit t w k c h run shared queue RestStart (rw a.status_is tt) g (begun_entered K t w h a.holds_is, rw (eqb_self t) a.status_is, λ e. (rw (eqb_self t) at e)) refl
+begins_at K limit t w k c h (RestWait q n) run shared queue g a = begin_moves K limit t w k c h run shared queue (RestWait q n) (rw a.0.status_is tt) g (record { entered = begun_entered K t w h a.0.holds_is; from = inr (rw (eqb_self t) a.0.status_is) }, a.1, begun_ticket K t w c h n a.0.status_is a.2) refl
+begins_at K limit t w k c h (RestRun by) run shared queue g a = begin_moves K limit t w k c h run shared queue (RestRun by) (rw a.0.status_is tt) g (begun_holds K t w h a.0.holds_is, a.1) refl
 
 -- a poll begins from the step at rest
-pub begins : (K : Kind) (limit t w : ℕ) (k : Answer) (c : Inner) (h : List Entry) (s : Step ℕ ℕ) → IsRun K limit h → InnerFits K limit c h → QueueFits K c.listings h → k ≡ kept_of (last_call K t h).ran → is_resting s ≡ true → AtStep K limit t c h s → Moves K limit t s (record { waker = w; kept = k; step = step_of_poll s }) c c h (Begin t w ∷ h)
-begins K limit t w k c h (Resting r) run inner queue kk n a = begins_at K limit t w k c h r run inner queue (kk ∙ a.1) a.0
-begins K limit t w k c h (UnderWay p) run inner queue kk n a = absurd (false≢true n)
-begins K limit t w k c h Finished run inner queue kk n a = absurd (false≢true n)
+pub begins : (K : Kind) (limit t w : ℕ) (k : Answer) (c : SharedState) (h : List Entry) (s : Step ℕ ℕ) → IsRun K limit h → SharedFits K limit c h → QueueFits K c.listings h → k ≡ kept_of (last_call K t h).ran → is_resting s ≡ true → AtStep K limit t c h s → Moves K limit t s (record { waker = w; kept = k; step = step_of_poll s }) c c h (Begin t w ∷ h)
+begins K limit t w k c h (Resting r) run shared queue kk n a = begins_at K limit t w k c h r run shared queue (kk ∙ a.1) a.0
+begins K limit t w k c h (UnderWay p) run shared queue kk n a = absurd (false≢true n)
+begins K limit t w k c h Finished run shared queue kk n a = absurd (false≢true n)
 
 -- the drop begins, by the place at rest
-drops_at : (K : Kind) (limit t w : ℕ) (k : Answer) (c : Inner) (h : List Entry) (r : Rest ℕ) → IsRun K limit h → InnerFits K limit c h → QueueFits K c.listings h → (last_call K t h).waker ≡ w → k ≡ kept_of (last_call K t h).ran → AtStep K limit t c h (Resting r)
+drops_at : (K : Kind) (limit t w : ℕ) (k : Answer) (c : SharedState) (h : List Entry) (r : Rest ℕ) → IsRun K limit h → SharedFits K limit c h → QueueFits K c.listings h → (last_call K t h).waker ≡ w → k ≡ kept_of (last_call K t h).ran → AtStep K limit t c h (Resting r)
     → Moves K limit t (Resting r) (record { waker = w; kept = k; step = step_of_drop_at r }) c c h (drop_entries t (step_of_drop_at r) ++ h)
-drops_at K limit t w k c h RestStart run inner queue wk kk a = drop_fresh K limit t w k c h run inner queue a.0 wk (kk ∙ a.1)
-drops_at K limit t w k c h (RestWait q None) run inner queue wk kk a = absurd a.0.2
-drops_at K limit t w k c h (RestWait q (Some n)) run inner queue wk kk a = drop_moves K limit t w k c h run inner queue (RestWait q (Some n)) (AtLeave q n EndDropped) (rw a.0.0.status_is tt) wk (kk ∙ a.1)
+drops_at K limit t w k c h RestStart run shared queue wk kk a = drop_fresh K limit t w k c h run shared queue a.0 wk (kk ∙ a.1)
+drops_at K limit t w k c h (RestWait q None) run shared queue wk kk a = absurd a.0.2
+drops_at K limit t w k c h (RestWait q (Some n)) run shared queue wk kk a = drop_moves K limit t w k c h run shared queue (RestWait q (Some n)) (AtLeave q n EndDropped) (rw a.0.0.status_is tt) wk (kk ∙ a.1)
     ((dropping K t h false a.0.0.holds_is, rw (eqb_self t) refl, rw (eqb_self t) refl), a.0.1, rw (eqb_self t) a.0.0.status_is, λ r. rw (eqb_self t) (a.0.2.1 r)) refl refl (λ _. refl) refl
-drops_at K limit t w k c h (RestRun None) run inner queue wk kk a = drop_moves K limit t w k c h run inner queue (RestRun None) (AtFast EndDropped) (rw a.0.0.status_is tt) wk (kk ∙ a.1)
+drops_at K limit t w k c h (RestRun None) run shared queue wk kk a = drop_moves K limit t w k c h run shared queue (RestRun None) (AtFast EndDropped) (rw a.0.0.status_is tt) wk (kk ∙ a.1)
     ((dropping K t h true a.0.0.holds_is, rw (eqb_self t) refl), a.0.1.0, a.0.1.1) refl refl (λ e. absurd (false≢true e)) refl
-drops_at K limit t w k c h (RestRun (Some q)) run inner queue wk kk a = drop_moves K limit t w k c h run inner queue (RestRun (Some q)) (AtRelease q EndDropped) (rw a.0.0.status_is tt) wk (kk ∙ a.1)
+drops_at K limit t w k c h (RestRun (Some q)) run shared queue wk kk a = drop_moves K limit t w k c h run shared queue (RestRun (Some q)) (AtRelease q EndDropped) (rw a.0.0.status_is tt) wk (kk ∙ a.1)
     ((dropping K t h true a.0.0.holds_is, rw (eqb_self t) refl), inr a.0.1.0, a.0.1.1) refl refl (λ e. absurd (false≢true e)) refl
 
 -- a drop begins from the step at rest
-pub drop_begins : (K : Kind) (limit t w : ℕ) (k : Answer) (c : Inner) (h : List Entry) (s : Step ℕ ℕ) → IsRun K limit h → InnerFits K limit c h → QueueFits K c.listings h → (last_call K t h).waker ≡ w → k ≡ kept_of (last_call K t h).ran → is_resting s ≡ true → AtStep K limit t c h s
+pub drop_begins : (K : Kind) (limit t w : ℕ) (k : Answer) (c : SharedState) (h : List Entry) (s : Step ℕ ℕ) → IsRun K limit h → SharedFits K limit c h → QueueFits K c.listings h → (last_call K t h).waker ≡ w → k ≡ kept_of (last_call K t h).ran → is_resting s ≡ true → AtStep K limit t c h s
     → Moves K limit t s (record { waker = w; kept = k; step = step_of_drop s }) c c h (drop_entries t (step_of_drop s) ++ h)
-drop_begins K limit t w k c h (Resting r) run inner queue wk kk n a = drops_at K limit t w k c h r run inner queue wk kk a
-drop_begins K limit t w k c h (UnderWay p) run inner queue wk kk n a = absurd (false≢true n)
-drop_begins K limit t w k c h Finished run inner queue wk kk n a = absurd (false≢true n)
+drop_begins K limit t w k c h (Resting r) run shared queue wk kk n a = drops_at K limit t w k c h r run shared queue wk kk a
+drop_begins K limit t w k c h (UnderWay p) run shared queue wk kk n a = absurd (false≢true n)
+drop_begins K limit t w k c h Finished run shared queue wk kk n a = absurd (false≢true n)

@@ -7,7 +7,7 @@ use Rattle.once_queue.specs.Numbers.{member}
 use Rattle.once_world.specs.Record.{Entry, Kind, made_in}
 use Rattle.once_world.specs.Cell.{cell}
 use Rattle.once_world.specs.Tasks.{Dropping, Fresh, Gone, Holding, Polling, Status, Unmade, Waiting, all_gone, are_gone, is_gone, is_under_way, status}
-use Rattle.once_world.specs.Machine.{Finished, Inner, Rest, RestRun, RestStart, RestWait, Resting, Step, Task, UnderWay, World, is_finished}
+use Rattle.once_world.specs.Machine.{Finished, SharedState, Rest, RestRun, RestStart, RestWait, Resting, Step, Task, UnderWay, World, is_finished}
 use Rattle.once_queue.proofs.Listing.Members.{eqb_self}
 use Rattle.once_world.proofs.History.Others.{holds}
 use Rattle.once_world.proofs.Listing.Counting.{count_none, count_positive}
@@ -38,11 +38,11 @@ pub record Over (K : Kind) (t : ℕ) (h : List Entry) : Type 0 where
   pub holds_is : holds t (cell K h) ≡ false
 
 -- a finished task is gone
-pub over_at : (K : Kind) (limit t : ℕ) (c : Inner) (h : List Entry) (x : Task) → TaskFits K limit t c h x → is_alive (Some x) ≡ false → InStatus K t h Gone false
+pub over_at : (K : Kind) (limit t : ℕ) (c : SharedState) (h : List Entry) (x : Task) → TaskFits K limit t c h x → is_alive (Some x) ≡ false → InStatus K t h Gone false
 over_at K limit t c h x a d = subst (λ s. AtStep K limit t c h s) (finished x.step d) a.step
 
 -- a task that is not alive is unmade or gone
-pub over : (K : Kind) (limit t : ℕ) (c : Inner) (h : List Entry) (o : Option Task) → StandsFor K limit t c h o → is_alive o ≡ false → Over K t h
+pub over : (K : Kind) (limit t : ℕ) (c : SharedState) (h : List Entry) (o : Option Task) → StandsFor K limit t c h o → is_alive o ≡ false → Over K t h
 over K limit t c h None a d = record { status_is = inl a.0.status_is; holds_is = a.0.holds_is }
 over K limit t c h (Some x) a d = let r = over_at K limit t c h x a d in record { status_is = inr r.status_is; holds_is = r.holds_is }
 
@@ -55,9 +55,9 @@ gone_list K (x ∷ xs) h f =
     rw here ih
 
 -- a made task that is not alive is gone
-made_gone : (K : Kind) (limit t : ℕ) (w : World) (o : Option Task) → Fits K limit w → w.tasks t ≡ o → StandsFor K limit t w.inner w.history o → is_alive o ≡ false → member t (made_in w.history) ≡ true → is_gone (status K t w.history) ≡ true
+made_gone : (K : Kind) (limit t : ℕ) (w : World) (o : Option Task) → Fits K limit w → w.tasks t ≡ o → StandsFor K limit t w.shared w.history o → is_alive o ≡ false → member t (made_in w.history) ≡ true → is_gone (status K t w.history) ≡ true
 made_gone K limit t w None f is a d m = absurd (false≢true (sym (f.made_only t is) ∙ m))
-made_gone K limit t w (Some x) f is a d m = let r = over_at K limit t w.inner w.history x a d in ap is_gone r.status_is
+made_gone K limit t w (Some x) f is a d m = let r = over_at K limit t w.shared w.history x a d in ap is_gone r.status_is
 
 -- where none is unfinished, every made task is gone
 pub done_gone : (K : Kind) (limit : ℕ) (w : World) → Fits K limit w → w.unfinished ≡ 0 → all_gone K w.history ≡ true
@@ -82,21 +82,21 @@ acts_not_gone Polling a g = false≢true g
 acts_not_gone Dropping a g = false≢true g
 
 -- who rests is not gone
-rest_not_gone : (K : Kind) (limit t : ℕ) (c : Inner) (h : List Entry) (r : Rest ℕ) → AtRest K limit t c h r → is_gone (status K t h) ≡ true → ⊥
+rest_not_gone : (K : Kind) (limit t : ℕ) (c : SharedState) (h : List Entry) (r : Rest ℕ) → AtRest K limit t c h r → is_gone (status K t h) ≡ true → ⊥
 rest_not_gone K limit t c h RestStart a g = false≢true (sym (ap is_gone a.status_is) ∙ g)
 rest_not_gone K limit t c h (RestWait q k) a g = false≢true (sym (ap is_gone a.0.status_is) ∙ g)
 rest_not_gone K limit t c h (RestRun by) a g = false≢true (sym (ap is_gone a.0.status_is) ∙ g)
 
 -- who is gone is finished
-gone_finished : (K : Kind) (limit t : ℕ) (c : Inner) (h : List Entry) (s : Step ℕ ℕ) → AtStep K limit t c h s → is_gone (status K t h) ≡ true → not (is_finished s) ≡ false
+gone_finished : (K : Kind) (limit t : ℕ) (c : SharedState) (h : List Entry) (s : Step ℕ ℕ) → AtStep K limit t c h s → is_gone (status K t h) ≡ true → not (is_finished s) ≡ false
 gone_finished K limit t c h (Resting r) a g = absurd (rest_not_gone K limit t c h r a.0 g)
 gone_finished K limit t c h (UnderWay p) a g = absurd (acts_not_gone (status K t h) (place_acts K limit t c h p a) g)
 gone_finished K limit t c h Finished a g = refl
 
 -- so is a task of the world
-gone_dead : (K : Kind) (limit t : ℕ) (w : World) (o : Option Task) → StandsFor K limit t w.inner w.history o → is_gone (status K t w.history) ≡ true → is_alive o ≡ false
+gone_dead : (K : Kind) (limit t : ℕ) (w : World) (o : Option Task) → StandsFor K limit t w.shared w.history o → is_gone (status K t w.history) ≡ true → is_alive o ≡ false
 gone_dead K limit t w None a g = refl
-gone_dead K limit t w (Some x) a g = gone_finished K limit t w.inner w.history x.step a.step g
+gone_dead K limit t w (Some x) a g = gone_finished K limit t w.shared w.history x.step a.step g
 
 -- where every made task is gone, none is unfinished
 gone_done : (K : Kind) (limit : ℕ) (w : World) → Fits K limit w → all_gone K w.history ≡ true → w.unfinished ≡ 0

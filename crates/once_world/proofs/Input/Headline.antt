@@ -9,7 +9,7 @@ use Rattle.once_world.specs.Inputs.{Drop, Go, Input, Looks, Make, Owns, Poll}
 use Rattle.once_world.specs.Machine.{Finished, Outcome, Resting, Step, Task, UnderWay, World, advance, world_after, step_of_poll, poll_world_by, step_of_drop, drop_world_by, drop_world, go_world, go_world_by, history_of, in_call, is_finished, is_resting, first_world, poll_world, unfinished_after, world_of}
 use Rattle.once_world.proofs.History.Others.{holds}
 use Rattle.once_world.proofs.History.Cells.{empty_not_set, same_value}
-use Rattle.once_world.proofs.Invariant.Fits.{Fits, InnerFits, TaskFits}
+use Rattle.once_world.proofs.Invariant.Fits.{Fits, SharedFits, TaskFits}
 use Rattle.once_world.proofs.Invariant.Listed.{none_not_some}
 use Rattle.once_world.proofs.Place.Relisted.{no_listing}
 use Rattle.once_world.proofs.Invariant.Moves.{moved_fits, puts}
@@ -21,7 +21,7 @@ use Rattle.once_world.proofs.Input.Advances.{advances}
 use Rattle.once_world.proofs.Input.Makes.{look_fits, made_fits}
 
 -- the task x at the number t
-pub task_fits : (K : Kind) (limit t : ℕ) (w : World) (x : Task) → Fits K limit w → w.tasks t ≡ Some x → TaskFits K limit t w.inner w.history x
+pub task_fits : (K : Kind) (limit t : ℕ) (w : World) (x : Task) → Fits K limit w → w.tasks t ≡ Some x → TaskFits K limit t w.shared w.history x
 task_fits K limit t w x f found = rw found at (f.tasks t)
 
 -- a task at rest is not finished
@@ -49,7 +49,7 @@ begun_fits K limit w t k x f found true r =
     let y : Task = record x { waker = k; step = step_of_poll x.step } in
     let own = task_fits K limit t w x f found in
     moved_fits K limit t x y w (poll_world_by true w t k x) f found (resting_live x.step r) (puts t y w.tasks) (begun_live x.step w.unfinished r)
-    (begins K limit t k x.kept w.inner w.history x.step f.run f.inner f.queue own.kept_is r own.step)
+    (begins K limit t k x.kept w.shared w.history x.step f.run f.shared f.queue own.kept_is r own.step)
 
 -- the beginning of a drop
 drop_fits : (K : Kind) (limit : ℕ) (w : World) (t : ℕ) (x : Task) → Fits K limit w → w.tasks t ≡ Some x → (r : Bool) → is_resting x.step ≡ r → Fits K limit (drop_world_by r w t x)
@@ -58,17 +58,17 @@ drop_fits K limit w t x f found true r =
     let y : Task = record x { step = step_of_drop x.step } in
     let own = task_fits K limit t w x f found in
     moved_fits K limit t x y w (drop_world_by true w t x) f found (resting_live x.step r) (puts t y w.tasks) refl
-    (drop_begins K limit t x.waker x.kept w.inner w.history x.step f.run f.inner f.queue own.waker_is own.kept_is r own.step)
+    (drop_begins K limit t x.waker x.kept w.shared w.history x.step f.run f.shared f.queue own.waker_is own.kept_is r own.step)
 
 -- a step
 goes_fits : (K : Kind) (limit : ℕ) (w : World) (t : ℕ) (a : Answer) (g : Bool) (x : Task) → 0 < limit → Fits K limit w → w.tasks t ≡ Some x → (r : Bool) → in_call x.step ≡ r → Fits K limit (go_world_by r (is_lazy K) limit w t a g x)
 goes_fits K limit w t a g x some f found false r = f
 goes_fits K limit w t a g x some f found true r =
-    let o : Outcome = advance (is_lazy K) limit w.inner t x a g in
+    let o : Outcome = advance (is_lazy K) limit w.shared t x a g in
     let y : Task = record x { step = o.step; kept = o.kept } in
     let own = task_fits K limit t w x f found in
     moved_fits K limit t x y w (go_world_by true (is_lazy K) limit w t a g x) f found (calling_live x.step r) (puts t y w.tasks) refl
-    (advances K limit t x.waker x.kept w.inner w.history a g some f.run f.inner f.queue own.waker_is own.kept_is x.step r (around K limit t x w f found) (around_list K limit t x w f found) own.step)
+    (advances K limit t x.waker x.kept w.shared w.history a g some f.run f.shared f.queue own.waker_is own.kept_is x.step r (around K limit t x w f found) (around_list K limit t x w f found) own.step)
 
 -- the inputs, by whether the task is there
 polled_fits : (K : Kind) (limit : ℕ) (w : World) (t k : ℕ) → Fits K limit w → (o : Option Task) → w.tasks t ≡ o → Fits K limit (poll_world w t k o)
@@ -84,7 +84,7 @@ gone_fits K limit w t a g some f None is = f
 gone_fits K limit w t a g some f (Some x) is = goes_fits K limit w t a g x some f is (in_call x.step) refl
 
 -- how what is shared starts
-starting : (K : Kind) (limit : ℕ) → InnerFits K limit (first_world K).inner []
+starting : (K : Kind) (limit : ℕ) → SharedFits K limit (first_world K).shared []
 starting Once limit = record { ready_is = refl; held_is = refl; value_is = λ v e. absurd (empty_not_set v e); answers_is = refl; within = omega arith; stands = λ _ l. absurd (omega arith); head_door = λ e. absurd (false≢true e) }
 starting (OnceWith k) limit = record { ready_is = refl; held_is = refl; value_is = λ v e. same_value k v e; answers_is = refl; within = omega arith; stands = λ _ l. absurd (omega arith); head_door = λ e. absurd (false≢true e) }
 starting (Lazy k) limit = record { ready_is = refl; held_is = refl; value_is = λ v e. absurd (empty_not_set v e); answers_is = refl; within = omega arith; stands = λ _ l. absurd (omega arith); head_door = λ e. absurd (false≢true e) }
@@ -101,7 +101,7 @@ unheld (LazyWith v) t = refl
 opening_fits : (K : Kind) (limit : ℕ) → Fits K limit (first_world K)
 opening_fits K limit = record {
   run = tt;
-  inner = starting K limit;
+  shared = starting K limit;
   queue = record { counts = λ w. omega arith; called = λ e u s. grind arith };
   tasks = λ t. (record { status_is = refl; holds_is = unheld K t }, refl, refl);
   count_is = refl;

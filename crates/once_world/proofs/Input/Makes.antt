@@ -8,17 +8,17 @@ use Rattle.once_world.specs.Cell.{Cell, Empty, Held, SetTo, cell, value_in}
 use Rattle.once_world.specs.Tasks.{last_call}
 use Rattle.once_queue.specs.Listings.{find_listing}
 use Rattle.once_world.specs.Run.{IsLegal}
-use Rattle.once_world.specs.Machine.{Inner, Task, World, fresh_task, look_value, make_world, put_task}
+use Rattle.once_world.specs.Machine.{SharedState, Task, World, fresh_task, look_value, make_world, put_task}
 use Rattle.once_queue.proofs.Listing.Members.{eqb_self}
 use Rattle.once_world.proofs.History.Others.{legal_keeps}
 use Rattle.once_world.proofs.History.Waiters.{QueueFits, quiet}
 use Rattle.once_world.proofs.Listing.Counting.{count_same}
 use Rattle.once_world.proofs.Invariant.Facts.{is_counted, is_inside, is_take, kept_of, ticket_of}
-use Rattle.once_world.proofs.Invariant.Fits.{Fits, InnerFits, StandsFor, is_alive, step_of}
+use Rattle.once_world.proofs.Invariant.Fits.{Fits, SharedFits, StandsFor, is_alive, step_of}
 use Rattle.once_world.proofs.Invariant.Listed.{none_not_some}
 use Rattle.once_world.proofs.Invariant.Turns.{somebody_called}
 use Rattle.once_world.proofs.Invariant.Moves.{Puts, puts, stands_kept}
-use Rattle.once_world.proofs.Place.Builders.{inner_at, of_other, same_inner}
+use Rattle.once_world.proofs.Place.Builders.{shared_at, of_other, same_shared}
 
 -- a number that does not pass adds nothing
 one_less : (b : Bool) (n : ℕ) → b ≡ false → bit b + n ≡ n
@@ -55,7 +55,7 @@ ticket_made w new t there others u n k = ⊎_elim
 
 -- each listing has its task still
 owned_made : (K : Kind) (limit : ℕ) (w : World) (new : ℕ → Option Task) (t : ℕ) → Fits K limit w → w.tasks t ≡ None → ((u : ℕ) → t ≢ u → new u ≡ w.tasks u)
-    → w.inner.ready ≡ false → (n : ℕ) (o : Option ℕ) → find_listing n w.inner.listings ≡ Some o → (u : ℕ) × (ticket_of (step_of (new u)) ≡ Some n)
+    → w.shared.ready ≡ false → (n : ℕ) (o : Option ℕ) → find_listing n w.shared.listings ≡ Some o → (u : ℕ) × (ticket_of (step_of (new u)) ≡ Some n)
 owned_made K limit w new t f is others r n o e =
     let v = f.owned r n o e in
     let d : t ≢ v.0 = λ x. none_not_some n (sym (ap (λ i. ticket_of (step_of i)) is) ∙ subst (λ i. ticket_of (step_of (w.tasks i)) ≡ Some n) (sym x) v.1) in
@@ -70,10 +70,10 @@ made_fits K limit w t f None is =
     let h' : List Entry = Made t ∷ h in
     let new : ℕ → Option Task = put_task t y w.tasks in
     let p : Puts t y w.tasks new = puts t y w.tasks in
-    let own : StandsFor K limit t w.inner h None = rw is at (f.tasks t) in
+    let own : StandsFor K limit t w.shared h None = rw is at (f.tasks t) in
     let legal : IsLegal K limit (Made t) h = own.0.status_is in
     let out : member t (made_in h) ≡ false = f.made_only t is in
-    let P : ℕ → Type 0 = λ u. StandsFor K limit u w.inner h' (new u) in
+    let P : ℕ → Type 0 = λ u. StandsFor K limit u w.shared h' (new u) in
     let gave : kept_of (last_call K t h).ran ≡ RanPending = ap kept_of own.2 in
     let same : P t = rw p.there (record { waker_is = rw (eqb_self t) own.1; kept_is = rw (eqb_self t) (sym gave); step = (record { status_is = rw (eqb_self t) refl; holds_is = own.0.holds_is }, rw (eqb_self t) gave) }) in
     let before : ℕ → Bool = λ n. is_counted (step_of (w.tasks n)) in
@@ -84,16 +84,16 @@ made_fits K limit w t f None is =
     let living = count_same t (made_in h) lived lives out (λ u n. ap is_alive (sym (p.others u n))) in
     let none : later t ≡ false = ap (λ o. is_counted (step_of o)) p.there in
     let alive : lives t ≡ true = ap is_alive p.there in
-    let inner' : InnerFits K limit w.inner h' = inner_at K limit w.inner h h' refl refl f.inner in
-    let queue' : QueueFits K w.inner.listings h' = quiet K w.inner.listings (Made t) h f.queue refl refl (λ _. refl) (λ u is. grind arith) (λ x. x) in
+    let shared' : SharedFits K limit w.shared h' = shared_at K limit w.shared h h' refl refl f.shared in
+    let queue' : QueueFits K w.shared.listings h' = quiet K w.shared.listings (Made t) h f.queue refl refl (λ _. refl) (λ u is. grind arith) (λ x. x) in
     let stands : (u : ℕ) → P u = λ u. ⊎_elim (λ e. subst P e same)
-    (λ n. rw (p.others u n) (stands_kept K limit u w.inner w.inner h h' (w.tasks u) f.inner.ready_is (legal_keeps K u (Made t) limit h (of_other t u n) legal refl)
-    (same_inner K limit w.inner w.inner u h (is_inside (step_of (w.tasks u))) refl refl refl refl refl (λ x. x)) (λ n o k r e. inl e) (f.tasks u)))
+    (λ n. rw (p.others u n) (stands_kept K limit u w.shared w.shared h h' (w.tasks u) f.shared.ready_is (legal_keeps K u (Made t) limit h (of_other t u n) legal refl)
+    (same_shared K limit w.shared w.shared u h (is_inside (step_of (w.tasks u))) refl refl refl refl refl (λ x. x)) (λ n o k r e. inl e) (f.tasks u)))
     (cases_eq t u) in
     let owned = owned_made K limit w new t f is p.others in
     record {
       run = (legal, f.run);
-      inner = inner';
+      shared = shared';
       queue = queue';
       tasks = stands;
       count_is = f.count_is ∙ sym rest ∙ sym (one_less (later t) (how_many later (made_in h)) none);
@@ -104,32 +104,32 @@ made_fits K limit w t f None is =
       alone = λ a b. alone_made K limit w new t f p.there p.others a b (cases_eq t a) (cases_eq t b);
       single = λ a b n k l. f.single a b n (ticket_made w new t p.there p.others a n k) (ticket_made w new t p.there p.others b n l);
       owned = owned;
-      moments = (somebody_called K limit w.inner h' new inner'.ready_is queue'.called owned stands, f.moments);
+      moments = (somebody_called K limit w.shared h' new shared'.ready_is queue'.called owned stands, f.moments);
     }
 
 -- by the state of the cell
-looked_by : (K : Kind) (limit : ℕ) (c : Inner) (h : List Entry) (v : Cell) → cell K h ≡ v → InnerFits K limit c h → look_value c ≡ value_in (cell K h)
+looked_by : (K : Kind) (limit : ℕ) (c : SharedState) (h : List Entry) (v : Cell) → cell K h ≡ v → SharedFits K limit c h → look_value c ≡ value_in (cell K h)
 looked_by K limit c h Empty e f = rw (e, f.ready_is, e) refl
 looked_by K limit c h (Held u) e f = rw (e, f.ready_is, e) refl
 looked_by K limit c h (SetTo v) e f = rw (e, f.ready_is, e, f.value_is v e) refl
 
 -- a look finds the value that is set
-pub looked_is : (K : Kind) (limit : ℕ) (c : Inner) (h : List Entry) → InnerFits K limit c h → look_value c ≡ value_in (cell K h)
+pub looked_is : (K : Kind) (limit : ℕ) (c : SharedState) (h : List Entry) → SharedFits K limit c h → look_value c ≡ value_in (cell K h)
 looked_is K limit c h f = looked_by K limit c h (cell K h) refl f
 
 -- a look keeps all that holds
-pub look_fits : (K : Kind) (limit : ℕ) (w : World) → Fits K limit w → Fits K limit (record w { history = Look (look_value w.inner) ∷ w.history })
+pub look_fits : (K : Kind) (limit : ℕ) (w : World) → Fits K limit w → Fits K limit (record w { history = Look (look_value w.shared) ∷ w.history })
 look_fits K limit w f =
     let h : List Entry = w.history in
-    let h' : List Entry = Look (look_value w.inner) ∷ h in
-    let legal : IsLegal K limit (Look (look_value w.inner)) h = looked_is K limit w.inner h f.inner in
-    let inner' : InnerFits K limit w.inner h' = inner_at K limit w.inner h h' refl refl f.inner in
-    let queue' : QueueFits K w.inner.listings h' = quiet K w.inner.listings (Look (look_value w.inner)) h f.queue refl refl (λ _. refl) (λ u is. grind arith) (λ x. x) in
-    let stands : (u : ℕ) → StandsFor K limit u w.inner h' (w.tasks u) = λ u. stands_kept K limit u w.inner w.inner h h' (w.tasks u) f.inner.ready_is (legal_keeps K u (Look (look_value w.inner)) limit h refl legal refl)
-    (same_inner K limit w.inner w.inner u h (is_inside (step_of (w.tasks u))) refl refl refl refl refl (λ x. x)) (λ n o k r e. inl e) (f.tasks u) in
+    let h' : List Entry = Look (look_value w.shared) ∷ h in
+    let legal : IsLegal K limit (Look (look_value w.shared)) h = looked_is K limit w.shared h f.shared in
+    let shared' : SharedFits K limit w.shared h' = shared_at K limit w.shared h h' refl refl f.shared in
+    let queue' : QueueFits K w.shared.listings h' = quiet K w.shared.listings (Look (look_value w.shared)) h f.queue refl refl (λ _. refl) (λ u is. grind arith) (λ x. x) in
+    let stands : (u : ℕ) → StandsFor K limit u w.shared h' (w.tasks u) = λ u. stands_kept K limit u w.shared w.shared h h' (w.tasks u) f.shared.ready_is (legal_keeps K u (Look (look_value w.shared)) limit h refl legal refl)
+    (same_shared K limit w.shared w.shared u h (is_inside (step_of (w.tasks u))) refl refl refl refl refl (λ x. x)) (λ n o k r e. inl e) (f.tasks u) in
     record {
       run = (legal, f.run);
-      inner = inner';
+      shared = shared';
       queue = queue';
       tasks = stands;
       count_is = f.count_is;
@@ -140,5 +140,5 @@ look_fits K limit w f =
       alone = f.alone;
       single = f.single;
       owned = f.owned;
-      moments = (somebody_called K limit w.inner h' w.tasks inner'.ready_is queue'.called f.owned stands, f.moments);
+      moments = (somebody_called K limit w.shared h' w.tasks shared'.ready_is queue'.called f.owned stands, f.moments);
     }

@@ -6,19 +6,19 @@ use Rattle.once_world.specs.Record.{Entry, Got, GotAnswers, Kind, Own, OwnerCall
 use Rattle.once_world.specs.Cell.{Cell, Empty, Held, SetTo, answers_left, cell, got, got_parts, got_value, is_held, is_set, cell_after_call, write_cell}
 use Rattle.once_world.specs.Tasks.{Waiting, status}
 use Rattle.once_queue.specs.Listings.{find_listing}
-use Rattle.once_world.specs.Machine.{Inner, Task, World, is_some_value, own_world_by, owner_got, owner_inner, parts_got, reset_inner, write_inner, value_got, value_or}
+use Rattle.once_world.specs.Machine.{SharedState, Task, World, is_some_value, own_world_by, owner_got, owner_shared, parts_got, reset_shared, write_shared, value_got, value_or}
 use Rattle.once_queue.proofs.Listing.Members.{eqb_self}
 use Rattle.once_world.proofs.History.Others.{holds}
 use Rattle.once_world.proofs.History.Cells.{empty_cell, empty_not_set, holder_of, same_value, value_of_set}
 use Rattle.once_world.proofs.History.Waiters.{QueueFits, quiet}
 use Rattle.once_world.proofs.Listing.Counting.{count_none}
 use Rattle.once_world.proofs.Invariant.Facts.{is_counted}
-use Rattle.once_world.proofs.Invariant.Fits.{Fits, InnerFits, StandsFor, is_alive, step_of}
+use Rattle.once_world.proofs.Invariant.Fits.{Fits, SharedFits, StandsFor, is_alive, step_of}
 use Rattle.once_world.proofs.Place.Relisted.{no_listing}
 use Rattle.once_world.proofs.Input.Gone.{Over, done_gone, finished, none_alive, over, over_at}
 
 -- a task that is not there or finished stands in the new history as it stood
-stands_over : (K : Kind) (limit t : ℕ) (c c' : Inner) (h : List Entry) (o : OwnerCall) (g : Got) (x : Option Task) → holds t (cell K (Own o g ∷ h)) ≡ false → StandsFor K limit t c h x → is_alive x ≡ false → StandsFor K limit t c' (Own o g ∷ h) x
+stands_over : (K : Kind) (limit t : ℕ) (c c' : SharedState) (h : List Entry) (o : OwnerCall) (g : Got) (x : Option Task) → holds t (cell K (Own o g ∷ h)) ≡ false → StandsFor K limit t c h x → is_alive x ≡ false → StandsFor K limit t c' (Own o g ∷ h) x
 stands_over K limit t c c' h o g None n a d = (record { status_is = a.0.status_is; holds_is = n }, a.1, a.2)
 stands_over K limit t c c' h o g (Some x) n a d =
     let r = over_at K limit t c h x a d in
@@ -49,19 +49,19 @@ owned_holds t (ReplaceValue v) c n = refl
 owned_holds t (ReplaceAnswers l) c n = refl
 
 -- the owner is given the value that is set
-value_is_got : (K : Kind) (limit : ℕ) (c : Inner) (h : List Entry) (v : Cell) → cell K h ≡ v → InnerFits K limit c h → value_got c.ready c.value ≡ got_value (cell K h)
+value_is_got : (K : Kind) (limit : ℕ) (c : SharedState) (h : List Entry) (v : Cell) → cell K h ≡ v → SharedFits K limit c h → value_got c.ready c.value ≡ got_value (cell K h)
 value_is_got K limit c h Empty e f = rw (e, f.ready_is, e) refl
 value_is_got K limit c h (Held u) e f = rw (e, f.ready_is, e) refl
 value_is_got K limit c h (SetTo v) e f = rw (e, f.ready_is, e, f.value_is v e) refl
 
 -- or the answers that are left
-parts_are_got : (K : Kind) (limit : ℕ) (c : Inner) (h : List Entry) (v : Cell) → cell K h ≡ v → InnerFits K limit c h → parts_got c.ready c ≡ got_parts (cell K h) (answers_left K h)
+parts_are_got : (K : Kind) (limit : ℕ) (c : SharedState) (h : List Entry) (v : Cell) → cell K h ≡ v → SharedFits K limit c h → parts_got c.ready c ≡ got_parts (cell K h) (answers_left K h)
 parts_are_got K limit c h Empty e f = rw (e, f.ready_is, e) (ap (λ l. GotAnswers l) f.answers_is)
 parts_are_got K limit c h (Held u) e f = rw (e, f.ready_is, e) (ap (λ l. GotAnswers l) f.answers_is)
 parts_are_got K limit c h (SetTo v) e f = rw (e, f.ready_is, e, f.value_is v e) refl
 
 -- the owner is given what the cell has
-pub owner_is_got : (K : Kind) (limit : ℕ) (o : OwnerCall) (c : Inner) (h : List Entry) → InnerFits K limit c h → owner_got o c ≡ got o (cell K h) (answers_left K h)
+pub owner_is_got : (K : Kind) (limit : ℕ) (o : OwnerCall) (c : SharedState) (h : List Entry) → SharedFits K limit c h → owner_got o c ≡ got o (cell K h) (answers_left K h)
 owner_is_got K limit Take c h f = value_is_got K limit c h (cell K h) refl f
 owner_is_got K limit (Write v) c h f = value_is_got K limit c h (cell K h) refl f
 owner_is_got K limit Parts c h f = parts_are_got K limit c h (cell K h) refl f
@@ -69,7 +69,7 @@ owner_is_got K limit (ReplaceValue v) c h f = value_is_got K limit c h (cell K h
 owner_is_got K limit (ReplaceAnswers l) c h f = value_is_got K limit c h (cell K h) refl f
 
 -- a cell made new fits
-reset_fits : (K : Kind) (limit : ℕ) (c : Inner) (v : Option ℕ) (l : List (Option ℕ)) (h : List Entry) → is_some_value v ≡ is_set (cell K h) → is_held (cell K h) ≡ false → ((u : ℕ) → cell K h ≡ SetTo u → value_or v c.value ≡ u) → l ≡ answers_left K h → InnerFits K limit (reset_inner c v l) h
+reset_fits : (K : Kind) (limit : ℕ) (c : SharedState) (v : Option ℕ) (l : List (Option ℕ)) (h : List Entry) → is_some_value v ≡ is_set (cell K h) → is_held (cell K h) ≡ false → ((u : ℕ) → cell K h ≡ SetTo u → value_or v c.value ≡ u) → l ≡ answers_left K h → SharedFits K limit (reset_shared c v l) h
 reset_fits K limit c v l h r n s a = record {
   ready_is = r;
   held_is = n;
@@ -81,8 +81,8 @@ reset_fits K limit c v l h r n s a = record {
 }
 
 -- a written value fits, and a cell without a value stays as it is
-written_inner : (K : Kind) (limit v : ℕ) (c : Inner) (g : Got) (h : List Entry) (r : Bool) → c.ready ≡ r → is_held (cell K h) ≡ false → InnerFits K limit c h → InnerFits K limit (write_inner r v c) (Own (Write v) g ∷ h)
-written_inner K limit v c g h true r n f =
+written_shared : (K : Kind) (limit v : ℕ) (c : SharedState) (g : Got) (h : List Entry) (r : Bool) → c.ready ≡ r → is_held (cell K h) ≡ false → SharedFits K limit c h → SharedFits K limit (write_shared r v c) (Own (Write v) g ∷ h)
+written_shared K limit v c g h true r n f =
     let u = value_of_set (cell K h) (sym f.ready_is ∙ r) in
     let now : cell K (Own (Write v) g ∷ h) ≡ SetTo v = ap (write_cell v) u.1 in
     record {
@@ -94,7 +94,7 @@ written_inner K limit v c g h true r n f =
       stands = f.stands;
       head_door = f.head_door;
     }
-written_inner K limit v c g h false r n f =
+written_shared K limit v c g h false r n f =
     let was = empty_cell (cell K h) (sym f.ready_is ∙ r) n in
     let now : cell K (Own (Write v) g ∷ h) ≡ Empty = ap (write_cell v) was in
     record {
@@ -108,8 +108,8 @@ written_inner K limit v c g h false r n f =
     }
 
 -- what an owner's call owes
-record Owned (K : Kind) (limit : ℕ) (c c' : Inner) (o : OwnerCall) (g : Got) (h : List Entry) : Type 0 where
-  inner : InnerFits K limit c' (Own o g ∷ h)
+record Owned (K : Kind) (limit : ℕ) (c c' : SharedState) (o : OwnerCall) (g : Got) (h : List Entry) : Type 0 where
+  shared : SharedFits K limit c' (Own o g ∷ h)
   queue : QueueFits K c'.listings (Own o g ∷ h)
   count : (c'.count ≡ 0) ⊎ (c'.count ≡ c.count)
   lists : c'.ready ≡ false → (n : ℕ) (x : Option ℕ) → find_listing n c'.listings ≡ Some x → (c.ready ≡ false) × (find_listing n c.listings ≡ Some x)
@@ -124,16 +124,16 @@ written_empty v (Held u) e = e
 written_empty v (SetTo u) e = absurd (empty_not_set v (sym e))
 
 -- a writing, by whether a value is set
-owned_write : (K : Kind) (limit v : ℕ) (c : Inner) (g : Got) (h : List Entry) (r : Bool) → c.ready ≡ r → is_held (cell K h) ≡ false → InnerFits K limit c h → QueueFits K c.listings (Own (Write v) g ∷ h) → Owned K limit c (write_inner r v c) (Write v) g h
-owned_write K limit v c g h true r n f q = record { inner = written_inner K limit v c g h true r n f; queue = q; count = inr refl; lists = λ z n x e. (z, e) }
-owned_write K limit v c g h false r n f q = record { inner = written_inner K limit v c g h false r n f; queue = q; count = inr refl; lists = λ z n x e. (z, e) }
+owned_write : (K : Kind) (limit v : ℕ) (c : SharedState) (g : Got) (h : List Entry) (r : Bool) → c.ready ≡ r → is_held (cell K h) ≡ false → SharedFits K limit c h → QueueFits K c.listings (Own (Write v) g ∷ h) → Owned K limit c (write_shared r v c) (Write v) g h
+owned_write K limit v c g h true r n f q = record { shared = written_shared K limit v c g h true r n f; queue = q; count = inr refl; lists = λ z n x e. (z, e) }
+owned_write K limit v c g h false r n f q = record { shared = written_shared K limit v c g h false r n f; queue = q; count = inr refl; lists = λ z n x e. (z, e) }
 
 -- what each call owes
-owned_so : (K : Kind) (limit : ℕ) (c : Inner) (o : OwnerCall) (g : Got) (h : List Entry) → is_held (cell K h) ≡ false → InnerFits K limit c h → QueueFits K c.listings h → ((u : ℕ) → status K u h ≢ Waiting) → Owned K limit c (owner_inner o c) o g h
-owned_so K limit c Take g h n f q w = record { inner = reset_fits K limit c None c.answers (Own Take g ∷ h) refl refl (λ u e. absurd (empty_not_set u e)) f.answers_is; queue = replaced K Take g h refl w; count = inl refl; lists = λ z n x e. absurd (no_listing x e) }
-owned_so K limit c Parts g h n f q w = record { inner = reset_fits K limit c None [] (Own Parts g ∷ h) refl refl (λ u e. absurd (empty_not_set u e)) refl; queue = replaced K Parts g h refl w; count = inl refl; lists = λ z n x e. absurd (no_listing x e) }
-owned_so K limit c (ReplaceValue v) g h n f q w = record { inner = reset_fits K limit c (Some v) [] (Own (ReplaceValue v) g ∷ h) refl refl (λ u e. same_value v u e) refl; queue = replaced K (ReplaceValue v) g h refl w; count = inl refl; lists = λ z n x e. absurd (no_listing x e) }
-owned_so K limit c (ReplaceAnswers l) g h n f q w = record { inner = reset_fits K limit c None l (Own (ReplaceAnswers l) g ∷ h) refl refl (λ u e. absurd (empty_not_set u e)) refl; queue = replaced K (ReplaceAnswers l) g h refl w; count = inl refl; lists = λ z n x e. absurd (no_listing x e) }
+owned_so : (K : Kind) (limit : ℕ) (c : SharedState) (o : OwnerCall) (g : Got) (h : List Entry) → is_held (cell K h) ≡ false → SharedFits K limit c h → QueueFits K c.listings h → ((u : ℕ) → status K u h ≢ Waiting) → Owned K limit c (owner_shared o c) o g h
+owned_so K limit c Take g h n f q w = record { shared = reset_fits K limit c None c.answers (Own Take g ∷ h) refl refl (λ u e. absurd (empty_not_set u e)) f.answers_is; queue = replaced K Take g h refl w; count = inl refl; lists = λ z n x e. absurd (no_listing x e) }
+owned_so K limit c Parts g h n f q w = record { shared = reset_fits K limit c None [] (Own Parts g ∷ h) refl refl (λ u e. absurd (empty_not_set u e)) refl; queue = replaced K Parts g h refl w; count = inl refl; lists = λ z n x e. absurd (no_listing x e) }
+owned_so K limit c (ReplaceValue v) g h n f q w = record { shared = reset_fits K limit c (Some v) [] (Own (ReplaceValue v) g ∷ h) refl refl (λ u e. same_value v u e) refl; queue = replaced K (ReplaceValue v) g h refl w; count = inl refl; lists = λ z n x e. absurd (no_listing x e) }
+owned_so K limit c (ReplaceAnswers l) g h n f q w = record { shared = reset_fits K limit c None l (Own (ReplaceAnswers l) g ∷ h) refl refl (λ u e. absurd (empty_not_set u e)) refl; queue = replaced K (ReplaceAnswers l) g h refl w; count = inl refl; lists = λ z n x e. absurd (no_listing x e) }
 owned_so K limit c (Write v) g h n f q w = owned_write K limit v c g h c.ready refl n f (quiet K c.listings (Own (Write v) g) h q refl refl (λ _. refl) (λ u is. absurd (false≢true is)) (written_empty v (cell K h)))
 
 -- a task that is unmade or gone does not wait
@@ -149,18 +149,18 @@ zero_is c c' n a b (inr e) = omega arith
 owner_fits : (K : Kind) (limit : ℕ) (w : World) (o : OwnerCall) → Fits K limit w → w.unfinished ≡ 0 → Fits K limit (own_world_by true true w o)
 owner_fits K limit w o f d =
     let h : List Entry = w.history in
-    let g : Got = owner_got o w.inner in
+    let g : Got = owner_got o w.shared in
     let dead : (t : ℕ) → is_alive (w.tasks t) ≡ false = λ t. none_alive K limit t w f d in
-    let all_over : (t : ℕ) → Over K t h = λ t. over K limit t w.inner h (w.tasks t) (f.tasks t) (dead t) in
+    let all_over : (t : ℕ) → Over K t h = λ t. over K limit t w.shared h (w.tasks t) (f.tasks t) (dead t) in
     let n : is_held (cell K h) ≡ false = cell_free K h (λ t. let v = all_over t in v.holds_is) (is_held (cell K h)) refl in
-    let s : Owned K limit w.inner (owner_inner o w.inner) o g h = owned_so K limit w.inner o g h n f.inner f.queue (λ u. over_awake K u h (all_over u)) in
+    let s : Owned K limit w.shared (owner_shared o w.shared) o g h = owned_so K limit w.shared o g h n f.shared f.queue (λ u. over_awake K u h (all_over u)) in
     let zero_count = count_none (made_in h) (λ k. is_counted (step_of (w.tasks k))) (λ k. uncounted (w.tasks k) (dead k)) in
     record {
-      run = ((done_gone K limit w f d, owner_is_got K limit o w.inner h f.inner), f.run);
-      inner = s.inner;
+      run = ((done_gone K limit w f d, owner_is_got K limit o w.shared h f.shared), f.run);
+      shared = s.shared;
       queue = s.queue;
-      tasks = λ t. stands_over K limit t w.inner (owner_inner o w.inner) h o g (w.tasks t) (owned_holds t o (cell K h) (let v = all_over t in v.holds_is)) (f.tasks t) (dead t);
-      count_is = zero_is w.inner.count (owner_inner o w.inner).count (how_many (λ k. is_counted (step_of (w.tasks k))) (made_in h)) f.count_is zero_count s.count;
+      tasks = λ t. stands_over K limit t w.shared (owner_shared o w.shared) h o g (w.tasks t) (owned_holds t o (cell K h) (let v = all_over t in v.holds_is)) (f.tasks t) (dead t);
+      count_is = zero_is w.shared.count (owner_shared o w.shared).count (how_many (λ k. is_counted (step_of (w.tasks k))) (made_in h)) f.count_is zero_count s.count;
       unfinished_is = f.unfinished_is;
       made_once = f.made_once;
       made_all = f.made_all;

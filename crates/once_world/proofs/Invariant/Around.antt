@@ -5,7 +5,7 @@ use Rattle.once_world.specs.Record.{Entry, Kind, made_in}
 use Rattle.once_world.specs.Cell.{cell}
 use Rattle.once_world.specs.Tasks.{Dropping, Fresh, Gone, Holding, Polling, Status, Unmade, Waiting, is_under_way, status}
 use Rattle.once_world.specs.Refusals.{crowd, is_about}
-use Rattle.once_world.specs.Machine.{AtAddOne, AtCountIn, AtCountOut, AtDoorAgain, AtDoorGet, AtDoorPut, AtDoorTake, AtFast, AtList, AtLook, AtPut, AtLeave, AtRelease, AtRun, AtStart, AtTryQuick, AtWaitLoad, EndDropped, EndError, EndFull, EndMemory, EndPending, EndValue, Ending, Finished, Inner, Place, Rest, RestRun, RestStart, RestWait, Resting, Step, Task, UnderWay, World}
+use Rattle.once_world.specs.Machine.{AtAddOne, AtCountIn, AtCountOut, AtDoorAgain, AtDoorGet, AtDoorPut, AtDoorTake, AtFast, AtList, AtLook, AtPut, AtLeave, AtRelease, AtRun, AtStart, AtTryQuick, AtWaitLoad, EndDropped, EndError, EndFull, EndMemory, EndPending, EndValue, Ending, Finished, SharedState, Place, Rest, RestRun, RestStart, RestWait, Resting, Step, Task, UnderWay, World}
 use Rattle.once_queue.proofs.Listing.Members.{eqb_self}
 use Rattle.once_world.proofs.History.Others.{Met, SomeoneWaits, holds, since_now, since_now_acts}
 use Rattle.once_world.proofs.History.Cells.{held_by, holder_of}
@@ -15,7 +15,7 @@ use Rattle.once_world.proofs.Invariant.Fits.{Fits, StandsFor, step_of}
 use Rattle.once_world.proofs.Invariant.Moves.{in_count, inside_counted}
 
 -- what the step of t may know of the other tasks
-pub record Around (K : Kind) (t : ℕ) (counted take : Bool) (c : Inner) (h : List Entry) : Type 0 where
+pub record Around (K : Kind) (t : ℕ) (counted take : Bool) (c : SharedState) (h : List Entry) : Type 0 where
   pub none_waits : c.count ≡ 0 → (u : ℕ) → status K u h ≢ Waiting
   pub head_counts : c.head ≡ true → 0 < c.count
   pub acts : counted ≡ false → 0 < c.count → Met K t h ⊎ SomeoneWaits K h
@@ -43,7 +43,7 @@ owes_holds K u h EndPending o = absurd o
 owes_holds K u h EndFull o = absurd o
 
 -- a call that releases is under way
-pub releasing_acts : (K : Kind) (u : ℕ) (c : Inner) (h : List Entry) (e : Ending) → Releasing K u h c e → is_under_way (status K u h) ≡ true
+pub releasing_acts : (K : Kind) (u : ℕ) (c : SharedState) (h : List Entry) (e : Ending) → Releasing K u h c e → is_under_way (status K u h) ≡ true
 releasing_acts K u c h EndValue r = ap is_under_way r.1.status_is
 releasing_acts K u c h EndError r = ap is_under_way r.1.status_is
 releasing_acts K u c h EndDropped r = ap is_under_way r.0.status_is
@@ -61,7 +61,7 @@ leaves_acts K u h EndPending o = absurd o
 leaves_acts K u h EndFull o = absurd o
 
 -- a task whose call is under way is in a poll or a drop
-pub place_acts : (K : Kind) (limit u : ℕ) (c : Inner) (h : List Entry) (p : Place ℕ ℕ) → AtPlace K limit u c h p → is_under_way (status K u h) ≡ true
+pub place_acts : (K : Kind) (limit u : ℕ) (c : SharedState) (h : List Entry) (p : Place ℕ ℕ) → AtPlace K limit u c h p → is_under_way (status K u h) ≡ true
 place_acts K limit u c h AtStart a = ap is_under_way a.0.poll.status_is
 place_acts K limit u c h AtTryQuick a = ap is_under_way a.0.entered.poll.status_is
 place_acts K limit u c h AtDoorGet a = ap is_under_way a.0.entered.poll.status_is
@@ -85,13 +85,13 @@ pub no_wait : {s : Status} → is_under_way s ≡ true → s ≡ Waiting → ⊥
 no_wait a w = false≢true (sym (ap is_under_way w) ∙ a)
 
 -- a task at rest that waits is a waiter, with its queue at the door
-waiting_at : (K : Kind) (limit u : ℕ) (c : Inner) (h : List Entry) (r : Rest ℕ) → AtRest K limit u c h r → status K u h ≡ Waiting → (is_inside (Resting r) ≡ true) × IsSomeDoor c
+waiting_at : (K : Kind) (limit u : ℕ) (c : SharedState) (h : List Entry) (r : Rest ℕ) → AtRest K limit u c h r → status K u h ≡ Waiting → (is_inside (Resting r) ≡ true) × IsSomeDoor c
 waiting_at K limit u c h RestStart a s = grind (arith, a.status_is)
 waiting_at K limit u c h (RestWait q k) a s = (refl, (q, a.1))
 waiting_at K limit u c h (RestRun by) a s = grind (arith, a.0.status_is)
 
 -- and no other task waits
-waiting_in : (K : Kind) (limit u : ℕ) (c : Inner) (h : List Entry) (x : Step ℕ ℕ) → AtStep K limit u c h x → status K u h ≡ Waiting → (is_inside x ≡ true) × IsSomeDoor c
+waiting_in : (K : Kind) (limit u : ℕ) (c : SharedState) (h : List Entry) (x : Step ℕ ℕ) → AtStep K limit u c h x → status K u h ≡ Waiting → (is_inside x ≡ true) × IsSomeDoor c
 waiting_in K limit u c h (Resting r) a s = waiting_at K limit u c h r a.0 s
 waiting_in K limit u c h (UnderWay p) a s = absurd (no_wait (place_acts K limit u c h p a) s)
 waiting_in K limit u c h Finished a s = grind (arith, a.status_is)
@@ -101,19 +101,19 @@ abbrev IsCounted : Kind → ℕ → List Entry → Type 0
 IsCounted K u h = (status K u h ≡ Waiting) ⊎ ((is_under_way (status K u h) ≡ true) ⊎ ((status K u h ≡ Holding) × (holds u (cell K h) ≡ true)))
 
 -- what a counted task at rest is
-counted_at : (K : Kind) (limit u : ℕ) (c : Inner) (h : List Entry) (r : Rest ℕ) → AtRest K limit u c h r → is_counted (Resting r) ≡ true → IsCounted K u h
+counted_at : (K : Kind) (limit u : ℕ) (c : SharedState) (h : List Entry) (r : Rest ℕ) → AtRest K limit u c h r → is_counted (Resting r) ≡ true → IsCounted K u h
 counted_at K limit u c h RestStart a s = absurd (false≢true s)
 counted_at K limit u c h (RestWait q k) a s = inl a.0.status_is
 counted_at K limit u c h (RestRun by) a s = inr (inr (a.0.status_is, a.0.holds_is))
 
 -- what a counted task is
-counted_in : (K : Kind) (limit u : ℕ) (c : Inner) (h : List Entry) (x : Step ℕ ℕ) → AtStep K limit u c h x → is_counted x ≡ true → IsCounted K u h
+counted_in : (K : Kind) (limit u : ℕ) (c : SharedState) (h : List Entry) (x : Step ℕ ℕ) → AtStep K limit u c h x → is_counted x ≡ true → IsCounted K u h
 counted_in K limit u c h (Resting r) a s = counted_at K limit u c h r a.0 s
 counted_in K limit u c h (UnderWay p) a s = inr (inl (place_acts K limit u c h p a))
 counted_in K limit u c h Finished a s = absurd (false≢true s)
 
 -- a holder under the lock stands in the count
-head_by : (K : Kind) (limit u : ℕ) (c : Inner) (h : List Entry) (by : Option ℕ) → HoldsBy limit c by → c.head ≡ true → is_counted_at (AtRun by) ≡ true
+head_by : (K : Kind) (limit u : ℕ) (c : SharedState) (h : List Entry) (by : Option ℕ) → HoldsBy limit c by → c.head ≡ true → is_counted_at (AtRun by) ≡ true
 head_by K limit u c h None a k = absurd (false≢true (sym a.0.head_is ∙ k))
 head_by K limit u c h (Some q) a k = refl
 
@@ -123,7 +123,7 @@ head_put None e = e
 head_put (Some q) e = refl
 
 -- while the flag of the lock stands, the holder is in the count
-head_at : (K : Kind) (limit u : ℕ) (c : Inner) (h : List Entry) (p : Place ℕ ℕ) → AtPlace K limit u c h p → holds u (cell K h) ≡ true → c.head ≡ true → is_counted_at p ≡ true
+head_at : (K : Kind) (limit u : ℕ) (c : SharedState) (h : List Entry) (p : Place ℕ ℕ) → AtPlace K limit u c h p → holds u (cell K h) ≡ true → c.head ≡ true → is_counted_at p ≡ true
 head_at K limit u c h AtStart a s k = absurd (false≢true (sym a.0.poll.holds_is ∙ s))
 head_at K limit u c h AtTryQuick a s k = absurd (false≢true (sym a.0.entered.poll.holds_is ∙ s))
 head_at K limit u c h AtDoorGet a s k = absurd (false≢true (sym a.0.entered.poll.holds_is ∙ s))
@@ -137,7 +137,7 @@ head_at K limit u c h (AtDoorTake e) a s k = absurd (false≢true (sym (owes_hol
 head_at K limit u c h _ a s k = refl
 
 -- the same at rest
-head_in : (K : Kind) (limit u : ℕ) (c : Inner) (h : List Entry) (x : Step ℕ ℕ) → AtStep K limit u c h x → holds u (cell K h) ≡ true → c.head ≡ true → is_counted x ≡ true
+head_in : (K : Kind) (limit u : ℕ) (c : SharedState) (h : List Entry) (x : Step ℕ ℕ) → AtStep K limit u c h x → holds u (cell K h) ≡ true → c.head ≡ true → is_counted x ≡ true
 head_in K limit u c h (Resting RestStart) a s k = absurd (false≢true (sym a.0.holds_is ∙ s))
 head_in K limit u c h (Resting (RestWait q n)) a s k = refl
 head_in K limit u c h (Resting (RestRun by)) a s k = head_by K limit u c h by a.0.1 k
@@ -145,17 +145,17 @@ head_in K limit u c h (UnderWay p) a s k = head_at K limit u c h p a s k
 head_in K limit u c h Finished a s k = absurd (false≢true (sym a.holds_is ∙ s))
 
 -- a task that waits is inside, and a queue stands at the door
-pub stands_waiting : (K : Kind) (limit u : ℕ) (c : Inner) (h : List Entry) (o : Option Task) → StandsFor K limit u c h o → status K u h ≡ Waiting → (is_inside (step_of o) ≡ true) × IsSomeDoor c
+pub stands_waiting : (K : Kind) (limit u : ℕ) (c : SharedState) (h : List Entry) (o : Option Task) → StandsFor K limit u c h o → status K u h ≡ Waiting → (is_inside (step_of o) ≡ true) × IsSomeDoor c
 stands_waiting K limit u c h None a s = grind (arith, a.0.status_is)
 stands_waiting K limit u c h (Some x) a s = waiting_in K limit u c h x.step a.step s
 
 -- what a counted task of the world is
-pub stands_counted : (K : Kind) (limit u : ℕ) (c : Inner) (h : List Entry) (o : Option Task) → StandsFor K limit u c h o → is_counted (step_of o) ≡ true → IsCounted K u h
+pub stands_counted : (K : Kind) (limit u : ℕ) (c : SharedState) (h : List Entry) (o : Option Task) → StandsFor K limit u c h o → is_counted (step_of o) ≡ true → IsCounted K u h
 stands_counted K limit u c h None a s = absurd (false≢true s)
 stands_counted K limit u c h (Some x) a s = counted_in K limit u c h x.step a.step s
 
 -- the holder under the lock is in the count
-stands_head : (K : Kind) (limit u : ℕ) (c : Inner) (h : List Entry) (o : Option Task) → StandsFor K limit u c h o → holds u (cell K h) ≡ true → c.head ≡ true → is_counted (step_of o) ≡ true
+stands_head : (K : Kind) (limit u : ℕ) (c : SharedState) (h : List Entry) (o : Option Task) → StandsFor K limit u c h o → holds u (cell K h) ≡ true → c.head ≡ true → is_counted (step_of o) ≡ true
 stands_head K limit u c h None a s k = absurd (false≢true (sym a.0.holds_is ∙ s))
 stands_head K limit u c h (Some x) a s k = head_in K limit u c h x.step a.step s k
 
@@ -172,7 +172,7 @@ about {s = Holding} (inr (inl e)) = refl
 about {s = Gone} (inr (inl e)) = e
 
 -- no queue is not some queue
-pub no_door : (c : Inner) → c.door ≡ None → IsSomeDoor c → ⊥
+pub no_door : (c : SharedState) → c.door ≡ None → IsSomeDoor c → ⊥
 no_door c n d = let e = d.1 in cc
 
 -- t is not in the count
@@ -184,37 +184,37 @@ differs : (t u : ℕ) (w : World) → is_counted (step_of (w.tasks t)) ≡ false
 differs t u w n k e = false≢true (sym n ∙ subst (λ v. is_counted (step_of (w.tasks v)) ≡ true) (sym e) k)
 
 -- a counted task is another one, and acts or waits
-acts_by : (K : Kind) (limit t : ℕ) (w : World) → Fits K limit w → is_counted (step_of (w.tasks t)) ≡ false → 0 < w.inner.count → Met K t w.history ⊎ SomeoneWaits K w.history
+acts_by : (K : Kind) (limit t : ℕ) (w : World) → Fits K limit w → is_counted (step_of (w.tasks t)) ≡ false → 0 < w.shared.count → Met K t w.history ⊎ SomeoneWaits K w.history
 acts_by K limit t w f n l =
     let some = count_some (made_in w.history) (λ u. is_counted (step_of (w.tasks u))) (subst (λ k. 0 < k) f.count_is l) in
     let d = differs t some.0 w n some.1 in
     ⊎_elim (λ e. inr (some.0, e)) (λ a. inl (⊎_elim (λ k. since_now_acts K t some.0 w.history d k) (λ k. since_now K t some.0 w.history d (held_by some.0 (cell K w.history) k.1)) a))
-    (stands_counted K limit some.0 w.inner w.history (w.tasks some.0) (f.tasks some.0) some.1)
+    (stands_counted K limit some.0 w.shared w.history (w.tasks some.0) (f.tasks some.0) some.1)
 
 -- a counted task is in the crowd of an uncounted one
 in_crowd : (t u : ℕ) (s : Status) → t ≢ u → is_about s ≡ true → cond (u == t) false (is_about s) ≡ true
 in_crowd t u s d a = rw (ne_eqb u t (λ e. d (sym e))) a
 
 -- the count is at most the crowd of an uncounted task
-crowd_by : (K : Kind) (limit t : ℕ) (w : World) → Fits K limit w → is_counted (step_of (w.tasks t)) ≡ false → w.inner.count ≤ crowd K t w.history
+crowd_by : (K : Kind) (limit t : ℕ) (w : World) → Fits K limit w → is_counted (step_of (w.tasks t)) ≡ false → w.shared.count ≤ crowd K t w.history
 crowd_by K limit t w f n =
     rw f.count_is (count_weaker (made_in w.history) (λ u. is_counted (step_of (w.tasks u))) (λ u. cond (u == t) false (is_about (status K u w.history)))
     (λ u k. in_crowd t u (status K u w.history) (differs t u w n k)
-    (about (⊎_elim (λ e. inl e) (λ a. inr (⊎_elim (λ k. inl k) (λ k. inr k.0) a)) (stands_counted K limit u w.inner w.history (w.tasks u) (f.tasks u) k)))))
+    (about (⊎_elim (λ e. inl e) (λ a. inr (⊎_elim (λ k. inl k) (λ k. inr k.0) a)) (stands_counted K limit u w.shared w.history (w.tasks u) (f.tasks u) k)))))
 
 -- all that a step may know of the others holds
-pub around : (K : Kind) (limit t : ℕ) (x : Task) (w : World) → Fits K limit w → w.tasks t ≡ Some x → Around K t (is_counted x.step) (is_take x.step) w.inner w.history
+pub around : (K : Kind) (limit t : ℕ) (x : Task) (w : World) → Fits K limit w → w.tasks t ≡ Some x → Around K t (is_counted x.step) (is_take x.step) w.shared w.history
 around K limit t x w f found =
     let h : List Entry = w.history in
     let was : step_of (w.tasks t) ≡ x.step = ap step_of found in
     record {
-      none_waits = λ z u s. let a = stands_waiting K limit u w.inner h (w.tasks u) (f.tasks u) s in
+      none_waits = λ z u s. let a = stands_waiting K limit u w.shared h (w.tasks u) (f.tasks u) s in
           let n = in_count K limit w u f (inside_counted (step_of (w.tasks u)) a.0) in let e : ⊥ = omega arith in e;
-      head_counts = λ e. let k = holder_of (cell K h) (f.inner.held_is ∙ or_right w.inner.quick w.inner.head e) in
-          in_count K limit w k.0 f (stands_head K limit k.0 w.inner h (w.tasks k.0) (f.tasks k.0) (ap (holds k.0) k.1 ∙ eqb_self k.0) e);
+      head_counts = λ e. let k = holder_of (cell K h) (f.shared.held_is ∙ or_right w.shared.quick w.shared.head e) in
+          in_count K limit w k.0 f (stands_head K limit k.0 w.shared h (w.tasks k.0) (f.tasks k.0) (ap (holds k.0) k.1 ∙ eqb_self k.0) e);
       acts = λ n l. acts_by K limit t w f (was_uncounted limit t x w found n) l;
-      take_waits = λ k u s. let a = stands_waiting K limit u w.inner h (w.tasks u) (f.tasks u) s in f.alone t u (ap is_take was ∙ k) a.0;
-      door_waits = λ n u s. let a = stands_waiting K limit u w.inner h (w.tasks u) (f.tasks u) s in no_door w.inner n a.1;
+      take_waits = λ k u s. let a = stands_waiting K limit u w.shared h (w.tasks u) (f.tasks u) s in f.alone t u (ap is_take was ∙ k) a.0;
+      door_waits = λ n u s. let a = stands_waiting K limit u w.shared h (w.tasks u) (f.tasks u) s in no_door w.shared n a.1;
       crowded = λ n. crowd_by K limit t w f (was_uncounted limit t x w found n);
       own_count = λ e. in_count K limit w t f (ap (λ o. is_counted (step_of o)) found ∙ e);
     }

@@ -6,7 +6,7 @@ use Rattle.once_world.specs.Record.{Entry, handed_by, is_of}
 use Rattle.once_queue.specs.declared.waiters.Listing.{Listing}
 use Rattle.once_queue.specs.Listings.{call_first, find_listing, first_waker, one_out}
 use Rattle.once_world.specs.Wakers.{handed_since}
-use Rattle.once_world.specs.Machine.{Inner}
+use Rattle.once_world.specs.Machine.{SharedState}
 use Rattle.once_queue.proofs.Listing.Members.{eqb_self, member-append}
 use Rattle.once_world.proofs.Listing.CalledFirst.{call_find}
 use Rattle.once_world.proofs.History.Others.{no_end}
@@ -24,7 +24,7 @@ pub call_kept : (u n : ℕ) (o : Option ℕ) (xs : List (Listing ℕ)) (e : Entr
 call_kept u n o xs e h is all f = ⊎_elim (λ k. inl k) (λ k. inr (k.0, k.1, k.2, handed_now u k.0 e h is (rw all (one_member k.0 (first_waker xs) k.3)))) (call_find n o xs f)
 
 -- where the value is set afterwards the listings matter no more
-pub ready_lists : (t : ℕ) (k : Option ℕ) (c c' : Inner) (h' : List Entry) → c'.ready ≡ true → ListMoves t k None c c' h'
+pub ready_lists : (t : ℕ) (k : Option ℕ) (c c' : SharedState) (h' : List Entry) → c'.ready ≡ true → ListMoves t k None c c' h'
 ready_lists t k c c' h' e = record {
   up = λ _. e;
   lists = λ u n o d x r f. absurd (false≢true (sym r ∙ e));

@@ -7,7 +7,7 @@ use Rattle.once_world.specs.Tasks.{Dropping, Fresh, Gone, Holding, Polling, Stat
 use Rattle.once_queue.specs.Listings.{find_listing}
 use Rattle.once_world.specs.Refusals.{MemoryFrom}
 use Rattle.once_world.specs.Wakers.{handed_since}
-use Rattle.once_world.specs.Machine.{AtAddOne, AtCountIn, AtCountOut, AtDoorAgain, AtDoorGet, AtDoorPut, AtDoorTake, AtFast, AtList, AtLook, AtPut, AtLeave, AtRelease, AtRun, AtStart, AtTryQuick, AtWaitLoad, EndDropped, EndError, EndFull, EndMemory, EndPending, EndValue, Ending, Finished, Inner, Place, Rest, RestRun, RestStart, RestWait, Resting, Step, UnderWay, place_of_poll}
+use Rattle.once_world.specs.Machine.{AtAddOne, AtCountIn, AtCountOut, AtDoorAgain, AtDoorGet, AtDoorPut, AtDoorTake, AtFast, AtList, AtLook, AtPut, AtLeave, AtRelease, AtRun, AtStart, AtTryQuick, AtWaitLoad, EndDropped, EndError, EndFull, EndMemory, EndPending, EndValue, Ending, Finished, SharedState, Place, Rest, RestRun, RestStart, RestWait, Resting, Step, UnderWay, place_of_poll}
 use Rattle.once_world.proofs.History.Others.{Met, MetHolder, SomeoneWaits, holds}
 
 -- what is kept of the last answer of an init
@@ -58,17 +58,17 @@ pub record AnyIn (K : Kind) (t : ℕ) (h : List Entry) : Type 0 where
   pub from : (((last_call K t h).began ≡ Fresh) × ((last_call K t h).set_then ≡ false)) ⊎ ((last_call K t h).began ≡ Waiting)
 
 -- the flags while a task holds by the quick claim, and while one holds under the lock
-pub record QuickFlag (c : Inner) : Type 0 where
+pub record QuickFlag (c : SharedState) : Type 0 where
   pub quick_is : c.quick ≡ true
   pub head_is : c.head ≡ false
 
 -- the same while one holds under the lock
-pub record HeadFlag (c : Inner) : Type 0 where
+pub record HeadFlag (c : SharedState) : Type 0 where
   pub quick_is : c.quick ≡ false
   pub head_is : c.head ≡ true
 
 -- how a holder holds: by the quick claim, or under the lock of a queue
-abbrev pub HoldsBy : ℕ → Inner → Option ℕ → Type 0
+abbrev pub HoldsBy : ℕ → SharedState → Option ℕ → Type 0
 HoldsBy limit c None = QuickFlag c × (c.count ≤ limit)
 HoldsBy limit c (Some q) = HeadFlag c × (c.door ≡ Some q)
 
@@ -82,7 +82,7 @@ Owes K t h EndPending = ⊥
 Owes K t h EndFull = ⊥
 
 -- what stands in the call of a holder that gives the right back, with the value put or without
-abbrev pub Releasing : Kind → ℕ → List Entry → Inner → Ending → Type 0
+abbrev pub Releasing : Kind → ℕ → List Entry → SharedState → Ending → Type 0
 Releasing K t h c EndValue = (v : ℕ) × InPoll K t h (Some (RanValue v)) true × (c.value ≡ v)
 Releasing K t h c EndError = (e : ℕ) × InPoll K t h (Some (RanError e)) true
 Releasing K t h c EndDropped = InStatus K t h Dropping true × GaveNothing K t h
@@ -91,20 +91,20 @@ Releasing K t h c EndMemory = ⊥
 Releasing K t h c EndFull = ⊥
 
 -- a queue stands at the door
-abbrev pub IsSomeDoor : Inner → Type 0
+abbrev pub IsSomeDoor : SharedState → Type 0
 IsSomeDoor c = (q : ℕ) × (c.door ≡ Some q)
 
 -- the listing of t with the ticket n, unless the value is set: it has the waker of t's last poll that ended Pending, or was called, and that waker was handed out since
-abbrev pub IsListed : Kind → ℕ → Inner → List Entry → ℕ → Type 0
+abbrev pub IsListed : Kind → ℕ → SharedState → List Entry → ℕ → Type 0
 IsListed K t c h n = c.ready ≡ false → (find_listing n c.listings ≡ Some (Some (last_call K t h).listed)) ⊎ ((find_listing n c.listings ≡ Some None) × (member (last_call K t h).listed (handed_since t h) ≡ true))
 
 -- what stands for the ticket of a task in a poll: it has one only where it began the poll waiting
-abbrev pub HasTicket : Kind → ℕ → Inner → List Entry → Option ℕ → Type 0
+abbrev pub HasTicket : Kind → ℕ → SharedState → List Entry → Option ℕ → Type 0
 HasTicket K t c h None = Unit {0}
 HasTicket K t c h (Some n) = ((last_call K t h).began ≡ Waiting) × IsListed K t c h n
 
 -- of a task that waits: it has one
-abbrev pub RestsOn : Kind → ℕ → Inner → List Entry → Option ℕ → Type 0
+abbrev pub RestsOn : Kind → ℕ → SharedState → List Entry → Option ℕ → Type 0
 RestsOn K t c h None = ⊥
 RestsOn K t c h (Some n) = ((last_call K t h).listed ≡ (last_call K t h).waker) × IsListed K t c h n
 
@@ -118,13 +118,13 @@ Leaves K t h EndPending = ⊥
 Leaves K t h EndFull = ⊥
 
 -- what stands for a task at rest
-abbrev pub AtRest : Kind → ℕ → ℕ → Inner → List Entry → Rest ℕ → Type 0
+abbrev pub AtRest : Kind → ℕ → ℕ → SharedState → List Entry → Rest ℕ → Type 0
 AtRest K limit t c h RestStart = InStatus K t h Fresh false
 AtRest K limit t c h (RestWait q k) = InStatus K t h Waiting false × (c.door ≡ Some q) × RestsOn K t c h k
 AtRest K limit t c h (RestRun by) = InStatus K t h Holding true × HoldsBy limit c by
 
 -- what stands for a task whose call is under way
-abbrev pub AtPlace : Kind → ℕ → ℕ → Inner → List Entry → Place ℕ ℕ → Type 0
+abbrev pub AtPlace : Kind → ℕ → ℕ → SharedState → List Entry → Place ℕ ℕ → Type 0
 AtPlace K limit t c h AtStart = Entered K t h × ((last_call K t h).began ≡ Fresh) × ((last_call K t h).set_then ≡ true → is_set (cell K h) ≡ true)
 AtPlace K limit t c h AtTryQuick = FreshIn K t h × ((is_set (cell K h) ≡ false) ⊎ Met K t h)
 AtPlace K limit t c h AtDoorGet = FreshIn K t h × (Met K t h ⊎ SomeoneWaits K h)
@@ -144,7 +144,7 @@ AtPlace K limit t c h (AtCountOut e) = Owes K t h e
 AtPlace K limit t c h (AtDoorTake e) = Owes K t h e × (c.ready ≡ true)
 
 -- what stands for a task at its step
-abbrev pub AtStep : Kind → ℕ → ℕ → Inner → List Entry → Step ℕ ℕ → Type 0
+abbrev pub AtStep : Kind → ℕ → ℕ → SharedState → List Entry → Step ℕ ℕ → Type 0
 AtStep K limit t c h (Resting r) = AtRest K limit t c h r × GaveNothing K t h
 AtStep K limit t c h (UnderWay p) = AtPlace K limit t c h p
 AtStep K limit t c h Finished = InStatus K t h Gone false

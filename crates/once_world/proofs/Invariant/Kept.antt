@@ -5,14 +5,14 @@ use Rattle.once_world.specs.Record.{Answer, Entry, Kind, RanError, RanValue}
 use Rattle.once_world.specs.Cell.{Cell, Empty, Held, SetTo, cell, is_set}
 use Rattle.once_world.specs.Tasks.{Dropping, Fresh, Gone, Holding, LastCall, Polling, Status, Unmade, Waiting, last_call}
 use Rattle.once_world.specs.Refusals.{MemoryFrom}
-use Rattle.once_world.specs.Machine.{AtAddOne, AtCountIn, AtCountOut, AtDoorAgain, AtDoorGet, AtDoorPut, AtDoorTake, AtFast, AtList, AtLook, AtPut, AtLeave, AtRelease, AtRun, AtStart, AtTryQuick, AtWaitLoad, EndDropped, EndError, EndFull, EndMemory, EndPending, EndValue, Ending, Finished, Inner, Place, Rest, RestRun, RestStart, RestWait, Resting, Step, UnderWay}
+use Rattle.once_world.specs.Machine.{AtAddOne, AtCountIn, AtCountOut, AtDoorAgain, AtDoorGet, AtDoorPut, AtDoorTake, AtFast, AtList, AtLook, AtPut, AtLeave, AtRelease, AtRun, AtStart, AtTryQuick, AtWaitLoad, EndDropped, EndError, EndFull, EndMemory, EndPending, EndValue, Ending, Finished, SharedState, Place, Rest, RestRun, RestStart, RestWait, Resting, Step, UnderWay}
 use Rattle.once_world.proofs.History.Others.{Keeps, holds}
 use Rattle.once_world.proofs.History.Cells.{holder_unset}
 use Rattle.once_world.proofs.Invariant.Facts.{AnyIn, AtPlace, AtRest, AtStep, Entered, FreshIn, GaveNothing, HeadFlag, HoldsBy, InPoll, InStatus, Leaves, Owes, QuickFlag, RefusedIn, Releasing, is_inside, is_inside_at, ticket_at, ticket_of}
 use Rattle.once_world.proofs.Invariant.Listed.{ListKept, listed_kept, rests_kept, ticket_kept}
 
 -- what a step of another task leaves for u of what all tasks share
-pub record InnerKeeps (K : Kind) (limit : ℕ) (c c' : Inner) (u : ℕ) (h : List Entry) (inside : Bool) : Type 0 where
+pub record SharedKeeps (K : Kind) (limit : ℕ) (c c' : SharedState) (u : ℕ) (h : List Entry) (inside : Bool) : Type 0 where
   pub ready : c.ready ≡ true → c'.ready ≡ true
   pub door : (q : ℕ) → c.door ≡ Some q → (c'.door ≡ Some q) ⊎ ((c.ready ≡ true) × (inside ≡ false))
   pub flags : ((c'.quick ≡ c.quick) × (c'.head ≡ c.head) × (c'.value ≡ c.value)) ⊎ (holds u (cell K h) ≡ false)
@@ -67,7 +67,7 @@ owes_kept K u h h' EndPending k o = absurd o
 owes_kept K u h h' EndFull k o = absurd o
 
 -- what a holder that releases keeps
-releasing_kept : (K : Kind) (u : ℕ) (c c' : Inner) (h h' : List Entry) (e : Ending) → Keeps K u h h' → c'.value ≡ c.value → Releasing K u h c e → Releasing K u h' c' e
+releasing_kept : (K : Kind) (u : ℕ) (c c' : SharedState) (h h' : List Entry) (e : Ending) → Keeps K u h h' → c'.value ≡ c.value → Releasing K u h c e → Releasing K u h' c' e
 releasing_kept K u c c' h h' EndValue k s r = (r.0, in_poll_kept K u h h' (Some (RanValue r.0)) true k r.1, s ∙ r.2)
 releasing_kept K u c c' h h' EndError k s r = (r.0, in_poll_kept K u h h' (Some (RanError r.0)) true k r.1)
 releasing_kept K u c c' h h' EndDropped k s r = (in_status_kept K u h h' Dropping true k r.0, nothing_kept K u h h' k r.1)
@@ -76,7 +76,7 @@ releasing_kept K u c c' h h' EndMemory k s r = absurd r
 releasing_kept K u c c' h h' EndFull k s r = absurd r
 
 -- a task that releases holds
-pub releasing_holds : (K : Kind) (u : ℕ) (c : Inner) (h : List Entry) (e : Ending) → Releasing K u h c e → holds u (cell K h) ≡ true
+pub releasing_holds : (K : Kind) (u : ℕ) (c : SharedState) (h : List Entry) (e : Ending) → Releasing K u h c e → holds u (cell K h) ≡ true
 releasing_holds K u c h EndValue r = r.1.holds_is
 releasing_holds K u c h EndError r = r.1.holds_is
 releasing_holds K u c h EndDropped r = r.0.holds_is
@@ -85,7 +85,7 @@ releasing_holds K u c h EndMemory r = absurd r
 releasing_holds K u c h EndFull r = absurd r
 
 -- what a holder keeps through the step of another task
-record HolderKeeps (limit : ℕ) (c c' : Inner) : Type 0 where
+record HolderKeeps (limit : ℕ) (c c' : SharedState) : Type 0 where
   quick_is : c'.quick ≡ c.quick
   head_is : c'.head ≡ c.head
   value_is : c'.value ≡ c.value
@@ -93,7 +93,7 @@ record HolderKeeps (limit : ℕ) (c c' : Inner) : Type 0 where
   door : (q : ℕ) → c.door ≡ Some q → c'.door ≡ Some q
 
 -- a holder keeps the flags, the value, the bound and the door
-holder_keeps : (K : Kind) (limit u : ℕ) (c c' : Inner) (h : List Entry) (inside : Bool) → c.ready ≡ is_set (cell K h) → holds u (cell K h) ≡ true → InnerKeeps K limit c c' u h inside → HolderKeeps limit c c'
+holder_keeps : (K : Kind) (limit u : ℕ) (c c' : SharedState) (h : List Entry) (inside : Bool) → c.ready ≡ is_set (cell K h) → holds u (cell K h) ≡ true → SharedKeeps K limit c c' u h inside → HolderKeeps limit c c'
 holder_keeps K limit u c c' h inside r hold k =
     let unset : c.ready ≡ false = r ∙ holder_unset u (cell K h) hold in
     record {
@@ -105,17 +105,17 @@ holder_keeps K limit u c c' h inside r hold k =
     }
 
 -- a waiter keeps its queue at the door
-inside_door : (K : Kind) (limit u q : ℕ) (c c' : Inner) (h : List Entry) → InnerKeeps K limit c c' u h true → c.door ≡ Some q → c'.door ≡ Some q
+inside_door : (K : Kind) (limit u q : ℕ) (c c' : SharedState) (h : List Entry) → SharedKeeps K limit c c' u h true → c.door ≡ Some q → c'.door ≡ Some q
 inside_door K limit u q c c' h k d = ⊎_elim (λ s. s) (λ n. absurd (false≢true (sym n.1))) (k.door q d)
 
-quick_kept : (limit : ℕ) (c c' : Inner) → HolderKeeps limit c c' → QuickFlag c → QuickFlag c'
+quick_kept : (limit : ℕ) (c c' : SharedState) → HolderKeeps limit c c' → QuickFlag c → QuickFlag c'
 quick_kept limit c c' k f = record { quick_is = k.quick_is ∙ f.quick_is; head_is = k.head_is ∙ f.head_is }
 
-head_kept : (limit : ℕ) (c c' : Inner) → HolderKeeps limit c c' → HeadFlag c → HeadFlag c'
+head_kept : (limit : ℕ) (c c' : SharedState) → HolderKeeps limit c c' → HeadFlag c → HeadFlag c'
 head_kept limit c c' k f = record { quick_is = k.quick_is ∙ f.quick_is; head_is = k.head_is ∙ f.head_is }
 
 -- a holder keeps how it holds
-holds_by_kept : (limit : ℕ) (c c' : Inner) (by : Option ℕ) → HolderKeeps limit c c' → HoldsBy limit c by → HoldsBy limit c' by
+holds_by_kept : (limit : ℕ) (c c' : SharedState) (by : Option ℕ) → HolderKeeps limit c c' → HoldsBy limit c by → HoldsBy limit c' by
 holds_by_kept limit c c' None k f = (quick_kept limit c c' k f.0, k.within f.1)
 holds_by_kept limit c c' (Some q) k f = (head_kept limit c c' k f.0, k.door q f.1)
 
@@ -125,15 +125,15 @@ stays_set (SetTo v) c' f e = ap is_set (f v refl)
 stays_set Empty c' f e = grind arith
 stays_set (Held t) c' f e = grind arith
 
-module _ (K : Kind) (limit u : ℕ) (c c' : Inner) (h h' : List Entry) (r : c.ready ≡ is_set (cell K h)) (k : Keeps K u h h') where
+module _ (K : Kind) (limit u : ℕ) (c c' : SharedState) (h h' : List Entry) (r : c.ready ≡ is_set (cell K h)) (k : Keeps K u h h') where
   -- a task at rest
-  rest_kept : (x : Rest ℕ) → InnerKeeps K limit c c' u h (is_inside (Resting x)) → ListKept u (ticket_of (Resting x)) c c' h' → AtRest K limit u c h x → AtRest K limit u c' h' x
+  rest_kept : (x : Rest ℕ) → SharedKeeps K limit c c' u h (is_inside (Resting x)) → ListKept u (ticket_of (Resting x)) c c' h' → AtRest K limit u c h x → AtRest K limit u c' h' x
   rest_kept RestStart s l a = in_status_kept K u h h' Fresh false k a
   rest_kept (RestWait q n) s l a = (in_status_kept K u h h' Waiting false k a.0, inside_door K limit u q c c' h s a.1, rests_kept K u c c' h h' n s.ready k l a.2)
   rest_kept (RestRun by) s l a = (in_status_kept K u h h' Holding true k a.0, holds_by_kept limit c c' by (holder_keeps K limit u c c' h (is_inside (Resting (RestRun by))) r a.0.holds_is s) a.1)
 
   -- a task with a call under way
-  place_kept : (p : Place ℕ ℕ) → InnerKeeps K limit c c' u h (is_inside_at p) → ListKept u (ticket_at p) c c' h' → AtPlace K limit u c h p → AtPlace K limit u c' h' p
+  place_kept : (p : Place ℕ ℕ) → SharedKeeps K limit c c' u h (is_inside_at p) → ListKept u (ticket_at p) c c' h' → AtPlace K limit u c h p → AtPlace K limit u c' h' p
   place_kept AtStart s l a = (entered_kept K u h h' k a.0, rw k.call_is a.1, λ e. stays_set (cell K h) (cell K h') k.set_stays (a.2 (sym (ap (λ (x : LastCall). x.set_then) k.call_is) ∙ e)))
   place_kept AtTryQuick s l a = (fresh_kept K u h h' k a.0, ⊎_elim (λ n. k.became_set n) (λ m. inr (k.met m)) a.1)
   place_kept AtDoorGet s l a = (fresh_kept K u h h' k a.0, ⊎_elim (λ m. inl (k.met m)) (λ w. k.waits w) a.1)
@@ -153,7 +153,7 @@ module _ (K : Kind) (limit u : ℕ) (c c' : Inner) (h h' : List Entry) (r : c.re
   place_kept (AtDoorTake e) s l a = (owes_kept K u h h' e k a.0, s.ready a.1)
 
   -- a task keeps what stands for it through the step of another
-  pub step_kept : (x : Step ℕ ℕ) → InnerKeeps K limit c c' u h (is_inside x) → ListKept u (ticket_of x) c c' h' → AtStep K limit u c h x → AtStep K limit u c' h' x
+  pub step_kept : (x : Step ℕ ℕ) → SharedKeeps K limit c c' u h (is_inside x) → ListKept u (ticket_of x) c c' h' → AtStep K limit u c h x → AtStep K limit u c' h' x
   step_kept (Resting x) s l a = (rest_kept x s l a.0, nothing_kept K u h h' k a.1)
   step_kept (UnderWay p) s l a = place_kept p s l a
   step_kept Finished s l a = in_status_kept K u h h' Gone false k a

@@ -6,7 +6,7 @@ use Rattle.once_world.specs.Record.{Entry, Kind}
 use Rattle.once_world.specs.Tasks.{LastCall, last_call}
 use Rattle.once_queue.specs.declared.waiters.Listing.{Listing}
 use Rattle.once_queue.specs.Listings.{find_listing}
-use Rattle.once_world.specs.Machine.{Inner}
+use Rattle.once_world.specs.Machine.{SharedState}
 use Rattle.once_world.specs.Wakers.{handed_since}
 use Rattle.once_world.proofs.History.Others.{Keeps}
 use Rattle.once_world.proofs.Invariant.Facts.{HasTicket, IsListed, RestsOn}
@@ -16,7 +16,7 @@ abbrev pub IsKept : ℕ → ℕ → Option ℕ → List (Listing ℕ) → List E
 IsKept u n o ys h' = (find_listing n ys ≡ Some o) ⊎ ((w : ℕ) × (o ≡ Some w) × (find_listing n ys ≡ Some None) × (member w (handed_since u h') ≡ true))
 
 -- the same for the ticket k, if u has one
-abbrev pub ListKept : ℕ → Option ℕ → Inner → Inner → List Entry → Type 0
+abbrev pub ListKept : ℕ → Option ℕ → SharedState → SharedState → List Entry → Type 0
 ListKept u k c c' h' = (n : ℕ) (o : Option ℕ) → k ≡ Some n → c'.ready ≡ false → find_listing n c.listings ≡ Some o → IsKept u n o c'.listings h'
 
 -- a flag that is not set now was not set before
@@ -30,7 +30,7 @@ none_not_some w e = cc
 pub same_some : (a b : ℕ) → ◌≡◌ {A = Option ℕ} (Some a) (Some b) → a ≡ b
 same_some a b e = cc
 
-module _ (K : Kind) (u : ℕ) (c c' : Inner) (h h' : List Entry) where
+module _ (K : Kind) (u : ℕ) (c c' : SharedState) (h h' : List Entry) where
   -- a listing
   pub listed_kept : (n : ℕ) (k : Option ℕ) → k ≡ Some n → (c.ready ≡ true → c'.ready ≡ true) → Keeps K u h h' → ListKept u k c c' h' → IsListed K u c h n → IsListed K u c' h' n
   listed_kept n k is up kp l a = λ r.

@@ -4,7 +4,7 @@ use Rattle.std.specs.Prelude.{◌||◌, nat_lt}
 use Rattle.std.specs.Option.{is_some}
 use Rattle.once_world.specs.Record.{Answer, Kind, Lazy, LazyWith, Once, OnceWith, RanError, RanPending, RanValue, is_lazy}
 use Rattle.once_world.specs.Inputs.{AreOfStep, IsAsked, IsOfStep}
-use Rattle.once_world.specs.Machine.{AtAddOne, AtCountIn, AtCountOut, AtDoorAgain, AtDoorGet, AtDoorPut, AtDoorTake, AtFast, AtLeave, AtList, AtLook, AtPut, AtRelease, AtRun, AtStart, AtTryQuick, AtWaitLoad, EndDropped, EndError, EndFull, EndMemory, EndPending, EndValue, Ending, Finished, Inner, Place, Resting, Step, UnderWay, again_step, out_inner, door_step, take_inner, end_entry, fast_step, init_answer, release_wakers, in_step, is_at_door, is_taken, is_value, is_waker, kept_ticket, leave_step, list_step, load_step, look_step, next_waker, one_out, out_step, own_listing, pass_entries, is_passing, place_step, put_step, quick_step, run_inner, release_entry, release_step, run_step, start_step, step_at, word_of}
+use Rattle.once_world.specs.Machine.{AtAddOne, AtCountIn, AtCountOut, AtDoorAgain, AtDoorGet, AtDoorPut, AtDoorTake, AtFast, AtLeave, AtList, AtLook, AtPut, AtRelease, AtRun, AtStart, AtTryQuick, AtWaitLoad, EndDropped, EndError, EndFull, EndMemory, EndPending, EndValue, Ending, Finished, SharedState, Place, Resting, Step, UnderWay, again_step, out_shared, door_step, take_shared, end_entry, fast_step, init_answer, release_wakers, in_step, is_at_door, is_value, is_waker, kept_ticket, leave_step, list_step, load_step, look_step, next_waker, one_out, out_step, own_listing, pass_entries, is_passing, place_step, put_step, quick_step, run_shared, release_entry, release_step, run_step, start_step, step_at, word_of, QueueState, QueueGone, QueueSet, QueueFree, QueueHeld, queue_state}
 use Rattle.once_queue.specs.Word.{is_zero, is_quick_bit, is_ready_bit}
 
 -- the last entry of a call is of its task
@@ -35,7 +35,7 @@ asked_so (Lazy k) l a = tt
 asked_so (LazyWith v) l a = tt
 
 -- the entries of each step, by the outcome of its tests
-module _ (K : Kind) (c : Inner) (t : ℕ) (k a : Answer) where
+module _ (K : Kind) (c : SharedState) (t : ℕ) (k a : Answer) where
   part_start : (r f : Bool) → AreOfStep K t a (start_step r f c t k).entries
   part_start true f = refl
   part_start false true = tt
@@ -64,23 +64,23 @@ module _ (K : Kind) (c : Inner) (t : ℕ) (k a : Answer) where
   part_load true q n = tt
   part_load false q n = tt
 
-  part_look : (d r f m g : Bool) (w q : ℕ) (n : Option ℕ) → AreOfStep K t a (look_step d r f m g c t w k q n).entries
-  part_look true true f m g w q n = tt
-  part_look true false false m g w q n = refl
-  part_look true false true true g w q n = refl
-  part_look true false true false true w q n = tt
-  part_look true false true false false w q n = tt
-  part_look false r f m true w q n = tt
-  part_look false r f m false w q n = tt
+  part_look : (f : QueueState) (m g : Bool) (w q : ℕ) (n : Option ℕ) → AreOfStep K t a (look_step f m g c t w k q n).entries
+  part_look QueueSet m g w q n = tt
+  part_look QueueFree m g w q n = refl
+  part_look QueueHeld true g w q n = refl
+  part_look QueueHeld false true w q n = tt
+  part_look QueueHeld false false w q n = tt
+  part_look QueueGone m true w q n = tt
+  part_look QueueGone m false w q n = tt
 
-  part_list : (d r f g : Bool) (w q : ℕ) (n : Option ℕ) → AreOfStep K t a (list_step d r f g c t w k q n).entries
-  part_list false r f g w q n = refl
-  part_list true true f g w q n = tt
-  part_list true false false g w q n = refl
-  part_list true false true true w q n = refl
-  part_list true false true false w q n = tt
+  part_list : (f : QueueState) (g : Bool) (w q : ℕ) (n : Option ℕ) → AreOfStep K t a (list_step f g c t w k q n).entries
+  part_list QueueGone g w q n = refl
+  part_list QueueSet g w q n = tt
+  part_list QueueFree g w q n = refl
+  part_list QueueHeld true w q n = refl
+  part_list QueueHeld false w q n = tt
 
-  part_run : (b : Answer) (by : Option ℕ) → IsAsked K a b → AreOfStep K t a (run_step b (run_inner c) t k by).entries
+  part_run : (b : Answer) (by : Option ℕ) → IsAsked K a b → AreOfStep K t a (run_step b (run_shared c) t k by).entries
   part_run RanPending by x = (refl, (refl, x))
   part_run (RanValue v) by x = (refl, x)
   part_run (RanError e) by x = (refl, x)
@@ -102,7 +102,7 @@ module _ (K : Kind) (c : Inner) (t : ℕ) (k a : Answer) where
   part_leave true n e = pass_part K t a (one_out (next_waker (is_passing c n) n c.listings))
   part_leave false n e = tt
 
-  part_out : (x : Bool) (e : Ending) → AreOfStep K t a (out_step x (out_inner c) t k e).entries
+  part_out : (x : Bool) (e : Ending) → AreOfStep K t a (out_step x (out_shared c) t k e).entries
   part_out true e = tt
   part_out false e = last_part K t a c.value k e
 
@@ -114,8 +114,8 @@ module _ (K : Kind) (c : Inner) (t : ℕ) (k a : Answer) where
   part_at limit w g AtDoorPut = part_put g c.door
   part_at limit w g (AtCountIn q) = part_in (nat_lt c.count limit) c.ready q
   part_at limit w g (AtWaitLoad q n) = part_load c.ready q n
-  part_at limit w g (AtLook q n) = part_look (is_at_door q c.door) c.ready (is_taken c) (is_waker w (own_listing n c.listings)) g w q n
-  part_at limit w g (AtList q n v) = part_list (is_at_door q c.door) c.ready (is_taken c) (is_some (kept_ticket n c.listings) || g) v q n
+  part_at limit w g (AtLook q n) = part_look (queue_state q c) (is_waker w (own_listing n c.listings)) g w q n
+  part_at limit w g (AtList q n v) = part_list (queue_state q c) (is_some (kept_ticket n c.listings) || g) v q n
   part_at limit w g (AtRun by) = part_run (init_answer (is_lazy K) c.answers a) by (asked_so K c.answers a)
   part_at limit w g (AtPut by) = tt
   part_at limit w g (AtFast e) = part_fast (is_quick_bit (word_of c)) (is_value e) e
@@ -123,8 +123,8 @@ module _ (K : Kind) (c : Inner) (t : ℕ) (k a : Answer) where
   part_at limit w g (AtDoorAgain e) = part_again c.door e
   part_at limit w g (AtRelease q e) = part_release (is_at_door q c.door) e
   part_at limit w g (AtLeave q n e) = part_leave (is_at_door q c.door) n e
-  part_at limit w g (AtCountOut e) = part_out (is_ready_bit (word_of (out_inner c))) e
-  part_at limit w g (AtDoorTake e) = last_part K t a (take_inner c).value k e
+  part_at limit w g (AtCountOut e) = part_out (is_ready_bit (word_of (out_shared c))) e
+  part_at limit w g (AtDoorTake e) = last_part K t a (take_shared c).value k e
 
   -- the entries of a step
   pub step_part : (limit w : ℕ) (g : Bool) (s : Step ℕ ℕ) → AreOfStep K t a (step_at (is_lazy K) limit c t w k a g s).entries

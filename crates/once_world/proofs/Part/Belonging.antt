@@ -5,7 +5,7 @@ use Rattle.once_world.specs.Record.{Entry, Kind}
 use Rattle.once_world.specs.Tasks.{is_under_way, status}
 use Rattle.once_world.specs.Inputs.{Adds, FallsInto, Input, Part, SixteenEnd, WantsMemoryOnlyUngranted, all_granted, begins_call, entries_of, gos, is_fitting_go}
 use Rattle.once_world.specs.Log.{AddsLines, IsLogOf, NoneKept, WaitingStands, lines_of}
-use Rattle.once_world.specs.Machine.{Inner, Step, Task, World, world_after, history_of, in_call, log_of, world_of}
+use Rattle.once_world.specs.Machine.{SharedState, Step, Task, World, world_after, history_of, in_call, log_of, world_of}
 use Rattle.once_world.proofs.Invariant.Fits.{Fits, StandsFor, step_of}
 use Rattle.once_world.proofs.Input.Headline.{world_fits}
 use Rattle.once_world.proofs.Door.Logged.{log_stands}
@@ -21,7 +21,7 @@ sixteen_called n u s b l true e = let p = left_some s e in let m = b.steps e in 
 sixteen_called n u s b l false e = e
 
 -- the same for the task of the record
-sixteen_now : (K : Kind) (limit t n : ℕ) (u : Bool) (c : Inner) (h : List Entry) (o : Option Task) → StandsFor K limit t c h o → Budget n u (step_of o) → 16 ≤ n → is_under_way (status K t h) ≡ false
+sixteen_now : (K : Kind) (limit t n : ℕ) (u : Bool) (c : SharedState) (h : List Entry) (o : Option Task) → StandsFor K limit t c h o → Budget n u (step_of o) → 16 ≤ n → is_under_way (status K t h) ≡ false
 sixteen_now K limit t n u c h None s b l = ap is_under_way s.0.status_is
 sixteen_now K limit t n u c h (Some x) s b l = step_acts K limit t c h x.step s.step ∙ sixteen_called n u x.step b l (in_call x.step) refl
 
@@ -39,7 +39,7 @@ record Tale (K : Kind) (limit : ℕ) (inputs : List Input) : Type 0 where
 module _ (K : Kind) (limit : ℕ) (some : 0 < limit) where
   -- after these parts
   sixteen_of : (inputs : List Input) (parts : List Part) → entries_of parts ≡ history_of K limit inputs → ((t : ℕ) → Budget (length (gos K t parts)) (not (all_granted (gos K t parts))) (step_of ((world_of K limit inputs).tasks t))) → SixteenEnd K parts
-  sixteen_of inputs parts r b t l = rw r (sixteen_now K limit t (length (gos K t parts)) (not (all_granted (gos K t parts))) (world_of K limit inputs).inner (history_of K limit inputs) ((world_of K limit inputs).tasks t) ((world_fits K limit inputs some).tasks t) (b t) l)
+  sixteen_of inputs parts r b t l = rw r (sixteen_now K limit t (length (gos K t parts)) (not (all_granted (gos K t parts))) (world_of K limit inputs).shared (history_of K limit inputs) ((world_of K limit inputs).tasks t) ((world_fits K limit inputs some).tasks t) (b t) l)
 
   -- a queue stands while a task waits, in the log of the parts
   waiting_of : (inputs : List Input) (parts : List Part) → entries_of parts ≡ history_of K limit inputs → lines_of parts ≡ log_of K limit inputs → WaitingStands K parts

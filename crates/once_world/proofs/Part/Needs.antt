@@ -4,7 +4,7 @@ use Rattle.std.specs.Prelude.{nat_lt}
 use Rattle.std.proofs.lemmas.Bool.{false≢true}
 use Rattle.once_world.specs.Record.{Answer, Entry, Kind, RanError, RanPending, RanValue, is_lazy}
 use Rattle.once_world.specs.Log.{IsAtMostOne, has_entered, need_queue, take_lines}
-use Rattle.once_world.specs.Machine.{AtAddOne, AtCountIn, AtCountOut, AtDoorAgain, AtDoorGet, AtDoorPut, AtDoorTake, AtFast, AtLeave, AtList, AtLook, AtPut, AtRelease, AtRun, AtStart, AtTryQuick, AtWaitLoad, EndDropped, EndError, EndFull, EndMemory, EndPending, EndValue, Ending, Finished, Inner, Place, Resting, Step, UnderWay, again_step, out_inner, door_step, end_entry, fast_step, init_answer, in_step, is_value, load_step, out_step, place_lines, place_step, put_lines, put_step, quick_step, run_inner, release_entry, run_step, start_step, step_at, step_lines, word_of}
+use Rattle.once_world.specs.Machine.{AtAddOne, AtCountIn, AtCountOut, AtDoorAgain, AtDoorGet, AtDoorPut, AtDoorTake, AtFast, AtLeave, AtList, AtLook, AtPut, AtRelease, AtRun, AtStart, AtTryQuick, AtWaitLoad, EndDropped, EndError, EndFull, EndMemory, EndPending, EndValue, Ending, Finished, SharedState, Place, Resting, Step, UnderWay, again_step, out_shared, door_step, end_entry, fast_step, init_answer, in_step, is_value, load_step, out_step, place_lines, place_step, put_lines, put_step, quick_step, run_shared, release_entry, run_step, start_step, step_at, step_lines, word_of}
 use Rattle.once_queue.proofs.Listing.Members.{eqb_self}
 use Rattle.once_world.proofs.Invariant.Facts.{AtPlace, AtStep, Releasing}
 use Rattle.once_world.proofs.Place.Builders.{owes_lasts}
@@ -26,7 +26,7 @@ need_released K t (RanValue v) h = refl
 need_released K t (RanError e) h = refl
 
 -- a call that releases does not end Pending
-releasing_lasts : (K : Kind) (t : ℕ) (h : List Entry) (c : Inner) (e : Ending) → Releasing K t h c e → e ≢ EndPending
+releasing_lasts : (K : Kind) (t : ℕ) (h : List Entry) (c : SharedState) (e : Ending) → Releasing K t h c e → e ≢ EndPending
 releasing_lasts K t h c EndValue o n = let z : ⊥ = cc in z
 releasing_lasts K t h c EndError o n = let z : ⊥ = cc in z
 releasing_lasts K t h c EndDropped o n = let z : ⊥ = cc in z
@@ -39,7 +39,7 @@ needless : {A : Type 0} {b : Bool} → b ≡ false → b ≡ true → A
 needless n e = absurd (false≢true (sym n ∙ e))
 
 -- each step, by the outcome of its tests
-module _ (K : Kind) (c : Inner) (t : ℕ) (k : Answer) (h : List Entry) where
+module _ (K : Kind) (c : SharedState) (t : ℕ) (k : Answer) (h : List Entry) where
   need_start : (r f : Bool) → need_queue K (start_step r f c t k).entries h ≡ false
   need_start true f = refl
   need_start false true = refl
@@ -68,7 +68,7 @@ module _ (K : Kind) (c : Inner) (t : ℕ) (k : Answer) (h : List Entry) where
   need_load true q n = refl
   need_load false q n = refl
 
-  need_run : (a : Answer) (by : Option ℕ) → need_queue K (run_step a (run_inner c) t k by).entries h ≡ false
+  need_run : (a : Answer) (by : Option ℕ) → need_queue K (run_step a (run_shared c) t k by).entries h ≡ false
   need_run RanPending by = rw (eqb_self t) refl
   need_run (RanValue v) by = refl
   need_run (RanError e) by = refl
@@ -82,7 +82,7 @@ module _ (K : Kind) (c : Inner) (t : ℕ) (k : Answer) (h : List Entry) where
   need_again (Some q) e = refl
   need_again None e = refl
 
-  need_out : (x : Bool) (e : Ending) → e ≢ EndPending → need_queue K (out_step x (out_inner c) t k e).entries h ≡ false
+  need_out : (x : Bool) (e : Ending) → e ≢ EndPending → need_queue K (out_step x (out_shared c) t k e).entries h ≡ false
   need_out true e n = refl
   need_out false e n = need_last K t c.value k e [] h n
 
@@ -103,7 +103,7 @@ module _ (K : Kind) (c : Inner) (t : ℕ) (k : Answer) (h : List Entry) where
   need_at limit w a g (AtDoorAgain x) at e = needless (need_again c.door x) e
   need_at limit w a g (AtRelease q x) at e = refl
   need_at limit w a g (AtLeave q n x) at e = refl
-  need_at limit w a g (AtCountOut x) at e = needless (need_out (is_ready_bit (word_of (out_inner c))) x (owes_lasts K t h x at)) e
+  need_at limit w a g (AtCountOut x) at e = needless (need_out (is_ready_bit (word_of (out_shared c))) x (owes_lasts K t h x at)) e
   need_at limit w a g (AtDoorTake x) at e = needless (need_last K t c.value k x [] h (owes_lasts K t h x at.0)) e
 
   -- a step that needs the queue enters it
@@ -123,7 +123,7 @@ one_take None = tt
 one_take (Some q) = tt
 
 -- one place after the other
-one_at : (g : Bool) (c : Inner) (p : Place ℕ ℕ) → IsAtMostOne (place_lines g c p)
+one_at : (g : Bool) (c : SharedState) (p : Place ℕ ℕ) → IsAtMostOne (place_lines g c p)
 one_at g c AtDoorPut = one_put g c.door c.queues
 one_at g c (AtDoorTake e) = one_take c.door
 one_at g c (AtLook q n) = tt
@@ -133,7 +133,7 @@ one_at g c (AtLeave q n e) = tt
 one_at g c _ = tt
 
 -- a step logs one line at most
-pub one_line : (g : Bool) (c : Inner) (s : Step ℕ ℕ) → IsAtMostOne (step_lines g c s)
+pub one_line : (g : Bool) (c : SharedState) (s : Step ℕ ℕ) → IsAtMostOne (step_lines g c s)
 one_line g c (UnderWay p) = one_at g c p
 one_line g c (Resting r) = tt
 one_line g c Finished = tt

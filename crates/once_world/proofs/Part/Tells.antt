@@ -5,7 +5,7 @@ use Rattle.std.specs.Option.{is_some}
 use Rattle.std.proofs.lemmas.Bool.{false≢true}
 use Rattle.once_world.specs.Record.{Answer, Entry, RanError, RanPending, RanValue}
 use Rattle.once_world.specs.Inputs.{ends_for_memory}
-use Rattle.once_world.specs.Machine.{AtAddOne, AtCountIn, AtCountOut, AtDoorAgain, AtDoorGet, AtDoorPut, AtDoorTake, AtFast, AtLeave, AtList, AtLook, AtPut, AtRelease, AtRun, AtStart, AtTryQuick, AtWaitLoad, EndDropped, EndError, EndFull, EndMemory, EndPending, EndValue, Ending, Finished, Inner, Outcome, Place, Resting, Step, UnderWay, again_step, out_inner, door_step, take_inner, end_entry, fast_step, release_place, init_answer, release_wakers, in_call, in_step, is_at_door, is_taken, is_value, is_waker, kept_ticket, leave_place, leave_step, left_at, left_of, list_step, load_step, look_step, next_waker, one_out, out_step, own_listing, pass_entries, is_passing, place_step, put_step, put_value, quick_step, run_inner, release_entry, release_step, run_step, start_step, step_at, word_of}
+use Rattle.once_world.specs.Machine.{AtAddOne, AtCountIn, AtCountOut, AtDoorAgain, AtDoorGet, AtDoorPut, AtDoorTake, AtFast, AtLeave, AtList, AtLook, AtPut, AtRelease, AtRun, AtStart, AtTryQuick, AtWaitLoad, EndDropped, EndError, EndFull, EndMemory, EndPending, EndValue, Ending, Finished, SharedState, Outcome, Place, Resting, Step, UnderWay, again_step, out_shared, door_step, take_shared, end_entry, fast_step, release_place, init_answer, release_wakers, in_call, in_step, is_at_door, is_value, is_waker, kept_ticket, leave_place, leave_step, left_at, left_of, list_step, load_step, look_step, next_waker, one_out, out_step, own_listing, pass_entries, is_passing, place_step, put_step, put_value, quick_step, run_shared, release_entry, release_step, run_step, start_step, step_at, word_of, QueueState, QueueGone, QueueSet, QueueFree, QueueHeld, queue_state}
 use Rattle.once_queue.specs.Word.{is_zero, is_quick_bit, is_ready_bit}
 use Rattle.once_world.proofs.Place.Outcomes.{ends, goes_to}
 
@@ -41,7 +41,7 @@ none_refuses : {A : Type 0} → false ≡ true → A
 none_refuses e = absurd (false≢true e)
 
 -- to another place, with nothing recorded
-on_to : (g : Bool) (p p' : Place ℕ ℕ) (c : Inner) (k : Answer) → left_at p' < left_at p → (is_refused_at p' ≡ true → (is_refused_at p ≡ true) ⊎ (g ≡ false)) → Tells g (UnderWay p) (goes_to c k p')
+on_to : (g : Bool) (p p' : Place ℕ ℕ) (c : SharedState) (k : Answer) → left_at p' < left_at p → (is_refused_at p' ≡ true → (is_refused_at p ≡ true) ⊎ (g ≡ false)) → Tells g (UnderWay p) (goes_to c k p')
 on_to g p p' c k l r = record { lowers = λ e. l; refuses = r; memory = λ u e. none_refuses e }
 
 -- the call ends
@@ -78,7 +78,7 @@ passed_memory t [] u = refl
 passed_memory t (w ∷ X) u = refl
 
 -- each step, by the outcome of its tests
-module _ (c : Inner) (t : ℕ) (k : Answer) (g : Bool) where
+module _ (c : SharedState) (t : ℕ) (k : Answer) (g : Bool) where
   tell_start : (r f : Bool) → Tells g (UnderWay AtStart) (start_step r f c t k)
   tell_start true f = stops g AtStart (start_step true f c t k) refl refl (λ u e. none_refuses e)
   tell_start false true = on_to g AtStart AtTryQuick c k (omega arith) (λ e. none_refuses e)
@@ -112,29 +112,29 @@ module _ (c : Inner) (t : ℕ) (k : Answer) (g : Bool) where
   tell_refused p q None l z = on_to g p (AtCountOut EndMemory) c k (omega arith) (λ e. inr z)
   tell_refused p q (Some m) l z = on_to g p (AtLeave q m EndMemory) c k l (λ e. inr z)
 
-  tell_look : (d r f m b : Bool) (w q : ℕ) (n : Option ℕ) → g ≡ b → Tells g (UnderWay (AtLook q n)) (look_step d r f m b c t w k q n)
-  tell_look true true f m b w q n z = on_to g (AtLook q n) (AtCountOut EndValue) c k (omega arith) (λ e. none_refuses e)
-  tell_look true false false m b w q n z = goes_by g (AtLook q n) (look_step true false false m b c t w k q n) (omega arith) refl (λ u. refl)
-  tell_look true false true true b w q n z = stops g (AtLook q n) (look_step true false true true b c t w k q n) refl refl (λ u e. none_refuses e)
-  tell_look true false true false true w q n z = on_to g (AtLook q n) (AtList q n w) c k (omega arith) (λ e. none_refuses e)
-  tell_look true false true false false w q n z = tell_refused (AtLook q n) q n (omega arith) z
-  tell_look false r f m true w q n z = on_to g (AtLook q n) (AtList q n w) c k (omega arith) (λ e. none_refuses e)
-  tell_look false r f m false w q n z = tell_refused (AtLook q n) q n (omega arith) z
+  tell_look : (f : QueueState) (m b : Bool) (w q : ℕ) (n : Option ℕ) → g ≡ b → Tells g (UnderWay (AtLook q n)) (look_step f m b c t w k q n)
+  tell_look QueueSet m b w q n z = on_to g (AtLook q n) (AtCountOut EndValue) c k (omega arith) (λ e. none_refuses e)
+  tell_look QueueFree m b w q n z = goes_by g (AtLook q n) (look_step QueueFree m b c t w k q n) (omega arith) refl (λ u. refl)
+  tell_look QueueHeld true b w q n z = stops g (AtLook q n) (look_step QueueHeld true b c t w k q n) refl refl (λ u e. none_refuses e)
+  tell_look QueueHeld false true w q n z = on_to g (AtLook q n) (AtList q n w) c k (omega arith) (λ e. none_refuses e)
+  tell_look QueueHeld false false w q n z = tell_refused (AtLook q n) q n (omega arith) z
+  tell_look QueueGone m true w q n z = on_to g (AtLook q n) (AtList q n w) c k (omega arith) (λ e. none_refuses e)
+  tell_look QueueGone m false w q n z = tell_refused (AtLook q n) q n (omega arith) z
 
-  tell_list : (d r f b : Bool) (w q : ℕ) (n : Option ℕ) → (b ≡ false → g ≡ false) → Tells g (UnderWay (AtList q n w)) (list_step d r f b c t w k q n)
-  tell_list false r f b w q n z = stops g (AtList q n w) (list_step false r f b c t w k q n) refl refl (λ u e. none_refuses e)
-  tell_list true true f b w q n z = on_to g (AtList q n w) (AtCountOut EndValue) c k (omega arith) (λ e. none_refuses e)
-  tell_list true false false b w q n z = goes_by g (AtList q n w) (list_step true false false b c t w k q n) (omega arith) refl (λ u. refl)
-  tell_list true false true true w q n z = stops g (AtList q n w) (list_step true false true true c t w k q n) refl refl (λ u e. none_refuses e)
-  tell_list true false true false w q n z = tell_refused (AtList q n w) q n (omega arith) (z refl)
+  tell_list : (f : QueueState) (b : Bool) (w q : ℕ) (n : Option ℕ) → (b ≡ false → g ≡ false) → Tells g (UnderWay (AtList q n w)) (list_step f b c t w k q n)
+  tell_list QueueGone b w q n z = stops g (AtList q n w) (list_step QueueGone b c t w k q n) refl refl (λ u e. none_refuses e)
+  tell_list QueueSet b w q n z = on_to g (AtList q n w) (AtCountOut EndValue) c k (omega arith) (λ e. none_refuses e)
+  tell_list QueueFree b w q n z = goes_by g (AtList q n w) (list_step QueueFree b c t w k q n) (omega arith) refl (λ u. refl)
+  tell_list QueueHeld true w q n z = stops g (AtList q n w) (list_step QueueHeld true c t w k q n) refl refl (λ u e. none_refuses e)
+  tell_list QueueHeld false w q n z = tell_refused (AtList q n w) q n (omega arith) (z refl)
 
-  tell_run : (a : Answer) (by : Option ℕ) → Tells g (UnderWay (AtRun by)) (run_step a (run_inner c) t k by)
-  tell_run RanPending by = stops g (AtRun by) (run_step RanPending (run_inner c) t k by) refl refl (λ u e. none_refuses e)
-  tell_run (RanValue v) by = goes_by g (AtRun by) (run_step (RanValue v) (run_inner c) t k by) (omega arith) refl (λ u. refl)
-  tell_run (RanError e) None = goes_by g (AtRun None) (run_step (RanError e) (run_inner c) t k None) (omega arith) refl (λ u. refl)
-  tell_run (RanError e) (Some q) = goes_by g (AtRun (Some q)) (run_step (RanError e) (run_inner c) t k (Some q)) (omega arith) refl (λ u. refl)
+  tell_run : (a : Answer) (by : Option ℕ) → Tells g (UnderWay (AtRun by)) (run_step a (run_shared c) t k by)
+  tell_run RanPending by = stops g (AtRun by) (run_step RanPending (run_shared c) t k by) refl refl (λ u e. none_refuses e)
+  tell_run (RanValue v) by = goes_by g (AtRun by) (run_step (RanValue v) (run_shared c) t k by) (omega arith) refl (λ u. refl)
+  tell_run (RanError e) None = goes_by g (AtRun None) (run_step (RanError e) (run_shared c) t k None) (omega arith) refl (λ u. refl)
+  tell_run (RanError e) (Some q) = goes_by g (AtRun (Some q)) (run_step (RanError e) (run_shared c) t k (Some q)) (omega arith) refl (λ u. refl)
 
-  tell_value : (by : Option ℕ) (c' : Inner) → Tells g (UnderWay (AtPut by)) (goes_to c' k (release_place by EndValue))
+  tell_value : (by : Option ℕ) (c' : SharedState) → Tells g (UnderWay (AtPut by)) (goes_to c' k (release_place by EndValue))
   tell_value None c' = on_to g (AtPut None) (AtFast EndValue) c' k (omega arith) (λ e. none_refuses e)
   tell_value (Some q) c' = on_to g (AtPut (Some q)) (AtRelease q EndValue) c' k (omega arith) (λ e. none_refuses e)
 
@@ -155,12 +155,12 @@ module _ (c : Inner) (t : ℕ) (k : Answer) (g : Bool) where
   tell_leave true q n e = record { lowers = λ z. omega arith; refuses = λ z. inl z; memory = λ u z. absurd (false≢true (sym (passed_memory t (one_out (next_waker (is_passing c n) n c.listings)) u) ∙ z)) }
   tell_leave false q n e = on_to g (AtLeave q n e) (AtCountOut e) c k (omega arith) (λ z. inl z)
 
-  tell_out : (x : Bool) (e : Ending) → Tells g (UnderWay (AtCountOut e)) (out_step x (out_inner c) t k e)
-  tell_out true e = on_to g (AtCountOut e) (AtDoorTake e) (out_inner c) k (omega arith) (λ z. inl z)
-  tell_out false e = stops g (AtCountOut e) (out_step false (out_inner c) t k e) refl refl (λ u z. inl (last_memory t c.value k e [] u refl z))
+  tell_out : (x : Bool) (e : Ending) → Tells g (UnderWay (AtCountOut e)) (out_step x (out_shared c) t k e)
+  tell_out true e = on_to g (AtCountOut e) (AtDoorTake e) (out_shared c) k (omega arith) (λ z. inl z)
+  tell_out false e = stops g (AtCountOut e) (out_step false (out_shared c) t k e) refl refl (λ u z. inl (last_memory t c.value k e [] u refl z))
 
-  tell_take : (e : Ending) → Tells g (UnderWay (AtDoorTake e)) (ends (take_inner c) t k e)
-  tell_take e = stops g (AtDoorTake e) (ends (take_inner c) t k e) refl refl (λ u z. inl (last_memory t c.value k e [] u refl z))
+  tell_take : (e : Ending) → Tells g (UnderWay (AtDoorTake e)) (ends (take_shared c) t k e)
+  tell_take e = stops g (AtDoorTake e) (ends (take_shared c) t k e) refl refl (λ u z. inl (last_memory t c.value k e [] u refl z))
 
   -- one place after the other
   tells_at : (lazy : Bool) (limit w : ℕ) (a : Answer) (p : Place ℕ ℕ) → Tells g (UnderWay p) (place_step lazy limit c t w k a g p)
@@ -170,8 +170,8 @@ module _ (c : Inner) (t : ℕ) (k : Answer) (g : Bool) where
   tells_at lazy limit w a AtDoorPut = tell_put c.door g refl
   tells_at lazy limit w a (AtCountIn q) = tell_in (nat_lt c.count limit) c.ready q
   tells_at lazy limit w a (AtWaitLoad q n) = tell_load c.ready q n
-  tells_at lazy limit w a (AtLook q n) = tell_look (is_at_door q c.door) c.ready (is_taken c) (is_waker w (own_listing n c.listings)) g w q n refl
-  tells_at lazy limit w a (AtList q n v) = tell_list (is_at_door q c.door) c.ready (is_taken c) (is_some (kept_ticket n c.listings) || g) v q n (right_false (is_some (kept_ticket n c.listings)) g)
+  tells_at lazy limit w a (AtLook q n) = tell_look (queue_state q c) (is_waker w (own_listing n c.listings)) g w q n refl
+  tells_at lazy limit w a (AtList q n v) = tell_list (queue_state q c) (is_some (kept_ticket n c.listings) || g) v q n (right_false (is_some (kept_ticket n c.listings)) g)
   tells_at lazy limit w a (AtRun by) = tell_run (init_answer lazy c.answers a) by
   tells_at lazy limit w a (AtPut by) = tell_value by (record c { value = put_value k c.value })
   tells_at lazy limit w a (AtFast e) = tell_fast (is_quick_bit (word_of c)) (is_value e) e
@@ -179,7 +179,7 @@ module _ (c : Inner) (t : ℕ) (k : Answer) (g : Bool) where
   tells_at lazy limit w a (AtDoorAgain e) = tell_again c.door e
   tells_at lazy limit w a (AtRelease q e) = tell_release (is_at_door q c.door) q e
   tells_at lazy limit w a (AtLeave q n e) = tell_leave (is_at_door q c.door) q n e
-  tells_at lazy limit w a (AtCountOut e) = tell_out (is_ready_bit (word_of (out_inner c))) e
+  tells_at lazy limit w a (AtCountOut e) = tell_out (is_ready_bit (word_of (out_shared c))) e
   tells_at lazy limit w a (AtDoorTake e) = tell_take e
 
   -- what each step tells

@@ -6,7 +6,7 @@ use Rattle.once_world.specs.Record.{Answer, Begin, Entry, Kind, Look, Made, Own,
 use Rattle.once_world.specs.Tasks.{Unmade, all_gone, is_under_way, status}
 use Rattle.once_world.specs.Inputs.{AreOfStep, Drop, Go, Input, Looks, Make, Owns, Poll, begins_call, ends_for_memory, is_fitting_go}
 use Rattle.once_world.specs.Log.{owned_lines, standing_queue}
-use Rattle.once_world.specs.Machine.{Inner, Outcome, QueueLine, Step, Task, World, advance, world_after, step_of_poll, poll_world_by, drop_entries, step_of_drop, drop_world_by, drop_world, fresh_task, go_world, go_world_by, in_call, is_resting, look_value, make_world, own_world_by, owner_got, owner_lines, poll_world, put_task, step_lines}
+use Rattle.once_world.specs.Machine.{SharedState, Outcome, QueueLine, Step, Task, World, advance, world_after, step_of_poll, poll_world_by, drop_entries, step_of_drop, drop_world_by, drop_world, fresh_task, go_world, go_world_by, in_call, is_resting, look_value, make_world, own_world_by, owner_got, owner_lines, poll_world, put_task, step_lines}
 use Rattle.once_world.proofs.Invariant.Fits.{Fits, StandsFor, step_of}
 use Rattle.once_world.proofs.Invariant.Moves.{Puts, puts}
 use Rattle.once_world.proofs.Input.Gone.{gone_is}
@@ -65,58 +65,58 @@ go_memory K w t a g s o found acts l z v n u (inr d) b m = absurd (false≢true 
 go_part : (K : Kind) (limit : ℕ) (w : World) (t : ℕ) (a : Answer) (g : Bool) (x : Task) → Fits K limit w → w.tasks t ≡ Some x → (r : Bool) → in_call x.step ≡ r → HasPart K w (go_world_by r (is_lazy K) limit w t a g x) (Go t a g)
 go_part K limit w t a g x f found true c =
     let own = task_fits K limit t w x f found in
-    let acts : is_under_way (status K t w.history) ≡ true = step_acts K limit t w.inner w.history x.step own.step ∙ c in
-    let o : Outcome = advance (is_lazy K) limit w.inner t x a g in
+    let acts : is_under_way (status K t w.history) ≡ true = step_acts K limit t w.shared w.history x.step own.step ∙ c in
+    let o : Outcome = advance (is_lazy K) limit w.shared t x a g in
     let y : Task = record x { step = o.step; kept = o.kept } in
-    let l : Tells g x.step o = tells w.inner t x.kept g (is_lazy K) limit x.waker a x.step c in
-    let z : AreOfStep K t a o.entries = step_part K w.inner t x.kept a limit x.waker g x.step in
+    let l : Tells g x.step o = tells w.shared t x.kept g (is_lazy K) limit x.waker a x.step c in
+    let z : AreOfStep K t a o.entries = step_part K w.shared t x.kept a limit x.waker g x.step in
     let was : step_of (w.tasks t) ≡ x.step = ap step_of found in
     record {
       entries = o.entries;
-      lines = step_lines g w.inner x.step;
+      lines = step_lines g w.shared x.step;
       history_is = refl;
       log_is = refl;
       adds = rw acts z;
-      adds_lines = (one_line g w.inner x.step, need_step K w.inner t x.kept w.history limit x.waker a g x.step own.step);
+      adds_lines = (one_line g w.shared x.step, need_step K w.shared t x.kept w.history limit x.waker a g x.step own.step);
       budget = λ v n u b. go_budget K w (go_world_by true (is_lazy K) limit w t a g x) t a g x.step y o was c acts l refl (puts t y w.tasks) z v n u (cases_eq t v) b;
       memory = λ v n u b m. go_memory K w t a g x.step o was acts l z v n u (cases_eq t v) b m;
     }
 go_part K limit w t a g x f found false c =
     let own = task_fits K limit t w x f found in
-    let idle : is_under_way (status K t w.history) ≡ false = step_acts K limit t w.inner w.history x.step own.step ∙ c in
+    let idle : is_under_way (status K t w.history) ≡ false = step_acts K limit t w.shared w.history x.step own.step ∙ c in
     nothing K w (Go t a g) (rw idle refl) (tt, λ e. absurd (false≢true e)) (λ v. unfit_go K t v a g w.history idle)
 
 -- a task that is not there is unmade
 unmade_acts : (K : Kind) (limit t : ℕ) (w : World) → Fits K limit w → w.tasks t ≡ None → status K t w.history ≡ Unmade
-unmade_acts K limit t w f is = let own : StandsFor K limit t w.inner w.history None = rw is at (f.tasks t) in own.0.status_is
+unmade_acts K limit t w f is = let own : StandsFor K limit t w.shared w.history None = rw is at (f.tasks t) in own.0.status_is
 
 -- the part of a poll, by whether the task is at rest
 begun_part : (K : Kind) (limit : ℕ) (w : World) (t k : ℕ) (x : Task) → Fits K limit w → w.tasks t ≡ Some x → (r : Bool) → is_resting x.step ≡ r → HasPart K w (poll_world_by r w t k x) (Poll t k)
 begun_part K limit w t k x f found true r =
     let own = task_fits K limit t w x f found in
     let y : Task = record x { waker = k; step = step_of_poll x.step } in
-    begin_part K w (poll_world_by true w t k x) (Poll t k) t y (Begin t k ∷ []) (puts t y w.tasks) refl refl (sym (ap (λ b. begins_if b t k) r) ∙ step_begins_so K limit t k w.inner w.history x.step own.step) refl
+    begin_part K w (poll_world_by true w t k x) (Poll t k) t y (Begin t k ∷ []) (puts t y w.tasks) refl refl (sym (ap (λ b. begins_if b t k) r) ∙ step_begins_so K limit t k w.shared w.history x.step own.step) refl
     (λ v. cond_id (t == v)) (λ v. refl) (λ v. refl) (begun_granted x.step r)
 begun_part K limit w t k x f found false r =
     let own = task_fits K limit t w x f found in
-    nothing K w (Poll t k) (sym (ap (λ b. begins_if b t k) r) ∙ step_begins_so K limit t k w.inner w.history x.step own.step) refl (λ v. refl)
+    nothing K w (Poll t k) (sym (ap (λ b. begins_if b t k) r) ∙ step_begins_so K limit t k w.shared w.history x.step own.step) refl (λ v. refl)
 
 -- the part of a drop
 dropped_part : (K : Kind) (limit : ℕ) (w : World) (t : ℕ) (x : Task) → Fits K limit w → w.tasks t ≡ Some x → (r : Bool) → is_resting x.step ≡ r → HasPart K w (drop_world_by r w t x) (Drop t)
 dropped_part K limit w t x f found true r =
     let own = task_fits K limit t w x f found in
     let y : Task = record x { step = step_of_drop x.step } in
-    begin_part K w (drop_world_by true w t x) (Drop t) t y (drop_entries t (step_of_drop x.step)) (puts t y w.tasks) refl refl (sym (ap (λ b. drops_if b t x.step) r) ∙ step_drops_so K limit t w.inner w.history x.step own.step) refl
+    begin_part K w (drop_world_by true w t x) (Drop t) t y (drop_entries t (step_of_drop x.step)) (puts t y w.tasks) refl refl (sym (ap (λ b. drops_if b t x.step) r) ∙ step_drops_so K limit t w.shared w.history x.step own.step) refl
     (λ v. drop_begins_call t v (step_of_drop x.step)) (λ v. refl) (λ v. drop_memory t v (step_of_drop x.step)) (dropped_granted x.step r)
 dropped_part K limit w t x f found false r =
     let own = task_fits K limit t w x f found in
-    nothing K w (Drop t) (sym (ap (λ b. drops_if b t x.step) r) ∙ step_drops_so K limit t w.inner w.history x.step own.step) refl (λ v. refl)
+    nothing K w (Drop t) (sym (ap (λ b. drops_if b t x.step) r) ∙ step_drops_so K limit t w.shared w.history x.step own.step) refl (λ v. refl)
 
 -- the parts of the inputs, by whether the task is there
 make_has : (K : Kind) (limit : ℕ) (w : World) (t : ℕ) → Fits K limit w → (o : Option Task) → w.tasks t ≡ o → HasPart K w (make_world w t o) (Make t)
 make_has K limit w t f None is = quiet_part K w (make_world w t None) (Make t) (Made t ∷ []) [] refl refl (rw (unmade_acts K limit t w f is) refl) refl (λ v. refl) (λ v. refl) (λ v. refl)
     (λ v. let p = puts t fresh_task w.tasks in ⊎_elim (λ e. let there : put_task t fresh_task w.tasks v ≡ Some fresh_task = ap (put_task t fresh_task w.tasks) (sym e) ∙ p.there in inr (ap (λ o. in_call (step_of o)) there, ap (λ o. is_refused (step_of o)) there)) (λ d. inl (ap step_of (p.others v d))) (cases_eq t v))
-make_has K limit w t f (Some x) is = let own = task_fits K limit t w x f is in nothing K w (Make t) (step_made K limit t w.inner w.history x.step own.step) refl (λ v. refl)
+make_has K limit w t f (Some x) is = let own = task_fits K limit t w x f is in nothing K w (Make t) (step_made K limit t w.shared w.history x.step own.step) refl (λ v. refl)
 
 poll_has : (K : Kind) (limit : ℕ) (w : World) (t k : ℕ) → Fits K limit w → (o : Option Task) → w.tasks t ≡ o → HasPart K w (poll_world w t k o) (Poll t k)
 poll_has K limit w t k f None is = nothing K w (Poll t k) (rw (unmade_acts K limit t w f is) refl) refl (λ v. refl)
@@ -133,21 +133,21 @@ go_has K limit w t a g f None is =
 go_has K limit w t a g f (Some x) is = go_part K limit w t a g x f is (in_call x.step) refl
 
 -- the queue at the door is the one of the log
-owner_lines_are : (r : Bool) (c : Inner) (log : List QueueLine) → standing_queue log ≡ c.door → owner_lines r c ≡ owned_lines true r (standing_queue log)
+owner_lines_are : (r : Bool) (c : SharedState) (log : List QueueLine) → standing_queue log ≡ c.door → owner_lines r c ≡ owned_lines true r (standing_queue log)
 owner_lines_are true c log d = rw d refl
 owner_lines_are false c log d = refl
 
 -- the part of an owner's call
-owns_part : (K : Kind) (limit : ℕ) (w : World) (o : OwnerCall) → Fits K limit w → standing_queue w.log ≡ w.inner.door → (d b : Bool) → has_call K o ≡ b → all_gone K w.history ≡ d → HasPart K w (own_world_by d b w o) (Owns o)
-owns_part K limit w o f l true true b a = quiet_part K w (own_world_by true true w o) (Owns o) (Own o (owner_got o w.inner) ∷ []) (owner_lines (replaces o) w.inner) refl refl (rw (a, b) (ap (λ g. Own o g ∷ []) (owner_is_got K limit o w.inner w.history f.inner))) (rw (a, b) (owner_lines_are (replaces o) w.inner w.log l)) (λ v. refl) (λ v. refl) (λ v. refl) (λ v. inl refl)
+owns_part : (K : Kind) (limit : ℕ) (w : World) (o : OwnerCall) → Fits K limit w → standing_queue w.log ≡ w.shared.door → (d b : Bool) → has_call K o ≡ b → all_gone K w.history ≡ d → HasPart K w (own_world_by d b w o) (Owns o)
+owns_part K limit w o f l true true b a = quiet_part K w (own_world_by true true w o) (Owns o) (Own o (owner_got o w.shared) ∷ []) (owner_lines (replaces o) w.shared) refl refl (rw (a, b) (ap (λ g. Own o g ∷ []) (owner_is_got K limit o w.shared w.history f.shared))) (rw (a, b) (owner_lines_are (replaces o) w.shared w.log l)) (λ v. refl) (λ v. refl) (λ v. refl) (λ v. inl refl)
 owns_part K limit w o f l true false b a = nothing K w (Owns o) (rw (a, b) refl) (rw (a, b) refl) (λ v. refl)
 owns_part K limit w o f l false b e a = nothing K w (Owns o) (rw a refl) (rw a refl) (λ v. refl)
 
 -- each input has its part
-pub input_part : (K : Kind) (limit : ℕ) (w : World) (i : Input) → Fits K limit w → standing_queue w.log ≡ w.inner.door → HasPart K w (world_after K limit w i) i
+pub input_part : (K : Kind) (limit : ℕ) (w : World) (i : Input) → Fits K limit w → standing_queue w.log ≡ w.shared.door → HasPart K w (world_after K limit w i) i
 input_part K limit w (Make t) f l = make_has K limit w t f (w.tasks t) refl
 input_part K limit w (Poll t k) f l = poll_has K limit w t k f (w.tasks t) refl
 input_part K limit w (Drop t) f l = drop_has K limit w t f (w.tasks t) refl
 input_part K limit w (Go t a g) f l = go_has K limit w t a g f (w.tasks t) refl
 input_part K limit w (Owns o) f l = owns_part K limit w o f l (w.unfinished == 0) (has_call K o) refl (gone_is K limit w f)
-input_part K limit w Looks f l = quiet_part K w (world_after K limit w Looks) Looks (Look (look_value w.inner) ∷ []) [] refl refl (ap (λ r. Look r ∷ []) (looked_is K limit w.inner w.history f.inner)) refl (λ v. refl) (λ v. refl) (λ v. refl) (λ v. inl refl)
+input_part K limit w Looks f l = quiet_part K w (world_after K limit w Looks) Looks (Look (look_value w.shared) ∷ []) [] refl refl (ap (λ r. Look r ∷ []) (looked_is K limit w.shared w.history f.shared)) refl (λ v. refl) (λ v. refl) (λ v. refl) (λ v. inl refl)

@@ -8,15 +8,15 @@ use Rattle.once_world.specs.Tasks.{Gone, LastCall, Polling, Status, Waiting, las
 use Rattle.once_queue.specs.Listings.{find_listing}
 use Rattle.once_world.specs.Wakers.{opens}
 use Rattle.once_world.specs.Run.{IsLegal, IsRun, MayEnd}
-use Rattle.once_world.specs.Machine.{AtRun, EndDropped, EndError, EndFull, EndMemory, EndPending, EndValue, Ending, Inner, Outcome, Place, UnderWay, end_entry, error_in}
+use Rattle.once_world.specs.Machine.{AtRun, EndDropped, EndError, EndFull, EndMemory, EndPending, EndValue, Ending, SharedState, Outcome, Place, UnderWay, end_entry, error_in}
 use Rattle.once_queue.proofs.Listing.Members.{eqb_self}
 use Rattle.once_world.proofs.History.Others.{holds, keeps_all, legal_keeps}
 use Rattle.once_world.proofs.History.Cells.{held_not_empty}
 use Rattle.once_world.proofs.Listing.Listings.{asks}
 use Rattle.once_world.proofs.History.Waiters.{QueueFits, entry_fits, quiet}
 use Rattle.once_world.proofs.Invariant.Facts.{AtPlace, Entered, HoldsBy, InStatus, Owes, is_counted_at, is_inside_at, is_take_at, kept_of, ticket_at}
-use Rattle.once_world.proofs.Invariant.Fits.{InnerFits}
-use Rattle.once_world.proofs.Invariant.Kept.{InnerKeeps}
+use Rattle.once_world.proofs.Invariant.Fits.{SharedFits}
+use Rattle.once_world.proofs.Invariant.Kept.{SharedKeeps}
 use Rattle.once_world.proofs.Invariant.Turns.{ListMoves, lists_stay}
 use Rattle.once_world.proofs.Invariant.Moves.{Moves}
 use Rattle.once_world.proofs.Invariant.Around.{owes_holds}
@@ -27,12 +27,12 @@ pub of_other : (t u : ℕ) → t ≢ u → (t == u) ≡ false
 of_other t u n = ne_eqb t u n
 
 -- t with the waker w, at the place p, makes the step o
-abbrev pub Goes : Kind → ℕ → ℕ → ℕ → Place ℕ ℕ → Inner → List Entry → Outcome → Type 0
-Goes K limit t w p c h o = Moves K limit t (UnderWay p) (record { waker = w; kept = o.kept; step = o.step }) c o.inner h (o.entries ++ h)
+abbrev pub Goes : Kind → ℕ → ℕ → ℕ → Place ℕ ℕ → SharedState → List Entry → Outcome → Type 0
+Goes K limit t w p c h o = Moves K limit t (UnderWay p) (record { waker = w; kept = o.kept; step = o.step }) c o.shared h (o.entries ++ h)
 
 -- what a step that leaves flags, door and value alone leaves for the others
-pub same_inner : (K : Kind) (limit : ℕ) (c c' : Inner) (u : ℕ) (h : List Entry) (b : Bool) → c'.ready ≡ c.ready → c'.door ≡ c.door → c'.quick ≡ c.quick → c'.head ≡ c.head → c'.value ≡ c.value → (c.count ≤ limit → c'.count ≤ limit) → InnerKeeps K limit c c' u h b
-same_inner K limit c c' u h b r d q e v n = record {
+pub same_shared : (K : Kind) (limit : ℕ) (c c' : SharedState) (u : ℕ) (h : List Entry) (b : Bool) → c'.ready ≡ c.ready → c'.door ≡ c.door → c'.quick ≡ c.quick → c'.head ≡ c.head → c'.value ≡ c.value → (c.count ≤ limit → c'.count ≤ limit) → SharedKeeps K limit c c' u h b
+same_shared K limit c c' u h b r d q e v n = record {
   ready = λ k. r ∙ k;
   door = λ j k. inl (d ∙ k);
   flags = inl (q, e, v);
@@ -40,8 +40,8 @@ same_inner K limit c c' u h b r d q e v n = record {
 }
 
 -- what a step leaves where no other task holds
-pub free_inner : (K : Kind) (limit : ℕ) (c c' : Inner) (u : ℕ) (h : List Entry) (b : Bool) → (c.ready ≡ true → c'.ready ≡ true) → c'.door ≡ c.door → holds u (cell K h) ≡ false → InnerKeeps K limit c c' u h b
-free_inner K limit c c' u h b r d n = record {
+pub free_shared : (K : Kind) (limit : ℕ) (c c' : SharedState) (u : ℕ) (h : List Entry) (b : Bool) → (c.ready ≡ true → c'.ready ≡ true) → c'.door ≡ c.door → holds u (cell K h) ≡ false → SharedKeeps K limit c c' u h b
+free_shared K limit c c' u h b r d n = record {
   ready = r;
   door = λ j k. inl (d ∙ k);
   flags = inr n;
@@ -80,8 +80,8 @@ owes_lasts K t h EndPending o n = o
 owes_lasts K t h EndFull o n = o
 
 -- what is shared fits the cell alone
-pub inner_at : (K : Kind) (limit : ℕ) (c : Inner) (h h' : List Entry) → cell K h' ≡ cell K h → answers_left K h' ≡ answers_left K h → InnerFits K limit c h → InnerFits K limit c h'
-inner_at K limit c h h' e s f = record {
+pub shared_at : (K : Kind) (limit : ℕ) (c : SharedState) (h h' : List Entry) → cell K h' ≡ cell K h → answers_left K h' ≡ answers_left K h → SharedFits K limit c h → SharedFits K limit c h'
+shared_at K limit c h h' e s f = record {
   answers_is = f.answers_is ∙ sym s;
   ready_is = rw e f.ready_is;
   held_is = rw e f.held_is;
@@ -133,15 +133,15 @@ opened_by false = refl
 opens_now : (K : Kind) (t u w v : ℕ) (h : List Entry) → cell K h ≡ Held u → t ≢ u → (last_call K t h).waker ≡ w → opens K v (End t Pending) h ≡ (w == v)
 opens_now K t u w v h c n wk = let d = ne_eqb u t (λ e. n (sym e)) in rw (wk, c, d) (opened_by (w == v))
 
-module _ (K : Kind) (limit t w : ℕ) (k : Answer) (p : Place ℕ ℕ) (c : Inner) (h : List Entry) (run : IsRun K limit h) (inner : InnerFits K limit c h) (queue : QueueFits K c.listings h) (wk : (last_call K t h).waker ≡ w) (kk : k ≡ kept_of (last_call K t h).ran) where
+module _ (K : Kind) (limit t w : ℕ) (k : Answer) (p : Place ℕ ℕ) (c : SharedState) (h : List Entry) (run : IsRun K limit h) (shared : SharedFits K limit c h) (queue : QueueFits K c.listings h) (wk : (last_call K t h).waker ≡ w) (kk : k ≡ kept_of (last_call K t h).ran) where
   -- a step that records nothing
-  pub moves_on : (c' : Inner) (p' : Place ℕ ℕ) → InnerFits K limit c' h → QueueFits K c'.listings h → AtPlace K limit t c' h p'
-      → ((u : ℕ) → t ≢ u → (b : Bool) → (is_take_at p ≡ true → b ≡ false) → InnerKeeps K limit c c' u h b)
+  pub moves_on : (c' : SharedState) (p' : Place ℕ ℕ) → SharedFits K limit c' h → QueueFits K c'.listings h → AtPlace K limit t c' h p'
+      → ((u : ℕ) → t ≢ u → (b : Bool) → (is_take_at p ≡ true → b ≡ false) → SharedKeeps K limit c c' u h b)
       → c'.count + bit (is_counted_at p) ≡ c.count + bit (is_counted_at p') → (is_take_at p' ≡ true → c'.count ≡ 0) → (is_inside_at p' ≡ true → (is_inside_at p ≡ true) ⊎ (c.ready ≡ false)) → ListMoves t (ticket_at p) (ticket_at p') c c' h
       → Goes K limit t w p c h (goes_to c' k p')
-  moves_on c' p' inner' queue' own keeps count takes enters lists = record {
+  moves_on c' p' shared' queue' own keeps count takes enters lists = record {
     run = run;
-    inner = inner';
+    shared = shared';
     queue = queue';
     own = own;
     waker_is = wk;
@@ -158,18 +158,18 @@ module _ (K : Kind) (limit t w : ℕ) (k : Answer) (p : Place ℕ ℕ) (c : Inne
 
   -- a step that leaves all that is shared as it is
   pub stays : (p' : Place ℕ ℕ) → AtPlace K limit t c h p' → is_counted_at p ≡ is_counted_at p' → is_take_at p' ≡ false → (is_inside_at p' ≡ true → (is_inside_at p ≡ true) ⊎ (c.ready ≡ false)) → (ticket_at p' ≡ ticket_at p) ⊎ ((ticket_at p' ≡ None) × (c.ready ≡ true)) → Goes K limit t w p c h (goes_to c k p')
-  stays p' own same take enters tickets = moves_on c p' inner queue own (λ u n b i. same_inner K limit c c u h b refl refl refl refl refl (λ x. x)) (ap (λ b. c.count + bit b) same) (λ e. absurd (false≢true (sym take ∙ e))) enters (lists_stay t (ticket_at p) (ticket_at p') c c h refl (λ r. r) tickets)
+  stays p' own same take enters tickets = moves_on c p' shared queue own (λ u n b i. same_shared K limit c c u h b refl refl refl refl refl (λ x. x)) (ap (λ b. c.count + bit b) same) (λ e. absurd (false≢true (sym take ∙ e))) enters (lists_stay t (ticket_at p) (ticket_at p') c c h refl (λ r. r) tickets)
 
   -- an entry that ends the call for good
-  pub ends_by : (c' : Inner) (e : Ending) → e ≢ EndPending → IsLegal K limit (end_entry e t c'.value k) h → holds t (cell K h) ≡ false → InnerFits K limit c' h → QueueFits K c'.listings h
-      → ((u : ℕ) → t ≢ u → (b : Bool) → (is_take_at p ≡ true → b ≡ false) → InnerKeeps K limit c c' u h b)
+  pub ends_by : (c' : SharedState) (e : Ending) → e ≢ EndPending → IsLegal K limit (end_entry e t c'.value k) h → holds t (cell K h) ≡ false → SharedFits K limit c' h → QueueFits K c'.listings h
+      → ((u : ℕ) → t ≢ u → (b : Bool) → (is_take_at p ≡ true → b ≡ false) → SharedKeeps K limit c c' u h b)
       → c'.count + bit (is_counted_at p) ≡ c.count → ListMoves t (ticket_at p) None c c' (end_entry e t c'.value k ∷ h) → Goes K limit t w p c h (ends c' t k e)
-  ends_by c' x good legal free inner' queue' keeps count lists =
+  ends_by c' x good legal free shared' queue' keeps count lists =
       let e : Entry = end_entry x t c'.value k in
       let l : IsLast t e = is_last t c'.value k x good in
       record {
         run = (legal, run);
-        inner = inner_at K limit c' h (e ∷ h) (l.cell_is (cell K h)) (l.left_is (answers_left K h)) inner';
+        shared = shared_at K limit c' h (e ∷ h) (l.cell_is (cell K h)) (l.left_is (answers_left K h)) shared';
         queue = quiet K c'.listings e h queue' l.hands l.replaces_not (λ w. l.shut K w h) (λ u is. not_waiting (status_after e (cell K h) (status K u h)) (l.gone (cell K h) (status K u h))) (λ y. sym (l.cell_is (cell K h)) ∙ y);
         own = record { status_is = rw (l.of t, eqb_self t) (l.gone (cell K h) (status K t h)); holds_is = ap (holds t) (l.cell_is (cell K h)) ∙ free };
         waker_is = rw (l.of t, eqb_self t, l.call_is (cell K h) (status K t h) (last_call K t h)) wk;
@@ -185,30 +185,30 @@ module _ (K : Kind) (limit t w : ℕ) (k : Answer) (p : Place ℕ ℕ) (c : Inne
       }
 
   -- the last step of a call
-  pub ends_so : (c' : Inner) (e : Ending) → Owes K t h e → InnerFits K limit c' h → QueueFits K c'.listings h
-      → ((u : ℕ) → t ≢ u → (b : Bool) → (is_take_at p ≡ true → b ≡ false) → InnerKeeps K limit c c' u h b)
+  pub ends_so : (c' : SharedState) (e : Ending) → Owes K t h e → SharedFits K limit c' h → QueueFits K c'.listings h
+      → ((u : ℕ) → t ≢ u → (b : Bool) → (is_take_at p ≡ true → b ≡ false) → SharedKeeps K limit c c' u h b)
       → c'.count + bit (is_counted_at p) ≡ c.count → ListMoves t (ticket_at p) None c c' (end_entry e t c'.value k ∷ h) → Goes K limit t w p c h (ends c' t k e)
-  ends_so c' e owes inner' queue' keeps count lists = ends_by c' e (owes_lasts K t h e owes) (owes_legal K limit t c'.value k h e inner'.value_is kk owes) (owes_holds K t h e owes) inner' queue' keeps count lists
+  ends_so c' e owes shared' queue' keeps count lists = ends_by c' e (owes_lasts K t h e owes) (owes_legal K limit t c'.value k h e shared'.value_is kk owes) (owes_holds K t h e owes) shared' queue' keeps count lists
 
   -- the last step of an uncounted call, which leaves all that is shared alone
   pub ends_plain : (e : Ending) → Owes K t h e → is_counted_at p ≡ false → ticket_at p ≡ None → Goes K limit t w p c h (ends c t k e)
-  ends_plain e owes n none = ends_so c e owes inner queue (λ u d b i. same_inner K limit c c u h b refl refl refl refl refl (λ x. x)) (rw n (omega arith)) (lists_stay t (ticket_at p) None c c (end_entry e t c.value k ∷ h) refl (λ r. r) (inl (sym none)))
+  ends_plain e owes n none = ends_so c e owes shared queue (λ u d b i. same_shared K limit c c u h b refl refl refl refl refl (λ x. x)) (rw n (omega arith)) (lists_stay t (ticket_at p) None c c (end_entry e t c.value k ∷ h) refl (λ r. r) (inl (sym none)))
 
   -- a poll that claims
-  pub claims_so : (c' : Inner) (by : Option ℕ) → cell K h ≡ Empty → Entered K t h → InnerFits K limit c' (Claim t ∷ h) → ((n : ℕ) → asks n c'.listings ≤ asks n c.listings) → HoldsBy limit c' by
+  pub claims_so : (c' : SharedState) (by : Option ℕ) → cell K h ≡ Empty → Entered K t h → SharedFits K limit c' (Claim t ∷ h) → ((n : ℕ) → asks n c'.listings ≤ asks n c.listings) → HoldsBy limit c' by
       → c'.ready ≡ c.ready → c'.door ≡ c.door → c'.count ≡ c.count → is_counted_at p ≡ is_counted_at (AtRun by) → ListMoves t (ticket_at p) None c c' (Claim t ∷ h)
       → Goes K limit t w p c h (claims c' t k by)
-  claims_so c' by empty entered inner' less own r d n same lists =
+  claims_so c' by empty entered shared' less own r d n same lists =
       let legal : IsLegal K limit (Claim t) h = (empty, entered.poll.status_is, entered.poll.ran_is, entered.poll.unpassed) in
       record {
         run = (legal, run);
-        inner = inner';
+        shared = shared';
         queue = entry_fits K c.listings c'.listings (Claim t) h queue refl (λ n. let a = less n in omega arith) (λ e. absurd (held_not_empty t e));
         own = (record { status_is = rw (eqb_self t) entered.poll.status_is; ran_is = rw (eqb_self t) entered.poll.ran_is; holds_is = eqb_self t; unpassed = rw (eqb_self t) entered.poll.unpassed }, own);
         waker_is = rw (eqb_self t) wk;
         kept_is = rw (eqb_self t) kk;
         others = λ u n. legal_keeps K u (Claim t) limit h (of_other t u n) legal refl;
-        keeps = λ u n b i. free_inner K limit c c' u h b (λ e. r ∙ e) d (ap (holds u) empty);
+        keeps = λ u n b i. free_shared K limit c c' u h b (λ e. r ∙ e) d (ap (holds u) empty);
         count = rw (n, same) refl;
         made = refl;
         takes = λ e. absurd (false≢true e);
@@ -218,16 +218,16 @@ module _ (K : Kind) (limit t w : ℕ) (k : Answer) (p : Place ℕ ℕ) (c : Inne
       }
 
   -- a poll that waits, with the ticket n
-  pub waits_so : (c' : Inner) (q n u : ℕ) → cell K h ≡ Held u → t ≢ u → Entered K t h → InnerFits K limit c' h
+  pub waits_so : (c' : SharedState) (q n u : ℕ) → cell K h ≡ Held u → t ≢ u → Entered K t h → SharedFits K limit c' h
       → ((v : ℕ) → asks v c'.listings ≤ asks v c.listings + bit (w == v)) → (c.ready ≡ false → find_listing n c'.listings ≡ Some (Some w)) → c'.ready ≡ c.ready → c'.door ≡ Some q
-      → ((u : ℕ) → t ≢ u → (b : Bool) → (is_take_at p ≡ true → b ≡ false) → InnerKeeps K limit c c' u h b)
+      → ((u : ℕ) → t ≢ u → (b : Bool) → (is_take_at p ≡ true → b ≡ false) → SharedKeeps K limit c c' u h b)
       → c'.count ≡ c.count → is_counted_at p ≡ true → is_inside_at p ≡ true → ListMoves t (ticket_at p) (Some n) c c' (End t Pending ∷ h)
       → Goes K limit t w p c h (waits c' t k q (Some n))
-  waits_so c' q n u held apart entered inner' less found same_ready door keeps m same inside lists =
+  waits_so c' q n u held apart entered shared' less found same_ready door keeps m same inside lists =
       let legal : IsLegal K limit (End t Pending) h = (entered.poll.status_is, rw entered.poll.ran_is (u, apart, held), inl entered.poll.unpassed) in
       record {
         run = (legal, run);
-        inner = inner_at K limit c' h (End t Pending ∷ h) refl refl inner';
+        shared = shared_at K limit c' h (End t Pending ∷ h) refl refl shared';
         queue = entry_fits K c.listings c'.listings (End t Pending) h queue refl (λ v. let a = less v in rw (opens_now K t u w v h held apart wk) (omega arith)) (λ e. absurd (held_not_empty u (sym held ∙ e)));
         own = ((waits_at K t u h held apart entered.poll.holds_is, door, (rw (eqb_self t) refl, λ r. inl (rw (eqb_self t, wk) (found (sym same_ready ∙ r))))), rw (eqb_self t) (ap kept_of entered.poll.ran_is));
         waker_is = rw (eqb_self t) wk;

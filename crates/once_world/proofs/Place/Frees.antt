@@ -9,7 +9,7 @@ use Rattle.once_world.specs.Tasks.{LastCall, Status, Waiting, is_under_way, last
 use Rattle.once_queue.specs.declared.waiters.Listing.{Listing}
 use Rattle.once_world.specs.Wakers.{CallsOne, HandsOut}
 use Rattle.once_world.specs.Run.{IsLegal}
-use Rattle.once_world.specs.Machine.{EndDropped, EndError, EndFull, EndMemory, EndPending, EndValue, Ending, Inner, out_inner, is_value, release_entry, release_flags, word_of}
+use Rattle.once_world.specs.Machine.{EndDropped, EndError, EndFull, EndMemory, EndPending, EndValue, Ending, SharedState, out_shared, is_value, release_entry, release_flags, word_of}
 use Rattle.once_queue.proofs.Listing.Members.{eqb_self}
 use Rattle.once_world.proofs.History.Cells.{held_by}
 use Rattle.once_world.proofs.Invariant.Facts.{HeadFlag, Owes, QuickFlag, Releasing, kept_of}
@@ -17,23 +17,23 @@ use Rattle.once_world.proofs.Invariant.Around.{releasing_acts}
 use Rattle.once_queue.specs.Word.{is_quick_bit, is_ready_bit}
 
 -- the word is exactly the quick bit
-pub exact : (c : Inner) → is_quick_bit (word_of c) ≡ true → c.count ≡ 0
+pub exact : (c : SharedState) → is_quick_bit (word_of c) ≡ true → c.count ≡ 0
 exact c e = grind (arith, nat_tests)
 
 -- where it is not, while t holds by the quick bit, somebody is in the count
-pub inexact : (c : Inner) → c.ready ≡ false → c.quick ≡ true → is_quick_bit (word_of c) ≡ false → 0 < c.count
+pub inexact : (c : SharedState) → c.ready ≡ false → c.quick ≡ true → is_quick_bit (word_of c) ≡ false → 0 < c.count
 inexact c r q e = grind (arith, nat_tests)
 
 -- the word will be exactly the ready bit
-pub exact_out : (c : Inner) → is_ready_bit (word_of (out_inner c)) ≡ true → (c.count - 1 ≡ 0) × (c.ready ≡ true)
+pub exact_out : (c : SharedState) → is_ready_bit (word_of (out_shared c)) ≡ true → (c.count - 1 ≡ 0) × (c.ready ≡ true)
 exact_out c e = grind (arith, nat_tests)
 
 -- a call that ends with the value fills the cell with what its init gave
-pub fills : (K : Kind) (t : ℕ) (h : List Entry) (c : Inner) (k : Answer) (X : List ℕ) → k ≡ kept_of (last_call K t h).ran → (r : Releasing K t h c EndValue) → release_entry k t X ≡ Fill t r.0 X
+pub fills : (K : Kind) (t : ℕ) (h : List Entry) (c : SharedState) (k : Answer) (X : List ℕ) → k ≡ kept_of (last_call K t h).ran → (r : Releasing K t h c EndValue) → release_entry k t X ≡ Fill t r.0 X
 fills K t h c k X a r = ap (λ x. release_entry x t X) (a ∙ ap kept_of r.1.ran_is)
 
 -- another call frees it
-pub frees : (K : Kind) (t : ℕ) (h : List Entry) (c : Inner) (k : Answer) (X : List ℕ) (e : Ending) → is_value e ≡ false → k ≡ kept_of (last_call K t h).ran → Releasing K t h c e → release_entry k t X ≡ Free t X
+pub frees : (K : Kind) (t : ℕ) (h : List Entry) (c : SharedState) (k : Answer) (X : List ℕ) (e : Ending) → is_value e ≡ false → k ≡ kept_of (last_call K t h).ran → Releasing K t h c e → release_entry k t X ≡ Free t X
 frees K t h c k X EndError n a r = ap (λ x. release_entry x t X) (a ∙ ap kept_of r.1.ran_is)
 frees K t h c k X EndDropped n a r = ap (λ x. release_entry x t X) (a ∙ r.1)
 frees K t h c k X EndValue n a r = absurd (false≢true (sym n))
@@ -42,7 +42,7 @@ frees K t h c k X EndMemory n a r = absurd r
 frees K t h c k X EndFull n a r = absurd r
 
 -- what stands in a call that freed the cell
-pub freed_owes : (K : Kind) (t : ℕ) (h : List Entry) (c : Inner) (X : List ℕ) (e : Ending) → is_value e ≡ false → Releasing K t h c e → Owes K t (Free t X ∷ h) e
+pub freed_owes : (K : Kind) (t : ℕ) (h : List Entry) (c : SharedState) (X : List ℕ) (e : Ending) → is_value e ≡ false → Releasing K t h c e → Owes K t (Free t X ∷ h) e
 freed_owes K t h c X EndError n r = (r.0, record { status_is = rw (eqb_self t) r.1.status_is; ran_is = rw (eqb_self t) r.1.ran_is; holds_is = refl; unpassed = rw (eqb_self t) r.1.unpassed }, rw (eqb_self t) refl)
 freed_owes K t h c X EndDropped n r = record { status_is = rw (eqb_self t) r.0.status_is; holds_is = refl }
 freed_owes K t h c X EndValue n r = absurd (false≢true (sym n))
@@ -51,11 +51,11 @@ freed_owes K t h c X EndMemory n r = absurd r
 freed_owes K t h c X EndFull n r = absurd r
 
 -- what stands in a call that filled it
-pub filled_owes : (K : Kind) (t : ℕ) (h : List Entry) (c : Inner) (X : List ℕ) → (r : Releasing K t h c EndValue) → Owes K t (Fill t r.0 X ∷ h) EndValue
+pub filled_owes : (K : Kind) (t : ℕ) (h : List Entry) (c : SharedState) (X : List ℕ) → (r : Releasing K t h c EndValue) → Owes K t (Fill t r.0 X ∷ h) EndValue
 filled_owes K t h c X r = (rw (eqb_self t) r.1.status_is, (r.0, refl, inr (rw (eqb_self t) r.1.ran_is)), rw (eqb_self t) r.1.unpassed)
 
 -- t may free the cell
-pub free_legal : (K : Kind) (limit t : ℕ) (h : List Entry) (c : Inner) (X : List ℕ) (e : Ending) → is_value e ≡ false → Releasing K t h c e → CallsOne K X h → IsLegal K limit (Free t X) h
+pub free_legal : (K : Kind) (limit t : ℕ) (h : List Entry) (c : SharedState) (X : List ℕ) (e : Ending) → is_value e ≡ false → Releasing K t h c e → CallsOne K X h → IsLegal K limit (Free t X) h
 free_legal K limit t h c X EndError n r o = (held_by t (cell K h) r.1.holds_is, rw (r.1.status_is, r.1.ran_is) tt, o)
 free_legal K limit t h c X EndDropped n r o = (held_by t (cell K h) r.0.holds_is, rw r.0.status_is tt, o)
 free_legal K limit t h c X EndValue n r o = absurd (false≢true (sym n))
@@ -64,7 +64,7 @@ free_legal K limit t h c X EndMemory n r o = absurd r
 free_legal K limit t h c X EndFull n r o = absurd r
 
 -- t may fill it
-pub fill_legal : (K : Kind) (limit t : ℕ) (h : List Entry) (c : Inner) (X : List ℕ) → (r : Releasing K t h c EndValue) → HandsOut K X h → IsLegal K limit (Fill t r.0 X) h
+pub fill_legal : (K : Kind) (limit t : ℕ) (h : List Entry) (c : SharedState) (X : List ℕ) → (r : Releasing K t h c EndValue) → HandsOut K X h → IsLegal K limit (Fill t r.0 X) h
 fill_legal K limit t h c X r o = (held_by t (cell K h) r.1.holds_is, r.1.status_is, r.1.ran_is, o)
 
 -- who acts does not wait
@@ -72,11 +72,11 @@ under_way_awake : {s : Status} → is_under_way s ≡ true → s ≢ Waiting
 under_way_awake a w = false≢true (sym (ap is_under_way w) ∙ a)
 
 -- a task that releases does not wait
-pub releasing_awake : (K : Kind) (t u : ℕ) (h : List Entry) (c : Inner) (e : Ending) → Releasing K t h c e → (t == u) ≡ true → status K u h ≢ Waiting
+pub releasing_awake : (K : Kind) (t u : ℕ) (h : List Entry) (c : SharedState) (e : Ending) → Releasing K t h c e → (t == u) ≡ true → status K u h ≢ Waiting
 releasing_awake K t u h c e r same w = under_way_awake (releasing_acts K t c h e r) (ap (λ v. status K v h) (eqb-true t u same) ∙ w)
 
 -- what is shared after a release: the flags are cleared, these listings are left, and ready stands for a value
-pub record Cleared (c c' : Inner) (r : Bool) (xs : List (Listing ℕ)) : Type 0 where
+pub record Cleared (c c' : SharedState) (r : Bool) (xs : List (Listing ℕ)) : Type 0 where
   pub quick_is : c'.quick ≡ false
   pub head_is : c'.head ≡ false
   pub ready_is : c'.ready ≡ r
@@ -87,7 +87,7 @@ pub record Cleared (c c' : Inner) (r : Bool) (xs : List (Listing ℕ)) : Type 0 
   pub answers_is : c'.answers ≡ c.answers
 
 -- a release clears the flags
-pub cleared : (b : Bool) (c : Inner) (r : Bool) (xs : List (Listing ℕ)) → c.quick ≡ b → QuickFlag c ⊎ HeadFlag c → Cleared c (record (release_flags b r c) { listings = xs }) r xs
+pub cleared : (b : Bool) (c : SharedState) (r : Bool) (xs : List (Listing ℕ)) → c.quick ≡ b → QuickFlag c ⊎ HeadFlag c → Cleared c (record (release_flags b r c) { listings = xs }) r xs
 cleared true c r xs e (inl f) = record { quick_is = refl; head_is = f.head_is; ready_is = refl; listings_is = refl; door_is = refl; count_is = refl; value_is = refl; answers_is = refl }
 cleared true c r xs e (inr f) = absurd (false≢true (sym f.quick_is ∙ e))
 cleared false c r xs e f = record { quick_is = e; head_is = refl; ready_is = refl; listings_is = refl; door_is = refl; count_is = refl; value_is = refl; answers_is = refl }

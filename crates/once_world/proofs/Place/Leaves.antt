@@ -8,7 +8,7 @@ use Rattle.once_world.specs.Tasks.{Waiting, last_call, status}
 use Rattle.once_queue.specs.declared.waiters.Listing.{Listing}
 use Rattle.once_queue.specs.Listings.{call_first, find_listing, first_waker, left_list, next_waker, one_out, take_out}
 use Rattle.once_world.specs.Run.{IsLegal, IsRun, MayPass}
-use Rattle.once_world.specs.Machine.{AtCountOut, AtLeave, EndDropped, EndError, EndFull, EndMemory, EndPending, EndValue, Ending, Inner, UnderWay, is_at_door, is_taken, leave_step, pass_entries, is_passing}
+use Rattle.once_world.specs.Machine.{AtCountOut, AtLeave, EndDropped, EndError, EndFull, EndMemory, EndPending, EndValue, Ending, SharedState, UnderWay, is_at_door, is_taken, leave_step, pass_entries, is_passing}
 use Rattle.once_queue.proofs.Listing.Members.{eqb_self}
 use Rattle.once_world.proofs.History.Others.{legal_keeps}
 use Rattle.once_world.proofs.History.Cells.{empty_cell}
@@ -16,13 +16,13 @@ use Rattle.once_world.proofs.Listing.Listings.{asks, asks_call, asks_take, find_
 use Rattle.once_world.proofs.Listing.CalledFirst.{call_back, call_called, call_none}
 use Rattle.once_world.proofs.History.Waiters.{CalledAt, QueueFits, entry_fits, list_fits, open_by}
 use Rattle.once_world.proofs.Invariant.Facts.{AtPlace, Leaves, Owes, kept_of, refused_in}
-use Rattle.once_world.proofs.Invariant.Fits.{InnerFits}
+use Rattle.once_world.proofs.Invariant.Fits.{SharedFits}
 use Rattle.once_world.proofs.Invariant.Listed.{none_not_some, same_some}
 use Rattle.once_world.proofs.Invariant.Calls.{call_kept}
 use Rattle.once_world.proofs.Invariant.Around.{leaves_acts, no_wait}
 use Rattle.once_world.proofs.Invariant.AroundLists.{AroundList}
-use Rattle.once_world.proofs.Place.Builders.{Goes, inner_at, moves_on, of_other, same_inner}
-use Rattle.once_world.proofs.Place.Inners.{at_door, relisted_fits}
+use Rattle.once_world.proofs.Place.Builders.{Goes, shared_at, moves_on, of_other, same_shared}
+use Rattle.once_world.proofs.Place.FitsAfter.{at_door, relisted_fits}
 use Rattle.once_world.proofs.Place.Relisted.{take_back, without_lists}
 use Rattle.once_world.proofs.Place.Outcomes.{goes_to}
 
@@ -54,41 +54,41 @@ passed_owes K t h X EndPending b a = absurd a
 passed_owes K t h X EndFull b a = absurd a
 
 -- in an empty cell a called listing passes its turn on
-passes_in : (c : Inner) (n : ℕ) → c.ready ≡ false → is_taken c ≡ false → find_listing n c.listings ≡ Some None → is_passing c n ≡ true
+passes_in : (c : SharedState) (n : ℕ) → c.ready ≡ false → is_taken c ≡ false → find_listing n c.listings ≡ Some None → is_passing c n ≡ true
 passes_in c n r q f = rw (f, r, q) refl
 
 -- and only in an empty cell
-passes_when : (c : Inner) (n : ℕ) → is_passing c n ≡ true → (c.ready ≡ false) × (is_taken c ≡ false)
+passes_when : (c : SharedState) (n : ℕ) → is_passing c n ≡ true → (c.ready ≡ false) × (is_taken c ≡ false)
 passes_when c n e = grind arith
 
-module _ (K : Kind) (limit t w : ℕ) (k : Answer) (c : Inner) (h : List Entry) (run : IsRun K limit h) (inner : InnerFits K limit c h) (queue : QueueFits K c.listings h) (wk : (last_call K t h).waker ≡ w) (kk : k ≡ kept_of (last_call K t h).ran) where
+module _ (K : Kind) (limit t w : ℕ) (k : Answer) (c : SharedState) (h : List Entry) (run : IsRun K limit h) (shared : SharedFits K limit c h) (queue : QueueFits K c.listings h) (wk : (last_call K t h).waker ≡ w) (kk : k ≡ kept_of (last_call K t h).ran) where
   -- who leaves and calls nobody
   leaves_plain : (q n : ℕ) (e : Ending) → AtPlace K limit t c h (AtLeave q n e) → CalledAt K (take_out n c.listings) h → Goes K limit t w (AtLeave q n e) c h (goes_to (record c { listings = take_out n c.listings }) k (AtCountOut e))
   leaves_plain q n e a called =
-      let c' : Inner = record c { listings = take_out n c.listings } in
-      moves_on K limit t w k (AtLeave q n e) c h run inner queue wk kk c' (AtCountOut e) (relisted_fits K limit c (take_out n c.listings) h inner)
+      let c' : SharedState = record c { listings = take_out n c.listings } in
+      moves_on K limit t w k (AtLeave q n e) c h run shared queue wk kk c' (AtCountOut e) (relisted_fits K limit c (take_out n c.listings) h shared)
       (list_fits K c.listings (take_out n c.listings) h queue (λ v. asks_take v n c.listings) called) (leaves_owes K t h e a.0)
-      (λ u m b j. same_inner K limit c c' u h b refl refl refl refl refl (λ x. x)) refl (λ e. absurd (false≢true e)) (λ e. absurd (false≢true e)) (without_lists t (Some n) c c' h refl (λ x. x))
+      (λ u m b j. same_shared K limit c c' u h b refl refl refl refl refl (λ x. x)) refl (λ e. absurd (false≢true e)) (λ e. absurd (false≢true e)) (without_lists t (Some n) c c' h refl (λ x. x))
 
   -- who leaves and calls the first
   leaves_on : (q n v : ℕ) (e : Ending) → AtPlace K limit t c h (AtLeave q n e) → cell K h ≡ Empty → first_waker (take_out n c.listings) ≡ Some v
-      → Goes K limit t w (AtLeave q n e) c h (record { inner = record c { listings = call_first (take_out n c.listings) }; step = UnderWay (AtCountOut e); kept = k; entries = Pass t (v ∷ []) ∷ [] })
+      → Goes K limit t w (AtLeave q n e) c h (record { shared = record c { listings = call_first (take_out n c.listings) }; step = UnderWay (AtCountOut e); kept = k; entries = Pass t (v ∷ []) ∷ [] })
   leaves_on q n v e a empty first =
       let xs : List (Listing ℕ) = take_out n c.listings in
-      let c' : Inner = record c { listings = call_first xs } in
+      let c' : SharedState = record c { listings = call_first xs } in
       let one : one_out (first_waker xs) ≡ v ∷ [] = rw first refl in
       let less : (x : ℕ) → times_in x (v ∷ []) + asks x (call_first xs) ≤ asks x c.listings = λ x. let i : asks x (call_first xs) + times_in x (v ∷ []) ≡ asks x xs = rw one at (asks_call x xs) in let j = asks_take x n c.listings in omega arith in
       let may = leaves_may K t h e a.0 in
       let legal : IsLegal K limit (Pass t (v ∷ [])) h = (empty, may.0, may.1, (v, refl, open_by K v (v ∷ []) c.listings h queue (λ x. let i = less x in omega arith) (rw (eqb_self v) refl))) in
       record {
         run = (legal, run);
-        inner = inner_at K limit c' h (Pass t (v ∷ []) ∷ h) refl refl (relisted_fits K limit c (call_first xs) h inner);
+        shared = shared_at K limit c' h (Pass t (v ∷ []) ∷ h) refl refl (relisted_fits K limit c (call_first xs) h shared);
         queue = entry_fits K c.listings (call_first xs) (Pass t (v ∷ [])) h queue refl (λ x. let i = less x in omega arith) (λ _ u s. call_called v xs first);
         own = passed_owes K t h (v ∷ []) e a.2 a.0;
         waker_is = rw (eqb_self t) wk;
         kept_is = rw (eqb_self t) kk;
         others = λ u d. legal_keeps K u (Pass t (v ∷ [])) limit h (of_other t u d) legal refl;
-        keeps = λ u d b j. same_inner K limit c c' u h b refl refl refl refl refl (λ x. x);
+        keeps = λ u d b j. same_shared K limit c c' u h b refl refl refl refl refl (λ x. x);
         count = refl;
         made = refl;
         takes = λ e. absurd (false≢true e);
@@ -113,11 +113,11 @@ module _ (K : Kind) (limit t w : ℕ) (k : Answer) (c : Inner) (h : List Entry) 
 
   -- what a step at this place leaves, by the waker that is called and the list that is left
   abbrev Left : ℕ → ℕ → Ending → Option ℕ → List (Listing ℕ) → Type 0
-  Left q n e o xs = Goes K limit t w (AtLeave q n e) c h (record { inner = record c { listings = xs }; step = UnderWay (AtCountOut e); kept = k; entries = pass_entries t (one_out o) })
+  Left q n e o xs = Goes K limit t w (AtLeave q n e) c h (record { shared = record c { listings = xs }; step = UnderWay (AtCountOut e); kept = k; entries = pass_entries t (one_out o) })
 
   -- the turn goes to the first that was not called
   pass_goes : (o : Option ℕ) (q n : ℕ) (e : Ending) → first_waker (take_out n c.listings) ≡ o → is_passing c n ≡ true → AroundList K t (Some n) c h → AtPlace K limit t c h (AtLeave q n e) → Left q n e o (call_first (take_out n c.listings))
-  pass_goes (Some v) q n e first on al a = let p = passes_when c n on in leaves_on q n v e a (empty_cell (cell K h) (sym inner.ready_is ∙ p.0) (inner.held_is ∙ p.1)) first
+  pass_goes (Some v) q n e first on al a = let p = passes_when c n on in leaves_on q n v e a (empty_cell (cell K h) (sym shared.ready_is ∙ p.0) (shared.held_is ∙ p.1)) first
   pass_goes None q n e first on al a =
       subst (λ xs. Left q n e None xs) (sym (call_none (take_out n c.listings) first)) (leaves_plain q n e a (others_called q n e first (passes_when c n on).0 al a))
 
@@ -125,7 +125,7 @@ module _ (K : Kind) (limit t w : ℕ) (k : Answer) (c : Inner) (h : List Entry) 
   still_called : (n : ℕ) → is_passing c n ≡ false → CalledAt K (take_out n c.listings) h
   still_called n on = λ empty u s.
       let m = queue.called empty u s in
-      let other : n ≢ m.0 = λ x. false≢true (sym on ∙ passes_in c n (inner.ready_is ∙ ap is_set empty) (sym inner.held_is ∙ ap is_held empty) (subst (λ v. find_listing v c.listings ≡ Some None) (sym x) m.1)) in
+      let other : n ≢ m.0 = λ x. false≢true (sym on ∙ passes_in c n (shared.ready_is ∙ ap is_set empty) (sym shared.held_is ∙ ap is_held empty) (subst (λ v. find_listing v c.listings ≡ Some None) (sym x) m.1)) in
       (m.0, find_take_other m.0 n c.listings other ∙ m.1)
 
   -- by whether it has its turn

@@ -2,20 +2,20 @@
 use Rattle.std.specs.Prelude.{ℕ, [], ◌∷◌, Option}
 use Rattle.once_core.specs.Steps.{next_at, next_rest, next_end}
 use Rattle.once_world.specs.Record.{Answer, Claim}
-use Rattle.once_world.specs.Machine.{AtRun, Ending, Inner, Outcome, Place, RestWait, outcome_of}
+use Rattle.once_world.specs.Machine.{AtRun, Ending, SharedState, Outcome, Place, RestWait, outcome_of}
 
 -- the call goes on, and nothing is recorded
-abbrev pub goes_to : Inner → Answer → Place ℕ ℕ → Outcome
+abbrev pub goes_to : SharedState → Answer → Place ℕ ℕ → Outcome
 goes_to c k p = outcome_of c 0 k [] (next_at p)
 
 -- the call ends for good
-abbrev pub ends : Inner → ℕ → Answer → Ending → Outcome
+abbrev pub ends : SharedState → ℕ → Answer → Ending → Outcome
 ends c t k e = outcome_of c t k [] (next_end e)
 
 -- the poll ends Pending, and waits
-abbrev pub waits : Inner → ℕ → Answer → ℕ → Option ℕ → Outcome
+abbrev pub waits : SharedState → ℕ → Answer → ℕ → Option ℕ → Outcome
 waits c t k q n = outcome_of c t k [] (next_rest (RestWait q n))
 
 -- the task claims the right
-abbrev pub claims : Inner → ℕ → Answer → Option ℕ → Outcome
+abbrev pub claims : SharedState → ℕ → Answer → Option ℕ → Outcome
 claims c t k by = outcome_of c t k (Claim t ∷ []) (next_at (AtRun by))

@@ -7,7 +7,7 @@ use Rattle.once_world.specs.Record.{Entry, Kind}
 use Rattle.once_world.specs.Tasks.{last_call}
 use Rattle.once_queue.specs.declared.waiters.Listing.{Listing}
 use Rattle.once_queue.specs.Listings.{find_listing, is_waker, list_with, take_out, ticket_for, list_without}
-use Rattle.once_world.specs.Machine.{Inner, listing_inner}
+use Rattle.once_world.specs.Machine.{SharedState, listing_shared}
 use Rattle.once_world.proofs.Listing.Listings.{asks, asks_push, asks_take, find_push_other, find_push_same, find_take_other, find_take_same, new_fresh}
 use Rattle.once_queue.proofs.Listing.Tickets.{find_none, found_ticket}
 use Rattle.once_world.proofs.Invariant.Facts.{HasTicket}
@@ -35,7 +35,7 @@ without_asks w None xs = omega arith
 without_asks w (Some n) xs = asks_take w n xs
 
 -- the own listing is taken out, and the ticket given up
-pub without_lists : (t : ℕ) (k : Option ℕ) (c c' : Inner) (h' : List Entry) → c'.listings ≡ list_without k c.listings → (c.ready ≡ true → c'.ready ≡ true) → ListMoves t k None c c' h'
+pub without_lists : (t : ℕ) (k : Option ℕ) (c c' : SharedState) (h' : List Entry) → c'.listings ≡ list_without k c.listings → (c.ready ≡ true → c'.ready ≡ true) → ListMoves t k None c c' h'
 without_lists t k c c' h' same up = record {
   up = up;
   lists = λ u n o d x r f. inl (rw same (without_find n o k c.listings x f));
@@ -44,14 +44,14 @@ without_lists t k c c' h' same up = record {
 }
 
 -- the ticket by which t is listed: its own, or one that finds nothing
-abbrev pub ListsBy : Option ℕ → ℕ → Inner → Type 0
+abbrev pub ListsBy : Option ℕ → ℕ → SharedState → Type 0
 ListsBy k n c = (k ≡ Some n) ⊎ ((k ≡ None) × (c.ready ≡ false) × (find_listing n c.listings ≡ None))
 
 kept_in : (n : ℕ) (o : Option ℕ) (xs : List (Listing ℕ)) → find_listing n xs ≡ Some o → ◌≡◌ {A = Option ℕ} (Some n) (Some (ticket_for (Some n) xs))
 kept_in n o xs f = rw (found_ticket n o xs f) refl
 
 -- so it is with the ticket of a waiter that lists its waker
-pub lists_by : (K : Kind) (t : ℕ) (k : Option ℕ) (c : Inner) (h : List Entry) → c.ready ≡ false → HasTicket K t c h k → ListsBy k (ticket_for k c.listings) c
+pub lists_by : (K : Kind) (t : ℕ) (k : Option ℕ) (c : SharedState) (h : List Entry) → c.ready ≡ false → HasTicket K t c h k → ListsBy k (ticket_for k c.listings) c
 lists_by K t None c h r a = inr (refl, r, find_none (ticket_for None c.listings) c.listings (new_fresh c.listings))
 lists_by K t (Some n) c h r a = ⊎_elim (λ f. inl (kept_in n (Some (last_call K t h).listed) c.listings f)) (λ f. inl (kept_in n None c.listings f.0)) (a.1 r)
 
@@ -59,15 +59,15 @@ new_apart : (m i : ℕ) (o : Option ℕ) (xs : List (Listing ℕ)) → find_list
 new_apart m i o xs none f e = no_listing o (sym none ∙ subst (λ v. find_listing v xs ≡ Some o) (sym e) f)
 
 -- another listing that was found has another ticket
-other_ticket : (k : Option ℕ) (n i : ℕ) (o : Option ℕ) (c : Inner) → ListsBy k n c → (k ≡ Some i → ⊥) → find_listing i c.listings ≡ Some o → n ≢ i
+other_ticket : (k : Option ℕ) (n i : ℕ) (o : Option ℕ) (c : SharedState) → ListsBy k n c → (k ≡ Some i → ⊥) → find_listing i c.listings ≡ Some o → n ≢ i
 other_ticket k n i o c (inl e) x f = λ s. x (e ∙ ap (λ (v : ℕ). Some v) s)
 other_ticket k n i o c (inr e) x f = new_apart n i o c.listings e.2 f
 
-not_own : (k : Option ℕ) (n i : ℕ) (c : Inner) → ListsBy k n c → n ≢ i → k ≡ Some i → ⊥
+not_own : (k : Option ℕ) (n i : ℕ) (c : SharedState) → ListsBy k n c → n ≢ i → k ≡ Some i → ⊥
 not_own k n i c (inl e) d x = d (same_some n i (sym e ∙ x))
 not_own k n i c (inr e) d x = none_not_some i (sym e.0 ∙ x)
 
-fresh_by : (k : Option ℕ) (n i : ℕ) (c : Inner) → ListsBy k n c → n ≡ i → (k ≡ Some i) ⊎ ((c.ready ≡ false) × (find_listing i c.listings ≡ None))
+fresh_by : (k : Option ℕ) (n i : ℕ) (c : SharedState) → ListsBy k n c → n ≡ i → (k ≡ Some i) ⊎ ((c.ready ≡ false) × (find_listing i c.listings ≡ None))
 fresh_by k n i c (inl e) s = inl (e ∙ ap (λ (v : ℕ). Some v) s)
 fresh_by k n i c (inr e) s = inr (e.1, subst (λ v. find_listing v c.listings ≡ None) s e.2)
 
@@ -82,7 +82,7 @@ pub anew_asks : (v n w : ℕ) (xs : List (Listing ℕ)) → asks v (list_with n 
 anew_asks v n w xs = let a = asks_push v (record { ticket = n; waker = Some w }) (take_out n xs) in let b = asks_take v n xs in omega arith
 
 -- the waker is listed at the end
-pub anew_lists : (t n w : ℕ) (k : Option ℕ) (c : Inner) (h' : List Entry) → ListsBy k n c → ListMoves t k (Some n) c (listing_inner c n w) h'
+pub anew_lists : (t n w : ℕ) (k : Option ℕ) (c : SharedState) (h' : List Entry) → ListsBy k n c → ListMoves t k (Some n) c (listing_shared c n w) h'
 anew_lists t n w k c h' by = record {
   up = λ r. r;
   lists = λ u i o d x r f. inl (find_anew i n w c.listings (other_ticket k n i o c by x f) ∙ f);

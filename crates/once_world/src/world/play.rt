@@ -4,214 +4,13 @@ ghost use Rattle.std.specs.Option.{option_copied, option_map};
 ghost use Rattle.once_world.specs.Machine.{unfinished_after, error_in as error_of, release_entry as release_of, end_entry as end_of};
 ghost use Rattle.once_world.specs.Shown.{call_of, entry_of, history_in, claim_entries, ran_entries, out_entries, wakers_in, step_entries};
 
-use super::side::ReplaySide;
-use super::{Call, Entry, Got, Input, Kind, QueueLine, Ran, Record, Reply};
-use once_core::parts::Parts;
+use super::cell::{ReplayCell, StepSeen, Task};
+use super::{Call, Entry, Input, Kind, Ran, Record, Reply};
 use once_core::plain::Core;
 use once_core::step::{Ending, Progress, Step};
 use once_queue::waiters::Out;
 use std::alloc::{AllocError, Global};
 use std::collections::BTreeMap;
-use std::mem::replace;
-
-/// A task of a replay: the waker of its last poll, what its init gave, and the step at which it
-/// stands.
-#[derive(Drop)]
-pub(super) struct Task {
-    pub waker: u64,
-    pub kept: Ran,
-    pub step: Step<u64, u64>,
-}
-
-/// What all tasks of a replay share.
-#[derive(Drop)]
-pub(super) struct ReplayCell {
-    pub core: Core<u64>,
-    pub side: ReplaySide,
-}
-
-/// What one step of a task was seen to do.
-#[derive(Drop)]
-pub(super) struct StepSeen {
-    pub claimed: bool,
-    pub ran: Option<Ran>,
-    /// Whether the right was given back by the fast release, which hands nobody out.
-    pub freed: bool,
-    /// Whom a release under the lock handed out, or one who left.
-    pub handed: Option<Out<u64>>,
-    /// Whether the step took the task's listing out.
-    pub leaving: bool,
-    pub progress: Progress,
-}
-
-impl ReplayCell {
-    ghost use Rattle.once_world.specs.Record.{Kind as RecordedKind, is_lazy, replaces, has_call as owner_has};
-    ghost use Rattle.once_world.specs.Log.{take_lines};
-    ghost use Rattle.once_world.specs.Can.{CanAdvance};
-    ghost use Rattle.once_core.specs.Core.{HasRoom, state_of};
-    ghost use Rattle.once_core.specs.Steps.{in_call};
-    ghost use Rattle.once_world.specs.Machine.{first_world, look_value, step_lines, reset_inner, owner_inner, owner_got, owner_lines, advance as outcome};
-    ghost use Rattle.once_world.specs.Shown.{kind_of, call_of, got_of, inner_of, log_in, step_entries};
-
-    fn new(alloc: Global, kind: Kind) -> Self
-        ensures inner { inner_of result ≡ (first_world (kind_of kind)).inner }
-        ensures log { log_in result ≡ [] }
-        ensures lazy { result.side.lazy ≡ is_lazy (kind_of kind) }
-    {
-        let lazy = matches!(&kind, Kind::Lazy(_) | Kind::LazyWith(_));
-        let (value, answers) = match kind {
-            Kind::Once => (None, Vec::new(alloc)),
-            Kind::OnceWith(v) => (Some(v), Vec::new(alloc)),
-            Kind::Lazy(mut answers) => {
-                answers.reverse();
-                (None, answers)
-            }
-            Kind::LazyWith(v) => (Some(v), Vec::new(alloc)),
-        };
-        ReplayCell {
-            core: Core::new(alloc, value.is_some()),
-            side: ReplaySide {
-                lazy,
-                answers,
-                value: value.unwrap_or(0),
-                answer: Ran::Pending,
-                granted: true,
-                waker: 0,
-                kept: Ran::Pending,
-                ran: None,
-                handed: None,
-            },
-        }
-    }
-
-    // What a look finds.
-    fn look(&self) -> Option<u64>
-        ensures { result ≡ look_value (inner_of self.now) }
-    {
-        if self.core.word.is_ready() {
-            Some(self.side.value)
-        } else {
-            None
-        }
-    }
-
-    // Makes the room that one step may need. Where that is refused all is as it was.
-    fn reserve(&mut self) -> Result<(), AllocError>
-        ensures room { OnOk result (HasRoom self.new.core) }
-        ensures inner { inner_of self.new ≡ inner_of self.old }
-        ensures log { log_in self.new ≡ log_in self.old }
-        ensures side { self.new.side ≡ self.old.side }
-    {
-        self.core.reserve()
-    }
-
-    // Makes one step of a task with a call under way, whose init answers so and which is given
-    // memory or not.
-    fn advance(&mut self, task: &mut Task, answer: Ran, granted: bool, limit: u64) -> StepSeen
-        requires call { in_call task.old.step ≡ true }
-        requires limit { limit ≤ 2 ^ 62 - 2 }
-        requires room { HasRoom self.old.core }
-        requires can { CanAdvance limit (inner_of self.old) task.old.step }
-        ensures inner { (t : ℕ) → inner_of self.new ≡ (outcome self.old.side.lazy limit (inner_of self.old) t task.old answer granted).inner }
-        ensures step { (t : ℕ) → task.new.step ≡ (outcome self.old.side.lazy limit (inner_of self.old) t task.old answer granted).step }
-        ensures kept { (t : ℕ) → task.new.kept ≡ (outcome self.old.side.lazy limit (inner_of self.old) t task.old answer granted).kept }
-        ensures waker { task.new.waker ≡ task.old.waker }
-        ensures seen { (t : ℕ) → step_entries t result task.new.kept self.new.side.value ≡ (outcome self.old.side.lazy limit (inner_of self.old) t task.old answer granted).entries }
-        ensures log { log_in self.new ≡ step_lines granted (inner_of self.old) task.old.step ++ log_in self.old }
-        ensures lazy { self.new.side.lazy ≡ self.old.side.lazy }
-    {
-        self.side.ran = None;
-        self.side.handed = None;
-        self.side.answer = answer;
-        self.side.granted = granted;
-        self.side.waker = task.waker;
-        self.side.kept = task.kept;
-        self.core.set_waker(task.waker);
-        self.core.grant(granted);
-        let freeing = task.step.is_freeing();
-        let leaving = task.step.is_leaving();
-        let progress = task.step.advance(&mut self.core, &mut self.side, limit);
-        task.kept = self.side.kept;
-        StepSeen {
-            claimed: task.step.is_running(),
-            ran: self.side.ran.take(),
-            freed: freeing && !task.step.is_adding(),
-            handed: self.side.handed.take(),
-            leaving,
-            progress,
-        }
-    }
-
-    // Whether this kind of cell has the call.
-    fn has_call(&self, call: &Call) -> bool
-        ensures { (kind : RecordedKind) → is_lazy kind ≡ self.now.side.lazy → result ≡ owner_has kind (call_of call.now) }
-    {
-        match call {
-            Call::Take => !self.side.lazy,
-            Call::Write(_) => true,
-            Call::Parts | Call::ReplaceValue(_) | Call::ReplaceAnswers(_) => self.side.lazy,
-        }
-    }
-
-    // Makes a call of the cell's owner, and answers what the owner is given.
-    fn own(&mut self, call: &Call) -> Result<Got, AllocError>
-        ensures inner { OnOk result (inner_of self.new ≡ owner_inner (call_of call.now) (inner_of self.old)) }
-        ensures got { IfOk result (λ g. got_of g ≡ owner_got (call_of call.now) (inner_of self.old)) }
-        ensures log { OnOk result (log_in self.new ≡ owner_lines (replaces (call_of call.now)) (inner_of self.old) ++ log_in self.old) }
-        ensures lazy { self.new.side.lazy ≡ self.old.side.lazy }
-    {
-        self.core.reserve()?;
-        let value = self.look();
-        let got = value.map_or(Got::None, Got::Value);
-        match call {
-            Call::Take => {
-                self.renew(None);
-                Ok(got)
-            }
-            Call::Write(v) => {
-                if value.is_some() {
-                    self.side.value = *v;
-                }
-                Ok(got)
-            }
-            Call::Parts => {
-                let alloc = *self.side.answers.allocator();
-                let mut answers = replace(&mut self.side.answers, Vec::new(alloc));
-                self.renew(None);
-                if value.is_some() {
-                    return Ok(got);
-                }
-                answers.reverse();
-                Ok(Got::Answers(answers))
-            }
-            Call::ReplaceValue(v) => {
-                self.side.answers.clear();
-                self.renew(Some(*v));
-                Ok(got)
-            }
-            Call::ReplaceAnswers(answers) => {
-                let mut answers = Vec::from_slice(*answers.allocator(), answers)?;
-                answers.reverse();
-                self.side.answers = answers;
-                self.renew(None);
-                Ok(got)
-            }
-        }
-    }
-
-    // Puts a new cell with this value or none in the place of this one.
-    fn renew(&mut self, value: Option<u64>)
-        requires room { HasRoom self.old.core }
-        ensures inner { inner_of self.new ≡ reset_inner (inner_of self.old) value (inner_of self.old).answers }
-        ensures log { log_in self.new ≡ take_lines self.old.core.door ++ log_in self.old }
-        ensures lazy { self.new.side.lazy ≡ self.old.side.lazy }
-    {
-        self.core.reset(value.is_some());
-        if let Some(v) = value {
-            self.side.value = v;
-        }
-    }
-}
 
 /// A cell and its tasks under replay, which take one input at a time.
 ///
@@ -240,7 +39,7 @@ impl World {
     ghost use Rattle.once_world.specs.Machine.{first_world, world_after, word_of, make_world, poll_world, drop_world, go_world, own_world_by};
     ghost use Rattle.once_world.specs.Can.{MayTake, TaskCan};
     ghost use Rattle.once_world.specs.Run.{IsRun};
-    ghost use Rattle.once_world.specs.Shown.{kind_of, call_of, input_of, inner_of, world_in, record_entries, record_lines};
+    ghost use Rattle.once_world.specs.Shown.{kind_of, call_of, input_of, shared_of, world_in, record_entries, record_lines};
     ghost use Rattle.once_world.specs.Reached.{IsAfter, IsReached};
     ghost use Rattle.once_world.specs.Inputs.{Input as Taken};
     ghost use Rattle.once_core.specs.Core.{state_of};
@@ -270,7 +69,9 @@ impl World {
     pub fn take(&mut self, input: &Input) -> Result<(), AllocError>
         requires reached { IsReached self.old }
         ensures reached { OnOk result (IsReached self.new) }
-        ensures after { (kind : RecordedKind) (limit : ℕ) (inputs : List Taken) → IsAfter kind limit inputs self.old → OnOk result (IsAfter kind limit (input_of input.now ∷ inputs) self.new) }
+        ensures after { (kind : RecordedKind) (limit : ℕ) (inputs : List Taken)
+            → IsAfter kind limit inputs self.old
+            → OnOk result (IsAfter kind limit (input_of input.now ∷ inputs) self.new) }
     {
         self.apply(input)
     }
@@ -278,17 +79,18 @@ impl World {
     /// The record so far, the oldest entry first.
     pub fn entries(&self) -> &[Entry]
         ensures entries { history_in result.now ≡ (world_in self.now).history }
-        ensures run { (kind : RecordedKind) (limit : ℕ) (inputs : List Taken) → IsAfter kind limit inputs self.now → IsRun kind limit (history_in result.now) }
+        ensures run { (kind : RecordedKind) (limit : ℕ) (inputs : List Taken)
+            → IsAfter kind limit inputs self.now → IsRun kind limit (history_in result.now) }
     {
         &self.entries
     }
 
     /// What all tasks share: the word, the queue at the door, its flag, and who is listed there.
     pub fn core(&self) -> &Core<u64>
-        ensures word { (state_of result.now).word ≡ word_of (world_in self.now).inner }
-        ensures door { result.now.door ≡ (world_in self.now).inner.door }
-        ensures flag { result.now.lists.head ≡ (world_in self.now).inner.head }
-        ensures listings { listings_of result.now.lists ≡ (world_in self.now).inner.listings }
+        ensures word { (state_of result.now).word ≡ word_of (world_in self.now).shared }
+        ensures door { result.now.door ≡ (world_in self.now).shared.door }
+        ensures flag { result.now.lists.head ≡ (world_in self.now).shared.head }
+        ensures listings { listings_of result.now.lists ≡ (world_in self.now).shared.listings }
     {
         &self.shared.core
     }
@@ -304,7 +106,9 @@ impl World {
     fn apply(&mut self, input: &Input) -> Result<(), AllocError>
         requires limit { self.old.limit ≤ 2 ^ 62 - 2 }
         requires may { MayTake self.old.limit (world_in self.old) (input_of input.now) }
-        ensures world { (kind : RecordedKind) → is_lazy kind ≡ self.old.shared.side.lazy → OnOk result (world_in self.new ≡ world_after kind self.old.limit (world_in self.old) (input_of input.now)) }
+        ensures world { (kind : RecordedKind) → is_lazy kind ≡ self.old.shared.side.lazy
+            → OnOk result (world_in self.new
+            ≡ world_after kind self.old.limit (world_in self.old) (input_of input.now)) }
         ensures lazy { self.new.shared.side.lazy ≡ self.old.shared.side.lazy }
         ensures limit { self.new.limit ≡ self.old.limit }
     {
@@ -323,7 +127,8 @@ impl World {
 
     fn make(&mut self, t: u64) -> Result<(), AllocError>
         requires counted { self.old.unfinished ≤ length self.old.entries.items }
-        ensures world { OnOk result (world_in self.new ≡ make_world (world_in self.old) t ((world_in self.old).tasks t)) }
+        ensures world { OnOk result (world_in self.new
+            ≡ make_world (world_in self.old) t ((world_in self.old).tasks t)) }
         ensures shared { self.new.shared ≡ self.old.shared }
         ensures limit { self.new.limit ≡ self.old.limit }
     {
@@ -345,7 +150,8 @@ impl World {
     }
 
     fn poll(&mut self, t: u64, waker: u64) -> Result<(), AllocError>
-        ensures world { OnOk result (world_in self.new ≡ poll_world (world_in self.old) t waker ((world_in self.old).tasks t)) }
+        ensures world { OnOk result (world_in self.new
+            ≡ poll_world (world_in self.old) t waker ((world_in self.old).tasks t)) }
         ensures shared { self.new.shared ≡ self.old.shared }
         ensures limit { self.new.limit ≡ self.old.limit }
     {
@@ -362,7 +168,8 @@ impl World {
     }
 
     fn begin_drop(&mut self, t: u64) -> Result<(), AllocError>
-        ensures world { OnOk result (world_in self.new ≡ drop_world (world_in self.old) t ((world_in self.old).tasks t)) }
+        ensures world { OnOk result (world_in self.new
+            ≡ drop_world (world_in self.old) t ((world_in self.old).tasks t)) }
         ensures lazy { self.new.shared.side.lazy ≡ self.old.shared.side.lazy }
         ensures limit { self.new.limit ≡ self.old.limit }
     {
@@ -383,8 +190,11 @@ impl World {
 
     fn go(&mut self, t: u64, answer: Ran, granted: bool) -> Result<(), AllocError>
         requires limit { self.old.limit ≤ 2 ^ 62 - 2 }
-        requires can { TaskCan self.old.limit (inner_of self.old.shared) ((world_in self.old).tasks t) }
-        ensures world { OnOk result (world_in self.new ≡ go_world self.old.shared.side.lazy self.old.limit (world_in self.old) t answer granted ((world_in self.old).tasks t)) }
+        requires can { TaskCan self.old.limit (shared_of self.old.shared)
+            ((world_in self.old).tasks t) }
+        ensures world { OnOk result (world_in self.new
+            ≡ go_world self.old.shared.side.lazy self.old.limit (world_in self.old) t answer granted
+            ((world_in self.old).tasks t)) }
         ensures lazy { self.new.shared.side.lazy ≡ self.old.shared.side.lazy }
         ensures limit { self.new.limit ≡ self.old.limit }
     {
@@ -402,7 +212,10 @@ impl World {
     }
 
     fn own(&mut self, call: &Call) -> Result<(), AllocError>
-        ensures world { (kind : RecordedKind) → is_lazy kind ≡ self.old.shared.side.lazy → OnOk result (world_in self.new ≡ own_world_by (self.old.unfinished == 0) (owner_has kind (call_of call.now)) (world_in self.old) (call_of call.now)) }
+        ensures world { (kind : RecordedKind) → is_lazy kind ≡ self.old.shared.side.lazy
+            → OnOk result (world_in self.new
+            ≡ own_world_by (self.old.unfinished == 0) (owner_has kind (call_of call.now))
+            (world_in self.old) (call_of call.now)) }
         ensures lazy { self.new.shared.side.lazy ≡ self.old.shared.side.lazy }
         ensures limit { self.new.limit ≡ self.old.limit }
     {
@@ -419,7 +232,7 @@ impl World {
     pub fn into_record(self) -> Record
         ensures entries { record_entries result ≡ (world_in self).history }
         ensures queues { record_lines result ≡ (world_in self).log }
-        ensures queue { result.queue ≡ (world_in self).inner.door }
+        ensures queue { result.queue ≡ (world_in self).shared.door }
     {
         let queue = self.shared.core.door;
         Record {
@@ -464,7 +277,8 @@ fn record_step(
     kept: Ran,
     value: u64,
 ) -> Result<(), AllocError>
-    ensures { OnOk result (history_in entries.new.items ≡ step_entries t seen kept value ++ history_in entries.old.items) }
+    ensures { OnOk result (history_in entries.new.items ≡ step_entries t seen kept value
+        ++ history_in entries.old.items) }
 {
     let StepSeen {
         claimed,
@@ -495,7 +309,8 @@ fn record_init(
     claimed: bool,
     ran: Option<Ran>,
 ) -> Result<(), AllocError>
-    ensures { OnOk result (history_in entries.new.items ≡ ran_entries ran t ++ claim_entries claimed t ++ history_in entries.old.items) }
+    ensures { OnOk result (history_in entries.new.items ≡ ran_entries ran t
+        ++ claim_entries claimed t ++ history_in entries.old.items) }
 {
     if claimed {
         entries.push(Entry::Claim(t))?;
@@ -514,7 +329,8 @@ fn record_out(
     out: Out<u64>,
     kept: Ran,
 ) -> Result<(), AllocError>
-    ensures { OnOk result (history_in entries.new.items ≡ out_entries leaving (wakers_in out) t kept ++ history_in entries.old.items) }
+    ensures { OnOk result (history_in entries.new.items ≡ out_entries leaving (wakers_in out) t kept
+        ++ history_in entries.old.items) }
 {
     let wakers = wakers_out(*entries.allocator(), out)?;
     if !leaving {

@@ -3,8 +3,8 @@ use Rattle.std.proofs.Common.{rules, ◌≡◌, Bool, Some, true, refl, ap, ◌�
 use Rattle.std.specs.BTreeMap.{get}
 use Rattle.std.proofs.lemmas.Result.{on_ok_weaker}
 use Rattle.once_core.specs.Steps.{in_call}
-use Rattle.once_world.specs.Machine.{Inner, Outcome, advance, unfinished_after, step_lines}
-use Rattle.once_world.specs.Shown.{world_in, inner_of, history_in, log_in}
+use Rattle.once_world.specs.Machine.{SharedState, Outcome, advance, unfinished_after, step_lines}
+use Rattle.once_world.specs.Shown.{world_in, shared_of, history_in, log_in}
 use Rattle.once_world.proofs.Exactness.Worlds.{tasks_written, stepped_world}
 use Rattle.once_world.proofs.world.play.World.go.Goals as goal
 
@@ -15,13 +15,13 @@ returns-clause-world c =
     let y = c.advance-seen.new.task in
     let tasks = tasks_written c.args.self.now.tasks (c.get_mut.follows.lender y) _ _ y found (c.get_mut.follows.holds y) in
     let seen = c.advance-seen.ensures in
-    let told_by : Inner → Outcome = λ i. advance c.args.self.now.shared.side.lazy c.args.self.now.limit i c.args.t c.in-Some.task.now c.args.answer c.args.granted in
-    let by : Bool → Inner → Outcome = λ lazy i. advance lazy c.args.self.now.limit i c.args.t c.in-Some.task.now c.args.answer c.args.granted in
-    let same : by c.reserve.new.self.side.lazy (inner_of c.reserve.new.self) ≡ told_by (inner_of c.args.self.now.shared) = ap (λ l. by l (inner_of c.reserve.new.self)) (ap (λ z. z.lazy) c.in_ok-reserve.ensures.side) ∙ ap (by c.args.self.now.shared.side.lazy) c.in_ok-reserve.ensures.inner in
+    let told_by : SharedState → Outcome = λ i. advance c.args.self.now.shared.side.lazy c.args.self.now.limit i c.args.t c.in-Some.task.now c.args.answer c.args.granted in
+    let by : Bool → SharedState → Outcome = λ lazy i. advance lazy c.args.self.now.limit i c.args.t c.in-Some.task.now c.args.answer c.args.granted in
+    let same : by c.reserve.new.self.side.lazy (shared_of c.reserve.new.self) ≡ told_by (shared_of c.args.self.now.shared) = ap (λ l. by l (shared_of c.reserve.new.self)) (ap (λ z. z.lazy) c.in_ok-reserve.ensures.side) ∙ ap (by c.args.self.now.shared.side.lazy) c.in_ok-reserve.ensures.shared in
     on_ok_weaker c.record_step.result
     (λ h. stepped_world c.args.self.now.shared.side.lazy c.args.self.now.limit (world_in c.args.self.now) _ c.args.t c.args.answer c.args.granted c.in-Some.task.now y
-    (told_by (inner_of c.args.self.now.shared)) (step_lines c.args.granted (inner_of c.args.self.now.shared) c.in-Some.task.now.step)
+    (told_by (shared_of c.args.self.now.shared)) (step_lines c.args.granted (shared_of c.args.self.now.shared) c.in-Some.task.now.step)
     refl refl found calls
-    (seen.inner c.args.t ∙ ap (λ o. o.inner) same) seen.waker (seen.step c.args.t ∙ ap (λ o. o.step) same) (seen.kept c.args.t ∙ ap (λ o. o.kept) same) tasks
-    (c.still_unfinished-self.ensures ∙ ap (λ z. unfinished_after z c.args.self.now.unfinished) (seen.step c.args.t ∙ ap (λ o. o.step) same)) (h ∙ ap (λ e. e ++ history_in c.args.self.now.entries.items) (seen.seen c.args.t ∙ ap (λ o. o.entries) same)) (seen.log ∙ ap (λ i. step_lines c.args.granted i c.in-Some.task.now.step ++ log_in c.reserve.new.self) c.in_ok-reserve.ensures.inner ∙ ap (λ l. step_lines c.args.granted (inner_of c.args.self.now.shared) c.in-Some.task.now.step ++ l) c.in_ok-reserve.ensures.log))
+    (seen.shared c.args.t ∙ ap (λ o. o.shared) same) seen.waker (seen.step c.args.t ∙ ap (λ o. o.step) same) (seen.kept c.args.t ∙ ap (λ o. o.kept) same) tasks
+    (c.still_unfinished-self.ensures ∙ ap (λ z. unfinished_after z c.args.self.now.unfinished) (seen.step c.args.t ∙ ap (λ o. o.step) same)) (h ∙ ap (λ e. e ++ history_in c.args.self.now.entries.items) (seen.seen c.args.t ∙ ap (λ o. o.entries) same)) (seen.log ∙ ap (λ i. step_lines c.args.granted i c.in-Some.task.now.step ++ log_in c.reserve.new.self) c.in_ok-reserve.ensures.shared ∙ ap (λ l. step_lines c.args.granted (shared_of c.args.self.now.shared) c.in-Some.task.now.step ++ l) c.in_ok-reserve.ensures.log))
     c.record_step.ensures

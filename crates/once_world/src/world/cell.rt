@@ -1,0 +1,223 @@
+//! What all tasks of a replay share, and one step of a task over it.
+ghost use Rattle.std.specs.Prelude.{◌≡◌, ◌≤◌, ◌-◌, ◌^◌, ◌++◌, ℕ, true, [], OnOk, IfOk};
+
+use super::side::ReplaySide;
+use super::{Call, Got, Kind, Ran};
+use once_core::plain::Core;
+use once_core::step::{Progress, Step};
+use once_queue::waiters::Out;
+use std::alloc::{AllocError, Global};
+use std::mem::replace;
+
+/// A task of a replay: the waker of its last poll, what its init gave, and the step at which it
+/// stands.
+#[derive(Drop)]
+pub(super) struct Task {
+    pub waker: u64,
+    pub kept: Ran,
+    pub step: Step<u64, u64>,
+}
+
+/// What all tasks of a replay share.
+#[derive(Drop)]
+pub(super) struct ReplayCell {
+    pub core: Core<u64>,
+    pub side: ReplaySide,
+}
+
+/// What one step of a task was seen to do.
+#[derive(Drop)]
+pub(super) struct StepSeen {
+    pub claimed: bool,
+    pub ran: Option<Ran>,
+    /// Whether the right was given back by the fast release, which hands nobody out.
+    pub freed: bool,
+    /// Whom a release under the lock handed out, or one who left.
+    pub handed: Option<Out<u64>>,
+    /// Whether the step took the task's listing out.
+    pub leaving: bool,
+    pub progress: Progress,
+}
+
+impl ReplayCell {
+    ghost use Rattle.once_world.specs.Record.{Kind as RecordedKind, is_lazy, replaces, has_call as owner_has};
+    ghost use Rattle.once_world.specs.Log.{take_lines};
+    ghost use Rattle.once_world.specs.Can.{CanAdvance};
+    ghost use Rattle.once_core.specs.Core.{HasRoom, state_of};
+    ghost use Rattle.once_core.specs.Steps.{in_call};
+    ghost use Rattle.once_world.specs.Machine.{first_world, look_value, step_lines, reset_shared, owner_shared, owner_got, owner_lines, advance as outcome};
+    ghost use Rattle.once_world.specs.Shown.{kind_of, call_of, got_of, shared_of, log_in, step_entries};
+
+    pub fn new(alloc: Global, kind: Kind) -> Self
+        ensures shared { shared_of result ≡ (first_world (kind_of kind)).shared }
+        ensures log { log_in result ≡ [] }
+        ensures lazy { result.side.lazy ≡ is_lazy (kind_of kind) }
+    {
+        let lazy = matches!(&kind, Kind::Lazy(_) | Kind::LazyWith(_));
+        let (value, answers) = match kind {
+            Kind::Once => (None, Vec::new(alloc)),
+            Kind::OnceWith(v) => (Some(v), Vec::new(alloc)),
+            Kind::Lazy(mut answers) => {
+                answers.reverse();
+                (None, answers)
+            }
+            Kind::LazyWith(v) => (Some(v), Vec::new(alloc)),
+        };
+        ReplayCell {
+            core: Core::new(alloc, value.is_some()),
+            side: ReplaySide {
+                lazy,
+                answers,
+                value: value.unwrap_or(0),
+                answer: Ran::Pending,
+                granted: true,
+                waker: 0,
+                kept: Ran::Pending,
+                ran: None,
+                handed: None,
+            },
+        }
+    }
+
+    // What a look finds.
+    pub fn look(&self) -> Option<u64>
+        ensures { result ≡ look_value (shared_of self.now) }
+    {
+        if self.core.word.is_ready() {
+            Some(self.side.value)
+        } else {
+            None
+        }
+    }
+
+    // Makes the room that one step may need. Where that is refused all is as it was.
+    pub fn reserve(&mut self) -> Result<(), AllocError>
+        ensures room { OnOk result (HasRoom self.new.core) }
+        ensures shared { shared_of self.new ≡ shared_of self.old }
+        ensures log { log_in self.new ≡ log_in self.old }
+        ensures side { self.new.side ≡ self.old.side }
+    {
+        self.core.reserve()
+    }
+
+    // Makes one step of a task with a call under way, whose init answers so and which is given
+    // memory or not.
+    pub fn advance(&mut self, task: &mut Task, answer: Ran, granted: bool, limit: u64) -> StepSeen
+        requires call { in_call task.old.step ≡ true }
+        requires limit { limit ≤ 2 ^ 62 - 2 }
+        requires room { HasRoom self.old.core }
+        requires can { CanAdvance limit (shared_of self.old) task.old.step }
+        ensures shared { (t : ℕ) → shared_of self.new
+            ≡ (outcome self.old.side.lazy limit
+            (shared_of self.old) t task.old answer granted).shared }
+        ensures step { (t : ℕ) → task.new.step
+            ≡ (outcome self.old.side.lazy limit
+            (shared_of self.old) t task.old answer granted).step }
+        ensures kept { (t : ℕ) → task.new.kept
+            ≡ (outcome self.old.side.lazy limit
+            (shared_of self.old) t task.old answer granted).kept }
+        ensures waker { task.new.waker ≡ task.old.waker }
+        ensures seen { (t : ℕ) → step_entries t result task.new.kept self.new.side.value
+            ≡ (outcome self.old.side.lazy limit
+            (shared_of self.old) t task.old answer granted).entries }
+        ensures log { log_in self.new ≡ step_lines granted (shared_of self.old) task.old.step
+            ++ log_in self.old }
+        ensures lazy { self.new.side.lazy ≡ self.old.side.lazy }
+    {
+        self.side.ran = None;
+        self.side.handed = None;
+        self.side.answer = answer;
+        self.side.granted = granted;
+        self.side.waker = task.waker;
+        self.side.kept = task.kept;
+        self.core.set_waker(task.waker);
+        self.core.grant(granted);
+        let freeing = task.step.is_freeing();
+        let leaving = task.step.is_leaving();
+        let progress = task.step.advance(&mut self.core, &mut self.side, limit);
+        task.kept = self.side.kept;
+        StepSeen {
+            claimed: task.step.is_running(),
+            ran: self.side.ran.take(),
+            freed: freeing && !task.step.is_adding(),
+            handed: self.side.handed.take(),
+            leaving,
+            progress,
+        }
+    }
+
+    // Whether this kind of cell has the call.
+    pub fn has_call(&self, call: &Call) -> bool
+        ensures { (kind : RecordedKind) → is_lazy kind ≡ self.now.side.lazy
+            → result ≡ owner_has kind (call_of call.now) }
+    {
+        match call {
+            Call::Take => !self.side.lazy,
+            Call::Write(_) => true,
+            Call::Parts | Call::ReplaceValue(_) | Call::ReplaceAnswers(_) => self.side.lazy,
+        }
+    }
+
+    // Makes a call of the cell's owner, and answers what the owner is given.
+    pub fn own(&mut self, call: &Call) -> Result<Got, AllocError>
+        ensures shared { OnOk result (shared_of self.new
+            ≡ owner_shared (call_of call.now) (shared_of self.old)) }
+        ensures got { IfOk result (λ g. got_of g
+            ≡ owner_got (call_of call.now) (shared_of self.old)) }
+        ensures log { OnOk result (log_in self.new
+            ≡ owner_lines (replaces (call_of call.now)) (shared_of self.old) ++ log_in self.old) }
+        ensures lazy { self.new.side.lazy ≡ self.old.side.lazy }
+    {
+        self.core.reserve()?;
+        let value = self.look();
+        let got = value.map_or(Got::None, Got::Value);
+        match call {
+            Call::Take => {
+                self.renew(None);
+                Ok(got)
+            }
+            Call::Write(v) => {
+                if value.is_some() {
+                    self.side.value = *v;
+                }
+                Ok(got)
+            }
+            Call::Parts => {
+                let alloc = *self.side.answers.allocator();
+                let mut answers = replace(&mut self.side.answers, Vec::new(alloc));
+                self.renew(None);
+                if value.is_some() {
+                    return Ok(got);
+                }
+                answers.reverse();
+                Ok(Got::Answers(answers))
+            }
+            Call::ReplaceValue(v) => {
+                self.side.answers.clear();
+                self.renew(Some(*v));
+                Ok(got)
+            }
+            Call::ReplaceAnswers(answers) => {
+                let mut answers = Vec::from_slice(*answers.allocator(), answers)?;
+                answers.reverse();
+                self.side.answers = answers;
+                self.renew(None);
+                Ok(got)
+            }
+        }
+    }
+
+    // Puts a new cell with this value or none in the place of this one.
+    fn renew(&mut self, value: Option<u64>)
+        requires room { HasRoom self.old.core }
+        ensures shared { shared_of self.new
+            ≡ reset_shared (shared_of self.old) value (shared_of self.old).answers }
+        ensures log { log_in self.new ≡ take_lines self.old.core.door ++ log_in self.old }
+        ensures lazy { self.new.side.lazy ≡ self.old.side.lazy }
+    {
+        self.core.reset(value.is_some());
+        if let Some(v) = value {
+            self.side.value = v;
+        }
+    }
+}
