@@ -54,7 +54,7 @@ impl fmt::Display for EntryLine<'_> {
             Entry::Fill(task, value, wakers) => write!(f, " {task} {value} {}", Wakers(wakers)),
             Entry::End(task, reply) => write!(f, " {task} {}", ReplyText(*reply)),
             Entry::Look(value) => write!(f, " {}", ValueText(*value)),
-            Entry::Own(call, got) => write!(f, " {} {}", CallWord(call), GotText(got)),
+            Entry::Own(call, got) => write!(f, " {} {}", call_word(call), GotText(got)),
         }
     }
 }
@@ -116,18 +116,12 @@ impl fmt::Display for QueueText {
 }
 
 /// The word for a call of the owner.
-#[derive(Clone, Copy)]
-struct CallWord<'a>(&'a Call);
-
-impl fmt::Display for CallWord<'_> {
-    fn fmt<W: fmt::Write>(&self, f: &mut fmt::Formatter<W>) -> fmt::Result {
-        let word = match self.0 {
-            Call::Take => "take",
-            Call::Write(_) => "write",
-            Call::Parts => "parts",
-            Call::ReplaceValue(_) | Call::ReplaceAnswers(_) => "replace",
-        };
-        f.write_str(word)
+pub fn call_word(call: &Call) -> &'static str {
+    match call {
+        Call::Take => "take",
+        Call::Write(_) => "write",
+        Call::Parts => "parts",
+        Call::ReplaceValue(_) | Call::ReplaceAnswers(_) => "replace",
     }
 }
 

@@ -4,7 +4,7 @@
 use clap::error::{Error, ErrorKind};
 use clap::{Arg, ArgAction, ArgMatches, Command};
 use once_view::fault::Fault;
-use once_view::{Form, show};
+use once_view::{Format, show};
 use std::alloc::{AllocGlobal, Global};
 use std::env::{self, Env};
 use std::fs::{self, Files};
@@ -68,17 +68,17 @@ where
     I: Read + Drop,
     O: Write + Drop,
 {
-    let form = if matches.get_flag("svg") {
-        Form::Picture
+    let format = if matches.get_flag("svg") {
+        Format::Picture
     } else {
-        Form::Table
+        Format::Table
     };
     let file = matches.get_str("FILE");
     let text = match read(rt, file, input) {
         Ok(text) => text,
         Err(error) => return Err(Failure::File(file.unwrap_or("standard input"), error)),
     };
-    match show(rt.alloc(), form, &text, output) {
+    match show(rt.alloc(), format, &text, output) {
         Ok(()) => Ok(()),
         Err(fault) => Err(Failure::Script(fault)),
     }
@@ -90,7 +90,7 @@ fn refuse<R: Print + Eprint>(rt: &R, error: &Error) -> u8 {
     match error.print(rt) {
         Ok(()) if error.kind() == ErrorKind::OutOfMemory => Fault::Memory.status(),
         Ok(()) => error.exit_code() as u8,
-        Err(error) => Fault::from(error).status(),
+        Err(error) => fail(rt, Failure::Script(Fault::from(error))),
     }
 }
 

@@ -3,20 +3,40 @@ use std::alloc::{AllocError, AllocFailed};
 use std::error::Error;
 use std::{fmt, io};
 
+/// What may stand in a line.
+#[derive(Clone, Copy, Debug)]
+pub struct Expected {
+    pub form: &'static str,
+    pub has_numbers: bool,
+}
+
+impl fmt::Display for Expected {
+    fn fmt<W: fmt::Write>(&self, f: &mut fmt::Formatter<W>) -> fmt::Result {
+        f.write_str(self.form)?;
+        if self.has_numbers {
+            f.write_str("; a number is below 2^64, with no sign and no leading zero")?;
+        }
+        Ok(())
+    }
+}
+
 /// The first line that can't be read, and what may stand there.
 #[derive(Debug, Drop)]
-pub struct Unread {
+pub struct UnreadableLine {
     pub number: u64,
-    /// The line, or nothing where it is not UTF-8.
     pub text: String,
-    pub expected: &'static str,
+    pub expected: Expected,
 }
 
 /// Why a script is not shown.
 #[derive(Debug, Drop)]
 pub enum Fault {
-    /// A line can't be read.
-    Unreadable(Unread),
+    /// No line says which cell it is.
+    NoCell,
+    /// The line with this number is the first that can't be read, since it is not UTF-8.
+    NotText(u64),
+    /// This line is the first that can't be read.
+    Unreadable(UnreadableLine),
     /// A read or a write failed.
     Io,
     /// Memory was refused.
@@ -27,7 +47,7 @@ impl Fault {
     /// The status that the process ends with, as that of `once_replay`.
     pub fn status(&self) -> u8 {
         match self {
-            Fault::Unreadable(_) => 2,
+            Fault::NoCell | Fault::NotText(_) | Fault::Unreadable(_) => 2,
             Fault::Io => 3,
             Fault::Memory => 4,
         }
@@ -37,8 +57,12 @@ impl Fault {
 impl fmt::Display for Fault {
     fn fmt<W: fmt::Write>(&self, f: &mut fmt::Formatter<W>) -> fmt::Result {
         match self {
+            Fault::NoCell => f.write_str(
+                "no line says which cell it is; expected: `once LIMIT` or `lazy LIMIT`",
+            ),
+            Fault::NotText(number) => write!(f, "line {number} is not UTF-8"),
             Fault::Unreadable(
-                Unread {
+                UnreadableLine {
                     number,
                     text,
                     expected,

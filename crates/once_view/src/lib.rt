@@ -12,27 +12,29 @@ use crate::reading::read_script;
 use std::alloc::Global;
 use std::io::{BufWriter, Write};
 
-/// In which form a script is shown.
+/// The format in which a script is shown.
 #[derive(Clone, Copy)]
-pub enum Form {
+pub enum Format {
+    /// A table with a row for each line.
     Table,
+    /// A picture, as SVG.
     Picture,
 }
 
-/// Reads a script, plays it, and shows it in this form.
+/// Reads a script, plays it, and shows it in this format.
 ///
 /// A fault on reading leaves nothing shown. One on writing may leave a beginning.
 pub fn show<O: Write + Drop>(
     alloc: Global,
-    form: Form,
+    format: Format,
     text: &[u8],
     output: O,
 ) -> Result<(), Fault> {
     let script = read_script(alloc, text)?;
     let mut output = BufWriter::new(alloc, output)?;
-    match form {
-        Form::Table => table::write_table(alloc, script, &mut output)?,
-        Form::Picture => picture::write_picture(alloc, script, &mut output)?,
+    match format {
+        Format::Table => table::write_table(alloc, script, &mut output)?,
+        Format::Picture => picture::write_picture(alloc, script, &mut output)?,
     }
     output.flush()?;
     Ok(())

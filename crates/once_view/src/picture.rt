@@ -2,6 +2,7 @@
 use crate::play::{Moment, Watcher, play};
 use crate::reading::Script;
 use async_once_cell::world::{Call, Entry, Kind, Reply};
+use once_filter::print::call_word;
 use std::alloc::{AllocError, Global};
 use std::io;
 use std::io::Write;
@@ -26,6 +27,7 @@ pub fn write_picture<O: Write>(
 ) -> io::Result<()> {
     let title = script.first.text;
     let mut picture = Picture {
+        alloc,
         numbers: Vec::new(alloc),
         lanes: Lanes::new(alloc),
         cell: first_state(&script.opening.kind),
@@ -34,7 +36,7 @@ pub fn write_picture<O: Write>(
     };
     play(alloc, script, &mut picture)?;
     picture.close()?;
-    let drawing = Drawing::new(title, &picture.numbers, &picture.lanes);
+    let drawing = Drawing::new(alloc, title, &picture.numbers, &picture.lanes)?;
     drawing.write(&picture.shapes, output)
 }
 
@@ -48,6 +50,7 @@ fn first_state(kind: &Kind) -> CellState {
 /// A picture that grows line by line. Its columns are the lines that say something.
 #[derive(Drop)]
 struct Picture {
+    alloc: Global,
     /// The number of each column's line.
     numbers: Vec<u64>,
     lanes: Lanes,
@@ -60,7 +63,7 @@ struct Picture {
 impl Watcher for Picture {
     fn see(&mut self, moment: Moment<'_>) -> Result<(), AllocError> {
         let column = self.numbers.len() as u64;
-        self.numbers.push(moment.at.number)?;
+        self.numbers.push(moment.source.number)?;
         let first = column.saturating_mul(TICKS).saturating_add(1);
         let last = first.saturating_add(TICKS).saturating_sub(2);
         let mut at = first;
@@ -68,7 +71,7 @@ impl Watcher for Picture {
             self.add(at, entry)?;
             at = at.saturating_add(1).min(last);
         }
-        Ok(())
+        self.lanes.note_listed(self.alloc, moment.world)
     }
 }
 
@@ -76,15 +79,15 @@ impl Picture {
     fn add(&mut self, at: u64, entry: &Entry) -> Result<(), AllocError> {
         match entry {
             Entry::Made(task) => self.lanes.add(*task, at),
-            Entry::Begin(task, waker) => self.begin(*task, at, Some(*waker)),
-            Entry::DropBegin(task) => self.begin(*task, at, None),
+            Entry::Begin(task, _) => self.begin(*task, at, false),
+            Entry::DropBegin(task) => self.begin(*task, at, true),
             Entry::Claim(task) => {
                 self.lanes.hold(*task, at);
                 self.change(at, CellState::Held(*task))
             }
             Entry::Ran(task, answer) => {
-                let lane = self.lanes.place(*task);
-                self.push(Shape::Poll(lane, at, *answer))
+                let (lane, answer) = (self.lanes.number_of(*task), *answer);
+                self.push(Shape::InitPoll { lane, at, answer })
             }
             Entry::Free(task, wakers) => self.release(*task, at, CellState::Empty, wakers),
             Entry::Fill(task, value, wakers) => {
@@ -93,7 +96,7 @@ impl Picture {
             Entry::Pass(task, wakers) => self.wake(*task, at, wakers),
             Entry::End(task, reply) => self.end(*task, at, *reply),
             Entry::DropEnd(task) => self.end_drop(*task, at),
-            Entry::Look(value) => self.push(Shape::Look(at, *value)),
+            Entry::Look(value) => self.push(Shape::Look { at, value: *value }),
             Entry::Own(call, _) => self.own(at, call),
         }
     }
@@ -105,14 +108,18 @@ impl Picture {
 
     /// The cell comes to another state.
     fn change(&mut self, at: u64, state: CellState) -> Result<(), AllocError> {
-        self.push(Shape::Cell(self.cell_from, at, self.cell))?;
+        self.push(Shape::Cell {
+            from: self.cell_from,
+            to: at,
+            state: self.cell,
+        })?;
         self.cell = state;
         self.cell_from = at;
         Ok(())
     }
 
-    fn begin(&mut self, task: u64, at: u64, waker: Option<u64>) -> Result<(), AllocError> {
-        match self.lanes.begin(task, at, waker) {
+    fn begin(&mut self, task: u64, at: u64, is_drop: bool) -> Result<(), AllocError> {
+        match self.lanes.begin(task, at, is_drop) {
             Some(waited) => self.push(Shape::Wait(waited)),
             None => Ok(()),
         }
@@ -134,48 +141,49 @@ impl Picture {
 
     /// An arrow to each task that is called.
     fn wake(&mut self, task: u64, at: u64, wakers: &[u64]) -> Result<(), AllocError> {
-        let from = self.lanes.place(task);
+        let caller = self.lanes.number_of(task);
         for waker in wakers {
-            if let Some(to) = self.lanes.call(*waker) {
-                self.push(Shape::Wake(at, from, to))?;
+            if let Some(called) = self.lanes.called_by(caller, *waker) {
+                self.push(Shape::Wake { at, caller, called })?;
             }
         }
         Ok(())
     }
 
     fn end(&mut self, task: u64, at: u64, reply: Reply) -> Result<(), AllocError> {
-        let lane = self.lanes.place(task);
+        let lane = self.lanes.number_of(task);
         if let Some(call) = self.lanes.end(task, at) {
-            self.push(Shape::PollCall(call))?;
+            self.push(Shape::TaskPoll(call))?;
         }
         if matches!(&reply, Reply::Pending) {
             self.lanes.wait(task, at);
             return Ok(());
         }
         self.lanes.leave(task, at);
-        self.push(Shape::Reply(lane, at, reply))
+        self.push(Shape::Reply { lane, at, reply })
     }
 
     fn end_drop(&mut self, task: u64, at: u64) -> Result<(), AllocError> {
         if let Some(call) = self.lanes.end(task, at) {
-            self.push(Shape::DropCall(call))?;
+            self.push(Shape::TaskDrop(call))?;
         }
         self.lanes.leave(task, at);
         Ok(())
     }
 
     fn own(&mut self, at: u64, call: &Call) -> Result<(), AllocError> {
-        let (word, state) = match call {
-            Call::Take => ("take", CellState::Empty),
-            Call::Parts => ("parts", CellState::Empty),
-            Call::ReplaceAnswers(_) => ("replace", CellState::Empty),
-            Call::ReplaceValue(value) => ("replace", CellState::Set(*value)),
+        let state = match call {
+            Call::Take | Call::Parts | Call::ReplaceAnswers(_) => CellState::Empty,
+            Call::ReplaceValue(value) => CellState::Set(*value),
             Call::Write(value) => match self.cell {
-                CellState::Set(_) => ("write", CellState::Set(*value)),
-                other => ("write", other),
+                CellState::Set(_) => CellState::Set(*value),
+                other => other,
             },
         };
-        self.push(Shape::Owner(at, word))?;
+        self.push(Shape::Owner {
+            at,
+            word: call_word(call),
+        })?;
         self.change(at, state)
     }
 

@@ -5,6 +5,7 @@ ghost use Rattle.async_once_cell.specs.Reached.{IsReached};
 use crate::reading::{Script, ScriptLine, TextLine};
 use async_once_cell::step::Step;
 use async_once_cell::world::{Call, Entry, Input, Kind, World};
+use once_filter::print::call_word;
 use once_script::parse::{Line, Opening, RUN_STEPS};
 use std::alloc::{AllocError, Global};
 use std::fmt;
@@ -12,10 +13,15 @@ use std::fmt;
 /// Why an input was passed over.
 #[derive(Clone, Copy)]
 pub enum Reason {
+    /// This task was made before.
     MadeBefore(u64),
+    /// This task was not made.
     NotMade(u64),
+    /// A poll or a drop of this task is under way.
     CallUnderWay(u64),
+    /// No poll and no drop of this task is under way.
     NoCallUnderWay(u64),
+    /// This task is gone.
     Gone(u64),
     /// The owner called while this task was not gone.
     NotGone(u64),
@@ -34,8 +40,8 @@ impl fmt::Display for Reason {
             Reason::NoCallUnderWay(task) => write!(f, "no call of task {task} is under way"),
             Reason::Gone(task) => write!(f, "task {task} is gone"),
             Reason::NotGone(task) => write!(f, "task {task} is not gone"),
-            Reason::NotOfOnce(word) => write!(f, "a once cell has no {word}"),
-            Reason::NotOfLazy(word) => write!(f, "a lazy cell has no {word}"),
+            Reason::NotOfOnce(word) => write!(f, "a once cell has no call `{word}`"),
+            Reason::NotOfLazy(word) => write!(f, "a lazy cell has no call `{word}`"),
         }
     }
 }
@@ -43,11 +49,13 @@ impl fmt::Display for Reason {
 /// What there is to see after a line.
 #[derive(Clone, Copy)]
 pub struct Moment<'a> {
-    pub at: TextLine<'a>,
+    /// The line.
+    pub source: TextLine<'a>,
     /// Why the line was passed over, if it was.
     pub reason: Option<Reason>,
     /// What the line added to the record.
     pub added: &'a [Entry],
+    /// The world after the line.
     pub world: &'a World,
 }
 
@@ -75,19 +83,19 @@ pub fn play<V: Watcher>(
         let before = world.entries().len();
         let reason = reason_of(&world, &line.line, lazy);
         take_line(&mut world, line)?;
-        watcher.see(moment_of(&world, line.at, reason, before))?;
+        watcher.see(moment_of(&world, line.source, reason, before))?;
     }
     Ok(())
 }
 
 fn moment_of<'a>(
     world: &'a World,
-    at: TextLine<'a>,
+    source: TextLine<'a>,
     reason: Option<Reason>,
     before: usize,
 ) -> Moment<'a> {
     Moment {
-        at,
+        source,
         reason,
         added: world.entries().get(before..).unwrap_or(&[]),
         world,
@@ -150,10 +158,9 @@ fn no_step(world: &World, task: u64) -> Option<Reason> {
 /// Whether this kind of cell lacks the call.
 fn not_of_kind(call: &Call, lazy: bool) -> Option<Reason> {
     match call {
-        Call::Take if lazy => Some(Reason::NotOfLazy("take")),
-        Call::Parts if !lazy => Some(Reason::NotOfOnce("parts")),
-        Call::ReplaceValue(_) | Call::ReplaceAnswers(_) if !lazy => {
-            Some(Reason::NotOfOnce("replace"))
+        Call::Take if lazy => Some(Reason::NotOfLazy(call_word(call))),
+        Call::Parts | Call::ReplaceValue(_) | Call::ReplaceAnswers(_) if !lazy => {
+            Some(Reason::NotOfOnce(call_word(call)))
         }
         _ => None,
     }

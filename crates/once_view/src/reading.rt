@@ -1,5 +1,5 @@
 //! A script as people write it: with comments and empty lines, and with a word on what can't be read.
-use crate::fault::{Fault, Unread};
+use crate::fault::{Expected, Fault, UnreadableLine};
 use once_script::parse::{Line, Opening, parse_line, parse_opening};
 use std::alloc::{AllocError, Global};
 
@@ -8,157 +8,166 @@ use std::alloc::{AllocError, Global};
 pub struct Script<'a> {
     /// Which cell it is, as the first line says.
     pub opening: Opening,
+    /// The first line.
     pub first: TextLine<'a>,
+    /// The lines after it.
     pub lines: Vec<ScriptLine<'a>>,
 }
 
-/// A line of text, with its number.
+/// A line of text.
 #[derive(Clone, Copy)]
 pub struct TextLine<'a> {
+    /// Its number in the file, in which comments and empty lines count.
     pub number: u64,
+    /// The line without its end.
     pub text: &'a str,
 }
 
 /// A line after the first.
 #[derive(Drop)]
 pub struct ScriptLine<'a> {
-    pub at: TextLine<'a>,
+    /// The line as it is written.
+    pub source: TextLine<'a>,
+    /// What it says.
     pub line: Line,
+}
+
+/// A line that says something, as bytes.
+#[derive(Clone, Copy)]
+struct RawLine<'a> {
+    number: u64,
+    bytes: &'a [u8],
 }
 
 /// Reads a whole script. An empty line, and one that begins with `#`, says nothing.
 ///
-/// `Unreadable` tells the first line that can't be read.
+/// `NotText` and `Unreadable` tell the first line that can't be read.
 pub fn read_script(alloc: Global, text: &[u8]) -> Result<Script<'_>, Fault> {
-    let texts = split_lines(alloc, text)?;
-    let Some((first, later)) = texts.split_first() else {
-        return Err(unreadable(alloc, 1, "", FIRST_FORM)?);
+    let lines = split_lines(alloc, text)?;
+    let Some((first, later)) = lines.split_first() else {
+        return Err(Fault::NoCell);
     };
+    let first = decode(*first)?;
     let Some(opening) = parse_opening(alloc, first.text)? else {
-        return Err(unreadable(alloc, first.number, first.text, first_form(first.text))?);
+        return Err(unreadable(alloc, first, first_form(first.text))?);
     };
     Ok(Script {
         opening,
-        first: *first,
+        first,
         lines: read_lines(alloc, later)?,
     })
 }
 
-fn read_lines<'a>(alloc: Global, texts: &[TextLine<'a>]) -> Result<Vec<ScriptLine<'a>>, Fault> {
-    let mut lines = Vec::new(alloc);
-    for at in texts {
-        let Some(line) = parse_line(alloc, at.text)? else {
-            return Err(unreadable(alloc, at.number, at.text, form(at.text))?);
+fn read_lines<'a>(alloc: Global, lines: &[RawLine<'a>]) -> Result<Vec<ScriptLine<'a>>, Fault> {
+    let mut read = Vec::new(alloc);
+    for line in lines {
+        let source = decode(*line)?;
+        let Some(line) = parse_line(alloc, source.text)? else {
+            return Err(unreadable(alloc, source, expected_form(source.text))?);
         };
-        lines.push(ScriptLine { at: *at, line })?;
+        read.push(ScriptLine { source, line })?;
     }
-    Ok(lines)
+    Ok(read)
 }
 
-/// The lines that say something, with their numbers.
-fn split_lines(alloc: Global, text: &[u8]) -> Result<Vec<TextLine<'_>>, Fault> {
+/// The lines that say something.
+fn split_lines(alloc: Global, text: &[u8]) -> Result<Vec<RawLine<'_>>, AllocError> {
     let mut lines = Vec::new(alloc);
     let mut number = 0u64;
     for bytes in text.split(|byte| *byte == b'\n') {
         number = number.saturating_add(1);
-        let Ok(text) = str::from_utf8(bytes) else {
-            return Err(unreadable(alloc, number, "", "text in UTF-8")?);
-        };
-        if !text.is_empty() && !text.starts_with('#') {
-            lines.push(TextLine { number, text })?;
+        if !bytes.is_empty() && !bytes.starts_with(b"#") {
+            lines.push(RawLine { number, bytes })?;
         }
     }
     Ok(lines)
 }
 
-fn unreadable(
-    alloc: Global,
-    number: u64,
-    text: &str,
-    expected: &'static str,
-) -> Result<Fault, AllocError> {
-    Ok(Fault::Unreadable(Unread {
-        number,
-        text: String::from_str(alloc, text)?,
+fn decode(line: RawLine<'_>) -> Result<TextLine<'_>, Fault> {
+    match str::from_utf8(line.bytes) {
+        Ok(text) => Ok(TextLine {
+            number: line.number,
+            text,
+        }),
+        Err(_) => Err(Fault::NotText(line.number)),
+    }
+}
+
+fn unreadable(alloc: Global, line: TextLine<'_>, expected: Expected) -> Result<Fault, AllocError> {
+    Ok(Fault::Unreadable(UnreadableLine {
+        number: line.number,
+        text: String::from_str(alloc, line.text)?,
         expected,
     }))
 }
 
-/// What a first line may be.
-const FIRST_FORM: &str = "`once LIMIT` or `lazy LIMIT`, with more after it or not";
-
 /// What a first line with this beginning may be.
-fn first_form(text: &str) -> &'static str {
+fn first_form(text: &str) -> Expected {
     match text.split_once(' ') {
-        Some(("once", _)) => {
-            "`once LIMIT` or `once LIMIT with VALUE`; the limit is from 1 to 4611686018427387902"
-        }
-        Some(("lazy", _)) => {
-            "`lazy LIMIT`, `lazy LIMIT ANSWER ..` or `lazy LIMIT with VALUE`; the limit is from 1 to 4611686018427387902, and an answer is `p` or `vVALUE`"
-        }
-        _ => FIRST_FORM,
+        Some(("once", _)) => Expected {
+            form: "`once LIMIT` or `once LIMIT with VALUE`; the limit is from 1 to 4611686018427387902",
+            has_numbers: true,
+        },
+        Some(("lazy", _)) => Expected {
+            form: "`lazy LIMIT`, `lazy LIMIT ANSWER ..` or `lazy LIMIT with VALUE`; the limit is from 1 to 4611686018427387902, and an answer is `p` or `vVALUE`",
+            has_numbers: true,
+        },
+        _ => Expected {
+            form: "`once LIMIT` or `lazy LIMIT`, with more after it or not",
+            has_numbers: false,
+        },
     }
 }
 
-/// A word that a line begins with, and the forms of such a line.
-#[derive(Clone, Copy)]
-struct LineKind {
-    word: &'static str,
-    form: &'static str,
-}
-
-static KINDS: [LineKind; 10] = [
-    LineKind {
-        word: "make",
-        form: "`make TASK`",
-    },
-    LineKind {
-        word: "poll",
-        form: "`poll TASK WAKER`",
-    },
-    LineKind {
-        word: "drop",
-        form: "`drop TASK`",
-    },
-    LineKind {
-        word: "go",
-        form: "`go TASK ANSWER` or `go TASK ANSWER x`; an answer is `p`, `vVALUE` or `eERROR`",
-    },
-    LineKind {
-        word: "run",
-        form: "`run TASK ANSWER` or `run TASK ANSWER x`; an answer is `p`, `vVALUE` or `eERROR`",
-    },
-    LineKind {
-        word: "look",
-        form: "`look` alone",
-    },
-    LineKind {
-        word: "take",
-        form: "`take` alone",
-    },
-    LineKind {
-        word: "write",
-        form: "`write VALUE`",
-    },
-    LineKind {
-        word: "parts",
-        form: "`parts` alone",
-    },
-    LineKind {
-        word: "replace",
-        form: "`replace`, `replace ANSWER ..` or `replace with VALUE`; an answer is `p` or `vVALUE`",
-    },
+/// The words that a line with numbers begins with, and what such a line may be.
+static NUMBERED_FORMS: [(&str, &str); 7] = [
+    ("make", "`make TASK`"),
+    ("poll", "`poll TASK WAKER`"),
+    ("drop", "`drop TASK`"),
+    (
+        "go",
+        "`go TASK ANSWER` or `go TASK ANSWER x`; an answer is `p`, `vVALUE` or `eERROR`",
+    ),
+    (
+        "run",
+        "`run TASK ANSWER` or `run TASK ANSWER x`; an answer is `p`, `vVALUE` or `eERROR`",
+    ),
+    ("write", "`write VALUE`"),
+    (
+        "replace",
+        "`replace`, `replace ANSWER ..` or `replace with VALUE`; an answer is `p` or `vVALUE`",
+    ),
 ];
 
+/// The same of lines of one word.
+static PLAIN_FORMS: [(&str, &str); 3] = [
+    ("look", "`look` alone"),
+    ("take", "`take` alone"),
+    ("parts", "`parts` alone"),
+];
+
+/// What is written beside this word.
+fn form_of(forms: &[(&'static str, &'static str)], word: &str) -> Option<&'static str> {
+    forms
+        .iter()
+        .find(|(begin, _)| *begin == word)
+        .map(|(_, form)| *form)
+}
+
 /// What a line after the first with this beginning may be.
-fn form(text: &str) -> &'static str {
-    let word = match text.trim().split_once(' ') {
-        Some((word, _)) => word,
-        None => text.trim(),
-    };
-    match KINDS.iter().find(|kind| kind.word == word) {
-        Some(kind) => kind.form,
-        None =>
+fn expected_form(text: &str) -> Expected {
+    let text = text.trim();
+    let word = text.split_once(' ').map_or(text, |(word, _)| word);
+    if let Some(form) = form_of(&NUMBERED_FORMS, word) {
+        return Expected {
+            form,
+            has_numbers: true,
+        };
+    }
+    Expected {
+        form: form_of(&PLAIN_FORMS, word).unwrap_or(
             "`make`, `poll`, `drop`, `go`, `run`, `look`, `take`, `write`, `parts` or `replace`",
+        ),
+        has_numbers: false,
     }
 }

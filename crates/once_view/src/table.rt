@@ -10,9 +10,9 @@ use std::alloc::{AllocError, Global};
 use std::io::Write;
 use std::{fmt, io};
 
-/// The heads of the columns that each table has before those of the tasks. A tab stands between two cells
+/// The headers of the columns that each table has before those of the tasks. A tab stands between two cells
 /// of a row, since no script that can be read has one.
-const HEADS: &str = "line\tscript\tcount\tquick\tready\tdoor\tflag\tlisted";
+const HEADERS: &str = "line\tscript\tcount\tquick\tready\tdoor\tflag\tlisted";
 
 /// Plays a script, and writes its table.
 pub fn write_table<O: Write>(alloc: Global, script: Script<'_>, output: &mut O) -> io::Result<()> {
@@ -21,7 +21,7 @@ pub fn write_table<O: Write>(alloc: Global, script: Script<'_>, output: &mut O) 
         tasks: tasks_of(alloc, &script.lines)?,
         rows: Vec::new(alloc),
     };
-    table.write_heads()?;
+    table.write_headers()?;
     play(alloc, script, &mut table)?;
     write_rows(alloc, &table.rows, output)
 }
@@ -47,8 +47,8 @@ struct Table {
 }
 
 impl Table {
-    fn write_heads(&mut self) -> Result<(), AllocError> {
-        let mut row = String::from_str(self.alloc, HEADS)?;
+    fn write_headers(&mut self) -> Result<(), AllocError> {
+        let mut row = String::from_str(self.alloc, HEADERS)?;
         for task in &self.tasks {
             write!(row, "\ttask {task}")?;
         }
@@ -64,9 +64,9 @@ impl Watcher for Table {
         write!(
             row,
             "{}\t{}\t{}",
-            moment.at.number,
-            moment.at.text,
-            Shared(moment.world.core())
+            moment.source.number,
+            moment.source.text,
+            CoreCells(moment.world.core())
         )?;
         write_listed(self.alloc, moment.world.core(), &mut row)?;
         for task in &self.tasks {
@@ -81,11 +81,11 @@ impl Watcher for Table {
     }
 }
 
-/// What all tasks share, but for who is listed.
+/// The cells of a row that say what all tasks share, but for who is listed.
 #[derive(Clone, Copy)]
-struct Shared<'a>(&'a Core<u64>);
+struct CoreCells<'a>(&'a Core<u64>);
 
-impl fmt::Display for Shared<'_> {
+impl fmt::Display for CoreCells<'_> {
     fn fmt<W: fmt::Write>(&self, f: &mut fmt::Formatter<W>) -> fmt::Result {
         let word = &self.0.word;
         let (quick, ready) = (

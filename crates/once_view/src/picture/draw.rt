@@ -4,20 +4,27 @@ use super::lanes::{Lane, Lanes};
 use super::legend::write_legend;
 use super::shape::{CellState, LAYERS, Shape, Span};
 use async_once_cell::world::{Ran, Reply};
+use std::alloc::{AllocError, Global};
 use std::io;
 use std::io::Write;
 
-/// Where the first column begins, the band of the cell, and the first lane.
-const LEFT: u64 = 70;
+/// The left margin, where the names of tasks need no more.
+const LEAST_LEFT: u64 = 70;
 
+/// The top of the cell's band.
 const BAND: u64 = 40;
 
+/// The height of the cell's band.
 const BAND_HEIGHT: u64 = 16;
 
+/// The bottom of the cell's band.
+const BAND_BOTTOM: u64 = BAND + BAND_HEIGHT;
+
+/// The top of the first lane.
 const LANES: u64 = 76;
 
 /// The least width, which the legend needs.
-const LEAST_WIDTH: u64 = 760;
+const LEAST_WIDTH: u64 = 780;
 
 const STYLE: &str = "text{font:11px sans-serif;fill:#222}
 .light{fill:#fff}
@@ -38,9 +45,12 @@ const STYLE: &str = "text{font:11px sans-serif;fill:#222}
 /// How a script of this size is drawn.
 #[derive(Clone, Copy)]
 pub struct Drawing<'a> {
+    alloc: Global,
     title: &'a str,
     numbers: &'a [u64],
     lanes: &'a [Lane],
+    /// Where the first column begins.
+    left: u64,
     /// The width of a column.
     column: u64,
     /// An eighth of the height of a lane.
@@ -48,12 +58,21 @@ pub struct Drawing<'a> {
 }
 
 impl<'a> Drawing<'a> {
-    pub fn new(title: &'a str, numbers: &'a [u64], lanes: &'a Lanes) -> Self {
+    pub fn new(
+        alloc: Global,
+        title: &'a str,
+        numbers: &'a [u64],
+        lanes: &'a Lanes,
+    ) -> Result<Self, AllocError> {
         let lanes = lanes.as_slice();
-        Drawing {
+        let last = lanes.iter().map(|lane| lane.task).max().unwrap_or(0);
+        let name = format!(in alloc; "task {last}")?;
+        Ok(Drawing {
+            alloc,
             title,
             numbers,
             lanes,
+            left: room_of(&name).saturating_add(8).max(LEAST_LEFT),
             column: match numbers.len() {
                 0..=40 => 40,
                 41..=120 => 24,
@@ -64,7 +83,7 @@ impl<'a> Drawing<'a> {
                 21..=50 => 2,
                 _ => 1,
             },
-        }
+        })
     }
 
     /// Writes the whole picture.
@@ -79,6 +98,8 @@ impl<'a> Drawing<'a> {
                 }
             }
         }
+        self.write_owner_words(shapes, output)?;
+        self.write_look_words(shapes, output)?;
         write_legend(self.bottom().saturating_add(24), output)?;
         self.write_left_out(output)?;
         writeln!(output, "</svg>")
@@ -91,7 +112,7 @@ impl<'a> Drawing<'a> {
 
     fn x(&self, at: u64) -> u64 {
         let ticks = at.saturating_mul(self.column) / TICKS;
-        ticks.saturating_add(LEFT)
+        ticks.saturating_add(self.left)
     }
 
     /// So many units below the top of a lane.
@@ -108,8 +129,13 @@ impl<'a> Drawing<'a> {
         self.y(self.lanes.len() as u64, 0)
     }
 
+    fn width(&self) -> u64 {
+        let title = room_of(self.title).saturating_add(8);
+        self.right().saturating_add(30).max(LEAST_WIDTH).max(title)
+    }
+
     fn write_head<O: Write>(&self, output: &mut O) -> io::Result<()> {
-        let width = self.right().saturating_add(30).max(LEAST_WIDTH);
+        let width = self.width();
         let height = self.bottom().saturating_add(106);
         writeln!(
             output,
@@ -160,18 +186,15 @@ impl<'a> Drawing<'a> {
     fn write_shape<O: Write>(&self, shape: &Shape, output: &mut O) -> io::Result<()> {
         match shape {
             Shape::Wait(span) => self.write_span(output, "wait", span, (2, 2)),
-            Shape::PollCall(span) => self.write_span(output, "poll", span, (1, 4)),
-            Shape::DropCall(span) => self.write_span(output, "drop", span, (1, 4)),
+            Shape::TaskPoll(span) => self.write_span(output, "poll", span, (1, 4)),
+            Shape::TaskDrop(span) => self.write_span(output, "drop", span, (1, 4)),
             Shape::Hold(span) => self.write_span(output, "hold", span, (5, 1)),
-            Shape::Poll(lane, at, answer) => self.write_poll(output, *lane, *at, *answer),
-            Shape::Reply(lane, at, reply) => self.write_reply(output, *lane, *at, *reply),
-            Shape::Wake(at, from, to) => self.write_wake(output, *at, *from, *to),
-            Shape::Cell(from, to, state) => self.write_cell(output, *from, *to, *state),
-            Shape::Look(at, value) => self.write_look(output, *at, *value),
-            Shape::Owner(at, word) => {
-                let x = self.x(*at);
-                write_text(output, x, BAND.saturating_sub(4), word)
-            }
+            Shape::InitPoll { lane, at, answer } => { self.write_poll(output, *lane, *at, *answer) }
+            Shape::Reply { lane, at, reply } => self.write_reply(output, *lane, *at, *reply),
+            Shape::Wake { at, caller, called } => self.write_wake(output, *at, *caller, *called),
+            Shape::Cell { from, to, state } => self.write_cell(output, *from, *to, *state),
+            Shape::Look { at, .. } => self.write_mark(output, *at, BAND_BOTTOM, BAND_BOTTOM + 7),
+            Shape::Owner { at, .. } => self.write_mark(output, *at, BAND, BAND - 7),
         }
     }
 
@@ -224,21 +247,31 @@ impl<'a> Drawing<'a> {
             return Ok(());
         }
         let (x, y) = (self.x(at).saturating_add(3), self.y(lane, 4));
-        match reply {
-            Reply::Pending => Ok(()),
-            Reply::Value(value) => writeln!(output, "<text x='{x}' y='{y}'>v{value}</text>"),
-            Reply::Error(error) => writeln!(output, "<text x='{x}' y='{y}'>e{error}</text>"),
-            Reply::Memory => write_text(output, x, y, "memory"),
-            Reply::Full => write_text(output, x, y, "full"),
+        let word = match reply {
+            Reply::Pending => return Ok(()),
+            Reply::Value(value) => format!(in self.alloc; "v{value}")?,
+            Reply::Error(error) => format!(in self.alloc; "e{error}")?,
+            Reply::Memory => String::from_str(self.alloc, "memory")?,
+            Reply::Full => String::from_str(self.alloc, "full")?,
+        };
+        if x.saturating_add(room_of(&word)) > self.width() {
+            return Ok(());
         }
+        write_text(output, x, y, &word)
     }
 
     /// An arrow from one lane to another.
-    fn write_wake<O: Write>(&self, output: &mut O, at: u64, from: u64, to: u64) -> io::Result<()> {
-        let (x, start) = (self.x(at), self.y(from, 6));
+    fn write_wake<O: Write>(
+        &self,
+        output: &mut O,
+        at: u64,
+        caller: u64,
+        called: u64,
+    ) -> io::Result<()> {
+        let (x, start) = (self.x(at), self.y(caller, 6));
         let (left, right) = (x.saturating_sub(3), x.saturating_add(3));
-        let is_down = to > from;
-        let tip = self.y(to, if is_down { 2 } else { 4 });
+        let is_down = called > caller;
+        let tip = self.y(called, if is_down { 2 } else { 4 });
         let back = if is_down {
             tip.saturating_sub(6)
         } else {
@@ -268,39 +301,73 @@ impl<'a> Drawing<'a> {
             CellState::Set(_) => "set",
         };
         write_box(output, class, (x, BAND), (width, BAND_HEIGHT))?;
+        let word = format!(in self.alloc; "{state}")?;
+        if room_of(&word) > width {
+            return Ok(());
+        }
         let (x, y) = (x.saturating_add(4), BAND.saturating_add(12));
         match state {
-            _ if width < 60 => Ok(()),
-            CellState::Empty => write_text(output, x, y, "empty"),
-            CellState::Held(task) => {
-                writeln!(output, "<text x='{x}' y='{y}'>held by {task}</text>")
-            }
-            CellState::Set(value) => {
-                writeln!(
-                    output,
-                    "<text class='light' x='{x}' y='{y}'>set: v{value}</text>"
-                )
-            }
+            CellState::Set(_) => writeln!(
+                output,
+                "<text class='light' x='{x}' y='{y}'>{word}</text>"
+            ),
+            CellState::Empty | CellState::Held(_) => write_text(output, x, y, &word),
         }
     }
 
-    /// A mark below the band, with what was found.
-    fn write_look<O: Write>(&self, output: &mut O, at: u64, value: Option<u64>) -> io::Result<()> {
-        let (x, top) = (self.x(at), BAND.saturating_add(BAND_HEIGHT));
+    /// A mark whose tip touches the band of the cell.
+    fn write_mark<O: Write>(&self, output: &mut O, at: u64, tip: u64, back: u64) -> io::Result<()> {
+        let x = self.x(at);
         let (left, right) = (x.saturating_sub(4), x.saturating_add(4));
-        let back = top.saturating_add(7);
         writeln!(
             output,
-            "<path class='look' d='M{x} {top}L{left} {back}H{right}Z'/>"
-        )?;
-        if !self.has_words() {
-            return Ok(());
+            "<path class='look' d='M{x} {tip}L{left} {back}H{right}Z'/>"
+        )
+    }
+
+    /// The owner's calls, above the band.
+    fn write_owner_words<O: Write>(&self, shapes: &[Shape], output: &mut O) -> io::Result<()> {
+        let mut free = 0u64;
+        for shape in shapes {
+            if let Shape::Owner { at, word } = shape {
+                free = self.write_word(output, *at, BAND - 4, word, free)?;
+            }
         }
-        let (x, y) = (x.saturating_add(6), top.saturating_add(11));
-        match value {
-            Some(value) => writeln!(output, "<text x='{x}' y='{y}'>v{value}</text>"),
-            None => write_text(output, x, y, "none"),
+        Ok(())
+    }
+
+    /// What looks found, below the band.
+    fn write_look_words<O: Write>(&self, shapes: &[Shape], output: &mut O) -> io::Result<()> {
+        let mut free = 0u64;
+        for shape in shapes {
+            if let Shape::Look { at, value } = shape {
+                let word = match value {
+                    Some(value) => format!(in self.alloc; "v{value}")?,
+                    None => String::from_str(self.alloc, "none")?,
+                };
+                free = self.write_word(output, *at, BAND_BOTTOM + 11, &word, free)?;
+            }
         }
+        Ok(())
+    }
+
+    /// A word beside the mark at this time, if there is room: the row of words is free from `free` on. Gives
+    /// from where on it is free then.
+    fn write_word<O: Write>(
+        &self,
+        output: &mut O,
+        at: u64,
+        y: u64,
+        word: &str,
+        free: u64,
+    ) -> io::Result<u64> {
+        let x = self.x(at).saturating_add(6);
+        let end = x.saturating_add(room_of(word));
+        if !self.has_words() || x < free || end > self.width() {
+            return Ok(free);
+        }
+        write_text(output, x, y, word)?;
+        Ok(end)
     }
 
     /// Says what a large picture leaves out.
@@ -312,12 +379,17 @@ impl<'a> Drawing<'a> {
             (true, _) =>
                 "Left out, since there are many tasks: what polls answer, and every other name.",
             (false, 1) =>
-                "Left out, since there are many lines and tasks: what polls answer and looks find, nine of ten numbers of lines, and every other name.",
+                "Left out, since there are many lines and tasks: what polls answer, looks find and the owner calls, nine of ten numbers of lines, and every other name.",
             (false, _) =>
-                "Left out, since there are many lines: what polls answer and looks find, and nine of ten numbers of lines.",
+                "Left out, since there are many lines: what polls answer, looks find and the owner calls, and nine of ten numbers of lines.",
         };
         write_text(output, 8, y, text)
     }
+}
+
+/// The room that a word needs at most.
+fn room_of(word: &str) -> u64 {
+    (word.len() as u64).saturating_mul(7).saturating_add(8)
 }
 
 /// Writes a text that needs no escapes.

@@ -1,19 +1,18 @@
-//! The lanes of the tasks, and what is open in each.
+//! The lanes of the tasks, what is open in each, and whose tasks are listed.
 use super::shape::{Shape, Span};
+use async_once_cell::step::{Place, Rest, Step};
+use async_once_cell::world::World;
 use std::alloc::{AllocError, Global};
 
 /// The lane of a task, with the times since which something is under way there.
 #[derive(Clone, Copy)]
 pub struct Lane {
     pub task: u64,
-    place: u64,
     pub made: u64,
     /// When the task went, if it did.
     pub gone: Option<u64>,
-    /// The waker of its last poll.
-    waker: Option<u64>,
-    /// The waker with which it waits, until it is called.
-    listed: Option<u64>,
+    /// How many lanes are above.
+    number: u64,
     call: Option<u64>,
     is_drop: bool,
     waits: Option<u64>,
@@ -23,14 +22,10 @@ pub struct Lane {
 impl Lane {
     fn span(&self, from: u64, to: u64) -> Span {
         Span {
-            lane: self.place,
+            lane: self.number,
             from,
             to,
         }
-    }
-
-    fn is_polled_with(&self, waker: u64) -> bool {
-        self.call.is_some() && self.holds.is_none() && self.waker == Some(waker)
     }
 
     /// What is still open, as it is drawn if it lasts until this time.
@@ -39,25 +34,35 @@ impl Lane {
         [
             self.waits.map(|from| Shape::Wait(self.span(from, at))),
             if self.is_drop {
-                call.map(Shape::DropCall)
+                call.map(Shape::TaskDrop)
             } else {
-                call.map(Shape::PollCall)
+                call.map(Shape::TaskPoll)
             },
             self.holds.map(|from| Shape::Hold(self.span(from, at))),
         ]
     }
 }
 
+/// A lane whose task is listed with this waker.
+#[derive(Clone, Copy)]
+struct Listed {
+    lane: u64,
+    waker: u64,
+}
+
 /// The lanes, in the order in which their tasks were made.
 #[derive(Drop)]
 pub struct Lanes {
     lanes: Vec<Lane>,
+    /// Who was listed after the last line and not called, the oldest listing first.
+    listed: Vec<Listed>,
 }
 
 impl Lanes {
     pub fn new(alloc: Global) -> Self {
         Lanes {
             lanes: Vec::new(alloc),
+            listed: Vec::new(alloc),
         }
     }
 
@@ -69,11 +74,9 @@ impl Lanes {
     pub fn add(&mut self, task: u64, at: u64) -> Result<(), AllocError> {
         self.lanes.push(Lane {
             task,
-            place: self.lanes.len() as u64,
             made: at,
             gone: None,
-            waker: None,
-            listed: None,
+            number: self.lanes.len() as u64,
             call: None,
             is_drop: false,
             waits: None,
@@ -82,43 +85,44 @@ impl Lanes {
         Ok(())
     }
 
-    /// At which place the lane of a task is.
-    pub fn place(&self, task: u64) -> u64 {
+    /// The number of a task's lane.
+    pub fn number_of(&self, task: u64) -> u64 {
         self.lanes
             .iter()
             .find(|lane| lane.task == task)
-            .map_or(0, |lane| lane.place)
+            .map_or(0, |lane| lane.number)
     }
 
-    /// At which place the task is that is called by this waker: one that waits with it, or else one in
-    /// a poll with it. From now on it waits with none.
-    pub fn call(&mut self, waker: u64) -> Option<u64> {
-        let waiting = self
-            .lanes
+    /// Notes who is listed after a line.
+    pub fn note_listed(&mut self, alloc: Global, world: &World) -> Result<(), AllocError> {
+        self.listed.clear();
+        for listing in &world.core().lists.listings(alloc)? {
+            let lane = lane_with(&self.lanes, world, listing.ticket);
+            if let (Some(lane), Some(waker)) = (lane, listing.waker) {
+                self.listed.push(Listed { lane, waker })?;
+            }
+        }
+        Ok(())
+    }
+
+    /// The lane of the task that a task of another lane calls by this waker. Whom a line calls was listed
+    /// before the line, and of the same waker the oldest listing is called.
+    pub fn called_by(&self, caller: u64, waker: u64) -> Option<u64> {
+        self.listed
             .iter()
-            .position(|lane| lane.listed == Some(waker));
-        let found = match waiting {
-            Some(index) => Some(index),
-            None => self
-                .lanes
-                .iter()
-                .position(|lane| lane.is_polled_with(waker)),
-        };
-        let lane = self.lanes.get_mut(found?)?;
-        lane.listed = None;
-        Some(lane.place)
+            .find(|listed| listed.waker == waker && listed.lane != caller)
+            .map(|listed| listed.lane)
     }
 
     fn lane(&mut self, task: u64) -> Option<&mut Lane> {
         self.lanes.iter_mut().find(|lane| lane.task == task)
     }
 
-    /// A poll begins with this waker, or a drop. Gives how long the task had waited, if it had.
-    pub fn begin(&mut self, task: u64, at: u64, waker: Option<u64>) -> Option<Span> {
+    /// A poll begins, or a drop. Gives how long the task had waited, if it had.
+    pub fn begin(&mut self, task: u64, at: u64, is_drop: bool) -> Option<Span> {
         let lane = self.lane(task)?;
         lane.call = Some(at);
-        lane.waker = waker;
-        lane.is_drop = waker.is_none();
+        lane.is_drop = is_drop;
         let waited = lane.waits.take()?;
         Some(lane.span(waited, at))
     }
@@ -135,7 +139,6 @@ impl Lanes {
         if let Some(lane) = self.lane(task) {
             if lane.holds.is_none() {
                 lane.waits = Some(at);
-                lane.listed = lane.waker;
             }
         }
     }
@@ -144,7 +147,6 @@ impl Lanes {
     pub fn hold(&mut self, task: u64, at: u64) {
         if let Some(lane) = self.lane(task) {
             lane.holds = Some(at);
-            lane.listed = None;
         }
     }
 
@@ -159,7 +161,26 @@ impl Lanes {
     pub fn leave(&mut self, task: u64, at: u64) {
         if let Some(lane) = self.lane(task) {
             lane.gone = Some(at);
-            lane.listed = None;
         }
+    }
+}
+
+/// The lane whose task has this ticket.
+fn lane_with(lanes: &[Lane], world: &World, ticket: u64) -> Option<u64> {
+    lanes
+        .iter()
+        .find(|lane| ticket_of(world, lane.task) == Some(ticket))
+        .map(|lane| lane.number)
+}
+
+/// The ticket of a task's listing, if it has one.
+fn ticket_of(world: &World, task: u64) -> Option<u64> {
+    match world.step_of(task)? {
+        Step::Resting(Rest::Wait(_, ticket)) => *ticket,
+        Step::UnderWay(
+            Place::WaitLoad(_, ticket) | Place::Look(_, ticket) | Place::List(_, ticket, _),
+        ) => *ticket,
+        Step::UnderWay(Place::Leave(_, ticket, _)) => Some(*ticket),
+        _ => None,
     }
 }

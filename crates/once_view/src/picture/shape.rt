@@ -1,5 +1,6 @@
-//! What a picture is made of. A time is a number of ticks.
+//! What a picture is made of. A time is a number of ticks, and a lane its number from the top.
 use async_once_cell::world::{Ran, Reply};
+use std::fmt;
 
 /// What the cell is.
 #[derive(Clone, Copy)]
@@ -8,6 +9,16 @@ pub enum CellState {
     /// This task holds the right.
     Held(u64),
     Set(u64),
+}
+
+impl fmt::Display for CellState {
+    fn fmt<W: fmt::Write>(&self, f: &mut fmt::Formatter<W>) -> fmt::Result {
+        match self {
+            CellState::Empty => f.write_str("empty"),
+            CellState::Held(task) => write!(f, "held by {task}"),
+            CellState::Set(value) => write!(f, "set: v{value}"),
+        }
+    }
 }
 
 /// A stretch of time in a lane.
@@ -24,34 +35,56 @@ pub enum Shape {
     /// A task waits.
     Wait(Span),
     /// A poll of a task.
-    PollCall(Span),
+    TaskPoll(Span),
     /// A drop of a task.
-    DropCall(Span),
+    TaskDrop(Span),
     /// A task holds the right.
     Hold(Span),
-    /// In this lane, at this time, an init was polled and answered so.
-    Poll(u64, u64, Ran),
-    /// In this lane, at this time, a poll ended for good.
-    Reply(u64, u64, Reply),
-    /// At this time one lane called another.
-    Wake(u64, u64, u64),
-    /// From one time to another the cell was this.
-    Cell(u64, u64, CellState),
-    /// At this time a look found this.
-    Look(u64, Option<u64>),
-    /// At this time the owner made this call.
-    Owner(u64, &'static str),
+    /// An init was polled, and answered so.
+    InitPoll {
+        lane: u64,
+        at: u64,
+        answer: Ran,
+    },
+    /// A poll of a task ended for good.
+    Reply {
+        lane: u64,
+        at: u64,
+        reply: Reply,
+    },
+    /// The task of one lane called that of another.
+    Wake {
+        at: u64,
+        caller: u64,
+        called: u64,
+    },
+    /// The cell was in this state.
+    Cell {
+        from: u64,
+        to: u64,
+        state: CellState,
+    },
+    /// A look found this.
+    Look {
+        at: u64,
+        value: Option<u64>,
+    },
+    /// The owner made this call.
+    Owner {
+        at: u64,
+        word: &'static str,
+    },
 }
 
 impl Shape {
     /// The layer in which it is drawn. Later layers hide earlier ones.
     pub fn layer(&self) -> u64 {
         match self {
-            Shape::Cell(_, _, _) | Shape::Wait(_) => 0,
-            Shape::PollCall(_) | Shape::DropCall(_) => 1,
-            Shape::Hold(_) | Shape::Look(_, _) | Shape::Owner(_, _) => 2,
-            Shape::Wake(_, _, _) => 3,
-            Shape::Poll(_, _, _) | Shape::Reply(_, _, _) => 4,
+            Shape::Cell { .. } | Shape::Wait(_) => 0,
+            Shape::TaskPoll(_) | Shape::TaskDrop(_) => 1,
+            Shape::Hold(_) | Shape::Look { .. } | Shape::Owner { .. } => 2,
+            Shape::Wake { .. } => 3,
+            Shape::InitPoll { .. } | Shape::Reply { .. } => 4,
         }
     }
 }
