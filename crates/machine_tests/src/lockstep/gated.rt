@@ -1,4 +1,4 @@
-//! Memory that is refused: who waits is refused and leaves nothing behind, and nobody else asks.
+//! Memory that is refused: who waits is refused, and is neither counted nor listed then; nobody else asks.
 
 use super::scene::play;
 

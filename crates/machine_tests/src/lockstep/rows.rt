@@ -1,103 +1,128 @@
-//! Scripts over both kinds of parts: after each step the two show the same.
-
-mod scripts;
-
-use scripts::{BETWEEN, CALLS, DROPS, Line, POLLS, REFUSALS, Steps, line_in};
+//! The worked schedules of `replay` over both kinds of parts: after each step the two show the same.
+use super::between::BETWEEN;
+use crate::replay::rows::{CALLS, DROPS, PLAIN, REFUSALS};
+use async_once_cell::step::Polled;
+use async_once_cell::world::{Input, Kind, Ran};
+use once_script::parse::{Script, parse_script};
 use side_by_side::pair::{Fault, Pair};
 use std::alloc::AllocGlobal;
 use std::process::Abort;
 use std::sync::Wait;
 
-// Does what each line says. A line that cannot be read is a fault of the task 0.
-fn follow_all<R: Wait + AllocGlobal>(pair: &mut Pair<'_, R>, lines: &str) -> Result<(), Fault> {
-    for line in lines.lines() {
-        match line_in(line) {
-            Some(line) => follow(pair, line)?,
-            None => return Err(Fault::Unfit(0)),
-        }
-    }
-    Ok(())
+// Whether a schedule can be followed: it begins with an empty cell, whose owner makes no call.
+fn is_followed(script: &Script) -> bool {
+    matches!(&script.kind, Kind::Once)
+        && !script
+            .inputs
+            .iter()
+            .any(|input| matches!(input, Input::Own(_)))
 }
 
-// A line that does not fit is passed over.
-fn follow<R: Wait + AllocGlobal>(pair: &mut Pair<'_, R>, line: Line) -> Result<(), Fault> {
-    match line {
-        Line::Make(t) => pair.make(t),
-        Line::Poll(t, waker) => {
-            pair.poll(t, waker);
+// Takes an input. One that does not fit is passed over.
+fn follow<R: Wait + AllocGlobal>(pair: &mut Pair<'_, R>, input: &Input) -> Result<(), Fault> {
+    match input {
+        Input::Make(t) => pair.make(*t),
+        Input::Poll(t, waker) => {
+            pair.poll(*t, *waker);
             Ok(())
         }
-        Line::Drop(t) => pair.begin_drop(t),
-        Line::Go(steps) => go(pair, steps),
+        Input::Drop(t) => pair.begin_drop(*t),
+        Input::Go(t, answer, is_granted) => {
+            pair.go(*t, polled_of(*answer), *is_granted)?;
+            Ok(())
+        }
+        Input::Look | Input::Own(_) => Ok(()),
     }
 }
 
-fn go<R: Wait + AllocGlobal>(pair: &mut Pair<'_, R>, steps: Steps) -> Result<(), Fault> {
-    for _ in 0..steps.times {
-        pair.go(steps.task, steps.answer, steps.is_granted)?;
+// What a step sees of an init's answer.
+fn polled_of(answer: Ran) -> Polled {
+    match answer {
+        Ran::Pending => Polled::Pending,
+        Ran::Value(_) => Polled::Value,
+        Ran::Error(_) => Polled::Error,
     }
-    Ok(())
 }
 
-// What came of a script: whether a queue stands at the door.
-fn queue_after<R: Wait + AllocGlobal>(
-    rt: &R,
-    limit: u64,
-    lines: &str,
-) -> Result<Option<bool>, Fault> {
-    let mut pair = Pair::new(rt, limit);
-    follow_all(&mut pair, lines)?;
+// Follows a schedule. Tells whether a queue stands at the door at the end.
+fn queue_after<R: Wait + AllocGlobal>(rt: &R, script: &Script) -> Result<Option<bool>, Fault> {
+    let mut pair = Pair::new(rt, script.limit);
+    for input in &script.inputs {
+        follow(&mut pair, input)?;
+    }
     Ok(pair.has_queue())
 }
 
-fn run_rows<R: Wait + AllocGlobal + Abort>(rt: &R, rows: &[(&str, bool, u64, &str)]) {
-    for (name, has_queue, limit, lines) in rows {
-        let seen = queue_after(rt, *limit, lines);
-        let is_so = matches!(&seen, Ok(Some(queue)) if queue == has_queue);
-        assert!(rt; is_so, "{seen:?} in {name}");
+// Whether a schedule shows the same in both, and leaves the queue that its record tells. One that can't be
+// followed gives None.
+fn is_the_same<R: Wait + AllocGlobal>(rt: &R, text: &str, record: &str) -> Option<bool> {
+    let Ok(script) = parse_script(rt.alloc(), text.as_bytes()) else {
+        return Some(false);
+    };
+    if !is_followed(&script) {
+        return None;
     }
+    let seen = queue_after(rt, &script);
+    let has_queue = !record.ends_with("queue none\n");
+    Some(matches!(&seen, Ok(Some(queue)) if *queue == has_queue))
+}
+
+// Follows the schedules of a table, and counts them.
+fn run_rows<R: Wait + AllocGlobal + Abort>(rt: &R, rows: &[(&str, &str, &str)]) -> u64 {
+    let mut followed = 0u64;
+    for (name, text, record) in rows {
+        if let Some(is_so) = is_the_same(rt, text, record) {
+            assert!(rt; is_so, "in {name}");
+            followed = followed.saturating_add(1);
+        }
+    }
+    followed
 }
 
 #[test]
 fn polls_in_turn(rt: HostRuntime) {
-    run_rows(&rt, &POLLS);
+    assert_eq!(rt; run_rows(&rt, &PLAIN), 13);
 }
 
 #[test]
 fn limits_and_refused_memory(rt: HostRuntime) {
-    run_rows(&rt, &REFUSALS);
+    assert_eq!(rt; run_rows(&rt, &REFUSALS), 11);
 }
 
 #[test]
 fn drops(rt: HostRuntime) {
-    run_rows(&rt, &DROPS);
+    assert_eq!(rt; run_rows(&rt, &DROPS), 25);
 }
 
 #[test]
 fn failures_call_one(rt: HostRuntime) {
-    run_rows(&rt, &CALLS);
+    assert_eq!(rt; run_rows(&rt, &CALLS), 9);
 }
 
-// A script in which a step is made so many times between two others.
-fn between<R: Wait + AllocGlobal>(
+// Whether a schedule in which a step is made so many times between two others shows the same in both.
+fn is_the_same_between<R: Wait + AllocGlobal>(
     rt: &R,
     (before, step, after): (&str, &str, &str),
-    steps: u64,
-) -> Result<(), Fault> {
-    let mut pair = Pair::new(rt, 8);
-    follow_all(&mut pair, before)?;
-    for _ in 0..steps {
-        follow_all(&mut pair, step)?;
+    steps: usize,
+) -> bool {
+    let Ok(steps) = step.repeat(rt.alloc(), steps) else {
+        return false;
+    };
+    let Ok(text) = format!(in rt.alloc(); "{before}{steps}{after}") else {
+        return false;
+    };
+    match parse_script(rt.alloc(), text.as_bytes()) {
+        Ok(script) => queue_after(rt, &script).is_ok(),
+        Err(_) => false,
     }
-    follow_all(&mut pair, after)
 }
 
 #[test]
 fn steps_between_others(rt: HostRuntime) {
     for (name, most, before, step, after) in &BETWEEN {
         for steps in 0..=*most {
-            let seen = between(&rt, (before, step, after), steps);
-            assert!(rt; seen.is_ok(), "{seen:?} in {name}");
+            let is_so = is_the_same_between(&rt, (before, step, after), steps);
+            assert!(rt; is_so, "{name}, {steps}");
         }
     }
 }

@@ -1,4 +1,4 @@
-//! Scenarios, each with what it must print.
+//! Worked schedules, each with what it must print.
 use super::runs::printed_by;
 pub use calls::CALLS;
 pub use drops::DROPS;
@@ -23,7 +23,7 @@ pub fn compare(rt: &impl Abort, name: &str, made: Result<String, Fault>, wanted:
     assert_eq!(rt; made, Ok(wanted), "in {name}");
 }
 
-/// Runs each scenario of a table.
+/// Runs each schedule of a table.
 fn run_rows(rt: &(impl AllocGlobal + Abort), rows: &[(&str, &str, &str)]) {
     for (name, text, wanted) in rows {
         compare(rt, name, printed_by(rt.alloc(), text), wanted);

@@ -6,14 +6,14 @@ use async_once_cell::world::{Entry, Input, Kind, Ran, World};
 use once_view::fault::Fault;
 use once_view::play::{Moment, Watcher, play};
 use once_view::reading::read_script;
-use once_view::{Form, show};
+use once_view::{Format, show};
 use std::alloc::{AllocError, Global};
 use std::test::Fail;
 
 // A script as it is shown.
-fn shown(alloc: Global, form: Form, text: &[u8]) -> Result<String, Fault> {
+fn shown(alloc: Global, format: Format, text: &[u8]) -> Result<String, Fault> {
     let mut output = Vec::new(alloc);
-    show(alloc, form, text, &mut output)?;
+    show(alloc, format, text, &mut output)?;
     Ok(String::from_utf8_lossy(alloc, output.as_slice())?)
 }
 
@@ -41,16 +41,19 @@ const PASSED_OVER: [(&str, &str); 14] = [
         "task 1 is gone",
     ),
     ("once 1\nmake 1\nmake 3\ndrop 1\ntake", "task 3 is not gone"),
-    ("once 1\nparts", "a once cell has no parts"),
-    ("once 1\nreplace", "a once cell has no replace"),
-    ("once 1\nreplace with 4", "a once cell has no replace"),
-    ("lazy 1\ntake", "a lazy cell has no take"),
+    ("once 1\nparts", "a once cell has no call `parts`"),
+    ("once 1\nreplace", "a once cell has no call `replace`"),
+    (
+        "once 1\nreplace with 4",
+        "a once cell has no call `replace`",
+    ),
+    ("lazy 1\ntake", "a lazy cell has no call `take`"),
 ];
 
 #[test]
 fn what_is_passed_over_is_told(rt: HostRuntime) -> Result<(), Fail> {
     for (script, reason) in &PASSED_OVER {
-        let Ok(table) = shown(rt.alloc(), Form::Table, script.as_bytes()) else {
+        let Ok(table) = shown(rt.alloc(), Format::Table, script.as_bytes()) else {
             panic!(rt; "no table of {script}");
         };
         let wanted = format!(in rt.alloc(); "(passed over: {reason})\n")?;
@@ -69,7 +72,7 @@ struct Honest {
 
 impl Watcher for Honest {
     fn see(&mut self, moment: Moment<'_>) -> Result<(), AllocError> {
-        let text = moment.at.text;
+        let text = moment.source.text;
         let may_add_nothing = self.lines == 0 || text.starts_with("go") || text.starts_with("run");
         let is_passed_over = moment.reason.is_some();
         let is_honest = if moment.added.is_empty() {
@@ -100,7 +103,7 @@ fn a_line_that_adds_nothing_is_passed_over(rt: HostRuntime) {
     }
 }
 
-// Whether the lines of each scenario of a table are told so.
+// Whether the lines of each schedule of a table are told so.
 fn are_honest(alloc: Global, rows: &[(&str, &str, &str)]) -> bool {
     let mut are_all = true;
     for (_, text, _) in rows {
@@ -118,14 +121,14 @@ fn worked_schedules_are_told_honestly(rt: HostRuntime) {
 }
 
 // Texts that are no scripts, and what is said of them.
-const UNREADABLE: [(&[u8], &str); 9] = [
+const UNREADABLE: [(&[u8], &str); 11] = [
     (
         b"",
-        "line 1 can't be read: \"\"; expected: `once LIMIT` or `lazy LIMIT`, with more after it or not",
+        "no line says which cell it is; expected: `once LIMIT` or `lazy LIMIT`",
     ),
     (
         b"# alone\n",
-        "line 1 can't be read: \"\"; expected: `once LIMIT` or `lazy LIMIT`, with more after it or not",
+        "no line says which cell it is; expected: `once LIMIT` or `lazy LIMIT`",
     ),
     (
         b"make 1\n",
@@ -133,15 +136,15 @@ const UNREADABLE: [(&[u8], &str); 9] = [
     ),
     (
         b"\nonce 0\n",
-        "line 2 can't be read: \"once 0\"; expected: `once LIMIT` or `once LIMIT with VALUE`; the limit is from 1 to 4611686018427387902",
+        "line 2 can't be read: \"once 0\"; expected: `once LIMIT` or `once LIMIT with VALUE`; the limit is from 1 to 4611686018427387902; a number is below 2^64, with no sign and no leading zero",
     ),
     (
         b"once 8\n\n# one\npoll 1\n",
-        "line 4 can't be read: \"poll 1\"; expected: `poll TASK WAKER`",
+        "line 4 can't be read: \"poll 1\"; expected: `poll TASK WAKER`; a number is below 2^64, with no sign and no leading zero",
     ),
     (
         b"once 8\n poll 1 5\n",
-        "line 2 can't be read: \" poll 1 5\"; expected: `poll TASK WAKER`",
+        "line 2 can't be read: \" poll 1 5\"; expected: `poll TASK WAKER`; a number is below 2^64, with no sign and no leading zero",
     ),
     (
         b"once 8\nlook\r\n",
@@ -151,16 +154,18 @@ const UNREADABLE: [(&[u8], &str); 9] = [
         b"once 8\nmack 1\n",
         "line 2 can't be read: \"mack 1\"; expected: `make`, `poll`, `drop`, `go`, `run`, `look`, `take`, `write`, `parts` or `replace`",
     ),
+    (b"once 8\nmake \xff\n", "line 2 is not UTF-8"),
     (
-        b"once 8\nmake \xff\n",
-        "line 2 can't be read: \"\"; expected: text in UTF-8",
+        b"once 8\nlooks\nmake \xff\n",
+        "line 2 can't be read: \"looks\"; expected: `make`, `poll`, `drop`, `go`, `run`, `look`, `take`, `write`, `parts` or `replace`",
     ),
+    (b"# \xff\nonce 8\xff\n", "line 2 is not UTF-8"),
 ];
 
 #[test]
 fn a_line_that_cannot_be_read_is_told(rt: HostRuntime) -> Result<(), Fail> {
     for (text, wanted) in &UNREADABLE {
-        let Err(fault) = shown(rt.alloc(), Form::Table, text) else {
+        let Err(fault) = shown(rt.alloc(), Format::Table, text) else {
             panic!(rt; "shown, and not: {wanted}");
         };
         let told = format!(in rt.alloc(); "{fault}")?;
@@ -169,67 +174,153 @@ fn a_line_that_cannot_be_read_is_told(rt: HostRuntime) -> Result<(), Fail> {
     Ok(())
 }
 
-// A script with so many tasks and looks.
+// A script with so many tasks and looks. The init of the first task fails.
 fn large(alloc: Global, tasks: u64, looks: usize) -> Result<String, AllocError> {
     let mut text = String::from_str(alloc, "once 8\n")?;
     for task in 0..tasks {
         writeln!(text, "make {task}")?;
     }
+    text.push_str("poll 0 5\nrun 0 e1\n")?;
     text.push_str("look\n".repeat(alloc, looks)?.as_str())?;
     Ok(text)
 }
 
+// What a picture of so many tasks and looks says that it leaves out; and whether it has what looks found, the
+// other names, and what the poll answered.
+const LEFT_OUT: [(u64, usize, &str, [bool; 3]); 8] = [
+    (2, 115, "<text x='8'", [true, true, true]),
+    (
+        2,
+        116,
+        "many lines: what polls answer, looks find and the owner calls, and nine",
+        [false, true, false],
+    ),
+    (20, 3, "<text x='8'", [true, true, true]),
+    (21, 3, "many tasks: what polls answer.", [true, true, false]),
+    (50, 3, "many tasks: what polls answer.", [true, true, false]),
+    (
+        51,
+        3,
+        "many tasks: what polls answer, and every other name.",
+        [true, false, false],
+    ),
+    (
+        51,
+        66,
+        "many tasks: what polls answer, and every other name.",
+        [true, false, false],
+    ),
+    (
+        51,
+        67,
+        "many lines and tasks: what polls answer, looks find and the owner calls, nine",
+        [false, false, false],
+    ),
+];
+
 #[test]
 fn a_picture_says_what_it_leaves_out(rt: HostRuntime) -> Result<(), Fail> {
-    for (tasks, looks, wanted) in [
-        (2, 3, None),
-        (2, 200, Some("many lines: what polls answer")),
-        (30, 3, Some("many tasks: what polls answer.")),
-        (60, 3, Some("many tasks: what polls answer, and")),
-        (60, 200, Some("many lines and tasks: what polls answer")),
-    ] {
-        let text = large(rt.alloc(), tasks, looks)?;
-        let Ok(picture) = shown(rt.alloc(), Form::Picture, text.as_bytes()) else {
+    for (tasks, looks, told, words) in &LEFT_OUT {
+        let text = large(rt.alloc(), *tasks, *looks)?;
+        let Ok(picture) = shown(rt.alloc(), Format::Picture, text.as_bytes()) else {
             panic!(rt; "no picture of {tasks} and {looks}");
         };
-        let is_told = match wanted {
-            Some(wanted) => picture.contains(wanted),
-            None => !picture.contains("Left out"),
-        };
+        let seen = [
+            picture.contains(">none<"),
+            picture.contains(">task 1<"),
+            picture.contains(">e1<"),
+        ];
+        let leaves_out = picture.contains("Left out");
         assert!(rt;
-            is_told && picture.ends_with("</svg>\n"),
-            "{tasks}, {looks}"
+            picture.contains(told) && seen == *words && leaves_out == told.starts_with("many"),
+            "{tasks} and {looks}: {seen:?}"
         );
     }
     Ok(())
 }
 
-// Scripts in which task 2 calls task 3: beside a task that was never polled, and beside one that is gone and
-// had the same waker, while task 3 is in a poll with another one.
-const CALLED: [&str; 2] = [
-    "once 8\nmake 1\nmake 2\nmake 3\npoll 2 5\nrun 2 p\npoll 3 0\nrun 3 p\npoll 2 5\nrun 2 e1\n",
-    "once 8\nmake 1\nmake 2\nmake 3\npoll 2 5\nrun 2 p\npoll 1 7\nrun 1 p\ndrop 1\nrun 1 p\npoll 3 7\nrun 3 p\npoll 3 9\npoll 2 5\nrun 2 e1\n",
+// Scripts whose last line calls a task, and the arrow to it.
+const ARROWS: [(&str, &str); 5] = [
+    // Beside a task that was never polled.
+    (
+        "once 8\nmake 1\nmake 2\nmake 3\npoll 2 5\nrun 2 p\npoll 3 0\nrun 3 p\npoll 2 5\nrun 2 e1",
+        " 132V148L",
+    ),
+    // Beside one that is gone and had the same waker, while the called one is in a poll with another.
+    (
+        "once 8\nmake 1\nmake 2\nmake 3\npoll 2 5\nrun 2 p\npoll 1 7\nrun 1 p\ndrop 1\nrun 1 p\npoll 3 7\nrun 3 p\npoll 3 9\npoll 2 5\nrun 2 e1",
+        " 132V148L",
+    ),
+    // Of two who wait with one waker the one that was listed first.
+    (
+        "once 8\nmake 1\nmake 2\nmake 3\npoll 1 5\nrun 1 p\npoll 3 7\nrun 3 p\npoll 2 7\nrun 2 p\npoll 1 5\nrun 1 e1",
+        " 100V148L",
+    ),
+    // And then that one calls the other, by an init that fails or as it is dropped.
+    (
+        "once 8\nmake 1\nmake 2\nmake 3\npoll 1 5\nrun 1 p\npoll 3 7\nrun 3 p\npoll 2 7\nrun 2 p\npoll 1 5\nrun 1 e1\npoll 3 7\nrun 3 e1",
+        " 164V124L",
+    ),
+    (
+        "once 8\nmake 1\nmake 2\nmake 3\npoll 1 5\nrun 1 p\npoll 3 7\nrun 3 p\npoll 2 7\nrun 2 p\npoll 1 5\nrun 1 e1\ndrop 3\nrun 3 p",
+        " 164V124L",
+    ),
 ];
 
-/// An arrow goes from the second lane to the third.
 #[test]
 fn an_arrow_goes_to_the_called_task(rt: HostRuntime) {
-    for text in CALLED {
-        let Ok(picture) = shown(rt.alloc(), Form::Picture, text.as_bytes()) else {
+    for (text, arrow) in &ARROWS {
+        let Ok(picture) = shown(rt.alloc(), Format::Picture, text.as_bytes()) else {
             panic!(rt; "no picture of {text}");
         };
-        assert!(rt; picture.contains(" 132V148L"), "{text}");
+        assert!(rt; picture.contains(arrow), "{text}");
     }
 }
 
-/// A write that fails ends the showing, in both forms.
+// Scripts, a word that has no room in their pictures, and one that has.
+const WORDS: [(&str, &str, &str); 4] = [
+    (
+        "once 8 with 18446744073709551615\nlook",
+        ">set:",
+        ">v18446744073709551615<",
+    ),
+    ("once 8 with 5\nlook\nlook", ">none<", ">set: v5<"),
+    (
+        "once 8\nmake 18446744073709551615\npoll 18446744073709551615 1\nrun 18446744073709551615 p",
+        ">held by",
+        ">task 18446744073709551615<",
+    ),
+    ("lazy 8\nparts\nreplace", ">replace<", ">parts<"),
+];
+
 #[test]
-fn a_failed_write_ends_the_showing(rt: HostRuntime) {
-    for form in [Form::Table, Form::Picture] {
-        let target = Target::new(rt.alloc(), usize::MAX, 1, false);
-        let ended = show(rt.alloc(), form, b"once 8\nlook\n", target);
+fn a_word_without_room_is_left_out(rt: HostRuntime) {
+    for (text, left_out, written) in &WORDS {
+        let Ok(picture) = shown(rt.alloc(), Format::Picture, text.as_bytes()) else {
+            panic!(rt; "no picture of {text}");
+        };
+        assert!(rt;
+            !picture.contains(left_out) && picture.contains(written),
+            "{text}"
+        );
+    }
+}
+
+/// A write that fails ends the showing, in both formats, and so does a flush.
+#[test]
+fn a_failed_write_ends_the_showing(rt: HostRuntime) -> Result<(), Fail> {
+    let text = large(rt.alloc(), 60, 200)?;
+    for format in [Format::Table, Format::Picture] {
+        for fails_at in 1..4 {
+            let target = Target::new(rt.alloc(), usize::MAX, fails_at, false);
+            let ended = show(rt.alloc(), format, text.as_bytes(), target);
+            assert!(rt; matches!(&ended, Err(Fault::Io)), "{fails_at}");
+        }
+        let target = Target::new(rt.alloc(), usize::MAX, 0, true);
+        let ended = show(rt.alloc(), format, text.as_bytes(), target);
         assert!(rt; matches!(&ended, Err(Fault::Io)));
     }
+    Ok(())
 }
 
 #[test]

@@ -43,7 +43,8 @@ impl Contested {
 }
 
 impl Visited for Contested {
-    // What the thread gets of the cell. It drops one of its futures midway, and another fails.
+    // What the thread gets of the cell. At some cells it drops a future after one poll, and at some an init of
+    // it fails.
     fn visited<'v, R>(&'v self, rt: &'v R, task: &MockTask, thread: u64, number: u64) -> Option<u64>
     where
         R: Wait + AllocGlobal + Clock,

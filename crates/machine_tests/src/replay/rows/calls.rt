@@ -1,6 +1,6 @@
 //! Failures that call one who waits, and turns that are passed on.
 
-/// Each scenario: its name, what it reads and what it must print.
+/// Each schedule: its name, what it reads and what it must print.
 pub const CALLS: [(&str, &str, &str); 9] = [
     (
         "a_claim_takes_its_listing_out",

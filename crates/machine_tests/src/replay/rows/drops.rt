@@ -1,6 +1,6 @@
 //! Tasks that are dropped, between all steps of the others.
 
-/// Each scenario: its name, what it reads and what it must print.
+/// Each schedule: its name, what it reads and what it must print.
 pub const DROPS: [(&str, &str, &str); 26] = [
     (
         "dropped_after_the_fill",

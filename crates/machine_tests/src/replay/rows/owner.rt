@@ -1,6 +1,6 @@
 //! Calls of the owner, and lazy cells.
 
-/// Each scenario: its name, what it reads and what it must print.
+/// Each schedule: its name, what it reads and what it must print.
 pub const OWNER: [(&str, &str, &str); 10] = [
     (
         "calls_of_the_other_kind",

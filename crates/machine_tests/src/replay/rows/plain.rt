@@ -1,7 +1,7 @@
 //! Polls in turn, and inputs that do not fit.
 
-/// Each scenario: its name, what it reads and what it must print.
-pub const PLAIN: [(&str, &str, &str); 15] = [
+/// Each schedule: its name, what it reads and what it must print.
+pub const PLAIN: [(&str, &str, &str); 16] = [
     (
         "changed_waker",
         "once 8\nmake 1\nmake 2\npoll 1 5\nrun 1 p\npoll 2 7\nrun 2 p\npoll 2 8\nrun 2 p\npoll 1 5\nrun 1 v3\n",
@@ -62,6 +62,11 @@ pub const PLAIN: [(&str, &str, &str); 15] = [
         "slow_path",
         "once 8\nmake 1\nmake 2\npoll 1 7\nrun 1 p\npoll 2 7\nrun 2 e9\npoll 2 7\nrun 2 e9\npoll 1 7\nrun 1 v2\npoll 2 7\nrun 2 e9\n",
         "made 1\nmade 2\nbegin 1 7\nclaim 1\nran 1 p\nend 1 p\nbegin 2 7\nend 2 p\nbegin 2 7\nend 2 p\nbegin 1 7\nran 1 v2\nfill 1 2 [7]\nend 1 v2\nbegin 2 7\nend 2 v2\nqueue none\n",
+    ),
+    (
+        "two_put_a_queue_to_the_door",
+        "once 8\nmake 1\nmake 2\nmake 3\npoll 1 5\nrun 1 p\npoll 2 7\ngo 2 p\ngo 2 p\npoll 3 8\ngo 3 p\ngo 3 p\nrun 2 p\nrun 3 p\npoll 1 5\nrun 1 v4\npoll 2 7\nrun 2 p\npoll 3 8\nrun 3 p\n",
+        "made 1\nmade 2\nmade 3\nbegin 1 5\nclaim 1\nran 1 p\nend 1 p\nbegin 2 7\nbegin 3 8\nend 2 p\nend 3 p\nbegin 1 5\nran 1 v4\nfill 1 4 [7 8]\nend 1 v4\nbegin 2 7\nend 2 v4\nbegin 3 8\nend 3 v4\nqueue none\n",
     ),
     (
         "unfitting_inputs",

@@ -1,6 +1,6 @@
 //! Limits, and memory that is refused.
 
-/// Each scenario: its name, what it reads and what it must print.
+/// Each schedule: its name, what it reads and what it must print.
 pub const REFUSALS: [(&str, &str, &str); 11] = [
     (
         "door_asks_memory_first",
