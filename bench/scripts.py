@@ -1,4 +1,4 @@
-"""The long scripts that replay_growth and replay_memory replay, and how once_replay is built and run.
+"""The long scripts that replay_growth, replay_memory and replay_beside replay, and how once_replay is built and run.
 
     rounds   a once cell; 100 tasks to a round, 99 of which wait, so a longer script has more rounds.
              The holder keeps the right over one Pending and fails; its release calls one.
@@ -11,6 +11,7 @@
 
 Lines that do not fit, and are passed over, stand in both.
 """
+import collections
 import os
 import subprocess
 import sys
@@ -22,7 +23,6 @@ SHAPES = ("rounds", "waiting")
 
 ROUND = 100
 WAITING = 1000
-RUN_STEPS = 16
 
 
 def number(index):
@@ -112,21 +112,28 @@ def script(shape, length):
     return "".join(f"{next(lines)}\n" for _ in range(length))
 
 
-def input_count(text):
-    """How many inputs a script has: a run line is sixteen of them."""
-    lines = text.splitlines()[1:]
-    return sum(RUN_STEPS if line.startswith("run ") else 1 for line in lines)
+Usage = collections.namedtuple("Usage", "seconds kilobytes")
 
 
-def replay(path, output=subprocess.DEVNULL):
-    """Replays the script at this path, and gives what the kernel counted for the process."""
-    with open(path, "rb") as text:
-        process = subprocess.Popen([PROGRAM], stdin=text, stdout=output)
+def replay(path, output=os.devnull, program=PROGRAM):
+    """Replays the script at this path, and gives the processor time and the largest resident memory.
+
+    The kernel counts as a process's memory what its parent had as it began. So a small parent is put between.
+    """
+    words = [sys.executable, os.path.abspath(__file__), program, path, output]
+    told = subprocess.run(words, check=True, capture_output=True, text=True).stdout.split()
+    return Usage(float(told[0]), int(told[1]))
+
+
+def measure(program, path, output):
+    """Replays as the small parent, and prints what the kernel counted."""
+    with open(path, "rb") as text, open(output, "wb") as record:
+        process = subprocess.Popen([program], stdin=text, stdout=record)
         _, status, usage = os.wait4(process.pid, 0)
         process.returncode = os.waitstatus_to_exitcode(status)
     if process.returncode != 0:
         sys.exit(f"{path}: once_replay ended with status {process.returncode}")
-    return usage
+    print(usage.ru_utime + usage.ru_stime, usage.ru_maxrss)
 
 
 def build():
@@ -135,3 +142,7 @@ def build():
         built = subprocess.run(["rt", "run"], cwd=CRATE, stdin=text, capture_output=True)
     if built.returncode != 0:
         sys.exit("rt run could not build once_replay:\n" + built.stderr.decode())
+
+
+if __name__ == "__main__":
+    measure(*sys.argv[1:])

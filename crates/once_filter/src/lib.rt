@@ -1,10 +1,11 @@
 //! A script is read and replayed, and its record is printed.
 #![tactic(auto)]
 
+pub mod play;
 pub mod print;
 
+use crate::play::replay_lines;
 use crate::print::print_record;
-use async_once_cell::world::replay;
 use once_script::fault::Fault;
 use once_script::parse::{Script, parse_script};
 use std::alloc::Global;
@@ -21,12 +22,8 @@ where
     O: Write + Drop,
 {
     let text = read(alloc, input)?;
-    let Script {
-        kind,
-        limit,
-        inputs,
-    } = parse_script(alloc, text.as_slice())?;
-    let record = replay(alloc, kind, limit, inputs.as_slice())?;
+    let Script { kind, limit, lines } = parse_script(alloc, text.as_slice())?;
+    let record = replay_lines(alloc, kind, limit, &lines)?;
     print_record(alloc, &record, output)?;
     Ok(())
 }

@@ -2,10 +2,9 @@ use Rattle.std.specs.Prelude.{ℕ, suc, ◌⊎◌, Bool, List, [], ◌∷◌, �
 use Rattle.std.specs.Borrow.{Bor}
 use Rattle.std.specs.List.{slice_split}
 use lib.Pointwise.{pointwise}
-use Rattle.once_record.specs.declared.world.Input.{Input}
 use Rattle.once_record.specs.declared.world.Kind.{Kind}
 use Rattle.once_script.specs.declared.parse.Line.{Line}
-use Rattle.once_script.specs.Text.{inputs_of, IsLine, IsOpening}
+use Rattle.once_script.specs.Text.{IsLine, IsOpening}
 
 -- a text ends with a line feed
 abbrev pub ends_with_feed : List ℕ → Bool
@@ -23,17 +22,16 @@ lines_in text = slice_split (λ c. c == 10) (without_last_feed text)
 abbrev pub texts_of : List (Bor (List ℕ)) → List (List ℕ)
 texts_of lines = map (λ line. line.now) lines
 
--- each of these texts is a line, and the inputs are those of the lines, in their order
-abbrev pub AreInputs : List (List ℕ) → List Input → Type 0
-AreInputs [] inputs = inputs ≡ []
-AreInputs (text ∷ texts) inputs =
-    (line : Line) × (later : List Input) × IsLine line text × (inputs ≡ inputs_of line ++ later)
-    × AreInputs texts later
+-- these texts are these lines, one each, in their order
+abbrev pub AreLines : List (List ℕ) → List Line → Type 0
+AreLines [] lines = lines ≡ []
+AreLines (text ∷ texts) lines =
+    (line : Line) × (later : List Line) × IsLine line text × (lines ≡ line ∷ later) × AreLines texts later
 
--- the lines of a script: the first says the kind and how many tasks may be counted in, the later ones the inputs
-abbrev pub IsScript : Kind → ℕ → List Input → List (List ℕ) → Type 0
-IsScript kind limit inputs [] = ⊥
-IsScript kind limit inputs (first ∷ later) = IsOpening kind limit first × AreInputs later inputs
+-- the lines of a script: the first says the kind and how many tasks may be counted in, and these come after it
+abbrev pub IsScript : Kind → ℕ → List Line → List (List ℕ) → Type 0
+IsScript kind limit lines [] = ⊥
+IsScript kind limit lines (first ∷ later) = IsOpening kind limit first × AreLines later lines
 
 -- of these texts, the first of which has the number at, the one with this number is the first that is no line
 abbrev pub IsStop : (at number : ℕ) → List (List ℕ) → Type 0

@@ -1,4 +1,4 @@
-use Rattle.std.specs.Prelude.{ℕ, Bool, true, false, List, [], ◌∷◌, ◌++◌, ◌≡◌, codes, Option, Some, replicate}
+use Rattle.std.specs.Prelude.{ℕ, Bool, true, false, List, [], ◌∷◌, ◌++◌, ◌≡◌, codes, Option, Some, replicate, flat_map}
 use Rattle.once_record.specs.declared.world.Call.TheVariants.{Take, Write, Parts, ReplaceValue, ReplaceAnswers}
 use Rattle.once_record.specs.declared.world.Kind.{Kind}
 use Rattle.once_record.specs.declared.world.Kind.TheVariants.{Once, OnceWith, Lazy, LazyWith}
@@ -57,6 +57,10 @@ IsOpening (LazyWith value) limit text =
 abbrev pub inputs_of : Line → List Input
 inputs_of (Single input) = input ∷ []
 inputs_of (Run task answer memory) = replicate 16 (Go task answer memory)
+
+-- the inputs that these lines stand for, in their order
+abbrev pub all_inputs : List Line → List Input
+all_inputs lines = flat_map inputs_of lines
 
 -- a text is these two numbers
 pub record IsPair (first second : ℕ) (text : List ℕ) : Type 0 where

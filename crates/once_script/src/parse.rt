@@ -5,7 +5,7 @@ ghost use Rattle.once_record.specs.declared.world.Call.{Call};
 ghost use Rattle.once_record.specs.declared.world.Kind.{Kind};
 ghost use Rattle.once_script.specs.Number.{number_of, limit_of};
 ghost use Rattle.once_script.specs.Script.{lines_in, IsScript, IsFirstUnreadable};
-ghost use Rattle.once_script.specs.Text.{inputs_of, IsWith, IsOpening, IsOnce, IsLazy, IsPair, IsGiven, IsStep, IsLine};
+ghost use Rattle.once_script.specs.Text.{IsWith, IsOpening, IsOnce, IsLazy, IsPair, IsGiven, IsStep, IsLine};
 ghost use Rattle.once_record.specs.declared.world.Call.TheVariants.{Take, Write, Parts};
 ghost use Rattle.once_record.specs.declared.world.Input.TheVariants.{Make, Poll, Drop, Go, Look, Own};
 ghost use Rattle.once_script.specs.declared.parse.Line.{Line};
@@ -48,7 +48,8 @@ pub enum Line {
 pub struct Script {
     pub kind: Kind,
     pub limit: u64,
-    pub inputs: Vec<Input>,
+    /// The lines after the first.
+    pub lines: Vec<Line>,
     ghost some: { 0 < limit },
     ghost within: { limit ≤ 2 ^ 62 - 2 },
 }
@@ -58,7 +59,7 @@ pub struct Script {
 /// `Unreadable` names the first line that cannot be read.
 pub fn parse_script(alloc: Global, text: &[u8]) -> Result<Script, Fault>
     ensures read { IfOk result
-        (λ script. IsScript script.kind script.limit script.inputs.items (lines_in text.now)) }
+        (λ script. IsScript script.kind script.limit script.lines.items (lines_in text.now)) }
     ensures unreadable { (n : ℕ) → result ≡ Err (Fault.Unreadable n)
         → IsFirstUnreadable n (lines_in text.now) }
     ensures no_reads { result ≢ Err Fault.Io }
@@ -71,23 +72,8 @@ pub fn parse_script(alloc: Global, text: &[u8]) -> Result<Script, Fault>
     Ok(Script {
         kind,
         limit,
-        inputs: parse_lines(alloc, later)?,
+        lines: parse_lines(alloc, later)?,
     })
-}
-
-/// Adds the inputs that a line stands for.
-fn append(inputs: &mut Vec<Input>, line: Line) -> Result<(), AllocError>
-    ensures { OnOk result (inputs.new.items ≡ inputs.old.items ++ inputs_of line) }
-{
-    match line {
-        Line::Single(input) => inputs.push(input)?,
-        Line::Run(task, answer, memory) => {
-            for _ in 0..RUN_STEPS {
-                inputs.push(Input::Go(task, answer, memory))?;
-            }
-        }
-    }
-    Ok(())
 }
 
 /// Reads the first line.

@@ -1,12 +1,10 @@
 //! A script, played line by line before one who watches.
-ghost use Rattle.std.specs.Prelude.{OnOk};
-ghost use Rattle.async_once_cell.specs.Reached.{IsReached};
-
-use crate::reading::{Script, ScriptLine, TextLine};
+use crate::reading::{Script, TextLine};
 use async_once_cell::step::Step;
 use async_once_cell::world::{Call, Entry, Input, Kind, World};
+use once_filter::play::take_line;
 use once_filter::print::call_word;
-use once_script::parse::{Line, Opening, RUN_STEPS};
+use once_script::parse::{Line, Opening};
 use std::alloc::{AllocError, Global};
 use std::fmt;
 
@@ -82,7 +80,7 @@ pub fn play<V: Watcher>(
     for line in &lines {
         let before = world.entries().len();
         let reason = reason_of(&world, &line.line, lazy);
-        take_line(&mut world, line)?;
+        take_line(&mut world, &line.line)?;
         watcher.see(moment_of(&world, line.source, reason, before))?;
     }
     Ok(())
@@ -99,23 +97,6 @@ fn moment_of<'a>(
         reason,
         added: world.entries().get(before..).unwrap_or(&[]),
         world,
-    }
-}
-
-/// Takes the inputs that a line stands for.
-fn take_line(world: &mut World, line: &ScriptLine<'_>) -> Result<(), AllocError>
-    requires { IsReached world.old }
-    ensures { OnOk result (IsReached world.new) }
-{
-    match &line.line {
-        Line::Single(input) => world.take(input),
-        Line::Run(task, answer, granted) => {
-            let step = Input::Go(*task, *answer, *granted);
-            for _ in 0..RUN_STEPS {
-                world.take(&step)?;
-            }
-            Ok(())
-        }
     }
 }
 

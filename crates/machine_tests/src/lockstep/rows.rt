@@ -3,7 +3,7 @@ use super::between::BETWEEN;
 use crate::replay::rows::{CALLS, DROPS, PLAIN, REFUSALS};
 use async_once_cell::step::Polled;
 use async_once_cell::world::{Input, Kind, Ran};
-use once_script::parse::{Script, parse_script};
+use once_script::parse::{Line, RUN_STEPS, Script, parse_script};
 use side_by_side::pair::{Fault, Pair};
 use std::alloc::AllocGlobal;
 use std::process::Abort;
@@ -13,26 +13,38 @@ use std::sync::Wait;
 fn is_followed(script: &Script) -> bool {
     matches!(&script.kind, Kind::Once)
         && !script
-            .inputs
+            .lines
             .iter()
-            .any(|input| matches!(input, Input::Own(_)))
+            .any(|line| matches!(line, Line::Single(Input::Own(_))))
 }
 
-// Takes an input. One that does not fit is passed over.
-fn follow<R: Wait + AllocGlobal>(pair: &mut Pair<'_, R>, input: &Input) -> Result<(), Fault> {
-    match input {
-        Input::Make(t) => pair.make(*t),
-        Input::Poll(t, waker) => {
+// Takes the inputs of a line. One that does not fit is passed over.
+fn follow<R: Wait + AllocGlobal>(pair: &mut Pair<'_, R>, line: &Line) -> Result<(), Fault> {
+    match line {
+        Line::Single(Input::Make(t)) => pair.make(*t),
+        Line::Single(Input::Poll(t, waker)) => {
             pair.poll(*t, *waker);
             Ok(())
         }
-        Input::Drop(t) => pair.begin_drop(*t),
-        Input::Go(t, answer, is_granted) => {
-            pair.go(*t, polled_of(*answer), *is_granted)?;
-            Ok(())
-        }
-        Input::Look | Input::Own(_) => Ok(()),
+        Line::Single(Input::Drop(t)) => pair.begin_drop(*t),
+        Line::Single(Input::Go(t, answer, is_granted)) => go(pair, *t, *answer, *is_granted, 1),
+        Line::Run(t, answer, is_granted) => go(pair, *t, *answer, *is_granted, RUN_STEPS),
+        Line::Single(Input::Look | Input::Own(_)) => Ok(()),
     }
+}
+
+// The task makes so many steps.
+fn go<R: Wait + AllocGlobal>(
+    pair: &mut Pair<'_, R>,
+    t: u64,
+    answer: Ran,
+    is_granted: bool,
+    steps: u64,
+) -> Result<(), Fault> {
+    for _ in 0..steps {
+        pair.go(t, polled_of(answer), is_granted)?;
+    }
+    Ok(())
 }
 
 // What a step sees of an init's answer.
@@ -47,8 +59,8 @@ fn polled_of(answer: Ran) -> Polled {
 // Follows a schedule. Tells whether a queue stands at the door at the end.
 fn queue_after<R: Wait + AllocGlobal>(rt: &R, script: &Script) -> Result<Option<bool>, Fault> {
     let mut pair = Pair::new(rt, script.limit);
-    for input in &script.inputs {
-        follow(&mut pair, input)?;
+    for line in &script.lines {
+        follow(&mut pair, line)?;
     }
     Ok(pair.has_queue())
 }

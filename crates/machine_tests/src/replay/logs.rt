@@ -1,10 +1,10 @@
 //! The queue log of a record: which queue was put to the door, entered and taken out.
 
 use super::rows::compare;
-use async_once_cell::world::replay;
+use async_once_cell::world::{Input, replay};
 use once_script::fault::Fault;
-use once_script::parse::parse_script;
-use std::alloc::Global;
+use once_script::parse::{Line, RUN_STEPS, parse_script};
+use std::alloc::{AllocError, Global};
 
 // Scripts, each with its queue log.
 const LOGS: [(&str, &str, &str); 4] = [
@@ -34,10 +34,27 @@ const LOGS: [(&str, &str, &str); 4] = [
     ),
 ];
 
+// The inputs that these lines stand for.
+fn inputs_of(alloc: Global, lines: Vec<Line>) -> Result<Vec<Input>, AllocError> {
+    let mut inputs = Vec::new(alloc);
+    for line in lines {
+        match line {
+            Line::Single(input) => inputs.push(input)?,
+            Line::Run(task, answer, is_granted) => {
+                for _ in 0..RUN_STEPS {
+                    inputs.push(Input::Go(task, answer, is_granted))?;
+                }
+            }
+        }
+    }
+    Ok(inputs)
+}
+
 // The log of a script.
 fn log_of(alloc: Global, text: &str) -> Result<String, Fault> {
     let script = parse_script(alloc, text.as_bytes())?;
-    let record = replay(alloc, script.kind, script.limit, script.inputs.as_slice())?;
+    let inputs = inputs_of(alloc, script.lines)?;
+    let record = replay(alloc, script.kind, script.limit, &inputs)?;
     Ok(format!(in alloc; "{:?}", record.queues)?)
 }
 

@@ -258,11 +258,11 @@ const FIRST_LINES: [(&str, &str); 9] = [
     ("lazy 8 with 5", "LazyWith(5) 8 []"),
 ];
 
-// What a first line alone is read as: its kind, its limit, and that there are no inputs.
+// What a first line alone is read as: its kind, its limit, and that there are no other lines.
 fn first_line(alloc: Global, text: &str) -> Result<String, Fault> {
     let script = parse_script(alloc, text.as_bytes())?;
-    let (kind, inputs) = (&script.kind, &script.inputs);
-    Ok(format!(in alloc; "{kind:?} {} {inputs:?}", script.limit)?)
+    let (kind, lines) = (&script.kind, &script.lines);
+    Ok(format!(in alloc; "{kind:?} {} {lines:?}", script.limit)?)
 }
 
 #[test]
@@ -314,35 +314,28 @@ fn reads_each_later_line(rt: HostRuntime) {
 }
 
 // What the lines after the first are read as.
-fn inputs_of(alloc: Global, text: &str) -> Result<String, Fault> {
+fn lines_of(alloc: Global, text: &str) -> Result<String, Fault> {
     let script = parse_script(alloc, text.as_bytes())?;
-    Ok(format!(in alloc; "{:?}", script.inputs)?)
-}
-
-// This input, sixteen times.
-fn sixteen(alloc: Global, input: &str) -> Result<String, AllocError> {
-    let many = input.repeat(alloc, 15)?;
-    format!(in alloc; "[{many}{}]", input.trim_end_matches(", "))
+    Ok(format!(in alloc; "{:?}", script.lines)?)
 }
 
 #[test]
-fn a_run_line_is_sixteen_steps(rt: HostRuntime) -> Result<(), Fail> {
+fn reads_each_run_line(rt: HostRuntime) {
     for (text, wanted) in [
-        ("lazy 3\nrun 2 p", "Go(2, Pending, true), "),
-        ("once 3\nrun 2 v4\n", "Go(2, Value(4), true), "),
-        ("once 3\nrun 2 e5 x\n", "Go(2, Error(5), false), "),
+        ("lazy 3\nrun 2 p", "[Run(2, Pending, true)]"),
+        ("once 3\nrun 2 v4\n", "[Run(2, Value(4), true)]"),
+        ("once 3\nrun 2 e5 x\n", "[Run(2, Error(5), false)]"),
     ] {
-        let wanted = sixteen(rt.alloc(), wanted)?;
-        compare(&rt, text, inputs_of(rt.alloc(), text), wanted.as_str());
+        compare(&rt, text, lines_of(rt.alloc(), text), wanted);
     }
-    Ok(())
 }
 
 #[test]
 fn lines_are_read_in_their_order(rt: HostRuntime) {
-    let text = "once 3\nmake 1\npoll 1 7\ngo 1 p x\ntake\nlook";
-    let wanted = "[Make(1), Poll(1, 7), Go(1, Pending, false), Own(Take), Look]";
-    compare(&rt, text, inputs_of(rt.alloc(), text), wanted);
+    let text = "once 3\nmake 1\npoll 1 7\nrun 1 p x\ntake\nlook";
+    let wanted =
+        "[Single(Make(1)), Single(Poll(1, 7)), Run(1, Pending, false), Single(Own(Take)), Single(Look)]";
+    compare(&rt, text, lines_of(rt.alloc(), text), wanted);
 }
 
 // What is printed of a record of these entries, whose last queue is this.

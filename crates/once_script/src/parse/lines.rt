@@ -2,12 +2,11 @@
 ghost use Rattle.std.specs.Prelude.{◌≡◌, ◌≢◌, IfOk, MatchOption, ℕ};
 ghost use Rattle.once_record.specs.declared.world.Kind.{Kind};
 ghost use Rattle.once_script.specs.Text.{IsLine, IsOpening};
-ghost use Rattle.once_script.specs.Script.{lines_in, texts_of, without_last_feed, AreInputs, IsStop};
+ghost use Rattle.once_script.specs.Script.{lines_in, texts_of, without_last_feed, AreLines, IsStop};
 ghost use Rattle.once_script.specs.declared.parse.Line.{Line};
 
 use crate::fault::Fault;
-use crate::parse::{Line, Opening, append, parse_line, parse_opening};
-use once_record::world::Input;
+use crate::parse::{Line, Opening, parse_line, parse_opening};
 use std::alloc::{AllocError, Global};
 
 /// The lines of a text, without their ends.
@@ -26,22 +25,22 @@ fn without_last_feed(text: &[u8]) -> &[u8]
 }
 
 /// Reads the lines after the first, which has the number 1.
-pub fn parse_lines(alloc: Global, lines: &[&[u8]]) -> Result<Vec<Input>, Fault>
-    ensures read { IfOk result (λ inputs. AreInputs (texts_of lines.now) inputs.items) }
+pub fn parse_lines(alloc: Global, lines: &[&[u8]]) -> Result<Vec<Line>, Fault>
+    ensures read { IfOk result (λ read. AreLines (texts_of lines.now) read.items) }
     ensures unreadable { (n : ℕ) → result ≡ Err (Fault.Unreadable n)
         → IsStop 2 n (texts_of lines.now) }
     ensures no_reads { result ≢ Err Fault.Io }
 {
-    let mut inputs = Vec::new(alloc);
+    let mut read = Vec::new(alloc);
     let mut number = 1u64;
     for bytes in lines {
         number = number.saturating_add(1);
         let Some(line) = line_in(alloc, bytes)? else {
             return Err(Fault::Unreadable(number));
         };
-        append(&mut inputs, line)?;
+        read.push(line)?;
     }
-    Ok(inputs)
+    Ok(read)
 }
 
 /// Reads the bytes of a first line. Bytes that are no text are none.
