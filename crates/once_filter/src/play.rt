@@ -7,7 +7,7 @@ ghost use Rattle.async_once_cell.specs.Record.{Kind as MachineKind};
 ghost use Rattle.async_once_cell.specs.Shown.{kind_of, inputs_in, record_entries, record_lines};
 ghost use Rattle.once_script.specs.Text.{inputs_of, all_inputs};
 
-use async_once_cell::world::{Input, Kind, Record, World};
+use async_once_cell::world::{Kind, Record, World};
 use once_script::parse::{Line, RUN_STEPS};
 use std::alloc::{AllocError, Global};
 
@@ -45,11 +45,6 @@ pub fn take_line(world: &mut World, line: &Line) -> Result<(), AllocError>
 {
     match line {
         Line::Single(input) => world.take(input),
-        Line::Run(task, answer, is_granted) => {
-            for _ in 0..RUN_STEPS {
-                world.take(&Input::Go(*task, *answer, *is_granted))?;
-            }
-            Ok(())
-        }
+        Line::Run(task, answer, granted) => world.run(*task, *answer, *granted, RUN_STEPS),
     }
 }

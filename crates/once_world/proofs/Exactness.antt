@@ -8,3 +8,4 @@ pub mod Exact
 pub mod Unfinished
 pub mod Asked
 pub mod Worlds
+pub mod Idle

@@ -1,5 +1,5 @@
 -- The machine: what all tasks share, the place at which each task stands, and what each input does.
-use Rattle.std.specs.Prelude.{ℕ, suc, Bool, true, false, cond, ◌==◌, ◌-◌, nat_lt, ◌||◌, not, List, [], ◌∷◌, ◌++◌, Option, Some, None}
+use Rattle.std.specs.Prelude.{◌≡◌, ℕ, suc, Bool, true, false, cond, ◌==◌, ◌-◌, nat_lt, ◌||◌, not, List, [], ◌∷◌, ◌++◌, Option, Some, None}
 use Rattle.std.specs.Option.{is_some}
 pub use Rattle.once_world.specs.Places.{Ending, EndPending, EndValue, EndError, EndMemory, EndFull, EndDropped, Rest, RestStart, RestWait, RestRun, Place, AtStart, AtTryQuick, AtDoorGet, AtDoorPut, AtCountIn, AtWaitLoad, AtLook, AtList, AtRun, AtPut, AtFast, AtAddOne, AtDoorAgain, AtRelease, AtLeave, AtCountOut, AtDoorTake, Step, Resting, UnderWay, Finished}
 use Rattle.once_world.specs.Places.{Progress, More, Ended}
@@ -448,6 +448,11 @@ go_world_by false lazy limit w t a granted x = w
 abbrev pub go_world : Bool → ℕ → World → ℕ → Answer → Bool → Option Task → World
 go_world lazy limit w t a granted None = w
 go_world lazy limit w t a granted (Some x) = go_world_by (in_call x.step) lazy limit w t a granted x
+
+-- no call of a task is under way, if there is a task
+abbrev pub IsIdle : Option Task → Type 0
+IsIdle None = Unit {0}
+IsIdle (Some x) = in_call x.step ≡ false
 
 -- what a look finds
 abbrev pub look_value : SharedState → Option ℕ

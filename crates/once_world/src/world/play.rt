@@ -1,5 +1,5 @@
 //! A replay under way, one input at a time.
-ghost use Rattle.std.specs.Prelude.{◌≡◌, ◌<◌, ◌≤◌, ◌+◌, ◌-◌, ◌^◌, ◌++◌, ◌∷◌, ◌==◌, ℕ, Bool, List, true, false, [], Some, None, OnOk, IfOk, length, reverse};
+ghost use Rattle.std.specs.Prelude.{◌≡◌, ◌<◌, ◌≤◌, ◌+◌, ◌-◌, ◌^◌, ◌++◌, ◌∷◌, ◌==◌, ℕ, Bool, List, true, false, [], Some, None, OnOk, IfOk, length, replicate, reverse};
 ghost use Rattle.std.specs.Option.{option_copied, option_map};
 ghost use Rattle.once_world.specs.Machine.{unfinished_after, error_in as error_of, release_entry as release_of, end_entry as end_of};
 ghost use Rattle.once_world.specs.Shown.{call_of, entry_of, history_in, claim_entries, ran_entries, out_entries, wakers_in, step_entries};
@@ -36,12 +36,12 @@ pub struct World {
 
 impl World {
     ghost use Rattle.once_world.specs.Record.{Kind as RecordedKind, is_lazy, has_call as owner_has};
-    ghost use Rattle.once_world.specs.Machine.{first_world, world_after, word_of, make_world, poll_world, drop_world, go_world, own_world_by};
+    ghost use Rattle.once_world.specs.Machine.{first_world, world_after, word_of, make_world, poll_world, drop_world, go_world, own_world_by, IsIdle};
     ghost use Rattle.once_world.specs.Can.{MayTake, TaskCan};
     ghost use Rattle.once_world.specs.Run.{IsRun};
     ghost use Rattle.once_world.specs.Shown.{kind_of, call_of, input_of, shared_of, world_in, record_entries, record_lines};
     ghost use Rattle.once_world.specs.Reached.{IsAfter, IsReached};
-    ghost use Rattle.once_world.specs.Inputs.{Input as Taken};
+    ghost use Rattle.once_world.specs.Inputs.{Input as Taken, Go};
     ghost use Rattle.once_core.specs.Core.{state_of};
     ghost use Rattle.once_queue.specs.Room.{listings_of};
 
@@ -74,6 +74,37 @@ impl World {
             → OnOk result (IsAfter kind limit (input_of input.now ∷ inputs) self.new) }
     {
         self.apply(input)
+    }
+
+    /// Takes so many `Go` inputs of a task, with this answer, and with memory or not. Where no call of the
+    /// task is under way any more it passes the rest over at once.
+    pub fn run(
+        &mut self,
+        task: u64,
+        answer: Ran,
+        granted: bool,
+        steps: u64,
+    ) -> Result<(), AllocError>
+        requires reached { IsReached self.old }
+        ensures reached { OnOk result (IsReached self.new) }
+        ensures after { (kind : RecordedKind) (limit : ℕ) (inputs : List Taken)
+            → IsAfter kind limit inputs self.old
+            → OnOk result (IsAfter kind limit (replicate steps (Go task answer granted) ++ inputs) self.new) }
+    {
+        for _ in 0..steps {
+            if self.is_idle(task) {
+                return Ok(());
+            }
+            self.take(&Input::Go(task, answer, granted))?;
+        }
+        Ok(())
+    }
+
+    // Whether no call of the task is under way.
+    fn is_idle(&self, task: u64) -> bool
+        ensures { result ≡ true → IsIdle ((world_in self.now).tasks task) }
+    {
+        !matches!(self.step_of(task), Some(Step::UnderWay(_)))
     }
 
     /// The record so far, the oldest entry first.
