@@ -121,7 +121,7 @@ def replay(path, output=os.devnull, program=PROGRAM):
     The kernel counts as a process's memory what its parent had as it began. So a small parent is put between.
     """
     words = [sys.executable, os.path.abspath(__file__), program, path, output]
-    told = subprocess.run(words, check=True, capture_output=True, text=True).stdout.split()
+    told = subprocess.run(words, check=True, stdout=subprocess.PIPE, text=True).stdout.split()
     return Usage(float(told[0]), int(told[1]))
 
 
