@@ -14,7 +14,7 @@ mod shape;
 
 use draw::Drawing;
 use lanes::Lanes;
-use shape::{CellState, Shape, Span};
+use shape::{CellState, Shape};
 
 /// How many ticks a column has. The entries that a line adds stand at one tick after the other.
 const TICKS: u64 = 8;

@@ -239,7 +239,7 @@ fn finds_the_first_unreadable_line(rt: HostRuntime) {
     }
 }
 
-// First lines, each with the kind and the limit that it gives, and the inputs after it: none.
+// First lines, each with the kind and the limit that it gives, and the lines after it: none.
 const FIRST_LINES: [(&str, &str); 9] = [
     ("once 3", "Once 3 []"),
     ("once 1 with 7\n", "OnceWith(7) 1 []"),

@@ -284,7 +284,11 @@ const WORDS: [(&str, &str, &str); 4] = [
         ">set:",
         ">v18446744073709551615<",
     ),
-    ("once 8 with 5\nlook\nlook", ">none<", ">set: v5<"),
+    (
+        "once 8 with 18446744073709551615\nlook\nwrite 7\nlook",
+        ">v7<",
+        ">set: v7<",
+    ),
     (
         "once 8\nmake 18446744073709551615\npoll 18446744073709551615 1\nrun 18446744073709551615 p",
         ">held by",
