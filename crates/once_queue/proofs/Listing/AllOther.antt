@@ -22,13 +22,15 @@ module _ {W : Type 0} (other : W → W → Type 0) where
   apart_none z y (Some w) none is = rw (is, none) tt
   apart_none z y None none is = rw is tt
 
-  apart_set : (z : Listing W) (i j k : ℕ) (xs : List (Listing W)) (d : Listing W) → z.waker ≡ None → i < length xs → j < k → k < length xs → AllPairs (AreApart other) xs
+  apart_set : (z : Listing W) (i j k : ℕ) (xs : List (Listing W)) (d : Listing W) → z.waker ≡ None → i < length xs
+      → j < k → k < length xs → AllPairs (AreApart other) xs
       → (j ≡ i) ⊎ (j ≡ i → ⊥) → (k ≡ i) ⊎ (k ≡ i → ⊥) → AreApart other (get_or (set xs i z) j d) (get_or (set xs i z) k d)
   apart_set z i j k xs d none li l lk apart (inl s) t = rw (s, get_or-set_same xs i z d li) (apart_none z (get_or (set xs i z) k d) (get_or (set xs i z) k d).waker none refl)
   apart_set z i j k xs d none li l lk apart (inr s) (inl t) = rw (t, get_or-set_same xs i z d li, none) tt
   apart_set z i j k xs d none li l lk apart (inr s) (inr t) = rw (get_or-set_other xs i j z d s, get_or-set_other xs i k z d t) (apart j k d l lk)
 
-  pub apart_called : (i : ℕ) (xs : List (Listing W)) (z : Listing W) → z.waker ≡ None → i < length xs → AllPairs (AreApart other) xs → AllPairs (AreApart other) (set xs i z)
+  pub apart_called : (i : ℕ) (xs : List (Listing W)) (z : Listing W) → z.waker ≡ None → i < length xs
+      → AllPairs (AreApart other) xs → AllPairs (AreApart other) (set xs i z)
   apart_called i xs z none li apart j k d l lk =
       let s = length-set xs i z in
       apart_set z i j k xs d none li l (omega arith) apart (cases_eq j i) (cases_eq k i)
@@ -53,20 +55,26 @@ module _ {W : Type 0} (other : W → W → Type 0) where
   apart_first xs apart = first_by_place (position has_waker xs) xs refl apart
 
   -- a new waker that was told to be other than each
-  other_at : (k : ℕ) (xs : List (Listing W)) (d : Listing W) (o : Option W) → k < length xs → IfSome o (λ w. All (λ x. IfSome x.waker (λ v. other v w)) xs) → IfSome o (λ w. IfSome (get_or xs k d).waker (λ v. other v w))
+  other_at : (k : ℕ) (xs : List (Listing W)) (d : Listing W) (o : Option W) → k < length xs
+      → IfSome o (λ w. All (λ x. IfSome x.waker (λ v. other v w)) xs)
+      → IfSome o (λ w. IfSome (get_or xs k d).waker (λ v. other v w))
   other_at k xs d (Some w) l all = all k d l
   other_at k xs d None l all = tt
 
   -- it is other than each that is kept
-  pub other_kept : (p : Listing W → Bool) (o : Option W) (xs : List (Listing W)) → IfSome o (λ w. All (λ x. IfSome x.waker (λ v. other v w)) xs) → IfSome o (λ w. All (λ x. IfSome x.waker (λ v. other v w)) (filter p xs))
+  pub other_kept : (p : Listing W → Bool) (o : Option W) (xs : List (Listing W))
+      → IfSome o (λ w. All (λ x. IfSome x.waker (λ v. other v w)) xs)
+      → IfSome o (λ w. All (λ x. IfSome x.waker (λ v. other v w)) (filter p xs))
   other_kept p (Some w) xs all = All-filter p (λ x. IfSome x.waker (λ v. other v w)) xs all
   other_kept p None xs all = tt
 
-  apart_pushed : (xs : List (Listing W)) (y : Listing W) → AllPairs (AreApart other) xs → IfSome y.waker (λ w. All (λ x. IfSome x.waker (λ v. other v w)) xs) → AllPairs (AreApart other) (xs ++ y ∷ [])
+  apart_pushed : (xs : List (Listing W)) (y : Listing W) → AllPairs (AreApart other) xs
+      → IfSome y.waker (λ w. All (λ x. IfSome x.waker (λ v. other v w)) xs) → AllPairs (AreApart other) (xs ++ y ∷ [])
   apart_pushed xs y apart all = all_pairs_push (AreApart other) xs y apart (λ k d l. other_at k xs d y.waker l all)
 
   -- the same, where none of the comparisons until now and of those with the new one told two to be the same
-  pub apart_listed : (mixed repeats : Bool) (xs : List (Listing W)) (y : Listing W) → (mixed || repeats) ≡ false → (mixed ≡ false → ∥ AllPairs (AreApart other) xs ∥₁)
+  pub apart_listed : (mixed repeats : Bool) (xs : List (Listing W)) (y : Listing W) → (mixed || repeats) ≡ false
+      → (mixed ≡ false → ∥ AllPairs (AreApart other) xs ∥₁)
       → (repeats ≡ false → IfSome y.waker (λ w. All (λ x. IfSome x.waker (λ v. other v w)) xs)) → ∥ AllPairs (AreApart other) (xs ++ y ∷ []) ∥₁
   apart_listed false false xs y e apart new = ∥∥₁_map (apart refl) (λ a. apart_pushed xs y a (new refl))
   apart_listed false true xs y e apart new = absurd (false≢true (sym e))
@@ -81,7 +89,8 @@ module _ {W : Type 0} (same other : W → W → Type 0) where
   hands_by (Some w) seen new = inr (refl, new)
   hands_by None seen new = refl
 
-  new_by : (o p : Option W) (seen : List W) → IfSome p (λ w. IfSome o (λ v. other v w)) → IfSome p (λ w. IsOther other w seen) → IfSome p (λ w. IsOther other w (wakers_by o seen))
+  new_by : (o p : Option W) (seen : List W) → IfSome p (λ w. IfSome o (λ v. other v w))
+      → IfSome p (λ w. IsOther other w seen) → IfSome p (λ w. IsOther other w (wakers_by o seen))
   new_by o (Some w) seen apart new = other_by other w o seen apart new
   new_by o None seen apart new = tt
 

@@ -15,11 +15,13 @@ module _ {W : Type 0} where
   member_by true n x ys m = grind arith
   member_by false n x ys m = m
 
-  none_by : (b : Bool) (n : ℕ) (x : Listing W) (ys : List (Listing W)) → (b ≡ true → (x.ticket == n) ≡ false) → member n (tickets ys) ≡ false → member n (tickets (cond b (x ∷ ys) ys)) ≡ false
+  none_by : (b : Bool) (n : ℕ) (x : Listing W) (ys : List (Listing W)) → (b ≡ true → (x.ticket == n) ≡ false)
+      → member n (tickets ys) ≡ false → member n (tickets (cond b (x ∷ ys) ys)) ≡ false
   none_by true n x ys d m = rw (d refl) m
   none_by false n x ys d m = m
 
-  taken_by : (b : Bool) (n : ℕ) (x : Listing W) (ys zs : List (Listing W)) → member n (tickets ys) ≡ true → is_distinct (tickets (cond b (x ∷ ys) ys)) ≡ true → (is_distinct (tickets ys) ≡ true → zs ≡ take_out n ys)
+  taken_by : (b : Bool) (n : ℕ) (x : Listing W) (ys zs : List (Listing W)) → member n (tickets ys) ≡ true
+      → is_distinct (tickets (cond b (x ∷ ys) ys)) ≡ true → (is_distinct (tickets ys) ≡ true → zs ≡ take_out n ys)
       → cond b (x ∷ zs) zs ≡ take_out n (cond b (x ∷ ys) ys)
   taken_by true n x ys zs m once rest =
       let other : (x.ticket == n) ≡ false = grind (arith, nat_tests) in
@@ -27,7 +29,9 @@ module _ {W : Type 0} where
       rw other (ap (λ (vs : List (Listing W)). x ∷ vs) (rest distinct))
   taken_by false n x ys zs m once rest = rest once
 
-  found_by : (b : Bool) (n : ℕ) (x : Listing W) (ys : List (Listing W)) (w : Option W) → member n (tickets ys) ≡ true → is_distinct (tickets (cond b (x ∷ ys) ys)) ≡ true → (is_distinct (tickets ys) ≡ true → find_listing n ys ≡ Some w)
+  found_by : (b : Bool) (n : ℕ) (x : Listing W) (ys : List (Listing W)) (w : Option W) → member n (tickets ys) ≡ true
+      → is_distinct (tickets (cond b (x ∷ ys) ys)) ≡ true
+      → (is_distinct (tickets ys) ≡ true → find_listing n ys ≡ Some w)
       → find_listing n (cond b (x ∷ ys) ys) ≡ Some w
   found_by true n x ys w m once rest =
       let other : (x.ticket == n) ≡ false = grind (arith, nat_tests) in
@@ -36,11 +40,13 @@ module _ {W : Type 0} where
   found_by false n x ys w m once rest = rest once
 
   -- the first listing with a waker
-  calls_by : (x : Listing W) (o : Option W) (ys : List (Listing W)) → is_some o ≡ true → (o ≡ first_by o (first_waker ys)) × (record { ticket = x.ticket; waker = None } ∷ ys ≡ call_by x o ys (call_first ys))
+  calls_by : (x : Listing W) (o : Option W) (ys : List (Listing W)) → is_some o ≡ true
+      → (o ≡ first_by o (first_waker ys)) × (record { ticket = x.ticket; waker = None } ∷ ys ≡ call_by x o ys (call_first ys))
   calls_by x (Some w) ys s = (refl, refl)
   calls_by x None ys s = absurd (false≢true s)
 
-  passes_by : (b : Bool) (x : Listing W) (o v : Option W) (ys zs : List (Listing W)) → x.waker ≡ o → cond b (is_some o) false ≡ false → v ≡ first_waker ys → zs ≡ call_first ys
+  passes_by : (b : Bool) (x : Listing W) (o v : Option W) (ys zs : List (Listing W)) → x.waker ≡ o
+      → cond b (is_some o) false ≡ false → v ≡ first_waker ys → zs ≡ call_first ys
       → (v ≡ first_waker (cond b (x ∷ ys) ys)) × (cond b (x ∷ zs) zs ≡ call_first (cond b (x ∷ ys) ys))
   passes_by true x (Some w) v ys zs is s f c = absurd (false≢true (sym s))
   passes_by true x None v ys zs is s f c = (rw is f, rw (is, c) refl)
@@ -52,7 +58,8 @@ module _ {W : Type 0} where
 
 module _ {W : Type 0} (p : Listing W → Bool) where
   -- one that is kept has its ticket there
-  pub kept_member : (n i : ℕ) (xs : List (Listing W)) (d : Listing W) → i < length xs → (get_or xs i d).ticket ≡ n → p (get_or xs i d) ≡ true → member n (tickets (filter p xs)) ≡ true
+  pub kept_member : (n i : ℕ) (xs : List (Listing W)) (d : Listing W) → i < length xs → (get_or xs i d).ticket ≡ n
+      → p (get_or xs i d) ≡ true → member n (tickets (filter p xs)) ≡ true
   kept_member n i [] d l e k = absurd (omega arith)
   kept_member n zero (x ∷ xs) d l e k = rw k (grind (arith, nat_tests))
   kept_member n (suc i) (x ∷ xs) d l e k = member_by (p x) n x (filter p xs) (kept_member n i xs d (omega arith) e k)
@@ -67,7 +74,8 @@ module _ {W : Type 0} (p : Listing W → Bool) where
   holes_none h (x ∷ xs) apart = none_by (p x) h x (filter p xs) (apart x) (holes_none h xs apart)
 
   -- a listing is taken out where a hole is put in its place
-  pub kept_taken : (n i : ℕ) (xs : List (Listing W)) (z d : Listing W) → i < length xs → (get_or xs i d).ticket ≡ n → p (get_or xs i d) ≡ true → p z ≡ false → is_distinct (tickets (filter p xs)) ≡ true
+  pub kept_taken : (n i : ℕ) (xs : List (Listing W)) (z d : Listing W) → i < length xs → (get_or xs i d).ticket ≡ n
+      → p (get_or xs i d) ≡ true → p z ≡ false → is_distinct (tickets (filter p xs)) ≡ true
       → filter p (set xs i z) ≡ take_out n (filter p xs)
   kept_taken n i [] z d l e k h once = absurd (omega arith)
   kept_taken n zero (x ∷ xs) z d l e k h once =
@@ -77,7 +85,8 @@ module _ {W : Type 0} (p : Listing W → Bool) where
   kept_taken n (suc i) (x ∷ xs) z d l e k h once =
       taken_by (p x) n x (filter p xs) (filter p (set xs i z)) (kept_member n i xs d (omega arith) e k) once (kept_taken n i xs z d (omega arith) e k h)
 
-  pub kept_found : (n i : ℕ) (xs : List (Listing W)) (d : Listing W) → i < length xs → (get_or xs i d).ticket ≡ n → p (get_or xs i d) ≡ true → is_distinct (tickets (filter p xs)) ≡ true
+  pub kept_found : (n i : ℕ) (xs : List (Listing W)) (d : Listing W) → i < length xs → (get_or xs i d).ticket ≡ n
+      → p (get_or xs i d) ≡ true → is_distinct (tickets (filter p xs)) ≡ true
       → find_listing n (filter p xs) ≡ Some (get_or xs i d).waker
   kept_found n i [] d l e k once = absurd (omega arith)
   kept_found n zero (x ∷ xs) d l e k once = rw k (grind (arith, nat_tests))
@@ -91,13 +100,17 @@ module _ {W : Type 0} (p : Listing W → Bool) where
   abbrev opens : Listing W → Bool
   opens x = cond (p x) (is_some x.waker) false
 
-  pub nobody_called : (xs : List (Listing W)) → ((k : ℕ) (d : Listing W) → k < length xs → opens (get_or xs k d) ≡ false) → (None ≡ first_waker (filter p xs)) × (filter p xs ≡ call_first (filter p xs))
+  pub nobody_called : (xs : List (Listing W))
+      → ((k : ℕ) (d : Listing W) → k < length xs → opens (get_or xs k d) ≡ false)
+      → (None ≡ first_waker (filter p xs)) × (filter p xs ≡ call_first (filter p xs))
   nobody_called [] none = (refl, refl)
   nobody_called (x ∷ xs) none =
       let rest = nobody_called xs (λ k d l. none (suc k) d (omega arith)) in
       passes_by (p x) x x.waker None (filter p xs) (filter p xs) refl (none 0 x (omega arith)) rest.0 rest.1
 
-  one_left : (i : ℕ) (xs : List (Listing W)) (z d : Listing W) → i < length xs → opens (get_or xs i d) ≡ true → ((k : ℕ) → k < i → opens (get_or xs k d) ≡ false) → p z ≡ true → z ≡ record { ticket = (get_or xs i d).ticket; waker = None }
+  one_left : (i : ℕ) (xs : List (Listing W)) (z d : Listing W) → i < length xs → opens (get_or xs i d) ≡ true
+      → ((k : ℕ) → k < i → opens (get_or xs k d) ≡ false) → p z ≡ true
+      → z ≡ record { ticket = (get_or xs i d).ticket; waker = None }
       → ((get_or xs i d).waker ≡ first_waker (filter p xs)) × (filter p (set xs i z) ≡ call_first (filter p xs))
   one_left i [] z d l o before k is = absurd (omega arith)
   one_left zero (x ∷ xs) z d l o before k is =
@@ -109,7 +122,9 @@ module _ {W : Type 0} (p : Listing W → Bool) where
       let rest = one_left i xs z d (omega arith) o (λ j m. before (suc j) (omega arith)) k is in
       passes_by (p x) x x.waker (get_or xs i d).waker (filter p xs) (filter p (set xs i z)) refl (before 0 (omega arith)) rest.0 rest.1
 
-  pub one_called : (i : ℕ) (xs : List (Listing W)) (x : Listing W) (o : Option W) → i < length xs → x ≡ get_or xs i x → opens x ≡ true → ((k : ℕ) → k < i → opens (get_or xs k x) ≡ false) → o ≡ None → p (record { ticket = x.ticket; waker = o }) ≡ true
+  pub one_called : (i : ℕ) (xs : List (Listing W)) (x : Listing W) (o : Option W) → i < length xs → x ≡ get_or xs i x
+      → opens x ≡ true → ((k : ℕ) → k < i → opens (get_or xs k x) ≡ false) → o ≡ None
+      → p (record { ticket = x.ticket; waker = o }) ≡ true
       → (x.waker ≡ first_waker (filter p xs)) × (filter p (set xs i (record { ticket = x.ticket; waker = o })) ≡ call_first (filter p xs))
   one_called i xs x o l is waits before none kept =
       let z : Listing W = record { ticket = x.ticket; waker = o } in
@@ -124,7 +139,8 @@ module _ {W : Type 0} (p : Listing W → Bool) where
   pub hole_length : (i : ℕ) (xs : List (Listing W)) (z : Listing W) → i < length xs → p z ≡ false → length (filter p (set xs i z)) < length xs
   hole_length i [] z l h = absurd (omega arith)
   hole_length zero (x ∷ xs) z l h = let most = kept_length xs in rw h (omega arith)
-  hole_length (suc i) (x ∷ xs) z l h = let less = hole_length i xs z (omega arith) h in let most = length_by (p x) x (filter p (set xs i z)) (length (filter p (set xs i z))) (omega arith) in omega arith
+  hole_length (suc i) (x ∷ xs) z l h = let less = hole_length i xs z (omega arith) h in let most = length_by (p x) x
+      (filter p (set xs i z)) (length (filter p (set xs i z))) (omega arith) in omega arith
 
   -- what is kept is kept again
   again_by : (b : Bool) (x : Listing W) (ys : List (Listing W)) → p x ≡ b → filter p ys ≡ ys → filter p (cond b (x ∷ ys) ys) ≡ cond b (x ∷ ys) ys
@@ -136,14 +152,19 @@ module _ {W : Type 0} (p : Listing W → Bool) where
   kept_again (x ∷ xs) = again_by (p x) x (filter p xs) refl (kept_again xs)
 
   -- what fails a test before a place fails it still when one that fails is put in a slot, or at the end
-  fails_at : (i n : ℕ) (xs : List (Listing W)) (z d : Listing W) → p z ≡ false → i < length xs → (n ≡ i) ⊎ (n ≡ i → ⊥) → p (get_or xs n d) ≡ false → p (get_or (set xs i z) n d) ≡ false
+  fails_at : (i n : ℕ) (xs : List (Listing W)) (z d : Listing W) → p z ≡ false → i < length xs
+      → (n ≡ i) ⊎ (n ≡ i → ⊥) → p (get_or xs n d) ≡ false → p (get_or (set xs i z) n d) ≡ false
   fails_at i n xs z d f l (inl e) b = rw (e, get_or-set_same xs i z d l) f
   fails_at i n xs z d f l (inr e) b = rw (get_or-set_other xs i n z d e) b
 
-  pub fails_set : (u i : ℕ) (xs : List (Listing W)) (z : Listing W) → p z ≡ false → i < length xs → ((n : ℕ) → n < u → HoldsAt (λ x. p x ≡ false) xs n) → (n : ℕ) → n < u → HoldsAt (λ x. p x ≡ false) (set xs i z) n
+  pub fails_set : (u i : ℕ) (xs : List (Listing W)) (z : Listing W) → p z ≡ false → i < length xs
+      → ((n : ℕ) → n < u → HoldsAt (λ x. p x ≡ false) xs n) → (n : ℕ) → n < u
+      → HoldsAt (λ x. p x ≡ false) (set xs i z) n
   fails_set u i xs z f l before n m d = fails_at i n xs z d f l (cases_eq n i) (before n m d)
 
-  pub fails_push : (u : ℕ) (xs : List (Listing W)) (z : Listing W) → u ≤ length xs → ((n : ℕ) → n < u → HoldsAt (λ x. p x ≡ false) xs n) → (n : ℕ) → n < u → HoldsAt (λ x. p x ≡ false) (xs ++ z ∷ []) n
+  pub fails_push : (u : ℕ) (xs : List (Listing W)) (z : Listing W) → u ≤ length xs
+      → ((n : ℕ) → n < u → HoldsAt (λ x. p x ≡ false) xs n) → (n : ℕ) → n < u
+      → HoldsAt (λ x. p x ≡ false) (xs ++ z ∷ []) n
   fails_push u xs z l before n m d = rw (get_or_append_left xs (z ∷ []) d n (omega arith)) (before n m d)
 
 -- a slot that has a ticket of a listing

@@ -10,7 +10,8 @@ above_all n [] l = refl
 above_all n (x ∷ ns) l = let ih = above_all n ns in let d : (x == n) ≡ false = ne_eqb x n (λ e. omega arith) in rw d (ih (omega arith))
 
 -- nor is the least from a number on, while each smaller one from there on is
-least_by : (f n : ℕ) (ns : List ℕ) (b : Bool) → member n ns ≡ b → member (least_from f (suc n) ns) ns ≡ false → member (cond b (least_from f (suc n) ns) n) ns ≡ false
+least_by : (f n : ℕ) (ns : List ℕ) (b : Bool) → member n ns ≡ b → member (least_from f (suc n) ns) ns ≡ false
+    → member (cond b (least_from f (suc n) ns) n) ns ≡ false
 least_by f n ns true m ih = ih
 least_by f n ns false m ih = m
 
@@ -18,7 +19,8 @@ least_fresh : (f n : ℕ) (ns : List ℕ) → above_each ns ≤ n + f → member
 least_fresh zero n ns l = above_all n ns (omega arith)
 least_fresh (suc f) n ns l = least_by f n ns (member n ns) refl (least_fresh f (suc n) ns (omega arith))
 
-low_by : (f n m : ℕ) (ns : List ℕ) (b : Bool) → member n ns ≡ b → n ≤ m → m < cond b (least_from f (suc n) ns) n → (suc n ≤ m → m < least_from f (suc n) ns → member m ns ≡ true) → member m ns ≡ true
+low_by : (f n m : ℕ) (ns : List ℕ) (b : Bool) → member n ns ≡ b → n ≤ m → m < cond b (least_from f (suc n) ns) n
+    → (suc n ≤ m → m < least_from f (suc n) ns → member m ns ≡ true) → member m ns ≡ true
 low_by f n m ns true is a l ih = ⊎_elim (λ e. subst (λ v. member v ns ≡ true) e is) (λ d. ih (omega arith) l) (cases_eq n m)
 low_by f n m ns false is a l ih = absurd (omega arith)
 

@@ -30,7 +30,8 @@ module _ {W : Type 0} (same : W → W → Type 0) (w : W) where
   among_here None seen s = absurd s
 
   -- a waker that was told to be the same as one of the listings
-  among_seen : (k : ℕ) (xs : List (Listing W)) (seen : List W) → k < length xs → HoldsAt (λ x. MatchOption x.waker ⊥ (λ v. same v w)) xs k → IsAmong same w (seen_after seen xs)
+  among_seen : (k : ℕ) (xs : List (Listing W)) (seen : List W) → k < length xs
+      → HoldsAt (λ x. MatchOption x.waker ⊥ (λ v. same v w)) xs k → IsAmong same w (seen_after seen xs)
   among_seen k [] seen l s = absurd (omega arith)
   among_seen zero (x ∷ xs) seen l s = among_after xs (wakers_by x.waker seen) (among_here x.waker seen (s x))
   among_seen (suc k) (x ∷ xs) seen l s = among_seen k xs (wakers_by x.waker seen) (omega arith) s
@@ -46,7 +47,8 @@ module _ {W : Type 0} (other : W → W → Type 0) (w : W) where
   other_by None seen o rest = rest
 
   -- a waker that was told to be another than each of the listings
-  other_seen : (xs : List (Listing W)) (seen : List W) → All (λ x. IfSome x.waker (λ v. other v w)) xs → IsOther other w seen → IsOther other w (seen_after seen xs)
+  other_seen : (xs : List (Listing W)) (seen : List W) → All (λ x. IfSome x.waker (λ v. other v w)) xs
+      → IsOther other w seen → IsOther other w (seen_after seen xs)
   other_seen [] seen all rest = rest
   other_seen (x ∷ xs) seen all rest = other_seen xs (wakers_by x.waker seen) (λ k d l. all (suc k) d (omega arith)) (other_by x.waker seen (all 0 x (omega arith)) rest)
 
@@ -58,7 +60,9 @@ module _ {W : Type 0} (same other : W → W → Type 0) where
   hands_nothing (Some w) before found = inl (refl, among_seen same w found.0 before [] found.1 found.2)
   hands_nothing None before found = refl
 
-  pub hands_itself : (o : Option W) (before : List (Listing W)) → IfSome o (λ w. All (λ x. IfSome x.waker (λ v. other v w)) before) → HandsBy same other (seen_after [] before) o o
+  pub hands_itself : (o : Option W) (before : List (Listing W))
+      → IfSome o (λ w. All (λ x. IfSome x.waker (λ v. other v w)) before)
+      → HandsBy same other (seen_after [] before) o o
   hands_itself (Some w) before all = inr (refl, other_seen other w before [] all (λ k d l. absurd (omega arith)))
   hands_itself None before all = refl
 
@@ -118,5 +122,8 @@ module _ {W : Type 0} (same other : W → W → Type 0) where
         within = omega arith;
         same_length = l ∙ n;
         front = take-set ys i z ∙ f;
-        back = hands_more i xs (set ys i z) x (omega arith) (omega arith) (rw (new, s) (ap (λ (v : Listing W). v.ticket) t)) (rw (new, s, ← f) (hands_nothing x.waker (take i ys) found)) (rw (drop-set-lt (suc i) ys i z (omega arith)) h.back);
+        back = hands_more i xs (set ys i z) x (omega arith) (omega arith)
+            (rw (new, s) (ap (λ (v : Listing W). v.ticket) t))
+            (rw (new, s, ← f) (hands_nothing x.waker (take i ys) found))
+            (rw (drop-set-lt (suc i) ys i z (omega arith)) h.back);
       }

@@ -57,7 +57,8 @@ module _ {W : Type 0} where
   pub found_ticket : (n : ℕ) (o : Option W) (xs : List (Listing W)) → find_listing n xs ≡ Some o → member n (tickets xs) ≡ true
   found_ticket n o xs e = sym (find_member n xs) ∙ ap is_some e
 
-  pub found_kept : (n : ℕ) (o : Option (Listing W)) (xs : List (Listing W)) → option_map (λ x. x.waker) o ≡ find_listing n xs → is_some o ≡ is_some (kept_ticket (Some n) xs)
+  pub found_kept : (n : ℕ) (o : Option (Listing W)) (xs : List (Listing W))
+      → option_map (λ x. x.waker) o ≡ find_listing n xs → is_some o ≡ is_some (kept_ticket (Some n) xs)
   found_kept n o xs e = some_by o (find_listing n xs) e ∙ find_member n xs ∙ kept_listed (member n (tickets xs)) n
 
   pub kept_none : (n : ℕ) (xs : List (Listing W)) → find_listing n xs ≡ None → kept_ticket (Some n) xs ≡ None
@@ -87,13 +88,15 @@ module _ {W : Type 0} where
   member_push n x [] = refl
   member_push n x (y ∷ xs) = let ih = member_push n x xs in grind (arith, nat_tests)
 
-  pub once_push : (x : Listing W) (xs : List (Listing W)) → member x.ticket (tickets xs) ≡ false → is_distinct (tickets xs) ≡ true → is_distinct (tickets (xs ++ x ∷ [])) ≡ true
+  pub once_push : (x : Listing W) (xs : List (Listing W)) → member x.ticket (tickets xs) ≡ false
+      → is_distinct (tickets xs) ≡ true → is_distinct (tickets (xs ++ x ∷ [])) ≡ true
   once_push x xs new once = rw (tickets_push x xs) (is_distinct-push x.ticket (tickets xs) new once)
 
   pub member_gone : (n : ℕ) (xs : List (Listing W)) → member n (tickets (take_out n xs)) ≡ false
   member_gone n xs = rw (member_take n n xs, eqb_self n) refl
 
   -- a place that a search found
-  pub placed_by : (n h : ℕ) (xs : List (Listing W)) (o : Option ℕ) → o ≡ position (λ x. x.ticket == n) xs → (n == h) ≡ false → IfSome o (λ i. (i < length xs) × HoldsAt (λ x. x.ticket ≡ n) xs i × ((n == h) ≡ false))
+  pub placed_by : (n h : ℕ) (xs : List (Listing W)) (o : Option ℕ) → o ≡ position (λ x. x.ticket == n) xs
+      → (n == h) ≡ false → IfSome o (λ i. (i < length xs) × HoldsAt (λ x. x.ticket ≡ n) xs i × ((n == h) ≡ false))
   placed_by n h xs (Some i) e d = let p = placed n i xs (sym e) in (p.0, p.1, d)
   placed_by n h xs None e d = tt

@@ -20,7 +20,8 @@ module _ {W : Type 0} where
   none_by (Some w) rest s = absurd (false≢true (sym s))
   none_by None rest s = refl
 
-  call_some : (x : Listing W) (o : Option W) (xs rest : List (Listing W)) → is_some o ≡ true → record { ticket = x.ticket; waker = None } ∷ xs ≡ call_by x o xs rest
+  call_some : (x : Listing W) (o : Option W) (xs rest : List (Listing W)) → is_some o ≡ true
+      → record { ticket = x.ticket; waker = None } ∷ xs ≡ call_by x o xs rest
   call_some x (Some w) xs rest s = refl
   call_some x None xs rest s = absurd (false≢true s)
 
@@ -40,7 +41,8 @@ module _ {W : Type 0} where
   nobody_left xs e = none_left xs (grind (arith, nat_tests))
 
   -- the first that was left
-  one_left : (i : ℕ) (xs : List (Listing W)) (d : Listing W) → i < length xs → has_waker (get_or xs i d) ≡ true → ((k : ℕ) → k < i → has_waker (get_or xs k d) ≡ false)
+  one_left : (i : ℕ) (xs : List (Listing W)) (d : Listing W) → i < length xs → has_waker (get_or xs i d) ≡ true
+      → ((k : ℕ) → k < i → has_waker (get_or xs k d) ≡ false)
       → ((get_or xs i d).waker ≡ first_waker xs) × (set xs i (record { ticket = (get_or xs i d).ticket; waker = None }) ≡ call_first xs)
   one_left i [] d l s before = absurd (omega arith)
   one_left zero (x ∷ xs) d l s before = (sym (some_by x.waker (first_waker xs) s), call_some x x.waker xs (call_first xs) s)
@@ -58,7 +60,8 @@ module _ {W : Type 0} where
   first_within i (x ∷ xs) e = (position-Some has_waker (x ∷ xs) i x e).0
 
   -- a call changes no ticket
-  tickets_by : (x : Listing W) (xs : List (Listing W)) (o : Option W) → tickets (call_first xs) ≡ tickets xs → tickets (call_by x o xs (call_first xs)) ≡ x.ticket ∷ tickets xs
+  tickets_by : (x : Listing W) (xs : List (Listing W)) (o : Option W) → tickets (call_first xs) ≡ tickets xs
+      → tickets (call_by x o xs (call_first xs)) ≡ x.ticket ∷ tickets xs
   tickets_by x xs (Some w) ih = refl
   tickets_by x xs None ih = ap (λ (ns : List ℕ). x.ticket ∷ ns) ih
 

@@ -18,7 +18,8 @@ use Rattle.once_world.proofs.Door.Logged.{log_stands}
 use Rattle.once_world.proofs.Door.Late.{Clean, clean_step, is_late}
 
 -- a queue stands at the door wherever some task waits
-pub waits_stand : (K : Kind) (limit : ℕ) (inputs : List Input) (t : ℕ) → 0 < limit → status K t (history_of K limit inputs) ≡ Waiting → (q : ℕ) × (standing_queue (log_of K limit inputs) ≡ Some q)
+pub waits_stand : (K : Kind) (limit : ℕ) (inputs : List Input) (t : ℕ) → 0 < limit
+    → status K t (history_of K limit inputs) ≡ Waiting → (q : ℕ) × (standing_queue (log_of K limit inputs) ≡ Some q)
 waits_stand K limit inputs t some s =
     let f = world_fits K limit inputs some in
     let d = stands_waiting K limit t (world_of K limit inputs).shared (history_of K limit inputs) ((world_of K limit inputs).tasks t) (f.tasks t) s in
@@ -55,19 +56,24 @@ resting_early (UnderWay p) e = absurd (false≢true e)
 resting_early Finished e = refl
 
 -- a step keeps the door clean
-goes_clean : (K : Kind) (limit : ℕ) (w : World) (t : ℕ) (a : Answer) (g : Bool) (x : Task) → 0 < limit → Fits K limit w → w.tasks t ≡ Some x → IsClean w → (r : Bool) → IsClean (go_world_by r (is_lazy K) limit w t a g x)
+goes_clean : (K : Kind) (limit : ℕ) (w : World) (t : ℕ) (a : Answer) (g : Bool) (x : Task) → 0 < limit
+    → Fits K limit w → w.tasks t ≡ Some x → IsClean w → (r : Bool)
+    → IsClean (go_world_by r (is_lazy K) limit w t a g x)
 goes_clean K limit w t a g x some f found k false = k
 goes_clean K limit w t a g x some f found k true =
     let o : Outcome = advance (is_lazy K) limit w.shared t x a g in
     let y : Task = record x { step = o.step; kept = o.kept } in
     let p : Puts t y w.tasks (put_task t y w.tasks) = puts t y w.tasks in
     let own = task_fits K limit t w x f found in
-    let before : Clean w.shared x.step (OtherLate t w.tasks) = λ r d. ⊎_elim (λ l. inl l) (λ s. ⊎_elim (λ e. inr (inl (sym (ap (λ v. is_late (step_of v)) found) ∙ e))) (λ q. inr (inr q)) (split_late t w.tasks s)) (k r d) in
+    let before : Clean w.shared x.step (OtherLate t w.tasks) = λ r d. ⊎_elim (λ l. inl l)
+    (λ s. ⊎_elim (λ e. inr (inl (sym (ap (λ v. is_late (step_of v)) found) ∙ e))) (λ q. inr (inr q))
+    (split_late t w.tasks s)) (k r d) in
     let later = clean_step K limit t x.waker x.kept w.shared w.history some f.shared (OtherLate t w.tasks) a g x.step (around K limit t x w f found) own.step before in
     λ r d. ⊎_elim (λ l. inl l) (λ s. inr (⊎_elim (λ e. (t, ap (λ v. is_late (step_of v)) p.there ∙ e)) (λ q. other_kept t y w.tasks (put_task t y w.tasks) p q) s)) (later r d)
 
 -- so does a Go
-gone_clean : (K : Kind) (limit : ℕ) (w : World) (t : ℕ) (a : Answer) (g : Bool) → 0 < limit → Fits K limit w → IsClean w → (o : Option Task) → w.tasks t ≡ o → IsClean (go_world (is_lazy K) limit w t a g o)
+gone_clean : (K : Kind) (limit : ℕ) (w : World) (t : ℕ) (a : Answer) (g : Bool) → 0 < limit → Fits K limit w
+    → IsClean w → (o : Option Task) → w.tasks t ≡ o → IsClean (go_world (is_lazy K) limit w t a g o)
 gone_clean K limit w t a g some f k None is = k
 gone_clean K limit w t a g some f k (Some x) is = goes_clean K limit w t a g x some f is k (in_call x.step)
 
@@ -133,13 +139,15 @@ world_clean K limit [] some = λ r d. absurd (none_some d.0 d.1)
 world_clean K limit (i ∷ before) some = after_clean K limit (world_of K limit before) i some (world_fits K limit before some) (world_clean K limit before some)
 
 -- a late task is in a call
-late_acts : (K : Kind) (limit t : ℕ) (c : SharedState) (h : List Entry) (s : Step ℕ ℕ) → AtStep K limit t c h s → is_late s ≡ true → is_under_way (status K t h) ≡ true
+late_acts : (K : Kind) (limit t : ℕ) (c : SharedState) (h : List Entry) (s : Step ℕ ℕ) → AtStep K limit t c h s
+    → is_late s ≡ true → is_under_way (status K t h) ≡ true
 late_acts K limit t c h (UnderWay p) a e = place_acts K limit t c h p a
 late_acts K limit t c h (Resting r) a e = absurd (false≢true e)
 late_acts K limit t c h Finished a e = absurd (false≢true e)
 
 -- so is one of the world
-stands_late : (K : Kind) (limit t : ℕ) (c : SharedState) (h : List Entry) (o : Option Task) → StandsFor K limit t c h o → is_late (step_of o) ≡ true → is_under_way (status K t h) ≡ true
+stands_late : (K : Kind) (limit t : ℕ) (c : SharedState) (h : List Entry) (o : Option Task)
+    → StandsFor K limit t c h o → is_late (step_of o) ≡ true → is_under_way (status K t h) ≡ true
 stands_late K limit t c h None a e = absurd (false≢true e)
 stands_late K limit t c h (Some x) a e = late_acts K limit t c h x.step a.step e
 

@@ -65,7 +65,8 @@ module _ (K : Kind) (limit t w : ℕ) (k : Answer) (c : SharedState) (h : List E
   clean_start false true n = clean_same c (UnderWay AtStart) (UnderWay AtTryQuick) Other refl n
   clean_start false false n = clean_same c (UnderWay AtStart) (UnderWay AtDoorGet) Other refl n
 
-  clean_quick : (won : Bool) → is_zero (word_of c) ≡ won → Clean c (UnderWay AtTryQuick) Other → Clean (quick_step won c t k).shared (quick_step won c t k).step Other
+  clean_quick : (won : Bool) → is_zero (word_of c) ≡ won → Clean c (UnderWay AtTryQuick) Other
+      → Clean (quick_step won c t k).shared (quick_step won c t k).step Other
   clean_quick true z n = clean_held (record c { quick = true }) (UnderWay (AtRun None)) Other (zero_unset c z)
   clean_quick false z n = clean_same c (UnderWay AtTryQuick) (UnderWay AtDoorGet) Other refl n
 
@@ -84,16 +85,19 @@ module _ (K : Kind) (limit t w : ℕ) (k : Answer) (c : SharedState) (h : List E
   clean_in false true q b r = clean_counted c Finished Other (let l = ltb-false c.count limit b in omega arith)
   clean_in false false q b r = clean_held c Finished Other r
 
-  clean_load : (r : Bool) (q : ℕ) (m : Option ℕ) → Clean c (UnderWay (AtWaitLoad q m)) Other → Clean (load_step r c t k q m).shared (load_step r c t k q m).step Other
+  clean_load : (r : Bool) (q : ℕ) (m : Option ℕ) → Clean c (UnderWay (AtWaitLoad q m)) Other
+      → Clean (load_step r c t k q m).shared (load_step r c t k q m).step Other
   clean_load true q m n = clean_same c (UnderWay (AtWaitLoad q m)) (UnderWay (AtCountOut EndValue)) Other refl n
   clean_load false q m n = clean_same c (UnderWay (AtWaitLoad q m)) (UnderWay (AtLook q m)) Other refl n
 
   -- a call that is refused memory leaves
-  clean_refused : (p : Place ℕ ℕ) (q : ℕ) (m : Option ℕ) → is_late_at p ≡ false → Clean c (UnderWay p) Other → Clean c (UnderWay (leave_place q m EndMemory)) Other
+  clean_refused : (p : Place ℕ ℕ) (q : ℕ) (m : Option ℕ) → is_late_at p ≡ false → Clean c (UnderWay p) Other
+      → Clean c (UnderWay (leave_place q m EndMemory)) Other
   clean_refused p q None l n = clean_same c (UnderWay p) (UnderWay (AtCountOut EndMemory)) Other l n
   clean_refused p q (Some m) l n = clean_same c (UnderWay p) (UnderWay (AtLeave q m EndMemory)) Other l n
 
-  clean_look : (d r f b g : Bool) (q : ℕ) (m : Option ℕ) → c.ready ≡ r → Clean c (UnderWay (AtLook q m)) Other → Clean (look_step (queue_state_by d r f) b g c t w k q m).shared (look_step (queue_state_by d r f) b g c t w k q m).step Other
+  clean_look : (d r f b g : Bool) (q : ℕ) (m : Option ℕ) → c.ready ≡ r → Clean c (UnderWay (AtLook q m)) Other
+      → Clean (look_step (queue_state_by d r f) b g c t w k q m).shared (look_step (queue_state_by d r f) b g c t w k q m).step Other
   clean_look true true f b g q m x n = clean_same c (UnderWay (AtLook q m)) (UnderWay (AtCountOut EndValue)) Other refl n
   clean_look true false false b g q m x n = clean_held (claim_shared c m) (UnderWay (AtRun (Some q))) Other x
   clean_look true false true true g q m x n = clean_same c (UnderWay (AtLook q m)) (Resting (RestWait q m)) Other refl n
@@ -102,7 +106,8 @@ module _ (K : Kind) (limit t w : ℕ) (k : Answer) (c : SharedState) (h : List E
   clean_look false r f b true q m x n = clean_same c (UnderWay (AtLook q m)) (UnderWay (AtList q m w)) Other refl n
   clean_look false r f b false q m x n = clean_refused (AtLook q m) q m refl n
 
-  clean_list : (d r f g : Bool) (q v : ℕ) (m : Option ℕ) → c.ready ≡ r → Clean c (UnderWay (AtList q m v)) Other → Clean (list_step (queue_state_by d r f) g c t v k q m).shared (list_step (queue_state_by d r f) g c t v k q m).step Other
+  clean_list : (d r f g : Bool) (q v : ℕ) (m : Option ℕ) → c.ready ≡ r → Clean c (UnderWay (AtList q m v)) Other
+      → Clean (list_step (queue_state_by d r f) g c t v k q m).shared (list_step (queue_state_by d r f) g c t v k q m).step Other
   clean_list false r f g q v m x n = clean_same c (UnderWay (AtList q m v)) (Resting (RestWait q m)) Other refl n
   clean_list true true f g q v m x n = clean_same c (UnderWay (AtList q m v)) (UnderWay (AtCountOut EndValue)) Other refl n
   clean_list true false false g q v m x n = clean_held (claim_shared c m) (UnderWay (AtRun (Some q))) Other x
@@ -136,7 +141,8 @@ module _ (K : Kind) (limit t w : ℕ) (k : Answer) (c : SharedState) (h : List E
   clean_leave false m e l = clean_counted c (UnderWay (AtCountOut e)) Other l
 
   -- a counting out that leaves exactly the ready bit leaves the queue to the one who takes it
-  clean_out : (x : Bool) (e : Ending) → is_ready_bit (word_of (out_shared c)) ≡ x → Clean (out_step x (out_shared c) t k e).shared (out_step x (out_shared c) t k e).step Other
+  clean_out : (x : Bool) (e : Ending) → is_ready_bit (word_of (out_shared c)) ≡ x
+      → Clean (out_step x (out_shared c) t k e).shared (out_step x (out_shared c) t k e).step Other
   clean_out true e x = clean_late (out_shared c) (UnderWay (AtDoorTake e)) Other refl
   clean_out false e x = λ r d. inl (out_count c (left_false c.quick c.head (sym (set_free (cell K h) (sym shared.ready_is ∙ r)) ∙ shared.held_is)) r x)
 
@@ -148,7 +154,9 @@ module _ (K : Kind) (limit t w : ℕ) (k : Answer) (c : SharedState) (h : List E
   unset_by a = shared.ready_is ∙ holder_unset t (cell K h) a
 
   -- one place after the other
-  clean_at : (a : Answer) (g : Bool) (p : Place ℕ ℕ) → Around K t (is_counted_at p) (is_take_at p) c h → AtPlace K limit t c h p → Clean c (UnderWay p) Other → Clean (place_step (is_lazy K) limit c t w k a g p).shared (place_step (is_lazy K) limit c t w k a g p).step Other
+  clean_at : (a : Answer) (g : Bool) (p : Place ℕ ℕ) → Around K t (is_counted_at p) (is_take_at p) c h
+      → AtPlace K limit t c h p → Clean c (UnderWay p) Other
+      → Clean (place_step (is_lazy K) limit c t w k a g p).shared (place_step (is_lazy K) limit c t w k a g p).step Other
   clean_at a g AtStart ar at n = clean_start c.ready (is_zero (word_of c)) n
   clean_at a g AtTryQuick ar at n = clean_quick (is_zero (word_of c)) refl n
   clean_at a g AtDoorGet ar at n = clean_get c.door n
@@ -168,7 +176,9 @@ module _ (K : Kind) (limit t w : ℕ) (k : Answer) (c : SharedState) (h : List E
   clean_at a g (AtDoorTake e) ar at n = clean_take e
 
   -- every step of a task whose call is under way
-  pub clean_step : (a : Answer) (g : Bool) (s : Step ℕ ℕ) → Around K t (is_counted s) (is_take s) c h → AtStep K limit t c h s → Clean c s Other → Clean (step_at (is_lazy K) limit c t w k a g s).shared (step_at (is_lazy K) limit c t w k a g s).step Other
+  pub clean_step : (a : Answer) (g : Bool) (s : Step ℕ ℕ) → Around K t (is_counted s) (is_take s) c h
+      → AtStep K limit t c h s → Clean c s Other
+      → Clean (step_at (is_lazy K) limit c t w k a g s).shared (step_at (is_lazy K) limit c t w k a g s).step Other
   clean_step a g (UnderWay p) ar at n = clean_at a g p ar at n
   clean_step a g (Resting r) ar at n = n
   clean_step a g Finished ar at n = n

@@ -30,17 +30,22 @@ dropped_log w t None f = f
 dropped_log w t (Some x) f = drop_log w t x (is_resting x.step) f
 
 -- a step
-goes_log : (K : Kind) (limit : ℕ) (w : World) (t : ℕ) (a : Answer) (g : Bool) (x : Task) → Fits K limit w → w.tasks t ≡ Some x → LogFits w.shared w.log → (r : Bool) → LogFits (go_world_by r (is_lazy K) limit w t a g x).shared (go_world_by r (is_lazy K) limit w t a g x).log
+goes_log : (K : Kind) (limit : ℕ) (w : World) (t : ℕ) (a : Answer) (g : Bool) (x : Task) → Fits K limit w
+    → w.tasks t ≡ Some x → LogFits w.shared w.log → (r : Bool)
+    → LogFits (go_world_by r (is_lazy K) limit w t a g x).shared (go_world_by r (is_lazy K) limit w t a g x).log
 goes_log K limit w t a g x f found l false = l
 goes_log K limit w t a g x f found l true = let own = task_fits K limit t w x f found in log_step K limit w.shared t x.waker x.kept a g w.history w.log l x.step own.step
 
 -- a Go
-gone_log : (K : Kind) (limit : ℕ) (w : World) (t : ℕ) (a : Answer) (g : Bool) → Fits K limit w → LogFits w.shared w.log → (o : Option Task) → w.tasks t ≡ o → LogFits (go_world (is_lazy K) limit w t a g o).shared (go_world (is_lazy K) limit w t a g o).log
+gone_log : (K : Kind) (limit : ℕ) (w : World) (t : ℕ) (a : Answer) (g : Bool) → Fits K limit w
+    → LogFits w.shared w.log → (o : Option Task) → w.tasks t ≡ o
+    → LogFits (go_world (is_lazy K) limit w t a g o).shared (go_world (is_lazy K) limit w t a g o).log
 gone_log K limit w t a g f l None is = l
 gone_log K limit w t a g f l (Some x) is = goes_log K limit w t a g x f is l (in_call x.step)
 
 -- the owner takes the queue out
-reset_log : (c : SharedState) (v : Option ℕ) (l : List (Option ℕ)) (log : List QueueLine) → LogFits c log → LogFits (reset_shared c v l) (take_lines c.door ++ log)
+reset_log : (c : SharedState) (v : Option ℕ) (l : List (Option ℕ)) (log : List QueueLine) → LogFits c log
+    → LogFits (reset_shared c v l) (take_lines c.door ++ log)
 reset_log c v l log f = let k = log_take c c.door log refl f in record { door_is = k.door_is; sound = k.sound; fresh = k.fresh }
 
 -- a writing logs nothing
@@ -63,7 +68,8 @@ owned_log w o true false f = f
 owned_log w o false b f = f
 
 -- each input
-after_log : (K : Kind) (limit : ℕ) (w : World) (i : Input) → Fits K limit w → LogFits w.shared w.log → LogFits (world_after K limit w i).shared (world_after K limit w i).log
+after_log : (K : Kind) (limit : ℕ) (w : World) (i : Input) → Fits K limit w → LogFits w.shared w.log
+    → LogFits (world_after K limit w i).shared (world_after K limit w i).log
 after_log K limit w (Make t) f l = made_log w t (w.tasks t) l
 after_log K limit w (Poll t k) f l = polled_log w t k (w.tasks t) l
 after_log K limit w (Drop t) f l = dropped_log w t (w.tasks t) l

@@ -33,7 +33,8 @@ log_entered : (c c' : SharedState) (q : ℕ) (log : List QueueLine) → c.door �
 log_entered c c' q log d s f = record { door_is = f.door_is ∙ sym s.door_is; sound = (f.door_is ∙ d, f.sound); fresh = λ q l. f.fresh q (rw (← s.queues_is) l) }
 
 -- a new queue is put where none stands
-log_put : (c : SharedState) (t : ℕ) (k : Answer) (g : Bool) (d : Option ℕ) (log : List QueueLine) → c.door ≡ d → LogFits c log → LogFits (put_step g d c t k).shared (put_lines g d c.queues ++ log)
+log_put : (c : SharedState) (t : ℕ) (k : Answer) (g : Bool) (d : Option ℕ) (log : List QueueLine) → c.door ≡ d
+    → LogFits c log → LogFits (put_step g d c t k).shared (put_lines g d c.queues ++ log)
 log_put c t k false d log e f = f
 log_put c t k true (Some q) log e f = f
 log_put c t k true None log e f = record {
@@ -112,7 +113,9 @@ module _ (K : Kind) (limit : ℕ) (c : SharedState) (t w : ℕ) (k a : Answer) (
   log_at (AtCountIn q) at = log_same c (place_step (is_lazy K) limit c t w k a g (AtCountIn q)).shared log (same_in (nat_lt c.count limit) c.ready c t k q) f
   log_at (AtWaitLoad q n) at = f
   log_at (AtLook q n) at = log_entered c (place_step (is_lazy K) limit c t w k a g (AtLook q n)).shared q log at.1 (same_look (queue_state q c) (is_waker w (own_listing n c.listings)) g c t w k q n) f
-  log_at (AtList q n v) at = log_entered c (place_step (is_lazy K) limit c t w k a g (AtList q n v)).shared q log at.1 (same_list (queue_state q c) (is_some (kept_ticket n c.listings) || g) c t v k q n) f
+  log_at (AtList q n v) at =
+      log_entered c (place_step (is_lazy K) limit c t w k a g (AtList q n v)).shared q log at.1
+      (same_list (queue_state q c) (is_some (kept_ticket n c.listings) || g) c t v k q n) f
   log_at (AtRun by) at = log_same c (place_step (is_lazy K) limit c t w k a g (AtRun by)).shared log (same_run (init_answer (is_lazy K) c.answers a) c t k by) f
   log_at (AtPut by) at = record { door_is = f.door_is; sound = f.sound; fresh = f.fresh }
   log_at (AtFast e) at = log_same c (place_step (is_lazy K) limit c t w k a g (AtFast e)).shared log (same_fast (is_quick_bit (word_of c)) (is_value e) c t k e) f

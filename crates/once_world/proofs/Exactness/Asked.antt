@@ -20,7 +20,8 @@ one_flag c (inl f) = f.head_is ∙ sym (ap not f.quick_is)
 one_flag c (inr f) = f.head_is ∙ sym (ap not f.quick_is)
 
 -- one place after the other
-asked_at : (K : Kind) (limit t : ℕ) (c : SharedState) (h : List Entry) (p : Place ℕ ℕ) → SharedFits K limit c h → (is_counted_at p ≡ true → 0 < c.count) → AtPlace K limit t c h p → CanStep limit c p
+asked_at : (K : Kind) (limit t : ℕ) (c : SharedState) (h : List Entry) (p : Place ℕ ℕ) → SharedFits K limit c h
+    → (is_counted_at p ≡ true → 0 < c.count) → AtPlace K limit t c h p → CanStep limit c p
 asked_at K limit t c h (AtAddOne e) f n a = a.2
 asked_at K limit t c h (AtCountOut e) f n a = n refl
 asked_at K limit t c h (AtRelease q e) f n a = λ _. (f.ready_is ∙ holder_unset t (cell K h) (releasing_holds K t c h e a.0), one_flag c a.1)
@@ -40,7 +41,8 @@ asked_at K limit t c h (AtDoorAgain e) f n a = tt
 asked_at K limit t c h (AtDoorTake e) f n a = tt
 
 -- what the next step of a task with a call under way asks
-pub asked : (K : Kind) (limit t : ℕ) (w : World) (x : Task) (p : Place ℕ ℕ) → Fits K limit w → w.tasks t ≡ Some x → x.step ≡ UnderWay p → CanStep limit w.shared p
+pub asked : (K : Kind) (limit t : ℕ) (w : World) (x : Task) (p : Place ℕ ℕ) → Fits K limit w → w.tasks t ≡ Some x
+    → x.step ≡ UnderWay p → CanStep limit w.shared p
 asked K limit t w x p f found at =
     let own = task_fits K limit t w x f found in
     let stands : AtPlace K limit t w.shared w.history p = subst (λ s. AtStep K limit t w.shared w.history s) at own.step in

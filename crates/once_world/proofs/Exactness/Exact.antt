@@ -35,7 +35,8 @@ module _ {P : Type 0} (see : P → CoreState ℕ) where
   abbrev side_tells : SideTells ReplaySide ℕ
   side_tells = record { run = DidRun; close = DidClose; put = DidPut; copy = DidCopy; wake = DidWake }
 
-  line_exact : (limit : ℕ) (at : Place ℕ ℕ) (x y : P) (c c' : ReplaySide) (p : Progress) (t : Step ℕ ℕ) → IsFresh c → IsBare (see x) → (see x).current ≡ Some c.waker → (see x).granted ≡ c.granted
+  line_exact : (limit : ℕ) (at : Place ℕ ℕ) (x y : P) (c c' : ReplaySide) (p : Progress) (t : Step ℕ ℕ) → IsFresh c
+      → IsBare (see x) → (see x).current ≡ Some c.waker → (see x).granted ≡ c.granted
       → Line parts_tell side_tells limit at x c p t y c'
       → IsOutcome (UnderWay at) (λ n. place_step c.lazy limit (shared_by (see x) c) n c.waker c.kept c.answer c.granted at) (place_lines c.granted (shared_by (see x) c) at) (see x) c (see y) c' p t
   line_exact limit AtStart x y c c' p t f bare w g (b, d, z) =
@@ -47,15 +48,21 @@ module _ {P : Type 0} (see : P → CoreState ℕ) where
       let next = subst (λ o. Follows DidClose (after_door_put o) c c' p t) (d.0 ∙ ap (λ b. put_answer b (see x).door (see x).made) g) z in
       door_put_exact c f (see x) c' p t (see y) c.granted (see x).door (d.1 ∙ ap (λ b. put_state b (see x).door (see x)) g) next
   line_exact limit (AtCountIn q) x y c c' p t f bare w g (n, d, z) = in_exact c f (see x) c' p t (see y) limit q n d z
-  line_exact limit (AtWaitLoad q k) x y c c' p t f bare w g (b, d, z) = load_exact c f (see x) c' p t (see y) (see x).word.ready q k d.1 (subst (λ l. Follows DidClose (after_load l.ready q k) c c' p t) d.0 z)
+  line_exact limit (AtWaitLoad q k) x y c c' p t f bare w g (b, d, z) =
+      load_exact c f (see x) c' p t (see y) (see x).word.ready q k d.1
+      (subst (λ l. Follows DidClose (after_load l.ready q k) c c' p t) d.0 z)
   line_exact limit (AtLook q k) x y c c' p t f bare w g (a, o, d, z) = look_exact c f (see x) c' p t q k a o (see y) w d z
   line_exact limit (AtList q k v) x y c c' p t f bare w g (a, o, d, z) =
-      subst (λ b. IsOutcome (UnderWay (AtList q k v)) (λ n. list_step (queue_state q (shared_by (see x) c)) (is_some (kept_ticket k (see x).listings) || b) (shared_by (see x) c) n v c.kept q k) (EnteredLine q ∷ []) (see x) c (see y) c' p t)
+      subst (λ b. IsOutcome (UnderWay (AtList q k v)) (λ n. list_step (queue_state q (shared_by (see x) c))
+      (is_some (kept_ticket k (see x).listings) || b) (shared_by (see x) c) n v c.kept q k) (EnteredLine q ∷ [])
+      (see x) c (see y) c' p t)
       g (list_exact c f (see x) c' p t q k a o (see y) v d z)
   line_exact limit (AtRun by) x y c c' p t f bare w g (a, m, d, same, z) = run_exact c f (see x) c' p t (init_answer c.lazy (answers_in c) c.answer) by (see y) (ap see same) a m refl d z
   line_exact limit (AtPut by) x y c c' p t f bare w g (d, same, more, step) = put_exact c f (see x) c' p t by (see y) (ap see same) d more step
   line_exact limit (AtFast e) x y c c' p t f bare w g (b, d, z) =
-      subst (λ won. IsOutcome (UnderWay (AtFast e)) (λ n. fast_step won (is_value e) (shared_by (see x) c) n c.kept e) [] (see x) c (see y) c' p t) d.0 (fast_exact c f (see x) c' p t e b (is_value e) (sym d.0) (see y) d.1 z)
+      subst (λ won. IsOutcome (UnderWay (AtFast e)) (λ n. fast_step won (is_value e)
+      (shared_by (see x) c) n c.kept e) [] (see x) c (see y) c' p t) d.0
+      (fast_exact c f (see x) c' p t e b (is_value e) (sym d.0) (see y) d.1 z)
   line_exact limit (AtAddOne e) x y c c' p t f bare w g (d, z) = add_exact c f (see x) c' p t e (see y) d z
   line_exact limit (AtDoorAgain e) x y c c' p t f bare w g (q, d, z) = again_exact c f (see x) c' p t e (see x).door (see y) d.1 (subst (λ o. Follows DidClose (after_door_again o e) c c' p t) d.0 z)
   line_exact limit (AtRelease q e) x y c c' p t f bare w g (a, o, d, wake, more, step) = release_exact c f (see x) c' p t q e o (see y) more step a d wake
@@ -65,7 +72,8 @@ module _ {P : Type 0} (see : P → CoreState ℕ) where
       out_exact c f (see x) c' p t e (is_ready_bit (word_of (out_shared (shared_by (see x) c)))) (see y) d.1 (subst (λ l. Follows DidClose (after_count_out l e) c c' p t) last z)
   line_exact limit (AtDoorTake e) x y c c' p t f bare w g (b, d, z) = take_exact c f (see x) c' p t e (see y) bare d.1 z
 
-  pub advance_exact : (limit : ℕ) (at : Step ℕ ℕ) (x y : P) (c c' : ReplaySide) (p : Progress) (t : Step ℕ ℕ) → IsFresh c → IsBare (see x) → (see x).current ≡ Some c.waker → (see x).granted ≡ c.granted
+  pub advance_exact : (limit : ℕ) (at : Step ℕ ℕ) (x y : P) (c c' : ReplaySide) (p : Progress) (t : Step ℕ ℕ)
+      → IsFresh c → IsBare (see x) → (see x).current ≡ Some c.waker → (see x).granted ≡ c.granted
       → Advances parts_tell side_tells limit at x c p t y c'
       → IsOutcome at (λ n. step_at c.lazy limit (shared_by (see x) c) n c.waker c.kept c.answer c.granted at) (step_lines c.granted (shared_by (see x) c) at) (see x) c (see y) c' p t
   advance_exact limit (UnderWay at) x y c c' p t f bare w g d = line_exact limit at x y c c' p t f bare w g d

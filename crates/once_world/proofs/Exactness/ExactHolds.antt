@@ -55,13 +55,15 @@ out_idle true e n = refl
 out_idle false e n = refl
 
 -- the fast release is seen where it was done
-fast_seen : (e : Ending) (won fills : Bool) (n : ℕ) (k : Answer) → freed_entries (is_freed (UnderWay (AtFast e)) (after_fast won fills e).step) n k ++ claim_entries (is_running (after_fast {W = ℕ} {Q = ℕ} won fills e).step) n ≡ freed_entries won n k
+fast_seen : (e : Ending) (won fills : Bool) (n : ℕ) (k : Answer)
+    → freed_entries (is_freed (UnderWay (AtFast e)) (after_fast won fills e).step) n k ++ claim_entries (is_running (after_fast {W = ℕ} {Q = ℕ} won fills e).step) n ≡ freed_entries won n k
 fast_seen e true true n k = refl
 fast_seen e true false n k = refl
 fast_seen e false fills n k = refl
 
 module _ (c : ReplaySide) (f : IsFresh c) (s : CoreState ℕ) (c' : ReplaySide) (p : Progress) (t : Step ℕ ℕ) where
-  pub run_exact : (x : Answer) (by : Option ℕ) (s' : CoreState ℕ) → s' ≡ s → (a : Polled) (m : ReplaySide) → next_of c ≡ x → DidRun c a m → Follows DidClose (after_run a by) m c' p t
+  pub run_exact : (x : Answer) (by : Option ℕ) (s' : CoreState ℕ) → s' ≡ s → (a : Polled) (m : ReplaySide)
+      → next_of c ≡ x → DidRun c a m → Follows DidClose (after_run a by) m c' p t
       → IsOutcome (UnderWay (AtRun by)) (λ n. run_step x (run_shared (shared_by s c)) n c.kept by) [] s c s' c' p t
   run_exact x by s' same a m is d z =
       let y = subst (λ a. Follows DidClose (after_run a by) m c' p t) (d.polled ∙ ap polled_of is) z in
@@ -70,7 +72,9 @@ module _ (c : ReplaySide) (f : IsFresh c) (s : CoreState ℕ) (c' : ReplaySide) 
         shared = λ n. rw (same, r.value, r.answers) refl;
         step = λ n. y.2;
         kept = λ n. r.kept;
-        told = λ n. rw (y.1, y.2, r.value, r.kept, r.handed, r.ran) (ran_by (after_run {W = ℕ} (polled_of x) by).progress n c.value (kept_after x c.kept) x (claim_entries (is_running (after_run {W = ℕ} (polled_of x) by).step) n) (run_idle x by n));
+        told = λ n. rw (y.1, y.2, r.value, r.kept, r.handed, r.ran)
+            (ran_by (after_run {W = ℕ} (polled_of x) by).progress n c.value (kept_after x c.kept) x
+            (claim_entries (is_running (after_run {W = ℕ} (polled_of x) by).step) n) (run_idle x by n));
         log = ap (λ y. reverse y.log) same;
         lazy_is = r.lazy;
       }
@@ -94,31 +98,48 @@ module _ (c : ReplaySide) (f : IsFresh c) (s : CoreState ℕ) (c' : ReplaySide) 
   quick_unset z = grind (arith, nat_tests)
 
   fast_left_by : s.word.count ≡ 0 → (r : Bool) (s' : CoreState ℕ) → s' ≡ record s { word = flags_alone false r } → shared_by s' c ≡ record (shared_by s c) { quick = false; ready = r }
-  fast_left_by e r s' same = ap (λ y. shared_by y c) same ∙ (λ i. record { count = sym e i; quick = false; ready = r; door = s.door; head = s.head; listings = s.listings; queues = s.made; value = c.value; answers = answers_in c })
+  fast_left_by e r s' same = ap (λ y. shared_by y c) same
+      ∙ (λ i. record { count = sym e i; quick = false; ready = r; door = s.door; head = s.head; listings = s.listings; queues = s.made; value = c.value; answers = answers_in c })
 
   same_ready : s.word.ready ≡ false → record (shared_by s c) { quick = false; ready = false } ≡ record (shared_by s c) { quick = false }
   same_ready r = λ i. record { count = s.word.count; quick = false; ready = sym r i; door = s.door; head = s.head; listings = s.listings; queues = s.made; value = c.value; answers = answers_in c }
 
-  fast_left : (won fills : Bool) → is_quick_bit s.word ≡ won → (s' : CoreState ℕ) → s' ≡ record s { word = cond won (flags_alone false fills) s.word } → shared_by s' c ≡ fast_shared won fills (shared_by s c)
+  fast_left : (won fills : Bool) → is_quick_bit s.word ≡ won → (s' : CoreState ℕ)
+      → s' ≡ record s { word = cond won (flags_alone false fills) s.word }
+      → shared_by s' c ≡ fast_shared won fills (shared_by s c)
   fast_left true true z s' same = fast_left_by (quick_count z) true s' same
   fast_left true false z s' same = fast_left_by (quick_count z) false s' same ∙ same_ready (quick_unset z)
   fast_left false fills z s' same = ap (λ y. shared_by y c) same
 
-  pub fast_exact : (e : Ending) (won fills : Bool) → is_quick_bit s.word ≡ won → (s' : CoreState ℕ) → s' ≡ record s { word = cond won (flags_alone false fills) s.word } → Follows DidClose (after_fast won fills e) c c' p t
+  pub fast_exact : (e : Ending) (won fills : Bool) → is_quick_bit s.word ≡ won → (s' : CoreState ℕ)
+      → s' ≡ record s { word = cond won (flags_alone false fills) s.word }
+      → Follows DidClose (after_fast won fills e) c c' p t
       → IsOutcome (UnderWay (AtFast e)) (λ n. fast_step won fills (shared_by s c) n c.kept e) [] s c s' c' p t
-  fast_exact e won fills z s' same x = follows_by (UnderWay (AtFast e)) s c f s' c' p t [] (fast_shared won fills (shared_by s c)) (λ n. freed_entries won n c.kept) (after_fast won fills e) (ap (λ y. reverse y.log) same) (fast_left won fills z s' same) x (λ n. fast_seen e won fills n c.kept)
+  fast_exact e won fills z s' same x =
+      follows_by (UnderWay (AtFast e)) s c f s' c' p t [] (fast_shared won fills (shared_by s c))
+      (λ n. freed_entries won n c.kept) (after_fast won fills e) (ap (λ y. reverse y.log) same)
+      (fast_left won fills z s' same) x (λ n. fast_seen e won fills n c.kept)
 
   pub add_exact : (e : Ending) (s' : CoreState ℕ) → DidAddOne s s' → Follows DidClose (next_at (AtDoorAgain e)) c c' p t
       → IsOutcome (UnderWay (AtAddOne e)) (λ n. outcome_of (record (shared_by s c) { count = suc s.word.count }) n c.kept [] (next_at (AtDoorAgain e))) [] s c s' c' p t
-  add_exact e s' same x = follows_by (UnderWay (AtAddOne e)) s c f s' c' p t [] (record (shared_by s c) { count = suc s.word.count }) (λ n. []) (next_at (AtDoorAgain e)) (ap (λ y. reverse y.log) same) (ap (λ y. shared_by y c) same) x (λ n. refl)
+  add_exact e s' same x =
+      follows_by (UnderWay (AtAddOne e)) s c f s' c' p t [] (record (shared_by s c) { count = suc s.word.count })
+      (λ n. []) (next_at (AtDoorAgain e)) (ap (λ y. reverse y.log) same) (ap (λ y. shared_by y c) same) x
+      (λ n. refl)
 
   pub again_exact : (e : Ending) (q : Option ℕ) (s' : CoreState ℕ) → s' ≡ s → Follows DidClose (after_door_again q e) c c' p t
       → IsOutcome (UnderWay (AtDoorAgain e)) (λ n. again_step q (shared_by s c) n c.kept e) [] s c s' c' p t
-  again_exact e q s' same x = follows_by (UnderWay (AtDoorAgain e)) s c f s' c' p t [] (shared_by s c) (λ n. []) (after_door_again q e) (ap (λ y. reverse y.log) same) (ap (λ y. shared_by y c) same) x (again_idle q e)
+  again_exact e q s' same x =
+      follows_by (UnderWay (AtDoorAgain e)) s c f s' c' p t [] (shared_by s c) (λ n. []) (after_door_again q e)
+      (ap (λ y. reverse y.log) same) (ap (λ y. shared_by y c) same) x (again_idle q e)
 
-  pub out_exact : (e : Ending) (last : Bool) (s' : CoreState ℕ) → s' ≡ record s { word = record s.word { count = s.word.count - 1 } } → Follows DidClose (after_count_out last e) c c' p t
+  pub out_exact : (e : Ending) (last : Bool) (s' : CoreState ℕ)
+      → s' ≡ record s { word = record s.word { count = s.word.count - 1 } }
+      → Follows DidClose (after_count_out last e) c c' p t
       → IsOutcome (UnderWay (AtCountOut e)) (λ n. out_step last (out_shared (shared_by s c)) n c.kept e) [] s c s' c' p t
-  out_exact e last s' same x = follows_by (UnderWay (AtCountOut e)) s c f s' c' p t [] (out_shared (shared_by s c)) (λ n. []) (after_count_out last e) (ap (λ y. reverse y.log) same) (ap (λ y. shared_by y c) same) x (out_idle last e)
+  out_exact e last s' same x =
+      follows_by (UnderWay (AtCountOut e)) s c f s' c' p t [] (out_shared (shared_by s c)) (λ n. [])
+      (after_count_out last e) (ap (λ y. reverse y.log) same) (ap (λ y. shared_by y c) same) x (out_idle last e)
 
   -- the queue at the door is taken out, and where none stands nothing is left to clear
   take_left : (d : Option ℕ) (s' : CoreState ℕ) → s.door ≡ d → IsBare s → s' ≡ take_by d s → shared_by s' c ≡ take_shared (shared_by s c)
@@ -134,4 +155,6 @@ module _ (c : ReplaySide) (f : IsFresh c) (s : CoreState ℕ) (c' : ReplaySide) 
 
   pub take_exact : (e : Ending) (s' : CoreState ℕ) → IsBare s → s' ≡ take_state s → Follows DidClose (next_end e) c c' p t
       → IsOutcome (UnderWay (AtDoorTake e)) (λ n. outcome_of (take_shared (shared_by s c)) n c.kept [] (next_end e)) (take_lines s.door) s c s' c' p t
-  take_exact e s' bare same x = follows_by (UnderWay (AtDoorTake e)) s c f s' c' p t (take_lines s.door) (take_shared (shared_by s c)) (λ n. []) (next_end e) (taken_log s.door s' same) (take_left s.door s' refl bare same) x (λ n. refl)
+  take_exact e s' bare same x =
+      follows_by (UnderWay (AtDoorTake e)) s c f s' c' p t (take_lines s.door) (take_shared (shared_by s c))
+      (λ n. []) (next_end e) (taken_log s.door s' same) (take_left s.door s' refl bare same) x (λ n. refl)

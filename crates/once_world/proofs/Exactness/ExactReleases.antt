@@ -20,24 +20,30 @@ use Rattle.once_world.proofs.Exactness.Outcomes.{IsFresh, IsOutcome, follows_by,
 use Rattle.once_world.proofs.Exactness.ExactSections.{NumberSection, at_door, entered, entered_log, not_at_door}
 
 -- what a release leaves, by the flag that stood
-released_shared : (c : ReplaySide) (s : CoreState ℕ) (k r : Bool) (xs : List (Listing ℕ)) → s.word.quick ≡ k → shared_by (release_state r xs s) c ≡ record (release_flags k r (shared_by s c)) { listings = xs }
+released_shared : (c : ReplaySide) (s : CoreState ℕ) (k r : Bool) (xs : List (Listing ℕ)) → s.word.quick ≡ k
+    → shared_by (release_state r xs s) c ≡ record (release_flags k r (shared_by s c)) { listings = xs }
 released_shared c s true r xs e = λ i. record { count = s.word.count; quick = false; ready = r; door = s.door; head = cond (e i) s.head false; listings = xs; queues = s.made; value = c.value; answers = answers_in c }
 released_shared c s false r xs e = λ i. record { count = s.word.count; quick = sym e i; ready = r; door = s.door; head = cond (e i) s.head false; listings = xs; queues = s.made; value = c.value; answers = answers_in c }
 
 -- one who leaves passes its turn on to one waker at most
-pass_seen : (q k : ℕ) (e : Ending) (c : ReplaySide) (n : ℕ) (w : Option ℕ) → seen_entries (UnderWay (AtLeave q k e)) n (record c { ran = None; handed = Some (One w) }) More (UnderWay (AtCountOut e)) ≡ pass_entries n (one_out w)
+pass_seen : (q k : ℕ) (e : Ending) (c : ReplaySide) (n : ℕ) (w : Option ℕ)
+    → seen_entries (UnderWay (AtLeave q k e)) n (record c { ran = None; handed = Some (One w) }) More (UnderWay (AtCountOut e)) ≡ pass_entries n (one_out w)
 pass_seen q k e c n (Some w) = refl
 pass_seen q k e c n None = refl
 
-module _ (c : ReplaySide) (f : IsFresh c) (s : CoreState ℕ) (c' : ReplaySide) (p : Progress) (t : Step ℕ ℕ) (q : ℕ) (e : Ending) (o : Op ℕ) (s' : CoreState ℕ) (more : p ≡ More) (step : t ≡ UnderWay (AtCountOut e)) where
+module _ (c : ReplaySide) (f : IsFresh c) (s : CoreState ℕ) (c' : ReplaySide) (p : Progress) (t : Step ℕ ℕ) (q : ℕ)
+    (e : Ending) (o : Op ℕ) (s' : CoreState ℕ) (more : p ≡ More) (step : t ≡ UnderWay (AtCountOut e)) where
   -- a release of the queue at the door
-  release_here : (out : Out ℕ) → Releases (λ x y. x ≡ y) (λ x y. x ≢ y) (is_value e) s.listings out s'.listings → s' ≡ release_state (is_value e) s'.listings (entered q s) → DidWake c out c'
+  release_here : (out : Out ℕ) → Releases (λ x y. x ≡ y) (λ x y. x ≢ y) (is_value e) s.listings out s'.listings
+      → s' ≡ release_state (is_value e) s'.listings (entered q s) → DidWake c out c'
       → IsOutcome (UnderWay (AtRelease q e)) (λ n. release_step true (shared_by s c) n c.kept e) (EnteredLine q ∷ []) s c s' c' p t
   release_here out leaves same wake =
       let all = released_wakers (is_value e) s.listings s'.listings out leaves in
       let rest = released_list (is_value e) s.listings s'.listings out leaves in
       let left : List (Listing ℕ) → SharedState = λ xs. record (release_flags s.word.quick (is_value e) (shared_by s c)) { listings = xs } in
-      wakes_by (UnderWay (AtRelease q e)) s c f s' c' p t (EnteredLine q ∷ []) out e (left (release_list (is_value e) s.listings)) (λ n. release_entry c.kept n (release_wakers (is_value e) s.listings) ∷ [])
+      wakes_by (UnderWay (AtRelease q e)) s c f s' c' p t (EnteredLine q ∷ []) out e
+      (left (release_list (is_value e) s.listings)) (λ n. release_entry c.kept n
+      (release_wakers (is_value e) s.listings) ∷ [])
       (entered_log q s s' (ap (λ y. y.log) same)) wake more step
       (ap (λ y. shared_by y c) same ∙ released_shared c s s.word.quick (is_value e) s'.listings refl ∙ ap left rest)
       (λ n. ap (λ X. release_entry c.kept n X ∷ []) all)
@@ -67,7 +73,9 @@ module _ (c : ReplaySide) (f : IsFresh c) (s : CoreState ℕ) (c' : ReplaySide) 
   leave_here : (k : ℕ) (w : Option ℕ) → w ≡ next_waker (is_passing (shared_by s c) k) k s.listings → s' ≡ leave_state k (entered q s) → DidWake c (One w) c'
       → IsOutcome (UnderWay (AtLeave q k e)) (λ n. leave_step true (shared_by s c) n c.kept k e) (EnteredLine q ∷ []) s c s' c' p t
   leave_here k w next same wake =
-      wakes_by (UnderWay (AtLeave q k e)) s c f s' c' p t (EnteredLine q ∷ []) (One w) e (record (shared_by s c) { listings = left_list (is_passing (shared_by s c) k) k s.listings }) (λ n. pass_entries n (one_out (next_waker (is_passing (shared_by s c) k) k s.listings)))
+      wakes_by (UnderWay (AtLeave q k e)) s c f s' c' p t (EnteredLine q ∷ []) (One w) e
+      (record (shared_by s c) { listings = left_list (is_passing (shared_by s c) k) k s.listings })
+      (λ n. pass_entries n (one_out (next_waker (is_passing (shared_by s c) k) k s.listings)))
       (entered_log q s s' (ap (λ y. y.log) same)) wake more step (ap (λ y. shared_by y c) same) (λ n. pass_seen q k e c n w ∙ ap (λ x. pass_entries n (one_out x)) next)
 
   -- one who leaves, by where its queue is

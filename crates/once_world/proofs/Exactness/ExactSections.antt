@@ -42,7 +42,8 @@ abbrev pub NumberSection : CoreState ℕ → ℕ → Op ℕ → SectionAnswer �
 NumberSection = DidSection (λ a b. a ≡ b) (λ a b. a ≢ b)
 
 -- where some task holds, a look says whether the own listing has the waker
-looked_as : (w : ℕ) (own : Option (Option ℕ)) (a : SectionAnswer ℕ) → Looked (λ x y. x ≡ y) (λ x y. x ≢ y) (Some w) own a → a ≡ cond (is_waker w own) Listed Held
+looked_as : (w : ℕ) (own : Option (Option ℕ)) (a : SectionAnswer ℕ)
+    → Looked (λ x y. x ≡ y) (λ x y. x ≢ y) (Some w) own a → a ≡ cond (is_waker w own) Listed Held
 looked_as w (Some (Some v)) a (inl d) = rw (eq-eqb v w d.1) d.0
 looked_as w (Some (Some v)) a (inr d) = rw (ne_eqb v w d.1) d.0
 looked_as w (Some None) a d = d
@@ -55,7 +56,8 @@ copy_idle None q (Some m) n = refl
 copy_idle None q None n = refl
 
 -- only a claim comes to poll the init
-look_claims : (a : SectionAnswer ℕ) (w : Option ℕ) (q : ℕ) (k : Option ℕ) (n : ℕ) → claim_entries (is_running (after_look a w q k).step) n ≡ claim_entries (is_claim a) n
+look_claims : (a : SectionAnswer ℕ) (w : Option ℕ) (q : ℕ) (k : Option ℕ) (n : ℕ)
+    → claim_entries (is_running (after_look a w q k).step) n ≡ claim_entries (is_claim a) n
 look_claims Ready w q k n = refl
 look_claims Claimed w q k n = refl
 look_claims Listed w q k n = refl
@@ -90,7 +92,9 @@ module _ (c : ReplaySide) (f : IsFresh c) (s : CoreState ℕ) (c' : ReplaySide) 
   copy = cond c.granted (Some c.waker) None
 
   -- the copy is what follows, where one is made
-  copied : (b : SectionAnswer ℕ) → ((w : Option ℕ) × (m : ReplaySide) × DidCopy c w m × Follows DidClose (after_look b w q k) m c' p t) → Follows DidClose (after_look b copy q k) c c' p t
+  copied : (b : SectionAnswer ℕ)
+      → ((w : Option ℕ) × (m : ReplaySide) × DidCopy c w m × Follows DidClose (after_look b w q k) m c' p t)
+      → Follows DidClose (after_look b copy q k) c c' p t
   copied b (w, m, d, x) = subst (λ y. Follows DidClose (after_look b copy q k) y c' p t) d.1 (subst (λ v. Follows DidClose (after_look b v q k) m c' p t) d.0 x)
 
   look_follows : (b : SectionAnswer ℕ) → AfterLook DidClose DidCopy b q k c c' p t → Follows DidClose (after_look b copy q k) c c' p t
@@ -110,7 +114,8 @@ module _ (c : ReplaySide) (f : IsFresh c) (s : CoreState ℕ) (c' : ReplaySide) 
     after : AfterLook DidClose DidCopy b q k c c' p t
 
   -- a look, by what it finds
-  look_by : (at ready taken is : Bool) → is_at_door q s.door ≡ at → s.word.ready ≡ ready → (s.word.quick || s.head) ≡ taken → is_waker c.waker (own_listing k s.listings) ≡ is → s.current ≡ Some c.waker
+  look_by : (at ready taken is : Bool) → is_at_door q s.door ≡ at → s.word.ready ≡ ready
+      → (s.word.quick || s.head) ≡ taken → is_waker c.waker (own_listing k s.listings) ≡ is → s.current ≡ Some c.waker
       → NumberSection s q (LookOp k) a o s' → Looks a o → LookFinds (look_answer (queue_state_by at ready taken) is)
   look_by true true taken is d r h m w x y =
       let z = (x.here (at_door q s.door d)).set r in
@@ -132,11 +137,15 @@ module _ (c : ReplaySide) (f : IsFresh c) (s : CoreState ℕ) (c' : ReplaySide) 
 
   -- a look is the machine's
   pub look_exact : s.current ≡ Some c.waker → NumberSection s q (LookOp k) a o s' → Looks a o
-      → IsOutcome (UnderWay (AtLook q k)) (λ n. look_step (queue_state q (shared_by s c)) (is_waker c.waker (own_listing k s.listings)) c.granted (shared_by s c) n c.waker c.kept q k) (EnteredLine q ∷ []) s c s' c' p t
+      → IsOutcome (UnderWay (AtLook q k)) (λ n. look_step (queue_state q (shared_by s c))
+      (is_waker c.waker (own_listing k s.listings)) c.granted (shared_by s c) n c.waker c.kept q k)
+      (EnteredLine q ∷ []) s c s' c' p t
   look_exact w x y =
       let b = look_answer (queue_state q (shared_by s c)) (is_waker c.waker (own_listing k s.listings)) in
       let z : LookFinds b = look_by (is_at_door q s.door) s.word.ready (s.word.quick || s.head) (is_waker c.waker (own_listing k s.listings)) refl refl refl refl w x y in
-      follows_by (UnderWay (AtLook q k)) s c f s' c' p t (EnteredLine q ∷ []) (look_shared b (shared_by s c) k) (λ n. claim_entries (is_claim b) n) (after_look b copy q k) (entered_log q s s' z.log) z.shared (look_follows b z.after) (look_claims b copy q k)
+      follows_by (UnderWay (AtLook q k)) s c f s' c' p t (EnteredLine q ∷ []) (look_shared b (shared_by s c) k)
+      (λ n. claim_entries (is_claim b) n) (after_look b copy q k) (entered_log q s s' z.log) z.shared
+      (look_follows b z.after) (look_claims b copy q k)
 
   -- what follows the listing
   abbrev Lists : SectionAnswer ℕ → Op ℕ → Type 0
@@ -153,7 +162,8 @@ module _ (c : ReplaySide) (f : IsFresh c) (s : CoreState ℕ) (c' : ReplaySide) 
     after : Follows DidClose (after_list b q (list_ticket b (shared_by s c) k)) c c' p t
 
   -- a listing that finds the holder
-  list_holder : (w : ℕ) (room : Bool) → (is_some (kept_ticket k s.listings) || s.granted) ≡ room → FindsHolder (λ x y. x ≡ y) (λ x y. x ≢ y) (entered q s) (ListOp k (Some w)) a o s' → Lists a o
+  list_holder : (w : ℕ) (room : Bool) → (is_some (kept_ticket k s.listings) || s.granted) ≡ room
+      → FindsHolder (λ x y. x ≡ y) (λ x y. x ≢ y) (entered q s) (ListOp k (Some w)) a o s' → Lists a o
       → ListFinds w (list_answer QueueHeld room)
   list_holder w true m (inl d) x = absurd (false≢true (sym (ap (λ b. is_some b || s.granted) d.1 ∙ d.2) ∙ m))
   list_holder w false m (inl d) x = record { shared = ap (λ y. shared_by y c) d.3; log = ap (λ y. y.log) d.3; after = lists_as NoMemory (ListOp k (Some w)) d.0 d.4 x }
@@ -161,7 +171,8 @@ module _ (c : ReplaySide) (f : IsFresh c) (s : CoreState ℕ) (c' : ReplaySide) 
   list_holder w false m (inr d) x = absurd (false≢true (sym m ∙ d.1))
 
   -- a listing of the waker w, by what it finds
-  list_by : (w : ℕ) (at ready taken room : Bool) → is_at_door q s.door ≡ at → s.word.ready ≡ ready → (s.word.quick || s.head) ≡ taken → (is_some (kept_ticket k s.listings) || s.granted) ≡ room
+  list_by : (w : ℕ) (at ready taken room : Bool) → is_at_door q s.door ≡ at → s.word.ready ≡ ready
+      → (s.word.quick || s.head) ≡ taken → (is_some (kept_ticket k s.listings) || s.granted) ≡ room
       → NumberSection s q (ListOp k (Some w)) a o s' → Lists a o → ListFinds w (list_answer (queue_state_by at ready taken) room)
   list_by w true true taken room d r h m x y =
       let z = (x.here (at_door q s.door d)).set r in
@@ -176,9 +187,13 @@ module _ (c : ReplaySide) (f : IsFresh c) (s : CoreState ℕ) (c' : ReplaySide) 
 
   -- a listing is the machine's
   pub list_exact : (w : ℕ) → NumberSection s q (ListOp k (Some w)) a o s' → Lists a o
-      → IsOutcome (UnderWay (AtList q k w)) (λ n. list_step (queue_state q (shared_by s c)) (is_some (kept_ticket k s.listings) || s.granted) (shared_by s c) n w c.kept q k) (EnteredLine q ∷ []) s c s' c' p t
+      → IsOutcome (UnderWay (AtList q k w)) (λ n. list_step (queue_state q (shared_by s c))
+      (is_some (kept_ticket k s.listings) || s.granted) (shared_by s c) n w c.kept q k)
+      (EnteredLine q ∷ []) s c s' c' p t
   list_exact w x y =
       let b = list_answer (queue_state q (shared_by s c)) (is_some (kept_ticket k s.listings) || s.granted) in
       let m = list_ticket b (shared_by s c) k in
       let z : ListFinds w b = list_by w (is_at_door q s.door) s.word.ready (s.word.quick || s.head) (is_some (kept_ticket k s.listings) || s.granted) refl refl refl refl x y in
-      follows_by (UnderWay (AtList q k w)) s c f s' c' p t (EnteredLine q ∷ []) (list_shared b (shared_by s c) k w) (λ n. claim_entries (is_claim b) n) (after_list b q m) (entered_log q s s' z.log) z.shared z.after (list_claims b q m)
+      follows_by (UnderWay (AtList q k w)) s c f s' c' p t (EnteredLine q ∷ []) (list_shared b (shared_by s c) k w)
+      (λ n. claim_entries (is_claim b) n) (after_list b q m) (entered_log q s s' z.log) z.shared z.after
+      (list_claims b q m)

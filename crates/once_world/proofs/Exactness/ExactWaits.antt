@@ -51,16 +51,26 @@ load_idle false q k n = refl
 module _ (c : ReplaySide) (f : IsFresh c) (s : CoreState ℕ) (c' : ReplaySide) (p : Progress) (t : Step ℕ ℕ) (s' : CoreState ℕ) where
   pub start_exact : (ready new : Bool) → s' ≡ s → Follows DidClose (after_start ready new) c c' p t
       → IsOutcome (UnderWay AtStart) (λ n. start_step ready new (shared_by s c) n c.kept) [] s c s' c' p t
-  start_exact ready new same x = follows_by (UnderWay AtStart) s c f s' c' p t [] (shared_by s c) (λ n. []) (after_start ready new) (ap (λ y. reverse y.log) same) (ap (λ y. shared_by y c) same) x (start_idle ready new)
+  start_exact ready new same x =
+      follows_by (UnderWay AtStart) s c f s' c' p t [] (shared_by s c) (λ n. []) (after_start ready new)
+      (ap (λ y. reverse y.log) same) (ap (λ y. shared_by y c) same) x (start_idle ready new)
 
   -- the word was NEW, and is the quick bit now
   quick_left : s.word.count ≡ 0 → s.word.ready ≡ false → s' ≡ record s { word = flags_alone true false } → shared_by s' c ≡ record (shared_by s c) { quick = true }
-  quick_left e r same = ap (λ y. shared_by y c) same ∙ (λ i. record { count = sym e i; quick = true; ready = sym r i; door = s.door; head = s.head; listings = s.listings; queues = s.made; value = c.value; answers = answers_in c })
+  quick_left e r same = ap (λ y. shared_by y c) same
+      ∙ (λ i. record { count = sym e i; quick = true; ready = sym r i; door = s.door; head = s.head; listings = s.listings; queues = s.made; value = c.value; answers = answers_in c })
 
-  pub quick_exact : (won : Bool) → is_zero s.word ≡ won → s' ≡ record s { word = cond won (flags_alone true false) s.word } → Follows DidClose (after_quick won) c c' p t
+  pub quick_exact : (won : Bool) → is_zero s.word ≡ won
+      → s' ≡ record s { word = cond won (flags_alone true false) s.word }
+      → Follows DidClose (after_quick won) c c' p t
       → IsOutcome (UnderWay AtTryQuick) (λ n. quick_step won (shared_by s c) n c.kept) [] s c s' c' p t
-  quick_exact true z same x = follows_by (UnderWay AtTryQuick) s c f s' c' p t [] (record (shared_by s c) { quick = true }) (λ n. Claim n ∷ []) (after_quick true) (ap (λ y. reverse y.log) same) (quick_left (zero_count s.word z) (zero_ready s.word z) same) x (λ n. refl)
-  quick_exact false z same x = follows_by (UnderWay AtTryQuick) s c f s' c' p t [] (shared_by s c) (λ n. []) (after_quick false) (ap (λ y. reverse y.log) same) (ap (λ y. shared_by y c) same) x (λ n. refl)
+  quick_exact true z same x =
+      follows_by (UnderWay AtTryQuick) s c f s' c' p t [] (record (shared_by s c) { quick = true })
+      (λ n. Claim n ∷ []) (after_quick true) (ap (λ y. reverse y.log) same)
+      (quick_left (zero_count s.word z) (zero_ready s.word z) same) x (λ n. refl)
+  quick_exact false z same x =
+      follows_by (UnderWay AtTryQuick) s c f s' c' p t [] (shared_by s c) (λ n. []) (after_quick false)
+      (ap (λ y. reverse y.log) same) (ap (λ y. shared_by y c) same) x (λ n. refl)
 
   pub door_exact : (q : Option ℕ) → s' ≡ s → Follows DidClose (after_door_get q) c c' p t
       → IsOutcome (UnderWay AtDoorGet) (λ n. door_step q (shared_by s c) n c.kept) [] s c s' c' p t
@@ -78,9 +88,13 @@ module _ (c : ReplaySide) (f : IsFresh c) (s : CoreState ℕ) (c' : ReplaySide) 
 
   pub door_put_exact : (g : Bool) (d : Option ℕ) → s' ≡ put_state g d s → Follows DidClose (after_door_put (put_answer g d s.made)) c c' p t
       → IsOutcome (UnderWay AtDoorPut) (λ n. put_step g d (shared_by s c) n c.kept) (put_lines g d s.made) s c s' c' p t
-  door_put_exact g d same x = follows_by (UnderWay AtDoorPut) s c f s' c' p t (put_lines g d s.made) (put_shared g d (shared_by s c)) (λ n. []) (after_door_put (put_answer g d s.made)) (put_log g d same) (put_left g d same) x (put_idle (put_answer g d s.made))
+  door_put_exact g d same x =
+      follows_by (UnderWay AtDoorPut) s c f s' c' p t (put_lines g d s.made) (put_shared g d (shared_by s c))
+      (λ n. []) (after_door_put (put_answer g d s.made)) (put_log g d same) (put_left g d same) x
+      (put_idle (put_answer g d s.made))
 
-  in_by : (below ready : Bool) (q : ℕ) → reverse s'.log ≡ reverse s.log → shared_by s' c ≡ in_shared below (shared_by s c) → Follows DidClose (next_in below ready q) c c' p t
+  in_by : (below ready : Bool) (q : ℕ) → reverse s'.log ≡ reverse s.log
+      → shared_by s' c ≡ in_shared below (shared_by s c) → Follows DidClose (next_in below ready q) c c' p t
       → IsOutcome (UnderWay (AtCountIn q)) (λ n. in_step below ready (shared_by s c) n c.kept q) [] s c s' c' p t
   in_by below ready q log is x = follows_by (UnderWay (AtCountIn q)) s c f s' c' p t [] (in_shared below (shared_by s c)) (λ n. []) (next_in below ready q) log is x (in_idle below ready q)
 
@@ -89,7 +103,9 @@ module _ (c : ReplaySide) (f : IsFresh c) (s : CoreState ℕ) (c' : ReplaySide) 
       → IsOutcome (UnderWay (AtCountIn q)) (λ n. in_step (nat_lt s.word.count limit) s.word.ready (shared_by s c) n c.kept q) [] s c s' c' p t
   in_above limit q b above ready same x =
       let at_limit : nat_lt s.word.count limit ≡ false = grind (arith, nat_tests, above) in
-      rw at_limit (subst (λ r. IsOutcome (UnderWay (AtCountIn q)) (λ n. in_step false r (shared_by s c) n c.kept q) [] s c s' c' p t) (sym ready) (in_by false b q (ap (λ y. reverse y.log) same) (ap (λ y. shared_by y c) same) x))
+      rw at_limit (subst (λ r. IsOutcome (UnderWay (AtCountIn q))
+      (λ n. in_step false r (shared_by s c) n c.kept q) [] s c s' c' p t) (sym ready)
+      (in_by false b q (ap (λ y. reverse y.log) same) (ap (λ y. shared_by y c) same) x))
 
   pub in_exact : (limit q : ℕ) (n : Counted) → DidCountIn s limit n s' → Follows DidClose (after_count_in n q) c c' p t
       → IsOutcome (UnderWay (AtCountIn q)) (λ n. in_step (nat_lt s.word.count limit) s.word.ready (shared_by s c) n c.kept q) [] s c s' c' p t
@@ -102,4 +118,6 @@ module _ (c : ReplaySide) (f : IsFresh c) (s : CoreState ℕ) (c' : ReplaySide) 
 
   pub load_exact : (ready : Bool) (q : ℕ) (k : Option ℕ) → s' ≡ s → Follows DidClose (after_load ready q k) c c' p t
       → IsOutcome (UnderWay (AtWaitLoad q k)) (λ n. load_step ready (shared_by s c) n c.kept q k) [] s c s' c' p t
-  load_exact ready q k same x = follows_by (UnderWay (AtWaitLoad q k)) s c f s' c' p t [] (shared_by s c) (λ n. []) (after_load ready q k) (ap (λ y. reverse y.log) same) (ap (λ y. shared_by y c) same) x (load_idle ready q k)
+  load_exact ready q k same x =
+      follows_by (UnderWay (AtWaitLoad q k)) s c f s' c' p t [] (shared_by s c) (λ n. []) (after_load ready q k)
+      (ap (λ y. reverse y.log) same) (ap (λ y. shared_by y c) same) x (load_idle ready q k)

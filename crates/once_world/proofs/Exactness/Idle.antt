@@ -13,14 +13,17 @@ passed_over lazy limit w t a granted None idle = refl
 passed_over lazy limit w t a granted (Some x) idle = rw (idle) refl
 
 module _ (K : Kind) (limit t : ℕ) (a : Answer) (granted : Bool) where
-  idle_steps : (inputs : List Input) → IsIdle ((world_of K limit inputs).tasks t) → (n : ℕ) → world_of K limit (replicate n (Go t a granted) ++ inputs) ≡ world_of K limit inputs
+  idle_steps : (inputs : List Input) → IsIdle ((world_of K limit inputs).tasks t) → (n : ℕ)
+      → world_of K limit (replicate n (Go t a granted) ++ inputs) ≡ world_of K limit inputs
   idle_steps inputs idle zero = refl
   idle_steps inputs idle (suc n) =
       let before = world_of K limit inputs in
       ap (λ w. go_world (is_lazy K) limit w t a granted (w.tasks t)) (idle_steps inputs idle n) ∙ passed_over (is_lazy K) limit before t a granted (before.tasks t) idle
 
   -- a world that stands after k steps stands after n, where no call is under way after k
-  pub rest_passed_over : (inputs : List Input) (w : CodeWorld) (k n : ℕ) → k ≤ n → IsAfter K limit (replicate k (Go t a granted) ++ inputs) w → IsIdle ((world_in w).tasks t) → IsAfter K limit (replicate n (Go t a granted) ++ inputs) w
+  pub rest_passed_over : (inputs : List Input) (w : CodeWorld) (k n : ℕ) → k ≤ n
+      → IsAfter K limit (replicate k (Go t a granted) ++ inputs) w → IsIdle ((world_in w).tasks t)
+      → IsAfter K limit (replicate n (Go t a granted) ++ inputs) w
   rest_passed_over inputs w k n within is idle =
       let step = Go t a granted in
       let so_far = replicate k step ++ inputs in

@@ -27,7 +27,9 @@ is_freed from t = is_freeing from && not (is_adding t)
 
 -- the entries of what was seen of a step from the place of the first step to t
 abbrev pub seen_entries : Step ℕ ℕ → ℕ → ReplaySide → Progress → Step ℕ ℕ → List Entry
-seen_entries from n c p t = progress_entries p n c.value c.kept ++ handed_entries (is_leaving from) c.handed n c.kept ++ freed_entries (is_freed from t) n c.kept ++ ran_entries c.ran n ++ claim_entries (is_running t) n
+seen_entries from n c p t =
+    progress_entries p n c.value c.kept ++ handed_entries (is_leaving from) c.handed n c.kept ++ freed_entries
+    (is_freed from t) n c.kept ++ ran_entries c.ran n ++ claim_entries (is_running t) n
 
 -- a step from here is the machine's outcome o, with these lines logged
 pub record IsOutcome (from : Step ℕ ℕ) (o : ℕ → Outcome) (lines : List QueueLine) (s : CoreState ℕ) (c : ReplaySide) (s' : CoreState ℕ) (c' : ReplaySide) (p : Progress) (t : Step ℕ ℕ) : Type 0 where
@@ -49,20 +51,26 @@ unclosed c c' true e = e
 unclosed c c' false e = e
 
 -- the entries of a step of which at most a fast release and a claim were seen
-told_by : (p : Progress) (b : Bool) (n v : ℕ) (k : Answer) (C D : List Entry) → freed_entries b n k ++ C ≡ D → progress_entries p n v k ++ [] ++ freed_entries b n k ++ [] ++ C ≡ progress_entries p n v k ++ D
+told_by : (p : Progress) (b : Bool) (n v : ℕ) (k : Answer) (C D : List Entry) → freed_entries b n k ++ C ≡ D
+    → progress_entries p n v k ++ [] ++ freed_entries b n k ++ [] ++ C ≡ progress_entries p n v k ++ D
 told_by (Ended e) true n v k C D s = ap (λ l. end_entry e n v k ∷ l) s
 told_by (Ended e) false n v k C D s = ap (λ l. end_entry e n v k ∷ l) s
 told_by More true n v k C D s = s
 told_by More false n v k C D s = s
 
 -- and of one that polled the init, which answered x
-pub ran_by : (p : Progress) (n v : ℕ) (k x : Answer) (C : List Entry) → C ≡ [] → progress_entries p n v k ++ [] ++ [] ++ ran_entries (Some x) n ++ C ≡ progress_entries p n v k ++ (Ran n x ∷ [])
+pub ran_by : (p : Progress) (n v : ℕ) (k x : Answer) (C : List Entry) → C ≡ []
+    → progress_entries p n v k ++ [] ++ [] ++ ran_entries (Some x) n ++ C ≡ progress_entries p n v k ++ (Ran n x ∷ [])
 ran_by (Ended e) n v k x C s = ap (λ l. end_entry e n v k ∷ Ran n x ∷ l) s
 ran_by More n v k x C s = ap (λ l. Ran n x ∷ l) s
 
 -- what the table of places says follows a step that left d and was seen to do this
-pub follows_by : (from : Step ℕ ℕ) (s : CoreState ℕ) (c : ReplaySide) (f : IsFresh c) (s' : CoreState ℕ) (c' : ReplaySide) (p : Progress) (t : Step ℕ ℕ) (lines : List QueueLine) (d : SharedState) (did : ℕ → List Entry) (next : Next ℕ ℕ)
-    → reverse s'.log ≡ lines ++ reverse s.log → shared_by s' c ≡ d → Follows DidClose next c c' p t → ((n : ℕ) → freed_entries (is_freed from next.step) n c.kept ++ claim_entries (is_running next.step) n ≡ did n)
+pub follows_by : (from : Step ℕ ℕ) (s : CoreState ℕ) (c : ReplaySide) (f : IsFresh c) (s' : CoreState ℕ)
+    (c' : ReplaySide) (p : Progress) (t : Step ℕ ℕ) (lines : List QueueLine) (d : SharedState) (did : ℕ → List Entry)
+    (next : Next ℕ ℕ)
+    → reverse s'.log ≡ lines ++ reverse s.log → shared_by s' c ≡ d → Follows DidClose next c c' p t
+    → ((n : ℕ) → freed_entries (is_freed from next.step) n c.kept
+    ++ claim_entries (is_running next.step) n ≡ did n)
     → IsOutcome from (λ n. outcome_of d n c.kept (did n) next) lines s c s' c' p t
 follows_by from s c f s' c' p t lines d did next log is x seen =
     let same = unclosed c c' next.closes x.0 in
@@ -70,13 +78,17 @@ follows_by from s c f s' c' p t lines d did next log is x seen =
       shared = λ n. rw same is;
       step = λ n. x.2;
       kept = λ n. ap (λ y. y.kept) same;
-      told = λ n. rw (x.1, x.2, same, f.ran, f.handed) (told_by next.progress (is_freed from next.step) n c.value c.kept (claim_entries (is_running next.step) n) (did n) (seen n) ∙ ap (λ v. progress_entries next.progress n v c.kept ++ did n) (ap (λ y. y.value) is));
+      told = λ n. rw (x.1, x.2, same, f.ran, f.handed) (told_by next.progress
+          (is_freed from next.step) n c.value c.kept (claim_entries (is_running next.step) n) (did n) (seen n)
+          ∙ ap (λ v. progress_entries next.progress n v c.kept ++ did n) (ap (λ y. y.value) is));
       log = log;
       lazy_is = ap (λ y. y.lazy) same;
     }
 
 -- those who are handed out are called, and the call goes on to count out
-pub wakes_by : (from : Step ℕ ℕ) (s : CoreState ℕ) (c : ReplaySide) (f : IsFresh c) (s' : CoreState ℕ) (c' : ReplaySide) (p : Progress) (t : Step ℕ ℕ) (lines : List QueueLine) (out : Out ℕ) (e : Ending) (d : SharedState) (told : ℕ → List Entry)
+pub wakes_by : (from : Step ℕ ℕ) (s : CoreState ℕ) (c : ReplaySide) (f : IsFresh c) (s' : CoreState ℕ)
+    (c' : ReplaySide) (p : Progress) (t : Step ℕ ℕ) (lines : List QueueLine) (out : Out ℕ) (e : Ending)
+    (d : SharedState) (told : ℕ → List Entry)
     → reverse s'.log ≡ lines ++ reverse s.log → DidWake c out c' → p ≡ More → t ≡ UnderWay (AtCountOut e)
     → shared_by s' c ≡ d → ((n : ℕ) → seen_entries from n (record c { ran = None; handed = Some out }) More (UnderWay (AtCountOut e)) ≡ told n)
     → IsOutcome from (λ n. outcome_of d n c.kept (told n) (next_at (AtCountOut e))) lines s c s' c' p t

@@ -21,14 +21,16 @@ same_world : (w w' : World) → w'.shared ≡ w.shared → w'.tasks ≡ w.tasks 
 same_world w w' a b n c d = λ i. record { shared = a i; tasks = b i; unfinished = n i; history = c i; log = d i }
 
 -- a poll that began
-pub begun_world : (w w' : World) (t k : ℕ) (x : Task) (s : Step ℕ ℕ) → w.tasks t ≡ Some x → is_resting x.step ≡ true → s ≡ step_of_poll x.step → w'.shared ≡ w.shared
+pub begun_world : (w w' : World) (t k : ℕ) (x : Task) (s : Step ℕ ℕ) → w.tasks t ≡ Some x → is_resting x.step ≡ true
+    → s ≡ step_of_poll x.step → w'.shared ≡ w.shared
     → w'.tasks ≡ put_task t (record x { waker = k; step = s }) w.tasks → w'.unfinished ≡ w.unfinished → w'.history ≡ Begin t k ∷ w.history → w'.log ≡ w.log
     → w' ≡ poll_world w t k (w.tasks t)
 begun_world w w' t k x s found rests is a b n c d =
     rw (found, rests) (same_world (record w { tasks = put_task t (record x { waker = k; step = step_of_poll x.step }) w.tasks; history = Begin t k ∷ w.history }) w' a (rw is at b) n c d)
 
 -- a drop that began
-pub dropped_world : (w w' : World) (t : ℕ) (x : Task) (s : Step ℕ ℕ) → w.tasks t ≡ Some x → is_resting x.step ≡ true → s ≡ step_of_drop x.step → w'.shared ≡ w.shared
+pub dropped_world : (w w' : World) (t : ℕ) (x : Task) (s : Step ℕ ℕ) → w.tasks t ≡ Some x → is_resting x.step ≡ true
+    → s ≡ step_of_drop x.step → w'.shared ≡ w.shared
     → w'.tasks ≡ put_task t (record x { step = s }) w.tasks → w'.unfinished ≡ unfinished_after s w.unfinished → w'.history ≡ drop_entries t s ++ w.history → w'.log ≡ w.log
     → w' ≡ drop_world w t (w.tasks t)
 dropped_world w w' t x s found rests is a b n c d =

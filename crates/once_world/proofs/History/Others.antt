@@ -91,7 +91,8 @@ pub since_now_acts : (K : Kind) (u t : ℕ) (h : List Entry) → u ≢ t → is_
 since_now_acts K u t [] n c = grind arith
 since_now_acts K u t (e ∷ h) n c = inl (inr (t, n, c))
 
-cell_holds : (K : Kind) (u : ℕ) (e : Entry) (limit : ℕ) (h : List Entry) → is_own e ≡ false → is_of u e ≡ false → IsLegal K limit e h → holds u (cell_after e (cell K h)) ≡ holds u (cell K h)
+cell_holds : (K : Kind) (u : ℕ) (e : Entry) (limit : ℕ) (h : List Entry) → is_own e ≡ false → is_of u e ≡ false
+    → IsLegal K limit e h → holds u (cell_after e (cell K h)) ≡ holds u (cell K h)
 cell_holds K u (Claim t) limit h x n l = rw l.0 n
 cell_holds K u (Free t X) limit h x n l = rw l.0 (sym n)
 cell_holds K u (Fill t v X) limit h x n l = rw l.0 (sym n)
@@ -105,7 +106,8 @@ cell_holds K u (DropEnd t) limit h x n l = refl
 cell_holds K u (Look r) limit h x n l = refl
 cell_holds K u (Own o g) limit h x n l = absurd (false≢true (sym x))
 
-pub set_stays_after : (K : Kind) (e : Entry) (limit : ℕ) (h : List Entry) (v : ℕ) → is_own e ≡ false → IsLegal K limit e h → cell K h ≡ SetTo v → cell_after e (cell K h) ≡ SetTo v
+pub set_stays_after : (K : Kind) (e : Entry) (limit : ℕ) (h : List Entry) (v : ℕ) → is_own e ≡ false
+    → IsLegal K limit e h → cell K h ≡ SetTo v → cell_after e (cell K h) ≡ SetTo v
 set_stays_after K (Claim t) limit h v x l e = grind (arith, l.0)
 set_stays_after K (Free t X) limit h v x l e = grind (arith, l.0)
 set_stays_after K (Fill t k X) limit h v x l e = grind (arith, l.0)
@@ -122,7 +124,8 @@ set_stays_after K (Own o g) limit h v x l e = absurd (false≢true (sym x))
 apart : (t u : ℕ) → (t == u) ≡ false → t ≢ u
 apart t u n = grind (arith, nat_tests)
 
-became_set_after : (K : Kind) (u : ℕ) (e : Entry) (limit : ℕ) (h : List Entry) → is_own e ≡ false → is_of u e ≡ false → IsLegal K limit e h → is_set (cell K h) ≡ false → (is_set (cell_after e (cell K h)) ≡ false) ⊎ Met K u (e ∷ h)
+became_set_after : (K : Kind) (u : ℕ) (e : Entry) (limit : ℕ) (h : List Entry) → is_own e ≡ false → is_of u e ≡ false
+    → IsLegal K limit e h → is_set (cell K h) ≡ false → (is_set (cell_after e (cell K h)) ≡ false) ⊎ Met K u (e ∷ h)
 became_set_after K u (Claim t) limit h x n l s = inl refl
 became_set_after K u (Free t X) limit h x n l s = inl refl
 became_set_after K u (Fill t k X) limit h x n l s = inr (since_more u (OtherActs K u) (Fill t k X) h n (since_now K u t h (λ e. apart t u n (sym e)) l.0))
@@ -142,7 +145,8 @@ no_free K t {v} e h s m =
     let P : Status → Type 0 = λ x. MayFree x (last_call K t h).ran in
     subst P w m
 
-no_pass : (K : Kind) (t : ℕ) {v : ℕ} → t ≡ v → (h : List Entry) → status K v h ≡ Waiting → MayPass (status K t h) (last_call K t h).claimed (last_call K t h).ran → ⊥
+no_pass : (K : Kind) (t : ℕ) {v : ℕ} → t ≡ v → (h : List Entry) → status K v h ≡ Waiting
+    → MayPass (status K t h) (last_call K t h).claimed (last_call K t h).ran → ⊥
 no_pass K t {v} e h s m =
     let w : status K t h ≡ Waiting = ap (λ k. status K k h) e ∙ s in
     let P : Status → Type 0 = λ x. MayPass x (last_call K t h).claimed (last_call K t h).ran in
@@ -168,7 +172,8 @@ handed_after : (u : ℕ) (e : Entry) (h : List Entry) (w : ℕ) → is_of u e �
 handed_after u e h w n m = grind (arith, member-append, no_end u e n)
 
 -- only a Begin of either kind is legal for a task that waits
-waiter_acts : (K : Kind) (v : ℕ) (e : Entry) (limit : ℕ) (h : List Entry) → is_of v e ≡ true → IsLegal K limit e h → status K v h ≡ Waiting → is_under_way (status_after e (cell K h) (status K v h)) ≡ true
+waiter_acts : (K : Kind) (v : ℕ) (e : Entry) (limit : ℕ) (h : List Entry) → is_of v e ≡ true → IsLegal K limit e h
+    → status K v h ≡ Waiting → is_under_way (status_after e (cell K h) (status K v h)) ≡ true
 waiter_acts K v (Made t) limit h n l s = grind (arith, nat_tests)
 waiter_acts K v (Begin t w) limit h n l s = refl
 waiter_acts K v (Claim t) limit h n l s = grind (arith, nat_tests, l.1)
@@ -182,13 +187,15 @@ waiter_acts K v (DropEnd t) limit h n l s = grind (arith, nat_tests, l.0)
 waiter_acts K v (Look r) limit h n l s = grind arith
 waiter_acts K v (Own o g) limit h n l s = absurd (false≢true n)
 
-waits_by : (K : Kind) (u v : ℕ) (e : Entry) (limit : ℕ) (h : List Entry) (b : Bool) → is_of u e ≡ false → IsLegal K limit e h → status K v h ≡ Waiting → is_of v e ≡ b → Met K u (e ∷ h) ⊎ SomeoneWaits K (e ∷ h)
+waits_by : (K : Kind) (u v : ℕ) (e : Entry) (limit : ℕ) (h : List Entry) (b : Bool) → is_of u e ≡ false
+    → IsLegal K limit e h → status K v h ≡ Waiting → is_of v e ≡ b → Met K u (e ∷ h) ⊎ SomeoneWaits K (e ∷ h)
 waits_by K u v e limit h true n l s is =
     let acts : is_under_way (status K v (e ∷ h)) ≡ true = rw is (waiter_acts K v e limit h is l s) in
     inl (since_now_acts K u v (e ∷ h) (λ same. false≢true (sym n ∙ subst (λ k. is_of k e ≡ true) (sym same) is)) acts)
 waits_by K u v e limit h false n l s is = inr (v, rw is s)
 
-waits_after : (K : Kind) (u : ℕ) (e : Entry) (limit : ℕ) (h : List Entry) → is_of u e ≡ false → IsLegal K limit e h → SomeoneWaits K h → Met K u (e ∷ h) ⊎ SomeoneWaits K (e ∷ h)
+waits_after : (K : Kind) (u : ℕ) (e : Entry) (limit : ℕ) (h : List Entry) → is_of u e ≡ false → IsLegal K limit e h
+    → SomeoneWaits K h → Met K u (e ∷ h) ⊎ SomeoneWaits K (e ∷ h)
 waits_after K u e limit h n l s = waits_by K u s.0 e limit h (is_of s.0 e) n l s.1 refl
 
 -- an entry of another task leaves u as it was

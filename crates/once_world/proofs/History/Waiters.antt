@@ -29,21 +29,29 @@ entry_fits K xs ys e h q stays less called = record {
 }
 
 -- another list, and no entry
-pub list_fits : (K : Kind) (xs ys : List (Listing ℕ)) (h : List Entry) → QueueFits K xs h → ((w : ℕ) → asks w ys ≤ asks w xs) → CalledAt K ys h → QueueFits K ys h
+pub list_fits : (K : Kind) (xs ys : List (Listing ℕ)) (h : List Entry) → QueueFits K xs h
+    → ((w : ℕ) → asks w ys ≤ asks w xs) → CalledAt K ys h → QueueFits K ys h
 list_fits K xs ys h q less called = record {
   counts = λ w. let a = q.counts w in let b = less w in omega arith;
   called = called;
 }
 
-waits_before : (K : Kind) (u : ℕ) (e : Entry) (h : List Entry) → (is_of u e ≡ true → status_after e (cell K h) (status K u h) ≢ Waiting) → status K u (e ∷ h) ≡ Waiting → status K u h ≡ Waiting
+waits_before : (K : Kind) (u : ℕ) (e : Entry) (h : List Entry)
+    → (is_of u e ≡ true → status_after e (cell K h) (status K u h) ≢ Waiting) → status K u (e ∷ h) ≡ Waiting
+    → status K u h ≡ Waiting
 waits_before K u e h not_waiting s = grind arith
 
 -- who waits after an entry that makes nobody wait did so before
-pub waited : (K : Kind) (e : Entry) (h : List Entry) → ((t : ℕ) → is_of t e ≡ true → status_after e (cell K h) (status K t h) ≢ Waiting) → (u : ℕ) → status K u (e ∷ h) ≡ Waiting → status K u h ≡ Waiting
+pub waited : (K : Kind) (e : Entry) (h : List Entry)
+    → ((t : ℕ) → is_of t e ≡ true → status_after e (cell K h) (status K t h) ≢ Waiting) → (u : ℕ)
+    → status K u (e ∷ h) ≡ Waiting → status K u h ≡ Waiting
 waited K e h n u s = waits_before K u e h (n u) s
 
 -- an entry that hands out nothing, and after which its task does not wait
-pub quiet : (K : Kind) (xs : List (Listing ℕ)) (e : Entry) (h : List Entry) → QueueFits K xs h → handed_by e ≡ [] → is_replacing e ≡ false → ((w : ℕ) → opens K w e h ≡ false) → ((t : ℕ) → is_of t e ≡ true → status_after e (cell K h) (status K t h) ≢ Waiting) → (cell_after e (cell K h) ≡ Empty → cell K h ≡ Empty) → QueueFits K xs (e ∷ h)
+pub quiet : (K : Kind) (xs : List (Listing ℕ)) (e : Entry) (h : List Entry) → QueueFits K xs h → handed_by e ≡ []
+    → is_replacing e ≡ false → ((w : ℕ) → opens K w e h ≡ false)
+    → ((t : ℕ) → is_of t e ≡ true → status_after e (cell K h) (status K t h) ≢ Waiting)
+    → (cell_after e (cell K h) ≡ Empty → cell K h ≡ Empty) → QueueFits K xs (e ∷ h)
 quiet K xs e h q none stays shut not_waiting empty = entry_fits K xs xs e h q stays (λ w. rw (none, shut w) (omega arith)) (λ c u s. q.called (empty c) u (waited K e h not_waiting u s))
 
 -- where nobody waits
@@ -51,7 +59,8 @@ pub nobody_called : (K : Kind) (xs : List (Listing ℕ)) (h : List Entry) → ((
 nobody_called K xs h n c u s = absurd (n u s)
 
 -- what is handed out no oftener than listings have it is open
-pub open_by : (K : Kind) (w : ℕ) (X : List ℕ) (xs : List (Listing ℕ)) (h : List Entry) → QueueFits K xs h → ((k : ℕ) → times_in k X ≤ asks k xs) → member w X ≡ true → IsOpen K w h
+pub open_by : (K : Kind) (w : ℕ) (X : List ℕ) (xs : List (Listing ℕ)) (h : List Entry) → QueueFits K xs h
+    → ((k : ℕ) → times_in k X ≤ asks k xs) → member w X ≡ true → IsOpen K w h
 open_by K w X xs h q less m = let a = member_times w X m in let b = less w in let c = q.counts w in omega arith
 
 -- what a release with the value hands out meets what the cell asks of it
@@ -71,7 +80,8 @@ some_out (Some w) e = grind arith
 some_out None e = refl
 
 -- and so does what one without a value hands out
-pub calls_one : (K : Kind) (xs : List (Listing ℕ)) (h : List Entry) → QueueFits K xs h → ((w : ℕ) → IsDue K w h → 0 < asks w xs) → CallsOne K (one_out (first_waker xs)) h
+pub calls_one : (K : Kind) (xs : List (Listing ℕ)) (h : List Entry) → QueueFits K xs h
+    → ((w : ℕ) → IsDue K w h → 0 < asks w xs) → CallsOne K (one_out (first_waker xs)) h
 calls_one K xs h q due = record {
   one = one_by (first_waker xs);
   due = λ w d e. let l = due w d in let z = first_asks w xs (some_out (first_waker xs) e) in absurd (omega arith);

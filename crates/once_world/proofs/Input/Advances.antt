@@ -24,9 +24,12 @@ use Rattle.once_world.proofs.Place.Leaves.{leave_goes}
 use Rattle.once_queue.specs.Word.{is_zero, is_quick_bit, is_ready_bit}
 
 -- all that stands before the step
-module _ (K : Kind) (limit t w : ℕ) (k : Answer) (c : SharedState) (h : List Entry) (a : Answer) (g : Bool) (some : 0 < limit) (run : IsRun K limit h) (shared : SharedFits K limit c h) (queue : QueueFits K c.listings h) (wk : (last_call K t h).waker ≡ w) (kk : k ≡ kept_of (last_call K t h).ran) where
+module _ (K : Kind) (limit t w : ℕ) (k : Answer) (c : SharedState) (h : List Entry) (a : Answer) (g : Bool)
+    (some : 0 < limit) (run : IsRun K limit h) (shared : SharedFits K limit c h) (queue : QueueFits K c.listings h)
+    (wk : (last_call K t h).waker ≡ w) (kk : k ≡ kept_of (last_call K t h).ran) where
   -- one place after the other
-  advances_at : (p : Place ℕ ℕ) → Around K t (is_counted_at p) (is_take_at p) c h → AroundList K t (ticket_at p) c h → AtPlace K limit t c h p → Goes K limit t w p c h (place_step (is_lazy K) limit c t w k a g p)
+  advances_at : (p : Place ℕ ℕ) → Around K t (is_counted_at p) (is_take_at p) c h → AroundList K t (ticket_at p) c h
+      → AtPlace K limit t c h p → Goes K limit t w p c h (place_step (is_lazy K) limit c t w k a g p)
   advances_at AtStart ar al at = start_goes K limit t w k c h run shared queue wk kk c.ready (is_zero (word_of c)) refl refl ar at
   advances_at AtTryQuick ar al at = quick_goes K limit t w k c h run shared queue wk kk (is_zero (word_of c)) refl ar at
   advances_at AtDoorGet ar al at = door_get_goes K limit t w k c h run shared queue wk kk c.door refl ar at
@@ -47,7 +50,13 @@ module _ (K : Kind) (limit t w : ℕ) (k : Answer) (c : SharedState) (h : List E
 
   -- a step keeps what a step owes
   pub advances : (s : Step ℕ ℕ) → in_call s ≡ true → Around K t (is_counted s) (is_take s) c h → AroundList K t (ticket_of s) c h → AtStep K limit t c h s
-      → Moves K limit t s (record { waker = w; kept = (step_at (is_lazy K) limit c t w k a g s).kept; step = (step_at (is_lazy K) limit c t w k a g s).step }) c (step_at (is_lazy K) limit c t w k a g s).shared h ((step_at (is_lazy K) limit c t w k a g s).entries ++ h)
+      → Moves K limit t s (record {
+        waker = w;
+        kept = (step_at (is_lazy K) limit c t w k a g s).kept;
+        step = (step_at
+            (is_lazy K) limit c t w k a g s).step;
+      }) c (step_at (is_lazy K) limit c t w k a g s).shared h
+      ((step_at (is_lazy K) limit c t w k a g s).entries ++ h)
   advances (UnderWay p) n ar al at = advances_at p ar al at
   advances (Resting r) n ar al at = absurd (false≢true n)
   advances Finished n ar al at = absurd (false≢true n)

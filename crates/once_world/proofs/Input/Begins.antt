@@ -19,7 +19,8 @@ use Rattle.once_world.proofs.Input.Moments.{drop_moment, now}
 
 module _ (K : Kind) (limit t w : ℕ) (k : Answer) (c : SharedState) (h : List Entry) (run : IsRun K limit h) (shared : SharedFits K limit c h) (queue : QueueFits K c.listings h) where
   -- a poll that begins
-  begin_moves : (r : Rest ℕ) → MayBegin (status K t h) → k ≡ RanPending → AtPlace K limit t c (Begin t w ∷ h) (place_of_poll r) → is_take_at (place_of_poll r) ≡ false
+  begin_moves : (r : Rest ℕ) → MayBegin (status K t h) → k ≡ RanPending
+      → AtPlace K limit t c (Begin t w ∷ h) (place_of_poll r) → is_take_at (place_of_poll r) ≡ false
       → Moves K limit t (Resting r) (record { waker = w; kept = k; step = UnderWay (place_of_poll r) }) c c h (Begin t w ∷ h)
   begin_moves r legal nothing own take = record {
     run = (legal, run);
@@ -39,7 +40,9 @@ module _ (K : Kind) (limit t w : ℕ) (k : Answer) (c : SharedState) (h : List E
   }
 
   -- a drop that begins in the count or with the right
-  drop_moves : (r : Rest ℕ) (p : Place ℕ ℕ) → MayBegin (status K t h) → (last_call K t h).waker ≡ w → k ≡ RanPending → AtPlace K limit t c (DropBegin t ∷ h) p → is_counted (Resting r) ≡ is_counted_at p → is_take_at p ≡ false → (is_inside_at p ≡ true → is_inside (Resting r) ≡ true) → ticket_at p ≡ ticket_of (Resting r)
+  drop_moves : (r : Rest ℕ) (p : Place ℕ ℕ) → MayBegin (status K t h) → (last_call K t h).waker ≡ w → k ≡ RanPending
+      → AtPlace K limit t c (DropBegin t ∷ h) p → is_counted (Resting r) ≡ is_counted_at p → is_take_at p ≡ false
+      → (is_inside_at p ≡ true → is_inside (Resting r) ≡ true) → ticket_at p ≡ ticket_of (Resting r)
       → Moves K limit t (Resting r) (record { waker = w; kept = k; step = UnderWay p }) c c h (DropBegin t ∷ h)
   drop_moves r p legal wk nothing own n take inside ticket = record {
     run = (legal, run);
@@ -59,18 +62,23 @@ module _ (K : Kind) (limit t w : ℕ) (k : Answer) (c : SharedState) (h : List E
   }
 
   -- the drop of a task that was never polled
-  drop_fresh : InStatus K t h Fresh false → (last_call K t h).waker ≡ w → k ≡ RanPending → Moves K limit t (Resting RestStart) (record { waker = w; kept = k; step = Finished }) c c h (DropEnd t ∷ DropBegin t ∷ h)
+  drop_fresh : InStatus K t h Fresh false → (last_call K t h).waker ≡ w → k ≡ RanPending
+      → Moves K limit t (Resting RestStart) (record { waker = w; kept = k; step = Finished }) c c h (DropEnd t ∷ DropBegin t ∷ h)
   drop_fresh a wk nothing =
       let legal : IsLegal K limit (DropBegin t) h = rw a.status_is tt in
       let legal1 : IsLegal K limit (DropEnd t) (DropBegin t ∷ h) = (rw (eqb_self t) refl, λ e. false≢true (sym a.holds_is ∙ ap (holds t) e ∙ eqb_self t)) in
       record {
         run = (legal1, (legal, run));
         shared = shared_at K limit c h (DropEnd t ∷ DropBegin t ∷ h) refl refl shared;
-        queue = quiet K c.listings (DropEnd t) (DropBegin t ∷ h) (quiet K c.listings (DropBegin t) h queue refl refl (λ _. refl) (λ u is. grind arith) (λ x. x)) refl refl (λ _. refl) (λ u is. grind arith) (λ x. x);
+        queue = quiet K c.listings (DropEnd t) (DropBegin t ∷ h)
+            (quiet K c.listings (DropBegin t) h queue refl refl (λ _. refl) (λ u is. grind arith) (λ x. x)) refl refl
+            (λ _. refl) (λ u is. grind arith) (λ x. x);
         own = record { status_is = rw (eqb_self t) refl; holds_is = a.holds_is };
         waker_is = rw (eqb_self t) wk;
         kept_is = rw (eqb_self t) nothing;
-        others = λ u d. keeps_both K u h (DropBegin t ∷ h) (DropEnd t ∷ DropBegin t ∷ h) (legal_keeps K u (DropBegin t) limit h (of_other t u d) legal refl) (legal_keeps K u (DropEnd t) limit (DropBegin t ∷ h) (of_other t u d) legal1 refl);
+        others = λ u d. keeps_both K u h (DropBegin t ∷ h) (DropEnd t ∷ DropBegin t ∷ h)
+            (legal_keeps K u (DropBegin t) limit h (of_other t u d) legal refl)
+            (legal_keeps K u (DropEnd t) limit (DropBegin t ∷ h) (of_other t u d) legal1 refl);
         keeps = λ u d b i. same_shared K limit c c u h b refl refl refl refl refl (λ x. x);
         count = refl;
         made = refl;
@@ -93,28 +101,49 @@ dropping : (K : Kind) (t : ℕ) (h : List Entry) (b : Bool) → holds t (cell K 
 dropping K t h b n = record { status_is = rw (eqb_self t) refl; holds_is = n }
 
 -- a waiter keeps its ticket in its next poll
-begun_ticket : (K : Kind) (t w : ℕ) (c : SharedState) (h : List Entry) (n : Option ℕ) → status K t h ≡ Waiting → RestsOn K t c h n → HasTicket K t c (Begin t w ∷ h) n
+begun_ticket : (K : Kind) (t w : ℕ) (c : SharedState) (h : List Entry) (n : Option ℕ) → status K t h ≡ Waiting
+    → RestsOn K t c h n → HasTicket K t c (Begin t w ∷ h) n
 begun_ticket K t w c h None s a = tt
 begun_ticket K t w c h (Some n) s a = (rw (eqb_self t) s, λ r. rw (eqb_self t) (a.1 r))
 
 -- the poll begins, by the place at rest
-begins_at : (K : Kind) (limit t w : ℕ) (k : Answer) (c : SharedState) (h : List Entry) (r : Rest ℕ) → IsRun K limit h → SharedFits K limit c h → QueueFits K c.listings h → k ≡ RanPending → AtRest K limit t c h r → Moves K limit t (Resting r) (record { waker = w; kept = k; step = UnderWay (place_of_poll r) }) c c h (Begin t w ∷ h)
-begins_at K limit t w k c h RestStart run shared queue g a = begin_moves K limit t w k c h run shared queue RestStart (rw a.status_is tt) g (begun_entered K t w h a.holds_is, rw (eqb_self t) a.status_is, λ e. (rw (eqb_self t) at e)) refl
-begins_at K limit t w k c h (RestWait q n) run shared queue g a = begin_moves K limit t w k c h run shared queue (RestWait q n) (rw a.0.status_is tt) g (record { entered = begun_entered K t w h a.0.holds_is; from = inr (rw (eqb_self t) a.0.status_is) }, a.1, begun_ticket K t w c h n a.0.status_is a.2) refl
+begins_at : (K : Kind) (limit t w : ℕ) (k : Answer) (c : SharedState) (h : List Entry) (r : Rest ℕ) → IsRun K limit h
+    → SharedFits K limit c h → QueueFits K c.listings h → k ≡ RanPending → AtRest K limit t c h r
+    → Moves K limit t (Resting r) (record { waker = w; kept = k; step = UnderWay (place_of_poll r) }) c c h (Begin t w ∷ h)
+begins_at K limit t w k c h RestStart run shared queue g a =
+    begin_moves K limit t w k c h run shared queue RestStart (rw a.status_is tt) g
+    (begun_entered K t w h a.holds_is, rw (eqb_self t) a.status_is, λ e. (rw (eqb_self t) at e)) refl
+begins_at K limit t w k c h (RestWait q n) run shared queue g a = begin_moves K limit t w k c h run shared queue
+    (RestWait q n) (rw a.0.status_is tt) g (
+      record {
+        entered = begun_entered K t w h a.0.holds_is;
+        from = inr
+            (rw (eqb_self t) a.0.status_is);
+      },
+      a.1,
+      begun_ticket K t w c h n a.0.status_is a.2,
+    ) refl
 begins_at K limit t w k c h (RestRun by) run shared queue g a = begin_moves K limit t w k c h run shared queue (RestRun by) (rw a.0.status_is tt) g (begun_holds K t w h a.0.holds_is, a.1) refl
 
 -- a poll begins from the step at rest
-pub begins : (K : Kind) (limit t w : ℕ) (k : Answer) (c : SharedState) (h : List Entry) (s : Step ℕ ℕ) → IsRun K limit h → SharedFits K limit c h → QueueFits K c.listings h → k ≡ kept_of (last_call K t h).ran → is_resting s ≡ true → AtStep K limit t c h s → Moves K limit t s (record { waker = w; kept = k; step = step_of_poll s }) c c h (Begin t w ∷ h)
+pub begins : (K : Kind) (limit t w : ℕ) (k : Answer) (c : SharedState) (h : List Entry) (s : Step ℕ ℕ)
+    → IsRun K limit h → SharedFits K limit c h → QueueFits K c.listings h → k ≡ kept_of (last_call K t h).ran
+    → is_resting s ≡ true → AtStep K limit t c h s
+    → Moves K limit t s (record { waker = w; kept = k; step = step_of_poll s }) c c h (Begin t w ∷ h)
 begins K limit t w k c h (Resting r) run shared queue kk n a = begins_at K limit t w k c h r run shared queue (kk ∙ a.1) a.0
 begins K limit t w k c h (UnderWay p) run shared queue kk n a = absurd (false≢true n)
 begins K limit t w k c h Finished run shared queue kk n a = absurd (false≢true n)
 
 -- the drop begins, by the place at rest
-drops_at : (K : Kind) (limit t w : ℕ) (k : Answer) (c : SharedState) (h : List Entry) (r : Rest ℕ) → IsRun K limit h → SharedFits K limit c h → QueueFits K c.listings h → (last_call K t h).waker ≡ w → k ≡ kept_of (last_call K t h).ran → AtStep K limit t c h (Resting r)
+drops_at : (K : Kind) (limit t w : ℕ) (k : Answer) (c : SharedState) (h : List Entry) (r : Rest ℕ) → IsRun K limit h
+    → SharedFits K limit c h → QueueFits K c.listings h → (last_call K t h).waker ≡ w
+    → k ≡ kept_of (last_call K t h).ran → AtStep K limit t c h (Resting r)
     → Moves K limit t (Resting r) (record { waker = w; kept = k; step = step_of_drop_at r }) c c h (drop_entries t (step_of_drop_at r) ++ h)
 drops_at K limit t w k c h RestStart run shared queue wk kk a = drop_fresh K limit t w k c h run shared queue a.0 wk (kk ∙ a.1)
 drops_at K limit t w k c h (RestWait q None) run shared queue wk kk a = absurd a.0.2
-drops_at K limit t w k c h (RestWait q (Some n)) run shared queue wk kk a = drop_moves K limit t w k c h run shared queue (RestWait q (Some n)) (AtLeave q n EndDropped) (rw a.0.0.status_is tt) wk (kk ∙ a.1)
+drops_at K limit t w k c h (RestWait q (Some n)) run shared queue wk kk a =
+    drop_moves K limit t w k c h run shared queue (RestWait q (Some n)) (AtLeave q n EndDropped)
+    (rw a.0.0.status_is tt) wk (kk ∙ a.1)
     ((dropping K t h false a.0.0.holds_is, rw (eqb_self t) refl, rw (eqb_self t) refl), a.0.1, rw (eqb_self t) a.0.0.status_is, λ r. rw (eqb_self t) (a.0.2.1 r)) refl refl (λ _. refl) refl
 drops_at K limit t w k c h (RestRun None) run shared queue wk kk a = drop_moves K limit t w k c h run shared queue (RestRun None) (AtFast EndDropped) (rw a.0.0.status_is tt) wk (kk ∙ a.1)
     ((dropping K t h true a.0.0.holds_is, rw (eqb_self t) refl), a.0.1.0, a.0.1.1) refl refl (λ e. absurd (false≢true e)) refl
@@ -122,7 +151,9 @@ drops_at K limit t w k c h (RestRun (Some q)) run shared queue wk kk a = drop_mo
     ((dropping K t h true a.0.0.holds_is, rw (eqb_self t) refl), inr a.0.1.0, a.0.1.1) refl refl (λ e. absurd (false≢true e)) refl
 
 -- a drop begins from the step at rest
-pub drop_begins : (K : Kind) (limit t w : ℕ) (k : Answer) (c : SharedState) (h : List Entry) (s : Step ℕ ℕ) → IsRun K limit h → SharedFits K limit c h → QueueFits K c.listings h → (last_call K t h).waker ≡ w → k ≡ kept_of (last_call K t h).ran → is_resting s ≡ true → AtStep K limit t c h s
+pub drop_begins : (K : Kind) (limit t w : ℕ) (k : Answer) (c : SharedState) (h : List Entry) (s : Step ℕ ℕ)
+    → IsRun K limit h → SharedFits K limit c h → QueueFits K c.listings h → (last_call K t h).waker ≡ w
+    → k ≡ kept_of (last_call K t h).ran → is_resting s ≡ true → AtStep K limit t c h s
     → Moves K limit t s (record { waker = w; kept = k; step = step_of_drop s }) c c h (drop_entries t (step_of_drop s) ++ h)
 drop_begins K limit t w k c h (Resting r) run shared queue wk kk n a = drops_at K limit t w k c h r run shared queue wk kk a
 drop_begins K limit t w k c h (UnderWay p) run shared queue wk kk n a = absurd (false≢true n)

@@ -38,7 +38,8 @@ pub record Over (K : Kind) (t : ℕ) (h : List Entry) : Type 0 where
   pub holds_is : holds t (cell K h) ≡ false
 
 -- a finished task is gone
-pub over_at : (K : Kind) (limit t : ℕ) (c : SharedState) (h : List Entry) (x : Task) → TaskFits K limit t c h x → is_alive (Some x) ≡ false → InStatus K t h Gone false
+pub over_at : (K : Kind) (limit t : ℕ) (c : SharedState) (h : List Entry) (x : Task) → TaskFits K limit t c h x
+    → is_alive (Some x) ≡ false → InStatus K t h Gone false
 over_at K limit t c h x a d = subst (λ s. AtStep K limit t c h s) (finished x.step d) a.step
 
 -- a task that is not alive is unmade or gone
@@ -55,7 +56,9 @@ gone_list K (x ∷ xs) h f =
     rw here ih
 
 -- a made task that is not alive is gone
-made_gone : (K : Kind) (limit t : ℕ) (w : World) (o : Option Task) → Fits K limit w → w.tasks t ≡ o → StandsFor K limit t w.shared w.history o → is_alive o ≡ false → member t (made_in w.history) ≡ true → is_gone (status K t w.history) ≡ true
+made_gone : (K : Kind) (limit t : ℕ) (w : World) (o : Option Task) → Fits K limit w → w.tasks t ≡ o
+    → StandsFor K limit t w.shared w.history o → is_alive o ≡ false → member t (made_in w.history) ≡ true
+    → is_gone (status K t w.history) ≡ true
 made_gone K limit t w None f is a d m = absurd (false≢true (sym (f.made_only t is) ∙ m))
 made_gone K limit t w (Some x) f is a d m = let r = over_at K limit t w.shared w.history x a d in ap is_gone r.status_is
 
@@ -88,13 +91,15 @@ rest_not_gone K limit t c h (RestWait q k) a g = false≢true (sym (ap is_gone a
 rest_not_gone K limit t c h (RestRun by) a g = false≢true (sym (ap is_gone a.0.status_is) ∙ g)
 
 -- who is gone is finished
-gone_finished : (K : Kind) (limit t : ℕ) (c : SharedState) (h : List Entry) (s : Step ℕ ℕ) → AtStep K limit t c h s → is_gone (status K t h) ≡ true → not (is_finished s) ≡ false
+gone_finished : (K : Kind) (limit t : ℕ) (c : SharedState) (h : List Entry) (s : Step ℕ ℕ) → AtStep K limit t c h s
+    → is_gone (status K t h) ≡ true → not (is_finished s) ≡ false
 gone_finished K limit t c h (Resting r) a g = absurd (rest_not_gone K limit t c h r a.0 g)
 gone_finished K limit t c h (UnderWay p) a g = absurd (acts_not_gone (status K t h) (place_acts K limit t c h p a) g)
 gone_finished K limit t c h Finished a g = refl
 
 -- so is a task of the world
-gone_dead : (K : Kind) (limit t : ℕ) (w : World) (o : Option Task) → StandsFor K limit t w.shared w.history o → is_gone (status K t w.history) ≡ true → is_alive o ≡ false
+gone_dead : (K : Kind) (limit t : ℕ) (w : World) (o : Option Task) → StandsFor K limit t w.shared w.history o
+    → is_gone (status K t w.history) ≡ true → is_alive o ≡ false
 gone_dead K limit t w None a g = refl
 gone_dead K limit t w (Some x) a g = gone_finished K limit t w.shared w.history x.step a.step g
 

@@ -43,7 +43,8 @@ begun_live (UnderWay p) n e = refl
 begun_live Finished n e = absurd (false≢true e)
 
 -- the beginning of a poll
-begun_fits : (K : Kind) (limit : ℕ) (w : World) (t k : ℕ) (x : Task) → Fits K limit w → w.tasks t ≡ Some x → (r : Bool) → is_resting x.step ≡ r → Fits K limit (poll_world_by r w t k x)
+begun_fits : (K : Kind) (limit : ℕ) (w : World) (t k : ℕ) (x : Task) → Fits K limit w → w.tasks t ≡ Some x
+    → (r : Bool) → is_resting x.step ≡ r → Fits K limit (poll_world_by r w t k x)
 begun_fits K limit w t k x f found false r = f
 begun_fits K limit w t k x f found true r =
     let y : Task = record x { waker = k; step = step_of_poll x.step } in
@@ -52,7 +53,8 @@ begun_fits K limit w t k x f found true r =
     (begins K limit t k x.kept w.shared w.history x.step f.run f.shared f.queue own.kept_is r own.step)
 
 -- the beginning of a drop
-drop_fits : (K : Kind) (limit : ℕ) (w : World) (t : ℕ) (x : Task) → Fits K limit w → w.tasks t ≡ Some x → (r : Bool) → is_resting x.step ≡ r → Fits K limit (drop_world_by r w t x)
+drop_fits : (K : Kind) (limit : ℕ) (w : World) (t : ℕ) (x : Task) → Fits K limit w → w.tasks t ≡ Some x → (r : Bool)
+    → is_resting x.step ≡ r → Fits K limit (drop_world_by r w t x)
 drop_fits K limit w t x f found false r = f
 drop_fits K limit w t x f found true r =
     let y : Task = record x { step = step_of_drop x.step } in
@@ -61,7 +63,9 @@ drop_fits K limit w t x f found true r =
     (drop_begins K limit t x.waker x.kept w.shared w.history x.step f.run f.shared f.queue own.waker_is own.kept_is r own.step)
 
 -- a step
-goes_fits : (K : Kind) (limit : ℕ) (w : World) (t : ℕ) (a : Answer) (g : Bool) (x : Task) → 0 < limit → Fits K limit w → w.tasks t ≡ Some x → (r : Bool) → in_call x.step ≡ r → Fits K limit (go_world_by r (is_lazy K) limit w t a g x)
+goes_fits : (K : Kind) (limit : ℕ) (w : World) (t : ℕ) (a : Answer) (g : Bool) (x : Task) → 0 < limit
+    → Fits K limit w → w.tasks t ≡ Some x → (r : Bool) → in_call x.step ≡ r
+    → Fits K limit (go_world_by r (is_lazy K) limit w t a g x)
 goes_fits K limit w t a g x some f found false r = f
 goes_fits K limit w t a g x some f found true r =
     let o : Outcome = advance (is_lazy K) limit w.shared t x a g in
@@ -79,15 +83,36 @@ dropped_fits : (K : Kind) (limit : ℕ) (w : World) (t : ℕ) → Fits K limit w
 dropped_fits K limit w t f None is = f
 dropped_fits K limit w t f (Some x) is = drop_fits K limit w t x f is (is_resting x.step) refl
 
-gone_fits : (K : Kind) (limit : ℕ) (w : World) (t : ℕ) (a : Answer) (g : Bool) → 0 < limit → Fits K limit w → (o : Option Task) → w.tasks t ≡ o → Fits K limit (go_world (is_lazy K) limit w t a g o)
+gone_fits : (K : Kind) (limit : ℕ) (w : World) (t : ℕ) (a : Answer) (g : Bool) → 0 < limit → Fits K limit w
+    → (o : Option Task) → w.tasks t ≡ o → Fits K limit (go_world (is_lazy K) limit w t a g o)
 gone_fits K limit w t a g some f None is = f
 gone_fits K limit w t a g some f (Some x) is = goes_fits K limit w t a g x some f is (in_call x.step) refl
 
 -- how what is shared starts
 starting : (K : Kind) (limit : ℕ) → SharedFits K limit (first_world K).shared []
-starting Once limit = record { ready_is = refl; held_is = refl; value_is = λ v e. absurd (empty_not_set v e); answers_is = refl; within = omega arith; stands = λ _ l. absurd (omega arith); head_door = λ e. absurd (false≢true e) }
+starting Once limit = record {
+  ready_is = refl;
+  held_is = refl;
+  value_is = λ v e. absurd
+      (empty_not_set v e);
+  answers_is = refl;
+  within = omega arith;
+  stands = λ _ l. absurd
+      (omega arith);
+  head_door = λ e. absurd (false≢true e);
+}
 starting (OnceWith k) limit = record { ready_is = refl; held_is = refl; value_is = λ v e. same_value k v e; answers_is = refl; within = omega arith; stands = λ _ l. absurd (omega arith); head_door = λ e. absurd (false≢true e) }
-starting (Lazy k) limit = record { ready_is = refl; held_is = refl; value_is = λ v e. absurd (empty_not_set v e); answers_is = refl; within = omega arith; stands = λ _ l. absurd (omega arith); head_door = λ e. absurd (false≢true e) }
+starting (Lazy k) limit = record {
+  ready_is = refl;
+  held_is = refl;
+  value_is = λ v e. absurd
+      (empty_not_set v e);
+  answers_is = refl;
+  within = omega arith;
+  stands = λ _ l. absurd
+      (omega arith);
+  head_door = λ e. absurd (false≢true e);
+}
 starting (LazyWith k) limit = record { ready_is = refl; held_is = refl; value_is = λ v e. same_value k v e; answers_is = refl; within = omega arith; stands = λ _ l. absurd (omega arith); head_door = λ e. absurd (false≢true e) }
 
 -- nobody holds at the start

@@ -41,14 +41,17 @@ some_none : (y : Task) → Some y ≡ None → ⊥
 some_none y e = cc
 
 -- a task that was just made neither takes the queue nor waits
-alone_made : (K : Kind) (limit : ℕ) (w : World) (new : ℕ → Option Task) (t : ℕ) → Fits K limit w → new t ≡ Some fresh_task → ((u : ℕ) → t ≢ u → new u ≡ w.tasks u)
+alone_made : (K : Kind) (limit : ℕ) (w : World) (new : ℕ → Option Task) (t : ℕ) → Fits K limit w
+    → new t ≡ Some fresh_task → ((u : ℕ) → t ≢ u → new u ≡ w.tasks u)
     → (a b : ℕ) → (t ≡ a) ⊎ (t ≢ a) → (t ≡ b) ⊎ (t ≢ b) → is_take (step_of (new a)) ≡ true → is_inside (step_of (new b)) ≡ true → ⊥
 alone_made K limit w new t f there others a b (inl i) j k l = false≢true (sym (ap (λ o. is_take (step_of o)) there) ∙ subst (λ v. is_take (step_of (new v)) ≡ true) (sym i) k)
 alone_made K limit w new t f there others a b (inr i) (inl j) k l = false≢true (sym (ap (λ o. is_inside (step_of o)) there) ∙ subst (λ v. is_inside (step_of (new v)) ≡ true) (sym j) l)
 alone_made K limit w new t f there others a b (inr i) (inr j) k l = f.alone a b (ap (λ o. is_take (step_of o)) (sym (others a i)) ∙ k) (ap (λ o. is_inside (step_of o)) (sym (others b j)) ∙ l)
 
 -- who has a ticket had it before
-ticket_made : (w : World) (new : ℕ → Option Task) (t : ℕ) → new t ≡ Some fresh_task → ((u : ℕ) → t ≢ u → new u ≡ w.tasks u) → (u n : ℕ) → ticket_of (step_of (new u)) ≡ Some n → ticket_of (step_of (w.tasks u)) ≡ Some n
+ticket_made : (w : World) (new : ℕ → Option Task) (t : ℕ) → new t ≡ Some fresh_task
+    → ((u : ℕ) → t ≢ u → new u ≡ w.tasks u) → (u n : ℕ) → ticket_of (step_of (new u)) ≡ Some n
+    → ticket_of (step_of (w.tasks u)) ≡ Some n
 ticket_made w new t there others u n k = ⊎_elim
     (λ e. absurd (none_not_some n (sym (ap (λ i. ticket_of (step_of i)) there) ∙ subst (λ v. ticket_of (step_of (new v)) ≡ Some n) (sym e) k)))
     (λ d. ap (λ i. ticket_of (step_of i)) (sym (others u d)) ∙ k) (cases_eq t u)
@@ -75,7 +78,16 @@ made_fits K limit w t f None is =
     let out : member t (made_in h) ≡ false = f.made_only t is in
     let P : ℕ → Type 0 = λ u. StandsFor K limit u w.shared h' (new u) in
     let gave : kept_of (last_call K t h).ran ≡ RanPending = ap kept_of own.2 in
-    let same : P t = rw p.there (record { waker_is = rw (eqb_self t) own.1; kept_is = rw (eqb_self t) (sym gave); step = (record { status_is = rw (eqb_self t) refl; holds_is = own.0.holds_is }, rw (eqb_self t) gave) }) in
+    let same : P t = rw p.there (record {
+      waker_is = rw (eqb_self t) own.1;
+      kept_is = rw (eqb_self t)
+          (sym gave);
+      step = (
+        record { status_is = rw (eqb_self t) refl; holds_is = own.0.holds_is },
+        rw
+            (eqb_self t) gave,
+      );
+    }) in
     let before : ℕ → Bool = λ n. is_counted (step_of (w.tasks n)) in
     let later : ℕ → Bool = λ n. is_counted (step_of (new n)) in
     let lived : ℕ → Bool = λ n. is_alive (w.tasks n) in
@@ -125,7 +137,9 @@ look_fits K limit w f =
     let legal : IsLegal K limit (Look (look_value w.shared)) h = looked_is K limit w.shared h f.shared in
     let shared' : SharedFits K limit w.shared h' = shared_at K limit w.shared h h' refl refl f.shared in
     let queue' : QueueFits K w.shared.listings h' = quiet K w.shared.listings (Look (look_value w.shared)) h f.queue refl refl (λ _. refl) (λ u is. grind arith) (λ x. x) in
-    let stands : (u : ℕ) → StandsFor K limit u w.shared h' (w.tasks u) = λ u. stands_kept K limit u w.shared w.shared h h' (w.tasks u) f.shared.ready_is (legal_keeps K u (Look (look_value w.shared)) limit h refl legal refl)
+    let stands : (u : ℕ) → StandsFor K limit u w.shared h'
+    (w.tasks u) = λ u. stands_kept K limit u w.shared w.shared h h' (w.tasks u) f.shared.ready_is
+    (legal_keeps K u (Look (look_value w.shared)) limit h refl legal refl)
     (same_shared K limit w.shared w.shared u h (is_inside (step_of (w.tasks u))) refl refl refl refl refl (λ x. x)) (λ n o k r e. inl e) (f.tasks u) in
     record {
       run = (legal, f.run);

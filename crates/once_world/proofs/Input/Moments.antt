@@ -39,7 +39,8 @@ fresh_uncalled : (K : Kind) (t : ℕ) (h : List Entry) → status K t h ≡ Fres
 fresh_uncalled K t h f c = ⊎_elim (λ s. fresh_waits (sym f ∙ s)) (λ s. false≢true (ap is_under_way (sym f) ∙ s.under_way)) c.0
 
 -- the moment between the two entries of the drop of a task that was never polled
-pub drop_moment : (K : Kind) (limit t : ℕ) (h : List Entry) → status K t h ≡ Fresh → IsLegal K limit (DropBegin t) h → SomebodyCalled K h → SomebodyCalled K (DropBegin t ∷ h)
+pub drop_moment : (K : Kind) (limit t : ℕ) (h : List Entry) → status K t h ≡ Fresh → IsLegal K limit (DropBegin t) h
+    → SomebodyCalled K h → SomebodyCalled K (DropBegin t ∷ h)
 drop_moment K limit t h f legal before = λ e u s.
     let v = before e u (waited K (DropBegin t) h (λ u is. dropping_awake) u s) in
     let d : t ≢ v.0 = λ x. fresh_uncalled K t h f (subst (λ i. IsCalled K i h) (sym x) v.1) in

@@ -18,7 +18,9 @@ use Rattle.once_world.proofs.Place.Relisted.{no_listing}
 use Rattle.once_world.proofs.Input.Gone.{Over, done_gone, finished, none_alive, over, over_at}
 
 -- a task that is not there or finished stands in the new history as it stood
-stands_over : (K : Kind) (limit t : ℕ) (c c' : SharedState) (h : List Entry) (o : OwnerCall) (g : Got) (x : Option Task) → holds t (cell K (Own o g ∷ h)) ≡ false → StandsFor K limit t c h x → is_alive x ≡ false → StandsFor K limit t c' (Own o g ∷ h) x
+stands_over : (K : Kind) (limit t : ℕ) (c c' : SharedState) (h : List Entry) (o : OwnerCall) (g : Got) (x : Option Task)
+    → holds t (cell K (Own o g ∷ h)) ≡ false → StandsFor K limit t c h x → is_alive x ≡ false
+    → StandsFor K limit t c' (Own o g ∷ h) x
 stands_over K limit t c c' h o g None n a d = (record { status_is = a.0.status_is; holds_is = n }, a.1, a.2)
 stands_over K limit t c c' h o g (Some x) n a d =
     let r = over_at K limit t c h x a d in
@@ -49,19 +51,22 @@ owned_holds t (ReplaceValue v) c n = refl
 owned_holds t (ReplaceAnswers l) c n = refl
 
 -- the owner is given the value that is set
-value_is_got : (K : Kind) (limit : ℕ) (c : SharedState) (h : List Entry) (v : Cell) → cell K h ≡ v → SharedFits K limit c h → value_got c.ready c.value ≡ got_value (cell K h)
+value_is_got : (K : Kind) (limit : ℕ) (c : SharedState) (h : List Entry) (v : Cell) → cell K h ≡ v
+    → SharedFits K limit c h → value_got c.ready c.value ≡ got_value (cell K h)
 value_is_got K limit c h Empty e f = rw (e, f.ready_is, e) refl
 value_is_got K limit c h (Held u) e f = rw (e, f.ready_is, e) refl
 value_is_got K limit c h (SetTo v) e f = rw (e, f.ready_is, e, f.value_is v e) refl
 
 -- or the answers that are left
-parts_are_got : (K : Kind) (limit : ℕ) (c : SharedState) (h : List Entry) (v : Cell) → cell K h ≡ v → SharedFits K limit c h → parts_got c.ready c ≡ got_parts (cell K h) (answers_left K h)
+parts_are_got : (K : Kind) (limit : ℕ) (c : SharedState) (h : List Entry) (v : Cell) → cell K h ≡ v
+    → SharedFits K limit c h → parts_got c.ready c ≡ got_parts (cell K h) (answers_left K h)
 parts_are_got K limit c h Empty e f = rw (e, f.ready_is, e) (ap (λ l. GotAnswers l) f.answers_is)
 parts_are_got K limit c h (Held u) e f = rw (e, f.ready_is, e) (ap (λ l. GotAnswers l) f.answers_is)
 parts_are_got K limit c h (SetTo v) e f = rw (e, f.ready_is, e, f.value_is v e) refl
 
 -- the owner is given what the cell has
-pub owner_is_got : (K : Kind) (limit : ℕ) (o : OwnerCall) (c : SharedState) (h : List Entry) → SharedFits K limit c h → owner_got o c ≡ got o (cell K h) (answers_left K h)
+pub owner_is_got : (K : Kind) (limit : ℕ) (o : OwnerCall) (c : SharedState) (h : List Entry) → SharedFits K limit c h
+    → owner_got o c ≡ got o (cell K h) (answers_left K h)
 owner_is_got K limit Take c h f = value_is_got K limit c h (cell K h) refl f
 owner_is_got K limit (Write v) c h f = value_is_got K limit c h (cell K h) refl f
 owner_is_got K limit Parts c h f = parts_are_got K limit c h (cell K h) refl f
@@ -69,7 +74,10 @@ owner_is_got K limit (ReplaceValue v) c h f = value_is_got K limit c h (cell K h
 owner_is_got K limit (ReplaceAnswers l) c h f = value_is_got K limit c h (cell K h) refl f
 
 -- a cell made new fits
-reset_fits : (K : Kind) (limit : ℕ) (c : SharedState) (v : Option ℕ) (l : List (Option ℕ)) (h : List Entry) → is_some_value v ≡ is_set (cell K h) → is_held (cell K h) ≡ false → ((u : ℕ) → cell K h ≡ SetTo u → value_or v c.value ≡ u) → l ≡ answers_left K h → SharedFits K limit (reset_shared c v l) h
+reset_fits : (K : Kind) (limit : ℕ) (c : SharedState) (v : Option ℕ) (l : List (Option ℕ)) (h : List Entry)
+    → is_some_value v ≡ is_set (cell K h) → is_held (cell K h) ≡ false
+    → ((u : ℕ) → cell K h ≡ SetTo u → value_or v c.value ≡ u) → l ≡ answers_left K h
+    → SharedFits K limit (reset_shared c v l) h
 reset_fits K limit c v l h r n s a = record {
   ready_is = r;
   held_is = n;
@@ -81,7 +89,9 @@ reset_fits K limit c v l h r n s a = record {
 }
 
 -- a written value fits, and a cell without a value stays as it is
-written_shared : (K : Kind) (limit v : ℕ) (c : SharedState) (g : Got) (h : List Entry) (r : Bool) → c.ready ≡ r → is_held (cell K h) ≡ false → SharedFits K limit c h → SharedFits K limit (write_shared r v c) (Own (Write v) g ∷ h)
+written_shared : (K : Kind) (limit v : ℕ) (c : SharedState) (g : Got) (h : List Entry) (r : Bool) → c.ready ≡ r
+    → is_held (cell K h) ≡ false → SharedFits K limit c h
+    → SharedFits K limit (write_shared r v c) (Own (Write v) g ∷ h)
 written_shared K limit v c g h true r n f =
     let u = value_of_set (cell K h) (sym f.ready_is ∙ r) in
     let now : cell K (Own (Write v) g ∷ h) ≡ SetTo v = ap (write_cell v) u.1 in
@@ -124,17 +134,50 @@ written_empty v (Held u) e = e
 written_empty v (SetTo u) e = absurd (empty_not_set v (sym e))
 
 -- a writing, by whether a value is set
-owned_write : (K : Kind) (limit v : ℕ) (c : SharedState) (g : Got) (h : List Entry) (r : Bool) → c.ready ≡ r → is_held (cell K h) ≡ false → SharedFits K limit c h → QueueFits K c.listings (Own (Write v) g ∷ h) → Owned K limit c (write_shared r v c) (Write v) g h
+owned_write : (K : Kind) (limit v : ℕ) (c : SharedState) (g : Got) (h : List Entry) (r : Bool) → c.ready ≡ r
+    → is_held (cell K h) ≡ false → SharedFits K limit c h → QueueFits K c.listings (Own (Write v) g ∷ h)
+    → Owned K limit c (write_shared r v c) (Write v) g h
 owned_write K limit v c g h true r n f q = record { shared = written_shared K limit v c g h true r n f; queue = q; count = inr refl; lists = λ z n x e. (z, e) }
 owned_write K limit v c g h false r n f q = record { shared = written_shared K limit v c g h false r n f; queue = q; count = inr refl; lists = λ z n x e. (z, e) }
 
 -- what each call owes
-owned_so : (K : Kind) (limit : ℕ) (c : SharedState) (o : OwnerCall) (g : Got) (h : List Entry) → is_held (cell K h) ≡ false → SharedFits K limit c h → QueueFits K c.listings h → ((u : ℕ) → status K u h ≢ Waiting) → Owned K limit c (owner_shared o c) o g h
-owned_so K limit c Take g h n f q w = record { shared = reset_fits K limit c None c.answers (Own Take g ∷ h) refl refl (λ u e. absurd (empty_not_set u e)) f.answers_is; queue = replaced K Take g h refl w; count = inl refl; lists = λ z n x e. absurd (no_listing x e) }
-owned_so K limit c Parts g h n f q w = record { shared = reset_fits K limit c None [] (Own Parts g ∷ h) refl refl (λ u e. absurd (empty_not_set u e)) refl; queue = replaced K Parts g h refl w; count = inl refl; lists = λ z n x e. absurd (no_listing x e) }
-owned_so K limit c (ReplaceValue v) g h n f q w = record { shared = reset_fits K limit c (Some v) [] (Own (ReplaceValue v) g ∷ h) refl refl (λ u e. same_value v u e) refl; queue = replaced K (ReplaceValue v) g h refl w; count = inl refl; lists = λ z n x e. absurd (no_listing x e) }
-owned_so K limit c (ReplaceAnswers l) g h n f q w = record { shared = reset_fits K limit c None l (Own (ReplaceAnswers l) g ∷ h) refl refl (λ u e. absurd (empty_not_set u e)) refl; queue = replaced K (ReplaceAnswers l) g h refl w; count = inl refl; lists = λ z n x e. absurd (no_listing x e) }
-owned_so K limit c (Write v) g h n f q w = owned_write K limit v c g h c.ready refl n f (quiet K c.listings (Own (Write v) g) h q refl refl (λ _. refl) (λ u is. absurd (false≢true is)) (written_empty v (cell K h)))
+owned_so : (K : Kind) (limit : ℕ) (c : SharedState) (o : OwnerCall) (g : Got) (h : List Entry)
+    → is_held (cell K h) ≡ false → SharedFits K limit c h → QueueFits K c.listings h
+    → ((u : ℕ) → status K u h ≢ Waiting) → Owned K limit c (owner_shared o c) o g h
+owned_so K limit c Take g h n f q w = record {
+  shared = reset_fits K limit c None c.answers
+      (Own Take g ∷ h) refl refl (λ u e. absurd
+      (empty_not_set u e)) f.answers_is;
+  queue = replaced K Take g h refl w;
+  count = inl refl;
+  lists = λ z n x e. absurd (no_listing x e);
+}
+owned_so K limit c Parts g h n f q w = record {
+  shared = reset_fits K limit c None [] (Own Parts g ∷ h) refl refl
+      (λ u e. absurd (empty_not_set u e)) refl;
+  queue = replaced K Parts g h refl w;
+  count = inl refl;
+  lists = λ z n x e. absurd (no_listing x e);
+}
+owned_so K limit c (ReplaceValue v) g h n f q w = record {
+  shared = reset_fits K limit c (Some v) []
+      (Own (ReplaceValue v) g ∷ h) refl refl (λ u e. same_value v u e) refl;
+  queue = replaced K
+      (ReplaceValue v) g h refl w;
+  count = inl refl;
+  lists = λ z n x e. absurd (no_listing x e);
+}
+owned_so K limit c (ReplaceAnswers l) g h n f q w = record {
+  shared = reset_fits K limit c None l
+      (Own (ReplaceAnswers l) g ∷ h) refl refl (λ u e. absurd (empty_not_set u e)) refl;
+  queue = replaced K
+      (ReplaceAnswers l) g h refl w;
+  count = inl refl;
+  lists = λ z n x e. absurd (no_listing x e);
+}
+owned_so K limit c (Write v) g h n f q w =
+    owned_write K limit v c g h c.ready refl n f
+    (quiet K c.listings (Own (Write v) g) h q refl refl (λ _. refl) (λ u is. absurd (false≢true is)) (written_empty v (cell K h)))
 
 -- a task that is unmade or gone does not wait
 over_awake : (K : Kind) (t : ℕ) (h : List Entry) → Over K t h → status K t h ≢ Waiting
@@ -172,7 +215,8 @@ owner_fits K limit w o f d =
     }
 
 -- by whether the call fits
-pub owned_fits : (K : Kind) (limit : ℕ) (w : World) (o : OwnerCall) (d b : Bool) → (w.unfinished == 0) ≡ d → Fits K limit w → Fits K limit (own_world_by d b w o)
+pub owned_fits : (K : Kind) (limit : ℕ) (w : World) (o : OwnerCall) (d b : Bool) → (w.unfinished == 0) ≡ d
+    → Fits K limit w → Fits K limit (own_world_by d b w o)
 owned_fits K limit w o true true e f = owner_fits K limit w o f (eqb-true w.unfinished 0 e)
 owned_fits K limit w o true false e f = f
 owned_fits K limit w o false b e f = f

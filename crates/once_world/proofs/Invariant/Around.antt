@@ -85,13 +85,15 @@ pub no_wait : {s : Status} → is_under_way s ≡ true → s ≡ Waiting → ⊥
 no_wait a w = false≢true (sym (ap is_under_way w) ∙ a)
 
 -- a task at rest that waits is a waiter, with its queue at the door
-waiting_at : (K : Kind) (limit u : ℕ) (c : SharedState) (h : List Entry) (r : Rest ℕ) → AtRest K limit u c h r → status K u h ≡ Waiting → (is_inside (Resting r) ≡ true) × IsSomeDoor c
+waiting_at : (K : Kind) (limit u : ℕ) (c : SharedState) (h : List Entry) (r : Rest ℕ) → AtRest K limit u c h r
+    → status K u h ≡ Waiting → (is_inside (Resting r) ≡ true) × IsSomeDoor c
 waiting_at K limit u c h RestStart a s = grind (arith, a.status_is)
 waiting_at K limit u c h (RestWait q k) a s = (refl, (q, a.1))
 waiting_at K limit u c h (RestRun by) a s = grind (arith, a.0.status_is)
 
 -- and no other task waits
-waiting_in : (K : Kind) (limit u : ℕ) (c : SharedState) (h : List Entry) (x : Step ℕ ℕ) → AtStep K limit u c h x → status K u h ≡ Waiting → (is_inside x ≡ true) × IsSomeDoor c
+waiting_in : (K : Kind) (limit u : ℕ) (c : SharedState) (h : List Entry) (x : Step ℕ ℕ) → AtStep K limit u c h x
+    → status K u h ≡ Waiting → (is_inside x ≡ true) × IsSomeDoor c
 waiting_in K limit u c h (Resting r) a s = waiting_at K limit u c h r a.0 s
 waiting_in K limit u c h (UnderWay p) a s = absurd (no_wait (place_acts K limit u c h p a) s)
 waiting_in K limit u c h Finished a s = grind (arith, a.status_is)
@@ -123,7 +125,8 @@ head_put None e = e
 head_put (Some q) e = refl
 
 -- while the flag of the lock stands, the holder is in the count
-head_at : (K : Kind) (limit u : ℕ) (c : SharedState) (h : List Entry) (p : Place ℕ ℕ) → AtPlace K limit u c h p → holds u (cell K h) ≡ true → c.head ≡ true → is_counted_at p ≡ true
+head_at : (K : Kind) (limit u : ℕ) (c : SharedState) (h : List Entry) (p : Place ℕ ℕ) → AtPlace K limit u c h p
+    → holds u (cell K h) ≡ true → c.head ≡ true → is_counted_at p ≡ true
 head_at K limit u c h AtStart a s k = absurd (false≢true (sym a.0.poll.holds_is ∙ s))
 head_at K limit u c h AtTryQuick a s k = absurd (false≢true (sym a.0.entered.poll.holds_is ∙ s))
 head_at K limit u c h AtDoorGet a s k = absurd (false≢true (sym a.0.entered.poll.holds_is ∙ s))
@@ -137,7 +140,8 @@ head_at K limit u c h (AtDoorTake e) a s k = absurd (false≢true (sym (owes_hol
 head_at K limit u c h _ a s k = refl
 
 -- the same at rest
-head_in : (K : Kind) (limit u : ℕ) (c : SharedState) (h : List Entry) (x : Step ℕ ℕ) → AtStep K limit u c h x → holds u (cell K h) ≡ true → c.head ≡ true → is_counted x ≡ true
+head_in : (K : Kind) (limit u : ℕ) (c : SharedState) (h : List Entry) (x : Step ℕ ℕ) → AtStep K limit u c h x
+    → holds u (cell K h) ≡ true → c.head ≡ true → is_counted x ≡ true
 head_in K limit u c h (Resting RestStart) a s k = absurd (false≢true (sym a.0.holds_is ∙ s))
 head_in K limit u c h (Resting (RestWait q n)) a s k = refl
 head_in K limit u c h (Resting (RestRun by)) a s k = head_by K limit u c h by a.0.1 k
@@ -145,17 +149,20 @@ head_in K limit u c h (UnderWay p) a s k = head_at K limit u c h p a s k
 head_in K limit u c h Finished a s k = absurd (false≢true (sym a.holds_is ∙ s))
 
 -- a task that waits is inside, and a queue stands at the door
-pub stands_waiting : (K : Kind) (limit u : ℕ) (c : SharedState) (h : List Entry) (o : Option Task) → StandsFor K limit u c h o → status K u h ≡ Waiting → (is_inside (step_of o) ≡ true) × IsSomeDoor c
+pub stands_waiting : (K : Kind) (limit u : ℕ) (c : SharedState) (h : List Entry) (o : Option Task)
+    → StandsFor K limit u c h o → status K u h ≡ Waiting → (is_inside (step_of o) ≡ true) × IsSomeDoor c
 stands_waiting K limit u c h None a s = grind (arith, a.0.status_is)
 stands_waiting K limit u c h (Some x) a s = waiting_in K limit u c h x.step a.step s
 
 -- what a counted task of the world is
-pub stands_counted : (K : Kind) (limit u : ℕ) (c : SharedState) (h : List Entry) (o : Option Task) → StandsFor K limit u c h o → is_counted (step_of o) ≡ true → IsCounted K u h
+pub stands_counted : (K : Kind) (limit u : ℕ) (c : SharedState) (h : List Entry) (o : Option Task)
+    → StandsFor K limit u c h o → is_counted (step_of o) ≡ true → IsCounted K u h
 stands_counted K limit u c h None a s = absurd (false≢true s)
 stands_counted K limit u c h (Some x) a s = counted_in K limit u c h x.step a.step s
 
 -- the holder under the lock is in the count
-stands_head : (K : Kind) (limit u : ℕ) (c : SharedState) (h : List Entry) (o : Option Task) → StandsFor K limit u c h o → holds u (cell K h) ≡ true → c.head ≡ true → is_counted (step_of o) ≡ true
+stands_head : (K : Kind) (limit u : ℕ) (c : SharedState) (h : List Entry) (o : Option Task)
+    → StandsFor K limit u c h o → holds u (cell K h) ≡ true → c.head ≡ true → is_counted (step_of o) ≡ true
 stands_head K limit u c h None a s k = absurd (false≢true (sym a.0.holds_is ∙ s))
 stands_head K limit u c h (Some x) a s k = head_in K limit u c h x.step a.step s k
 
@@ -184,7 +191,8 @@ differs : (t u : ℕ) (w : World) → is_counted (step_of (w.tasks t)) ≡ false
 differs t u w n k e = false≢true (sym n ∙ subst (λ v. is_counted (step_of (w.tasks v)) ≡ true) (sym e) k)
 
 -- a counted task is another one, and acts or waits
-acts_by : (K : Kind) (limit t : ℕ) (w : World) → Fits K limit w → is_counted (step_of (w.tasks t)) ≡ false → 0 < w.shared.count → Met K t w.history ⊎ SomeoneWaits K w.history
+acts_by : (K : Kind) (limit t : ℕ) (w : World) → Fits K limit w → is_counted (step_of (w.tasks t)) ≡ false
+    → 0 < w.shared.count → Met K t w.history ⊎ SomeoneWaits K w.history
 acts_by K limit t w f n l =
     let some = count_some (made_in w.history) (λ u. is_counted (step_of (w.tasks u))) (subst (λ k. 0 < k) f.count_is l) in
     let d = differs t some.0 w n some.1 in
@@ -203,7 +211,8 @@ crowd_by K limit t w f n =
     (about (⊎_elim (λ e. inl e) (λ a. inr (⊎_elim (λ k. inl k) (λ k. inr k.0) a)) (stands_counted K limit u w.shared w.history (w.tasks u) (f.tasks u) k)))))
 
 -- all that a step may know of the others holds
-pub around : (K : Kind) (limit t : ℕ) (x : Task) (w : World) → Fits K limit w → w.tasks t ≡ Some x → Around K t (is_counted x.step) (is_take x.step) w.shared w.history
+pub around : (K : Kind) (limit t : ℕ) (x : Task) (w : World) → Fits K limit w → w.tasks t ≡ Some x
+    → Around K t (is_counted x.step) (is_take x.step) w.shared w.history
 around K limit t x w f found =
     let h : List Entry = w.history in
     let was : step_of (w.tasks t) ≡ x.step = ap step_of found in

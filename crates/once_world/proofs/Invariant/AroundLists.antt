@@ -19,7 +19,8 @@ pub record AroundList (K : Kind) (t : ℕ) (k : Option ℕ) (c : SharedState) (h
   pub empty : c.ready ≡ false → c.door ≡ None → (n : ℕ) (o : Option ℕ) → find_listing n c.listings ≡ Some o → ⊥
 
 -- while the value is not set, a listing has the waker that is due
-pub due_asks : (K : Kind) (t : ℕ) (k : Option ℕ) (c : SharedState) (h : List Entry) → c.ready ≡ false → AroundList K t k c h → (w : ℕ) → IsDue K w h → 0 < asks w c.listings
+pub due_asks : (K : Kind) (t : ℕ) (k : Option ℕ) (c : SharedState) (h : List Entry) → c.ready ≡ false
+    → AroundList K t k c h → (w : ℕ) → IsDue K w h → 0 < asks w c.listings
 due_asks K t k c h r a w d =
     let l = a.listed d.0 d.1 in
     ⊎_elim (λ f. asks_found l.0 w c.listings (subst (λ v. find_listing l.0 c.listings ≡ Some (Some v)) (l.2 ∙ d.2) f))
@@ -34,18 +35,21 @@ ticket_rests K u c h None a = absurd a
 ticket_rests K u c h (Some n) a = (n, refl, a.0, a.1)
 
 -- a task at rest that waits has a ticket
-rests_at : (K : Kind) (limit u : ℕ) (c : SharedState) (h : List Entry) (r : Rest ℕ) → AtRest K limit u c h r → status K u h ≡ Waiting → RestsBy K u c h (ticket_of (Resting r))
+rests_at : (K : Kind) (limit u : ℕ) (c : SharedState) (h : List Entry) (r : Rest ℕ) → AtRest K limit u c h r
+    → status K u h ≡ Waiting → RestsBy K u c h (ticket_of (Resting r))
 rests_at K limit u c h RestStart a s = grind (arith, a.status_is)
 rests_at K limit u c h (RestWait q k) a s = ticket_rests K u c h k a.2
 rests_at K limit u c h (RestRun by) a s = grind (arith, a.0.status_is)
 
 -- and no other waits
-rests_in : (K : Kind) (limit u : ℕ) (c : SharedState) (h : List Entry) (x : Step ℕ ℕ) → AtStep K limit u c h x → status K u h ≡ Waiting → RestsBy K u c h (ticket_of x)
+rests_in : (K : Kind) (limit u : ℕ) (c : SharedState) (h : List Entry) (x : Step ℕ ℕ) → AtStep K limit u c h x
+    → status K u h ≡ Waiting → RestsBy K u c h (ticket_of x)
 rests_in K limit u c h (Resting r) a s = rests_at K limit u c h r a.0 s
 rests_in K limit u c h (UnderWay p) a s = absurd (no_wait (place_acts K limit u c h p a) s)
 rests_in K limit u c h Finished a s = grind (arith, a.status_is)
 
-stands_rests : (K : Kind) (limit u : ℕ) (c : SharedState) (h : List Entry) (o : Option Task) → StandsFor K limit u c h o → status K u h ≡ Waiting → RestsBy K u c h (ticket_of (step_of o))
+stands_rests : (K : Kind) (limit u : ℕ) (c : SharedState) (h : List Entry) (o : Option Task)
+    → StandsFor K limit u c h o → status K u h ≡ Waiting → RestsBy K u c h (ticket_of (step_of o))
 stands_rests K limit u c h None a s = grind (arith, a.0.status_is)
 stands_rests K limit u c h (Some x) a s = rests_in K limit u c h x.step a.step s
 

@@ -20,7 +20,14 @@ pub record SharedKeeps (K : Kind) (limit : ℕ) (c c' : SharedState) (u : ℕ) (
 
 -- the facts of the history, one after the other
 in_poll_kept : (K : Kind) (u : ℕ) (h h' : List Entry) (a : Option Answer) (b : Bool) → Keeps K u h h' → InPoll K u h a b → InPoll K u h' a b
-in_poll_kept K u h h' a b k p = record { status_is = k.status_is ∙ p.status_is; ran_is = ap (λ (x : LastCall). x.ran) k.call_is ∙ p.ran_is; holds_is = k.holds_is ∙ p.holds_is; unpassed = ap (λ (x : LastCall). x.passed) k.call_is ∙ p.unpassed }
+in_poll_kept K u h h' a b k p = record {
+  status_is = k.status_is
+      ∙ p.status_is;
+  ran_is = ap (λ (x : LastCall). x.ran) k.call_is ∙ p.ran_is;
+  holds_is = k.holds_is
+      ∙ p.holds_is;
+  unpassed = ap (λ (x : LastCall). x.passed) k.call_is ∙ p.unpassed;
+}
 
 pub in_status_kept : (K : Kind) (u : ℕ) (h h' : List Entry) (s : Status) (b : Bool) → Keeps K u h h' → InStatus K u h s b → InStatus K u h' s b
 in_status_kept K u h h' s b k p = record { status_is = k.status_is ∙ p.status_is; holds_is = k.holds_is ∙ p.holds_is }
@@ -32,7 +39,13 @@ entered_kept : (K : Kind) (u : ℕ) (h h' : List Entry) → Keeps K u h h' → E
 entered_kept K u h h' k p = record { poll = in_poll_kept K u h h' None false k p.poll; unclaimed = ap (λ (x : LastCall). x.claimed) k.call_is ∙ p.unclaimed }
 
 fresh_kept : (K : Kind) (u : ℕ) (h h' : List Entry) → Keeps K u h h' → FreshIn K u h → FreshIn K u h'
-fresh_kept K u h h' k p = record { entered = entered_kept K u h h' k p.entered; began_is = ap (λ (x : LastCall). x.began) k.call_is ∙ p.began_is; unset = ap (λ (x : LastCall). x.set_then) k.call_is ∙ p.unset }
+fresh_kept K u h h' k p = record {
+  entered = entered_kept K u h h' k p.entered;
+  began_is = ap
+      (λ (x : LastCall). x.began) k.call_is ∙ p.began_is;
+  unset = ap (λ (x : LastCall). x.set_then) k.call_is
+      ∙ p.unset;
+}
 
 any_kept : (K : Kind) (u : ℕ) (h h' : List Entry) → Keeps K u h h' → AnyIn K u h → AnyIn K u h'
 any_kept K u h h' k p = record { entered = entered_kept K u h h' k p.entered; from = rw k.call_is p.from }
@@ -47,7 +60,14 @@ memory_kept K Holding u h h' k m = m
 memory_kept K Gone u h h' k m = m
 
 refused_kept : (K : Kind) (u : ℕ) (h h' : List Entry) → Keeps K u h h' → RefusedIn K u h → RefusedIn K u h'
-refused_kept K u h h' k p = record { status_is = k.status_is ∙ p.status_is; ran_is = ap (λ (x : LastCall). x.ran) k.call_is ∙ p.ran_is; holds_is = k.holds_is ∙ p.holds_is; unclaimed = ap (λ (x : LastCall). x.claimed) k.call_is ∙ p.unclaimed }
+refused_kept K u h h' k p = record {
+  status_is = k.status_is
+      ∙ p.status_is;
+  ran_is = ap (λ (x : LastCall). x.ran) k.call_is ∙ p.ran_is;
+  holds_is = k.holds_is
+      ∙ p.holds_is;
+  unclaimed = ap (λ (x : LastCall). x.claimed) k.call_is ∙ p.unclaimed;
+}
 
 leaves_kept : (K : Kind) (u : ℕ) (h h' : List Entry) (e : Ending) → Keeps K u h h' → Leaves K u h e → Leaves K u h' e
 leaves_kept K u h h' EndMemory k o = (entered_kept K u h h' k o.0, rw k.call_is (memory_kept K (last_call K u h).began u h h' k o.1))
@@ -67,7 +87,8 @@ owes_kept K u h h' EndPending k o = absurd o
 owes_kept K u h h' EndFull k o = absurd o
 
 -- what a holder that releases keeps
-releasing_kept : (K : Kind) (u : ℕ) (c c' : SharedState) (h h' : List Entry) (e : Ending) → Keeps K u h h' → c'.value ≡ c.value → Releasing K u h c e → Releasing K u h' c' e
+releasing_kept : (K : Kind) (u : ℕ) (c c' : SharedState) (h h' : List Entry) (e : Ending) → Keeps K u h h'
+    → c'.value ≡ c.value → Releasing K u h c e → Releasing K u h' c' e
 releasing_kept K u c c' h h' EndValue k s r = (r.0, in_poll_kept K u h h' (Some (RanValue r.0)) true k r.1, s ∙ r.2)
 releasing_kept K u c c' h h' EndError k s r = (r.0, in_poll_kept K u h h' (Some (RanError r.0)) true k r.1)
 releasing_kept K u c c' h h' EndDropped k s r = (in_status_kept K u h h' Dropping true k r.0, nothing_kept K u h h' k r.1)
@@ -93,7 +114,9 @@ record HolderKeeps (limit : ℕ) (c c' : SharedState) : Type 0 where
   door : (q : ℕ) → c.door ≡ Some q → c'.door ≡ Some q
 
 -- a holder keeps the flags, the value, the bound and the door
-holder_keeps : (K : Kind) (limit u : ℕ) (c c' : SharedState) (h : List Entry) (inside : Bool) → c.ready ≡ is_set (cell K h) → holds u (cell K h) ≡ true → SharedKeeps K limit c c' u h inside → HolderKeeps limit c c'
+holder_keeps : (K : Kind) (limit u : ℕ) (c c' : SharedState) (h : List Entry) (inside : Bool)
+    → c.ready ≡ is_set (cell K h) → holds u (cell K h) ≡ true → SharedKeeps K limit c c' u h inside
+    → HolderKeeps limit c c'
 holder_keeps K limit u c c' h inside r hold k =
     let unset : c.ready ≡ false = r ∙ holder_unset u (cell K h) hold in
     record {
@@ -127,13 +150,15 @@ stays_set (Held t) c' f e = grind arith
 
 module _ (K : Kind) (limit u : ℕ) (c c' : SharedState) (h h' : List Entry) (r : c.ready ≡ is_set (cell K h)) (k : Keeps K u h h') where
   -- a task at rest
-  rest_kept : (x : Rest ℕ) → SharedKeeps K limit c c' u h (is_inside (Resting x)) → ListKept u (ticket_of (Resting x)) c c' h' → AtRest K limit u c h x → AtRest K limit u c' h' x
+  rest_kept : (x : Rest ℕ) → SharedKeeps K limit c c' u h (is_inside (Resting x))
+      → ListKept u (ticket_of (Resting x)) c c' h' → AtRest K limit u c h x → AtRest K limit u c' h' x
   rest_kept RestStart s l a = in_status_kept K u h h' Fresh false k a
   rest_kept (RestWait q n) s l a = (in_status_kept K u h h' Waiting false k a.0, inside_door K limit u q c c' h s a.1, rests_kept K u c c' h h' n s.ready k l a.2)
   rest_kept (RestRun by) s l a = (in_status_kept K u h h' Holding true k a.0, holds_by_kept limit c c' by (holder_keeps K limit u c c' h (is_inside (Resting (RestRun by))) r a.0.holds_is s) a.1)
 
   -- a task with a call under way
-  place_kept : (p : Place ℕ ℕ) → SharedKeeps K limit c c' u h (is_inside_at p) → ListKept u (ticket_at p) c c' h' → AtPlace K limit u c h p → AtPlace K limit u c' h' p
+  place_kept : (p : Place ℕ ℕ) → SharedKeeps K limit c c' u h (is_inside_at p) → ListKept u (ticket_at p) c c' h'
+      → AtPlace K limit u c h p → AtPlace K limit u c' h' p
   place_kept AtStart s l a = (entered_kept K u h h' k a.0, rw k.call_is a.1, λ e. stays_set (cell K h) (cell K h') k.set_stays (a.2 (sym (ap (λ (x : LastCall). x.set_then) k.call_is) ∙ e)))
   place_kept AtTryQuick s l a = (fresh_kept K u h h' k a.0, ⊎_elim (λ n. k.became_set n) (λ m. inr (k.met m)) a.1)
   place_kept AtDoorGet s l a = (fresh_kept K u h h' k a.0, ⊎_elim (λ m. inl (k.met m)) (λ w. k.waits w) a.1)
@@ -142,18 +167,34 @@ module _ (K : Kind) (limit u : ℕ) (c c' : SharedState) (h h' : List Entry) (r 
   place_kept (AtWaitLoad q n) s l a = (any_kept K u h h' k a.0, inside_door K limit u q c c' h s a.1, ticket_kept K u c c' h h' n s.ready k l a.2)
   place_kept (AtLook q n) s l a = (any_kept K u h h' k a.0, inside_door K limit u q c c' h s a.1, ticket_kept K u c c' h h' n s.ready k l a.2)
   place_kept (AtList q n w) s l a = (any_kept K u h h' k a.0, inside_door K limit u q c c' h s a.1, ticket_kept K u c c' h h' n s.ready k l a.2, k.met_holder a.3, rw k.call_is a.4)
-  place_kept (AtLeave q n e) s l a = (leaves_kept K u h h' e k a.0, inside_door K limit u q c c' h s a.1, ap (λ (x : LastCall). x.began) k.call_is ∙ a.2, listed_kept K u c c' h h' n (Some n) refl s.ready k l a.3)
+  place_kept (AtLeave q n e) s l a =
+      (leaves_kept K u h h' e k a.0, inside_door K limit u q c c' h s a.1, ap (λ (x : LastCall). x.began) k.call_is ∙ a.2, listed_kept K u c c' h h' n (Some n) refl s.ready k l a.3)
   place_kept (AtRun by) s l a = let x = holder_keeps K limit u c c' h false r a.0.holds_is s in (in_poll_kept K u h h' None true k a.0, holds_by_kept limit c c' by x a.1)
   place_kept (AtPut by) s l a = let x = holder_keeps K limit u c c' h false r a.1.holds_is s in (a.0, in_poll_kept K u h h' (Some (RanValue a.0)) true k a.1, holds_by_kept limit c c' by x a.2)
-  place_kept (AtFast e) s l a = let x = holder_keeps K limit u c c' h false r (releasing_holds K u c h e a.0) s in (releasing_kept K u c c' h h' e k x.value_is a.0, quick_kept limit c c' x a.1, x.within a.2)
-  place_kept (AtAddOne e) s l a = let x = holder_keeps K limit u c c' h false r (releasing_holds K u c h e a.0) s in (releasing_kept K u c c' h h' e k x.value_is a.0, quick_kept limit c c' x a.1, x.within a.2, (a.3.0, x.door a.3.0 a.3.1))
-  place_kept (AtDoorAgain e) s l a = let x = holder_keeps K limit u c c' h false r (releasing_holds K u c h e a.0) s in (releasing_kept K u c c' h h' e k x.value_is a.0, quick_kept limit c c' x a.1, (a.2.0, x.door a.2.0 a.2.1))
-  place_kept (AtRelease q e) s l a = let x = holder_keeps K limit u c c' h false r (releasing_holds K u c h e a.0) s in (releasing_kept K u c c' h h' e k x.value_is a.0, ⊎_elim (λ f. inl (quick_kept limit c c' x f)) (λ f. inr (head_kept limit c c' x f)) a.1, x.door q a.2)
+  place_kept (AtFast e) s l a = let x = holder_keeps K limit u c c' h false r (releasing_holds K u c h e a.0) s in
+      (releasing_kept K u c c' h h' e k x.value_is a.0, quick_kept limit c c' x a.1, x.within a.2)
+  place_kept (AtAddOne e) s l a = let x = holder_keeps K limit u c c' h false r (releasing_holds K u c h e a.0) s in (
+    releasing_kept K u c c' h h' e k x.value_is a.0,
+    quick_kept limit c c' x a.1,
+    x.within a.2,
+    (a.3.0, x.door a.3.0 a.3.1),
+  )
+  place_kept (AtDoorAgain e) s l a = let x = holder_keeps K limit u c c' h false r
+      (releasing_holds K u c h e a.0) s in
+      (releasing_kept K u c c' h h' e k x.value_is a.0, quick_kept limit c c' x a.1, (a.2.0, x.door a.2.0 a.2.1))
+  place_kept (AtRelease q e) s l a = let x = holder_keeps K limit u c c' h false r
+      (releasing_holds K u c h e a.0) s in (
+        releasing_kept K u c c' h h' e k x.value_is a.0,
+        ⊎_elim
+            (λ f. inl (quick_kept limit c c' x f)) (λ f. inr (head_kept limit c c' x f)) a.1,
+        x.door q a.2,
+      )
   place_kept (AtCountOut e) s l a = owes_kept K u h h' e k a
   place_kept (AtDoorTake e) s l a = (owes_kept K u h h' e k a.0, s.ready a.1)
 
   -- a task keeps what stands for it through the step of another
-  pub step_kept : (x : Step ℕ ℕ) → SharedKeeps K limit c c' u h (is_inside x) → ListKept u (ticket_of x) c c' h' → AtStep K limit u c h x → AtStep K limit u c' h' x
+  pub step_kept : (x : Step ℕ ℕ) → SharedKeeps K limit c c' u h (is_inside x) → ListKept u (ticket_of x) c c' h'
+      → AtStep K limit u c h x → AtStep K limit u c' h' x
   step_kept (Resting x) s l a = (rest_kept x s l a.0, nothing_kept K u h h' k a.1)
   step_kept (UnderWay p) s l a = place_kept p s l a
   step_kept Finished s l a = in_status_kept K u h h' Gone false k a

@@ -32,7 +32,8 @@ same_some a b e = cc
 
 module _ (K : Kind) (u : ℕ) (c c' : SharedState) (h h' : List Entry) where
   -- a listing
-  pub listed_kept : (n : ℕ) (k : Option ℕ) → k ≡ Some n → (c.ready ≡ true → c'.ready ≡ true) → Keeps K u h h' → ListKept u k c c' h' → IsListed K u c h n → IsListed K u c' h' n
+  pub listed_kept : (n : ℕ) (k : Option ℕ) → k ≡ Some n → (c.ready ≡ true → c'.ready ≡ true) → Keeps K u h h'
+      → ListKept u k c c' h' → IsListed K u c h n → IsListed K u c' h' n
   listed_kept n k is up kp l a = λ r.
       let same : (last_call K u h').listed ≡ (last_call K u h).listed = ap (λ (x : LastCall). x.listed) kp.call_is in
       rw same (⊎_elim

@@ -51,7 +51,9 @@ puts t y tasks = record {
 }
 
 -- a task of the world keeps what stands for it
-pub stands_kept : (K : Kind) (limit u : ℕ) (c c' : SharedState) (h h' : List Entry) (o : Option Task) → c.ready ≡ is_set (cell K h) → Keeps K u h h' → SharedKeeps K limit c c' u h (is_inside (step_of o)) → ListKept u (ticket_of (step_of o)) c c' h' → StandsFor K limit u c h o → StandsFor K limit u c' h' o
+pub stands_kept : (K : Kind) (limit u : ℕ) (c c' : SharedState) (h h' : List Entry) (o : Option Task)
+    → c.ready ≡ is_set (cell K h) → Keeps K u h h' → SharedKeeps K limit c c' u h (is_inside (step_of o))
+    → ListKept u (ticket_of (step_of o)) c c' h' → StandsFor K limit u c h o → StandsFor K limit u c' h' o
 stands_kept K limit u c c' h h' None r k s l a = (in_status_kept K u h h' _ false k a.0, rw k.call_is a.1, rw k.call_is a.2)
 stands_kept K limit u c c' h h' (Some x) r k s l a = record { waker_is = rw k.call_is a.waker_is; kept_is = rw k.call_is a.kept_is; step = step_kept K limit u c c' h h' r k x.step s l a.step }
 
@@ -115,12 +117,14 @@ take_ready_in K limit t c h (UnderWay p) a k = take_ready_at K limit t c h p a k
 take_ready_in K limit t c h Finished a k = absurd (false≢true k)
 
 -- the value is set where a task takes the queue out of the door
-take_ready : (K : Kind) (limit t : ℕ) (c : SharedState) (h : List Entry) (o : Option Task) → StandsFor K limit t c h o → is_take (step_of o) ≡ true → c.ready ≡ true
+take_ready : (K : Kind) (limit t : ℕ) (c : SharedState) (h : List Entry) (o : Option Task)
+    → StandsFor K limit t c h o → is_take (step_of o) ≡ true → c.ready ≡ true
 take_ready K limit t c h None a k = absurd (false≢true k)
 take_ready K limit t c h (Some x) a k = take_ready_in K limit t c h x.step a.step k
 
 -- nobody takes the queue out of the door while somebody waits
-alone_by : (K : Kind) (limit t : ℕ) (x y : Task) (w w' : World) → Fits K limit w → Puts t y w.tasks w'.tasks → Moves K limit t x.step y w.shared w'.shared w.history w'.history
+alone_by : (K : Kind) (limit t : ℕ) (x y : Task) (w w' : World) → Fits K limit w → Puts t y w.tasks w'.tasks
+    → Moves K limit t x.step y w.shared w'.shared w.history w'.history
     → step_of (w.tasks t) ≡ x.step → step_of (w'.tasks t) ≡ y.step
     → w'.shared.count ≡ how_many (λ n. is_counted (step_of (w'.tasks n))) (made_in w.history)
     → (a b : ℕ) → (t ≡ a) ⊎ (t ≢ a) → (t ≡ b) ⊎ (t ≢ b) → is_take (step_of (w'.tasks a)) ≡ true → is_inside (step_of (w'.tasks b)) ≡ true → ⊥
@@ -132,7 +136,9 @@ alone_by K limit t x y w w' f p g was is cnt a b (inl i) (inr j) k l =
     let k' : is_take y.step ≡ true = ap is_take (sym is) ∙ subst (λ v. is_take (step_of (w'.tasks v)) ≡ true) (sym i) k in
     let none : w'.shared.count ≡ 0 = g.takes k' in
     let l' : is_inside (step_of (w.tasks b)) ≡ true = ap (λ o. is_inside (step_of o)) (sym (p.others b j)) ∙ l in
-    let some = count_positive b (made_in w.history) (λ n. is_counted (step_of (w'.tasks n))) (counted_made K limit w b f (inside_counted (step_of (w.tasks b)) l')) (inside_counted (step_of (w'.tasks b)) l) in
+    let some = count_positive b (made_in w.history) (λ n. is_counted (step_of (w'.tasks n)))
+    (counted_made K limit w b f (inside_counted (step_of (w.tasks b)) l'))
+    (inside_counted (step_of (w'.tasks b)) l) in
     omega arith
 alone_by K limit t x y w w' f p g was is cnt a b (inr i) (inl j) k l =
     let k' : is_take (step_of (w.tasks a)) ≡ true = ap (λ o. is_take (step_of o)) (sym (p.others a i)) ∙ k in
@@ -154,7 +160,9 @@ unfinished_by m n n' Finished e c = omega arith
 found_none : (n : ℕ) (o : Option ℕ) (xs : List (Listing ℕ)) → find_listing n xs ≡ None → find_listing n xs ≡ Some o → ⊥
 found_none n o xs a b = cc
 
-module _ (K : Kind) (limit t : ℕ) (x y : Task) (w w' : World) (f : Fits K limit w) (p : Puts t y w.tasks w'.tasks) (g : Moves K limit t x.step y w.shared w'.shared w.history w'.history) (was : step_of (w.tasks t) ≡ x.step) (is : step_of (w'.tasks t) ≡ y.step) where
+module _ (K : Kind) (limit t : ℕ) (x y : Task) (w w' : World) (f : Fits K limit w) (p : Puts t y w.tasks w'.tasks)
+    (g : Moves K limit t x.step y w.shared w'.shared w.history w'.history) (was : step_of (w.tasks t) ≡ x.step)
+    (is : step_of (w'.tasks t) ≡ y.step) where
   -- no other task has the ticket of t
   single_by : (b n : ℕ) → t ≢ b → ticket_of y.step ≡ Some n → ticket_of (step_of (w'.tasks b)) ≡ Some n → ⊥
   single_by b n d k l =
@@ -165,14 +173,16 @@ module _ (K : Kind) (limit t : ℕ) (x y : Task) (w w' : World) (f : Fits K limi
       (g.listings.fresh n k)
 
   -- no two tasks have the same ticket
-  single_all : (a b n : ℕ) → (t ≡ a) ⊎ (t ≢ a) → (t ≡ b) ⊎ (t ≢ b) → ticket_of (step_of (w'.tasks a)) ≡ Some n → ticket_of (step_of (w'.tasks b)) ≡ Some n → a ≡ b
+  single_all : (a b n : ℕ) → (t ≡ a) ⊎ (t ≢ a) → (t ≡ b) ⊎ (t ≢ b) → ticket_of (step_of (w'.tasks a)) ≡ Some n
+      → ticket_of (step_of (w'.tasks b)) ≡ Some n → a ≡ b
   single_all a b n (inl i) (inl j) k l = sym i ∙ j
   single_all a b n (inl i) (inr j) k l = absurd (single_by b n j (ap ticket_of (sym is) ∙ subst (λ v. ticket_of (step_of (w'.tasks v)) ≡ Some n) (sym i) k) l)
   single_all a b n (inr i) (inl j) k l = absurd (single_by a n i (ap ticket_of (sym is) ∙ subst (λ v. ticket_of (step_of (w'.tasks v)) ≡ Some n) (sym j) l) k)
   single_all a b n (inr i) (inr j) k l = f.single a b n (ap (λ o. ticket_of (step_of o)) (sym (p.others a i)) ∙ k) (ap (λ o. ticket_of (step_of o)) (sym (p.others b j)) ∙ l)
 
   -- each listing has its task
-  has_owner : w'.shared.ready ≡ false → (n : ℕ) (o : Option ℕ) → find_listing n w'.shared.listings ≡ Some o → (u : ℕ) × (ticket_of (step_of (w'.tasks u)) ≡ Some n)
+  has_owner : w'.shared.ready ≡ false → (n : ℕ) (o : Option ℕ) → find_listing n w'.shared.listings ≡ Some o
+      → (u : ℕ) × (ticket_of (step_of (w'.tasks u)) ≡ Some n)
   has_owner r n o e =
       ⊎_elim (λ k. (t, ap ticket_of is ∙ k))
       (λ k. let v = f.owned (was_unset w.shared.ready w'.shared.ready g.listings.up r) n k.1.0 k.1.1 in
@@ -181,7 +191,9 @@ module _ (K : Kind) (limit t : ℕ) (x y : Task) (w w' : World) (f : Fits K limi
       (g.listings.owner r n o e)
 
 -- one step of t keeps all that holds
-pub moved_fits : (K : Kind) (limit t : ℕ) (x y : Task) (w w' : World) → Fits K limit w → w.tasks t ≡ Some x → is_finished x.step ≡ false → Puts t y w.tasks w'.tasks → w'.unfinished ≡ unfinished_after y.step w.unfinished → Moves K limit t x.step y w.shared w'.shared w.history w'.history → Fits K limit w'
+pub moved_fits : (K : Kind) (limit t : ℕ) (x y : Task) (w w' : World) → Fits K limit w → w.tasks t ≡ Some x
+    → is_finished x.step ≡ false → Puts t y w.tasks w'.tasks → w'.unfinished ≡ unfinished_after y.step w.unfinished
+    → Moves K limit t x.step y w.shared w'.shared w.history w'.history → Fits K limit w'
 moved_fits K limit t x y w w' f found live p left g =
     let P : ℕ → Type 0 = λ u. StandsFor K limit u w'.shared w'.history (w'.tasks u) in
     let same : P t = rw p.there (record { waker_is = g.waker_is; kept_is = g.kept_is; step = g.own }) in
@@ -194,7 +206,9 @@ moved_fits K limit t x y w w' f found live p left g =
     let lives : ℕ → Bool = λ n. is_alive (w'.tasks n) in
     let m : member t ns ≡ true = ⊎_elim (λ e. e) (λ e. absurd (not_made t x w.tasks found (f.made_all t e))) (cases_Bool (member t ns)) in
     let change = count_change t ns before after f.made_once m (λ u n. ap (λ o. is_counted (step_of o)) (sym (p.others u n))) in
-    let cnt : w'.shared.count ≡ how_many after ns = counted w.shared.count w'.shared.count (how_many before ns) (how_many after ns) (before t) (after t) (is_counted x.step) (is_counted y.step) f.count_is g.count change (ap is_counted was) (ap is_counted is) in
+    let cnt : w'.shared.count ≡ how_many after ns = counted w.shared.count w'.shared.count (how_many before ns)
+    (how_many after ns) (before t) (after t) (is_counted x.step) (is_counted y.step) f.count_is g.count change
+    (ap is_counted was) (ap is_counted is) in
     let changed = count_change t ns lived lives f.made_once m (λ u n. ap is_alive (sym (p.others u n))) in
     let one : bit (lived t) ≡ 1 = ap bit (ap is_alive found ∙ alive_by x live) in
     let more : bit (lives t) ≡ bit (not (is_finished y.step)) = ap (λ o. bit (is_alive o)) p.there in
@@ -214,7 +228,9 @@ moved_fits K limit t x y w w' f found live p left g =
       count_is = rw g.made cnt;
       unfinished_is = rw g.made some;
       made_once = rw g.made f.made_once;
-      made_all = λ u e. ⊎_elim (λ k. absurd (not_made t x w.tasks found (f.made_all t (ap (λ n. member n (made_in w.history)) k ∙ ap (member u) (sym g.made) ∙ e)))) (λ n. p.others u n ∙ f.made_all u (ap (member u) (sym g.made) ∙ e)) (cases_eq t u);
+      made_all = λ u e. ⊎_elim (λ k. absurd (not_made t x w.tasks found
+          (f.made_all t (ap (λ n. member n (made_in w.history)) k ∙ ap (member u) (sym g.made) ∙ e))))
+          (λ n. p.others u n ∙ f.made_all u (ap (member u) (sym g.made) ∙ e)) (cases_eq t u);
       made_only = λ u e. ⊎_elim (λ k. absurd (not_made t y w'.tasks p.there (ap w'.tasks k ∙ e))) (λ n. rw g.made (f.made_only u (sym (p.others u n) ∙ e))) (cases_eq t u);
       alone = λ a b. alone_by K limit t x y w w' f p g was is cnt a b (cases_eq t a) (cases_eq t b);
       single = λ a b n. single_all K limit t x y w w' f p g was is a b n (cases_eq t a) (cases_eq t b);

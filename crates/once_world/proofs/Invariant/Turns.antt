@@ -17,7 +17,8 @@ pub record ListMoves (t : ℕ) (k k' : Option ℕ) (c c' : SharedState) (h' : Li
   pub up : c.ready ≡ true → c'.ready ≡ true
   pub lists : (u n : ℕ) (o : Option ℕ) → t ≢ u → (k ≡ Some n → ⊥) → c'.ready ≡ false → find_listing n c.listings ≡ Some o → IsKept u n o c'.listings h'
   pub fresh : (n : ℕ) → k' ≡ Some n → (k ≡ Some n) ⊎ ((c.ready ≡ false) × (find_listing n c.listings ≡ None))
-  pub owner : c'.ready ≡ false → (n : ℕ) (o : Option ℕ) → find_listing n c'.listings ≡ Some o → (k' ≡ Some n) ⊎ ((k ≡ Some n → ⊥) × ((o' : Option ℕ) × (find_listing n c.listings ≡ Some o')))
+  pub owner : c'.ready ≡ false → (n : ℕ) (o : Option ℕ) → find_listing n c'.listings ≡ Some o
+      → (k' ≡ Some n) ⊎ ((k ≡ Some n → ⊥) × ((o' : Option ℕ) × (find_listing n c.listings ≡ Some o')))
 
 -- a ticket is n, or it is not
 pub decide : (k : Option ℕ) (n : ℕ) → (k ≡ Some n) ⊎ (k ≡ Some n → ⊥)
@@ -25,7 +26,8 @@ decide None n = inr (none_not_some n)
 decide (Some m) n = ⊎_elim (λ e. inl (ap (λ (v : ℕ). Some v) e)) (λ d. inr (λ e. d (same_some m n e))) (cases_eq m n)
 
 -- a step that leaves the list alone, and the ticket too unless the value is set
-pub lists_stay : (t : ℕ) (k k' : Option ℕ) (c c' : SharedState) (h' : List Entry) → c'.listings ≡ c.listings → (c.ready ≡ true → c'.ready ≡ true) → (k' ≡ k) ⊎ ((k' ≡ None) × (c'.ready ≡ true)) → ListMoves t k k' c c' h'
+pub lists_stay : (t : ℕ) (k k' : Option ℕ) (c c' : SharedState) (h' : List Entry) → c'.listings ≡ c.listings
+    → (c.ready ≡ true → c'.ready ≡ true) → (k' ≡ k) ⊎ ((k' ≡ None) × (c'.ready ≡ true)) → ListMoves t k k' c c' h'
 lists_stay t k k' c c' h' same up (inl e) = record {
   up = up;
   lists = λ u n o d x r f. inl (rw same f);
@@ -45,7 +47,8 @@ pub record Ticketed (K : Kind) (u : ℕ) (c : SharedState) (h : List Entry) (n :
   pub listed : IsListed K u c h n
   pub door : IsSomeDoor c
 
-has_at : (K : Kind) (u n : ℕ) (c : SharedState) (h : List Entry) (k : Option ℕ) → k ≡ Some n → HasTicket K u c h k → ((last_call K u h).began ≡ Waiting) × IsListed K u c h n
+has_at : (K : Kind) (u n : ℕ) (c : SharedState) (h : List Entry) (k : Option ℕ) → k ≡ Some n → HasTicket K u c h k
+    → ((last_call K u h).began ≡ Waiting) × IsListed K u c h n
 has_at K u n c h None e a = absurd (none_not_some n e)
 has_at K u n c h (Some m) e a = (a.0, subst (λ v. IsListed K u c h v) (same_some m n e) a.1)
 
@@ -54,7 +57,8 @@ rests_at K u n c h None e a = absurd a
 rests_at K u n c h (Some m) e a = subst (λ v. IsListed K u c h v) (same_some m n e) a.1
 
 -- a waiter in a poll that has a ticket
-polls_at : (K : Kind) (u n q : ℕ) (c : SharedState) (h : List Entry) (k : Option ℕ) → k ≡ Some n → AnyIn K u h → c.door ≡ Some q → HasTicket K u c h k → Ticketed K u c h n
+polls_at : (K : Kind) (u n q : ℕ) (c : SharedState) (h : List Entry) (k : Option ℕ) → k ≡ Some n → AnyIn K u h
+    → c.door ≡ Some q → HasTicket K u c h k → Ticketed K u c h n
 polls_at K u n q c h k e a d f =
     let l = has_at K u n c h k e f in
     record { acts = inr (record { under_way = ap is_under_way a.entered.poll.status_is; began = l.0; unclaimed = a.entered.unclaimed; unpassed = a.entered.poll.unpassed }); listed = l.1; door = (q, d) }
@@ -69,7 +73,8 @@ leaves_turn K u h EndPending b a = absurd a
 leaves_turn K u h EndFull b a = absurd a
 
 -- by the place
-ticketed_at : (K : Kind) (limit u n : ℕ) (c : SharedState) (h : List Entry) (p : Place ℕ ℕ) → AtPlace K limit u c h p → ticket_at p ≡ Some n → Ticketed K u c h n
+ticketed_at : (K : Kind) (limit u n : ℕ) (c : SharedState) (h : List Entry) (p : Place ℕ ℕ) → AtPlace K limit u c h p
+    → ticket_at p ≡ Some n → Ticketed K u c h n
 ticketed_at K limit u n c h (AtWaitLoad q k) a e = polls_at K u n q c h k e a.0 a.1 a.2
 ticketed_at K limit u n c h (AtLook q k) a e = polls_at K u n q c h k e a.0 a.1 a.2
 ticketed_at K limit u n c h (AtList q k w) a e = polls_at K u n q c h k e a.0 a.1 a.2
@@ -77,7 +82,8 @@ ticketed_at K limit u n c h (AtLeave q m x) a e = record { acts = inr (leaves_tu
 ticketed_at K limit u n c h _ a e = absurd (none_not_some n e)
 
 -- at rest
-ticketed_rest : (K : Kind) (limit u n : ℕ) (c : SharedState) (h : List Entry) (r : Rest ℕ) → AtRest K limit u c h r → ticket_of (Resting r) ≡ Some n → Ticketed K u c h n
+ticketed_rest : (K : Kind) (limit u n : ℕ) (c : SharedState) (h : List Entry) (r : Rest ℕ) → AtRest K limit u c h r
+    → ticket_of (Resting r) ≡ Some n → Ticketed K u c h n
 ticketed_rest K limit u n c h RestStart a e = absurd (none_not_some n e)
 ticketed_rest K limit u n c h (RestWait q k) a e = record { acts = inl a.0.status_is; listed = rests_at K u n c h k e a.2; door = (q, a.1) }
 ticketed_rest K limit u n c h (RestRun by) a e = absurd (none_not_some n e)
@@ -89,7 +95,8 @@ ticketed_in K limit u n c h (UnderWay p) a e = ticketed_at K limit u n c h p a e
 ticketed_in K limit u n c h Finished a e = absurd (none_not_some n e)
 
 -- what a task of the world with the ticket n is
-pub ticketed : (K : Kind) (limit u n : ℕ) (c : SharedState) (h : List Entry) (o : Option Task) → StandsFor K limit u c h o → ticket_of (step_of o) ≡ Some n → Ticketed K u c h n
+pub ticketed : (K : Kind) (limit u n : ℕ) (c : SharedState) (h : List Entry) (o : Option Task)
+    → StandsFor K limit u c h o → ticket_of (step_of o) ≡ Some n → Ticketed K u c h n
 ticketed K limit u n c h None a e = absurd (none_not_some n e)
 ticketed K limit u n c h (Some x) a e = ticketed_in K limit u n c h x.step a.step e
 
@@ -97,7 +104,8 @@ called_not : (c : SharedState) (n w : ℕ) → find_listing n c.listings ≡ Som
 called_not c n w a b = cc
 
 -- in an empty cell for which somebody waits a listing was called, and so its task
-pub somebody_called : (K : Kind) (limit : ℕ) (c : SharedState) (h : List Entry) (tasks : ℕ → Option Task) → c.ready ≡ is_set (cell K h) → CalledAt K c.listings h
+pub somebody_called : (K : Kind) (limit : ℕ) (c : SharedState) (h : List Entry) (tasks : ℕ → Option Task)
+    → c.ready ≡ is_set (cell K h) → CalledAt K c.listings h
     → (c.ready ≡ false → (n : ℕ) (o : Option ℕ) → find_listing n c.listings ≡ Some o → (u : ℕ) × (ticket_of (step_of (tasks u)) ≡ Some n))
     → ((u : ℕ) → StandsFor K limit u c h (tasks u)) → SomebodyCalled K h
 somebody_called K limit c h tasks ready called owned stands = λ e u s.

@@ -14,7 +14,9 @@ abbrev IsListed : LastCall → Type 0
 IsListed p = p.listed ≡ p.waker
 
 -- an entry of the task after which it waits
-listed_own : (K : Kind) (t : ℕ) (e : Entry) (h : List Entry) → (status K t h ≡ Waiting → IsListed (last_call K t h)) → status_after e (cell K h) (status K t h) ≡ Waiting → IsListed (last_call_after e (cell K h) (status K t h) (last_call K t h))
+listed_own : (K : Kind) (t : ℕ) (e : Entry) (h : List Entry) → (status K t h ≡ Waiting → IsListed (last_call K t h))
+    → status_after e (cell K h) (status K t h) ≡ Waiting
+    → IsListed (last_call_after e (cell K h) (status K t h) (last_call K t h))
 listed_own K t (End u Pending) h ih s = refl
 listed_own K t (End u (Value v)) h ih s = grind arith
 listed_own K t (End u (Error e)) h ih s = grind arith
@@ -33,7 +35,9 @@ listed_own K t (Look found) h ih s = ih s
 listed_own K t (Own o g) h ih s = ih s
 
 -- by whether the entry is of the task
-listed_by : (K : Kind) (t : ℕ) (e : Entry) (h : List Entry) (b : Bool) → is_of t e ≡ b → (status K t h ≡ Waiting → IsListed (last_call K t h)) → status K t (e ∷ h) ≡ Waiting → IsListed (last_call K t (e ∷ h))
+listed_by : (K : Kind) (t : ℕ) (e : Entry) (h : List Entry) (b : Bool) → is_of t e ≡ b
+    → (status K t h ≡ Waiting → IsListed (last_call K t h)) → status K t (e ∷ h) ≡ Waiting
+    → IsListed (last_call K t (e ∷ h))
 listed_by K t e h true is ih s = rw is (listed_own K t e h ih (rw is at s))
 listed_by K t e h false is ih s = rw is (ih (rw is at s))
 

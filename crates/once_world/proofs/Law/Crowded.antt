@@ -12,7 +12,8 @@ use Rattle.once_world.proofs.Place.Sections.{since_weaken}
 use Rattle.once_world.proofs.Law.Rights.{holding_holds}
 
 -- by what the task was at its Begin
-memory_by : (K : Kind) (limit t : ℕ) (h : List Entry) (a : Option Answer) (s : Status) → (last_call K t h).began ≡ s → MayEnd K limit t Memory a h → Since t (OtherActs K t) h
+memory_by : (K : Kind) (limit t : ℕ) (h : List Entry) (a : Option Answer) (s : Status) → (last_call K t h).began ≡ s
+    → MayEnd K limit t Memory a h → Since t (OtherActs K t) h
 memory_by K limit t h None Fresh b m = let P : Status → Type 0 = λ y. MemoryFrom K y t h in let k : MemoryFrom K Fresh t h = subst P b m.1 in k.1
 memory_by K limit t h None Waiting b m = let P : Status → Type 0 = λ y. MemoryFrom K y t h in let k : MemoryFrom K Waiting t h = subst P b m.1 in since_weaken K t h k
 memory_by K limit t h None Unmade b m = let P : Status → Type 0 = λ y. MemoryFrom K y t h in let k : MemoryFrom K Unmade t h = subst P b m.1 in absurd k
@@ -27,7 +28,8 @@ pub memory_met : (K : Kind) (limit t : ℕ) (h : List Entry) → IsRun K limit (
 memory_met K limit t h r = memory_by K limit t h (last_call K t h).ran (last_call K t h).began refl r.0.1
 
 -- who is about and does not act waits
-about_by : (K : Kind) (limit t u : ℕ) (h : List Entry) → IsRun K limit h → (OtherActs K t h → ⊥) → t ≢ u → (s : Status) → status K u h ≡ s → is_about s ≡ true → is_waiting s ≡ true
+about_by : (K : Kind) (limit t u : ℕ) (h : List Entry) → IsRun K limit h → (OtherActs K t h → ⊥) → t ≢ u
+    → (s : Status) → status K u h ≡ s → is_about s ≡ true → is_waiting s ≡ true
 about_by K limit t u h r n d Waiting e a = refl
 about_by K limit t u h r n d Polling e a = absurd (n (inr (u, d, ap is_under_way e)))
 about_by K limit t u h r n d Dropping e a = absurd (n (inr (u, d, ap is_under_way e)))
@@ -37,13 +39,16 @@ about_by K limit t u h r n d Fresh e a = absurd (false≢true a)
 about_by K limit t u h r n d Gone e a = absurd (false≢true a)
 
 -- the same for who is another task
-waits_by : (K : Kind) (limit t u : ℕ) (h : List Entry) → IsRun K limit h → (OtherActs K t h → ⊥) → (b : Bool) → (u == t) ≡ b → cond b false (is_about (status K u h)) ≡ true → cond b false (is_waiting (status K u h)) ≡ true
+waits_by : (K : Kind) (limit t u : ℕ) (h : List Entry) → IsRun K limit h → (OtherActs K t h → ⊥) → (b : Bool)
+    → (u == t) ≡ b → cond b false (is_about (status K u h)) ≡ true → cond b false (is_waiting (status K u h)) ≡ true
 waits_by K limit t u h r n true e a = a
 waits_by K limit t u h r n false e a = about_by K limit t u h r n (λ k. false≢true (sym e ∙ eq-eqb u t (sym k))) (status K u h) refl a
 
 -- where nobody else holds or is in a call, the crowd waits
 crowd_waits : (K : Kind) (limit t : ℕ) (h : List Entry) → IsRun K limit h → (OtherActs K t h → ⊥) → crowd K t h ≤ waiters K t h
-crowd_waits K limit t h r n = count_weaker (made_in h) (λ u. cond (u == t) false (is_about (status K u h))) (λ u. cond (u == t) false (is_waiting (status K u h))) (λ u a. waits_by K limit t u h r n (u == t) refl a)
+crowd_waits K limit t h r n =
+    count_weaker (made_in h) (λ u. cond (u == t) false (is_about (status K u h)))
+    (λ u. cond (u == t) false (is_waiting (status K u h))) (λ u a. waits_by K limit t u h r n (u == t) refl a)
 
 -- no Begin came between
 since_put : (P : List Entry → Type 0) (moments : List (List Entry)) (b : Bool) → b ≡ false → AtSome P moments → AtSome P (cond b [] moments)
@@ -51,15 +56,20 @@ since_put P moments false e a = a
 since_put P moments true e a = absurd (false≢true (sym e))
 
 -- the moments since the Begin
-since_by : (P Q : List Entry → Type 0) (moments : List (List Entry)) (b : Bool) → AtSome P (cond b [] moments) → (b ≡ false → AtSome P moments → AtSome Q moments) → AtSome Q (cond b [] moments)
+since_by : (P Q : List Entry → Type 0) (moments : List (List Entry)) (b : Bool) → AtSome P (cond b [] moments)
+    → (b ≡ false → AtSome P moments → AtSome Q moments) → AtSome Q (cond b [] moments)
 since_by P Q moments true m f = absurd m
 since_by P Q moments false m f = f refl m
 
 -- since the Begin, where the crowd had limit tasks, so many waited
-crowded_waits : (K : Kind) (limit t : ℕ) (h : List Entry) → IsRun K limit h → (Since t (OtherActs K t) h → ⊥) → Since t (IsCrowded K limit t) h → Since t (AreWaiting K limit t) h
+crowded_waits : (K : Kind) (limit t : ℕ) (h : List Entry) → IsRun K limit h → (Since t (OtherActs K t) h → ⊥)
+    → Since t (IsCrowded K limit t) h → Since t (AreWaiting K limit t) h
 crowded_waits K limit t [] r n s = s
 crowded_waits K limit t (e ∷ h) r n (inl c) = inl (let k = crowd_waits K limit t (e ∷ h) r (λ o. n (inl o)) in omega arith)
-crowded_waits K limit t (e ∷ h) r n (inr s) = inr (since_by (IsCrowded K limit t) (AreWaiting K limit t) (moments_since t h) (is_begin_of t e) s (λ b k. crowded_waits K limit t h r.1 (λ o. n (inr (since_put (OtherActs K t) (moments_since t h) (is_begin_of t e) b o))) k))
+crowded_waits K limit t (e ∷ h) r n (inr s) =
+    inr (since_by (IsCrowded K limit t) (AreWaiting K limit t) (moments_since t h) (is_begin_of t e) s
+    (λ b k. crowded_waits K limit t h r.1 (λ o. n (inr
+    (since_put (OtherActs K t) (moments_since t h) (is_begin_of t e) b o))) k))
 
 -- Full needs a crowd
 full_by : (K : Kind) (limit t : ℕ) (h : List Entry) (a : Option Answer) → MayEnd K limit t Full a h → Since t (IsCrowded K limit t) h

@@ -25,7 +25,8 @@ set_not_held : (c : Cell) (u : ℕ) → is_set c ≡ true → c ≡ Held u → �
 set_not_held c u a b = false≢true (sym (ap is_set b) ∙ a)
 
 -- a set cell stays set while a task is about
-set_kept : (K : Kind) (limit : ℕ) (e : Entry) (h : List Entry) → IsLegal K limit e h → (all_gone K h ≡ true → ⊥) → is_set (cell K h) ≡ true → (b : Bool) → is_own e ≡ b → is_set (cell K (e ∷ h)) ≡ true
+set_kept : (K : Kind) (limit : ℕ) (e : Entry) (h : List Entry) → IsLegal K limit e h → (all_gone K h ≡ true → ⊥)
+    → is_set (cell K h) ≡ true → (b : Bool) → is_own e ≡ b → is_set (cell K (e ∷ h)) ≡ true
 set_kept K limit e h l g s false n = let v = value_of_set (cell K h) s in ap is_set (set_stays_after K e limit h v.0 n l v.1)
 set_kept K limit (Own o got) h l g s true n = absurd (g l.0)
 set_kept K limit (Made u) h l g s true n = absurd (false≢true n)
@@ -51,7 +52,10 @@ pending_polls u Empty e = grind arith
 pending_polls u (SetTo v) e = grind arith
 
 -- its own entries keep it so
-own_set : (K : Kind) (limit t : ℕ) (e : Entry) (h : List Entry) → is_of t e ≡ true → IsLegal K limit e h → SetSo K t h → status_after e (cell K h) (status K t h) ≡ Polling → (last_call_after e (cell K h) (status K t h) (last_call K t h)).began ≡ Fresh → (last_call_after e (cell K h) (status K t h) (last_call K t h)).set_then ≡ true
+own_set : (K : Kind) (limit t : ℕ) (e : Entry) (h : List Entry) → is_of t e ≡ true → IsLegal K limit e h
+    → SetSo K t h → status_after e (cell K h) (status K t h) ≡ Polling
+    → (last_call_after e (cell K h) (status K t h) (last_call K t h)).began ≡ Fresh
+    → (last_call_after e (cell K h) (status K t h) (last_call K t h)).set_then ≡ true
     → (is_set (cell K (e ∷ h)) ≡ true) × ((last_call_after e (cell K h) (status K t h) (last_call K t h)).ran ≡ None)
 own_set K limit t (Made u) h n l ih s b x = grind arith
 own_set K limit t (Begin u w) h n l ih s b x = (x, refl)
@@ -89,7 +93,8 @@ set_poll K limit t [] r s b x = grind arith
 set_poll K limit t (e ∷ h) r s b x = set_by K limit t e h (is_of t e) refl r (set_poll K limit t h r.1) s b x
 
 -- it ends with the value
-set_end : (K : Kind) (limit t : ℕ) (r : Reply) (h : List Entry) (v : ℕ) (s : Status) → cell K h ≡ SetTo v → s ≡ Fresh → (last_call K t h).set_then ≡ true → (last_call K t h).began ≡ s → MayEnd K limit t r None h → r ≡ Value v
+set_end : (K : Kind) (limit t : ℕ) (r : Reply) (h : List Entry) (v : ℕ) (s : Status) → cell K h ≡ SetTo v → s ≡ Fresh
+    → (last_call K t h).set_then ≡ true → (last_call K t h).began ≡ s → MayEnd K limit t r None h → r ≡ Value v
 set_end K limit t (Value u) h v s c f x b m = let k : u ≡ v = let z : SetTo u ≡ SetTo v = sym m ∙ c in cc in ap (λ n. Value n) k
 set_end K limit t Pending h v s c f x b m = absurd (set_not_held (cell K h) m.0 (ap is_set c) m.2)
 set_end K limit t (Error e) h v s c f x b m = absurd m
@@ -100,7 +105,9 @@ set_end K limit t Memory h v s c f x b m =
 set_end K limit t Full h v s c f x b m = absurd (false≢true (sym m.3 ∙ ap is_set c))
 
 -- a future that is first polled after the value is set answers it without running its init
-pub set_first : (K : Kind) (limit t : ℕ) (r : Reply) (h : List Entry) → IsRun K limit (End t r ∷ h) → (last_call K t h).began ≡ Fresh → (last_call K t h).set_then ≡ true → ((last_call K t h).ran ≡ None) × ((v : ℕ) × (cell K h ≡ SetTo v) × (r ≡ Value v))
+pub set_first : (K : Kind) (limit t : ℕ) (r : Reply) (h : List Entry) → IsRun K limit (End t r ∷ h)
+    → (last_call K t h).began ≡ Fresh → (last_call K t h).set_then ≡ true
+    → ((last_call K t h).ran ≡ None) × ((v : ℕ) × (cell K h ≡ SetTo v) × (r ≡ Value v))
 set_first K limit t r h run b x =
     let k = set_poll K limit t h run.1 run.0.0 b x in
     let v = value_of_set (cell K h) k.set in

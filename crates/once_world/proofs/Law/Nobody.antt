@@ -13,17 +13,21 @@ use Rattle.once_world.proofs.History.Others.{no_end}
 use Rattle.once_world.proofs.Law.Unmade.{over_all}
 
 -- by whether the entry is of the task
-due_by : (K : Kind) (e : Entry) (h : List Entry) (w u : ℕ) (b : Bool) → is_of u e ≡ b → handed_by e ≡ [] → (is_of u e ≡ true → status_after e (cell K h) (status K u h) ≢ Waiting)
+due_by : (K : Kind) (e : Entry) (h : List Entry) (w u : ℕ) (b : Bool) → is_of u e ≡ b → handed_by e ≡ []
+    → (is_of u e ≡ true → status_after e (cell K h) (status K u h) ≢ Waiting)
     → status K u (e ∷ h) ≡ Waiting → (last_call K u (e ∷ h)).waker ≡ w → member w (handed_since u (e ∷ h)) ≡ false → IsDue K w h
 due_by K e h w u true is none awake s k m = absurd (awake is (rw is at s))
 due_by K e h w u false is none awake s k m = (u, rw is at s, rw is at k, rw (no_end u e is, none) at m)
 
 -- a step that hands nothing out, leaves the cell and makes nobody wait leaves nobody owed
-due_kept : (K : Kind) (e : Entry) (h : List Entry) (w : ℕ) → handed_by e ≡ [] → ((u : ℕ) → is_of u e ≡ true → status_after e (cell K h) (status K u h) ≢ Waiting) → IsDue K w (e ∷ h) → IsDue K w h
+due_kept : (K : Kind) (e : Entry) (h : List Entry) (w : ℕ) → handed_by e ≡ []
+    → ((u : ℕ) → is_of u e ≡ true → status_after e (cell K h) (status K u h) ≢ Waiting) → IsDue K w (e ∷ h)
+    → IsDue K w h
 due_kept K e h w none awake d = due_by K e h w d.0 (is_of d.0 e) refl none (awake d.0) d.1 d.2 d.3
 
 -- by whether the release is of the task
-release_by : (K : Kind) (e : Entry) (h : List Entry) (X : List ℕ) (w u : ℕ) (b : Bool) → is_of u e ≡ b → handed_by e ≡ X → HandsOut K X h → (is_of u e ≡ true → status_after e (cell K h) (status K u h) ≢ Waiting)
+release_by : (K : Kind) (e : Entry) (h : List Entry) (X : List ℕ) (w u : ℕ) (b : Bool) → is_of u e ≡ b
+    → handed_by e ≡ X → HandsOut K X h → (is_of u e ≡ true → status_after e (cell K h) (status K u h) ≢ Waiting)
     → status K u (e ∷ h) ≡ Waiting → (last_call K u (e ∷ h)).waker ≡ w → member w (handed_since u (e ∷ h)) ≡ false → ⊥
 release_by K e h X w u true is all o awake s k m = awake is (rw is at s)
 release_by K e h X w u false is all o awake s k m =
@@ -36,7 +40,8 @@ release_by K e h X w u false is all o awake s k m =
     false≢true (sym out ∙ o.due w (u, s', k', none))
 
 -- a release leaves nobody owed
-release_due : (K : Kind) (e : Entry) (h : List Entry) (X : List ℕ) (w : ℕ) → handed_by e ≡ X → HandsOut K X h → ((u : ℕ) → is_of u e ≡ true → status_after e (cell K h) (status K u h) ≢ Waiting) → IsDue K w (e ∷ h) → ⊥
+release_due : (K : Kind) (e : Entry) (h : List Entry) (X : List ℕ) (w : ℕ) → handed_by e ≡ X → HandsOut K X h
+    → ((u : ℕ) → is_of u e ≡ true → status_after e (cell K h) (status K u h) ≢ Waiting) → IsDue K w (e ∷ h) → ⊥
 release_due K e h X w all o awake d = release_by K e h X w d.0 (is_of d.0 e) refl all o (awake d.0) d.1 d.2 d.3
 
 -- a poll ends Pending and waits only while another holds
@@ -46,7 +51,8 @@ pending_awake t (SetTo v) n w = grind arith
 pending_awake t (Held u) n w = false≢true n
 
 -- no other end leaves a task waiting
-ended_awake : (K : Kind) (t : ℕ) (r : Reply) (h : List Entry) → is_set (cell K h) ≡ true → (u : ℕ) → is_of u (End t r) ≡ true → status_after (End t r) (cell K h) (status K u h) ≢ Waiting
+ended_awake : (K : Kind) (t : ℕ) (r : Reply) (h : List Entry) → is_set (cell K h) ≡ true → (u : ℕ)
+    → is_of u (End t r) ≡ true → status_after (End t r) (cell K h) (status K u h) ≢ Waiting
 ended_awake K t (Value v) h n u is w = grind arith
 ended_awake K t (Error v) h n u is w = grind arith
 ended_awake K t Memory h n u is w = grind arith

@@ -19,11 +19,13 @@ passer_acts Holding claimed ran m = absurd m
 passer_acts Gone claimed ran m = absurd m
 
 -- so the task of the entry is
-passes_acting : (K : Kind) (t u : ℕ) (h : List Entry) → (u == t) ≡ true → MayPass (status K u h) (last_call K u h).claimed (last_call K u h).ran → is_under_way (status K t h) ≡ true
+passes_acting : (K : Kind) (t u : ℕ) (h : List Entry) → (u == t) ≡ true
+    → MayPass (status K u h) (last_call K u h).claimed (last_call K u h).ran → is_under_way (status K t h) ≡ true
 passes_acting K t u h e m = ap (λ v. is_under_way (status K v h)) (sym (eqb-true u t e)) ∙ passer_acts (status K u h) (last_call K u h).claimed (last_call K u h).ran m
 
 -- a task in no call passes nothing on
-pub no_pass : (K : Kind) (t u : ℕ) (h : List Entry) → (u == t) ≡ true → is_under_way (status K t h) ≡ false → MayPass (status K u h) (last_call K u h).claimed (last_call K u h).ran → ⊥
+pub no_pass : (K : Kind) (t u : ℕ) (h : List Entry) → (u == t) ≡ true → is_under_way (status K t h) ≡ false
+    → MayPass (status K u h) (last_call K u h).claimed (last_call K u h).ran → ⊥
 no_pass K t u h e n m = false≢true (sym n ∙ passes_acting K t u h e m)
 
 -- one waker at most, and not none, is one
@@ -41,7 +43,8 @@ pub one_called : (K : Kind) (limit t d : ℕ) (X : List ℕ) (h : List Entry) �
 one_called K limit t d X h r due = one_open K X h r.0.2 (r.0.2.due d due)
 
 -- who passes a turn on finds the cell empty, and hands one open waker out
-pub passed_to_one : (K : Kind) (limit t : ℕ) (X : List ℕ) (h : List Entry) → IsRun K limit (Pass t X ∷ h) → (cell K h ≡ Empty) × ((w : ℕ) × (X ≡ w ∷ []) × IsOpen K w h)
+pub passed_to_one : (K : Kind) (limit t : ℕ) (X : List ℕ) (h : List Entry) → IsRun K limit (Pass t X ∷ h)
+    → (cell K h ≡ Empty) × ((w : ℕ) × (X ≡ w ∷ []) × IsOpen K w h)
 passed_to_one K limit t X h r = (r.0.0, r.0.3)
 
 -- it does so once in a call
@@ -66,7 +69,8 @@ unmade_stays s u (inl l) = false≢true (ap is_under_way (sym u) ∙ l)
 unmade_stays s u (inr g) = let z : Unmade ≡ Gone = sym u ∙ g in cc
 
 -- after an entry of its own
-own_leaves : (K : Kind) (limit t : ℕ) (e : Entry) (h : List Entry) → is_of t e ≡ true → IsLegal K limit e h → ((last_call K t h).passed ≡ true → IsLeaving (status K t h))
+own_leaves : (K : Kind) (limit t : ℕ) (e : Entry) (h : List Entry) → is_of t e ≡ true → IsLegal K limit e h
+    → ((last_call K t h).passed ≡ true → IsLeaving (status K t h))
     → (last_call_after e (cell K h) (status K t h) (last_call K t h)).passed ≡ true → IsLeaving (status_after e (cell K h) (status K t h))
 own_leaves K limit t (Made u) h n l ih p = absurd (unmade_stays (status K t h) (ap (λ v. status K v h) (sym (eqb-true u t n)) ∙ l) (ih p))
 own_leaves K limit t (Begin u w) h n l ih p = absurd (false≢true p)
@@ -88,11 +92,14 @@ own_leaves K limit t (Look found) h n l ih p = absurd (false≢true n)
 own_leaves K limit t (Own o g) h n l ih p = absurd (false≢true n)
 
 -- by whether the entry is of the task
-leaves_by : (K : Kind) (limit t : ℕ) (e : Entry) (h : List Entry) (b : Bool) → is_of t e ≡ b → IsLegal K limit e h → ((last_call K t h).passed ≡ true → IsLeaving (status K t h)) → (last_call K t (e ∷ h)).passed ≡ true → IsLeaving (status K t (e ∷ h))
+leaves_by : (K : Kind) (limit t : ℕ) (e : Entry) (h : List Entry) (b : Bool) → is_of t e ≡ b → IsLegal K limit e h
+    → ((last_call K t h).passed ≡ true → IsLeaving (status K t h)) → (last_call K t (e ∷ h)).passed ≡ true
+    → IsLeaving (status K t (e ∷ h))
 leaves_by K limit t e h true is l ih p = rw is (own_leaves K limit t e h is l ih (rw is at p))
 leaves_by K limit t e h false is l ih p = rw is (ih (rw is at p))
 
 -- a task that passed its turn on is in that call still, or gone
-pub passer_gone : (K : Kind) (limit t : ℕ) (h : List Entry) → IsRun K limit h → (last_call K t h).passed ≡ true → (is_under_way (status K t h) ≡ true) ⊎ (status K t h ≡ Gone)
+pub passer_gone : (K : Kind) (limit t : ℕ) (h : List Entry) → IsRun K limit h → (last_call K t h).passed ≡ true
+    → (is_under_way (status K t h) ≡ true) ⊎ (status K t h ≡ Gone)
 passer_gone K limit t [] r p = absurd (false≢true p)
 passer_gone K limit t (e ∷ h) r p = leaves_by K limit t e h (is_of t e) refl r.0 (passer_gone K limit t h r.1) p

@@ -12,7 +12,8 @@ use Rattle.once_world.proofs.Law.Passed.{no_pass}
 use Rattle.once_world.proofs.Law.Unmade.{over_all}
 
 -- a task that is about keeps the owner out
-pub live : (K : Kind) (limit t : ℕ) (h : List Entry) (s : Status) → IsRun K limit h → status K t h ≡ s → is_gone s ≡ false → s ≢ Unmade → all_gone K h ≡ true → ⊥
+pub live : (K : Kind) (limit t : ℕ) (h : List Entry) (s : Status) → IsRun K limit h → status K t h ≡ s
+    → is_gone s ≡ false → s ≢ Unmade → all_gone K h ≡ true → ⊥
 live K limit t h s r e n m a = ⊎_elim (λ u. m (sym e ∙ u)) (λ g. false≢true (sym n ∙ ap is_gone (sym e) ∙ g)) (over_all K limit t h r a)
 
 -- one cell has one holder
@@ -20,7 +21,8 @@ others_held : (K : Kind) (t u : ℕ) (h : List Entry) → (u == t) ≡ false →
 others_held K t u h n a b = false≢true (sym n ∙ eq-eqb u t (same_holder u t (sym a ∙ b)))
 
 -- the right stays with its holder through the entries of others
-held_kept : (K : Kind) (limit t : ℕ) (e : Entry) (h : List Entry) → is_of t e ≡ false → IsLegal K limit e h → (all_gone K h ≡ true → ⊥) → cell K h ≡ Held t → cell K (e ∷ h) ≡ Held t
+held_kept : (K : Kind) (limit t : ℕ) (e : Entry) (h : List Entry) → is_of t e ≡ false → IsLegal K limit e h
+    → (all_gone K h ≡ true → ⊥) → cell K h ≡ Held t → cell K (e ∷ h) ≡ Held t
 held_kept K limit t (Made u) h n l g c = c
 held_kept K limit t (Begin u w) h n l g c = c
 held_kept K limit t (Claim u) h n l g c = absurd (held_not_empty t (sym c ∙ l.0))
@@ -48,7 +50,8 @@ free_holding K t u h e s m =
     subst P w m
 
 -- an entry after which its task rests with the right leaves it the right
-own_holding : (K : Kind) (limit t : ℕ) (e : Entry) (h : List Entry) → is_of t e ≡ true → IsLegal K limit e h → status_after e (cell K h) (status K t h) ≡ Holding → cell K (e ∷ h) ≡ Held t
+own_holding : (K : Kind) (limit t : ℕ) (e : Entry) (h : List Entry) → is_of t e ≡ true → IsLegal K limit e h
+    → status_after e (cell K h) (status K t h) ≡ Holding → cell K (e ∷ h) ≡ Held t
 own_holding K limit t (Made u) h n l s = grind arith
 own_holding K limit t (Begin u w) h n l s = grind arith
 own_holding K limit t (Claim u) h n l s = grind (arith, nat_tests, l.1)
@@ -71,7 +74,8 @@ not_unmade : Holding ≡ Unmade → ⊥
 not_unmade e = cc
 
 -- its entries and those of others
-holding_by : (K : Kind) (limit t : ℕ) (e : Entry) (h : List Entry) (b : Bool) → is_of t e ≡ b → IsRun K limit (e ∷ h) → (status K t h ≡ Holding → cell K h ≡ Held t) → status K t (e ∷ h) ≡ Holding → cell K (e ∷ h) ≡ Held t
+holding_by : (K : Kind) (limit t : ℕ) (e : Entry) (h : List Entry) (b : Bool) → is_of t e ≡ b → IsRun K limit (e ∷ h)
+    → (status K t h ≡ Holding → cell K h ≡ Held t) → status K t (e ∷ h) ≡ Holding → cell K (e ∷ h) ≡ Held t
 holding_by K limit t e h true is r ih s = own_holding K limit t e h is r.0 (rw is at s)
 holding_by K limit t e h false is r ih s =
     let s' : status K t h ≡ Holding = rw is at s in
@@ -87,18 +91,21 @@ pub one_holder : (K : Kind) (limit t u : ℕ) (h : List Entry) → IsRun K limit
 one_holder K limit t u h r a b = same_holder t u (sym (holding_holds K limit t h r a) ∙ holding_holds K limit u h r b)
 
 -- the value that is set lasts until the owner's call
-pub value_lasts : (K : Kind) (limit : ℕ) (e : Entry) (h : List Entry) (v : ℕ) → IsRun K limit (e ∷ h) → is_own e ≡ false → cell K h ≡ SetTo v → cell K (e ∷ h) ≡ SetTo v
+pub value_lasts : (K : Kind) (limit : ℕ) (e : Entry) (h : List Entry) (v : ℕ) → IsRun K limit (e ∷ h)
+    → is_own e ≡ false → cell K h ≡ SetTo v → cell K (e ∷ h) ≡ SetTo v
 value_lasts K limit e h v r n c = set_stays_after K e limit h v n r.0 c
 
 -- by what the init answered
-error_by : (K : Kind) (limit t e : ℕ) (h : List Entry) (a : Option Answer) → MayEnd K limit t (Error e) a h → (a ≡ Some (RanError e)) × ((last_call K t h).freed ≡ true)
+error_by : (K : Kind) (limit t e : ℕ) (h : List Entry) (a : Option Answer) → MayEnd K limit t (Error e) a h
+    → (a ≡ Some (RanError e)) × ((last_call K t h).freed ≡ true)
 error_by K limit t e h (Some (RanError f)) m = (ap (λ (k : ℕ). Some (RanError k)) (sym m.0), m.1)
 error_by K limit t e h (Some RanPending) m = absurd m
 error_by K limit t e h (Some (RanValue v)) m = absurd m
 error_by K limit t e h None m = absurd m
 
 -- an error goes to the caller whose own init gave it, after it freed the cell
-pub own_error : (K : Kind) (limit t e : ℕ) (h : List Entry) → IsRun K limit (End t (Error e) ∷ h) → ((last_call K t h).ran ≡ Some (RanError e)) × ((last_call K t h).freed ≡ true)
+pub own_error : (K : Kind) (limit t e : ℕ) (h : List Entry) → IsRun K limit (End t (Error e) ∷ h)
+    → ((last_call K t h).ran ≡ Some (RanError e)) × ((last_call K t h).freed ≡ true)
 own_error K limit t e h r = error_by K limit t e h (last_call K t h).ran r.0.1
 
 -- no task is in a drop and in a poll
@@ -111,7 +118,9 @@ not_unmade_dropping : Dropping ≡ Unmade → ⊥
 not_unmade_dropping e = cc
 
 -- a holder that is dropped leaves the cell empty, and a lazy one with the same answers left
-pub dropped_holder : (K : Kind) (limit t : ℕ) (e : Entry) (h : List Entry) → IsRun K limit (e ∷ h) → status K t h ≡ Dropping → cell K h ≡ Held t → (answers_left K (e ∷ h) ≡ answers_left K h) × ((cell K (e ∷ h) ≡ Held t) ⊎ (cell K (e ∷ h) ≡ Empty))
+pub dropped_holder : (K : Kind) (limit t : ℕ) (e : Entry) (h : List Entry) → IsRun K limit (e ∷ h)
+    → status K t h ≡ Dropping → cell K h ≡ Held t
+    → (answers_left K (e ∷ h) ≡ answers_left K h) × ((cell K (e ∷ h) ≡ Held t) ⊎ (cell K (e ∷ h) ≡ Empty))
 dropped_holder K limit t (Made u) h r s c = (refl, inl c)
 dropped_holder K limit t (Begin u w) h r s c = (refl, inl c)
 dropped_holder K limit t (Claim u) h r s c = absurd (held_not_empty t (sym c ∙ r.0.0))

@@ -23,7 +23,8 @@ no_begin K t u h e s m =
     subst MayBegin w m
 
 -- only a Made is legal for a task that was not made
-first_made : (K : Kind) (t : ℕ) (e : Entry) (limit : ℕ) (h : List Entry) → is_of t e ≡ true → IsLegal K limit e h → status K t h ≡ Unmade → member t (made_in (e ∷ h)) ≡ true
+first_made : (K : Kind) (t : ℕ) (e : Entry) (limit : ℕ) (h : List Entry) → is_of t e ≡ true → IsLegal K limit e h
+    → status K t h ≡ Unmade → member t (made_in (e ∷ h)) ≡ true
 first_made K t (Made u) limit h n l s = rw n refl
 first_made K t (Begin u w) limit h n l s = absurd (no_begin K t u h n s l)
 first_made K t (Claim u) limit h n l s = grind (arith, nat_tests, l.1)
@@ -53,7 +54,8 @@ made_less t (Look r) h m = m
 made_less t (Own o g) h m = m
 
 -- by whether the entry is of the task
-unmade_by : (K : Kind) (t : ℕ) (e : Entry) (limit : ℕ) (h : List Entry) (b : Bool) → is_of t e ≡ b → IsLegal K limit e h → member t (made_in (e ∷ h)) ≡ false → status K t h ≡ Unmade → status K t (e ∷ h) ≡ Unmade
+unmade_by : (K : Kind) (t : ℕ) (e : Entry) (limit : ℕ) (h : List Entry) (b : Bool) → is_of t e ≡ b
+    → IsLegal K limit e h → member t (made_in (e ∷ h)) ≡ false → status K t h ≡ Unmade → status K t (e ∷ h) ≡ Unmade
 unmade_by K t e limit h true is l m s = absurd (false≢true (sym m ∙ first_made K t e limit h is l s))
 unmade_by K t e limit h false is l m s = rw is s
 

@@ -9,7 +9,9 @@ use Rattle.once_queue.proofs.Listing.Members.{eqb_self}
 use Rattle.once_world.proofs.Listing.Listings.{asks, is_for}
 
 module _ (k : ℕ) where
-  unseen_by : (o : Option ℕ) (xs : List (Listing ℕ)) (seen : List ℕ) → member k seen ≡ true → ((s : List ℕ) → member k s ≡ true → member k (all_out xs s) ≡ false) → member k (out_by o (all_out xs) seen) ≡ false
+  unseen_by : (o : Option ℕ) (xs : List (Listing ℕ)) (seen : List ℕ) → member k seen ≡ true
+      → ((s : List ℕ) → member k s ≡ true → member k (all_out xs s) ≡ false)
+      → member k (out_by o (all_out xs) seen) ≡ false
   unseen_by None xs seen m ih = ih seen m
   unseen_by (Some w) xs seen m ih = let a = ih seen m in let b = ih (w ∷ seen) (grind arith) in grind (arith, nat_tests)
 
@@ -18,7 +20,10 @@ module _ (k : ℕ) where
   all_unseen [] seen m = refl
   all_unseen (x ∷ xs) seen m = unseen_by x.waker xs seen m (all_unseen xs)
 
-  due_by : (o : Option ℕ) (xs : List (Listing ℕ)) (seen : List ℕ) → member k seen ≡ false → 0 < bit (is_for k o) + asks k xs → ((s : List ℕ) → member k s ≡ false → 0 < asks k xs → member k (all_out xs s) ≡ true) → member k (out_by o (all_out xs) seen) ≡ true
+  due_by : (o : Option ℕ) (xs : List (Listing ℕ)) (seen : List ℕ) → member k seen ≡ false
+      → 0 < bit (is_for k o) + asks k xs
+      → ((s : List ℕ) → member k s ≡ false → 0 < asks k xs → member k (all_out xs s) ≡ true)
+      → member k (out_by o (all_out xs) seen) ≡ true
   due_by None xs seen m l ih = ih seen m (omega arith)
   due_by (Some w) xs seen m l ih = ⊎_elim
       (λ e. let s : member w seen ≡ false = subst (λ v. member v seen ≡ false) (sym e) m in rw (s, e, eqb_self k) refl)
@@ -30,11 +35,15 @@ module _ (k : ℕ) where
   all_due [] seen m l = absurd (omega arith)
   all_due (x ∷ xs) seen m l = due_by x.waker xs seen m l (all_due xs)
 
-  times_cond : (b : Bool) (w : ℕ) (xs : List (Listing ℕ)) (seen : List ℕ) → ((s : List ℕ) → times_in k (all_out xs s) ≤ asks k xs) → times_in k (cond b (all_out xs seen) (w ∷ all_out xs (w ∷ seen))) ≤ bit (w == k) + asks k xs
+  times_cond : (b : Bool) (w : ℕ) (xs : List (Listing ℕ)) (seen : List ℕ)
+      → ((s : List ℕ) → times_in k (all_out xs s) ≤ asks k xs)
+      → times_in k (cond b (all_out xs seen) (w ∷ all_out xs (w ∷ seen))) ≤ bit (w == k) + asks k xs
   times_cond true w xs seen ih = let a = ih seen in omega arith
   times_cond false w xs seen ih = let a = ih (w ∷ seen) in omega arith
 
-  times_by : (o : Option ℕ) (xs : List (Listing ℕ)) (seen : List ℕ) → ((s : List ℕ) → times_in k (all_out xs s) ≤ asks k xs) → times_in k (out_by o (all_out xs) seen) ≤ bit (is_for k o) + asks k xs
+  times_by : (o : Option ℕ) (xs : List (Listing ℕ)) (seen : List ℕ)
+      → ((s : List ℕ) → times_in k (all_out xs s) ≤ asks k xs)
+      → times_in k (out_by o (all_out xs) seen) ≤ bit (is_for k o) + asks k xs
   times_by None xs seen ih = let a = ih seen in omega arith
   times_by (Some w) xs seen ih = times_cond (member w seen) w xs seen ih
 
@@ -43,7 +52,8 @@ module _ (k : ℕ) where
   all_times [] seen = omega arith
   all_times (x ∷ xs) seen = times_by x.waker xs seen (all_times xs)
 
-once_by : (o : Option ℕ) (xs : List (Listing ℕ)) (seen : List ℕ) → ((s : List ℕ) → is_distinct (all_out xs s) ≡ true) → is_distinct (out_by o (all_out xs) seen) ≡ true
+once_by : (o : Option ℕ) (xs : List (Listing ℕ)) (seen : List ℕ) → ((s : List ℕ) → is_distinct (all_out xs s) ≡ true)
+    → is_distinct (out_by o (all_out xs) seen) ≡ true
 once_by None xs seen ih = ih seen
 once_by (Some w) xs seen ih = let a = ih seen in let b = ih (w ∷ seen) in let m = all_unseen w xs (w ∷ seen) (rw (eqb_self w) refl) in grind arith
 

@@ -8,7 +8,8 @@ use Rattle.once_queue.proofs.Listing.Members.{eqb_self}
 abbrev pub Called : ℕ → Option ℕ → List (Listing ℕ) → Type 0
 Called n o xs = (find_listing n (call_first xs) ≡ Some o) ⊎ ((w : ℕ) × (o ≡ Some w) × (find_listing n (call_first xs) ≡ Some None) × (first_waker xs ≡ Some w))
 
-call_find_by : (n : ℕ) (o : Option ℕ) (x : Listing ℕ) (xs : List (Listing ℕ)) (k : Option ℕ) (b : Bool) → x.waker ≡ k → (x.ticket == n) ≡ b → find_listing n (x ∷ xs) ≡ Some o → (find_listing n xs ≡ Some o → Called n o xs)
+call_find_by : (n : ℕ) (o : Option ℕ) (x : Listing ℕ) (xs : List (Listing ℕ)) (k : Option ℕ) (b : Bool) → x.waker ≡ k
+    → (x.ticket == n) ≡ b → find_listing n (x ∷ xs) ≡ Some o → (find_listing n xs ≡ Some o → Called n o xs)
     → (find_listing n (call_by x k xs (call_first xs)) ≡ Some o) ⊎ ((w : ℕ) × (o ≡ Some w) × (find_listing n (call_by x k xs (call_first xs)) ≡ Some None) × (first_by k (first_waker xs) ≡ Some w))
 call_find_by n o x xs (Some w) true is b f ih = inr (w, grind arith, grind arith, refl)
 call_find_by n o x xs (Some w) false is b f ih = inl (grind arith)
@@ -19,7 +20,10 @@ pub call_find : (n : ℕ) (o : Option ℕ) (xs : List (Listing ℕ)) → find_li
 call_find n o [] f = grind arith
 call_find n o (x ∷ xs) f = call_find_by n o x xs x.waker (x.ticket == n) refl refl f (call_find n o xs)
 
-call_back_by : (n : ℕ) (o : Option ℕ) (x : Listing ℕ) (xs : List (Listing ℕ)) (k : Option ℕ) (b : Bool) → (x.ticket == n) ≡ b → find_listing n (call_by x k xs (call_first xs)) ≡ Some o → (find_listing n (call_first xs) ≡ Some o → (j : Option ℕ) × (find_listing n xs ≡ Some j)) → (j : Option ℕ) × (find_listing n (x ∷ xs) ≡ Some j)
+call_back_by : (n : ℕ) (o : Option ℕ) (x : Listing ℕ) (xs : List (Listing ℕ)) (k : Option ℕ) (b : Bool)
+    → (x.ticket == n) ≡ b → find_listing n (call_by x k xs (call_first xs)) ≡ Some o
+    → (find_listing n (call_first xs) ≡ Some o → (j : Option ℕ) × (find_listing n xs ≡ Some j))
+    → (j : Option ℕ) × (find_listing n (x ∷ xs) ≡ Some j)
 call_back_by n o x xs k true b f ih = (x.waker, rw b refl)
 call_back_by n o x xs (Some w) false b f ih = (o, grind arith)
 call_back_by n o x xs None false b f ih = let s : find_listing n (call_first xs) ≡ Some o = grind arith in let j = ih s in (j.0, rw b j.1)
@@ -38,7 +42,8 @@ pub call_called : (w : ℕ) (xs : List (Listing ℕ)) → first_waker xs ≡ Som
 call_called w [] e = grind arith
 call_called w (x ∷ xs) e = called_by x xs x.waker refl
 
-call_none_by : (x : Listing ℕ) (xs : List (Listing ℕ)) (k : Option ℕ) → first_by k (first_waker xs) ≡ None → (first_waker xs ≡ None → call_first xs ≡ xs) → call_by x k xs (call_first xs) ≡ x ∷ xs
+call_none_by : (x : Listing ℕ) (xs : List (Listing ℕ)) (k : Option ℕ) → first_by k (first_waker xs) ≡ None
+    → (first_waker xs ≡ None → call_first xs ≡ xs) → call_by x k xs (call_first xs) ≡ x ∷ xs
 call_none_by x xs (Some w) e ih = grind arith
 call_none_by x xs None e ih = ap (λ (ys : List (Listing ℕ)). x ∷ ys) (ih e)
 

@@ -35,7 +35,8 @@ seen_again : (w v : ℕ) (xs : List ℕ) → member w xs ≡ true → member v (
 seen_again w v xs m = grind (arith, nat_tests)
 
 -- one listing leaves, where what comes after it is told by those that were seen until then
-hands_by : (o out : Option ℕ) (seen before rest : List ℕ) (after : List ℕ → List ℕ) → ((w : ℕ) → member w seen ≡ member w before) → HandsBy (λ a b. a ≡ b) (λ a b. a ≢ b) seen o out
+hands_by : (o out : Option ℕ) (seen before rest : List ℕ) (after : List ℕ → List ℕ)
+    → ((w : ℕ) → member w seen ≡ member w before) → HandsBy (λ a b. a ≡ b) (λ a b. a ≢ b) seen o out
     → ((now : List ℕ) → ((w : ℕ) → member w (wakers_by o seen) ≡ member w now) → rest ≡ after now)
     → wakers_by out rest ≡ out_by o after before
 hands_by None out seen before rest after same d told = rw d (told before same)
@@ -46,18 +47,21 @@ hands_by (Some w) out seen before rest after same (inr d) told =
     rw (d.0, sym (same w) ∙ other_member w seen d.1) (ap (λ ws. w ∷ ws) (told (w ∷ before) (λ v. ap (cond (w == v) true) (same v))))
 
 -- all listings leave, and each waker is handed out once
-hands_all : (xs ys : List (Listing ℕ)) (seen before : List ℕ) → ((w : ℕ) → member w seen ≡ member w before) → HandsAll (λ a b. a ≡ b) (λ a b. a ≢ b) seen xs ys → wakers_of ys ≡ all_out xs before
+hands_all : (xs ys : List (Listing ℕ)) (seen before : List ℕ) → ((w : ℕ) → member w seen ≡ member w before)
+    → HandsAll (λ a b. a ≡ b) (λ a b. a ≢ b) seen xs ys → wakers_of ys ≡ all_out xs before
 hands_all [] [] seen before same d = refl
 hands_all (x ∷ xs) (y ∷ ys) seen before same d = hands_by x.waker y.waker seen before (wakers_of ys) (all_out xs) same d.1 (λ now e. hands_all xs ys (wakers_by x.waker seen) now e d.2)
 hands_all [] (y ∷ ys) seen before same d = absurd d
 hands_all (x ∷ xs) [] seen before same d = absurd d
 
 -- the wakers that a release hands out are the machine's
-pub released_wakers : (ready : Bool) (xs rest : List (Listing ℕ)) (out : Out ℕ) → Releases (λ a b. a ≡ b) (λ a b. a ≢ b) ready xs out rest → wakers_in out ≡ release_wakers ready xs
+pub released_wakers : (ready : Bool) (xs rest : List (Listing ℕ)) (out : Out ℕ)
+    → Releases (λ a b. a ≡ b) (λ a b. a ≢ b) ready xs out rest → wakers_in out ≡ release_wakers ready xs
 released_wakers false xs rest out d = ap wakers_in d.0
 released_wakers true xs rest out (X, is, all, none) = ap wakers_in is ∙ ∥∥₁_elim all (Coded-set (coded_list coded_ℕ) _ _) (hands_all xs X.items [] [] (λ w. refl))
 
 -- and so are the listings that it leaves
-pub released_list : (ready : Bool) (xs rest : List (Listing ℕ)) (out : Out ℕ) → Releases (λ a b. a ≡ b) (λ a b. a ≢ b) ready xs out rest → rest ≡ release_list ready xs
+pub released_list : (ready : Bool) (xs rest : List (Listing ℕ)) (out : Out ℕ)
+    → Releases (λ a b. a ≡ b) (λ a b. a ≢ b) ready xs out rest → rest ≡ release_list ready xs
 released_list false xs rest out d = d.1
 released_list true xs rest out (X, is, all, none) = none

@@ -25,11 +25,13 @@ find_take_same n [] = refl
 find_take_same n (x ∷ xs) = grind (arith, nat_tests, find_take_same n xs)
 
 -- what is found after one was put to the end
-pub find_push_other : (n m : ℕ) (k : Option ℕ) (xs : List (Listing ℕ)) → m ≢ n → find_listing n (xs ++ record { ticket = m; waker = k } ∷ []) ≡ find_listing n xs
+pub find_push_other : (n m : ℕ) (k : Option ℕ) (xs : List (Listing ℕ)) → m ≢ n
+    → find_listing n (xs ++ record { ticket = m; waker = k } ∷ []) ≡ find_listing n xs
 find_push_other n m k [] d = grind (arith, nat_tests)
 find_push_other n m k (x ∷ xs) d = grind (arith, nat_tests, find_push_other n m k xs d)
 
-pub find_push_same : (n : ℕ) (k : Option ℕ) (xs : List (Listing ℕ)) → find_listing n xs ≡ None → find_listing n (xs ++ record { ticket = n; waker = k } ∷ []) ≡ Some k
+pub find_push_same : (n : ℕ) (k : Option ℕ) (xs : List (Listing ℕ)) → find_listing n xs ≡ None
+    → find_listing n (xs ++ record { ticket = n; waker = k } ∷ []) ≡ Some k
 find_push_same n k [] e = grind (arith, nat_tests)
 find_push_same n k (x ∷ xs) e = grind (arith, nat_tests, find_push_same n k xs)
 
@@ -46,7 +48,9 @@ for_self : (w : ℕ) (o : Option ℕ) → o ≡ Some w → bit (is_for w o) ≡ 
 for_self w (Some k) e = grind (arith, nat_tests)
 for_self w None e = grind arith
 
-found_by : (n w : ℕ) (x : Listing ℕ) (xs : List (Listing ℕ)) (b : Bool) → (x.ticket == n) ≡ b → find_listing n (x ∷ xs) ≡ Some (Some w) → (find_listing n xs ≡ Some (Some w) → 0 < asks w xs) → 0 < asks w (x ∷ xs)
+found_by : (n w : ℕ) (x : Listing ℕ) (xs : List (Listing ℕ)) (b : Bool) → (x.ticket == n) ≡ b
+    → find_listing n (x ∷ xs) ≡ Some (Some w) → (find_listing n xs ≡ Some (Some w) → 0 < asks w xs)
+    → 0 < asks w (x ∷ xs)
 found_by n w x xs true is e ih = let k : x.waker ≡ Some w = grind arith in let one = for_self w x.waker k in omega arith
 found_by n w x xs false is e ih = let k : find_listing n xs ≡ Some (Some w) = grind arith in let l = ih k in omega arith
 
@@ -55,7 +59,8 @@ pub asks_found : (n w : ℕ) (xs : List (Listing ℕ)) → find_listing n xs ≡
 asks_found n w [] e = grind arith
 asks_found n w (x ∷ xs) e = found_by n w x xs (x.ticket == n) refl e (asks_found n w xs)
 
-asks_call_by : (w : ℕ) (x : Listing ℕ) (xs : List (Listing ℕ)) (o : Option ℕ) → x.waker ≡ o → asks w (call_first xs) + times_in w (one_out (first_waker xs)) ≡ asks w xs
+asks_call_by : (w : ℕ) (x : Listing ℕ) (xs : List (Listing ℕ)) (o : Option ℕ) → x.waker ≡ o
+    → asks w (call_first xs) + times_in w (one_out (first_waker xs)) ≡ asks w xs
     → asks w (call_by x o xs (call_first xs)) + times_in w (one_out (first_by o (first_waker xs))) ≡ bit (is_for w o) + asks w xs
 asks_call_by w x xs (Some k) is ih = omega arith
 asks_call_by w x xs None is ih = let z : bit (is_for w x.waker) ≡ 0 = rw is refl in omega arith

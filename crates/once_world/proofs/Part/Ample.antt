@@ -28,7 +28,8 @@ ends_for_memory-append t (Look v ∷ xs) ys = ends_for_memory-append t xs ys
 ends_for_memory-append t (Own o g ∷ xs) ys = ends_for_memory-append t xs ys
 
 -- one more that is given memory
-granted_after : (begins fits : Bool) (i : Input) (g : List Input) → is_ungranted i ≡ false → all_granted g ≡ true → all_granted (cond begins [] (cond fits (i ∷ g) g)) ≡ true
+granted_after : (begins fits : Bool) (i : Input) (g : List Input) → is_ungranted i ≡ false → all_granted g ≡ true
+    → all_granted (cond begins [] (cond fits (i ∷ g) g)) ≡ true
 granted_after true fits i g a b = refl
 granted_after false true i g a b = rw a b
 granted_after false false i g a b = b
@@ -42,7 +43,8 @@ always_granted K t (p ∷ before) g =
     granted_after (begins_call t p.entries) (is_fitting_go K t p.input (entries_of before)) p.input (gos K t before) here (always_granted K t before rest)
 
 -- no part ends a poll for want of memory then
-no_memory : (K : Kind) (t : ℕ) (parts : List Part) → Always (WantsMemoryOnlyUngranted K) parts → all_granted (inputs_of parts) ≡ true → ends_for_memory t (entries_of parts) ≡ false
+no_memory : (K : Kind) (t : ℕ) (parts : List Part) → Always (WantsMemoryOnlyUngranted K) parts
+    → all_granted (inputs_of parts) ≡ true → ends_for_memory t (entries_of parts) ≡ false
 no_memory K t [] a g = refl
 no_memory K t (p ∷ before) a g =
     let rest : all_granted (inputs_of before) ≡ true = grind arith in
@@ -55,5 +57,6 @@ granted_memory : (kind : Kind) (inputs : List Input) (h : List Entry) (t : ℕ) 
 granted_memory kind inputs h t b g = let f = b.1 in rw (← f.entries_are) (no_memory kind t b.0 f.memory (ap all_granted f.inputs_are ∙ g))
 
 -- where every step is given memory, the record has no call that ended for want of it
-pub ample_memory : (kind : Kind) (limit : ℕ) (inputs : List Input) (t : ℕ) → 0 < limit → all_granted inputs ≡ true → ends_for_memory t (history_of kind limit inputs) ≡ false
+pub ample_memory : (kind : Kind) (limit : ℕ) (inputs : List Input) (t : ℕ) → 0 < limit → all_granted inputs ≡ true
+    → ends_for_memory t (history_of kind limit inputs) ≡ false
 ample_memory kind limit inputs t some g = let b = belongs kind limit inputs some in granted_memory kind inputs (history_of kind limit inputs) t (b.0, b.1) g

@@ -44,12 +44,14 @@ begun_granted (UnderWay p) e = absurd (false≢true e)
 begun_granted Finished e = refl
 
 -- what a poll and a drop add, by the place at rest
-rest_begins : (K : Kind) (limit t k : ℕ) (c : SharedState) (h : List Entry) (r : Rest ℕ) → AtRest K limit t c h r → Begin t k ∷ [] ≡ poll_part (status K t h) t k
+rest_begins : (K : Kind) (limit t k : ℕ) (c : SharedState) (h : List Entry) (r : Rest ℕ) → AtRest K limit t c h r
+    → Begin t k ∷ [] ≡ poll_part (status K t h) t k
 rest_begins K limit t k c h RestStart a = rw a.status_is refl
 rest_begins K limit t k c h (RestWait q n) a = rw a.0.status_is refl
 rest_begins K limit t k c h (RestRun by) a = rw a.0.status_is refl
 
-rest_drops : (K : Kind) (limit t : ℕ) (c : SharedState) (h : List Entry) (r : Rest ℕ) → AtRest K limit t c h r → drop_entries t (step_of_drop_at r) ≡ drop_part (status K t h) t
+rest_drops : (K : Kind) (limit t : ℕ) (c : SharedState) (h : List Entry) (r : Rest ℕ) → AtRest K limit t c h r
+    → drop_entries t (step_of_drop_at r) ≡ drop_part (status K t h) t
 rest_drops K limit t c h RestStart a = rw a.status_is refl
 rest_drops K limit t c h (RestWait q n) a = rw a.0.status_is refl
 rest_drops K limit t c h (RestRun by) a = rw a.0.status_is refl
@@ -79,7 +81,8 @@ begins_if true t k = Begin t k ∷ []
 begins_if false t k = []
 
 -- a poll adds what the record asks
-pub step_begins_so : (K : Kind) (limit t k : ℕ) (c : SharedState) (h : List Entry) (s : Step ℕ ℕ) → AtStep K limit t c h s → begins_if (is_resting s) t k ≡ poll_part (status K t h) t k
+pub step_begins_so : (K : Kind) (limit t k : ℕ) (c : SharedState) (h : List Entry) (s : Step ℕ ℕ)
+    → AtStep K limit t c h s → begins_if (is_resting s) t k ≡ poll_part (status K t h) t k
 step_begins_so K limit t k c h (Resting r) a = rest_begins K limit t k c h r a.0
 step_begins_so K limit t k c h (UnderWay p) a = busy_begins (status K t h) t k (place_acts K limit t c h p a)
 step_begins_so K limit t k c h Finished a = rw a.status_is refl
@@ -90,7 +93,8 @@ drops_if true t s = drop_entries t (step_of_drop s)
 drops_if false t s = []
 
 -- so does a drop
-pub step_drops_so : (K : Kind) (limit t : ℕ) (c : SharedState) (h : List Entry) (s : Step ℕ ℕ) → AtStep K limit t c h s → drops_if (is_resting s) t s ≡ drop_part (status K t h) t
+pub step_drops_so : (K : Kind) (limit t : ℕ) (c : SharedState) (h : List Entry) (s : Step ℕ ℕ)
+    → AtStep K limit t c h s → drops_if (is_resting s) t s ≡ drop_part (status K t h) t
 step_drops_so K limit t c h (Resting r) a = rest_drops K limit t c h r a.0
 step_drops_so K limit t c h (UnderWay p) a = busy_drops (status K t h) t (place_acts K limit t c h p a)
 step_drops_so K limit t c h Finished a = rw a.status_is refl

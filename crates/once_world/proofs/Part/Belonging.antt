@@ -21,7 +21,8 @@ sixteen_called n u s b l true e = let p = left_some s e in let m = b.steps e in 
 sixteen_called n u s b l false e = e
 
 -- the same for the task of the record
-sixteen_now : (K : Kind) (limit t n : ℕ) (u : Bool) (c : SharedState) (h : List Entry) (o : Option Task) → StandsFor K limit t c h o → Budget n u (step_of o) → 16 ≤ n → is_under_way (status K t h) ≡ false
+sixteen_now : (K : Kind) (limit t n : ℕ) (u : Bool) (c : SharedState) (h : List Entry) (o : Option Task)
+    → StandsFor K limit t c h o → Budget n u (step_of o) → 16 ≤ n → is_under_way (status K t h) ≡ false
 sixteen_now K limit t n u c h None s b l = ap is_under_way s.0.status_is
 sixteen_now K limit t n u c h (Some x) s b l = step_acts K limit t c h x.step s.step ∙ sixteen_called n u x.step b l (in_call x.step) refl
 
@@ -38,11 +39,17 @@ record Tale (K : Kind) (limit : ℕ) (inputs : List Input) : Type 0 where
 
 module _ (K : Kind) (limit : ℕ) (some : 0 < limit) where
   -- after these parts
-  sixteen_of : (inputs : List Input) (parts : List Part) → entries_of parts ≡ history_of K limit inputs → ((t : ℕ) → Budget (length (gos K t parts)) (not (all_granted (gos K t parts))) (step_of ((world_of K limit inputs).tasks t))) → SixteenEnd K parts
-  sixteen_of inputs parts r b t l = rw r (sixteen_now K limit t (length (gos K t parts)) (not (all_granted (gos K t parts))) (world_of K limit inputs).shared (history_of K limit inputs) ((world_of K limit inputs).tasks t) ((world_fits K limit inputs some).tasks t) (b t) l)
+  sixteen_of : (inputs : List Input) (parts : List Part) → entries_of parts ≡ history_of K limit inputs
+      → ((t : ℕ) → Budget (length (gos K t parts)) (not (all_granted (gos K t parts))) (step_of ((world_of K limit inputs).tasks t)))
+      → SixteenEnd K parts
+  sixteen_of inputs parts r b t l =
+      rw r (sixteen_now K limit t (length (gos K t parts)) (not (all_granted (gos K t parts)))
+      (world_of K limit inputs).shared (history_of K limit inputs) ((world_of K limit inputs).tasks t)
+      ((world_fits K limit inputs some).tasks t) (b t) l)
 
   -- a queue stands while a task waits, in the log of the parts
-  waiting_of : (inputs : List Input) (parts : List Part) → entries_of parts ≡ history_of K limit inputs → lines_of parts ≡ log_of K limit inputs → WaitingStands K parts
+  waiting_of : (inputs : List Input) (parts : List Part) → entries_of parts ≡ history_of K limit inputs
+      → lines_of parts ≡ log_of K limit inputs → WaitingStands K parts
   waiting_of inputs parts r l t s = rw l (waits_stand K limit inputs t some (rw r at s))
 
   -- none is kept in the log of the parts
@@ -72,15 +79,31 @@ module _ (K : Kind) (limit : ℕ) (some : 0 < limit) where
       let adds_lines : AddsLines K i (entries_of b.parts) p.entries (lines_of b.parts) p.lines = rw (d.entries_are, k.lines_are) p.adds_lines in
       let many = λ (t : ℕ). gos_length (begins_call t p.entries) (is_fitting_go K t i (entries_of b.parts)) i (gos K t b.parts) in
       let met = λ (t : ℕ). gos_ungranted (begins_call t p.entries) (is_fitting_go K t i (entries_of b.parts)) i (gos K t b.parts) in
-      let wants : WantsMemoryOnlyUngranted K ps = λ t m. is_false (all_granted (gos K t ps)) (met t ∙ rw d.entries_are (p.memory t (length (gos K t b.parts)) (not (all_granted (gos K t b.parts))) (b.budget t) m)) in
-      let budget : (t : ℕ) → Budget (length (gos K t ps)) (not (all_granted (gos K t ps))) (step_of ((world_of K limit (i ∷ before)).tasks t)) = λ t. rw (many t, met t, d.entries_are) (p.budget t (length (gos K t b.parts)) (not (all_granted (gos K t b.parts))) (b.budget t)) in
+      let wants : WantsMemoryOnlyUngranted K ps = λ t m. is_false (all_granted (gos K t ps))
+      (met t ∙ rw d.entries_are (p.memory t (length (gos K t b.parts)) (not (all_granted (gos K t b.parts)))
+      (b.budget t) m)) in
+      let budget : (t : ℕ) → Budget (length (gos K t ps)) (not (all_granted (gos K t ps)))
+      (step_of ((world_of K limit (i ∷ before)).tasks t)) = λ t. rw (many t, met t, d.entries_are)
+      (p.budget t (length (gos K t b.parts)) (not (all_granted (gos K t b.parts))) (b.budget t)) in
       record {
         parts = ps;
-        falls = record { inputs_are = ap (λ x. i ∷ x) d.inputs_are; entries_are = r; added = (adds, d.added); sixteen_end = (sixteen_of (i ∷ before) ps r budget, d.sixteen_end); memory = (wants, d.memory) };
+        falls = record {
+          inputs_are = ap
+              (λ x. i ∷ x) d.inputs_are;
+          entries_are = r;
+          added = (adds, d.added);
+          sixteen_end = (
+            sixteen_of
+                (i ∷ before) ps r budget,
+            d.sixteen_end,
+          );
+          memory = (wants, d.memory);
+        };
         is_log = record { lines_are = l; logged = (adds_lines, k.logged); waiting_stands = (waiting_of (i ∷ before) ps r l, k.waiting_stands); none_kept = (none_of (i ∷ before) ps r l, k.none_kept) };
         budget = budget;
       }
 
 -- the record and the log of these inputs fall into the same parts, one for each input
-pub belongs : (kind : Kind) (limit : ℕ) (inputs : List Input) → 0 < limit → (parts : List Part) × FallsInto kind inputs (history_of kind limit inputs) parts × IsLogOf kind (log_of kind limit inputs) parts
+pub belongs : (kind : Kind) (limit : ℕ) (inputs : List Input) → 0 < limit
+    → (parts : List Part) × FallsInto kind inputs (history_of kind limit inputs) parts × IsLogOf kind (log_of kind limit inputs) parts
 belongs kind limit inputs some = let b = tale kind limit some inputs in (b.parts, b.falls, b.is_log)

@@ -39,7 +39,8 @@ fitted_ungranted true all = refl
 fitted_ungranted false all = refl
 
 -- and whether one of them was not given memory
-pub gos_ungranted : (begins fits : Bool) (i : Input) (g : List Input) → not (all_granted (cond begins [] (cond fits (i ∷ g) g))) ≡ ungranted_after begins fits (is_ungranted i) (not (all_granted g))
+pub gos_ungranted : (begins fits : Bool) (i : Input) (g : List Input)
+    → not (all_granted (cond begins [] (cond fits (i ∷ g) g))) ≡ ungranted_after begins fits (is_ungranted i) (not (all_granted g))
 gos_ungranted true fits i g = refl
 gos_ungranted false true i g = fitted_ungranted (is_ungranted i) (all_granted g)
 gos_ungranted false false i g = refl
@@ -52,8 +53,10 @@ pub record HasPart (K : Kind) (w w' : World) (i : Input) : Type 0 where
   pub log_is : w'.log ≡ lines ++ w.log
   pub adds : Adds K i w.history entries
   pub adds_lines : AddsLines K i w.history entries w.log lines
-  pub budget : (t n : ℕ) (u : Bool) → Budget n u (step_of (w.tasks t)) → Budget (gos_after (begins_call t entries) (is_fitting_go K t i w.history) n) (ungranted_after (begins_call t entries) (is_fitting_go K t i w.history) (is_ungranted i) u) (step_of (w'.tasks t))
-  pub memory : (t n : ℕ) (u : Bool) → Budget n u (step_of (w.tasks t)) → ends_for_memory t entries ≡ true → ungranted_after (begins_call t entries) (is_fitting_go K t i w.history) (is_ungranted i) u ≡ true
+  pub budget : (t n : ℕ) (u : Bool) → Budget n u (step_of (w.tasks t))
+      → Budget (gos_after (begins_call t entries) (is_fitting_go K t i w.history) n) (ungranted_after (begins_call t entries) (is_fitting_go K t i w.history) (is_ungranted i) u) (step_of (w'.tasks t))
+  pub memory : (t n : ℕ) (u : Bool) → Budget n u (step_of (w.tasks t)) → ends_for_memory t entries ≡ true
+      → ungranted_after (begins_call t entries) (is_fitting_go K t i w.history) (is_ungranted i) u ≡ true
 
 -- no call is under way, and none is refused
 abbrev IsIdle : Step ℕ ℕ → Type 0
@@ -64,7 +67,9 @@ idle_budget : (n : ℕ) (u : Bool) (s : Step ℕ ℕ) → IsIdle s → Budget n 
 idle_budget n u s i = record { steps = λ e. absurd (false≢true (sym i.0 ∙ e)); refused = λ e. absurd (false≢true (sym i.1 ∙ e)) }
 
 -- an input by which no call begins and no step is made
-pub quiet_part : (K : Kind) (w w' : World) (i : Input) (entries : List Entry) (lines : List QueueLine) → w'.history ≡ entries ++ w.history → w'.log ≡ lines ++ w.log → Adds K i w.history entries → AddsLines K i w.history entries w.log lines
+pub quiet_part : (K : Kind) (w w' : World) (i : Input) (entries : List Entry) (lines : List QueueLine)
+    → w'.history ≡ entries ++ w.history → w'.log ≡ lines ++ w.log → Adds K i w.history entries
+    → AddsLines K i w.history entries w.log lines
     → ((t : ℕ) → begins_call t entries ≡ false) → ((t : ℕ) → is_fitting_go K t i w.history ≡ false) → ((t : ℕ) → ends_for_memory t entries ≡ false)
     → ((t : ℕ) → (step_of (w'.tasks t) ≡ step_of (w.tasks t)) ⊎ IsIdle (step_of (w'.tasks t))) → HasPart K w w' i
 quiet_part K w w' i entries lines h g a l b f m s = record {
@@ -79,7 +84,8 @@ quiet_part K w w' i entries lines h g a l b f m s = record {
 }
 
 -- an input that does not fit
-pub nothing : (K : Kind) (w : World) (i : Input) → Adds K i w.history [] → AddsLines K i w.history [] w.log [] → ((t : ℕ) → is_fitting_go K t i w.history ≡ false) → HasPart K w w i
+pub nothing : (K : Kind) (w : World) (i : Input) → Adds K i w.history [] → AddsLines K i w.history [] w.log []
+    → ((t : ℕ) → is_fitting_go K t i w.history ≡ false) → HasPart K w w i
 nothing K w i a l f = quiet_part K w w i [] [] refl refl a l (λ t. refl) f (λ t. refl) (λ t. inl refl)
 
 -- a call that just began is within its budget
@@ -87,7 +93,9 @@ begun_budget : (s : Step ℕ ℕ) → is_refused s ≡ false → Budget 0 false 
 begun_budget s r = record { steps = λ e. let l = left_most s in omega arith; refused = λ e. absurd (false≢true (sym r ∙ e)) }
 
 -- an input by which a call of t begins, y being the task then
-pub begin_part : (K : Kind) (w w' : World) (i : Input) (t : ℕ) (y : Task) (entries : List Entry) → Puts t y w.tasks w'.tasks → w'.history ≡ entries ++ w.history → w'.log ≡ w.log → Adds K i w.history entries → AddsLines K i w.history entries w.log []
+pub begin_part : (K : Kind) (w w' : World) (i : Input) (t : ℕ) (y : Task) (entries : List Entry)
+    → Puts t y w.tasks w'.tasks → w'.history ≡ entries ++ w.history → w'.log ≡ w.log → Adds K i w.history entries
+    → AddsLines K i w.history entries w.log []
     → ((v : ℕ) → begins_call v entries ≡ (t == v)) → ((v : ℕ) → is_fitting_go K v i w.history ≡ false) → ((v : ℕ) → ends_for_memory v entries ≡ false) → is_refused y.step ≡ false → HasPart K w w' i
 begin_part K w w' i t y entries p h g a l b f m r = record {
   entries = entries;

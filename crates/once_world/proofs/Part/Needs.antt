@@ -87,7 +87,9 @@ module _ (K : Kind) (c : SharedState) (t : ℕ) (k : Answer) (h : List Entry) wh
   need_out false e n = need_last K t c.value k e [] h n
 
   -- one place after the other
-  need_at : (limit w : ℕ) (a : Answer) (g : Bool) (p : Place ℕ ℕ) → AtPlace K limit t c h p → need_queue K (place_step (is_lazy K) limit c t w k a g p).entries h ≡ true → has_entered (place_lines g c p) ≡ true
+  need_at : (limit w : ℕ) (a : Answer) (g : Bool) (p : Place ℕ ℕ) → AtPlace K limit t c h p
+      → need_queue K (place_step (is_lazy K) limit c t w k a g p).entries h ≡ true
+      → has_entered (place_lines g c p) ≡ true
   need_at limit w a g AtStart at e = needless (need_start c.ready (is_zero (word_of c))) e
   need_at limit w a g AtTryQuick at e = needless (need_quick (is_zero (word_of c))) e
   need_at limit w a g AtDoorGet at e = needless (need_get c.door) e
@@ -107,7 +109,9 @@ module _ (K : Kind) (c : SharedState) (t : ℕ) (k : Answer) (h : List Entry) wh
   need_at limit w a g (AtDoorTake x) at e = needless (need_last K t c.value k x [] h (owes_lasts K t h x at.0)) e
 
   -- a step that needs the queue enters it
-  pub need_step : (limit w : ℕ) (a : Answer) (g : Bool) (s : Step ℕ ℕ) → AtStep K limit t c h s → need_queue K (step_at (is_lazy K) limit c t w k a g s).entries h ≡ true → has_entered (step_lines g c s) ≡ true
+  pub need_step : (limit w : ℕ) (a : Answer) (g : Bool) (s : Step ℕ ℕ) → AtStep K limit t c h s
+      → need_queue K (step_at (is_lazy K) limit c t w k a g s).entries h ≡ true
+      → has_entered (step_lines g c s) ≡ true
   need_step limit w a g (UnderWay p) at e = need_at limit w a g p at e
   need_step limit w a g (Resting r) at e = absurd (false≢true e)
   need_step limit w a g Finished at e = absurd (false≢true e)

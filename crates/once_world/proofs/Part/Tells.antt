@@ -41,15 +41,18 @@ none_refuses : {A : Type 0} → false ≡ true → A
 none_refuses e = absurd (false≢true e)
 
 -- to another place, with nothing recorded
-on_to : (g : Bool) (p p' : Place ℕ ℕ) (c : SharedState) (k : Answer) → left_at p' < left_at p → (is_refused_at p' ≡ true → (is_refused_at p ≡ true) ⊎ (g ≡ false)) → Tells g (UnderWay p) (goes_to c k p')
+on_to : (g : Bool) (p p' : Place ℕ ℕ) (c : SharedState) (k : Answer) → left_at p' < left_at p
+    → (is_refused_at p' ≡ true → (is_refused_at p ≡ true) ⊎ (g ≡ false)) → Tells g (UnderWay p) (goes_to c k p')
 on_to g p p' c k l r = record { lowers = λ e. l; refuses = r; memory = λ u e. none_refuses e }
 
 -- the call ends
-stops : (g : Bool) (p : Place ℕ ℕ) (o : Outcome) → in_call o.step ≡ false → is_refused o.step ≡ false → ((u : ℕ) → ends_for_memory u o.entries ≡ true → (is_refused_at p ≡ true) ⊎ (g ≡ false)) → Tells g (UnderWay p) o
+stops : (g : Bool) (p : Place ℕ ℕ) (o : Outcome) → in_call o.step ≡ false → is_refused o.step ≡ false
+    → ((u : ℕ) → ends_for_memory u o.entries ≡ true → (is_refused_at p ≡ true) ⊎ (g ≡ false)) → Tells g (UnderWay p) o
 stops g p o c r m = record { lowers = λ e. absurd (false≢true (sym c ∙ e)); refuses = λ e. absurd (false≢true (sym r ∙ e)); memory = m }
 
 -- to a place from which the call is not refused
-goes_by : (g : Bool) (p : Place ℕ ℕ) (o : Outcome) → left_of o.step < left_at p → is_refused o.step ≡ false → ((u : ℕ) → ends_for_memory u o.entries ≡ false) → Tells g (UnderWay p) o
+goes_by : (g : Bool) (p : Place ℕ ℕ) (o : Outcome) → left_of o.step < left_at p → is_refused o.step ≡ false
+    → ((u : ℕ) → ends_for_memory u o.entries ≡ false) → Tells g (UnderWay p) o
 goes_by g p o l r m = record { lowers = λ e. l; refuses = λ e. absurd (false≢true (sym r ∙ e)); memory = λ u e. absurd (false≢true (sym (m u) ∙ e)) }
 
 -- where neither holds, the second does not
@@ -58,7 +61,8 @@ right_false true b e = absurd (false≢true (sym e))
 right_false false b e = e
 
 -- only an ending for want of memory records one
-last_memory : (t v : ℕ) (k : Answer) (e : Ending) (r : List Entry) (u : ℕ) → ends_for_memory u r ≡ false → ends_for_memory u (end_entry e t v k ∷ r) ≡ true → is_memory e ≡ true
+last_memory : (t v : ℕ) (k : Answer) (e : Ending) (r : List Entry) (u : ℕ) → ends_for_memory u r ≡ false
+    → ends_for_memory u (end_entry e t v k ∷ r) ≡ true → is_memory e ≡ true
 last_memory t v k EndMemory r u n x = refl
 last_memory t v k EndPending r u n x = absurd (false≢true (sym n ∙ x))
 last_memory t v k EndValue r u n x = absurd (false≢true (sym n ∙ x))
@@ -152,7 +156,12 @@ module _ (c : SharedState) (t : ℕ) (k : Answer) (g : Bool) where
   tell_release false q e = on_to g (AtRelease q e) (AtCountOut e) c k (omega arith) (λ z. inl z)
 
   tell_leave : (d : Bool) (q n : ℕ) (e : Ending) → Tells g (UnderWay (AtLeave q n e)) (leave_step d c t k n e)
-  tell_leave true q n e = record { lowers = λ z. omega arith; refuses = λ z. inl z; memory = λ u z. absurd (false≢true (sym (passed_memory t (one_out (next_waker (is_passing c n) n c.listings)) u) ∙ z)) }
+  tell_leave true q n e = record {
+    lowers = λ z. omega arith;
+    refuses = λ z. inl z;
+    memory = λ u z. absurd
+        (false≢true (sym (passed_memory t (one_out (next_waker (is_passing c n) n c.listings)) u) ∙ z));
+  }
   tell_leave false q n e = on_to g (AtLeave q n e) (AtCountOut e) c k (omega arith) (λ z. inl z)
 
   tell_out : (x : Bool) (e : Ending) → Tells g (UnderWay (AtCountOut e)) (out_step x (out_shared c) t k e)

@@ -31,7 +31,9 @@ abbrev pub Goes : Kind → ℕ → ℕ → ℕ → Place ℕ ℕ → SharedState
 Goes K limit t w p c h o = Moves K limit t (UnderWay p) (record { waker = w; kept = o.kept; step = o.step }) c o.shared h (o.entries ++ h)
 
 -- what a step that leaves flags, door and value alone leaves for the others
-pub same_shared : (K : Kind) (limit : ℕ) (c c' : SharedState) (u : ℕ) (h : List Entry) (b : Bool) → c'.ready ≡ c.ready → c'.door ≡ c.door → c'.quick ≡ c.quick → c'.head ≡ c.head → c'.value ≡ c.value → (c.count ≤ limit → c'.count ≤ limit) → SharedKeeps K limit c c' u h b
+pub same_shared : (K : Kind) (limit : ℕ) (c c' : SharedState) (u : ℕ) (h : List Entry) (b : Bool)
+    → c'.ready ≡ c.ready → c'.door ≡ c.door → c'.quick ≡ c.quick → c'.head ≡ c.head → c'.value ≡ c.value
+    → (c.count ≤ limit → c'.count ≤ limit) → SharedKeeps K limit c c' u h b
 same_shared K limit c c' u h b r d q e v n = record {
   ready = λ k. r ∙ k;
   door = λ j k. inl (d ∙ k);
@@ -40,7 +42,9 @@ same_shared K limit c c' u h b r d q e v n = record {
 }
 
 -- what a step leaves where no other task holds
-pub free_shared : (K : Kind) (limit : ℕ) (c c' : SharedState) (u : ℕ) (h : List Entry) (b : Bool) → (c.ready ≡ true → c'.ready ≡ true) → c'.door ≡ c.door → holds u (cell K h) ≡ false → SharedKeeps K limit c c' u h b
+pub free_shared : (K : Kind) (limit : ℕ) (c c' : SharedState) (u : ℕ) (h : List Entry) (b : Bool)
+    → (c.ready ≡ true → c'.ready ≡ true) → c'.door ≡ c.door → holds u (cell K h) ≡ false
+    → SharedKeeps K limit c c' u h b
 free_shared K limit c c' u h b r d n = record {
   ready = r;
   door = λ j k. inl (d ∙ k);
@@ -80,7 +84,8 @@ owes_lasts K t h EndPending o n = o
 owes_lasts K t h EndFull o n = o
 
 -- what is shared fits the cell alone
-pub shared_at : (K : Kind) (limit : ℕ) (c : SharedState) (h h' : List Entry) → cell K h' ≡ cell K h → answers_left K h' ≡ answers_left K h → SharedFits K limit c h → SharedFits K limit c h'
+pub shared_at : (K : Kind) (limit : ℕ) (c : SharedState) (h h' : List Entry) → cell K h' ≡ cell K h
+    → answers_left K h' ≡ answers_left K h → SharedFits K limit c h → SharedFits K limit c h'
 shared_at K limit c h h' e s f = record {
   answers_is = f.answers_is ∙ sym s;
   ready_is = rw e f.ready_is;
@@ -96,7 +101,8 @@ not_holding : (t : ℕ) (c : Cell) → holds t c ≡ false → c ≢ Held t
 not_holding t c n e = false≢true (sym n ∙ ap (holds t) e ∙ eqb_self t)
 
 -- a poll may end with the value that is set
-value_legal : (K : Kind) (limit t v : ℕ) (h : List Entry) (r : Option Answer) → cell K h ≡ SetTo v → (r ≡ None) ⊎ (r ≡ Some (RanValue v)) → MayEnd K limit t (Value v) r h
+value_legal : (K : Kind) (limit t v : ℕ) (h : List Entry) (r : Option Answer) → cell K h ≡ SetTo v
+    → (r ≡ None) ⊎ (r ≡ Some (RanValue v)) → MayEnd K limit t (Value v) r h
 value_legal K limit t v h r c (inl e) = rw e c
 value_legal K limit t v h r c (inr e) = rw e (refl, c)
 
@@ -105,7 +111,9 @@ error_kept : (e : ℕ) (k : Answer) (r : Option Answer) → k ≡ kept_of r → 
 error_kept e k r a b = ap error_in (a ∙ ap kept_of b)
 
 -- a call may end as it owes
-owes_legal : (K : Kind) (limit t v : ℕ) (k : Answer) (h : List Entry) (e : Ending) → ((n : ℕ) → cell K h ≡ SetTo n → v ≡ n) → k ≡ kept_of (last_call K t h).ran → Owes K t h e → IsLegal K limit (end_entry e t v k) h
+owes_legal : (K : Kind) (limit t v : ℕ) (k : Answer) (h : List Entry) (e : Ending)
+    → ((n : ℕ) → cell K h ≡ SetTo n → v ≡ n) → k ≡ kept_of (last_call K t h).ran → Owes K t h e
+    → IsLegal K limit (end_entry e t v k) h
 owes_legal K limit t v k h EndValue f a o = (o.0, rw (f o.1.0 o.1.1) (value_legal K limit t o.1.0 h (last_call K t h).ran o.1.1 o.1.2), inl o.2)
 owes_legal K limit t v k h EndError f a o = (o.1.status_is, rw o.1.ran_is (error_kept o.0 k (last_call K t h).ran a o.1.ran_is, o.2), inl o.1.unpassed)
 owes_legal K limit t v k h EndMemory f a o = (o.0.status_is, rw o.0.ran_is (o.0.unclaimed, o.1), inr refl)
@@ -133,11 +141,15 @@ opened_by false = refl
 opens_now : (K : Kind) (t u w v : ℕ) (h : List Entry) → cell K h ≡ Held u → t ≢ u → (last_call K t h).waker ≡ w → opens K v (End t Pending) h ≡ (w == v)
 opens_now K t u w v h c n wk = let d = ne_eqb u t (λ e. n (sym e)) in rw (wk, c, d) (opened_by (w == v))
 
-module _ (K : Kind) (limit t w : ℕ) (k : Answer) (p : Place ℕ ℕ) (c : SharedState) (h : List Entry) (run : IsRun K limit h) (shared : SharedFits K limit c h) (queue : QueueFits K c.listings h) (wk : (last_call K t h).waker ≡ w) (kk : k ≡ kept_of (last_call K t h).ran) where
+module _ (K : Kind) (limit t w : ℕ) (k : Answer) (p : Place ℕ ℕ) (c : SharedState) (h : List Entry)
+    (run : IsRun K limit h) (shared : SharedFits K limit c h) (queue : QueueFits K c.listings h)
+    (wk : (last_call K t h).waker ≡ w) (kk : k ≡ kept_of (last_call K t h).ran) where
   -- a step that records nothing
   pub moves_on : (c' : SharedState) (p' : Place ℕ ℕ) → SharedFits K limit c' h → QueueFits K c'.listings h → AtPlace K limit t c' h p'
       → ((u : ℕ) → t ≢ u → (b : Bool) → (is_take_at p ≡ true → b ≡ false) → SharedKeeps K limit c c' u h b)
-      → c'.count + bit (is_counted_at p) ≡ c.count + bit (is_counted_at p') → (is_take_at p' ≡ true → c'.count ≡ 0) → (is_inside_at p' ≡ true → (is_inside_at p ≡ true) ⊎ (c.ready ≡ false)) → ListMoves t (ticket_at p) (ticket_at p') c c' h
+      → c'.count + bit (is_counted_at p) ≡ c.count + bit (is_counted_at p') → (is_take_at p' ≡ true → c'.count ≡ 0)
+      → (is_inside_at p' ≡ true → (is_inside_at p ≡ true) ⊎ (c.ready ≡ false))
+      → ListMoves t (ticket_at p) (ticket_at p') c c' h
       → Goes K limit t w p c h (goes_to c' k p')
   moves_on c' p' shared' queue' own keeps count takes enters lists = record {
     run = run;
@@ -157,11 +169,18 @@ module _ (K : Kind) (limit t w : ℕ) (k : Answer) (p : Place ℕ ℕ) (c : Shar
   }
 
   -- a step that leaves all that is shared as it is
-  pub stays : (p' : Place ℕ ℕ) → AtPlace K limit t c h p' → is_counted_at p ≡ is_counted_at p' → is_take_at p' ≡ false → (is_inside_at p' ≡ true → (is_inside_at p ≡ true) ⊎ (c.ready ≡ false)) → (ticket_at p' ≡ ticket_at p) ⊎ ((ticket_at p' ≡ None) × (c.ready ≡ true)) → Goes K limit t w p c h (goes_to c k p')
-  stays p' own same take enters tickets = moves_on c p' shared queue own (λ u n b i. same_shared K limit c c u h b refl refl refl refl refl (λ x. x)) (ap (λ b. c.count + bit b) same) (λ e. absurd (false≢true (sym take ∙ e))) enters (lists_stay t (ticket_at p) (ticket_at p') c c h refl (λ r. r) tickets)
+  pub stays : (p' : Place ℕ ℕ) → AtPlace K limit t c h p' → is_counted_at p ≡ is_counted_at p'
+      → is_take_at p' ≡ false → (is_inside_at p' ≡ true → (is_inside_at p ≡ true) ⊎ (c.ready ≡ false))
+      → (ticket_at p' ≡ ticket_at p) ⊎ ((ticket_at p' ≡ None) × (c.ready ≡ true))
+      → Goes K limit t w p c h (goes_to c k p')
+  stays p' own same take enters tickets =
+      moves_on c p' shared queue own (λ u n b i. same_shared K limit c c u h b refl refl refl refl refl (λ x. x))
+      (ap (λ b. c.count + bit b) same) (λ e. absurd (false≢true (sym take ∙ e))) enters
+      (lists_stay t (ticket_at p) (ticket_at p') c c h refl (λ r. r) tickets)
 
   -- an entry that ends the call for good
-  pub ends_by : (c' : SharedState) (e : Ending) → e ≢ EndPending → IsLegal K limit (end_entry e t c'.value k) h → holds t (cell K h) ≡ false → SharedFits K limit c' h → QueueFits K c'.listings h
+  pub ends_by : (c' : SharedState) (e : Ending) → e ≢ EndPending → IsLegal K limit (end_entry e t c'.value k) h
+      → holds t (cell K h) ≡ false → SharedFits K limit c' h → QueueFits K c'.listings h
       → ((u : ℕ) → t ≢ u → (b : Bool) → (is_take_at p ≡ true → b ≡ false) → SharedKeeps K limit c c' u h b)
       → c'.count + bit (is_counted_at p) ≡ c.count → ListMoves t (ticket_at p) None c c' (end_entry e t c'.value k ∷ h) → Goes K limit t w p c h (ends c' t k e)
   ends_by c' x good legal free shared' queue' keeps count lists =
@@ -170,7 +189,9 @@ module _ (K : Kind) (limit t w : ℕ) (k : Answer) (p : Place ℕ ℕ) (c : Shar
       record {
         run = (legal, run);
         shared = shared_at K limit c' h (e ∷ h) (l.cell_is (cell K h)) (l.left_is (answers_left K h)) shared';
-        queue = quiet K c'.listings e h queue' l.hands l.replaces_not (λ w. l.shut K w h) (λ u is. not_waiting (status_after e (cell K h) (status K u h)) (l.gone (cell K h) (status K u h))) (λ y. sym (l.cell_is (cell K h)) ∙ y);
+        queue = quiet K c'.listings e h queue' l.hands l.replaces_not (λ w. l.shut K w h)
+            (λ u is. not_waiting (status_after e (cell K h) (status K u h)) (l.gone (cell K h) (status K u h)))
+            (λ y. sym (l.cell_is (cell K h)) ∙ y);
         own = record { status_is = rw (l.of t, eqb_self t) (l.gone (cell K h) (status K t h)); holds_is = ap (holds t) (l.cell_is (cell K h)) ∙ free };
         waker_is = rw (l.of t, eqb_self t, l.call_is (cell K h) (status K t h) (last_call K t h)) wk;
         kept_is = rw (l.of t, eqb_self t, l.call_is (cell K h) (status K t h) (last_call K t h)) kk;
@@ -188,14 +209,20 @@ module _ (K : Kind) (limit t w : ℕ) (k : Answer) (p : Place ℕ ℕ) (c : Shar
   pub ends_so : (c' : SharedState) (e : Ending) → Owes K t h e → SharedFits K limit c' h → QueueFits K c'.listings h
       → ((u : ℕ) → t ≢ u → (b : Bool) → (is_take_at p ≡ true → b ≡ false) → SharedKeeps K limit c c' u h b)
       → c'.count + bit (is_counted_at p) ≡ c.count → ListMoves t (ticket_at p) None c c' (end_entry e t c'.value k ∷ h) → Goes K limit t w p c h (ends c' t k e)
-  ends_so c' e owes shared' queue' keeps count lists = ends_by c' e (owes_lasts K t h e owes) (owes_legal K limit t c'.value k h e shared'.value_is kk owes) (owes_holds K t h e owes) shared' queue' keeps count lists
+  ends_so c' e owes shared' queue' keeps count lists =
+      ends_by c' e (owes_lasts K t h e owes) (owes_legal K limit t c'.value k h e shared'.value_is kk owes)
+      (owes_holds K t h e owes) shared' queue' keeps count lists
 
   -- the last step of an uncounted call, which leaves all that is shared alone
   pub ends_plain : (e : Ending) → Owes K t h e → is_counted_at p ≡ false → ticket_at p ≡ None → Goes K limit t w p c h (ends c t k e)
-  ends_plain e owes n none = ends_so c e owes shared queue (λ u d b i. same_shared K limit c c u h b refl refl refl refl refl (λ x. x)) (rw n (omega arith)) (lists_stay t (ticket_at p) None c c (end_entry e t c.value k ∷ h) refl (λ r. r) (inl (sym none)))
+  ends_plain e owes n none =
+      ends_so c e owes shared queue (λ u d b i. same_shared K limit c c u h b refl refl refl refl refl (λ x. x))
+      (rw n (omega arith))
+      (lists_stay t (ticket_at p) None c c (end_entry e t c.value k ∷ h) refl (λ r. r) (inl (sym none)))
 
   -- a poll that claims
-  pub claims_so : (c' : SharedState) (by : Option ℕ) → cell K h ≡ Empty → Entered K t h → SharedFits K limit c' (Claim t ∷ h) → ((n : ℕ) → asks n c'.listings ≤ asks n c.listings) → HoldsBy limit c' by
+  pub claims_so : (c' : SharedState) (by : Option ℕ) → cell K h ≡ Empty → Entered K t h
+      → SharedFits K limit c' (Claim t ∷ h) → ((n : ℕ) → asks n c'.listings ≤ asks n c.listings) → HoldsBy limit c' by
       → c'.ready ≡ c.ready → c'.door ≡ c.door → c'.count ≡ c.count → is_counted_at p ≡ is_counted_at (AtRun by) → ListMoves t (ticket_at p) None c c' (Claim t ∷ h)
       → Goes K limit t w p c h (claims c' t k by)
   claims_so c' by empty entered shared' less own r d n same lists =
@@ -204,7 +231,17 @@ module _ (K : Kind) (limit t w : ℕ) (k : Answer) (p : Place ℕ ℕ) (c : Shar
         run = (legal, run);
         shared = shared';
         queue = entry_fits K c.listings c'.listings (Claim t) h queue refl (λ n. let a = less n in omega arith) (λ e. absurd (held_not_empty t e));
-        own = (record { status_is = rw (eqb_self t) entered.poll.status_is; ran_is = rw (eqb_self t) entered.poll.ran_is; holds_is = eqb_self t; unpassed = rw (eqb_self t) entered.poll.unpassed }, own);
+        own = (
+          record {
+            status_is = rw (eqb_self t) entered.poll.status_is;
+            ran_is = rw
+                (eqb_self t) entered.poll.ran_is;
+            holds_is = eqb_self t;
+            unpassed = rw
+                (eqb_self t) entered.poll.unpassed;
+          },
+          own,
+        );
         waker_is = rw (eqb_self t) wk;
         kept_is = rw (eqb_self t) kk;
         others = λ u n. legal_keeps K u (Claim t) limit h (of_other t u n) legal refl;
@@ -228,8 +265,18 @@ module _ (K : Kind) (limit t w : ℕ) (k : Answer) (p : Place ℕ ℕ) (c : Shar
       record {
         run = (legal, run);
         shared = shared_at K limit c' h (End t Pending ∷ h) refl refl shared';
-        queue = entry_fits K c.listings c'.listings (End t Pending) h queue refl (λ v. let a = less v in rw (opens_now K t u w v h held apart wk) (omega arith)) (λ e. absurd (held_not_empty u (sym held ∙ e)));
-        own = ((waits_at K t u h held apart entered.poll.holds_is, door, (rw (eqb_self t) refl, λ r. inl (rw (eqb_self t, wk) (found (sym same_ready ∙ r))))), rw (eqb_self t) (ap kept_of entered.poll.ran_is));
+        queue = entry_fits K c.listings c'.listings (End t Pending) h queue refl
+            (λ v. let a = less v in rw (opens_now K t u w v h held apart wk) (omega arith))
+            (λ e. absurd (held_not_empty u (sym held ∙ e)));
+        own = (
+          (
+            waits_at K t u h held apart entered.poll.holds_is,
+            door,
+            (rw (eqb_self t) refl, λ r. inl (rw (eqb_self t, wk) (found (sym same_ready ∙ r)))),
+          ),
+          rw (eqb_self t)
+              (ap kept_of entered.poll.ran_is),
+        );
         waker_is = rw (eqb_self t) wk;
         kept_is = rw (eqb_self t) kk;
         others = λ u n. legal_keeps K u (End t Pending) limit h (of_other t u n) legal refl;

@@ -16,7 +16,9 @@ use Rattle.once_world.proofs.Invariant.Fits.{SharedFits}
 use Rattle.once_world.proofs.Invariant.Kept.{SharedKeeps}
 
 -- after a claim
-pub claim_fits : (K : Kind) (limit t : ℕ) (c c' : SharedState) (h : List Entry) → SharedFits K limit c h → c'.ready ≡ false → (c'.quick || c'.head) ≡ true → c'.count ≡ c.count → c'.door ≡ c.door → c.ready ≡ false → (c'.head ≡ true → IsSomeDoor c') → c'.answers ≡ c.answers → SharedFits K limit c' (Claim t ∷ h)
+pub claim_fits : (K : Kind) (limit t : ℕ) (c c' : SharedState) (h : List Entry) → SharedFits K limit c h
+    → c'.ready ≡ false → (c'.quick || c'.head) ≡ true → c'.count ≡ c.count → c'.door ≡ c.door → c.ready ≡ false
+    → (c'.head ≡ true → IsSomeDoor c') → c'.answers ≡ c.answers → SharedFits K limit c' (Claim t ∷ h)
 claim_fits K limit t c c' h f r b n d z hd w = record {
   answers_is = w ∙ f.answers_is;
   ready_is = r;
@@ -28,7 +30,8 @@ claim_fits K limit t c c' h f r b n d z hd w = record {
 }
 
 -- with another count
-pub count_fits : (K : Kind) (limit : ℕ) (c : SharedState) (n : ℕ) (h : List Entry) → SharedFits K limit c h → n ≤ suc limit → (c.ready ≡ false → 0 < n → IsSomeDoor c) → SharedFits K limit (record c { count = n }) h
+pub count_fits : (K : Kind) (limit : ℕ) (c : SharedState) (n : ℕ) (h : List Entry) → SharedFits K limit c h
+    → n ≤ suc limit → (c.ready ≡ false → 0 < n → IsSomeDoor c) → SharedFits K limit (record c { count = n }) h
 count_fits K limit c n h f le st = record {
   ready_is = f.ready_is;
   held_is = f.held_is;
@@ -40,7 +43,8 @@ count_fits K limit c n h f le st = record {
 }
 
 -- with other listings
-pub relisted_fits : (K : Kind) (limit : ℕ) (c : SharedState) (xs : List (Listing ℕ)) (h : List Entry) → SharedFits K limit c h → SharedFits K limit (record c { listings = xs }) h
+pub relisted_fits : (K : Kind) (limit : ℕ) (c : SharedState) (xs : List (Listing ℕ)) (h : List Entry)
+    → SharedFits K limit c h → SharedFits K limit (record c { listings = xs }) h
 relisted_fits K limit c xs h f = record {
   ready_is = f.ready_is;
   held_is = f.held_is;
@@ -56,7 +60,8 @@ pub headless : (K : Kind) (limit : ℕ) (c : SharedState) (h : List Entry) → S
 headless K limit c h f d = ⊎_elim (λ e. let s = f.head_door e in let q = s.1 in cc) (λ e. e) (cases_Bool c.head)
 
 -- with a new queue at the door
-pub put_fits : (K : Kind) (limit : ℕ) (c : SharedState) (h : List Entry) → SharedFits K limit c h → c.head ≡ false → (q : ℕ) → SharedFits K limit (record c { door = Some q; head = false; listings = []; queues = q }) h
+pub put_fits : (K : Kind) (limit : ℕ) (c : SharedState) (h : List Entry) → SharedFits K limit c h → c.head ≡ false
+    → (q : ℕ) → SharedFits K limit (record c { door = Some q; head = false; listings = []; queues = q }) h
 put_fits K limit c h f n q = record {
   ready_is = f.ready_is;
   held_is = rw n at f.held_is;
@@ -68,7 +73,9 @@ put_fits K limit c h f n q = record {
 }
 
 -- a new queue changes nothing for the others
-pub put_keeps : (K : Kind) (limit : ℕ) (c : SharedState) (u : ℕ) (h : List Entry) (b : Bool) → c.door ≡ None → c.head ≡ false → (q : ℕ) → SharedKeeps K limit c (record c { door = Some q; head = false; listings = []; queues = q }) u h b
+pub put_keeps : (K : Kind) (limit : ℕ) (c : SharedState) (u : ℕ) (h : List Entry) (b : Bool) → c.door ≡ None
+    → c.head ≡ false → (q : ℕ)
+    → SharedKeeps K limit c (record c { door = Some q; head = false; listings = []; queues = q }) u h b
 put_keeps K limit c u h b d n q = record {
   ready = λ e. e;
   door = λ j e. absurd (none_some j (sym d ∙ e));
@@ -77,7 +84,8 @@ put_keeps K limit c u h b d n q = record {
 }
 
 -- after the init answered
-pub ran_fits : (K : Kind) (limit t : ℕ) (c : SharedState) (h : List Entry) (a : Answer) → SharedFits K limit c h → SharedFits K limit (run_shared c) (Ran t a ∷ h)
+pub ran_fits : (K : Kind) (limit t : ℕ) (c : SharedState) (h : List Entry) (a : Answer) → SharedFits K limit c h
+    → SharedFits K limit (run_shared c) (Ran t a ∷ h)
 ran_fits K limit t c h a f = record {
   ready_is = f.ready_is;
   held_is = f.held_is;
@@ -89,7 +97,8 @@ ran_fits K limit t c h a f = record {
 }
 
 -- with another value, while t holds
-pub value_fits : (K : Kind) (limit t : ℕ) (c : SharedState) (h : List Entry) (v : ℕ) → SharedFits K limit c h → cell K h ≡ Held t → SharedFits K limit (record c { value = v }) h
+pub value_fits : (K : Kind) (limit t : ℕ) (c : SharedState) (h : List Entry) (v : ℕ) → SharedFits K limit c h
+    → cell K h ≡ Held t → SharedFits K limit (record c { value = v }) h
 value_fits K limit t c h v f held = record {
   ready_is = f.ready_is;
   held_is = f.held_is;
@@ -101,7 +110,9 @@ value_fits K limit t c h v f held = record {
 }
 
 -- after a release by t: the flags are cleared, and ready stands for a value
-pub release_fits : (K : Kind) (limit t : ℕ) (c c' : SharedState) (h h' : List Entry) → SharedFits K limit c h → holds t (cell K h) ≡ true → c'.ready ≡ is_set (cell K h') → is_held (cell K h') ≡ false → c'.quick ≡ false → c'.head ≡ false
+pub release_fits : (K : Kind) (limit t : ℕ) (c c' : SharedState) (h h' : List Entry) → SharedFits K limit c h
+    → holds t (cell K h) ≡ true → c'.ready ≡ is_set (cell K h') → is_held (cell K h') ≡ false → c'.quick ≡ false
+    → c'.head ≡ false
     → ((v : ℕ) → cell K h' ≡ SetTo v → c'.value ≡ v) → c'.count ≡ c.count → (0 < c.count → IsSomeDoor c') → c'.answers ≡ c.answers → answers_left K h' ≡ answers_left K h → SharedFits K limit c' h'
 release_fits K limit t c c' h h' f hold r n q e v same d w z = record {
   answers_is = w ∙ f.answers_is ∙ sym z;

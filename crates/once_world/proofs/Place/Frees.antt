@@ -29,11 +29,13 @@ pub exact_out : (c : SharedState) → is_ready_bit (word_of (out_shared c)) ≡ 
 exact_out c e = grind (arith, nat_tests)
 
 -- a call that ends with the value fills the cell with what its init gave
-pub fills : (K : Kind) (t : ℕ) (h : List Entry) (c : SharedState) (k : Answer) (X : List ℕ) → k ≡ kept_of (last_call K t h).ran → (r : Releasing K t h c EndValue) → release_entry k t X ≡ Fill t r.0 X
+pub fills : (K : Kind) (t : ℕ) (h : List Entry) (c : SharedState) (k : Answer) (X : List ℕ)
+    → k ≡ kept_of (last_call K t h).ran → (r : Releasing K t h c EndValue) → release_entry k t X ≡ Fill t r.0 X
 fills K t h c k X a r = ap (λ x. release_entry x t X) (a ∙ ap kept_of r.1.ran_is)
 
 -- another call frees it
-pub frees : (K : Kind) (t : ℕ) (h : List Entry) (c : SharedState) (k : Answer) (X : List ℕ) (e : Ending) → is_value e ≡ false → k ≡ kept_of (last_call K t h).ran → Releasing K t h c e → release_entry k t X ≡ Free t X
+pub frees : (K : Kind) (t : ℕ) (h : List Entry) (c : SharedState) (k : Answer) (X : List ℕ) (e : Ending)
+    → is_value e ≡ false → k ≡ kept_of (last_call K t h).ran → Releasing K t h c e → release_entry k t X ≡ Free t X
 frees K t h c k X EndError n a r = ap (λ x. release_entry x t X) (a ∙ ap kept_of r.1.ran_is)
 frees K t h c k X EndDropped n a r = ap (λ x. release_entry x t X) (a ∙ r.1)
 frees K t h c k X EndValue n a r = absurd (false≢true (sym n))
@@ -42,8 +44,19 @@ frees K t h c k X EndMemory n a r = absurd r
 frees K t h c k X EndFull n a r = absurd r
 
 -- what stands in a call that freed the cell
-pub freed_owes : (K : Kind) (t : ℕ) (h : List Entry) (c : SharedState) (X : List ℕ) (e : Ending) → is_value e ≡ false → Releasing K t h c e → Owes K t (Free t X ∷ h) e
-freed_owes K t h c X EndError n r = (r.0, record { status_is = rw (eqb_self t) r.1.status_is; ran_is = rw (eqb_self t) r.1.ran_is; holds_is = refl; unpassed = rw (eqb_self t) r.1.unpassed }, rw (eqb_self t) refl)
+pub freed_owes : (K : Kind) (t : ℕ) (h : List Entry) (c : SharedState) (X : List ℕ) (e : Ending) → is_value e ≡ false
+    → Releasing K t h c e → Owes K t (Free t X ∷ h) e
+freed_owes K t h c X EndError n r = (
+  r.0,
+  record {
+    status_is = rw (eqb_self t) r.1.status_is;
+    ran_is = rw
+        (eqb_self t) r.1.ran_is;
+    holds_is = refl;
+    unpassed = rw (eqb_self t) r.1.unpassed;
+  },
+  rw (eqb_self t) refl,
+)
 freed_owes K t h c X EndDropped n r = record { status_is = rw (eqb_self t) r.0.status_is; holds_is = refl }
 freed_owes K t h c X EndValue n r = absurd (false≢true (sym n))
 freed_owes K t h c X EndPending n r = absurd r
@@ -55,7 +68,8 @@ pub filled_owes : (K : Kind) (t : ℕ) (h : List Entry) (c : SharedState) (X : L
 filled_owes K t h c X r = (rw (eqb_self t) r.1.status_is, (r.0, refl, inr (rw (eqb_self t) r.1.ran_is)), rw (eqb_self t) r.1.unpassed)
 
 -- t may free the cell
-pub free_legal : (K : Kind) (limit t : ℕ) (h : List Entry) (c : SharedState) (X : List ℕ) (e : Ending) → is_value e ≡ false → Releasing K t h c e → CallsOne K X h → IsLegal K limit (Free t X) h
+pub free_legal : (K : Kind) (limit t : ℕ) (h : List Entry) (c : SharedState) (X : List ℕ) (e : Ending)
+    → is_value e ≡ false → Releasing K t h c e → CallsOne K X h → IsLegal K limit (Free t X) h
 free_legal K limit t h c X EndError n r o = (held_by t (cell K h) r.1.holds_is, rw (r.1.status_is, r.1.ran_is) tt, o)
 free_legal K limit t h c X EndDropped n r o = (held_by t (cell K h) r.0.holds_is, rw r.0.status_is tt, o)
 free_legal K limit t h c X EndValue n r o = absurd (false≢true (sym n))
@@ -64,7 +78,8 @@ free_legal K limit t h c X EndMemory n r o = absurd r
 free_legal K limit t h c X EndFull n r o = absurd r
 
 -- t may fill it
-pub fill_legal : (K : Kind) (limit t : ℕ) (h : List Entry) (c : SharedState) (X : List ℕ) → (r : Releasing K t h c EndValue) → HandsOut K X h → IsLegal K limit (Fill t r.0 X) h
+pub fill_legal : (K : Kind) (limit t : ℕ) (h : List Entry) (c : SharedState) (X : List ℕ)
+    → (r : Releasing K t h c EndValue) → HandsOut K X h → IsLegal K limit (Fill t r.0 X) h
 fill_legal K limit t h c X r o = (held_by t (cell K h) r.1.holds_is, r.1.status_is, r.1.ran_is, o)
 
 -- who acts does not wait
@@ -87,7 +102,8 @@ pub record Cleared (c c' : SharedState) (r : Bool) (xs : List (Listing ℕ)) : T
   pub answers_is : c'.answers ≡ c.answers
 
 -- a release clears the flags
-pub cleared : (b : Bool) (c : SharedState) (r : Bool) (xs : List (Listing ℕ)) → c.quick ≡ b → QuickFlag c ⊎ HeadFlag c → Cleared c (record (release_flags b r c) { listings = xs }) r xs
+pub cleared : (b : Bool) (c : SharedState) (r : Bool) (xs : List (Listing ℕ)) → c.quick ≡ b
+    → QuickFlag c ⊎ HeadFlag c → Cleared c (record (release_flags b r c) { listings = xs }) r xs
 cleared true c r xs e (inl f) = record { quick_is = refl; head_is = f.head_is; ready_is = refl; listings_is = refl; door_is = refl; count_is = refl; value_is = refl; answers_is = refl }
 cleared true c r xs e (inr f) = absurd (false≢true (sym f.quick_is ∙ e))
 cleared false c r xs e f = record { quick_is = e; head_is = refl; ready_is = refl; listings_is = refl; door_is = refl; count_is = refl; value_is = refl; answers_is = refl }

@@ -34,7 +34,8 @@ releasing_same K t h c c' EndMemory s r = r
 releasing_same K t h c c' EndFull s r = r
 
 -- what the step of a holder leaves for the others
-pub holder_shared : (K : Kind) (limit t : ℕ) (c c' : SharedState) (h : List Entry) → SharedFits K limit c h → holds t (cell K h) ≡ true → c'.door ≡ c.door → (u : ℕ) → t ≢ u → (b : Bool) → SharedKeeps K limit c c' u h b
+pub holder_shared : (K : Kind) (limit t : ℕ) (c c' : SharedState) (h : List Entry) → SharedFits K limit c h
+    → holds t (cell K h) ≡ true → c'.door ≡ c.door → (u : ℕ) → t ≢ u → (b : Bool) → SharedKeeps K limit c c' u h b
 holder_shared K limit t c c' h f hold d u n b = free_shared K limit c c' u h b (λ e. absurd (false≢true (sym (f.ready_is ∙ holder_unset t (cell K h) hold) ∙ e))) d (no_other t u (cell K h) hold n)
 
 -- the pending end of a holder opens no waker
@@ -65,13 +66,18 @@ pending_in : (K : Kind) (t : ℕ) (h : List Entry) → InPoll K t h None true �
 pending_in K t h i = let held = held_by t (cell K h) i.holds_is in record { status_is = rw (eqb_self t, held, eqb_self t) refl; holds_is = i.holds_is }
 
 -- nothing that a holder relies on changes where the init answers or the value is put
-by_same : (limit : ℕ) (c c' : SharedState) (by : Option ℕ) → c'.quick ≡ c.quick → c'.head ≡ c.head → c'.count ≡ c.count → c'.door ≡ c.door → HoldsBy limit c by → HoldsBy limit c' by
+by_same : (limit : ℕ) (c c' : SharedState) (by : Option ℕ) → c'.quick ≡ c.quick → c'.head ≡ c.head
+    → c'.count ≡ c.count → c'.door ≡ c.door → HoldsBy limit c by → HoldsBy limit c' by
 by_same limit c c' None q e n d a = (record { quick_is = q ∙ a.0.quick_is; head_is = e ∙ a.0.head_is }, rw n a.1)
 by_same limit c c' (Some x) q e n d a = (record { quick_is = q ∙ a.0.quick_is; head_is = e ∙ a.0.head_is }, d ∙ a.1)
 
-module _ (K : Kind) (limit t w : ℕ) (k : Answer) (c : SharedState) (h : List Entry) (run : IsRun K limit h) (shared : SharedFits K limit c h) (queue : QueueFits K c.listings h) (wk : (last_call K t h).waker ≡ w) (kk : k ≡ kept_of (last_call K t h).ran) where
+module _ (K : Kind) (limit t w : ℕ) (k : Answer) (c : SharedState) (h : List Entry) (run : IsRun K limit h)
+    (shared : SharedFits K limit c h) (queue : QueueFits K c.listings h) (wk : (last_call K t h).waker ≡ w)
+    (kk : k ≡ kept_of (last_call K t h).ran) where
   -- an init that gave a value or an error
-  ran_so : (by : Option ℕ) (a : Answer) (p' : Place ℕ ℕ) → IsNext K a (answers_left K h) → InPoll K t h None true → AtPlace K limit t (run_shared c) (Ran t a ∷ h) p' → is_counted_at (AtRun by) ≡ is_counted_at p' → is_take_at p' ≡ false → is_inside_at p' ≡ false → ticket_at p' ≡ None
+  ran_so : (by : Option ℕ) (a : Answer) (p' : Place ℕ ℕ) → IsNext K a (answers_left K h) → InPoll K t h None true
+      → AtPlace K limit t (run_shared c) (Ran t a ∷ h) p' → is_counted_at (AtRun by) ≡ is_counted_at p'
+      → is_take_at p' ≡ false → is_inside_at p' ≡ false → ticket_at p' ≡ None
       → Goes K limit t w (AtRun by) c h (record { shared = run_shared c; step = UnderWay p'; kept = a; entries = Ran t a ∷ [] })
   ran_so by a p' next i own n take inside tickets =
       let legal : IsLegal K limit (Ran t a) h = (held_by t (cell K h) i.holds_is, i.status_is, i.ran_is, next) in
@@ -93,7 +99,8 @@ module _ (K : Kind) (limit t w : ℕ) (k : Answer) (c : SharedState) (h : List E
       }
 
   -- an init that is pending
-  pending_so : (by : Option ℕ) → IsNext K RanPending (answers_left K h) → InPoll K t h None true → HoldsBy limit (run_shared c) by → Goes K limit t w (AtRun by) c h (run_step RanPending (run_shared c) t k by)
+  pending_so : (by : Option ℕ) → IsNext K RanPending (answers_left K h) → InPoll K t h None true
+      → HoldsBy limit (run_shared c) by → Goes K limit t w (AtRun by) c h (run_step RanPending (run_shared c) t k by)
   pending_so by next i own =
       let held : cell K h ≡ Held t = held_by t (cell K h) i.holds_is in
       let legal : IsLegal K limit (Ran t RanPending) h = (held, i.status_is, i.ran_is, next) in
@@ -104,11 +111,15 @@ module _ (K : Kind) (limit t w : ℕ) (k : Answer) (c : SharedState) (h : List E
         run = (legal1, (legal, run));
         shared = shared_at K limit (run_shared c) h1 (End t Pending ∷ h1) refl refl (ran_fits K limit t c h RanPending shared);
         queue = quiet K c.listings (End t Pending) h1 (quiet K c.listings (Ran t RanPending) h queue refl refl (λ _. refl) (λ u is. polls_not_waits K t u h is i.status_is) (λ x. x))
-            refl refl (λ w. opens_none K t w h1 held) (λ u is. holding_not_waits (status_after (End t Pending) (cell K h1) (status K u h1)) (pending_status_own t (cell K h1) (status K u h1) held)) (λ x. x);
+            refl refl (λ w. opens_none K t w h1 held) (λ u is. holding_not_waits
+            (status_after (End t Pending) (cell K h1) (status K u h1))
+            (pending_status_own t (cell K h1) (status K u h1) held)) (λ x. x);
         own = ((pending_in K t h i, own), rw (eqb_self t) refl);
         waker_is = rw (eqb_self t) wk;
         kept_is = rw (eqb_self t) (kk ∙ ap kept_of i.ran_is);
-        others = λ u n. keeps_both K u h h1 (End t Pending ∷ h1) (legal_keeps K u (Ran t RanPending) limit h (of_other t u n) legal refl) (legal_keeps K u (End t Pending) limit h1 (of_other t u n) legal1 refl);
+        others = λ u n. keeps_both K u h h1 (End t Pending ∷ h1)
+            (legal_keeps K u (Ran t RanPending) limit h (of_other t u n) legal refl)
+            (legal_keeps K u (End t Pending) limit h1 (of_other t u n) legal1 refl);
         keeps = λ u n b j. same_shared K limit c (run_shared c) u h b refl refl refl refl refl (λ x. x);
         count = refl;
         made = refl;
@@ -119,21 +130,33 @@ module _ (K : Kind) (limit t w : ℕ) (k : Answer) (c : SharedState) (h : List E
       }
 
   -- an init that gave a value
-  run_value : (by : Option ℕ) (v : ℕ) → IsNext K (RanValue v) (answers_left K h) → InPoll K t h None true → HoldsBy limit (run_shared c) by → is_counted_at (AtRun by) ≡ is_counted_at (AtPut by) → Goes K limit t w (AtRun by) c h (run_step (RanValue v) (run_shared c) t k by)
+  run_value : (by : Option ℕ) (v : ℕ) → IsNext K (RanValue v) (answers_left K h) → InPoll K t h None true
+      → HoldsBy limit (run_shared c) by → is_counted_at (AtRun by) ≡ is_counted_at (AtPut by)
+      → Goes K limit t w (AtRun by) c h (run_step (RanValue v) (run_shared c) t k by)
   run_value by v x i own n = ran_so by (RanValue v) (AtPut by) x i (v, ran_in K t h (RanValue v) i, own) n refl refl refl
 
   -- a step that polls the init
-  pub run_goes : (a : Answer) (by : Option ℕ) → IsNext K a (answers_left K h) → AtPlace K limit t c h (AtRun by) → Goes K limit t w (AtRun by) c h (run_step a (run_shared c) t k by)
+  pub run_goes : (a : Answer) (by : Option ℕ) → IsNext K a (answers_left K h) → AtPlace K limit t c h (AtRun by)
+      → Goes K limit t w (AtRun by) c h (run_step a (run_shared c) t k by)
   run_goes RanPending by x a = pending_so by x a.0 (by_same limit c (run_shared c) by refl refl refl refl a.1)
   run_goes (RanValue v) None x a = run_value None v x a.0 (by_same limit c (run_shared c) None refl refl refl refl a.1) refl
   run_goes (RanValue v) (Some q) x a = run_value (Some q) v x a.0 (by_same limit c (run_shared c) (Some q) refl refl refl refl a.1) refl
-  run_goes (RanError e) None x a = let b = by_same limit c (run_shared c) None refl refl refl refl a.1 in ran_so None (RanError e) (AtFast EndError) x a.0 ((e, ran_in K t h (RanError e) a.0), b.0, b.1) refl refl refl refl
-  run_goes (RanError e) (Some q) x a = let b = by_same limit c (run_shared c) (Some q) refl refl refl refl a.1 in ran_so (Some q) (RanError e) (AtRelease q EndError) x a.0 ((e, ran_in K t h (RanError e) a.0), inr b.0, b.1) refl refl refl refl
+  run_goes (RanError e) None x a = let b = by_same limit c (run_shared c) None refl refl refl refl a.1 in ran_so None
+      (RanError e) (AtFast EndError) x a.0 ((e, ran_in K t h (RanError e) a.0), b.0, b.1) refl refl refl refl
+  run_goes (RanError e) (Some q) x a = let b = by_same limit c (run_shared c)
+      (Some q) refl refl refl refl a.1 in ran_so (Some q) (RanError e) (AtRelease q EndError) x a.0
+      ((e, ran_in K t h (RanError e) a.0), inr b.0, b.1) refl refl refl refl
 
   -- the value that is kept is put
-  put_so : (by : Option ℕ) (p' : Place ℕ ℕ) (c' : SharedState) → holds t (cell K h) ≡ true → SharedFits K limit c' h → c'.listings ≡ c.listings → c'.door ≡ c.door → c'.count ≡ c.count → AtPlace K limit t c' h p' → is_counted_at (AtPut by) ≡ is_counted_at p' → is_take_at p' ≡ false → is_inside_at p' ≡ false → ticket_at p' ≡ None
+  put_so : (by : Option ℕ) (p' : Place ℕ ℕ) (c' : SharedState) → holds t (cell K h) ≡ true → SharedFits K limit c' h
+      → c'.listings ≡ c.listings → c'.door ≡ c.door → c'.count ≡ c.count → AtPlace K limit t c' h p'
+      → is_counted_at (AtPut by) ≡ is_counted_at p' → is_take_at p' ≡ false → is_inside_at p' ≡ false
+      → ticket_at p' ≡ None
       → Goes K limit t w (AtPut by) c h (goes_to c' k p')
-  put_so by p' c' hold fits same door m own n take inside tickets = moves_on K limit t w k (AtPut by) c h run shared queue wk kk c' p' fits (rw same queue) own (λ u d b i. holder_shared K limit t c c' h shared hold door u d b) (rw (n, m) refl) (λ e. absurd (false≢true (sym take ∙ e))) (λ e. absurd (false≢true (sym inside ∙ e)))
+  put_so by p' c' hold fits same door m own n take inside tickets =
+      moves_on K limit t w k (AtPut by) c h run shared queue wk kk c' p' fits (rw same queue) own
+      (λ u d b i. holder_shared K limit t c c' h shared hold door u d b) (rw (n, m) refl)
+      (λ e. absurd (false≢true (sym take ∙ e))) (λ e. absurd (false≢true (sym inside ∙ e)))
       (lists_stay t None (ticket_at p') c c' h same (λ r. fits.ready_is ∙ sym shared.ready_is ∙ r) (inl tickets))
 
   -- what is put is what the init gave
@@ -141,24 +164,34 @@ module _ (K : Kind) (limit t w : ℕ) (k : Answer) (c : SharedState) (h : List E
   put_is v e = ap (λ x. put_value x c.value) (kk ∙ ap kept_of e)
 
   -- a step that puts the value
-  pub put_goes : (by : Option ℕ) → AtPlace K limit t c h (AtPut by) → Goes K limit t w (AtPut by) c h (goes_to (record c { value = put_value k c.value }) k (release_place by EndValue))
+  pub put_goes : (by : Option ℕ) → AtPlace K limit t c h (AtPut by)
+      → Goes K limit t w (AtPut by) c h (goes_to (record c { value = put_value k c.value }) k (release_place by EndValue))
   put_goes None a =
       let c' : SharedState = record c { value = put_value k c.value } in
       let b = by_same limit c c' None refl refl refl refl a.2 in
-      put_so None (AtFast EndValue) c' a.1.holds_is (value_fits K limit t c h (put_value k c.value) shared (held_by t (cell K h) a.1.holds_is)) refl refl refl ((a.0, a.1, put_is a.0 a.1.ran_is), b.0, b.1) refl refl refl refl
+      put_so None (AtFast EndValue) c' a.1.holds_is (value_fits K limit t c h (put_value k c.value) shared
+      (held_by t (cell K h) a.1.holds_is)) refl refl refl
+      ((a.0, a.1, put_is a.0 a.1.ran_is), b.0, b.1) refl refl refl refl
   put_goes (Some q) a =
       let c' : SharedState = record c { value = put_value k c.value } in
       let b = by_same limit c c' (Some q) refl refl refl refl a.2 in
-      put_so (Some q) (AtRelease q EndValue) c' a.1.holds_is (value_fits K limit t c h (put_value k c.value) shared (held_by t (cell K h) a.1.holds_is)) refl refl refl ((a.0, a.1, put_is a.0 a.1.ran_is), inr b.0, b.1) refl refl refl refl
+      put_so (Some q) (AtRelease q EndValue) c' a.1.holds_is
+      (value_fits K limit t c h (put_value k c.value) shared (held_by t (cell K h) a.1.holds_is)) refl refl refl
+      ((a.0, a.1, put_is a.0 a.1.ran_is), inr b.0, b.1) refl refl refl refl
 
   -- a step that counts the holder in
-  pub add_goes : (e : Ending) → AtPlace K limit t c h (AtAddOne e) → Goes K limit t w (AtAddOne e) c h (goes_to (record c { count = suc c.count }) k (AtDoorAgain e))
+  pub add_goes : (e : Ending) → AtPlace K limit t c h (AtAddOne e)
+      → Goes K limit t w (AtAddOne e) c h (goes_to (record c { count = suc c.count }) k (AtDoorAgain e))
   add_goes e a = moves_on K limit t w k (AtAddOne e) c h run shared queue wk kk (record c { count = suc c.count }) (AtDoorAgain e)
       (count_fits K limit c (suc c.count) h shared (let le = a.2 in omega arith) (λ _ _. a.3)) queue
       (releasing_same K t h c (record c { count = suc c.count }) e refl a.0, record { quick_is = a.1.quick_is; head_is = a.1.head_is }, a.3)
-      (λ u n b i. holder_shared K limit t c (record c { count = suc c.count }) h shared (releasing_holds K t c h e a.0) refl u n b) (omega arith) (λ e. absurd (false≢true e)) (λ e. absurd (false≢true e)) (lists_stay t None None c (record c { count = suc c.count }) h refl (λ x. x) (inl refl))
+      (λ u n b i. holder_shared K limit t c (record c { count = suc c.count }) h shared
+      (releasing_holds K t c h e a.0) refl u n b) (omega arith) (λ e. absurd (false≢true e))
+      (λ e. absurd (false≢true e)) (lists_stay t None None c (record c { count = suc c.count }) h refl (λ x. x)
+      (inl refl))
 
   -- a step that looks at the door again
-  pub again_goes : (door : Option ℕ) (e : Ending) → c.door ≡ door → AtPlace K limit t c h (AtDoorAgain e) → Goes K limit t w (AtDoorAgain e) c h (again_step door c t k e)
+  pub again_goes : (door : Option ℕ) (e : Ending) → c.door ≡ door → AtPlace K limit t c h (AtDoorAgain e)
+      → Goes K limit t w (AtDoorAgain e) c h (again_step door c t k e)
   again_goes (Some q) e d a = stays K limit t w k (AtDoorAgain e) c h run shared queue wk kk (AtRelease q e) (a.0, inl a.1, d) refl refl (λ e. absurd (false≢true e)) (inl refl)
   again_goes None e d a = absurd (none_some a.2.0 (sym d ∙ a.2.1))

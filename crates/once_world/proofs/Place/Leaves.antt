@@ -36,7 +36,8 @@ leaves_owes K t h EndPending a = absurd a
 leaves_owes K t h EndFull a = absurd a
 
 -- it may pass its turn on, and did not yet
-leaves_may : (K : Kind) (t : ℕ) (h : List Entry) (e : Ending) → Leaves K t h e → MayPass (status K t h) (last_call K t h).claimed (last_call K t h).ran × ((last_call K t h).passed ≡ false)
+leaves_may : (K : Kind) (t : ℕ) (h : List Entry) (e : Ending) → Leaves K t h e
+    → MayPass (status K t h) (last_call K t h).claimed (last_call K t h).ran × ((last_call K t h).passed ≡ false)
 leaves_may K t h EndMemory a = (rw (a.0.poll.status_is, a.0.unclaimed, a.0.poll.ran_is) tt, a.0.poll.unpassed)
 leaves_may K t h EndDropped a = (rw a.0.status_is tt, a.2)
 leaves_may K t h EndValue a = absurd a
@@ -46,7 +47,17 @@ leaves_may K t h EndFull a = absurd a
 
 -- and owes the end after it passed
 passed_owes : (K : Kind) (t : ℕ) (h : List Entry) (X : List ℕ) (e : Ending) → (last_call K t h).began ≡ Waiting → Leaves K t h e → Owes K t (Pass t X ∷ h) e
-passed_owes K t h X EndMemory b a = (record { status_is = rw (eqb_self t) a.0.poll.status_is; ran_is = rw (eqb_self t) a.0.poll.ran_is; holds_is = a.0.poll.holds_is; unclaimed = rw (eqb_self t) a.0.unclaimed }, rw (eqb_self t, b) (inr (rw b at a.1)))
+passed_owes K t h X EndMemory b a = (
+  record {
+    status_is = rw (eqb_self t) a.0.poll.status_is;
+    ran_is = rw
+        (eqb_self t) a.0.poll.ran_is;
+    holds_is = a.0.poll.holds_is;
+    unclaimed = rw (eqb_self t) a.0.unclaimed;
+  },
+  rw
+      (eqb_self t, b) (inr (rw b at a.1)),
+)
 passed_owes K t h X EndDropped b a = record { status_is = rw (eqb_self t) a.0.status_is; holds_is = a.0.holds_is }
 passed_owes K t h X EndValue b a = absurd a
 passed_owes K t h X EndError b a = absurd a
@@ -61,9 +72,13 @@ passes_in c n r q f = rw (f, r, q) refl
 passes_when : (c : SharedState) (n : ℕ) → is_passing c n ≡ true → (c.ready ≡ false) × (is_taken c ≡ false)
 passes_when c n e = grind arith
 
-module _ (K : Kind) (limit t w : ℕ) (k : Answer) (c : SharedState) (h : List Entry) (run : IsRun K limit h) (shared : SharedFits K limit c h) (queue : QueueFits K c.listings h) (wk : (last_call K t h).waker ≡ w) (kk : k ≡ kept_of (last_call K t h).ran) where
+module _ (K : Kind) (limit t w : ℕ) (k : Answer) (c : SharedState) (h : List Entry) (run : IsRun K limit h)
+    (shared : SharedFits K limit c h) (queue : QueueFits K c.listings h) (wk : (last_call K t h).waker ≡ w)
+    (kk : k ≡ kept_of (last_call K t h).ran) where
   -- who leaves and calls nobody
-  leaves_plain : (q n : ℕ) (e : Ending) → AtPlace K limit t c h (AtLeave q n e) → CalledAt K (take_out n c.listings) h → Goes K limit t w (AtLeave q n e) c h (goes_to (record c { listings = take_out n c.listings }) k (AtCountOut e))
+  leaves_plain : (q n : ℕ) (e : Ending) → AtPlace K limit t c h (AtLeave q n e)
+      → CalledAt K (take_out n c.listings) h
+      → Goes K limit t w (AtLeave q n e) c h (goes_to (record c { listings = take_out n c.listings }) k (AtCountOut e))
   leaves_plain q n e a called =
       let c' : SharedState = record c { listings = take_out n c.listings } in
       moves_on K limit t w k (AtLeave q n e) c h run shared queue wk kk c' (AtCountOut e) (relisted_fits K limit c (take_out n c.listings) h shared)
@@ -77,7 +92,9 @@ module _ (K : Kind) (limit t w : ℕ) (k : Answer) (c : SharedState) (h : List E
       let xs : List (Listing ℕ) = take_out n c.listings in
       let c' : SharedState = record c { listings = call_first xs } in
       let one : one_out (first_waker xs) ≡ v ∷ [] = rw first refl in
-      let less : (x : ℕ) → times_in x (v ∷ []) + asks x (call_first xs) ≤ asks x c.listings = λ x. let i : asks x (call_first xs) + times_in x (v ∷ []) ≡ asks x xs = rw one at (asks_call x xs) in let j = asks_take x n c.listings in omega arith in
+      let less : (x : ℕ) → times_in x (v ∷ []) + asks x (call_first xs) ≤ asks x c.listings = λ x. let i : asks x
+      (call_first xs) + times_in x (v ∷ []) ≡ asks x xs = rw one at
+      (asks_call x xs) in let j = asks_take x n c.listings in omega arith in
       let may = leaves_may K t h e a.0 in
       let legal : IsLegal K limit (Pass t (v ∷ [])) h = (empty, may.0, may.1, (v, refl, open_by K v (v ∷ []) c.listings h queue (λ x. let i = less x in omega arith) (rw (eqb_self v) refl))) in
       record {
@@ -103,7 +120,8 @@ module _ (K : Kind) (limit t w : ℕ) (k : Answer) (c : SharedState) (h : List E
       }
 
   -- whoever waits was called, where no listing is left that was not
-  others_called : (q n : ℕ) (e : Ending) → first_waker (take_out n c.listings) ≡ None → c.ready ≡ false → AroundList K t (Some n) c h → AtPlace K limit t c h (AtLeave q n e) → CalledAt K (take_out n c.listings) h
+  others_called : (q n : ℕ) (e : Ending) → first_waker (take_out n c.listings) ≡ None → c.ready ≡ false
+      → AroundList K t (Some n) c h → AtPlace K limit t c h (AtLeave q n e) → CalledAt K (take_out n c.listings) h
   others_called q n e first unset al a = λ _ u s.
       let l = al.listed u s in
       let d : t ≢ u = λ is. no_wait (leaves_acts K t h e a.0) (ap (λ v. status K v h) is ∙ s) in
@@ -116,7 +134,9 @@ module _ (K : Kind) (limit t w : ℕ) (k : Answer) (c : SharedState) (h : List E
   Left q n e o xs = Goes K limit t w (AtLeave q n e) c h (record { shared = record c { listings = xs }; step = UnderWay (AtCountOut e); kept = k; entries = pass_entries t (one_out o) })
 
   -- the turn goes to the first that was not called
-  pass_goes : (o : Option ℕ) (q n : ℕ) (e : Ending) → first_waker (take_out n c.listings) ≡ o → is_passing c n ≡ true → AroundList K t (Some n) c h → AtPlace K limit t c h (AtLeave q n e) → Left q n e o (call_first (take_out n c.listings))
+  pass_goes : (o : Option ℕ) (q n : ℕ) (e : Ending) → first_waker (take_out n c.listings) ≡ o → is_passing c n ≡ true
+      → AroundList K t (Some n) c h → AtPlace K limit t c h (AtLeave q n e)
+      → Left q n e o (call_first (take_out n c.listings))
   pass_goes (Some v) q n e first on al a = let p = passes_when c n on in leaves_on q n v e a (empty_cell (cell K h) (sym shared.ready_is ∙ p.0) (shared.held_is ∙ p.1)) first
   pass_goes None q n e first on al a =
       subst (λ xs. Left q n e None xs) (sym (call_none (take_out n c.listings) first)) (leaves_plain q n e a (others_called q n e first (passes_when c n on).0 al a))
@@ -125,15 +145,19 @@ module _ (K : Kind) (limit t w : ℕ) (k : Answer) (c : SharedState) (h : List E
   still_called : (n : ℕ) → is_passing c n ≡ false → CalledAt K (take_out n c.listings) h
   still_called n on = λ empty u s.
       let m = queue.called empty u s in
-      let other : n ≢ m.0 = λ x. false≢true (sym on ∙ passes_in c n (shared.ready_is ∙ ap is_set empty) (sym shared.held_is ∙ ap is_held empty) (subst (λ v. find_listing v c.listings ≡ Some None) (sym x) m.1)) in
+      let other : n ≢ m.0 = λ x. false≢true (sym on ∙ passes_in c n (shared.ready_is ∙ ap is_set empty)
+      (sym shared.held_is ∙ ap is_held empty) (subst (λ v. find_listing v c.listings ≡ Some None) (sym x) m.1)) in
       (m.0, find_take_other m.0 n c.listings other ∙ m.1)
 
   -- by whether it has its turn
-  leave_by_turn : (turn : Bool) (q n : ℕ) (e : Ending) → is_passing c n ≡ turn → AroundList K t (Some n) c h → AtPlace K limit t c h (AtLeave q n e) → Left q n e (next_waker turn n c.listings) (left_list turn n c.listings)
+  leave_by_turn : (turn : Bool) (q n : ℕ) (e : Ending) → is_passing c n ≡ turn → AroundList K t (Some n) c h
+      → AtPlace K limit t c h (AtLeave q n e)
+      → Left q n e (next_waker turn n c.listings) (left_list turn n c.listings)
   leave_by_turn true q n e on al a = pass_goes (first_waker (take_out n c.listings)) q n e refl on al a
   leave_by_turn false q n e on al a = leaves_plain q n e a (still_called n on)
 
   -- a waiter leaves
-  pub leave_goes : (door : Bool) (q n : ℕ) (e : Ending) → is_at_door q c.door ≡ door → AroundList K t (Some n) c h → AtPlace K limit t c h (AtLeave q n e) → Goes K limit t w (AtLeave q n e) c h (leave_step door c t k n e)
+  pub leave_goes : (door : Bool) (q n : ℕ) (e : Ending) → is_at_door q c.door ≡ door → AroundList K t (Some n) c h
+      → AtPlace K limit t c h (AtLeave q n e) → Goes K limit t w (AtLeave q n e) c h (leave_step door c t k n e)
   leave_goes false q n e d al a = absurd (false≢true (sym d ∙ at_door q c.door a.1))
   leave_goes true q n e d al a = leave_by_turn (is_passing c n) q n e refl al a

@@ -31,9 +31,12 @@ use Rattle.once_world.proofs.Place.Frees.{Cleared, IsRelease, cleared, exact, ex
 use Rattle.once_queue.specs.Word.{is_quick_bit, is_ready_bit}
 use Rattle.once_world.proofs.Place.Outcomes.{ends}
 
-module _ (K : Kind) (limit t w : ℕ) (k : Answer) (c : SharedState) (h : List Entry) (run : IsRun K limit h) (shared : SharedFits K limit c h) (queue : QueueFits K c.listings h) (wk : (last_call K t h).waker ≡ w) (kk : k ≡ kept_of (last_call K t h).ran) where
+module _ (K : Kind) (limit t w : ℕ) (k : Answer) (c : SharedState) (h : List Entry) (run : IsRun K limit h)
+    (shared : SharedFits K limit c h) (queue : QueueFits K c.listings h) (wk : (last_call K t h).waker ≡ w)
+    (kk : k ≡ kept_of (last_call K t h).ran) where
   -- a fast release with a value
-  fast_fills : c.count ≡ 0 → Around K t false false c h → AtPlace K limit t c h (AtFast EndValue) → Goes K limit t w (AtFast EndValue) c h (fast_step true true c t k EndValue)
+  fast_fills : c.count ≡ 0 → Around K t false false c h → AtPlace K limit t c h (AtFast EndValue)
+      → Goes K limit t w (AtFast EndValue) c h (fast_step true true c t k EndValue)
   fast_fills z ar a =
       let v : ℕ = a.0.0 in
       let e : Entry = Fill t v [] in
@@ -67,11 +70,15 @@ module _ (K : Kind) (limit t w : ℕ) (k : Answer) (c : SharedState) (h : List E
       let legal : IsLegal K limit (Free t []) h = free_legal K limit t h c [] e nv a.0 (calls_none K h (ar.none_waits z)) in
       let none : (u : ℕ) → status K u h1 ≢ Waiting = λ u s. ar.none_waits z u (waited K (Free t []) h (λ u is. releasing_awake K t u h c e a.0 is) u s) in
       let owes : Owes K t h1 e = freed_owes K t h c [] e nv a.0 in
-      let shared1 : SharedFits K limit c' h1 = release_fits K limit t c c' h h1 shared hold (shared.ready_is ∙ holder_unset t (cell K h) hold) refl refl a.1.head_is (λ x i. absurd (empty_not_set x i)) refl (λ l. absurd (omega arith)) refl refl in
+      let shared1 : SharedFits K limit c' h1 = release_fits K limit t c c' h h1 shared hold
+      (shared.ready_is ∙ holder_unset t (cell K h) hold) refl refl a.1.head_is
+      (λ x i. absurd (empty_not_set x i)) refl (λ l. absurd (omega arith)) refl refl in
       let queue1 : QueueFits K c.listings h1 = entry_fits K c.listings c.listings (Free t []) h queue refl (λ w. omega arith) (nobody_called K c.listings h1 none) in
       let wk1 : (last_call K t h1).waker ≡ w = rw (eqb_self t) wk in
       let kk1 : k ≡ kept_of (last_call K t h1).ran = rw (eqb_self t) kk in
-      let m = ends_so K limit t w k (AtFast e) c' h1 (legal, run) shared1 queue1 wk1 kk1 c' e owes shared1 queue1 (λ u n b i. same_shared K limit c' c' u h1 b refl refl refl refl refl (λ x. x)) (omega arith) (lists_stay t None None c' c' (end_entry e t c'.value k ∷ h1) refl (λ r. r) (inl refl)) in
+      let m = ends_so K limit t w k (AtFast e) c' h1 (legal, run) shared1 queue1 wk1 kk1 c' e owes shared1 queue1
+      (λ u n b i. same_shared K limit c' c' u h1 b refl refl refl refl refl (λ x. x)) (omega arith)
+      (lists_stay t None None c' c' (end_entry e t c'.value k ∷ h1) refl (λ r. r) (inl refl)) in
       let P : Entry → Type 0 = λ x. Goes K limit t w (AtFast e) c h (record { shared = c'; step = Finished; kept = k; entries = end_entry e t c.value k ∷ x ∷ [] }) in
       subst P (sym (frees K t h c k [] e nv kk a.0)) (record {
         run = m.run;
@@ -91,7 +98,8 @@ module _ (K : Kind) (limit t w : ℕ) (k : Answer) (c : SharedState) (h : List E
       })
 
   -- a fast release, by whether the word is exactly the quick bit
-  pub fast_goes : (x : Bool) (e : Ending) → is_quick_bit (word_of c) ≡ x → Around K t false false c h → AtPlace K limit t c h (AtFast e) → Goes K limit t w (AtFast e) c h (fast_step x (is_value e) c t k e)
+  pub fast_goes : (x : Bool) (e : Ending) → is_quick_bit (word_of c) ≡ x → Around K t false false c h
+      → AtPlace K limit t c h (AtFast e) → Goes K limit t w (AtFast e) c h (fast_step x (is_value e) c t k e)
   fast_goes true EndValue x ar a = fast_fills (exact c x) ar a
   fast_goes true EndError x ar a = fast_frees EndError refl (exact c x) ar a
   fast_goes true EndDropped x ar a = fast_frees EndDropped refl (exact c x) ar a
@@ -103,7 +111,9 @@ module _ (K : Kind) (limit t w : ℕ) (k : Answer) (c : SharedState) (h : List E
       stays K limit t w k (AtFast e) c h run shared queue wk kk (AtAddOne e) (a.0, a.1, a.2, shared.stands unset (inexact c unset a.1.quick_is x)) refl refl (λ e. absurd (false≢true e)) (inl refl)
 
   -- a release under the lock of the queue, which hands X out and leaves ys
-  release_moves : (q : ℕ) (e : Ending) (x : Entry) (c' : SharedState) (X : List ℕ) (ys : List (Listing ℕ)) → AtPlace K limit t c h (AtRelease q e) → Cleared c c' (is_value e) ys → IsLegal K limit x h → Owes K t (x ∷ h) e
+  release_moves : (q : ℕ) (e : Ending) (x : Entry) (c' : SharedState) (X : List ℕ) (ys : List (Listing ℕ))
+      → AtPlace K limit t c h (AtRelease q e) → Cleared c c' (is_value e) ys → IsLegal K limit x h
+      → Owes K t (x ∷ h) e
       → SharedFits K limit c' (x ∷ h) → IsRelease t X x → release_entry k t X ≡ x → QueueFits K ys (x ∷ h) → ListMoves t None None c c' (x ∷ h)
       → Goes K limit t w (AtRelease q e) c h (record { shared = c'; step = UnderWay (AtCountOut e); kept = k; entries = release_entry k t X ∷ [] })
   release_moves q e x c' X ys a cl legal owes shared' l same queue' lists =
@@ -134,26 +144,34 @@ module _ (K : Kind) (limit t w : ℕ) (k : Answer) (c : SharedState) (h : List E
       let e : Entry = Fill t v X in
       let unset : c.ready ≡ false = shared.ready_is ∙ holder_unset t (cell K h) a.0.1.holds_is in
       release_moves q EndValue e c' X [] a cl (fill_legal K limit t h c X a.0 (hands_out K c.listings h queue (due_asks K t None c h unset al))) (filled_owes K t h c X a.0)
-      (release_fits K limit t c c' h (e ∷ h) shared a.0.1.holds_is cl.ready_is refl cl.quick_is cl.head_is (λ x i. cl.value_is ∙ a.0.2 ∙ same_value v x i) cl.count_is (λ l. (q, cl.door_is ∙ a.2)) cl.answers_is refl)
+      (release_fits K limit t c c' h (e ∷ h) shared a.0.1.holds_is cl.ready_is refl cl.quick_is cl.head_is
+      (λ x i. cl.value_is ∙ a.0.2 ∙ same_value v x i) cl.count_is (λ l. (q, cl.door_is ∙ a.2)) cl.answers_is refl)
       (fill_releases t v X) (fills K t h c k X kk a.0)
       (entry_fits K c.listings [] e h queue refl (λ n. let i = all_times n c.listings [] in omega arith) (λ x. absurd (empty_not_set v (sym x))))
       (ready_lists t None c c' (e ∷ h) cl.ready_is)
 
   -- who waits was called, or the first is called now
-  free_called : (o : Option ℕ) (e : Ending) → first_waker c.listings ≡ o → c.ready ≡ false → AroundList K t None c h → Releasing K t h c e → CalledAt K (call_first c.listings) (Free t (one_out (first_waker c.listings)) ∷ h)
+  free_called : (o : Option ℕ) (e : Ending) → first_waker c.listings ≡ o → c.ready ≡ false → AroundList K t None c h
+      → Releasing K t h c e → CalledAt K (call_first c.listings) (Free t (one_out (first_waker c.listings)) ∷ h)
   free_called (Some v) e first r al a = λ _ u s. call_called v c.listings first
   free_called None e first r al a = λ _ u s.
       let l = al.listed u (waited K (Free t (one_out (first_waker c.listings))) h (λ u is. releasing_awake K t u h c e a is) u s) in
       (l.0, rw (call_none c.listings first) (⊎_elim (λ f. absurd (none_found l.0 (last_call K u h).listed c.listings first f)) (λ f. f.0) (l.3 r)))
 
   -- without it the first listing is called that was not
-  release_frees : (q : ℕ) (e : Ending) (c' : SharedState) → is_value e ≡ false → Cleared c c' (is_value e) (call_first c.listings) → AroundList K t None c h → AtPlace K limit t c h (AtRelease q e)
+  release_frees : (q : ℕ) (e : Ending) (c' : SharedState) → is_value e ≡ false
+      → Cleared c c' (is_value e) (call_first c.listings) → AroundList K t None c h
+      → AtPlace K limit t c h (AtRelease q e)
       → Goes K limit t w (AtRelease q e) c h (record { shared = c'; step = UnderWay (AtCountOut e); kept = k; entries = release_entry k t (one_out (first_waker c.listings)) ∷ [] })
   release_frees q e c' nv cl al a =
       let X : List ℕ = one_out (first_waker c.listings) in
       let unset : c.ready ≡ false = shared.ready_is ∙ holder_unset t (cell K h) (releasing_holds K t c h e a.0) in
-      release_moves q e (Free t X) c' X (call_first c.listings) a cl (free_legal K limit t h c X e nv a.0 (calls_one K c.listings h queue (due_asks K t None c h unset al))) (freed_owes K t h c X e nv a.0)
-      (release_fits K limit t c c' h (Free t X ∷ h) shared (releasing_holds K t c h e a.0) (cl.ready_is ∙ nv) refl cl.quick_is cl.head_is (λ x i. absurd (empty_not_set x i)) cl.count_is (λ l. (q, cl.door_is ∙ a.2)) cl.answers_is refl)
+      release_moves q e (Free t X) c' X (call_first c.listings) a cl
+      (free_legal K limit t h c X e nv a.0 (calls_one K c.listings h queue (due_asks K t None c h unset al)))
+      (freed_owes K t h c X e nv a.0)
+      (release_fits K limit t c c' h (Free t X ∷ h) shared (releasing_holds K t c h e a.0)
+      (cl.ready_is ∙ nv) refl cl.quick_is cl.head_is (λ x i. absurd (empty_not_set x i)) cl.count_is
+      (λ l. (q, cl.door_is ∙ a.2)) cl.answers_is refl)
       (free_releases t X) (frees K t h c k X e nv kk a.0)
       (entry_fits K c.listings (call_first c.listings) (Free t X) h queue refl (λ n. let i = asks_call n c.listings in omega arith) (free_called (first_waker c.listings) e refl unset al a.0))
       (record {
@@ -164,7 +182,9 @@ module _ (K : Kind) (limit t w : ℕ) (k : Answer) (c : SharedState) (h : List E
       })
 
   -- by the ending
-  release_by : (q : ℕ) (e : Ending) (c' : SharedState) → Cleared c c' (is_value e) (release_list (is_value e) c.listings) → AroundList K t None c h → AtPlace K limit t c h (AtRelease q e)
+  release_by : (q : ℕ) (e : Ending) (c' : SharedState)
+      → Cleared c c' (is_value e) (release_list (is_value e) c.listings) → AroundList K t None c h
+      → AtPlace K limit t c h (AtRelease q e)
       → Goes K limit t w (AtRelease q e) c h (record { shared = c'; step = UnderWay (AtCountOut e); kept = k; entries = release_entry k t (release_wakers (is_value e) c.listings) ∷ [] })
   release_by q EndValue c' cl al a = release_fills q c' cl al a
   release_by q EndError c' cl al a = release_frees q EndError c' refl cl al a
@@ -174,22 +194,43 @@ module _ (K : Kind) (limit t w : ℕ) (k : Answer) (c : SharedState) (h : List E
   release_by q EndFull c' cl al a = absurd a.0
 
   -- the queue of a releaser is at the door
-  pub release_goes : (door : Bool) (q : ℕ) (e : Ending) → is_at_door q c.door ≡ door → AroundList K t None c h → AtPlace K limit t c h (AtRelease q e) → Goes K limit t w (AtRelease q e) c h (release_step door c t k e)
+  pub release_goes : (door : Bool) (q : ℕ) (e : Ending) → is_at_door q c.door ≡ door → AroundList K t None c h
+      → AtPlace K limit t c h (AtRelease q e) → Goes K limit t w (AtRelease q e) c h (release_step door c t k e)
   release_goes false q e d al a = absurd (false≢true (sym d ∙ at_door q c.door a.2))
-  release_goes true q e d al a = release_by q e (record (release_flags c.quick (is_value e) c) { listings = release_list (is_value e) c.listings }) (cleared c.quick c (is_value e) (release_list (is_value e) c.listings) refl a.1) al a
+  release_goes true q e d al a =
+      release_by q e
+      (record (release_flags c.quick (is_value e) c) { listings = release_list (is_value e) c.listings })
+      (cleared c.quick c (is_value e) (release_list (is_value e) c.listings) refl a.1) al a
 
   -- a counting out
-  pub out_goes : (x : Bool) (e : Ending) → is_ready_bit (word_of (out_shared c)) ≡ x → Around K t true false c h → AtPlace K limit t c h (AtCountOut e) → Goes K limit t w (AtCountOut e) c h (out_step x (out_shared c) t k e)
+  pub out_goes : (x : Bool) (e : Ending) → is_ready_bit (word_of (out_shared c)) ≡ x → Around K t true false c h
+      → AtPlace K limit t c h (AtCountOut e) → Goes K limit t w (AtCountOut e) c h (out_step x (out_shared c) t k e)
   out_goes true e x ar a =
       let l = ar.own_count refl in let y = exact_out c x in
-      moves_on K limit t w k (AtCountOut e) c h run shared queue wk kk (out_shared c) (AtDoorTake e) (count_fits K limit c (c.count - 1) h shared (let b = shared.within in omega arith) (λ n _. absurd (false≢true (sym n ∙ y.1)))) queue (a, y.1)
-      (λ u n b i. same_shared K limit c (out_shared c) u h b refl refl refl refl refl (λ le. omega arith)) (omega arith) (λ _. y.0) (λ e. absurd (false≢true e)) (lists_stay t None None c (out_shared c) h refl (λ r. r) (inl refl))
+      moves_on K limit t w k (AtCountOut e) c h run shared queue wk kk (out_shared c) (AtDoorTake e)
+      (count_fits K limit c (c.count - 1) h shared (let b = shared.within in omega arith)
+      (λ n _. absurd (false≢true (sym n ∙ y.1)))) queue (a, y.1)
+      (λ u n b i. same_shared K limit c (out_shared c) u h b refl refl refl refl refl (λ le. omega arith))
+      (omega arith) (λ _. y.0) (λ e. absurd (false≢true e))
+      (lists_stay t None None c (out_shared c) h refl (λ r. r) (inl refl))
   out_goes false e x ar a =
       let l = ar.own_count refl in
-      ends_so K limit t w k (AtCountOut e) c h run shared queue wk kk (out_shared c) e a (count_fits K limit c (c.count - 1) h shared (let b = shared.within in omega arith) (λ n p. shared.stands n (omega arith))) queue
-      (λ u n b i. same_shared K limit c (out_shared c) u h b refl refl refl refl refl (λ le. omega arith)) (omega arith) (lists_stay t None None c (out_shared c) (end_entry e t c.value k ∷ h) refl (λ r. r) (inl refl))
+      ends_so K limit t w k (AtCountOut e) c h run shared queue wk kk (out_shared c) e a
+      (count_fits K limit c (c.count - 1) h shared (let b = shared.within in omega arith)
+      (λ n p. shared.stands n (omega arith))) queue
+      (λ u n b i. same_shared K limit c (out_shared c) u h b refl refl refl refl refl (λ le. omega arith))
+      (omega arith) (lists_stay t None None c (out_shared c) (end_entry e t c.value k ∷ h) refl (λ r. r)
+      (inl refl))
 
   -- the taking of the queue
-  pub take_goes : (e : Ending) → Around K t false true c h → AtPlace K limit t c h (AtDoorTake e) → Goes K limit t w (AtDoorTake e) c h (ends (take_shared c) t k e)
+  pub take_goes : (e : Ending) → Around K t false true c h → AtPlace K limit t c h (AtDoorTake e)
+      → Goes K limit t w (AtDoorTake e) c h (ends (take_shared c) t k e)
   take_goes e ar a = ends_so K limit t w k (AtDoorTake e) c h run shared queue wk kk (take_shared c) e a.0 (take_fits K limit c h shared a.1) (nobody K c.listings h queue (ar.take_waits refl))
-      (λ u n b i. record { ready = λ r. r; door = λ q d. inr (a.1, i refl); flags = inr (set_unheld u (cell K h) (sym shared.ready_is ∙ a.1)); within = inl (λ x. x) }) (omega arith) (ready_lists t None c (take_shared c) (end_entry e t c.value k ∷ h) a.1)
+      (λ u n b i. record {
+        ready = λ r. r;
+        door = λ q d. inr (a.1, i refl);
+        flags = inr
+            (set_unheld u (cell K h) (sym shared.ready_is ∙ a.1));
+        within = inl (λ x. x);
+      }) (omega arith)
+      (ready_lists t None c (take_shared c) (end_entry e t c.value k ∷ h) a.1)

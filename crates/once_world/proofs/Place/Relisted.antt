@@ -17,16 +17,20 @@ use Rattle.once_world.proofs.Invariant.Turns.{ListMoves}
 pub no_listing : (o : Option ℕ) → ◌≡◌ {A = Option (Option ℕ)} None (Some o) → ⊥
 no_listing o e = cc
 
-without_find : (n : ℕ) (o : Option ℕ) (k : Option ℕ) (xs : List (Listing ℕ)) → (k ≡ Some n → ⊥) → find_listing n xs ≡ Some o → find_listing n (list_without k xs) ≡ Some o
+without_find : (n : ℕ) (o : Option ℕ) (k : Option ℕ) (xs : List (Listing ℕ)) → (k ≡ Some n → ⊥)
+    → find_listing n xs ≡ Some o → find_listing n (list_without k xs) ≡ Some o
 without_find n o None xs x f = f
 without_find n o (Some m) xs x f = find_take_other n m xs (λ e. x (ap (λ (v : ℕ). Some v) e)) ∙ f
 
 -- what is found after a listing was taken out was found before, and is another
-pub take_back : (n m : ℕ) (o : Option ℕ) (xs : List (Listing ℕ)) → (m ≡ n) ⊎ (m ≢ n) → find_listing n (take_out m xs) ≡ Some o → (m ≢ n) × (find_listing n xs ≡ Some o)
+pub take_back : (n m : ℕ) (o : Option ℕ) (xs : List (Listing ℕ)) → (m ≡ n) ⊎ (m ≢ n)
+    → find_listing n (take_out m xs) ≡ Some o → (m ≢ n) × (find_listing n xs ≡ Some o)
 take_back n m o xs (inl e) f = absurd (no_listing o (sym (subst (λ v. find_listing n (take_out v xs) ≡ None) (sym e) (find_take_same n xs)) ∙ f))
 take_back n m o xs (inr d) f = (d, sym (find_take_other n m xs d) ∙ f)
 
-without_back : (n : ℕ) (o : Option ℕ) (k : Option ℕ) (xs : List (Listing ℕ)) → find_listing n (list_without k xs) ≡ Some o → (k ≡ Some n → ⊥) × ((o' : Option ℕ) × (find_listing n xs ≡ Some o'))
+without_back : (n : ℕ) (o : Option ℕ) (k : Option ℕ) (xs : List (Listing ℕ))
+    → find_listing n (list_without k xs) ≡ Some o
+    → (k ≡ Some n → ⊥) × ((o' : Option ℕ) × (find_listing n xs ≡ Some o'))
 without_back n o None xs f = (none_not_some n, (o, f))
 without_back n o (Some m) xs f = let b = take_back n m o xs (cases_eq m n) f in ((λ e. b.0 (same_some m n e)), (o, b.1))
 
@@ -35,7 +39,8 @@ without_asks w None xs = omega arith
 without_asks w (Some n) xs = asks_take w n xs
 
 -- the own listing is taken out, and the ticket given up
-pub without_lists : (t : ℕ) (k : Option ℕ) (c c' : SharedState) (h' : List Entry) → c'.listings ≡ list_without k c.listings → (c.ready ≡ true → c'.ready ≡ true) → ListMoves t k None c c' h'
+pub without_lists : (t : ℕ) (k : Option ℕ) (c c' : SharedState) (h' : List Entry)
+    → c'.listings ≡ list_without k c.listings → (c.ready ≡ true → c'.ready ≡ true) → ListMoves t k None c c' h'
 without_lists t k c c' h' same up = record {
   up = up;
   lists = λ u n o d x r f. inl (rw same (without_find n o k c.listings x f));
@@ -51,7 +56,8 @@ kept_in : (n : ℕ) (o : Option ℕ) (xs : List (Listing ℕ)) → find_listing 
 kept_in n o xs f = rw (found_ticket n o xs f) refl
 
 -- so it is with the ticket of a waiter that lists its waker
-pub lists_by : (K : Kind) (t : ℕ) (k : Option ℕ) (c : SharedState) (h : List Entry) → c.ready ≡ false → HasTicket K t c h k → ListsBy k (ticket_for k c.listings) c
+pub lists_by : (K : Kind) (t : ℕ) (k : Option ℕ) (c : SharedState) (h : List Entry) → c.ready ≡ false
+    → HasTicket K t c h k → ListsBy k (ticket_for k c.listings) c
 lists_by K t None c h r a = inr (refl, r, find_none (ticket_for None c.listings) c.listings (new_fresh c.listings))
 lists_by K t (Some n) c h r a = ⊎_elim (λ f. inl (kept_in n (Some (last_call K t h).listed) c.listings f)) (λ f. inl (kept_in n None c.listings f.0)) (a.1 r)
 

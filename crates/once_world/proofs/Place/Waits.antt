@@ -28,7 +28,8 @@ pub owes_value : (K : Kind) (t : ℕ) (h : List Entry) → Entered K t h → is_
 owes_value K t h e s = let v = value_of_set (cell K h) s in (e.poll.status_is, (v.0, v.1, inl e.poll.ran_is), e.poll.unpassed)
 
 -- who holds, where a flag stands and t does not hold
-pub other_holds : (K : Kind) (t : ℕ) (c : SharedState) (h : List Entry) → is_held (cell K h) ≡ (c.quick || c.head) → holds t (cell K h) ≡ false → (c.quick || c.head) ≡ true → OtherHolds K t h
+pub other_holds : (K : Kind) (t : ℕ) (c : SharedState) (h : List Entry) → is_held (cell K h) ≡ (c.quick || c.head)
+    → holds t (cell K h) ≡ false → (c.quick || c.head) ≡ true → OtherHolds K t h
 other_holds K t c h f n e =
     let u = holder_of (cell K h) (f ∙ e) in
     (u.0, (λ k. false≢true (sym n ∙ ap (holds t) u.1 ∙ subst (λ v. (v == t) ≡ true) k (eqb_self t))), u.1)
@@ -39,7 +40,8 @@ since_here K t P [] s p = grind arith
 since_here K t P (e ∷ h) s p = inl p
 
 -- a first poll that finds the cell unset
-fresh_from : (K : Kind) (t : ℕ) (h : List Entry) → Entered K t h → (last_call K t h).began ≡ Fresh → ((last_call K t h).set_then ≡ true → is_set (cell K h) ≡ true) → is_set (cell K h) ≡ false → FreshIn K t h
+fresh_from : (K : Kind) (t : ℕ) (h : List Entry) → Entered K t h → (last_call K t h).began ≡ Fresh
+    → ((last_call K t h).set_then ≡ true → is_set (cell K h) ≡ true) → is_set (cell K h) ≡ false → FreshIn K t h
 fresh_from K t h e b f n = record { entered = e; began_is = b; unset = ⊎_elim (λ k. absurd (false≢true (sym n ∙ f k))) (λ k. k) (cases_Bool (last_call K t h).set_then) }
 
 -- a word that is not NEW has a count or the quick bit
@@ -51,7 +53,9 @@ idle : (c : SharedState) → is_zero (word_of c) ≡ true → (c.count ≡ 0) ×
 idle c n = grind (arith, nat_tests)
 
 -- where the word is not NEW somebody acts or waits
-met_busy : (K : Kind) (limit t : ℕ) (c : SharedState) (h : List Entry) → SharedFits K limit c h → Around K t false false c h → holds t (cell K h) ≡ false → c.ready ≡ false → is_zero (word_of c) ≡ false → Met K t h ⊎ SomeoneWaits K h
+met_busy : (K : Kind) (limit t : ℕ) (c : SharedState) (h : List Entry) → SharedFits K limit c h
+    → Around K t false false c h → holds t (cell K h) ≡ false → c.ready ≡ false → is_zero (word_of c) ≡ false
+    → Met K t h ⊎ SomeoneWaits K h
 met_busy K limit t c h shared ar n r f = ⊎_elim (λ l. ar.acts refl l)
     (λ q. let o = other_holds K t c h shared.held_is n (rw q refl) in inl (since_now K t o.0 h o.1 o.2)) (busy c r f)
 
@@ -65,7 +69,8 @@ in_door c q r (inl d) = d
 in_door c q r (inr e) = absurd (false≢true (sym r ∙ e))
 
 -- a new queue has no listings, and without a queue there were none
-put_lists : (K : Kind) (t : ℕ) (c : SharedState) (q : ℕ) (h : List Entry) → c.door ≡ None → AroundList K t None c h → ListMoves t None None c (record c { door = Some q; head = false; listings = []; queues = q }) h
+put_lists : (K : Kind) (t : ℕ) (c : SharedState) (q : ℕ) (h : List Entry) → c.door ≡ None → AroundList K t None c h
+    → ListMoves t None None c (record c { door = Some q; head = false; listings = []; queues = q }) h
 put_lists K t c q h d al = record {
   up = λ r. r;
   lists = λ u n o x k r f. absurd (al.empty r d n o f);
@@ -75,21 +80,32 @@ put_lists K t c q h d al = record {
 
 -- Full is legal where the crowd has limit tasks
 crowd_legal : (K : Kind) (limit t : ℕ) (h : List Entry) → FreshIn K t h → is_set (cell K h) ≡ false → limit ≤ crowd K t h → IsLegal K limit (End t Full) h
-crowd_legal K limit t h a n le = (a.entered.poll.status_is, rw a.entered.poll.ran_is (a.began_is, a.entered.unclaimed, since_here K t (IsCrowded K limit t) h a.entered.poll.status_is le, n), inl a.entered.poll.unpassed)
+crowd_legal K limit t h a n le =
+    (a.entered.poll.status_is, rw a.entered.poll.ran_is (a.began_is, a.entered.unclaimed, since_here K t (IsCrowded K limit t) h a.entered.poll.status_is le, n), inl a.entered.poll.unpassed)
 
 -- Full is not Pending
 full_lasts : EndFull ≢ EndPending
 full_lasts e = cc
 
-module _ (K : Kind) (limit t w : ℕ) (k : Answer) (c : SharedState) (h : List Entry) (run : IsRun K limit h) (shared : SharedFits K limit c h) (queue : QueueFits K c.listings h) (wk : (last_call K t h).waker ≡ w) (kk : k ≡ kept_of (last_call K t h).ran) where
+module _ (K : Kind) (limit t w : ℕ) (k : Answer) (c : SharedState) (h : List Entry) (run : IsRun K limit h)
+    (shared : SharedFits K limit c h) (queue : QueueFits K c.listings h) (wk : (last_call K t h).waker ≡ w)
+    (kk : k ≡ kept_of (last_call K t h).ran) where
   -- the start
-  pub start_goes : (ready new : Bool) → c.ready ≡ ready → is_zero (word_of c) ≡ new → Around K t false false c h → AtPlace K limit t c h AtStart → Goes K limit t w AtStart c h (start_step ready new c t k)
+  pub start_goes : (ready new : Bool) → c.ready ≡ ready → is_zero (word_of c) ≡ new → Around K t false false c h
+      → AtPlace K limit t c h AtStart → Goes K limit t w AtStart c h (start_step ready new c t k)
   start_goes true new r f ar a = ends_plain K limit t w k AtStart c h run shared queue wk kk EndValue (owes_value K t h a.0 (sym shared.ready_is ∙ r)) refl refl
-  start_goes false true r f ar a = stays K limit t w k AtStart c h run shared queue wk kk AtTryQuick (fresh_from K t h a.0 a.1 a.2 (sym shared.ready_is ∙ r), inl (sym shared.ready_is ∙ r)) refl refl (λ e. absurd (false≢true e)) (inl refl)
-  start_goes false false r f ar a = stays K limit t w k AtStart c h run shared queue wk kk AtDoorGet (fresh_from K t h a.0 a.1 a.2 (sym shared.ready_is ∙ r), met_busy K limit t c h shared ar a.0.poll.holds_is r f) refl refl (λ e. absurd (false≢true e)) (inl refl)
+  start_goes false true r f ar a =
+      stays K limit t w k AtStart c h run shared queue wk kk AtTryQuick
+      (fresh_from K t h a.0 a.1 a.2 (sym shared.ready_is ∙ r), inl (sym shared.ready_is ∙ r)) refl refl
+      (λ e. absurd (false≢true e)) (inl refl)
+  start_goes false false r f ar a =
+      stays K limit t w k AtStart c h run shared queue wk kk AtDoorGet
+      (fresh_from K t h a.0 a.1 a.2 (sym shared.ready_is ∙ r), met_busy K limit t c h shared ar a.0.poll.holds_is r f) refl refl
+      (λ e. absurd (false≢true e)) (inl refl)
 
   -- the quick claim
-  pub quick_goes : (won : Bool) → is_zero (word_of c) ≡ won → Around K t false false c h → AtPlace K limit t c h AtTryQuick → Goes K limit t w AtTryQuick c h (quick_step won c t k)
+  pub quick_goes : (won : Bool) → is_zero (word_of c) ≡ won → Around K t false false c h
+      → AtPlace K limit t c h AtTryQuick → Goes K limit t w AtTryQuick c h (quick_step won c t k)
   quick_goes true f ar a =
       let z = idle c f in
       let r = z.2 in
@@ -104,29 +120,58 @@ module _ (K : Kind) (limit t w : ℕ) (k : Answer) (c : SharedState) (h : List E
       stays K limit t w k AtTryQuick c h run shared queue wk kk AtDoorGet (a.0, ⊎_elim set unset (cases_Bool c.ready)) refl refl (λ e. absurd (false≢true e)) (inl refl)
 
   -- a look at the door
-  pub door_get_goes : (door : Option ℕ) → c.door ≡ door → Around K t false false c h → AtPlace K limit t c h AtDoorGet → Goes K limit t w AtDoorGet c h (door_step door c t k)
+  pub door_get_goes : (door : Option ℕ) → c.door ≡ door → Around K t false false c h
+      → AtPlace K limit t c h AtDoorGet → Goes K limit t w AtDoorGet c h (door_step door c t k)
   door_get_goes (Some q) d ar a = stays K limit t w k AtDoorGet c h run shared queue wk kk (AtCountIn q) (a.0, inl d) refl refl (λ e. absurd (false≢true e)) (inl refl)
-  door_get_goes None d ar a = stays K limit t w k AtDoorGet c h run shared queue wk kk AtDoorPut (a.0, ⊎_elim (λ m. m) (λ x. absurd (ar.door_waits d x.0 x.1)) a.1) refl refl (λ e. absurd (false≢true e)) (inl refl)
+  door_get_goes None d ar a =
+      stays K limit t w k AtDoorGet c h run shared queue wk kk AtDoorPut
+      (a.0, ⊎_elim (λ m. m) (λ x. absurd (ar.door_waits d x.0 x.1)) a.1) refl refl (λ e. absurd (false≢true e))
+      (inl refl)
 
   -- a queue is put to the door
-  pub door_put_goes : (granted : Bool) (door : Option ℕ) → c.door ≡ door → Around K t false false c h → AroundList K t None c h → AtPlace K limit t c h AtDoorPut → Goes K limit t w AtDoorPut c h (put_step granted door c t k)
+  pub door_put_goes : (granted : Bool) (door : Option ℕ) → c.door ≡ door → Around K t false false c h
+      → AroundList K t None c h → AtPlace K limit t c h AtDoorPut
+      → Goes K limit t w AtDoorPut c h (put_step granted door c t k)
   door_put_goes false door d ar al a = ends_plain K limit t w k AtDoorPut c h run shared queue wk kk EndMemory (refused_in K t h a.0.entered, rw a.0.began_is (a.0.unset, a.1)) refl refl
   door_put_goes true (Some q) d ar al a = stays K limit t w k AtDoorPut c h run shared queue wk kk (AtCountIn q) (a.0, inl d) refl refl (λ e. absurd (false≢true e)) (inl refl)
   door_put_goes true None d ar al a =
       let n = headless K limit c h shared d in
       moves_on K limit t w k AtDoorPut c h run shared queue wk kk (record c { door = Some (suc c.queues); head = false; listings = []; queues = suc c.queues }) (AtCountIn (suc c.queues))
-      (put_fits K limit c h shared n (suc c.queues)) (nobody K c.listings h queue (ar.door_waits d)) (a.0, inl refl) (λ u x b i. put_keeps K limit c u h b d n (suc c.queues)) refl (λ e. absurd (false≢true e)) (λ e. absurd (false≢true e)) (put_lists K t c (suc c.queues) h d al)
+      (put_fits K limit c h shared n (suc c.queues)) (nobody K c.listings h queue (ar.door_waits d)) (a.0, inl refl)
+      (λ u x b i. put_keeps K limit c u h b d n (suc c.queues)) refl (λ e. absurd (false≢true e))
+      (λ e. absurd (false≢true e)) (put_lists K t c (suc c.queues) h d al)
 
   -- the counting in
-  pub in_goes : (below ready : Bool) (q : ℕ) → nat_lt c.count limit ≡ below → c.ready ≡ ready → 0 < limit → Around K t false false c h → AtPlace K limit t c h (AtCountIn q) → Goes K limit t w (AtCountIn q) c h (in_step below ready c t k q)
+  pub in_goes : (below ready : Bool) (q : ℕ) → nat_lt c.count limit ≡ below → c.ready ≡ ready → 0 < limit
+      → Around K t false false c h → AtPlace K limit t c h (AtCountIn q)
+      → Goes K limit t w (AtCountIn q) c h (in_step below ready c t k q)
   in_goes true true q b r some ar a =
       let l = ltb-true c.count limit b in
-      moves_on K limit t w k (AtCountIn q) c h run shared queue wk kk (record c { count = suc c.count }) (AtCountOut EndValue) (count_fits K limit c (suc c.count) h shared (omega arith) (λ n. absurd (false≢true (sym n ∙ r)))) queue (owes_value K t h a.0.entered (sym shared.ready_is ∙ r))
-      (λ u n d i. same_shared K limit c (record c { count = suc c.count }) u h d refl refl refl refl refl (λ _. ltb-true c.count limit b)) (omega arith) (λ e. absurd (false≢true e)) (λ e. absurd (false≢true e)) (lists_stay t None None c (record c { count = suc c.count }) h refl (λ r. r) (inl refl))
+      moves_on K limit t w k (AtCountIn q) c h run shared queue wk kk (record c { count = suc c.count })
+      (AtCountOut EndValue) (count_fits K limit c (suc c.count) h shared (omega arith)
+      (λ n. absurd (false≢true (sym n ∙ r)))) queue (owes_value K t h a.0.entered (sym shared.ready_is ∙ r))
+      (λ u n d i. same_shared K limit c (record c { count = suc c.count }) u h d refl refl refl refl refl
+      (λ _. ltb-true c.count limit b)) (omega arith) (λ e. absurd (false≢true e)) (λ e. absurd (false≢true e))
+      (lists_stay t None None c (record c { count = suc c.count }) h refl (λ r. r) (inl refl))
   in_goes true false q b r some ar a =
       let l = ltb-true c.count limit b in
-      moves_on K limit t w k (AtCountIn q) c h run shared queue wk kk (record c { count = suc c.count }) (AtWaitLoad q None) (count_fits K limit c (suc c.count) h shared (omega arith) (λ _ _. (q, in_door c q r a.1))) queue (record { entered = a.0.entered; from = inl (a.0.began_is, a.0.unset) }, in_door c q r a.1, tt)
-      (λ u n d i. same_shared K limit c (record c { count = suc c.count }) u h d refl refl refl refl refl (λ _. ltb-true c.count limit b)) (omega arith) (λ e. absurd (false≢true e)) (λ e. inr r) (lists_stay t None None c (record c { count = suc c.count }) h refl (λ r. r) (inl refl))
+      moves_on K limit t w k (AtCountIn q) c h run shared queue wk kk (record c { count = suc c.count })
+      (AtWaitLoad q None) (count_fits K limit c (suc c.count) h shared (omega arith)
+      (λ _ _. (q, in_door c q r a.1))) queue (
+        record {
+          entered = a.0.entered;
+          from = inl
+              (a.0.began_is, a.0.unset);
+        },
+        in_door c q r a.1,
+        tt,
+      )
+      (λ u n d i. same_shared K limit c (record c { count = suc c.count }) u h d refl refl refl refl refl
+      (λ _. ltb-true c.count limit b)) (omega arith) (λ e. absurd (false≢true e)) (λ e. inr r)
+      (lists_stay t None None c (record c { count = suc c.count }) h refl (λ r. r) (inl refl))
   in_goes false true q b r some ar a = ends_plain K limit t w k (AtCountIn q) c h run shared queue wk kk EndValue (owes_value K t h a.0.entered (sym shared.ready_is ∙ r)) refl refl
-  in_goes false false q b r some ar a = ends_by K limit t w k (AtCountIn q) c h run shared queue wk kk c EndFull full_lasts (crowd_legal K limit t h a.0 (sym shared.ready_is ∙ r) (let l = ltb-false c.count limit b in let m = ar.crowded refl in omega arith)) a.0.entered.poll.holds_is shared queue
+  in_goes false false q b r some ar a = ends_by K limit t w k
+      (AtCountIn q) c h run shared queue wk kk c EndFull full_lasts
+      (crowd_legal K limit t h a.0 (sym shared.ready_is ∙ r)
+      (let l = ltb-false c.count limit b in let m = ar.crowded refl in omega arith)) a.0.entered.poll.holds_is shared queue
       (λ u d b i. same_shared K limit c c u h b refl refl refl refl refl (λ x. x)) (omega arith) (lists_stay t None None c c (End t Full ∷ h) refl (λ r. r) (inl refl))

@@ -36,7 +36,10 @@ abbrev plain_fill : List Entry
 plain_fill = newest_first (Made 1 ∷ Begin 1 7 ∷ Claim 1 ∷ Ran 1 (RanValue 4) ∷ [])
 
 plain_covers : (t : ℕ) → Covers Once [] plain_fill t
-plain_covers = by_two (λ t. Covers Once [] plain_fill t) (λ w. absurd (not_waiting Once 1 plain_fill Polling refl refl w)) (λ w. absurd (not_waiting Once 2 plain_fill Unmade refl refl w)) (λ t n m w. absurd (not_waiting Once t plain_fill Unmade (rw n refl) refl w))
+plain_covers =
+    by_two (λ t. Covers Once [] plain_fill t) (λ w. absurd (not_waiting Once 1 plain_fill Polling refl refl w))
+    (λ w. absurd (not_waiting Once 2 plain_fill Unmade refl refl w))
+    (λ t n m w. absurd (not_waiting Once t plain_fill Unmade (rw n refl) refl w))
 
 plain_path_by_hand : IsRun Once 8 plain_path_record
 plain_path_by_hand = (
@@ -61,7 +64,9 @@ abbrev slow_fill : List Entry
 slow_fill = newest_first (Made 1 ∷ Made 2 ∷ Begin 1 7 ∷ Claim 1 ∷ Ran 1 RanPending ∷ End 1 Pending ∷ Begin 2 7 ∷ End 2 Pending ∷ Begin 2 7 ∷ End 2 Pending ∷ Begin 1 7 ∷ Ran 1 (RanValue 2) ∷ [])
 
 slow_covers : (t : ℕ) → Covers Once (7 ∷ []) slow_fill t
-slow_covers = by_two (λ t. Covers Once (7 ∷ []) slow_fill t) (λ w. absurd (not_waiting Once 1 slow_fill Polling refl refl w)) (λ w. refl) (λ t n m w. absurd (not_waiting Once t slow_fill Unmade (rw (n, m) refl) refl w))
+slow_covers =
+    by_two (λ t. Covers Once (7 ∷ []) slow_fill t) (λ w. absurd (not_waiting Once 1 slow_fill Polling refl refl w))
+    (λ w. refl) (λ t n m w. absurd (not_waiting Once t slow_fill Unmade (rw (n, m) refl) refl w))
 
 slow_path_by_hand : IsRun Once 8 slow_path_record
 slow_path_by_hand = (
@@ -76,7 +81,25 @@ slow_path_by_hand = (
           (refl, refl, refl, tt),
           (
             tt,
-            ((refl, (1, two_not_one, refl), inl refl), (tt, ((refl, (1, two_not_one, refl), inl refl), (tt, ((refl, refl, inl refl), ((refl, refl, refl, tt), ((refl, refl, refl, refl), (tt, (refl, (refl, tt)))))))))),
+            (
+              (refl, (1, two_not_one, refl), inl refl),
+              (
+                tt,
+                (
+                  (refl, (1, two_not_one, refl), inl refl),
+                  (
+                    tt,
+                    (
+                      (refl, refl, inl refl),
+                      (
+                        (refl, refl, refl, tt),
+                        ((refl, refl, refl, refl), (tt, (refl, (refl, tt)))),
+                      ),
+                    ),
+                  ),
+                ),
+              ),
+            ),
           ),
         ),
       ),
@@ -86,8 +109,25 @@ slow_path_by_hand = (
 
 -- the third task finds the place full: the second waits and the first holds
 limit_of_the_count_by_hand : IsRun Once 1 limit_of_the_count_record
-limit_of_the_count_by_hand =
-    ((refl, (refl, refl, inl (omega arith), refl), inl refl), (tt, ((refl, (1, two_not_one, refl), inl refl), (tt, ((refl, refl, inl refl), ((refl, refl, refl, tt), ((refl, refl, refl, refl), (tt, (refl, (refl, (refl, tt)))))))))))
+limit_of_the_count_by_hand = (
+  (refl, (refl, refl, inl (omega arith), refl), inl refl),
+  (
+    tt,
+    (
+      (refl, (1, two_not_one, refl), inl refl),
+      (
+        tt,
+        (
+          (refl, refl, inl refl),
+          (
+            (refl, refl, refl, tt),
+            ((refl, refl, refl, refl), (tt, (refl, (refl, (refl, tt))))),
+          ),
+        ),
+      ),
+    ),
+  ),
+)
 
 -- the second task is refused memory: the first holds
 queue_refused_by_hand : IsRun Once 8 queue_refused_record

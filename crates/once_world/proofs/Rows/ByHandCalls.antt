@@ -40,7 +40,25 @@ three_not_one e = omega arith
 
 -- each entry may come
 waiting_run : IsRun Once 8 waiting
-waiting_run = ((refl, (1, three_not_one, refl), inl refl), (tt, ((refl, (1, two_not_one, refl), inl refl), (tt, ((refl, refl, inl refl), ((refl, refl, refl, tt), ((refl, refl, refl, refl), (tt, (refl, (refl, (refl, tt)))))))))))
+waiting_run = (
+  (refl, (1, three_not_one, refl), inl refl),
+  (
+    tt,
+    (
+      (refl, (1, two_not_one, refl), inl refl),
+      (
+        tt,
+        (
+          (refl, refl, inl refl),
+          (
+            (refl, refl, refl, tt),
+            ((refl, refl, refl, refl), (tt, (refl, (refl, (refl, tt))))),
+          ),
+        ),
+      ),
+    ),
+  ),
+)
 
 -- the waker that the failure hands out is open
 seven_open : (w : ℕ) → member w (7 ∷ []) ≡ true → IsOpen Once w failing
@@ -67,7 +85,8 @@ called_waiter_leaves_by_hand : IsRun Once 8 called_waiter_leaves_record
 called_waiter_leaves_by_hand = ((refl, (refl, refl), inl refl), ((refl, refl, refl, may_hand Once filling nobody_covers), filling_run))
 
 -- where none of the three waits, and no other was made, nobody does
-nobody : (h : List Entry) (r s t : Status) → status Once 1 h ≡ r → status Once 2 h ≡ s → status Once 3 h ≡ t → is_waiting r ≡ false → is_waiting s ≡ false → is_waiting t ≡ false
+nobody : (h : List Entry) (r s t : Status) → status Once 1 h ≡ r → status Once 2 h ≡ s → status Once 3 h ≡ t
+    → is_waiting r ≡ false → is_waiting s ≡ false → is_waiting t ≡ false
     → ((u : ℕ) → (1 == u) ≡ false → (2 == u) ≡ false → (3 == u) ≡ false → status Once u h ≡ Unmade) → (u : ℕ) → status Once u h ≡ Waiting → ⊥
 nobody h r s t a b c i j k d =
     by_three (λ u. status Once u h ≡ Waiting → ⊥) (not_waiting Once 1 h r a i) (not_waiting Once 2 h s b j) (not_waiting Once 3 h t c k)

@@ -19,7 +19,9 @@ late_parts = newest_first (
     ∷ part (Poll 2 7) (Begin 2 7 ∷ []) [] ∷ part (Go 2 RanPending true) [] [] ∷ part (Go 2 RanPending true) [] []
     ∷ part (Poll 1 5) (Begin 1 5 ∷ []) [] ∷ part (Go 1 (RanValue 4) true) (Ran 1 (RanValue 4) ∷ []) [] ∷ part (Go 1 (RanValue 4) true) [] []
     ∷ part (Go 1 (RanValue 4) true) (Fill 1 4 [] ∷ []) [] ∷ part (Go 1 (RanValue 4) true) (End 1 (Value 4) ∷ []) []
-    ∷ part (Go 2 RanPending true) [] (PutLine 1 ∷ []) ∷ part (Go 2 RanPending true) [] [] ∷ part (Go 2 RanPending true) [] [] ∷ part (Go 2 RanPending true) (End 2 (Value 4) ∷ []) (TakenLine 1 ∷ []) ∷ [])
+    ∷ part (Go 2 RanPending true) [] (PutLine 1 ∷ []) ∷ part (Go 2 RanPending true) [] []
+    ∷ part (Go 2 RanPending true) [] [] ∷ part (Go 2 RanPending true) (End 2 (Value 4) ∷ []) (TakenLine 1 ∷ [])
+    ∷ [])
 
 -- these are the parts of their inputs, and of the record and log of the late queue
 late_parts_record : history_of Once 8 (inputs_of late_parts) ≡ entries_of late_parts

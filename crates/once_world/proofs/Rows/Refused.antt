@@ -25,10 +25,16 @@ limit_of_the_count_run = every_run Once 1 limit_of_the_count_inputs (omega arith
 
 -- the holder itself needs a place in the count for its release, and takes it at the limit too
 abbrev release_beyond_the_limit_inputs : List Input
-release_beyond_the_limit_inputs = newest_first (Make 1 ∷ Make 2 ∷ Make 3 ∷ Poll 1 5 ∷ run 1 RanPending ++ Poll 2 7 ∷ run 2 RanPending ++ Poll 3 9 ∷ run 3 RanPending ++ Poll 1 5 ∷ run 1 (RanError 5) ++ Poll 2 7 ∷ run 2 (RanValue 6))
+release_beyond_the_limit_inputs =
+    newest_first
+    (Make 1 ∷ Make 2 ∷ Make 3 ∷ Poll 1 5 ∷ run 1 RanPending ++ Poll 2 7 ∷ run 2 RanPending ++ Poll 3 9 ∷ run 3 RanPending ++ Poll 1 5 ∷ run 1 (RanError 5) ++ Poll 2 7 ∷ run 2 (RanValue 6))
 
 abbrev pub release_beyond_the_limit_record : List Entry
-release_beyond_the_limit_record = newest_first (Made 1 ∷ Made 2 ∷ Made 3 ∷ Begin 1 5 ∷ Claim 1 ∷ Ran 1 RanPending ∷ End 1 Pending ∷ Begin 2 7 ∷ End 2 Pending ∷ Begin 3 9 ∷ End 3 Full ∷ Begin 1 5 ∷ Ran 1 (RanError 5) ∷ Free 1 (7 ∷ []) ∷ End 1 (Error 5) ∷ Begin 2 7 ∷ Claim 2 ∷ Ran 2 (RanValue 6) ∷ Fill 2 6 [] ∷ End 2 (Value 6) ∷ [])
+release_beyond_the_limit_record =
+    newest_first
+    (Made 1 ∷ Made 2 ∷ Made 3 ∷ Begin 1 5 ∷ Claim 1 ∷ Ran 1 RanPending ∷ End 1 Pending ∷ Begin 2 7 ∷ End 2 Pending
+    ∷ Begin 3 9 ∷ End 3 Full ∷ Begin 1 5 ∷ Ran 1 (RanError 5) ∷ Free 1 (7 ∷ []) ∷ End 1 (Error 5) ∷ Begin 2 7
+    ∷ Claim 2 ∷ Ran 2 (RanValue 6) ∷ Fill 2 6 [] ∷ End 2 (Value 6) ∷ [])
 
 release_beyond_the_limit : history_of Once 1 release_beyond_the_limit_inputs ≡ release_beyond_the_limit_record
 release_beyond_the_limit = refl
@@ -57,7 +63,11 @@ queue_refused_run = every_run Once 8 queue_refused_inputs (omega arith)
 
 -- no memory for the copy of a waker
 abbrev waker_copy_refused_inputs : List Input
-waker_copy_refused_inputs = newest_first (Make 1 ∷ Make 2 ∷ Poll 1 5 ∷ run 1 RanPending ++ Poll 2 7 ∷ Go 2 RanPending true ∷ Go 2 RanPending true ∷ Go 2 RanPending true ∷ Go 2 RanPending true ∷ Go 2 RanPending true ∷ Go 2 RanPending false ∷ run 2 RanPending)
+waker_copy_refused_inputs =
+    newest_first
+    (Make 1 ∷ Make 2 ∷ Poll 1 5 ∷ run 1 RanPending ++ Poll 2 7 ∷ Go 2 RanPending true ∷ Go 2 RanPending true
+    ∷ Go 2 RanPending true ∷ Go 2 RanPending true ∷ Go 2 RanPending true ∷ Go 2 RanPending false
+    ∷ run 2 RanPending)
 
 abbrev pub waker_copy_refused_record : List Entry
 waker_copy_refused_record = newest_first (Made 1 ∷ Made 2 ∷ Begin 1 5 ∷ Claim 1 ∷ Ran 1 RanPending ∷ End 1 Pending ∷ Begin 2 7 ∷ End 2 Memory ∷ [])
@@ -73,7 +83,11 @@ waker_copy_refused_run = every_run Once 8 waker_copy_refused_inputs (omega arith
 
 -- no memory for a listing, though another task is listed with the same waker
 abbrev listed_by_another_and_no_memory_inputs : List Input
-listed_by_another_and_no_memory_inputs = newest_first (Make 1 ∷ Make 2 ∷ Make 3 ∷ Poll 1 5 ∷ run 1 RanPending ++ Poll 2 7 ∷ Go 2 RanPending true ∷ Go 2 RanPending true ∷ Go 2 RanPending true ∷ Go 2 RanPending true ∷ Go 2 RanPending true ∷ Go 2 RanPending true ∷ Poll 3 7 ∷ run 3 RanPending ++ Go 2 RanPending false ∷ run 2 RanPending)
+listed_by_another_and_no_memory_inputs =
+    newest_first
+    (Make 1 ∷ Make 2 ∷ Make 3 ∷ Poll 1 5 ∷ run 1 RanPending ++ Poll 2 7 ∷ Go 2 RanPending true ∷ Go 2 RanPending true
+    ∷ Go 2 RanPending true ∷ Go 2 RanPending true ∷ Go 2 RanPending true ∷ Go 2 RanPending true ∷ Poll 3 7
+    ∷ run 3 RanPending ++ Go 2 RanPending false ∷ run 2 RanPending)
 
 abbrev pub listed_by_another_and_no_memory_record : List Entry
 listed_by_another_and_no_memory_record = newest_first (Made 1 ∷ Made 2 ∷ Made 3 ∷ Begin 1 5 ∷ Claim 1 ∷ Ran 1 RanPending ∷ End 1 Pending ∷ Begin 2 7 ∷ Begin 3 7 ∷ End 3 Pending ∷ End 2 Memory ∷ [])
@@ -89,10 +103,15 @@ listed_by_another_and_no_memory_run = every_run Once 8 listed_by_another_and_no_
 
 -- no memory is needed to list another waker of a task that is listed
 abbrev relisted_without_memory_inputs : List Input
-relisted_without_memory_inputs = newest_first (Make 1 ∷ Make 2 ∷ Poll 1 5 ∷ run 1 RanPending ++ Poll 2 7 ∷ run 2 RanPending ++ Poll 2 8 ∷ steps 2 2 RanPending ++ Go 2 RanPending false ∷ run 2 RanPending ++ Poll 1 5 ∷ run 1 (RanError 9))
+relisted_without_memory_inputs =
+    newest_first
+    (Make 1 ∷ Make 2 ∷ Poll 1 5 ∷ run 1 RanPending ++ Poll 2 7 ∷ run 2 RanPending ++ Poll 2 8 ∷ steps 2 2 RanPending ++ Go 2 RanPending false ∷ run 2 RanPending ++ Poll 1 5 ∷ run 1 (RanError 9))
 
 abbrev pub relisted_without_memory_record : List Entry
-relisted_without_memory_record = newest_first (Made 1 ∷ Made 2 ∷ Begin 1 5 ∷ Claim 1 ∷ Ran 1 RanPending ∷ End 1 Pending ∷ Begin 2 7 ∷ End 2 Pending ∷ Begin 2 8 ∷ End 2 Pending ∷ Begin 1 5 ∷ Ran 1 (RanError 9) ∷ Free 1 (8 ∷ []) ∷ End 1 (Error 9) ∷ [])
+relisted_without_memory_record =
+    newest_first
+    (Made 1 ∷ Made 2 ∷ Begin 1 5 ∷ Claim 1 ∷ Ran 1 RanPending ∷ End 1 Pending ∷ Begin 2 7 ∷ End 2 Pending ∷ Begin 2 8
+    ∷ End 2 Pending ∷ Begin 1 5 ∷ Ran 1 (RanError 9) ∷ Free 1 (8 ∷ []) ∷ End 1 (Error 9) ∷ [])
 
 relisted_without_memory : history_of Once 8 relisted_without_memory_inputs ≡ relisted_without_memory_record
 relisted_without_memory = refl

@@ -35,8 +35,14 @@ claim_before_a_poll : Spoilt Once 8 (newest_first (Made 1 ∷ Claim 1 ∷ []))
 claim_before_a_poll = (every_run Once 8 (newest_first (Make 1 ∷ [])) (omega arith), λ r. let e = r.0.1 in let z : ⊥ = cc in z)
 
 -- a poll whose init failed claims again
-claim_after_an_error : Spoilt Once 8 (newest_first (Made 1 ∷ Made 2 ∷ Begin 1 5 ∷ Claim 1 ∷ Ran 1 RanPending ∷ End 1 Pending ∷ Begin 2 7 ∷ End 2 Pending ∷ Begin 1 5 ∷ Ran 1 (RanError 9) ∷ Free 1 (7 ∷ []) ∷ Claim 1 ∷ []))
-claim_after_an_error = (every_run Once 8 (newest_first (Make 1 ∷ Make 2 ∷ Poll 1 5 ∷ steps 3 1 RanPending ++ Poll 2 7 ∷ steps 7 2 RanPending ++ Poll 1 5 ∷ steps 5 1 (RanError 9))) (omega arith), λ r. let e = r.0.2 in let z : ⊥ = cc in z)
+claim_after_an_error : Spoilt Once 8 (newest_first (Made 1 ∷ Made 2 ∷ Begin 1 5 ∷ Claim 1 ∷ Ran 1 RanPending
+    ∷ End 1 Pending ∷ Begin 2 7 ∷ End 2 Pending ∷ Begin 1 5 ∷ Ran 1 (RanError 9) ∷ Free 1 (7 ∷ []) ∷ Claim 1 ∷ []))
+claim_after_an_error = (
+  every_run Once 8 (newest_first (Make 1 ∷ Make 2 ∷ Poll 1 5 ∷ steps 3 1 RanPending ++ Poll 2 7
+      ∷ steps 7 2 RanPending ++ Poll 1 5 ∷ steps 5 1 (RanError 9)))
+      (omega arith),
+  λ r. let e = r.0.2 in let z : ⊥ = cc in z,
+)
 
 -- an init is polled while its task rests
 run_at_rest : Spoilt Once 8 (newest_first (Made 1 ∷ Begin 1 7 ∷ Claim 1 ∷ Ran 1 RanPending ∷ End 1 Pending ∷ Ran 1 (RanValue 4) ∷ []))
@@ -48,7 +54,8 @@ run_in_a_drop = (every_run Once 8 (newest_first (Make 1 ∷ Poll 1 7 ∷ steps 3
 
 -- a task that does not hold frees the cell in its drop
 free_without_the_right : Spoilt Once 8 (newest_first (Made 1 ∷ Made 2 ∷ Begin 1 5 ∷ Claim 1 ∷ Ran 1 RanPending ∷ End 1 Pending ∷ Begin 2 7 ∷ End 2 Pending ∷ DropBegin 2 ∷ Free 2 (7 ∷ []) ∷ []))
-free_without_the_right = (every_run Once 8 (newest_first (Make 1 ∷ Make 2 ∷ Poll 1 5 ∷ steps 3 1 RanPending ++ Poll 2 7 ∷ steps 7 2 RanPending ++ Drop 2 ∷ [])) (omega arith), λ r. one_not_two (same_holder 1 2 r.0.0))
+free_without_the_right =
+    (every_run Once 8 (newest_first (Make 1 ∷ Make 2 ∷ Poll 1 5 ∷ steps 3 1 RanPending ++ Poll 2 7 ∷ steps 7 2 RanPending ++ Drop 2 ∷ [])) (omega arith), λ r. one_not_two (same_holder 1 2 r.0.0))
 
 -- a poll frees the cell, and its init was not polled
 free_without_a_run : Spoilt Once 8 (newest_first (Made 1 ∷ Begin 1 7 ∷ Claim 1 ∷ Free 1 [] ∷ []))

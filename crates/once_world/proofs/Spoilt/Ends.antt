@@ -22,7 +22,9 @@ answer_before_the_fill : Spoilt Once 8 (newest_first (Made 1 ∷ Made 2 ∷ Begi
 answer_before_the_fill = (every_run Once 8 (newest_first (Make 1 ∷ Make 2 ∷ Poll 1 5 ∷ steps 3 1 (RanValue 4) ++ Poll 2 7 ∷ [])) (omega arith), λ r. held_not_set 1 4 r.0.1)
 
 -- a task that waits is answered another task's error
-error_of_another : Spoilt Once 8 (newest_first (Made 1 ∷ Made 2 ∷ Begin 1 5 ∷ Claim 1 ∷ Ran 1 RanPending ∷ End 1 Pending ∷ Begin 2 7 ∷ Begin 1 5 ∷ Ran 1 (RanError 9) ∷ Free 1 [] ∷ End 1 (Error 9) ∷ End 2 (Error 9) ∷ []))
+error_of_another : Spoilt Once 8 (newest_first (Made 1 ∷ Made 2 ∷ Begin 1 5 ∷ Claim 1 ∷ Ran 1 RanPending
+    ∷ End 1 Pending ∷ Begin 2 7 ∷ Begin 1 5 ∷ Ran 1 (RanError 9) ∷ Free 1 [] ∷ End 1 (Error 9) ∷ End 2 (Error 9)
+    ∷ []))
 error_of_another = (every_run Once 8 (newest_first (Make 1 ∷ Make 2 ∷ Poll 1 5 ∷ steps 3 1 RanPending ++ Poll 2 7 ∷ Poll 1 5 ∷ steps 2 1 (RanError 9))) (omega arith), λ r. r.0.1)
 
 -- a poll ends with its init's error, and did not free the cell
@@ -30,16 +32,25 @@ error_without_a_free : Spoilt Once 8 (newest_first (Made 1 ∷ Begin 1 7 ∷ Cla
 error_without_a_free = (every_run Once 8 (newest_first (Make 1 ∷ Poll 1 7 ∷ steps 3 1 (RanError 9))) (omega arith), λ r. false≢true r.0.1.1)
 
 -- the init gave the error 4, and the poll answers 5
-error_of_another_number : Spoilt Once 8 (newest_first (Made 1 ∷ Made 2 ∷ Begin 1 5 ∷ Claim 1 ∷ Ran 1 RanPending ∷ End 1 Pending ∷ Begin 2 7 ∷ End 2 Pending ∷ Begin 1 5 ∷ Ran 1 (RanError 4) ∷ Free 1 (7 ∷ []) ∷ End 1 (Error 5) ∷ []))
-error_of_another_number = (every_run Once 8 (newest_first (Make 1 ∷ Make 2 ∷ Poll 1 5 ∷ steps 3 1 RanPending ++ Poll 2 7 ∷ steps 7 2 RanPending ++ Poll 1 5 ∷ steps 5 1 (RanError 4))) (omega arith), λ r. four_not_five (sym r.0.1.0))
+error_of_another_number : Spoilt Once 8 (newest_first (Made 1 ∷ Made 2 ∷ Begin 1 5 ∷ Claim 1 ∷ Ran 1 RanPending
+    ∷ End 1 Pending ∷ Begin 2 7 ∷ End 2 Pending ∷ Begin 1 5 ∷ Ran 1 (RanError 4) ∷ Free 1 (7 ∷ []) ∷ End 1 (Error 5)
+    ∷ []))
+error_of_another_number = (
+  every_run Once 8 (newest_first (Make 1 ∷ Make 2 ∷ Poll 1 5 ∷ steps 3 1 RanPending ++ Poll 2 7
+      ∷ steps 7 2 RanPending ++ Poll 1 5 ∷ steps 5 1 (RanError 4))) (omega arith),
+  λ r. four_not_five (sym r.0.1.0),
+)
 
 -- a poll ends pending where nobody holds
 pending_for_nobody : Spoilt Once 8 (newest_first (Made 1 ∷ Begin 1 7 ∷ End 1 Pending ∷ []))
 pending_for_nobody = (every_run Once 8 (newest_first (Make 1 ∷ Poll 1 7 ∷ [])) (omega arith), λ r. let e = r.0.1.2 in let z : ⊥ = cc in z)
 
 -- a poll whose init failed ends pending
-pending_after_an_error : Spoilt Once 8 (newest_first (Made 1 ∷ Made 2 ∷ Begin 1 5 ∷ Claim 1 ∷ Ran 1 RanPending ∷ End 1 Pending ∷ Begin 2 7 ∷ End 2 Pending ∷ Begin 1 5 ∷ Ran 1 (RanError 9) ∷ Free 1 (7 ∷ []) ∷ End 1 Pending ∷ []))
-pending_after_an_error = (every_run Once 8 (newest_first (Make 1 ∷ Make 2 ∷ Poll 1 5 ∷ steps 3 1 RanPending ++ Poll 2 7 ∷ steps 7 2 RanPending ++ Poll 1 5 ∷ steps 5 1 (RanError 9))) (omega arith), λ r. r.0.1)
+pending_after_an_error : Spoilt Once 8 (newest_first (Made 1 ∷ Made 2 ∷ Begin 1 5 ∷ Claim 1 ∷ Ran 1 RanPending
+    ∷ End 1 Pending ∷ Begin 2 7 ∷ End 2 Pending ∷ Begin 1 5 ∷ Ran 1 (RanError 9) ∷ Free 1 (7 ∷ []) ∷ End 1 Pending
+    ∷ []))
+pending_after_an_error =
+    (every_run Once 8 (newest_first (Make 1 ∷ Make 2 ∷ Poll 1 5 ∷ steps 3 1 RanPending ++ Poll 2 7 ∷ steps 7 2 RanPending ++ Poll 1 5 ∷ steps 5 1 (RanError 9))) (omega arith), λ r. r.0.1)
 
 -- one task polls alone
 abbrev alone : List Entry
@@ -63,7 +74,11 @@ memory_for_a_holder = (every_run Once 8 (newest_first (Make 1 ∷ Make 2 ∷ Pol
 
 -- the place is full for one task, and two may wait
 full_with_room : Spoilt Once 2 (newest_first (Made 1 ∷ Made 2 ∷ Begin 1 5 ∷ Claim 1 ∷ Ran 1 RanPending ∷ End 1 Pending ∷ Begin 2 7 ∷ End 2 Full ∷ []))
-full_with_room = (every_run Once 2 (newest_first (Make 1 ∷ Make 2 ∷ Poll 1 5 ∷ steps 3 1 RanPending ++ Poll 2 7 ∷ [])) (omega arith), λ r. ⊎_elim (λ (c : 2 ≤ 1). let z : ⊥ = omega arith in z) (λ z. z) r.0.1.2)
+full_with_room = (
+  every_run Once 2 (newest_first (Make 1 ∷ Make 2 ∷ Poll 1 5 ∷ steps 3 1 RanPending ++ Poll 2 7
+      ∷ [])) (omega arith),
+  λ r. ⊎_elim (λ (c : 2 ≤ 1). let z : ⊥ = omega arith in z) (λ z. z) r.0.1.2,
+)
 
 -- the place is full where the value is set
 full_of_a_set_cell : Spoilt Once 1 (newest_first (Made 1 ∷ Made 2 ∷ Begin 1 5 ∷ Claim 1 ∷ Ran 1 (RanValue 4) ∷ Begin 2 7 ∷ Fill 1 4 [] ∷ End 2 Full ∷ []))
@@ -71,4 +86,9 @@ full_of_a_set_cell = (every_run Once 1 (newest_first (Make 1 ∷ Make 2 ∷ Poll
 
 -- the place is full for a task that waited
 full_for_a_waiting_task : Spoilt Once 1 (newest_first (Made 1 ∷ Made 2 ∷ Begin 1 5 ∷ Claim 1 ∷ Ran 1 RanPending ∷ End 1 Pending ∷ Begin 2 7 ∷ End 2 Pending ∷ Begin 2 7 ∷ End 2 Full ∷ []))
-full_for_a_waiting_task = (every_run Once 1 (newest_first (Make 1 ∷ Make 2 ∷ Poll 1 5 ∷ steps 3 1 RanPending ++ Poll 2 7 ∷ steps 7 2 RanPending ++ Poll 2 7 ∷ [])) (omega arith), λ r. let e = r.0.1.0 in let z : ⊥ = cc in z)
+full_for_a_waiting_task = (
+  every_run Once 1 (newest_first
+      (Make 1 ∷ Make 2 ∷ Poll 1 5 ∷ steps 3 1 RanPending ++ Poll 2 7 ∷ steps 7 2 RanPending ++ Poll 2 7 ∷ []))
+      (omega arith),
+  λ r. let e = r.0.1.0 in let z : ⊥ = cc in z,
+)

@@ -35,11 +35,18 @@ waits_outside : AreLogged Once (newest_first (second_polls ++ part (Go 2 RanPend
 waits_outside l = false≢true (l.0.1 refl)
 
 -- a release hands a waker out without entering the queue
-hands_out_outside : AreLogged Once (newest_first (second_polls ++ part (Go 2 RanPending true) (End 2 Pending ∷ []) (EnteredLine 1 ∷ []) ∷ part (Drop 1) (DropBegin 1 ∷ []) [] ∷ part (Go 1 RanPending true) (Free 1 (7 ∷ []) ∷ []) [] ∷ [])) → ⊥
+hands_out_outside : AreLogged Once (newest_first (second_polls
+    ++ part (Go 2 RanPending true) (End 2 Pending ∷ []) (EnteredLine 1 ∷ []) ∷ part (Drop 1) (DropBegin 1 ∷ []) []
+    ∷ part (Go 1 RanPending true) (Free 1 (7 ∷ []) ∷ []) [] ∷ []))
+    → ⊥
 hands_out_outside l = false≢true (l.0.1 refl)
 
 -- a fill hands a waker out without entering the queue
-fills_outside : AreLogged Once (newest_first (second_polls ++ part (Go 2 RanPending true) (End 2 Pending ∷ []) (EnteredLine 1 ∷ []) ∷ part (Poll 1 5) (Begin 1 5 ∷ []) [] ∷ part (Go 1 (RanValue 4) true) (Ran 1 (RanValue 4) ∷ []) [] ∷ part (Go 1 (RanValue 4) true) (Fill 1 4 (7 ∷ []) ∷ []) [] ∷ [])) → ⊥
+fills_outside : AreLogged Once (newest_first (second_polls
+    ++ part (Go 2 RanPending true) (End 2 Pending ∷ []) (EnteredLine 1 ∷ []) ∷ part (Poll 1 5) (Begin 1 5 ∷ []) []
+    ∷ part (Go 1 (RanValue 4) true) (Ran 1 (RanValue 4) ∷ []) []
+    ∷ part (Go 1 (RanValue 4) true) (Fill 1 4 (7 ∷ []) ∷ []) [] ∷ []))
+    → ⊥
 fills_outside l = false≢true (l.0.1 refl)
 
 -- a task that leaves hands a waker out without entering the queue
@@ -47,11 +54,13 @@ passes_outside : AreLogged Once (newest_first (second_polls ++ part (Go 2 RanPen
 passes_outside l = false≢true (l.0.1 refl)
 
 -- the owner takes the value, and the queue stays at the door
-take_leaves_the_queue : AreLogged (OnceWith 4) (newest_first (part Looks (Look (Some 4) ∷ []) (PutLine 1 ∷ []) ∷ part (Owns Take) (Own Take (GotValue 4) ∷ []) [] ∷ [])) → ⊥
+take_leaves_the_queue : AreLogged (OnceWith 4) (newest_first (part Looks (Look (Some 4) ∷ []) (PutLine 1 ∷ []) ∷ part (Owns Take) (Own Take (GotValue 4) ∷ []) [] ∷ []))
+    → ⊥
 take_leaves_the_queue l = let e = l.0 in let z : ⊥ = cc in z
 
 -- the owner changes the value, and the queue is taken out
-write_takes_the_queue : AreLogged (OnceWith 4) (newest_first (part Looks (Look (Some 4) ∷ []) (PutLine 1 ∷ []) ∷ part (Owns (Write 5)) (Own (Write 5) (GotValue 4) ∷ []) (TakenLine 1 ∷ []) ∷ [])) → ⊥
+write_takes_the_queue : AreLogged (OnceWith 4) (newest_first (part Looks (Look (Some 4) ∷ []) (PutLine 1 ∷ []) ∷ part (Owns (Write 5)) (Own (Write 5) (GotValue 4) ∷ []) (TakenLine 1 ∷ []) ∷ []))
+    → ⊥
 write_takes_the_queue l = let e = l.0 in let z : ⊥ = cc in z
 
 -- a task waits, and no queue stands at the door

@@ -66,7 +66,8 @@ step_of_nobody : AreAdded Once (newest_first (part (Make 1) (Made 1 ∷ []) ∷ 
 step_of_nobody a = let e = a.0 in let z : ⊥ = cc in z
 
 -- the step says that the init is pending, and it gives a value
-other_answer : AreAdded Once (newest_first (polling ++ part (Go 1 RanPending true) (Claim 1 ∷ []) ∷ part (Go 1 RanPending true) (Ran 1 (RanValue 4) ∷ []) ∷ [])) → ⊥
+other_answer : AreAdded Once (newest_first (polling ++ part (Go 1 RanPending true) (Claim 1 ∷ []) ∷ part (Go 1 RanPending true) (Ran 1 (RanValue 4) ∷ []) ∷ []))
+    → ⊥
 other_answer a = let e = a.0.1 in let z : ⊥ = cc in z
 
 -- the owner's call adds an entry while a task is not gone
@@ -86,11 +87,17 @@ memory_wanted : WantsMemoryOnlyUngranted Once (newest_first (polling ++ idle 2 +
 memory_wanted m = false≢true (sym (m 1 refl))
 
 -- the same, where a step of an earlier call was given none
-memory_refused_before : WantsMemoryOnlyUngranted Once (newest_first (polling ++ part (Go 1 RanPending false) (End 1 Pending ∷ []) ∷ part (Poll 1 7) (Begin 1 7 ∷ []) ∷ part (Go 1 RanPending true) (End 1 Memory ∷ []) ∷ [])) → ⊥
+memory_refused_before : WantsMemoryOnlyUngranted Once (newest_first
+    (polling ++ part (Go 1 RanPending false) (End 1 Pending ∷ []) ∷ part (Poll 1 7) (Begin 1 7 ∷ [])
+    ∷ part (Go 1 RanPending true) (End 1 Memory ∷ []) ∷ []))
+    → ⊥
 memory_refused_before m = false≢true (sym (m 1 refl))
 
 -- the same, where a step of another task was given none
-memory_refused_to_another : WantsMemoryOnlyUngranted Once (newest_first (polling ++ part (Make 2) (Made 2 ∷ []) ∷ part (Poll 2 8) (Begin 2 8 ∷ []) ∷ part (Go 2 RanPending false) [] ∷ part (Go 1 RanPending true) (End 1 Memory ∷ []) ∷ [])) → ⊥
+memory_refused_to_another : WantsMemoryOnlyUngranted Once
+    (newest_first (polling ++ part (Make 2) (Made 2 ∷ []) ∷ part (Poll 2 8) (Begin 2 8 ∷ [])
+    ∷ part (Go 2 RanPending false) [] ∷ part (Go 1 RanPending true) (End 1 Memory ∷ []) ∷ []))
+    → ⊥
 memory_refused_to_another m = false≢true (sym (m 1 refl))
 
 -- a step without memory is told from one with memory

@@ -40,7 +40,12 @@ not_memory r e n = ⊎_elim (λ f. false≢true (sym f)) n e
 
 -- a turn is passed on to the task that passes it on: its waker is not open
 pass_to_itself : Spoilt Once 8 (newest_first (called ++ DropBegin 2 ∷ Pass 2 (7 ∷ []) ∷ []))
-pass_to_itself = (every_run Once 8 (newest_first (called_inputs ++ Drop 2 ∷ [])) (omega arith), λ r. let same : 7 ≡ r.0.3.0 = cc in less_than_itself 1 (subst (λ w. IsOpen Once w (newest_first (called ++ DropBegin 2 ∷ []))) (sym same) r.0.3.2))
+pass_to_itself = (
+  every_run Once 8 (newest_first (called_inputs ++ Drop 2 ∷ []))
+      (omega arith),
+  λ r. let same : 7 ≡ r.0.3.0 = cc in less_than_itself 1
+      (subst (λ w. IsOpen Once w (newest_first (called ++ DropBegin 2 ∷ []))) (sym same) r.0.3.2),
+)
 
 -- a turn is passed on to nobody
 pass_to_nobody : Spoilt Once 8 (newest_first (called ++ DropBegin 2 ∷ Pass 2 [] ∷ []))

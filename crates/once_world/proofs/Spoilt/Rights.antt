@@ -63,8 +63,15 @@ lazy_out_of_order : Spoilt (Lazy (None ∷ Some 9 ∷ [])) 8 (newest_first (Made
 lazy_out_of_order = (every_run (Lazy (None ∷ Some 9 ∷ [])) 8 (newest_first (Make 1 ∷ Poll 1 7 ∷ steps 2 1 RanPending)) (omega arith), λ r. value_not_pending r.0.3)
 
 -- a lazy cell is taken apart, and gives back an answer that was used
-used_answer_back : Spoilt (Lazy (None ∷ [])) 8 (newest_first (Made 1 ∷ Begin 1 7 ∷ Claim 1 ∷ Ran 1 RanPending ∷ End 1 Pending ∷ DropBegin 1 ∷ Free 1 [] ∷ DropEnd 1 ∷ Own Parts (GotAnswers (None ∷ [])) ∷ []))
-used_answer_back = (every_run (Lazy (None ∷ [])) 8 (newest_first (Make 1 ∷ Poll 1 7 ∷ steps 3 1 RanPending ++ Drop 1 ∷ Go 1 RanPending true ∷ [])) (omega arith), λ r. let e = r.0.1 in let z : ⊥ = cc in z)
+used_answer_back : Spoilt (Lazy (None ∷ [])) 8 (newest_first
+    (Made 1 ∷ Begin 1 7 ∷ Claim 1 ∷ Ran 1 RanPending ∷ End 1 Pending ∷ DropBegin 1 ∷ Free 1 [] ∷ DropEnd 1
+    ∷ Own Parts (GotAnswers (None ∷ [])) ∷ []))
+used_answer_back = (
+  every_run (Lazy (None ∷ [])) 8 (newest_first
+      (Make 1 ∷ Poll 1 7 ∷ steps 3 1 RanPending ++ Drop 1 ∷ Go 1 RanPending true ∷ []))
+      (omega arith),
+  λ r. let e = r.0.1 in let z : ⊥ = cc in z,
+)
 
 -- the value is set, and the owner's Take gives nothing
 take_of_nothing : Spoilt (OnceWith 4) 8 (newest_first (Own Take GotNone ∷ []))

@@ -68,7 +68,9 @@ lost_for_memory_run : IsRun Once 8 lost_for_memory
 lost_for_memory_run = ((refl, (refl, inr (inr (inl (1, two_not_one, refl)))), inl refl), every_run Once 8 (newest_first (waiting_inputs ++ Poll 2 6 ∷ Poll 1 5 ∷ run 1 (RanError 9))) (omega arith))
 
 lost_for_memory_uncalled : (t : ℕ) → IsCalled Once t lost_for_memory → ⊥
-lost_for_memory_uncalled = by_three (λ t. IsCalled Once t lost_for_memory → ⊥) (not_called Once 1 lost_for_memory Gone refl refl refl) (not_called Once 2 lost_for_memory Gone refl refl refl) (λ k. false≢true k.1)
+lost_for_memory_uncalled =
+    by_three (λ t. IsCalled Once t lost_for_memory → ⊥) (not_called Once 1 lost_for_memory Gone refl refl refl)
+    (not_called Once 2 lost_for_memory Gone refl refl refl) (λ k. false≢true k.1)
     (λ t a b c. not_called Once t lost_for_memory Unmade (rw (a, b, c) refl) refl refl)
 
 -- so the promise is broken
@@ -90,7 +92,15 @@ older_called : CallsOne Once (7 ∷ []) before_older
 older_called = record { one = omega arith; due = λ w d e. let z : ⊥ = cc in z; open_alone = older_open }
 
 older_run : IsRun Once 8 older
-older_run = ((refl, (refl, refl), inl refl), ((refl, tt, older_called), every_run Once 8 (newest_first (waiting_inputs ++ Poll 2 6 ∷ run 2 RanPending ++ Poll 1 5 ∷ Go 1 (RanError 9) true ∷ [])) (omega arith)))
+older_run = (
+  (refl, (refl, refl), inl refl),
+  (
+    (refl, tt, older_called),
+    every_run Once 8
+        (newest_first (waiting_inputs ++ Poll 2 6 ∷ run 2 RanPending ++ Poll 1 5 ∷ Go 1 (RanError 9) true ∷ []))
+        (omega arith),
+  ),
+)
 
 older_uncalled : (t : ℕ) → IsCalled Once t older → ⊥
 older_uncalled = by_three (λ t. IsCalled Once t older → ⊥) (not_called Once 1 older Gone refl refl refl) (λ k. false≢true k.1) (λ k. false≢true k.1)

@@ -33,11 +33,14 @@ returns-clause-waker g c =
     let xs = c.args.self.now.slots.items in
     let x = c.index_mut.result.now in
     let waits = rw (sym c.index_mut.ensures.value) at (c.first_open-self.ensures.found (omega arith) x) in
-    c.take.ensures.value ∙ (one_called is_kept c.first_open-self.result xs x c.take.new.self (omega arith) c.index_mut.ensures.value waits (λ k m. c.first_open-self.ensures.before k m x) c.take.ensures.after (kept_open _ _ waits)).0
+    c.take.ensures.value ∙ (one_called is_kept c.first_open-self.result xs x c.take.new.self
+    (omega arith) c.index_mut.ensures.value waits
+    (λ k m. c.first_open-self.ensures.before k m x) c.take.ensures.after (kept_open _ _ waits)).0
 
 pub returns-clause-listings : goal.returns-clause-listings
 returns-clause-listings g c =
     let xs = c.args.self.now.slots.items in
     let x = c.index_mut.result.now in
     let waits = rw (sym c.index_mut.ensures.value) at (c.first_open-self.ensures.found (omega arith) x) in
-    (one_called is_kept c.first_open-self.result xs x c.take.new.self (omega arith) c.index_mut.ensures.value waits (λ k m. c.first_open-self.ensures.before k m x) c.take.ensures.after (kept_open _ _ waits)).1
+    (one_called is_kept c.first_open-self.result xs x c.take.new.self (omega arith) c.index_mut.ensures.value waits
+    (λ k m. c.first_open-self.ensures.before k m x) c.take.ensures.after (kept_open _ _ waits)).1

@@ -40,7 +40,9 @@ returns-clause-waker g c =
     let x = c.index_mut.result.now in
     let p = c.in_ok-place.ensures.some in
     let at = p.1 x in
-    ap (λ y. Some y.waker) (c.replace.ensures.value ∙ c.index_mut.ensures.value) ∙ sym (kept_found is_kept c.args.ticket c.in_ok-place.place slots.slots.items x p.0 at (rw at (not_false _ p.2)) slots.once)
+    ap (λ y. Some y.waker) (c.replace.ensures.value ∙ c.index_mut.ensures.value)
+    ∙ sym (kept_found is_kept c.args.ticket c.in_ok-place.place slots.slots.items x p.0 at
+    (rw at (not_false _ p.2)) slots.once)
 
 pub returns-clause-listings : goal.returns-clause-listings
 returns-clause-listings g c =

@@ -6,4 +6,5 @@ use Rattle.once_queue.specs.Room.{listings_of}
 use Rattle.once_queue.proofs.waiters.Lists.is_listed.Goals as goal
 
 pub returns-in-Some : goal.returns-in-Some
-returns-in-Some g c = rw c.in-Some.is (c.is_some.ensures ∙ mapped_some (λ x. x.now) c.find.result ∙ found_kept c.in-Some.ticket (option_copied c.find.result) (listings_of c.args.self.now) c.find.ensures)
+returns-in-Some g c = rw c.in-Some.is (c.is_some.ensures ∙ mapped_some (λ x. x.now) c.find.result
+    ∙ found_kept c.in-Some.ticket (option_copied c.find.result) (listings_of c.args.self.now) c.find.ensures)

@@ -22,5 +22,7 @@ pub returns-in-All : goal.returns-in-All
 returns-in-All c =
     let xs = c.in-All.listings.items in
     let items : IfOk c.collect-in-All.result (λ X. X.items ≡ filter_map (λ x. x.waker) xs) =
-    items_from_collect _ c.collect-in-All.ensures.ran (YieldsList-from_filter_map _ (λ x. x.waker) (YieldsList-from_vec xs (search rules) (search rules)) c.filter_map.ensures.closure (λ x r q k. search (rules, tests))) in
+    items_from_collect _ c.collect-in-All.ensures.ran (YieldsList-from_filter_map _ (λ x. x.waker)
+    (YieldsList-from_vec xs (search rules) (search rules)) c.filter_map.ensures.closure
+    (λ x r q k. search (rules, tests))) in
     rw c.in-All.is (subst (λ ws. IfOk c.collect-in-All.result (λ X. X.items ≡ ws)) (filtered xs) items)

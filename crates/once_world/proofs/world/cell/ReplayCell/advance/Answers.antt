@@ -18,7 +18,9 @@ pub returns : goal.returns
 returns c =
     let granted_to : CoreState ℕ → CoreState ℕ = λ s. record s { granted = c.args.granted } in
     let state = c.grant.ensures.state ∙ ap granted_to c.set_waker.ensures.state in
-    let x = advance_exact (λ p. state_of p) c.args.limit _ _ _ _ _ _ _ (record { ran = refl; handed = refl }) c.grant.new.self.bare (ap (λ s. s.current) state) (ap (λ s. s.granted) state) c.advance-progress.ensures.line in
+    let x = advance_exact (λ p. state_of p) c.args.limit _ _ _ _ _ _ _
+    (record { ran = refl; handed = refl }) c.grant.new.self.bare (ap (λ s. s.current) state)
+    (ap (λ s. s.granted) state) c.advance-progress.ensures.line in
     let told_by : SharedState → ℕ → Outcome = λ i t. outcome c.args.self.now.side.lazy c.args.limit i t c.args.task.now c.args.answer c.args.granted in
     let same = ap (λ s. shared_by s c.args.self.now.side) state in
     let freed : c.if-freeing.result ≡ is_freed c.args.task.now.step c.advance-progress.new.self = elim c.if-freeing.branch [ then-freeing w ↦ freed_on _ _ _ _ _ w.result-is w.if-freeing.true w.is_adding.ensures c.is_freeing-freeing.ensures | else-freeing w ↦ freed_off _ _ _ _ w.result-is w.if-freeing.false c.is_freeing-freeing.ensures ] in

@@ -17,11 +17,20 @@ returns-clause-world c =
     let seen = c.advance-seen.ensures in
     let told_by : SharedState → Outcome = λ i. advance c.args.self.now.shared.side.lazy c.args.self.now.limit i c.args.t c.in-Some.task.now c.args.answer c.args.granted in
     let by : Bool → SharedState → Outcome = λ lazy i. advance lazy c.args.self.now.limit i c.args.t c.in-Some.task.now c.args.answer c.args.granted in
-    let same : by c.reserve.new.self.side.lazy (shared_of c.reserve.new.self) ≡ told_by (shared_of c.args.self.now.shared) = ap (λ l. by l (shared_of c.reserve.new.self)) (ap (λ z. z.lazy) c.in_ok-reserve.ensures.side) ∙ ap (by c.args.self.now.shared.side.lazy) c.in_ok-reserve.ensures.shared in
+    let same : by c.reserve.new.self.side.lazy (shared_of c.reserve.new.self) ≡ told_by
+    (shared_of c.args.self.now.shared) = ap (λ l. by l (shared_of c.reserve.new.self))
+    (ap (λ z. z.lazy) c.in_ok-reserve.ensures.side) ∙ ap
+    (by c.args.self.now.shared.side.lazy) c.in_ok-reserve.ensures.shared in
     on_ok_weaker c.record_step.result
     (λ h. stepped_world c.args.self.now.shared.side.lazy c.args.self.now.limit (world_in c.args.self.now) _ c.args.t c.args.answer c.args.granted c.in-Some.task.now y
     (told_by (shared_of c.args.self.now.shared)) (step_lines c.args.granted (shared_of c.args.self.now.shared) c.in-Some.task.now.step)
     refl refl found calls
     (seen.shared c.args.t ∙ ap (λ o. o.shared) same) seen.waker (seen.step c.args.t ∙ ap (λ o. o.step) same) (seen.kept c.args.t ∙ ap (λ o. o.kept) same) tasks
-    (c.still_unfinished-self.ensures ∙ ap (λ z. unfinished_after z c.args.self.now.unfinished) (seen.step c.args.t ∙ ap (λ o. o.step) same)) (h ∙ ap (λ e. e ++ history_in c.args.self.now.entries.items) (seen.seen c.args.t ∙ ap (λ o. o.entries) same)) (seen.log ∙ ap (λ i. step_lines c.args.granted i c.in-Some.task.now.step ++ log_in c.reserve.new.self) c.in_ok-reserve.ensures.shared ∙ ap (λ l. step_lines c.args.granted (shared_of c.args.self.now.shared) c.in-Some.task.now.step ++ l) c.in_ok-reserve.ensures.log))
+    (c.still_unfinished-self.ensures ∙ ap (λ z. unfinished_after z c.args.self.now.unfinished)
+    (seen.step c.args.t ∙ ap (λ o. o.step) same)) (h
+    ∙ ap (λ e. e ++ history_in c.args.self.now.entries.items) (seen.seen c.args.t ∙ ap (λ o. o.entries) same))
+    (seen.log ∙ ap (λ i. step_lines c.args.granted i c.in-Some.task.now.step
+    ++ log_in c.reserve.new.self) c.in_ok-reserve.ensures.shared
+    ∙ ap (λ l. step_lines c.args.granted (shared_of c.args.self.now.shared) c.in-Some.task.now.step
+    ++ l) c.in_ok-reserve.ensures.log))
     c.record_step.ensures
