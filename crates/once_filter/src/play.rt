@@ -13,6 +13,8 @@ use std::alloc::{AllocError, Global};
 
 /// Replays the lines of a script after the first, which gave the kind and the limit. The record is that
 /// of `replay` for the inputs that the lines stand for.
+///
+/// `AllocError` says that the record or the world could not grow.
 pub fn replay_lines(
     alloc: Global,
     kind: Kind,
@@ -36,6 +38,8 @@ pub fn replay_lines(
 }
 
 /// Takes the inputs that a line stands for.
+///
+/// `AllocError` says what it says of `World::take`.
 pub fn take_line(world: &mut World, line: &Line) -> Result<(), AllocError>
     requires reached { IsReached world.old }
     ensures reached { OnOk result (IsReached world.new) }

@@ -1,4 +1,4 @@
-use Rattle.std.specs.Prelude.{ℕ, suc, ◌⊎◌, Bool, List, [], ◌∷◌, ◌++◌, ◌≡◌, ◌==◌, ◌-◌, length, take, drop, map, if◌then◌else◌}
+use Rattle.std.specs.Prelude.{ℕ, suc, ◌⊎◌, Bool, List, [], ◌∷◌, ◌≡◌, ◌==◌, ◌-◌, length, take, drop, map, if◌then◌else◌}
 use Rattle.std.specs.Borrow.{Bor}
 use Rattle.std.specs.List.{slice_split}
 use lib.Pointwise.{pointwise}

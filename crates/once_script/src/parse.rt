@@ -1,9 +1,9 @@
 //! The text of a script, line by line.
-ghost use Rattle.std.specs.Prelude.{◌≡◌, ◌≢◌, ◌<◌, ◌≤◌, ◌-◌, ◌^◌, ◌++◌, ◌∷◌, OnOk, IfOk, IfSome, IsSome, MatchOption, Bool, ℕ, List, Option, codes};
+ghost use Rattle.std.specs.Prelude.{◌≡◌, ◌≢◌, ◌<◌, ◌≤◌, ◌-◌, ◌^◌, ◌++◌, IfOk, IfSome, IsSome, MatchOption, Bool, ℕ, Option, codes};
 ghost use Rattle.once_record.specs.declared.world.Ran.{Ran};
 ghost use Rattle.once_record.specs.declared.world.Call.{Call};
 ghost use Rattle.once_record.specs.declared.world.Kind.{Kind};
-ghost use Rattle.once_script.specs.Number.{number_of, limit_of};
+ghost use Rattle.once_script.specs.Number.{limit_of};
 ghost use Rattle.once_script.specs.Script.{lines_in, IsScript, IsFirstUnreadable};
 ghost use Rattle.once_script.specs.Text.{IsWith, IsOpening, IsOnce, IsLazy, IsPair, IsGiven, IsStep, IsLine};
 ghost use Rattle.once_record.specs.declared.world.Call.TheVariants.{Take, Write, Parts};

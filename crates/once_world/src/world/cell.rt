@@ -43,7 +43,7 @@ impl ReplayCell {
     ghost use Rattle.once_world.specs.Record.{Kind as RecordedKind, is_lazy, replaces, has_call as owner_has};
     ghost use Rattle.once_world.specs.Log.{take_lines};
     ghost use Rattle.once_world.specs.Can.{CanAdvance};
-    ghost use Rattle.once_core.specs.Core.{HasRoom, state_of};
+    ghost use Rattle.once_core.specs.Core.{HasRoom};
     ghost use Rattle.once_core.specs.Steps.{in_call};
     ghost use Rattle.once_world.specs.Machine.{first_world, look_value, step_lines, reset_shared, owner_shared, owner_got, owner_lines, advance as outcome};
     ghost use Rattle.once_world.specs.Shown.{kind_of, call_of, got_of, shared_of, log_in, step_entries};

@@ -1,5 +1,5 @@
 //! A replay under way, one input at a time.
-ghost use Rattle.std.specs.Prelude.{◌≡◌, ◌<◌, ◌≤◌, ◌+◌, ◌-◌, ◌^◌, ◌++◌, ◌∷◌, ◌==◌, ℕ, Bool, List, true, false, [], Some, None, OnOk, IfOk, length, replicate, reverse};
+ghost use Rattle.std.specs.Prelude.{◌≡◌, ◌<◌, ◌≤◌, ◌+◌, ◌-◌, ◌^◌, ◌++◌, ◌∷◌, ◌==◌, ℕ, List, true, [], Some, None, OnOk, IfOk, length, replicate};
 ghost use Rattle.std.specs.Option.{option_copied, option_map};
 ghost use Rattle.once_world.specs.Machine.{unfinished_after, error_in as error_of, release_entry as release_of, end_entry as end_of};
 ghost use Rattle.once_world.specs.Shown.{call_of, entry_of, history_in, claim_entries, ran_entries, out_entries, wakers_in, step_entries};
@@ -36,7 +36,7 @@ pub struct World {
 
 impl World {
     ghost use Rattle.once_world.specs.Record.{Kind as RecordedKind, is_lazy, has_call as owner_has};
-    ghost use Rattle.once_world.specs.Machine.{first_world, world_after, word_of, make_world, poll_world, drop_world, go_world, own_world_by, IsIdle};
+    ghost use Rattle.once_world.specs.Machine.{world_after, word_of, make_world, poll_world, drop_world, go_world, own_world_by, IsIdle};
     ghost use Rattle.once_world.specs.Can.{MayTake, TaskCan};
     ghost use Rattle.once_world.specs.Run.{IsRun};
     ghost use Rattle.once_world.specs.Shown.{kind_of, call_of, input_of, shared_of, world_in, record_entries, record_lines};
@@ -78,6 +78,8 @@ impl World {
 
     /// Takes so many `Go` inputs of a task, with this answer, and with memory or not. Where no call of the
     /// task is under way any more it passes the rest over at once.
+    ///
+    /// `AllocError` says what it says of [`take`](Self::take).
     pub fn run(
         &mut self,
         task: u64,
