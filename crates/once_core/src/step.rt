@@ -5,10 +5,13 @@ ghost use Rattle.once_queue.specs.declared.waiters.Answer.{Answer};
 ghost use Rattle.once_queue.specs.declared.waiters.Op.{Op};
 ghost use Rattle.once_core.specs.declared.step.Polled.{Polled};
 
+mod handed;
 mod place;
+mod waits;
 
-use crate::parts::{Counted, Parts};
-use once_queue::waiters::{Answer, Op, Out};
+use crate::parts::Parts;
+use handed::wake;
+use once_queue::waiters::{Op, Out};
 use once_queue::word::{NEW, READY_BIT};
 pub use place::{Place, Rest};
 use std::mem;
@@ -104,10 +107,8 @@ pub enum Step<W, Q> {
 }
 
 impl<W: Drop, Q: Drop> Step<W, Q> {
-    ghost use Rattle.once_core.specs.declared.parts.Counted.{Counted};
     ghost use Rattle.once_queue.specs.Word.{flags_of, is_zero, is_ready_bit};
-    ghost use Rattle.once_queue.specs.Ops.{ticket_in};
-    ghost use Rattle.once_core.specs.Steps.{left_of, is_resting, in_call, is_running, is_leaving, is_freeing, is_adding, is_value, step_of_poll, step_of_drop, release_place, Asks, Advances, LeadsTo, Follows, AfterLook, after_start, after_quick, after_door_get, after_door_put, after_count_in, after_load, after_copy, after_list, after_run, after_fast, after_door_again, after_count_out};
+    ghost use Rattle.once_core.specs.Steps.{left_of, is_resting, in_call, is_running, is_leaving, is_freeing, is_adding, is_value, step_of_poll, step_of_drop, release_place, next_at, Asks, Advances, LeadsTo, Follows, after_start, after_quick, after_door_get, after_door_put, after_run, after_fast, after_door_again, after_count_out};
 
     /// A task that was not polled yet.
     #[inline(always)]
@@ -243,41 +244,48 @@ impl<W: Drop, Q: Drop> Step<W, Q> {
             limit self.old parts.old side.old result self.new parts.new side.new }
         ensures stays { S.stays side.old side.new }
     {
-        let Step::UnderWay(place) = mem::replace(self, Step::Finished) else {
-            unreachable!()
-        };
-        match place {
-            Place::Start => self.start(parts, side),
-            Place::TryQuick => self.try_quick(parts),
-            Place::DoorGet => self.door_get(parts),
-            Place::DoorPut => self.door_put(parts, side),
-            Place::CountIn(queue) => self.count_in(queue, parts, side, limit),
-            Place::WaitLoad(queue, ticket) => self.wait_load(queue, ticket, parts, side),
-            Place::Look(queue, ticket) => self.look(queue, ticket, parts, side),
-            Place::List(queue, ticket, waker) => self.list(queue, ticket, waker, parts, side),
-            Place::Run(by) => self.run(by, side),
-            Place::Put(by) => {
-                side.put();
-                self.on(Place::giving_back(by, Ending::Value))
-            }
-            Place::Fast(ending) => self.fast(ending, parts),
-            Place::AddOne(ending) => {
+        // A place that keeps a queue is taken out first. Any other is only looked at.
+        match *self {
+            Step::UnderWay(Place::Start) => self.start(parts, side),
+            Step::UnderWay(Place::TryQuick) => self.try_quick(parts),
+            Step::UnderWay(Place::DoorGet) => self.door_get(parts),
+            Step::UnderWay(Place::DoorPut) => self.door_put(parts, side),
+            Step::UnderWay(Place::Fast(ending)) => self.fast(ending, parts),
+            Step::UnderWay(Place::AddOne(ending)) => {
                 parts.add_one();
                 self.on(Place::DoorAgain(ending))
             }
-            Place::DoorAgain(ending) => self.door_again(ending, parts),
-            Place::Release(queue, ending) => self.release(queue, ending, parts, side),
-            Place::Leave(queue, ticket, ending) => self.leave(queue, ticket, ending, parts, side),
-            Place::CountOut(ending) => self.count_out(ending, parts),
-            Place::DoorTake(ending) => {
+            Step::UnderWay(Place::DoorAgain(ending)) => self.door_again(ending, parts),
+            Step::UnderWay(Place::CountOut(ending)) => self.count_out(ending, parts),
+            Step::UnderWay(Place::DoorTake(ending)) => {
                 parts.door_take();
                 self.end(ending)
+            }
+            _ => {
+                let Step::UnderWay(place) = mem::replace(self, Step::Finished) else {
+                    unreachable!()
+                };
+                match place {
+                    Place::CountIn(queue) => self.count_in(queue, parts, side, limit),
+                    Place::WaitLoad(queue, ticket) => self.wait_load(queue, ticket, parts, side),
+                    Place::Look(queue, ticket) => self.look(queue, ticket, parts, side),
+                    Place::List(queue, ticket, waker) => self.list(
+                        queue, ticket, waker, parts, side,
+                    ),
+                    Place::Run(by) => self.run(by, side),
+                    Place::Put(by) => self.put(by, side),
+                    Place::Release(queue, ending) => self.release(queue, ending, parts, side),
+                    Place::Leave(queue, ticket, ending) => self.leave(
+                        queue, ticket, ending, parts, side,
+                    ),
+                    _ => unreachable!(),
+                }
             }
         }
     }
 
-    // Puts a step where the one before was taken out. `Finished` stands there, so there is nothing to
-    // drop. Without `forget` each assignment would first test which variant it replaces.
+    // Puts a step in place of one that has nothing to drop: `Finished`, where the place was taken out, or
+    // one that keeps no queue. Without `forget` each assignment would first test which variant it replaces.
     #[inline(always)]
     fn set(&mut self, step: Step<W, Q>)
         ensures { self.new ≡ step }
@@ -370,122 +378,6 @@ impl<W: Drop, Q: Drop> Step<W, Q> {
         }
     }
 
-    fn count_in<P: Parts<W, Queue = Q>, S: Side<W>>(
-        &mut self,
-        queue: Q,
-        parts: &mut P,
-        side: &mut S,
-        limit: u64,
-    ) -> Progress
-        requires { limit ≤ 2 ^ 62 - 2 }
-        ensures line { (c : Counted) × P.did_count_in parts.old limit c parts.new
-            × Follows S.did_close (after_count_in c queue) side.old side.new result self.new }
-        ensures stays { S.stays side.old side.new }
-    {
-        match parts.count_in(limit) {
-            Counted::In(word) if word >= READY_BIT => {
-                side.close();
-                self.on(Place::CountOut(Ending::Value))
-            }
-            Counted::In(_) => self.on(Place::WaitLoad(queue, None)),
-            Counted::Full => {
-                side.close();
-                self.end(Ending::Full)
-            }
-            Counted::SeenReady => {
-                side.close();
-                self.end(Ending::Value)
-            }
-        }
-    }
-
-    fn wait_load<P: Parts<W, Queue = Q>, S: Side<W>>(
-        &mut self,
-        queue: Q,
-        ticket: Option<u64>,
-        parts: &mut P,
-        side: &mut S,
-    ) -> Progress
-        ensures line { (w : ℕ) × P.did_load parts.old w parts.new
-            × Follows S.did_close (after_load (flags_of w).ready queue ticket) side.old side.new result self.new }
-        ensures stays { S.stays side.old side.new }
-    {
-        if parts.load() >= READY_BIT {
-            side.close();
-            return self.on(Place::CountOut(Ending::Value));
-        }
-        self.on(Place::Look(queue, ticket))
-    }
-
-    fn look<P: Parts<W, Queue = Q>, S: Side<W>>(
-        &mut self,
-        queue: Q,
-        ticket: Option<u64>,
-        parts: &mut P,
-        side: &mut S,
-    ) -> Progress
-        requires log { P.can_log parts.old }
-        requires can { P.can_section parts.old queue (Op.Look ticket) }
-        ensures line { (a : Answer W) × (o : Op W) × P.did_section parts.old queue (Op.Look ticket) a o parts.new
-            × AfterLook S.did_close S.did_copy a queue (ticket_in o) side.old side.new result self.new }
-        ensures stays { S.stays side.old side.new }
-    {
-        let mut op = Op::Look(ticket);
-        match parts.section(&queue, &mut op) {
-            Answer::Ready => {
-                side.close();
-                self.on(Place::CountOut(Ending::Value))
-            }
-            Answer::Claimed => self.on(Place::Run(Some(queue))),
-            Answer::Listed => self.rest(Rest::Wait(queue, op.ticket())),
-            _ => self.copy(queue, op.ticket(), side),
-        }
-    }
-
-    // Copies the waker, while another task holds.
-    fn copy<S: Side<W>>(&mut self, queue: Q, ticket: Option<u64>, side: &mut S) -> Progress
-        ensures line { (c : Option W) × (m : S) × S.did_copy side.old c m
-            × Follows S.did_close (after_copy c queue ticket) m side.new result self.new }
-        ensures stays { S.stays side.old side.new }
-    {
-        match side.copy() {
-            Some(waker) => self.on(Place::List(queue, ticket, waker)),
-            None => {
-                side.close();
-                self.on(Place::leaving(queue, ticket, Ending::Memory))
-            }
-        }
-    }
-
-    fn list<P: Parts<W, Queue = Q>, S: Side<W>>(
-        &mut self,
-        queue: Q,
-        ticket: Option<u64>,
-        waker: W,
-        parts: &mut P,
-        side: &mut S,
-    ) -> Progress
-        requires log { P.can_log parts.old }
-        requires can { P.can_section parts.old queue (Op.List ticket (Some waker)) }
-        ensures line { (a : Answer W) × (o : Op W) × P.did_section parts.old queue (Op.List ticket (Some waker)) a o parts.new
-            × Follows S.did_close (after_list a queue (ticket_in o)) side.old side.new result self.new }
-        ensures stays { S.stays side.old side.new }
-    {
-        let mut op = Op::List(ticket, Some(waker));
-        match parts.section(&queue, &mut op) {
-            Answer::Ready => {
-                side.close();
-                self.on(Place::CountOut(Ending::Value))
-            }
-            Answer::Claimed => self.on(Place::Run(Some(queue))),
-            Answer::Memory => {
-                side.close();
-                self.on(Place::leaving(queue, op.ticket(), Ending::Memory))
-            }
-            _ => self.rest(Rest::Wait(queue, op.ticket())),
-        }
-    }
-
     #[inline(always)]
     fn run<S: Side<W>>(&mut self, by: Option<Q>, side: &mut S) -> Progress
         ensures line { (a : Polled) × (m : S) × S.did_run side.old a m
@@ -503,6 +395,15 @@ impl<W: Drop, Q: Drop> Step<W, Q> {
                 self.on(Place::giving_back(by, Ending::Error))
             }
         }
+    }
+
+    #[inline(always)]
+    fn put<S: Side<W>>(&mut self, by: Option<Q>, side: &mut S) -> Progress
+        ensures line { S.did_put side.old side.new × LeadsTo (next_at (release_place by Ending.Value)) result self.new }
+        ensures stays { S.stays side.old side.new }
+    {
+        side.put();
+        self.on(Place::giving_back(by, Ending::Value))
     }
 
     #[inline(always)]
@@ -550,27 +451,6 @@ impl<W: Drop, Q: Drop> Step<W, Q> {
         self.on(Place::CountOut(ending))
     }
 
-    fn leave<P: Parts<W, Queue = Q>, S: Side<W>>(
-        &mut self,
-        queue: Q,
-        ticket: u64,
-        ending: Ending,
-        parts: &mut P,
-        side: &mut S,
-    ) -> Progress
-        requires log { P.can_log parts.old }
-        requires can { P.can_section parts.old queue (Op.Leave ticket) }
-        ensures section { (a : Answer W) × (o : Op W) × P.did_section parts.old queue (Op.Leave ticket) a o parts.new
-            × Wakes S.did_wake (out_of a) side.old side.new }
-        ensures more { result ≡ Progress.More }
-        ensures step { self.new ≡ Step.UnderWay (Place.CountOut ending) }
-        ensures stays { S.stays side.old side.new }
-    {
-        let answer = parts.section(&queue, &mut Op::Leave(ticket));
-        wake(answer, side);
-        self.on(Place::CountOut(ending))
-    }
-
     fn count_out<P: Parts<W, Queue = Q>>(&mut self, ending: Ending, parts: &mut P) -> Progress
         requires { P.can_count_out parts.old }
         ensures line { (w : ℕ) × P.did_count_out parts.old w parts.new
@@ -580,17 +460,5 @@ impl<W: Drop, Q: Drop> Step<W, Q> {
             return self.on(Place::DoorTake(ending));
         }
         self.end(ending)
-    }
-}
-
-// Calls whom a section handed out. An answer of another kind hands nothing out.
-fn wake<W: Drop, S: Side<W>>(answer: Answer<W>, side: &mut S)
-    ensures wakes { Wakes S.did_wake (out_of answer) side.old side.new }
-    ensures stays { S.stays side.old side.new }
-{
-    match answer {
-        Answer::Released(out) => side.wake(out),
-        Answer::Left(waker) => side.wake(Out::One(waker)),
-        _ => {}
     }
 }
