@@ -25,12 +25,12 @@ where
     R: Wait + RandomSource + AllocGlobal + Threads + Sync,
 {
     let sum = match operation {
-        Operation::TwoLook => Ok(looks_of_two(rt, &OnceCell::new_with(1), count)),
-        Operation::FourLook => Ok(looks_of_four(rt, &OnceCell::new_with(1), count)),
+        Operation::TwoLook => Ok(looks_of_two(rt, &filled(rt, cx), count)),
+        Operation::FourLook => Ok(looks_of_four(rt, &filled(rt, cx), count)),
         Operation::TwoFill => return fills_of_two(rt, &cells(rt, count)?),
         Operation::FourFill => return fills_of_four(rt, &cells(rt, count)?),
         Operation::LostWake => return lost(rt, count),
-        Operation::Get => Ok(get(&OnceCell::new_with(1), count)),
+        Operation::Get => Ok(get(&filled(rt, cx), count)),
         Operation::Init => Ok(init(rt, count, cx)),
         Operation::Listed => listed(rt, count, cx),
         Operation::OneWaits => waiters(rt, 1, count, cx),
@@ -47,9 +47,16 @@ where
         Operation::HundredTurns => turns(rt, 100, count, cx),
         Operation::TenThousandTurns => turns(rt, 10_000, count, cx),
         Operation::LazyFirst => Ok(lazy_first(rt, count, cx)),
-        Operation::LazyLater => Ok(lazy_later(rt, &Lazy::with_value(1), count, cx)),
+        Operation::LazyLater => Ok(lazy_later(rt, &filled_lazy(rt, cx), count, cx)),
     };
     Ok(sum?)
+}
+
+// A cell whose value an init gave.
+fn filled<R: Wait + AllocGlobal>(rt: &R, cx: &mut Context<'_>) -> OnceCell<u64> {
+    let cell = OnceCell::new();
+    one_init(rt, &cell, cx);
+    cell
 }
 
 /// Looks at a set cell so many times.
@@ -203,6 +210,13 @@ fn lazy_later<R: Wait + AllocGlobal>(
         sum = sum.wrapping_add(one_lazy(rt, lazy, cx));
     }
     sum
+}
+
+// A lazy cell whose future gave its value.
+fn filled_lazy<R: Wait + AllocGlobal>(rt: &R, cx: &mut Context<'_>) -> Lazy<u64, Ready<u64>> {
+    let lazy = Lazy::new(ready(1));
+    one_lazy(rt, &lazy, cx);
+    lazy
 }
 
 fn one_lazy<R: Wait + AllocGlobal>(

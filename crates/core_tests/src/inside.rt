@@ -149,7 +149,7 @@ impl<R: Wait + AllocGlobal> Side<Seat> for Meddling<'_, '_, R> {
     fn close(&mut self) {}
 
     fn put(&mut self) {
-        set(self.cell, self.rt, 4);
+        set(self.cell, 4);
     }
 
     fn copy(&mut self) -> Option<Seat> {
@@ -405,7 +405,7 @@ impl<R: Wait + AllocGlobal> Side<Seat> for Nested<'_, '_, R> {
 
     fn put(&mut self) {
         let lazy = self.lazy;
-        set(cell_of(lazy), self.rt, 6);
+        set(cell_of(lazy), 6);
     }
 
     fn copy(&mut self) -> Option<Seat> {

@@ -7,6 +7,8 @@ use async_once_cell::inner::{
 };
 use async_once_cell::queue::WakerId;
 use async_once_cell::step::{Polled, Side, Step};
+use futures::future::ready;
+use futures::test::MockTask;
 use once_cells::inside::new_seat;
 use once_shared::seat::Seat;
 use std::alloc::{AllocError, AllocGlobal};
@@ -384,12 +386,14 @@ fn show<R: Wait + AllocGlobal>(rt: &R, cell: &OnceCell<u64>, stop: &AtomicU64) {
 
 /// A set cell lends its value while another thread shows it.
 #[test]
-fn two_threads_look_at_a_set_cell(rt: HostRuntime) {
-    let (cell, stop) = (OnceCell::new_with(5), AtomicU64::new(0));
+fn two_threads_look_at_a_set_cell(rt: HostRuntime) -> Result<(), Fail> {
+    let (task, cell, stop) = (MockTask::new(&rt)?, OnceCell::new(), AtomicU64::new(0));
+    let filled = task.poll(&mut cell.get_or_init(&rt, ready(5))).is_ready();
     let (is_set, ()) = thread::join(
         &rt,
         || is_always_set(&cell, &stop),
         || show(&rt, &cell, &stop),
     );
-    assert!(rt; is_set);
+    assert!(rt; filled && is_set);
+    Ok(())
 }

@@ -1,7 +1,7 @@
 //! A table with one fetch a key.
 ghost use Rattle.std.specs.Prelude.{◌≡◌, ◌↔◌, ℕ, List, IsSome, IsNone, IfSome, IfOk, Contains};
 ghost use Rattle.std.specs.Option.{ForSome, option_copied, option_map};
-ghost use Rattle.async_once_cell.specs.Tokens.{Learns};
+ghost use Rattle.async_once_cell.specs.Tokens.{CellView, Learns};
 ghost use Rattle.memo.specs.Memo.{cell_of};
 
 use async_once_cell::OnceCell;
@@ -27,9 +27,9 @@ pub struct Memo<T> {
     cells: BTreeMap<u64, OnceCell<T>>,
 }
 
-/// A clause sees a table as its keys, each with the number of its cell.
+/// A clause sees a table as its keys, each with its cell.
 impl<T> Model for Memo<T> {
-    ghost Value = { List (ℕ × ℕ) };
+    ghost Value = { List (ℕ × CellView T) };
 
     ghost view = { λ memo. memo.cells.entries };
 }

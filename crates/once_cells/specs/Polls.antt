@@ -13,7 +13,7 @@ is_ready (Ready x) = true
 is_ready Pending = false
 
 -- from one moment of a future and of a context to a later one: the cell is the same, the future is finished exactly where the poll answered, a poll that did not answer has registered its task somewhere or asked for another poll, and what the context had it keeps
-pub record DidPoll {A : Type 0} (old new : Call) (before after : Context) (result : Poll A) : Type 0 where
+pub record DidPoll {T A : Type 0} (old new : Call T) (before after : Context) (result : Poll A) : Type 0 where
   pub cell : new.cell ≡ old.cell
   pub finished : new.finished ≡ is_ready result
   pub armed : OnPending result (IsArmed after)

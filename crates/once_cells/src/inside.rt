@@ -5,7 +5,6 @@ use futures::Future;
 use once_shared::seat::Seat;
 use once_shared::shared::Shared;
 use std::alloc::AllocGlobal;
-use std::sync::Wait;
 
 /// The parts of the cell, as one call with this seat uses them.
 pub fn parts<'a, 'r, T, R>(
@@ -22,8 +21,8 @@ pub fn new_seat<T, R: AllocGlobal>(cell: &OnceCell<T>, rt: &R) -> Option<Seat> {
 }
 
 /// Sets the value as the step of a holder does.
-pub fn set<T: Drop, R: Wait>(cell: &OnceCell<T>, rt: &R, value: T) {
-    cell.set(rt, value);
+pub fn set<T: Drop>(cell: &OnceCell<T>, value: T) {
+    cell.set(value);
 }
 
 /// The cell with the value of a lazy cell.

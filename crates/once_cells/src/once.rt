@@ -1,11 +1,13 @@
 //! A cell that is filled once, by the init of one of the calls that ask for its value.
-ghost use Rattle.std.specs.Prelude.{◌≡◌, ℕ, None, false};
-ghost use Rattle.once_cells.specs.Tokens.{Learns};
+ghost use Rattle.std.specs.Prelude.{◌≡◌, None, false};
+ghost use Rattle.once_cells.specs.Tokens.{CellView, Owned, Gives, Learns, Lends};
+ghost use Rattle.once_cells.specs.Views.{view_of};
 
 mod future;
 mod init;
 mod known;
 mod refused;
+mod value;
 
 pub use future::TryInitFuture;
 use futures::Future;
@@ -16,9 +18,10 @@ use once_shared::shared::{Inner, Shared};
 pub use refused::{InitError, Refused};
 use std::alloc::AllocGlobal;
 use std::marker::Model;
+use std::sync::Wait;
 use std::sync::atomic::{AtomicU64, Ordering};
-use std::sync::{OnceLock, Wait};
 use std::{fmt, mem};
+use value::Value;
 
 /// A cell that is empty or has one value, and is filled by a future.
 ///
@@ -33,6 +36,9 @@ use std::{fmt, mem};
 /// let second = block_on(rt, cell.get_or_init(rt, ready(5)))?; // Ok(&4): this init is not polled
 /// ```
 ///
+/// A cell that was made with a value lends that value and gives it back, which the contracts say. Of the
+/// value of any other cell they speak by tokens, see [`Known`].
+///
 /// Memory is taken only where tasks meet: for the queue of those who wait, and for the seat of each and
 /// its place in the queue.
 ///
@@ -44,14 +50,15 @@ pub struct OnceCell<T> {
     inner: Inner<Seat>,
     // How many seats were made.
     seats: AtomicU64,
-    value: OnceLock<T>,
+    value: Value<T>,
 }
 
-/// A clause sees a cell as the number that tells it from all others.
+/// A clause sees a cell as the value that its owner put there, or else as a number that tells it from
+/// all others.
 impl<T> Model for OnceCell<T> {
-    ghost Value = { ℕ };
+    ghost Value = { CellView T };
 
-    ghost view = { λ c. c.value.id };
+    ghost view = { λ c. view_of c.value };
 }
 
 impl<T> OnceCell<T> {
@@ -61,7 +68,7 @@ impl<T> OnceCell<T> {
         OnceCell {
             inner: Inner::new(false),
             seats: AtomicU64::new(0),
-            value: OnceLock::new(),
+            value: Value::new(),
         }
     }
 
@@ -69,22 +76,25 @@ impl<T> OnceCell<T> {
     pub fn new_with(value: T) -> Self
     where
         T: Drop,
+        ensures { result ≡ Owned value }
     {
         OnceCell {
             inner: Inner::new(true),
             seats: AtomicU64::new(0),
-            value: OnceLock::from(value),
+            value: Value::Owned(value),
         }
     }
 
     /// The value, where it is set; None where the cell is empty or being filled. It waits for
     /// nobody.
     #[inline(always)]
-    pub fn get(&self) -> Option<&T> {
-        if self.inner.is_ready() {
-            self.value.get()
-        } else {
-            None
+    pub fn get(&self) -> Option<&T>
+        ensures { Lends self.now result }
+    {
+        match &self.value {
+            Value::Owned(value) => Some(value),
+            Value::Once(slot) if self.inner.is_ready() => slot.get(),
+            Value::Once(_) => None,
         }
     }
 
@@ -95,13 +105,17 @@ impl<T> OnceCell<T> {
 
     /// The value, where it was set. The cell is empty after, as a new one: a queue that futures left
     /// there goes as well. It waits for nobody.
-    pub fn take(&mut self) -> Option<T> {
+    pub fn take(&mut self) -> Option<T>
+        ensures { Gives self.old result }
+    {
         mem::replace(self, OnceCell::new()).into_inner()
     }
 
     /// The value, where it was set. All else of the cell goes with it, also a queue that futures left
     /// there. It waits for nobody.
-    pub fn into_inner(self) -> Option<T> {
+    pub fn into_inner(self) -> Option<T>
+        ensures { Gives self result }
+    {
         let OnceCell {
             inner: _,
             seats: _,
@@ -186,11 +200,11 @@ impl<T> OnceCell<T> {
 
     // A value that is there already stays, and this one is dropped.
     #[inline(always)]
-    pub(crate) fn set<R: Wait>(&self, rt: &R, value: T)
+    pub(crate) fn set(&self, value: T)
     where
         T: Drop,
     {
-        let _ = self.value.set(rt, value);
+        self.value.set(value);
     }
 
     // The value that the end of a call found set.
@@ -207,6 +221,8 @@ impl<T> Default for OnceCell<T> {
 }
 
 impl<T: Drop> From<T> for OnceCell<T> {
+    ghost from_gives = { λ value cell. cell ≡ Owned value };
+
     fn from(value: T) -> Self {
         OnceCell::new_with(value)
     }

@@ -1,10 +1,14 @@
 //! The calls of whoever has the cell alone.
 
 use async_once_cell::OnceCell;
+use async_once_cell::world::Reply;
+use cell_doubles::poll::polled;
 use cell_doubles::stub::Stub;
 use cell_doubles::text::shows;
 use futures::test::MockTask;
+use std::alloc::AllocGlobal;
 use std::mem::forget;
+use std::sync::Wait;
 use std::test::Fail;
 
 const EMPTY: &str =
@@ -78,5 +82,34 @@ fn written_beside_a_queue(rt: HostRuntime) -> Result<(), Fail> {
         (held && waited && filled, has_queue, lent),
         (true, true, Some(4))
     );
+    Ok(())
+}
+
+// What a poll answers of a cell, and what a token learns then.
+fn told<R: Wait + AllocGlobal>(
+    rt: &R,
+    task: &MockTask,
+    cell: &OnceCell<u64>,
+    stub: &Stub<u64>,
+) -> (Reply, Option<u64>) {
+    let mut token = cell.token();
+    let reply = polled(task, &mut cell.get_or_init(rt, stub.init()));
+    (reply, cell.get_as(&mut token).copied())
+}
+
+/// A value that an init gave may be written too. Then polls and tokens are told the written one, and no
+/// other init is polled.
+#[test]
+fn written_after_a_fill(rt: HostRuntime) -> Result<(), Fail> {
+    let (task, stub, mut cell) = (MockTask::new(&rt)?, Stub::giving(4), OnceCell::new());
+    let filled = told(&rt, &task, &cell, &stub);
+    let lent = changed(&mut cell);
+    let written = told(&rt, &task, &cell, &stub);
+    assert_eq!(rt;
+        [filled, written],
+        [(Reply::Value(4), Some(4)), (Reply::Value(6), Some(6))]
+    );
+    assert_eq!(rt; (lent, stub.counts()), (Some(4), (1, 2)));
+    assert_eq!(rt; left(cell), [Some(6), Some(6), Some(6), None]);
     Ok(())
 }

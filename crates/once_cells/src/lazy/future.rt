@@ -32,7 +32,7 @@ pub struct LazyFuturePin<'a, T, F: Future, R: Wait + AllocGlobal> {
 pub type LazyFutureUnpin<'a, T, F, R> = LazyFuturePin<'a, T, F, R>;
 
 impl<'a, T, F: Future, R: Wait + AllocGlobal> Model for LazyFuturePin<'a, T, F, R> {
-    ghost Value = { Call };
+    ghost Value = { Call T };
 
     ghost view = { λ f. f.future };
 }

@@ -32,9 +32,9 @@ use std::sync::Wait;
 /// give the right back, or leave those who wait.
 ///
 /// A poll or a drop may wait for the locks of the door, of the queue and of the seats of those who wait.
-/// A poll that fills the cell may wait for the lock of the value. A task has each of the first three
-/// locks for a few operations, that of the queue now and then for a look at each listing. It has none of
-/// them while an init is polled or dropped, a value is dropped, or those who were listed are called.
+/// A task has each of them for a few operations, that of the queue now and then for a look at each
+/// listing. It has none of them while an init is polled or dropped, a value is set or dropped, or those
+/// who were listed are called.
 /// There is one exception: where a future moved to another task, the task before is woken under the lock
 /// of the future's seat. A poll that counts itself in tries again while others change the word.
 pub struct TryInitFuture<'a, T, E, F: Future, R: Wait + AllocGlobal> {
@@ -50,7 +50,7 @@ pub struct TryInitFuture<'a, T, E, F: Future, R: Wait + AllocGlobal> {
 }
 
 impl<'a, T, E, F: Future, R: Wait + AllocGlobal> Model for TryInitFuture<'a, T, E, F, R> {
-    ghost Value = { Call };
+    ghost Value = { Call T };
 
     ghost view = { λ f. record { cell = f.cell.now; finished = is_done f.step } };
 
@@ -242,7 +242,9 @@ where
 /// The init is dropped first. Then the task gives the right back, or leaves those who wait.
 impl<T, E, F: Future, R: Wait + AllocGlobal> Drop for TryInitFuture<'_, T, E, F, R> {
     fn drop(mut self) {
-        self.leave();
+        if !self.is_finished() {
+            self.leave();
+        }
         let TryInitFuture {
             error: _,
             cell: _,
@@ -329,7 +331,7 @@ where
     #[inline(always)]
     fn put(&mut self) {
         if let Some(value) = self.value.take() {
-            self.cell.set(self.rt, value);
+            self.cell.set(value);
         }
     }
 

@@ -21,7 +21,7 @@ pub struct InitFuture<'a, T, F: Future, R: Wait + AllocGlobal> {
 }
 
 impl<'a, T, F: Future, R: Wait + AllocGlobal> Model for InitFuture<'a, T, F, R> {
-    ghost Value = { Call };
+    ghost Value = { Call T };
 
     ghost view = { λ f. f.future };
 }

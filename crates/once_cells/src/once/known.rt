@@ -1,11 +1,23 @@
 //! Tokens: what their holder has learned of one cell.
-ghost use Rattle.std.specs.Prelude.{◌≡◌, ◌↔◌, IsTrue, IsSome, IfSome, None};
-ghost use Rattle.once_cells.specs.Tokens.{Knows, Learns, value_of};
+ghost use Rattle.std.specs.Prelude.{◌≡◌, ◌↔◌, IsTrue, IsSome, None};
+ghost use Rattle.once_cells.specs.Tokens.{Knows, Learns};
+ghost use Rattle.once_cells.specs.Views.{known_of, IsOf};
 
 use super::OnceCell;
+use super::value::Value;
+use boxcar::slot::Written;
 use std::fmt;
 use std::marker::Model;
-use std::sync::OnceToken;
+
+// What a token saw of its cell.
+#[derive(Drop)]
+enum Seen<T> {
+    Nothing,
+    // The value that the owner put there.
+    InCell,
+    // The value that is set in the slot.
+    InSlot(Written<T>),
+}
 
 /// What its holder has learned of one cell: nothing, or the cell's value.
 ///
@@ -16,15 +28,15 @@ use std::sync::OnceToken;
 #[derive(Drop)]
 pub struct Known<'a, T> {
     cell: &'a OnceCell<T>,
-    token: Option<OnceToken<'a, T>>,
+    seen: Seen<T>,
 }
 
 impl<'a, T> Model for Known<'a, T> {
     ghost Value = { Knows T };
 
-    ghost view = { λ k. record { cell = k.cell.now; value = value_of k.token } };
+    ghost view = { λ k. record { cell = k.cell.now; value = known_of k.cell.now k.seen } };
 
-    ghost invariant = { λ k. IfSome k.token (λ t. t.of ≡ k.cell.now) };
+    ghost invariant = { λ k. IsOf k.cell.now k.seen };
 }
 
 impl<'a, T> Known<'a, T> {
@@ -32,7 +44,10 @@ impl<'a, T> Known<'a, T> {
         ensures cell { result.cell ≡ cell.now }
         ensures knows { result.value ≡ None }
     {
-        Known { cell, token: None }
+        Known {
+            cell,
+            seen: Seen::Nothing,
+        }
     }
 
     /// Whether both tokens know a value. Then the two values are one. The tokens are of one cell. It
@@ -42,36 +57,52 @@ impl<'a, T> Known<'a, T> {
         ensures both { IsTrue result ↔ (IsSome a.now.value × IsSome b.now.value) }
         ensures one { IsTrue result → a.now.value ≡ b.now.value }
     {
-        if let Some(x) = &a.token
-            && let Some(y) = &b.token
-        {
-            x.agrees(y);
-            return true;
+        match (&a.seen, &b.seen) {
+            (Seen::Nothing, _) | (_, Seen::Nothing) => false,
+            (Seen::InSlot(x), Seen::InSlot(y)) => {
+                x.agrees(y);
+                true
+            }
+            _ => true,
         }
-        false
     }
 
     pub(super) fn is_knowing(&self) -> bool
         ensures { IsTrue result ↔ IsSome self.now.value }
     {
-        self.token.is_some()
+        !matches!(self.seen, Seen::Nothing)
     }
 
-    // The value of the cell, where the token knows it or the word shows it.
+    fn known(&self) -> Option<&T> {
+        if self.is_knowing() {
+            let cell = self.cell;
+            return cell.value.get();
+        }
+        None
+    }
+
+    // The value of the cell, where the token knows it or the cell shows it.
     pub(super) fn learn(&mut self, cell: &'a OnceCell<T>) -> Option<&'a T>
         requires { self.old.cell ≡ cell.now }
         ensures cell { self.new.cell ≡ self.old.cell }
         ensures value { Learns self.old.value self.new.value result }
     {
-        if let Some(known) = &self.token {
-            return Some(cell.value.value(known));
+        let slot = match &cell.value {
+            Value::Owned(value) => {
+                self.seen = Seen::InCell;
+                return Some(value);
+            }
+            Value::Once(slot) => slot,
+        };
+        if let Seen::InSlot(written) = &self.seen {
+            return Some(slot.value(written));
         }
         if !cell.inner.is_ready() {
             return None;
         }
-        let seen = cell.value.witness()?;
-        let value = cell.value.value(&seen);
-        self.token = Some(seen);
+        let written = slot.witness()?;
+        let value = slot.value(&written);
+        self.seen = Seen::InSlot(written);
         Some(value)
     }
 }
@@ -79,11 +110,9 @@ impl<'a, T> Known<'a, T> {
 /// `Known(Some(V))` where the token knows the value, and `Known(None)` where it knows nothing.
 impl<T: fmt::Debug> fmt::Debug for Known<'_, T> {
     fn fmt<W: fmt::Write>(&self, f: &mut fmt::Formatter<W>) -> fmt::Result {
-        let Some(token) = &self.token else {
+        let Some(value) = self.known() else {
             return f.write_str("Known(None)");
         };
-        let cell = self.cell;
-        let value = cell.value.value(token);
         write!(f, "Known(Some({value:?}))")
     }
 }

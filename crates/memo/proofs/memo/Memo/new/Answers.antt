@@ -15,12 +15,12 @@ other_key : (key q : ℕ) → is_at (nat_cmp key) q ≡ false → key ≢ q
 other_key key q other same = let tied = unsigned_tied key q in let equal = eq-eqb key q same in cc
 
 -- what a table finds at q after it took a key, against the list with that key at its end
-has_one_more : (found : Option ℕ) (keys : List ℕ) (key cell q : ℕ) (b : Bool) → is_at (nat_cmp key) q ≡ b
+has_one_more : {C : Type 0} (found : Option C) (keys : List ℕ) (cell : C) (key q : ℕ) (b : Bool) → is_at (nat_cmp key) q ≡ b
     → IsSome found ↔ Contains keys q → IsSome (cond b (Some cell) found) ↔ Contains (keys ++ key ∷ []) q
-has_one_more found keys key cell q true is had =
+has_one_more found keys cell key q true is had =
     let same = eqb-true key q (sym (unsigned_tied key q) ∙ is) in
     (λ _. Contains-append_right keys (key ∷ []) q (0, omega arith, same), λ _. refl)
-has_one_more found keys key cell q false is had = (
+has_one_more found keys cell key q false is had = (
   λ some. Contains-append_left keys (key ∷ []) q (had.0 some),
   λ has. elim (Contains-append_cases keys (key ∷ []) q has) [
     | inl before ↦ had.1 before
