@@ -2,9 +2,10 @@
 
 use async_once_cell::OnceCell;
 use async_once_cell::world::Reply;
-use cell_doubles::poll::polled;
+use cell_doubles::poll::heard;
 use cell_doubles::stub::Stub;
 use cell_doubles::text::shows;
+use futures::task::Context;
 use futures::test::MockTask;
 use std::alloc::AllocGlobal;
 use std::mem::forget;
@@ -86,14 +87,14 @@ fn written_beside_a_queue(rt: HostRuntime) -> Result<(), Fail> {
 }
 
 // What a poll answers of a cell, and what a token learns then.
-fn told<R: Wait + AllocGlobal>(
-    rt: &R,
-    task: &MockTask,
-    cell: &OnceCell<u64>,
-    stub: &Stub<u64>,
+fn told<'a, R: Wait + AllocGlobal>(
+    rt: &'a R,
+    cx: &mut Context<'_>,
+    cell: &'a OnceCell<u64>,
+    stub: &'a Stub<u64>,
 ) -> (Reply, Option<u64>) {
     let mut token = cell.token();
-    let reply = polled(task, &mut cell.get_or_init(rt, stub.init()));
+    let reply = heard(cell.get_or_init(rt, stub.init()).poll(cx));
     (reply, cell.get_as(&mut token).copied())
 }
 
@@ -102,9 +103,9 @@ fn told<R: Wait + AllocGlobal>(
 #[test]
 fn written_after_a_fill(rt: HostRuntime) -> Result<(), Fail> {
     let (task, stub, mut cell) = (MockTask::new(&rt)?, Stub::giving(4), OnceCell::new());
-    let filled = told(&rt, &task, &cell, &stub);
+    let filled = task.enter(|cx| told(&rt, cx, &cell, &stub));
     let lent = changed(&mut cell);
-    let written = told(&rt, &task, &cell, &stub);
+    let written = task.enter(|cx| told(&rt, cx, &cell, &stub));
     assert_eq!(rt;
         [filled, written],
         [(Reply::Value(4), Some(4)), (Reply::Value(6), Some(6))]

@@ -28,6 +28,6 @@ has_one_more found keys cell key q false is had = (
   ],
 )
 
-pub loop-key-preserved-in_ok-insert-2 : goal.loop-key-preserved-in_ok-insert-2
-loop-key-preserved-in_ok-insert-2 g c = λ q.
+pub loop-key-preserved-in_ok-insert-3 : goal.loop-key-preserved-in_ok-insert-3
+loop-key-preserved-in_ok-insert-3 g c = λ q.
     rw (c.in_ok-insert.ensures.updates.0 q) (has_one_more _ _ _ _ q _ refl (c.loop-key.invariant q))
