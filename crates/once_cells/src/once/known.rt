@@ -1,6 +1,6 @@
 //! Tokens: what their holder has learned of one cell.
-ghost use Rattle.std.specs.Prelude.{◌≡◌, ◌↔◌, IsTrue, IsSome, None};
-ghost use Rattle.once_cells.specs.Tokens.{Knows, Learns};
+ghost use Rattle.std.specs.Prelude.{◌≡◌, ◌↔◌, IsTrue, IsSome, IsNone, IfSome, None, Some};
+ghost use Rattle.once_cells.specs.Tokens.{Agrees, Knows, Learns};
 ghost use Rattle.once_cells.specs.Views.{known_of, IsOf};
 
 use super::OnceCell;
@@ -8,6 +8,7 @@ use super::value::Value;
 use boxcar::slot::Written;
 use std::fmt;
 use std::marker::Model;
+use std::sync::OnceToken;
 
 // What a token saw of its cell.
 #[derive(Drop)]
@@ -29,6 +30,9 @@ enum Seen<T> {
 pub struct Known<'a, T> {
     cell: &'a OnceCell<T>,
     seen: Seen<T>,
+    // None always. It keeps `'a` at one lifetime, so that the borrow checker follows a token that is
+    // handed on; a `PhantomData` does not do so yet.
+    lifetime: Option<OnceToken<'a, T>>,
 }
 
 impl<'a, T> Model for Known<'a, T> {
@@ -47,6 +51,7 @@ impl<'a, T> Known<'a, T> {
         Known {
             cell,
             seen: Seen::Nothing,
+            lifetime: None,
         }
     }
 
@@ -87,23 +92,33 @@ impl<'a, T> Known<'a, T> {
         ensures cell { self.new.cell ≡ self.old.cell }
         ensures value { Learns self.old.value self.new.value result }
     {
-        let slot = match &cell.value {
-            Value::Owned(value) => {
-                self.seen = Seen::InCell;
-                return Some(value);
-            }
+        let (value, seen) = cell.look(&self.seen)?;
+        self.seen = seen;
+        Some(value)
+    }
+}
+
+impl<T> OnceCell<T> {
+    // The value, where this shows it or the cell does, and what shows it then.
+    fn look(&self, seen: &Seen<T>) -> Option<(&T, Seen<T>)>
+        requires { IsOf self.now seen.now }
+        ensures none { IsNone result → known_of self.now seen.now ≡ None }
+        ensures of { IfSome result (λ r. IsOf self.now r.1) }
+        ensures known { IfSome result (λ r. known_of self.now r.1 ≡ Some r.0.now) }
+        ensures agrees { IfSome result (λ r. Agrees (known_of self.now seen.now) r.0.now) }
+    {
+        let slot = match &self.value {
+            Value::Owned(value) => return Some((value, Seen::InCell)),
             Value::Once(slot) => slot,
         };
-        if let Seen::InSlot(written) = &self.seen {
-            return Some(slot.value(written));
+        if let Seen::InSlot(written) = seen {
+            return Some((slot.value(written), Seen::InSlot(written.again())));
         }
-        if !cell.inner.is_ready() {
+        if !self.inner.is_ready() {
             return None;
         }
         let written = slot.witness()?;
-        let value = slot.value(&written);
-        self.seen = Seen::InSlot(written);
-        Some(value)
+        Some((slot.value(&written), Seen::InSlot(written)))
     }
 }
 
