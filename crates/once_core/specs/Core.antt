@@ -1,5 +1,6 @@
 -- The parts of a cell as plain data, and what each of their calls asks, answers and leaves.
-use Rattle.std.specs.Prelude.{◌≡◌, ◌≢◌, ℕ, suc, ◌<◌, ◌≤◌, ◌-◌, ◌⊎◌, ◌||◌, Bool, true, false, cond, not, List, [], ◌∷◌, ◌++◌, Option, Some, None, vec_len, vec_capacity}
+use Rattle.std.specs.Prelude.{◌≡◌, ◌≢◌, ℕ, suc, ◌<◌, ◌≤◌, ◌-◌, ◌⊎◌, ◌||◌, Bool, true, false}
+use Rattle.std.specs.Prelude.{cond, not, List, [], ◌∷◌, ◌++◌, Option, Some, None, vec_len, vec_capacity}
 use Rattle.std.specs.Option.{is_some}
 use Rattle.once_core.specs.declared.plain.Core.{Core}
 use Rattle.once_queue.specs.declared.log.QueueLine.{QueueLine}

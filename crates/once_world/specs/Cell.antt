@@ -1,6 +1,8 @@
 -- The cell that a history leaves: empty, held by one task or set, and the answers that a lazy init has left.
 use Rattle.std.specs.Prelude.{◌≡◌, ℕ, Bool, true, false, List, [], ◌∷◌, Option, Some, None}
-use Rattle.once_world.specs.Record.{Answer, RanPending, RanValue, Kind, Once, OnceWith, Lazy, LazyWith, OwnerCall, Take, Write, Parts, ReplaceValue, ReplaceAnswers, Got, GotNone, GotValue, GotAnswers, Entry, Claim, Ran, Free, Fill, Own}
+use Rattle.once_world.specs.Record.{Answer, RanPending, RanValue, Kind, Once, OnceWith, Lazy, LazyWith}
+use Rattle.once_world.specs.Record.{OwnerCall, Take, Write, Parts, ReplaceValue, ReplaceAnswers, Got, GotNone}
+use Rattle.once_world.specs.Record.{GotValue, GotAnswers, Entry, Claim, Ran, Free, Fill, Own}
 
 -- what a cell is: empty, held by a task, or set to a value
 pub data Cell : Type 0 where

@@ -1,7 +1,8 @@
 -- Which record belongs to which inputs. The newest input, entry and part stand first.
 use Rattle.std.specs.Prelude.{◌≡◌, ◌≤◌, ℕ, Bool, true, false, cond, ◌==◌, not, List, [], ◌∷◌, ◌++◌, length}
 use Rattle.once_queue.specs.declared.log.QueueLine.{QueueLine}
-use Rattle.once_world.specs.Record.{Answer, Memory, Kind, Once, OnceWith, OwnerCall, Got, Entry, Made, Begin, Claim, Ran, Free, Fill, Pass, End, DropBegin, DropEnd, Look, Own, has_call}
+use Rattle.once_world.specs.Record.{Answer, Memory, Kind, Once, OnceWith, OwnerCall, Got, Entry, Made, Begin, Claim}
+use Rattle.once_world.specs.Record.{Ran, Free, Fill, Pass, End, DropBegin, DropEnd, Look, Own, has_call}
 use Rattle.once_world.specs.Cell.{cell, value_in, answers_left, got}
 use Rattle.once_world.specs.Tasks.{Status, Unmade, Fresh, Waiting, Holding, status, is_under_way, all_gone}
 

@@ -1,10 +1,17 @@
 -- The machine: what all tasks share, the place at which each task stands, and what each input does.
-use Rattle.std.specs.Prelude.{◌≡◌, ℕ, suc, Bool, true, false, cond, ◌==◌, ◌-◌, nat_lt, ◌||◌, not, List, [], ◌∷◌, ◌++◌, Option, Some, None}
+use Rattle.std.specs.Prelude.{◌≡◌, ℕ, suc, Bool, true, false, cond, ◌==◌, ◌-◌, nat_lt, ◌||◌, not, List, [], ◌∷◌, ◌++◌}
+use Rattle.std.specs.Prelude.{Option, Some, None}
 use Rattle.std.specs.Option.{is_some}
-pub use Rattle.once_world.specs.Places.{Ending, EndPending, EndValue, EndError, EndMemory, EndFull, EndDropped, Rest, RestStart, RestWait, RestRun, Place, AtStart, AtTryQuick, AtDoorGet, AtDoorPut, AtCountIn, AtWaitLoad, AtLook, AtList, AtRun, AtPut, AtFast, AtAddOne, AtDoorAgain, AtRelease, AtLeave, AtCountOut, AtDoorTake, Step, Resting, UnderWay, Finished}
+pub use Rattle.once_world.specs.Places.{Ending, EndPending, EndValue, EndError, EndMemory, EndFull, EndDropped}
+pub use Rattle.once_world.specs.Places.{Rest, RestStart, RestWait, RestRun, Step, Resting, UnderWay, Finished}
+pub use Rattle.once_world.specs.Places.{Place, AtStart, AtTryQuick, AtDoorGet, AtDoorPut, AtCountIn, AtWaitLoad, AtLook, AtList, AtRun}
+pub use Rattle.once_world.specs.Places.{AtPut, AtFast, AtAddOne, AtDoorAgain, AtRelease, AtLeave, AtCountOut, AtDoorTake}
 use Rattle.once_world.specs.Places.{Progress, More, Ended}
-pub use Rattle.once_core.specs.Steps.{is_value, left_at, left_of, is_resting, in_call, is_leaving, is_finished, place_of_poll, step_of_poll, release_place, leave_place, step_of_drop_at, step_of_drop}
-use Rattle.once_core.specs.Steps.{Next, next_at, next_end, after_start, after_quick, after_door_get, after_door_put, after_in, after_count_in, after_load, after_look, after_list, after_run, after_fast, after_door_again, after_count_out}
+pub use Rattle.once_core.specs.Steps.{is_value, left_at, left_of, is_resting, in_call, is_leaving, is_finished}
+pub use Rattle.once_core.specs.Steps.{place_of_poll, step_of_poll, release_place, leave_place, step_of_drop_at, step_of_drop}
+use Rattle.once_core.specs.Steps.{Next, next_at, next_end}
+use Rattle.once_core.specs.Steps.{after_start, after_quick, after_door_get, after_door_put, after_in, after_count_in, after_load}
+use Rattle.once_core.specs.Steps.{after_look, after_list, after_run, after_fast, after_door_again, after_count_out}
 use Rattle.once_core.specs.Core.{put_answer}
 use Rattle.once_core.specs.declared.parts.Counted.TheVariants.{Full as CountFull, SeenReady}
 use Rattle.once_core.specs.declared.step.Polled.{Polled}
@@ -16,13 +23,17 @@ pub use Rattle.once_world.specs.declared.world.cell.Task.{Task}
 pub use Rattle.once_queue.specs.declared.log.QueueLine.{QueueLine}
 pub use Rattle.once_queue.specs.declared.log.QueueLine.TheVariants.{Put as PutLine, Entered as EnteredLine, Taken as TakenLine}
 pub use Rattle.once_queue.specs.declared.waiters.Listing.{Listing}
-pub use Rattle.once_queue.specs.Listings.{own_listing, kept_ticket, ticket_for, list_with, list_without, passes_turn, next_waker, left_list, first_waker, call_first, all_out, one_out, is_waker}
-use Rattle.once_world.specs.Record.{Answer, RanPending, RanValue, RanError, Pending, Value, Error, Memory, Full, Kind, is_lazy, has_call, replaces, OwnerCall, Take, Write, Parts, ReplaceValue, ReplaceAnswers, Got, GotNone, GotValue, GotAnswers, Entry, Made, Begin, Claim, Ran, Free, Fill, Pass, End, DropBegin, DropEnd, Look, Own}
+pub use Rattle.once_queue.specs.Listings.{own_listing, kept_ticket, ticket_for, list_with, list_without, passes_turn, next_waker}
+pub use Rattle.once_queue.specs.Listings.{left_list, first_waker, call_first, all_out, one_out, is_waker}
+use Rattle.once_world.specs.Record.{Kind, is_lazy, has_call, replaces, OwnerCall, Take, Write, Parts, ReplaceValue, ReplaceAnswers}
+use Rattle.once_world.specs.Record.{Got, GotNone, GotValue, GotAnswers, Answer, RanPending, RanValue, RanError}
+use Rattle.once_world.specs.Record.{Pending, Value, Error, Memory, Full}
+use Rattle.once_world.specs.Record.{Entry, Made, Begin, Claim, Ran, Free, Fill, Pass, End, DropBegin, DropEnd, Look, Own}
 use Rattle.once_world.specs.Cell.{is_set, value_in, first_cell, first_answers, rest_of, next_answer}
 use Rattle.once_world.specs.Inputs.{Input, Make, Poll, Drop, Go, Looks, Owns}
 use Rattle.once_world.specs.Log.{take_lines}
 
--- what all tasks share: the word's count and two flags; the queue at the door; that queue's flag and listings; how many queues were made; the value that was put last; and what a lazy init will still answer
+-- what all tasks share: the word's count and flags; the queue at the door, its flag and listings; how many were made; the value put last; what a lazy init will still answer
 pub record SharedState : Type 0 where
   pub count : ℕ
   pub quick : Bool

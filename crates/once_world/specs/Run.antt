@@ -1,6 +1,7 @@
 -- Which entry may come next, and what a run of the cell is.
 use Rattle.std.specs.Prelude.{◌≡◌, ◌≢◌, ◌⊎◌, ℕ, Bool, true, false, List, [], ◌∷◌, Option, Some, None}
-use Rattle.once_world.specs.Record.{Answer, RanPending, RanValue, RanError, Reply, Pending, Value, Error, Memory, Full, Kind, Entry, Made, Begin, Claim, Ran, Free, Fill, Pass, End, DropBegin, DropEnd, Look, Own}
+use Rattle.once_world.specs.Record.{Answer, RanPending, RanValue, RanError, Reply, Pending, Value, Error, Memory, Full, Kind, Entry}
+use Rattle.once_world.specs.Record.{Made, Begin, Claim, Ran, Free, Fill, Pass, End, DropBegin, DropEnd, Look, Own}
 use Rattle.once_world.specs.Cell.{Empty, Held, SetTo, is_set, cell, value_in, answers_left, IsNext, got}
 use Rattle.once_world.specs.Tasks.{Status, Unmade, Fresh, Polling, Dropping, Waiting, Holding, status, last_call, all_gone}
 use Rattle.once_world.specs.Wakers.{IsDue, IsOpen, HandsOut, CallsOne}

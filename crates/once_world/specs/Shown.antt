@@ -7,21 +7,29 @@ use Rattle.once_queue.specs.declared.waiters.Out.TheVariants.{One, All}
 use Rattle.once_queue.specs.Listings.{one_out, wakers_of}
 use Rattle.once_queue.specs.Room.{listings_of}
 use Rattle.once_record.specs.declared.world.Kind.{Kind as GivenKind}
-use Rattle.once_record.specs.declared.world.Kind.TheVariants.{Once as GivenOnce, OnceWith as GivenOnceWith, Lazy as GivenLazy, LazyWith as GivenLazyWith}
+use Rattle.once_record.specs.declared.world.Kind.TheVariants.{Once as GivenOnce, OnceWith as GivenOnceWith}
+use Rattle.once_record.specs.declared.world.Kind.TheVariants.{Lazy as GivenLazy, LazyWith as GivenLazyWith}
 use Rattle.once_record.specs.declared.world.Call.{Call}
-use Rattle.once_record.specs.declared.world.Call.TheVariants.{Take as CallTake, Write as CallWrite, Parts as CallParts, ReplaceValue as CallReplaceValue, ReplaceAnswers as CallReplaceAnswers}
+use Rattle.once_record.specs.declared.world.Call.TheVariants.{Take as CallTake, Write as CallWrite, Parts as CallParts}
+use Rattle.once_record.specs.declared.world.Call.TheVariants.{ReplaceValue as CallReplaceValue, ReplaceAnswers as CallReplaceAnswers}
 use Rattle.once_record.specs.declared.world.Got.{Got as GivenGot}
 use Rattle.once_record.specs.declared.world.Got.TheVariants.{None as NoneGot, Value as ValueGot, Answers as AnswersGot}
 use Rattle.once_record.specs.declared.world.Input.{Input as GivenInput}
-use Rattle.once_record.specs.declared.world.Input.TheVariants.{Make as InputMake, Poll as InputPoll, Drop as InputDrop, Go as InputGo, Look as InputLook, Own as InputOwn}
+use Rattle.once_record.specs.declared.world.Input.TheVariants.{Make as InputMake, Poll as InputPoll, Drop as InputDrop}
+use Rattle.once_record.specs.declared.world.Input.TheVariants.{Go as InputGo, Look as InputLook, Own as InputOwn}
 use Rattle.once_record.specs.declared.world.Entry.{Entry as Written}
-use Rattle.once_record.specs.declared.world.Entry.TheVariants.{Made as WrittenMade, Begin as WrittenBegin, Claim as WrittenClaim, Ran as WrittenRan, Free as WrittenFree, Fill as WrittenFill, Pass as WrittenPass, End as WrittenEnd, DropBegin as WrittenDropBegin, DropEnd as WrittenDropEnd, Look as WrittenLook, Own as WrittenOwn}
+use Rattle.once_record.specs.declared.world.Entry.TheVariants.{Made as WrittenMade, Begin as WrittenBegin, Claim as WrittenClaim}
+use Rattle.once_record.specs.declared.world.Entry.TheVariants.{Ran as WrittenRan, Free as WrittenFree, Fill as WrittenFill}
+use Rattle.once_record.specs.declared.world.Entry.TheVariants.{Pass as WrittenPass, End as WrittenEnd, DropBegin as WrittenDropBegin}
+use Rattle.once_record.specs.declared.world.Entry.TheVariants.{DropEnd as WrittenDropEnd, Look as WrittenLook, Own as WrittenOwn}
 use Rattle.once_record.specs.declared.world.Record.{Record as GivenRecord}
 use Rattle.once_queue.specs.declared.log.QueueLine.{QueueLine}
 use Rattle.once_world.specs.declared.world.cell.ReplayCell.{ReplayCell}
 use Rattle.once_world.specs.declared.world.cell.StepSeen.{StepSeen}
 use Rattle.once_world.specs.declared.world.play.World.{World}
-use Rattle.once_world.specs.Record.{Answer, Kind, Once, OnceWith, Lazy, LazyWith, OwnerCall, Take, Write, Parts, ReplaceValue, ReplaceAnswers, Got, GotNone, GotValue, GotAnswers, Entry, Made, Begin, Claim, Ran, Free, Fill, Pass, End, DropBegin, DropEnd, Look, Own}
+use Rattle.once_world.specs.Record.{Answer, Kind, Once, OnceWith, Lazy, LazyWith, OwnerCall, Take, Write, Parts}
+use Rattle.once_world.specs.Record.{ReplaceValue, ReplaceAnswers, Got, GotNone, GotValue, GotAnswers, Entry, Made, Begin, Claim}
+use Rattle.once_world.specs.Record.{Ran, Free, Fill, Pass, End, DropBegin, DropEnd, Look, Own}
 use Rattle.once_world.specs.Inputs.{Input, Make, Poll, Drop, Go, Looks, Owns}
 pub use Rattle.once_world.specs.Machine.{claim_entries, freed_entries, progress_entries}
 use Rattle.once_world.specs.Machine.{SharedState, World as MachineWorld, release_entry, pass_entries}
