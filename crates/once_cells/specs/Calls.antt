@@ -30,8 +30,8 @@ module _ {P S W Q : Type 0} (parts : PartsTell P W Q) (side : SideTells S W) whe
       (closed : S) × side.close s closed × (e : Ending) × Calls limit from p closed e to p' s'
 
 -- parts of which nothing is told
-abbrev pub untold : {P W Q : Type 0} → PartsTell P W Q
-untold = record {
+abbrev pub silent_parts : {P W Q : Type 0} → PartsTell P W Q
+silent_parts = record {
   load = λ _ _ _. ⊤;
   quick = λ _ _ _. ⊤;
   fast = λ _ _ _ _. ⊤;

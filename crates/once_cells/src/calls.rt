@@ -1,7 +1,7 @@
 //! Whole calls of a task: step after step, until the call ends.
 ghost use Rattle.std.specs.Prelude.{◌≡◌, true, false};
 ghost use Rattle.once_core.specs.Steps.{is_resting, in_call, step_of_poll, step_of_drop};
-ghost use Rattle.once_cells.specs.Calls.{Calls, Drops, untold};
+ghost use Rattle.once_cells.specs.Calls.{Calls, Drops, silent_parts};
 
 use once_core::step::{Ending, Progress, Side, Step};
 use once_queue::waiters::WakerId;
@@ -20,7 +20,7 @@ pub fn whole_poll<W: WakerId + Drop, R: Wait + AllocGlobal, S: Side<W>>(
 ) -> Ending
     requires { is_resting step.old ≡ true }
     ensures ended { in_call step.new ≡ false }
-    ensures steps { Calls untold
+    ensures steps { Calls silent_parts
         record {
           run = S.did_run;
           close = S.did_close;
@@ -43,7 +43,7 @@ pub fn whole_drop<W: WakerId + Drop, R: Wait + AllocGlobal, S: Side<W>>(
 )
     requires { is_resting step.old ≡ true }
     ensures ended { in_call step.new ≡ false }
-    ensures steps { Drops untold
+    ensures steps { Drops silent_parts
         record {
           run = S.did_run;
           close = S.did_close;
@@ -66,7 +66,7 @@ fn go_on<W: WakerId + Drop, R: Wait + AllocGlobal, S: Side<W>>(
     side: &mut S,
 ) -> Ending
     ensures ended { in_call step.new ≡ false }
-    ensures steps { Calls untold
+    ensures steps { Calls silent_parts
         record {
           run = S.did_run;
           close = S.did_close;

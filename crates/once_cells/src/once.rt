@@ -36,8 +36,8 @@ use value::Value;
 /// let second = block_on(rt, cell.get_or_init(rt, ready(5)))?; // Ok(&4): this init is not polled
 /// ```
 ///
-/// A cell that was made with a value lends that value and gives it back, which the contracts say. Of the
-/// value of any other cell they speak by tokens, see [`Known`].
+/// A cell that was made with a value lends that value and gives it back, until its owner asks for it to
+/// write it. The contracts say so. Of the value of any other cell they speak by tokens, see [`Known`].
 ///
 /// Memory is taken only where tasks meet: for the queue of those who wait, and for the seat of each and
 /// its place in the queue.
