@@ -34,6 +34,15 @@ where
     Ok((*ask(rt, node, token)?)?)
 }
 
+// The value at a node, as one is told who knew nothing of it.
+fn asked<'a, F, R>(rt: &'a R, node: &'a Lazy<Value, F>) -> Result<u64, Fault>
+where
+    F: Future<Output = Value>,
+    R: Wait + RandomSource + AllocGlobal,
+{
+    value_of(rt, node, &mut node.token())
+}
+
 // What a node below answered.
 fn told(answer: Result<&Value, Refused>) -> Value {
     *answer?
@@ -128,14 +137,55 @@ enum Node {
 }
 
 // The nodes that a sum is made of, and how many values were made.
-#[derive(Clone, Copy)]
+#[derive(Drop)]
 struct Nodes<'a, F: Future, G: Future> {
     base: &'a Lazy<Value, F>,
     double: &'a Lazy<Value, G>,
     made: &'a Cell<u64>,
 }
 
-// Asks for the nodes in this order, and prints what was told, and how many values were made.
+// The value at one of the nodes.
+fn told_at<'a, F, G, H, R>(
+    rt: &'a R,
+    node: Node,
+    nodes: &Nodes<'a, F, G>,
+    sum: &'a Lazy<Value, H>,
+) -> Result<u64, Fault>
+where
+    F: Future<Output = Value>,
+    G: Future<Output = Value>,
+    H: Future<Output = Value>,
+    R: Wait + RandomSource + AllocGlobal,
+{
+    match node {
+        Node::Base => asked(rt, nodes.base),
+        Node::Double => asked(rt, nodes.double),
+        Node::Sum => asked(rt, sum),
+    }
+}
+
+// Asks for the nodes in this order, and prints what was told.
+fn show_told<'a, F, G, H, R, O>(
+    rt: &'a R,
+    output: &mut O,
+    order: [Node; 4],
+    nodes: &Nodes<'a, F, G>,
+    sum: &'a Lazy<Value, H>,
+) -> Result<(), Fault>
+where
+    F: Future<Output = Value>,
+    G: Future<Output = Value>,
+    H: Future<Output = Value>,
+    R: Wait + RandomSource + AllocGlobal,
+    O: Write,
+{
+    for node in order {
+        write!(output, "{} ", told_at(rt, node, nodes, sum)?)?;
+    }
+    Ok(())
+}
+
+// Makes the sum, asks for the nodes in this order, and says how many values were made.
 fn show_order<'a, F, G, R, O>(
     rt: &'a R,
     output: &mut O,
@@ -154,14 +204,7 @@ where
         kept: None,
         made: nodes.made,
     });
-    for node in order {
-        let value = match node {
-            Node::Base => value_of(rt, nodes.base, &mut nodes.base.token())?,
-            Node::Double => value_of(rt, nodes.double, &mut nodes.double.token())?,
-            Node::Sum => value_of(rt, &sum, &mut sum.token())?,
-        };
-        write!(output, "{value} ")?;
-    }
+    show_told(rt, output, order, &nodes, &sum)?;
     writeln!(output, "({} made)", nodes.made.get())?;
     Ok(())
 }

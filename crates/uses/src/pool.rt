@@ -113,8 +113,7 @@ where
         Cell::new(None),
         Cell::new(None),
     ];
-    let mut token = cell.token();
-    let value = told_to_all(rt, &cell, &places, &mut token)?;
+    let value = told_to_all(rt, &cell, &places, &mut cell.token())?;
     writeln!(output, "four tasks were told {value}")?;
     Ok(())
 }

@@ -110,6 +110,26 @@ where
     Ok(*ask(rt, lazy, token)?)
 }
 
+// What one who asks twice is told of a file.
+fn told_twice<'v, R>(rt: &'v R, lazy: &'v Lazy<Outcome, Reading<'_, R>>) -> Result<Outcome, Fault>
+where
+    R: Files + Wait + RandomSource + AllocGlobal,
+{
+    let mut token = lazy.token();
+    let _first = settings_of(rt, lazy, &mut token)?;
+    settings_of(rt, lazy, &mut token)
+}
+
+// Prints what a file says, or why it has no settings.
+fn show_outcome<O: Write>(output: &mut O, path: &str, outcome: Outcome) -> io::Result<()> {
+    match outcome {
+        Ok(Settings { workers, seconds }) => {
+            write!(output, "{path}: {workers} workers, {seconds} seconds")
+        }
+        Err(unread) => write!(output, "{path}: {unread}"),
+    }
+}
+
 // Asks twice for the settings of a file, and prints what was told, and how often it was read.
 fn show_file<R, O>(rt: &R, output: &mut O, path: &str) -> Result<(), Fault>
 where
@@ -122,15 +142,8 @@ where
         path,
         reads: &reads,
     };
-    let lazy = Lazy::new(reading);
-    let mut token = lazy.token();
-    let _first = settings_of(rt, &lazy, &mut token)?;
-    match settings_of(rt, &lazy, &mut token)? {
-        Ok(Settings { workers, seconds }) => {
-            write!(output, "{path}: {workers} workers, {seconds} seconds")?
-        }
-        Err(unread) => write!(output, "{path}: {unread}")?,
-    }
+    let outcome = told_twice(rt, &Lazy::new(reading))?;
+    show_outcome(output, path, outcome)?;
     writeln!(output, " ({} read)", reads.get())?;
     Ok(())
 }
