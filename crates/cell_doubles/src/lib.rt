@@ -1,5 +1,5 @@
-//! What the tests of the cells share: inits that do as a test tells them, schedules of polls and
-//! drops, and inits that keep their thread.
+//! What tests share: inits that do as a test tells them, schedules of polls and drops, inits that keep
+//! their thread, and a writer that fails.
 #![tactic(auto)]
 
 pub mod made;
@@ -9,5 +9,6 @@ pub mod poll;
 pub mod schedule;
 pub mod slow;
 pub mod stub;
+pub mod target;
 pub mod text;
 pub mod value;

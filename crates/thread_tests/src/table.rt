@@ -4,6 +4,7 @@ ghost use Rattle.std.specs.Prelude.{◌*◌, ◌^◌, ◌<◌};
 use async_once_cell::OnceCell;
 use async_once_cell::once::Known;
 use cell_doubles::memory::hoard;
+use cell_doubles::target::Target;
 use futures::future::pending;
 use futures::test::MockTask;
 use memo::ask::{Answer, agreed, answer_within, ask};
@@ -12,8 +13,6 @@ use memo::fetch::Fetch;
 use memo::memo::Memo;
 use memo::run;
 use std::alloc::{AllocError, AllocGlobal, Global};
-use std::io;
-use std::io::{ErrorKind, Write};
 use std::random::RandomSource;
 use std::sync::Wait;
 use std::sync::atomic::{AtomicU64, Ordering};
@@ -227,42 +226,14 @@ fn refused_memory_prints_nothing(rt: HostRuntime) -> Result<(), Fail> {
     Ok(())
 }
 
-/// A writer that fails at the write with this number.
-#[derive(Drop)]
-struct Target {
-    text: Vec<u8>,
-    writes: u64,
-    fails_at: u64,
-}
-
-impl Write for Target {
-    fn write(&mut self, bytes: &[u8]) -> io::Result<usize> {
-        self.writes = self.writes.saturating_add(1);
-        if self.writes == self.fails_at {
-            return Err(io::Error::from(ErrorKind::BrokenPipe));
-        }
-        self.text.extend_from_slice(bytes)?;
-        Ok(bytes.len())
-    }
-
-    fn flush(&mut self) -> io::Result<()> {
-        Ok(())
-    }
-}
-
 // Whether a beginning went out, whether it was cut, whether the run gave up, and whether a write failed.
 fn written<R: Threads + Wait + RandomSource + AllocGlobal + Clock + Sync>(
     rt: &R,
     fails_at: u64,
 ) -> (bool, bool, bool, bool) {
-    let mut target = Target {
-        text: Vec::new(rt.alloc()),
-        writes: 0,
-        fails_at,
-    };
+    let mut target = Target::new(rt.alloc(), usize::MAX, fails_at, false);
     let gave_up = run(rt, &mut target).is_err();
-    let printed = target.text.as_slice();
-    let failed = 0 < fails_at && fails_at <= target.writes;
+    let (printed, failed) = (target.text(), target.has_failed());
     let is_beginning = TEXT.as_bytes().starts_with(printed);
     (is_beginning, printed.len() < TEXT.len(), gave_up, failed)
 }

@@ -2,13 +2,14 @@
 use super::rows::compare;
 use async_once_cell::world::{Call, Entry, Got, Ran, Record, Reply};
 use cell_doubles::memory::hoard;
+use cell_doubles::target::Target;
 use once_filter::print::print_record;
 use once_filter::run;
 use once_script::fault::Fault;
 use once_script::parse::{Line, parse_line, parse_script};
 use std::alloc::{AllocError, Global};
 use std::io;
-use std::io::{ErrorKind, Read, Write};
+use std::io::{ErrorKind, Read};
 use std::test::Fail;
 
 /// A reader that gives a text in pieces, and fails at the read with this number.
@@ -47,47 +48,6 @@ impl Read for Source<'_> {
     }
 }
 
-/// A writer that takes a text in pieces, and fails once, at the write with this number.
-#[derive(Drop)]
-pub struct Target {
-    text: Vec<u8>,
-    piece: usize,
-    writes: u64,
-    fails_at: u64,
-    flush_fails: bool,
-}
-
-impl Target {
-    pub fn new(alloc: Global, piece: usize, fails_at: u64, flush_fails: bool) -> Target {
-        Target {
-            text: Vec::new(alloc),
-            piece,
-            writes: 0,
-            fails_at,
-            flush_fails,
-        }
-    }
-}
-
-impl Write for Target {
-    fn write(&mut self, buf: &[u8]) -> io::Result<usize> {
-        self.writes = self.writes.saturating_add(1);
-        if self.writes == self.fails_at {
-            return Err(io::Error::from(ErrorKind::BrokenPipe));
-        }
-        let count = buf.len().min(self.piece);
-        self.text.extend_from_slice(&buf[..count])?;
-        Ok(count)
-    }
-
-    fn flush(&mut self) -> io::Result<()> {
-        if self.flush_fails {
-            return Err(io::Error::from(ErrorKind::StorageFull));
-        }
-        Ok(())
-    }
-}
-
 /// What a run of this text prints.
 pub fn printed_by(alloc: Global, text: &str) -> Result<String, Fault> {
     let mut printed = Vec::new(alloc);
@@ -104,139 +64,151 @@ fn ending<I: Read + Drop>(alloc: Global, input: I) -> Ending {
     (answer, printed.len())
 }
 
-const UNREADABLE: [(&[u8], u64); 124] = [
-    (b"", 1),
-    (b"\n", 1),
-    (b"\nonce 8\n", 1),
-    (b"make 1\n", 1),
-    (b"look\n", 1),
-    (b"once\n", 1),
-    (b"once \n", 1),
-    (b"once 0\n", 1),
-    (b"once 4611686018427387903\n", 1),
-    (b"once 08\n", 1),
-    (b"once +8\n", 1),
-    (b"once -8\n", 1),
-    (b" once 8\n", 1),
-    (b"once 8 \n", 1),
-    (b"once  8\n", 1),
-    (b"once 8 8\n", 1),
-    (b"once\t8\n", 1),
-    (b"Once 8\n", 1),
-    (b"once 8\r\nmake 1\r\n", 1),
-    (b"once 8\xff\n", 1),
-    (b"\xef\xbb\xbfonce 8\n", 1),
-    (b"once 8\n\n", 2),
-    (b"once 8\nmake 1\n\nmake 2\n", 3),
-    (b"once 8\nonce 8\n", 2),
-    (b"once 8\nmake 1\npoll 1\n", 3),
-    (b"once 8\npoll 1 7 8\n", 2),
-    (b"once 8\npoll 1  7\n", 2),
-    (b"once 8\nmake\n", 2),
-    (b"once 8\nmake 1 2\n", 2),
-    (b"once 8\nmake 01\n", 2),
-    (b"once 8\nmake 00\n", 2),
-    (b"once 8\nmake +5\n", 2),
-    (b"once 8\nmake 18446744073709551616\n", 2),
-    (b"once 8\nmake x\n", 2),
-    (b"once 8\nmake \xd9\xa1\n", 2),
-    (b"once 8\nmake 1\r\n", 2),
-    (b"once 8\nlook \n", 2),
-    (b"once 8\n look\n", 2),
-    (b"once 8\nlooks\n", 2),
-    (b"once 8\ngo 1\n", 2),
-    (b"once 8\ngo 1 v\n", 2),
-    (b"once 8\ngo 1 q\n", 2),
-    (b"once 8\ngo 1 p4\n", 2),
-    (b"once 8\ngo 1 v 4\n", 2),
-    (b"once 8\ngo 1 e+4\n", 2),
-    (b"once 8\nrun 1 v4 v4\n", 2),
-    (b"once 8\nmake 1\nmake 2\nstop\nmake x\n", 4),
-    (b"once 8 with\n", 1),
-    (b"once 8 with \n", 1),
-    (b"once 8 with x\n", 1),
-    (b"once 8 with 05\n", 1),
-    (b"once 8 with 5 6\n", 1),
-    (b"once 8  with 5\n", 1),
-    (b"once 0 with 5\n", 1),
-    (b"once 8 with 18446744073709551616\n", 1),
-    (b"once 8 5\n", 1),
-    (b"once 8 p\n", 1),
-    (b"lazy\n", 1),
-    (b"lazy \n", 1),
-    (b"lazy 8 \n", 1),
-    (b"lazy 8 e4\n", 1),
-    (b"lazy 8 v\n", 1),
-    (b"lazy 8 4\n", 1),
-    (b"lazy 8 p4\n", 1),
-    (b"lazy 8  p\n", 1),
-    (b"lazy 8 p \n", 1),
-    (b"lazy 8 p  v3\n", 1),
-    (b"lazy 8 v3 e4\n", 1),
-    (b"lazy 8 with\n", 1),
-    (b"lazy 8 with x\n", 1),
-    (b"lazy 8 with 5 p\n", 1),
-    (b"lazy 8 p with 5\n", 1),
-    (b"lazy 0\n", 1),
-    (b"lazy 0 p\n", 1),
-    (b"lazy p\n", 1),
-    (b"lazy 4611686018427387903\n", 1),
-    (b"lazy8\n", 1),
-    (b"with 8\n", 1),
-    (b"drop 1\n", 1),
-    (b"go 1 p\n", 1),
-    (b"take\n", 1),
-    (b"write 4\n", 1),
-    (b"parts\n", 1),
-    (b"replace\n", 1),
-    (b"replace with 4\n", 1),
-    (b"once 8\nlazy 8\n", 2),
-    (b"once 8\ndrop\n", 2),
-    (b"once 8\ndrop \n", 2),
-    (b"once 8\ndrop 1 2\n", 2),
-    (b"once 8\ndrop x\n", 2),
-    (b"once 8\ngo 1 p y\n", 2),
-    (b"once 8\ngo 1 p x x\n", 2),
-    (b"once 8\ngo 1 p  x\n", 2),
-    (b"once 8\ngo 1 p x \n", 2),
-    (b"once 8\ngo 1 x\n", 2),
-    (b"once 8\ngo 1 px\n", 2),
-    (b"once 8\nrun 1 p  x\n", 2),
-    (b"once 8\nrun 1 x\n", 2),
-    (b"once 8\nrun 1 p y\n", 2),
-    (b"once 8\ntake 1\n", 2),
-    (b"once 8\ntake \n", 2),
-    (b"once 8\ntakes\n", 2),
-    (b"once 8\nwrite\n", 2),
-    (b"once 8\nwrite \n", 2),
-    (b"once 8\nwrite v4\n", 2),
-    (b"once 8\nwrite 4 5\n", 2),
-    (b"once 8\nwrite 18446744073709551616\n", 2),
-    (b"once 8\nparts 1\n", 2),
-    (b"once 8\npart\n", 2),
-    (b"once 8\nreplace \n", 2),
-    (b"once 8\nreplace with\n", 2),
-    (b"once 8\nreplace with \n", 2),
-    (b"once 8\nreplace with p\n", 2),
-    (b"once 8\nreplace with 4 5\n", 2),
-    (b"once 8\nreplace with 4 p\n", 2),
-    (b"once 8\nreplace p with 4\n", 2),
-    (b"once 8\nreplace e4\n", 2),
-    (b"once 8\nreplace p \n", 2),
-    (b"once 8\nreplace  p\n", 2),
-    (b"once 8\nreplace p  v3\n", 2),
-    (b"once 8\nreplace p e4\n", 2),
-    (b"once 8\nreplace 4\n", 2),
-    (b"once 8\nreplaces\n", 2),
-    (b"lazy 8 p\nmake 1\nreplace p\nreplace e4", 4),
-];
+// Scripts that can't be read: the number of the line that is told, and the script, in which a slash ends
+// a line.
+const UNREADABLE: &str = "1|
+1|/
+1|/once 8/
+1|make 1/
+1|look/
+1|once/
+1|once /
+1|once 0/
+1|once 4611686018427387903/
+1|once 08/
+1|once +8/
+1|once -8/
+1| once 8/
+1|once 8 /
+1|once  8/
+1|once 8 8/
+1|once\t8/
+1|Once 8/
+1|once 8\r/make 1\r/
+1|\u{feff}once 8/
+2|once 8//
+3|once 8/make 1//make 2/
+2|once 8/once 8/
+3|once 8/make 1/poll 1/
+2|once 8/poll 1 7 8/
+2|once 8/poll 1  7/
+2|once 8/make/
+2|once 8/make 1 2/
+2|once 8/make 01/
+2|once 8/make 00/
+2|once 8/make +5/
+2|once 8/make 18446744073709551616/
+2|once 8/make x/
+2|once 8/make \u{661}/
+2|once 8/make 1\r/
+2|once 8/look /
+2|once 8/ look/
+2|once 8/looks/
+2|once 8/go 1/
+2|once 8/go 1 v/
+2|once 8/go 1 q/
+2|once 8/go 1 p4/
+2|once 8/go 1 v 4/
+2|once 8/go 1 e+4/
+2|once 8/run 1 v4 v4/
+4|once 8/make 1/make 2/stop/make x/
+1|once 8 with/
+1|once 8 with /
+1|once 8 with x/
+1|once 8 with 05/
+1|once 8 with 5 6/
+1|once 8  with 5/
+1|once 0 with 5/
+1|once 8 with 18446744073709551616/
+1|once 8 5/
+1|once 8 p/
+1|lazy/
+1|lazy /
+1|lazy 8 /
+1|lazy 8 e4/
+1|lazy 8 v/
+1|lazy 8 4/
+1|lazy 8 p4/
+1|lazy 8  p/
+1|lazy 8 p /
+1|lazy 8 p  v3/
+1|lazy 8 v3 e4/
+1|lazy 8 with/
+1|lazy 8 with x/
+1|lazy 8 with 5 p/
+1|lazy 8 p with 5/
+1|lazy 0/
+1|lazy 0 p/
+1|lazy p/
+1|lazy 4611686018427387903/
+1|lazy8/
+1|with 8/
+1|drop 1/
+1|go 1 p/
+1|take/
+1|write 4/
+1|parts/
+1|replace/
+1|replace with 4/
+2|once 8/lazy 8/
+2|once 8/drop/
+2|once 8/drop /
+2|once 8/drop 1 2/
+2|once 8/drop x/
+2|once 8/go 1 p y/
+2|once 8/go 1 p x x/
+2|once 8/go 1 p  x/
+2|once 8/go 1 p x /
+2|once 8/go 1 x/
+2|once 8/go 1 px/
+2|once 8/run 1 p  x/
+2|once 8/run 1 x/
+2|once 8/run 1 p y/
+2|once 8/take 1/
+2|once 8/take /
+2|once 8/takes/
+2|once 8/write/
+2|once 8/write /
+2|once 8/write v4/
+2|once 8/write 4 5/
+2|once 8/write 18446744073709551616/
+2|once 8/parts 1/
+2|once 8/part/
+2|once 8/replace /
+2|once 8/replace with/
+2|once 8/replace with /
+2|once 8/replace with p/
+2|once 8/replace with 4 5/
+2|once 8/replace with 4 p/
+2|once 8/replace p with 4/
+2|once 8/replace e4/
+2|once 8/replace p /
+2|once 8/replace  p/
+2|once 8/replace p  v3/
+2|once 8/replace p e4/
+2|once 8/replace 4/
+2|once 8/replaces/
+4|lazy 8 p/make 1/replace p/replace e4";
+
+// Whether a run of the row's script prints nothing, and tells its line.
+fn is_told(alloc: Global, row: &str) -> Option<bool> {
+    let (line, script) = row.split_once('|')?;
+    let text = script.replace(alloc, '/', "\n").ok()?;
+    let wanted = (Err(Fault::Unreadable(line.parse().ok()?)), 0);
+    Some(ending(alloc, text.as_bytes()) == wanted)
+}
 
 #[test]
 fn finds_the_first_unreadable_line(rt: HostRuntime) {
-    for (text, line) in UNREADABLE {
-        let wanted = (Err(Fault::Unreadable(line)), 0);
-        assert_eq!(rt; ending(rt.alloc(), text), wanted, "at {text:?}");
+    for row in UNREADABLE.lines() {
+        assert_eq!(rt; is_told(rt.alloc(), row), Some(true), "at {row:?}");
     }
+}
+
+#[test]
+fn tells_a_line_that_is_no_text(rt: HostRuntime) {
+    let wanted = (Err(Fault::Unreadable(1)), 0);
+    assert_eq!(rt; ending(rt.alloc(), b"once 8\xff\n".as_slice()), wanted);
 }
 
 // First lines, each with the kind and the limit that it gives, and the lines after it: none.
@@ -458,7 +430,7 @@ fn written(
     mut target: Target,
 ) -> (Result<(), Fault>, bool) {
     let answer = run(alloc, text.as_bytes(), &mut target);
-    let (seen, wanted) = (target.text.as_slice(), wanted.as_bytes());
+    let (seen, wanted) = (target.text(), wanted.as_bytes());
     let is_enough = answer.is_err() || seen.len() == wanted.len();
     (answer, is_enough && wanted.starts_with(seen))
 }

@@ -1,8 +1,8 @@
 //! What `once_show` makes of a script: its table, its picture, and what it says of a mistake.
 use super::rows::{CALLS, DROPS, OWNER, PLAIN, REFUSALS};
-use super::runs::Target;
 use async_once_cell::step::{Place, Step};
 use async_once_cell::world::{Entry, Input, Kind, Ran, World};
+use cell_doubles::target::Target;
 use once_view::fault::Fault;
 use once_view::play::{Moment, Watcher, play};
 use once_view::reading::read_script;
