@@ -12,15 +12,21 @@ fn refused_before_it_was_listed(rt: HostRuntime) {
         &[
             (
                 "1p5+w 2p71w! 3p8+w 1e5-w! 3v8-w!",
-                "Some(Memory) 1 [Closed] finished 1+0 Some(false)\nSome(Error) 0 [Ran(Error), Closed, Woke(One(Some(8)))] finished 0+1 Some(true)\nSome(Value) 0 [Ran(Value), Closed, Put, Woke(All([]))] finished 2+0 Some(false)\n",
+                "Some(Memory) 1 [Closed] finished 1+0 Some(false)\n\
+                 Some(Error) 0 [Ran(Error), Closed, Woke(One(Some(8)))] finished 0+1 Some(true)\n\
+                 Some(Value) 0 [Ran(Value), Closed, Put, Woke(All([]))] finished 2+0 Some(false)\n",
             ),
             (
                 "1p5+w 2p72w! 3p8+w 1e5-w! 3v8-w!",
-                "Some(Memory) 2 [Copied(None), Closed] finished 1+0 Some(true)\nSome(Error) 0 [Ran(Error), Closed, Woke(One(Some(8)))] finished 0+1 Some(true)\nSome(Value) 0 [Ran(Value), Closed, Put, Woke(All([]))] finished 2+0 Some(false)\n",
+                "Some(Memory) 2 [Copied(None), Closed] finished 1+0 Some(true)\n\
+                 Some(Error) 0 [Ran(Error), Closed, Woke(One(Some(8)))] finished 0+1 Some(true)\n\
+                 Some(Value) 0 [Ran(Value), Closed, Put, Woke(All([]))] finished 2+0 Some(false)\n",
             ),
             (
                 "1p5+w 2p73w! 3p8+w 1e5-w! 3v8-w!",
-                "Some(Memory) 3 [Copied(Some(7)), Closed] finished 1+0 Some(true)\nSome(Error) 0 [Ran(Error), Closed, Woke(One(Some(8)))] finished 0+1 Some(true)\nSome(Value) 0 [Ran(Value), Closed, Put, Woke(All([]))] finished 2+0 Some(false)\n",
+                "Some(Memory) 3 [Copied(Some(7)), Closed] finished 1+0 Some(true)\n\
+                 Some(Error) 0 [Ran(Error), Closed, Woke(One(Some(8)))] finished 0+1 Some(true)\n\
+                 Some(Value) 0 [Ran(Value), Closed, Put, Woke(All([]))] finished 2+0 Some(false)\n",
             ),
         ],
     );
@@ -34,27 +40,39 @@ fn refused_beside_one_who_waits(rt: HostRuntime) {
         &[
             (
                 "1p5+w 2p7+1 3p8+w 2p7-w! 1e5-w! 3v8-w!",
-                "Some(Memory) 1 [Copied(None), Closed] finished 1+1 Some(true)\nSome(Error) 0 [Ran(Error), Closed, Woke(One(Some(8)))] finished 0+1 Some(true)\nSome(Value) 0 [Ran(Value), Closed, Put, Woke(All([]))] finished 2+0 Some(false)\n",
+                "Some(Memory) 1 [Copied(None), Closed] finished 1+1 Some(true)\n\
+                 Some(Error) 0 [Ran(Error), Closed, Woke(One(Some(8)))] finished 0+1 Some(true)\n\
+                 Some(Value) 0 [Ran(Value), Closed, Put, Woke(All([]))] finished 2+0 Some(false)\n",
             ),
             (
                 "1p5+w 2p7+2 3p8+w 2p7-w! 1e5-w! 3v8-w!",
-                "Some(Memory) 1 [Closed] finished 1+1 Some(true)\nSome(Error) 0 [Ran(Error), Closed, Woke(One(Some(8)))] finished 0+1 Some(true)\nSome(Value) 0 [Ran(Value), Closed, Put, Woke(All([]))] finished 2+0 Some(false)\n",
+                "Some(Memory) 1 [Closed] finished 1+1 Some(true)\n\
+                 Some(Error) 0 [Ran(Error), Closed, Woke(One(Some(8)))] finished 0+1 Some(true)\n\
+                 Some(Value) 0 [Ran(Value), Closed, Put, Woke(All([]))] finished 2+0 Some(false)\n",
             ),
             (
                 "1p5+w 2p7+3 3p8+w 2p7-w! 1e5-w! 3v8-w!",
-                "Some(Memory) 1 [Copied(None), Closed] finished 1+1 Some(true)\nSome(Error) 0 [Ran(Error), Closed, Woke(One(Some(8)))] finished 0+1 Some(true)\nSome(Value) 0 [Ran(Value), Closed, Put, Woke(All([]))] finished 2+0 Some(false)\n",
+                "Some(Memory) 1 [Copied(None), Closed] finished 1+1 Some(true)\n\
+                 Some(Error) 0 [Ran(Error), Closed, Woke(One(Some(8)))] finished 0+1 Some(true)\n\
+                 Some(Value) 0 [Ran(Value), Closed, Put, Woke(All([]))] finished 2+0 Some(false)\n",
             ),
             (
                 "1p5+w 2p7+4 3p8+w 2p7-w! 1e5-w! 3v8-w!",
-                "Some(Memory) 1 [Copied(None), Closed] finished 1+1 Some(true)\nSome(Error) 0 [Ran(Error), Closed, Woke(One(Some(8)))] finished 0+1 Some(true)\nSome(Value) 0 [Ran(Value), Closed, Put, Woke(All([]))] finished 2+0 Some(false)\n",
+                "Some(Memory) 1 [Copied(None), Closed] finished 1+1 Some(true)\n\
+                 Some(Error) 0 [Ran(Error), Closed, Woke(One(Some(8)))] finished 0+1 Some(true)\n\
+                 Some(Value) 0 [Ran(Value), Closed, Put, Woke(All([]))] finished 2+0 Some(false)\n",
             ),
             (
                 "1p5+w 2p7+5 3p8+w 2p7-w! 1e5-w! 3v8-w!",
-                "Some(Memory) 1 [Copied(None), Closed] finished 1+1 Some(true)\nSome(Error) 0 [Ran(Error), Closed, Woke(One(Some(8)))] finished 0+1 Some(true)\nSome(Value) 0 [Ran(Value), Closed, Put, Woke(All([]))] finished 2+0 Some(false)\n",
+                "Some(Memory) 1 [Copied(None), Closed] finished 1+1 Some(true)\n\
+                 Some(Error) 0 [Ran(Error), Closed, Woke(One(Some(8)))] finished 0+1 Some(true)\n\
+                 Some(Value) 0 [Ran(Value), Closed, Put, Woke(All([]))] finished 2+0 Some(false)\n",
             ),
             (
                 "1p5+w 2p7+6 3p8+w 2p7-w! 1e5-w! 3v8-w!",
-                "Some(Memory) 1 [Closed] finished 1+1 Some(true)\nSome(Error) 0 [Ran(Error), Closed, Woke(One(Some(8)))] finished 0+1 Some(true)\nSome(Value) 0 [Ran(Value), Closed, Put, Woke(All([]))] finished 2+0 Some(false)\n",
+                "Some(Memory) 1 [Closed] finished 1+1 Some(true)\n\
+                 Some(Error) 0 [Ran(Error), Closed, Woke(One(Some(8)))] finished 0+1 Some(true)\n\
+                 Some(Value) 0 [Ran(Value), Closed, Put, Woke(All([]))] finished 2+0 Some(false)\n",
             ),
         ],
     );
@@ -70,23 +88,35 @@ fn called_while_it_is_refused(rt: HostRuntime) {
         &[
             (
                 "1p5+w 2p7+w 3p8+w 2p6-0 1e5-w! 2p6-w! 2d6-w! 3v8-w!",
-                "Some(Error) 0 [Ran(Error), Closed, Woke(One(Some(7)))] finished 0+2 Some(true)\nSome(Pending) 0 [Ran(Pending)] rests 0+2 Some(true)\nSome(Dropped) 0 [Closed, Woke(One(Some(8)))] finished 0+1 Some(true)\nSome(Value) 0 [Ran(Value), Closed, Put, Woke(All([]))] finished 2+0 Some(false)\n",
+                "Some(Error) 0 [Ran(Error), Closed, Woke(One(Some(7)))] finished 0+2 Some(true)\n\
+                 Some(Pending) 0 [Ran(Pending)] rests 0+2 Some(true)\n\
+                 Some(Dropped) 0 [Closed, Woke(One(Some(8)))] finished 0+1 Some(true)\n\
+                 Some(Value) 0 [Ran(Value), Closed, Put, Woke(All([]))] finished 2+0 Some(false)\n",
             ),
             (
                 "1p5+w 2p7+w 3p8+w 2p6-1 1e5-w! 2p6-w! 2d6-w! 3v8-w!",
-                "Some(Error) 0 [Ran(Error), Closed, Woke(One(Some(7)))] finished 0+2 Some(true)\nSome(Pending) 0 [Ran(Pending)] rests 0+2 Some(true)\nSome(Dropped) 0 [Closed, Woke(One(Some(8)))] finished 0+1 Some(true)\nSome(Value) 0 [Ran(Value), Closed, Put, Woke(All([]))] finished 2+0 Some(false)\n",
+                "Some(Error) 0 [Ran(Error), Closed, Woke(One(Some(7)))] finished 0+2 Some(true)\n\
+                 Some(Pending) 0 [Ran(Pending)] rests 0+2 Some(true)\n\
+                 Some(Dropped) 0 [Closed, Woke(One(Some(8)))] finished 0+1 Some(true)\n\
+                 Some(Value) 0 [Ran(Value), Closed, Put, Woke(All([]))] finished 2+0 Some(false)\n",
             ),
             (
                 "1p5+w 2p7+w 3p8+w 2p6-2 1e5-w! 2p6-w! 3v8-w!",
-                "Some(Error) 0 [Ran(Error), Closed, Woke(One(Some(7)))] finished 0+2 Some(true)\nSome(Memory) 0 [Woke(One(Some(8)))] finished 0+1 Some(true)\nSome(Value) 0 [Ran(Value), Closed, Put, Woke(All([]))] finished 2+0 Some(false)\n",
+                "Some(Error) 0 [Ran(Error), Closed, Woke(One(Some(7)))] finished 0+2 Some(true)\n\
+                 Some(Memory) 0 [Woke(One(Some(8)))] finished 0+1 Some(true)\n\
+                 Some(Value) 0 [Ran(Value), Closed, Put, Woke(All([]))] finished 2+0 Some(false)\n",
             ),
             (
                 "1p5+w 2p7+w 3p8+w 2p6-3 1e5-w! 2p6-w! 3v8-w!",
-                "Some(Error) 0 [Ran(Error), Closed, Woke(One(Some(8)))] finished 0+2 Some(true)\nSome(Memory) 0 [] finished 0+1 Some(true)\nSome(Value) 0 [Ran(Value), Closed, Put, Woke(All([]))] finished 2+0 Some(false)\n",
+                "Some(Error) 0 [Ran(Error), Closed, Woke(One(Some(8)))] finished 0+2 Some(true)\n\
+                 Some(Memory) 0 [] finished 0+1 Some(true)\n\
+                 Some(Value) 0 [Ran(Value), Closed, Put, Woke(All([]))] finished 2+0 Some(false)\n",
             ),
             (
                 "1p5+w 2p7+w 3p8+w 2p6-4 1e5-w! 2p6-w! 3v8-w!",
-                "Some(Error) 0 [Ran(Error), Closed, Woke(One(Some(8)))] finished 0+1 Some(true)\nNone 0 [] finished 0+1 Some(true)\nSome(Value) 0 [Ran(Value), Closed, Put, Woke(All([]))] finished 2+0 Some(false)\n",
+                "Some(Error) 0 [Ran(Error), Closed, Woke(One(Some(8)))] finished 0+1 Some(true)\n\
+                 None 0 [] finished 0+1 Some(true)\n\
+                 Some(Value) 0 [Ran(Value), Closed, Put, Woke(All([]))] finished 2+0 Some(false)\n",
             ),
         ],
     );
@@ -101,15 +131,21 @@ fn called_while_it_is_dropped(rt: HostRuntime) {
         &[
             (
                 "1p5+w 2p7+w 3p8+w 2d6-0 1e5-w! 2d6-w! 3v8-w!",
-                "Some(Error) 0 [Ran(Error), Closed, Woke(One(Some(7)))] finished 0+2 Some(true)\nSome(Dropped) 0 [Woke(One(Some(8)))] finished 0+1 Some(true)\nSome(Value) 0 [Ran(Value), Closed, Put, Woke(All([]))] finished 2+0 Some(false)\n",
+                "Some(Error) 0 [Ran(Error), Closed, Woke(One(Some(7)))] finished 0+2 Some(true)\n\
+                 Some(Dropped) 0 [Woke(One(Some(8)))] finished 0+1 Some(true)\n\
+                 Some(Value) 0 [Ran(Value), Closed, Put, Woke(All([]))] finished 2+0 Some(false)\n",
             ),
             (
                 "1p5+w 2p7+w 3p8+w 2d6-1 1e5-w! 2d6-w! 3v8-w!",
-                "Some(Error) 0 [Ran(Error), Closed, Woke(One(Some(8)))] finished 0+2 Some(true)\nSome(Dropped) 0 [] finished 0+1 Some(true)\nSome(Value) 0 [Ran(Value), Closed, Put, Woke(All([]))] finished 2+0 Some(false)\n",
+                "Some(Error) 0 [Ran(Error), Closed, Woke(One(Some(8)))] finished 0+2 Some(true)\n\
+                 Some(Dropped) 0 [] finished 0+1 Some(true)\n\
+                 Some(Value) 0 [Ran(Value), Closed, Put, Woke(All([]))] finished 2+0 Some(false)\n",
             ),
             (
                 "1p5+w 2p7+w 3p8+w 2d6-2 1e5-w! 2d6-w! 3v8-w!",
-                "Some(Error) 0 [Ran(Error), Closed, Woke(One(Some(8)))] finished 0+1 Some(true)\nNone 0 [] finished 0+1 Some(true)\nSome(Value) 0 [Ran(Value), Closed, Put, Woke(All([]))] finished 2+0 Some(false)\n",
+                "Some(Error) 0 [Ran(Error), Closed, Woke(One(Some(8)))] finished 0+1 Some(true)\n\
+                 None 0 [] finished 0+1 Some(true)\n\
+                 Some(Value) 0 [Ran(Value), Closed, Put, Woke(All([]))] finished 2+0 Some(false)\n",
             ),
         ],
     );

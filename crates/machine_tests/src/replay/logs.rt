@@ -16,7 +16,8 @@ const LOGS: [(&str, &str, &str); 4] = [
     // Each look and each listing enters the queue, and so does the release of the first task.
     (
         "one_waits",
-        "once 8\nmake 1\nmake 2\npoll 1 7\nrun 1 p\npoll 2 7\nrun 2 e9\npoll 2 7\nrun 2 e9\npoll 1 7\nrun 1 v2\npoll 2 7\nrun 2 e9\n",
+        "once 8\nmake 1\nmake 2\npoll 1 7\nrun 1 p\npoll 2 7\nrun 2 e9\npoll 2 7\nrun 2 e9\n\
+         poll 1 7\nrun 1 v2\npoll 2 7\nrun 2 e9\n",
         "[Put(1), Entered(1), Entered(1), Entered(1), Entered(1), Taken(1)]",
     ),
     // A queue that is put to the door after the value was set is taken out again by the task that put

@@ -323,7 +323,9 @@ fn printed(alloc: Global, entries: Vec<Entry>, queue: Option<u64>) -> Result<Str
 }
 
 const TASK_ENTRIES: &str =
-    "made 1\nbegin 1 7\nclaim 1\nran 1 p\nran 1 v4\nran 1 e5\nfree 1 [7 8]\nfill 1 4 []\npass 2 [8]\nend 1 p\nend 1 v4\nend 1 e5\nend 1 memory\nend 1 full\ndropbegin 1\ndropend 1\nlook none\nlook v4\nqueue none\n";
+    "made 1\nbegin 1 7\nclaim 1\nran 1 p\nran 1 v4\nran 1 e5\nfree 1 [7 8]\nfill 1 4 []\npass 2 [8]\n\
+     end 1 p\nend 1 v4\nend 1 e5\nend 1 memory\nend 1 full\ndropbegin 1\ndropend 1\nlook none\n\
+     look v4\nqueue none\n";
 
 /// One entry of each form that a task has, and looks.
 #[test]
@@ -356,7 +358,8 @@ fn prints_the_entries_of_tasks(rt: HostRuntime) -> Result<(), Fail> {
 }
 
 const OWNER_ENTRIES: &str =
-    "own take none\nown take v4\nown write none\nown write v4\nown parts v4\nown parts [p v9]\nown parts []\nown replace none\nown replace v4\nqueue 1\n";
+    "own take none\nown take v4\nown write none\nown write v4\nown parts v4\nown parts [p v9]\n\
+     own parts []\nown replace none\nown replace v4\nqueue 1\n";
 
 /// One entry of each form that a call of the owner has.
 #[test]

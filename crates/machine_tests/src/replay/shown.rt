@@ -248,7 +248,8 @@ const ARROWS: [(&str, &str); 5] = [
     ),
     // Beside one that is gone and had the same waker, while the called one is in a poll with another.
     (
-        "once 8\nmake 1\nmake 2\nmake 3\npoll 2 5\nrun 2 p\npoll 1 7\nrun 1 p\ndrop 1\nrun 1 p\npoll 3 7\nrun 3 p\npoll 3 9\npoll 2 5\nrun 2 e1",
+        "once 8\nmake 1\nmake 2\nmake 3\npoll 2 5\nrun 2 p\npoll 1 7\nrun 1 p\ndrop 1\nrun 1 p\n\
+         poll 3 7\nrun 3 p\npoll 3 9\npoll 2 5\nrun 2 e1",
         " 132V148L",
     ),
     // Of two who wait with one waker the one that was listed first.
@@ -258,11 +259,13 @@ const ARROWS: [(&str, &str); 5] = [
     ),
     // And then that one calls the other, by an init that fails or as it is dropped.
     (
-        "once 8\nmake 1\nmake 2\nmake 3\npoll 1 5\nrun 1 p\npoll 3 7\nrun 3 p\npoll 2 7\nrun 2 p\npoll 1 5\nrun 1 e1\npoll 3 7\nrun 3 e1",
+        "once 8\nmake 1\nmake 2\nmake 3\npoll 1 5\nrun 1 p\npoll 3 7\nrun 3 p\npoll 2 7\nrun 2 p\n\
+         poll 1 5\nrun 1 e1\npoll 3 7\nrun 3 e1",
         " 164V124L",
     ),
     (
-        "once 8\nmake 1\nmake 2\nmake 3\npoll 1 5\nrun 1 p\npoll 3 7\nrun 3 p\npoll 2 7\nrun 2 p\npoll 1 5\nrun 1 e1\ndrop 3\nrun 3 p",
+        "once 8\nmake 1\nmake 2\nmake 3\npoll 1 5\nrun 1 p\npoll 3 7\nrun 3 p\npoll 2 7\nrun 2 p\n\
+         poll 1 5\nrun 1 e1\ndrop 3\nrun 3 p",
         " 164V124L",
     ),
 ];

@@ -50,6 +50,7 @@ pub const OWNER: [(&str, &str, &str); 10] = [
     (
         "lazy_cell_taken_apart",
         "lazy 8 p p v4\nmake 1\npoll 1 5\nrun 1 e9\ndrop 1\nrun 1 e9\nparts\nreplace with 8\nparts\n",
-        "made 1\nbegin 1 5\nclaim 1\nran 1 p\nend 1 p\ndropbegin 1\nfree 1 []\ndropend 1\nown parts [p v4]\nown replace none\nown parts v8\nqueue none\n",
+        "made 1\nbegin 1 5\nclaim 1\nran 1 p\nend 1 p\ndropbegin 1\nfree 1 []\ndropend 1\n\
+         own parts [p v4]\nown replace none\nown parts v8\nqueue none\n",
     ),
 ];
