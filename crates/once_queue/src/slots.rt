@@ -191,11 +191,13 @@ impl<W: Drop> Slots<W> {
         ensures all { result.items ≡ listings_in self.old }
         ensures none { listings_in self.new ≡ [] }
     {
-        self.close_holes();
-        let alloc = *self.slots.allocator();
+        self.uncalled = 0;
+        self.slots.retain(|slot| slot.ticket != HOLE);
+        self.holes = 0;
+        self.places.clear();
         self.used.clear();
         self.free = 0;
-        self.uncalled = 0;
+        let alloc = *self.slots.allocator();
         mem::replace(&mut self.slots, Vec::new(alloc))
     }
 
