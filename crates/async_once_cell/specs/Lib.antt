@@ -14,6 +14,7 @@ pub use Rattle.once_world.specs.Tasks
 pub use Rattle.once_world.specs.Wakers
 pub use Rattle.once_world.specs.Refusals
 pub use Rattle.once_world.specs.Crowd
+pub use Rattle.once_world.specs.Freed
 pub use Rattle.once_world.specs.Run
 pub use Rattle.once_world.specs.Called
 pub use Rattle.once_world.specs.Values

@@ -4,6 +4,7 @@ pub mod Unmade
 pub mod Nobody
 pub mod Called
 pub mod Rights
+pub mod Freed
 pub mod First
 pub mod Crowded
 pub mod Values

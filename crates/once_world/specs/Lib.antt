@@ -5,6 +5,7 @@ pub mod Tasks
 pub mod Wakers
 pub mod Refusals
 pub mod Crowd
+pub mod Freed
 pub mod Run
 pub mod Called
 pub mod Values

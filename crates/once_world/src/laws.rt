@@ -9,6 +9,7 @@ ghost use Rattle.once_world.specs.Tasks.{Fresh, Dropping, Holding, Gone, status,
 ghost use Rattle.once_world.specs.Wakers.{IsDue, IsOpen, times_opened, times_handed};
 ghost use Rattle.once_world.specs.Refusals.{Since, OtherActs};
 ghost use Rattle.once_world.specs.Crowd.{AreWaiting};
+ghost use Rattle.once_world.specs.Freed.{HasFreed};
 ghost use Rattle.once_world.specs.Run.{IsRun};
 
 /// At most one task holds the right, whether it rests or is in a call. Who claims the right finds the
@@ -37,11 +38,13 @@ pub fn value_set_is_answered()
 {}
 
 /// A poll that ends with an error ends with the one that its own init gave, after it gave the right
-/// back.
+/// back. At that moment, since the poll began, the cell was empty.
 pub fn error_is_ones_own()
-    ensures { (kind : Kind) (limit t e : ℕ) (h : List Entry)
+    ensures own { (kind : Kind) (limit t e : ℕ) (h : List Entry)
         → IsRun kind limit (End t (Error e) ∷ h)
         → ((last_call kind t h).ran ≡ Some (RanError e)) × ((last_call kind t h).freed ≡ true) }
+    ensures empty { (kind : Kind) (limit t e : ℕ) (h : List Entry)
+        → IsRun kind limit (End t (Error e) ∷ h) → Since t (HasFreed kind t) h }
 {}
 
 /// While a task that holds is dropped, the cell stays held or becomes empty, and a lazy init keeps

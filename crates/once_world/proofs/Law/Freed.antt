@@ -1,0 +1,48 @@
+-- A poll that ends with an error has emptied the cell. From the run alone.
+use Rattle.std.proofs.Common.{◌≡◌, ℕ, Bool, true, false, inl, inr, List, [], ◌∷◌, refl, ap}
+use Rattle.std.proofs.lemmas.Bool.{false≢true, eqb-true}
+use Rattle.once_world.specs.Record.{Begin, Claim, DropBegin, DropEnd, End, Entry, Error, Fill, Free, Full, Kind, Look, Made, Memory, Own, Pass, Pending, Ran, Value, is_of}
+use Rattle.once_world.specs.Cell.{cell}
+use Rattle.once_world.specs.Tasks.{last_call, last_call_after, status}
+use Rattle.once_world.specs.Refusals.{Since}
+use Rattle.once_world.specs.Freed.{HasFreed}
+use Rattle.once_world.specs.Run.{IsRun}
+use Rattle.once_world.proofs.History.Others.{since_more}
+use Rattle.once_world.proofs.Law.Rights.{own_error}
+
+-- by an entry of the task
+freed_by_own : (K : Kind) (t : ℕ) (e : Entry) (h : List Entry) → is_of t e ≡ true
+    → ((last_call K t h).freed ≡ true → Since t (HasFreed K t) h)
+    → (last_call_after e (cell K h) (status K t h) (last_call K t h)).freed ≡ true → Since t (HasFreed K t) (e ∷ h)
+freed_by_own K t (Free u X) h is ih f = inl ((X, h, ap (λ (v : ℕ). Free v X ∷ h) (eqb-true u t is)), refl)
+freed_by_own K t (Begin u w) h is ih f = absurd (false≢true f)
+freed_by_own K t (DropBegin u) h is ih f = absurd (false≢true f)
+freed_by_own K t (Made u) h is ih f = inr (ih f)
+freed_by_own K t (Claim u) h is ih f = inr (ih f)
+freed_by_own K t (Ran u a) h is ih f = inr (ih f)
+freed_by_own K t (Fill u v X) h is ih f = inr (ih f)
+freed_by_own K t (Pass u X) h is ih f = inr (ih f)
+freed_by_own K t (End u Pending) h is ih f = inr (ih f)
+freed_by_own K t (End u (Value v)) h is ih f = inr (ih f)
+freed_by_own K t (End u (Error v)) h is ih f = inr (ih f)
+freed_by_own K t (End u Memory) h is ih f = inr (ih f)
+freed_by_own K t (End u Full) h is ih f = inr (ih f)
+freed_by_own K t (DropEnd u) h is ih f = inr (ih f)
+freed_by_own K t (Look r) h is ih f = absurd (false≢true is)
+freed_by_own K t (Own o g) h is ih f = absurd (false≢true is)
+
+-- its entries and those of others
+freed_by : (K : Kind) (t : ℕ) (e : Entry) (h : List Entry) (b : Bool) → is_of t e ≡ b
+    → ((last_call K t h).freed ≡ true → Since t (HasFreed K t) h)
+    → (last_call K t (e ∷ h)).freed ≡ true → Since t (HasFreed K t) (e ∷ h)
+freed_by K t e h true is ih f = freed_by_own K t e h is ih (rw is at f)
+freed_by K t e h false is ih f = since_more t (HasFreed K t) e h is (ih (rw is at f))
+
+-- a call in which the task freed the cell emptied it, and no poll began since
+freed_since : (K : Kind) (t : ℕ) (h : List Entry) → (last_call K t h).freed ≡ true → Since t (HasFreed K t) h
+freed_since K t [] f = absurd (false≢true f)
+freed_since K t (e ∷ h) f = freed_by K t e h (is_of t e) refl (λ k. freed_since K t h k) f
+
+-- an error comes after the cell was emptied
+pub error_empties : (K : Kind) (limit t e : ℕ) (h : List Entry) → IsRun K limit (End t (Error e) ∷ h) → Since t (HasFreed K t) h
+error_empties K limit t e h r = freed_since K t h (own_error K limit t e h r).1
