@@ -174,9 +174,10 @@ impl<T> OnceCell<T> {
     /// As [`OnceCell::get`], and the token learns the value that is answered. A token that knows a
     /// value gets that value, always. It waits for nobody.
     pub fn get_as<'a>(&'a self, token: &mut Known<'a, T>) -> Option<&'a T>
-        requires { token.old.cell ≡ self.now }
+        requires token_of_this_cell { token.old.cell ≡ self.now }
         ensures cell { token.new.cell ≡ token.old.cell }
         ensures value { Learns token.old.value token.new.value result }
+        ensures lends { Lends self.now result }
     {
         token.learn(self)
     }

@@ -1,6 +1,7 @@
 //! Tokens: what their holder has learned of one cell.
 ghost use Rattle.std.specs.Prelude.{◌≡◌, ◌↔◌, IsTrue, IsSome, IsNone, IfSome, None, Some};
-ghost use Rattle.once_cells.specs.Tokens.{Agrees, Knows, Learns};
+ghost use Rattle.std.specs.Option.{option_map};
+ghost use Rattle.once_cells.specs.Tokens.{Agrees, Knows, Learns, Lends};
 ghost use Rattle.once_cells.specs.Views.{known_of, IsOf};
 
 use super::OnceCell;
@@ -58,7 +59,7 @@ impl<'a, T> Known<'a, T> {
     /// Whether both tokens know a value. Then the two values are one. The tokens are of one cell. It
     /// waits for nobody.
     pub fn compare(a: &Known<'a, T>, b: &Known<'a, T>) -> bool
-        requires { a.now.cell ≡ b.now.cell }
+        requires tokens_of_one_cell { a.now.cell ≡ b.now.cell }
         ensures both { IsTrue result ↔ (IsSome a.now.value × IsSome b.now.value) }
         ensures one { IsTrue result → a.now.value ≡ b.now.value }
     {
@@ -88,9 +89,10 @@ impl<'a, T> Known<'a, T> {
 
     // The value of the cell, where the token knows it or the cell shows it.
     pub(super) fn learn(&mut self, cell: &'a OnceCell<T>) -> Option<&'a T>
-        requires { self.old.cell ≡ cell.now }
+        requires token_of_this_cell { self.old.cell ≡ cell.now }
         ensures cell { self.new.cell ≡ self.old.cell }
         ensures value { Learns self.old.value self.new.value result }
+        ensures lends { Lends cell.now result }
     {
         let (value, seen) = cell.look(&self.seen)?;
         self.seen = seen;
@@ -106,6 +108,7 @@ impl<T> OnceCell<T> {
         ensures of { IfSome result (λ r. IsOf self.now r.1) }
         ensures known { IfSome result (λ r. known_of self.now r.1 ≡ Some r.0.now) }
         ensures agrees { IfSome result (λ r. Agrees (known_of self.now seen.now) r.0.now) }
+        ensures lends { Lends self.now (option_map (λ r. r.0) result) }
     {
         let slot = match &self.value {
             Value::Owned(value) => return Some((value, Seen::InCell)),
