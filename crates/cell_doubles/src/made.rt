@@ -108,12 +108,14 @@ impl<R: Wait + AllocGlobal> Made<'_, '_, R> {
         }
     }
 
-    /// The Debug text of a future of `get_or_init` or `get_or_try_init`.
+    /// The Debug text of the future.
     pub fn shown(&self, alloc: Global) -> Result<String, AllocError> {
         match self {
             Made::Sure(future) => format!(in alloc; "{future:?}"),
             Made::Trying(future) => format!(in alloc; "{future:?}"),
-            _ => format!(in alloc; "another future"),
+            Made::Looking(future) => format!(in alloc; "{future:?}"),
+            Made::Inside(future) => format!(in alloc; "{future:?}"),
+            Made::Lazily(future) => format!(in alloc; "{future:?}"),
         }
     }
 }

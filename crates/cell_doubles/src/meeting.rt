@@ -68,29 +68,26 @@ impl<R: Clock> Future for Blocking<'_, '_, R> {
     }
 }
 
-/// The same for a cell that owns it, which may not fail: 5, or 9. It keeps no runtime, so it spins for
-/// the flag and does not pause.
+/// The same for a cell that owns it, which may not fail: 5, or 9.
 #[derive(Drop)]
-pub struct Spinning<'m> {
+pub struct Keeping<'r, 'm, R> {
+    rt: &'r R,
     meeting: &'m Meeting,
 }
 
-impl<'m> Spinning<'m> {
-    pub fn new(meeting: &'m Meeting) -> Self {
-        Spinning { meeting }
+impl<'r, 'm, R> Keeping<'r, 'm, R> {
+    pub fn new(rt: &'r R, meeting: &'m Meeting) -> Self {
+        Keeping { rt, meeting }
     }
 }
 
-impl Future for Spinning<'_> {
+impl<R: Clock> Future for Keeping<'_, '_, R> {
     type Output = u64;
 
     fn poll(&mut self, _cx: &mut Context<'_>) -> Poll<u64> {
         self.meeting.begun.store(1, Ordering::SeqCst);
-        for _ in 0..100_000_000 {
-            if self.meeting.flag.load(Ordering::SeqCst) == 1 {
-                return Poll::Ready(5);
-            }
-            thread::yield_now();
+        if was_set(self.rt, &self.meeting.flag) {
+            return Poll::Ready(5);
         }
         Poll::Ready(9)
     }

@@ -3,6 +3,7 @@ ghost use Rattle.std.specs.Prelude.{⊤};
 
 use async_once_cell::inner::{Out, Queue, whole_poll};
 use async_once_cell::once::{InitFuture, Refused};
+use async_once_cell::queue::Listing;
 use async_once_cell::step::{Ending, Polled, Side, Step};
 use async_once_cell::world::Reply;
 use async_once_cell::{Lazy, OnceCell};
@@ -463,5 +464,82 @@ fn is_woken_late<R: Wait + AllocGlobal>(rt: &R, task: &MockTask) -> Option<bool>
 fn a_seat_called_before_its_task_sits(rt: HostRuntime) -> Result<(), Fail> {
     let task = MockTask::new(&rt)?;
     assert_eq!(rt; is_woken_late(&rt, &task), Some(true));
+    Ok(())
+}
+
+// Where a listing is when the value calls it.
+#[derive(Clone, Copy, PartialEq, Eq)]
+enum At {
+    // It was called before.
+    Called,
+    // Its task sits.
+    Sits,
+    // Its task does not sit yet.
+    Comes,
+}
+
+const PLACES: [At; 3] = [At::Called, At::Sits, At::Comes];
+
+// Sits down, where the seat is for one that is there.
+fn sits<R: Wait>(rt: &R, task: &MockTask, seat: &Seat) -> bool {
+    task.enter(|cx| seat.sit::<u64, R>(rt, cx).is_pending())
+}
+
+// Has a value call three who are listed: whether those whom nobody called before are woken, and no other,
+// once they sit.
+fn are_woken<R: Wait + AllocGlobal>(
+    rt: &R,
+    tasks: &[MockTask; 3],
+    listed: [At; 3],
+) -> Option<bool> {
+    let cell: OnceCell<u64> = OnceCell::new();
+    let seats = [
+        new_seat(&cell, rt)?,
+        new_seat(&cell, rt)?,
+        new_seat(&cell, rt)?,
+    ];
+    let mut all = Vec::new(rt.alloc());
+    for (ticket, (seat, at)) in (0..).zip(seats.iter().zip(listed)) {
+        let waker = if at == At::Called {
+            None
+        } else {
+            Some(seat.share_anew(rt)?)
+        };
+        all.push(Listing { ticket, waker }).ok()?;
+    }
+    for ((seat, at), task) in seats.iter().zip(listed).zip(tasks) {
+        if at != At::Comes {
+            sits(rt, task, seat);
+        }
+    }
+    call_all(rt, Out::All(all));
+    let mut are_woken = true;
+    for ((seat, at), task) in seats.iter().zip(listed).zip(tasks) {
+        if at == At::Comes {
+            sits(rt, task, seat);
+        }
+        are_woken &= task.is_woken() == (at != At::Called);
+    }
+    Some(are_woken)
+}
+
+/// A value calls all who are listed: those who sit and those who are still to sit, wherever they stand
+/// among those who were called before.
+#[test]
+fn a_value_calls_each_seat(rt: HostRuntime) -> Result<(), Fail> {
+    let tasks = [
+        MockTask::new(&rt)?,
+        MockTask::new(&rt)?,
+        MockTask::new(&rt)?,
+    ];
+    let mut are_always = true;
+    for first in PLACES {
+        for second in PLACES {
+            for third in PLACES {
+                are_always &= are_woken(&rt, &tasks, [first, second, third]) == Some(true);
+            }
+        }
+    }
+    assert!(rt; are_always);
     Ok(())
 }

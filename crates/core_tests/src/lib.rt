@@ -5,12 +5,20 @@
 #[cfg(test)]
 mod counting;
 #[cfg(test)]
+mod errors;
+#[cfg(test)]
 mod hostile;
 #[cfg(test)]
 mod inside;
 #[cfg(test)]
 mod layers;
 #[cfg(test)]
+mod left;
+#[cfg(test)]
+mod locked;
+#[cfg(test)]
 mod random;
+#[cfg(test)]
+mod rounds;
 #[cfg(test)]
 mod threads;

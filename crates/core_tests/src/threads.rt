@@ -1,6 +1,7 @@
 //! Threads that use the parts of one cell at the same time.
 ghost use Rattle.std.specs.Prelude.{⊤};
 
+use crate::left::{left, meet};
 use async_once_cell::OnceCell;
 use async_once_cell::inner::{
     Answer, Counted, Inner, MAX_WAITERS, NEW, Op, Out, Parts, whole_drop, whole_poll,
@@ -32,6 +33,12 @@ const DOORS: u64 = 1_000;
 const SEATS: usize = 200;
 
 const LOOKS: u64 = 300_000;
+
+const CELLS: u64 = 3_000;
+
+const TRIES: u64 = 100;
+
+const QUEUES: u64 = 100_000;
 
 // Counts in and out: whether it was counted in each time.
 fn is_always_counted<R: Wait + AllocGlobal>(rt: &R, inner: &Inner<u64>) -> bool {
@@ -162,8 +169,8 @@ where
     side.is_alone
 }
 
-/// Two threads claim, wait, fail and leave: one task holds at a time, and at the end nobody holds or is
-/// counted.
+/// Two threads claim, wait, fail and leave: one task holds at a time, and at the end nobody holds, is
+/// counted or is listed.
 #[test]
 fn two_threads_hold_in_turn(rt: HostRuntime) {
     let (inner, inside) = (Inner::new(false), AtomicU64::new(0));
@@ -172,7 +179,8 @@ fn two_threads_hold_in_turn(rt: HostRuntime) {
         || is_always_alone(&rt, &inner, &inside, (CALLS, 0)),
         || is_always_alone(&rt, &inner, &inside, (CALLS, 0)),
     );
-    assert_eq!(rt; (one, two, inner.word()), (true, true, NEW));
+    let left = left(&rt, inner.parts(&rt, None));
+    assert_eq!(rt; (one, two, left.is_free()), (true, true, true), "{left:?}");
 }
 
 /// The same with three threads, each of which holds for a while.
@@ -181,23 +189,14 @@ fn three_threads_hold_in_turn(rt: HostRuntime) {
     let (inner, inside) = (Inner::new(false), AtomicU64::new(0));
     let alone = || is_always_alone(&rt, &inner, &inside, (LONG_CALLS, 100));
     let (one, (two, three)) = thread::join(&rt, alone, || thread::join(&rt, alone, alone));
-    assert_eq!(rt; (one, two, three, inner.word()), (true, true, true, NEW));
-}
-
-// Waits until both threads are at this meeting, of which 0 is the first.
-fn meet<R: Wait>(rt: &R, arrived: &AtomicU64, meeting: u64) {
-    arrived.fetch_add(1, Ordering::SeqCst);
-    for _ in rt.forever() {
-        if arrived.load(Ordering::SeqCst) / 2 > meeting {
-            break;
-        }
-    }
+    let left = left(&rt, inner.parts(&rt, None));
+    assert_eq!(rt; [one, two, three, left.is_free()], [true; 4], "{left:?}");
 }
 
 // Puts a queue to the door, or finds one there, and lists a waker in it: whether it is listed.
 fn is_listed<R: Wait + AllocGlobal>(rt: &R, inner: &Inner<u64>, arrived: &AtomicU64) -> bool {
     let mut parts = inner.parts(rt, None);
-    meet(rt, arrived, 0);
+    meet(rt, arrived, 2, 0);
     let Some(queue) = parts.door_put() else {
         return false;
     };
@@ -290,7 +289,7 @@ fn is_met_each_time<R: Wait + AllocGlobal>(
 ) -> bool {
     let (mut parts, mut is_always) = (inner.parts(rt, None), true);
     for meeting in 0..MEETINGS {
-        meet(rt, arrived, meeting);
+        meet(rt, arrived, 2, meeting);
         for _ in 0..DOORS {
             is_always &= if takes {
                 parts.door_put().is_some() && parts.door_take()
@@ -324,6 +323,72 @@ fn two_threads_take_each_queue(rt: HostRuntime) {
     assert!(rt; is_taken);
 }
 
+// Puts a queue and takes it out again and again, in so many threads at a time: whether none is at the door
+// at the end.
+fn leave_no_queue<R>(rt: &R, threads: usize) -> Result<bool, AllocError>
+where
+    R: Wait + AllocGlobal + Threads + Sync,
+{
+    let inner: Inner<u64> = Inner::new(false);
+    let work = |_: usize| {
+        let mut parts = inner.parts(rt, None);
+        for _ in 0..QUEUES {
+            parts.door_put();
+            parts.door_take();
+        }
+    };
+    thread::map_indices(rt, rt.alloc(), threads, &work)?;
+    inner.parts(rt, None).door_take();
+    Ok(inner.has_queue() == Some(false))
+}
+
+/// Threads put queues and take them out. After that one who takes leaves none at the door.
+#[test]
+fn threads_leave_no_queue(rt: HostRuntime) -> Result<(), Fail> {
+    let left = [
+        leave_no_queue(&rt, 2)?,
+        leave_no_queue(&rt, 3)?,
+        leave_no_queue(&rt, 4)?,
+    ];
+    assert_eq!(rt; left, [true; 3]);
+    Ok(())
+}
+
+// How often a thread claimed, and how often it gave a value then.
+type Claims = (u64, u64);
+
+// Claims each cell and fills it where it got the right, after a meeting, as often as it is let.
+fn fills<R: Wait + AllocGlobal>(rt: &R, inners: &[Inner<u64>], arrived: &AtomicU64) -> Claims {
+    let (mut claimed, mut filled) = (0u64, 0u64);
+    for (meeting, inner) in (0..).zip(inners) {
+        let mut parts = inner.parts(rt, None);
+        meet(rt, arrived, 2, meeting);
+        for _ in 0..TRIES {
+            if parts.quick() {
+                claimed = claimed.saturating_add(1);
+                filled = filled.saturating_add(u64::from(parts.fast(true)));
+            }
+        }
+    }
+    (claimed, filled)
+}
+
+/// Of two threads that claim a cell and fill it at once one gets the right, and once.
+#[test]
+fn two_threads_fill_once(rt: HostRuntime) -> Result<(), Fail> {
+    let (mut inners, arrived) = (Vec::new(rt.alloc()), AtomicU64::new(0));
+    for _ in 0..CELLS {
+        inners.push(Inner::new(false))?;
+    }
+    let both = || fills(&rt, &inners, &arrived);
+    let (one, two) = thread::join(&rt, both, both);
+    let (claimed, filled) = (one.0.saturating_add(two.0), one.1.saturating_add(two.1));
+    let is_filled = |inner: &Inner<u64>| left(&rt, inner.parts(&rt, None)).is_filled();
+    let are_filled = inners.iter().all(is_filled);
+    assert_eq!(rt; (claimed, filled, are_filled), (CELLS, CELLS, true));
+    Ok(())
+}
+
 // Seats of the cell, so many after each meeting.
 fn seats<R>(rt: &R, cell: &OnceCell<u64>, arrived: &AtomicU64) -> Result<Vec<Seat>, AllocError>
 where
@@ -331,7 +396,7 @@ where
 {
     let mut seats = Vec::new(rt.alloc());
     for meeting in 0..MEETINGS {
-        meet(rt, arrived, meeting);
+        meet(rt, arrived, 2, meeting);
         for _ in 0..SEATS {
             if let Some(seat) = new_seat(cell, rt) {
                 seats.push(seat)?;

@@ -4,7 +4,7 @@ use cell_doubles::schedule::run;
 use std::test::Fail;
 
 // Schedules over a `Lazy`.
-const SCHEDULES: [(&str, &str); 4] = [
+const SCHEDULES: [(&str, &str); 5] = [
     // Four futures of one cell, polled by one task: its own future is driven by the first, and all get the
     // value.
     (
@@ -47,6 +47,16 @@ poll 0 v5 => v5, done
 poll 0 v5 => pending, done, wakes 0
 inits => 1 polls, 1 drops
 lazy => Some(5), Lazy { value: Some(5), inner: Inner { ready: true, quick_init: false, refcount: 0, queue: false } }",
+    ),
+    // A future says whether it is finished.
+    (
+        "futures_shown",
+        "get 0
+future 0 => LazyFuturePin { finished: false }
+unpin 1
+poll 1 v5 => v5, done
+future 0 => LazyFuturePin { finished: false }
+future 1 => LazyFuturePin { finished: true }",
     ),
     // A value that the future gave is there for all calls, and the future is not.
     (

@@ -86,6 +86,30 @@ fn written_beside_a_queue(rt: HostRuntime) -> Result<(), Fail> {
     Ok(())
 }
 
+// An empty cell whose right a forgotten future has, and one that has a queue besides, in which one task is
+// counted.
+const HELD: [&str; 2] = [
+    "OnceCell { value: None, inner: Inner { ready: false, quick_init: true, refcount: 0, queue: false } }",
+    "OnceCell { value: None, inner: Inner { ready: false, quick_init: true, refcount: 1, queue: true } }",
+];
+
+/// A cell that is not set is left as it is by who would write its value, whoever was forgotten there.
+#[test]
+fn nothing_to_write_beside_a_holder(rt: HostRuntime) -> Result<(), Fail> {
+    let (task, stub) = (MockTask::new(&rt)?, Stub::<u64>::new());
+    let mut cell: OnceCell<u64> = OnceCell::new();
+    let mut found = [(false, false); 2];
+    for (found, held) in found.iter_mut().zip(HELD) {
+        let mut future = cell.get_or_init(&rt, stub.init());
+        let is_pending = task.poll(&mut future).is_pending();
+        forget(future);
+        let lent = cell.get_mut().copied();
+        *found = (is_pending && lent.is_none(), shows(&rt, &cell, held));
+    }
+    assert_eq!(rt; found, [(true, true); 2]);
+    Ok(())
+}
+
 // What a poll answers of a cell, and what a token learns then.
 fn told<'a, R: Wait + AllocGlobal>(
     rt: &'a R,

@@ -5,6 +5,9 @@ use async_once_cell::once::{InitError, Refused};
 use async_once_cell::world::Reply;
 use cell_doubles::poll::Refusal;
 use cell_doubles::text::shows;
+use futures::future::ready;
+use futures::test::MockTask;
+use std::test::Fail;
 
 /// A token says what it knows.
 #[test]
@@ -15,6 +18,21 @@ fn tokens(rt: HostRuntime) {
     let _ = cell.get_as(&mut token);
     let knows_it = shows(&rt, &token, "Known(Some(4))");
     assert!(rt; knows_nothing && knows_it);
+}
+
+/// It says so of a value that an init gave, too.
+#[test]
+fn token_of_a_fill(rt: HostRuntime) -> Result<(), Fail> {
+    let (task, cell) = (MockTask::new(&rt)?, OnceCell::new());
+    let is_filled = task
+        .poll(&mut cell.get_or_init(&rt, ready(5u64)))
+        .is_ready();
+    let mut token = cell.token();
+    let knows_nothing = shows(&rt, &token, "Known(None)");
+    let _ = cell.get_as(&mut token);
+    let knows_it = shows(&rt, &token, "Known(Some(5))");
+    assert!(rt; is_filled && knows_nothing && knows_it);
+    Ok(())
 }
 
 /// A refusal is the error of a poll that may fail otherwise too.

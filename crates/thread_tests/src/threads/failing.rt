@@ -5,6 +5,7 @@ use super::gathered::{CELLS, THREADS, Visited, alike, gathered};
 use async_once_cell::world::Reply;
 use async_once_cell::{Lazy, OnceCell};
 use cell_doubles::slow::{Failing, Slow, ended, left_midway};
+use cell_doubles::text::{SETTLED, shows};
 use futures::test::MockTask;
 use std::alloc::{AllocError, AllocGlobal, Global};
 use std::sync::Wait;
@@ -74,13 +75,18 @@ fn filled(cells: &[Contested]) -> u64 {
     filled
 }
 
-/// Each cell is filled once, after all its failures, and all threads get that value.
+/// Each cell is filled once, after all its failures, and all threads get that value. Nobody is left in any
+/// cell.
 #[test]
 fn filled_after_the_failures(rt: HostRuntime) -> Result<(), Fail> {
     let cells = all_cells(rt.alloc())?;
     let got = gathered(&rt, &cells)?;
     let alike = alike(&got, &[1; CELLS as usize]);
-    assert_eq!(rt; (alike, filled(&cells)), (THREADS, CELLS));
+    let are_settled = cells.iter().all(|it| shows(&rt, &it.cell, SETTLED));
+    assert_eq!(rt;
+        (alike, filled(&cells), are_settled),
+        (THREADS, CELLS, true)
+    );
     Ok(())
 }
 
@@ -120,13 +126,18 @@ fn numbers(alloc: Global) -> Result<Vec<u64>, AllocError> {
     Ok(numbers)
 }
 
-/// Threads drive one future by turns, and drop some of those by which they do. It is done once.
+/// Threads drive one future by turns, and drop some of those by which they do. It is done once, and nobody
+/// is left in its cell.
 #[test]
 fn filled_after_the_drops(rt: HostRuntime) -> Result<(), Fail> {
     let (done, numbers) = (AtomicU64::new(0), numbers(rt.alloc())?);
     let lazies = lazies(rt.alloc(), &done)?;
     let got = gathered(&rt, &lazies)?;
     let alike = alike(&got, &numbers);
-    assert_eq!(rt; (alike, done.load(Ordering::SeqCst)), (THREADS, CELLS));
+    let are_settled = lazies.iter().all(|it| shows(&rt, it, SETTLED));
+    assert_eq!(rt;
+        (alike, done.load(Ordering::SeqCst), are_settled),
+        (THREADS, CELLS, true)
+    );
     Ok(())
 }

@@ -5,6 +5,7 @@ use async_once_cell::OnceCell;
 use async_once_cell::world::Reply;
 use cell_doubles::slow::{Driven, Slow, ended};
 use cell_doubles::stub::Tried;
+use cell_doubles::text::{SETTLED, shows};
 use futures::test::MockTask;
 use std::alloc::{AllocError, AllocGlobal, Global};
 use std::sync::Wait;
@@ -104,13 +105,17 @@ fn sound(cells: &[Contested], values: &[u64]) -> u64 {
     sound
 }
 
-/// All threads get one value of a cell, whose inits gave a value once.
+/// All threads get one value of a cell, whose inits gave a value once. Nobody is left in any cell.
 #[test]
 fn many_threads_one_value(rt: HostRuntime) -> Result<(), Fail> {
     let cells = all_cells(rt.alloc())?;
     let got = gathered(&rt, &cells)?;
     let values = values(rt.alloc(), &cells)?;
     let alike = alike(&got, &values);
-    assert_eq!(rt; (alike, sound(&cells, &values)), (THREADS, CELLS));
+    let are_settled = cells.iter().all(|it| shows(&rt, &it.cell, SETTLED));
+    assert_eq!(rt;
+        (alike, sound(&cells, &values), are_settled),
+        (THREADS, CELLS, true)
+    );
     Ok(())
 }

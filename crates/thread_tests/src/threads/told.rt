@@ -4,6 +4,7 @@ ghost use Rattle.std.specs.Prelude.{◌≡◌, IfSome};
 use async_once_cell::OnceCell;
 use async_once_cell::once::{InitError, Known, TryInitFuture};
 use cell_doubles::meeting::{Blocking, Meeting};
+use cell_doubles::text::{SETTLED, shows};
 use futures::Future;
 use futures::executor::block_on;
 use futures::task::{Context, Poll};
@@ -105,6 +106,7 @@ where
 #[test]
 fn tokens_of_two_threads(rt: HostRuntime) -> Result<(), Fail> {
     let (cell, meeting) = (OnceCell::new(), Meeting::new());
-    assert!(rt; both_told(&rt, &cell, &meeting));
+    let are_told = both_told(&rt, &cell, &meeting);
+    assert!(rt; are_told && shows(&rt, &cell, SETTLED));
     Ok(())
 }

@@ -1,0 +1,91 @@
+//! Inits that fail while another waits, which then fills the cell at once.
+
+use crate::left::{left, meet};
+use async_once_cell::OnceCell;
+use async_once_cell::once::InitError;
+use futures::Future;
+use futures::future::ready;
+use futures::task::{Context, Poll};
+use futures::test::MockTask;
+use once_cells::inside::parts;
+use std::alloc::AllocGlobal;
+use std::sync::Wait;
+use std::sync::atomic::{AtomicU64, Ordering};
+use std::test::Fail;
+use std::thread;
+
+const CELLS: u64 = 1_000;
+
+// A cell, and how often its two threads met while the init that fails was being polled.
+#[derive(Drop)]
+struct Failing {
+    cell: OnceCell<u64>,
+    arrived: AtomicU64,
+}
+
+// An init that fails once the other thread waits.
+#[derive(Drop)]
+struct Fails<'a, R> {
+    rt: &'a R,
+    arrived: &'a AtomicU64,
+}
+
+impl<R: Wait> Future for Fails<'_, R> {
+    type Output = Result<u64, u64>;
+
+    fn poll(&mut self, _cx: &mut Context<'_>) -> Poll<Result<u64, u64>> {
+        meet(self.rt, self.arrived, 2, 0);
+        meet(self.rt, self.arrived, 2, 1);
+        Poll::Ready(Err(9))
+    }
+}
+
+// Brings an init that fails to each cell: how many times it was told that error.
+fn fails<R: Wait + AllocGlobal>(rt: &R, task: &MockTask, cells: &[Failing]) -> u64 {
+    let mut told = 0u64;
+    for Failing { cell, arrived } in cells {
+        let mut future = cell.get_or_try_init(rt, Fails { rt, arrived });
+        if let Poll::Ready(Err(InitError::Init(9))) = task.poll(&mut future) {
+            told = told.saturating_add(1);
+        }
+    }
+    told
+}
+
+// Waits at each cell while the init of the other is polled, and then fills it as soon as it may.
+fn fills<R: Wait + AllocGlobal>(rt: &R, task: &MockTask, cells: &[Failing]) {
+    for Failing { cell, arrived } in cells {
+        let mut future = cell.get_or_init(rt, ready(4));
+        meet(rt, arrived, 2, 0);
+        let mut is_filled = task.poll(&mut future).is_ready();
+        meet(rt, arrived, 2, 1);
+        for _ in rt.forever() {
+            if is_filled {
+                break;
+            }
+            is_filled = task.poll(&mut future).is_ready();
+        }
+    }
+}
+
+/// Who brought an init that failed is told its error, also where another fills the cell meanwhile.
+#[test]
+fn own_error_beside_a_value(rt: HostRuntime) -> Result<(), Fail> {
+    let (first, second) = (MockTask::new(&rt)?, MockTask::new(&rt)?);
+    let mut cells = Vec::new(rt.alloc());
+    for _ in 0..CELLS {
+        cells.push(Failing {
+            cell: OnceCell::new(),
+            arrived: AtomicU64::new(0),
+        })?;
+    }
+    let (told, ()) = thread::join(
+        &rt,
+        || fails(&rt, &first, &cells),
+        || fills(&rt, &second, &cells),
+    );
+    let is_filled = |it: &Failing| left(&rt, parts(&it.cell, &rt, None)).is_filled();
+    let are_filled = cells.iter().all(is_filled);
+    assert_eq!(rt; (told, are_filled), (CELLS, true));
+    Ok(())
+}

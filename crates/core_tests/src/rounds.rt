@@ -1,0 +1,169 @@
+//! Threads that use one cell in rounds. Between two of them its owner looks at all that is left.
+
+use crate::left::left;
+use async_once_cell::OnceCell;
+use async_once_cell::world::Reply;
+use cell_doubles::slow::{Slow, ended, left_midway};
+use cell_doubles::stub::Tried;
+use futures::test::MockTask;
+use once_cells::inside::parts;
+use rand_core::{Rng, SeedableRng};
+use rand_xoshiro::Xoshiro256PlusPlus;
+use std::alloc::{AllocError, AllocGlobal};
+use std::mem::replace;
+use std::sync::Wait;
+use std::sync::atomic::{AtomicU64, Ordering};
+use std::test::Fail;
+use std::thread::{self, Threads};
+use std::time::Clock;
+
+const ROUNDS: u64 = 300;
+
+// How many futures a thread makes in a round, one after another.
+const TURNS: u64 = 4;
+
+// What is known of a round.
+#[derive(Drop)]
+struct Round {
+    // What a future answers that answers a value.
+    value: u64,
+    // Whether some inits give the value.
+    gives: bool,
+    // How many inits gave it, and how many failed.
+    made: AtomicU64,
+    failed: AtomicU64,
+}
+
+impl Round {
+    fn new(value: u64, gives: bool) -> Self {
+        Round {
+            value,
+            gives,
+            made: AtomicU64::new(0),
+            failed: AtomicU64::new(0),
+        }
+    }
+
+    // An init that is Pending up to two times.
+    fn init(&self, turn: u64) -> Slow<'_, Tried> {
+        let pending = turn / 4 % 3;
+        if self.gives && turn.is_multiple_of(2) {
+            return Slow {
+                pending,
+                answer: Ok(self.value),
+                done: &self.made,
+            };
+        }
+        Slow {
+            pending,
+            answer: Err(turn),
+            done: &self.failed,
+        }
+    }
+}
+
+// Makes a future, and polls it to its end, or drops it midway: whether it answered as it may.
+fn is_used<R>(rt: &R, cell: &OnceCell<u64>, round: &Round, task: &MockTask, turn: u64) -> bool
+where
+    R: Wait + AllocGlobal + Clock,
+{
+    let mut future = cell.get_or_try_init(rt, round.init(turn));
+    if turn / 2 % 2 == 0 {
+        left_midway(rt, task, future);
+        return true;
+    }
+    match ended(rt, task, &mut future) {
+        Reply::Value(value) => value == round.value,
+        Reply::Error(error) => error == turn,
+        _ => false,
+    }
+}
+
+// Uses the cell in so many threads, each with a task of its own: whether all of it ended as it may.
+fn are_used<R>(
+    rt: &R,
+    cell: &OnceCell<u64>,
+    round: &Round,
+    tasks: &[MockTask],
+    seed: u64,
+) -> Result<bool, AllocError>
+where
+    R: Wait + AllocGlobal + Clock + Threads + Sync,
+{
+    let work = |thread: usize| {
+        let seed = seed.wrapping_mul(8).wrapping_add(thread as u64);
+        let (mut random, mut is_well) = (Xoshiro256PlusPlus::seed_from_u64(seed), true);
+        for _ in 0..TURNS {
+            is_well &= is_used(rt, cell, round, &tasks[thread], random.next_u64());
+        }
+        is_well
+    };
+    let used = thread::map_indices(rt, rt.alloc(), tasks.len(), &work)?;
+    Ok(used.iter().all(|is_well| *is_well))
+}
+
+// Whether the cell is as the round left it: it has the value, which one init gave or which it had before, or
+// it is free.
+fn is_settled<R>(rt: &R, cell: &OnceCell<u64>, round: &Round, was_set: bool) -> bool
+where
+    R: Wait + AllocGlobal,
+{
+    let (left, value) = (left(rt, parts(cell, rt, None)), cell.get().copied());
+    let made = round.made.load(Ordering::SeqCst);
+    let failed = round.failed.load(Ordering::SeqCst);
+    let is_filled = left.is_filled() && value == Some(round.value);
+    if was_set {
+        return is_filled && made == 0 && failed == 0;
+    }
+    match made {
+        0 => left.is_free() && value.is_none(),
+        1 => is_filled,
+        _ => false,
+    }
+}
+
+// A call of the owner, or none: whether it finds the value that the cell lends.
+fn is_found(cell: &mut OnceCell<u64>, turn: u64) -> bool {
+    let lent = cell.get().copied();
+    match turn % 5 {
+        0 => cell.take() == lent,
+        1 => cell.get_mut().copied() == lent,
+        2 => replace(cell, OnceCell::new_with(turn)).into_inner() == lent,
+        3 => replace(cell, OnceCell::new()).into_inner() == lent,
+        _ => true,
+    }
+}
+
+// The first round of so many threads that did not end as it should.
+fn first_bad<R>(rt: &R, tasks: &[MockTask]) -> Result<Option<u64>, AllocError>
+where
+    R: Wait + AllocGlobal + Clock + Threads + Sync,
+{
+    let mut cell = OnceCell::new();
+    for number in 0..ROUNDS {
+        let value = cell.get().copied();
+        let round = Round::new(value.unwrap_or(number), number % 3 > 0);
+        let are_used = are_used(rt, &cell, &round, tasks, number)?;
+        let is_settled = is_settled(rt, &cell, &round, value.is_some());
+        if !are_used || !is_settled || !is_found(&mut cell, number) {
+            return Ok(Some(number));
+        }
+    }
+    Ok(None)
+}
+
+/// After each round of two, three and four threads the cell is free or filled. Who waited was called.
+#[test]
+fn rounds_leave_nothing(rt: HostRuntime) -> Result<(), Fail> {
+    let tasks = [
+        MockTask::new(&rt)?,
+        MockTask::new(&rt)?,
+        MockTask::new(&rt)?,
+        MockTask::new(&rt)?,
+    ];
+    let two = first_bad(&rt, &tasks[..2])?;
+    let three = first_bad(&rt, &tasks[..3])?;
+    let four = first_bad(&rt, &tasks)?;
+    assert_eq!(rt; [two, three, four], [None; 3]);
+    Ok(())
+}
