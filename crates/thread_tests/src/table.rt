@@ -1,18 +1,22 @@
-//! What the contracts of `memo` do not say of its table, and whole runs of it.
+//! What the contracts of `memo_table` do not say of its table, and whole runs of `memo`.
 ghost use Rattle.std.specs.Prelude.{◌*◌, ◌^◌, ◌<◌};
 
 use async_once_cell::OnceCell;
-use async_once_cell::once::Known;
+use async_once_cell::once::{Known, Refused};
 use cell_doubles::memory::hoard;
 use cell_doubles::target::Target;
 use futures::future::pending;
 use futures::test::MockTask;
-use memo::ask::{Answer, agreed, answer_within, ask};
-use memo::fault::Fault;
-use memo::fetch::Fetch;
-use memo::memo::Memo;
-use memo::run;
+use memo_table::ask::{Answer, KEYS, agreed, answer_within, ask};
+use memo_table::fault::Fault;
+use memo_table::fetch::Fetch;
+use memo_table::memo::Memo;
+use memo_table::{run, show, status};
 use std::alloc::{AllocError, AllocGlobal, Global};
+use std::cell::Cell;
+use std::fmt::Display;
+use std::io;
+use std::io::{Eprint, ErrorKind};
 use std::random::RandomSource;
 use std::sync::Wait;
 use std::sync::atomic::{AtomicU64, Ordering};
@@ -43,7 +47,7 @@ fn value_told<R: Wait + RandomSource + AllocGlobal + Clock>(
 ) -> Option<u64>
     requires { key * 10 < 2 ^ 64 }
 {
-    match ask(rt, memo, fetches, key) {
+    match ask(rt, memo, fetches, key, 1) {
         Ok(answer) => Some(answer.value),
         Err(_) => None,
     }
@@ -79,7 +83,7 @@ fn is_missing<R: Wait + RandomSource + AllocGlobal + Clock>(
     if memo.cell(key).is_some() || memo.token(key).is_some() {
         return false;
     }
-    match ask(rt, memo, fetches, key) {
+    match ask(rt, memo, fetches, key, 1) {
         Err(Fault::NoKey(at)) => at == key,
         _ => false,
     }
@@ -247,6 +251,127 @@ fn a_failed_write_leaves_a_beginning(rt: HostRuntime) {
             (is_beginning, is_cut, gave_up),
             (true, failed, failed),
             "at write {fails_at}"
+        );
+    }
+}
+
+// What a run printed where the flush alone fails, and whether it gave up for that.
+fn unflushed<R: Threads + Wait + RandomSource + AllocGlobal + Clock + Sync>(
+    rt: &R,
+) -> (bool, bool) {
+    let mut target = Target::new(rt.alloc(), usize::MAX, 0, true);
+    let ended = run(rt, &mut target);
+    let is_told = matches!(ended, Err(Fault::Io(error)) if error.kind() == ErrorKind::StorageFull);
+    (target.text() == TEXT.as_bytes(), is_told)
+}
+
+/// Where the flush alone fails all was written, and the run gives up.
+#[test]
+fn a_failed_flush_is_told(rt: HostRuntime) {
+    assert_eq!(rt; unflushed(&rt), (true, true));
+}
+
+// Whether no thread could be started where all memory is taken, and how much was printed.
+fn without_threads<R: Threads + Wait + RandomSource + AllocGlobal + Clock + Sync>(
+    rt: &R,
+    memo: &Memo<u64>,
+) -> Result<(bool, usize), AllocError> {
+    let mut printed = Vec::new(rt.alloc());
+    let held = hoard(rt.alloc())?;
+    let ended = show(rt, memo, 1, &mut printed);
+    drop(held);
+    Ok((matches!(ended, Err(Fault::Thread)), printed.len()))
+}
+
+/// Where a thread does not start, nothing is printed.
+#[test]
+fn a_refused_thread_prints_nothing(rt: HostRuntime) -> Result<(), Fail> {
+    let memo = table(rt.alloc(), &KEYS)?;
+    assert_eq!(rt; without_threads(&rt, &memo)?, (true, 0));
+    Ok(())
+}
+
+// Whether the turns of two threads were used up while another task held one of the cells, and how much
+// was printed.
+fn beside_a_holder<R: Threads + Wait + RandomSource + AllocGlobal + Clock + Sync>(
+    rt: &R,
+    memo: &Memo<u64>,
+) -> Result<(bool, usize), Fault> {
+    let (task, cell) = (MockTask::new(rt)?, memo.cell(2).ok_or(Fault::NoKey(2))?);
+    let mut holder = cell.get_or_init(rt, pending());
+    let holds = task.poll(&mut holder).is_pending();
+    let mut printed = Vec::new(rt.alloc());
+    let ended = show(rt, memo, 3, &mut printed);
+    Ok((holds && matches!(ended, Err(Fault::Turns)), printed.len()))
+}
+
+/// Where the turns are used up, nothing is printed.
+#[test]
+fn turns_used_up_print_nothing(rt: HostRuntime) -> Result<(), Fail> {
+    let memo = table(rt.alloc(), &KEYS)?;
+    assert_eq!(rt; beside_a_holder(&rt, &memo).ok(), Some((true, 0)));
+    Ok(())
+}
+
+// A standard error that keeps what it was told.
+#[derive(Drop)]
+struct Errors {
+    alloc: Global,
+    told: Cell<Option<String>>,
+}
+
+impl Eprint for Errors {
+    fn eprint<D: Display + Drop>(&self, value: D) -> io::Result<()> {
+        let text = match self.told.take() {
+            None => format!(in self.alloc; "{value}")?,
+            Some(before) => format!(in self.alloc; "{before}{value}")?,
+        };
+        self.told.set(Some(text));
+        Ok(())
+    }
+
+    fn eprintln<D: Display + Drop>(&self, value: D) -> io::Result<()> {
+        self.eprint(value)?;
+        self.eprint("\n")
+    }
+}
+
+// The status of a run that ended so, and what it told standard error.
+fn ended_with(alloc: Global, ended: Result<(), Fault>) -> (u8, Option<String>) {
+    let errors = Errors {
+        alloc,
+        told: Cell::new(None),
+    };
+    let status = status(&errors, ended);
+    (status, errors.told.take())
+}
+
+fn faults() -> [(Fault, &'static str); 5] {
+    [
+        (Fault::Turns, "a cell has no value after all turns\n"),
+        (
+            Fault::Refused(Refused::Memory),
+            "a poll was refused: out of memory\n",
+        ),
+        (Fault::Thread, "a thread could not be started\n"),
+        (Fault::Memory(AllocError), "out of memory\n"),
+        (
+            Fault::Io(io::Error::other("no such output")),
+            "no such output\n",
+        ),
+    ]
+}
+
+/// A run that gave up says why in one line on standard error, and a run that did not says nothing.
+#[test]
+fn a_line_says_why(rt: HostRuntime) {
+    let done = ended_with(rt.alloc(), Ok(()));
+    assert_eq!(rt; done, (0, None));
+    for (fault, wanted) in faults() {
+        let (status, told) = ended_with(rt.alloc(), Err(fault));
+        assert_eq!(rt;
+            (status, told.as_ref().map(String::as_str)),
+            (1, Some(wanted))
         );
     }
 }

@@ -25,7 +25,7 @@ pub enum Fault {
     Memory(#[from(alloc)] AllocError),
     /// The table gave up.
     #[error("{0}")]
-    Table(#[from] memo::fault::Fault),
+    Table(#[from] memo_table::fault::Fault),
     /// A write failed, or the system gave no task.
     #[error("{0}")]
     Io(#[from] io::Error),

@@ -7,6 +7,7 @@ mod fault;
 mod graph;
 mod pool;
 mod settings;
+mod table;
 
 use fault::Fault;
 use std::alloc::AllocGlobal;
@@ -16,20 +17,18 @@ use std::io::Write;
 use std::process::ExitCode;
 use std::random::RandomSource;
 use std::sync::Wait;
-use std::thread::Threads;
 use std::time::Clock;
 
 fn run<R, O>(rt: &R, output: &mut O) -> Result<(), Fault>
 where
-    R: Files + Threads + Wait + RandomSource + AllocGlobal + Clock + Sync,
+    R: Files + Wait + RandomSource + AllocGlobal + Clock,
     O: Write,
 {
     settings::show(rt, output)?;
     connection::show(rt, output)?;
     graph::show(rt, output)?;
     pool::show(rt, output)?;
-    memo::run(rt, output)?;
-    Ok(())
+    table::show(rt, output)
 }
 
 fn main(rt: HostRuntime) -> ExitCode {

@@ -2,7 +2,7 @@
 ghost use Rattle.std.specs.Prelude.{◌≡◌, ◌↔◌, ℕ, List, IsSome, IsNone, IfSome, IfOk, Contains};
 ghost use Rattle.std.specs.Option.{ForSome, option_copied, option_map};
 ghost use Rattle.async_once_cell.specs.Tokens.{CellView, Learns};
-ghost use Rattle.memo.specs.Memo.{cell_of};
+ghost use Rattle.memo_table.specs.Memo.{cell_of};
 
 use async_once_cell::OnceCell;
 use async_once_cell::once::Known;
@@ -93,7 +93,7 @@ impl<T> Memo<T> {
     /// let value = memo.get_as(7, &mut token); // Some(&70), and so at each later call
     /// ```
     pub fn get_as<'a>(&'a self, key: u64, token: &mut Known<'a, T>) -> Option<&'a T>
-        requires { ForSome (cell_of self.now key) (λ cell. token.old.cell ≡ cell) }
+        requires token_of_this_cell { ForSome (cell_of self.now key) (λ cell. token.old.cell ≡ cell) }
 
         // A key of the table.
         ensures cell { token.new.cell ≡ token.old.cell }

@@ -4,7 +4,7 @@ use Rattle.std.proofs.lemmas.List.Elements.{Contains-append_left, Contains-appen
 use Rattle.std.specs.BTreeMap.{is_at}
 use Rattle.std.specs.Cmp.{unsigned_tied}
 use Rattle.std.specs.Ordering.{nat_cmp}
-use Rattle.memo.proofs.memo.Memo.new.Goals as goal
+use Rattle.memo_table.proofs.memo.Memo.new.Goals as goal
 
 only_key : (key q : ℕ) → Contains (key ∷ []) q → key ≡ q
 only_key key q has =

@@ -16,8 +16,8 @@ use std::time::{Clock, Duration};
 /// The keys that each thread asks for, in this order.
 pub const KEYS: [u64; 3] = [1, 2, 3];
 
-/// How often a future is polled before its thread gives up.
-const TURNS: u64 = 10_000;
+/// How often the future of a key is polled before its thread gives up.
+pub const TURNS: u64 = 10_000;
 
 /// A key, and the value that a thread was told.
 #[derive(Clone, Copy, Debug, PartialEq, Eq)]
@@ -50,9 +50,15 @@ where
     Err(Fault::Turns)
 }
 
-/// Asks for the value of a key, with a fetch that is polled where no other was. It may wait as
-/// [`answer_within`] does, for each of its turns.
-pub fn ask<R>(rt: &R, memo: &Memo<u64>, fetches: &AtomicU64, key: u64) -> Result<Answer, Fault>
+/// Asks for the value of a key within so many turns, with a fetch that is polled where no other was.
+/// It may wait as [`answer_within`] does.
+pub fn ask<R>(
+    rt: &R,
+    memo: &Memo<u64>,
+    fetches: &AtomicU64,
+    key: u64,
+    turns: u64,
+) -> Result<Answer, Fault>
 where
     R: Wait + RandomSource + AllocGlobal + Clock,
     requires { key * 10 < 2 ^ 64 }
@@ -60,32 +66,42 @@ where
 {
     let cell = memo.cell(key).ok_or(Fault::NoKey(key))?;
     let future = cell.get_or_init(rt, Fetch::new(key, fetches));
-    let value = answer_within(rt, future, TURNS)?;
+    let value = answer_within(rt, future, turns)?;
     Ok(Answer { key, value })
 }
 
 /// Asks for the value of each key in turn.
-fn ask_all<R>(rt: &R, memo: &Memo<u64>, fetches: &AtomicU64) -> Result<Vec<Answer>, Fault>
+fn ask_all<R>(
+    rt: &R,
+    memo: &Memo<u64>,
+    fetches: &AtomicU64,
+    turns: u64,
+) -> Result<Vec<Answer>, Fault>
 where
     R: Wait + RandomSource + AllocGlobal + Clock,
     ensures { IfOk result (λ answers. map (λ answer. answer.key) answers.items ≡ KEYS) }
 {
     let mut answers = Vec::new(rt.alloc());
     for key in KEYS {
-        answers.push(ask(rt, memo, fetches, key)?)?;
+        answers.push(ask(rt, memo, fetches, key, turns)?)?;
     }
     Ok(answers)
 }
 
 /// What two threads are told that ask for each key at once. It waits for both to end, also where it
 /// gives up.
-pub fn ask_twice<R>(rt: &R, memo: &Memo<u64>, fetches: &AtomicU64) -> Result<Vec<Answer>, Fault>
+pub fn ask_twice<R>(
+    rt: &R,
+    memo: &Memo<u64>,
+    fetches: &AtomicU64,
+    turns: u64,
+) -> Result<Vec<Answer>, Fault>
 where
     R: Threads + Wait + RandomSource + AllocGlobal + Clock + Sync,
 {
     thread::scope(thread::scope_env(), rt, |scope| {
-        let first = scope.spawn(move || ask_all(rt, memo, fetches));
-        let second = scope.spawn(move || ask_all(rt, memo, fetches));
+        let first = scope.spawn(move || ask_all(rt, memo, fetches, turns));
+        let second = scope.spawn(move || ask_all(rt, memo, fetches, turns));
         match (first, second) {
             (Ok(first), Ok(second)) => agreed_by(first.join(rt), second.join(rt)),
             _ => Err(Fault::Thread),

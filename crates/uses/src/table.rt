@@ -1,0 +1,33 @@
+//! A table whose values are fetched when they are first asked for.
+
+use crate::fault::Fault;
+use memo_table::ask::{TURNS, ask};
+use memo_table::memo::Memo;
+use std::alloc::AllocGlobal;
+use std::io::Write;
+use std::random::RandomSource;
+use std::sync::Wait;
+use std::sync::atomic::{AtomicU64, Ordering};
+use std::time::Clock;
+
+// The keys of the table.
+const KEYS: [u64; 3] = [5, 6, 7];
+
+// What is asked for. The value of one key is never asked for, and so not fetched.
+const ASKED: [u64; 3] = [7, 5, 7];
+
+/// Asks a table for values, and prints what was told, and how many were fetched.
+pub fn show<R, O>(rt: &R, output: &mut O) -> Result<(), Fault>
+where
+    R: Wait + RandomSource + AllocGlobal + Clock,
+    O: Write,
+{
+    let memo = Memo::new(rt.alloc(), Vec::from_array(rt.alloc(), KEYS)?)?;
+    let fetches = AtomicU64::new(0);
+    for key in ASKED {
+        let answer = ask(rt, &memo, &fetches, key, TURNS)?;
+        write!(output, "{} ", answer.value)?;
+    }
+    writeln!(output, "({} fetched)", fetches.load(Ordering::SeqCst))?;
+    Ok(())
+}
