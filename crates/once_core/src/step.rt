@@ -244,12 +244,21 @@ impl<W: Drop, Q: Drop> Step<W, Q> {
             limit self.old parts.old side.old result self.new parts.new side.new }
         ensures stays { S.stays side.old side.new }
     {
-        // A place that keeps a queue is taken out first. Any other is only looked at.
+        // A queue is taken out first. A place that keeps none is only looked at. A holder's place stays: its
+        // queue alone is taken out of it.
         match *self {
             Step::UnderWay(Place::Start) => self.start(parts, side),
             Step::UnderWay(Place::TryQuick) => self.try_quick(parts),
             Step::UnderWay(Place::DoorGet) => self.door_get(parts),
             Step::UnderWay(Place::DoorPut) => self.door_put(parts, side),
+            Step::UnderWay(Place::Run(ref mut by)) => {
+                let by = by.take();
+                self.run(by, side)
+            }
+            Step::UnderWay(Place::Put(ref mut by)) => {
+                let by = by.take();
+                self.put(by, side)
+            }
             Step::UnderWay(Place::Fast(ending)) => self.fast(ending, parts),
             Step::UnderWay(Place::AddOne(ending)) => {
                 parts.add_one();
@@ -272,8 +281,6 @@ impl<W: Drop, Q: Drop> Step<W, Q> {
                     Place::List(queue, ticket, waker) => self.list(
                         queue, ticket, waker, parts, side,
                     ),
-                    Place::Run(by) => self.run(by, side),
-                    Place::Put(by) => self.put(by, side),
                     Place::Release(queue, ending) => self.release(queue, ending, parts, side),
                     Place::Leave(queue, ticket, ending) => self.leave(
                         queue, ticket, ending, parts, side,

@@ -337,10 +337,14 @@ where
 
     #[inline(always)]
     fn copy(&mut self) -> Option<Seat> {
-        if self.seat.is_none() {
-            *self.seat = Some(self.cell.new_seat(self.rt)?);
+        if let Some(seat) = self.seat.as_ref() {
+            return seat.share_anew(self.rt);
         }
-        self.seat.as_ref()?.share_anew(self.rt)
+        // Nobody can have called a new seat, so its first share is made without its lock.
+        let seat = self.cell.new_seat(self.rt)?;
+        let share = seat.share();
+        *self.seat = Some(seat);
+        share
     }
 
     #[inline(always)]
