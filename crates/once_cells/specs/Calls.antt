@@ -5,14 +5,8 @@ use Rattle.once_core.specs.declared.step.Ending.{Ending}
 use Rattle.once_core.specs.declared.step.Ending.TheVariants.{Dropped}
 use Rattle.once_core.specs.declared.step.Progress.{Progress}
 use Rattle.once_core.specs.declared.step.Progress.TheVariants.{More, Ended}
-use Rattle.once_core.specs.Steps.{PartsTell, SideTells, Advances}
-
--- the steps so far: none, or some and one more, which is a line of the table. They begin at a step, its parts and its side, and lead to others; the last one told the progress
-pub data Makes {P S W Q : Type 0} (parts : PartsTell P W Q) (side : SideTells S W) (limit : ℕ) (from : Step W Q) (p : P) (s : S) : Progress → Step W Q → P → S → Type 0 where
-  none : Makes parts side limit from p s More from p s
-  next : (before : Progress) (at : Step W Q) (q : P) (t : S) (told : Progress) (to : Step W Q) (r : P) (u : S)
-      → Makes parts side limit from p s before at q t → Advances parts side limit at q t told to r u
-      → Makes parts side limit from p s told to r u
+use Rattle.once_core.specs.Steps.{PartsTell, SideTells}
+use Rattle.once_core.specs.Chain.{Makes}
 
 -- how a call ended whose last step told this; without a step it is a drop of who never waited
 abbrev pub Ends : Progress → Ending → Type 0
@@ -43,3 +37,17 @@ silent_parts = record {
   door_take = λ _ _ _. ⊤;
   section = λ _ _ _ _ _ _. ⊤;
 }
+
+-- a side of which nothing is told
+abbrev pub silent_side : {S W : Type 0} → SideTells S W
+silent_side = record {
+  run = λ _ _ _. ⊤;
+  close = λ _ _. ⊤;
+  put = λ _ _. ⊤;
+  copy = λ _ _ _. ⊤;
+  wake = λ _ _ _. ⊤;
+}
+
+-- a call made its steps, from one to another, and ended so; what its parts and its side told is left out
+abbrev pub Walks : {W Q : Type 0} → ℕ → Step W Q → Ending → Step W Q → Type 0
+Walks limit from e to = Calls {P = ⊤} {S = ⊤} silent_parts silent_side limit from tt tt e to tt tt

@@ -12,6 +12,9 @@ use std::sync::Wait;
 
 /// A whole poll: begins it, and makes its steps until it ends. It may wait for the locks of door and
 /// queue, and for whatever the side waits for.
+///
+/// The futures of the cells do not call it: a poll of theirs makes the same steps in two parts. It is for
+/// a side of one's own.
 #[inline(always)]
 pub fn whole_poll<W: WakerId + Drop, R: Wait + AllocGlobal, S: Side<W>>(
     parts: &mut Shared<'_, '_, W, R>,
@@ -60,7 +63,7 @@ pub fn whole_drop<W: WakerId + Drop, R: Wait + AllocGlobal, S: Side<W>>(
 
 // Makes the steps of the call that is under way. There are at most sixteen.
 #[inline(always)]
-fn go_on<W: WakerId + Drop, R: Wait + AllocGlobal, S: Side<W>>(
+pub(crate) fn go_on<W: WakerId + Drop, R: Wait + AllocGlobal, S: Side<W>>(
     parts: &mut Shared<'_, '_, W, R>,
     step: &mut Step<W, Queue<W>>,
     side: &mut S,

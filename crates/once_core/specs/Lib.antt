@@ -1,2 +1,3 @@
 pub mod Core
 pub mod Steps
+pub mod Chain

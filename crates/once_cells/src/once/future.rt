@@ -3,22 +3,24 @@ ghost use Rattle.std.specs.Prelude.{◌≡◌, true, false};
 ghost use Rattle.futures.specs.Task.{IsArmed, Keeps};
 ghost use Rattle.once_cells.specs.Polls.{DidPoll};
 ghost use Rattle.once_cells.specs.Tokens.{Call, Polls};
+ghost use Rattle.once_cells.specs.Calls.{Walks};
 ghost use Rattle.once_core.specs.Steps.{in_call, is_finished as is_done};
 
 use super::{InitError, Known, OnceCell};
-use crate::calls::{whole_drop, whole_poll};
+use crate::calls::{go_on, whole_drop};
 use crate::held::Held;
 use futures::Future;
 use futures::future::TryOutput;
 use futures::task::{Context, Poll};
-use once_core::step::{Ending, Polled, Side, Step};
+use once_core::step::{Ending, Polled, Progress, Side, Step};
 use once_queue::waiters::Out;
+use once_queue::word::MAX_WAITERS;
 use once_shared::seat::{Seat, call_all};
 use once_shared::shared::Queue;
 use std::alloc::AllocGlobal;
-use std::fmt;
 use std::marker::{Model, PhantomData};
 use std::sync::Wait;
+use std::{fmt, mem};
 
 /// Future of [`OnceCell::get_or_try_init`].
 ///
@@ -41,6 +43,12 @@ pub struct TryInitFuture<'a, T, E, F: Future, R: Wait + AllocGlobal> {
     error: PhantomData<E>,
     cell: &'a OnceCell<T>,
     rt: &'a R,
+    task: Task<F>,
+}
+
+// The future as a task of its cell.
+#[derive(Drop)]
+struct Task<F: Future> {
     init: Option<Held<F>>,
     // Made when the future waits for the first time.
     seat: Option<Seat>,
@@ -52,9 +60,9 @@ pub struct TryInitFuture<'a, T, E, F: Future, R: Wait + AllocGlobal> {
 impl<'a, T, E, F: Future, R: Wait + AllocGlobal> Model for TryInitFuture<'a, T, E, F, R> {
     ghost Value = { Call T };
 
-    ghost view = { λ f. record { cell = f.cell.now; finished = is_done f.step } };
+    ghost view = { λ f. record { cell = f.cell.now; finished = is_done f.task.step } };
 
-    ghost invariant = { λ f. in_call f.step ≡ false };
+    ghost invariant = { λ f. in_call f.task.step ≡ false };
 }
 
 impl<'a, T, E, F: Future, R: Wait + AllocGlobal> TryInitFuture<'a, T, E, F, R> {
@@ -68,10 +76,12 @@ impl<'a, T, E, F: Future, R: Wait + AllocGlobal> TryInitFuture<'a, T, E, F, R> {
             error: PhantomData,
             cell,
             rt,
-            init: Some(Held::new(init)),
-            seat: None,
-            current: None,
-            step: Step::new(),
+            task: Task {
+                init: Some(Held::new(init)),
+                seat: None,
+                current: None,
+                step: Step::new(),
+            },
         }
     }
 
@@ -80,7 +90,7 @@ impl<'a, T, E, F: Future, R: Wait + AllocGlobal> TryInitFuture<'a, T, E, F, R> {
     pub fn is_finished(&self) -> bool
         ensures { result ≡ self.now.finished }
     {
-        self.step.is_finished()
+        self.task.step.is_finished()
     }
 
     // What a drop does: the init is dropped, and then the task gives the right back, or leaves those who
@@ -89,13 +99,13 @@ impl<'a, T, E, F: Future, R: Wait + AllocGlobal> TryInitFuture<'a, T, E, F, R> {
         ensures cell { self.new.cell ≡ self.old.cell }
         ensures finished { self.new.finished ≡ true }
     {
-        drop(self.init.take());
-        if self.step.is_resting() {
+        drop(self.task.init.take());
+        if self.task.step.is_resting() {
             let mut side = Leaving { rt: self.rt };
             let mut parts = self.cell.parts(self.rt, None);
-            whole_drop(&mut parts, &mut self.step, &mut side);
+            whole_drop(&mut parts, &mut self.task.step, &mut side);
         }
-        set(&mut self.step, Step::Finished);
+        set(&mut self.task.step, Step::Finished);
     }
 }
 
@@ -119,37 +129,46 @@ where
     /// future had been dropped.
     #[inline(always)]
     pub fn poll(&mut self, cx: &mut Context<'_>) -> Poll<Result<&'a T, InitError<E>>>
-        requires { self.old.finished ≡ false }
+        requires unfinished { self.old.finished ≡ false }
         ensures call { DidPoll self.old self.new cx.old cx.new result }
     {
-        let current = match self.current.take() {
-            Some(share) => Some(share),
-            None => self.seat.as_ref().and_then(Seat::share),
+        let (mut told, mut error, mut is_armed) = (Progress::More, None, false);
+        if self.task.step.is_new() {
+            // The step, the parts and the side of this way are its own, so that they need no memory.
+            let mut side = Polling {
+                cell: self.cell,
+                rt: self.rt,
+                cx,
+                init: &mut self.task.init,
+                seat: &mut self.task.seat,
+                value: None,
+                error: None,
+                is_armed: false,
+            };
+            let mut parts = self.cell.parts(self.rt, None);
+            let mut step = Step::new();
+            told = step.first_steps(&mut parts, &mut side);
+            let Polling {
+                cell: _,
+                rt: _,
+                cx: lent,
+                init: _,
+                seat: _,
+                value: _,
+                error: failure,
+                is_armed: asked,
+            } = side;
+            unchanged(lent);
+            (error, is_armed) = (failure, asked);
+            mem::forget(mem::replace(&mut self.task.step, step));
+        } else {
+            self.task.step.begin();
+        }
+        let outcome = match told {
+            Progress::Ended(ending) => Outcome::new(ending, error, is_armed),
+            Progress::More => remaining_steps(self.cell, self.rt, &mut self.task, error, cx),
         };
-        let mut side = Polling {
-            cell: self.cell,
-            rt: self.rt,
-            cx,
-            init: &mut self.init,
-            seat: &mut self.seat,
-            value: None,
-            error: None,
-            is_armed: false,
-        };
-        let mut parts = self.cell.parts(self.rt, current);
-        let ending = whole_poll(&mut parts, &mut self.step, &mut side);
-        self.current = parts.into_current();
-        let Polling {
-            cell: _,
-            rt: _,
-            cx,
-            init: _,
-            seat: _,
-            value: _,
-            error,
-            is_armed,
-        } = side;
-        self.answer(ending, error, is_armed, cx)
+        self.answer(outcome, cx)
     }
 
     /// As [`poll`](Self::poll), and the token learns the value that is answered. A token that knows
@@ -159,8 +178,8 @@ where
         cx: &mut Context<'_>,
         token: &mut Known<'a, T>,
     ) -> Poll<Result<&'a T, InitError<E>>>
-        requires live { self.old.finished ≡ false }
-        requires cell { token.old.cell ≡ self.old.cell }
+        requires unfinished { self.old.finished ≡ false }
+        requires token_of_this_cell { token.old.cell ≡ self.old.cell }
         ensures call { DidPoll self.old self.new cx.old cx.new result }
         ensures of { token.new.cell ≡ token.old.cell }
         ensures value { Polls token.old.value token.new.value result }
@@ -176,7 +195,7 @@ where
         if let Some(value) = token.learn(self.cell) {
             return Poll::Ready(Ok(value));
         }
-        set(&mut self.step, Step::new());
+        set(&mut self.task.step, Step::new());
         cx.yield_now()
     }
 
@@ -184,30 +203,28 @@ where
     #[inline(always)]
     fn answer(
         &mut self,
-        ending: Ending,
-        error: Option<E>,
-        is_armed: bool,
+        outcome: Outcome<E>,
         cx: &mut Context<'_>,
     ) -> Poll<Result<&'a T, InitError<E>>>
-        requires { is_armed ≡ true → IsArmed cx.old }
+        requires { outcome.is_armed ≡ true → IsArmed cx.old }
         ensures call { DidPoll self.old self.new cx.old cx.new result }
     {
-        if self.step.is_resting() {
-            return self.wait(is_armed, cx);
+        if self.task.step.is_resting() {
+            return self.rest(outcome.is_armed, cx);
         }
-        if let Some(why) = refusal(ending, error) {
+        if let Some(why) = outcome.into_refusal() {
             return Poll::Ready(Err(why));
         }
         if let Some(value) = self.cell.found() {
             return Poll::Ready(Ok(value));
         }
-        set(&mut self.step, Step::new());
+        set(&mut self.task.step, Step::new());
         cx.yield_now()
     }
 
     // Ends a poll that is Pending: the init saw to it that the task is called, or the seat does.
     #[inline(always)]
-    fn wait<O>(&self, is_armed: bool, cx: &mut Context<'_>) -> Poll<O>
+    fn rest<O>(&self, is_armed: bool, cx: &mut Context<'_>) -> Poll<O>
         requires { is_armed ≡ true → IsArmed cx.old }
         ensures pending { result ≡ Poll.Pending }
         ensures armed { IsArmed cx.new }
@@ -216,7 +233,7 @@ where
         if is_armed {
             return Poll::Pending;
         }
-        if let Some(seat) = &self.seat {
+        if let Some(seat) = &self.task.seat {
             return seat.sit(self.rt, cx);
         }
         cx.yield_now()
@@ -249,10 +266,7 @@ impl<T, E, F: Future, R: Wait + AllocGlobal> Drop for TryInitFuture<'_, T, E, F,
             error: _,
             cell: _,
             rt: _,
-            init: _init,
-            seat: _seat,
-            current: _current,
-            step: _step,
+            task: _task,
         } = self;
     }
 }
@@ -265,14 +279,98 @@ fn set(step: &mut Step<Seat, Queue<Seat>>, to: Step<Seat, Queue<Seat>>)
     *step = to;
 }
 
-// Why a poll that ended so has no value, if it has none.
-#[inline(always)]
-fn refusal<E: Drop>(ending: Ending, error: Option<E>) -> Option<InitError<E>> {
-    match ending {
-        Ending::Memory => Some(InitError::Memory),
-        Ending::Full => Some(InitError::Full),
-        _ => error.map(InitError::Init),
+// What the steps of a poll led to.
+#[derive(Drop)]
+struct Outcome<E> {
+    ending: Ending,
+    error: Option<E>,
+    // The init was Pending, and saw to it that the task is called.
+    is_armed: bool,
+}
+
+impl<E: Drop> Outcome<E> {
+    #[inline(always)]
+    fn new(ending: Ending, error: Option<E>, is_armed: bool) -> Self
+        ensures ending { result.ending ≡ ending }
+        ensures armed { result.is_armed ≡ is_armed }
+    {
+        Outcome {
+            ending,
+            error,
+            is_armed,
+        }
     }
+
+    // Why the poll has no value, if it has none.
+    #[inline(always)]
+    fn into_refusal(self) -> Option<InitError<E>> {
+        match self.ending {
+            Ending::Memory => Some(InitError::Memory),
+            Ending::Full => Some(InitError::Full),
+            _ => self.error.map(InitError::Init),
+        }
+    }
+}
+
+// Makes the steps that are left of the poll that is under way. This is a call: so a poll that meets nobody
+// has not the whole machine in its own code.
+#[inline(never)]
+fn remaining_steps<'a, T: Drop, E: Drop, F, R: Wait + AllocGlobal>(
+    cell: &'a OnceCell<T>,
+    rt: &'a R,
+    task: &mut Task<F>,
+    error: Option<E>,
+    cx: &mut Context<'_>,
+) -> Outcome<E>
+where
+    F: Future<Output: TryOutput<Ok = T, Error = E>>,
+    ensures ended { in_call task.new.step ≡ false }
+    ensures steps { Walks MAX_WAITERS task.old.step result.ending task.new.step }
+    ensures armed { result.is_armed ≡ true → IsArmed cx.new }
+    ensures kept { Keeps cx.old cx.new }
+{
+    let share = match task.current.take() {
+        Some(share) => Some(share),
+        None => task.seat.as_ref().and_then(Seat::share),
+    };
+    let mut side = Polling {
+        cell,
+        rt,
+        cx,
+        init: &mut task.init,
+        seat: &mut task.seat,
+        value: None,
+        error,
+        is_armed: false,
+    };
+    let mut parts = cell.parts(rt, share);
+    let ending = go_on(&mut parts, &mut task.step, &mut side);
+    task.current = parts.into_current();
+    let Polling {
+        cell: _,
+        rt: _,
+        cx,
+        init: _,
+        seat: _,
+        value: _,
+        error,
+        is_armed,
+    } = side;
+    unchanged(cx);
+    Outcome {
+        ending,
+        error,
+        is_armed,
+    }
+}
+
+// It does nothing. Its contract says that the context stays as it is, which a proof needs where a side is
+// taken apart.
+#[inline(always)]
+fn unchanged(cx: &mut Context<'_>)
+    ensures { cx.new ≡ cx.old }
+{
+    let _ = cx;
 }
 
 // What a poll brings.

@@ -59,7 +59,7 @@ impl<'a, T: Drop, F: Future<Output = T>, R: Wait + AllocGlobal> InitFuture<'a, T
     /// Polls the future once. It answers the value that is set, or a refusal, and is finished then.
     #[inline(always)]
     pub fn poll(&mut self, cx: &mut Context<'_>) -> Poll<Result<&'a T, Refused>>
-        requires { self.old.finished ≡ false }
+        requires unfinished { self.old.finished ≡ false }
         ensures call { DidPoll self.old self.new cx.old cx.new result }
     {
         surely(self.future.poll(cx))
@@ -73,8 +73,8 @@ impl<'a, T: Drop, F: Future<Output = T>, R: Wait + AllocGlobal> InitFuture<'a, T
         cx: &mut Context<'_>,
         token: &mut Known<'a, T>,
     ) -> Poll<Result<&'a T, Refused>>
-        requires live { self.old.finished ≡ false }
-        requires cell { token.old.cell ≡ self.old.cell }
+        requires unfinished { self.old.finished ≡ false }
+        requires token_of_this_cell { token.old.cell ≡ self.old.cell }
         ensures call { DidPoll self.old self.new cx.old cx.new result }
         ensures of { token.new.cell ≡ token.old.cell }
         ensures value { Polls token.old.value token.new.value result }

@@ -1,6 +1,6 @@
 -- The steps are lines of the table, one after the other, and the last one tells how the call ended.
 use Rattle.std.proofs.Common.{rules, refl}
-use Rattle.once_cells.specs.Calls.Makes.{none, next}
+use Rattle.once_core.specs.Chain.Makes.{none, next}
 use Rattle.once_cells.proofs.calls.go_on.Goals as goal
 
 pub loop-told-init : goal.loop-told-init
