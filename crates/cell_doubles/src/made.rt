@@ -10,6 +10,7 @@ use futures::task::{Context, Poll};
 use futures::test::MockTask;
 use std::alloc::{AllocError, AllocGlobal, Global};
 use std::cell::Cell;
+use std::fmt;
 use std::sync::Wait;
 
 /// An init that looks at its cell when it is dropped, and else does as its stub says.
@@ -71,6 +72,10 @@ impl<R: Wait + AllocGlobal> Future for Within<'_, R> {
     }
 }
 
+fn text<T: fmt::Debug>(alloc: Global, value: &T) -> Result<String, AllocError> {
+    format!(in alloc; "{value:?}")
+}
+
 /// A future of a cell, by the kind of its init.
 #[derive(Drop)]
 pub enum Made<'a, 'i, R: Wait + AllocGlobal> {
@@ -98,7 +103,8 @@ impl<R: Wait + AllocGlobal> Made<'_, '_, R> {
         (reply, self.is_finished())
     }
 
-    fn is_finished(&self) -> bool {
+    /// Whether the future is done.
+    pub fn is_finished(&self) -> bool {
         match self {
             Made::Sure(future) => future.is_finished(),
             Made::Trying(future) => future.is_finished(),
@@ -111,11 +117,11 @@ impl<R: Wait + AllocGlobal> Made<'_, '_, R> {
     /// The Debug text of the future.
     pub fn shown(&self, alloc: Global) -> Result<String, AllocError> {
         match self {
-            Made::Sure(future) => format!(in alloc; "{future:?}"),
-            Made::Trying(future) => format!(in alloc; "{future:?}"),
-            Made::Looking(future) => format!(in alloc; "{future:?}"),
-            Made::Inside(future) => format!(in alloc; "{future:?}"),
-            Made::Lazily(future) => format!(in alloc; "{future:?}"),
+            Made::Sure(future) => text(alloc, future),
+            Made::Trying(future) => text(alloc, future),
+            Made::Looking(future) => text(alloc, future),
+            Made::Inside(future) => text(alloc, future),
+            Made::Lazily(future) => text(alloc, future),
         }
     }
 }

@@ -1,18 +1,43 @@
-//! A machine without memory.
+//! A machine without memory, or with memory for some requests alone.
 
 use std::alloc::{AllocError, Global};
 
 /// Takes memory until no request is granted. To drop what it answers gives all back.
 pub fn hoard(alloc: Global) -> Result<Vec<Vec<u8>>, AllocError> {
-    let mut held = Vec::with_capacity(alloc, 200_000)?;
-    let mut size = 0x4000_0000_0000usize;
+    let held = Vec::with_capacity(alloc, 200_000)?;
+    all_taken(alloc, held, 0x4000_0000_0000)
+}
+
+/// Takes all memory but a little, of which the rest of a test makes do.
+pub fn hoard_most(alloc: Global) -> Result<Vec<Vec<u8>>, AllocError> {
+    let little = Vec::<u8>::with_capacity(alloc, 0x100_0000)?;
+    let held = hoard(alloc)?;
+    drop(little);
+    Ok(held)
+}
+
+/// Takes all memory but one block of so many bytes, while all but a little is taken already.
+pub fn hoard_rest(alloc: Global, bytes: usize) -> Result<Vec<Vec<u8>>, AllocError> {
+    let block = Vec::<u8>::with_capacity(alloc, bytes)?;
+    let rest = all_taken(alloc, Vec::with_capacity(alloc, 4_000)?, 0x1000_0000)?;
+    drop(block);
+    Ok(rest)
+}
+
+// Takes blocks of this size and of each that is half as large, until none is granted.
+fn all_taken(
+    alloc: Global,
+    mut held: Vec<Vec<u8>>,
+    most: usize,
+) -> Result<Vec<Vec<u8>>, AllocError> {
+    let mut size = most;
     for _ in 0..47 {
         take_all(alloc, &mut held, size);
         size = size / 2 + 1;
     }
     // What was given back before may be kept for requests of just its size.
-    for step in 0..64 {
-        take_all(alloc, &mut held, step * 16 + 24);
+    for kind in 0..KINDS {
+        take_all(alloc, &mut held, size_of_kind(kind));
     }
     Ok(held)
 }
@@ -26,5 +51,150 @@ fn take_all(alloc: Global, held: &mut Vec<Vec<u8>>, size: usize) {
         if held.push(block).is_err() {
             return;
         }
+    }
+}
+
+// Gives the block in this place back.
+fn give_back(alloc: Global, blocks: &mut Vec<Vec<u8>>, place: usize) {
+    if let Some(block) = blocks.get_mut(place) {
+        *block = Vec::new(alloc);
+    }
+}
+
+// How many kinds of small blocks there are. What was given back of a kind is granted to requests of that kind
+// alone, and to so many of them.
+const KINDS: usize = 64;
+
+const PLENTY: usize = 6;
+
+// The largest request for a block of this kind.
+fn size_of_kind(kind: usize) -> usize {
+    kind.saturating_mul(16).saturating_add(24)
+}
+
+/// A request for memory, by what comes before it: the acts, and in its own act the requests for blocks of the
+/// same kind. `KINDS` stands for each block that would be made larger in the act.
+#[derive(Clone, Copy)]
+pub struct Request {
+    act: usize,
+    kind: usize,
+    before: usize,
+}
+
+/// Memory for one act after another, of which one request is refused, if any.
+///
+/// It has to be made while all memory but a little is taken.
+#[derive(Drop)]
+pub struct Rations {
+    alloc: Global,
+    refused: Option<Request>,
+    acts: usize,
+    requests: Vec<Request>,
+}
+
+impl Request {
+    /// Each request of this act to make a block larger. No other is refused.
+    pub fn to_grow(act: usize) -> Request {
+        Request {
+            act,
+            kind: KINDS,
+            before: 0,
+        }
+    }
+}
+
+/// What is held back during an act.
+#[derive(Drop)]
+pub struct Held {
+    rest: Vec<Vec<u8>>,
+    blocks: Vec<Vec<u8>>,
+}
+
+impl Rations {
+    /// All requests are granted, and noted.
+    pub fn noting(alloc: Global) -> Rations {
+        Rations {
+            alloc,
+            refused: None,
+            acts: 0,
+            requests: Vec::new(alloc),
+        }
+    }
+
+    /// This request is refused.
+    pub fn refusing(alloc: Global, request: Request) -> Rations {
+        Rations {
+            alloc,
+            refused: Some(request),
+            acts: 0,
+            requests: Vec::new(alloc),
+        }
+    }
+
+    /// How many acts there were.
+    pub fn acts(&self) -> usize {
+        self.acts
+    }
+
+    /// The requests that were noted.
+    pub fn requests(&self) -> &[Request] {
+        self.requests.as_slice()
+    }
+
+    /// Begins an act. What is held back then is given back at its end.
+    pub fn begin(&mut self) -> Result<Option<Held>, AllocError> {
+        if let Some(request) = self.refused {
+            if request.act != self.acts {
+                return Ok(None);
+            }
+        }
+        let mut blocks = Vec::with_capacity(self.alloc, 3 * KINDS * PLENTY)?;
+        for place in 0..KINDS * PLENTY {
+            blocks.push(Vec::with_capacity(self.alloc, size_of_kind(place / PLENTY))?)?;
+        }
+        let rest = all_taken(
+            self.alloc,
+            Vec::with_capacity(self.alloc, 4_000)?,
+            0x1000_0000,
+        )?;
+        for place in 0..KINDS * PLENTY {
+            if place % PLENTY < self.granted(place / PLENTY) {
+                give_back(self.alloc, &mut blocks, place);
+            }
+        }
+        Ok(Some(Held { rest, blocks }))
+    }
+
+    // How many requests for a block of this kind are granted in this act.
+    fn granted(&self, kind: usize) -> usize {
+        match self.refused {
+            Some(request) if request.kind == kind => request.before,
+            _ => PLENTY,
+        }
+    }
+
+    /// Ends an act.
+    pub fn end(&mut self, held: Option<Held>) -> Result<(), AllocError> {
+        let act = self.acts;
+        self.acts = act.saturating_add(1);
+        let Some(Held { rest, mut blocks }) = held else {
+            return Ok(());
+        };
+        let mut used = [0usize; KINDS];
+        for (kind, used) in used.iter_mut().enumerate() {
+            let before = blocks.len();
+            take_all(self.alloc, &mut blocks, size_of_kind(kind));
+            *used = PLENTY.saturating_sub(blocks.len().saturating_sub(before));
+        }
+        drop(blocks);
+        drop(rest);
+        if self.refused.is_none() {
+            for (kind, used) in used.iter().enumerate() {
+                for before in 0..*used {
+                    self.requests.push(Request { act, kind, before })?;
+                }
+            }
+        }
+        Ok(())
     }
 }

@@ -16,13 +16,16 @@
 //! `take` is the owner's call on the `OnceCell`, and puts an end to all futures before. `end`, the last
 //! line, has what `into_inner` of both cells answers. `lazy` has what `try_get` answers before the text.
 
+mod refusals;
+
 use crate::made::{Looks, Made, Within};
 use crate::memory::hoard;
 use crate::poll::calm;
-use crate::stub::{Init, Stub, Tried};
+use crate::stub::{Init, Stub, Tried, count};
 use async_once_cell::world::Reply;
 use async_once_cell::{Lazy, OnceCell};
 use futures::test::MockTask;
+pub use refusals::refuse_each;
 use std::alloc::{AllocError, AllocGlobal, Global};
 use std::cell::Cell;
 use std::random::RandomSource;
@@ -67,8 +70,14 @@ impl fmt::Display for Heard {
     }
 }
 
-// How many futures and tasks a schedule has. They are numbered from 0.
-const MOST: usize = 1101;
+// How many futures and tasks a schedule has, which are numbered from 0: one more than its greatest number.
+fn most(lines: &str) -> usize {
+    let mut greatest = 0;
+    for number in lines.split(|letter: char| !letter.is_ascii_digit()) {
+        greatest = greatest.max(number.parse::<usize>().unwrap_or(0));
+    }
+    greatest.saturating_add(1)
+}
 
 // The tasks of a schedule.
 #[derive(Drop)]
@@ -77,9 +86,9 @@ struct Tasks {
 }
 
 impl Tasks {
-    fn new<R: AllocGlobal + RandomSource>(rt: &R) -> io::Result<Self> {
+    fn new<R: AllocGlobal + RandomSource>(rt: &R, most: usize) -> io::Result<Self> {
         let mut tasks = Vec::new(rt.alloc());
-        for _ in 0..MOST {
+        for _ in 0..most {
             tasks.push(MockTask::new(rt)?)?;
         }
         let tasks = Tasks { tasks };
@@ -106,7 +115,7 @@ impl Tasks {
 impl fmt::Display for Tasks {
     fn fmt<W: fmt::Write>(&self, f: &mut fmt::Formatter<W>) -> fmt::Result {
         let mut before = false;
-        for number in 0..MOST {
+        for number in 0..self.tasks.len() {
             let is_woken = self.is_woken(number);
             if is_woken && !before {
                 write!(f, ", wakes {number}")?;
@@ -141,6 +150,10 @@ impl Inits {
     fn set(&self, answer: Option<Tried>) {
         self.tried.answer.set(answer);
         self.sure.answer.set(answer.and_then(Result::ok));
+    }
+
+    fn made(&self) -> u64 {
+        self.sure.made.get().wrapping_add(self.tried.made.get())
     }
 
     fn polls(&self) -> u64 {
@@ -179,6 +192,7 @@ impl<'a, 'i: 'a, R: Wait + AllocGlobal> Scene<'a, 'i, R> {
     }
 
     fn looks(&self, wanted: &'a str) -> Looks<'a> {
+        count(&self.inits.sure.made);
         Looks {
             cell: self.cell,
             alloc: self.rt.alloc(),
@@ -239,7 +253,7 @@ struct Schedule<'a, 'i, R: Wait + AllocGlobal> {
 impl<'a, 'i: 'a, R: Wait + AllocGlobal> Schedule<'a, 'i, R> {
     fn new(scene: Scene<'a, 'i, R>) -> Result<Self, AllocError> {
         let mut futures = Vec::new(scene.rt.alloc());
-        for _ in 0..MOST {
+        for _ in 0..scene.tasks.tasks.len() {
             futures.push(None)?;
         }
         Ok(Schedule {
@@ -270,7 +284,7 @@ impl<'a, 'i: 'a, R: Wait + AllocGlobal> Schedule<'a, 'i, R> {
         if text == "n" {
             return self.turn;
         }
-        text.parse::<usize>().unwrap_or(MOST)
+        text.parse::<usize>().unwrap_or(usize::MAX)
     }
 
     fn follow(&mut self, name: &str, order: &'a str, wanted: &str) -> Result<(), Fail> {
@@ -469,7 +483,7 @@ where
     R: Wait + AllocGlobal + RandomSource,
 {
     let (parts, end) = lines.split_once("end => ").unwrap_or((lines, ""));
-    let (tasks, inits) = (Tasks::new(rt)?, Inits::new());
+    let (tasks, inits) = (Tasks::new(rt, most(lines))?, Inits::new());
     let (mut cell, lazy) = (OnceCell::new(), Lazy::new(inits.sure.init()));
     let ran = run_parts(rt, &mut cell, &lazy, (&inits, &tasks), (name, parts));
     let text = left(rt.alloc(), cell, lazy);

@@ -12,6 +12,8 @@ pub type Tried = Result<u64, u64>;
 pub struct Stub<O: Copy> {
     /// What the inits answer. None has them be Pending.
     pub answer: Cell<Option<O>>,
+    /// How many were made.
+    pub made: Cell<u64>,
     /// How often they were polled.
     pub polls: Cell<u64>,
     /// How many were dropped.
@@ -23,6 +25,7 @@ impl<O: Copy> Stub<O> {
     pub fn new() -> Self {
         Stub {
             answer: Cell::new(None),
+            made: Cell::new(0),
             polls: Cell::new(0),
             drops: Cell::new(0),
         }
@@ -37,6 +40,7 @@ impl<O: Copy> Stub<O> {
 
     /// An init that does as the stub says.
     pub fn init(&self) -> Init<'_, O> {
+        count(&self.made);
         Init { stub: self }
     }
 

@@ -1,6 +1,6 @@
 //! Who drives the future of a cell, and what the others get, as schedules of polls and drops.
 
-use cell_doubles::schedule::run;
+use cell_doubles::schedule::{refuse_each, run};
 use std::test::Fail;
 
 // Schedules over a `Lazy`.
@@ -96,4 +96,12 @@ fn memory_as_asked(rt: HostRuntime) -> Result<(), Fail> {
 #[test]
 fn starved(rt: HostRuntime) -> Result<(), Fail> {
     run(&rt, &STARVED)
+}
+
+// Each request for memory of these schedules is refused in turn. There are so many at least.
+#[test]
+fn each_request_refused(rt: HostRuntime) -> Result<(), Fail> {
+    let refused = refuse_each(&rt, &SCHEDULES)?;
+    assert!(rt; refused >= 9, "{refused}");
+    Ok(())
 }

@@ -1,9 +1,11 @@
 //! When values are dropped.
 
 use async_once_cell::OnceCell;
+use cell_doubles::memory::{Rations, hoard_most};
 use cell_doubles::value::{Makes, Value};
+use futures::future::pending;
 use futures::test::MockTask;
-use std::alloc::AllocGlobal;
+use std::alloc::{AllocError, AllocGlobal};
 use std::cell::Cell;
 use std::sync::Wait;
 use std::test::Fail;
@@ -63,5 +65,53 @@ fn value_lent_for_writing(rt: HostRuntime) -> Result<(), Fail> {
     let task = MockTask::new(&rt)?;
     let lent = lent_for_writing(&rt, &task);
     assert_eq!(rt; lent, ([true; 3], [0, 1]));
+    Ok(())
+}
+
+// A future waits while another holds, with this ration of memory. The other is dropped, and the one who waits,
+// or a third, makes a value. Whether it did, and how often it was dropped before its cell was, and with it.
+fn made_after<R: Wait + AllocGlobal>(
+    rt: &R,
+    tasks: &[MockTask; 3],
+    rations: &mut Rations,
+) -> Result<(bool, [u64; 2]), AllocError> {
+    let drops = Cell::new(0);
+    let cell = OnceCell::new();
+    let mut holder = cell.get_or_init(rt, pending());
+    let mut waiter = cell.get_or_init(rt, Makes { drops: &drops });
+    let mut third = cell.get_or_init(rt, Makes { drops: &drops });
+    let is_held = tasks[0].poll(&mut holder).is_pending();
+    let held = rations.begin()?;
+    let _ = tasks[1].poll(&mut waiter);
+    rations.end(held)?;
+    drop(holder);
+    if !waiter.is_finished() {
+        let _ = tasks[1].poll(&mut waiter);
+    }
+    let is_made = tasks[2].poll(&mut third).is_ready();
+    drop(waiter);
+    drop(third);
+    let before = drops.get();
+    drop(cell);
+    Ok((is_held && is_made, [before, drops.get()]))
+}
+
+/// A value is dropped once, whichever request for memory is refused to one who waits.
+#[test]
+fn value_dropped_once_where_memory_is_refused(rt: HostRuntime) -> Result<(), Fail> {
+    let tasks = [
+        MockTask::new(&rt)?,
+        MockTask::new(&rt)?,
+        MockTask::new(&rt)?,
+    ];
+    let held = hoard_most(rt.alloc())?;
+    let mut rations = Rations::noting(rt.alloc());
+    let mut are_so = made_after(&rt, &tasks, &mut rations)? == (true, [0, 1]);
+    for request in rations.requests() {
+        let mut rations = Rations::refusing(rt.alloc(), *request);
+        are_so &= made_after(&rt, &tasks, &mut rations)? == (true, [0, 1]);
+    }
+    drop(held);
+    assert_eq!(rt; (are_so, rations.requests().len() >= 5), (true, true));
     Ok(())
 }

@@ -1,6 +1,6 @@
 //! Schedules of polls and drops over a cell, line by line.
 
-use cell_doubles::schedule::run;
+use cell_doubles::schedule::{refuse_each, run};
 use std::test::Fail;
 
 // Schedules over a `OnceCell`.
@@ -345,4 +345,12 @@ fn memory_as_asked(rt: HostRuntime) -> Result<(), Fail> {
 #[test]
 fn starved(rt: HostRuntime) -> Result<(), Fail> {
     run(&rt, &STARVED)
+}
+
+// Each request for memory of these schedules is refused in turn. There are so many at least.
+#[test]
+fn each_request_refused(rt: HostRuntime) -> Result<(), Fail> {
+    let refused = refuse_each(&rt, &SCHEDULES)?;
+    assert!(rt; refused >= 50, "{refused}");
+    Ok(())
 }

@@ -1,6 +1,6 @@
 //! A failure calls one of those who wait, and who was called and leaves passes its turn on.
 
-use cell_doubles::schedule::run;
+use cell_doubles::schedule::{refuse_each, run};
 use std::test::Fail;
 
 const TURNS: [(&str, &str); 10] = [
@@ -177,4 +177,12 @@ fn memory_as_asked(rt: HostRuntime) -> Result<(), Fail> {
 #[test]
 fn starved(rt: HostRuntime) -> Result<(), Fail> {
     run(&rt, &STARVED)
+}
+
+// Each request for memory of these schedules is refused in turn. There are so many at least.
+#[test]
+fn each_request_refused(rt: HostRuntime) -> Result<(), Fail> {
+    let refused = refuse_each(&rt, &TURNS)?;
+    assert!(rt; refused >= 250, "{refused}");
+    Ok(())
 }

@@ -1,7 +1,7 @@
 //! Whole runs, with readers and writers that fail.
 use super::rows::compare;
 use async_once_cell::world::{Call, Entry, Got, Ran, Record, Reply};
-use cell_doubles::memory::hoard;
+use cell_doubles::memory::{hoard, hoard_most, hoard_rest};
 use cell_doubles::target::Target;
 use once_filter::print::print_record;
 use once_filter::run;
@@ -9,7 +9,7 @@ use once_script::fault::Fault;
 use once_script::parse::{Line, parse_line, parse_script};
 use std::alloc::{AllocError, Global};
 use std::io;
-use std::io::{ErrorKind, Read};
+use std::io::{ErrorKind, Read, Write};
 use std::test::Fail;
 
 /// A reader that gives a text in pieces, and fails at the read with this number.
@@ -495,6 +495,60 @@ fn refused_memory_prints_nothing(rt: HostRuntime) -> Result<(), Fail> {
     let wanted = ((Err(Fault::Memory), 0), (Ok(()), "queue none\n".len()));
     assert_eq!(rt; seen, wanted);
     Ok(())
+}
+
+/// A writer that counts what it is given, and takes no memory.
+#[derive(Drop)]
+struct Counter {
+    bytes: usize,
+}
+
+impl Write for Counter {
+    fn write(&mut self, bytes: &[u8]) -> io::Result<usize> {
+        self.bytes = self.bytes.saturating_add(bytes.len());
+        Ok(bytes.len())
+    }
+
+    fn flush(&mut self) -> io::Result<()> {
+        Ok(())
+    }
+}
+
+// A holder, and two who wait: one is dropped, and the other takes over.
+const WAITERS: &str =
+    "once 8\nmake 1\nmake 2\nmake 3\npoll 1 5\nrun 1 p\npoll 2 7\nrun 2 p\npoll 3 9\nrun 3 p\n\
+drop 1\nrun 1 p\ndrop 2\nrun 2 p\npoll 3 9\nrun 3 v4\n";
+
+// How a run ends that has so many bytes of memory at first.
+fn within(alloc: Global, text: &str, bytes: usize) -> Result<Ending, AllocError> {
+    let held = hoard_rest(alloc, bytes)?;
+    let mut printed = Counter { bytes: 0 };
+    let answer = run(alloc, text.as_bytes(), &mut printed);
+    drop(held);
+    Ok((answer, printed.bytes))
+}
+
+// How often a run was refused memory, which has a little more each time, before it had enough. None where a run
+// printed something and was refused, or did not print all.
+fn refusals(alloc: Global, text: &str) -> Result<Option<u64>, Fault> {
+    let wanted = printed_by(alloc, text)?.len();
+    let (held, mut refused) = (hoard_most(alloc)?, 0u64);
+    for bytes in (0..60_000).step_by(16) {
+        match within(alloc, text, bytes)? {
+            (Err(Fault::Memory), 0) => refused = refused.saturating_add(1),
+            (Ok(()), printed) if printed == wanted => return Ok(Some(refused)),
+            _ => break,
+        }
+    }
+    drop(held);
+    Ok(None)
+}
+
+/// A run that has too little memory, however much it is, prints nothing.
+#[test]
+fn too_little_memory_prints_nothing(rt: HostRuntime) {
+    let refused = refusals(rt.alloc(), WAITERS);
+    assert!(rt; matches!(refused, Ok(Some(600..))), "{refused:?}");
 }
 
 // The line of a fault, and its status.

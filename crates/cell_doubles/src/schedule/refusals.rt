@@ -1,0 +1,180 @@
+//! Schedules of which each request for memory is refused in turn.
+
+use super::{Inits, Scene, Schedule, Tasks, most, turns_in};
+use crate::memory::{Rations, Request, hoard_most};
+use crate::stub::Init;
+use async_once_cell::world::Reply;
+use async_once_cell::{Lazy, OnceCell};
+use std::alloc::{AllocError, AllocGlobal};
+use std::io;
+use std::random::RandomSource;
+use std::sync::Wait;
+use std::test::Fail;
+
+// How often a woken future is polled until all are finished.
+const POLLS: u64 = 10;
+
+// How the Debug text of a cell ends that nobody uses.
+const LEFT: [&str; 3] = [
+    "ready: true, quick_init: false, refcount: 0, queue: false } }",
+    "ready: false, quick_init: false, refcount: 0, queue: false } }",
+    "ready: false, quick_init: false, refcount: 0, queue: true } }",
+];
+
+impl<'a, 'i: 'a, R: Wait + AllocGlobal> Schedule<'a, 'i, R> {
+    // Makes, polls and drops futures as the lines say, each with its ration of memory.
+    fn run_rationed(&mut self, lines: &'a str, rations: &mut Rations) -> Result<(), AllocError> {
+        for line in lines.lines() {
+            let (order, _) = line.split_once(" => ").unwrap_or((line, ""));
+            let (turns, order) = order.split_once(" * ").unwrap_or(("1", order));
+            let (word, rest) = order.split_once(' ').unwrap_or((order, ""));
+            let (from, to) = turns_in(turns).unwrap_or((0, 0));
+            for turn in from..to {
+                self.turn = turn;
+                let held = rations.begin()?;
+                self.act(word, rest);
+                rations.end(held)?;
+            }
+        }
+        Ok(())
+    }
+
+    // Polls each future whose task was woken, until none is, and has inits give a value. Whether all are
+    // finished then.
+    fn settles(&mut self) -> bool {
+        self.scene.inits.set(Some(Ok(4)));
+        for _ in 0..POLLS {
+            for (place, task) in self.futures.iter_mut().zip(&self.scene.tasks.tasks) {
+                if let Some(future) = place {
+                    if task.is_woken() && !future.is_finished() {
+                        future.polled(task);
+                    }
+                }
+            }
+        }
+        self.futures.iter().flatten().all(|it| it.is_finished())
+    }
+}
+
+impl<'a, 'i: 'a, R: Wait + AllocGlobal> Scene<'a, 'i, R> {
+    // Whether nobody is left in the cells, and a new future of each has its value.
+    fn works(&self) -> Result<bool, AllocError> {
+        let (cell, lazy) = (self.shown()?, self.shown_lazy()?);
+        let are_left = |text: &str| LEFT.iter().any(|end| text.ends_with(end));
+        let value = self.cell.get().copied().unwrap_or(7);
+        let own = self.lazy.try_get().copied().unwrap_or(7);
+        self.inits.set(Some(Ok(7)));
+        Ok(
+            are_left(cell.as_str())
+                && are_left(lazy.as_str())
+                && self.answers("init") == Some(Reply::Value(value))
+                && self.answers("get") == Some(Reply::Value(own)),
+        )
+    }
+
+    // What a new future of this kind answers.
+    fn answers(&self, word: &str) -> Option<Reply> {
+        let task = self.tasks.tasks.first()?;
+        let (reply, _) = self.made(word, "")?.polled(task);
+        Some(reply)
+    }
+}
+
+// Runs a schedule with rations: whether nobody waits in vain, and the cells still work.
+fn works_after<'s, 'i: 's, R>(
+    rt: &'s R,
+    (cell, lazy): (&'s OnceCell<u64>, &'s Lazy<u64, Init<'i, u64>>),
+    (inits, tasks): (&'i Inits, &'s Tasks),
+    lines: &'s str,
+    rations: &mut Rations,
+) -> Result<bool, AllocError>
+where
+    R: Wait + AllocGlobal,
+{
+    let scene = Scene {
+        rt,
+        cell,
+        lazy,
+        inits,
+        tasks,
+    };
+    let mut schedule = Schedule::new(scene)?;
+    schedule.run_rationed(lines, rations)?;
+    let settles = schedule.settles();
+    schedule.futures.clear();
+    Ok(settles && schedule.scene.works()?)
+}
+
+// Whether that is so, and each init was dropped once.
+fn is_sound<R>(rt: &R, lines: &str, rations: &mut Rations) -> io::Result<bool>
+where
+    R: Wait + AllocGlobal + RandomSource,
+{
+    let (tasks, inits) = (Tasks::new(rt, most(lines))?, Inits::new());
+    let (cell, lazy) = (OnceCell::new(), Lazy::new(inits.sure.init()));
+    let works = works_after(rt, (&cell, &lazy), (&inits, &tasks), lines, rations);
+    drop(cell);
+    drop(lazy);
+    Ok(works? && inits.drops() == inits.made())
+}
+
+// Whether it is so with this request refused.
+fn is_sound_without<R>(rt: &R, lines: &str, request: Request) -> io::Result<bool>
+where
+    R: Wait + AllocGlobal + RandomSource,
+{
+    is_sound(rt, lines, &mut Rations::refusing(rt.alloc(), request))
+}
+
+// Runs a schedule once for each request of it, with that one refused: how many they were.
+fn refused_in<R>(rt: &R, name: &str, lines: &str) -> Result<usize, Fail>
+where
+    R: Wait + AllocGlobal + RandomSource,
+{
+    let mut rations = Rations::noting(rt.alloc());
+    let mut is_always = is_sound(rt, lines, &mut rations)?;
+    for request in rations.requests() {
+        is_always &= is_sound_without(rt, lines, *request)?;
+    }
+    for act in 0..rations.acts() {
+        is_always &= is_sound_without(rt, lines, Request::to_grow(act))?;
+    }
+    if is_always {
+        return Ok(rations.requests().len());
+    }
+    Err(Fail::new(format_args!("{name} with memory refused")))
+}
+
+// Whether each future is polled by the task of its number, and nothing but futures is used.
+fn is_plain(lines: &str) -> bool {
+    lines.lines().all(|line| {
+        let (order, _) = line.split_once(" => ").unwrap_or((line, ""));
+        let (_, order) = order.split_once(" * ").unwrap_or(("", order));
+        match order.split_once(' ').unwrap_or((order, "")).0 {
+            "poll" => order.split(' ').count() == 3,
+            "starve" | "take" | "forget" | "end" => false,
+            _ => true,
+        }
+    })
+}
+
+/// Runs each schedule once for each request for memory that its lines make, with that one refused, whatever
+/// stands after `=>`. After that nobody may wait in vain: who is woken is polled, until nobody is, and then
+/// all are finished. The cells show nobody, and a new future has their value. Each init is dropped once.
+///
+/// How many requests were refused. A schedule is passed over in which a future is forgotten or is polled by
+/// another's task, memory is short anyway, the owner takes the value, or more than a hundred futures wait.
+pub fn refuse_each<R>(rt: &R, schedules: &[(&str, &str)]) -> Result<usize, Fail>
+where
+    R: Wait + AllocGlobal + RandomSource,
+{
+    let held = hoard_most(rt.alloc())?;
+    let mut refused = 0usize;
+    for (name, lines) in schedules {
+        if is_plain(lines) && most(lines) <= 102 {
+            refused = refused.saturating_add(refused_in(rt, name, lines)?);
+        }
+    }
+    drop(held);
+    Ok(refused)
+}
