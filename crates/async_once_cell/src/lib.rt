@@ -11,11 +11,11 @@
 //!
 //! ```
 //! let cell = OnceCell::new();
-//! let first = block_on(rt, cell.get_or_init(rt, ready(4)))?; // Ok(&4)
-//! let second = block_on(rt, cell.get_or_init(rt, ready(5)))?; // Ok(&4): this init is not polled
+//! let first = cell.get_or_init(rt, ready(4)).wait()?; // Ok(&4)
+//! let second = cell.get_or_init(rt, ready(5)).wait()?; // Ok(&4): this init is not polled
 //!
 //! let lazy = Lazy::new(ready(3));
-//! let third = block_on(rt, lazy.get(rt))?; // Ok(&3)
+//! let third = lazy.get(rt).wait()?; // Ok(&3)
 //! ```
 //!
 //! # How it works
@@ -74,7 +74,7 @@ pub mod inner;
 pub mod queue;
 
 pub use lazy::{Lazy, LazyFuturePin, LazyFutureUnpin};
-pub use once::{InitError, InitFuture, Known, OnceCell, Refused, TryInitFuture};
+pub use once::{InitError, InitFuture, Known, OnceCell, Parker, Refused, TryInitFuture};
 pub use once_cells::{lazy, once};
 pub use once_core::step;
 pub use once_world::{laws, world};

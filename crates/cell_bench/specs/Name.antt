@@ -1,6 +1,6 @@
 use Rattle.std.specs.Prelude.{◌≡◌, ℕ, List, ◌++◌, ◌∷◌, codes}
 use Rattle.cell_bench.specs.declared.operation.Operation.{Operation}
-use Rattle.cell_bench.specs.declared.operation.Operation.TheVariants.{Get, Init, Listed, OneWaits, TenWait, HundredWait, ThousandWait, TenThousandWait, HundredThousandWait, TenThousandDrop, FailureBeforeOne, FailureBeforeTen, FailureBeforeHundred, TenTurns, HundredTurns, TenThousandTurns, TwoLook, FourLook, TwoFill, FourFill, LazyFirst, LazyLater, LostWake}
+use Rattle.cell_bench.specs.declared.operation.Operation.TheVariants.{Get, Init, Listed, OneWaits, TenWait, HundredWait, ThousandWait, TenThousandWait, HundredThousandWait, TenThousandDrop, FailureBeforeOne, FailureBeforeTen, FailureBeforeHundred, TenTurns, HundredTurns, TenThousandTurns, TwoLook, FourLook, TwoFill, FourFill, LazyFirst, LazyLater, WaitNew, WaitSet, WaitKept, LostWake}
 
 -- what an operation is called in the input
 abbrev pub name_of : Operation → List ℕ
@@ -26,6 +26,9 @@ name_of TwoFill = codes "init_threads2"
 name_of FourFill = codes "init_threads4"
 name_of LazyFirst = codes "lazy_first"
 name_of LazyLater = codes "lazy_later"
+name_of WaitNew = codes "wait_new"
+name_of WaitSet = codes "wait_set"
+name_of WaitKept = codes "wait_kept"
 name_of LostWake = codes "lost_wake"
 
 -- a text begins with this operation's name and one space

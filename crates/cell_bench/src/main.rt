@@ -20,6 +20,7 @@ mod operation;
 mod rounds;
 mod switch;
 mod threads;
+mod waits;
 
 /// Makes what each line of the input says, and prints the sums. All polls are of one task.
 pub fn run<R>(rt: &R, cx: &mut Context<'_>) -> io::Result<()>

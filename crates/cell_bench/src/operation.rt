@@ -53,6 +53,12 @@ pub enum Operation {
     LazyFirst,
     /// A new future of a lazy cell that is set, polled to its end.
     LazyLater,
+    /// A new cell, and a wait of this thread for its value, whose init gives it at once.
+    WaitNew,
+    /// A wait for the value of a cell that is set.
+    WaitSet,
+    /// A new cell, and a wait by a parker that is kept.
+    WaitKept,
     /// A round of two threads in which a waiter could be lost. What is added up is how many were.
     LostWake,
 }
@@ -85,6 +91,9 @@ pub fn parse_operation(name: &str) -> Option<Operation>
         "init_threads4" => Some(Operation::FourFill),
         "lazy_first" => Some(Operation::LazyFirst),
         "lazy_later" => Some(Operation::LazyLater),
+        "wait_new" => Some(Operation::WaitNew),
+        "wait_set" => Some(Operation::WaitSet),
+        "wait_kept" => Some(Operation::WaitKept),
         "lost_wake" => Some(Operation::LostWake),
         _ => None,
     }

@@ -7,6 +7,7 @@ use crate::lost_wake::lost;
 use crate::operation::Operation;
 use crate::switch::Switched;
 use crate::threads::{cells, fills_of_four, fills_of_two, looks_of_four, looks_of_two};
+use crate::waits::{kept_parker, new_cells, set_cell};
 use async_once_cell::once::InitFuture;
 use async_once_cell::{Lazy, OnceCell};
 use futures::Future;
@@ -30,6 +31,9 @@ where
         Operation::TwoFill => return fills_of_two(rt, &cells(rt, count)?),
         Operation::FourFill => return fills_of_four(rt, &cells(rt, count)?),
         Operation::LostWake => return lost(rt, count),
+        Operation::WaitNew => return new_cells(rt, count),
+        Operation::WaitSet => return set_cell(rt, &filled(rt, cx), count),
+        Operation::WaitKept => return kept_parker(rt, count),
         Operation::Get => Ok(get(&filled(rt, cx), count)),
         Operation::Init => Ok(init(rt, count, cx)),
         Operation::Listed => listed(rt, count, cx),

@@ -1,5 +1,5 @@
 -- Steps that are lines of the table for what a side told are so too where what it told is left out.
-use Rattle.std.specs.Prelude.{◌≡◌, ℕ, ⊤, Bool, true, false, Option, Some, None}
+use Rattle.std.specs.Prelude.{ℕ, ⊤, Bool, true, false, Option, Some, None}
 use Rattle.std.proofs.Common.{refl}
 use Rattle.once_queue.specs.declared.waiters.Answer.{Answer}
 use Rattle.once_queue.specs.declared.waiters.Answer.TheVariants.{Ready, Claimed, Listed, Memory, Held, Gone, Released, Left}
@@ -18,7 +18,7 @@ use Rattle.once_core.specs.declared.step.place.Place.TheVariants.{Leave as AtLea
 use Rattle.once_core.specs.declared.step.place.Place.TheVariants.{DoorTake as AtDoorTake}
 use Rattle.once_core.specs.declared.step.Step.{Step}
 use Rattle.once_core.specs.declared.step.Step.TheVariants.{Resting, UnderWay, Finished}
-use Rattle.once_core.specs.Steps.{PartsTell, SideTells, Line, Advances, Follows, MayClose, Next, AfterLook, Wakes, out_of, after_look, next_at, next_end}
+use Rattle.once_core.specs.Steps.{SideTells, Line, Advances, Follows, MayClose, Next, AfterLook, Wakes, out_of, after_look, next_at, next_end}
 use Rattle.once_core.specs.Chain.{Makes}
 use Rattle.once_core.specs.Chain.Makes.{none, next}
 use Rattle.once_cells.specs.Calls.{silent_parts, silent_side}

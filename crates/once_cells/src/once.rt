@@ -6,6 +6,7 @@ ghost use Rattle.once_cells.specs.Views.{view_of};
 mod future;
 mod init;
 mod known;
+mod parker;
 mod refused;
 mod value;
 
@@ -15,6 +16,7 @@ pub use init::InitFuture;
 pub use known::Known;
 use once_shared::seat::Seat;
 use once_shared::shared::{Inner, Shared};
+pub use parker::Parker;
 pub use refused::{InitError, Refused};
 use std::alloc::AllocGlobal;
 use std::marker::Model;
@@ -32,8 +34,8 @@ use value::Value;
 ///
 /// ```
 /// let cell = OnceCell::new();
-/// let first = block_on(rt, cell.get_or_init(rt, ready(4)))?; // Ok(&4)
-/// let second = block_on(rt, cell.get_or_init(rt, ready(5)))?; // Ok(&4): this init is not polled
+/// let first = cell.get_or_init(rt, ready(4)).wait()?; // Ok(&4)
+/// let second = cell.get_or_init(rt, ready(5)).wait()?; // Ok(&4): this init is not polled
 /// ```
 ///
 /// A cell that was made with a value lends that value and gives it back, until its owner asks for it to

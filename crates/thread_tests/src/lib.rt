@@ -5,3 +5,5 @@
 mod table;
 #[cfg(test)]
 mod threads;
+#[cfg(test)]
+mod waits;

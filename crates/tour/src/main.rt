@@ -2,7 +2,6 @@
 #![tactic(auto)]
 
 use async_once_cell::{Lazy, OnceCell};
-use futures::executor::block_on;
 use futures::future::{Ready, ready};
 use std::alloc::AllocGlobal;
 use std::random::RandomSource;
@@ -13,13 +12,13 @@ fn forced<R>(rt: &R, lazy: &Lazy<u64, Ready<u64>>) -> io::Result<Option<u64>>
 where
     R: Wait + RandomSource + AllocGlobal,
 {
-    Ok(block_on(rt, lazy.get(rt))?.ok().copied())
+    Ok(lazy.get(rt).wait()?.ok().copied())
 }
 
 fn main(rt: HostRuntime) -> io::Result<()> {
     let cell = OnceCell::new();
-    println!(rt; "{:?}", block_on(&rt, cell.get_or_init(&rt, ready(4)))?)?; // Ok(4)
-    println!(rt; "{:?}", block_on(&rt, cell.get_or_init(&rt, ready(5)))?)?; // Ok(4): this init is not polled
+    println!(rt; "{:?}", cell.get_or_init(&rt, ready(4)).wait()?)?; // Ok(4)
+    println!(rt; "{:?}", cell.get_or_init(&rt, ready(5)).wait()?)?; // Ok(4): this init is not polled
 
     let lazy = Lazy::new(ready(3));
     let (here, there) = thread::join(&rt, || forced(&rt, &lazy), || forced(&rt, &lazy));

@@ -6,7 +6,6 @@ use crate::fault::Fault;
 use async_once_cell::Lazy;
 use async_once_cell::once::Known;
 use futures::Future;
-use futures::executor::block_on;
 use std::alloc::AllocGlobal;
 use std::random::RandomSource;
 use std::sync::Wait;
@@ -26,9 +25,5 @@ where
     ensures value { IfOk result (λ value. (token.new.value ≡ Some value.now)
         × Agrees token.old.value value.now) }
 {
-    if let Some(value) = lazy.try_get_as(token) {
-        return Ok(value);
-    }
-    block_on(rt, lazy.get(rt))??;
-    lazy.try_get_as(token).ok_or(Fault::Empty)
+    Ok(lazy.get(rt).wait_as(token)??)
 }

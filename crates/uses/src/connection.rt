@@ -3,9 +3,8 @@ ghost use Rattle.std.specs.Prelude.{◌≡◌, Some, IfOk};
 
 use crate::fault::Fault;
 use async_once_cell::OnceCell;
-use async_once_cell::once::{InitError, Known, Refused, TryInitFuture};
+use async_once_cell::once::{InitError, Known, Refused};
 use futures::Future;
-use futures::executor::block_on;
 use futures::task::{Context, Poll};
 use std::alloc::AllocGlobal;
 use std::cell::Cell;
@@ -48,25 +47,6 @@ impl Future for Dial<'_> {
     }
 }
 
-// One try, where there is no connection yet. An error is the answer of this try alone.
-#[derive(Drop)]
-struct Trying<'a, R: Wait + AllocGlobal> {
-    future: TryInitFuture<'a, Connection, Down, Dial<'a>, R>,
-}
-
-impl<R: Wait + AllocGlobal> Future for Trying<'_, R> {
-    type Output = Result<(), Refused>;
-
-    fn poll(&mut self, cx: &mut Context<'_>) -> Poll<Result<(), Refused>> {
-        match Future::poll(&mut self.future, cx) {
-            Poll::Ready(Ok(_) | Err(InitError::Init(Down))) => Poll::Ready(Ok(())),
-            Poll::Ready(Err(InitError::Memory)) => Poll::Ready(Err(Refused::Memory)),
-            Poll::Ready(Err(InitError::Full)) => Poll::Ready(Err(Refused::Full)),
-            Poll::Pending => Poll::Pending,
-        }
-    }
-}
-
 /// The connection, after at most so many tries. It is the one that the token knows, for good.
 fn connect<'a, R>(
     rt: &'a R,
@@ -82,11 +62,12 @@ where
     ensures value { IfOk result (λ connection. token.new.value ≡ Some connection) }
 {
     for _ in 0..most {
-        if cell.get().is_some() {
-            break;
+        match cell.get_or_try_init(rt, Dial { server }).wait()? {
+            Ok(_) => break,
+            Err(InitError::Init(Down)) => {}
+            Err(InitError::Memory) => return Err(Fault::Refused(Refused::Memory)),
+            Err(InitError::Full) => return Err(Fault::Refused(Refused::Full)),
         }
-        let future = cell.get_or_try_init(rt, Dial { server });
-        block_on(rt, Trying { future })??;
     }
     cell.get_as(token).copied().ok_or(Fault::Tries(most))
 }

@@ -1,16 +1,17 @@
 //! The future of a cell that owns its init.
 ghost use Rattle.std.specs.Prelude.{◌≡◌, false};
 ghost use Rattle.once_cells.specs.Polls.{DidPoll};
-ghost use Rattle.once_cells.specs.Tokens.{Call, Polls};
+ghost use Rattle.once_cells.specs.Tokens.{Call, Polls, Waits};
 
 use crate::held::Held;
-use crate::once::{InitFuture, Known, OnceCell, Refused};
+use crate::once::{InitFuture, Known, OnceCell, Parker, Refused};
 use futures::Future;
 use futures::task::{Context, Poll};
 use std::alloc::AllocGlobal;
-use std::fmt;
 use std::marker::Model;
+use std::random::RandomSource;
 use std::sync::{Mutex, Wait};
+use std::{fmt, io};
 
 /// Future of [`Lazy::get`](super::Lazy::get).
 ///
@@ -89,6 +90,60 @@ impl<'a, T: Drop, F: Future<Output = T>, R: Wait + AllocGlobal> LazyFuturePin<'a
         ensures value { Polls token.old.value token.new.value result }
     {
         self.future.poll_as(cx, token)
+    }
+
+    /// Polls the future on this thread until it answers, and sleeps while it has to wait. Whom it waits
+    /// for, and what `io::Error` says, is told at [`TryInitFuture::wait`](crate::once::TryInitFuture::wait);
+    /// the init is that of the cell, which this thread drives on where it gets the right.
+    ///
+    /// ```
+    /// let value = lazy.get(rt).wait()??; // &3
+    /// ```
+    pub fn wait(self) -> io::Result<Result<&'a T, Refused>>
+    where
+        R: RandomSource,
+        requires unfinished { self.finished ≡ false }
+    {
+        let LazyFuturePin { future } = self;
+        future.wait()
+    }
+
+    /// As [`wait`](Self::wait), and the token learns the value that is answered. A token that knows
+    /// a value gets that value at once.
+    pub fn wait_as(self, token: &mut Known<'a, T>) -> io::Result<Result<&'a T, Refused>>
+    where
+        R: RandomSource,
+        requires unfinished { self.finished ≡ false }
+        requires token_of_this_cell { token.old.cell ≡ self.cell }
+        ensures of { token.new.cell ≡ token.old.cell }
+        ensures value { Waits token.old.value token.new.value result }
+    {
+        let LazyFuturePin { future } = self;
+        future.wait_as(token)
+    }
+
+    /// As [`wait`](Self::wait), by a parker that the caller keeps. `io::Error` says that there was no
+    /// memory to wait.
+    pub fn wait_on(self, parker: &mut Parker) -> io::Result<Result<&'a T, Refused>>
+        requires unfinished { self.finished ≡ false }
+    {
+        let LazyFuturePin { future } = self;
+        future.wait_on(parker)
+    }
+
+    /// As [`wait_as`](Self::wait_as), by a parker that the caller keeps.
+    pub fn wait_as_on(
+        self,
+        token: &mut Known<'a, T>,
+        parker: &mut Parker,
+    ) -> io::Result<Result<&'a T, Refused>>
+        requires unfinished { self.finished ≡ false }
+        requires token_of_this_cell { token.old.cell ≡ self.cell }
+        ensures of { token.new.cell ≡ token.old.cell }
+        ensures value { Waits token.old.value token.new.value result }
+    {
+        let LazyFuturePin { future } = self;
+        future.wait_as_on(token, parker)
     }
 }
 

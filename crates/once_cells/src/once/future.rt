@@ -2,11 +2,11 @@
 ghost use Rattle.std.specs.Prelude.{◌≡◌, true, false};
 ghost use Rattle.futures.specs.Task.{IsArmed, Keeps};
 ghost use Rattle.once_cells.specs.Polls.{DidPoll};
-ghost use Rattle.once_cells.specs.Tokens.{Call, Polls};
+ghost use Rattle.once_cells.specs.Tokens.{Call, Polls, Waits};
 ghost use Rattle.once_cells.specs.Calls.{Walks};
 ghost use Rattle.once_core.specs.Steps.{in_call, is_finished as is_done};
 
-use super::{InitError, Known, OnceCell};
+use super::{InitError, Known, OnceCell, Parker};
 use crate::calls::{go_on, whole_drop};
 use crate::held::Held;
 use futures::Future;
@@ -19,8 +19,9 @@ use once_shared::seat::{Seat, call_all};
 use once_shared::shared::Queue;
 use std::alloc::AllocGlobal;
 use std::marker::{Model, PhantomData};
+use std::random::RandomSource;
 use std::sync::Wait;
-use std::{fmt, mem};
+use std::{fmt, io, mem};
 
 /// Future of [`OnceCell::get_or_try_init`].
 ///
@@ -134,7 +135,7 @@ where
     {
         let (mut told, mut error, mut is_armed) = (Progress::More, None, false);
         if self.task.step.is_new() {
-            // The step, the parts and the side of this way are its own, so that they need no memory.
+            // Step, parts and side are made here and end here, so that the compiler keeps them in registers.
             let mut side = Polling {
                 cell: self.cell,
                 rt: self.rt,
@@ -197,6 +198,81 @@ where
         }
         set(&mut self.task.step, Step::new());
         cx.yield_now()
+    }
+
+    /// Polls the future on this thread until it answers. The thread sleeps while it has to wait: for its
+    /// own init, or for the task that holds. So it never returns where neither is driven on, as where
+    /// this thread itself keeps another future of the cell, which holds.
+    ///
+    /// The answer is that of the last poll. `io::Error` says that the thread could not be made ready to
+    /// wait, for want of memory or of random bytes. Then the future was dropped, as it is after an
+    /// answer, so that the cell is as after any drop. A cell that is set answers without any of that.
+    ///
+    /// ```
+    /// let value = cell.get_or_try_init(rt, ok::<u64, u64>(7)).wait()?; // Ok(&7)
+    /// ```
+    pub fn wait(self) -> io::Result<Result<&'a T, InitError<E>>>
+    where
+        R: RandomSource,
+        requires unfinished { self.finished ≡ false }
+    {
+        let mut token = self.cell.token();
+        self.wait_as(&mut token)
+    }
+
+    /// As [`wait`](Self::wait), and the token learns the value that is answered. A token that knows
+    /// a value gets that value at once.
+    pub fn wait_as(self, token: &mut Known<'a, T>) -> io::Result<Result<&'a T, InitError<E>>>
+    where
+        R: RandomSource,
+        requires unfinished { self.finished ≡ false }
+        requires token_of_this_cell { token.old.cell ≡ self.cell }
+        ensures of { token.new.cell ≡ token.old.cell }
+        ensures value { Waits token.old.value token.new.value result }
+    {
+        match self.cell.get_as(token) {
+            Some(value) => Ok(Ok(value)),
+            None => {
+                let mut parker = Parker::new(self.rt)?;
+                self.wait_as_on(token, &mut parker)
+            }
+        }
+    }
+
+    /// As [`wait`](Self::wait), by a parker that the caller keeps. `io::Error` says that there was no
+    /// memory to wait.
+    pub fn wait_on(self, parker: &mut Parker) -> io::Result<Result<&'a T, InitError<E>>>
+        requires unfinished { self.finished ≡ false }
+    {
+        let mut token = self.cell.token();
+        self.wait_as_on(&mut token, parker)
+    }
+
+    /// As [`wait_as`](Self::wait_as), by a parker that the caller keeps.
+    pub fn wait_as_on(
+        mut self,
+        token: &mut Known<'a, T>,
+        parker: &mut Parker,
+    ) -> io::Result<Result<&'a T, InitError<E>>>
+        requires unfinished { self.finished ≡ false }
+        requires token_of_this_cell { token.old.cell ≡ self.cell }
+        ensures of { token.new.cell ≡ token.old.cell }
+        ensures value { Waits token.old.value token.new.value result }
+    {
+        if let Some(value) = self.cell.get_as(token) {
+            return Ok(Ok(value));
+        }
+        let rt = self.rt;
+        parker.begin()?;
+        for _ in rt.forever() {
+            let mut cx = parker.next(rt)?;
+            let polled = self.poll_as(&mut cx, token);
+            cx.end(&polled);
+            if let Poll::Ready(answer) = polled {
+                return Ok(answer);
+            }
+        }
+        unreachable!()
     }
 
     // What a poll answers whose steps ended so.
@@ -312,8 +388,8 @@ impl<E: Drop> Outcome<E> {
     }
 }
 
-// Makes the steps that are left of the poll that is under way. This is a call: so a poll that meets nobody
-// has not the whole machine in its own code.
+// Makes the steps that are left of the poll that is under way. It is never inlined: with the whole machine
+// beside it a poll that meets nobody is slower.
 #[inline(never)]
 fn remaining_steps<'a, T: Drop, E: Drop, F, R: Wait + AllocGlobal>(
     cell: &'a OnceCell<T>,

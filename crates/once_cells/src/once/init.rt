@@ -1,17 +1,18 @@
 //! The future of an init that does not fail.
 ghost use Rattle.std.specs.Prelude.{◌≡◌, false};
 ghost use Rattle.once_cells.specs.Polls.{DidPoll};
-ghost use Rattle.once_cells.specs.Tokens.{Call, Polls};
-ghost use Rattle.once_cells.specs.Sure.{IsSame};
+ghost use Rattle.once_cells.specs.Tokens.{Call, Polls, Waits};
+ghost use Rattle.once_cells.specs.Sure.{IsSame, IsSameAnswer};
 
-use super::{InitError, Known, OnceCell, Refused, TryInitFuture};
+use super::{InitError, Known, OnceCell, Parker, Refused, TryInitFuture};
 use futures::Future;
 use futures::task::{Context, Poll};
 use std::alloc::AllocGlobal;
 use std::convert::Infallible;
-use std::fmt;
 use std::marker::Model;
+use std::random::RandomSource;
 use std::sync::Wait;
+use std::{fmt, io};
 
 /// Future of [`OnceCell::get_or_init`]. All that is said of [`TryInitFuture`] holds of it, but that
 /// there is no error of an init.
@@ -81,6 +82,59 @@ impl<'a, T: Drop, F: Future<Output = T>, R: Wait + AllocGlobal> InitFuture<'a, T
     {
         surely(self.future.poll_as(cx, token))
     }
+
+    /// Polls the future on this thread until it answers, and sleeps while it has to wait. Whom it waits
+    /// for, and what `io::Error` says, is told at [`TryInitFuture::wait`].
+    ///
+    /// ```
+    /// let value = cell.get_or_init(rt, ready(4)).wait()??; // &4
+    /// ```
+    pub fn wait(self) -> io::Result<Result<&'a T, Refused>>
+    where
+        R: RandomSource,
+        requires unfinished { self.finished ≡ false }
+    {
+        let InitFuture { future } = self;
+        Ok(surely_answered(future.wait()?))
+    }
+
+    /// As [`wait`](Self::wait), and the token learns the value that is answered. A token that knows
+    /// a value gets that value at once.
+    pub fn wait_as(self, token: &mut Known<'a, T>) -> io::Result<Result<&'a T, Refused>>
+    where
+        R: RandomSource,
+        requires unfinished { self.finished ≡ false }
+        requires token_of_this_cell { token.old.cell ≡ self.cell }
+        ensures of { token.new.cell ≡ token.old.cell }
+        ensures value { Waits token.old.value token.new.value result }
+    {
+        let InitFuture { future } = self;
+        Ok(surely_answered(future.wait_as(token)?))
+    }
+
+    /// As [`wait`](Self::wait), by a parker that the caller keeps. `io::Error` says that there was no
+    /// memory to wait.
+    pub fn wait_on(self, parker: &mut Parker) -> io::Result<Result<&'a T, Refused>>
+        requires unfinished { self.finished ≡ false }
+    {
+        let InitFuture { future } = self;
+        Ok(surely_answered(future.wait_on(parker)?))
+    }
+
+    /// As [`wait_as`](Self::wait_as), by a parker that the caller keeps.
+    pub fn wait_as_on(
+        self,
+        token: &mut Known<'a, T>,
+        parker: &mut Parker,
+    ) -> io::Result<Result<&'a T, Refused>>
+        requires unfinished { self.finished ≡ false }
+        requires token_of_this_cell { token.old.cell ≡ self.cell }
+        ensures of { token.new.cell ≡ token.old.cell }
+        ensures value { Waits token.old.value token.new.value result }
+    {
+        let InitFuture { future } = self;
+        Ok(surely_answered(future.wait_as_on(token, parker)?))
+    }
 }
 
 /// Polled when it is finished, it asks for another poll and changes nothing.
@@ -116,16 +170,26 @@ impl<F: Future> Future for Sure<F> {
     }
 }
 
-// The answer without the error that can't be.
+// The poll without the error that can't be.
 #[inline(always)]
 fn surely<T>(polled: Poll<Result<T, InitError<Infallible>>>) -> Poll<Result<T, Refused>>
     ensures { IsSame polled result }
 {
     match polled {
         Poll::Pending => Poll::Pending,
-        Poll::Ready(Ok(value)) => Poll::Ready(Ok(value)),
-        Poll::Ready(Err(InitError::Init(never))) => match never {},
-        Poll::Ready(Err(InitError::Memory)) => Poll::Ready(Err(Refused::Memory)),
-        Poll::Ready(Err(InitError::Full)) => Poll::Ready(Err(Refused::Full)),
+        Poll::Ready(answer) => Poll::Ready(surely_answered(answer)),
+    }
+}
+
+// The answer without the error that can't be.
+#[inline(always)]
+fn surely_answered<T>(answer: Result<T, InitError<Infallible>>) -> Result<T, Refused>
+    ensures { IsSameAnswer answer result }
+{
+    match answer {
+        Ok(value) => Ok(value),
+        Err(InitError::Init(never)) => match never {},
+        Err(InitError::Memory) => Err(Refused::Memory),
+        Err(InitError::Full) => Err(Refused::Full),
     }
 }
