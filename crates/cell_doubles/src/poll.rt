@@ -59,3 +59,8 @@ where
 pub fn calm(task: &MockTask) {
     task.enter(|_| ());
 }
+
+/// Has the task woken.
+pub fn wake(task: &MockTask) {
+    let _ = task.enter(|cx| cx.yield_now::<()>());
+}

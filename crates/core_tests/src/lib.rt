@@ -22,3 +22,5 @@ mod random;
 mod rounds;
 #[cfg(test)]
 mod threads;
+#[cfg(test)]
+mod ways;

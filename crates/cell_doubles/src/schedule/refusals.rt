@@ -2,6 +2,7 @@
 
 use super::{Inits, Scene, Schedule, Tasks, most, turns_in};
 use crate::memory::{Rations, Request, hoard_most};
+use crate::poll::wake;
 use crate::stub::Init;
 use async_once_cell::world::Reply;
 use async_once_cell::{Lazy, OnceCell};
@@ -31,10 +32,32 @@ impl<'a, 'i: 'a, R: Wait + AllocGlobal> Schedule<'a, 'i, R> {
             let (from, to) = turns_in(turns).unwrap_or((0, 0));
             for turn in from..to {
                 self.turn = turn;
-                let held = rations.begin()?;
-                self.act(word, rest);
-                rations.end(held)?;
+                self.act_rationed(word, rest, rations)?;
             }
+        }
+        Ok(())
+    }
+
+    // A future is polled at first, and then where its task was woken, as an executor does.
+    fn act_rationed(
+        &mut self,
+        word: &str,
+        rest: &'a str,
+        rations: &mut Rations,
+    ) -> Result<(), AllocError> {
+        let (number, _) = rest.split_once(' ').unwrap_or((rest, ""));
+        let tasks = self.scene.tasks;
+        let Some(task) = tasks.tasks.get(self.number(number)) else {
+            return Ok(());
+        };
+        if word == "poll" && !task.is_woken() {
+            return Ok(());
+        }
+        let held = rations.begin()?;
+        self.act(word, rest);
+        rations.end(held)?;
+        if word != "poll" {
+            wake(task);
         }
         Ok(())
     }
