@@ -2,9 +2,10 @@
 #![tactic(auto)]
 
 use clap::error::{Error, ErrorKind};
-use clap::{Arg, ArgAction, ArgMatches, Command};
+use clap::{Arg, ArgAction, ArgMatches, Command, value_parser};
 use once_view::fault::Fault;
-use once_view::{Format, show};
+use once_view::range::LineRange;
+use once_view::{Format, show_lines};
 use std::alloc::{AllocGlobal, Global};
 use std::env::{self, Env};
 use std::fs::{self, Files};
@@ -22,12 +23,26 @@ fn matches_of(alloc: Global, words: &[String]) -> Result<ArgMatches<'_>, Error> 
         .long("svg")
         .action(ArgAction::SetTrue)
         .help("Writes a picture, as SVG, in the place of the table");
+    let from = Arg::new(alloc, "from")
+        .long("from")
+        .value_name("LINE")
+        .value_parser(value_parser!(u64).range(1..))
+        .action(ArgAction::Set)
+        .help("Shows no line before this one; all are played");
+    let to = Arg::new(alloc, "to")
+        .long("to")
+        .value_name("LINE")
+        .value_parser(value_parser!(u64).range(1..))
+        .action(ArgAction::Set)
+        .help("Shows no line after this one");
     let file = Arg::new(alloc, "FILE")
         .action(ArgAction::Set)
         .help("The script; the standard input where there is none");
     Command::new(alloc, "once_show")
         .about("Shows a script of a cell and its tasks, line by line")
         .arg(svg)?
+        .arg(from)?
+        .arg(to)?
         .arg(file)?
         .try_get_matches_from(words)
 }
@@ -73,12 +88,16 @@ where
     } else {
         Format::Table
     };
+    let range = match LineRange::new(matches.get_one("from"), matches.get_one("to")) {
+        Ok(range) => range,
+        Err(fault) => return Err(Failure::Script(fault)),
+    };
     let file = matches.get_str("FILE");
     let text = match read(rt, file, input) {
         Ok(text) => text,
         Err(error) => return Err(Failure::File(file.unwrap_or("standard input"), error)),
     };
-    match show(rt.alloc(), format, &text, output) {
+    match show_lines(rt.alloc(), format, range, &text, output) {
         Ok(()) => Ok(()),
         Err(fault) => Err(Failure::Script(fault)),
     }

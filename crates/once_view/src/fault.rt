@@ -37,6 +37,12 @@ pub enum Fault {
     NotText(u64),
     /// This line is the first that can't be read.
     Unreadable(UnreadableLine),
+    /// The first line to be shown has a greater number than the last one.
+    FromAfterTo { from: u64, to: u64 },
+    /// The first line to be shown comes after the last line that says something.
+    BeyondTheEnd { from: u64, end: u64 },
+    /// None of the lines that are to be shown says anything.
+    NothingSaid { from: u64, to: u64 },
     /// A read or a write failed.
     Io,
     /// Memory was refused.
@@ -47,9 +53,9 @@ impl Fault {
     /// The status that the process ends with, as that of `once_replay`.
     pub fn status(&self) -> u8 {
         match self {
-            Fault::NoCell | Fault::NotText(_) | Fault::Unreadable(_) => 2,
             Fault::Io => 3,
             Fault::Memory => 4,
+            _ => 2,
         }
     }
 }
@@ -71,6 +77,14 @@ impl fmt::Display for Fault {
                 f,
                 "line {number} can't be read: {text:?}; expected: {expected}"
             ),
+            Fault::FromAfterTo { from, to } => write!(f, "--from {from} is after --to {to}"),
+            Fault::BeyondTheEnd { from, end } => write!(
+                f,
+                "--from {from} is beyond the end: line {end} is the last that says something"
+            ),
+            Fault::NothingSaid { from, to } => {
+                write!(f, "no line from {from} to {to} says anything")
+            }
             Fault::Io => f.write_str("input or output failed"),
             Fault::Memory => f.write_str("out of memory"),
         }

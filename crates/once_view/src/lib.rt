@@ -4,10 +4,12 @@
 pub mod fault;
 pub mod picture;
 pub mod play;
+pub mod range;
 pub mod reading;
 pub mod table;
 
 use crate::fault::Fault;
+use crate::range::LineRange;
 use crate::reading::read_script;
 use std::alloc::Global;
 use std::io::{BufWriter, Write};
@@ -30,11 +32,23 @@ pub fn show<O: Write + Drop>(
     text: &[u8],
     output: O,
 ) -> Result<(), Fault> {
+    show_lines(alloc, format, LineRange::all(), text, output)
+}
+
+/// The same, where these lines alone are shown. All of them are read and played.
+pub fn show_lines<O: Write + Drop>(
+    alloc: Global,
+    format: Format,
+    range: LineRange,
+    text: &[u8],
+    output: O,
+) -> Result<(), Fault> {
     let script = read_script(alloc, text)?;
+    range.check(&script)?;
     let mut output = BufWriter::new(alloc, output)?;
     match format {
-        Format::Table => table::write_table(alloc, script, &mut output)?,
-        Format::Picture => picture::write_picture(alloc, script, &mut output)?,
+        Format::Table => table::write_table(alloc, script, range, &mut output)?,
+        Format::Picture => picture::write_picture(alloc, script, range, &mut output)?,
     }
     output.flush()?;
     Ok(())

@@ -1,5 +1,6 @@
 //! A script as a picture: a lane for each task, and a band for the cell.
 use crate::play::{Moment, Watcher, play};
+use crate::range::LineRange;
 use crate::reading::Script;
 use async_once_cell::world::{Call, Entry, Kind, Reply};
 use once_filter::print::call_word;
@@ -19,15 +20,17 @@ use shape::{CellState, Shape};
 /// How many ticks a column has. The entries that a line adds stand at one tick after the other.
 const TICKS: u64 = 8;
 
-/// Plays a script, and writes its picture, as SVG.
+/// Plays a script, and writes a picture of these lines, as SVG.
 pub fn write_picture<O: Write>(
     alloc: Global,
     script: Script<'_>,
+    range: LineRange,
     output: &mut O,
 ) -> io::Result<()> {
     let title = script.first.text;
     let mut picture = Picture {
         alloc,
+        range,
         numbers: Vec::new(alloc),
         lanes: Lanes::new(alloc),
         cell: first_state(&script.opening.kind),
@@ -51,6 +54,7 @@ fn first_state(kind: &Kind) -> CellState {
 #[derive(Drop)]
 struct Picture {
     alloc: Global,
+    range: LineRange,
     /// The number of each column's line.
     numbers: Vec<u64>,
     lanes: Lanes,
@@ -62,6 +66,29 @@ struct Picture {
 
 impl Watcher for Picture {
     fn see(&mut self, moment: Moment<'_>) -> Result<(), AllocError> {
+        let number = moment.source.number;
+        if self.range.is_before(number) {
+            return Ok(());
+        }
+        if self.range.has(number) {
+            self.draw(moment)?;
+        } else {
+            self.pass(moment)?;
+        }
+        if moment.reason.is_none() {
+            self.lanes
+                .note_listed(self.alloc, moment.task, moment.world)?;
+        }
+        Ok(())
+    }
+}
+
+impl Picture {
+    /// A new column for the line.
+    fn draw(&mut self, moment: Moment<'_>) -> Result<(), AllocError> {
+        if self.numbers.is_empty() {
+            self.lanes.forget_gone()?;
+        }
         let column = self.numbers.len() as u64;
         self.numbers.push(moment.source.number)?;
         let first = column.saturating_mul(TICKS).saturating_add(1);
@@ -71,11 +98,18 @@ impl Watcher for Picture {
             self.add(at, entry)?;
             at = at.saturating_add(1).min(last);
         }
-        self.lanes.note_listed(self.alloc, moment.world)
+        Ok(())
     }
-}
 
-impl Picture {
+    /// A line before those that are shown: all happens at the left edge, and only what lasts is drawn.
+    fn pass(&mut self, moment: Moment<'_>) -> Result<(), AllocError> {
+        for entry in moment.added {
+            self.add(0, entry)?;
+        }
+        self.shapes.clear();
+        Ok(())
+    }
+
     fn add(&mut self, at: u64, entry: &Entry) -> Result<(), AllocError> {
         match entry {
             Entry::Made(task) => self.lanes.add(*task, at),

@@ -49,6 +49,8 @@ impl fmt::Display for Reason {
 pub struct Moment<'a> {
     /// The line.
     pub source: TextLine<'a>,
+    /// The task that the line names, if it names one.
+    pub task: Option<u64>,
     /// Why the line was passed over, if it was.
     pub reason: Option<Reason>,
     /// What the line added to the record.
@@ -76,32 +78,44 @@ pub fn play<V: Watcher>(
     } = script;
     let lazy = matches!(&kind, Kind::Lazy(_) | Kind::LazyWith(_));
     let mut world = World::new(alloc, kind, limit);
-    watcher.see(moment_of(&world, first, None, 0))?;
+    watcher.see(Moment {
+        source: first,
+        task: None,
+        reason: None,
+        added: &[],
+        world: &world,
+    })?;
+    // Each task that an entry before this one made is gone.
+    let mut gone = 0usize;
     for line in &lines {
         let before = world.entries().len();
-        let reason = reason_of(&world, &line.line, lazy);
+        let reason = reason_of(&world, &line.line, lazy, &mut gone);
         take_line(&mut world, &line.line)?;
-        watcher.see(moment_of(&world, line.source, reason, before))?;
+        watcher.see(Moment {
+            source: line.source,
+            task: task_of(&line.line),
+            reason,
+            added: world.entries().get(before..).unwrap_or(&[]),
+            world: &world,
+        })?;
     }
     Ok(())
 }
 
-fn moment_of<'a>(
-    world: &'a World,
-    source: TextLine<'a>,
-    reason: Option<Reason>,
-    before: usize,
-) -> Moment<'a> {
-    Moment {
-        source,
-        reason,
-        added: world.entries().get(before..).unwrap_or(&[]),
-        world,
+/// The task that a line names.
+fn task_of(line: &Line) -> Option<u64> {
+    match line {
+        Line::Run(task, _, _) => Some(*task),
+        Line::Single(input) => match input {
+            Input::Make(task) | Input::Poll(task, _) | Input::Drop(task) | Input::Go(task, _, _) =>
+                { Some(*task) }
+            Input::Look | Input::Own(_) => None,
+        },
     }
 }
 
 /// Why the world would pass a line over, if it would.
-fn reason_of(world: &World, line: &Line, lazy: bool) -> Option<Reason> {
+fn reason_of(world: &World, line: &Line, lazy: bool, gone: &mut usize) -> Option<Reason> {
     match line {
         Line::Run(task, _, _) => no_step(world, *task),
         Line::Single(input) => match input {
@@ -111,7 +125,7 @@ fn reason_of(world: &World, line: &Line, lazy: bool) -> Option<Reason> {
             Input::Look => None,
             Input::Own(call) => match not_of_kind(call, lazy) {
                 Some(reason) => Some(reason),
-                None => not_gone(world),
+                None => not_gone(world, gone),
             },
         },
     }
@@ -147,15 +161,18 @@ fn not_of_kind(call: &Call, lazy: bool) -> Option<Reason> {
     }
 }
 
-/// The first task that is not gone.
-fn not_gone(world: &World) -> Option<Reason> {
-    for entry in world.entries() {
+/// The first task that is not gone. Each that was made by an entry before `gone` is, and the search goes on
+/// there, since none comes back.
+fn not_gone(world: &World, gone: &mut usize) -> Option<Reason> {
+    let later = world.entries().get(*gone..).unwrap_or(&[]);
+    for entry in later {
         if let Entry::Made(task) = entry {
             match world.step_of(*task) {
                 Some(Step::Finished) | None => {}
                 Some(_) => return Some(Reason::NotGone(*task)),
             }
         }
+        *gone = gone.saturating_add(1);
     }
     None
 }

@@ -3,6 +3,7 @@ use super::shape::{Shape, Span};
 use async_once_cell::step::{Place, Rest, Step};
 use async_once_cell::world::World;
 use std::alloc::{AllocError, Global};
+use std::collections::BTreeMap;
 
 /// The lane of a task, with the times since which something is under way there.
 #[derive(Clone, Copy)]
@@ -17,6 +18,8 @@ pub struct Lane {
     is_drop: bool,
     waits: Option<u64>,
     holds: Option<u64>,
+    /// The ticket of the task's listing, if it has one.
+    ticket: Option<u64>,
 }
 
 impl Lane {
@@ -43,10 +46,10 @@ impl Lane {
     }
 }
 
-/// A lane whose task is listed with this waker.
+/// A listing that was not called.
 #[derive(Clone, Copy)]
 struct Listed {
-    lane: u64,
+    ticket: u64,
     waker: u64,
 }
 
@@ -54,6 +57,8 @@ struct Listed {
 #[derive(Drop)]
 pub struct Lanes {
     lanes: Vec<Lane>,
+    /// The number of each task's lane.
+    numbers: BTreeMap<u64, usize>,
     /// Who was listed after the last line and not called, the oldest listing first.
     listed: Vec<Listed>,
 }
@@ -62,6 +67,7 @@ impl Lanes {
     pub fn new(alloc: Global) -> Self {
         Lanes {
             lanes: Vec::new(alloc),
+            numbers: BTreeMap::new(alloc),
             listed: Vec::new(alloc),
         }
     }
@@ -72,6 +78,7 @@ impl Lanes {
 
     /// A new lane.
     pub fn add(&mut self, task: u64, at: u64) -> Result<(), AllocError> {
+        self.numbers.insert(task, self.lanes.len())?;
         self.lanes.push(Lane {
             task,
             made: at,
@@ -81,25 +88,45 @@ impl Lanes {
             is_drop: false,
             waits: None,
             holds: None,
+            ticket: None,
         })?;
+        Ok(())
+    }
+
+    /// Lets go of the lanes whose tasks are gone.
+    pub fn forget_gone(&mut self) -> Result<(), AllocError> {
+        self.lanes.retain(|lane| lane.gone.is_none());
+        self.numbers.clear();
+        for (number, lane) in self.lanes.iter_mut().enumerate() {
+            lane.number = number as u64;
+            self.numbers.insert(lane.task, number)?;
+        }
         Ok(())
     }
 
     /// The number of a task's lane.
     pub fn number_of(&self, task: u64) -> u64 {
-        self.lanes
-            .iter()
-            .find(|lane| lane.task == task)
-            .map_or(0, |lane| lane.number)
+        self.numbers.get(&task).map_or(0, |number| *number as u64)
     }
 
-    /// Notes who is listed after a line.
-    pub fn note_listed(&mut self, alloc: Global, world: &World) -> Result<(), AllocError> {
+    /// Notes the listing of the task that a line names, and who is listed after the line.
+    pub fn note_listed(
+        &mut self,
+        alloc: Global,
+        task: Option<u64>,
+        world: &World,
+    ) -> Result<(), AllocError> {
+        if let Some(task) = task {
+            let ticket = world.step_of(task).and_then(ticket_of);
+            if let Some(lane) = self.lane(task) {
+                lane.ticket = ticket;
+            }
+        }
         self.listed.clear();
         for listing in &world.core().lists.listings(alloc)? {
-            let lane = lane_with(&self.lanes, world, listing.ticket);
-            if let (Some(lane), Some(waker)) = (lane, listing.waker) {
-                self.listed.push(Listed { lane, waker })?;
+            if let Some(waker) = listing.waker {
+                let ticket = listing.ticket;
+                self.listed.push(Listed { ticket, waker })?;
             }
         }
         Ok(())
@@ -110,12 +137,21 @@ impl Lanes {
     pub fn called_by(&self, caller: u64, waker: u64) -> Option<u64> {
         self.listed
             .iter()
-            .find(|listed| listed.waker == waker && listed.lane != caller)
-            .map(|listed| listed.lane)
+            .filter(|listed| listed.waker == waker)
+            .filter_map(|listed| self.lane_with(listed.ticket))
+            .find(|lane| *lane != caller)
+    }
+
+    /// The lane whose task has this ticket.
+    fn lane_with(&self, ticket: u64) -> Option<u64> {
+        self.lanes
+            .iter()
+            .find(|lane| lane.ticket == Some(ticket))
+            .map(|lane| lane.number)
     }
 
     fn lane(&mut self, task: u64) -> Option<&mut Lane> {
-        self.lanes.iter_mut().find(|lane| lane.task == task)
+        self.lanes.get_mut(*self.numbers.get(&task)?)
     }
 
     /// A poll begins, or a drop. Gives how long the task had waited, if it had.
@@ -165,17 +201,9 @@ impl Lanes {
     }
 }
 
-/// The lane whose task has this ticket.
-fn lane_with(lanes: &[Lane], world: &World, ticket: u64) -> Option<u64> {
-    lanes
-        .iter()
-        .find(|lane| ticket_of(world, lane.task) == Some(ticket))
-        .map(|lane| lane.number)
-}
-
 /// The ticket of a task's listing, if it has one.
-fn ticket_of(world: &World, task: u64) -> Option<u64> {
-    match world.step_of(task)? {
+fn ticket_of(step: &Step<u64, u64>) -> Option<u64> {
+    match step {
         Step::Resting(Rest::Wait(_, ticket)) => *ticket,
         Step::UnderWay(
             Place::WaitLoad(_, ticket) | Place::Look(_, ticket) | Place::List(_, ticket, _),
