@@ -1,6 +1,6 @@
 //! Inits that fail while another waits, which then fills the cell at once.
 
-use crate::left::{left, meet};
+use crate::left::{left_by, meet};
 use async_once_cell::OnceCell;
 use async_once_cell::once::InitError;
 use futures::Future;
@@ -25,12 +25,12 @@ struct Failing {
 
 // An init that fails once the other thread waits.
 #[derive(Drop)]
-struct Fails<'a, R> {
+struct FailsLate<'a, R> {
     rt: &'a R,
     arrived: &'a AtomicU64,
 }
 
-impl<R: Wait> Future for Fails<'_, R> {
+impl<R: Wait> Future for FailsLate<'_, R> {
     type Output = Result<u64, u64>;
 
     fn poll(&mut self, _cx: &mut Context<'_>) -> Poll<Result<u64, u64>> {
@@ -44,7 +44,7 @@ impl<R: Wait> Future for Fails<'_, R> {
 fn fails<R: Wait + AllocGlobal>(rt: &R, task: &MockTask, cells: &[Failing]) -> u64 {
     let mut told = 0u64;
     for Failing { cell, arrived } in cells {
-        let mut future = cell.get_or_try_init(rt, Fails { rt, arrived });
+        let mut future = cell.get_or_try_init(rt, FailsLate { rt, arrived });
         if let Poll::Ready(Err(InitError::Init(9))) = task.poll(&mut future) {
             told = told.saturating_add(1);
         }
@@ -84,7 +84,7 @@ fn own_error_beside_a_value(rt: HostRuntime) -> Result<(), Fail> {
         || fails(&rt, &first, &cells),
         || fills(&rt, &second, &cells),
     );
-    let is_filled = |it: &Failing| left(&rt, parts(&it.cell, &rt, None)).is_filled();
+    let is_filled = |it: &Failing| left_by(&rt, parts(&it.cell, &rt, None)).is_filled();
     let are_filled = cells.iter().all(is_filled);
     assert_eq!(rt; (told, are_filled), (CELLS, true));
     Ok(())

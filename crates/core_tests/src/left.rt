@@ -30,7 +30,7 @@ impl Left {
 }
 
 /// What these parts have now.
-pub fn left<W, R>(rt: &R, mut parts: Shared<'_, '_, W, R>) -> Left
+pub fn left_by<W, R>(rt: &R, mut parts: Shared<'_, '_, W, R>) -> Left
 where
     W: WakerId + Drop,
     R: Wait + AllocGlobal,

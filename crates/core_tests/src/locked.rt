@@ -1,6 +1,6 @@
 //! Sections that find the queue's lock taken: they answer by what stands there once they have it.
 
-use crate::left::{Left, left, meet};
+use crate::left::{Left, left_by, meet};
 use async_once_cell::inner::{Answer, Inner, Op, Parts, Queue};
 use std::alloc::AllocGlobal;
 use std::sync::Wait;
@@ -49,7 +49,7 @@ where
             }
         },
     );
-    (answer, left(rt, inner.parts(rt, None)))
+    (answer, left_by(rt, inner.parts(rt, None)))
 }
 
 // Whether a section of who is not listed yet answers this each time, where the right was given back before

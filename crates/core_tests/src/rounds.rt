@@ -1,6 +1,6 @@
 //! Threads that use one cell in rounds. Between two of them its owner looks at all that is left.
 
-use crate::left::left;
+use crate::left::left_by;
 use async_once_cell::OnceCell;
 use async_once_cell::world::Reply;
 use cell_doubles::slow::{Slow, ended, left_midway};
@@ -108,7 +108,7 @@ fn is_settled<R>(rt: &R, cell: &OnceCell<u64>, round: &Round, was_set: bool) -> 
 where
     R: Wait + AllocGlobal,
 {
-    let (left, value) = (left(rt, parts(cell, rt, None)), cell.get().copied());
+    let (left, value) = (left_by(rt, parts(cell, rt, None)), cell.get().copied());
     let made = round.made.load(Ordering::SeqCst);
     let failed = round.failed.load(Ordering::SeqCst);
     let is_filled = left.is_filled() && value == Some(round.value);

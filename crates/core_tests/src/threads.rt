@@ -1,7 +1,7 @@
 //! Threads that use the parts of one cell at the same time.
 ghost use Rattle.std.specs.Prelude.{⊤};
 
-use crate::left::{left, meet};
+use crate::left::{left_by, meet};
 use async_once_cell::OnceCell;
 use async_once_cell::inner::{
     Answer, Counted, Inner, MAX_WAITERS, NEW, Op, Out, Parts, whole_drop, whole_poll,
@@ -179,7 +179,7 @@ fn two_threads_hold_in_turn(rt: HostRuntime) {
         || is_always_alone(&rt, &inner, &inside, (CALLS, 0)),
         || is_always_alone(&rt, &inner, &inside, (CALLS, 0)),
     );
-    let left = left(&rt, inner.parts(&rt, None));
+    let left = left_by(&rt, inner.parts(&rt, None));
     assert_eq!(rt; (one, two, left.is_free()), (true, true, true), "{left:?}");
 }
 
@@ -189,7 +189,7 @@ fn three_threads_hold_in_turn(rt: HostRuntime) {
     let (inner, inside) = (Inner::new(false), AtomicU64::new(0));
     let alone = || is_always_alone(&rt, &inner, &inside, (LONG_CALLS, 100));
     let (one, (two, three)) = thread::join(&rt, alone, || thread::join(&rt, alone, alone));
-    let left = left(&rt, inner.parts(&rt, None));
+    let left = left_by(&rt, inner.parts(&rt, None));
     assert_eq!(rt; [one, two, three, left.is_free()], [true; 4], "{left:?}");
 }
 
@@ -383,7 +383,7 @@ fn two_threads_fill_once(rt: HostRuntime) -> Result<(), Fail> {
     let both = || fills(&rt, &inners, &arrived);
     let (one, two) = thread::join(&rt, both, both);
     let (claimed, filled) = (one.0.saturating_add(two.0), one.1.saturating_add(two.1));
-    let is_filled = |inner: &Inner<u64>| left(&rt, inner.parts(&rt, None)).is_filled();
+    let is_filled = |inner: &Inner<u64>| left_by(&rt, inner.parts(&rt, None)).is_filled();
     let are_filled = inners.iter().all(is_filled);
     assert_eq!(rt; (claimed, filled, are_filled), (CELLS, CELLS, true));
     Ok(())

@@ -2,7 +2,7 @@
 //! schedules at random of four tasks, two of which have the same waker.
 
 use crate::counting::{Counting, Listed};
-use crate::left::{Left, left};
+use crate::left::{Left, left_by};
 use async_once_cell::inner::{Inner, MAX_WAITERS, Queue, whole_drop, whole_poll};
 use async_once_cell::step::{Ending, Polled, Progress, Step};
 use rand_core::{Rng, SeedableRng};
@@ -78,7 +78,7 @@ impl Task {
         };
         let side = &self.side;
         let (all, one) = (side.all_called(), side.one_called());
-        let left = left(rt, inner.parts(rt, None));
+        let left = left_by(rt, inner.parts(rt, None));
         let counts = [side.closes, side.puts];
         (ending, self.step.is_resting(), counts, all, one, left)
     }
