@@ -21,6 +21,7 @@ pub use Rattle.once_world.specs.Called
 pub use Rattle.once_world.specs.Values
 pub use Rattle.once_world.specs.Inputs
 pub use Rattle.once_world.specs.Log
+pub use Rattle.once_world.specs.UnderLock
 pub use Rattle.once_world.specs.Machine
 pub use Rattle.once_world.specs.Can
 pub use Rattle.once_world.specs.Side

@@ -11,6 +11,7 @@ pub mod Called
 pub mod Values
 pub mod Inputs
 pub mod Log
+pub mod UnderLock
 pub mod Machine
 pub mod Can
 pub mod Side

@@ -17,8 +17,9 @@ use Rattle.once_core.specs.declared.parts.Counted.TheVariants.{Full as CountFull
 use Rattle.once_core.specs.declared.step.Polled.{Polled}
 use Rattle.once_core.specs.declared.step.Polled.TheVariants.{Pending as PolledPending, Value as PolledValue, Error as PolledError}
 use Rattle.once_queue.specs.declared.waiters.Answer.{Answer as SectionAnswer}
-use Rattle.once_queue.specs.declared.waiters.Answer.TheVariants.{Ready, Claimed, Listed, Held, Memory as NoMemory, Gone}
 use Rattle.once_queue.specs.Word.{Flags, is_zero, is_quick_bit, is_ready_bit}
+pub use Rattle.once_world.specs.UnderLock.{QueueState, QueueGone, QueueSet, QueueFree, QueueHeld, queue_state_by, state_seen}
+pub use Rattle.once_world.specs.UnderLock.{look_answer, list_answer, is_claim, head_after, looked_list, listed_list, listed_ticket}
 pub use Rattle.once_world.specs.declared.world.cell.Task.{Task}
 pub use Rattle.once_queue.specs.declared.log.QueueLine.{QueueLine}
 pub use Rattle.once_queue.specs.declared.log.QueueLine.TheVariants.{Put as PutLine, Entered as EnteredLine, Taken as TakenLine}
@@ -168,45 +169,13 @@ in_step below ready c t k q = outcome_of (in_shared below c) t k [] (next_in bel
 abbrev pub load_step : Bool → SharedState → ℕ → Answer → ℕ → Option ℕ → Outcome
 load_step ready c t k q n = outcome_of c t k [] (after_load ready q n)
 
--- what a claim under the lock leaves, by the ticket of who claims
-abbrev pub claim_shared : SharedState → Option ℕ → SharedState
-claim_shared c n = record c { head = true; listings = list_without n c.listings }
-
--- a section claimed the right
-abbrev pub is_claim : SectionAnswer ℕ → Bool
-is_claim Claimed = true
-is_claim _ = false
-
--- how a call under the lock finds its queue: gone from the door, in a cell that is set, free to be claimed, or held
-pub data QueueState : Type 0 where
-  QueueGone : QueueState
-  QueueSet : QueueState
-  QueueFree : QueueState
-  QueueHeld : QueueState
-
--- by whether it stands at the door, the value is set, some task holds
-abbrev pub queue_state_by : Bool → Bool → Bool → QueueState
-queue_state_by false _ _ = QueueGone
-queue_state_by true true _ = QueueSet
-queue_state_by true false false = QueueFree
-queue_state_by true false true = QueueHeld
-
 -- how a call finds the queue q
 abbrev pub queue_state : ℕ → SharedState → QueueState
 queue_state q c = queue_state_by (is_at_door q c.door) c.ready (is_taken c)
 
--- what a look answers, by whether its own listing has its waker
-abbrev pub look_answer : QueueState → Bool → SectionAnswer ℕ
-look_answer QueueGone _ = Gone
-look_answer QueueSet _ = Ready
-look_answer QueueFree _ = Claimed
-look_answer QueueHeld true = Listed
-look_answer QueueHeld false = Held
-
--- what a look leaves: only a claim changes something
+-- what a look leaves, by its answer
 abbrev pub look_shared : SectionAnswer ℕ → SharedState → Option ℕ → SharedState
-look_shared Claimed c n = claim_shared c n
-look_shared _ c n = c
+look_shared a c n = record c { head = head_after a c.head; listings = looked_list a n c.listings }
 
 -- how a look finds its queue, whether its own listing has its waker, and whether memory is given
 abbrev pub look_step : QueueState → Bool → Bool → SharedState → ℕ → ℕ → Answer → ℕ → Option ℕ → Outcome
@@ -214,34 +183,15 @@ look_step state listed granted c t w k q n =
     let a = look_answer state listed in
     outcome_of (look_shared a c n) t k (claim_entries (is_claim a) t) (after_look a (cond granted (Some w) None) q n)
 
--- what a listing answers, by whether there is room: its listing is there, or memory is given
-abbrev pub list_answer : QueueState → Bool → SectionAnswer ℕ
-list_answer QueueGone _ = Gone
-list_answer QueueSet _ = Ready
-list_answer QueueFree _ = Claimed
-list_answer QueueHeld true = Listed
-list_answer QueueHeld false = NoMemory
-
--- what a listing with this ticket leaves
-abbrev pub listing_shared : SharedState → ℕ → ℕ → SharedState
-listing_shared c n w = record c { listings = list_with n w c.listings }
-
 -- what a call to list oneself leaves, by its answer
 abbrev pub list_shared : SectionAnswer ℕ → SharedState → Option ℕ → ℕ → SharedState
-list_shared Claimed c n w = claim_shared c n
-list_shared Listed c n w = listing_shared c (ticket_for n c.listings) w
-list_shared _ c n w = c
-
--- the ticket of a task after it listed itself
-abbrev pub list_ticket : SectionAnswer ℕ → SharedState → Option ℕ → Option ℕ
-list_ticket Listed c n = Some (ticket_for n c.listings)
-list_ticket _ c n = n
+list_shared a c n w = record c { head = head_after a c.head; listings = listed_list a n w c.listings }
 
 -- how a listing finds its queue, and whether there is room
 abbrev pub list_step : QueueState → Bool → SharedState → ℕ → ℕ → Answer → ℕ → Option ℕ → Outcome
 list_step state room c t w k q n =
     let a = list_answer state room in
-    outcome_of (list_shared a c n w) t k (claim_entries (is_claim a) t) (after_list a q (list_ticket a c n))
+    outcome_of (list_shared a c n w) t k (claim_entries (is_claim a) t) (after_list a q (listed_ticket a n c.listings))
 
 -- the answer of the init: of a lazy one the next, of another what the input says
 abbrev pub init_answer : Bool → List (Option ℕ) → Answer → Answer
@@ -402,6 +352,11 @@ unfinished_after _ n = n
 -- a task that was made
 abbrev pub fresh_task : Task
 fresh_task = record { waker = 0; kept = RanPending; step = Resting RestStart }
+
+-- the step of a task; one that was not made has nothing left to do
+abbrev pub step_of : Option Task → Step ℕ ℕ
+step_of None = Finished
+step_of (Some x) = x.step
 
 -- a new task where none has the number t
 abbrev pub make_world : World → ℕ → Option Task → World

@@ -6,7 +6,7 @@ use Rattle.std.proofs.lemmas.Bool.{false≢true, ltb-false}
 use Rattle.std.proofs.lemmas.Bool.Decides.{nat_tests}
 use Rattle.once_world.specs.Record.{Answer, Entry, Kind, RanError, RanPending, RanValue, is_lazy}
 use Rattle.once_world.specs.Cell.{cell}
-use Rattle.once_world.specs.Machine.{AtAddOne, AtCountIn, AtCountOut, AtDoorAgain, AtDoorGet, AtDoorPut, AtDoorTake, AtFast, AtLeave, AtList, AtLook, AtPut, AtRelease, AtRun, AtStart, AtTryQuick, AtWaitLoad, EndError, EndMemory, EndValue, Ending, Finished, SharedState, Place, RestRun, RestWait, Resting, Step, UnderWay, again_step, claim_shared, out_shared, door_step, take_shared, fast_step, release_place, init_answer, in_step, is_at_door, is_taken, is_value, is_waker, kept_ticket, leave_place, leave_step, list_step, load_step, look_step, out_step, own_listing, place_step, put_step, put_value, quick_step, run_shared, release_step, release_flags, run_step, start_step, step_at, word_of, queue_state_by, QueueHeld}
+use Rattle.once_world.specs.Machine.{AtAddOne, AtCountIn, AtCountOut, AtDoorAgain, AtDoorGet, AtDoorPut, AtDoorTake, AtFast, AtLeave, AtList, AtLook, AtPut, AtRelease, AtRun, AtStart, AtTryQuick, AtWaitLoad, EndError, EndMemory, EndValue, Ending, Finished, SharedState, Place, RestRun, RestWait, Resting, Step, UnderWay, again_step, out_shared, door_step, take_shared, fast_step, release_place, init_answer, in_step, is_at_door, is_taken, is_value, is_waker, kept_ticket, leave_place, leave_step, list_step, load_step, look_step, out_step, own_listing, place_step, put_step, put_value, quick_step, run_shared, release_step, release_flags, run_step, start_step, step_at, word_of, queue_state_by, QueueHeld}
 use Rattle.once_world.proofs.History.Others.{holds}
 use Rattle.once_world.proofs.History.Cells.{holder_unset, none_some, set_free}
 use Rattle.once_world.proofs.Invariant.Facts.{AtPlace, AtStep, IsSomeDoor, is_counted, is_counted_at, is_take, is_take_at}
@@ -14,6 +14,7 @@ use Rattle.once_world.proofs.Invariant.Fits.{SharedFits}
 use Rattle.once_world.proofs.Invariant.Kept.{releasing_holds}
 use Rattle.once_world.proofs.Invariant.Around.{Around}
 use Rattle.once_queue.specs.Word.{is_zero, is_quick_bit, is_ready_bit}
+use Rattle.once_world.proofs.Place.Outcomes.{claim_shared}
 
 -- the places whose task will see to the queue at the door of a set cell
 abbrev is_late_at : Place ℕ ℕ → Bool

@@ -4,18 +4,18 @@ use Rattle.std.specs.Prelude.{not}
 use Rattle.once_world.specs.Record.{Entry, Kind}
 use Rattle.once_world.specs.Cell.{cell}
 use Rattle.once_world.specs.Inputs.{Drop, Go, Input, Looks, Make, Owns, Poll}
-use Rattle.once_world.specs.Machine.{AtAddOne, AtCountIn, AtCountOut, AtDoorAgain, AtDoorGet, AtDoorPut, AtDoorTake, AtFast, AtLeave, AtList, AtLook, AtPut, AtRelease, AtRun, AtStart, AtTryQuick, AtWaitLoad, Finished, SharedState, Place, Resting, Step, Task, UnderWay, World, world_of}
+use Rattle.once_world.specs.Machine.{AtAddOne, AtCountIn, AtCountOut, AtDoorAgain, AtDoorGet, AtDoorPut, AtDoorTake, AtFast, AtLeave, AtList, AtLook, AtPut, AtRelease, AtRun, AtStart, AtTryQuick, AtWaitLoad, Finished, SharedState, Place, Resting, Step, Task, UnderWay, World, world_of, step_of}
 use Rattle.once_world.specs.Can.{CanAdvance, CanStep, MayTake, TaskCan}
 use Rattle.once_world.proofs.History.Cells.{holder_unset}
 use Rattle.once_world.proofs.Invariant.Facts.{AtPlace, AtStep, HeadFlag, QuickFlag, is_counted, is_counted_at}
-use Rattle.once_world.proofs.Invariant.Fits.{Fits, SharedFits, step_of}
+use Rattle.once_world.proofs.Invariant.Fits.{Fits, SharedFits}
 use Rattle.once_world.proofs.Exactness.Unfinished.{unfinished_within}
 use Rattle.once_world.proofs.Invariant.Kept.{releasing_holds}
 use Rattle.once_world.proofs.Invariant.Moves.{in_count}
 use Rattle.once_world.proofs.Input.Headline.{task_fits, world_fits}
 
 -- exactly one flag stands for a holder
-one_flag : (c : SharedState) → QuickFlag c ⊎ HeadFlag c → c.head ≡ not c.quick
+pub one_flag : (c : SharedState) → QuickFlag c ⊎ HeadFlag c → c.head ≡ not c.quick
 one_flag c (inl f) = f.head_is ∙ sym (ap not f.quick_is)
 one_flag c (inr f) = f.head_is ∙ sym (ap not f.quick_is)
 

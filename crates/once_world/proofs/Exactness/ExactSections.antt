@@ -14,7 +14,7 @@ use Rattle.once_core.specs.Core.{CoreState, DidSection, FindsHolder}
 use Rattle.once_world.specs.Places.{AtList, AtLook, Progress, Step, UnderWay}
 use Rattle.once_queue.specs.Ops.{ticket_in}
 use Rattle.once_core.specs.Steps.{AfterLook, Follows, after_copy, after_list, after_look, is_running}
-use Rattle.once_world.specs.Machine.{EnteredLine, claim_entries, is_claim, is_at_door, list_answer, list_shared, list_step, list_ticket, look_answer, look_shared, look_step, queue_state_by, queue_state, QueueHeld}
+use Rattle.once_world.specs.Machine.{EnteredLine, claim_entries, is_claim, is_at_door, list_answer, list_shared, list_step, listed_ticket, look_answer, look_shared, look_step, queue_state_by, queue_state, QueueHeld}
 use Rattle.once_world.specs.Side.{DidClose, DidCopy}
 use Rattle.once_queue.proofs.Listing.Members.{eqb_self}
 use Rattle.once_world.proofs.Exactness.Outcomes.{IsFresh, IsOutcome, follows_by, shared_by, reverse_push}
@@ -159,7 +159,7 @@ module _ (c : ReplaySide) (f : IsFresh c) (s : CoreState ℕ) (c' : ReplaySide) 
   record ListFinds (w : ℕ) (b : SectionAnswer ℕ) : Type 0 where
     shared : shared_by s' c ≡ list_shared b (shared_by s c) k w
     log : s'.log ≡ (entered q s).log
-    after : Follows DidClose (after_list b q (list_ticket b (shared_by s c) k)) c c' p t
+    after : Follows DidClose (after_list b q (listed_ticket b k (shared_by s c).listings)) c c' p t
 
   -- a listing that finds the holder
   list_holder : (w : ℕ) (room : Bool) → (is_some (kept_ticket k s.listings) || s.granted) ≡ room
@@ -192,7 +192,7 @@ module _ (c : ReplaySide) (f : IsFresh c) (s : CoreState ℕ) (c' : ReplaySide) 
       (EnteredLine q ∷ []) s c s' c' p t
   list_exact w x y =
       let b = list_answer (queue_state q (shared_by s c)) (is_some (kept_ticket k s.listings) || s.granted) in
-      let m = list_ticket b (shared_by s c) k in
+      let m = listed_ticket b k (shared_by s c).listings in
       let z : ListFinds w b = list_by w (is_at_door q s.door) s.word.ready (s.word.quick || s.head) (is_some (kept_ticket k s.listings) || s.granted) refl refl refl refl x y in
       follows_by (UnderWay (AtList q k w)) s c f s' c' p t (EnteredLine q ∷ []) (list_shared b (shared_by s c) k w)
       (λ n. claim_entries (is_claim b) n) (after_list b q m) (entered_log q s s' z.log) z.shared z.after

@@ -123,7 +123,7 @@ unheld (Lazy l) t = refl
 unheld (LazyWith v) t = refl
 
 -- all holds at the start
-opening_fits : (K : Kind) (limit : ℕ) → Fits K limit (first_world K)
+pub opening_fits : (K : Kind) (limit : ℕ) → Fits K limit (first_world K)
 opening_fits K limit = record {
   run = tt;
   shared = starting K limit;
@@ -141,7 +141,7 @@ opening_fits K limit = record {
 }
 
 -- each input keeps all that holds
-after_fits : (K : Kind) (limit : ℕ) (w : World) (i : Input) → 0 < limit → Fits K limit w → Fits K limit (world_after K limit w i)
+pub after_fits : (K : Kind) (limit : ℕ) (w : World) (i : Input) → 0 < limit → Fits K limit w → Fits K limit (world_after K limit w i)
 after_fits K limit w (Make t) some f = made_fits K limit w t f (w.tasks t) refl
 after_fits K limit w (Poll t k) some f = polled_fits K limit w t k f (w.tasks t) refl
 after_fits K limit w (Drop t) some f = dropped_fits K limit w t f (w.tasks t) refl

@@ -8,13 +8,13 @@ use Rattle.once_world.specs.Cell.{Cell, Empty, Held, SetTo, cell, value_in}
 use Rattle.once_world.specs.Tasks.{last_call}
 use Rattle.once_queue.specs.Listings.{find_listing}
 use Rattle.once_world.specs.Run.{IsLegal}
-use Rattle.once_world.specs.Machine.{SharedState, Task, World, fresh_task, look_value, make_world, put_task}
+use Rattle.once_world.specs.Machine.{SharedState, Task, World, fresh_task, look_value, make_world, put_task, step_of}
 use Rattle.once_queue.proofs.Listing.Members.{eqb_self}
 use Rattle.once_world.proofs.History.Others.{legal_keeps}
 use Rattle.once_world.proofs.History.Waiters.{QueueFits, quiet}
 use Rattle.once_world.proofs.Listing.Counting.{count_same}
 use Rattle.once_world.proofs.Invariant.Facts.{is_counted, is_inside, is_take, kept_of, ticket_of}
-use Rattle.once_world.proofs.Invariant.Fits.{Fits, SharedFits, StandsFor, is_alive, step_of}
+use Rattle.once_world.proofs.Invariant.Fits.{Fits, SharedFits, StandsFor, is_alive}
 use Rattle.once_world.proofs.Invariant.Listed.{none_not_some}
 use Rattle.once_world.proofs.Invariant.Turns.{somebody_called}
 use Rattle.once_world.proofs.Invariant.Moves.{Puts, puts, stands_kept}

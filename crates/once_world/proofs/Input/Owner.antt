@@ -6,14 +6,14 @@ use Rattle.once_world.specs.Record.{Entry, Got, GotAnswers, Kind, Own, OwnerCall
 use Rattle.once_world.specs.Cell.{Cell, Empty, Held, SetTo, answers_left, cell, got, got_parts, got_value, is_held, is_set, cell_after_call, write_cell}
 use Rattle.once_world.specs.Tasks.{Waiting, status}
 use Rattle.once_queue.specs.Listings.{find_listing}
-use Rattle.once_world.specs.Machine.{SharedState, Task, World, is_some_value, own_world_by, owner_got, owner_shared, parts_got, reset_shared, write_shared, value_got, value_or}
+use Rattle.once_world.specs.Machine.{SharedState, Task, World, is_some_value, own_world_by, owner_got, owner_shared, parts_got, reset_shared, write_shared, value_got, value_or, step_of}
 use Rattle.once_queue.proofs.Listing.Members.{eqb_self}
 use Rattle.once_world.proofs.History.Others.{holds}
 use Rattle.once_world.proofs.History.Cells.{empty_cell, empty_not_set, holder_of, same_value, value_of_set}
 use Rattle.once_world.proofs.History.Waiters.{QueueFits, quiet}
 use Rattle.once_world.proofs.Listing.Counting.{count_none}
 use Rattle.once_world.proofs.Invariant.Facts.{is_counted}
-use Rattle.once_world.proofs.Invariant.Fits.{Fits, SharedFits, StandsFor, is_alive, step_of}
+use Rattle.once_world.proofs.Invariant.Fits.{Fits, SharedFits, StandsFor, is_alive}
 use Rattle.once_world.proofs.Place.Relisted.{no_listing}
 use Rattle.once_world.proofs.Input.Gone.{Over, done_gone, finished, none_alive, over, over_at}
 

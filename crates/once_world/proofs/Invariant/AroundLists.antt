@@ -6,10 +6,10 @@ use Rattle.once_world.specs.Record.{Entry, Kind}
 use Rattle.once_world.specs.Tasks.{Waiting, last_call, status}
 use Rattle.once_queue.specs.Listings.{find_listing}
 use Rattle.once_world.specs.Wakers.{IsDue, handed_since}
-use Rattle.once_world.specs.Machine.{Finished, SharedState, Rest, RestRun, RestStart, RestWait, Resting, Step, Task, UnderWay, World}
+use Rattle.once_world.specs.Machine.{Finished, SharedState, Rest, RestRun, RestStart, RestWait, Resting, Step, Task, UnderWay, World, step_of}
 use Rattle.once_world.proofs.Listing.Listings.{asks, asks_found}
 use Rattle.once_world.proofs.Invariant.Facts.{AtRest, AtStep, IsListed, RestsOn, ticket_of}
-use Rattle.once_world.proofs.Invariant.Fits.{Fits, StandsFor, step_of}
+use Rattle.once_world.proofs.Invariant.Fits.{Fits, StandsFor}
 use Rattle.once_world.proofs.Invariant.Turns.{ticketed}
 use Rattle.once_world.proofs.Invariant.Around.{no_door, no_wait, place_acts}
 

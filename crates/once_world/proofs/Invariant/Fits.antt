@@ -8,14 +8,9 @@ use Rattle.once_world.specs.Tasks.{Unmade, last_call}
 use Rattle.once_queue.specs.Listings.{find_listing}
 use Rattle.once_world.specs.Run.{AtEvery, IsRun}
 use Rattle.once_world.specs.Called.{SomebodyCalled}
-use Rattle.once_world.specs.Machine.{Finished, SharedState, Step, Task, World, is_finished}
+use Rattle.once_world.specs.Machine.{SharedState, Task, World, is_finished, step_of}
 use Rattle.once_world.proofs.History.Waiters.{QueueFits}
 use Rattle.once_world.proofs.Invariant.Facts.{AtStep, InStatus, IsSomeDoor, is_counted, is_inside, is_take, kept_of, ticket_of}
-
--- a task that was not made is where nothing is left to do
-abbrev pub step_of : Option Task → Step ℕ ℕ
-step_of None = Finished
-step_of (Some x) = x.step
 
 -- a task that was made and is not finished
 abbrev pub is_alive : Option Task → Bool

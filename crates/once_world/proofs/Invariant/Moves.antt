@@ -10,13 +10,13 @@ use Rattle.once_queue.specs.declared.waiters.Listing.{Listing}
 use Rattle.once_queue.specs.Listings.{find_listing}
 use Rattle.once_world.specs.Run.{AtEvery, IsRun}
 use Rattle.once_world.specs.Called.{SomebodyCalled}
-use Rattle.once_world.specs.Machine.{AtDoorTake, AtLeave, AtList, AtLook, AtWaitLoad, Finished, SharedState, Place, Resting, Step, Task, UnderWay, World, place_of_poll, is_finished, put_task, unfinished_after}
+use Rattle.once_world.specs.Machine.{AtDoorTake, AtLeave, AtList, AtLook, AtWaitLoad, Finished, SharedState, Place, Resting, Step, Task, UnderWay, World, place_of_poll, is_finished, put_task, unfinished_after, step_of}
 use Rattle.once_queue.proofs.Listing.Members.{eqb_self}
 use Rattle.once_world.proofs.History.Others.{Keeps}
 use Rattle.once_world.proofs.History.Waiters.{QueueFits}
 use Rattle.once_world.proofs.Listing.Counting.{count_change, count_positive}
 use Rattle.once_world.proofs.Invariant.Facts.{AtPlace, AtStep, is_counted, is_counted_at, is_inside, is_inside_at, is_take, is_take_at, kept_of, ticket_of}
-use Rattle.once_world.proofs.Invariant.Fits.{Fits, SharedFits, StandsFor, is_alive, step_of}
+use Rattle.once_world.proofs.Invariant.Fits.{Fits, SharedFits, StandsFor, is_alive}
 use Rattle.once_world.proofs.Invariant.Kept.{SharedKeeps, in_status_kept, step_kept}
 use Rattle.once_world.proofs.Invariant.Listed.{ListKept, was_unset}
 use Rattle.once_world.proofs.Invariant.Turns.{ListMoves, somebody_called, ticketed}

@@ -6,10 +6,10 @@ use Rattle.once_world.specs.Cell.{cell, is_set}
 use Rattle.once_world.specs.Tasks.{Waiting, is_under_way, last_call, status}
 use Rattle.once_queue.specs.Listings.{find_listing}
 use Rattle.once_world.specs.Called.{HasTurn, SomebodyCalled}
-use Rattle.once_world.specs.Machine.{AtLeave, AtList, AtLook, AtWaitLoad, EndDropped, EndError, EndFull, EndMemory, EndPending, EndValue, Ending, Finished, SharedState, Place, Rest, RestRun, RestStart, RestWait, Resting, Step, Task, UnderWay}
+use Rattle.once_world.specs.Machine.{AtLeave, AtList, AtLook, AtWaitLoad, EndDropped, EndError, EndFull, EndMemory, EndPending, EndValue, Ending, Finished, SharedState, Place, Rest, RestRun, RestStart, RestWait, Resting, Step, Task, UnderWay, step_of}
 use Rattle.once_world.proofs.History.Waiters.{CalledAt}
 use Rattle.once_world.proofs.Invariant.Facts.{AnyIn, AtPlace, AtRest, AtStep, HasTicket, IsListed, IsSomeDoor, Leaves, RestsOn, ticket_at, ticket_of}
-use Rattle.once_world.proofs.Invariant.Fits.{StandsFor, step_of}
+use Rattle.once_world.proofs.Invariant.Fits.{StandsFor}
 use Rattle.once_world.proofs.Invariant.Listed.{IsKept, none_not_some, same_some}
 
 -- what a step of t, whose ticket was k and then is k', owes of the listings

@@ -5,8 +5,8 @@ use Rattle.once_world.specs.Record.{Entry, Kind}
 use Rattle.once_world.specs.Tasks.{is_under_way, status}
 use Rattle.once_world.specs.Inputs.{Adds, FallsInto, Input, Part, SixteenEnd, WantsMemoryOnlyUngranted, all_granted, begins_call, entries_of, gos, is_fitting_go}
 use Rattle.once_world.specs.Log.{AddsLines, IsLogOf, NoneKept, WaitingStands, lines_of}
-use Rattle.once_world.specs.Machine.{SharedState, Step, Task, World, world_after, history_of, in_call, log_of, world_of}
-use Rattle.once_world.proofs.Invariant.Fits.{Fits, StandsFor, step_of}
+use Rattle.once_world.specs.Machine.{SharedState, Step, Task, World, world_after, history_of, in_call, log_of, world_of, step_of}
+use Rattle.once_world.proofs.Invariant.Fits.{Fits, StandsFor}
 use Rattle.once_world.proofs.Input.Headline.{world_fits}
 use Rattle.once_world.proofs.Door.Logged.{log_stands}
 use Rattle.once_world.proofs.Door.Doors.{no_queue_kept, waits_stand}

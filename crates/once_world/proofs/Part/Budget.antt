@@ -4,8 +4,7 @@ use Rattle.std.proofs.lemmas.Bool.{false≢true, cases_eq, ne_eqb, eq-eqb}
 use Rattle.once_world.specs.Record.{Entry, Kind}
 use Rattle.once_world.specs.Inputs.{Adds, Input, begins_call, all_granted, ends_for_memory, is_fitting_go, is_ungranted}
 use Rattle.once_world.specs.Log.{AddsLines}
-use Rattle.once_world.specs.Machine.{QueueLine, Step, Task, World, in_call, left_of}
-use Rattle.once_world.proofs.Invariant.Fits.{step_of}
+use Rattle.once_world.specs.Machine.{QueueLine, Step, Task, World, in_call, left_of, step_of}
 use Rattle.once_world.proofs.Invariant.Moves.{Puts}
 use Rattle.once_world.proofs.Part.Left.{left_most}
 use Rattle.once_world.proofs.Part.Tells.{is_refused}

@@ -7,12 +7,13 @@ use Rattle.once_world.specs.Record.{Entry, Kind}
 use Rattle.once_world.specs.Tasks.{last_call}
 use Rattle.once_queue.specs.declared.waiters.Listing.{Listing}
 use Rattle.once_queue.specs.Listings.{find_listing, is_waker, list_with, take_out, ticket_for, list_without}
-use Rattle.once_world.specs.Machine.{SharedState, listing_shared}
+use Rattle.once_world.specs.Machine.{SharedState}
 use Rattle.once_world.proofs.Listing.Listings.{asks, asks_push, asks_take, find_push_other, find_push_same, find_take_other, find_take_same, new_fresh}
 use Rattle.once_queue.proofs.Listing.Tickets.{find_none, found_ticket}
 use Rattle.once_world.proofs.Invariant.Facts.{HasTicket}
 use Rattle.once_world.proofs.Invariant.Listed.{none_not_some, same_some}
 use Rattle.once_world.proofs.Invariant.Turns.{ListMoves}
+use Rattle.once_world.proofs.Place.Outcomes.{listing_shared}
 
 pub no_listing : (o : Option ℕ) → ◌≡◌ {A = Option (Option ℕ)} None (Some o) → ⊥
 no_listing o e = cc

@@ -7,7 +7,7 @@ use Rattle.once_world.specs.Tasks.{Dropping, Fresh, Gone, Holding, Polling, Stat
 use Rattle.once_queue.specs.Listings.{find_listing, is_waker, list_with, own_listing, ticket_for}
 use Rattle.once_world.specs.Refusals.{AtSome, MemoryFrom, OtherActs, OtherHolds, is_begin_of, moments_since}
 use Rattle.once_world.specs.Run.{IsRun}
-use Rattle.once_world.specs.Machine.{AtCountOut, AtLeave, AtList, AtLook, AtWaitLoad, EndMemory, EndValue, SharedState, Place, claim_shared, is_at_door, is_taken, leave_place, list_step, listing_shared, load_step, look_step, queue_state_by}
+use Rattle.once_world.specs.Machine.{AtCountOut, AtLeave, AtList, AtLook, AtWaitLoad, EndMemory, EndValue, SharedState, Place, is_at_door, is_taken, leave_place, list_step, load_step, look_step, queue_state_by}
 use Rattle.once_world.proofs.History.Others.{Met, MetHolder, since_now_holder}
 use Rattle.once_world.proofs.History.Cells.{empty_cell}
 use Rattle.once_world.proofs.History.Waiters.{QueueFits}
@@ -18,7 +18,7 @@ use Rattle.once_world.proofs.Place.FitsAfter.{at_door, claim_fits, relisted_fits
 use Rattle.once_world.proofs.Invariant.Turns.{lists_stay}
 use Rattle.once_world.proofs.Place.Relisted.{anew_asks, anew_lists, find_own, is_waker_found, lists_by, without_asks, without_lists}
 use Rattle.once_world.proofs.Place.Waits.{other_holds, owes_value}
-use Rattle.once_world.proofs.Place.Outcomes.{claims, goes_to, waits}
+use Rattle.once_world.proofs.Place.Outcomes.{claims, goes_to, waits, claim_shared, listing_shared}
 
 -- what holds since the Begin weakens
 begin_by : (P Q : List Entry → Type 0) (moments : List (List Entry)) (b : Bool)
@@ -80,7 +80,7 @@ module _ (K : Kind) (limit t w : ℕ) (k : Answer) (c : SharedState) (h : List E
       (lists_stay t (ticket_at p) (Some n) c c (End t Pending ∷ h) refl (λ x. x) (inl (sym own)))
 
   -- a waiter is refused memory
-  refused_at : (p : Place ℕ ℕ) (q : ℕ) (n : Option ℕ) → ticket_at p ≡ n → is_counted_at p ≡ true
+  pub refused_at : (p : Place ℕ ℕ) (q : ℕ) (n : Option ℕ) → ticket_at p ≡ n → is_counted_at p ≡ true
       → is_inside_at p ≡ true → AnyIn K t h → c.door ≡ Some q → HasTicket K t c h n → MetHolder K t h
       → Goes K limit t w p c h (goes_to c k (leave_place q n EndMemory))
   refused_at p q None own cnt i a d f m =
