@@ -169,10 +169,12 @@ impl Pair {
         let (task, chance) = (self.below(TASKS), self.below(100));
         let same = match chance {
             0..45 => self.lists_agree(task, NEW),
-            45..70 => self.looks_agree(task, NEW),
+            45..58 => self.looks_agree(task, NEW),
+            58..70 => self.own_looks_agree(task, NEW),
             70..85 => self.leaves_agree(task),
             85..97 => self.releases_agree(false)?,
-            97..99 => self.looks_agree(task, READY_BIT),
+            97 => self.looks_agree(task, READY_BIT),
+            98 => self.own_looks_agree(task, READY_BIT),
             _ => self.releases_agree(true)?,
         };
         Ok(
@@ -197,6 +199,15 @@ impl Pair {
         let waker = task / 2;
         let seen = self.lists.look(&mut mine, Some(&waker), word);
         let wanted = self.plain.look(&mut other, waker, word);
+        self.keep(task, mine);
+        seen == wanted && mine == other
+    }
+
+    // A task lists itself by its own waker alone, so that a look finds the same with no waker to compare.
+    fn own_looks_agree(&mut self, task: u64, word: u64) -> bool {
+        let (mut mine, mut other) = (self.ticket(task), self.ticket(task));
+        let seen = self.lists.look_own(&mut mine, word);
+        let wanted = self.plain.look(&mut other, task / 2, word);
         self.keep(task, mine);
         seen == wanted && mine == other
     }

@@ -7,3 +7,4 @@ pub mod Repeats
 pub mod AllOther
 pub mod Marked
 pub mod Least
+pub mod Once

@@ -178,6 +178,37 @@ impl<W: WakerId + Drop> Lists<W> {
         }
     }
 
+    /// Claims the right where the word and the flag leave it free, as [`look`](Self::look). Else says
+    /// whether the own listing is there and was not called. It compares no wakers: it is for a caller
+    /// whose tickets stand for one waker each.
+    #[inline(always)]
+    pub fn look_own(&mut self, ticket: &mut Option<u64>, word: u64) -> Answer<W>
+        // The first case that holds gives the answer.
+        ensures ready { shows_set (flags_of word) ≡ true → result ≡ Answer.Ready }
+        ensures claimed { shows_free (flags_of word) self.old.head ≡ true
+            → result ≡ Answer.Claimed }
+        ensures held { shows_taken (flags_of word) self.old.head ≡ true
+            → result
+            ≡ cond (is_some (option_flatten (own_listing ticket.old (listings_of self.old))))
+            Answer.Listed Answer.Held }
+
+        // Only a claim changes anything.
+        ensures head { self.new.head ≡ (self.old.head || shows_free (flags_of word) self.old.head) }
+        ensures listings { listings_of self.new
+            ≡ cond (shows_free (flags_of word) self.old.head)
+            (list_without ticket.old (listings_of self.old)) (listings_of self.old) }
+        ensures ticket { ticket.new
+            ≡ cond (shows_free (flags_of word) self.old.head) None ticket.old }
+    {
+        if let Some(answer) = self.claim(ticket, word) {
+            return answer;
+        }
+        match self.own(*ticket) {
+            Some(_) => Answer::Listed,
+            None => Answer::Held,
+        }
+    }
+
     /// Claims the right where the word and the flag leave it free, as [`look`](Self::look). Else lists
     /// the waker at the end: with the own ticket, whose listing is taken out, or with the least one
     /// that no listing has. A ticket whose listing is gone counts as none. A waker that was not listed
