@@ -9,3 +9,6 @@ pub mod Part
 pub mod Exactness
 pub mod Rows
 pub mod Spoilt
+pub mod Shared
+pub mod Moment
+pub mod Told

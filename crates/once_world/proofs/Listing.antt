@@ -4,3 +4,4 @@ pub mod Handed
 pub mod Listings
 pub mod CalledFirst
 pub mod AllOut
+pub mod Apart

@@ -13,6 +13,7 @@ pub mod Inputs
 pub mod Log
 pub mod UnderLock
 pub mod Machine
+pub mod Book
 pub mod Can
 pub mod Side
 pub mod Shown
