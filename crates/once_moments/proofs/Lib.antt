@@ -1,0 +1,4 @@
+pub mod Named
+pub mod Looks
+pub mod Lists
+pub mod Releases

@@ -1,0 +1,47 @@
+-- What a list of those who wait shows on the queue's page: the same listings, each waker by the number of the task whose it is.
+use Rattle.std.specs.Prelude.{ℕ, List, [], ◌∷◌, map, Option, None}
+use Rattle.std.specs.Option.{option_map}
+use Rattle.once_queue.specs.declared.waiters.Listing.{Listing}
+use Rattle.once_queue.specs.declared.waiters.Answer.{Answer}
+use Rattle.once_queue.specs.declared.waiters.Answer.TheVariants.{Ready, Claimed, Listed, Held, Memory, Gone}
+use Rattle.once_queue.specs.declared.waiters.Out.{Out}
+use Rattle.once_queue.specs.declared.waiters.Out.TheVariants.{One, All}
+use Rattle.once_queue.specs.Listings.{one_out, wakers_of}
+
+module _ {W : Type 0} (whose : W → ℕ) where
+  -- one listing
+  abbrev pub named_listing : Listing W → Listing ℕ
+  named_listing x = record { ticket = x.ticket; waker = option_map whose x.waker }
+
+  -- the listings in their order
+  abbrev pub named : List (Listing W) → List (Listing ℕ)
+  named [] = []
+  named (x ∷ xs) = named_listing x ∷ named xs
+
+  -- the task of the waker, if there is one, as a list
+  abbrev pub named_one : Option W → List ℕ
+  named_one o = one_out (option_map whose o)
+
+  -- the tasks whose wakers a release hands out, in their order
+  abbrev pub named_out : Out W → List ℕ
+  named_out (One o) = named_one o
+  named_out (All X) = map whose (wakers_of X.items)
+
+-- the answer of a look or a listing
+abbrev pub named_answer : {W : Type 0} → Answer W → Answer ℕ
+named_answer Ready = Ready
+named_answer Claimed = Claimed
+named_answer Listed = Listed
+named_answer Held = Held
+named_answer Memory = Memory
+named_answer _ = Gone
+
+-- who looks in place of listing itself, since memory was refused, could not list itself where it finds a holder
+abbrev pub as_memory : {W : Type 0} → Answer W → Answer W
+as_memory Held = Memory
+as_memory a = a
+
+-- the ticket that is left: none after a claim
+abbrev pub ticket_left : Answer ℕ → Option ℕ → Option ℕ
+ticket_left Claimed k = None
+ticket_left _ k = k
