@@ -2,6 +2,8 @@
 #![tactic(auto)]
 
 #[cfg(test)]
+mod fills;
+#[cfg(test)]
 mod lockstep;
 #[cfg(test)]
 mod replay;
