@@ -5,6 +5,7 @@ use async_once_cell::queue::WakerId;
 use std::alloc::AllocGlobal;
 use std::sync::Wait;
 use std::sync::atomic::{AtomicU64, Ordering};
+use std::thread;
 
 /// The word, the door and the queue behind it.
 #[derive(Clone, Copy, Debug, PartialEq, Eq)]
@@ -61,5 +62,6 @@ pub fn meet<R: Wait>(rt: &R, arrived: &AtomicU64, threads: u64, meeting: u64) {
         if arrived.load(Ordering::SeqCst) >= all {
             break;
         }
+        thread::yield_now();
     }
 }

@@ -34,11 +34,16 @@ const SEATS: usize = 200;
 
 const LOOKS: u64 = 300_000;
 
-const CELLS: u64 = 3_000;
+const CELLS: u64 = 10_000;
 
-const TRIES: u64 = 100;
+const CHUNK: usize = 100;
 
-const QUEUES: u64 = 100_000;
+const TRIES: u64 = 4;
+
+const QUEUES: u64 = 20_000;
+
+// How often threads are started anew: where two of them share a processor they do not meet.
+const REPEATS: u64 = 6;
 
 // Counts in and out: whether it was counted in each time.
 fn is_always_counted<R: Wait + AllocGlobal>(rt: &R, inner: &Inner<u64>) -> bool {
@@ -345,47 +350,68 @@ where
 /// Threads put queues and take them out. After that one who takes leaves none at the door.
 #[test]
 fn threads_leave_no_queue(rt: HostRuntime) -> Result<(), Fail> {
-    let left = [
-        leave_no_queue(&rt, 2)?,
-        leave_no_queue(&rt, 3)?,
-        leave_no_queue(&rt, 4)?,
-    ];
-    assert_eq!(rt; left, [true; 3]);
+    let mut is_always = true;
+    for _ in 0..REPEATS {
+        for threads in 2..=4 {
+            is_always &= leave_no_queue(&rt, threads)?;
+        }
+    }
+    assert!(rt; is_always);
     Ok(())
 }
 
-// How often a thread claimed, and how often it gave a value then.
-type Claims = (u64, u64);
-
-// Claims each cell and fills it where it got the right, after a meeting, as often as it is let.
-fn fills<R: Wait + AllocGlobal>(rt: &R, inners: &[Inner<u64>], arrived: &AtomicU64) -> Claims {
-    let (mut claimed, mut filled) = (0u64, 0u64);
-    for (meeting, inner) in (0..).zip(inners) {
-        let mut parts = inner.parts(rt, None);
-        meet(rt, arrived, 2, meeting);
-        for _ in 0..TRIES {
-            if parts.quick() {
-                claimed = claimed.saturating_add(1);
-                filled = filled.saturating_add(u64::from(parts.fast(true)));
+// Claims each cell and fills it where it got the right, a few times each: how often it claimed. It meets the
+// others now and then.
+fn claims<R>(rt: &R, inners: &[Inner<u64>], arrived: &AtomicU64, threads: u64) -> u64
+where
+    R: Wait + AllocGlobal,
+{
+    let mut claimed = 0u64;
+    for (meeting, some) in (0..).zip(inners.chunks(CHUNK)) {
+        meet(rt, arrived, threads, meeting);
+        for inner in some {
+            let mut parts = inner.parts(rt, None);
+            for _ in 0..TRIES {
+                if parts.quick() {
+                    claimed = claimed.saturating_add(1);
+                    parts.fast(true);
+                }
             }
         }
     }
-    (claimed, filled)
+    claimed
 }
 
-/// Of two threads that claim a cell and fill it at once one gets the right, and once.
-#[test]
-fn two_threads_fill_once(rt: HostRuntime) -> Result<(), Fail> {
+// How often so many threads claimed cells that they fill, and whether all are filled then.
+fn claimed_by<R>(rt: &R, threads: usize) -> Result<(u64, bool), AllocError>
+where
+    R: Wait + AllocGlobal + Threads + Sync,
+{
     let (mut inners, arrived) = (Vec::new(rt.alloc()), AtomicU64::new(0));
     for _ in 0..CELLS {
         inners.push(Inner::new(false))?;
     }
-    let both = || fills(&rt, &inners, &arrived);
-    let (one, two) = thread::join(&rt, both, both);
-    let (claimed, filled) = (one.0.saturating_add(two.0), one.1.saturating_add(two.1));
-    let is_filled = |inner: &Inner<u64>| left_by(&rt, inner.parts(&rt, None)).is_filled();
-    let are_filled = inners.iter().all(is_filled);
-    assert_eq!(rt; (claimed, filled, are_filled), (CELLS, CELLS, true));
+    let work = |_: usize| claims(rt, &inners, &arrived, threads as u64);
+    let claimed = thread::map_indices(rt, rt.alloc(), threads, &work)?;
+    let is_filled = |inner: &Inner<u64>| left_by(rt, inner.parts(rt, None)).is_filled();
+    Ok((
+        claimed
+            .iter()
+            .fold(0, |all: u64, it| all.saturating_add(*it)),
+        inners.iter().all(is_filled),
+    ))
+}
+
+/// Of threads that claim a cell and fill it at once one gets the right, and once.
+#[test]
+fn threads_fill_once(rt: HostRuntime) -> Result<(), Fail> {
+    let mut is_always = true;
+    for _ in 0..REPEATS {
+        for threads in 2..=4 {
+            is_always &= claimed_by(&rt, threads)? == (CELLS, true);
+        }
+    }
+    assert!(rt; is_always);
     Ok(())
 }
 
