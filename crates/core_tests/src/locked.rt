@@ -21,13 +21,36 @@ fn held<R: Wait + AllocGlobal>(rt: &R) -> Option<(Inner<u64>, Queue<u64>)> {
     Some((inner, queue))
 }
 
+/// Why a section is entered.
+#[derive(Clone, Copy)]
+enum Why {
+    Look,
+    List,
+    Leave(u64),
+}
+
+// What a section answers to waker 7.
+fn section_of<R: Wait + AllocGlobal>(
+    rt: &R,
+    inner: &Inner<u64>,
+    queue: &Queue<u64>,
+    why: Why,
+) -> Answer<u64> {
+    let mut parts = inner.parts(rt, Some(7));
+    match why {
+        Why::Look => parts.section(queue, &mut Op::Look(None)),
+        Why::List => parts.section(queue, &mut Op::List(None, Some(7))),
+        Why::Leave(ticket) => parts.section(queue, &mut Op::Leave(ticket)),
+    }
+}
+
 // Enters a section while another thread has the lock. That one gives the right back by a fast release, where
 // it is told to, before it lets the lock go. What the section answers, and what is left.
 fn entered<R>(
     rt: &R,
     inner: &Inner<u64>,
     queue: &Queue<u64>,
-    mut op: Op<u64>,
+    why: Why,
     release: Option<bool>,
 ) -> (Answer<u64>, Left)
 where
@@ -38,7 +61,7 @@ where
         rt,
         || {
             meet(rt, &arrived, 2, 0);
-            inner.parts(rt, Some(7)).section(queue, &mut op)
+            section_of(rt, inner, queue, why)
         },
         || {
             let _lists = queue.lock(rt);
@@ -54,20 +77,15 @@ where
 
 // Whether a section of who is not listed yet answers this each time, where the right was given back before
 // it got the lock, and lists nobody.
-fn is_always<R>(rt: &R, lists: bool, ready: bool, wanted: &Answer<u64>) -> bool
+fn is_always<R>(rt: &R, why: Why, ready: bool, wanted: &Answer<u64>) -> bool
 where
     R: Wait + AllocGlobal + Clock + Threads + Sync,
 {
     let mut is_always = true;
     for _ in 0..TIMES {
-        let op = if lists {
-            Op::List(None, Some(7))
-        } else {
-            Op::Look(None)
-        };
         is_always &= match held(rt) {
             Some((inner, queue)) => {
-                let (answer, left) = entered(rt, &inner, &queue, op, Some(ready));
+                let (answer, left) = entered(rt, &inner, &queue, why, Some(ready));
                 answer == *wanted && left.listed == 0
             }
             None => false,
@@ -79,15 +97,17 @@ where
 /// Who looks, and who is to be listed, finds the value that was set before it got the lock.
 #[test]
 fn value_set_before_the_lock_is_had(rt: HostRuntime) {
-    let found = [false, true].map(|lists| is_always(&rt, lists, true, &Answer::Ready));
-    assert_eq!(rt; found, [true, true]);
+    let looks = is_always(&rt, Why::Look, true, &Answer::Ready);
+    let lists = is_always(&rt, Why::List, true, &Answer::Ready);
+    assert_eq!(rt; (looks, lists), (true, true));
 }
 
 /// It gets the right that was given back before it got the lock.
 #[test]
 fn right_given_back_before_the_lock_is_had(rt: HostRuntime) {
-    let found = [false, true].map(|lists| is_always(&rt, lists, false, &Answer::Claimed));
-    assert_eq!(rt; found, [true, true]);
+    let looks = is_always(&rt, Why::Look, false, &Answer::Claimed);
+    let lists = is_always(&rt, Why::List, false, &Answer::Claimed);
+    assert_eq!(rt; (looks, lists), (true, true));
 }
 
 // Whether who is listed leaves no listing behind, each time.
@@ -105,7 +125,7 @@ where
         let Some(ticket) = op.ticket() else {
             return false;
         };
-        let (answer, left) = entered(rt, &inner, &queue, Op::Leave(ticket), None);
+        let (answer, left) = entered(rt, &inner, &queue, Why::Leave(ticket), None);
         is_always &= listed == Answer::Listed && answer == Answer::Left(None) && left.listed == 0;
     }
     is_always

@@ -91,10 +91,13 @@ where
     R: Wait + AllocGlobal + Clock + Threads + Sync,
 {
     let work = |thread: usize| {
+        let Some(task) = tasks.get(thread) else {
+            return false;
+        };
         let seed = seed.wrapping_mul(8).wrapping_add(thread as u64);
         let (mut random, mut is_well) = (Xoshiro256PlusPlus::seed_from_u64(seed), true);
         for _ in 0..TURNS {
-            is_well &= is_used(rt, cell, round, &tasks[thread], random.next_u64());
+            is_well &= is_used(rt, cell, round, task, random.next_u64());
         }
         is_well
     };
