@@ -1,0 +1,6 @@
+pub mod Rows
+pub mod Page
+pub mod Book
+pub mod Value
+pub mod Share
+pub mod Walk

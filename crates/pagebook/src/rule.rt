@@ -1,0 +1,24 @@
+// What the author of a structure says about its book: the rule, how it begins, and what a step tells.
+ghost use Rattle.core.specs.Prelude.{ℕ, List};
+ghost use Rattle.pagebook.specs.Pages.{View};
+
+/// The rule of a book. `E` is an entry of its log, and `P` is what a page says.
+///
+/// An author makes a type of his own for it, of which there is never a value.
+pub trait Rule<E, P> {
+    // What holds between any two steps, of the values of all words, all pages, and the whole log.
+    ghost holds: { List ℕ → List P → List E → Type 0 };
+}
+
+/// What a new book begins with, by data of the caller's: its first pages, and its first log.
+pub trait Opening<X, E, P> {
+    ghost pages: { X → List P };
+
+    ghost log: { X → List E };
+}
+
+/// What a step tells its caller. `X` is data of the caller's, which a step is told about.
+pub trait Play<X, E, P> {
+    // Of the caller's data, the view before, the number that was found in the word, and the view after. A note finds 0.
+    ghost then: { X → View E P → ℕ → View E P → Type 0 };
+}

@@ -1,0 +1,125 @@
+// What a thread knows of a book, and which pages it may change. Neither has bytes.
+ghost use Rattle.core.specs.Prelude.{◌≡◌, ℕ, List, [], ◌++◌, take, drop};
+ghost use mathlib.Core.List.{IsPrefix};
+ghost use base.Stored.{coded_list};
+ghost use denote.Sharing.{said};
+ghost use Rattle.pagebook.specs.Pages.{Book, book_coded, Held, held_coded, Notes};
+ghost use Rattle.pagebook.specs.Owned.{seen_owns, pens_own};
+
+use crate::rule::{Play, Rule};
+use std::marker::{Model, PhantomData};
+
+/// What a thread has seen of a book: the log began with `log` once, and so it does from then on.
+///
+/// It can be copied, and it stays true whatever others do.
+pub struct Seen<E, P, R: Rule<E, P>> {
+    pub(crate) marker: PhantomData<(E, P, R)>,
+    pub ghost book: { Book } by { book_coded },
+    pub ghost log: { List E } by { coded_list E.code },
+}
+
+impl<E, P, R: Rule<E, P>> Model for Seen<E, P, R> {
+    ghost also_owns = { λ s. seen_owns E.row.coded.code P.row.coded.code R.holds s.book s.log };
+
+    ghost also_shares = { λ s _ κ. said (seen_owns E.row.coded.code P.row.coded.code R.holds s.book s.log) κ };
+}
+
+/// A hand of pens: the right to change the pages in `held`, each by its number in the book, with what it says now.
+///
+/// Nobody else changes these pages, and no page is in two hands. A hand that is dropped leaves its pages as they are,
+/// for good.
+pub struct Pens<P> {
+    pub(crate) marker: PhantomData<P>,
+    pub ghost book: { Book } by { book_coded },
+    pub ghost held: { Held P } by { held_coded P.code },
+}
+
+impl<P> Model for Pens<P> {
+    ghost also_owns = { λ p. pens_own P.row.coded.code p.book p.held };
+}
+
+impl<E, P, R: Rule<E, P>> Seen<E, P, R> {
+    /// A copy, which knows the same.
+    pub fn again(&self) -> Seen<E, P, R>
+        ensures { result ≡ self.now }
+    {
+        Seen {
+            marker: PhantomData,
+        }
+    }
+
+    /// Learns what another of the same book knows. Afterwards its log begins with both, so that one of the two is a
+    /// beginning of the other, and the rule holds of that log with some words and pages.
+    ///
+    /// Asked for: `other` is of the same book.
+    pub fn learn(&mut self, other: &Seen<E, P, R>)
+        requires { other.now.book ≡ self.old.book }
+        ensures book { self.new.book ≡ self.old.book }
+        ensures log { IsPrefix self.old.log self.new.log × IsPrefix other.now.log self.new.log }
+        ensures rule { (ns : List ℕ) × (ps : List P) × R.holds ns ps self.new.log }
+    {}
+
+    /// A hand with no pen, for a step that changes no page, or that makes the first page of its hand.
+    pub fn no_pens(&self) -> Pens<P>
+        ensures { (result.book ≡ self.now.book) × (result.held ≡ []) }
+    {
+        Pens {
+            marker: PhantomData,
+        }
+    }
+
+    /// A step that touches no word, and costs nothing: pages of the hand change, pages are added, entries are added.
+    /// The pens of new pages come before the others in the hand. `M` says what the caller is told, of `about`.
+    ///
+    /// Asked for: the hand is of the same book, and wherever the rule holds and book, log and hand fit what is known
+    /// here, it can be kept so (`Notes`).
+    pub fn note<X, M: Play<X, E, P>>(&mut self, pens: &mut Pens<P>, about: &X)
+        requires pens { pens.old.book ≡ self.old.book }
+        requires notes { Notes R.holds (self.old.log, pens.old.held) (M.then about.now (self.old.log, pens.old.held) 0) }
+        ensures book { (self.new.book ≡ self.old.book) × (pens.new.book ≡ pens.old.book) }
+        ensures log { IsPrefix self.old.log self.new.log }
+        ensures then { M.then about.now (self.old.log, pens.old.held) 0 (self.new.log, pens.new.held) }
+    {}
+}
+
+impl<P> Pens<P> {
+    /// Takes all pens of another hand behind its own, and leaves that hand with none.
+    ///
+    /// Asked for: both hands are of one book.
+    pub fn append(&mut self, other: &mut Pens<P>)
+        requires { other.old.book ≡ self.old.book }
+        ensures own { (self.new.book ≡ self.old.book) × (self.new.held ≡ self.old.held ++ other.old.held) }
+        ensures other { (other.new.book ≡ other.old.book) × (other.new.held ≡ []) }
+    {}
+
+    /// Keeps the first `at` pens, and gives the others away. With fewer than that it gives none.
+    pub fn split_off(&mut self, at: usize) -> Pens<P>
+        ensures kept { (self.new.book ≡ self.old.book) × (self.new.held ≡ take at self.old.held) }
+        ensures given { (result.book ≡ self.old.book) × (result.held ≡ drop at self.old.held) }
+    {
+        let _ = at;
+        Pens {
+            marker: PhantomData,
+        }
+    }
+}
+
+impl<E, P, R: Rule<E, P>> Drop for Seen<E, P, R> {
+    fn drop(self) {
+        let Self { marker: _ } = self;
+    }
+}
+
+impl<P> Drop for Pens<P> {
+    fn drop(self) {
+        let Self { marker: _ } = self;
+    }
+}
+
+unsafe impl<E, P, R: Rule<E, P>> Send for Seen<E, P, R> {}
+
+unsafe impl<E, P, R: Rule<E, P>> Sync for Seen<E, P, R> {}
+
+unsafe impl<P> Send for Pens<P> {}
+
+unsafe impl<P> Sync for Pens<P> {}
