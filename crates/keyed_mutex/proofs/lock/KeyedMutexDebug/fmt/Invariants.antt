@@ -1,0 +1,5 @@
+use Rattle.keyed_mutex.proofs.lock.KeyedMutexDebug.fmt.Given as goal
+
+-- the lock's own key
+abbrev pub ghosts-shown : goal.ghosts-shown
+ghosts-shown g a = record { key = a.lock.now }

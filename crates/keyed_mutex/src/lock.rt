@@ -1,0 +1,133 @@
+// The lock that hides its key.
+ghost use Rattle.std.specs.Prelude.{◌≡◌};
+ghost use Rattle.pagebook.specs.Pages.{Book, book_coded};
+ghost use Rattle.keyed_mutex.specs.Rows.{lock_owns, lock_shares};
+
+use crate::tied::{Key, Keyed, LockOf, Tied, opened, sealed};
+use core::mem::replace_with;
+use std::fmt;
+use std::marker::{Brand, Move, Owns};
+use std::sync::{Mutex, MutexGuard, Wait};
+
+/// A lock, as `std::sync::Mutex`. A clause sees the key that its content has.
+pub struct KeyedMutex<T: Keyed> {
+    lock: Mutex<Tied<T, Brand>>,
+}
+
+impl<T: Keyed> Owns for KeyedMutex<T> {
+    ghost Value = { Book };
+
+    ghost coded = { book_coded };
+
+    ghost shr_at = { λ k p κ. lock_shares T.row T.key_of k p κ };
+}
+
+impl<T: Keyed> Move for KeyedMutex<T> {
+    ghost own_val = { λ k vs. lock_owns T.row T.key_of k vs };
+}
+
+impl<T: Keyed> KeyedMutex<T> {
+    /// A lock with this content. Its key is the content's.
+    pub fn new(value: T) -> KeyedMutex<T>
+        ensures { result ≡ T.key_of value }
+    {
+        KeyedMutex {
+            lock: sealed::<T, Brand>(value),
+        }
+    }
+
+    /// The content, which has the lock's key.
+    pub fn into_inner(self) -> T
+        ensures { T.key_of result ≡ self }
+    {
+        let KeyedMutex { lock } = self;
+        opened::<T, Brand>(lock)
+    }
+
+    /// Waits for the lock. The content has the key `J` while the guard is held, and has to have it when the guard is let
+    /// go.
+    ///
+    /// Asked for: `J` is the lock's key.
+    pub fn lock<J: Key, R: Wait>(&self, rt: &R) -> MutexGuard<'_, Tied<T, J>>
+        requires { self.now ≡ J.key }
+    {
+        self.get::<J>().lock.lock(rt)
+    }
+
+    /// Takes the lock if it is free.
+    ///
+    /// Asked for: `J` is the lock's key.
+    pub fn try_lock<J: Key>(&self) -> Option<MutexGuard<'_, Tied<T, J>>>
+        requires { self.now ≡ J.key }
+    {
+        self.get::<J>().lock.try_lock()
+    }
+
+    /// Changes the content by its owner, who takes no lock: it is handed to `change` with `about`, and what comes back is
+    /// the content from then on.
+    ///
+    /// Asked for: `change` takes any content with the lock's key, and gives one back that has it.
+    pub fn get_mut<X, U, F: FnOnce(T, X) -> (T, U)>(&mut self, about: X, change: F) -> U
+        requires takes { (t : T) → T.key_of t ≡ self.old → F.pre change t about }
+        requires keeps { (t : T) (r : T × U) → T.key_of t ≡ self.old → F.post change t about r → T.key_of r.0 ≡ self.old }
+        ensures key { self.new ≡ self.old }
+        ensures changed { (t s : T) × (T.key_of t ≡ self.old) × F.post change t about (s, result) }
+    {
+        let lock = self;
+        replace_with(
+            lock,
+            (about, change),
+            |lock, pair|
+                requires takes { (t : T) → T.key_of t ≡ lock → F.pre pair.1 t pair.0 }
+                requires keeps { (t : T) (r : T × U) → T.key_of t ≡ lock → F.post pair.1 t pair.0 r → T.key_of r.0 ≡ lock }
+                ensures { (result.0 ≡ lock) × ((t s : T) × (T.key_of t ≡ lock) × F.post pair.1 t pair.0 (s, result.1)) }
+            {
+                let (about, change) = pair;
+                let (value, answer) = change(lock.into_inner(), about);
+                (KeyedMutex::new(value), answer)
+            },
+        )
+    }
+
+    // The same lock, for one who knows its key.
+    fn get<J: Key>(&self) -> &LockOf<T, J>
+        requires { self.now ≡ J.key }
+    {
+        unsafe { &*(self as *const KeyedMutex<T> as *const LockOf<T, J>) }
+    }
+}
+
+impl<T: Keyed + Drop> Drop for KeyedMutex<T> {
+    fn drop(self) {
+        drop(self.into_inner());
+    }
+}
+
+/// Shows the content, or `<locked>` where somebody has the lock. It holds the lock while it writes.
+impl<T: Keyed + fmt::Debug> fmt::Debug for KeyedMutex<T> {
+    fn fmt<W: fmt::Write>(&self, f: &mut fmt::Formatter<W>) -> fmt::Result {
+        shown::<T, Brand, W>(self, f)
+    }
+}
+
+fn shown<T: Keyed + fmt::Debug, J: Key, W: fmt::Write>(
+    lock: &KeyedMutex<T>,
+    f: &mut fmt::Formatter<W>,
+) -> fmt::Result
+    requires { lock.now ≡ J.key }
+{
+    match lock.try_lock::<J>() {
+        Some(held) => f
+            .debug_struct("KeyedMutex")
+            .field("data", &held.value)
+            .finish_non_exhaustive(),
+        None => f
+            .debug_struct("KeyedMutex")
+            .field("data", &"<locked>")
+            .finish_non_exhaustive(),
+    }
+}
+
+unsafe impl<T: Keyed + Send> Send for KeyedMutex<T> {}
+
+unsafe impl<T: Keyed + Send> Sync for KeyedMutex<T> {}

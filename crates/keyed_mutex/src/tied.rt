@@ -1,0 +1,51 @@
+// A value that is known to have a key, and a lock of one.
+ghost use Rattle.std.specs.Prelude.{◌≡◌};
+ghost use Rattle.pagebook.specs.Pages.{Book};
+
+use std::marker::{Brand, PhantomData};
+use std::sync::Mutex;
+
+/// A key, which is the name of a book. A function that takes a lock has one as a parameter, and the proof of its caller
+/// picks it.
+pub trait Key {
+    ghost key: { Book };
+}
+
+// What callers write where the key is picked by their proof. The key that stands here is of no book that is ever made.
+impl Key for Brand {
+    ghost key = { record { number = 0; words_name = 0; pages_name = 0; log_name = 0 } };
+}
+
+/// A value that has a key: it is of a book.
+pub trait Keyed {
+    ghost key_of: { Self → Book };
+}
+
+/// A value that has the key `J`. A guard leads to one, and whoever changes the value leaves it with that key.
+#[derive(Drop)]
+pub struct Tied<T: Keyed, J: Key> {
+    pub value: T,
+    pub of: PhantomData<J>,
+    pub ghost fits: { T.key_of value ≡ J.key },
+}
+
+/// A lock whose type names the key: what a `KeyedMutex` is to one who knows its key.
+#[derive(Drop)]
+pub struct LockOf<T: Keyed, J: Key> {
+    pub lock: Mutex<Tied<T, J>>,
+}
+
+pub(crate) fn sealed<T: Keyed, J: Key>(value: T) -> Mutex<Tied<T, J>>
+    requires { T.key_of value ≡ J.key }
+{
+    Mutex::new(Tied {
+        value,
+        of: PhantomData,
+    })
+}
+
+pub(crate) fn opened<T: Keyed, J: Key>(lock: Mutex<Tied<T, J>>) -> T
+    ensures { T.key_of result ≡ J.key }
+{
+    lock.into_inner().value
+}
