@@ -1,0 +1,3 @@
+-- Numbers that are drawn.
+pub mod Owners
+pub mod Steps

@@ -1,0 +1,4 @@
+pub mod Medal
+pub mod Visits
+pub mod Rally
+pub mod Draw

@@ -1,0 +1,2 @@
+-- Who comes first.
+pub mod Steps

@@ -1,0 +1,3 @@
+-- The two words.
+pub mod Lengths
+pub mod Steps

@@ -1,0 +1,3 @@
+-- The hall.
+pub mod Counts
+pub mod Steps

@@ -1,0 +1,6 @@
+-- The player stays at its table.
+use Rattle.std.proofs.Common.{◌≡◌}
+use Rattle.pagebook_uses.proofs.turns.ping_often.Given as goal
+
+abbrev pub invariant-loop : goal.invariant-loop
+invariant-loop l = l.pinger.pens.book ≡ l.table.pings.book

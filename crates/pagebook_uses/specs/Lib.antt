@@ -1,0 +1,4 @@
+pub mod First
+pub mod Hall
+pub mod Turns
+pub mod Tickets
