@@ -61,10 +61,13 @@ Rattle.atomic_table.proofs.Walks: proved proved_at
 Rattle.atomic_table.proofs.Calls: fm seq_cst found finds stored has_stored loads stores swaps exchanges adds subs
 Rattle.pagebook.specs.Pages: Book View dealt named_at=named
 Rattle.pagebook.specs.Owned: seen_owns pens_own pens reached
+Rattle.pagebook.specs.Slot: Placed Turn at Cell
 Rattle.pagebook.proofs.Page.Hands: hands_joined hand_cut
 Rattle.pagebook.proofs.Book.Steps: after notes learns seen_reached steps steps_untold
 Rattle.pagebook.proofs.Book.Opening: book_opens
 Rattle.pagebook.proofs.Value.Made: token_value word_value Token token_made word_made
+Rattle.pagebook.proofs.Value.Slots: written_made blank_made
+Rattle.pagebook.proofs.Book.Unchanged: load_keeps
 Rattle.pagebook.proofs.Walk.Ends: ends two three four
 """
 
@@ -74,6 +77,10 @@ MODULES = {
     "Seen": "Rattle.pagebook.specs.contracts.tokens.Seen",
     "Pens": "Rattle.pagebook.specs.contracts.tokens.Pens",
     "Word": "Rattle.pagebook.specs.contracts.word.Word",
+    "Blank": "Rattle.pagebook.specs.contracts.slot.Blank",
+    "Written": "Rattle.pagebook.specs.contracts.slot.Written",
+    "Slot": "Rattle.pagebook.specs.contracts.slot.Slot",
+    "state": "Rattle.pagebook.proofs.State.Steps",
 }
 
 

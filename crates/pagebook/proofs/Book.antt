@@ -1,3 +1,5 @@
+-- The ghost state of a book.
 pub mod Codes
 pub mod Steps
 pub mod Opening
+pub mod Unchanged

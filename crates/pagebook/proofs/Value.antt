@@ -1,1 +1,3 @@
+-- The values of the machine that are made.
 pub mod Made
+pub mod Slots

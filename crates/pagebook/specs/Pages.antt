@@ -90,3 +90,8 @@ module _ {E P : Type 0} (holds : List ℕ → List P → List E → Type 0) (v :
   pub record Notes (then : View E P → Type 0) : Type 0 where
     pub goes : (ns : List ℕ) (ps : List P) (log : List E)
         → holds ns ps log → IsPrefix v.0 log → Agrees v.1 ps → Keeps ns then ps log
+
+-- Whoever has seen so much of the log knows by the rule that the word k is m
+pub record Sure {E P : Type 0} (holds : List ℕ → List P → List E → Type 0) (seen : List E) (k m : ℕ) : Type 0 where
+  pub is : (ns : List ℕ) (n : ℕ) (ps : List P) (log : List E)
+      → holds ns ps log → slice_get ns k ≡ Some n → IsPrefix seen log → n ≡ m

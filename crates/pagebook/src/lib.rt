@@ -25,6 +25,8 @@
 //! - `Seen` is what a thread has seen of the log. It can be copied. Of two `Seen` of one book the one log is a
 //!   beginning of the other (`learn`).
 //! - `Seen::note` is a step that touches no word.
+//! - `Slot` is a place for one value, whose state is a word of the book. By the rule nothing can refuse to put the value,
+//!   and whoever has seen that it was put gets it with no test. `Written` is a token that shows for good what it is.
 //!
 //! # How a structure is made of it
 //!
@@ -34,20 +36,71 @@
 //! 3. For each kind of step state what its caller is told (`Play`), and prove that it keeps the rule: a `Moves` or
 //!    `Notes` of `specs/Pages.antt`, which gives the new values of the hand's pages, new pages and new entries.
 //!
+//! # A whole program
+//!
+//! Of two threads one is told that it came first, and never both. Whoever finds 0 in the word adds a page and has its
+//! pen, and there is one such pen. (`first` in the crate `pagebook_uses`.)
+//!
+//! ```text
+//! pub struct Medal;                                        // what a page says: nothing
+//! pub struct OneMedal;                                     // the rule, and how a book begins
+//! impl Rule<(), Medal> for OneMedal { ghost holds = { λ ns ps log. IsGiven ns ps }; }
+//! impl Opening<(), (), Medal> for OneMedal { ghost pages = { λ x. [] }; ghost log = { λ x. [] }; }
+//!
+//! struct Comes;                                            // what coming tells
+//! impl Play<(), (), Medal> for Comes { ghost then = { λ x. Came }; }
+//!
+//! impl Line {
+//!     pub fn come(&self) -> Option<Winner>                 // Winner: a hand that holds the pen of page 0
+//!         ensures { IfSome result (λ w. w.pens.book ≡ self.now.medals.book) }
+//!     {
+//!         let mut seen = self.front.again();
+//!         let mut pens = seen.no_pens();
+//!         let found = self.medals.swap::<(), Comes>(1, &(), &mut seen, &mut pens);
+//!         if found == 0 { Some(Winner { pens, seen }) } else { None }
+//!     }
+//! }
+//!
+//! pub fn never_both(first: Winner, second: Winner)         // one hand with both pens: no page is in a hand twice
+//!     requires { second.pens.book ≡ first.pens.book }
+//!     ensures { ⊥ }
+//! {
+//!     let (Winner { mut pens, mut seen }, Winner { pens: mut others, .. }) = (first, second);
+//!     pens.append(&mut others);
+//!     seen.note::<(), Clashes>(&mut pens, &());
+//! }
+//! ```
+//!
+//! ```text
+//! -- specs: the word says how many medals there are, and that is one at most
+//! pub record IsGiven (ns : List ℕ) (ps : List Medal) : Type 0 where
+//!   pub words : ns ≡ length ps ∷ []
+//!   pub one : length ps ≤ 1
+//!
+//! -- whoever finds 0 has the pen of page 0
+//! Came v n w = n ≡ 0 → w.1 ≡ (0, medal) ∷ v.1
+//!
+//! -- proofs: coming keeps the rule. The first adds a page, and no other does
+//! comes : (seen : List E) (h : Held Medal) → Moves Given (seen, h) 0 (λ _. 1) (Came (seen, h))
+//! ```
+//!
 //! # What is proved, and what is not said
 //!
 //! Each function is safe and returns. The rule holds between any two steps of all threads, and each step ensures its
 //! `Play`. A log that was seen is a beginning of each later one. Nothing is said of progress or of time. Each step is
 //! sequentially consistent. A word cannot join a book later, and a book is never closed.
 //!
-//! The idea of a ghost log behind words is that of the kit's `logbook`, and some proofs go as its proofs do; there one
-//! cell lies behind each word, and here pages of any type, several of which change in one step.
+//! A ghost log behind words is the idea of the kit's `logbook`, where one cell lies behind each word; here there are
+//! pages of any type, several of which change in one step. A slot that is written once and read by tokens is that of
+//! the kit's `boxcar`. The proofs of what a `&` is, and those of `Slot`, follow theirs closely.
 #![tactic(auto)]
 
 mod rule;
+mod slot;
 mod tokens;
 mod word;
 
 pub use rule::{Opening, Play, Rule};
+pub use slot::{Blank, Slot, Written};
 pub use tokens::{Pens, Seen};
 pub use word::Word;

@@ -7,6 +7,7 @@ ghost use Rattle.pagebook.specs.Pages.{Named, named_coded, Moves, dealt};
 ghost use Rattle.pagebook.specs.Owned.{word_pen, word_shares};
 
 use crate::rule::{Opening, Play, Rule};
+use crate::slot::Blank;
 use crate::tokens::{Pens, Seen};
 use atomic_table::exchange;
 use std::marker::{Brand, Move, Owns, PhantomData};
@@ -123,6 +124,65 @@ impl<E, P, R: Rule<E, P>> Word<E, P, R> {
             },
             Word {
                 bits: third,
+                marker: PhantomData,
+            },
+            Seen {
+                marker: PhantomData,
+            },
+            Pens {
+                marker: PhantomData,
+            },
+        )
+    }
+
+    /// The same with one word, and another for a `Slot`, which is 0.
+    pub fn open_slot<X, M: Opening<X, E, P>>(
+        bits: u64,
+        about: &X,
+    ) -> (Word<E, P, R>, Blank, Seen<E, P, R>, Pens<P>)
+        requires { R.holds (bits ∷ 0 ∷ []) (M.pages about.now) (M.log about.now) }
+        ensures words { (result.0.key ≡ 0) × (result.1.key ≡ 1) × (result.1.book ≡ result.0.book) }
+        ensures seen { (result.2.book ≡ result.0.book) × (result.2.log ≡ (M.log about.now)) }
+        ensures pens { (result.3.book ≡ result.0.book) × (result.3.held ≡ dealt 0 (M.pages about.now) []) }
+    {
+        (
+            Word {
+                bits,
+                marker: PhantomData,
+            },
+            Blank {
+                marker: PhantomData,
+            },
+            Seen {
+                marker: PhantomData,
+            },
+            Pens {
+                marker: PhantomData,
+            },
+        )
+    }
+
+    /// The same with two words, and another for a `Slot`, which is 0.
+    pub fn open_two_slot<X, M: Opening<X, E, P>>(
+        first: u64,
+        second: u64,
+        about: &X,
+    ) -> (Word<E, P, R>, Word<E, P, R>, Blank, Seen<E, P, R>, Pens<P>)
+        requires { R.holds (first ∷ second ∷ 0 ∷ []) (M.pages about.now) (M.log about.now) }
+        ensures words { (result.0.key ≡ 0) × (result.1.key ≡ 1) × (result.2.key ≡ 2) × (result.1.book ≡ result.0.book) × (result.2.book ≡ result.0.book) }
+        ensures seen { (result.3.book ≡ result.0.book) × (result.3.log ≡ (M.log about.now)) }
+        ensures pens { (result.4.book ≡ result.0.book) × (result.4.held ≡ dealt 0 (M.pages about.now) []) }
+    {
+        (
+            Word {
+                bits: first,
+                marker: PhantomData,
+            },
+            Word {
+                bits: second,
+                marker: PhantomData,
+            },
+            Blank {
                 marker: PhantomData,
             },
             Seen {

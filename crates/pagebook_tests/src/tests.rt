@@ -2,8 +2,9 @@
 ghost use Rattle.std.specs.Prelude.{◌≡◌};
 
 use keyed_mutex::{Key, Keyed, KeyedMutex};
-use pagebook::{Pens, Seen, Word};
+use pagebook::{Pens, Seen, Slot, Word, Written};
 use pagebook_uses::hall::{Arrival, Desk, HallRule, Page, visits};
+use pagebook_uses::shelf::{Filled, OneFill, Shelf, Stage, fill_and_look, two_looks};
 use pagebook_uses::tickets::draw_apart;
 use pagebook_uses::turns::play;
 use std::alloc::{AllocError, AllocGlobal};
@@ -23,9 +24,11 @@ fn what_is_ghost_has_no_bytes(rt: HostRuntime) -> Result<(), Fail> {
         size_of::<Word<Arrival, Page, HallRule>>(),
         size_of::<Seen<Arrival, Page, HallRule>>(),
         size_of::<Pens<Page>>(),
-        size_of::<KeyedMutex<Desk>>(),
+        size_of::<Written<u64>>(),
     ];
-    assert_eq!(rt; sizes, [8, 0, 0, size_of::<Mutex<u64>>()]);
+    let slot = size_of::<Slot<u64, Filled, Stage, OneFill>>() == size_of::<(u64, Option<u64>)>();
+    let lock = size_of::<KeyedMutex<Desk>>() == size_of::<Mutex<u64>>();
+    assert_eq!(rt; (sizes, slot, lock), ([8, 0, 0, 0], true, true));
     Ok(())
 }
 
@@ -53,6 +56,28 @@ fn four_numbers_are_drawn(rt: HostRuntime) -> Result<(), Fail> {
     let mut numbers = [a, b, c, d];
     numbers.sort_unstable();
     assert_eq!(rt; numbers, [0, 1, 2, 3]);
+    Ok(())
+}
+
+#[test]
+fn a_shelf_is_filled_and_both_find_the_value(rt: HostRuntime) -> Result<(), Fail> {
+    let (shelf, filler) = Shelf::<u64>::new();
+    let front = filler.seen.again();
+    let before = two_looks(&rt, &shelf, &front);
+    let (_token, seen) = shelf.fill(7, filler);
+    let after = two_looks(&rt, &shelf, &seen);
+    assert_eq!(rt; (before, after), ((None, None), (Some(7), Some(7))));
+    Ok(())
+}
+
+#[test]
+fn a_look_beside_a_fill_finds_nothing_or_the_value(rt: HostRuntime) -> Result<(), Fail> {
+    let (shelf, filler) = Shelf::<u64>::new();
+    let front = filler.seen.again();
+    let beside = fill_and_look(&rt, &shelf, filler, &front, 5);
+    let after = two_looks(&rt, &shelf, &front);
+    assert!(rt; beside.is_none() || beside == Some(5));
+    assert_eq!(rt; after, (Some(5), Some(5)));
     Ok(())
 }
 

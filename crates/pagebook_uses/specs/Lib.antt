@@ -2,3 +2,4 @@ pub mod First
 pub mod Hall
 pub mod Turns
 pub mod Tickets
+pub mod Shelf

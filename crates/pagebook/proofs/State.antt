@@ -1,0 +1,2 @@
+-- The state of a slot.
+pub mod Steps

@@ -1,0 +1,258 @@
+// A place for one value, whose state is a word of the book: 0 while it is empty, 1 while one thread writes it, and 2
+// from then on. So the rule can say when the value stands: to put it needs no refusal, and to get it no test.
+ghost use Rattle.core.specs.Prelude.{◌≡◌, ℕ, List, IfSome};
+ghost use mathlib.Core.List.{IsPrefix};
+ghost use base.Fml.{fsep, fex};
+ghost use denote.Sharing.{said};
+ghost use Rattle.core.specs.declared.option.Option.TheVariants.{Some};
+ghost use Rattle.pagebook.specs.Pages.{Book, book_coded, View, Moves, Sure, named};
+ghost use Rattle.pagebook.specs.Owned.{word_pen};
+ghost use Rattle.pagebook.specs.Slot.{Placed, placed_coded, Rest, resting, shared, written};
+
+use crate::rule::{Play, Rule};
+use crate::tokens::{Pens, Seen};
+use std::marker::{Brand, Model, Move, Owns, PhantomData};
+use std::sync::atomic::Ordering::SeqCst;
+use std::sync::atomic::raw;
+
+/// A word of a book that nobody has, and that is 0: a `Slot` is made of it, whose state it is then. It has no bytes.
+pub struct Blank {
+    pub(crate) marker: PhantomData<()>,
+    pub ghost book: { Book } by { book_coded },
+    pub ghost key: { ℕ },
+}
+
+impl Model for Blank {
+    ghost also_owns = { λ f. word_pen (named f.book f.key) 0 };
+}
+
+/// What shows that the slot whose `id` is `of` holds `value`. It has no bytes, can be copied, and stays true.
+pub struct Written<T> {
+    marker: PhantomData<T>,
+    pub ghost of: { ℕ },
+    pub ghost value: { T },
+}
+
+impl<T> Model for Written<T> {
+    ghost also_owns = { λ w. written T.row w.of w.value };
+
+    ghost also_shares = { λ w _ κ. said (written T.row w.of w.value) κ };
+}
+
+/// A place for one value, which is put once and then read by all. A clause sees its `book`, its `key`, which is the
+/// place of its state among the words of the book, and its `id`, which a `Written` names.
+pub struct Slot<T, E, P, R: Rule<E, P>> {
+    state: u64,
+    value: Option<T>,
+    marker: PhantomData<(E, P, R)>,
+}
+
+impl<T, E, P, R: Rule<E, P>> Owns for Slot<T, E, P, R> {
+    ghost Value = { Placed };
+
+    ghost coded = { placed_coded };
+
+    ghost shr_at = { λ l p κ. shared T.row l p κ };
+}
+
+impl<T, E, P, R: Rule<E, P>> Move for Slot<T, E, P, R> {
+    ghost own_val = { λ l vs. fex (Rest T.row.Denot) (λ s. fsep (Fields.own_val (record { state = s.0; value = s.1; marker = record {} }) vs) (resting T.row l s)) };
+}
+
+impl<T, E, P, R: Rule<E, P>> Slot<T, E, P, R> {
+    /// An empty slot. Its state is the word that the blank stood for.
+    pub fn new(blank: Blank) -> Slot<T, E, P, R>
+        ensures { (result.book ≡ blank.book) × (result.key ≡ blank.key) }
+    {
+        let Blank { marker: _ } = blank;
+        Slot {
+            state: 0,
+            value: None,
+            marker: PhantomData,
+        }
+    }
+
+    /// Puts the value. It is two steps of the state, each of which may change pages and the log as a step of a `Word`
+    /// does: `B` says what the first tells, by which the state is 1, and `F` the second, by which it is 2.
+    ///
+    /// Asked for: `seen` and `pens` are of the slot's book; the first step keeps the rule, and by the rule finds 0,
+    /// which says that nobody began to put a value; the second keeps the rule wherever the first led.
+    pub fn put<X, B: Play<X, E, P>, F: Play<X, E, P>>(
+        &self,
+        value: T,
+        about: &X,
+        seen: &mut Seen<E, P, R>,
+        pens: &mut Pens<P>,
+    ) -> Written<T>
+        requires seen { seen.old.book ≡ self.now.book }
+        requires pens { pens.old.book ≡ self.now.book }
+        requires begins { Moves R.holds (seen.old.log, pens.old.held) self.now.key (λ _. 1) (λ n w. (n ≡ 0) × B.then about.now (seen.old.log, pens.old.held) n w) }
+        requires fills { (w : View E P) → B.then about.now (seen.old.log, pens.old.held) 0 w → Moves R.holds w self.now.key (λ _. 2) (λ n u. F.then about.now w n u) }
+        ensures book { (seen.new.book ≡ seen.old.book) × (pens.new.book ≡ pens.old.book) }
+        ensures log { IsPrefix seen.old.log seen.new.log }
+        ensures then { (w : View E P) × B.then about.now (seen.old.log, pens.old.held) 0 w × F.then about.now w 1 (seen.new.log, pens.new.held) }
+        ensures written { (result.of ≡ self.now.id) × (result.value ≡ value) }
+    {
+        let slot = self as *const Slot<T, E, P, R>;
+        unsafe {
+            raw::store::<Brand>(&raw const (*slot).state, 1, SeqCst);
+            std::ptr::write(&raw const (*slot).value as *mut Option<T>, Some(value));
+            raw::store::<Brand>(&raw const (*slot).state, 2, SeqCst);
+            Written {
+                marker: PhantomData,
+            }
+        }
+    }
+
+    // The field, which by the rule is full.
+    fn found<'a>(&'a self, seen: &Seen<E, P, R>) -> (&'a Option<T>, Written<T>)
+        requires book { seen.now.book ≡ self.now.book }
+        requires sure { Sure R.holds seen.now.log self.now.key 2 }
+        ensures { (result.0.now ≡ Some result.1.value) × (result.1.of ≡ self.now.id) }
+    {
+        let slot = self as *const Slot<T, E, P, R>;
+        unsafe {
+            // The load is the step at which the proof finds the shared value.
+            raw::load::<Brand>(&raw const (*slot).state, SeqCst);
+            (
+                &(*slot).value,
+                Written {
+                    marker: PhantomData,
+                },
+            )
+        }
+    }
+
+    // The field, which by a token is full.
+    fn whole<'a>(&'a self, written: &Written<T>) -> &'a Option<T>
+        requires { written.now.of ≡ self.now.id }
+        ensures { result.now ≡ Some written.now.value }
+    {
+        let slot = self as *const Slot<T, E, P, R>;
+        unsafe {
+            raw::load::<Brand>(&raw const (*slot).state, SeqCst);
+            &(*slot).value
+        }
+    }
+
+    /// What shows that there is a value, if there is one now. Nothing is asked for: it looks at the state.
+    pub fn witness(&self) -> Option<Written<T>>
+        ensures { IfSome result (λ w. w.of ≡ self.now.id) }
+    {
+        let slot = self as *const Slot<T, E, P, R>;
+        if unsafe { raw::load::<Brand>(&raw const (*slot).state, SeqCst) } == 2 {
+            Some(Written {
+                marker: PhantomData,
+            })
+        } else {
+            None
+        }
+    }
+
+    /// The value, if there is one.
+    pub fn into_inner(self) -> Option<T> {
+        let Self {
+            state: _,
+            value,
+            marker: _,
+        } = self;
+        value
+    }
+
+    /// The value, and what shows that it is the slot's.
+    ///
+    /// Asked for: `seen` is of the slot's book, and whoever has seen so much of the log knows by the rule that the state
+    /// is 2 (`Sure`).
+    pub fn get<'a>(&'a self, seen: &Seen<E, P, R>) -> (&'a T, Written<T>)
+        requires book { seen.now.book ≡ self.now.book }
+        requires sure { Sure R.holds seen.now.log self.now.key 2 }
+        ensures { (result.0.now ≡ result.1.value) × (result.1.of ≡ self.now.id) }
+    {
+        let (value, written) = self.found(seen);
+        match value {
+            Some(value) => (value, written),
+            None => unreachable!(),
+        }
+    }
+
+    // What lies in the field, which by a token is full.
+    fn taken(self, written: &Written<T>) -> Option<T>
+        requires { written.now.of ≡ self.id }
+        ensures { result ≡ Some written.now.value }
+    {
+        let _ = written;
+        let Self {
+            state: _,
+            value,
+            marker: _,
+        } = self;
+        value
+    }
+
+    /// The value, for whoever shows that there is one.
+    ///
+    /// Asked for: the token is of this slot.
+    pub fn into_value(self, written: &Written<T>) -> T
+        requires { written.now.of ≡ self.id }
+        ensures { result ≡ written.now.value }
+    {
+        match self.taken(written) {
+            Some(value) => value,
+            None => unreachable!(),
+        }
+    }
+
+    /// The value, for whoever shows that there is one. No book is needed.
+    ///
+    /// Asked for: the token is of this slot.
+    pub fn value<'a>(&'a self, written: &Written<T>) -> &'a T
+        requires { written.now.of ≡ self.now.id }
+        ensures { result.now ≡ written.now.value }
+    {
+        match self.whole(written) {
+            Some(value) => value,
+            None => unreachable!(),
+        }
+    }
+}
+
+impl<T> Written<T> {
+    /// A copy, which shows the same.
+    pub fn again(&self) -> Written<T>
+        ensures { (result.of ≡ self.now.of) × (result.value ≡ self.now.value) }
+    {
+        Written {
+            marker: PhantomData,
+        }
+    }
+
+    /// A slot has one value, whatever two tokens of it say. It does nothing.
+    ///
+    /// Asked for: both are of one slot.
+    pub fn agrees(&self, other: &Written<T>)
+        requires { self.now.of ≡ other.now.of }
+        ensures { self.now.value ≡ other.now.value }
+    {}
+}
+
+impl<T: Drop, E, P, R: Rule<E, P>> Drop for Slot<T, E, P, R> {
+    fn drop(self) {
+        drop(self.into_inner());
+    }
+}
+
+impl<T> Drop for Written<T> {
+    fn drop(self) {
+        let Self { marker: _ } = self;
+    }
+}
+
+unsafe impl Send for Blank {}
+
+unsafe impl<T: Send, E, P, R: Rule<E, P>> Send for Slot<T, E, P, R> {}
+
+unsafe impl<T: Send + Sync, E, P, R: Rule<E, P>> Sync for Slot<T, E, P, R> {}
+
+unsafe impl<T> Send for Written<T> {}
+
+unsafe impl<T> Sync for Written<T> {}

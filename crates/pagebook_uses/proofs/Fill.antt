@@ -1,0 +1,2 @@
+-- The shelf.
+pub mod Steps

@@ -1,0 +1,221 @@
+// A shelf for one value: it is put once, and then a bit is set. Whoever finds the bit has the value, with no test and no
+// lock, and a token that shows for good which value it is.
+ghost use Rattle.std.specs.Prelude.{◌≡◌, ℕ, List, [], ◌∷◌, IfSome};
+ghost use Rattle.std.specs.declared.option.Option.TheVariants.{Some};
+ghost use mathlib.Core.List.{IsPrefix};
+ghost use Rattle.pagebook_uses.specs.Shelf.{filled};
+ghost use Rattle.pagebook_uses.specs.declared.shelf.Stage.TheVariants.{Empty};
+
+use pagebook::{Opening, Pens, Play, Rule, Seen, Slot, Word, Written};
+use std::thread::{Threads, join};
+
+/// An entry of the log: the value was put.
+#[derive(Clone, Copy)]
+pub struct Filled;
+
+/// The one page: how far the one is who puts the value.
+#[derive(Clone, Copy)]
+pub enum Stage {
+    Empty,
+    Writing,
+    Full,
+    Open,
+}
+
+/// The rule: bit, slot and log are what the stage says.
+pub struct OneFill;
+
+impl Rule<Filled, Stage> for OneFill {
+    ghost use Rattle.pagebook_uses.specs.Shelf.{IsShelf};
+
+    ghost holds = { λ ns ps log. IsShelf ns ps log };
+}
+
+impl Opening<(), Filled, Stage> for OneFill {
+    ghost use Rattle.std.specs.Prelude.{[], ◌∷◌};
+    ghost use Rattle.pagebook_uses.specs.declared.shelf.Stage.TheVariants.{Empty};
+
+    ghost pages = { λ x. Empty ∷ [] };
+
+    ghost log = { λ x. [] };
+}
+
+struct Begins;
+
+impl Play<(), Filled, Stage> for Begins {
+    ghost use Rattle.pagebook_uses.specs.Shelf.{Came};
+    ghost use Rattle.pagebook_uses.specs.declared.shelf.Stage.TheVariants.{Writing};
+
+    ghost then = { λ x. Came Writing };
+}
+
+struct Fills;
+
+impl Play<(), Filled, Stage> for Fills {
+    ghost use Rattle.pagebook_uses.specs.Shelf.{Came};
+    ghost use Rattle.pagebook_uses.specs.declared.shelf.Stage.TheVariants.{Full};
+
+    ghost then = { λ x. Came Full };
+}
+
+struct Opens;
+
+impl Play<(), Filled, Stage> for Opens {
+    ghost use Rattle.pagebook_uses.specs.Shelf.{Came};
+    ghost use Rattle.pagebook_uses.specs.declared.shelf.Stage.TheVariants.{Open};
+
+    ghost then = { λ x. Came Open };
+}
+
+struct Looks;
+
+impl Play<(), Filled, Stage> for Looks {
+    ghost use Rattle.pagebook_uses.specs.Shelf.{Looked};
+
+    ghost then = { λ x. Looked };
+}
+
+/// The bit and the value, which threads share.
+#[derive(Drop)]
+pub struct Shelf<T> {
+    pub ready: Word<Filled, Stage, OneFill>,
+    pub slot: Slot<T, Filled, Stage, OneFill>,
+    pub ghost ready_is: { ready.key ≡ 0 },
+    pub ghost slot_is: { (slot.key ≡ 1) × (slot.book ≡ ready.book) },
+}
+
+/// The right to put the value, which is used up by that.
+#[derive(Drop)]
+pub struct Filler {
+    pub seen: Seen<Filled, Stage, OneFill>,
+    pub pens: Pens<Stage>,
+    pub ghost book_is: { seen.book ≡ pens.book },
+    pub ghost held_is: { pens.held ≡ (0, Empty) ∷ [] },
+}
+
+impl<T> Shelf<T> {
+    /// An empty shelf, and the right to fill it.
+    pub fn new() -> (Shelf<T>, Filler)
+        ensures { result.1.pens.book ≡ result.0.ready.book }
+    {
+        let (ready, blank, seen, pens) = Word::open_slot::<(), OneFill>(0, &());
+        (
+            Shelf {
+                ready,
+                slot: Slot::new(blank),
+            },
+            Filler { seen, pens },
+        )
+    }
+
+    /// Puts the value and sets the bit. Nothing can refuse it.
+    ///
+    /// Asked for: the right is to this shelf.
+    pub fn fill(&self, value: T, filler: Filler) -> (Written<T>, Seen<Filled, Stage, OneFill>)
+        requires { filler.pens.book ≡ self.now.ready.book }
+        ensures written { (result.0.of ≡ self.now.slot.id) × (result.0.value ≡ value) }
+        ensures seen { (result.1.book ≡ self.now.ready.book) × (result.1.log ≡ filled ∷ []) }
+    {
+        let Filler { mut seen, mut pens } = filler;
+        let written = self
+            .slot
+            .put::<(), Begins, Fills>(value, &(), &mut seen, &mut pens);
+        self.ready.store::<(), Opens>(1, &(), &mut seen, &mut pens);
+        (written, seen)
+    }
+
+    /// The value, if the bit is set, with a token that shows which it is.
+    ///
+    /// Asked for: what was seen is of this shelf.
+    pub fn look<'a>(
+        &'a self,
+        seen: &mut Seen<Filled, Stage, OneFill>,
+    ) -> Option<(&'a T, Written<T>)>
+        requires { seen.old.book ≡ self.now.ready.book }
+        ensures seen { (seen.new.book ≡ seen.old.book) × IsPrefix seen.old.log seen.new.log }
+        ensures found { IfSome result (λ r. (r.0.now ≡ r.1.value) × (r.1.of ≡ self.now.slot.id)) }
+    {
+        let mut none = seen.no_pens();
+        if self.ready.load::<(), Looks>(&(), seen, &mut none) == 1 {
+            Some(self.slot.get(seen))
+        } else {
+            None
+        }
+    }
+}
+
+// What a look finds, copied, with its token.
+fn copied(shelf: &Shelf<u64>, front: &Seen<Filled, Stage, OneFill>) -> Option<(u64, Written<u64>)>
+    requires { front.now.book ≡ shelf.now.ready.book }
+    ensures { IfSome result (λ r. (r.0 ≡ r.1.value) × (r.1.of ≡ shelf.now.slot.id)) }
+{
+    let mut seen = front.again();
+    match shelf.look(&mut seen) {
+        Some((value, written)) => Some((*value, written)),
+        None => None,
+    }
+}
+
+/// Two threads look. Where both find a value, it is the same.
+///
+/// Asked for: what was seen is of this shelf.
+pub fn two_looks<R: Threads>(
+    rt: &R,
+    shelf: &Shelf<u64>,
+    front: &Seen<Filled, Stage, OneFill>,
+) -> (Option<u64>, Option<u64>)
+    requires { front.now.book ≡ shelf.now.ready.book }
+    ensures { (x y : ℕ) → result.0 ≡ Some x → result.1 ≡ Some y → x ≡ y }
+{
+    let (one, two) = join(
+        rt,
+        ||
+            requires { front.now.book ≡ shelf.now.ready.book }
+        { copied(shelf, front) },
+        ||
+            requires { front.now.book ≡ shelf.now.ready.book }
+        { copied(shelf, front) },
+    );
+    match (one, two) {
+        (Some((x, of_x)), Some((y, of_y))) => {
+            of_x.agrees(&of_y);
+            (Some(x), Some(y))
+        }
+        (Some((x, _)), None) => (Some(x), None),
+        (None, Some((y, _))) => (None, Some(y)),
+        (None, None) => (None, None),
+    }
+}
+
+/// One thread fills the shelf while another looks: it finds nothing, or that value.
+///
+/// Asked for: the right is to this shelf, and what was seen is of it.
+pub fn fill_and_look<R: Threads>(
+    rt: &R,
+    shelf: &Shelf<u64>,
+    filler: Filler,
+    front: &Seen<Filled, Stage, OneFill>,
+    value: u64,
+) -> Option<u64>
+    requires filler { filler.pens.book ≡ shelf.now.ready.book }
+    requires front { front.now.book ≡ shelf.now.ready.book }
+    ensures { IfSome result (λ x. x ≡ value) }
+{
+    let (put, found) = join(
+        rt,
+        move ||
+            requires { filler.pens.book ≡ shelf.now.ready.book }
+        { shelf.fill(value, filler) },
+        ||
+            requires { front.now.book ≡ shelf.now.ready.book }
+        { copied(shelf, front) },
+    );
+    let (written, _) = put;
+    match found {
+        Some((x, token)) => {
+            written.agrees(&token);
+            Some(x)
+        }
+        None => None,
+    }
+}
