@@ -1,3 +1,5 @@
+pub mod Steps
+pub mod Places
 pub mod Named
 pub mod Looks
 pub mod Lists

@@ -10,7 +10,8 @@ use Rattle.once_queue.specs.Listings.{kept_ticket, list_without, own_listing}
 use Rattle.once_queue.specs.Sections.{Lists as DidList, shows_free, shows_set, shows_taken}
 use Rattle.once_queue.proofs.Listing.Tickets.{own_none}
 use Rattle.once_world.specs.Machine.{head_after, list_answer, listed_list, listed_ticket, queue_state_by, state_seen}
-use Rattle.once_moments.specs.Named.{as_memory, named, named_answer, ticket_left}
+use Rattle.once_moments.specs.Named.{as_memory, named, ticket_left}
+use Rattle.once_moments.specs.Steps.{answer_as}
 use Rattle.once_moments.proofs.Named.{kept_named, list_named, ticket_named, without_named}
 
 -- the flag
@@ -32,15 +33,15 @@ or_true false = refl
 
 -- a look in place of a listing, with no listing to find
 refused_by : {W : Type 0} (r t : Bool) (result : Answer W) → (r ≡ true → result ≡ Ready) → (cond r false (not t) ≡ true → result ≡ Claimed)
-    → (cond r false t ≡ true → result ≡ Held) → named_answer (as_memory result) ≡ list_answer (queue_state_by true r t) false
-refused_by true t result ready claimed held = ap (λ r. named_answer (as_memory r)) (ready refl)
-refused_by false false result ready claimed held = ap (λ r. named_answer (as_memory r)) (claimed refl)
-refused_by false true result ready claimed held = ap (λ r. named_answer (as_memory r)) (held refl)
+    → (cond r false t ≡ true → result ≡ Held) → answer_as (as_memory result) ≡ list_answer (queue_state_by true r t) false
+refused_by true t result ready claimed held = ap (λ r. answer_as (as_memory r)) (ready refl)
+refused_by false false result ready claimed held = ap (λ r. answer_as (as_memory r)) (claimed refl)
+refused_by false true result ready claimed held = ap (λ r. answer_as (as_memory r)) (held refl)
 
 module _ {W : Type 0} (whose : W → ℕ) where
   -- what a listing of the task v leaves, by the answer a of the machine
   pub record ListShown (v : ℕ) (a : Answer ℕ) (head : Bool) (k : Option ℕ) (xs : List (Listing W)) (result : Answer W) (head' : Bool) (xs' : List (Listing W)) (k' : Option ℕ) : Type 0 where
-    pub answer : named_answer result ≡ a
+    pub answer : answer_as result ≡ a
     pub flag : head' ≡ head_after a head
     pub listings : named whose xs' ≡ listed_list a k v (named whose xs)
     pub ticket : k' ≡ ticket_left a (listed_ticket a k (named whose xs))
@@ -53,12 +54,12 @@ module _ {W : Type 0} (whose : W → ℕ) where
       → (cond r false t ≡ false → xs' ≡ cond (cond r false (not t)) (list_without k xs) xs)
       → (cond r false t ≡ false → k' ≡ cond (cond r false (not t)) None k)
       → let a = list_answer (queue_state_by true r t) true in
-      (named_answer result ≡ a) × (named whose xs' ≡ listed_list a k (whose w) (named whose xs)) × (k' ≡ ticket_left a (listed_ticket a k (named whose xs)))
-  granted_by k xs true t w w' result xs' k' fits ready claimed held listings ticket = (ap named_answer (ready refl), ap (named whose) (listings refl), ticket refl)
+      (answer_as result ≡ a) × (named whose xs' ≡ listed_list a k (whose w) (named whose xs)) × (k' ≡ ticket_left a (listed_ticket a k (named whose xs)))
+  granted_by k xs true t w w' result xs' k' fits ready claimed held listings ticket = (ap answer_as (ready refl), ap (named whose) (listings refl), ticket refl)
   granted_by k xs false false w w' result xs' k' fits ready claimed held listings ticket =
-      (ap named_answer (claimed refl), ap (named whose) (listings refl) ∙ sym (without_named whose k xs), ticket refl)
+      (ap answer_as (claimed refl), ap (named whose) (listings refl) ∙ sym (without_named whose k xs), ticket refl)
   granted_by k xs false true w w' result xs' k' fits ready claimed held listings ticket = ⊎_elim
-      (λ d. (ap named_answer d.0, ap (named whose) d.3 ∙ sym (list_named whose k w xs), d.1 ∙ ap (λ (n : ℕ). Some n) (sym (ticket_named whose k xs))))
+      (λ d. (ap answer_as d.0, ap (named whose) d.3 ∙ sym (list_named whose k w xs), d.1 ∙ ap (λ (n : ℕ). Some n) (sym (ticket_named whose k xs))))
       (λ d. absurd (⊎_elim (λ e. true≢false (sym e ∙ ap (λ (o : Option ℕ). is_some o) d.1)) (λ n. n d.0) fits))
       (held refl)
 

@@ -8,16 +8,17 @@ use Rattle.once_queue.specs.declared.waiters.Answer.TheVariants.{Ready, Claimed,
 use Rattle.once_queue.specs.Listings.{list_without, own_listing}
 use Rattle.once_queue.specs.Sections.{shows_free, shows_set, shows_taken}
 use Rattle.once_world.specs.Machine.{head_after, look_answer, looked_list, queue_state_by, state_seen}
-use Rattle.once_moments.specs.Named.{named, named_answer, ticket_left}
+use Rattle.once_moments.specs.Named.{named, ticket_left}
+use Rattle.once_moments.specs.Steps.{answer_as}
 use Rattle.once_moments.proofs.Named.{uncalled_named, without_named}
 
 -- the answer: set, free and taken are three cases of which one holds
 answer_by : {W : Type 0} (r t l : Bool) (result : Answer W) → (r ≡ true → result ≡ Ready) → (cond r false (not t) ≡ true → result ≡ Claimed)
-    → (cond r false t ≡ true → result ≡ cond l Listed Held) → named_answer result ≡ look_answer (queue_state_by true r t) l
-answer_by true t l result ready claimed held = ap named_answer (ready refl)
-answer_by false false l result ready claimed held = ap named_answer (claimed refl)
-answer_by false true true result ready claimed held = ap named_answer (held refl)
-answer_by false true false result ready claimed held = ap named_answer (held refl)
+    → (cond r false t ≡ true → result ≡ cond l Listed Held) → answer_as result ≡ look_answer (queue_state_by true r t) l
+answer_by true t l result ready claimed held = ap answer_as (ready refl)
+answer_by false false l result ready claimed held = ap answer_as (claimed refl)
+answer_by false true true result ready claimed held = ap answer_as (held refl)
+answer_by false true false result ready claimed held = ap answer_as (held refl)
 
 -- the flag
 head_by : (r q head l : Bool) → (head || cond r false (not (q || head))) ≡ head_after (look_answer (queue_state_by true r (q || head)) l) head
@@ -49,7 +50,7 @@ module _ {W : Type 0} (whose : W → ℕ) where
 
   -- what a look leaves, by the answer a of the machine
   pub record LookShown (a : Answer ℕ) (head : Bool) (k : Option ℕ) (xs : List (Listing W)) (result : Answer W) (head' : Bool) (xs' : List (Listing W)) (k' : Option ℕ) : Type 0 where
-    pub answer : named_answer result ≡ a
+    pub answer : answer_as result ≡ a
     pub flag : head' ≡ head_after a head
     pub listings : named whose xs' ≡ looked_list a k (named whose xs)
     pub ticket : k' ≡ ticket_left a k

@@ -3,7 +3,7 @@ use Rattle.std.specs.Prelude.{ℕ, List, [], ◌∷◌, map, Option, None}
 use Rattle.std.specs.Option.{option_map}
 use Rattle.once_queue.specs.declared.waiters.Listing.{Listing}
 use Rattle.once_queue.specs.declared.waiters.Answer.{Answer}
-use Rattle.once_queue.specs.declared.waiters.Answer.TheVariants.{Ready, Claimed, Listed, Held, Memory, Gone}
+use Rattle.once_queue.specs.declared.waiters.Answer.TheVariants.{Claimed, Held, Memory}
 use Rattle.once_queue.specs.declared.waiters.Out.{Out}
 use Rattle.once_queue.specs.declared.waiters.Out.TheVariants.{One, All}
 use Rattle.once_queue.specs.Listings.{one_out, wakers_of}
@@ -26,15 +26,6 @@ module _ {W : Type 0} (whose : W → ℕ) where
   abbrev pub named_out : Out W → List ℕ
   named_out (One o) = named_one o
   named_out (All X) = map whose (wakers_of X.items)
-
--- the answer of a look or a listing
-abbrev pub named_answer : {W : Type 0} → Answer W → Answer ℕ
-named_answer Ready = Ready
-named_answer Claimed = Claimed
-named_answer Listed = Listed
-named_answer Held = Held
-named_answer Memory = Memory
-named_answer _ = Gone
 
 -- who looks in place of listing itself, since memory was refused, could not list itself where it finds a holder
 abbrev pub as_memory : {W : Type 0} → Answer W → Answer W

@@ -1,0 +1,59 @@
+-- A step of a call as it looks where wakers and queues have other names: the code's wakers are objects, and those of a page are numbers.
+use Rattle.std.specs.Prelude.{◌≡◌, ℕ, Option, Some, None}
+use Rattle.std.specs.Option.{option_map}
+use Rattle.once_queue.specs.declared.waiters.Answer.{Answer}
+use Rattle.once_queue.specs.declared.waiters.Answer.TheVariants.{Ready, Claimed, Listed, Held, Memory, Gone}
+use Rattle.once_core.specs.Steps.{Next}
+use Rattle.once_world.specs.Machine.{Rest, RestStart, RestWait, RestRun, Step, Resting, UnderWay, Finished}
+use Rattle.once_world.specs.Machine.{Place, AtStart, AtTryQuick, AtDoorGet, AtDoorPut, AtCountIn, AtWaitLoad, AtLook, AtList, AtRun}
+use Rattle.once_world.specs.Machine.{AtPut, AtFast, AtAddOne, AtDoorAgain, AtRelease, AtLeave, AtCountOut, AtDoorTake}
+
+-- where a call begins
+abbrev pub rest_as : {Q P : Type 0} → (Q → P) → Rest Q → Rest P
+rest_as g RestStart = RestStart
+rest_as g (RestWait q k) = RestWait (g q) k
+rest_as g (RestRun by) = RestRun (option_map g by)
+
+module _ {W V Q P : Type 0} (f : W → V) (g : Q → P) where
+  -- the place of the next step
+  abbrev pub place_as : Place W Q → Place V P
+  place_as AtStart = AtStart
+  place_as AtTryQuick = AtTryQuick
+  place_as AtDoorGet = AtDoorGet
+  place_as AtDoorPut = AtDoorPut
+  place_as (AtCountIn q) = AtCountIn (g q)
+  place_as (AtWaitLoad q k) = AtWaitLoad (g q) k
+  place_as (AtLook q k) = AtLook (g q) k
+  place_as (AtList q k w) = AtList (g q) k (f w)
+  place_as (AtRun by) = AtRun (option_map g by)
+  place_as (AtPut by) = AtPut (option_map g by)
+  place_as (AtFast e) = AtFast e
+  place_as (AtAddOne e) = AtAddOne e
+  place_as (AtDoorAgain e) = AtDoorAgain e
+  place_as (AtRelease q e) = AtRelease (g q) e
+  place_as (AtLeave q n e) = AtLeave (g q) n e
+  place_as (AtCountOut e) = AtCountOut e
+  place_as (AtDoorTake e) = AtDoorTake e
+
+  -- what a task is at
+  abbrev pub step_as : Step W Q → Step V P
+  step_as (Resting r) = Resting (rest_as g r)
+  step_as (UnderWay p) = UnderWay (place_as p)
+  step_as Finished = Finished
+
+  -- what follows a call
+  abbrev pub next_as : Next W Q → Next V P
+  next_as n = record { closes = n.closes; progress = n.progress; step = step_as n.step }
+
+-- the answer of a look or a listing, which hands nobody out
+abbrev pub answer_as : {W V : Type 0} → Answer W → Answer V
+answer_as Ready = Ready
+answer_as Claimed = Claimed
+answer_as Listed = Listed
+answer_as Held = Held
+answer_as Memory = Memory
+answer_as _ = Gone
+
+-- the step of the code stands for that of the page, by whom a waker stands for and by what is told of a queue
+abbrev pub StandsForStep : {W Q C : Type 0} → (W → ℕ) → (Q → C) → (ℕ → C) → Step W Q → Step ℕ ℕ → Type 0
+StandsForStep whose g h s t = step_as whose g s ≡ step_as (λ w. w) h t
