@@ -4,3 +4,5 @@ pub mod Named
 pub mod Looks
 pub mod Lists
 pub mod Releases
+pub mod Forms
+pub mod Moves

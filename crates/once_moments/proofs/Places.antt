@@ -6,7 +6,6 @@ use Rattle.once_world.specs.Machine.{AtStart, AtTryQuick, AtDoorGet, AtDoorPut, 
 use Rattle.once_world.specs.Machine.{AtPut, AtFast, AtAddOne, AtDoorAgain, AtRelease, AtLeave, AtCountOut, AtDoorTake}
 use Rattle.once_moments.specs.Steps.{step_as}
 
-
 module _ {C : Type 0} (h : ℕ → C) where
   -- AtStart
   pub at_start : (t : Step ℕ ℕ) → step_as (λ w. w) h t ≡ UnderWay AtStart → t ≡ UnderWay AtStart

@@ -1,0 +1,67 @@
+-- The rule of a cell's book as pagebook asks for it: of the values of its words, its pages and its log.
+use Rattle.std.specs.Prelude.{◌≡◌, ◌⊎◌, ◌-◌, ◌^◌, ℕ, suc, Bool, true, false, List, [], ◌∷◌, ◌++◌, map, Option, Some, slice_get}
+use mathlib.Core.List.{IsPrefix}
+use Rattle.pagebook.specs.Pages.{Held, View, rewritten}
+use Rattle.once_queue.specs.declared.waiters.Listing.{Listing}
+use Rattle.once_world.specs.Record.{Entry}
+use Rattle.once_world.specs.Book.{At, Door, IsBook, Page, Queue, TaskState}
+use Rattle.once_world.specs.Machine.{AtPut, UnderWay}
+
+-- as many tasks may be counted
+abbrev pub most : ℕ
+most = 2 ^ 62 - 2
+
+-- a page of the book, and whether its task began to write the slot
+pub record Sheet : Type 0 where
+  pub page : Page
+  pub writing : Bool
+
+-- the page of one that does not write
+abbrev pub sheet : Page → Sheet
+sheet p = record { page = p; writing = false }
+
+-- the page of a task that writes
+abbrev pub writing_sheet : TaskState → Sheet
+writing_sheet x = record { page = At x; writing = true }
+
+-- the cell's pages
+abbrev pub pages_in : List Sheet → List Page
+pages_in ss = map (λ (s : Sheet). s.page) ss
+
+-- the state of the slot: 0 where it is not written, 2 where it is, and 1 while the task writes it that is about to put the value
+abbrev pub IsState : ℕ → Bool → List Sheet → Type 0
+IsState k slot ss =
+    ((k ≡ 0) × (slot ≡ false)) ⊎ ((k ≡ 2) × (slot ≡ true))
+    ⊎ ((k ≡ 1) × (slot ≡ false) × (t : ℕ) × (x : TaskState) × (by : Option ℕ)
+    × (slice_get ss (suc (suc t)) ≡ Some (writing_sheet x)) × (x.step ≡ UnderWay (AtPut by)))
+
+-- between any two steps: the words are the cell's word, whether a queue was ever put, and the state of the slot
+pub record IsKept (ns : List ℕ) (ss : List Sheet) (log : List Entry) : Type 0 where
+  pub word : ℕ
+  pub has_put : ℕ
+  pub state : ℕ
+  pub slot : Bool
+  pub words_are : ns ≡ word ∷ has_put ∷ state ∷ []
+  pub book : IsBook most word has_put slot (pages_in ss) log
+  pub state_is : IsState state slot ss
+
+-- a hand of those who do not write
+abbrev pub sheets : Held Page → Held Sheet
+sheets [] = []
+sheets (e ∷ h) = (e.0, sheet e.1) ∷ sheets h
+
+-- the hand of a task
+abbrev pub hand : ℕ → TaskState → Held Page
+hand t x = (suc (suc t), At x) ∷ []
+
+-- the same with what lies under the lock: how many queues were made, which stands at the door, its flag and its listings
+abbrev pub locked : ℕ → Option ℕ → Bool → List (Listing ℕ) → ℕ → TaskState → Held Page
+locked made door head xs t x = (0, Door made door) ∷ (1, Queue head xs) ∷ hand t x
+
+-- the log grew: after all that was seen before, and what others added, come these entries
+abbrev pub Grew : List Entry → List Entry → List Entry → Type 0
+Grew es old new = (before : List Entry) × IsPrefix old before × (new ≡ before ++ es)
+
+-- what a step leaves of the view: the hand has these pages now, and the log grew by these entries
+abbrev pub Leaves : List Entry → Held Page → List Page → List Entry → View Entry Sheet → Type 0
+Leaves seen h pages es v = (v.1 ≡ sheets (rewritten pages h)) × Grew es seen v.0
