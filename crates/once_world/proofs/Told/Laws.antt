@@ -7,11 +7,13 @@ use Rattle.once_world.specs.Tasks.{Dropping, Fresh, Gone, Holding, is_under_way,
 use Rattle.once_world.specs.Wakers.{IsDue, IsOpen, times_handed, times_opened}
 use Rattle.once_world.specs.Refusals.{OtherActs, Since}
 use Rattle.once_world.specs.Crowd.{AreWaiting}
+use Rattle.once_world.specs.Freed.{HasFreed}
 use Rattle.once_world.specs.Run.{IsRun}
 use Rattle.once_world.specs.Book.{IsBook, Page}
 use Rattle.once_world.proofs.History.Cells.{same_holder}
 use Rattle.once_world.proofs.Law.Crowded.{full_waits, memory_met, value_set}
 use Rattle.once_world.proofs.Law.First.{set_first}
+use Rattle.once_world.proofs.Law.Freed.{error_empties}
 use Rattle.once_world.proofs.Law.Passed.{at_most_one, one_called, passed_once, passed_refused, passed_to_one, passed_unclaimed, passer_gone}
 use Rattle.once_world.proofs.Law.Rights.{dropped_holder, holding_holds, one_holder, own_error, runner_holds, value_lasts}
 use Rattle.once_world.proofs.Law.Wakes.{handed_within}
@@ -62,8 +64,12 @@ module _ (limit n put : ℕ) (slot : Bool) (pages : List Page) (log : List Entry
   value_set_is_answered_lasts e v is = value_lasts Once limit e h v (next_run e is)
 
   -- an error is that of the own init, after the right was given back
-  pub error_is_ones_own : (t e : ℕ) → log ≡ seen ++ End t (Error e) ∷ late → ((last_call Once t h).ran ≡ Some (RanError e)) × ((last_call Once t h).freed ≡ true)
-  error_is_ones_own t e is = own_error Once limit t e h (next_run (End t (Error e)) is)
+  pub error_is_ones_own_own : (t e : ℕ) → log ≡ seen ++ End t (Error e) ∷ late → ((last_call Once t h).ran ≡ Some (RanError e)) × ((last_call Once t h).freed ≡ true)
+  error_is_ones_own_own t e is = own_error Once limit t e h (next_run (End t (Error e)) is)
+
+  -- which left the cell empty
+  pub error_is_ones_own_empty : (t e : ℕ) → log ≡ seen ++ End t (Error e) ∷ late → Since t (HasFreed Once t) h
+  error_is_ones_own_empty t e is = error_empties Once limit t e h (next_run (End t (Error e)) is)
 
   -- who was dropped does not hold
   pub dropped_holder_frees_ended : (t : ℕ) → log ≡ seen ++ DropEnd t ∷ late → cell Once (DropEnd t ∷ h) ≢ Held t
