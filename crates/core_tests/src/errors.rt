@@ -44,7 +44,7 @@ impl<R: Wait> Future for FailsLate<'_, R> {
 }
 
 // Brings an init that fails to each cell: how many times it was told that error.
-fn fails<R: Wait + AllocGlobal>(rt: &R, task: &MockTask, cells: &[Failing]) -> u64 {
+fn fails<'a, R: Wait + AllocGlobal>(rt: &'a R, task: &MockTask, cells: &'a [Failing]) -> u64 {
     let mut told = 0u64;
     for Failing { cell, arrived } in cells {
         let mut future = cell.get_or_try_init(rt, FailsLate { rt, arrived });
@@ -56,7 +56,7 @@ fn fails<R: Wait + AllocGlobal>(rt: &R, task: &MockTask, cells: &[Failing]) -> u
 }
 
 // Waits at each cell while the init of the other is polled, and then fills it as soon as it may.
-fn fills<R: Wait + AllocGlobal>(rt: &R, task: &MockTask, cells: &[Failing]) {
+fn fills<'a, R: Wait + AllocGlobal>(rt: &'a R, task: &MockTask, cells: &'a [Failing]) {
     for Failing { cell, arrived } in cells {
         let mut future = cell.get_or_init(rt, ready(4));
         meet(rt, arrived, 2, 0);
