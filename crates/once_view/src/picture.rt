@@ -75,7 +75,7 @@ impl Watcher for Picture {
         } else {
             self.pass(moment)?;
         }
-        if moment.reason.is_none() {
+        if moment.may_change() {
             self.lanes
                 .note_listed(self.alloc, moment.task, moment.world)?;
         }

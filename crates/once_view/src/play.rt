@@ -59,6 +59,17 @@ pub struct Moment<'a> {
     pub world: &'a World,
 }
 
+impl Moment<'_> {
+    /// Whether the line may have changed what all tasks share: it was not passed over, and did more than make
+    /// a task, begin a poll or look.
+    pub fn may_change(&self) -> bool {
+        match self.added.first() {
+            Some(Entry::Made(_) | Entry::Begin(_, _) | Entry::Look(_)) => false,
+            _ => self.reason.is_none(),
+        }
+    }
+}
+
 /// One who watches a script being played.
 pub trait Watcher {
     /// Sees the cell after a line, the first one included.

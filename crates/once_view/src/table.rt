@@ -65,7 +65,7 @@ impl Watcher for Table {
         } else {
             self.add_made(moment.added)?;
         }
-        if is_first || moment.reason.is_none() {
+        if is_first || moment.may_change() {
             self.listed = listed_cell(self.alloc, moment.world.core())?;
         }
         let row = self.row(moment)?;
