@@ -1,0 +1,6 @@
+-- The world was reached by the lines so far.
+use Rattle.async_once_cell.specs.Reached.{IsReached}
+use Rattle.read_back.proofs.schedule.play.Given as goal
+
+abbrev pub invariant-loop : goal.invariant-loop
+invariant-loop l = IsReached l.world

@@ -1,0 +1,6 @@
+-- The world was reached by the steps so far.
+use Rattle.async_once_cell.specs.Reached.{IsReached}
+use Rattle.read_back.proofs.story.Story.take.Given as goal
+
+abbrev pub invariant-loop : goal.invariant-loop
+invariant-loop l = IsReached l.world

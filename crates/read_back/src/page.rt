@@ -1,0 +1,197 @@
+//! Where things stand in a picture: its columns, lanes, shapes and words, by its own labels.
+use crate::fault::Fault;
+use crate::svg::{Element, Legend, Point, elements_of, points_of};
+use std::alloc::{AllocError, Global};
+
+/// So many, as a length.
+pub fn length(many: usize) -> i64 {
+    i64::try_from(many).unwrap_or(i64::MAX)
+}
+
+/// Takes out what stands at this place.
+pub fn take_at<T>(all: &mut Vec<T>, place: usize) -> Option<T> {
+    if place < all.len() {
+        Some(all.swap_remove(place))
+    } else {
+        None
+    }
+}
+
+/// A word, and where it begins.
+#[derive(Clone, Copy)]
+pub struct Word<'a> {
+    pub x: i64,
+    pub y: i64,
+    pub text: &'a str,
+}
+
+impl Word<'_> {
+    /// The least that its end may be right of its beginning, in letters of this size.
+    pub fn least_end(&self) -> i64 {
+        self.x
+            .saturating_add(length(self.text.len()).saturating_mul(6))
+    }
+}
+
+/// The most room that a word may take.
+pub fn most_room(word: &str) -> i64 {
+    length(word.len()).saturating_mul(8).saturating_add(10)
+}
+
+/// A shape that the legend knows.
+#[derive(Drop)]
+pub struct Shape<'a> {
+    pub meaning: &'a str,
+    pub left: i64,
+    pub right: i64,
+    /// Its middle.
+    pub y: i64,
+    /// Of a path.
+    pub points: Vec<Point>,
+}
+
+/// The line of a task's life.
+#[derive(Clone, Copy)]
+pub struct Life {
+    pub from: i64,
+    pub to: i64,
+    pub y: i64,
+}
+
+/// A picture that was read.
+#[derive(Drop)]
+pub struct Page<'a> {
+    alloc: Global,
+    pub width: i64,
+    /// What stands first.
+    pub title: &'a str,
+    pub shapes: Vec<Shape<'a>>,
+    pub lives: Vec<Life>,
+    pub words: Vec<Word<'a>>,
+    /// Where the row of the lines' numbers is, and that of the cell.
+    pub axis: i64,
+    pub cell: i64,
+    /// What the picture says that it leaves out.
+    pub left_out: &'a str,
+}
+
+impl<'a> Page<'a> {
+    /// Reads a picture.
+    pub fn read(alloc: Global, svg: &'a str) -> Result<Page<'a>, Fault> {
+        let elements = elements_of(alloc, svg)?;
+        let legend = Legend::read(alloc, &elements)?;
+        let mut page = Page {
+            alloc,
+            width: 0,
+            title: "",
+            shapes: Vec::new(alloc),
+            lives: Vec::new(alloc),
+            words: Vec::new(alloc),
+            axis: 0,
+            cell: 0,
+            left_out: "",
+        };
+        for element in elements.iter().filter(|element| !element.is_legend) {
+            match element.name {
+                "svg" => page.width = element.number("width"),
+                "text" => page.add_word(element)?,
+                "rect" | "circle" | "path" => page.add_shape(&legend, element)?,
+                _ => {}
+            }
+        }
+        Ok(page)
+    }
+
+    fn add_word(&mut self, element: &Element<'a>) -> Result<(), AllocError> {
+        let word = Word {
+            x: element.number("x"),
+            y: element.number("y"),
+            text: element.text,
+        };
+        if self.title.is_empty() {
+            self.title = word.text;
+        } else if word.text == "line" {
+            self.axis = word.y;
+        } else if word.text == "the cell" {
+            self.cell = word.y;
+        } else if word.text.starts_with("Left out") {
+            self.left_out = word.text;
+        } else {
+            self.words.push(word)?;
+        }
+        Ok(())
+    }
+
+    fn add_shape(&mut self, legend: &Legend<'a>, element: &Element<'a>) -> Result<(), Fault> {
+        let class = element.attribute("class");
+        let points = points_of(self.alloc, element.attribute("d"))?;
+        if class == "life" {
+            return self.add_life(&points);
+        }
+        let Some(meaning) = legend.meaning(element)? else {
+            if class == "" || class == "grid" {
+                return Ok(());
+            }
+            return self.differs(class, "a shape of the legend");
+        };
+        let mut shape = Shape {
+            meaning,
+            left: element.number("x"),
+            right: element.number("x").saturating_add(element.number("width")),
+            y: element
+                .number("y")
+                .saturating_add(element.number("height") / 2),
+            points,
+        };
+        if element.name == "circle" {
+            shape.y = element.number("cy");
+            shape.left = element.number("cx");
+            shape.right = element.number("cx");
+        } else if let Some(first) = shape.points.first() {
+            shape.y = first.y;
+            shape.left = first.x;
+            shape.right = first.x;
+        }
+        self.shapes.push(shape)?;
+        Ok(())
+    }
+
+    fn add_life(&mut self, points: &[Point]) -> Result<(), Fault> {
+        let (Some(from), Some(to)) = (points.first(), points.last()) else {
+            return self.differs("a life", "a line");
+        };
+        if from.y != to.y || self.lives.last().is_some_and(|last| last.y >= from.y) {
+            return self.differs("a life", "one below the last");
+        }
+        self.lives.push(Life {
+            from: from.x,
+            to: to.x,
+            y: from.y,
+        })?;
+        Ok(())
+    }
+
+    /// The lane whose line of life is next to this height.
+    pub fn lane_at(&self, y: i64) -> usize {
+        let (mut best, mut least) = (0usize, i64::MAX);
+        for (lane, life) in self.lives.iter().enumerate() {
+            let away = life.y.saturating_sub(y).saturating_abs();
+            if away < least {
+                best = lane;
+                least = away;
+            }
+        }
+        best
+    }
+
+    /// The height of the first lane, or of the numbers below where there is none.
+    pub fn top(&self) -> i64 {
+        self.lives
+            .first()
+            .map_or(self.axis, |life| life.y.saturating_sub(4))
+    }
+
+    fn differs<T>(&self, read: &str, wanted: &str) -> Result<T, Fault> {
+        Err(Fault::Differs(format!(in self.alloc; "picture: {read}, and not {wanted}")?))
+    }
+}

@@ -1,0 +1,574 @@
+//! What the world says at each line of a script, in the words of docs/SCRIPTS.md.
+ghost use Rattle.std.specs.Prelude.{OnOk};
+ghost use Rattle.async_once_cell.specs.Reached.{IsReached};
+
+use crate::fault::Fault;
+use crate::words::{
+    AnswerWord, Answers, FoundWord, RecordLine, ReplyWord, owner_word, stand_word, ticket_of,
+};
+use async_once_cell::world::{Call, Entry, Input, Ran, Reply, World};
+use std::alloc::{AllocError, Global};
+
+/// How many listings a table shows at most.
+const SHOWN_LISTINGS: usize = 20;
+
+/// A line of a script, as it is written and as the world takes it.
+#[derive(Drop)]
+pub struct Said {
+    pub text: String,
+    pub input: Input,
+    pub times: u64,
+}
+
+/// What the world says after a line.
+#[derive(Drop)]
+pub struct Line {
+    pub number: u64,
+    pub text: String,
+    /// The count, the two flags, the queue, its flag and who is listed.
+    pub shared: Vec<String>,
+    /// Where each task stands that was made by then.
+    pub stands: Vec<&'static str>,
+    /// What the line added to the record, or why it was passed over.
+    pub record: String,
+    /// The place of the task that the line names, if it lived before the line or since then.
+    pub named: Option<usize>,
+    /// What the cell is.
+    pub cell: String,
+}
+
+/// A task, and what is open of it.
+#[derive(Drop)]
+pub struct Task {
+    pub number: u64,
+    pub made: usize,
+    pub gone: Option<usize>,
+    /// What its last poll answered, if that was not Pending.
+    pub reply: String,
+    call: Option<(&'static str, usize)>,
+    waits: Option<usize>,
+    holds: Option<usize>,
+}
+
+/// Something that lasted, from one line to another or to the end.
+#[derive(Clone, Copy)]
+pub struct Bar {
+    pub lane: usize,
+    pub kind: &'static str,
+    pub from: usize,
+    pub to: Option<usize>,
+}
+
+/// Something that happened at a line, in a lane or to the cell.
+#[derive(Drop)]
+pub struct Mark {
+    pub lane: Option<usize>,
+    pub kind: &'static str,
+    pub line: usize,
+    pub word: String,
+}
+
+/// A task called one of these others at a line.
+#[derive(Drop)]
+pub struct Arrow {
+    pub line: usize,
+    pub caller: usize,
+    pub called: Vec<usize>,
+}
+
+/// Who is listed and was not called: the place of the task, and the waker.
+#[derive(Clone, Copy, PartialEq, Eq)]
+struct Waiting {
+    lane: usize,
+    waker: u64,
+}
+
+/// All that the world said.
+#[derive(Drop)]
+pub struct Story {
+    alloc: Global,
+    pub is_lazy: bool,
+    pub tasks: Vec<Task>,
+    pub lines: Vec<Line>,
+    pub bars: Vec<Bar>,
+    pub marks: Vec<Mark>,
+    pub arrows: Vec<Arrow>,
+    holder: Option<u64>,
+    value: u64,
+}
+
+impl Story {
+    /// Nothing was said yet of a cell which was made with this value, if it was made with one.
+    pub fn new(alloc: Global, is_lazy: bool, value: Option<u64>) -> Story {
+        Story {
+            alloc,
+            is_lazy,
+            tasks: Vec::new(alloc),
+            lines: Vec::new(alloc),
+            bars: Vec::new(alloc),
+            marks: Vec::new(alloc),
+            arrows: Vec::new(alloc),
+            holder: None,
+            value: value.unwrap_or(0),
+        }
+    }
+
+    /// The place of a task.
+    pub fn place(&self, number: u64) -> Option<usize> {
+        self.tasks.iter().position(|task| task.number == number)
+    }
+
+    /// The world takes a line with this number.
+    pub fn take(&mut self, world: &mut World, number: u64, said: Said) -> Result<(), Fault>
+        requires reached { IsReached world.old }
+        ensures reached { OnOk result (IsReached world.new) }
+    {
+        let Said { text, input, times } = said;
+        let reason = self.reason(world, &input)?;
+        let first = world.entries().len();
+        for _ in 0..times {
+            self.step(world, &input)?;
+        }
+        self.note_line(world, number, text, reason, first, &input)
+    }
+
+    fn step(&mut self, world: &mut World, input: &Input) -> Result<(), Fault>
+        requires reached { IsReached world.old }
+        ensures reached { OnOk result (IsReached world.new) }
+    {
+        let before = self.waiting(world)?;
+        let done = world.entries().len();
+        world.take(input)?;
+        let after = self.waiting(world)?;
+        for entry in world.entries().get(done..).unwrap_or(&[]) {
+            self.note(world, entry, &before, &after)?;
+        }
+        Ok(())
+    }
+
+    /// Who is listed and was not called.
+    fn waiting(&self, world: &World) -> Result<Vec<Waiting>, AllocError> {
+        let mut all = Vec::new(self.alloc);
+        for listing in &world.core().lists.listings(self.alloc)? {
+            let of = |task: &Task| ticket_of(world.step_of(task.number)) == Some(listing.ticket);
+            if let (Some(lane), Some(waker)) = (self.tasks.iter().position(of), listing.waker) {
+                all.push(Waiting { lane, waker })?;
+            }
+        }
+        Ok(all)
+    }
+
+    /// Notes the first line, which says which cell it is.
+    pub fn note_first(&mut self, world: &World, number: u64, text: String) -> Result<(), Fault> {
+        self.note_line(world, number, text, None, 0, &Input::Look)
+    }
+
+    fn note_line(
+        &mut self,
+        world: &World,
+        number: u64,
+        text: String,
+        reason: Option<String>,
+        first: usize,
+        input: &Input,
+    ) -> Result<(), Fault> {
+        let mut stands = Vec::new(self.alloc);
+        for task in &self.tasks {
+            stands.push(stand_word(world.step_of(task.number)))?;
+        }
+        let named = named_by(input).and_then(|task| self.place(task));
+        let named = named.filter(|place| reason.is_none() || stands.get(*place) != Some(&"gone"));
+        let record = self.record(world, reason, first)?;
+        let cell = self.cell(world)?;
+        self.lines.push(Line {
+            number,
+            text,
+            shared: self.shared(world)?,
+            stands,
+            record,
+            named,
+            cell,
+        })?;
+        Ok(())
+    }
+
+    fn record(
+        &self,
+        world: &World,
+        reason: Option<String>,
+        first: usize,
+    ) -> Result<String, AllocError> {
+        if let Some(reason) = reason {
+            return format!(in self.alloc; "(passed over: {reason})");
+        }
+        let mut record = String::new(self.alloc);
+        for entry in world.entries().get(first..).unwrap_or(&[]) {
+            if !record.is_empty() {
+                record.push_str("; ")?;
+            }
+            write!(record, "{}", RecordLine(entry))?;
+        }
+        Ok(record)
+    }
+
+    fn shared(&self, world: &World) -> Result<Vec<String>, AllocError> {
+        let (core, alloc) = (world.core(), self.alloc);
+        let mut cells = Vec::new(alloc);
+        cells.push(format!(in alloc; "{}", core.word.count())?)?;
+        for (stands, word) in &[
+            (core.word.is_quick(), "quick"),
+            (core.word.is_ready(), "ready"),
+        ] {
+            cells.push(String::from_str(alloc, if *stands { *word } else { "-" })?)?;
+        }
+        cells.push(match core.door {
+            Some(queue) => format!(in alloc; "queue {queue}")?,
+            None => String::from_str(alloc, "-")?,
+        })?;
+        cells.push(String::from_str(alloc, if core.lists.head { "held" } else { "-" })?)?;
+        cells.push(self.listed(world)?)?;
+        Ok(cells)
+    }
+
+    fn listed(&self, world: &World) -> Result<String, AllocError> {
+        let listings = world.core().lists.listings(self.alloc)?;
+        let mut text = String::new(self.alloc);
+        for (index, listing) in listings.iter().enumerate() {
+            if index == SHOWN_LISTINGS {
+                write!(text, " and {} more", listings.len().saturating_sub(index))?;
+                break;
+            }
+            let gap = if index == 0 { "" } else { " " };
+            match listing.waker {
+                Some(waker) => write!(text, "{gap}{}:{waker}", listing.ticket)?,
+                None => write!(text, "{gap}{}:called", listing.ticket)?,
+            }
+        }
+        if listings.is_empty() {
+            text.push_str("-")?;
+        }
+        Ok(text)
+    }
+
+    /// What the cell is. The record and the flags have to agree on it.
+    fn cell(&self, world: &World) -> Result<String, Fault> {
+        let (core, alloc) = (world.core(), self.alloc);
+        if self.holder.is_some() != (core.word.is_quick() || core.lists.head) {
+            return Err(Fault::Differs(String::from_str(
+                alloc,
+                "the record and the flags differ on who holds",
+            )?));
+        }
+        Ok(match self.holder {
+            Some(task) => format!(in alloc; "held by {task}")?,
+            None if core.word.is_ready() => format!(in alloc; "set: v{}", self.value)?,
+            None => String::from_str(alloc, "empty")?,
+        })
+    }
+}
+
+/// Why an input is passed over.
+impl Story {
+    fn reason(&self, world: &World, input: &Input) -> Result<Option<String>, AllocError> {
+        let alloc = self.alloc;
+        Ok(match input {
+            Input::Make(task) if world.step_of(*task).is_some() => {
+                Some(format!(in alloc; "task {task} was made before")?)
+            }
+            Input::Make(_) | Input::Look => None,
+            Input::Poll(task, _) | Input::Drop(task) => match stand_word(world.step_of(*task)) {
+                "-" => Some(format!(in alloc; "task {task} was not made")?),
+                "gone" => Some(format!(in alloc; "task {task} is gone")?),
+                "new" | "waits" | "holds" => None,
+                _ => Some(format!(in alloc; "a call of task {task} is under way")?),
+            },
+            Input::Go(task, _, _) => match stand_word(world.step_of(*task)) {
+                "-" => Some(format!(in alloc; "task {task} was not made")?),
+                "new" | "waits" | "holds" | "gone" => {
+                    Some(format!(in alloc; "no call of task {task} is under way")?)
+                }
+                _ => None,
+            },
+            Input::Own(call) => self.owner_reason(world, call)?,
+        })
+    }
+
+    fn owner_reason(&self, world: &World, call: &Call) -> Result<Option<String>, AllocError> {
+        let (alloc, word) = (self.alloc, owner_word(call));
+        let is_of_lazy = word == "parts" || word == "replace";
+        if self.is_lazy && word == "take" {
+            return Ok(Some(format!(in alloc; "a lazy cell has no call `{word}`")?));
+        }
+        if !self.is_lazy && is_of_lazy {
+            return Ok(Some(format!(in alloc; "a once cell has no call `{word}`")?));
+        }
+        let living = |task: &&Task| stand_word(world.step_of(task.number)) != "gone";
+        Ok(match self.tasks.iter().find(living) {
+            Some(task) => Some(format!(in alloc; "task {} is not gone", task.number)?),
+            None => None,
+        })
+    }
+}
+
+/// What an entry adds to a picture.
+impl Story {
+    fn note(
+        &mut self,
+        world: &World,
+        entry: &Entry,
+        before: &[Waiting],
+        after: &[Waiting],
+    ) -> Result<(), Fault> {
+        match entry {
+            Entry::Made(task) => self.make(*task)?,
+            Entry::Begin(task, _) => self.begin(*task, "a poll")?,
+            Entry::DropBegin(task) => self.begin(*task, "a drop")?,
+            Entry::Claim(task) => self.claim(*task),
+            Entry::Ran(task, answer) => self.run(*task, *answer)?,
+            Entry::Free(task, wakers) | Entry::Pass(task, wakers) => {
+                self.release(*task)?;
+                self.call(*task, wakers, before, after)?;
+            }
+            Entry::Fill(task, value, wakers) => {
+                self.value = *value;
+                self.release(*task)?;
+                self.call(*task, wakers, before, after)?;
+            }
+            Entry::End(task, reply) => self.end(world, *task, *reply)?,
+            Entry::DropEnd(task) => self.leave(*task)?,
+            Entry::Look(found) => {
+                let word = format!(in self.alloc; "{}", FoundWord(*found))?;
+                self.mark(None, "a look, and what it found", word)?;
+            }
+            Entry::Own(call, _) => self.own(call)?,
+        }
+        Ok(())
+    }
+
+    /// The place of the line that is being played.
+    fn now(&self) -> usize {
+        self.lines.len()
+    }
+
+    fn make(&mut self, number: u64) -> Result<(), AllocError> {
+        self.tasks.push(Task {
+            number,
+            made: self.lines.len(),
+            gone: None,
+            reply: String::new(self.alloc),
+            call: None,
+            waits: None,
+            holds: None,
+        })?;
+        Ok(())
+    }
+
+    fn task(&mut self, number: u64) -> Option<&mut Task> {
+        self.tasks.iter_mut().find(|task| task.number == number)
+    }
+
+    fn mark(
+        &mut self,
+        lane: Option<usize>,
+        kind: &'static str,
+        word: String,
+    ) -> Result<(), AllocError> {
+        let line = self.now();
+        self.marks.push(Mark {
+            lane,
+            kind,
+            line,
+            word,
+        })?;
+        Ok(())
+    }
+
+    /// Something of this kind ended that began at this line, if it began.
+    fn close(
+        &mut self,
+        number: u64,
+        kind: &'static str,
+        from: Option<usize>,
+    ) -> Result<(), AllocError> {
+        if let (Some(lane), Some(from)) = (self.place(number), from) {
+            let to = Some(self.now());
+            self.bars.push(Bar {
+                lane,
+                kind,
+                from,
+                to,
+            })?;
+        }
+        Ok(())
+    }
+
+    fn begin(&mut self, number: u64, kind: &'static str) -> Result<(), AllocError> {
+        let now = self.now();
+        let Some(task) = self.task(number) else {
+            return Ok(());
+        };
+        task.call = Some((kind, now));
+        let waited = task.waits.take();
+        self.close(number, "waits", waited)
+    }
+
+    fn claim(&mut self, number: u64) {
+        let now = self.now();
+        self.holder = Some(number);
+        if let Some(task) = self.task(number) {
+            task.holds = Some(now);
+        }
+    }
+
+    fn run(&mut self, number: u64, answer: Ran) -> Result<(), AllocError> {
+        let kind = match answer {
+            Ran::Pending => "init: Pending",
+            Ran::Value(_) => "a value",
+            Ran::Error(_) => "an error",
+        };
+        let word = format!(in self.alloc; "{}", AnswerWord(answer))?;
+        let lane = self.place(number);
+        self.mark(lane, kind, word)
+    }
+
+    /// The task gives the right back, if it had it.
+    fn release(&mut self, number: u64) -> Result<(), AllocError> {
+        let Some(task) = self.task(number) else {
+            return Ok(());
+        };
+        let held = task.holds.take();
+        if held.is_some() {
+            self.holder = None;
+        }
+        self.close(number, "holds the right", held)
+    }
+
+    /// The task hands out wakers. Whom each calls was listed with it before, and is not after.
+    fn call(
+        &mut self,
+        number: u64,
+        wakers: &[u64],
+        before: &[Waiting],
+        after: &[Waiting],
+    ) -> Result<(), Fault> {
+        let Some(caller) = self.place(number) else {
+            return Ok(());
+        };
+        for waker in wakers {
+            let mut called = Vec::new(self.alloc);
+            for one in before {
+                if one.waker == *waker && one.lane != caller && !after.contains(one) {
+                    called.push(one.lane)?;
+                }
+            }
+            let line = self.now();
+            self.arrows.push(Arrow {
+                line,
+                caller,
+                called,
+            })?;
+        }
+        Ok(())
+    }
+
+    /// The call that is under way ends.
+    fn close_call(&mut self, number: u64) -> Result<(), AllocError> {
+        let call = self.task(number).and_then(|task| task.call.take());
+        match call {
+            Some((kind, from)) => self.close(number, kind, Some(from)),
+            None => Ok(()),
+        }
+    }
+
+    fn end(&mut self, world: &World, number: u64, reply: Reply) -> Result<(), AllocError> {
+        self.close_call(number)?;
+        let (now, stand) = (self.now(), stand_word(world.step_of(number)));
+        let word = format!(in self.alloc; "{}", ReplyWord(reply))?;
+        let Some(task) = self.task(number) else {
+            return Ok(());
+        };
+        match stand {
+            "waits" => task.waits = Some(now),
+            "gone" => {
+                task.gone = Some(now);
+                task.reply = word;
+            }
+            _ => {}
+        }
+        Ok(())
+    }
+
+    fn leave(&mut self, number: u64) -> Result<(), AllocError> {
+        self.close_call(number)?;
+        let now = self.now();
+        if let Some(task) = self.task(number) {
+            task.gone = Some(now);
+        }
+        Ok(())
+    }
+
+    fn own(&mut self, call: &Call) -> Result<(), AllocError> {
+        if let Call::Write(value) | Call::ReplaceValue(value) = call {
+            self.value = *value;
+        }
+        let word = String::from_str(self.alloc, owner_word(call))?;
+        self.mark(None, "the owner calls", word)
+    }
+
+    /// What is still open at the end.
+    pub fn close_all(&mut self) -> Result<(), AllocError> {
+        for (lane, task) in self.tasks.iter().enumerate() {
+            for (kind, from) in &[
+                ("waits", task.waits),
+                ("holds the right", task.holds),
+                task.call
+                    .map_or(("a poll", None), |(kind, from)| (kind, Some(from))),
+            ] {
+                if let (kind, Some(from)) = (*kind, *from) {
+                    self.bars.push(Bar {
+                        lane,
+                        kind,
+                        from,
+                        to: None,
+                    })?;
+                }
+            }
+        }
+        Ok(())
+    }
+}
+
+/// The task that an input names.
+fn named_by(input: &Input) -> Option<u64> {
+    match input {
+        Input::Make(task) | Input::Poll(task, _) | Input::Drop(task) | Input::Go(task, _, _) => {
+            Some(*task)
+        }
+        Input::Look | Input::Own(_) => None,
+    }
+}
+
+/// The line of a script for an input that is taken so many times.
+pub fn text_of(alloc: Global, input: &Input, times: u64) -> Result<String, AllocError> {
+    match input {
+        Input::Make(task) => format!(in alloc; "make {task}"),
+        Input::Poll(task, waker) => format!(in alloc; "poll {task} {waker}"),
+        Input::Drop(task) => format!(in alloc; "drop {task}"),
+        Input::Go(task, answer, is_granted) => {
+            let word = if times == 1 { "go" } else { "run" };
+            let refused = if *is_granted { "" } else { " x" };
+            format!(in alloc; "{word} {task} {}{refused}", AnswerWord(*answer))
+        }
+        Input::Look => String::from_str(alloc, "look"),
+        Input::Own(call) => match call {
+            Call::Take => String::from_str(alloc, "take"),
+            Call::Write(value) => format!(in alloc; "write {value}"),
+            Call::Parts => String::from_str(alloc, "parts"),
+            Call::ReplaceValue(value) => format!(in alloc; "replace with {value}"),
+            Call::ReplaceAnswers(answers) if answers.is_empty() => {
+                String::from_str(alloc, "replace")
+            }
+            Call::ReplaceAnswers(answers) => format!(in alloc; "replace {}", Answers(answers)),
+        },
+    }
+}

@@ -1,0 +1,211 @@
+//! A table that is read back.
+use crate::fault::Fault;
+use crate::story::{Line, Story};
+use std::alloc::{AllocError, Global};
+
+/// How many tasks a table has columns for.
+const MOST_TASKS: usize = 20;
+
+/// The headers of the columns before those of the tasks.
+const HEADERS: [&str; 8] = [
+    "line", "script", "count", "quick", "ready", "door", "flag", "listed",
+];
+
+/// Some lines of a script, by their places, both included.
+#[derive(Clone, Copy)]
+pub struct Window {
+    pub first: usize,
+    pub last: usize,
+}
+
+impl Window {
+    pub fn has(self, line: usize) -> bool {
+        self.first <= line && line <= self.last
+    }
+}
+
+/// A table that is being read.
+#[derive(Drop)]
+struct Reading<'a> {
+    alloc: Global,
+    story: &'a Story,
+    window: Window,
+    /// The place of the next line.
+    at: usize,
+    /// What the part says of tasks that it has no columns for.
+    others: &'a str,
+    /// The places of the tasks that the part has columns for.
+    columns: Vec<usize>,
+    cells: u64,
+}
+
+/// Compares a table with what the world says of these lines. Gives how many cells were compared.
+pub fn compare(alloc: Global, table: &str, story: &Story, window: Window) -> Result<u64, Fault> {
+    let mut reading = Reading {
+        alloc,
+        story,
+        window,
+        at: window.first,
+        others: "",
+        columns: Vec::new(alloc),
+        cells: 0,
+    };
+    for row in table.lines() {
+        if let Some(others) = row.strip_prefix("other tasks: ") {
+            reading.others = others;
+        } else if row.starts_with("line") {
+            reading.read_headers(row)?;
+        } else if row.is_empty() {
+            reading.others = "";
+        } else {
+            reading.read_row(row)?;
+        }
+    }
+    if reading.at != window.last.saturating_add(1) {
+        return Err(Fault::Differs(format!(in alloc; "the table ends before line {}", reading.at)?));
+    }
+    Ok(reading.cells)
+}
+
+/// The cells of a row: two blanks or more stand between two.
+fn cells_of(alloc: Global, row: &str) -> Result<Vec<&str>, AllocError> {
+    row.split("  ")
+        .map(|cell| cell.trim())
+        .filter(|cell| !cell.is_empty())
+        .collect(alloc)
+}
+
+impl Reading<'_> {
+    /// Reads the headers of a part. It has a column for each task that lives, or it says how many others there
+    /// are.
+    fn read_headers(&mut self, row: &str) -> Result<(), Fault> {
+        let cells = cells_of(self.alloc, row)?;
+        self.columns.clear();
+        for (index, cell) in cells.iter().enumerate() {
+            if let Some(header) = HEADERS.get(index) {
+                self.same(cell, header)?;
+            } else if index.saturating_add(1) == cells.len() {
+                self.same(cell, "record")?;
+            } else {
+                let number = cell
+                    .strip_prefix("task ")
+                    .and_then(|it| it.parse::<u64>().ok());
+                match number.and_then(|it| self.story.place(it)) {
+                    Some(place) => self.add_column(place)?,
+                    None => return self.differs(cell, "a task"),
+                }
+            }
+        }
+        if self.columns.len() > MOST_TASKS {
+            return self.differs(row, "so many tasks at most");
+        }
+        let others = self.others_now()?;
+        self.same(self.others, others.as_str())
+    }
+
+    /// Columns are in the order in which their tasks were made, and none comes twice.
+    fn add_column(&mut self, place: usize) -> Result<(), Fault> {
+        if self.columns.last().is_some_and(|last| *last >= place) {
+            return self.differs("a column", "one further on");
+        }
+        self.columns.push(place)?;
+        Ok(())
+    }
+
+    /// How many tasks live before the next line and have no column.
+    fn others_now(&self) -> Result<String, AllocError> {
+        let mut text = String::new(self.alloc);
+        let before = self
+            .at
+            .checked_sub(1)
+            .and_then(|at| self.story.lines.get(at));
+        let Some(line) = before else {
+            return Ok(text);
+        };
+        let others = line
+            .stands
+            .iter()
+            .enumerate()
+            .filter(|(place, _)| !self.columns.contains(place));
+        let mut counts = [0u64; 4];
+        for (_, stand) in others {
+            match *stand {
+                "gone" => {}
+                "new" => raise(&mut counts[0]),
+                "waits" => raise(&mut counts[1]),
+                "holds" => raise(&mut counts[2]),
+                _ => raise(&mut counts[3]),
+            }
+        }
+        for (count, word) in counts
+            .iter()
+            .zip(&["new", "waiting", "holding", "in a call"])
+        {
+            if *count > 0 {
+                let gap = if text.is_empty() { "" } else { ", " };
+                write!(text, "{gap}{count} {word}")?;
+            }
+        }
+        Ok(text)
+    }
+
+    /// Reads a row: all that the world says after its line.
+    fn read_row(&mut self, row: &str) -> Result<(), Fault> {
+        let story = self.story;
+        let Some(line) = story.lines.get(self.at) else {
+            return self.differs(row, "no row");
+        };
+        let wanted = self.wanted(line)?;
+        let cells = cells_of(self.alloc, row)?;
+        if cells.len() != wanted.len() {
+            return self.differs(row, "as many cells");
+        }
+        for (cell, wanted) in cells.iter().zip(&wanted) {
+            self.same(cell, wanted.as_str())?;
+        }
+        if line
+            .named
+            .is_some_and(|place| !self.columns.contains(&place))
+        {
+            return self.differs(row, "a column for the task that it names");
+        }
+        self.cells = self.cells.saturating_add(cells.len() as u64);
+        self.at = self.at.saturating_add(1);
+        Ok(())
+    }
+
+    fn wanted(&self, line: &Line) -> Result<Vec<String>, AllocError> {
+        let mut wanted = Vec::new(self.alloc);
+        wanted.push(format!(in self.alloc; "{}", line.number)?)?;
+        wanted.push(line.text.clone()?)?;
+        for cell in &line.shared {
+            wanted.push(cell.clone()?)?;
+        }
+        for place in &self.columns {
+            let stand = line.stands.get(*place).copied().unwrap_or("-");
+            wanted.push(String::from_str(self.alloc, stand)?)?;
+        }
+        if !line.record.is_empty() {
+            wanted.push(line.record.clone()?)?;
+        }
+        Ok(wanted)
+    }
+
+    fn same(&self, read: &str, wanted: &str) -> Result<(), Fault> {
+        if read == wanted {
+            return Ok(());
+        }
+        self.differs(read, wanted)
+    }
+
+    fn differs<T>(&self, read: &str, wanted: &str) -> Result<T, Fault> {
+        let number = self.story.lines.get(self.at).map_or(0, |line| line.number);
+        Err(Fault::Differs(format!(in self.alloc;
+            "table, line {number}: \"{read}\", and not \"{wanted}\""
+        )?))
+    }
+}
+
+fn raise(count: &mut u64) {
+    *count = count.saturating_add(1);
+}

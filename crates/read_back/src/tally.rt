@@ -1,0 +1,76 @@
+//! How much was compared.
+use crate::picture::Found;
+use crate::story::Story;
+use std::alloc::{AllocError, Global};
+use std::fmt;
+
+/// How much was compared.
+#[derive(Drop)]
+pub struct Tally {
+    scripts: u64,
+    lines: u64,
+    cells: u64,
+    shapes: u64,
+    arrows: u64,
+    words: u64,
+    /// Where tasks were seen to stand.
+    stands: Vec<&'static str>,
+}
+
+impl Tally {
+    pub fn new(alloc: Global) -> Tally {
+        Tally {
+            scripts: 0,
+            lines: 0,
+            cells: 0,
+            shapes: 0,
+            arrows: 0,
+            words: 0,
+            stands: Vec::new(alloc),
+        }
+    }
+
+    /// Counts a script.
+    pub fn count(&mut self, story: &Story) -> Result<(), AllocError> {
+        self.scripts = self.scripts.saturating_add(1);
+        self.lines = self.lines.saturating_add(story.lines.len() as u64);
+        for line in &story.lines {
+            for stand in &line.stands {
+                if !self.stands.contains(stand) {
+                    self.stands.push(*stand)?;
+                }
+            }
+        }
+        Ok(())
+    }
+
+    /// Adds what was compared in a table and a picture.
+    pub fn add(&mut self, cells: u64, found: Found) {
+        self.cells = self.cells.saturating_add(cells);
+        self.shapes = self.shapes.saturating_add(found.shapes);
+        self.arrows = self.arrows.saturating_add(found.arrows);
+        self.words = self.words.saturating_add(found.words);
+    }
+}
+
+impl fmt::Display for Tally {
+    fn fmt<W: fmt::Write>(&self, f: &mut fmt::Formatter<W>) -> fmt::Result {
+        let steps = self
+            .stands
+            .iter()
+            .filter(|stand| stand.starts_with("> "))
+            .count();
+        let rests = self.stands.len().saturating_sub(steps);
+        write!(
+            f,
+            "{} scripts, {} lines, {} cells",
+            self.scripts, self.lines, self.cells
+        )?;
+        write!(
+            f,
+            ", {} shapes, {} arrows, {} words",
+            self.shapes, self.arrows, self.words
+        )?;
+        write!(f, "; words for steps {steps} of 17, others {rests} of 4")
+    }
+}
