@@ -5,9 +5,11 @@ use async_once_cell::world::{Entry, Input, Kind, Ran, World};
 use cell_doubles::target::Target;
 use once_view::fault::Fault;
 use once_view::play::{Moment, Watcher, play};
+use once_view::range::LineRange;
 use once_view::reading::read_script;
-use once_view::{Format, show};
+use once_view::{Format, show, show_lines};
 use std::alloc::{AllocError, Global};
+use std::io;
 use std::test::Fail;
 
 // A script as it is shown.
@@ -121,7 +123,7 @@ fn worked_schedules_are_told_honestly(rt: HostRuntime) {
 }
 
 // Texts that are no scripts, and what is said of them.
-const UNREADABLE: [(&[u8], &str); 11] = [
+const UNREADABLE: [(&[u8], &str); 12] = [
     (
         b"",
         "no line says which cell it is; expected: `once LIMIT` or `lazy LIMIT`",
@@ -154,6 +156,10 @@ const UNREADABLE: [(&[u8], &str); 11] = [
         b"once 8\nmack 1\n",
         "line 2 can't be read: \"mack 1\"; expected: `make`, `poll`, `drop`, `go`, `run`, `look`, `take`, `write`, `parts` or `replace`",
     ),
+    (
+        b"once 8\n # x\n",
+        "line 2 can't be read: \" # x\"; expected: `make`, `poll`, `drop`, `go`, `run`, `look`, `take`, `write`, `parts` or `replace`",
+    ),
     (b"once 8\nmake \xff\n", "line 2 is not UTF-8"),
     (
         b"once 8\nlooks\nmake \xff\n",
@@ -172,6 +178,72 @@ fn a_line_that_cannot_be_read_is_told(rt: HostRuntime) -> Result<(), Fail> {
         assert_eq!(rt; (told.as_str(), fault.status()), (*wanted, 2));
     }
     Ok(())
+}
+
+/// The status that the process ends with: each fault has its own kind.
+#[test]
+fn each_fault_has_its_status(rt: HostRuntime) {
+    let unread = [
+        Fault::NoCell.status(),
+        Fault::NotText(2).status(),
+        Fault::FromAfterTo { from: 2, to: 1 }.status(),
+        Fault::BeyondTheEnd { from: 2, end: 1 }.status(),
+        Fault::NothingSaid { from: 2, to: 2 }.status(),
+    ];
+    let refused = Fault::from(io::Error::from(io::ErrorKind::OutOfMemory)).status();
+    let failed = Fault::from(io::Error::other("a full disk")).status();
+    assert_eq!(rt;
+        (
+            unread,
+            [failed, Fault::Io.status()],
+            [refused, Fault::Memory.status()]
+        ),
+        ([2; 5], [3; 2], [4; 2])
+    );
+}
+
+// What is made of some lines of this script.
+const RANGED: &str = "once 8\n\n# silent\nmake 1\ndrop 1\nmake 2\n";
+
+fn ranged(alloc: Global, from: Option<u64>, to: Option<u64>) -> Result<String, Fault> {
+    let (range, mut output) = (LineRange::new(from, to)?, Vec::new(alloc));
+    show_lines(alloc, Format::Table, range, RANGED.as_bytes(), &mut output)?;
+    Ok(String::from_utf8_lossy(alloc, output.as_slice())?)
+}
+
+// Lines that are not to be had, and what is said of them.
+const NOT_THERE: [(Option<u64>, Option<u64>, &str); 3] = [
+    (Some(5), Some(4), "--from 5 is after --to 4"),
+    (
+        Some(7),
+        None,
+        "--from 7 is beyond the end: line 6 is the last that says something",
+    ),
+    (Some(2), Some(3), "no line from 2 to 3 says anything"),
+];
+
+#[test]
+fn lines_that_are_not_there_are_told(rt: HostRuntime) -> Result<(), Fail> {
+    for (from, to, wanted) in &NOT_THERE {
+        let Err(fault) = ranged(rt.alloc(), *from, *to) else {
+            panic!(rt; "shown, and not: {wanted}");
+        };
+        let told = format!(in rt.alloc(); "{fault}")?;
+        assert_eq!(rt; (told.as_str(), fault.status()), (*wanted, 2));
+    }
+    Ok(())
+}
+
+const LAST_LINE: &str = "line  script  count  quick  ready  door  flag  listed  task 2  record\n\
+    6     make 2  0      -      -      -     -     -       new     made 2\n";
+
+/// Of the lines to the end the last alone is shown, without the task that is gone by then.
+#[test]
+fn some_lines_are_shown(rt: HostRuntime) {
+    let Ok(table) = ranged(rt.alloc(), Some(6), None) else {
+        panic!(rt; "no table");
+    };
+    assert_eq!(rt; table.as_str(), LAST_LINE);
 }
 
 // A script with so many tasks and looks. The init of the first task fails.
