@@ -133,7 +133,8 @@ where
         requires unfinished { self.old.finished ≡ false }
         ensures call { DidPoll self.old self.new cx.old cx.new result }
     {
-        let (mut told, mut error, mut is_armed) = (Progress::More, None, false);
+        let (mut told, mut ending) = (Progress::More, Ending::Dropped);
+        let (mut error, mut is_armed) = (None, false);
         if self.task.step.is_new() {
             // Step, parts and side are made here and end here, so that the compiler keeps them in registers.
             let mut side = Polling {
@@ -165,11 +166,13 @@ where
         } else {
             self.task.step.begin();
         }
-        let outcome = match told {
-            Progress::Ended(ending) => Outcome::new(ending, error, is_armed),
-            Progress::More => remaining_steps(self.cell, self.rt, &mut self.task, error, cx),
-        };
-        self.answer(outcome, cx)
+        if let Progress::Ended(first) = told {
+            ending = first;
+        } else {
+            let outcome = remaining_steps(self.cell, self.rt, &mut self.task, error, cx);
+            (ending, error, is_armed) = (outcome.ending, outcome.error, outcome.is_armed);
+        }
+        self.answer(ending, error, is_armed, cx)
     }
 
     /// As [`poll`](Self::poll), and the token learns the value that is answered. A token that knows
@@ -279,16 +282,18 @@ where
     #[inline(always)]
     fn answer(
         &mut self,
-        outcome: Outcome<E>,
+        ending: Ending,
+        error: Option<E>,
+        is_armed: bool,
         cx: &mut Context<'_>,
     ) -> Poll<Result<&'a T, InitError<E>>>
-        requires { outcome.is_armed ≡ true → IsArmed cx.old }
+        requires { is_armed ≡ true → IsArmed cx.old }
         ensures call { DidPoll self.old self.new cx.old cx.new result }
     {
         if self.task.step.is_resting() {
-            return self.rest(outcome.is_armed, cx);
+            return self.rest(is_armed, cx);
         }
-        if let Some(why) = outcome.into_refusal() {
+        if let Some(why) = refusal(ending, error) {
             return Poll::Ready(Err(why));
         }
         if let Some(value) = self.cell.found() {
@@ -338,11 +343,17 @@ impl<T, E, F: Future, R: Wait + AllocGlobal> Drop for TryInitFuture<'_, T, E, F,
         if !self.is_finished() {
             self.leave();
         }
+        // The task is taken apart here. To drop it as a whole would move it first.
         let TryInitFuture {
             error: _,
             cell: _,
             rt: _,
-            task: _task,
+            task: Task {
+                init: _init,
+                seat: _seat,
+                current: _current,
+                step: _step,
+            },
         } = self;
     }
 }
@@ -364,27 +375,13 @@ struct Outcome<E> {
     is_armed: bool,
 }
 
-impl<E: Drop> Outcome<E> {
-    #[inline(always)]
-    fn new(ending: Ending, error: Option<E>, is_armed: bool) -> Self
-        ensures ending { result.ending ≡ ending }
-        ensures armed { result.is_armed ≡ is_armed }
-    {
-        Outcome {
-            ending,
-            error,
-            is_armed,
-        }
-    }
-
-    // Why the poll has no value, if it has none.
-    #[inline(always)]
-    fn into_refusal(self) -> Option<InitError<E>> {
-        match self.ending {
-            Ending::Memory => Some(InitError::Memory),
-            Ending::Full => Some(InitError::Full),
-            _ => self.error.map(InitError::Init),
-        }
+// Why a poll that ended so has no value, if it has none.
+#[inline(always)]
+fn refusal<E: Drop>(ending: Ending, error: Option<E>) -> Option<InitError<E>> {
+    match ending {
+        Ending::Memory => Some(InitError::Memory),
+        Ending::Full => Some(InitError::Full),
+        _ => error.map(InitError::Init),
     }
 }
 
