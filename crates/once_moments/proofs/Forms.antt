@@ -76,12 +76,12 @@ put_at : (w put k n : ℕ) (ns : List ℕ) → ns ≡ w ∷ put ∷ k ∷ [] →
 put_at w put k n ns e at = let same : ◌≡◌ {A = Option ℕ} (Some put) (Some n) = ap (λ xs. slice_get xs 1) (sym e) ∙ at in cc
 
 module _ (seen : List Entry) (h : Held Page) where
-  -- a step of the cell's word
-  pub moves : (f : ℕ → ℕ) (ys : ℕ → List Page) (es : ℕ → List Entry) (P : ℕ → Type 0)
+  -- a step of the cell's word, and what it tells of the log after it
+  pub telling_moves : (f : ℕ → ℕ) (ys : ℕ → List Page) (es : ℕ → List Entry) (P : ℕ → List Entry → Type 0)
       → ((n has_put : ℕ) (slot : Bool) (pages : List Page) (log : List Entry) → IsBook most n has_put slot pages log → AreOn h pages
-      → P n × IsBook most (f n) has_put slot (put (ys n) h pages) (log ++ es n))
-      → Moves IsKept (seen, sheets h) 0 f (λ n v. P n × Leaves seen h (ys n) (es n) v)
-  moves f ys es P goes = record {
+      → P n (log ++ es n) × IsBook most (f n) has_put slot (put (ys n) h pages) (log ++ es n))
+      → Moves IsKept (seen, sheets h) 0 f (λ n v. P n v.0 × Leaves seen h (ys n) (es n) v)
+  telling_moves f ys es P goes = record {
     goes = λ ns n ss log k at pre a.
         let same : k.word ≡ n = word_at k.word k.has_put k.state n ns k.words_are at in
         let r = goes n k.has_put k.slot (pages_in ss) log (subst (λ w. IsBook most w k.has_put k.slot (pages_in ss) log) same k.book) (are_on h ss a) in (
@@ -100,6 +100,13 @@ module _ (seen : List Entry) (h : Held Page) where
           (r.0, (hand_after (ys n) h, (log, pre, refl))),
         );
   }
+
+  -- the same with what it tells of the number found
+  pub moves : (f : ℕ → ℕ) (ys : ℕ → List Page) (es : ℕ → List Entry) (P : ℕ → Type 0)
+      → ((n has_put : ℕ) (slot : Bool) (pages : List Page) (log : List Entry) → IsBook most n has_put slot pages log → AreOn h pages
+      → P n × IsBook most (f n) has_put slot (put (ys n) h pages) (log ++ es n))
+      → Moves IsKept (seen, sheets h) 0 f (λ n v. P n × Leaves seen h (ys n) (es n) v)
+  moves f ys es P goes = telling_moves f ys es (λ n log. P n) goes
 
   -- a step of the word that says whether a queue was ever put
   pub put_moves : (f : ℕ → ℕ) (ys : ℕ → List Page) (es : ℕ → List Entry)

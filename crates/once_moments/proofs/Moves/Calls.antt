@@ -4,13 +4,15 @@ use Rattle.std.proofs.lemmas.List.{map-append, append-nil}
 use Rattle.pagebook.specs.Pages.{Held, Moves, Notes}
 use Rattle.once_queue.specs.Word.{flags_of}
 use Rattle.once_core.specs.Steps.{after_run}
-use Rattle.once_world.specs.Record.{Answer, Begin, Entry, Look, Made, Ran}
+use Rattle.once_world.specs.Record.{Answer, Begin, Entry, Look, Made, Once, Ran}
+use Rattle.once_world.specs.Cell.{cell, is_set}
 use Rattle.once_world.specs.Book.{At, IsBook, IsUnnamed, Page, TaskState}
 use Rattle.once_world.specs.Machine.{AtList, AtRun, EndMemory, UnderWay, drop_entries, fresh_task, is_resting, kept_after, leave_place, polled_of, step_of_drop, step_of_poll}
 use Rattle.once_world.proofs.Moment.Calls.{copy_refused, drop_begun, init_ran, looked, made, poll_begun}
 use Rattle.once_world.proofs.Moment.Step.{told}
+use Rattle.once_world.proofs.Told.Value.{WasFilled, ready_filled, ready_is_set}
 use Rattle.once_moments.specs.Kept.{Grew, IsKept, IsState, Leaves, Sheet, hand, most, pages_in, sheet, sheets, writing_sheet}
-use Rattle.once_moments.proofs.Forms.{moves, notes}
+use Rattle.once_moments.proofs.Forms.{notes, telling_moves}
 use Rattle.once_moments.proofs.Moves.Words.{some}
 
 -- as many pages as sheets
@@ -60,11 +62,18 @@ made_notes seen = record {
       );
 }
 
+-- what a look tells: the cell of the log is set where the word is ready, and then a Fill stands in it
+abbrev pub LookTells : ℕ → List Entry → Type 0
+LookTells n log = ((flags_of n).ready ≡ is_set (cell Once (reverse log))) × ((flags_of n).ready ≡ true → WasFilled 0 log)
+
 -- a look for the value, with any hand of those who do not write
 pub looked_moves : (seen : List Entry) (h : Held Page)
-    → Moves IsKept (seen, sheets h) 0 (λ n. n) (λ n v. Unit {0} × Leaves seen h [] (Look (cond (flags_of n).ready (Some 0) None) ∷ []) v)
-looked_moves seen h = moves seen h (λ n. n) (λ n. []) (λ n. Look (cond (flags_of n).ready (Some 0) None) ∷ []) (λ n. Unit {0})
-    (λ n put slot pages log book on. (tt, looked most n put slot pages log some book))
+    → Moves IsKept (seen, sheets h) 0 (λ n. n) (λ n v. LookTells n v.0 × Leaves seen h [] (Look (cond (flags_of n).ready (Some 0) None) ∷ []) v)
+looked_moves seen h = telling_moves seen h (λ n. n) (λ n. []) (λ n. Look (cond (flags_of n).ready (Some 0) None) ∷ []) LookTells
+    (λ n put slot pages log book on.
+    let after = looked most n put slot pages log some book in
+    let longer : List Entry = log ++ Look (cond (flags_of n).ready (Some 0) None) ∷ [] in
+    ((ready_is_set most n put slot pages longer some after, ready_filled most n put slot pages longer some after), after))
 
 module _ (seen : List Entry) (t : ℕ) (x : TaskState) where
   -- t is y now

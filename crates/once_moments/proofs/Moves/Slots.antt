@@ -1,16 +1,18 @@
 -- The moves of the slot's state: the task that is about to put the value writes it by two stores, before the first of which it is not written.
 use Rattle.std.proofs.Common.{◌≡◌, ℕ, zero, suc, Bool, true, false, inl, inr, List, [], ◌∷◌, ◌++◌, Option, Some, slice_get, slice_set, refl, sym, ap, ◌∙◌, subst}
 use Rattle.std.proofs.lemmas.Bool.{false≢true}
-use Rattle.std.proofs.lemmas.List.{append-nil}
-use Rattle.pagebook.specs.Pages.{Held, Moves}
+use Rattle.std.proofs.lemmas.List.{append-nil, append_assoc}
+use mathlib.Core.List.{IsPrefix}
+use Rattle.pagebook.specs.Pages.{Held, Moves, Sure}
+use Rattle.once_queue.specs.Word.{flags_of}
 use Rattle.once_core.specs.Steps.{next_at, release_place}
-use Rattle.once_world.specs.Record.{Entry}
+use Rattle.once_world.specs.Record.{Entry, Fill}
 use Rattle.once_world.specs.Book.{At, IsBook, Page, TaskState}
 use Rattle.once_world.specs.Machine.{AtPut, EndValue, UnderWay}
 use Rattle.once_world.proofs.Moment.Calls.{value_put}
 use Rattle.once_world.proofs.Moment.Pages.{set_here}
 use Rattle.once_world.proofs.Moment.Step.{told}
-use Rattle.once_world.proofs.Told.Value.{put_alone}
+use Rattle.once_world.proofs.Told.Value.{StandsIn, WasFilled, filled_ready, put_alone, ready_written}
 use Rattle.once_moments.specs.Kept.{Grew, IsKept, IsState, Sheet, hand, most, pages_in, sheet, sheets, writing_sheet}
 use Rattle.once_moments.proofs.Moves.Words.{set_same, some}
 
@@ -101,3 +103,23 @@ module _ (seen : List Entry) (t : ℕ) (x : TaskState) (by : Option ℕ) (at : x
           (refl, (log, pre, refl)),
         );
   }
+
+-- what stood in a log stands in a longer one
+stood : (e : Entry) (seen log : List Entry) → IsPrefix seen log → StandsIn e seen → StandsIn e log
+stood e seen log p s = (s.0, s.1 ++ p.0, sym p.1 ∙ ap (λ l. l ++ p.0) s.2 ∙ append_assoc s.0 (e ∷ s.1) p.0)
+
+-- the state of a slot that is written
+written_state : (k : ℕ) (slot : Bool) (ss : List Sheet) → slot ≡ true → IsState k slot ss → k ≡ 2
+written_state k slot ss w (inl s) = absurd (false≢true (sym s.1 ∙ w))
+written_state k slot ss w (inr (inl s)) = s.0
+written_state k slot ss w (inr (inr s)) = absurd (false≢true (sym s.1 ∙ w))
+
+-- whoever has seen a Fill knows that the slot is written
+pub filled_sure : (seen : List Entry) → WasFilled 0 seen → Sure IsKept seen 2 2
+filled_sure seen f = record {
+  is = λ ns n ss log k there pre.
+      let ps : List Page = pages_in ss in
+      let same : k.state ≡ n = state_at k.word k.has_put k.state n ns k.words_are there in
+      let ready : (flags_of k.word).ready ≡ true = filled_ready most k.word k.has_put k.slot ps log some k.book f.0 0 f.1 (stood (Fill f.0 0 f.1) seen log pre f.2) in
+      sym same ∙ written_state k.state k.slot ss (ready_written most k.word k.has_put k.slot ps log some k.book ready) k.state_is;
+}
