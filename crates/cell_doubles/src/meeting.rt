@@ -68,26 +68,29 @@ impl<R: Clock> Future for Blocking<'_, '_, R> {
     }
 }
 
-/// The same for a cell that owns it, which may not fail: 5, or 9.
+/// The same for a cell that owns it, which may not fail: 5, or 9. It keeps no runtime, so it spins for
+/// the flag and does not pause.
 #[derive(Drop)]
-pub struct Keeping<'r, 'm, R> {
-    rt: &'r R,
+pub struct Spinning<'m> {
     meeting: &'m Meeting,
 }
 
-impl<'r, 'm, R> Keeping<'r, 'm, R> {
-    pub fn new(rt: &'r R, meeting: &'m Meeting) -> Self {
-        Keeping { rt, meeting }
+impl<'m> Spinning<'m> {
+    pub fn new(meeting: &'m Meeting) -> Self {
+        Spinning { meeting }
     }
 }
 
-impl<R: Clock> Future for Keeping<'_, '_, R> {
+impl Future for Spinning<'_> {
     type Output = u64;
 
     fn poll(&mut self, _cx: &mut Context<'_>) -> Poll<u64> {
         self.meeting.begun.store(1, Ordering::SeqCst);
-        if was_set(self.rt, &self.meeting.flag) {
-            return Poll::Ready(5);
+        for _ in 0..100_000_000 {
+            if self.meeting.flag.load(Ordering::SeqCst) == 1 {
+                return Poll::Ready(5);
+            }
+            thread::yield_now();
         }
         Poll::Ready(9)
     }

@@ -28,26 +28,36 @@ struct Failing {
 
 // An init that fails once the other thread waits.
 #[derive(Drop)]
-struct FailsLate<'a, R> {
-    rt: &'a R,
+struct FailsLate<'a> {
     arrived: &'a AtomicU64,
 }
 
-impl<R: Wait> Future for FailsLate<'_, R> {
+impl Future for FailsLate<'_> {
     type Output = Result<u64, u64>;
 
     fn poll(&mut self, _cx: &mut Context<'_>) -> Poll<Result<u64, u64>> {
-        meet(self.rt, self.arrived, 2, 0);
-        meet(self.rt, self.arrived, 2, 1);
+        meet_in_init(self.arrived, 2);
+        meet_in_init(self.arrived, 4);
         Poll::Ready(Err(9))
     }
 }
 
+// Waits until so many came, but not for ever: an init keeps no handle.
+fn meet_in_init(arrived: &AtomicU64, all: u64) {
+    arrived.fetch_add(1, Ordering::SeqCst);
+    for _ in 0..100_000_000 {
+        if arrived.load(Ordering::SeqCst) >= all {
+            break;
+        }
+        thread::yield_now();
+    }
+}
+
 // Brings an init that fails to each cell: how many times it was told that error.
-fn fails<'a, R: Wait + AllocGlobal>(rt: &'a R, task: &MockTask, cells: &'a [Failing]) -> u64 {
+fn fails<R: Wait + AllocGlobal>(rt: &R, task: &MockTask, cells: &[Failing]) -> u64 {
     let mut told = 0u64;
     for Failing { cell, arrived } in cells {
-        let mut future = cell.get_or_try_init(rt, FailsLate { rt, arrived });
+        let mut future = cell.get_or_try_init(rt, FailsLate { arrived });
         if let Poll::Ready(Err(InitError::Init(9))) = task.poll(&mut future) {
             told = told.saturating_add(1);
         }
@@ -56,7 +66,7 @@ fn fails<'a, R: Wait + AllocGlobal>(rt: &'a R, task: &MockTask, cells: &'a [Fail
 }
 
 // Waits at each cell while the init of the other is polled, and then fills it as soon as it may.
-fn fills<'a, R: Wait + AllocGlobal>(rt: &'a R, task: &MockTask, cells: &'a [Failing]) {
+fn fills<R: Wait + AllocGlobal>(rt: &R, task: &MockTask, cells: &[Failing]) {
     for Failing { cell, arrived } in cells {
         let mut future = cell.get_or_init(rt, ready(4));
         meet(rt, arrived, 2, 0);

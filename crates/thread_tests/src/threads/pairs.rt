@@ -4,7 +4,7 @@ ghost use Rattle.std.specs.Prelude.{◌≡◌, IfSome};
 use async_once_cell::once::Known;
 use async_once_cell::world::Reply;
 use async_once_cell::{Lazy, LazyFuturePin, OnceCell};
-use cell_doubles::meeting::{Keeping, Meeting};
+use cell_doubles::meeting::{Meeting, Spinning};
 use cell_doubles::poll::heard;
 use cell_doubles::text::{SETTLED, shows};
 use futures::Future;
@@ -16,7 +16,7 @@ use std::test::Fail;
 use std::thread::{self, Threads};
 use std::time::{Clock, Duration};
 
-fn once<R>(task: &MockTask, future: &mut LazyFuturePin<'_, u64, Keeping<'_, '_, R>, R>) -> Reply
+fn once<R>(task: &MockTask, future: &mut LazyFuturePin<'_, u64, Spinning<'_>, R>) -> Reply
 where
     R: Wait + AllocGlobal + Clock,
 {
@@ -24,7 +24,7 @@ where
 }
 
 // A token that was told the cell's value, where that is set.
-fn told<'a, R: Clock>(lazy: &'a Lazy<u64, Keeping<'_, '_, R>>) -> Option<Known<'a, u64>>
+fn told<'a>(lazy: &'a Lazy<u64, Spinning<'_>>) -> Option<Known<'a, u64>>
     ensures { IfSome result (λ token. token.cell ≡ lazy.now) }
 {
     let mut token = lazy.token();
@@ -36,7 +36,7 @@ fn told<'a, R: Clock>(lazy: &'a Lazy<u64, Keeping<'_, '_, R>>) -> Option<Known<'
 fn answers<'a, R>(
     rt: &'a R,
     task: &MockTask,
-    lazy: &'a Lazy<u64, Keeping<'_, '_, R>>,
+    lazy: &'a Lazy<u64, Spinning<'_>>,
 ) -> Option<Known<'a, u64>>
 where
     R: Wait + AllocGlobal + Clock,
@@ -53,7 +53,7 @@ where
 fn waits<'a, R>(
     rt: &'a R,
     task: &MockTask,
-    lazy: &'a Lazy<u64, Keeping<'_, '_, R>>,
+    lazy: &'a Lazy<u64, Spinning<'_>>,
     meeting: &Meeting,
 ) -> Option<Known<'a, u64>>
 where
@@ -82,7 +82,7 @@ where
 fn both_told<'a, R>(
     rt: &'a R,
     (first, second): (&MockTask, &MockTask),
-    lazy: &'a Lazy<u64, Keeping<'_, '_, R>>,
+    lazy: &'a Lazy<u64, Spinning<'_>>,
     meeting: &Meeting,
 ) -> bool
 where
@@ -110,7 +110,7 @@ where
 fn lazy_waits_for_another_thread(rt: HostRuntime) -> Result<(), Fail> {
     let meeting = Meeting::new();
     let tasks = (MockTask::new(&rt)?, MockTask::new(&rt)?);
-    let lazy = Lazy::new(Keeping::new(&rt, &meeting));
+    let lazy = Lazy::new(Spinning::new(&meeting));
     let are_told = both_told(&rt, (&tasks.0, &tasks.1), &lazy, &meeting);
     assert!(rt; are_told && shows(&rt, &lazy, SETTLED));
     Ok(())
