@@ -72,6 +72,7 @@ state_stays k slot ys h ss a (inr (inr s)) = inr (inr (s.0, s.1, s.2, s.3, s.4, 
 word_at : (w put k n : ℕ) (ns : List ℕ) → ns ≡ w ∷ put ∷ k ∷ [] → slice_get ns 0 ≡ Some n → w ≡ n
 word_at w put k n ns e at = let same : ◌≡◌ {A = Option ℕ} (Some w) (Some n) = ap (λ xs. slice_get xs 0) (sym e) ∙ at in cc
 
+-- and the one that says whether a queue was put
 put_at : (w put k n : ℕ) (ns : List ℕ) → ns ≡ w ∷ put ∷ k ∷ [] → slice_get ns 1 ≡ Some n → put ≡ n
 put_at w put k n ns e at = let same : ◌≡◌ {A = Option ℕ} (Some put) (Some n) = ap (λ xs. slice_get xs 1) (sym e) ∙ at in cc
 

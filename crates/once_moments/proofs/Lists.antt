@@ -88,6 +88,7 @@ module _ {W : Type 0} (whose : W → ℕ) where
     refused_list v false false = sym (without_named whose k xs)
     refused_list v false true = refl
 
+    -- and the ticket
     refused_ticket : (r t : Bool) → cond (cond r false (not t)) None k
         ≡ ticket_left (list_answer (queue_state_by true r t) false) (listed_ticket (list_answer (queue_state_by true r t) false) k (named whose xs))
     refused_ticket true t = refl

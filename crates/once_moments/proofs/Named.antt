@@ -43,6 +43,7 @@ module _ {W : Type 0} (whose : W → ℕ) where
   uncalled_by (Some None) = refl
   uncalled_by (Some (Some w)) = refl
 
+  -- so of the own listing
   pub uncalled_named : (k : Option ℕ) (xs : List (Listing W)) → is_some (option_flatten (own_listing k (named whose xs))) ≡ is_some (option_flatten (own_listing k xs))
   uncalled_named k xs = ap (λ o. is_some (option_flatten o)) (own_named k xs) ∙ uncalled_by (own_listing k xs)
 

@@ -1,5 +1,6 @@
 -- The rule of a cell that threads share: what its words, its pages and its log are between any two of their steps.
-use Rattle.std.specs.Prelude.{◌≡◌, ◌<◌, ◌^◌, ◌⊎◌, ◌↔◌, ℕ, suc, Bool, true, false, nat_lt, List, [], ◌∷◌, Option, Some, None, reverse, slice_get}
+use Rattle.std.specs.Prelude.{◌≡◌, ◌<◌, ◌^◌, ◌⊎◌, ◌↔◌, ℕ, suc, Bool, true, false, nat_lt}
+use Rattle.std.specs.Prelude.{List, [], ◌∷◌, Option, Some, None, reverse, slice_get}
 use Rattle.once_queue.specs.Numbers.{bit}
 use Rattle.once_queue.specs.Word.{flags_of}
 use Rattle.once_world.specs.Record.{Answer, RanValue, Entry, Once}

@@ -54,6 +54,7 @@ module _ (seen : List Entry) (made : ℕ) (door : Option ℕ) (head : Bool) (xs 
   abbrev pub look_next : ℕ → Option ℕ → Bool → ℕ → Next ℕ ℕ
   look_next q k granted n = after_look (looked k n) (cond granted (Some x.waker) None) q k
 
+  -- a load, with the lock
   pub look_moves : (q : ℕ) (k : Option ℕ) (granted : Bool) → x.step ≡ UnderWay (AtLook q k)
       → Moves IsKept (seen, sheets (locked made door head xs t x)) 0 (λ n. n)
       (λ n v. Unit {0} × Leaves seen (locked made door head xs t x) (pages_after made door (head_after (looked k n) head) (looked_list (looked k n) k xs) (look_next q k granted n))
@@ -75,6 +76,7 @@ module _ (seen : List Entry) (made : ℕ) (door : Option ℕ) (head : Bool) (xs 
   abbrev pub list_next : ℕ → Option ℕ → Bool → ℕ → Next ℕ ℕ
   list_next q k granted n = after_list (listed k granted n) q (listed_ticket (listed k granted n) k xs)
 
+  -- a load, with the lock
   pub list_moves : (q : ℕ) (k : Option ℕ) (w : ℕ) (granted : Bool) → x.step ≡ UnderWay (AtList q k w)
       → Moves IsKept (seen, sheets (locked made door head xs t x)) 0 (λ n. n)
       (λ n v. Unit {0} × Leaves seen (locked made door head xs t x) (pages_after made door (head_after (listed k granted n) head) (listed_list (listed k granted n) k w xs) (list_next q k granted n))
@@ -107,6 +109,7 @@ module _ (seen : List Entry) (made : ℕ) (door : Option ℕ) (head : Bool) (xs 
   abbrev pub passing : ℕ → ℕ → Bool
   passing k n = passes_turn (shows_free (flags_of n) head) k xs
 
+  -- a load, with the lock
   pub leave_moves : (q k : ℕ) (e : Ending) → x.step ≡ UnderWay (AtLeave q k e)
       → Moves IsKept (seen, sheets (locked made door head xs t x)) 0 (λ n. n)
       (λ n v. Unit {0} × Leaves seen (locked made door head xs t x) (pages_after made door head (left_list (passing k n) k xs) (next_at (AtCountOut e)))

@@ -58,6 +58,7 @@ module _ (seen : List Entry) (t : ℕ) (x : TaskState) where
   quick_by n put slot pages log book pen at true e = quick_won most n put slot pages log t x some book pen at (eqb-true n 0 e)
   quick_by n put slot pages log book pen at false e = quick_lost most n put slot pages log t x some book pen at (unlike n 0 e)
 
+  -- the exchange, done or not
   pub quick_moves : x.step ≡ UnderWay AtTryQuick
       → Moves IsKept (seen, sheets (hand t x)) 0 (λ n. either (n == 0) (2 ^ 62) n)
       (λ n v. Unit {0} × Leaves seen (hand t x) (goes_to x (after_quick (n == 0))) (told t x.kept (after_quick (n == 0)) (claim_entries (n == 0) t)) v)
@@ -81,6 +82,7 @@ module _ (seen : List Entry) (t : ℕ) (x : TaskState) where
   full_told q n true = []
   full_told q n false = told t x.kept (next_in false (flags_of n).ready q) []
 
+  -- by whether there is room
   full_by : (q n put : ℕ) (slot : Bool) (pages : List Page) (log : List Entry) → IsBook most n put slot pages log → slice_get pages (suc (suc t)) ≡ Some (At x)
       → x.step ≡ UnderWay (AtCountIn q) → (b : Bool) → nat_lt (flags_of n).count most ≡ b
       → IsBook most n put slot (put_on (full_page q n b) (hand t x) pages) (log ++ full_told q n b)
@@ -88,6 +90,7 @@ module _ (seen : List Entry) (t : ℕ) (x : TaskState) where
       subst (λ ps. IsBook most n put slot ps (log ++ [])) (sym (set_same pages (suc (suc t)) (At x) pen)) (subst (IsBook most n put slot pages) (sym (append-nil log)) book)
   full_by q n put slot pages log book pen at false e = count_full most n put slot pages log t x some book pen q at (ltb-false (flags_of n).count most e)
 
+  -- the load before the exchange
   pub full_moves : (q : ℕ) → x.step ≡ UnderWay (AtCountIn q)
       → Moves IsKept (seen, sheets (hand t x)) 0 (λ n. n)
       (λ n v. Unit {0} × Leaves seen (hand t x) (full_page q n (nat_lt (flags_of n).count most)) (full_told q n (nat_lt (flags_of n).count most)) v)
@@ -99,10 +102,12 @@ module _ (seen : List Entry) (t : ℕ) (x : TaskState) where
   in_page q old true = goes_to x (after_in (flags_of old).ready q)
   in_page q old false = At x ∷ []
 
+  -- who counts itself in records nothing
   in_told : (r : Bool) (q : ℕ) → told t x.kept (after_in r q) [] ≡ []
   in_told true q = refl
   in_told false q = refl
 
+  -- by whether the word is still the one that was loaded
   in_by : (q old n put : ℕ) (slot : Bool) (pages : List Page) (log : List Entry) → IsBook most n put slot pages log → slice_get pages (suc (suc t)) ≡ Some (At x)
       → x.step ≡ UnderWay (AtCountIn q) → (flags_of old).count < most → (b : Bool) → (n == old) ≡ b
       → IsBook most (either b (old + 1) n) put slot (put_on (in_page q old b) (hand t x) pages) (log ++ [])
@@ -113,6 +118,7 @@ module _ (seen : List Entry) (t : ℕ) (x : TaskState) where
   in_by q old n put slot pages log book pen at l false e =
       subst (λ ps. IsBook most n put slot ps (log ++ [])) (sym (set_same pages (suc (suc t)) (At x) pen)) (subst (IsBook most n put slot pages) (sym (append-nil log)) book)
 
+  -- the exchange, done or not
   pub in_moves : (q old : ℕ) → x.step ≡ UnderWay (AtCountIn q) → (flags_of old).count < most
       → Moves IsKept (seen, sheets (hand t x)) 0 (λ n. either (n == old) (old + 1) n) (λ n v. Unit {0} × Leaves seen (hand t x) (in_page q old (n == old)) [] v)
   in_moves q old at l = moves seen (hand t x) (λ n. either (n == old) (old + 1) n) (λ n. in_page q old (n == old)) (λ n. []) (λ n. Unit {0})
@@ -125,6 +131,7 @@ module _ (seen : List Entry) (t : ℕ) (x : TaskState) where
   fast_by e n put slot pages log book pen at true i = fast_won most n put slot pages log t x some book pen e at (eqb-true n (2 ^ 62) i)
   fast_by e n put slot pages log book pen at false i = fast_lost most n put slot pages log t x some book pen e at (unlike n (2 ^ 62) i)
 
+  -- the exchange, done or not
   pub fast_moves : (e : Ending) → x.step ≡ UnderWay (AtFast e)
       → Moves IsKept (seen, sheets (hand t x)) 0 (λ n. either (n == 2 ^ 62) (cond (is_value e) (2 ^ 63) 0) n)
       (λ n v. Unit {0} × Leaves seen (hand t x) (goes_to x (after_fast (n == 2 ^ 62) (is_value e) e)) (told t x.kept (after_fast (n == 2 ^ 62) (is_value e) e) (freed_entries (n == 2 ^ 62) t x.kept)) v)
@@ -159,6 +166,7 @@ module _ (seen : List Entry) (t : ℕ) (x : TaskState) where
   none_told e true = told t x.kept (next_end e) []
   none_told e false = []
 
+  -- by whether a queue was ever put
   none_by : (e : Ending) (n k : ℕ) (slot : Bool) (pages : List Page) (log : List Entry) → IsBook most n k slot pages log → slice_get pages (suc (suc t)) ≡ Some (At x)
       → x.step ≡ UnderWay (AtDoorTake e) → (b : Bool) → (k == 0) ≡ b
       → IsBook most n k slot (put_on (none_page e b) (hand t x) pages) (log ++ none_told e b)
@@ -166,6 +174,7 @@ module _ (seen : List Entry) (t : ℕ) (x : TaskState) where
   none_by e n k slot pages log book pen at false i =
       subst (λ ps. IsBook most n k slot ps (log ++ [])) (sym (set_same pages (suc (suc t)) (At x) pen)) (subst (IsBook most n k slot pages) (sym (append-nil log)) book)
 
+  -- the load of the word that says so
   pub none_moves : (e : Ending) → x.step ≡ UnderWay (AtDoorTake e)
       → Moves IsKept (seen, sheets (hand t x)) 1 (λ k. k) (λ k v. Leaves seen (hand t x) (none_page e (k == 0)) (none_told e (k == 0)) v)
   none_moves e at = put_moves seen (hand t x) (λ k. k) (λ k. none_page e (k == 0)) (λ k. none_told e (k == 0))

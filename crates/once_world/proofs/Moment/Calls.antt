@@ -79,6 +79,7 @@ module _ (limit n put : ℕ) (slot : Bool) (pages : List Page) (log : List Entry
       )
 
   module _ (t : ℕ) (x : Task) (pen : slice_get pages (suc (suc t)) ≡ Some (At x)) where
+    -- what holds at the moment
     abbrev m : Moment limit n put slot pages log t x
     m = moment limit n put slot pages log t x some book pen
 

@@ -35,6 +35,7 @@ module _ (limit n put : ℕ) (slot : Bool) (pages : List Page) (log : List Entry
   abbrev c : SharedState
   c = book.0.shared
 
+  -- what holds at the moment
   abbrev m : Moment limit n put slot pages log t x
   m = moment limit n put slot pages log t x some book pen
 

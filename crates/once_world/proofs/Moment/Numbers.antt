@@ -48,23 +48,27 @@ pub word_fast : (n : ℕ) (v : Bool) → n ≡ 2 ^ 62 → flags_of (cond v (2 ^ 
 word_fast n true e = rw e refl
 word_fast n false e = rw e refl
 
--- none of these leaves the range
+-- none of these leaves the range: the addition
 pub in_within : (n : ℕ) → n < 2 ^ 64 → (flags_of n).count < 2 ^ 62 - 1 → n + 1 < 2 ^ 64
 in_within n m l = omega arith
 
+-- the subtraction
 pub out_within : (n : ℕ) → n < 2 ^ 64 → n - 1 < 2 ^ 64
 out_within n m = omega arith
 
+-- the exchange
 pub fast_within : (v : Bool) → cond v (2 ^ 63) 0 < 2 ^ 64
 fast_within true = omega arith
 fast_within false = omega arith
 
+-- the release
 pub freed_within : (n : ℕ) → n % 2 ^ 64 < 2 ^ 64
 freed_within n = omega arith
 
--- the addition and the subtraction of one do not wrap
+-- the addition of one does not wrap
 pub in_wraps : (n : ℕ) → n < 2 ^ 64 → (flags_of n).count < 2 ^ 62 - 1 → (n + 1) % 2 ^ 64 ≡ n + 1
 in_wraps n m l = omega arith
 
+-- nor does the subtraction
 pub out_wraps : (n : ℕ) → n < 2 ^ 64 → 0 < (flags_of n).count → (n + (2 ^ 64 - 1)) % 2 ^ 64 ≡ n - 1
 out_wraps n m l = omega arith

@@ -37,13 +37,15 @@ pub past_end : {X : Type 0} (xs : List X) → slice_get xs (length xs) ≡ None
 past_end [] = refl
 past_end (x ∷ xs) = past_end xs
 
--- the door's page, the queue's and those of the tasks are not each other
+-- the door's page is not the queue's
 pub zero_one : ◌≢◌ {A = ℕ} 0 1
 zero_one e = let no : ⊥ = omega arith in no
 
+-- nor is the door's one of a task
 pub zero_task : (t : ℕ) → 0 ≢ suc (suc t)
 zero_task t e = let no : ⊥ = omega arith in no
 
+-- nor the queue's
 pub one_task : (t : ℕ) → 1 ≢ suc (suc t)
 one_task t e = let no : ⊥ = omega arith in no
 

@@ -18,13 +18,15 @@ module _ (limit n put : ℕ) (slot : Bool) (pages : List Page) (log : List Entry
   abbrev c : SharedState
   c = book.0.shared
 
+  -- what holds at the moment
   abbrev m : Moment limit n put slot pages log t x
   m = moment limit n put slot pages log t x some book pen
 
-  -- the count and the ready flag of the word
+  -- the count of the word
   count_is : (flags_of n).count ≡ c.count
   count_is = ap (λ (f : Flags). f.count) book.1.word_is
 
+  -- and its ready flag
   ready_is : (flags_of n).ready ≡ c.ready
   ready_is = ap (λ (f : Flags). f.ready) book.1.word_is
 

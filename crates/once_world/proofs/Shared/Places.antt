@@ -60,19 +60,23 @@ module _ (limit t w : ℕ) (k : Answer) (c : SharedState) (h : List Entry) (shar
   like : (c' : SharedState) → c'.ready ≡ c.ready → c'.door ≡ c.door → c'.queues ≡ c.queues → (c.listings ≡ [] → c'.listings ≡ []) → OneQueue c'
   like c' r d q l = still_one c c' queue r d q l
 
+  -- AtStart
   at_start : (r f : Bool) → StepKeeps false false c (start_step r f c t k)
   at_start true f = keeps queue tt z m refl refl
   at_start false true = keeps queue tt z m refl refl
   at_start false false = keeps queue tt z m refl refl
 
+  -- AtTryQuick
   at_quick : (won : Bool) → StepKeeps false false c (quick_step won c t k)
   at_quick true = keeps (like (record c { quick = true }) refl refl refl (λ l. l)) tt z m refl refl
   at_quick false = keeps queue tt z m refl refl
 
+  -- AtDoorGet
   at_get : (d : Option ℕ) → StepKeeps false false c (door_step d c t k)
   at_get (Some q) = keeps queue tt z m refl refl
   at_get None = keeps queue tt z m refl refl
 
+  -- AtDoorPut
   at_door_put : (g : Bool) (d : Option ℕ) → c.door ≡ d → StepKeeps false false c (put_step g d c t k)
   at_door_put false d e = keeps queue tt z m refl refl
   at_door_put true (Some q) e = keeps queue tt z m refl refl
@@ -85,6 +89,7 @@ module _ (limit t w : ℕ) (k : Answer) (c : SharedState) (h : List Entry) (shar
       }
       tt z m refl refl
 
+  -- AtCountIn
   at_in : (b r : Bool) (q : ℕ) → c.ready ≡ r → (c.door ≡ Some q) ⊎ (c.ready ≡ true) → StepKeeps false false c (in_step b r c t k q)
   at_in true true q e a = keeps (like (record c { count = suc c.count }) refl refl refl (λ l. l)) tt z m refl refl
   at_in true false q e a = keeps (like (record c { count = suc c.count }) refl refl refl (λ l. l))
@@ -92,6 +97,7 @@ module _ (limit t w : ℕ) (k : Answer) (c : SharedState) (h : List Entry) (shar
   at_in false true q e a = keeps queue tt z m refl refl
   at_in false false q e a = keeps queue tt z m refl refl
 
+  -- AtWaitLoad
   at_load : (r : Bool) (q : ℕ) (n : Option ℕ) → q ≡ 1 → StepKeeps false false c (load_step r c t k q n)
   at_load true q n f = keeps queue tt z m refl refl
   at_load false q n f = keeps queue f z m refl refl
@@ -100,6 +106,7 @@ module _ (limit t w : ℕ) (k : Answer) (c : SharedState) (h : List Entry) (shar
   claimed : (n : Option ℕ) → OneQueue (claim_shared c n)
   claimed n = like (claim_shared c n) refl refl refl (without_none n c.listings)
 
+  -- AtLook
   at_look : (d r f b g : Bool) (q : ℕ) (n : Option ℕ) → q ≡ 1 → StepKeeps false false c (look_step (queue_state_by d r f) b g c t w k q n)
   at_look true true f b g q n i = keeps queue tt z m refl refl
   at_look true false false b g q n i = keeps (claimed n) i z m refl refl
@@ -109,6 +116,7 @@ module _ (limit t w : ℕ) (k : Answer) (c : SharedState) (h : List Entry) (shar
   at_look false r f b true q n i = keeps queue i z m refl refl
   at_look false r f b false q n i = keeps queue (leave_first q n EndMemory i) z m (leave_unwritten q n EndMemory) refl
 
+  -- AtList
   at_list : (d r f g : Bool) (q v : ℕ) (n : Option ℕ) → c.ready ≡ r → c.door ≡ Some q → q ≡ 1 → StepKeeps false false c (list_step (queue_state_by d r f) g c t v k q n)
   at_list true true f g q v n e d i = keeps queue tt z m refl refl
   at_list true false false g q v n e d i = keeps (claimed n) i z m refl refl
@@ -123,6 +131,7 @@ module _ (limit t w : ℕ) (k : Answer) (c : SharedState) (h : List Entry) (shar
   at_list true false true false q v n e d i = keeps queue (leave_first q n EndMemory i) z m (leave_unwritten q n EndMemory) refl
   at_list false r f g q v n e d i = keeps queue i z m refl refl
 
+  -- AtRun
   at_run : (a : Answer) (by : Option ℕ) → IsUnnamed a → HoldsByFirst by → StepKeeps false false c (run_step a (run_shared c) t k by)
   at_run RanPending by j i = keeps (like (run_shared c) refl refl refl (λ l. l)) i z m refl refl
   at_run (RanValue v) by j i = keeps (like (run_shared c) refl refl refl (λ l. l)) i z j refl refl
@@ -138,6 +147,7 @@ module _ (limit t w : ℕ) (k : Answer) (c : SharedState) (h : List Entry) (shar
     slot = record { onward = λ _. inl (release_written by EndValue); only = λ _. refl; ready_by = λ r. inl r; up = λ r. r };
   }
 
+  -- AtFast
   at_fast : (won v : Bool) (e : Ending) → c.ready ≡ false → is_quick_bit (word_of c) ≡ won → is_value e ≡ v → StepKeeps false (is_value e) c (fast_step won v c t k e)
   at_fast true true e r x i = record {
     queue = record {
@@ -154,6 +164,7 @@ module _ (limit t w : ℕ) (k : Answer) (c : SharedState) (h : List Entry) (shar
   at_fast true false e r x i = keeps (like (record c { quick = false }) refl refl refl (λ l. l)) tt z m (sym i) refl
   at_fast false v e r x i = keeps queue tt z m refl refl
 
+  -- AtDoorAgain
   at_again : (d : Option ℕ) (e : Ending) (q : ℕ) → c.ready ≡ false → c.door ≡ d → d ≡ Some q → StepKeeps false (is_value e) c (again_step d c t k e)
   at_again (Some p) e q r d i = keeps queue (door_first c p queue r d) z m refl refl
   at_again None e q r d i = absurd (none_some q i)
@@ -165,14 +176,17 @@ module _ (limit t w : ℕ) (k : Answer) (c : SharedState) (h : List Entry) (shar
   freed true false r = record { set_empty = λ y. absurd (false≢true y); bare = λ d. ap call_first (queue.bare d); first = λ _. queue.first r; unput = queue.unput }
   freed false false r = record { set_empty = λ y. absurd (false≢true y); bare = λ d. ap call_first (queue.bare d); first = λ _. queue.first r; unput = queue.unput }
 
+  -- the value stays
   freed_value : (b v : Bool) → (release_flags b v c).value ≡ 0
   freed_value true v = z
   freed_value false v = z
 
+  -- the ready flag says whether it is set
   freed_ready : (b v : Bool) → (release_flags b v c).ready ≡ v
   freed_ready true v = refl
   freed_ready false v = refl
 
+  -- AtRelease
   at_release : (d : Bool) (e : Ending) → d ≡ true → c.ready ≡ false → StepKeeps false (is_value e) c (release_step d c t k e)
   at_release true e i r = record {
     queue = freed c.quick (is_value e) r;
@@ -188,10 +202,12 @@ module _ (limit t w : ℕ) (k : Answer) (c : SharedState) (h : List Entry) (shar
   }
   at_release false e i r = absurd (false≢true i)
 
+  -- AtLeave
   at_leave : (d : Bool) (n : ℕ) (e : Ending) → StepKeeps false false c (leave_step d c t k n e)
   at_leave true n e = keeps (like (record c { listings = left_list (is_passing c n) n c.listings }) refl refl refl (left_none (is_passing c n) n c.listings)) tt z m refl refl
   at_leave false n e = keeps queue tt z m refl refl
 
+  -- AtCountOut
   at_out : (last : Bool) (e : Ending) → StepKeeps false false c (out_step last (out_shared c) t k e)
   at_out true e = keeps (like (out_shared c) refl refl refl (λ l. l)) tt z m refl refl
   at_out false e = keeps (like (out_shared c) refl refl refl (λ l. l)) tt z m refl refl

@@ -25,6 +25,7 @@ moves_unowned limit some (Refuse t ∷ before) s = let w : World = world_by limi
 pub fits_of : (limit : ℕ) → 0 < limit → (w : World) → TasksReach limit w → Fits Once limit w
 fits_of limit some w r = subst (Fits Once limit) (sym r.2) (moves_fit limit some r.0)
 
+-- and so does what is known as no owner called
 pub unowned_of : (limit : ℕ) → 0 < limit → (w : World) → TasksReach limit w → Unowned w
 unowned_of limit some w r = subst Unowned (sym r.2) (moves_unowned limit some r.0 r.1)
 

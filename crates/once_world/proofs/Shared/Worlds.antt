@@ -155,6 +155,7 @@ begun_unowned w t k x own c found true = put_unowned t (record x { waker = k; st
     (poll_enters x.step (enters_of t w x c found)) c.value (unnamed_of t w x c found) (own, c.plain)
 begun_unowned w t k x own c found false = c
 
+-- by whether there is such a task
 polled_unowned : (w : World) (t k : ℕ) → k ≡ t → Unowned w → (o : Option Task) → w.tasks t ≡ o → Unowned (poll_world w t k o)
 polled_unowned w t k own c None is = c
 polled_unowned w t k own c (Some x) is = begun_unowned w t k x own c is (is_resting x.step)
@@ -165,6 +166,7 @@ drop_unowned w t x c found true = put_unowned t (record x { step = step_of_drop 
     (drop_enters x.step (enters_of t w x c found)) c.value (unnamed_of t w x c found) (dropped_plain t (step_of_drop x.step) w.history c.plain)
 drop_unowned w t x c found false = c
 
+-- by whether there is such a task
 dropped_unowned : (w : World) (t : ℕ) → Unowned w → (o : Option Task) → w.tasks t ≡ o → Unowned (drop_world w t o)
 dropped_unowned w t c None is = c
 dropped_unowned w t c (Some x) is = drop_unowned w t x c is (is_resting x.step)
@@ -189,11 +191,13 @@ step_unowned limit w t a g x (UnderWay p) j f c found at call =
 step_unowned limit w t a g x (Resting r) j f c found at call = absurd (false≢true call)
 step_unowned limit w t a g x Finished j f c found at call = absurd (false≢true call)
 
+-- by whether a call of the task is under way
 goes_unowned : (limit : ℕ) (w : World) (t : ℕ) (a : Answer) (g : Bool) (x : Task) → IsUnnamed a → Fits Once limit w → Unowned w → w.tasks t ≡ Some x
     → (r : Bool) → in_call x.step ≡ r → Unowned (go_world_by r false limit w t a g x)
 goes_unowned limit w t a g x j f c found false call = c
 goes_unowned limit w t a g x j f c found true call = step_unowned limit w t a g x x.step j f c found refl call
 
+-- by whether there is such a task
 gone_unowned : (limit : ℕ) (w : World) (t : ℕ) (a : Answer) (g : Bool) → IsUnnamed a → Fits Once limit w → Unowned w
     → (o : Option Task) → w.tasks t ≡ o → Unowned (go_world false limit w t a g o)
 gone_unowned limit w t a g j f c None is = c
