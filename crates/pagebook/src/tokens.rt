@@ -1,6 +1,7 @@
 // What a thread knows of a book, and which pages it may change. Neither has bytes.
 ghost use Rattle.core.specs.Prelude.{◌≡◌, ℕ, List, [], ◌++◌, take, drop};
 ghost use mathlib.Core.List.{IsPrefix};
+ghost use mathlib.Core.Logic.{◌⊎◌};
 ghost use base.Stored.{coded_list};
 ghost use denote.Sharing.{said};
 ghost use Rattle.pagebook.specs.Pages.{Book, book_coded, Held, held_coded, Notes};
@@ -58,6 +59,17 @@ impl<E, P, R: Rule<E, P>> Seen<E, P, R> {
         ensures log { IsPrefix self.old.log self.new.log × IsPrefix other.now.log self.new.log }
         ensures rule { (ns : List ℕ) × (ps : List P) × R.holds ns ps self.new.log }
     {}
+
+    /// Of two logs that were seen of one book, one is a beginning of the other. It does nothing.
+    ///
+    /// Asked for: `other` is of the same book.
+    pub fn agrees(&self, other: &Seen<E, P, R>)
+        requires { other.now.book ≡ self.now.book }
+        ensures { IsPrefix self.now.log other.now.log ⊎ IsPrefix other.now.log self.now.log }
+    {
+        let mut both = self.again();
+        both.learn(other);
+    }
 
     /// A hand with no pen, for a step that changes no page, or that makes the first page of its hand.
     pub fn no_pens(&self) -> Pens<P>

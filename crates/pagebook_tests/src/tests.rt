@@ -65,6 +65,7 @@ fn a_shelf_is_filled_and_both_find_the_value(rt: HostRuntime) -> Result<(), Fail
     let front = filler.seen.again();
     let before = two_looks(&rt, &shelf, &front);
     let (_token, seen) = shelf.fill(7, filler);
+    front.agrees(&seen);
     let after = two_looks(&rt, &shelf, &seen);
     assert_eq!(rt; (before, after), ((None, None), (Some(7), Some(7))));
     Ok(())

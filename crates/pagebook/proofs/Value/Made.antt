@@ -1,14 +1,14 @@
 -- The values of the machine that words and tokens are, and how they are made.
-use Rattle.std.proofs.Common.{◌≡◌, ℕ, ◌^◌, ◌<◌, List, [], ◌∷◌, ◌++◌, refl, ap, ◌∙◌, w64}
+use Rattle.std.proofs.Common.{ℕ, ◌^◌, ◌<◌, List, [], ◌∷◌, refl, w64}
 use seplogic.Ra.Ura.{Ura}
-use mir.Val.{Val, vint, vstruct, vcons, vnil, of_list}
+use mir.Val.{Val, vint, vstruct, vcons, vnil}
 use base.Logic.{ent, emp}
 use base.Fml.{ftrue, fsep, fex}
 use contract.Monad.{fact_i}
 use types.Logic.{Logic, sem}
 use types.Kit.{‵, ◌$◌, ◌∵◌, !, qed, fjoin, fpack, use0, done}
 use denote.RattleType.{RattleType}
-use denote.Laws.{Is, Typed}
+use denote.Laws.{Typed}
 use denote.Shadow.{makes_shadow}
 use denote.Struct.Struct.{Struct}
 use Rattle.core.specs.contracts.marker.PhantomData as marker
@@ -27,11 +27,7 @@ module _ (X : RattleType) where
   abbrev pub Token : RattleType
   Token = Struct record { name = []; args = []; types = []; fields = marker.the_row X ∷ [] }
 
-  -- it has one value
-  pub token_told : (vs : List Val) → Is Token (record {}, tt) vs → vs ≡ token_value ∷ []
-  token_told vs is = is.1.0 ∙ ap (λ (ws : List Val). vstruct (of_list (ws ++ [])) ∷ []) is.1.1.0.1.0
-
-  -- and whoever likes has one, since it has no bytes
+  -- whoever likes has one, since it has no bytes
   pub token_made : {M : Type 1} {𝓤 : Ura M} (𝓛 : Logic 𝓤)
       → ent 𝓤 (emp 𝓤) (sem 𝓛 (Token.own_val (record {}, tt) (token_value ∷ [])))
   token_made 𝓛 = makes_shadow 𝓛 (Token.own_val (record {}, tt) (token_value ∷ []))

@@ -1,6 +1,6 @@
 -- Each step of the shelf keeps its rule, and who has seen the entry is sure of the value.
 use Rattle.std.proofs.Common.{◌≡◌, ℕ, List, [], ◌∷◌, ◌++◌, set, slice_get, refl, sym, ap, ◌∙◌, subst, arith, append-nil, Some}
-use Rattle.pagebook.specs.Pages.{Held, Moves, Sure, Agrees}
+use Rattle.pagebook.specs.Pages.{Held, Moves, Agrees}
 use Rattle.pagebook.proofs.Rows.{same_there}
 use Rattle.pagebook_uses.specs.declared.shelf.Filled.{Filled}
 use Rattle.pagebook_uses.specs.declared.shelf.Stage.{Stage}
@@ -74,16 +74,3 @@ looks seen h is = subst (λ (i : Held Stage). Moves IsShelf (seen, i) 0 (λ n. n
 abbrev IsEmptyLog : List Filled → Type 0
 IsEmptyLog [] = Unit {0}
 IsEmptyLog (x ∷ xs) = ⊥
-
--- whoever has seen the entry knows that the slot is full
-pub surely_full : (seen : List Filled) → seen ≡ filled ∷ [] → Sure IsShelf seen 1 2
-surely_full seen is = record {
-  is = λ ns n ps log kept at pre. state_found ns ps log kept n at ∙ full kept.stage
-      (ap (λ (l : List Filled). l ++ pre.0) (sym is) ∙ (pre.1 ∙ kept.entries));
-}
-  where
-    full : (s : Stage) {more : List Filled} → filled ∷ more ≡ log_of s → state_of s ≡ 2
-    full Empty e = absurd (subst IsEmptyLog (sym e) tt)
-    full Writing e = absurd (subst IsEmptyLog (sym e) tt)
-    full Full e = refl
-    full Open e = refl
