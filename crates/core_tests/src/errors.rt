@@ -2,7 +2,9 @@
 
 use crate::left::{left_by, meet};
 use async_once_cell::OnceCell;
-use async_once_cell::once::InitError;
+use async_once_cell::once::TryInitFuture;
+use async_once_cell::world::Reply;
+use cell_doubles::poll::heard;
 use futures::Future;
 use futures::future::ready;
 use futures::task::{Context, Poll};
@@ -53,12 +55,20 @@ fn meet_in_init(arrived: &AtomicU64, all: u64) {
     }
 }
 
+// Polls a future of a cell by this task.
+fn polled<R>(task: &MockTask, future: &mut TryInitFuture<'_, u64, u64, FailsLate<'_>, R>) -> Reply
+where
+    R: Wait + AllocGlobal,
+{
+    task.enter(|cx| heard(Future::poll(future, cx)))
+}
+
 // Brings an init that fails to each cell: how many times it was told that error.
 fn fails<R: Wait + AllocGlobal>(rt: &R, task: &MockTask, cells: &[Failing]) -> u64 {
     let mut told = 0u64;
     for Failing { cell, arrived } in cells {
         let mut future = cell.get_or_try_init(rt, FailsLate { arrived });
-        if let Poll::Ready(Err(InitError::Init(9))) = task.poll(&mut future) {
+        if polled(task, &mut future) == Reply::Error(9) {
             told = told.saturating_add(1);
         }
     }
