@@ -3,6 +3,7 @@ ghost use Rattle.std.specs.Prelude.{◌≡◌};
 
 use keyed_mutex::{Key, Keyed, KeyedMutex};
 use pagebook::{Pens, Seen, Slot, Word, Written};
+use pagebook_uses::first::race;
 use pagebook_uses::hall::{Arrival, Desk, HallRule, Page, visits};
 use pagebook_uses::shelf::{Filled, OneFill, Shelf, Stage, fill_and_look, two_looks};
 use pagebook_uses::tickets::draw_apart;
@@ -29,6 +30,13 @@ fn what_is_ghost_has_no_bytes(rt: HostRuntime) -> Result<(), Fail> {
     let slot = size_of::<Slot<u64, Filled, Stage, OneFill>>() == size_of::<(u64, Option<u64>)>();
     let lock = size_of::<KeyedMutex<Desk>>() == size_of::<Mutex<u64>>();
     assert_eq!(rt; (sizes, slot, lock), ([8, 0, 0, 0], true, true));
+    Ok(())
+}
+
+#[test]
+fn one_of_two_comes_first(rt: HostRuntime) -> Result<(), Fail> {
+    let (one, two) = race(&rt);
+    assert!(rt; one != two);
     Ok(())
 }
 
@@ -79,6 +87,22 @@ fn a_look_beside_a_fill_finds_nothing_or_the_value(rt: HostRuntime) -> Result<()
     let after = two_looks(&rt, &shelf, &front);
     assert!(rt; beside.is_none() || beside == Some(5));
     assert_eq!(rt; after, (Some(5), Some(5)));
+    Ok(())
+}
+
+#[test]
+fn an_owner_has_the_value(rt: HostRuntime) -> Result<(), Fail> {
+    let (shelf, filler) = Shelf::<u64>::new();
+    let nothing = shelf.shown().is_none();
+    let (token, _seen) = shelf.fill(7, filler);
+    let copy = token.again();
+    let shown = shelf.shown().copied();
+    let value = shelf.into_value(&copy);
+    let (empty, _filler) = Shelf::<u64>::new();
+    assert_eq!(rt;
+        (nothing, shown, value, empty.take()),
+        (true, Some(7), 7, None)
+    );
     Ok(())
 }
 

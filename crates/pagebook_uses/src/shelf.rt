@@ -144,6 +144,35 @@ impl<T> Shelf<T> {
     }
 }
 
+impl<T> Shelf<T> {
+    /// The value, if it is there now, for one who has seen nothing.
+    pub fn shown(&self) -> Option<&T> {
+        match self.slot.witness() {
+            Some(written) => Some(self.slot.value(&written)),
+            None => None,
+        }
+    }
+
+    /// The value, for the owner of the shelf, if there is one.
+    pub fn take(self) -> Option<T> {
+        let Shelf { ready, slot } = self;
+        drop(ready);
+        slot.into_inner()
+    }
+
+    /// The value, for the owner of the shelf, who has a token of it.
+    ///
+    /// Asked for: the token is of this shelf.
+    pub fn into_value(self, written: &Written<T>) -> T
+        requires { written.now.of ≡ self.slot.id }
+        ensures { result ≡ written.now.value }
+    {
+        let Shelf { ready, slot } = self;
+        drop(ready);
+        slot.into_value(written)
+    }
+}
+
 // What a look finds, copied, with its token.
 fn copied(shelf: &Shelf<u64>, front: &Seen<Filled, Stage, OneFill>) -> Option<(u64, Written<u64>)>
     requires { front.now.book ≡ shelf.now.ready.book }
