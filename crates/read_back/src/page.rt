@@ -38,6 +38,24 @@ pub fn most_room(word: &str) -> i64 {
     length(word.len()).saturating_mul(8).saturating_add(10)
 }
 
+/// From where to where a shape lies, and how high its middle is. A path has its first point.
+fn place_of(element: &Element<'_>, first: Option<Point>) -> (i64, i64, i64) {
+    if element.name == "circle" {
+        let x = element.number("cx");
+        return (x, x, element.number("cy"));
+    }
+    if let Some(first) = first {
+        return (first.x, first.x, first.y);
+    }
+    let (left, top) = (element.number("x"), element.number("y"));
+    let right = left.saturating_add(element.number("width"));
+    (
+        left,
+        right,
+        top.saturating_add(element.number("height") / 2),
+    )
+}
+
 /// A shape that the legend knows.
 #[derive(Drop)]
 pub struct Shape<'a> {
@@ -134,25 +152,14 @@ impl<'a> Page<'a> {
             }
             return self.differs(class, "a shape of the legend");
         };
-        let mut shape = Shape {
+        let (left, right, y) = place_of(element, points.first().copied());
+        self.shapes.push(Shape {
             meaning,
-            left: element.number("x"),
-            right: element.number("x").saturating_add(element.number("width")),
-            y: element
-                .number("y")
-                .saturating_add(element.number("height") / 2),
+            left,
+            right,
+            y,
             points,
-        };
-        if element.name == "circle" {
-            shape.y = element.number("cy");
-            shape.left = element.number("cx");
-            shape.right = element.number("cx");
-        } else if let Some(first) = shape.points.first() {
-            shape.y = first.y;
-            shape.left = first.x;
-            shape.right = first.x;
-        }
-        self.shapes.push(shape)?;
+        })?;
         Ok(())
     }
 

@@ -179,18 +179,20 @@ impl Reading<'_> {
         for column in 0..self.columns {
             if are_all || column % 10 == 0 {
                 self.compare_number(column)?;
+                self.found.words = self.found.words.saturating_add(1);
             }
         }
         for lane in 0..self.lanes.len() {
             if !self.says("every other name") || lane % 2 == 0 {
                 self.compare_name(lane)?;
+                self.found.words = self.found.words.saturating_add(1);
             }
             self.compare_life(lane)?;
         }
         Ok(())
     }
 
-    fn compare_number(&mut self, column: usize) -> Result<(), Fault> {
+    fn compare_number(&self, column: usize) -> Result<(), Fault> {
         let line = self
             .story
             .lines
@@ -203,12 +205,11 @@ impl Reading<'_> {
         if self.page.words.iter().filter(is_number).count() != 1 {
             return self.differs("its number does not stand below its column", column);
         }
-        self.found.words = self.found.words.saturating_add(1);
         Ok(())
     }
 
     /// A name stands beside its line of life, and ends before the first column begins.
-    fn compare_name(&mut self, lane: usize) -> Result<(), Fault> {
+    fn compare_name(&self, lane: usize) -> Result<(), Fault> {
         let place = self.lanes.get(lane).copied().unwrap_or(0);
         let number = self.story.tasks.get(place).map_or(0, |task| task.number);
         let name = format!(in self.alloc; "task {number}")?;
@@ -223,7 +224,6 @@ impl Reading<'_> {
         if self.page.lane_at(word.y.saturating_sub(4)) != lane || word.least_end() > self.left {
             return self.differs("a name is not beside its lane", 0);
         }
-        self.found.words = self.found.words.saturating_add(1);
         Ok(())
     }
 
@@ -245,7 +245,7 @@ impl Reading<'_> {
 /// The band of the cell.
 impl Reading<'_> {
     /// At the end of each column the band says what the cell is after the line, and each word in it is true.
-    fn compare_band(&mut self) -> Result<(), Fault> {
+    fn compare_band(&self) -> Result<(), Fault> {
         for column in 0..self.columns {
             let at = self.begin(column.saturating_add(1)).saturating_sub(1);
             let line = self
@@ -296,7 +296,7 @@ impl Reading<'_> {
     }
 
     /// No word of the band stands outside of it, and each is one of a shape of its kind.
-    fn compare_band_words(&mut self) -> Result<(), Fault> {
+    fn compare_band_words(&self) -> Result<(), Fault> {
         let height = self.page.cell;
         for word in self.page.words.iter().filter(|word| word.y == height) {
             let wanted = match word.text.split_once(' ') {
@@ -341,7 +341,7 @@ impl Reading<'_> {
         }
     }
 
-    fn drawn(&mut self) -> Result<Vec<Placed<'static>>, AllocError> {
+    fn drawn(&self) -> Result<Vec<Placed<'static>>, AllocError> {
         let mut drawn = Vec::new(self.alloc);
         for shape in &self.page.shapes {
             let Some(kind) = kind_of(shape.meaning) else {

@@ -92,18 +92,18 @@ impl Schedule {
     fn new(alloc: Global, seed: u64) -> Result<Schedule, AllocError> {
         let mut chance = Chance::new(seed);
         let odds = Odds {
-            drop: chance.draw(6).saturating_add(2),
-            value: chance.draw(20).saturating_add(2),
-            error: chance.draw(6).saturating_add(1),
-            refusal: chance.draw(20).saturating_add(3),
+            drop: chance.draw(12).saturating_add(4),
+            value: chance.draw(40).saturating_add(8),
+            error: chance.draw(8).saturating_add(2),
+            refusal: chance.draw(40).saturating_add(4),
             run: chance.draw(6).saturating_add(2),
             large: chance.draw(8).saturating_add(2),
-            end: chance.draw(60).saturating_add(10),
+            end: chance.draw(90).saturating_add(20),
         };
         let many = match chance.draw(20) {
             0 => 24,
             1 => 54,
-            _ => chance.draw(6).saturating_add(1),
+            _ => chance.draw(6).saturating_add(2),
         };
         let mut tasks = Vec::new(alloc);
         for _ in 0..many {

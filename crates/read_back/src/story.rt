@@ -177,13 +177,19 @@ impl Story {
             stands.push(stand_word(world.step_of(task.number)))?;
         }
         let named = named_by(input).and_then(|task| self.place(task));
-        let named = named.filter(|place| reason.is_none() || stands.get(*place) != Some(&"gone"));
+        let is_gone = named.is_some_and(|place| is_gone_at(&stands, place));
+        let named = if reason.is_some() && is_gone {
+            None
+        } else {
+            named
+        };
         let record = self.record(world, reason, first)?;
+        let shared = self.shared(world)?;
         let cell = self.cell(world)?;
         self.lines.push(Line {
             number,
             text,
-            shared: self.shared(world)?,
+            shared,
             stands,
             record,
             named,
@@ -535,6 +541,14 @@ impl Story {
             }
         }
         Ok(())
+    }
+}
+
+/// Whether the task at this place is gone.
+fn is_gone_at(stands: &[&'static str], place: usize) -> bool {
+    match stands.get(place) {
+        Some(stand) => *stand == "gone",
+        None => false,
     }
 }
 

@@ -32,8 +32,6 @@ struct Reading<'a> {
     window: Window,
     /// The place of the next line.
     at: usize,
-    /// What the part says of tasks that it has no columns for.
-    others: &'a str,
     /// The places of the tasks that the part has columns for.
     columns: Vec<usize>,
     cells: u64,
@@ -46,17 +44,18 @@ pub fn compare(alloc: Global, table: &str, story: &Story, window: Window) -> Res
         story,
         window,
         at: window.first,
-        others: "",
         columns: Vec::new(alloc),
         cells: 0,
     };
+    // What the part says of tasks that it has no columns for.
+    let mut others = "";
     for row in table.lines() {
-        if let Some(others) = row.strip_prefix("other tasks: ") {
-            reading.others = others;
+        if let Some(text) = row.strip_prefix("other tasks: ") {
+            others = text;
         } else if row.starts_with("line") {
-            reading.read_headers(row)?;
+            reading.read_headers(row, others)?;
         } else if row.is_empty() {
-            reading.others = "";
+            others = "";
         } else {
             reading.read_row(row)?;
         }
@@ -78,7 +77,7 @@ fn cells_of(alloc: Global, row: &str) -> Result<Vec<&str>, AllocError> {
 impl Reading<'_> {
     /// Reads the headers of a part. It has a column for each task that lives, or it says how many others there
     /// are.
-    fn read_headers(&mut self, row: &str) -> Result<(), Fault> {
+    fn read_headers(&mut self, row: &str, others: &str) -> Result<(), Fault> {
         let cells = cells_of(self.alloc, row)?;
         self.columns.clear();
         for (index, cell) in cells.iter().enumerate() {
@@ -99,8 +98,8 @@ impl Reading<'_> {
         if self.columns.len() > MOST_TASKS {
             return self.differs(row, "so many tasks at most");
         }
-        let others = self.others_now()?;
-        self.same(self.others, others.as_str())
+        let wanted = self.others_now()?;
+        self.same(others, wanted.as_str())
     }
 
     /// Columns are in the order in which their tasks were made, and none comes twice.
