@@ -479,7 +479,10 @@ impl Story {
 
     /// The call that is under way ends.
     fn close_call(&mut self, number: u64) -> Result<(), AllocError> {
-        let call = self.task(number).and_then(|task| task.call.take());
+        let call = match self.task(number) {
+            Some(task) => task.call.take(),
+            None => None,
+        };
         match call {
             Some((kind, from)) => self.close(number, kind, Some(from)),
             None => Ok(()),
