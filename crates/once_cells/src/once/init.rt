@@ -170,14 +170,18 @@ impl<F: Future> Future for Sure<F> {
     }
 }
 
-// The poll without the error that can't be.
+// The poll without the error that can't be. It is written out: by `surely_answered` a poll that is Pending
+// would take eight instructions more.
 #[inline(always)]
 fn surely<T>(polled: Poll<Result<T, InitError<Infallible>>>) -> Poll<Result<T, Refused>>
     ensures { IsSame polled result }
 {
     match polled {
         Poll::Pending => Poll::Pending,
-        Poll::Ready(answer) => Poll::Ready(surely_answered(answer)),
+        Poll::Ready(Ok(value)) => Poll::Ready(Ok(value)),
+        Poll::Ready(Err(InitError::Init(never))) => match never {},
+        Poll::Ready(Err(InitError::Memory)) => Poll::Ready(Err(Refused::Memory)),
+        Poll::Ready(Err(InitError::Full)) => Poll::Ready(Err(Refused::Full)),
     }
 }
 
