@@ -32,6 +32,8 @@ struct Reading<'a> {
     window: Window,
     /// The place of the next line.
     at: usize,
+    /// What the part says of tasks that it has no columns for.
+    others: String,
     /// The places of the tasks that the part has columns for.
     columns: Vec<usize>,
     cells: u64,
@@ -44,18 +46,17 @@ pub fn compare(alloc: Global, table: &str, story: &Story, window: Window) -> Res
         story,
         window,
         at: window.first,
+        others: String::new(alloc),
         columns: Vec::new(alloc),
         cells: 0,
     };
-    // What the part says of tasks that it has no columns for.
-    let mut others = "";
     for row in table.lines() {
         if let Some(text) = row.strip_prefix("other tasks: ") {
-            others = text;
+            reading.others = String::from_str(alloc, text)?;
         } else if row.starts_with("line") {
-            reading.read_headers(row, others)?;
+            reading.read_headers(row)?;
         } else if row.is_empty() {
-            others = "";
+            reading.others.clear();
         } else {
             reading.read_row(row)?;
         }
@@ -77,7 +78,7 @@ fn cells_of(alloc: Global, row: &str) -> Result<Vec<&str>, AllocError> {
 impl Reading<'_> {
     /// Reads the headers of a part. It has a column for each task that lives, or it says how many others there
     /// are.
-    fn read_headers(&mut self, row: &str, others: &str) -> Result<(), Fault> {
+    fn read_headers(&mut self, row: &str) -> Result<(), Fault> {
         let cells = cells_of(self.alloc, row)?;
         self.columns.clear();
         for (index, cell) in cells.iter().enumerate() {
@@ -99,7 +100,7 @@ impl Reading<'_> {
             return self.differs(row, "so many tasks at most");
         }
         let wanted = self.others_now()?;
-        self.same(others, wanted.as_str())
+        self.same(self.others.as_str(), wanted.as_str())
     }
 
     /// Columns are in the order in which their tasks were made, and none comes twice.
