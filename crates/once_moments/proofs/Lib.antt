@@ -5,4 +5,5 @@ pub mod Looks
 pub mod Lists
 pub mod Releases
 pub mod Forms
+pub mod Facts
 pub mod Moves

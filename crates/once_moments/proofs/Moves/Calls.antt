@@ -3,12 +3,13 @@ use Rattle.std.proofs.Common.{◌≡◌, ◌-◌, ℕ, zero, suc, Bool, true, co
 use Rattle.std.proofs.lemmas.List.{map-append, append-nil}
 use Rattle.pagebook.specs.Pages.{Held, Moves, Notes}
 use Rattle.once_queue.specs.Word.{flags_of}
-use Rattle.once_core.specs.Steps.{after_run}
+use Rattle.once_core.specs.Steps.{after_run, closing_end}
 use Rattle.once_world.specs.Record.{Answer, Begin, Entry, Look, Made, Once, Ran}
 use Rattle.once_world.specs.Cell.{cell, is_set}
 use Rattle.once_world.specs.Book.{At, IsBook, IsUnnamed, Page, TaskState}
-use Rattle.once_world.specs.Machine.{AtList, AtRun, EndMemory, UnderWay, drop_entries, fresh_task, is_resting, kept_after, leave_place, polled_of, step_of_drop, step_of_poll}
+use Rattle.once_world.specs.Machine.{AtDoorPut, AtList, AtRun, EndMemory, UnderWay, drop_entries, fresh_task, is_resting, kept_after, leave_place, polled_of, step_of_drop, step_of_poll}
 use Rattle.once_world.proofs.Moment.Calls.{copy_refused, drop_begun, init_ran, looked, made, poll_begun}
+use Rattle.once_world.proofs.Moment.Doors.{put_refused}
 use Rattle.once_world.proofs.Moment.Step.{told}
 use Rattle.once_world.proofs.Told.Value.{WasFilled, ready_filled, ready_is_set}
 use Rattle.once_moments.specs.Kept.{Grew, IsKept, IsState, Leaves, Sheet, hand, most, pages_in, sheet, sheets, writing_sheet}
@@ -109,3 +110,10 @@ module _ (seen : List Entry) (t : ℕ) (x : TaskState) where
       (told t (kept_after a x.kept) (after_run (polled_of a) by) (Ran t a ∷ [])) v)
   ran_notes by a unnamed at = own_notes (record x { step = (after_run (polled_of a) by).step; kept = kept_after a x.kept }) (told t (kept_after a x.kept) (after_run (polled_of a) by) (Ran t a ∷ []))
       (λ n put slot pages log book pen. init_ran most n put slot pages log some book t x pen by a unnamed at)
+
+  -- AtDoorPut where memory is refused
+  pub unput_notes : x.step ≡ UnderWay AtDoorPut
+      → Notes IsKept (seen, sheets (hand t x))
+      (λ v. Unit {0} × Leaves seen (hand t x) (At (record x { step = (closing_end EndMemory).step }) ∷ []) (told t x.kept (closing_end EndMemory) []) v)
+  unput_notes at = own_notes (record x { step = (closing_end EndMemory).step }) (told t x.kept (closing_end EndMemory) [])
+      (λ n put slot pages log book pen. put_refused most n put slot pages log t x some book pen _ _ book.1.door_is at)

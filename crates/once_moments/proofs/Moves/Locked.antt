@@ -1,24 +1,28 @@
 -- The moves under the lock, with the pens of the door's page, the queue's and the task's.
-use Rattle.std.proofs.Common.{◌≡◌, ◌+◌, ◌%◌, ◌^◌, ℕ, suc, Bool, false, cond, List, [], ◌∷◌, ◌++◌, Option, Some, None, slice_get, slice_set, sym, ◌∙◌, subst}
+use Rattle.std.proofs.Common.{◌≡◌, ◌+◌, ◌%◌, ◌^◌, ℕ, suc, Bool, true, false, cond, List, [], ◌∷◌, ◌++◌, Option, Some, None, slice_get, slice_set, refl, sym, ◌∙◌, subst}
 use Rattle.std.specs.Prelude.{◌||◌}
-use Rattle.std.specs.Option.{is_some}
+use Rattle.std.specs.Option.{is_some, option_flatten}
+use Rattle.std.proofs.lemmas.List.{append-nil}
 use Rattle.pagebook.specs.Pages.{Moves, Notes}
+use Rattle.once_queue.specs.Numbers.{is_distinct}
 use Rattle.once_queue.specs.Word.{flags_of}
 use Rattle.once_queue.specs.declared.waiters.Listing.{Listing}
 use Rattle.once_queue.specs.declared.waiters.Answer.{Answer as SectionAnswer}
-use Rattle.once_queue.specs.Listings.{is_waker, kept_ticket, left_list, next_waker, one_out, own_listing, passes_turn}
+use Rattle.once_queue.specs.Listings.{kept_ticket, left_list, next_waker, one_out, own_listing, passes_turn, tickets, wakers_of}
 use Rattle.once_queue.specs.Sections.{shows_free}
-use Rattle.once_core.specs.Steps.{Next, after_door_get, after_list, after_look, closing_end, next_at, next_end}
+use Rattle.once_core.specs.Steps.{Next, after_door_get, after_list, after_look, next_at, next_end}
 use Rattle.once_world.specs.Record.{Entry}
 use Rattle.once_world.specs.Book.{At, Door, IsBook, Page, Queue, TaskState}
-use Rattle.once_world.specs.Machine.{AtCountIn, AtCountOut, AtDoorAgain, AtDoorGet, AtDoorPut, AtDoorTake, AtLeave, AtList, AtLook, AtRelease, EndMemory, Ending, UnderWay, claim_entries, head_after, is_claim, is_value, list_answer, listed_list, listed_ticket, look_answer, looked_list, pass_entries, release_entry, release_list, release_wakers, state_seen}
-use Rattle.once_world.proofs.Moment.Doors.{door_again, door_get, door_take, put_found, put_new, put_refused}
+use Rattle.once_world.specs.Machine.{AtCountIn, AtCountOut, AtDoorAgain, AtDoorGet, AtDoorPut, AtDoorTake, AtLeave, AtList, AtLook, AtRelease, Ending, Place, UnderWay, claim_entries, head_after, is_claim, is_value, list_answer, listed_list, listed_ticket, look_answer, looked_list, pass_entries, release_entry, release_list, release_wakers, state_seen}
+use Rattle.once_world.proofs.Moment.Doors.{door_again, door_get, door_take, put_found, put_new}
 use Rattle.once_world.proofs.Moment.Numbers.{release_more}
 use Rattle.once_world.proofs.Moment.Pages.{set_other, zero_one}
 use Rattle.once_world.proofs.Moment.Sections.{leave_load, list_load, look_load, release_add}
 use Rattle.once_world.proofs.Moment.Step.{Stepped, told}
 use Rattle.once_moments.specs.Kept.{IsKept, Leaves, locked, most, sheets}
 use Rattle.once_moments.proofs.Forms.{moves, notes, put_moves}
+use Rattle.once_world.proofs.Told.Listings.{fill_hands_all}
+use Rattle.once_moments.proofs.Facts.{bare_at, door_at, look_is, queue_at, unset_at}
 use Rattle.once_moments.proofs.Moves.Words.{set_same, some}
 
 module _ (seen : List Entry) (made : ℕ) (door : Option ℕ) (head : Bool) (xs : List (Listing ℕ)) (t : ℕ) (x : TaskState) where
@@ -46,9 +50,9 @@ module _ (seen : List Entry) (made : ℕ) (door : Option ℕ) (head : Bool) (xs 
     only_own : Stepped limit n put slot pages log t x did next → Set made door head xs
     only_own s = only_queue head xs (subst (λ ps. Stepped limit n put slot ps log t x did next) (sym (set_same pages 1 (Queue head xs) at_queue)) s)
 
-  -- AtLook
+  -- AtLook: the answer, by whether the own listing has its waker still
   abbrev pub looked : Option ℕ → ℕ → SectionAnswer ℕ
-  looked k n = look_answer (state_seen (flags_of n) head) (is_waker x.waker (own_listing k xs))
+  looked k n = look_answer (state_seen (flags_of n) head) (is_some (option_flatten (own_listing k xs)))
 
   -- where it leads
   abbrev pub look_next : ℕ → Option ℕ → Bool → ℕ → Next ℕ ℕ
@@ -65,7 +69,9 @@ module _ (seen : List Entry) (made : ℕ) (door : Option ℕ) (head : Bool) (xs 
       (λ n put slot pages log book on. (
         tt,
         only_queue most n put slot pages log (claim_entries (is_claim (looked k n)) t) (look_next q k granted n) on.0 on.1.0 (head_after (looked k n) head) (looked_list (looked k n) k xs)
-            (look_load most n put slot pages log t x some book on.1.1.0 head xs on.1.0 q k granted at),
+            (subst
+            (λ a. Stepped most n put slot (slice_set pages 1 (Queue (head_after a head) (looked_list a k xs))) log t x (claim_entries (is_claim a) t) (after_look a (cond granted (Some x.waker) None) q k))
+            (look_is most n put slot pages log t x some book on.1.1.0 head xs on.1.0 q k at (flags_of n).ready refl) (look_load most n put slot pages log t x some book on.1.1.0 head xs on.1.0 q k granted at)),
       ))
 
   -- AtList
@@ -90,17 +96,19 @@ module _ (seen : List Entry) (made : ℕ) (door : Option ℕ) (head : Bool) (xs 
             (list_load most n put slot pages log t x some book on.1.1.0 head xs on.1.0 q k w granted at),
       ))
 
-  -- AtRelease
+  -- AtRelease: with the value it hands out each waker that is listed
   pub release_moves : (q : ℕ) (e : Ending) → x.step ≡ UnderWay (AtRelease q e)
       → Moves IsKept (seen, sheets (locked made door head xs t x)) 0 (λ n. (n + release_more (is_value e) head) % 2 ^ 64)
-      (λ n v. Unit {0} × Leaves seen (locked made door head xs t x) (pages_after made door false (release_list (is_value e) xs) (next_at (AtCountOut e)))
+      (λ n v. (is_distinct (tickets xs) ≡ true → release_wakers true xs ≡ wakers_of xs)
+      × Leaves seen (locked made door head xs t x) (pages_after made door false (release_list (is_value e) xs) (next_at (AtCountOut e)))
       (told t x.kept (next_at (AtCountOut e)) (release_entry x.kept t (release_wakers (is_value e) xs) ∷ [])) v)
   release_moves q e at =
       let did : List Entry = release_entry x.kept t (release_wakers (is_value e) xs) ∷ [] in
       moves seen (locked made door head xs t x) (λ n. (n + release_more (is_value e) head) % 2 ^ 64)
-      (λ n. pages_after made door false (release_list (is_value e) xs) (next_at (AtCountOut e))) (λ n. told t x.kept (next_at (AtCountOut e)) did) (λ n. Unit {0})
+      (λ n. pages_after made door false (release_list (is_value e) xs) (next_at (AtCountOut e))) (λ n. told t x.kept (next_at (AtCountOut e)) did)
+      (λ n. is_distinct (tickets xs) ≡ true → release_wakers true xs ≡ wakers_of xs)
       (λ n put slot pages log book on. (
-        tt,
+        fill_hands_all most n put slot pages log some book head xs on.1.0 (unset_at most n put slot pages log t x some book on.1.1.0 q e at),
         only_queue most ((n + release_more (is_value e) head) % 2 ^ 64) put slot pages log did (next_at (AtCountOut e)) on.0 on.1.0 false (release_list (is_value e) xs)
             (release_add most n put slot pages log t x some book on.1.1.0 head xs on.1.0 q e at),
       ))
@@ -146,13 +154,6 @@ module _ (seen : List Entry) (made : ℕ) (door : Option ℕ) (head : Bool) (xs 
   found_notes q at d = notes seen (locked made door head xs t x) (pages_after made door head xs (next_at (AtCountIn q))) (told t x.kept (next_at (AtCountIn q)) []) (Unit {0})
       (λ n put slot pages log book on. (tt, only_own most n put slot pages log [] (next_at (AtCountIn q)) on.0 on.1.0 (put_found most n put slot pages log t x some book on.1.1.0 made door on.0 q at d)))
 
-  -- AtDoorPut where memory is refused
-  pub refused_notes : x.step ≡ UnderWay AtDoorPut
-      → Notes IsKept (seen, sheets (locked made door head xs t x))
-      (λ v. Unit {0} × Leaves seen (locked made door head xs t x) (pages_after made door head xs (closing_end EndMemory)) (told t x.kept (closing_end EndMemory) []) v)
-  refused_notes at = notes seen (locked made door head xs t x) (pages_after made door head xs (closing_end EndMemory)) (told t x.kept (closing_end EndMemory) []) (Unit {0})
-      (λ n put slot pages log book on. (tt, only_own most n put slot pages log [] (closing_end EndMemory) on.0 on.1.0 (put_refused most n put slot pages log t x some book on.1.1.0 made door on.0 at)))
-
   -- AtDoorPut where none stands: a store of 1 says that a queue was put
   pub new_moves : x.step ≡ UnderWay AtDoorPut → door ≡ None
       → Moves IsKept (seen, sheets (locked made door head xs t x)) 1 (λ k. 1)
@@ -162,9 +163,21 @@ module _ (seen : List Entry) (made : ℕ) (door : Option ℕ) (head : Bool) (xs 
       (λ n put slot pages log book on. only_door most n 1 slot pages log [] (next_at (AtCountIn (suc made))) on.0 on.1.0 (suc made) (Some (suc made))
       (put_new most n put slot pages log t x some book on.1.1.0 made door on.0 at d))
 
-  -- AtDoorTake
+  -- AtDoorTake: nobody holds under the lock, and nobody is listed
   pub take_notes : (e : Ending) → x.step ≡ UnderWay (AtDoorTake e)
       → Notes IsKept (seen, sheets (locked made door head xs t x))
-      (λ v. Unit {0} × Leaves seen (locked made door head xs t x) (pages_after made None head xs (next_end e)) (told t x.kept (next_end e) []) v)
-  take_notes e at = notes seen (locked made door head xs t x) (pages_after made None head xs (next_end e)) (told t x.kept (next_end e) []) (Unit {0})
-      (λ n put slot pages log book on. (tt, only_door most n put slot pages log [] (next_end e) on.0 on.1.0 made None (door_take most n put slot pages log t x some book on.1.1.0 made door on.0 e at)))
+      (λ v. ((head ≡ false) × (xs ≡ [])) × Leaves seen (locked made door head xs t x) (pages_after made None head xs (next_end e)) (told t x.kept (next_end e) []) v)
+  take_notes e at = notes seen (locked made door head xs t x) (pages_after made None head xs (next_end e)) (told t x.kept (next_end e) []) ((head ≡ false) × (xs ≡ []))
+      (λ n put slot pages log book on. (
+        bare_at most n put slot pages log t x some book on.1.1.0 head xs on.1.0 e at,
+        only_door most n put slot pages log [] (next_end e) on.0 on.1.0 made None (door_take most n put slot pages log t x some book on.1.1.0 made door on.0 e at),
+      ))
+
+  -- where a section is begun, its queue stands at the door; the machine makes no step
+  pub stand_notes : (q : ℕ) (p : Place ℕ ℕ) → queue_at p ≡ Some q → x.step ≡ UnderWay p
+      → Notes IsKept (seen, sheets (locked made door head xs t x)) (λ v. (door ≡ Some q) × Leaves seen (locked made door head xs t x) [] [] v)
+  stand_notes q p inside at = notes seen (locked made door head xs t x) [] [] (door ≡ Some q)
+      (λ n put slot pages log book on. (
+        door_at most n put slot pages log t x some book on.1.1.0 made door on.0 q p inside at,
+        subst (IsBook most n put slot pages) (sym (append-nil log)) book,
+      ))

@@ -33,7 +33,7 @@ page_put (z ∷ ss) zero s = refl
 page_put (z ∷ ss) (suc k) s = ap (λ (xs : List Page). z.page ∷ xs) (page_put ss k s)
 
 -- the third word
-state_at : (w put k n : ℕ) (ns : List ℕ) → ns ≡ w ∷ put ∷ k ∷ [] → slice_get ns 2 ≡ Some n → k ≡ n
+pub state_at : (w put k n : ℕ) (ns : List ℕ) → ns ≡ w ∷ put ∷ k ∷ [] → slice_get ns 2 ≡ Some n → k ≡ n
 state_at w put k n ns e at = let same : ◌≡◌ {A = Option ℕ} (Some k) (Some n) = ap (λ xs. slice_get xs 2) (sym e) ∙ at in cc
 
 -- a sheet that does not write is not one that does
@@ -109,7 +109,7 @@ stood : (e : Entry) (seen log : List Entry) → IsPrefix seen log → StandsIn e
 stood e seen log p s = (s.0, s.1 ++ p.0, sym p.1 ∙ ap (λ l. l ++ p.0) s.2 ∙ append_assoc s.0 (e ∷ s.1) p.0)
 
 -- the state of a slot that is written
-written_state : (k : ℕ) (slot : Bool) (ss : List Sheet) → slot ≡ true → IsState k slot ss → k ≡ 2
+pub written_state : (k : ℕ) (slot : Bool) (ss : List Sheet) → slot ≡ true → IsState k slot ss → k ≡ 2
 written_state k slot ss w (inl s) = absurd (false≢true (sym s.1 ∙ w))
 written_state k slot ss w (inr (inl s)) = s.0
 written_state k slot ss w (inr (inr s)) = absurd (false≢true (sym s.1 ∙ w))
