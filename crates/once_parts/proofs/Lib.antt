@@ -1,0 +1,6 @@
+pub mod Tells
+pub mod Acts
+pub mod Sections
+pub mod Desks
+pub mod Values
+pub mod Seen

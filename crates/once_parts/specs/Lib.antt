@@ -1,0 +1,9 @@
+pub mod Own
+pub mod Places
+pub mod Acts
+pub mod Desk
+pub mod Sections
+pub mod Hands
+pub mod Record
+pub mod Handed
+pub mod Shares

@@ -1,0 +1,193 @@
+-- The table of places, by what a thread does there: at which places a task may do it, and where the table leads then.
+use Rattle.std.specs.Prelude.{◌≡◌, ℕ, Bool, true, false, Option, Some, None}
+use Rattle.once_queue.specs.Word.{flags_of, is_zero, is_ready_bit}
+use Rattle.once_queue.specs.declared.waiters.Answer.{Answer as SectionAnswer}
+use Rattle.once_core.specs.declared.parts.Counted.{Counted}
+use Rattle.once_core.specs.declared.parts.Counted.TheVariants.{Full, SeenReady}
+use Rattle.once_core.specs.declared.step.Polled.{Polled}
+use Rattle.once_core.specs.declared.step.Polled.TheVariants.{Pending, Value, Error}
+use Rattle.once_core.specs.Steps.{Next, after_count_in, after_count_out, after_door_again, after_door_get, after_door_put, after_fast, after_list, after_load, after_look, after_run, after_start, next_at, next_end, release_place, step_of_drop, step_of_poll}
+use Rattle.once_world.specs.Record.{Answer, RanPending, RanValue, RanError}
+use Rattle.once_world.specs.Book.{TaskState}
+use Rattle.once_world.specs.Machine.{AtStart, AtCountIn, AtWaitLoad, AtLook, AtList, AtRun, AtPut, AtFast, AtAddOne, AtDoorGet, AtDoorAgain, AtRelease, AtLeave, AtCountOut, AtDoorTake, EndValue, Step, UnderWay, is_value, kept_after}
+
+-- at another place nothing of this is done, and it is left open where that would lead
+abbrev pub nowhere : Next ℕ ℕ
+nowhere = next_at AtStart
+
+-- the word is loaded at the start of a first poll, and by a task that is counted
+abbrev pub CanLoad : Step ℕ ℕ → Type 0
+CanLoad (UnderWay AtStart) = Unit {0}
+CanLoad (UnderWay (AtWaitLoad q k)) = Unit {0}
+CanLoad _ = ⊥
+
+-- by the word
+abbrev pub load_next : ℕ → Step ℕ ℕ → Next ℕ ℕ
+load_next n (UnderWay (AtWaitLoad q k)) = after_load (flags_of n).ready q k
+load_next n _ = after_start (flags_of n).ready (is_zero (flags_of n))
+
+-- the fast release, with the value or without
+abbrev pub CanFast : Bool → Step ℕ ℕ → Type 0
+CanFast r (UnderWay (AtFast e)) = is_value e ≡ r
+CanFast r _ = ⊥
+
+-- by whether it was done
+abbrev pub fast_next : Bool → Step ℕ ℕ → Next ℕ ℕ
+fast_next won (UnderWay (AtFast e)) = after_fast won (is_value e) e
+fast_next won _ = nowhere
+
+-- a holder whose fast release was not done counts itself in
+abbrev pub CanAdd : Step ℕ ℕ → Type 0
+CanAdd (UnderWay (AtAddOne e)) = Unit {0}
+CanAdd _ = ⊥
+
+-- to the door
+abbrev pub add_next : Step ℕ ℕ → Next ℕ ℕ
+add_next (UnderWay (AtAddOne e)) = next_at (AtDoorAgain e)
+add_next _ = nowhere
+
+-- a task counts itself out
+abbrev pub CanCountOut : Step ℕ ℕ → Type 0
+CanCountOut (UnderWay (AtCountOut e)) = Unit {0}
+CanCountOut _ = ⊥
+
+-- by the word after it
+abbrev pub out_next : ℕ → Step ℕ ℕ → Next ℕ ℕ
+out_next n (UnderWay (AtCountOut e)) = after_count_out (is_ready_bit (flags_of n)) e
+out_next n _ = nowhere
+
+-- a task counts itself in
+abbrev pub CanCountIn : Step ℕ ℕ → Type 0
+CanCountIn (UnderWay (AtCountIn q)) = Unit {0}
+CanCountIn _ = ⊥
+
+-- by the answer
+abbrev pub in_next : Counted → Step ℕ ℕ → Next ℕ ℕ
+in_next c (UnderWay (AtCountIn q)) = after_count_in c q
+in_next c _ = nowhere
+
+-- the answer where as many are counted as may be, by whether the value is set
+abbrev pub refused_in : Bool → Counted
+refused_in true = SeenReady
+refused_in false = Full
+
+-- the door is looked at by a first poll, and by a holder that counted itself in
+abbrev pub CanGet : Step ℕ ℕ → Type 0
+CanGet (UnderWay AtDoorGet) = Unit {0}
+CanGet (UnderWay (AtDoorAgain e)) = Unit {0}
+CanGet _ = ⊥
+
+-- by the queue that stands there
+abbrev pub get_next : Option ℕ → Step ℕ ℕ → Next ℕ ℕ
+get_next d (UnderWay (AtDoorAgain e)) = after_door_again d e
+get_next d _ = after_door_get d
+
+-- a queue was put to the door or found there, or memory was refused
+abbrev pub put_next : Option ℕ → Next ℕ ℕ
+put_next d = after_door_put d
+
+-- the queue is taken out of the door
+abbrev pub CanTake : Step ℕ ℕ → Type 0
+CanTake (UnderWay (AtDoorTake e)) = Unit {0}
+CanTake _ = ⊥
+
+-- which ends the call
+abbrev pub take_next : Step ℕ ℕ → Next ℕ ℕ
+take_next (UnderWay (AtDoorTake e)) = next_end e
+take_next _ = nowhere
+
+-- a section under the lock is begun at these places
+abbrev pub CanEnter : Step ℕ ℕ → Type 0
+CanEnter (UnderWay (AtLook q k)) = Unit {0}
+CanEnter (UnderWay (AtList q k v)) = Unit {0}
+CanEnter (UnderWay (AtRelease q e)) = Unit {0}
+CanEnter (UnderWay (AtLeave q n e)) = Unit {0}
+CanEnter _ = ⊥
+
+-- a look, with this ticket
+abbrev pub CanLook : Option ℕ → Step ℕ ℕ → Type 0
+CanLook k (UnderWay (AtLook q m)) = m ≡ k
+CanLook k _ = ⊥
+
+-- by the answer and the ticket that is left. Who finds a holder copies its waker, which is v; the refusal of that is a moment of its own
+abbrev pub look_next : SectionAnswer ℕ → Option ℕ → ℕ → Step ℕ ℕ → Next ℕ ℕ
+look_next a k v (UnderWay (AtLook q m)) = after_look a (Some v) q k
+look_next a k v _ = nowhere
+
+-- a listing, with this ticket, of the waker v
+abbrev pub CanList : Option ℕ → ℕ → Step ℕ ℕ → Type 0
+CanList k v (UnderWay (AtList q m w)) = (m ≡ k) × (w ≡ v)
+CanList k v _ = ⊥
+
+-- by the answer and the ticket that is left
+abbrev pub list_next : SectionAnswer ℕ → Option ℕ → Step ℕ ℕ → Next ℕ ℕ
+list_next a k (UnderWay (AtList q m v)) = after_list a q k
+list_next a k _ = nowhere
+
+-- a release under the lock, with the value or without
+abbrev pub CanRelease : Bool → Step ℕ ℕ → Type 0
+CanRelease r (UnderWay (AtRelease q e)) = is_value e ≡ r
+CanRelease r _ = ⊥
+
+-- to the counting out
+abbrev pub release_next : Step ℕ ℕ → Next ℕ ℕ
+release_next (UnderWay (AtRelease q e)) = next_at (AtCountOut e)
+release_next _ = nowhere
+
+-- a waiter that has this ticket leaves
+abbrev pub CanLeave : ℕ → Step ℕ ℕ → Type 0
+CanLeave n (UnderWay (AtLeave q m e)) = m ≡ n
+CanLeave n _ = ⊥
+
+-- to the counting out
+abbrev pub leave_next : Step ℕ ℕ → Next ℕ ℕ
+leave_next (UnderWay (AtLeave q m e)) = next_at (AtCountOut e)
+leave_next _ = nowhere
+
+-- the init is polled
+abbrev pub CanRun : Step ℕ ℕ → Type 0
+CanRun (UnderWay (AtRun by)) = Unit {0}
+CanRun _ = ⊥
+
+-- by its answer
+abbrev pub run_next : Polled → Step ℕ ℕ → Next ℕ ℕ
+run_next a (UnderWay (AtRun by)) = after_run a by
+run_next a _ = nowhere
+
+-- the answer in the record, which names a value and an error 0
+abbrev pub unnamed : Polled → Answer
+unnamed Pending = RanPending
+unnamed Value = RanValue 0
+unnamed Error = RanError 0
+
+-- the task whose init answered so
+abbrev pub task_run : Polled → TaskState → TaskState
+task_run a x = record x { step = (run_next a x.step).step; kept = kept_after (unnamed a) x.kept }
+
+-- the value is put
+abbrev pub CanFill : Step ℕ ℕ → Type 0
+CanFill (UnderWay (AtPut by)) = Unit {0}
+CanFill _ = ⊥
+
+-- to the release
+abbrev pub fill_next : Step ℕ ℕ → Next ℕ ℕ
+fill_next (UnderWay (AtPut by)) = next_at (release_place by EndValue)
+fill_next _ = nowhere
+
+-- the copy of the waker is refused, after a look
+abbrev pub CanRefuse : Step ℕ ℕ → Type 0
+CanRefuse (UnderWay (AtList q k v)) = Unit {0}
+CanRefuse _ = ⊥
+
+-- a poll of the task t begins
+abbrev pub task_begun : ℕ → TaskState → TaskState
+task_begun t x = record x { waker = t; step = step_of_poll x.step }
+
+-- a drop begins
+abbrev pub task_dropping : TaskState → TaskState
+task_dropping x = record x { step = step_of_drop x.step }
+
+-- the number of a queue that is there
+abbrev pub numbered : ℕ → Bool → Option ℕ
+numbered q true = Some q
+numbered q false = None

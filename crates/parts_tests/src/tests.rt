@@ -1,0 +1,96 @@
+// What tasks do to a cell, one call after the other, and what the parts take of memory.
+ghost use Rattle.std.specs.Prelude.{⊤};
+
+use once_core::parts::Counted;
+use once_core::step::Polled;
+use once_parts::{Inner, Mark, Shared, TaskWaker};
+use once_queue::waiters::{Answer, Op, WakerId};
+use once_queue::word::QINIT_BIT;
+use std::mem::size_of;
+
+// A waker that nobody calls.
+#[derive(Drop)]
+struct Bell {
+    mark: Mark,
+}
+
+impl WakerId for Bell {
+    ghost tells_same = { λ _ _. ⊥ };
+
+    ghost tells_other = { λ _ _. ⊤ };
+
+    fn are_all_other() -> bool {
+        true
+    }
+
+    fn same(&self, other: &Bell) -> bool {
+        let _ = other;
+        false
+    }
+}
+
+impl TaskWaker for Bell {
+    ghost whose = { λ b. b.mark };
+
+    ghost apart = { λ a b e. e };
+}
+
+#[test]
+fn one_task_fills_a_cell(rt: HostRuntime) {
+    let cell = Inner::<u64, Bell>::new();
+    let mut task = cell.task(&rt);
+    task.begin();
+    let word = task.load();
+    assert_eq!(rt; word, 0);
+    let won = task.quick();
+    assert!(rt; won);
+    task.ran(Polled::Value);
+    task.put(7);
+    let released = task.fast(true);
+    assert!(rt; released);
+    task.door_take();
+    let (value, _) = task.value();
+    assert_eq!(rt; *value, 7);
+    let mut record = cell.record();
+    assert!(rt; cell.look(&mut record).is_some());
+}
+
+#[test]
+fn who_finds_a_holder_waits(rt: HostRuntime) {
+    let cell = Inner::<u64, Bell>::new();
+    let (mut holder, mut waiter) = (cell.task(&rt), cell.task(&rt));
+    holder.begin();
+    let word = holder.load();
+    assert_eq!(rt; word, 0);
+    let won = holder.quick();
+    assert!(rt; won);
+
+    waiter.begin();
+    let word = waiter.load();
+    assert_eq!(rt; word, QINIT_BIT);
+    let there = waiter.door_get();
+    assert!(rt; there.is_none());
+    let put = waiter.door_put();
+    assert!(rt; put.is_some());
+    let counted = waiter.count_in();
+    assert_eq!(rt; counted, Counted::In(QINIT_BIT));
+    let word = waiter.load();
+    assert_eq!(rt; word, QINIT_BIT + 1);
+    let mut op = Op::Look(None);
+    let answer = waiter.section(&mut op);
+    assert!(rt; matches!(answer, Answer::Held));
+}
+
+#[test]
+fn a_new_cell_has_nothing(rt: HostRuntime) {
+    let cell = Inner::<u64, Bell>::new();
+    assert_eq!(rt; cell.has_queue(), Some(false));
+    let mut record = cell.record();
+    assert!(rt; cell.look(&mut record).is_none());
+}
+
+#[test]
+fn the_book_has_no_bytes(rt: HostRuntime) {
+    assert_eq!(rt; size_of::<Mark>(), 0);
+    assert_eq!(rt; size_of::<Shared<u64, Bell, HostRuntime>>(), 16);
+}
