@@ -1,18 +1,22 @@
 -- What a task knows of the door, of the queue and of the word by where it stands.
-use Rattle.std.proofs.Common.{◌≡◌, ◌<◌, ℕ, suc, Bool, true, false, ◌||◌, List, [], Option, Some, None, slice_get, refl, sym, ap, ◌∙◌, arith}
+use Rattle.std.proofs.Common.{◌≡◌, ◌<◌, ℕ, suc, Bool, true, false, cond, ◌||◌, List, [], ◌∷◌, ◌++◌, Option, Some, None, slice_get, refl, sym, ap, ◌∙◌, arith}
 use Rattle.std.specs.Option.{is_some, option_flatten}
 use Rattle.once_queue.specs.Word.{Flags, flags_of}
 use Rattle.once_queue.specs.declared.waiters.Listing.{Listing}
 use Rattle.once_queue.specs.Listings.{is_waker, own_listing}
 use Rattle.once_world.specs.Record.{Entry, Once}
 use Rattle.once_world.specs.Cell.{cell}
+use Rattle.once_core.specs.Steps.{next_at}
+use Rattle.once_world.specs.Tasks.{LastCall, last_call}
+use Rattle.once_queue.proofs.Listing.Members.{eqb_self}
+use Rattle.once_moments.specs.Kept.{has_passed, hands_out}
 use Rattle.once_world.specs.Book.{At, Door, IsBook, Page, Queue, TaskState}
-use Rattle.once_world.specs.Machine.{AtDoorTake, AtLeave, AtList, AtLook, AtRelease, Ending, Place, SharedState, UnderWay, look_answer, queue_state_by, state_seen}
+use Rattle.once_world.specs.Machine.{AtCountOut, AtDoorTake, AtLeave, AtList, AtLook, AtRelease, EndDropped, EndMemory, Ending, Place, SharedState, UnderWay, look_answer, pass_entries, state_seen}
 use Rattle.once_world.proofs.History.Cells.{holder_unset, none_some, set_free}
-use Rattle.once_world.proofs.Invariant.Facts.{AtPlace}
+use Rattle.once_world.proofs.Invariant.Facts.{AtPlace, Leaves}
 use Rattle.once_world.proofs.Invariant.Kept.{releasing_holds}
 use Rattle.once_world.proofs.Moment.Pages.{door_of, queue_of}
-use Rattle.once_world.proofs.Moment.Step.{Moment, moment, stands}
+use Rattle.once_world.proofs.Moment.Step.{Moment, grown, moment, stands, told}
 use Rattle.once_world.proofs.Told.Wakers.{look_own}
 
 -- the queue that a section at this place is about
@@ -35,6 +39,17 @@ stood_at limit t q c h _ e a = absurd (none_some q e)
 no_head : (a b : Bool) → false ≡ (a || b) → b ≡ false
 no_head a b e = grind arith
 
+-- who is about to leave has not passed its turn on in this call
+leaves_unpassed : (t : ℕ) (h : List Entry) (e : Ending) → Leaves Once t h e → (last_call Once t h).passed ≡ false
+leaves_unpassed t h EndMemory l = l.0.poll.unpassed
+leaves_unpassed t h EndDropped l = l.2
+leaves_unpassed t h _ l = absurd l
+
+-- after it passed its turn on to these, or to nobody
+passed_after : (t : ℕ) (h : List Entry) (X : List ℕ) → (last_call Once t h).passed ≡ false → (last_call Once t (pass_entries t X ++ h)).passed ≡ hands_out X
+passed_after t h [] u = u
+passed_after t h (y ∷ X) u = let p : LastCall = last_call Once t h in ap (λ b. (cond b (record p { passed = true }) p).passed) (eqb_self t)
+
 module _ (limit n put : ℕ) (slot : Bool) (pages : List Page) (log : List Entry) (t : ℕ) (x : TaskState) (some : 0 < limit)
     (book : IsBook limit n put slot pages log) (pen : slice_get pages (suc (suc t)) ≡ Some (At x)) where
   -- what all tasks share
@@ -50,6 +65,13 @@ module _ (limit n put : ℕ) (slot : Bool) (pages : List Page) (log : List Entry
   unset_at q e at =
       let a = stands limit n put slot pages log t x some book pen (AtRelease q e) at in
       ap (λ (f : Flags). f.ready) book.1.word_is ∙ m.fits.shared.ready_is ∙ holder_unset t (cell Once m.w.history) (releasing_holds Once t c m.w.history e a.0)
+
+  -- a waiter that leaves has passed its turn on just where it hands somebody out
+  pub passed_at : (q k : ℕ) (e : Ending) → x.step ≡ UnderWay (AtLeave q k e) → (X : List ℕ)
+      → has_passed t (log ++ told t x.kept (next_at (AtCountOut e)) (pass_entries t X)) ≡ hands_out X
+  passed_at q k e at X =
+      let a = leaves_unpassed t m.w.history e (stands limit n put slot pages log t x some book pen (AtLeave q k e) at).0 in
+      ap (λ l. (last_call Once t l).passed) (sym (grown m.w.history log (pass_entries t X) book.1.log_is)) ∙ passed_after t m.w.history X a
 
   -- the queue of a section stands at the door
   pub door_at : (made : ℕ) (door : Option ℕ) → slice_get pages 0 ≡ Some (Door made door) → (q : ℕ) (p : Place ℕ ℕ) → queue_at p ≡ Some q → x.step ≡ UnderWay p → door ≡ Some q

@@ -1,9 +1,10 @@
 -- The rule of a cell's book as pagebook asks for it: of the values of its words, its pages and its log.
-use Rattle.std.specs.Prelude.{◌≡◌, ◌⊎◌, ◌-◌, ◌^◌, ℕ, suc, Bool, true, false, List, [], ◌∷◌, ◌++◌, map, Option, Some, slice_get}
+use Rattle.std.specs.Prelude.{◌≡◌, ◌⊎◌, ◌-◌, ◌^◌, ℕ, suc, Bool, true, false, List, [], ◌∷◌, ◌++◌, map, Option, Some, reverse, slice_get}
 use mathlib.Core.List.{IsPrefix}
 use Rattle.pagebook.specs.Pages.{Held, View, rewritten}
 use Rattle.once_queue.specs.declared.waiters.Listing.{Listing}
-use Rattle.once_world.specs.Record.{Entry}
+use Rattle.once_world.specs.Record.{Entry, Once}
+use Rattle.once_world.specs.Tasks.{last_call}
 use Rattle.once_world.specs.Book.{At, Door, IsBook, Page, Queue, TaskState}
 use Rattle.once_world.specs.Machine.{AtPut, UnderWay}
 
@@ -65,3 +66,12 @@ Grew es old new = (before : List Entry) × IsPrefix old before × (new ≡ befor
 -- what a step leaves of the view: the hand has these pages now, and the log grew by these entries
 abbrev pub Leaves : List Entry → Held Page → List Page → List Entry → View Entry Sheet → Type 0
 Leaves seen h pages es v = (v.1 ≡ sheets (rewritten pages h)) × Grew es seen v.0
+
+-- the log says that t passed its turn on since its newest call began
+abbrev pub has_passed : ℕ → List Entry → Bool
+has_passed t log = (last_call Once t (reverse log)).passed
+
+-- somebody is handed out
+abbrev pub hands_out : List ℕ → Bool
+hands_out [] = false
+hands_out (t ∷ X) = true

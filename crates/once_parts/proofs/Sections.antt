@@ -9,7 +9,7 @@ use Rattle.once_world.specs.Book.{TaskState}
 use Rattle.once_world.specs.Machine.{AtCountIn, AtCountOut, AtDoorAgain, AtDoorGet, AtDoorPut, AtDoorTake, AtLeave, AtList, AtLook, AtRelease, Ending, Step, UnderWay, claim_entries, is_claim, is_value, listed_ticket, pass_entries, release_entry, release_wakers}
 use Rattle.once_queue.specs.Listings.{next_waker, one_out}
 use Rattle.once_world.proofs.Moment.Numbers.{release_more}
-use Rattle.once_moments.specs.Kept.{Grew, IsKept, Leaves, Sheet, locked, sheets}
+use Rattle.once_moments.specs.Kept.{Grew, IsKept, Leaves, Sheet, has_passed, hands_out, locked, sheets}
 use Rattle.once_moments.proofs.Moves.Locked.{again_notes, found_notes, get_notes, leave_moves, list_moves, look_moves, new_moves, pages_after, release_moves, stand_notes, take_notes}
 use Rattle.once_parts.specs.declared.act.Section.{Section}
 use Rattle.once_parts.specs.declared.act.Section.TheVariants.{Stand, Get, Put, Found, Take, Look, List as ListOwn, Release, Leave}
@@ -118,12 +118,23 @@ module _ (seen : List Entry) (d : Desked) (t : ℕ) (x : TaskState) where
       (moves_tell IsKept own 0 (λ n. n) _ _ (λ n w r. left (desk_listed (listed n m room d) m v d) (claim_entries (is_claim (listed n m room d)) t) (after_list (listed n m room d) q (listed_ticket (listed n m room d) m d.listings)) w r.1) (list_moves seen d.made d.door d.head d.listings t x q m v room at))
   list_by k room _ at can = absurd can
 
+  -- who is handed out when one leaves
+  abbrev to_whom : ℕ → ℕ → List ℕ
+  to_whom k n = one_out (next_waker (passing n k d) k d.listings)
+
+  -- what one who leaves tells
+  abbrev Leaving : ℕ → Next ℕ ℕ → ℕ → View Entry Sheet → Type 0
+  Leaving k next n w = IsBoth w.1
+      × ((desked w.1 ≡ desk_left (passing n k d) k d) × Did known (pass_entries t (to_whom k n)) next (own_behind w) × (has_passed (own_behind w).number w.0 ≡ hands_out (to_whom k n)))
+
   -- the leaving of a waiter
-  leave_by : (k : ℕ) (s : Step ℕ ℕ) → x.step ≡ s → CanSee (Leave k) s
-      → Moves IsKept own 0 (λ n. n) (λ n w. Went (desk_left (passing n k d) k d) (pass_entries t (one_out (next_waker (passing n k d) k d.listings))) (leave_next s) w)
+  leave_by : (k : ℕ) (s : Step ℕ ℕ) → x.step ≡ s → CanSee (Leave k) s → Moves IsKept own 0 (λ n. n) (λ n w. Leaving k (leave_next s) n w)
   leave_by k (UnderWay (AtLeave q m e)) at can =
-      subst (λ k. Moves IsKept own 0 (λ n. n) (λ n w. Went (desk_left (passing n k d) k d) (pass_entries t (one_out (next_waker (passing n k d) k d.listings))) (next_at (AtCountOut e)) w)) can
-      (moves_tell IsKept own 0 (λ n. n) _ _ (λ n w r. left (desk_left (passing n m d) m d) (pass_entries t (one_out (next_waker (passing n m d) m d.listings))) (next_at (AtCountOut e)) w r.1) (leave_moves seen d.made d.door d.head d.listings t x q m e at))
+      subst (λ k. Moves IsKept own 0 (λ n. n) (λ n w. Leaving k (next_at (AtCountOut e)) n w)) can
+      (moves_tell IsKept own 0 (λ n. n) _ (λ n w. Leaving m (next_at (AtCountOut e)) n w)
+      (λ n w r. let l = left (desk_left (passing n m d) m d) (pass_entries t (to_whom m n)) (next_at (AtCountOut e)) w r.1 in
+      (l.0, (l.1.0, l.1.1, ap (λ u. has_passed u w.0) l.1.1.number ∙ r.0)))
+      (leave_moves seen d.made d.door d.head d.listings t x q m e at))
   leave_by k _ at can = absurd can
 
   -- a moment that a load marks

@@ -12,7 +12,7 @@ use Rattle.once_core.specs.Steps.{next_at}
 use Rattle.once_world.specs.Record.{Entry}
 use Rattle.once_world.specs.UnderLock.{head_after, is_claim, list_answer, listed_list, listed_ticket, look_answer, looked_list, state_seen}
 use Rattle.once_world.specs.Machine.{AtCountIn, AtDoorPut, AtList, Step, UnderWay, claim_entries, pass_entries, release_entry, release_list, release_wakers}
-use Rattle.once_moments.specs.Kept.{Sheet, sheets, locked}
+use Rattle.once_moments.specs.Kept.{Sheet, has_passed, hands_out, locked, sheets}
 use Rattle.once_parts.specs.declared.act.Section.{Section}
 use Rattle.once_parts.specs.declared.act.Section.TheVariants.{Stand, Get, Put, Found, Take, Look, List as ListOwn, Release, Leave}
 use Rattle.once_parts.specs.Desk.{Desked, behind, desked}
@@ -95,6 +95,7 @@ Moment (Release r) n d x e y = (e ≡ desk_released r d)
     × Did x (release_entry x.task.kept x.number (release_wakers r d.listings) ∷ []) (release_next x.task.step) y × HandsEach r d.listings
 Moment (Leave k) n d x e y = (e ≡ desk_left (passing n k d) k d)
     × Did x (pass_entries x.number (one_out (next_waker (passing n k d) k d.listings))) (leave_next x.task.step) y
+    × (has_passed y.number y.log ≡ hands_out (one_out (next_waker (passing n k d) k d.listings)))
 
 -- the same by the view: the hand has both pages and the task's still
 abbrev pub Tells : Section → View Entry Sheet → ℕ → View Entry Sheet → Type 0

@@ -43,6 +43,7 @@ impl<W: TaskWaker> Keyed for Desk<W> {
 impl<W: TaskWaker + Drop> Desk<W> {
     ghost use Rattle.once_core.specs.Steps.{next_at};
     ghost use Rattle.once_world.specs.Machine.{AtCountIn, AtDoorPut, UnderWay, claim_entries, is_claim, pass_entries, release_entry};
+    ghost use Rattle.once_moments.specs.Kept.{has_passed, hands_out};
     ghost use Rattle.once_moments.specs.Named.{named_one, named_out};
     ghost use Rattle.once_moments.specs.Steps.{answer_as};
     ghost use Rattle.once_parts.specs.Desk.{desk_sheets, first_desk};
@@ -196,6 +197,7 @@ impl<W: TaskWaker + Drop> Desk<W> {
         ensures book { hand.new.seen.book ≡ hand.old.seen.book }
         ensures did { Did (own_of hand.old) (pass_entries (own_of hand.old).number (named_one W.whose result))
             (leave_next (own_of hand.old).task.step) (own_of hand.new) }
+        ensures passed { has_passed (own_of hand.new).number (own_of hand.new).log ≡ hands_out (named_one W.whose result) }
     {
         note(&mut self.pens, hand, &Section::Stand);
         let Some(queue) = &mut self.lists else {

@@ -19,10 +19,10 @@ use Rattle.once_world.proofs.Moment.Numbers.{release_more}
 use Rattle.once_world.proofs.Moment.Pages.{set_other, zero_one}
 use Rattle.once_world.proofs.Moment.Sections.{leave_load, list_load, look_load, release_add}
 use Rattle.once_world.proofs.Moment.Step.{Stepped, told}
-use Rattle.once_moments.specs.Kept.{IsKept, Leaves, locked, most, sheets}
-use Rattle.once_moments.proofs.Forms.{moves, notes, put_moves}
+use Rattle.once_moments.specs.Kept.{IsKept, Leaves, has_passed, hands_out, locked, most, sheets}
+use Rattle.once_moments.proofs.Forms.{moves, notes, put_moves, telling_moves}
 use Rattle.once_world.proofs.Told.Listings.{fill_hands_all}
-use Rattle.once_moments.proofs.Facts.{bare_at, door_at, look_is, queue_at, unset_at}
+use Rattle.once_moments.proofs.Facts.{bare_at, door_at, look_is, passed_at, queue_at, unset_at}
 use Rattle.once_moments.proofs.Moves.Words.{set_same, some}
 
 module _ (seen : List Entry) (made : ℕ) (door : Option ℕ) (head : Bool) (xs : List (Listing ℕ)) (t : ℕ) (x : TaskState) where
@@ -113,20 +113,22 @@ module _ (seen : List Entry) (made : ℕ) (door : Option ℕ) (head : Bool) (xs 
             (release_add most n put slot pages log t x some book on.1.1.0 head xs on.1.0 q e at),
       ))
 
-  -- AtLeave
+  -- AtLeave: the log says that the turn was passed on just where somebody is handed out
   abbrev pub passing : ℕ → ℕ → Bool
   passing k n = passes_turn (shows_free (flags_of n) head) k xs
 
   -- a load, with the lock
   pub leave_moves : (q k : ℕ) (e : Ending) → x.step ≡ UnderWay (AtLeave q k e)
       → Moves IsKept (seen, sheets (locked made door head xs t x)) 0 (λ n. n)
-      (λ n v. Unit {0} × Leaves seen (locked made door head xs t x) (pages_after made door head (left_list (passing k n) k xs) (next_at (AtCountOut e)))
+      (λ n v. (has_passed t v.0 ≡ hands_out (one_out (next_waker (passing k n) k xs)))
+      × Leaves seen (locked made door head xs t x) (pages_after made door head (left_list (passing k n) k xs) (next_at (AtCountOut e)))
       (told t x.kept (next_at (AtCountOut e)) (pass_entries t (one_out (next_waker (passing k n) k xs)))) v)
-  leave_moves q k e at = moves seen (locked made door head xs t x) (λ n. n)
+  leave_moves q k e at = telling_moves seen (locked made door head xs t x) (λ n. n)
       (λ n. pages_after made door head (left_list (passing k n) k xs) (next_at (AtCountOut e)))
-      (λ n. told t x.kept (next_at (AtCountOut e)) (pass_entries t (one_out (next_waker (passing k n) k xs)))) (λ n. Unit {0})
+      (λ n. told t x.kept (next_at (AtCountOut e)) (pass_entries t (one_out (next_waker (passing k n) k xs))))
+      (λ n log. has_passed t log ≡ hands_out (one_out (next_waker (passing k n) k xs)))
       (λ n put slot pages log book on. (
-        tt,
+        passed_at most n put slot pages log t x some book on.1.1.0 q k e at (one_out (next_waker (passing k n) k xs)),
         only_queue most n put slot pages log (pass_entries t (one_out (next_waker (passing k n) k xs))) (next_at (AtCountOut e)) on.0 on.1.0 head (left_list (passing k n) k xs)
             (leave_load most n put slot pages log t x some book on.1.1.0 head xs on.1.0 q k e at),
       ))
