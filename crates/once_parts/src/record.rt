@@ -10,9 +10,9 @@ use crate::book::Record;
 /// Shows that what was seen of a record is a run of the cell, and that at each of its beginnings somebody was called where
 /// somebody had to be. It does nothing.
 #[inline(always)]
-pub fn is_run(record: &Record)
-    ensures run { IsRun Once most (reverse record.now.log) }
-    ensures called { AtEvery (SomebodyCalled Once) (reverse record.now.log) }
+pub fn is_run(seen: &Record)
+    ensures run { IsRun Once most (reverse seen.now.log) }
+    ensures called { AtEvery (SomebodyCalled Once) (reverse seen.now.log) }
 {
-    record.again().learn(record);
+    seen.again().learn(seen);
 }

@@ -85,17 +85,17 @@ impl<T, W: TaskWaker + Drop> Inner<T, W> {
 
     /// Looks for the value: one load of the word. Where that is ready the value is there.
     #[inline(always)]
-    pub fn look<'a>(&'a self, record: &mut Record) -> Option<(&'a T, Written<T>)>
-        requires book { record.old.book ≡ self.now.slot.book }
-        ensures book { record.new.book ≡ record.old.book }
-        ensures look { Looked (is_some result) record.old.log record.new.log }
-        ensures filled { is_some result ≡ true → WasFilled record.new.log }
+    pub fn look<'a>(&'a self, seen: &mut Record) -> Option<(&'a T, Written<T>)>
+        requires book { seen.old.book ≡ self.now.slot.book }
+        ensures book { seen.new.book ≡ seen.old.book }
+        ensures look { Looked (is_some result) seen.old.log seen.new.log }
+        ensures filled { is_some result ≡ true → WasFilled seen.new.log }
         ensures value { IfSome result (λ r. (r.0.now ≡ r.1.value) × (r.1.of ≡ self.now.slot.id)) }
     {
-        let mut none = record.no_pens();
-        let word = self.word.load::<(), Looks>(&(), record, &mut none);
+        let mut none = seen.no_pens();
+        let word = self.word.load::<(), Looks>(&(), seen, &mut none);
         if word >= READY_BIT {
-            return Some(self.slot.get(record));
+            return Some(self.slot.get(seen));
         }
         None
     }
