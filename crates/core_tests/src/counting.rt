@@ -55,6 +55,8 @@ impl Counting {
 impl Side<u64> for Counting {
     ghost did_wake = { λ _ out after. after.woken ≡ Some out };
 
+    type Value = ();
+
     ghost stays = { λ _ _. ⊤ };
 
     ghost stays_same = { λ a. Prim.search rules };

@@ -23,9 +23,11 @@ struct Task<S> {
     side: S,
 }
 
-impl<S: Side<u64>> Task<S> {
+impl<S: Side<u64, Value = ()>> Task<S> {
     // A whole poll, where the task is not finished.
-    fn poll<R: Wait + AllocGlobal>(&mut self, rt: &R, inner: &Inner<u64>) -> Option<Ending> {
+    fn poll<R: Wait + AllocGlobal>(&mut self, rt: &R, inner: &Inner<u64>) -> Option<Ending>
+        requires { (s : S) → S.can_put s }
+    {
         if !self.step.is_resting() {
             return None;
         }
@@ -96,6 +98,8 @@ impl<'a, R: Wait + AllocGlobal> Meddling<'a, R> {
 }
 
 impl<R: Wait + AllocGlobal> Side<u64> for Meddling<'_, R> {
+    type Value = ();
+
     ghost stays = { λ _ _. ⊤ };
 
     ghost stays_same = { λ _. tt };

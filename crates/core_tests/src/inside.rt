@@ -72,7 +72,7 @@ struct Task<'a, S> {
     side: S,
 }
 
-impl<'a, S: Side<Seat>> Task<'a, S> {
+impl<'a, S: Side<Seat, Value = ()>> Task<'a, S> {
     fn new(cell: &'a OnceCell<u64>, side: S) -> Task<'a, S> {
         Task {
             cell,
@@ -82,7 +82,9 @@ impl<'a, S: Side<Seat>> Task<'a, S> {
     }
 
     // A whole poll, where the task is not finished.
-    fn poll<R: Wait + AllocGlobal>(&mut self, rt: &R) -> Option<Ending> {
+    fn poll<R: Wait + AllocGlobal>(&mut self, rt: &R) -> Option<Ending>
+        requires { (s : S) → S.can_put s }
+    {
         if !self.step.is_resting() {
             return None;
         }
@@ -137,6 +139,8 @@ impl<'a, 't, R: Wait + AllocGlobal> Meddling<'a, 't, R> {
 }
 
 impl<R: Wait + AllocGlobal> Side<Seat> for Meddling<'_, '_, R> {
+    type Value = ();
+
     ghost stays = { λ _ _. ⊤ };
 
     ghost stays_same = { λ _. tt };
@@ -297,6 +301,8 @@ impl<'a, 't, R: Wait + AllocGlobal> Stranding<'a, 't, R> {
 }
 
 impl<R: Wait + AllocGlobal> Side<Seat> for Stranding<'_, '_, R> {
+    type Value = ();
+
     ghost stays = { λ _ _. ⊤ };
 
     ghost stays_same = { λ _. tt };
@@ -388,6 +394,8 @@ struct Nested<'a, 't, R> {
 }
 
 impl<R: Wait + AllocGlobal> Side<Seat> for Nested<'_, '_, R> {
+    type Value = ();
+
     ghost stays = { λ _ _. ⊤ };
 
     ghost stays_same = { λ _. tt };

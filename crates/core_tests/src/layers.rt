@@ -148,6 +148,8 @@ struct Alone;
 impl Parts<u64> for Alone {
     type Queue = u64;
 
+    type Value = ();
+
     fn load(&mut self) -> u64 {
         NEW
     }
@@ -185,6 +187,12 @@ impl Parts<u64> for Alone {
     fn section(&mut self, _queue: &u64, _op: &mut Op<u64>) -> Answer<u64> {
         Answer::Gone
     }
+
+    fn refuse(&mut self) {}
+
+    fn ran(&mut self, _answer: Polled) {}
+
+    fn put(&mut self, _value: ()) {}
 }
 
 /// The steps of one poll, and how many the call may still take after each.

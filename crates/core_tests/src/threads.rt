@@ -119,6 +119,8 @@ struct Alone<'a> {
 }
 
 impl Side<u64> for Alone<'_> {
+    type Value = ();
+
     ghost stays = { λ _ _. ⊤ };
 
     ghost stays_same = { λ _. tt };

@@ -18,7 +18,7 @@ use Rattle.once_core.specs.declared.step.place.Place.TheVariants.{Leave as AtLea
 use Rattle.once_core.specs.declared.step.place.Place.TheVariants.{DoorTake as AtDoorTake}
 use Rattle.once_core.specs.declared.step.Step.{Step}
 use Rattle.once_core.specs.declared.step.Step.TheVariants.{Resting, UnderWay, Finished}
-use Rattle.once_core.specs.Steps.{SideTells, Line, Advances, Follows, MayClose, Next, AfterLook, Wakes, out_of, after_look, next_at, next_end}
+use Rattle.once_core.specs.Steps.{SideTells, Line, Advances, Follows, MayClose, MayRefuse, Next, AfterLook, Wakes, out_of, after_look, next_at, next_end}
 use Rattle.once_core.specs.Chain.{Makes}
 use Rattle.once_core.specs.Chain.Makes.{none, next}
 use Rattle.once_cells.specs.Calls.{silent_parts, silent_side}
@@ -33,20 +33,25 @@ wakes : {W : Type 0} (o : Option (Out W)) → Wakes {S = ⊤} (λ _ _ _. ⊤) o 
 wakes (Some o) = tt
 wakes None = refl
 
+-- the copy of a waker is refused or not
+refuses : {W : Type 0} (c : Option W) → MayRefuse {P = ⊤} (λ _ _. ⊤) c tt tt
+refuses (Some w) = refl
+refuses None = tt
+
 module _ {S W Q : Type 0} (side : SideTells S W) where
   follows : (n : Next W Q) (s s' : S) (r : Progress) (t : Step W Q) → Follows side.close n s s' r t → Follows {S = ⊤} (λ _ _. ⊤) n tt tt r t
   follows n s s' r t (c, e, f) = (closes n.closes, e, f)
 
-  look : (a : Answer W) (q : Q) (k : Option ℕ) (s s' : S) (r : Progress) (t : Step W Q)
-      → AfterLook side.close side.copy a q k s s' r t → AfterLook {S = ⊤} (λ _ _. ⊤) (λ _ _ _. ⊤) a q k tt tt r t
-  look Ready q k s s' r t f = follows (after_look Ready None q k) s s' r t f
-  look Claimed q k s s' r t f = follows (after_look Claimed None q k) s s' r t f
-  look Listed q k s s' r t f = follows (after_look Listed None q k) s s' r t f
-  look Memory q k s s' r t (c, m, d, f) = (c, tt, tt, follows _ m s' r t f)
-  look Held q k s s' r t (c, m, d, f) = (c, tt, tt, follows _ m s' r t f)
-  look Gone q k s s' r t (c, m, d, f) = (c, tt, tt, follows _ m s' r t f)
-  look (Released o) q k s s' r t (c, m, d, f) = (c, tt, tt, follows _ m s' r t f)
-  look (Left w) q k s s' r t (c, m, d, f) = (c, tt, tt, follows _ m s' r t f)
+  look : {P : Type 0} (a : Answer W) (q : Q) (k : Option ℕ) (n : P) (s : S) (r : Progress) (t : Step W Q) (p' : P) (s' : S)
+      → AfterLook (λ _ _. ⊤) side.close side.copy a q k n s r t p' s' → AfterLook {P = ⊤} {S = ⊤} (λ _ _. ⊤) (λ _ _. ⊤) (λ _ _ _. ⊤) a q k tt tt r t tt tt
+  look Ready q k n s r t p' s' (e, f) = (refl, follows (after_look Ready None q k) s s' r t f)
+  look Claimed q k n s r t p' s' (e, f) = (refl, follows (after_look Claimed None q k) s s' r t f)
+  look Listed q k n s r t p' s' (e, f) = (refl, follows (after_look Listed None q k) s s' r t f)
+  look Memory q k n s r t p' s' (c, m, d, e, f) = (c, tt, tt, refuses c, follows _ m s' r t f)
+  look Held q k n s r t p' s' (c, m, d, e, f) = (c, tt, tt, refuses c, follows _ m s' r t f)
+  look Gone q k n s r t p' s' (c, m, d, e, f) = (c, tt, tt, refuses c, follows _ m s' r t f)
+  look (Released o) q k n s r t p' s' (c, m, d, e, f) = (c, tt, tt, refuses c, follows _ m s' r t f)
+  look (Left w) q k n s r t p' s' (c, m, d, e, f) = (c, tt, tt, refuses c, follows _ m s' r t f)
 
 module _ {P S W Q : Type 0} (side : SideTells S W) (limit : ℕ) where
   line : (at : Place W Q) (p : P) (s : S) (r : Progress) (t : Step W Q) (p' : P) (s' : S)
@@ -57,10 +62,10 @@ module _ {P S W Q : Type 0} (side : SideTells S W) (limit : ℕ) where
   line AtDoorPut p s r t p' s' (q, d, f) = (q, tt, follows side _ s s' r t f)
   line (AtCountIn q) p s r t p' s' (n, d, f) = (n, tt, follows side _ s s' r t f)
   line (AtWaitLoad q k) p s r t p' s' (w, d, f) = (w, tt, follows side _ s s' r t f)
-  line (AtLook q k) p s r t p' s' (a, o, d, f) = (a, o, tt, look side a q (ticket_in o) s s' r t f)
+  line (AtLook q k) p s r t p' s' (a, o, n, d, f) = (a, o, tt, tt, look side a q (ticket_in o) n s r t p' s' f)
   line (AtList q k w) p s r t p' s' (a, o, d, f) = (a, o, tt, follows side _ s s' r t f)
-  line (AtRun by) p s r t p' s' (a, m, d, e, f) = (a, tt, tt, refl, follows side _ m s' r t f)
-  line (AtPut by) p s r t p' s' (d, e, f, h) = (tt, refl, f, h)
+  line (AtRun by) p s r t p' s' (a, m, d, e, f) = (a, tt, tt, tt, follows side _ m s' r t f)
+  line (AtPut by) p s r t p' s' (d, e, f, h) = (tt, tt, f, h)
   line (AtFast e) p s r t p' s' (b, d, f) = (b, tt, follows side _ s s' r t f)
   line (AtAddOne e) p s r t p' s' (d, f) = (tt, follows side (next_at (AtDoorAgain e)) s s' r t f)
   line (AtDoorAgain e) p s r t p' s' (q, d, f) = (q, tt, follows side _ s s' r t f)

@@ -36,6 +36,9 @@ silent_parts = record {
   door_put = λ _ _ _. ⊤;
   door_take = λ _ _ _. ⊤;
   section = λ _ _ _ _ _ _. ⊤;
+  refuse = λ _ _. ⊤;
+  ran = λ _ _ _. ⊤;
+  put = λ _ _. ⊤;
 }
 
 -- a side of which nothing is told

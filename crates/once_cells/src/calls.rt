@@ -16,12 +16,13 @@ use std::sync::Wait;
 /// The futures of the cells do not call it: a poll of theirs makes the same steps in two parts. It is for
 /// a side of one's own.
 #[inline(always)]
-pub fn whole_poll<W: WakerId + Drop, R: Wait + AllocGlobal, S: Side<W>>(
+pub fn whole_poll<W: WakerId + Drop, R: Wait + AllocGlobal, S: Side<W, Value = ()>>(
     parts: &mut Shared<'_, '_, W, R>,
     step: &mut Step<W, Queue<W>>,
     side: &mut S,
 ) -> Ending
-    requires { is_resting step.old ≡ true }
+    requires rests { is_resting step.old ≡ true }
+    requires puts { (s : S) → S.can_put s }
     ensures ended { in_call step.new ≡ false }
     ensures steps { Calls silent_parts
         record {
@@ -39,12 +40,13 @@ pub fn whole_poll<W: WakerId + Drop, R: Wait + AllocGlobal, S: Side<W>>(
 }
 
 /// A whole drop of a task that is not finished. It may wait as [`whole_poll`].
-pub fn whole_drop<W: WakerId + Drop, R: Wait + AllocGlobal, S: Side<W>>(
+pub fn whole_drop<W: WakerId + Drop, R: Wait + AllocGlobal, S: Side<W, Value = ()>>(
     parts: &mut Shared<'_, '_, W, R>,
     step: &mut Step<W, Queue<W>>,
     side: &mut S,
 )
-    requires { is_resting step.old ≡ true }
+    requires rests { is_resting step.old ≡ true }
+    requires puts { (s : S) → S.can_put s }
     ensures ended { in_call step.new ≡ false }
     ensures steps { Drops silent_parts
         record {
@@ -63,11 +65,12 @@ pub fn whole_drop<W: WakerId + Drop, R: Wait + AllocGlobal, S: Side<W>>(
 
 // Makes the steps of the call that is under way. There are at most sixteen.
 #[inline(always)]
-pub(crate) fn go_on<W: WakerId + Drop, R: Wait + AllocGlobal, S: Side<W>>(
+pub(crate) fn go_on<W: WakerId + Drop, R: Wait + AllocGlobal, S: Side<W, Value = ()>>(
     parts: &mut Shared<'_, '_, W, R>,
     step: &mut Step<W, Queue<W>>,
     side: &mut S,
 ) -> Ending
+    requires puts { (s : S) → S.can_put s }
     ensures ended { in_call step.new ≡ false }
     ensures steps { Calls silent_parts
         record {

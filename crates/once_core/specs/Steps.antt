@@ -238,13 +238,27 @@ module _ {S W Q : Type 0} (close : S → S → Type 0) where
   abbrev pub Follows : Next W Q → S → S → Progress → Step W Q → Type 0
   Follows n s s' r t = MayClose close n.closes s s' × (r ≡ n.progress) × (t ≡ n.step)
 
-module _ {S W Q : Type 0} (close : S → S → Type 0) (copy : S → Option W → S → Type 0) where
+-- after a look, whether the waker is to be copied: another task holds, and it is not listed
+abbrev pub wants_copy : {W : Type 0} → Op W → SectionAnswer W → Bool
+wants_copy (LookOp k) Ready = false
+wants_copy (LookOp k) Claimed = false
+wants_copy (LookOp k) Listed = false
+wants_copy (LookOp k) a = true
+wants_copy op a = false
+
+-- the parts are told of a copy that was refused
+abbrev pub MayRefuse : {P W : Type 0} → (P → P → Type 0) → Option W → P → P → Type 0
+MayRefuse refuse None p p' = refuse p p'
+MayRefuse refuse (Some w) p p' = p' ≡ p
+
+module _ {P S W Q : Type 0} (refuse : P → P → Type 0) (close : S → S → Type 0) (copy : S → Option W → S → Type 0) where
   -- after a look, with the ticket that it left: where another task holds and the waker is not listed, it is copied
-  abbrev pub AfterLook : SectionAnswer W → Q → Option ℕ → S → S → Progress → Step W Q → Type 0
-  AfterLook Ready q k s s' r t = Follows close (after_look Ready None q k) s s' r t
-  AfterLook Claimed q k s s' r t = Follows close (after_look Claimed None q k) s s' r t
-  AfterLook Listed q k s s' r t = Follows close (after_look Listed None q k) s s' r t
-  AfterLook a q k s s' r t = (c : Option W) × (m : S) × copy s c m × Follows close (after_look a c q k) m s' r t
+  abbrev pub AfterLook : SectionAnswer W → Q → Option ℕ → P → S → Progress → Step W Q → P → S → Type 0
+  AfterLook Ready q k p s r t p' s' = (p' ≡ p) × Follows close (after_look Ready None q k) s s' r t
+  AfterLook Claimed q k p s r t p' s' = (p' ≡ p) × Follows close (after_look Claimed None q k) s s' r t
+  AfterLook Listed q k p s r t p' s' = (p' ≡ p) × Follows close (after_look Listed None q k) s s' r t
+  AfterLook a q k p s r t p' s' =
+      (c : Option W) × (m : S) × copy s c m × MayRefuse refuse c p p' × Follows close (after_look a c q k) m s' r t
 
 -- what the section of a release, or of one who leaves, hands out; any other answer hands nothing out
 abbrev pub out_of : {W : Type 0} → SectionAnswer W → Option (Out W)
@@ -257,22 +271,45 @@ abbrev pub Wakes : {S W : Type 0} → (S → Out W → S → Type 0) → Option 
 Wakes wake (Some out) s s' = wake s out s'
 Wakes wake None s s' = s' ≡ s
 
-module _ {P W Q : Type 0} (can_add_one can_count_out can_log : P → Type 0) (can_section : P → Q → Op W → Type 0) where
-  -- what the call of a place asks of the parts
-  abbrev pub AsksAt : Place W Q → P → Type 0
-  AsksAt AtDoorPut p = can_log p
-  AsksAt (AtLook q k) p = can_log p × can_section p q (LookOp k)
-  AsksAt (AtList q k w) p = can_log p × can_section p q (ListOp k (Some w))
-  AsksAt (AtAddOne e) p = can_add_one p
-  AsksAt (AtRelease q e) p = can_log p × can_section p q (ReleaseOp (is_value e))
-  AsksAt (AtLeave q n e) p = can_log p × can_section p q (LeaveOp n)
-  AsksAt (AtCountOut e) p = can_count_out p
-  AsksAt (AtDoorTake e) p = can_log p
-  AsksAt _ p = Unit {0}
+-- what the calls of the parts ask: the parts before, and what is given
+pub record PartsAsk (P W Q : Type 0) : Type 1 where
+  pub load : P → Type 0
+  pub quick : P → Type 0
+  pub fast : P → Bool → Type 0
+  pub count_in : P → ℕ → Type 0
+  pub add_one : P → Type 0
+  pub count_out : P → Type 0
+  pub door_get : P → Type 0
+  pub door_put : P → Type 0
+  pub door_take : P → Type 0
+  pub section : P → Q → Op W → Type 0
+  pub ran : P → Polled → Type 0
+  pub put : P → Type 0
 
-  abbrev pub Asks : Step W Q → P → Type 0
-  Asks (UnderWay at) p = AsksAt at p
-  Asks _ p = Unit {0}
+module _ {P S W Q : Type 0} (parts : PartsAsk P W Q) (can_put : S → Type 0) (limit : ℕ) where
+  -- what the calls of a place ask of the parts and of the side
+  abbrev pub AsksAt : Place W Q → P → S → Type 0
+  AsksAt AtStart p s = parts.load p
+  AsksAt AtTryQuick p s = parts.quick p
+  AsksAt AtDoorGet p s = parts.door_get p
+  AsksAt AtDoorPut p s = parts.door_put p
+  AsksAt (AtCountIn q) p s = parts.count_in p limit
+  AsksAt (AtWaitLoad q k) p s = parts.load p
+  AsksAt (AtLook q k) p s = parts.section p q (LookOp k)
+  AsksAt (AtList q k w) p s = parts.section p q (ListOp k (Some w))
+  AsksAt (AtRun by) p s = (a : Polled) → parts.ran p a
+  AsksAt (AtPut by) p s = parts.put p × can_put s
+  AsksAt (AtFast e) p s = parts.fast p (is_value e)
+  AsksAt (AtAddOne e) p s = parts.add_one p
+  AsksAt (AtDoorAgain e) p s = parts.door_get p
+  AsksAt (AtRelease q e) p s = parts.section p q (ReleaseOp (is_value e))
+  AsksAt (AtLeave q n e) p s = parts.section p q (LeaveOp n)
+  AsksAt (AtCountOut e) p s = parts.count_out p
+  AsksAt (AtDoorTake e) p s = parts.door_take p
+
+  abbrev pub Asks : Step W Q → P → S → Type 0
+  Asks (UnderWay at) p s = AsksAt at p s
+  Asks _ p s = Unit {0}
 
 -- what the calls of the parts tell: the parts before, what was given and answered, and the parts after
 pub record PartsTell (P W Q : Type 0) : Type 1 where
@@ -286,6 +323,9 @@ pub record PartsTell (P W Q : Type 0) : Type 1 where
   pub door_put : P → Option Q → P → Type 0
   pub door_take : P → Bool → P → Type 0
   pub section : P → Q → Op W → SectionAnswer W → Op W → P → Type 0
+  pub refuse : P → P → Type 0
+  pub ran : P → Polled → P → Type 0
+  pub put : P → P → Type 0
 
 -- the same for the calls of the side
 pub record SideTells (S W : Type 0) : Type 1 where
@@ -311,15 +351,15 @@ module _ {P S W Q : Type 0} (parts : PartsTell P W Q) (side : SideTells S W) whe
   Line limit (AtWaitLoad q k) p s r t p' s' =
       (w : ℕ) × parts.load p w p' × Follows side.close (after_load (flags_of w).ready q k) s s' r t
   Line limit (AtLook q k) p s r t p' s' =
-      (a : SectionAnswer W) × (o : Op W) × parts.section p q (LookOp k) a o p'
-      × AfterLook side.close side.copy a q (ticket_in o) s s' r t
+      (a : SectionAnswer W) × (o : Op W) × (n : P) × parts.section p q (LookOp k) a o n
+      × AfterLook parts.refuse side.close side.copy a q (ticket_in o) n s r t p' s'
   Line limit (AtList q k w) p s r t p' s' =
       (a : SectionAnswer W) × (o : Op W) × parts.section p q (ListOp k (Some w)) a o p'
       × Follows side.close (after_list a q (ticket_in o)) s s' r t
   Line limit (AtRun by) p s r t p' s' =
-      (a : Polled) × (m : S) × side.run s a m × (p' ≡ p) × Follows side.close (after_run a by) m s' r t
+      (a : Polled) × (m : S) × side.run s a m × parts.ran p a p' × Follows side.close (after_run a by) m s' r t
   Line limit (AtPut by) p s r t p' s' =
-      side.put s s' × (p' ≡ p) × (r ≡ More) × (t ≡ UnderWay (release_place by EndValue))
+      side.put s s' × parts.put p p' × (r ≡ More) × (t ≡ UnderWay (release_place by EndValue))
   Line limit (AtFast e) p s r t p' s' =
       (b : Bool) × parts.fast p (is_value e) b p' × Follows side.close (after_fast b (is_value e) e) s s' r t
   Line limit (AtAddOne e) p s r t p' s' = parts.add_one p p' × Follows side.close (next_at (AtDoorAgain e)) s s' r t

@@ -4,6 +4,7 @@ ghost use Rattle.once_queue.specs.Room.{listings_of};
 ghost use Rattle.std.specs.Prelude.{◌≡◌, ◌<◌, ◌≤◌, ◌+◌, ◌-◌, ◌^◌, ◌++◌, ◌∷◌, true, false, [], Some, None, Option, OnOk, IsSome, IsTrue, ◌↔◌, not, vec_len, vec_capacity};
 
 use crate::parts::{Counted, Parts, QueueLine};
+use crate::step::Polled;
 use once_queue::waiters::{Answer, Lists, Op, Out, WakerId};
 use once_queue::word::Word;
 use std::alloc::{AllocError, Global};
@@ -184,6 +185,9 @@ impl<W: WakerId + Drop> Parts<W> for Core<W> {
 
     type Queue = u64;
 
+    // The side of a task keeps the value.
+    type Value = ();
+
     ghost did_load = { λ s w t. DidLoad (state_of s) w (state_of t) };
 
     ghost did_quick = { λ s won t. DidQuick (state_of s) won (state_of t) };
@@ -202,16 +206,24 @@ impl<W: WakerId + Drop> Parts<W> for Core<W> {
 
     ghost did_door_get = { λ s q t. DidDoorGet (state_of s) q (state_of t) };
 
-    ghost can_log = { λ s. HasRoom s };
+    ghost can_door_put = { λ s. HasRoom s };
 
     ghost did_door_put = { λ s q t. DidDoorPut (state_of s) q (state_of t) };
 
+    ghost can_door_take = { λ s. HasRoom s };
+
     ghost did_door_take = { λ s stood t. DidDoorTake (state_of s) stood (state_of t) };
 
-    ghost can_section = { λ s q op. CanSection (state_of s) q op };
+    ghost can_section = { λ s q op. HasRoom s × CanSection (state_of s) q op };
 
     ghost did_section = { λ s q op a o t.
         DidSection W.tells_same W.tells_other (state_of s) q op a o (state_of t) };
+
+    ghost did_refuse = { λ s t. t ≡ s };
+
+    ghost did_ran = { λ s answer t. t ≡ s };
+
+    ghost did_put = { λ s t. t ≡ s };
 
     fn load(&mut self) -> u64 {
         self.word.bits()
@@ -281,4 +293,10 @@ impl<W: WakerId + Drop> Parts<W> for Core<W> {
             Op::Leave(ticket) => Answer::Left(self.leave(*ticket)),
         }
     }
+
+    fn refuse(&mut self) {}
+
+    fn ran(&mut self, _answer: Polled) {}
+
+    fn put(&mut self, _value: ()) {}
 }

@@ -1,6 +1,7 @@
 //! One step of a call at a time, over any parts and any side.
 ghost use Rattle.once_core.specs.Steps.{Wakes, out_of};
 ghost use Rattle.once_core.specs.Chain.{Makes};
+ghost use Rattle.once_queue.specs.declared.word.TheConstants.{MAX_WAITERS};
 ghost use Rattle.std.specs.Prelude.{◌≡◌, ◌<◌, ◌≤◌, ◌-◌, ◌^◌, ◌↔◌, IsTrue, ℕ, Bool, true, false, Option, Some, None};
 ghost use Rattle.once_queue.specs.declared.waiters.Answer.{Answer};
 ghost use Rattle.once_queue.specs.declared.waiters.Op.{Op};
@@ -50,6 +51,9 @@ pub enum Progress {
 /// call here a ghost member says what it answers and leaves; a member that is left out says nothing.
 /// All of these calls keep `stays`.
 pub trait Side<W> {
+    /// What the init gives, where the parts keep it.
+    type Value;
+
     ghost use Rattle.std.specs.Prelude.{⊤, Option};
     ghost use Rattle.once_queue.specs.declared.waiters.Out.{Out};
     ghost use Rattle.once_core.specs.declared.step.Polled.{Polled};
@@ -57,6 +61,8 @@ pub trait Side<W> {
     ghost did_run: { Self → Polled → Self → Type 0 } = { λ _ _ _. ⊤ };
 
     ghost did_close: { Self → Self → Type 0 } = { λ _ _. ⊤ };
+
+    ghost can_put: { Self → Type 0 } = { λ _. ⊤ };
 
     ghost did_put: { Self → Self → Type 0 } = { λ _ _. ⊤ };
 
@@ -77,8 +83,9 @@ pub trait Side<W> {
         ensures did { did_close self.old self.new }
         ensures stays { stays self.old self.new };
 
-    /// Sets the value that the init gave.
-    fn put(&mut self)
+    /// Gives the value that the init gave to the parts, or sets it.
+    fn put(&mut self) -> Self::Value
+        requires { can_put self.old }
         ensures did { did_put self.old self.new }
         ensures stays { stays self.old self.new };
 
@@ -206,13 +213,45 @@ impl<W: Drop, Q: Drop> Step<W, Q> {
     /// the init, the value, the fast release. `More` says that another task was met or that the init
     /// failed: [`advance`](Self::advance) goes on from there.
     #[inline(always)]
-    pub fn first_steps<P: Parts<W, Queue = Q>, S: Side<W>>(
+    pub fn first_steps<P: Parts<W, Queue = Q>, S: Side<W, Value = P::Value>>(
         &mut self,
         parts: &mut P,
         side: &mut S,
     ) -> Progress
         requires new { self.old ≡ Step.Resting Rest.Start }
-        requires log { (p : P) → P.can_log p }
+        requires asks { (told : Progress) → (at : Step W Q) → (p : P) → (s : S) → Makes
+            record {
+              load = P.did_load;
+              quick = P.did_quick;
+              fast = P.did_fast;
+              count_in = P.did_count_in;
+              add_one = P.did_add_one;
+              count_out = P.did_count_out;
+              door_get = P.did_door_get;
+              door_put = P.did_door_put;
+              door_take = P.did_door_take;
+              section = P.did_section;
+              refuse = P.did_refuse;
+              ran = P.did_ran;
+              put = P.did_put;
+            }
+            record { run = S.did_run; close = S.did_close; put = S.did_put; copy = S.did_copy; wake = S.did_wake }
+            MAX_WAITERS (step_of_poll self.old) parts.old side.old told at p s → Asks
+            record {
+              load = P.can_load;
+              quick = P.can_quick;
+              fast = P.can_fast;
+              count_in = P.can_count_in;
+              add_one = P.can_add_one;
+              count_out = P.can_count_out;
+              door_get = P.can_door_get;
+              door_put = P.can_door_put;
+              door_take = P.can_door_take;
+              section = P.can_section;
+              ran = P.can_ran;
+              put = P.can_put;
+            }
+            S.can_put MAX_WAITERS at p s }
         ensures over { (e : Ending) → result ≡ Progress.Ended e → in_call self.new ≡ false }
         ensures lines { (limit : ℕ) → Makes
             record {
@@ -226,6 +265,9 @@ impl<W: Drop, Q: Drop> Step<W, Q> {
               door_put = P.did_door_put;
               door_take = P.did_door_take;
               section = P.did_section;
+              refuse = P.did_refuse;
+              ran = P.did_ran;
+              put = P.did_put;
             }
             record { run = S.did_run; close = S.did_close; put = S.did_put; copy = S.did_copy; wake = S.did_wake }
             limit (step_of_poll self.old) parts.old side.old result self.new parts.new side.new }
@@ -240,11 +282,11 @@ impl<W: Drop, Q: Drop> Step<W, Q> {
         let Step::UnderWay(Place::Run(None)) = *self else {
             return Progress::More;
         };
-        let told = self.run(None, side);
+        let told = self.run(None, parts, side);
         let Step::UnderWay(Place::Put(None)) = *self else {
             return told;
         };
-        self.put(None, side);
+        self.put(None, parts, side);
         let Step::UnderWay(Place::Fast(ending)) = *self else {
             return Progress::More;
         };
@@ -281,7 +323,7 @@ impl<W: Drop, Q: Drop> Step<W, Q> {
 
     /// Makes one step of the call that is under way.
     #[inline(always)]
-    pub fn advance<P: Parts<W, Queue = Q>, S: Side<W>>(
+    pub fn advance<P: Parts<W, Queue = Q>, S: Side<W, Value = P::Value>>(
         &mut self,
         parts: &mut P,
         side: &mut S,
@@ -289,7 +331,22 @@ impl<W: Drop, Q: Drop> Step<W, Q> {
     ) -> Progress
         requires call { in_call self.old ≡ true }
         requires limit { limit ≤ 2 ^ 62 - 2 }
-        requires asks { Asks P.can_add_one P.can_count_out P.can_log P.can_section self.old parts.old }
+        requires asks { Asks
+            record {
+              load = P.can_load;
+              quick = P.can_quick;
+              fast = P.can_fast;
+              count_in = P.can_count_in;
+              add_one = P.can_add_one;
+              count_out = P.can_count_out;
+              door_get = P.can_door_get;
+              door_put = P.can_door_put;
+              door_take = P.can_door_take;
+              section = P.can_section;
+              ran = P.can_ran;
+              put = P.can_put;
+            }
+            S.can_put limit self.old parts.old side.old }
         ensures lower { left_of self.new < left_of self.old }
         ensures line { Advances
             record {
@@ -303,6 +360,9 @@ impl<W: Drop, Q: Drop> Step<W, Q> {
               door_put = P.did_door_put;
               door_take = P.did_door_take;
               section = P.did_section;
+              refuse = P.did_refuse;
+              ran = P.did_ran;
+              put = P.did_put;
             }
             record { run = S.did_run; close = S.did_close; put = S.did_put; copy = S.did_copy; wake = S.did_wake }
             limit self.old parts.old side.old result self.new parts.new side.new }
@@ -317,11 +377,11 @@ impl<W: Drop, Q: Drop> Step<W, Q> {
             Step::UnderWay(Place::DoorPut) => self.door_put(parts, side),
             Step::UnderWay(Place::Run(ref mut by)) => {
                 let by = by.take();
-                self.run(by, side)
+                self.run(by, parts, side)
             }
             Step::UnderWay(Place::Put(ref mut by)) => {
                 let by = by.take();
-                self.put(by, side)
+                self.put(by, parts, side)
             }
             Step::UnderWay(Place::Fast(ending)) => self.fast(ending, parts),
             Step::UnderWay(Place::AddOne(ending)) => {
@@ -396,6 +456,7 @@ impl<W: Drop, Q: Drop> Step<W, Q> {
 
     #[inline(always)]
     fn start<P: Parts<W, Queue = Q>, S: Side<W>>(&mut self, parts: &mut P, side: &mut S) -> Progress
+        requires { P.can_load parts.old }
         ensures line { (w : ℕ) × P.did_load parts.old w parts.new
             × Follows S.did_close (after_start (flags_of w).ready (is_zero (flags_of w))) side.old side.new result self.new }
         ensures stays { S.stays side.old side.new }
@@ -413,6 +474,7 @@ impl<W: Drop, Q: Drop> Step<W, Q> {
 
     #[inline(always)]
     fn try_quick<P: Parts<W, Queue = Q>>(&mut self, parts: &mut P) -> Progress
+        requires { P.can_quick parts.old }
         ensures line { (b : Bool) × P.did_quick parts.old b parts.new × LeadsTo (after_quick b) result self.new }
     {
         if parts.quick() {
@@ -422,6 +484,7 @@ impl<W: Drop, Q: Drop> Step<W, Q> {
     }
 
     fn door_get<P: Parts<W, Queue = Q>>(&mut self, parts: &mut P) -> Progress
+        requires { P.can_door_get parts.old }
         ensures line { (q : Option Q) × P.did_door_get parts.old q parts.new × LeadsTo (after_door_get q) result self.new }
     {
         match parts.door_get() {
@@ -435,7 +498,7 @@ impl<W: Drop, Q: Drop> Step<W, Q> {
         parts: &mut P,
         side: &mut S,
     ) -> Progress
-        requires { P.can_log parts.old }
+        requires { P.can_door_put parts.old }
         ensures line { (q : Option Q) × P.did_door_put parts.old q parts.new
             × Follows S.did_close (after_door_put q) side.old side.new result self.new }
         ensures stays { S.stays side.old side.new }
@@ -450,12 +513,20 @@ impl<W: Drop, Q: Drop> Step<W, Q> {
     }
 
     #[inline(always)]
-    fn run<S: Side<W>>(&mut self, by: Option<Q>, side: &mut S) -> Progress
-        ensures line { (a : Polled) × (m : S) × S.did_run side.old a m
+    fn run<P: Parts<W, Queue = Q>, S: Side<W>>(
+        &mut self,
+        by: Option<Q>,
+        parts: &mut P,
+        side: &mut S,
+    ) -> Progress
+        requires { (a : Polled) → P.can_ran parts.old a }
+        ensures line { (a : Polled) × (m : S) × S.did_run side.old a m × P.did_ran parts.old a parts.new
             × Follows S.did_close (after_run a by) m side.new result self.new }
         ensures stays { S.stays side.old side.new }
     {
-        match side.run() {
+        let answer = side.run();
+        parts.ran(answer);
+        match answer {
             Polled::Pending => self.rest(Rest::Run(by)),
             Polled::Value => {
                 side.close();
@@ -469,16 +540,25 @@ impl<W: Drop, Q: Drop> Step<W, Q> {
     }
 
     #[inline(always)]
-    fn put<S: Side<W>>(&mut self, by: Option<Q>, side: &mut S) -> Progress
-        ensures line { S.did_put side.old side.new × LeadsTo (next_at (release_place by Ending.Value)) result self.new }
+    fn put<P: Parts<W, Queue = Q>, S: Side<W, Value = P::Value>>(
+        &mut self,
+        by: Option<Q>,
+        parts: &mut P,
+        side: &mut S,
+    ) -> Progress
+        requires parts { P.can_put parts.old }
+        requires side { S.can_put side.old }
+        ensures line { S.did_put side.old side.new × P.did_put parts.old parts.new
+            × LeadsTo (next_at (release_place by Ending.Value)) result self.new }
         ensures stays { S.stays side.old side.new }
     {
-        side.put();
+        parts.put(side.put());
         self.on(Place::giving_back(by, Ending::Value))
     }
 
     #[inline(always)]
     fn fast<P: Parts<W, Queue = Q>>(&mut self, ending: Ending, parts: &mut P) -> Progress
+        requires { P.can_fast parts.old (is_value ending) }
         ensures line { (b : Bool) × P.did_fast parts.old (is_value ending) b parts.new
             × LeadsTo (after_fast b (is_value ending) ending) result self.new }
     {
@@ -493,6 +573,7 @@ impl<W: Drop, Q: Drop> Step<W, Q> {
     }
 
     fn door_again<P: Parts<W, Queue = Q>>(&mut self, ending: Ending, parts: &mut P) -> Progress
+        requires { P.can_door_get parts.old }
         ensures line { (q : Option Q) × P.did_door_get parts.old q parts.new
             × LeadsTo (after_door_again q ending) result self.new }
     {
@@ -509,8 +590,7 @@ impl<W: Drop, Q: Drop> Step<W, Q> {
         parts: &mut P,
         side: &mut S,
     ) -> Progress
-        requires log { P.can_log parts.old }
-        requires can { P.can_section parts.old queue (Op.Release (is_value ending)) }
+        requires { P.can_section parts.old queue (Op.Release (is_value ending)) }
         ensures section { (a : Answer W) × (o : Op W) × P.did_section parts.old queue (Op.Release (is_value ending)) a o parts.new
             × Wakes S.did_wake (out_of a) side.old side.new }
         ensures more { result ≡ Progress.More }

@@ -9,6 +9,7 @@
 //! receives or publishes. They are arguments. Tests try what they claim, and no contract says it.
 
 use once_core::parts::{Counted, Parts};
+use once_core::step::Polled;
 use once_queue::waiters::{Answer, Lists, Op, WakerId};
 use once_queue::word::{NEW, QINIT_BIT, Word};
 use std::alloc::AllocGlobal;
@@ -131,6 +132,9 @@ pub struct Shared<'a, 'r, W: WakerId, R> {
 
 impl<W: WakerId + Drop, R: Wait + AllocGlobal> Parts<W> for Shared<'_, '_, W, R> {
     type Queue = Queue<W>;
+
+    // The side of a task puts the value.
+    type Value = ();
 
     // A word without the ready bit may be out of date at once. No task rests on it: the caller looks at
     // the word again when it claims quickly, when it counts in, and under the queue's lock.
@@ -275,6 +279,15 @@ impl<W: WakerId + Drop, R: Wait + AllocGlobal> Parts<W> for Shared<'_, '_, W, R>
             Op::Leave(ticket) => Answer::Left(lists.leave(*ticket, self.inner.word())),
         }
     }
+
+    #[inline(always)]
+    fn refuse(&mut self) {}
+
+    #[inline(always)]
+    fn ran(&mut self, _answer: Polled) {}
+
+    #[inline(always)]
+    fn put(&mut self, _value: ()) {}
 }
 
 impl<W: WakerId, R> Shared<'_, '_, W, R> {

@@ -74,6 +74,8 @@ pub struct Gated<'a, 'r, 'g, R> {
 impl<R: Wait + AllocGlobal> Parts<u64> for Gated<'_, '_, '_, R> {
     type Queue = Queue<u64>;
 
+    type Value = ();
+
     fn load(&mut self) -> u64 {
         self.shared.load()
     }
@@ -120,6 +122,18 @@ impl<R: Wait + AllocGlobal> Parts<u64> for Gated<'_, '_, '_, R> {
             return self.shared.section(queue, op);
         }
         without_memory(self.shared.section(queue, &mut Op::Look(None)))
+    }
+
+    fn refuse(&mut self) {
+        self.shared.refuse();
+    }
+
+    fn ran(&mut self, answer: Polled) {
+        self.shared.ran(answer);
+    }
+
+    fn put(&mut self, value: ()) {
+        self.shared.put(value);
     }
 }
 
@@ -180,6 +194,8 @@ impl Tested {
 
 impl Parts<u64> for Tested {
     type Queue = u64;
+
+    type Value = ();
 
     fn load(&mut self) -> u64 {
         self.core.load()
@@ -242,6 +258,18 @@ impl Parts<u64> for Tested {
         self.is_broken = true;
         Answer::Gone
     }
+
+    fn refuse(&mut self) {
+        self.core.refuse();
+    }
+
+    fn ran(&mut self, answer: Polled) {
+        self.core.ran(answer);
+    }
+
+    fn put(&mut self, value: ()) {
+        self.core.put(value);
+    }
 }
 
 /// One call of a side, with what it was answered or given.
@@ -294,6 +322,8 @@ impl<'g> Noting<'g> {
 }
 
 impl Side<u64> for Noting<'_> {
+    type Value = ();
+
     ghost stays = { λ _ _. ⊤ };
 
     ghost stays_same = { λ _. tt };

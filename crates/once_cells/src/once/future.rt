@@ -467,6 +467,8 @@ where
     ghost use Rattle.once_cells.specs.Stays.{Stays};
     ghost use Rattle.std.proofs.Common.{rules};
 
+    type Value = ();
+
     ghost stays = { Stays };
 
     #[inline(always)]
@@ -539,6 +541,8 @@ struct Leaving<'a, R> {
 
 impl<R: Wait + AllocGlobal> Side<Seat> for Leaving<'_, R> {
     ghost use Rattle.std.specs.Prelude.{⊤};
+
+    type Value = ();
 
     ghost stays = { λ _ _. ⊤ };
 

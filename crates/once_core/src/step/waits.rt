@@ -15,7 +15,7 @@ impl<W: Drop, Q: Drop> Step<W, Q> {
     ghost use Rattle.once_core.specs.declared.parts.Counted.{Counted};
     ghost use Rattle.once_queue.specs.Word.{flags_of};
     ghost use Rattle.once_queue.specs.Ops.{ticket_in};
-    ghost use Rattle.once_core.specs.Steps.{Follows, AfterLook, after_count_in, after_load, after_copy, after_list};
+    ghost use Rattle.once_core.specs.Steps.{Follows, AfterLook, MayRefuse, after_count_in, after_load, after_copy, after_list};
 
     pub(super) fn count_in<P: Parts<W, Queue = Q>, S: Side<W>>(
         &mut self,
@@ -24,7 +24,8 @@ impl<W: Drop, Q: Drop> Step<W, Q> {
         side: &mut S,
         limit: u64,
     ) -> Progress
-        requires { limit ≤ 2 ^ 62 - 2 }
+        requires limit { limit ≤ 2 ^ 62 - 2 }
+        requires can { P.can_count_in parts.old limit }
         ensures line { (c : Counted) × P.did_count_in parts.old limit c parts.new
             × Follows S.did_close (after_count_in c queue) side.old side.new result self.new }
         ensures stays { S.stays side.old side.new }
@@ -53,6 +54,7 @@ impl<W: Drop, Q: Drop> Step<W, Q> {
         parts: &mut P,
         side: &mut S,
     ) -> Progress
+        requires { P.can_load parts.old }
         ensures line { (w : ℕ) × P.did_load parts.old w parts.new
             × Follows S.did_close (after_load (flags_of w).ready queue ticket) side.old side.new result self.new }
         ensures stays { S.stays side.old side.new }
@@ -71,10 +73,10 @@ impl<W: Drop, Q: Drop> Step<W, Q> {
         parts: &mut P,
         side: &mut S,
     ) -> Progress
-        requires log { P.can_log parts.old }
-        requires can { P.can_section parts.old queue (Op.Look ticket) }
-        ensures line { (a : Answer W) × (o : Op W) × P.did_section parts.old queue (Op.Look ticket) a o parts.new
-            × AfterLook S.did_close S.did_copy a queue (ticket_in o) side.old side.new result self.new }
+        requires { P.can_section parts.old queue (Op.Look ticket) }
+        ensures line { (a : Answer W) × (o : Op W) × (n : P) × P.did_section parts.old queue (Op.Look ticket) a o n
+            × AfterLook P.did_refuse S.did_close S.did_copy a queue (ticket_in o)
+            n side.old result self.new parts.new side.new }
         ensures stays { S.stays side.old side.new }
     {
         let mut op = Op::Look(ticket);
@@ -85,19 +87,28 @@ impl<W: Drop, Q: Drop> Step<W, Q> {
             }
             Answer::Claimed => self.on(Place::Run(Some(queue))),
             Answer::Listed => self.rest(Rest::Wait(queue, op.ticket())),
-            _ => self.copy(queue, op.ticket(), side),
+            _ => self.copy(queue, op.ticket(), parts, side),
         }
     }
 
     // Copies the waker, while another task holds.
-    fn copy<S: Side<W>>(&mut self, queue: Q, ticket: Option<u64>, side: &mut S) -> Progress
+    fn copy<P: Parts<W, Queue = Q>, S: Side<W>>(
+        &mut self,
+        queue: Q,
+        ticket: Option<u64>,
+        parts: &mut P,
+        side: &mut S,
+    ) -> Progress
+        requires { P.can_refuse parts.old }
         ensures line { (c : Option W) × (m : S) × S.did_copy side.old c m
+            × MayRefuse P.did_refuse c parts.old parts.new
             × Follows S.did_close (after_copy c queue ticket) m side.new result self.new }
         ensures stays { S.stays side.old side.new }
     {
         match side.copy() {
             Some(waker) => self.on(Place::List(queue, ticket, waker)),
             None => {
+                parts.refuse();
                 side.close();
                 self.on(Place::leaving(queue, ticket, Ending::Memory))
             }
@@ -112,8 +123,7 @@ impl<W: Drop, Q: Drop> Step<W, Q> {
         parts: &mut P,
         side: &mut S,
     ) -> Progress
-        requires log { P.can_log parts.old }
-        requires can { P.can_section parts.old queue (Op.List ticket (Some waker)) }
+        requires { P.can_section parts.old queue (Op.List ticket (Some waker)) }
         ensures line { (a : Answer W) × (o : Op W) × P.did_section parts.old queue (Op.List ticket (Some waker)) a o parts.new
             × Follows S.did_close (after_list a queue (ticket_in o)) side.old side.new result self.new }
         ensures stays { S.stays side.old side.new }
@@ -141,8 +151,7 @@ impl<W: Drop, Q: Drop> Step<W, Q> {
         parts: &mut P,
         side: &mut S,
     ) -> Progress
-        requires log { P.can_log parts.old }
-        requires can { P.can_section parts.old queue (Op.Leave ticket) }
+        requires { P.can_section parts.old queue (Op.Leave ticket) }
         ensures section { (a : Answer W) × (o : Op W) × P.did_section parts.old queue (Op.Leave ticket) a o parts.new
             × Wakes S.did_wake (out_of a) side.old side.new }
         ensures more { result ≡ Progress.More }

@@ -1,20 +1,41 @@
 -- One step over the core and the side is one step of the machine.
-use Rattle.std.proofs.Common.{◌≡◌, ℕ, [], ◌∷◌, Some, refl, sym, ap, ◌∙◌, subst}
+use Rattle.std.proofs.Common.{◌≡◌, ℕ, [], ◌∷◌, Option, Some, None, refl, sym, ap, ◌∙◌, subst}
 use Rattle.std.specs.Prelude.{◌||◌}
 use Rattle.std.specs.Option.{is_some}
 use Rattle.once_world.specs.declared.world.side.ReplaySide.{ReplaySide}
+use Rattle.once_queue.specs.declared.waiters.Op.TheVariants.{Look as LookOp}
+use Rattle.once_queue.specs.declared.waiters.Answer.{Answer as SectionAnswer}
+use Rattle.once_queue.specs.declared.waiters.Answer.TheVariants.{Ready, Claimed, Listed, Held, Memory as NoMemory, Released, Left, Gone}
 use Rattle.once_queue.specs.Word.{flags_of, is_ready_bit, is_zero}
+use Rattle.once_queue.specs.Ops.{ticket_in}
 use Rattle.once_queue.specs.Listings.{kept_ticket}
 use Rattle.once_core.specs.Core.{CoreState, IsBare, DidAddOne, DidCountIn, DidCountOut, DidDoorGet, DidDoorPut, DidDoorTake, DidFast, DidLoad, DidQuick, put_answer, put_state}
 use Rattle.once_world.specs.Places.{AtAddOne, AtCountIn, AtCountOut, AtDoorAgain, AtDoorGet, AtDoorPut, AtDoorTake, AtFast, AtLeave, AtList, AtLook, AtPut, AtRelease, AtRun, AtStart, AtTryQuick, AtWaitLoad, Finished, Place, Progress, Resting, Step, UnderWay}
-use Rattle.once_core.specs.Steps.{Advances, Follows, Line, PartsTell, SideTells, after_count_out, after_door_again, after_door_get, after_door_put, after_load, after_start, is_value}
+use Rattle.once_core.specs.Steps.{Advances, AfterLook, Follows, Line, MayRefuse, PartsTell, SideTells, after_count_out, after_door_again, after_door_get, after_door_put, after_load, after_start, is_value}
 use Rattle.once_world.specs.Machine.{EnteredLine, out_shared, fast_step, init_answer, list_step, place_lines, place_step, quick_step, step_at, step_lines, word_of, queue_state}
 use Rattle.once_world.specs.Side.{DidClose, DidCopy, DidPut, DidRun, DidWake, answers_in}
 use Rattle.once_world.proofs.Exactness.Outcomes.{IsFresh, IsOutcome, shared_by}
 use Rattle.once_world.proofs.Exactness.ExactWaits.{door_exact, door_put_exact, in_exact, load_exact, quick_exact, start_exact}
-use Rattle.once_world.proofs.Exactness.ExactSections.{NumberSection, list_exact, look_exact}
+use Rattle.once_world.proofs.Exactness.ExactSections.{LookedAt, NumberSection, list_exact, look_exact}
 use Rattle.once_world.proofs.Exactness.ExactReleases.{leave_exact, release_exact}
 use Rattle.once_world.proofs.Exactness.ExactHolds.{add_exact, again_exact, fast_exact, out_exact, put_exact, run_exact, take_exact}
+
+-- a core is as it was where the copy of a waker is refused
+not_refused : {P : Type 0} (w : Option ℕ) (n y : P) → MayRefuse (λ x y. y ≡ x) w n y → y ≡ n
+not_refused (Some w) n y e = e
+not_refused None n y e = e
+
+-- so what follows a look leaves it as it was
+looked_alone : {P : Type 0} (a : SectionAnswer ℕ) (q : ℕ) (k : Option ℕ) (n y : P) (c c' : ReplaySide) (p : Progress) (t : Step ℕ ℕ)
+    → AfterLook (λ x y. y ≡ x) DidClose DidCopy a q k n c p t y c' → (y ≡ n) × LookedAt a q k c c' p t
+looked_alone Ready q k n y c c' p t z = z
+looked_alone Claimed q k n y c c' p t z = z
+looked_alone Listed q k n y c c' p t z = z
+looked_alone Held q k n y c c' p t (w, m, d, r, z) = (not_refused w n y r, (w, m, d, z))
+looked_alone NoMemory q k n y c c' p t (w, m, d, r, z) = (not_refused w n y r, (w, m, d, z))
+looked_alone (Released out) q k n y c c' p t (w, m, d, r, z) = (not_refused w n y r, (w, m, d, z))
+looked_alone (Left v) q k n y c c' p t (w, m, d, r, z) = (not_refused w n y r, (w, m, d, z))
+looked_alone Gone q k n y c c' p t (w, m, d, r, z) = (not_refused w n y r, (w, m, d, z))
 
 -- parts of any type, by what contracts see of them
 module _ {P : Type 0} (see : P → CoreState ℕ) where
@@ -30,6 +51,9 @@ module _ {P : Type 0} (see : P → CoreState ℕ) where
     door_put = λ x q y. DidDoorPut (see x) q (see y);
     door_take = λ x b y. DidDoorTake (see x) b (see y);
     section = λ x q op a o y. NumberSection (see x) q op a o (see y);
+    refuse = λ x y. y ≡ x;
+    ran = λ x a y. y ≡ x;
+    put = λ x y. y ≡ x;
   }
 
   abbrev side_tells : SideTells ReplaySide ℕ
@@ -51,7 +75,9 @@ module _ {P : Type 0} (see : P → CoreState ℕ) where
   line_exact limit (AtWaitLoad q k) x y c c' p t f bare w g (b, d, z) =
       load_exact c f (see x) c' p t (see y) (see x).word.ready q k d.1
       (subst (λ l. Follows DidClose (after_load l.ready q k) c c' p t) d.0 z)
-  line_exact limit (AtLook q k) x y c c' p t f bare w g (a, o, d, z) = look_exact c f (see x) c' p t q k a o (see y) w d z
+  line_exact limit (AtLook q k) x y c c' p t f bare w g (a, o, n, d, z) =
+      let alone = looked_alone a q (ticket_in o) n y c c' p t z in
+      look_exact c f (see x) c' p t q k a o (see y) w (subst (λ v. NumberSection (see x) q (LookOp k) a o (see v)) (sym alone.0) d) alone.1
   line_exact limit (AtList q k v) x y c c' p t f bare w g (a, o, d, z) =
       subst (λ b. IsOutcome (UnderWay (AtList q k v)) (λ n. list_step (queue_state q (shared_by (see x) c))
       (is_some (kept_ticket k (see x).listings) || b) (shared_by (see x) c) n v c.kept q k) (EnteredLine q ∷ [])

@@ -13,7 +13,7 @@ use Rattle.once_queue.specs.Sections.{Looked}
 use Rattle.once_core.specs.Core.{CoreState, DidSection, FindsHolder}
 use Rattle.once_world.specs.Places.{AtList, AtLook, Progress, Step, UnderWay}
 use Rattle.once_queue.specs.Ops.{ticket_in}
-use Rattle.once_core.specs.Steps.{AfterLook, Follows, after_copy, after_list, after_look, is_running}
+use Rattle.once_core.specs.Steps.{Follows, after_copy, after_list, after_look, is_running}
 use Rattle.once_world.specs.Machine.{EnteredLine, claim_entries, is_claim, is_at_door, list_answer, list_shared, list_step, listed_ticket, look_answer, look_shared, look_step, queue_state_by, queue_state, QueueHeld}
 use Rattle.once_world.specs.Side.{DidClose, DidCopy}
 use Rattle.once_queue.proofs.Listing.Members.{eqb_self}
@@ -78,10 +78,17 @@ list_claims (Released out) q k n = refl
 list_claims (Left v) q k n = refl
 list_claims Gone q k n = refl
 
+-- what follows a look, of the side alone
+abbrev pub LookedAt : SectionAnswer ℕ → ℕ → Option ℕ → ReplaySide → ReplaySide → Progress → Step ℕ ℕ → Type 0
+LookedAt Ready q k c c' p t = Follows DidClose (after_look Ready None q k) c c' p t
+LookedAt Claimed q k c c' p t = Follows DidClose (after_look Claimed None q k) c c' p t
+LookedAt Listed q k c c' p t = Follows DidClose (after_look Listed None q k) c c' p t
+LookedAt a q k c c' p t = (w : Option ℕ) × (m : ReplaySide) × DidCopy c w m × Follows DidClose (after_look a w q k) m c' p t
+
 module _ (c : ReplaySide) (f : IsFresh c) (s : CoreState ℕ) (c' : ReplaySide) (p : Progress) (t : Step ℕ ℕ) (q : ℕ) (k : Option ℕ) (a : SectionAnswer ℕ) (o : Op ℕ) (s' : CoreState ℕ) where
   -- what follows the look
   abbrev Looks : SectionAnswer ℕ → Op ℕ → Type 0
-  Looks b r = AfterLook DidClose DidCopy b q (ticket_in r) c c' p t
+  Looks b r = LookedAt b q (ticket_in r) c c' p t
 
   -- the same, where answer and op are known
   looks_as : (b : SectionAnswer ℕ) (r : Op ℕ) → a ≡ b → o ≡ r → Looks a o → Looks b r
@@ -97,7 +104,7 @@ module _ (c : ReplaySide) (f : IsFresh c) (s : CoreState ℕ) (c' : ReplaySide) 
       → Follows DidClose (after_look b copy q k) c c' p t
   copied b (w, m, d, x) = subst (λ y. Follows DidClose (after_look b copy q k) y c' p t) d.1 (subst (λ v. Follows DidClose (after_look b v q k) m c' p t) d.0 x)
 
-  look_follows : (b : SectionAnswer ℕ) → AfterLook DidClose DidCopy b q k c c' p t → Follows DidClose (after_look b copy q k) c c' p t
+  look_follows : (b : SectionAnswer ℕ) → LookedAt b q k c c' p t → Follows DidClose (after_look b copy q k) c c' p t
   look_follows Ready x = x
   look_follows Claimed x = x
   look_follows Listed x = x
@@ -111,7 +118,7 @@ module _ (c : ReplaySide) (f : IsFresh c) (s : CoreState ℕ) (c' : ReplaySide) 
   record LookFinds (b : SectionAnswer ℕ) : Type 0 where
     shared : shared_by s' c ≡ look_shared b (shared_by s c) k
     log : s'.log ≡ (entered q s).log
-    after : AfterLook DidClose DidCopy b q k c c' p t
+    after : LookedAt b q k c c' p t
 
   -- a look, by what it finds
   look_by : (at ready taken is : Bool) → is_at_door q s.door ≡ at → s.word.ready ≡ ready

@@ -46,6 +46,9 @@ impl Side<u64> for ReplaySide {
     ghost use Rattle.std.proofs.Common.{rules};
     ghost use Rattle.once_world.specs.Side.{DidRun, DidClose, DidPut, DidCopy, DidWake, Stays};
 
+    // The side keeps the value.
+    type Value = ();
+
     ghost did_run = { DidRun };
 
     ghost did_close = { DidClose };

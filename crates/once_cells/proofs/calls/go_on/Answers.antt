@@ -1,6 +1,8 @@
 -- The steps are lines of the table, one after the other, and the last one tells how the call ended.
 use Rattle.std.proofs.Common.{rules, refl}
 use Rattle.once_core.specs.Chain.Makes.{none, next}
+use Rattle.once_queue.specs.declared.word.TheConstants.{MAX_WAITERS}
+use Rattle.once_core.proofs.Asked.{asked}
 use Rattle.once_cells.proofs.calls.go_on.Goals as goal
 
 pub loop-told-init : goal.loop-told-init
@@ -20,3 +22,6 @@ returns-in-More-clause-ended g c = search rules
 
 pub returns-in-More-clause-steps : goal.returns-in-More-clause-steps
 returns-in-More-clause-steps g c = (_, (rw (c.in-More.is) refl), c.loop-told.invariant.1)
+
+pub advance-told-requires-clause-asks : goal.advance-told-requires-clause-asks
+advance-told-requires-clause-asks g c = asked g.S.Side.can_put c.requires.puts MAX_WAITERS _ _ _

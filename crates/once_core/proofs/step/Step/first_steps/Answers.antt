@@ -1,9 +1,11 @@
--- Each step is a line of the table, and they follow one after the other.
-use Rattle.std.proofs.Common.{◌≡◌, ℕ, Bool, true, false, None, refl, rules}
+-- Each step is a line of the table, and they follow one after the other. So what is asked of the next one is what the caller gave for it.
+use Rattle.std.proofs.Common.{◌≡◌, ℕ, Bool, true, false, None, refl, rules, subst}
+use Rattle.once_queue.specs.declared.word.TheConstants.{MAX_WAITERS}
 use Rattle.once_core.specs.declared.step.Polled.{Polled}
-use Rattle.once_core.specs.Steps.{Step, UnderWay, Place, AtStart, AtTryQuick, AtRun, AtPut, AtFast, AtDoorTake, Progress, More, Ending, EndValue, PartsTell, SideTells, Line, LeadsTo, Follows, MayClose, after_quick, after_run, after_fast, is_value}
+use Rattle.once_core.specs.Steps.{Step, UnderWay, Place, AtStart, AtTryQuick, AtRun, AtPut, AtFast, AtDoorTake, Progress, More, Ending, EndValue, PartsAsk, PartsTell, SideTells, Asks, AsksAt, Line, LeadsTo, Follows, MayClose, after_quick, after_run, after_fast, is_value}
 use Rattle.once_core.specs.Chain.{Makes}
 use Rattle.once_core.specs.Chain.Makes.{none, next}
+use Rattle.once_core.proofs.step.Step.first_steps.Given.{Over}
 use Rattle.once_core.proofs.step.Step.first_steps.Goals as goal
 
 -- a fast release closes nothing
@@ -23,18 +25,84 @@ module _ {P S W Q : Type 0} {parts : PartsTell P W Q} {side : SideTells S W} {li
   quick m at_place (true, d, l) = step AtTryQuick m at_place (true, d, (refl, refl, l.1))
   quick m at_place (false, d, l) = step AtTryQuick m at_place (false, d, (refl, refl, l.1))
 
-  run : {told : Progress} {u : S} → Makes parts side limit from p s before at q t → at ≡ UnderWay (AtRun None)
-      → ((a : Polled) × (m : S) × side.run t a m × Follows side.close (after_run a None) m u told to) → Makes parts side limit from p s told to q u
-  run m at_place (a, mid, d, f) = step (AtRun None) m at_place (a, mid, d, refl, f)
+  run : {told : Progress} {r : P} {u : S} → Makes parts side limit from p s before at q t → at ≡ UnderWay (AtRun None)
+      → ((a : Polled) × (m : S) × side.run t a m × parts.ran q a r × Follows side.close (after_run a None) m u told to)
+      → Makes parts side limit from p s told to r u
+  run m at_place line = step (AtRun None) m at_place line
 
   fast : {told : Progress} {r : P} (e : Ending) → Makes parts side limit from p s before at q t → at ≡ UnderWay (AtFast e)
       → ((b : Bool) × parts.fast q (is_value e) b r × LeadsTo (after_fast b (is_value e) e) told to) → Makes parts side limit from p s told to r t
   fast e m at_place (b, d, l) = step (AtFast e) m at_place (b, d, (fast_closes W Q side.close t b (is_value e) e, l.0, l.1))
 
-put : {P S W Q : Type 0} {parts : PartsTell P W Q} {side : SideTells S W} {limit : ℕ} {from : Step W Q} {p : P} {s : S} {before : Progress} {at : Step W Q} {q : P} {t u : S} (e : Ending)
-    → Makes parts side limit from p s before at q t → at ≡ UnderWay (AtPut None) → side.put t u → e ≡ EndValue
-    → Makes parts side limit from p s More (UnderWay (AtFast e)) q u
-put e m at_place d filled = step (AtPut None) m at_place (d, refl, refl, rw filled refl)
+put : {P S W Q : Type 0} {parts : PartsTell P W Q} {side : SideTells S W} {limit : ℕ} {from : Step W Q} {p : P} {s : S} {before : Progress} {at : Step W Q} {q r : P} {t u : S} (e : Ending)
+    → Makes parts side limit from p s before at q t → at ≡ UnderWay (AtPut None) → side.put t u → parts.put q r → e ≡ EndValue
+    → Makes parts side limit from p s More (UnderWay (AtFast e)) r u
+put e m at_place d done filled = step (AtPut None) m at_place (d, done, refl, rw filled refl)
+
+-- what the parts are asked
+abbrev asks_of : (g : Over) → PartsAsk g.row.P.Denot g.row.W.Denot g.row.Q.Denot
+asks_of g = record {
+  load = g.P.Parts.can_load;
+  quick = g.P.Parts.can_quick;
+  fast = g.P.Parts.can_fast;
+  count_in = g.P.Parts.can_count_in;
+  add_one = g.P.Parts.can_add_one;
+  count_out = g.P.Parts.can_count_out;
+  door_get = g.P.Parts.can_door_get;
+  door_put = g.P.Parts.can_door_put;
+  door_take = g.P.Parts.can_door_take;
+  section = g.P.Parts.can_section;
+  ran = g.P.Parts.can_ran;
+  put = g.P.Parts.can_put;
+}
+
+-- what is asked at the place of a step
+asked : (g : Over) (p : g.row.P.Denot) (s : g.row.S.Denot) (place : Place g.row.W.Denot g.row.Q.Denot) (at : Step g.row.W.Denot g.row.Q.Denot)
+    → at ≡ UnderWay place → Asks (asks_of g) g.S.Side.can_put MAX_WAITERS at p s → AsksAt (asks_of g) g.S.Side.can_put MAX_WAITERS place p s
+asked g p s place at is a = subst (λ at. Asks (asks_of g) g.S.Side.can_put MAX_WAITERS at p s) is a
+
+pub start-told-requires : goal.start-told-requires
+start-told-requires g c = asked g _ _ AtStart _ (rw c.requires.new refl) (c.requires.asks More _ _ _ none)
+
+pub try_quick-requires : goal.try_quick-requires
+try_quick-requires g c =
+    let at_quick : c.start-told.new.self ≡ UnderWay AtTryQuick = search rules in
+    asked g _ _ AtTryQuick _ at_quick (c.requires.asks _ _ _ _ (step AtStart none (rw c.requires.new refl) c.start-told.ensures.line))
+
+pub run-told-requires : goal.run-told-requires
+run-told-requires g c =
+    let at_quick : c.start-told.new.self ≡ UnderWay AtTryQuick = search rules in
+    let at_run : c.try_quick.new.self ≡ UnderWay (AtRun None) = search rules in
+    asked g _ _ (AtRun None) _ at_run (c.requires.asks _ _ _ _ (quick (step AtStart none (rw c.requires.new refl) c.start-told.ensures.line) at_quick c.try_quick.ensures.line))
+
+pub put-requires-clause-parts : goal.put-requires-clause-parts
+put-requires-clause-parts g c =
+    let at_quick : c.start-told.new.self ≡ UnderWay AtTryQuick = search rules in
+    let at_run : c.try_quick.new.self ≡ UnderWay (AtRun None) = search rules in
+    let at_put : c.run-told.new.self ≡ UnderWay (AtPut None) = search rules in
+    (asked g _ _ (AtPut None) _ at_put (c.requires.asks _ _ _ _ (run (quick (step AtStart none (rw c.requires.new refl) c.start-told.ensures.line) at_quick c.try_quick.ensures.line) at_run c.run-told.ensures.line))).0
+
+pub put-requires-clause-side : goal.put-requires-clause-side
+put-requires-clause-side g c =
+    let at_quick : c.start-told.new.self ≡ UnderWay AtTryQuick = search rules in
+    let at_run : c.try_quick.new.self ≡ UnderWay (AtRun None) = search rules in
+    let at_put : c.run-told.new.self ≡ UnderWay (AtPut None) = search rules in
+    (asked g _ _ (AtPut None) _ at_put (c.requires.asks _ _ _ _ (run (quick (step AtStart none (rw c.requires.new refl) c.start-told.ensures.line) at_quick c.try_quick.ensures.line) at_run c.run-told.ensures.line))).1
+
+pub fast-told-requires : goal.fast-told-requires
+fast-told-requires g c =
+    let at_quick : c.start-told.new.self ≡ UnderWay AtTryQuick = search rules in
+    let at_run : c.try_quick.new.self ≡ UnderWay (AtRun None) = search rules in
+    let at_put : c.run-told.new.self ≡ UnderWay (AtPut None) = search rules in
+    asked g c.put.new.parts c.put.new.side (AtFast c.in-UnderWay-Fast.ending) _ refl (c.requires.asks More _ c.put.new.parts c.put.new.side (put c.in-UnderWay-Fast.ending (run (quick (step AtStart none (rw c.requires.new refl) c.start-told.ensures.line) at_quick c.try_quick.ensures.line) at_run c.run-told.ensures.line) at_put c.put.ensures.line.0 c.put.ensures.line.1 (search rules)))
+
+pub door_take-requires : goal.door_take-requires
+door_take-requires g c =
+    let at_quick : c.start-told.new.self ≡ UnderWay AtTryQuick = search rules in
+    let at_run : c.try_quick.new.self ≡ UnderWay (AtRun None) = search rules in
+    let at_put : c.run-told.new.self ≡ UnderWay (AtPut None) = search rules in
+    let at_take : c.fast-told.new.self ≡ UnderWay (AtDoorTake c.in-UnderWay-DoorTake.ending) = search rules in
+    asked g c.fast-told.new.parts c.put.new.side (AtDoorTake c.in-UnderWay-DoorTake.ending) _ at_take (c.requires.asks c.fast-told.result _ c.fast-told.new.parts c.put.new.side (fast _ (put c.in-UnderWay-Fast.ending (run (quick (step AtStart none (rw c.requires.new refl) c.start-told.ensures.line) at_quick c.try_quick.ensures.line) at_run c.run-told.ensures.line) at_put c.put.ensures.line.0 c.put.ensures.line.1 (search rules)) refl c.fast-told.ensures.line))
 
 pub returns-in_default-clause-lines : goal.returns-in_default-clause-lines
 returns-in_default-clause-lines g c limit =
@@ -66,7 +134,7 @@ returns-in_default-self-4-clause-lines g c limit =
     let at_quick : c.start-told.new.self ≡ UnderWay AtTryQuick = search rules in
     let at_run : c.try_quick.new.self ≡ UnderWay (AtRun None) = search rules in
     let at_put : c.run-told.new.self ≡ UnderWay (AtPut None) = search rules in
-    fast _ (put c.in-UnderWay-Fast.ending (run (quick (step AtStart none (rw c.requires.new refl) c.start-told.ensures.line) at_quick c.try_quick.ensures.line) at_run c.run-told.ensures.line) at_put (search rules) (search rules)) refl c.fast-told.ensures.line
+    fast _ (put c.in-UnderWay-Fast.ending (run (quick (step AtStart none (rw c.requires.new refl) c.start-told.ensures.line) at_quick c.try_quick.ensures.line) at_run c.run-told.ensures.line) at_put c.put.ensures.line.0 c.put.ensures.line.1 (search rules)) refl c.fast-told.ensures.line
 
 pub returns-clause-lines : goal.returns-clause-lines
 returns-clause-lines g c limit =
@@ -74,4 +142,4 @@ returns-clause-lines g c limit =
     let at_run : c.try_quick.new.self ≡ UnderWay (AtRun None) = search rules in
     let at_put : c.run-told.new.self ≡ UnderWay (AtPut None) = search rules in
     let at_take : c.fast-told.new.self ≡ UnderWay (AtDoorTake c.in-UnderWay-DoorTake.ending) = search rules in
-    step (AtDoorTake _) (fast _ (put c.in-UnderWay-Fast.ending (run (quick (step AtStart none (rw c.requires.new refl) c.start-told.ensures.line) at_quick c.try_quick.ensures.line) at_run c.run-told.ensures.line) at_put (search rules) (search rules)) refl c.fast-told.ensures.line) at_take (c.door_take.result, c.door_take.ensures, (refl, c.end.ensures.ended, c.end.ensures.step))
+    step (AtDoorTake _) (fast _ (put c.in-UnderWay-Fast.ending (run (quick (step AtStart none (rw c.requires.new refl) c.start-told.ensures.line) at_quick c.try_quick.ensures.line) at_run c.run-told.ensures.line) at_put c.put.ensures.line.0 c.put.ensures.line.1 (search rules)) refl c.fast-told.ensures.line) at_take (c.door_take.result, c.door_take.ensures, (refl, c.end.ensures.ended, c.end.ensures.step))
