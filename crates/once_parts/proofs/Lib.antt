@@ -4,3 +4,5 @@ pub mod Sections
 pub mod Desks
 pub mod Values
 pub mod Seen
+pub mod Refusals
+pub mod Walk

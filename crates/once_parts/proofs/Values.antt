@@ -66,9 +66,9 @@ shared_entry (OwnersCall o g) p = absurd p
 shared_entry _ p = refl
 
 -- a value that is set stays set, whatever tasks do
-stays_set : (es h : List Entry) → IsRun Once most (es ++ h) → ArePlain (es ++ h) → cell Once h ≡ SetTo 0 → cell Once (es ++ h) ≡ SetTo 0
-stays_set [] h run plain s = s
-stays_set (e ∷ es) h run plain s = value_lasts Once most e (es ++ h) 0 run (shared_entry e plain.0) (stays_set es h run.1 plain.1 s)
+pub stays_set : (es h : List Entry) (v : ℕ) → IsRun Once most (es ++ h) → ArePlain (es ++ h) → cell Once h ≡ SetTo v → cell Once (es ++ h) ≡ SetTo v
+stays_set [] h v run plain s = s
+stays_set (e ∷ es) h v run plain s = value_lasts Once most e (es ++ h) v run (shared_entry e plain.0) (stays_set es h v run.1 plain.1 s)
 
 -- where a call ended with the value, the cell of every later log is set
 ended_set : (n put : ℕ) (slot : Bool) (pages : List Page) (log : List Entry) → IsBook most n put slot pages log
@@ -79,7 +79,7 @@ ended_set n put slot pages log book t seen late ends e =
     let turned : reverse log ≡ reverse rest ++ reverse ends.0 = ap reverse is ∙ reverse-append ends.0 rest in
     let set : cell Once (reverse ends.0) ≡ SetTo 0 = value_set_is_answered_answered most n put slot pages log some book ends.0 late t 0 is in
     ap (cell Once) turned
-    ∙ stays_set (reverse rest) (reverse ends.0) (subst (IsRun Once most) turned (log_is_run most n put slot pages log some book)) (subst ArePlain turned (log_is_plain most n put slot pages log some book)) set
+    ∙ stays_set (reverse rest) (reverse ends.0) 0 (subst (IsRun Once most) turned (log_is_run most n put slot pages log some book)) (subst ArePlain turned (log_is_plain most n put slot pages log some book)) set
 
 -- so whoever saw a call end with the value knows that the slot is written
 pub ended_sure : (t : ℕ) (seen : List Entry) → EndsSet t seen → Sure IsKept seen 2 2

@@ -7,3 +7,6 @@ pub mod Hands
 pub mod Record
 pub mod Handed
 pub mod Shares
+pub mod Sides
+pub mod Walks
+pub mod Tasks

@@ -11,6 +11,10 @@ use Rattle.once_moments.specs.Kept.{Sheet}
 abbrev pub WasFilled : List Entry → Type 0
 WasFilled log = (t : ℕ) × (X : List ℕ) × ((before : List Entry) × (after : List Entry) × (log ≡ before ++ Fill t 0 X ∷ after))
 
+-- the cell is set after its entries
+abbrev pub IsSet : List Entry → Type 0
+IsSet log = is_set (cell Once (reverse log)) ≡ true
+
 -- its newest entry is the end of a call of t that answered the value
 abbrev pub EndsSet : ℕ → List Entry → Type 0
 EndsSet t log = (before : List Entry) × (log ≡ before ++ End t (Value 0) ∷ [])

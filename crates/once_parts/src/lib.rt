@@ -10,13 +10,19 @@
 
 mod act;
 mod book;
+pub mod calls;
 mod desk;
 mod hand;
 mod mark;
 pub mod record;
 pub mod shared;
+pub mod side;
+pub mod task;
 mod under_lock;
 
 pub use book::{CellRule, Leaf, Line, Record};
+pub use calls::{whole_drop, whole_poll};
 pub use mark::{Mark, TaskWaker};
 pub use shared::{Inner, Shared};
+pub use side::TaskSide;
+pub use task::Task;

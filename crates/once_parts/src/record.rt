@@ -1,9 +1,11 @@
 //! What is known of a record that was seen.
-ghost use Rattle.std.specs.Prelude.{reverse};
+ghost use Rattle.std.specs.Prelude.{ℕ, reverse};
+ghost use mathlib.Core.List.{IsPrefix};
 ghost use Rattle.once_world.specs.Record.{Once};
 ghost use Rattle.once_world.specs.Run.{AtEvery, IsRun};
 ghost use Rattle.once_world.specs.Called.{SomebodyCalled};
 ghost use Rattle.once_moments.specs.Kept.{most};
+ghost use Rattle.once_parts.specs.Record.{EndsSet, IsSet};
 
 use crate::book::Record;
 
@@ -13,6 +15,25 @@ use crate::book::Record;
 pub fn is_run(seen: &Record)
     ensures run { IsRun Once most (reverse seen.now.log) }
     ensures called { AtEvery (SomebodyCalled Once) (reverse seen.now.log) }
+{
+    seen.again().learn(seen);
+}
+
+/// Shows that a cell that was set in a record is set in each later one. It does nothing.
+#[inline(always)]
+pub fn stays_set(earlier: &Record, later: &Record)
+    requires begins { IsPrefix earlier.now.log later.now.log }
+    requires set { IsSet earlier.now.log }
+    ensures { IsSet later.now.log }
+{
+    later.again().learn(later);
+}
+
+/// Shows that the cell is set in a record whose newest entry is the end of a call with the value. It does nothing.
+#[inline(always)]
+pub fn is_set_where_answered(seen: &Record)
+    requires { (t : ℕ) × EndsSet t seen.now.log }
+    ensures { IsSet seen.now.log }
 {
     seen.again().learn(seen);
 }

@@ -17,7 +17,7 @@ use crate::desk::Desk;
 use crate::hand::Hand;
 use crate::mark::{Mark, TaskWaker};
 use keyed_mutex::{Key, KeyedMutex};
-use once_core::parts::Counted;
+use once_core::parts::{Counted, Parts};
 use once_core::step::Polled;
 use once_queue::waiters::{Answer, Lists, Op};
 use once_queue::word::READY_BIT;
@@ -100,6 +100,32 @@ impl<T, W: TaskWaker + Drop> Inner<T, W> {
         None
     }
 
+    /// The value, for whoever has what shows it.
+    #[inline(always)]
+    pub fn value<'a>(&'a self, written: &Written<T>) -> &'a T
+        requires { written.now.of ≡ self.now.slot.id }
+        ensures { result.now ≡ written.now.value }
+    {
+        self.slot.value(written)
+    }
+
+    /// Whether the value was put.
+    pub fn is_written(&self) -> bool {
+        self.slot.witness().is_some()
+    }
+
+    /// The value, where it was put. The record ends.
+    pub fn into_inner(self) -> Option<T> {
+        let Inner {
+            word: _word,
+            has_put: _has_put,
+            slot,
+            front: _front,
+            desk: _desk,
+        } = self;
+        slot.into_inner()
+    }
+
     /// Whether a queue stands at the door. `None` says that the lock could not be had at once. It waits for nobody.
     pub fn has_queue(&self) -> Option<bool> {
         stands::<Brand, T, W>(self)
@@ -117,65 +143,13 @@ pub struct Shared<'a, 'r, T, W: TaskWaker, R> {
 
 impl<'a, 'r, T, W: TaskWaker, R> Shared<'a, 'r, T, W, R> {
     ghost use Rattle.std.specs.Prelude.{true, List, [], ◌∷◌, reverse};
-    ghost use Rattle.once_core.specs.Steps.{after_quick, is_resting, step_of_drop};
-    ghost use Rattle.once_world.specs.Record.{Begin, Ran};
-    ghost use Rattle.once_world.specs.Book.{refused_step};
-    ghost use Rattle.once_world.specs.Machine.{AtTryQuick, UnderWay, claim_entries, drop_entries, freed_entries};
-    ghost use Rattle.once_parts.specs.Own.{Did, Turned, told};
-    ghost use Rattle.once_parts.specs.Places.{CanAdd, CanCountOut, CanFast, CanFill, CanLoad, CanRefuse, CanRun, add_next, fast_next, fill_next, load_next, out_next, run_next, task_begun, task_dropping, task_run, unnamed};
+    ghost use Rattle.once_core.specs.Steps.{is_resting, step_of_drop};
+    ghost use Rattle.once_world.specs.Record.{Begin};
+    ghost use Rattle.once_world.specs.Machine.{drop_entries};
+    ghost use Rattle.once_parts.specs.Own.{Turned};
+    ghost use Rattle.once_parts.specs.Places.{task_begun, task_dropping};
     ghost use Rattle.once_parts.specs.Record.{EndsSet};
     ghost use Rattle.once_parts.specs.Shares.{cell_of, own};
-
-    /// The word.
-    #[inline(always)]
-    pub fn load(&mut self) -> u64
-        requires can { CanLoad (own self.old).task.step }
-        ensures cell { cell_of self.new ≡ cell_of self.old }
-        ensures did { Did (own self.old) [] (load_next result (own self.old).task.step) (own self.new) }
-    {
-        self.hand.load(&self.inner.word)
-    }
-
-    /// Exchanges `NEW` for the quick bit, and says whether it did.
-    #[inline(always)]
-    pub fn quick(&mut self) -> bool
-        requires can { (own self.old).task.step ≡ UnderWay AtTryQuick }
-        ensures cell { cell_of self.new ≡ cell_of self.old }
-        ensures did { Did (own self.old) (claim_entries result (own self.old).number) (after_quick result) (own self.new) }
-    {
-        self.hand.quick(&self.inner.word)
-    }
-
-    /// Exchanges the quick bit for the ready bit, or for `NEW`, and says whether it did.
-    #[inline(always)]
-    pub fn fast(&mut self, ready: bool) -> bool
-        requires can { CanFast ready (own self.old).task.step }
-        ensures cell { cell_of self.new ≡ cell_of self.old }
-        ensures did { Did (own self.old) (freed_entries result (own self.old).number (own self.old).task.kept)
-            (fast_next result (own self.old).task.step) (own self.new) }
-    {
-        self.hand.fast(&self.inner.word, ready)
-    }
-
-    /// Counts in a quick holder that gives the right back.
-    #[inline(always)]
-    pub fn add_one(&mut self)
-        requires can { CanAdd (own self.old).task.step }
-        ensures cell { cell_of self.new ≡ cell_of self.old }
-        ensures did { Did (own self.old) [] (add_next (own self.old).task.step) (own self.new) }
-    {
-        self.hand.add_one(&self.inner.word);
-    }
-
-    /// Counts the task out, and answers the word after it.
-    #[inline(always)]
-    pub fn count_out(&mut self) -> u64
-        requires can { CanCountOut (own self.old).task.step }
-        ensures cell { cell_of self.new ≡ cell_of self.old }
-        ensures did { Did (own self.old) [] (out_next result (own self.old).task.step) (own self.new) }
-    {
-        self.hand.count_out(&self.inner.word)
-    }
 
     /// Begins a poll.
     #[inline(always)]
@@ -197,39 +171,6 @@ impl<'a, 'r, T, W: TaskWaker, R> Shared<'a, 'r, T, W, R> {
             (reverse (drop_entries (own self.old).number (step_of_drop (own self.old).task.step))) (own self.new) }
     {
         self.hand.begin_drop();
-    }
-
-    /// The init answered so.
-    #[inline(always)]
-    pub fn ran(&mut self, answer: Polled)
-        requires can { CanRun (own self.old).task.step }
-        ensures cell { cell_of self.new ≡ cell_of self.old }
-        ensures did { Turned (own self.old) (task_run answer (own self.old).task)
-            (told (own self.old).number (task_run answer (own self.old).task).kept (run_next answer (own self.old).task.step)
-            (Ran (own self.old).number (unnamed answer) ∷ [])) (own self.new) }
-    {
-        self.hand.ran(answer);
-    }
-
-    /// The copy of the waker was refused, after a look that found a holder.
-    #[inline(always)]
-    pub fn refused(&mut self)
-        requires can { CanRefuse (own self.old).task.step }
-        ensures cell { cell_of self.new ≡ cell_of self.old }
-        ensures did { Turned (own self.old) (record (own self.old).task { step = refused_step (own self.old).task.step }) [] (own self.new) }
-    {
-        self.hand.refused();
-    }
-
-    /// Puts the value that the init gave. Nothing can refuse it.
-    #[inline(always)]
-    pub fn put(&mut self, value: T) -> Written<T>
-        requires can { CanFill (own self.old).task.step }
-        ensures cell { cell_of self.new ≡ cell_of self.old }
-        ensures did { Did (own self.old) [] (fill_next (own self.old).task.step) (own self.new) }
-        ensures written { (result.of ≡ (cell_of self.old).id) × (result.value ≡ value) }
-    {
-        self.hand.put(&self.inner.slot, value)
     }
 
     /// The value, for a task whose last call ended with it.
@@ -259,25 +200,100 @@ impl<'a, 'r, T, W: TaskWaker, R> Shared<'a, 'r, T, W, R> {
     }
 }
 
-impl<'a, 'r, T, W: TaskWaker + Drop, R: Wait> Shared<'a, 'r, T, W, R> {
-    ghost use Rattle.std.specs.Prelude.{ℕ, true, List, [], ◌∷◌};
+/// Each call is one moment of the cell's book. There is one queue, which lies with the door, so a waiter keeps none.
+impl<T, W: TaskWaker + Drop, R: Wait + AllocGlobal> Parts<W> for Shared<'_, '_, T, W, R> {
+    ghost use Rattle.std.specs.Prelude.{◌∷◌};
     ghost use Rattle.std.specs.Option.{is_some};
-    ghost use Rattle.once_core.specs.Steps.{next_at, closing_end};
-    ghost use Rattle.once_world.specs.Machine.{AtCountIn, AtDoorPut, EndMemory, UnderWay};
-    ghost use Rattle.once_parts.specs.Own.{Did};
-    ghost use Rattle.once_parts.specs.Places.{CanCountIn, CanGet, CanTake, get_next, in_next, numbered, put_next, take_next};
+    ghost use Rattle.once_core.specs.Steps.{after_quick};
+    ghost use Rattle.once_world.specs.Record.{Ran};
+    ghost use Rattle.once_world.specs.Book.{refused_step};
+    ghost use Rattle.once_world.specs.Machine.{AtTryQuick, claim_entries, freed_entries};
+    ghost use Rattle.once_moments.specs.Kept.{most};
+    ghost use Rattle.once_parts.specs.Own.{Turned, told};
+    ghost use Rattle.once_parts.specs.Places.{CanAdd, CanCountIn, CanCountOut, CanFast, CanFill, CanLoad, CanRefuse, CanRun, add_next, fast_next, fill_next, in_next, load_next, out_next, put_next, run_next, task_run, unnamed};
     ghost use Rattle.once_parts.specs.Shares.{cell_of, own};
-    ghost use Rattle.once_parts.specs.Handed.{CanSection, DidSection};
 
-    /// Counts the task in, where fewer are counted than may be.
-    //
+    type Queue = ();
+
+    type Value = T;
+
+    ghost can_load = { λ s. CanLoad (own s).task.step };
+
+    ghost did_load = { λ s n t. (cell_of t ≡ cell_of s) × Did (own s) [] (load_next n (own s).task.step) (own t) };
+
+    ghost can_quick = { λ s. (own s).task.step ≡ UnderWay AtTryQuick };
+
+    ghost did_quick = { λ s won t. (cell_of t ≡ cell_of s)
+        × Did (own s) (claim_entries won (own s).number) (after_quick won) (own t) };
+
+    ghost can_fast = { λ s ready. CanFast ready (own s).task.step };
+
+    ghost did_fast = { λ s ready won t. (cell_of t ≡ cell_of s)
+        × Did (own s) (freed_entries won (own s).number (own s).task.kept) (fast_next won (own s).task.step) (own t) };
+
+    ghost can_count_in = { λ s limit. CanCountIn (own s).task.step × (limit ≡ most) };
+
+    ghost did_count_in = { λ s limit c t. (cell_of t ≡ cell_of s) × Did (own s) [] (in_next c (own s).task.step) (own t) };
+
+    ghost can_add_one = { λ s. CanAdd (own s).task.step };
+
+    ghost did_add_one = { λ s t. (cell_of t ≡ cell_of s) × Did (own s) [] (add_next (own s).task.step) (own t) };
+
+    ghost can_count_out = { λ s. CanCountOut (own s).task.step };
+
+    ghost did_count_out = { λ s n t. (cell_of t ≡ cell_of s) × Did (own s) [] (out_next n (own s).task.step) (own t) };
+
+    ghost can_door_get = { λ s. CanGet (own s).task.step };
+
+    ghost did_door_get = { λ s q t. (cell_of t ≡ cell_of s)
+        × ((n : ℕ) × Did (own s) [] (get_next (numbered n (is_some q)) (own s).task.step) (own t)) };
+
+    ghost can_door_put = { λ s. (own s).task.step ≡ UnderWay AtDoorPut };
+
+    ghost did_door_put = { λ s q t. (cell_of t ≡ cell_of s)
+        × ((n : ℕ) × Did (own s) [] (put_next (numbered n (is_some q))) (own t)) };
+
+    ghost can_door_take = { λ s. CanTake (own s).task.step };
+
+    ghost did_door_take = { λ s stood t. (cell_of t ≡ cell_of s) × Did (own s) [] (take_next (own s).task.step) (own t) };
+
+    ghost can_section = { λ s q op. CanSection W.whose op (own s).task.step };
+
+    ghost did_section = { λ s q op a o t. (cell_of t ≡ cell_of s) × DidSection W.whose op a o (own s) (own t) };
+
+    ghost can_refuse = { λ s. CanRefuse (own s).task.step };
+
+    ghost did_refuse = { λ s t. (cell_of t ≡ cell_of s)
+        × Turned (own s) (record (own s).task { step = refused_step (own s).task.step }) [] (own t) };
+
+    ghost can_ran = { λ s answer. CanRun (own s).task.step };
+
+    ghost did_ran = { λ s answer t. (cell_of t ≡ cell_of s) × Turned (own s) (task_run answer (own s).task)
+        (told (own s).number (task_run answer (own s).task).kept (run_next answer (own s).task.step)
+        (Ran (own s).number (unnamed answer) ∷ [])) (own t) };
+
+    ghost can_put = { λ s. CanFill (own s).task.step };
+
+    ghost did_put = { λ s t. (cell_of t ≡ cell_of s) × Did (own s) [] (fill_next (own s).task.step) (own t) };
+
+    #[inline(always)]
+    fn load(&mut self) -> u64 {
+        self.hand.load(&self.inner.word)
+    }
+
+    #[inline(always)]
+    fn quick(&mut self) -> bool {
+        self.hand.quick(&self.inner.word)
+    }
+
+    #[inline(always)]
+    fn fast(&mut self, ready: bool) -> bool {
+        self.hand.fast(&self.inner.word, ready)
+    }
+
     // It is tried again while others change the word between the load and the exchange.
     #[inline(always)]
-    pub fn count_in(&mut self) -> Counted
-        requires can { CanCountIn (own self.old).task.step }
-        ensures cell { cell_of self.new ≡ cell_of self.old }
-        ensures did { Did (own self.old) [] (in_next result (own self.old).task.step) (own self.new) }
-    {
+    fn count_in(&mut self, _limit: u64) -> Counted {
         for _ in self.rt.forever() {
             if let Some(counted) = self.hand.try_count_in(&self.inner.word) {
                 return counted;
@@ -286,61 +302,27 @@ impl<'a, 'r, T, W: TaskWaker + Drop, R: Wait> Shared<'a, 'r, T, W, R> {
         unreachable!()
     }
 
-    /// Whether a queue stands at the door.
     #[inline(always)]
-    pub fn door_get(&mut self) -> Option<()>
-        requires can { CanGet (own self.old).task.step }
-        ensures cell { cell_of self.new ≡ cell_of self.old }
-        ensures did { (q : ℕ) × Did (own self.old) [] (get_next (numbered q (is_some result)) (own self.old).task.step) (own self.new) }
-    {
+    fn add_one(&mut self) {
+        self.hand.add_one(&self.inner.word);
+    }
+
+    #[inline(always)]
+    fn count_out(&mut self) -> u64 {
+        self.hand.count_out(&self.inner.word)
+    }
+
+    #[inline(always)]
+    fn door_get(&mut self) -> Option<()> {
         if got::<Brand, T, W, R>(self.rt, self.inner, &mut self.hand) {
             return Some(());
         }
         None
     }
 
-    /// Takes the queue out of the door.
-    //
-    // Where no queue was ever put, the load that finds so is the step. What was listed is let go with the lock free.
-    #[inline(always)]
-    pub fn door_take(&mut self)
-        requires can { CanTake (own self.old).task.step }
-        ensures cell { cell_of self.new ≡ cell_of self.old }
-        ensures did { Did (own self.old) [] (take_next (own self.old).task.step) (own self.new) }
-    {
-        if !self.hand.finds_none_put(&self.inner.has_put) {
-            taken::<Brand, T, W, R>(self.rt, self.inner, &mut self.hand);
-        }
-    }
-
-    /// One section under the lock.
-    #[inline(always)]
-    pub fn section(&mut self, op: &mut Op<W>) -> Answer<W>
-        requires can { CanSection W.whose op.old (own self.old).task.step }
-        ensures cell { cell_of self.new ≡ cell_of self.old }
-        ensures did { DidSection W.whose op.old result op.new (own self.old) (own self.new) }
-    {
-        entered::<Brand, T, W, R>(self.rt, self.inner, &mut self.hand, op)
-    }
-}
-
-impl<'a, 'r, T, W: TaskWaker + Drop, R: Wait + AllocGlobal> Shared<'a, 'r, T, W, R> {
-    ghost use Rattle.std.specs.Prelude.{ℕ, List, []};
-    ghost use Rattle.std.specs.Option.{is_some};
-    ghost use Rattle.once_world.specs.Machine.{AtDoorPut, UnderWay};
-    ghost use Rattle.once_parts.specs.Own.{Did};
-    ghost use Rattle.once_parts.specs.Places.{numbered, put_next};
-    ghost use Rattle.once_parts.specs.Shares.{cell_of, own};
-
-    /// Puts a new queue to the door, or finds one there. `None` says that memory was refused.
-    //
     // The queue is made with the lock free, since that takes memory. The look under the lock decides: where two tasks found
     // no queue, the second finds the queue of the first there, and lets its own go.
-    pub fn door_put(&mut self) -> Option<()>
-        requires can { (own self.old).task.step ≡ UnderWay AtDoorPut }
-        ensures cell { cell_of self.new ≡ cell_of self.old }
-        ensures did { (q : ℕ) × Did (own self.old) [] (put_next (numbered q (is_some result))) (own self.new) }
-    {
+    fn door_put(&mut self) -> Option<()> {
         let alloc = self.rt.alloc();
         let Ok(queue) = Box::new(alloc, Lists::new(alloc)) else {
             self.hand.unput();
@@ -348,6 +330,36 @@ impl<'a, 'r, T, W: TaskWaker + Drop, R: Wait + AllocGlobal> Shared<'a, 'r, T, W,
         };
         put::<Brand, T, W, R>(self.rt, self.inner, &mut self.hand, queue);
         Some(())
+    }
+
+    // Where no queue was ever put, the load that finds so is the step. What was listed is let go with the lock free.
+    #[inline(always)]
+    fn door_take(&mut self) -> bool {
+        if self.hand.finds_none_put(&self.inner.has_put) {
+            return false;
+        }
+        taken::<Brand, T, W, R>(self.rt, self.inner, &mut self.hand).is_some()
+    }
+
+    #[inline(always)]
+    fn section(&mut self, _queue: &(), op: &mut Op<W>) -> Answer<W> {
+        entered::<Brand, T, W, R>(self.rt, self.inner, &mut self.hand, op)
+    }
+
+    #[inline(always)]
+    fn refuse(&mut self) {
+        self.hand.refused();
+    }
+
+    #[inline(always)]
+    fn ran(&mut self, answer: Polled) {
+        self.hand.ran(answer);
+    }
+
+    // Nothing can refuse it.
+    #[inline(always)]
+    fn put(&mut self, value: T) {
+        self.hand.put(&self.inner.slot, value);
     }
 }
 

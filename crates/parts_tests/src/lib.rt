@@ -1,5 +1,11 @@
-//! Tests of the parts of a cell that keep its book: by hand, one call after the other, since no walk stands on them yet.
+//! Tests of the parts of a cell that keep its book: by hand, one call after the other, and by whole calls of tasks.
 #![tactic(auto)]
 
 #[cfg(test)]
+mod side;
+#[cfg(test)]
 mod tests;
+#[cfg(test)]
+mod threads;
+#[cfg(test)]
+mod walks;

@@ -1,39 +1,11 @@
 // What tasks do to a cell, one call after the other, and what the parts take of memory.
-ghost use Rattle.std.specs.Prelude.{⊤};
-
-use once_core::parts::Counted;
+use crate::side::Bell;
+use once_core::parts::{Counted, Parts};
 use once_core::step::Polled;
-use once_parts::{Inner, Mark, Shared, TaskWaker};
-use once_queue::waiters::{Answer, Op, WakerId};
-use once_queue::word::QINIT_BIT;
+use once_parts::{Inner, Mark, Shared};
+use once_queue::waiters::{Answer, Op};
+use once_queue::word::{MAX_WAITERS, QINIT_BIT};
 use std::mem::size_of;
-
-// A waker that nobody calls.
-#[derive(Drop)]
-struct Bell {
-    mark: Mark,
-}
-
-impl WakerId for Bell {
-    ghost tells_same = { λ _ _. ⊥ };
-
-    ghost tells_other = { λ _ _. ⊤ };
-
-    fn are_all_other() -> bool {
-        true
-    }
-
-    fn same(&self, other: &Bell) -> bool {
-        let _ = other;
-        false
-    }
-}
-
-impl TaskWaker for Bell {
-    ghost whose = { λ b. b.mark };
-
-    ghost apart = { λ a b e. e };
-}
 
 #[test]
 fn one_task_fills_a_cell(rt: HostRuntime) {
@@ -72,12 +44,12 @@ fn who_finds_a_holder_waits(rt: HostRuntime) {
     assert!(rt; there.is_none());
     let put = waiter.door_put();
     assert!(rt; put.is_some());
-    let counted = waiter.count_in();
+    let counted = waiter.count_in(MAX_WAITERS);
     assert_eq!(rt; counted, Counted::In(QINIT_BIT));
     let word = waiter.load();
     assert_eq!(rt; word, QINIT_BIT + 1);
     let mut op = Op::Look(None);
-    let answer = waiter.section(&mut op);
+    let answer = waiter.section(&(), &mut op);
     assert!(rt; matches!(answer, Answer::Held));
 }
 

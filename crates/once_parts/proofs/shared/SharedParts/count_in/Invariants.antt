@@ -1,7 +1,7 @@
 use Rattle.std.proofs.Common.{◌≡◌}
 use Rattle.once_parts.specs.Own.{Stayed}
 use Rattle.once_parts.specs.Shares.{cell_of, own}
-use Rattle.once_parts.proofs.shared.Shared.count_in.Given as goal
+use Rattle.once_parts.proofs.shared.SharedParts.count_in.Given as goal
 
 abbrev pub invariant-loop : goal.invariant-loop
 invariant-loop g l =

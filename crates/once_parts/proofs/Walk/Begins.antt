@@ -1,0 +1,85 @@
+-- Where a call begins, and what is known when it has ended.
+use Rattle.std.proofs.Common.{◌≡◌, ℕ, Bool, true, false, List, [], ◌∷◌, ◌++◌, append_assoc, Option, Some, None, reverse, refl, sym, ap, ◌∙◌, subst}
+use Rattle.std.specs.Prelude.{⊤}
+use Rattle.std.proofs.lemmas.Bool.{false≢true}
+use mathlib.Core.List.{IsPrefix}
+use Rattle.once_core.specs.Steps.{in_call, is_resting, step_of_drop, step_of_poll}
+use Rattle.once_world.specs.Places.{EndDropped, EndError, EndFull, EndMemory, EndPending, EndValue, Ended, Ending, Finished, More, Progress, RestRun, RestStart, RestWait, Resting, Step, UnderWay}
+use Rattle.once_world.specs.Record.{Answer, Begin, DropBegin, DropEnd, Entry, RanError}
+use Rattle.once_world.specs.Book.{TaskState}
+use Rattle.once_world.specs.Machine.{drop_entries, end_entry, progress_entries}
+use Rattle.once_moments.specs.Kept.{Grew}
+use Rattle.once_moments.specs.Steps.{step_as}
+use Rattle.once_moments.proofs.Steps.{drop_as, poll_as}
+use Rattle.once_parts.specs.Own.{Own, Turned}
+use Rattle.once_parts.specs.Places.{task_begun, task_dropping}
+use Rattle.once_parts.specs.Sides.{Sided}
+use Rattle.once_parts.specs.Walks.{Fits, HasBegun, MayEnd, Rests, Stands, StandsOn, Walked, end_of, the_queue}
+use Rattle.once_parts.proofs.Desks.{prefix_on}
+use Rattle.once_parts.proofs.Walk.Fits.{leave_fits, release_fits}
+use Rattle.once_parts.proofs.Walk.Logs.{grew_on}
+
+module _ {W : Type 0} (whose : W → ℕ) (x : Sided) (v w : Own) (s : Step W ⊤) (number : x.number ≡ v.number) (none : x.woke ≡ []) where
+  -- a poll fits where it begins
+  poll_fits : (s : Step W ⊤) → is_resting s ≡ true → HasBegun false x w → Fits false x w More (step_of_poll s)
+  poll_fits (Resting RestStart) rests b = (refl, b)
+  poll_fits (Resting (RestWait q k)) rests b = (refl, b)
+  poll_fits (Resting (RestRun by)) rests b = (refl, b)
+  poll_fits (UnderWay p) rests b = absurd (false≢true rests)
+  poll_fits Finished rests b = absurd (false≢true rests)
+
+  -- a task that rests begins a poll
+  pub poll_begins : Rests whose v s → Turned v (task_begun v.number v.task) (Begin v.number v.number ∷ []) w → Stands whose false x w More (step_of_poll s)
+  poll_begins is d = record {
+    step = poll_as whose (λ (q : ⊤). q) s ∙ ap step_of_poll is.1 ∙ sym (poll_as (λ w. w) the_queue v.task.step) ∙ ap (λ (y : TaskState). step_as (λ w. w) the_queue y.step) (sym d.task);
+    number = number ∙ sym d.number;
+    fits = poll_fits s is.0 (refl, none, ap (λ (y : TaskState). y.waker) d.task ∙ sym d.number);
+  }
+
+  -- a drop fits where it begins, if it has steps to make
+  drop_fits : (s : Step W ⊤) → is_resting s ≡ true → in_call (step_of_drop s) ≡ true → Fits true x w More (step_of_drop s)
+  drop_fits (Resting RestStart) rests call = absurd (false≢true call)
+  drop_fits (Resting (RestWait q k)) rests call = (refl, leave_fits W ⊤ true x w q k EndDropped none tt)
+  drop_fits (Resting (RestRun by)) rests call = (refl, release_fits W ⊤ true x w by EndDropped none tt)
+  drop_fits (UnderWay p) rests call = absurd (false≢true rests)
+  drop_fits Finished rests call = absurd (false≢true rests)
+
+  -- a task that rests begins a drop
+  pub drop_begins : Rests whose v s → Turned v (task_dropping v.task) (reverse (drop_entries v.number (step_of_drop v.task.step))) w → in_call (step_of_drop s) ≡ true
+      → Stands whose true x w More (step_of_drop s)
+  drop_begins is d call = record {
+    step = drop_as whose (λ (q : ⊤). q) s ∙ ap step_of_drop is.1 ∙ sym (drop_as (λ w. w) the_queue v.task.step) ∙ ap (λ (y : TaskState). step_as (λ w. w) the_queue y.step) (sym d.task);
+    number = number ∙ sym d.number;
+    fits = drop_fits s is.0 call;
+  }
+
+-- it stands so too after the init was dropped
+pub stands_closed : {W : Type 0} (whose : W → ℕ) (x y : Sided) (w : Own) (s t : Step W ⊤) → y ≡ x → t ≡ s → Stands whose true x w More s → Stands whose true y w More t
+stands_closed whose x y w s t same at is = subst (λ (z : Sided). Stands whose true z w More t) (sym same) (subst (Stands whose true x w More) (sym at) is)
+
+-- a task whose drop has no step was never polled
+never_polled : {W : Type 0} (whose : W → ℕ) (v : Own) (s : Step W ⊤) (y : Step ℕ ℕ) → is_resting s ≡ true → step_as whose (λ q. q) s ≡ step_as (λ w. w) the_queue y → in_call (step_of_drop s) ≡ false → y ≡ Resting RestStart
+never_polled whose v (Resting RestStart) (Resting RestStart) rests is over = refl
+never_polled whose v (Resting RestStart) (Resting (RestWait q k)) rests is over = let no : ⊥ = cc in absurd no
+never_polled whose v (Resting RestStart) (Resting (RestRun by)) rests is over = let no : ⊥ = cc in absurd no
+never_polled whose v (Resting RestStart) (UnderWay p) rests is over = let no : ⊥ = cc in absurd no
+never_polled whose v (Resting RestStart) Finished rests is over = let no : ⊥ = cc in absurd no
+never_polled whose v (Resting (RestWait q None)) y rests is over = absurd (false≢true (sym over))
+never_polled whose v (Resting (RestWait q (Some n))) y rests is over = absurd (false≢true (sym over))
+never_polled whose v (Resting (RestRun None)) y rests is over = absurd (false≢true (sym over))
+never_polled whose v (Resting (RestRun (Some q))) y rests is over = absurd (false≢true (sym over))
+never_polled whose v (UnderWay p) y rests is over = absurd (false≢true rests)
+never_polled whose v Finished y rests is over = absurd (false≢true rests)
+
+-- the last entry of some is the newest
+pub grew_last : (e : Entry) (es old new : List Entry) → Grew (es ++ e ∷ []) old new → Grew (e ∷ []) old new
+grew_last e es old new g = (g.0 ++ es, prefix_on old g.0 (g.0 ++ es) g.1 (es, refl), g.2 ∙ sym (append_assoc g.0 es (e ∷ [])))
+
+-- a log that grew from a later one
+pub grew_from : (es a b c : List Entry) → IsPrefix a b → Grew es b c → Grew es a c
+grew_from es a b c p g = (g.0, prefix_on a b g.0 p g.1, g.2)
+
+-- its drop begins and ends at once
+pub drop_alone : {W : Type 0} (whose : W → ℕ) (v w : Own) (s : Step W ⊤) → Rests whose v s → in_call (step_of_drop s) ≡ false
+    → Turned v (task_dropping v.task) (reverse (drop_entries v.number (step_of_drop v.task.step))) w → Grew (DropBegin v.number ∷ DropEnd v.number ∷ []) v.log w.log
+drop_alone whose v w s rests over d = subst (λ y. Grew (reverse (drop_entries v.number (step_of_drop y))) v.log w.log) (never_polled whose v s v.task.step rests.0 rests.1 over) d.log

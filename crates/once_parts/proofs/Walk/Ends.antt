@@ -1,0 +1,95 @@
+-- What is known of a call that has ended.
+use Rattle.std.proofs.Common.{◌≡◌, ℕ, Bool, true, false, List, [], ◌∷◌, Option, refl, sym, ap, ◌∙◌, subst}
+use Rattle.std.specs.Prelude.{⊤}
+use Rattle.std.proofs.lemmas.Bool.{false≢true}
+use Rattle.once_core.specs.Steps.{in_call, is_resting}
+use Rattle.once_world.specs.Places.{EndDropped, EndError, EndFull, EndMemory, EndPending, EndValue, Ended, Ending, Finished, More, Progress, Resting, Step, UnderWay}
+use Rattle.once_world.specs.Record.{Answer, Entry, RanError}
+use Rattle.once_world.specs.Machine.{end_entry, error_in, progress_entries}
+use Rattle.once_moments.specs.Kept.{Grew}
+use Rattle.once_parts.specs.Own.{Own}
+use Rattle.once_parts.specs.Sides.{Sided}
+use Rattle.once_parts.specs.Walks.{Fits, HasBegun, MayEnd, Rests, Stands, StandsOn, Walked, end_of}
+
+-- a call ended once
+same_end : (r : Progress) (d e : Ending) → r ≡ Ended d → r ≡ Ended e → d ≡ e
+same_end r d e a b = let same : Ended d ≡ Ended e = sym a ∙ b in cc
+
+-- its entry, by how it may end
+entry_is : (drops : Bool) (y : Sided) (w : Own) (e : Ending) → MayEnd drops y w e → end_entry e w.number 0 w.task.kept ≡ end_of w.number e
+entry_is true y w EndDropped m = refl
+entry_is true y w EndPending m = absurd m
+entry_is true y w EndValue m = absurd m
+entry_is true y w EndError m = absurd m
+entry_is true y w EndMemory m = absurd m
+entry_is true y w EndFull m = absurd m
+entry_is false y w EndDropped m = absurd m
+entry_is false y w EndPending m = refl
+entry_is false y w EndValue m = refl
+entry_is false y w EndError m = ap (λ (k : Answer). end_entry EndError w.number 0 k) m.1
+entry_is false y w EndMemory m = refl
+entry_is false y w EndFull m = refl
+
+-- a drop ends as one
+only_dropped : (y : Sided) (w : Own) (e : Ending) → MayEnd true y w e → e ≡ EndDropped
+only_dropped y w EndDropped m = refl
+only_dropped y w EndPending m = absurd m
+only_dropped y w EndValue m = absurd m
+only_dropped y w EndError m = absurd m
+only_dropped y w EndMemory m = absurd m
+only_dropped y w EndFull m = absurd m
+
+-- an error was given
+error_given : (y : Sided) (w : Own) (e : Ending) → MayEnd false y w e → e ≡ EndError → y.has_error ≡ true
+error_given y w e m is = (subst (MayEnd false y w) is m).0
+
+-- a call that ended told how
+pub told_end : (y : Sided) (w : Own) (drops : Bool) (r : Progress) {W : Type 0} (s : Step W ⊤) → Fits drops y w r s → in_call s ≡ false → (e : Ending) × (r ≡ Ended e)
+told_end y w drops r (UnderWay p) f over = absurd (false≢true (sym over))
+told_end y w drops r (Resting rest) f over = (EndPending, f.0)
+told_end y w drops r Finished f over = (f.0, f.1)
+
+module _ {W : Type 0} (whose : W → ℕ) (x y : Sided) (v w : Own) (r : Progress) (e : Ending) (told : r ≡ Ended e) where
+  -- a poll that ended so
+  pub record PollEnded (s : Step W ⊤) : Type 0 where
+    pub end : Grew (end_of w.number e ∷ []) v.log w.log
+    pub error : e ≡ EndError → y.has_error ≡ true
+    pub pending : e ≡ EndPending → Rests whose w s
+    pub finished : (e ≡ EndPending → ⊥) → s ≡ Finished
+    pub poll : e ≡ EndDropped → ⊥
+
+  -- the newest entry is that of its end
+  end_is : Walked x v r y w → end_entry e w.number 0 w.task.kept ≡ end_of w.number e → Grew (end_of w.number e ∷ []) v.log w.log
+  end_is m is = subst (λ es. Grew es v.log w.log) (ap (λ p. progress_entries p w.number 0 w.task.kept) told ∙ ap (λ (l : Entry). l ∷ []) is) m.ends
+
+  -- a poll ends so
+  pub poll_ended : (s : Step W ⊤) → Walked x v r y w → Stands whose false y w r s → in_call s ≡ false → PollEnded s
+  poll_ended (UnderWay p) m is over = absurd (false≢true (sym over))
+  poll_ended (Resting rest) m is over =
+      let pends : e ≡ EndPending = same_end r e EndPending told is.fits.0 in
+      record {
+        end = end_is m (ap (λ d. end_entry d w.number 0 w.task.kept) pends ∙ ap (end_of w.number) (sym pends));
+        error = λ err. let no : EndPending ≡ EndError = sym pends ∙ err in let never : ⊥ = cc in absurd never;
+        pending = λ p. (refl, is.step);
+        finished = λ no. absurd (no pends);
+        poll = λ d. let no : EndPending ≡ EndDropped = sym pends ∙ d in cc;
+      }
+  poll_ended Finished m is over =
+      let same : is.fits.0 ≡ e = same_end r is.fits.0 e is.fits.1 told in
+      let may : MayEnd false y w e = subst (MayEnd false y w) same is.fits.2 in
+      record {
+        end = end_is m (entry_is false y w e may);
+        error = error_given y w e may;
+        pending = λ p. absurd (subst (MayEnd false y w) p may);
+        finished = λ no. refl;
+        poll = λ d. subst (MayEnd false y w) d may;
+      }
+
+  -- a drop ends so
+  pub drop_ended : (s : Step W ⊤) → Walked x v r y w → Stands whose true y w r s → in_call s ≡ false → (s ≡ Finished) × Grew (end_of w.number EndDropped ∷ []) v.log w.log
+  drop_ended (UnderWay p) m is over = absurd (false≢true (sym over))
+  drop_ended (Resting rest) m is over = absurd (false≢true (sym is.fits.1.0))
+  drop_ended Finished m is over =
+      let same : is.fits.0 ≡ e = same_end r is.fits.0 e is.fits.1 told in
+      let may : MayEnd true y w e = subst (MayEnd true y w) same is.fits.2 in
+      (refl, subst (λ d. Grew (end_of w.number d ∷ []) v.log w.log) (only_dropped y w e may) (end_is m (entry_is true y w e may)))

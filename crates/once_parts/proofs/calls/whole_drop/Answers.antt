@@ -1,0 +1,51 @@
+-- The drop begins, its steps are made, and so it ends. A task that was never polled has none to make.
+use Rattle.std.proofs.Common.{◌≡◌, ℕ, Bool, true, false, refl, sym, ap, ◌∙◌, ◌∷◌, [], ◌++◌, subst}
+use Rattle.once_core.specs.Steps.{in_call}
+use Rattle.once_world.specs.Record.{DropBegin, DropEnd}
+use Rattle.once_moments.specs.Kept.{Grew}
+use Rattle.once_parts.specs.Shares.{cell_of, own}
+use Rattle.once_parts.specs.Sides.{Sided}
+use Rattle.once_parts.specs.Walks.{handed}
+use Rattle.once_parts.proofs.Walk.Logs.{by_before, grew_by, grew_on, walked_none}
+use Rattle.once_parts.proofs.Walk.Begins.{drop_alone, drop_begins, grew_from, grew_last, stands_closed}
+use Rattle.once_parts.proofs.Walk.Ends.{drop_ended}
+use Rattle.once_parts.proofs.calls.whole_drop.Goals as goal
+
+pub go_on-requires : goal.go_on-requires
+go_on-requires g c =
+    let call = sym c.begin_drop-2.ensures.more ∙ c.if-not-begin_drop.false in
+    let begun = drop_begins g.W.TaskWaker.whose (g.S.TaskSide.state c.args.side.now) (own c.args.parts.now) (own c.begin_drop.new.self) c.args.step.now c.requires.number c.requires.none c.requires.rests c.begin_drop.ensures.did
+    (ap in_call (sym c.begin_drop-2.ensures.step) ∙ call) in
+    record { stands = (true, stands_closed g.W.TaskWaker.whose _ _ (own c.begin_drop.new.self) _ _ (g.met.S.TaskSide.tells_close _ _ c.begin_drop-2.ensures.close) c.begin_drop-2.ensures.step begun) }
+
+pub returns-then-not-begin_drop-clause-end : goal.returns-then-not-begin_drop-clause-end
+returns-then-not-begin_drop-clause-end g c =
+    let over = ap in_call (sym c.begin_drop-2.ensures.step) ∙ sym c.begin_drop-2.ensures.more ∙ c.if-not-begin_drop.true in
+    let grew = drop_alone g.W.TaskWaker.whose (own c.args.parts.now) (own c.begin_drop.new.self) c.args.step.now c.requires.rests over c.begin_drop.ensures.did in
+    subst (λ (t : ℕ). Grew (DropEnd t ∷ []) (own c.args.parts.now).log (own c.begin_drop.new.self).log) (sym c.begin_drop.ensures.did.number) (grew_last (DropEnd (own c.args.parts.now).number) (DropBegin (own c.args.parts.now).number ∷ []) _ _ grew)
+
+pub returns-then-not-begin_drop-clause-woke : goal.returns-then-not-begin_drop-clause-woke
+returns-then-not-begin_drop-clause-woke g c =
+    let over = ap in_call (sym c.begin_drop-2.ensures.step) ∙ sym c.begin_drop-2.ensures.more ∙ c.if-not-begin_drop.true in
+    let grew = drop_alone g.W.TaskWaker.whose (own c.args.parts.now) (own c.begin_drop.new.self) c.args.step.now c.requires.rests over c.begin_drop.ensures.did in
+    (DropBegin (own c.args.parts.now).number ∷ DropEnd (own c.args.parts.now).number ∷ [], grew_by (DropBegin (own c.args.parts.now).number ∷ DropEnd (own c.args.parts.now).number ∷ []) _ _ grew, ap (λ (x : Sided). x.woke) (g.met.S.TaskSide.tells_close _ _ c.begin_drop-2.ensures.close) ∙ c.requires.none)
+
+pub returns : goal.returns
+returns g c =
+    let call = sym c.begin_drop-2.ensures.more ∙ c.if-not-begin_drop.false in
+    let begun = drop_begins g.W.TaskWaker.whose (g.S.TaskSide.state c.args.side.now) (own c.args.parts.now) (own c.begin_drop.new.self) c.args.step.now c.requires.number c.requires.none c.requires.rests c.begin_drop.ensures.did
+    (ap in_call (sym c.begin_drop-2.ensures.step) ∙ call) in
+    let closed = g.met.S.TaskSide.tells_close _ _ c.begin_drop-2.ensures.close in
+    let stands = stands_closed g.W.TaskWaker.whose _ _ (own c.begin_drop.new.self) _ _ closed c.begin_drop-2.ensures.step begun in
+    let seen = grew_on _ _ _ c.begin_drop.ensures.did.log in
+    let walked = c.go_on.ensures.walked _ _ (walked_none _ _) in
+    let end = drop_ended g.W.TaskWaker.whose (g.S.TaskSide.state c.begin_drop-2.new.side) (g.S.TaskSide.state c.go_on.new.side) (own c.begin_drop.new.self) (own c.go_on.new.parts) _ c.go_on.result refl c.go_on.new.step walked
+    (c.go_on.ensures.stands true stands) c.go_on.ensures.over in
+    record {
+      cell = c.go_on.ensures.cell ∙ c.begin_drop.ensures.cell;
+      task = walked.number ∙ c.begin_drop.ensures.did.number;
+      end = grew_from _ _ _ _ seen end.1;
+      woke = (walked.made.0, by_before walked.made.0 _ _ _ seen walked.made.1, walked.made.2 ∙ ap (λ X. X ++ handed walked.made.0) (ap (λ (x : Sided). x.woke) closed ∙ c.requires.none));
+      finished = end.0;
+      stays = g.met.S.Side.stays_on _ _ _ c.begin_drop-2.ensures.stays c.go_on.ensures.stays;
+    }

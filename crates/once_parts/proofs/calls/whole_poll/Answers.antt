@@ -1,0 +1,33 @@
+-- The poll begins, its steps are made, and so it ends.
+use Rattle.std.proofs.Common.{◌≡◌, Bool, false, refl, ap, ◌∙◌, ◌∷◌, [], ◌++◌}
+use Rattle.once_core.specs.Steps.{step_of_poll}
+use Rattle.once_world.specs.Record.{Begin}
+use Rattle.once_parts.specs.Shares.{cell_of, own}
+use Rattle.once_parts.specs.Walks.{handed}
+use Rattle.once_parts.proofs.Walk.Logs.{by_before, grew_on}
+use Rattle.once_parts.proofs.Walk.Begins.{grew_from, poll_begins}
+use Rattle.once_parts.proofs.Walk.Ends.{PollEnded, poll_ended}
+use Rattle.once_parts.proofs.calls.whole_poll.Goals as goal
+
+pub start-told-requires-clause-stands : goal.start-told-requires-clause-stands
+start-told-requires-clause-stands g c = poll_begins g.W.TaskWaker.whose (g.S.TaskSide.state c.args.side.now) (own c.args.parts.now) (own c.begin.new.self) c.args.step.now c.requires.number c.requires.none c.requires.rests c.begin.ensures.did
+
+pub go_on-requires : goal.go_on-requires
+go_on-requires g c = record { stands = (false, c.start-told.ensures.stands) }
+
+pub returns : goal.returns
+returns g c =
+    let seen = grew_on _ _ _ c.begin.ensures.did.log in
+    let walked = c.go_on.ensures.walked _ _ c.start-told.ensures.walked in
+    let end = poll_ended g.W.TaskWaker.whose (g.S.TaskSide.state c.args.side.now) (g.S.TaskSide.state c.go_on.new.side) (own c.begin.new.self) (own c.go_on.new.parts) _ c.go_on.result refl c.go_on.new.step walked (c.go_on.ensures.stands false c.start-told.ensures.stands) c.go_on.ensures.over in
+    record {
+      cell = c.go_on.ensures.cell ∙ c.start-told.ensures.cell ∙ c.begin.ensures.cell;
+      task = walked.number ∙ c.begin.ensures.did.number;
+      end = grew_from _ _ _ _ seen end.end;
+      woke = (walked.made.0, by_before walked.made.0 _ _ _ seen walked.made.1, walked.made.2 ∙ ap (λ X. X ++ handed walked.made.0) c.requires.none);
+      error = end.error;
+      pending = end.pending;
+      finished = end.finished;
+      poll = end.poll;
+      stays = g.met.S.Side.stays_on _ _ _ c.start-told.ensures.stays c.go_on.ensures.stays;
+    }

@@ -1,0 +1,35 @@
+-- What is told of a task's own side: whether its init gave something, and who was handed to it.
+use Rattle.std.specs.Prelude.{◌≡◌, ℕ, Bool, true, List, [], Option, IfSome}
+use Rattle.once_core.specs.declared.step.Polled.{Polled}
+use Rattle.once_core.specs.declared.step.Polled.TheVariants.{Value, Error}
+use Rattle.once_queue.specs.declared.waiters.Out.{Out}
+use Rattle.once_moments.specs.Named.{named_out}
+
+-- the number of its task, whether it has a value or an error that the init gave, and the tasks whose wakers were handed to it in this call
+pub record Sided : Type 0 where
+  pub number : ℕ
+  pub has_value : Bool
+  pub has_error : Bool
+  pub woke : List ℕ
+
+-- the init was polled, and answered so: what it gave is there
+pub record HasRun (x : Sided) (a : Polled) (y : Sided) : Type 0 where
+  pub number : y.number ≡ x.number
+  pub woke : y.woke ≡ x.woke
+  pub value : a ≡ Value → y.has_value ≡ true
+  pub error : a ≡ Error → y.has_error ≡ true
+
+-- the value was given away
+pub record HasPut (x y : Sided) : Type 0 where
+  pub number : y.number ≡ x.number
+  pub woke : y.woke ≡ x.woke
+  pub error : y.has_error ≡ x.has_error
+
+module _ {W : Type 0} (whose : W → ℕ) where
+  -- the waker was copied: it is the task's own
+  abbrev pub HasCopied : Sided → Option W → Sided → Type 0
+  HasCopied x c y = (y ≡ x) × IfSome c (λ w. whose w ≡ x.number)
+
+  -- the first to be handed to it in this call were these
+  abbrev pub HasWoken : Sided → Out W → Sided → Type 0
+  HasWoken x out y = x.woke ≡ [] → y ≡ record x { woke = named_out whose out }

@@ -1,0 +1,87 @@
+-- What a whole call of a task makes of the record.
+use Rattle.std.specs.Prelude.{◌≡◌, ℕ, Bool, true, false, List, [], ◌∷◌, ◌++◌, ⊤}
+use mathlib.Core.List.{IsPrefix}
+use Rattle.once_world.specs.Places.{Ending, EndPending, EndValue, EndError, EndMemory, EndFull, EndDropped, Progress, More, Ended, Step, Resting, UnderWay, Finished}
+use Rattle.once_world.specs.Places.{Place, AtRun, AtPut, AtFast, AtAddOne, AtDoorAgain, AtRelease, AtLeave, AtCountOut, AtDoorTake}
+use Rattle.once_core.specs.Steps.{is_resting}
+use Rattle.once_world.specs.Record.{DropEnd, End, Entry, Error, Full, Memory, Pending, RanError, Value, handed_by}
+use Rattle.once_world.specs.Machine.{progress_entries}
+use Rattle.once_moments.specs.Kept.{Grew}
+use Rattle.once_moments.specs.Steps.{StandsForStep}
+use Rattle.once_parts.specs.Own.{Own}
+use Rattle.once_parts.specs.Sides.{Sided}
+
+-- the tasks whose wakers these entries hand out, in their order
+abbrev pub handed : List Entry → List ℕ
+handed [] = []
+handed (e ∷ es) = handed_by e ++ handed es
+
+-- the log grew by these entries, in this order; others may have added theirs before, between and after them
+abbrev pub GrewBy : List Entry → List Entry → List Entry → Type 0
+GrewBy [] old new = IsPrefix old new
+GrewBy (e ∷ es) old new = (before : List Entry) × IsPrefix old before × GrewBy es (before ++ e ∷ []) new
+
+-- how a call may end: a drop as dropped, and a poll with an error that its own init gave, or otherwise
+abbrev pub MayEnd : Bool → Sided → Own → Ending → Type 0
+MayEnd true x v EndDropped = Unit {0}
+MayEnd true x v e = ⊥
+MayEnd false x v EndDropped = ⊥
+MayEnd false x v EndPending = ⊥
+MayEnd false x v EndError = (x.has_error ≡ true) × (v.task.kept ≡ RanError 0)
+MayEnd false x v e = Unit {0}
+
+-- a poll began, and nobody was handed out in it
+abbrev pub HasBegun : Bool → Sided → Own → Type 0
+HasBegun drops x v = (drops ≡ false) × (x.woke ≡ []) × (v.task.waker ≡ v.number)
+
+module _ {W Q : Type 0} (drops : Bool) (x : Sided) (v : Own) where
+  -- what holds at each place of a call, by whether it is a drop
+  abbrev pub FitsAt : Place W Q → Type 0
+  FitsAt (AtPut by) = HasBegun drops x v × (x.has_value ≡ true)
+  FitsAt (AtFast e) = (x.woke ≡ []) × MayEnd drops x v e
+  FitsAt (AtAddOne e) = (x.woke ≡ []) × MayEnd drops x v e
+  FitsAt (AtDoorAgain e) = (x.woke ≡ []) × MayEnd drops x v e
+  FitsAt (AtRelease q e) = (x.woke ≡ []) × MayEnd drops x v e
+  FitsAt (AtLeave q n e) = (x.woke ≡ []) × MayEnd drops x v e
+  FitsAt (AtCountOut e) = MayEnd drops x v e
+  FitsAt (AtDoorTake e) = MayEnd drops x v e
+  FitsAt _ = HasBegun drops x v
+
+  -- the same of a step, and of what was told of the call
+  abbrev pub Fits : Progress → Step W Q → Type 0
+  Fits r (UnderWay p) = (r ≡ More) × FitsAt p
+  Fits r (Resting rest) = (r ≡ Ended EndPending) × HasBegun drops x v
+  Fits r Finished = (e : Ending) × (r ≡ Ended e) × MayEnd drops x v e
+
+-- there is one queue, so the code keeps nothing of it where the page has its number
+abbrev pub the_queue : ℕ → ⊤
+the_queue n = tt
+
+-- the code's step stands for that of the page, by whom a waker stands for
+abbrev pub StandsOn : {W : Type 0} → (W → ℕ) → Own → Step W ⊤ → Type 0
+StandsOn whose v s = StandsForStep whose (λ q. q) the_queue s v.task.step
+
+-- the side is the task's, and its call has come so far
+pub record Stands {W : Type 0} (whose : W → ℕ) (drops : Bool) (x : Sided) (v : Own) (r : Progress) (s : Step W ⊤) : Type 0 where
+  pub step : StandsOn whose v s
+  pub number : x.number ≡ v.number
+  pub fits : Fits drops x v r s
+
+-- from x and v to y and w a call made its steps, the last of which told r: an end is the newest entry, and who was handed to the side are those that the entries of the steps name
+pub record Walked (x : Sided) (v : Own) (r : Progress) (y : Sided) (w : Own) : Type 0 where
+  pub number : w.number ≡ v.number
+  pub ends : Grew (progress_entries r w.number 0 w.task.kept) v.log w.log
+  pub made : (es : List Entry) × GrewBy es v.log w.log × (y.woke ≡ x.woke ++ handed es)
+
+-- the task rests, and the code's step stands for the page's
+abbrev pub Rests : {W : Type 0} → (W → ℕ) → Own → Step W ⊤ → Type 0
+Rests whose v s = (is_resting s ≡ true) × StandsOn whose v s
+
+-- the entry of a call of t that ends so: a value and an error are named 0
+abbrev pub end_of : ℕ → Ending → Entry
+end_of t EndPending = End t Pending
+end_of t EndValue = End t (Value 0)
+end_of t EndError = End t (Error 0)
+end_of t EndMemory = End t Memory
+end_of t EndFull = End t Full
+end_of t EndDropped = DropEnd t

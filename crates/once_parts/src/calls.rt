@@ -1,0 +1,113 @@
+//! Whole calls of a task: step after step, until the call ends.
+ghost use Rattle.std.specs.Prelude.{◌≡◌, ℕ, Bool, true, false, List, [], ◌∷◌};
+ghost use Rattle.once_core.specs.Steps.{in_call, is_resting, step_of_poll};
+ghost use Rattle.once_world.specs.Record.{Entry};
+ghost use Rattle.once_moments.specs.Kept.{Grew};
+ghost use Rattle.once_parts.specs.Shares.{cell_of, own};
+ghost use Rattle.once_parts.specs.Own.{Own};
+ghost use Rattle.once_parts.specs.Sides.{Sided};
+ghost use Rattle.once_parts.specs.Walks.{GrewBy, Rests, Stands, Walked, end_of, handed};
+
+use crate::mark::TaskWaker;
+use crate::shared::Shared;
+use crate::side::TaskSide;
+use once_core::step::{Ending, Progress, Step};
+use once_queue::word::MAX_WAITERS;
+use std::alloc::AllocGlobal;
+use std::sync::Wait;
+
+/// A whole poll: begins it, and makes its steps until it ends. It may wait for the cell's lock, and for whatever the side
+/// waits for.
+#[inline(always)]
+pub fn whole_poll<T, W: TaskWaker + Drop, R: Wait + AllocGlobal, S: TaskSide<W, Value = T>>(
+    parts: &mut Shared<'_, '_, T, W, R>,
+    step: &mut Step<W, ()>,
+    side: &mut S,
+) -> Ending
+    requires rests { Rests W.whose (own parts.old) step.old }
+    requires number { (S.state side.old).number ≡ (own parts.old).number }
+    requires none { (S.state side.old).woke ≡ [] }
+    ensures cell { cell_of parts.new ≡ cell_of parts.old }
+    ensures task { (own parts.new).number ≡ (own parts.old).number }
+    ensures end { Grew (end_of (own parts.new).number result ∷ []) (own parts.old).log (own parts.new).log }
+    ensures woke { (es : List Entry) × GrewBy es (own parts.old).log (own parts.new).log × ((S.state side.new).woke ≡ handed es) }
+    ensures error { result ≡ Ending.Error → (S.state side.new).has_error ≡ true }
+    ensures pending { result ≡ Ending.Pending → Rests W.whose (own parts.new) step.new }
+    ensures finished { (result ≡ Ending.Pending → ⊥) → step.new ≡ Step.Finished }
+    ensures poll { result ≡ Ending.Dropped → ⊥ }
+    ensures stays { S.stays side.old side.new }
+{
+    parts.begin();
+    let told = start(parts, step, side);
+    go_on(parts, step, side, told)
+}
+
+/// A whole drop of a task that is not finished. It may wait as [`whole_poll`].
+pub fn whole_drop<T, W: TaskWaker + Drop, R: Wait + AllocGlobal, S: TaskSide<W, Value = T>>(
+    parts: &mut Shared<'_, '_, T, W, R>,
+    step: &mut Step<W, ()>,
+    side: &mut S,
+)
+    requires rests { Rests W.whose (own parts.old) step.old }
+    requires number { (S.state side.old).number ≡ (own parts.old).number }
+    requires none { (S.state side.old).woke ≡ [] }
+    ensures cell { cell_of parts.new ≡ cell_of parts.old }
+    ensures task { (own parts.new).number ≡ (own parts.old).number }
+    ensures end { Grew (end_of (own parts.new).number Ending.Dropped ∷ []) (own parts.old).log (own parts.new).log }
+    ensures woke { (es : List Entry) × GrewBy es (own parts.old).log (own parts.new).log × ((S.state side.new).woke ≡ handed es) }
+    ensures finished { step.new ≡ Step.Finished }
+    ensures stays { S.stays side.old side.new }
+{
+    parts.begin_drop();
+    if !step.begin_drop(side) {
+        return;
+    }
+    go_on(parts, step, side, Progress::More);
+}
+
+// Begins a poll: where it is the first, with the steps that it has where it meets nobody.
+#[inline(always)]
+fn start<T, W: TaskWaker + Drop, R: Wait + AllocGlobal, S: TaskSide<W, Value = T>>(
+    parts: &mut Shared<'_, '_, T, W, R>,
+    step: &mut Step<W, ()>,
+    side: &mut S,
+) -> Progress
+    requires rests { is_resting step.old ≡ true }
+    requires stands { Stands W.whose false (S.state side.old) (own parts.old) Progress.More (step_of_poll step.old) }
+    ensures cell { cell_of parts.new ≡ cell_of parts.old }
+    ensures walked { Walked (S.state side.old) (own parts.old) result (S.state side.new) (own parts.new) }
+    ensures stands { Stands W.whose false (S.state side.new) (own parts.new) result step.new }
+    ensures stays { S.stays side.old side.new }
+{
+    if step.is_new() {
+        return step.first_steps(parts, side);
+    }
+    step.begin();
+    Progress::More
+}
+
+// Makes the steps that are left of the call, and answers how it ended. There are at most sixteen. The last step so far told
+// this.
+fn go_on<T, W: TaskWaker + Drop, R: Wait + AllocGlobal, S: TaskSide<W, Value = T>>(
+    parts: &mut Shared<'_, '_, T, W, R>,
+    step: &mut Step<W, ()>,
+    side: &mut S,
+    mut told: Progress,
+) -> Ending
+    requires stands { (drops : Bool) × Stands W.whose drops (S.state side.old) (own parts.old) told step.old }
+    ensures cell { cell_of parts.new ≡ cell_of parts.old }
+    ensures over { in_call step.new ≡ false }
+    ensures walked { (x : Sided) → (v : Own) → Walked x v told (S.state side.old) (own parts.old)
+        → Walked x v (Progress.Ended result) (S.state side.new) (own parts.new) }
+    ensures stands { (drops : Bool) → Stands W.whose drops (S.state side.old) (own parts.old) told step.old
+        → Stands W.whose drops (S.state side.new) (own parts.new) (Progress.Ended result) step.new }
+    ensures stays { S.stays side.old side.new }
+{
+    while step.left() > 0 {
+        told = step.advance(parts, side, MAX_WAITERS);
+    }
+    let Progress::Ended(ending) = told else {
+        unreachable!()
+    };
+    ending
+}

@@ -1,0 +1,132 @@
+//! A task of a cell, between two of its calls.
+ghost use Rattle.std.specs.Prelude.{◌≡◌, ◌↔◌, ℕ, true, false, List, [], ◌∷◌};
+ghost use Rattle.once_world.specs.Record.{Entry, Made};
+ghost use Rattle.once_moments.specs.Kept.{Grew};
+ghost use Rattle.once_parts.specs.Record.{EndsSet};
+ghost use Rattle.once_parts.specs.Shares.{cell_of, own};
+ghost use Rattle.once_core.specs.Steps.{in_call, is_resting};
+ghost use Rattle.once_parts.specs.Walks.{GrewBy, StandsOn, end_of, handed};
+
+use crate::book::Record;
+use crate::calls::{whole_drop, whole_poll};
+use crate::mark::{Mark, TaskWaker};
+use crate::shared::{Inner, Shared};
+use crate::side::TaskSide;
+use once_core::step::{Ending, Step};
+use pagebook::Written;
+use std::alloc::AllocGlobal;
+use std::marker::Model;
+use std::sync::Wait;
+
+/// A task of a cell, between two of its calls: its share of the cell, and where its next call begins.
+///
+/// A clause sees its cell, its number in the record, the record as far as the task has seen it, and whether it is finished.
+#[derive(Drop)]
+pub struct Task<'a, 'r, T, W: TaskWaker, R> {
+    parts: Shared<'a, 'r, T, W, R>,
+    step: Step<W, ()>,
+    ghost idle: { in_call step ≡ false },
+    // Where its next call begins, it stands as its page says.
+    ghost stands: { is_resting step ≡ true → StandsOn W.whose (own parts) step },
+}
+
+impl<'a, 'r, T, W: TaskWaker, R> Model for Task<'a, 'r, T, W, R> {
+    ghost use Rattle.once_core.specs.Steps.{is_finished};
+    ghost use Rattle.once_parts.specs.Shares.{cell_of, own};
+    ghost use Rattle.once_parts.specs.Tasks.{TaskView};
+
+    ghost Value = { TaskView };
+
+    ghost view = { λ t. record {
+      cell = cell_of t.parts;
+      number = (own t.parts).number;
+      log = (own t.parts).log;
+      finished = is_finished t.step;
+    } };
+}
+
+impl<'a, 'r, T, W: TaskWaker + Drop, R> Task<'a, 'r, T, W, R> {
+    /// A new task.
+    #[inline(always)]
+    pub fn new(inner: &'a Inner<T, W>, rt: &'r R) -> Self
+        ensures cell { result.cell ≡ inner.now.slot }
+        ensures live { result.finished ≡ false }
+        ensures log { (seen : List Entry) × Grew (Made result.number ∷ []) seen result.log }
+    {
+        Task {
+            parts: inner.task(rt),
+            step: Step::new(),
+        }
+    }
+
+    /// Whether the last call ended with anything but Pending, or the task was dropped. It may not be polled after that.
+    #[inline(always)]
+    pub fn is_finished(&self) -> bool
+        ensures { result ≡ self.now.finished }
+    {
+        self.step.is_finished()
+    }
+
+    /// The value, for a task whose last call ended with it.
+    #[inline(always)]
+    pub fn value(&self) -> (&'a T, Written<T>)
+        requires ended { EndsSet self.now.number self.now.log }
+        ensures value { (result.0.now ≡ result.1.value) × (result.1.of ≡ self.now.cell.id) }
+    {
+        self.parts.value()
+    }
+
+    /// The number of this task, for its wakers.
+    #[inline(always)]
+    pub fn mark(&self) -> Mark
+        ensures { result ≡ self.now.number }
+    {
+        self.parts.mark()
+    }
+
+    /// The record as far as this task has seen it.
+    #[inline(always)]
+    pub fn record(&self) -> Record
+        ensures { (result.book ≡ self.now.cell.book) × (result.log ≡ self.now.log) }
+    {
+        self.parts.record()
+    }
+}
+
+impl<'a, 'r, T, W: TaskWaker + Drop, R: Wait + AllocGlobal> Task<'a, 'r, T, W, R> {
+    /// A whole poll. It may wait for the cell's lock, and for whatever the side waits for.
+    ///
+    /// The record grew, and its newest entry is the end of this poll with what is answered here. Whoever was handed to the
+    /// side are the tasks that the entries of this poll name, in their order.
+    #[inline(always)]
+    pub fn poll<S: TaskSide<W, Value = T>>(&mut self, side: &mut S) -> Ending
+        requires live { self.old.finished ≡ false }
+        requires number { (S.state side.old).number ≡ self.old.number }
+        requires none { (S.state side.old).woke ≡ [] }
+        ensures cell { self.new.cell ≡ self.old.cell }
+        ensures number { self.new.number ≡ self.old.number }
+        ensures end { Grew (end_of self.new.number result ∷ []) self.old.log self.new.log }
+        ensures woke { (es : List Entry) × GrewBy es self.old.log self.new.log × ((S.state side.new).woke ≡ handed es) }
+        ensures error { result ≡ Ending.Error → (S.state side.new).has_error ≡ true }
+        ensures finished { (result ≡ Ending.Pending) ↔ (self.new.finished ≡ false) }
+        ensures poll { result ≡ Ending.Dropped → ⊥ }
+        ensures stays { S.stays side.old side.new }
+    {
+        whole_poll(&mut self.parts, &mut self.step, side)
+    }
+
+    /// A whole drop of a task that is not finished. It may wait as [`poll`](Self::poll).
+    pub fn leave<S: TaskSide<W, Value = T>>(&mut self, side: &mut S)
+        requires live { self.old.finished ≡ false }
+        requires number { (S.state side.old).number ≡ self.old.number }
+        requires none { (S.state side.old).woke ≡ [] }
+        ensures cell { self.new.cell ≡ self.old.cell }
+        ensures number { self.new.number ≡ self.old.number }
+        ensures end { Grew (end_of self.new.number Ending.Dropped ∷ []) self.old.log self.new.log }
+        ensures woke { (es : List Entry) × GrewBy es self.old.log self.new.log × ((S.state side.new).woke ≡ handed es) }
+        ensures finished { self.new.finished ≡ true }
+        ensures stays { S.stays side.old side.new }
+    {
+        whole_drop(&mut self.parts, &mut self.step, side);
+    }
+}

@@ -1,0 +1,224 @@
+//! A side whose init answers as it is told to, and whose bells are looked at when they are called.
+ghost use Rattle.std.specs.Prelude.{◌≡◌, ℕ, [], refl};
+ghost use Rattle.std.proofs.Common.{rules};
+
+use once_core::step::{Polled, Side};
+use once_parts::{Mark, TaskSide, TaskWaker};
+use once_queue::waiters::{Out, WakerId};
+use std::marker::Model;
+use std::snapshot::Snapshot;
+
+/// A waker, by the name that a test gives its task.
+#[derive(Drop)]
+pub struct Bell {
+    pub name: u64,
+    pub mark: Snapshot<Mark>,
+}
+
+impl WakerId for Bell {
+    ghost use Rattle.std.specs.Prelude.{⊤};
+
+    ghost tells_same = { λ _ _. ⊥ };
+
+    ghost tells_other = { λ _ _. ⊤ };
+
+    fn are_all_other() -> bool {
+        true
+    }
+
+    fn same(&self, other: &Bell) -> bool {
+        let _ = other;
+        false
+    }
+}
+
+impl TaskWaker for Bell {
+    ghost whose = { λ b. b.mark.value };
+
+    ghost apart = { λ a b e. e };
+}
+
+/// The names of the first three whose bells are called, in their order.
+pub type Called = [Option<u64>; 3];
+
+/// Nobody is called.
+pub const NOBODY: Called = [None; 3];
+
+/// The side of a task. A clause sees what is told of it.
+#[derive(Drop)]
+pub struct TestSide {
+    name: u64,
+    mark: Mark,
+    // What the init answers. The value that it gives is the task's name.
+    answer: Polled,
+    // Whether memory for a copy of the bell is given.
+    granted: bool,
+    /// What the init gave.
+    pub value: Option<u64>,
+    pub error: bool,
+    /// Whom the call under way called.
+    woke: Snapshot<Out<Bell>>,
+    pub called: Called,
+    /// How often the init was polled, and closed.
+    pub polls: u64,
+    pub closes: u64,
+}
+
+impl Model for TestSide {
+    ghost use Rattle.std.specs.Option.{is_some};
+    ghost use Rattle.once_moments.specs.Named.{named_out};
+    ghost use Rattle.once_parts.specs.Sides.{Sided};
+
+    ghost Value = { Sided };
+
+    ghost view = { λ s. record {
+      number = s.mark;
+      has_value = is_some s.value;
+      has_error = s.error;
+      woke = named_out (λ b. b.mark.value) s.woke.value;
+    } };
+}
+
+impl TestSide {
+    /// The side of the task with this mark, whose init answers so. The value that it gives is the name.
+    pub fn new(name: u64, mark: Mark, answer: Polled) -> TestSide
+        ensures number { result.number ≡ mark }
+        ensures none { result.woke ≡ [] }
+    {
+        TestSide {
+            name,
+            mark,
+            answer,
+            granted: true,
+            value: None,
+            error: false,
+            woke: Snapshot::of(&Out::One(None)),
+            called: NOBODY,
+            polls: 0,
+            closes: 0,
+        }
+    }
+
+    /// The init answers this from now on.
+    pub fn answers(&mut self, answer: Polled)
+        ensures { self.new ≡ self.old }
+    {
+        self.answer = answer;
+    }
+
+    /// No memory is given for a copy of the bell.
+    pub fn refuse_copies(&mut self)
+        ensures { self.new ≡ self.old }
+    {
+        self.granted = false;
+    }
+
+    /// Another call is to begin, in which nobody was called yet.
+    pub fn begin(&mut self)
+        ensures { self.new ≡ record self.old { woke = [] } }
+    {
+        self.woke = Snapshot::of(&Out::One(None));
+        self.called = NOBODY;
+    }
+}
+
+impl Side<Bell> for TestSide {
+    ghost use Rattle.std.specs.Prelude.{true};
+    ghost use Rattle.once_parts.specs.Sides.{HasCopied, HasPut, HasRun, HasWoken};
+
+    type Value = u64;
+
+    ghost did_run = { HasRun };
+
+    ghost did_close = { λ s t. t ≡ s };
+
+    ghost can_put = { λ s. s.has_value ≡ true };
+
+    ghost did_put = { HasPut };
+
+    ghost did_copy = { HasCopied (λ b. b.mark.value) };
+
+    ghost did_wake = { HasWoken (λ b. b.mark.value) };
+
+    ghost stays = { λ s t. t.number ≡ s.number };
+
+    ghost stays_same = { λ a. refl };
+
+    ghost stays_on = { λ a b c p q. Prim.search rules };
+
+    fn run(&mut self) -> Polled {
+        self.polls = self.polls.saturating_add(1);
+        match self.answer {
+            Polled::Pending => {}
+            Polled::Value => self.value = Some(self.name),
+            Polled::Error => self.error = true,
+        }
+        self.answer
+    }
+
+    fn close(&mut self) {
+        self.closes = self.closes.saturating_add(1);
+    }
+
+    fn put(&mut self) -> u64 {
+        let Some(value) = self.value.take() else {
+            unreachable!()
+        };
+        value
+    }
+
+    fn copy(&mut self) -> Option<Bell> {
+        if !self.granted {
+            return None;
+        }
+        Some(Bell {
+            name: self.name,
+            mark: Snapshot::of(&self.mark),
+        })
+    }
+
+    fn wake(&mut self, out: Out<Bell>)
+        ensures did { HasWoken (λ b. b.mark.value) self.old out self.new }
+        ensures stays { self.new.number ≡ self.old.number }
+    {
+        self.woke = Snapshot::of(&out);
+        self.called = names_of(&out);
+    }
+}
+
+impl TaskSide<Bell> for TestSide {
+    ghost state = { λ s. s };
+
+    ghost tells_run = { λ s a t h. h };
+
+    ghost tells_close = { λ s t h. h };
+
+    ghost tells_put = { λ s t h. h };
+
+    ghost tells_copy = { λ s c t h. h };
+
+    ghost tells_wake = { λ s out t h. h };
+
+    ghost puts = { λ s h. h };
+}
+
+// The names of those whose bells are in it.
+fn names_of(out: &Out<Bell>) -> Called {
+    let mut names = NOBODY;
+    match out {
+        Out::One(bell) => names[0] = name_of(bell),
+        Out::All(listings) => {
+            for (place, listing) in names.iter_mut().zip(listings.iter()) {
+                *place = name_of(&listing.waker);
+            }
+        }
+    }
+    names
+}
+
+fn name_of(bell: &Option<Bell>) -> Option<u64> {
+    match bell {
+        Some(bell) => Some(bell.name),
+        None => None,
+    }
+}
