@@ -1,0 +1,102 @@
+//! The first steps of a new task, where it meets no other task.
+ghost use Rattle.std.specs.Prelude.{◌≡◌, ℕ, false};
+ghost use Rattle.once_core.specs.Chain.{Makes};
+ghost use Rattle.once_queue.specs.declared.word.TheConstants.{MAX_WAITERS};
+ghost use Rattle.once_core.specs.declared.step.Ending.{Ending};
+
+use super::place::{Place, Rest};
+use super::{Ending, Progress, Side, Step};
+use crate::parts::Parts;
+
+impl<W: Drop, Q: Drop> Step<W, Q> {
+    ghost use Rattle.once_core.specs.Steps.{Asks, in_call, step_of_poll};
+
+    /// Begins a first poll, and makes the steps that it has where it meets no other task: the quick claim,
+    /// the init, the value, the fast release. `More` says that another task was met or that the init
+    /// failed: [`advance`](Self::advance) goes on from there.
+    #[inline(always)]
+    pub fn first_steps<P: Parts<W, Queue = Q>, S: Side<W, Value = P::Value>>(
+        &mut self,
+        parts: &mut P,
+        side: &mut S,
+    ) -> Progress
+        requires new { self.old ≡ Step.Resting Rest.Start }
+        requires asks { (told : Progress) → (at : Step W Q) → (p : P) → (s : S) → Makes
+            record {
+              load = P.did_load;
+              quick = P.did_quick;
+              fast = P.did_fast;
+              count_in = P.did_count_in;
+              add_one = P.did_add_one;
+              count_out = P.did_count_out;
+              door_get = P.did_door_get;
+              door_put = P.did_door_put;
+              door_take = P.did_door_take;
+              section = P.did_section;
+              refuse = P.did_refuse;
+              ran = P.did_ran;
+              put = P.did_put;
+            }
+            record { run = S.did_run; close = S.did_close; put = S.did_put; copy = S.did_copy; wake = S.did_wake }
+            MAX_WAITERS (step_of_poll self.old) parts.old side.old told at p s → Asks
+            record {
+              load = P.can_load;
+              quick = P.can_quick;
+              fast = P.can_fast;
+              count_in = P.can_count_in;
+              add_one = P.can_add_one;
+              count_out = P.can_count_out;
+              door_get = P.can_door_get;
+              door_put = P.can_door_put;
+              door_take = P.can_door_take;
+              section = P.can_section;
+              ran = P.can_ran;
+              put = P.can_put;
+            }
+            S.can_put MAX_WAITERS at p s }
+        ensures over { (e : Ending) → result ≡ Progress.Ended e → in_call self.new ≡ false }
+        ensures lines { (limit : ℕ) → Makes
+            record {
+              load = P.did_load;
+              quick = P.did_quick;
+              fast = P.did_fast;
+              count_in = P.did_count_in;
+              add_one = P.did_add_one;
+              count_out = P.did_count_out;
+              door_get = P.did_door_get;
+              door_put = P.did_door_put;
+              door_take = P.did_door_take;
+              section = P.did_section;
+              refuse = P.did_refuse;
+              ran = P.did_ran;
+              put = P.did_put;
+            }
+            record { run = S.did_run; close = S.did_close; put = S.did_put; copy = S.did_copy; wake = S.did_wake }
+            limit (step_of_poll self.old) parts.old side.old result self.new parts.new side.new }
+        ensures stays { S.stays side.old side.new }
+    {
+        self.begin();
+        let told = self.start(parts, side);
+        let Step::UnderWay(Place::TryQuick) = *self else {
+            return told;
+        };
+        self.try_quick(parts);
+        let Step::UnderWay(Place::Run(None)) = *self else {
+            return Progress::More;
+        };
+        let told = self.run(None, parts, side);
+        let Step::UnderWay(Place::Put(None)) = *self else {
+            return told;
+        };
+        self.put(None, parts, side);
+        let Step::UnderWay(Place::Fast(ending)) = *self else {
+            return Progress::More;
+        };
+        let told = self.fast(ending, parts);
+        let Step::UnderWay(Place::DoorTake(ending)) = *self else {
+            return told;
+        };
+        parts.door_take();
+        self.end(ending)
+    }
+}
