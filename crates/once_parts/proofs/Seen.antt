@@ -3,17 +3,18 @@ use Rattle.std.proofs.Common.{◌≡◌, ℕ, true, List, [], ◌∷◌, ◌++�
 use Rattle.std.proofs.lemmas.Bool.{false≢true}
 use Rattle.std.proofs.lemmas.List.{reverse-append}
 use mathlib.Core.List.{IsPrefix}
-use Rattle.once_world.specs.Record.{End, Entry, Once, Value}
+use Rattle.once_world.specs.Record.{End, Entry, Fill, Once, Value}
 use Rattle.once_world.specs.Cell.{Cell, Empty, Held, SetTo, cell, is_set}
 use Rattle.once_world.specs.Run.{AtEvery, IsRun}
 use Rattle.once_world.specs.Called.{SomebodyCalled}
 use Rattle.once_world.proofs.Told.Beginnings.{every_of_beginning, run_of_beginning}
+use Rattle.once_world.proofs.Told.Value.{filled, ready_cell, ready_is_set, set_to, stands_back}
 use Rattle.once_world.proofs.Told.Log.{log_is_plain, log_is_run, somebody_called}
 use Rattle.once_world.proofs.Shared.Worlds.{ArePlain}
 use Rattle.once_world.proofs.Law.Crowded.{value_set}
 use Rattle.once_moments.specs.Kept.{IsKept, Sheet, most, pages_in}
 use Rattle.once_moments.proofs.Moves.Words.{some}
-use Rattle.once_parts.specs.Record.{EndsSet, IsSet}
+use Rattle.once_parts.specs.Record.{EndsSet, IsSet, WasFilled}
 use Rattle.once_parts.proofs.Values.{stays_set}
 
 -- the entries before some are as plain
@@ -59,3 +60,17 @@ module _ (ns : List ℕ) (ss : List Sheet) (seen log : List Entry) (kept : IsKep
       let turned : reverse seen ≡ End t (Value 0) ∷ reverse ends.0 = ap reverse ends.1 ∙ reverse-append ends.0 (End t (Value 0) ∷ []) in
       let before : cell Once (reverse ends.0) ≡ SetTo 0 = value_set Once most t 0 (reverse ends.0) (subst (IsRun Once most) turned seen_run) in
       ap (λ h. is_set (cell Once h)) turned ∙ ap is_set before
+
+  -- where it is set a Fill stands in it: what is set then is set at the end, and all that tasks set is named 0
+  pub seen_filled : IsSet seen → WasFilled seen
+  seen_filled set =
+      let turned : reverse log ≡ reverse pre.0 ++ reverse seen = ap reverse (sym pre.1) ∙ reverse-append seen pre.0 in
+      let run = log_is_run most kept.word kept.has_put kept.slot (pages_in ss) log some kept.book in
+      let plain = log_is_plain most kept.word kept.has_put kept.slot (pages_in ss) log some kept.book in
+      let to = set_to (cell Once (reverse seen)) set in
+      let at_end : cell Once (reverse log) ≡ SetTo to.0 =
+      ap (cell Once) turned ∙ stays_set (reverse pre.0) (reverse seen) to.0 (subst (IsRun Once most) turned run) (subst ArePlain turned plain) to.1 in
+      let ready = ready_is_set most kept.word kept.has_put kept.slot (pages_in ss) log some kept.book ∙ ap is_set at_end in
+      let named : SetTo to.0 ≡ SetTo 0 = sym at_end ∙ ready_cell most kept.word kept.has_put kept.slot (pages_in ss) log some kept.book ready in
+      let fill = filled (reverse seen) 0 seen_plain (to.1 ∙ named) in
+      (fill.0, fill.1, stands_back (Fill fill.0 0 fill.1) seen fill.2)

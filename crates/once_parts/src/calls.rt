@@ -1,6 +1,6 @@
 //! Whole calls of a task: step after step, until the call ends.
-ghost use Rattle.std.specs.Prelude.{◌≡◌, ℕ, Bool, true, false, List, [], ◌∷◌};
-ghost use Rattle.once_core.specs.Steps.{in_call, is_resting, step_of_poll};
+ghost use Rattle.std.specs.Prelude.{◌≡◌, ◌<◌, ℕ, Bool, true, false, List, [], ◌∷◌};
+ghost use Rattle.once_core.specs.Steps.{in_call, is_resting, left_of, step_of_poll};
 ghost use Rattle.once_world.specs.Record.{Entry};
 ghost use Rattle.once_moments.specs.Kept.{Grew};
 ghost use Rattle.once_parts.specs.Shares.{cell_of, own};
@@ -86,6 +86,28 @@ fn start<T, W: TaskWaker + Drop, R: Wait + AllocGlobal, S: TaskSide<W, Value = T
     Progress::More
 }
 
+/// Makes one step of the call that is under way, whose last step told this. It may wait as a whole call.
+#[inline(always)]
+pub fn one_step<T, W: TaskWaker + Drop, R: Wait + AllocGlobal, S: TaskSide<W, Value = T>>(
+    parts: &mut Shared<'_, '_, T, W, R>,
+    step: &mut Step<W, ()>,
+    side: &mut S,
+    told: Progress,
+) -> Progress
+    requires call { in_call step.old ≡ true }
+    requires stands { (drops : Bool) × Stands W.whose drops (S.state side.old) (own parts.old) told step.old }
+    ensures cell { cell_of parts.new ≡ cell_of parts.old }
+    ensures lower { left_of step.new < left_of step.old }
+    ensures walked { (x : Sided) → (v : Own) → Walked x v told (S.state side.old) (own parts.old)
+        → Walked x v result (S.state side.new) (own parts.new) }
+    ensures stands { (drops : Bool) → Stands W.whose drops (S.state side.old) (own parts.old) told step.old
+        → Stands W.whose drops (S.state side.new) (own parts.new) result step.new }
+    ensures stays { S.stays side.old side.new }
+{
+    let _ = told;
+    step.advance(parts, side, MAX_WAITERS)
+}
+
 // Makes the steps that are left of the call, and answers how it ended. There are at most sixteen. The last step so far told
 // this.
 fn go_on<T, W: TaskWaker + Drop, R: Wait + AllocGlobal, S: TaskSide<W, Value = T>>(
@@ -104,7 +126,7 @@ fn go_on<T, W: TaskWaker + Drop, R: Wait + AllocGlobal, S: TaskSide<W, Value = T
     ensures stays { S.stays side.old side.new }
 {
     while step.left() > 0 {
-        told = step.advance(parts, side, MAX_WAITERS);
+        told = one_step(parts, step, side, told);
     }
     let Progress::Ended(ending) = told else {
         unreachable!()

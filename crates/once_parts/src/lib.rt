@@ -21,7 +21,7 @@ pub mod task;
 mod under_lock;
 
 pub use book::{CellRule, Leaf, Line, Record};
-pub use calls::{whole_drop, whole_poll};
+pub use calls::{one_step, whole_drop, whole_poll};
 pub use mark::{Mark, TaskWaker};
 pub use shared::{Inner, Shared};
 pub use side::TaskSide;

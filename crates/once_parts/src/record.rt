@@ -5,16 +5,17 @@ ghost use Rattle.once_world.specs.Record.{Once};
 ghost use Rattle.once_world.specs.Run.{AtEvery, IsRun};
 ghost use Rattle.once_world.specs.Called.{SomebodyCalled};
 ghost use Rattle.once_moments.specs.Kept.{most};
-ghost use Rattle.once_parts.specs.Record.{EndsSet, IsSet};
+ghost use Rattle.once_parts.specs.Record.{EndsSet, IsSet, WasFilled};
 
 use crate::book::Record;
 
-/// Shows that what was seen of a record is a run of the cell, and that at each of its beginnings somebody was called where
-/// somebody had to be. It does nothing.
+/// Shows that what was seen of a record is a run of the cell, that at each of its beginnings somebody was called where
+/// somebody had to be, and that a Fill stands in it where the cell is set. It does nothing.
 #[inline(always)]
 pub fn is_run(seen: &Record)
     ensures run { IsRun Once most (reverse seen.now.log) }
     ensures called { AtEvery (SomebodyCalled Once) (reverse seen.now.log) }
+    ensures filled { IsSet seen.now.log → WasFilled seen.now.log }
 {
     seen.again().learn(seen);
 }
@@ -22,9 +23,7 @@ pub fn is_run(seen: &Record)
 /// Shows that a cell that was set in a record is set in each later one. It does nothing.
 #[inline(always)]
 pub fn stays_set(earlier: &Record, later: &Record)
-    requires begins { IsPrefix earlier.now.log later.now.log }
-    requires set { IsSet earlier.now.log }
-    ensures { IsSet later.now.log }
+    ensures { IsPrefix earlier.now.log later.now.log → IsSet earlier.now.log → IsSet later.now.log }
 {
     later.again().learn(later);
 }

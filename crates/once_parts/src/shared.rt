@@ -20,9 +20,10 @@ use keyed_mutex::{Key, KeyedMutex};
 use once_core::parts::{Counted, Parts};
 use once_core::step::Polled;
 use once_queue::waiters::{Answer, Lists, Op};
-use once_queue::word::READY_BIT;
+use once_queue::word::{READY_BIT, Word as Flags};
 use pagebook::{Slot, Word, Written};
 use std::alloc::AllocGlobal;
+use std::fmt;
 use std::marker::Brand;
 use std::sync::Wait;
 
@@ -45,6 +46,7 @@ pub struct Inner<T, W: TaskWaker> {
 impl<T, W: TaskWaker + Drop> Inner<T, W> {
     ghost use Rattle.std.specs.Prelude.{List, [], ◌∷◌, true, IfSome};
     ghost use Rattle.std.specs.Option.{is_some};
+    ghost use Rattle.once_queue.specs.Word.{flags_of};
     ghost use Rattle.once_world.specs.Record.{Entry, Made};
     ghost use Rattle.once_world.specs.Machine.{fresh_task};
     ghost use Rattle.once_moments.specs.Kept.{Grew};
@@ -92,12 +94,22 @@ impl<T, W: TaskWaker + Drop> Inner<T, W> {
         ensures filled { is_some result ≡ true → WasFilled seen.new.log }
         ensures value { IfSome result (λ r. (r.0.now ≡ r.1.value) × (r.1.of ≡ self.now.slot.id)) }
     {
-        let mut none = seen.no_pens();
-        let word = self.word.load::<(), Looks>(&(), seen, &mut none);
-        if word >= READY_BIT {
+        if self.load(seen) >= READY_BIT {
             return Some(self.slot.get(seen));
         }
         None
+    }
+
+    // One load of the word.
+    #[inline(always)]
+    fn load(&self, seen: &mut Record) -> u64
+        requires book { seen.old.book ≡ self.now.slot.book }
+        ensures book { seen.new.book ≡ seen.old.book }
+        ensures look { Looked (flags_of result).ready seen.old.log seen.new.log }
+        ensures filled { (flags_of result).ready ≡ true → WasFilled seen.new.log }
+    {
+        let mut none = seen.no_pens();
+        self.word.load::<(), Looks>(&(), seen, &mut none)
     }
 
     /// The value, for whoever has what shows it.
@@ -129,6 +141,22 @@ impl<T, W: TaskWaker + Drop> Inner<T, W> {
     /// Whether a queue stands at the door. `None` says that the lock could not be had at once. It waits for nobody.
     pub fn has_queue(&self) -> Option<bool> {
         stands::<Brand, T, W>(self)
+    }
+}
+
+impl<T, W: TaskWaker + Drop> fmt::Debug for Inner<T, W> {
+    fn fmt<F: fmt::Write>(&self, f: &mut fmt::Formatter<F>) -> fmt::Result {
+        let flags = Flags::from_bits(self.load(&mut self.record()));
+        let queue = match self.has_queue() {
+            Some(true) => "true",
+            Some(false) => "false",
+            None => "busy",
+        };
+        let (ready, quick, count) = (flags.is_ready(), flags.is_quick(), flags.count());
+        write!(
+            f,
+            "Inner {{ ready: {ready}, quick_init: {quick}, refcount: {count}, queue: {queue} }}"
+        )
     }
 }
 
@@ -447,3 +475,7 @@ fn stands<J: Key, T, W: TaskWaker + Drop>(inner: &Inner<T, W>) -> Option<bool>
     let tied = inner.desk.try_lock::<J>()?;
     Some(tied.value.has_queue())
 }
+
+unsafe impl<T: Send, W: TaskWaker + Send> Send for Inner<T, W> {}
+
+unsafe impl<T: Send + Sync, W: TaskWaker + Send> Sync for Inner<T, W> {}

@@ -38,7 +38,7 @@ stands_on : (e d : Entry) (h : List Entry) → StandsIn e h → StandsIn e (d �
 stands_on e d h s = (d ∷ s.0, s.1, ap (λ l. d ∷ l) s.2)
 
 -- and in the list turned round
-stands_back : (e : Entry) (log : List Entry) → StandsIn e (reverse log) → StandsIn e log
+pub stands_back : (e : Entry) (log : List Entry) → StandsIn e (reverse log) → StandsIn e log
 stands_back e log s = (
   reverse s.1,
   reverse s.0,
@@ -62,7 +62,7 @@ filled_on : (v : ℕ) (d : Entry) (h : List Entry) → WasFilled v h → WasFill
 filled_on v d h r = (r.0, r.1, stands_on (Fill r.0 v r.1) d h r.2)
 
 -- where a value is set it was filled in
-filled : (h : List Entry) (v : ℕ) → ArePlain h → cell Once h ≡ SetTo v → WasFilled v h
+pub filled : (h : List Entry) (v : ℕ) → ArePlain h → cell Once h ≡ SetTo v → WasFilled v h
 filled [] v u s = absurd (empty_set v s)
 filled (Claim t ∷ h) v u s = absurd (held_set t v s)
 filled (Free t X ∷ h) v u s = absurd (empty_set v s)
@@ -86,7 +86,7 @@ stays_filled h (d ∷ late) before t v X u o e =
     ap (cell Once) e ∙ o'.1 (plain_unowned d u'.0) v (stays_filled (late ++ Fill t v X ∷ before) late before t v X u'.1 o'.2 refl)
 
 -- what a set cell is set to
-set_to : (c : Cell) → is_set c ≡ true → (v : ℕ) × (c ≡ SetTo v)
+pub set_to : (c : Cell) → is_set c ≡ true → (v : ℕ) × (c ≡ SetTo v)
 set_to (SetTo v) e = (v, refl)
 set_to Empty e = absurd (false≢true e)
 set_to (Held t) e = absurd (false≢true e)

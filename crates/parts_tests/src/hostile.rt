@@ -1,0 +1,323 @@
+// Sides that use another task of their cell in the middle of a step of their own.
+ghost use Rattle.std.specs.Prelude.{◌≡◌, ◌↔◌, ℕ, [], refl, false};
+ghost use Rattle.std.proofs.Common.{rules};
+
+use crate::side::{Bell, Called, NOBODY, TestSide};
+use crate::walks::{Caller, Cell};
+use cell_doubles::text::shows;
+use once_core::step::{Ending, Polled, Side};
+use once_parts::{Mark, Task, TaskSide};
+use once_queue::waiters::Out;
+use std::alloc::AllocGlobal;
+use std::marker::Model;
+use std::sync::Wait;
+
+const PENDING: Option<Ending> = Some(Ending::Pending);
+
+const FILLED: &str = "Inner { ready: true, quick_init: false, refcount: 0, queue: false }";
+
+const FREE: &str = "Inner { ready: false, quick_init: false, refcount: 0, queue: true }";
+
+/// What a side does to another task.
+#[derive(Clone, Copy)]
+enum Act {
+    Nothing,
+    Poll,
+    Leave,
+}
+
+/// A side that uses another task of its cell where its init is polled, where its bell is copied, and
+/// where it calls others. A clause sees what is told of it.
+#[derive(Drop)]
+struct Meddling<'a, 'r, R> {
+    side: TestSide,
+    other: Caller<'a, 'r, R>,
+    at_run: Act,
+    at_copy: Act,
+    at_wake: Act,
+    // How the other's last call ended.
+    heard: Option<Ending>,
+}
+
+impl<'a, 'r, R> Model for Meddling<'a, 'r, R> {
+    ghost use Rattle.once_parts.specs.Sides.{Sided};
+
+    ghost Value = { Sided };
+
+    ghost view = { λ m. m.side };
+}
+
+impl<'a, 'r, R: Wait + AllocGlobal> Meddling<'a, 'r, R> {
+    // The side of the task with this mark, whose init answers so. It leaves the other task alone.
+    fn new(name: u64, mark: Mark, answer: Polled, other: Caller<'a, 'r, R>) -> Self
+        ensures number { result.number ≡ mark }
+        ensures none { result.woke ≡ [] }
+    {
+        Meddling {
+            side: TestSide::new(name, mark, answer),
+            other,
+            at_run: Act::Nothing,
+            at_copy: Act::Nothing,
+            at_wake: Act::Nothing,
+            heard: None,
+        }
+    }
+
+    // Another call is to begin, in which nobody was called yet.
+    fn begin(&mut self)
+        ensures { self.new ≡ record self.old { woke = [] } }
+    {
+        self.side.begin();
+    }
+
+    // Its init answers this from now on.
+    fn answers(&mut self, answer: Polled)
+        ensures { self.new ≡ self.old }
+    {
+        self.side.answers(answer);
+    }
+
+    // How the other's last call ended.
+    fn heard(&self) -> Option<Ending> {
+        self.heard
+    }
+
+    // Whom this side called, and whom the other's.
+    fn called(&self) -> [Called; 2] {
+        [self.side.called, self.other.side.called]
+    }
+
+    // How often the init of this side was closed, and that of the other's.
+    fn closes(&self) -> [u64; 2] {
+        [self.side.closes, self.other.side.closes]
+    }
+
+    // It polls the other task wherever it can.
+    fn polls(&mut self)
+        ensures { self.new ≡ self.old }
+    {
+        self.at_run = Act::Poll;
+        self.at_copy = Act::Poll;
+        self.at_wake = Act::Poll;
+    }
+
+    // It drops the other task where its bell is to be copied, and has no memory for a copy.
+    fn leaves_in_a_copy(&mut self)
+        ensures { self.new ≡ self.old }
+    {
+        self.at_copy = Act::Leave;
+        self.side.refuse_copies();
+    }
+
+    // Does this to the other task, where that is not finished.
+    fn obey(&mut self, act: Act)
+        ensures { self.new ≡ self.old }
+    {
+        if self.other.task.is_finished() {
+            return;
+        }
+        match act {
+            Act::Nothing => {}
+            Act::Poll => self.heard = Some(self.other.poll()),
+            Act::Leave => {
+                self.other.leave();
+                self.heard = Some(Ending::Dropped);
+            }
+        }
+    }
+}
+
+impl<R: Wait + AllocGlobal> Side<Bell> for Meddling<'_, '_, R> {
+    ghost use Rattle.std.specs.Prelude.{true};
+    ghost use Rattle.once_parts.specs.Sides.{HasCopied, HasPut, HasRun, HasWoken};
+
+    type Value = u64;
+
+    ghost did_run = { HasRun };
+
+    ghost did_close = { λ s t. t ≡ s };
+
+    ghost can_put = { λ s. s.has_value ≡ true };
+
+    ghost did_put = { HasPut };
+
+    ghost did_copy = { HasCopied (λ b. b.mark.value) };
+
+    ghost did_wake = { HasWoken (λ b. b.mark.value) };
+
+    ghost stays = { λ s t. t.number ≡ s.number };
+
+    ghost stays_same = { λ a. refl };
+
+    ghost stays_on = { λ a b c p q. Prim.search rules };
+
+    fn run(&mut self) -> Polled {
+        self.obey(self.at_run);
+        self.side.run()
+    }
+
+    fn close(&mut self) {
+        self.side.close();
+    }
+
+    fn put(&mut self) -> u64 {
+        self.side.put()
+    }
+
+    fn copy(&mut self) -> Option<Bell> {
+        self.obey(self.at_copy);
+        self.side.copy()
+    }
+
+    fn wake(&mut self, out: Out<Bell>)
+        ensures did { HasWoken (λ b. b.mark.value) self.old out self.new }
+        ensures stays { self.new.number ≡ self.old.number }
+    {
+        self.side.wake(out);
+        self.obey(self.at_wake);
+    }
+}
+
+impl<R: Wait + AllocGlobal> TaskSide<Bell> for Meddling<'_, '_, R> {
+    ghost state = { λ s. s };
+
+    ghost tells_run = { λ s a t h. h };
+
+    ghost tells_close = { λ s t h. h };
+
+    ghost tells_put = { λ s t h. h };
+
+    ghost tells_copy = { λ s c t h. h };
+
+    ghost tells_wake = { λ s out t h. h };
+
+    ghost puts = { λ s h. h };
+}
+
+/// A task, and its side, which uses another task.
+#[derive(Drop)]
+struct Meddler<'a, 'r, R> {
+    task: Task<'a, 'r, u64, Bell, R>,
+    side: Meddling<'a, 'r, R>,
+    ghost same: { side.number ≡ task.number },
+}
+
+impl<'a, 'r, R: Wait + AllocGlobal> Meddler<'a, 'r, R> {
+    // A new task of this name, whose init answers so.
+    fn new(cell: &'a Cell, rt: &'r R, name: u64, answer: Polled, other: Caller<'a, 'r, R>) -> Self
+        ensures { result.task.finished ≡ false }
+    {
+        let task = Task::new(cell, rt);
+        let side = Meddling::new(name, task.mark(), answer, other);
+        Meddler { task, side }
+    }
+
+    fn poll(&mut self) -> Ending
+        requires { self.old.task.finished ≡ false }
+        ensures finished { (result ≡ Ending.Pending) ↔ (self.new.task.finished ≡ false) }
+    {
+        self.side.begin();
+        self.task.poll(&mut self.side)
+    }
+}
+
+// While a waiter's bell is copied, another task is polled, which waits too. It is listed first.
+#[test]
+fn a_copy_that_polls(rt: HostRuntime) {
+    let cell = Cell::new();
+    let mut holder = Caller::new(&cell, &rt, 5, Polled::Pending);
+    let other = Caller::new(&cell, &rt, 8, Polled::Error);
+    let mut waiter = Meddler::new(&cell, &rt, 7, Polled::Error, other);
+    waiter.side.polls();
+    assert_eq!(rt; holder.poll(), Ending::Pending);
+    assert_eq!(rt; waiter.poll(), Ending::Pending);
+    assert_eq!(rt; waiter.side.heard(), PENDING);
+    holder.answers(Polled::Value);
+    assert_eq!(rt; holder.poll(), Ending::Value);
+    assert_eq!(rt; holder.side.called, [Some(8), Some(7), None]);
+    assert_eq!(rt; waiter.poll(), Ending::Value);
+    waiter.side.obey(Act::Poll);
+    assert_eq!(rt; waiter.side.heard(), Some(Ending::Value));
+    assert!(rt; shows(&rt, &cell, FILLED));
+}
+
+// An init polls another task, which waits. The holder gives its value and calls who waits, and the other
+// is polled inside that call.
+#[test]
+fn an_init_and_a_wake_that_poll(rt: HostRuntime) {
+    let cell = Cell::new();
+    let other = Caller::new(&cell, &rt, 9, Polled::Error);
+    let mut holder = Meddler::new(&cell, &rt, 7, Polled::Pending, other);
+    holder.side.polls();
+    assert_eq!(rt; holder.poll(), Ending::Pending);
+    assert_eq!(rt; holder.side.heard(), PENDING);
+    holder.side.answers(Polled::Value);
+    assert_eq!(rt; holder.poll(), Ending::Value);
+    assert_eq!(rt; holder.side.called(), [[Some(9), None, None], NOBODY]);
+    assert_eq!(rt; holder.side.heard(), Some(Ending::Value));
+    assert!(rt; shows(&rt, &cell, FILLED));
+}
+
+// The same where the init fails: the right is free when the other is called, and it takes the right.
+#[test]
+fn a_wake_that_takes_the_right(rt: HostRuntime) {
+    let cell = Cell::new();
+    let other = Caller::new(&cell, &rt, 9, Polled::Error);
+    let mut holder = Meddler::new(&cell, &rt, 7, Polled::Error, other);
+    holder.side.polls();
+    assert_eq!(rt; holder.poll(), Ending::Error);
+    assert_eq!(rt; holder.side.heard(), Some(Ending::Error));
+    assert_eq!(rt; holder.side.closes(), [1, 1]);
+    assert!(rt; shows(&rt, &cell, FREE));
+}
+
+// A waiter that was called is dropped, and the one to whom it passes its turn on is polled inside that
+// call: it takes the right, and fails.
+#[test]
+fn a_turn_taken_while_it_is_passed_on(rt: HostRuntime) {
+    let cell = Cell::new();
+    let mut holder = Caller::new(&cell, &rt, 5, Polled::Pending);
+    let mut waiter = Caller::new(&cell, &rt, 7, Polled::Error);
+    let mut other = Caller::new(&cell, &rt, 9, Polled::Error);
+    assert_eq!(rt; holder.poll(), Ending::Pending);
+    assert_eq!(rt; waiter.poll(), Ending::Pending);
+    assert_eq!(rt; other.poll(), Ending::Pending);
+    holder.leave();
+    assert_eq!(rt; holder.side.called, [Some(7), None, None]);
+    let mut side = Meddling::new(7, waiter.task.mark(), Polled::Error, other);
+    side.polls();
+    waiter.task.leave(&mut side);
+    assert_eq!(rt; side.side.called, [Some(9), None, None]);
+    assert_eq!(rt; side.heard, Some(Ending::Error));
+    assert!(rt; shows(&rt, &cell, FREE));
+}
+
+// A waiter was called, and another task took the right. The waiter is polled again, and while its bell is
+// copied the other leaves: it calls the next. The copy is refused, so the waiter calls the one after that.
+#[test]
+fn a_called_waiter_that_is_refused(rt: HostRuntime) {
+    let cell = Cell::new();
+    let mut holder = Caller::new(&cell, &rt, 1, Polled::Pending);
+    let other = Caller::new(&cell, &rt, 5, Polled::Pending);
+    let mut waiter = Meddler::new(&cell, &rt, 2, Polled::Value, other);
+    let mut third = Caller::new(&cell, &rt, 3, Polled::Value);
+    let mut fourth = Caller::new(&cell, &rt, 4, Polled::Value);
+    assert_eq!(rt; holder.poll(), Ending::Pending);
+    assert_eq!(rt; waiter.poll(), Ending::Pending);
+    assert_eq!(rt; third.poll(), Ending::Pending);
+    assert_eq!(rt; fourth.poll(), Ending::Pending);
+    holder.leave();
+    assert_eq!(rt; holder.side.called, [Some(2), None, None]);
+    waiter.side.obey(Act::Poll);
+    assert_eq!(rt; waiter.side.heard(), PENDING);
+    waiter.side.leaves_in_a_copy();
+    assert_eq!(rt; waiter.poll(), Ending::Memory);
+    assert_eq!(rt;
+        waiter.side.called(),
+        [[Some(4), None, None], [Some(3), None, None]]
+    );
+    assert_eq!(rt; third.poll(), Ending::Value);
+    assert_eq!(rt; third.side.called, NOBODY);
+    assert_eq!(rt; fourth.poll(), Ending::Value);
+    assert!(rt; shows(&rt, &cell, FILLED));
+}
