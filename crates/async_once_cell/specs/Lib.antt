@@ -1,3 +1,13 @@
+pub mod Refused
+pub mod Seats
+pub mod Views
+pub mod Replies
+pub mod Stays
+pub mod Tokens
+pub mod Polls
+pub mod Futures
+pub mod Sure
+-- the definitions of the machine
 pub use Rattle.once_queue.specs.Numbers
 pub use Rattle.once_queue.specs.Word
 pub use Rattle.once_queue.specs.Listings
@@ -27,16 +37,9 @@ pub use Rattle.once_world.specs.Can
 pub use Rattle.once_world.specs.Side
 pub use Rattle.once_world.specs.Shown
 pub use Rattle.once_world.specs.Reached
-pub use Rattle.once_cells.specs.Refused
-pub use Rattle.once_cells.specs.Tokens
-pub use Rattle.once_cells.specs.Polls
-pub use Rattle.once_cells.specs.Calls
-pub use Rattle.once_cells.specs.Sure
-pub use Rattle.once_cells.specs.Stays
 -- the types that users name
 pub use Rattle.once_queue.specs.declared.log
 pub use Rattle.once_queue.specs.declared.waiters
 pub use Rattle.once_core.specs.declared.parts
 pub use Rattle.once_core.specs.declared.step
 pub use Rattle.once_record.specs.declared.world
-pub use Rattle.once_cells.specs.declared.once

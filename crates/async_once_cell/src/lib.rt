@@ -31,9 +31,9 @@
 //! done, the task has the right, and is called a quick holder. This takes no memory and no lock.
 //!
 //! **The door and the queue.** A task that finds neither the value nor the right goes to the door. The
-//! door is where the queue of the cell stands; where none stands, the task puts one there. A queue is a
-//! flag and a list, behind a lock. The flag says that a task holds which claimed under this lock. The
-//! list has a listing for each task that waits: a ticket, by which the task finds it again, and a waker.
+//! door is where the queue of the cell stands; where none stands, the task puts one there. Both lie behind
+//! one lock. A queue is a flag and a list. The flag says that a task holds which claimed under this lock.
+//! The list has a listing for each task that waits: a ticket, by which the task finds it again, and a waker.
 //!
 //! **Counting in.** A task that has found the queue counts in: the count grows by one. The quick claim
 //! needs the word 0, and the fast release (below) needs the quick bit alone. So neither is done while
@@ -64,17 +64,27 @@
 //!
 //! # What is proved
 //!
-//! A call makes sixteen steps of [`step::Step`] at most. [`world::replay`] makes them one at a time, over
-//! plain data, and its contract is the theorem: every record is a run of a cell that is empty, held by
-//! one task or set. The cells make the same steps over parts that threads share; that those act as the
-//! plain ones do is tested, and not proved. `docs/PROVED.md` of the repository has each clause.
+//! A call makes sixteen steps of [`step::Step`] at most. What all tasks did with a cell is its record: it
+//! has no bytes, it only grows, and whatever threads do it is a run of a cell that is empty, held by one
+//! task or set, in which nobody who waits is forgotten. A future and a token show to contracts what they
+//! have seen of it: what a poll answered is the newest entry after it, and a look finds the value just
+//! where the cell is set then. [`world::replay`] is the same machine for one caller, over plain data.
+//!
+//! This says nothing of a call that does not return, of fairness, progress or time. That a task which is
+//! called is woken, and that each value and init is dropped once, is tested. Which value it is that was
+//! set the tokens say, see [`Known`]. What one has to believe is the definitions in `specs/` and the kit.
+//! `docs/PROVED.md` of the repository has each clause, and `docs/THREADS.md` how it is proved.
 #![tactic(auto)]
 
+mod held;
 pub mod inner;
+pub mod lazy;
+pub mod once;
 pub mod queue;
+mod seat;
+mod waiting;
 
 pub use lazy::{Lazy, LazyFuturePin, LazyFutureUnpin};
 pub use once::{InitError, InitFuture, Known, OnceCell, Parker, Refused, TryInitFuture};
-pub use once_cells::{lazy, once};
 pub use once_core::step;
 pub use once_world::{laws, world};

@@ -76,6 +76,15 @@ fn text<T: fmt::Debug>(alloc: Global, value: &T) -> Result<String, AllocError> {
     format!(in alloc; "{value:?}")
 }
 
+// The kit knows that an init outlives the loan of its lazy cell where the init is a type parameter, as it is
+// here, and not where it is a type that borrows.
+fn lazy_text<F: Future, R: Wait + AllocGlobal>(
+    alloc: Global,
+    future: &LazyFuturePin<'_, u64, F, R>,
+) -> Result<String, AllocError> {
+    text(alloc, future)
+}
+
 /// A future of a cell, by the kind of its init.
 #[derive(Drop)]
 pub enum Made<'a, 'i, R: Wait + AllocGlobal> {
@@ -121,7 +130,7 @@ impl<R: Wait + AllocGlobal> Made<'_, '_, R> {
             Made::Trying(future) => text(alloc, future),
             Made::Looking(future) => text(alloc, future),
             Made::Inside(future) => text(alloc, future),
-            Made::Lazily(future) => text(alloc, future),
+            Made::Lazily(future) => lazy_text(alloc, future),
         }
     }
 }

@@ -1,7 +1,9 @@
 //! What a `OnceCell` does on one thread.
 
+mod contracts;
 mod drops;
 mod owner;
+mod records;
 mod schedules;
 mod shown;
 mod tokens;

@@ -1,6 +1,6 @@
 //! Inits that fail while another waits, which then fills the cell at once.
 
-use crate::left::{left_by, meet};
+use crate::left::{is_filled, meet};
 use async_once_cell::OnceCell;
 use async_once_cell::once::TryInitFuture;
 use async_once_cell::world::Reply;
@@ -9,7 +9,6 @@ use futures::Future;
 use futures::future::ready;
 use futures::task::{Context, Poll};
 use futures::test::MockTask;
-use once_cells::inside::parts;
 use std::alloc::{AllocError, AllocGlobal};
 use std::sync::Wait;
 use std::sync::atomic::{AtomicU64, Ordering};
@@ -108,8 +107,8 @@ where
         || fails(rt, first, &cells),
         || fills(rt, second, &cells),
     );
-    let is_filled = |it: &Failing| left_by(rt, parts(&it.cell, rt, None)).is_filled();
-    Ok((told, cells.iter().all(is_filled)))
+    let are_filled = cells.iter().all(|it| is_filled(rt, &it.cell));
+    Ok((told, are_filled))
 }
 
 /// Who brought an init that failed is told its error, also where another fills the cell meanwhile.

@@ -1,57 +1,32 @@
-//! What is left of the parts of a cell that nobody uses any more, and where threads meet.
+//! What a cell shows that nobody uses any more, and where threads meet.
 
-use async_once_cell::inner::{NEW, Parts, READY_BIT, Shared};
-use async_once_cell::queue::WakerId;
 use std::alloc::AllocGlobal;
+use std::fmt::Debug;
 use std::sync::Wait;
 use std::sync::atomic::{AtomicU64, Ordering};
 use std::thread;
 
-/// The word, the door and the queue behind it.
-#[derive(Clone, Copy, Debug, PartialEq, Eq)]
-pub struct Left {
-    pub word: u64,
-    pub has_queue: bool,
-    /// How many are listed in the queue.
-    pub listed: usize,
-    /// The queue's flag: somebody holds who got the right there.
-    pub is_held: bool,
-}
+// Nobody holds, and nobody is counted. A queue may stand at the door still.
+const FREE: &str = "Inner { ready: false, quick_init: false, refcount: 0, queue: ";
 
-impl Left {
-    /// Whether the value is not set, and nobody holds, is counted or is listed.
-    pub fn is_free(&self) -> bool {
-        self.word == NEW && self.listed == 0 && !self.is_held
-    }
+const FILLED: &str = "Inner { ready: true, quick_init: false, refcount: 0, queue: false }";
 
-    /// Whether the value is set, nobody is counted, and no queue stands.
-    pub fn is_filled(&self) -> bool {
-        self.word == READY_BIT && !self.has_queue
+/// Whether a cell shows this of itself.
+pub fn shows<R: AllocGlobal>(rt: &R, cell: &impl Debug, wanted: &str) -> bool {
+    match format!(in rt.alloc(); "{cell:?}") {
+        Ok(text) => text.contains(wanted),
+        Err(_) => false,
     }
 }
 
-/// What these parts have now.
-pub fn left_by<W, R>(rt: &R, mut parts: Shared<'_, '_, W, R>) -> Left
-where
-    W: WakerId + Drop,
-    R: Wait + AllocGlobal,
-{
-    let word = parts.load();
-    let Some(queue) = parts.door_get() else {
-        return Left {
-            word,
-            has_queue: false,
-            listed: 0,
-            is_held: false,
-        };
-    };
-    let lists = queue.lock(rt);
-    Left {
-        word,
-        has_queue: true,
-        listed: lists.len(),
-        is_held: lists.head,
-    }
+/// Whether the value is not set, and nobody holds or is counted. Who is listed is counted.
+pub fn is_free<R: AllocGlobal>(rt: &R, cell: &impl Debug) -> bool {
+    shows(rt, cell, FREE)
+}
+
+/// Whether the value is set, nobody is counted, and no queue stands.
+pub fn is_filled<R: AllocGlobal>(rt: &R, cell: &impl Debug) -> bool {
+    shows(rt, cell, FILLED)
 }
 
 /// Waits until so many threads are at this meeting, of which 0 is the first.

@@ -7,15 +7,13 @@ mod counting;
 #[cfg(test)]
 mod errors;
 #[cfg(test)]
-mod hostile;
-#[cfg(test)]
 mod inside;
 #[cfg(test)]
 mod layers;
 #[cfg(test)]
 mod left;
 #[cfg(test)]
-mod locked;
+mod plain;
 #[cfg(test)]
 mod random;
 #[cfg(test)]

@@ -1,12 +1,11 @@
 //! Threads that use one cell in rounds. Between two of them its owner looks at all that is left.
 
-use crate::left::left_by;
+use crate::left::{is_filled, is_free};
 use async_once_cell::OnceCell;
 use async_once_cell::world::Reply;
 use cell_doubles::slow::{Slow, ended, left_midway};
 use cell_doubles::stub::Tried;
 use futures::test::MockTask;
-use once_cells::inside::parts;
 use rand_core::{Rng, SeedableRng};
 use rand_xoshiro::Xoshiro256PlusPlus;
 use std::alloc::{AllocError, AllocGlobal};
@@ -109,18 +108,18 @@ where
 // it is free.
 fn is_settled<R>(rt: &R, cell: &OnceCell<u64>, round: &Round, was_set: bool) -> bool
 where
-    R: Wait + AllocGlobal,
+    R: AllocGlobal,
 {
-    let (left, value) = (left_by(rt, parts(cell, rt, None)), cell.get().copied());
+    let value = cell.get().copied();
     let made = round.made.load(Ordering::SeqCst);
     let failed = round.failed.load(Ordering::SeqCst);
-    let is_filled = left.is_filled() && value == Some(round.value);
+    let has_it = is_filled(rt, cell) && value == Some(round.value);
     if was_set {
-        return is_filled && made == 0 && failed == 0;
+        return has_it && made == 0 && failed == 0;
     }
     match made {
-        0 => left.is_free() && value.is_none(),
-        1 => is_filled,
+        0 => is_free(rt, cell) && value.is_none(),
+        1 => has_it,
         _ => false,
     }
 }

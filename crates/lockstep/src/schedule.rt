@@ -1,10 +1,10 @@
 //! Schedules at random, from a seed: which task does what next.
 
-use async_once_cell::step::{Ending, Polled, Progress};
+use once_core::step::{Ending, Polled, Progress};
 use rand_core::{Rng, SeedableRng};
 use rand_xoshiro::Xoshiro256PlusPlus;
-use side_by_side::doubles::Woken;
-use side_by_side::pair::{Fault, Pair, Shown, Stage};
+use side_by_side::pair::{Fault, Pair, Shown, Stage, Woken};
+use side_by_side::walker::Cell;
 use std::alloc::AllocGlobal;
 use std::fmt;
 use std::sync::Wait;
@@ -22,11 +22,10 @@ pub struct Tally {
     pub calls: u64,
     /// How often one who was called left, and passed its turn on.
     pub passes: u64,
-    /// How many polls ended for want of memory, and for want of room.
+    /// How many polls ended for want of memory for a copy of the waker.
     pub refusals: u64,
-    pub full: u64,
-    /// How often the owner put a new cell in place of the one before.
-    pub renewals: u64,
+    /// How many cells were played.
+    pub cells: u64,
 }
 
 impl Tally {
@@ -37,18 +36,15 @@ impl Tally {
             calls: 0,
             passes: 0,
             refusals: 0,
-            full: 0,
-            renewals: 0,
+            cells: 0,
         }
     }
 
     // Counts a step, which was one that takes a listing out or not.
     fn count(&mut self, shown: Shown, was_leaving: bool) {
         raise(&mut self.steps);
-        match shown.progress {
-            Progress::Ended(Ending::Memory) => raise(&mut self.refusals),
-            Progress::Ended(Ending::Full) => raise(&mut self.full),
-            _ => {}
+        if let Progress::Ended(Ending::Memory) = shown.progress {
+            raise(&mut self.refusals);
         }
         match shown.woken {
             Woken::Nobody => {}
@@ -67,8 +63,7 @@ impl fmt::Display for Tally {
             (self.calls, "calls"),
             (self.passes, "passes"),
             (self.refusals, "refusals"),
-            (self.full, "full"),
-            (self.renewals, "renewals"),
+            (self.cells, "cells"),
         ] {
             write!(f, ", {count} {name}")?;
         }
@@ -92,26 +87,25 @@ struct Odds {
     steps: u64,
 }
 
-/// A schedule under way. Its tasks are polled, dropped and driven on one step at a time. From time to
-/// time, and soon once the value is set, all of them are dropped, and the owner makes a new cell.
+/// A schedule under way, over one cell after the other. The tasks of a cell are polled, dropped and driven on one step at a
+/// time. From time to time, and soon once the value is set, all of them are dropped, and the cell is done.
 #[derive(Drop)]
-struct Schedule<'r, R> {
+struct Schedule {
     rng: Xoshiro256PlusPlus,
-    pair: Pair<'r, R>,
     // The number of the task at each of the places, and the next number.
     tasks: [u64; TASKS],
     next: u64,
     odds: Odds,
-    // Whether all tasks are to go.
+    // How many turns are left, and whether all tasks are to go.
+    turns: u64,
     is_ending: bool,
     tally: Tally,
 }
 
-impl<'r, R: Wait + AllocGlobal> Schedule<'r, R> {
-    fn new(rt: &'r R, seed: u64) -> Schedule<'r, R> {
+impl Schedule {
+    fn new(seed: u64, turns: u64) -> Schedule {
         Schedule {
             rng: Xoshiro256PlusPlus::seed_from_u64(seed),
-            pair: Pair::new(rt, 8),
             tasks: [1, 2, 3, 4],
             next: 5,
             odds: Odds {
@@ -122,6 +116,7 @@ impl<'r, R: Wait + AllocGlobal> Schedule<'r, R> {
                 end: 200,
                 steps: 4,
             },
+            turns,
             is_ending: false,
             tally: Tally::new(),
         }
@@ -141,9 +136,26 @@ impl<'r, R: Wait + AllocGlobal> Schedule<'r, R> {
         self.draw(once_in) == 0
     }
 
+    // Plays a new cell, until its tasks are gone or no turn is left.
+    fn cell<R: Wait + AllocGlobal>(&mut self, rt: &R) -> Result<(), Fault> {
+        let cell = Cell::new();
+        let mut pair = Pair::new(&cell, rt);
+        for _ in 0..self.turns {
+            self.turns = self.turns.saturating_sub(1);
+            self.turn(&mut pair)?;
+            if self.is_ending && pair.is_empty() {
+                raise(&mut self.tally.cells);
+                break;
+            }
+        }
+        self.is_ending = false;
+        self.draw_odds();
+        Ok(())
+    }
+
     // Some task does something.
-    fn turn(&mut self) -> Result<(), Fault> {
-        let once_in = if self.pair.is_set() { 8 } else { self.odds.end };
+    fn turn<R: Wait + AllocGlobal>(&mut self, pair: &mut Pair<'_, '_, R>) -> Result<(), Fault> {
+        let once_in = if pair.is_set() { 8 } else { self.odds.end };
         if self.happens(once_in) {
             self.is_ending = true;
         }
@@ -151,32 +163,18 @@ impl<'r, R: Wait + AllocGlobal> Schedule<'r, R> {
         let Some(t) = self.tasks.get(place).copied() else {
             return Ok(());
         };
-        match self.pair.stage(t) {
-            Stage::Unknown => self.begin(t),
-            Stage::Resting => self.call(t),
-            Stage::Calling => self.step(t),
+        match pair.stage(t) {
+            Stage::Unknown if self.is_ending => Ok(()),
+            Stage::Unknown => pair.make(t),
+            Stage::Resting => self.call(pair, t),
+            Stage::Calling => self.step(pair, t),
             Stage::Finished => {
-                self.pair.forget(t);
+                pair.forget(t);
                 self.tasks[place] = self.next;
                 raise(&mut self.next);
                 Ok(())
             }
         }
-    }
-
-    // Makes a task. Where all are to go, and are gone, the owner makes a new cell.
-    fn begin(&mut self, t: u64) -> Result<(), Fault> {
-        if !self.is_ending {
-            return self.pair.make(t);
-        }
-        if self.pair.is_empty() {
-            let (is_set, limit) = (self.happens(8), self.draw_from(1, 8));
-            self.pair.renew(is_set, limit);
-            raise(&mut self.tally.renewals);
-            self.is_ending = false;
-            self.draw_odds();
-        }
-        Ok(())
     }
 
     fn draw_odds(&mut self) {
@@ -190,22 +188,29 @@ impl<'r, R: Wait + AllocGlobal> Schedule<'r, R> {
         };
     }
 
-    // Begins a call of a task that rests. Wakers are few, so that tasks have the same.
-    fn call(&mut self, t: u64) -> Result<(), Fault> {
+    // Begins a call of a task that rests.
+    fn call<R: Wait + AllocGlobal>(
+        &mut self,
+        pair: &mut Pair<'_, '_, R>,
+        t: u64,
+    ) -> Result<(), Fault> {
         if self.is_ending || self.happens(self.odds.drop) {
-            return self.pair.begin_drop(t);
+            return pair.begin_drop(t);
         }
-        let waker = self.draw_from(5, 4);
-        self.pair.poll(t, waker);
+        pair.poll(t);
         Ok(())
     }
 
     // Makes steps of a call, until it ends or they are enough.
-    fn step(&mut self, t: u64) -> Result<(), Fault> {
+    fn step<R: Wait + AllocGlobal>(
+        &mut self,
+        pair: &mut Pair<'_, '_, R>,
+        t: u64,
+    ) -> Result<(), Fault> {
         for _ in 0..=self.draw(self.odds.steps) {
-            let was_leaving = self.pair.is_leaving(t);
+            let was_leaving = pair.is_leaving(t);
             let (answer, is_granted) = (self.answer(), !self.happens(self.odds.refusal));
-            let Some(shown) = self.pair.go(t, answer, is_granted)? else {
+            let Some(shown) = pair.go(t, answer, is_granted)? else {
                 break;
             };
             self.tally.count(shown, was_leaving);
@@ -227,9 +232,12 @@ impl<'r, R: Wait + AllocGlobal> Schedule<'r, R> {
 
 /// Plays so many turns of the schedule of a seed, and tells what they came to.
 pub fn play<R: Wait + AllocGlobal>(rt: &R, seed: u64, turns: u64) -> Result<Tally, Fault> {
-    let mut schedule = Schedule::new(rt, seed);
+    let mut schedule = Schedule::new(seed, turns);
     for _ in 0..turns {
-        schedule.turn()?;
+        if schedule.turns == 0 {
+            break;
+        }
+        schedule.cell(rt)?;
     }
     Ok(schedule.tally)
 }

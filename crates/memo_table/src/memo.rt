@@ -1,7 +1,8 @@
 //! A table with one fetch a key.
 ghost use Rattle.std.specs.Prelude.{◌≡◌, ◌↔◌, ℕ, List, IsSome, IsNone, IfSome, IfOk, Contains};
 ghost use Rattle.std.specs.Option.{ForSome, option_copied, option_map};
-ghost use Rattle.async_once_cell.specs.Tokens.{CellView, Learns};
+ghost use Rattle.async_once_cell.specs.Tokens.{Learns};
+ghost use Rattle.async_once_cell.specs.Views.{CellView};
 ghost use Rattle.memo_table.specs.Memo.{cell_of};
 
 use async_once_cell::OnceCell;

@@ -1,6 +1,10 @@
 //! Shared and plain parts side by side: one step over each, compared.
 #![tactic(auto)]
 
-pub mod doubles;
+pub mod bell;
+pub mod notes;
+pub mod noting;
 pub mod pair;
+pub mod tested;
+pub mod walker;
 pub mod whole;

@@ -1,14 +1,24 @@
-//! A cell of shared parts and one of plain parts, whose tasks make the same steps: after each step the
-//! two show the same.
-ghost use Rattle.std.specs.Prelude.{◌≡◌, ◌≤◌, ◌^◌, ◌-◌, true};
-ghost use Rattle.async_once_cell.specs.Steps.{in_call};
+//! A cell of shared parts and one of plain parts, whose tasks make the same steps: after each step the two show the same.
+ghost use Rattle.std.specs.Prelude.{◌≡◌, true};
+ghost use Rattle.once_core.specs.Steps.{in_call};
 
-use crate::doubles::{Gate, Gated, Note, Noting, Refused, Tested, Woken};
-use async_once_cell::inner::{Inner, MAX_WAITERS, Parts, Queue};
-use async_once_cell::step::{Polled, Progress, Step};
-use std::alloc::{AllocGlobal, Global};
+use crate::notes::{Note, Notes};
+use crate::tested::Tested;
+use crate::walker::{Cell, Walker};
+use once_core::step::{Polled, Progress, Step};
+use once_queue::waiters::Out;
+use once_queue::word::MAX_WAITERS;
+use std::alloc::{AllocError, AllocGlobal, Global};
 use std::collections::BTreeMap;
 use std::sync::Wait;
+
+/// Whom a step called.
+#[derive(Clone, Copy, Debug, PartialEq, Eq)]
+pub enum Woken {
+    Nobody,
+    One,
+    All,
+}
 
 /// What a step came to, in both cells.
 #[derive(Clone, Copy)]
@@ -27,9 +37,19 @@ pub struct Seen {
     /// Whether the next step takes the task's listing out.
     pub is_leaving: bool,
     pub notes: Vec<Note>,
-    pub woken: Woken,
-    pub word: u64,
-    pub has_queue: Option<bool>,
+    /// The word of the cell, and whether a queue stands at its door.
+    pub cell: String,
+}
+
+impl Seen {
+    // Whom the step called.
+    fn woken(&self) -> Woken {
+        match self.notes.last() {
+            Some(Note::Woke(Out::One(Some(_)))) => Woken::One,
+            Some(Note::Woke(Out::All(_))) => Woken::All,
+            _ => Woken::Nobody,
+        }
+    }
 }
 
 /// Why the two do not go on.
@@ -37,8 +57,6 @@ pub struct Seen {
 pub enum Fault {
     /// A step of this task: what it showed of the shared parts, and what of the plain ones.
     Step(u64, Seen, Seen),
-    /// After a step of this task the lists of the two queues differ.
-    Lists(u64),
     /// A drop of this task began otherwise.
     Drop(u64),
     /// A step of this task does not fit the plain parts.
@@ -59,66 +77,67 @@ pub enum Stage {
     Finished,
 }
 
-// A task, in each of the two cells. Its waker is that of its last poll, and none in a drop.
+// A task, in each of the two cells.
 #[derive(Drop)]
-struct Task {
-    waker: Option<u64>,
+struct Task<'a, 'r, R> {
     plain: Step<u64, u64>,
-    shared: Step<u64, Queue<u64>>,
+    side: Notes,
+    shared: Walker<'a, 'r, R>,
 }
 
-impl Task {
-    fn new() -> Task {
+impl<'a, 'r, R: AllocGlobal> Task<'a, 'r, R> {
+    fn new(cell: &'a Cell, rt: &'r R, t: u64) -> Self {
         Task {
-            waker: None,
             plain: Step::new(),
-            shared: Step::new(),
+            side: Notes::new(rt.alloc(), t),
+            shared: Walker::new(cell, rt, t),
         }
     }
 
     // Begins a poll, where it rests.
-    fn poll(&mut self, waker: u64) {
-        if self.plain.is_resting() && self.shared.is_resting() {
-            self.waker = Some(waker);
+    fn poll(&mut self) {
+        if self.plain.is_resting() {
             self.plain.begin();
-            self.shared.begin();
+            self.shared.poll();
         }
     }
 
     // Begins a drop, where it rests; whether it begins alike in the two cells.
-    fn begin_drop(&mut self, alloc: Global) -> bool {
-        if !self.plain.is_resting() || !self.shared.is_resting() {
+    fn begin_drop(&mut self) -> bool {
+        if !self.plain.is_resting() {
             return true;
         }
-        self.waker = None;
-        let gate = Gate::new(Refused::None);
-        let mut plain = Noting::new(alloc, &gate, Polled::Pending, 0);
-        let mut shared = Noting::new(alloc, &gate, Polled::Pending, 0);
-        let more = self.plain.begin_drop(&mut plain);
-        self.shared.begin_drop(&mut shared) == more && shared.notes == plain.notes
+        let more = self.plain.begin_drop(&mut self.side);
+        let is_more = self.shared.begin_drop();
+        is_more == more && self.shared.take_notes() == self.side.take()
+    }
+
+    // Makes one step in the plain cell.
+    fn plain_step(&mut self, parts: &mut Tested) -> Progress
+        requires { in_call self.old.plain ≡ true }
+    {
+        parts.core.set_waker(self.side.waker());
+        self.plain.advance(parts, &mut self.side, MAX_WAITERS)
     }
 }
 
 /// The two cells and the tasks.
 #[derive(Drop)]
-pub struct Pair<'r, R> {
+pub struct Pair<'a, 'r, R> {
     rt: &'r R,
-    limit: u64,
     plain: Tested,
-    shared: Inner<u64>,
-    tasks: BTreeMap<u64, Task>,
-    ghost within: { limit ≤ 2 ^ 62 - 2 },
+    shared: &'a Cell,
+    tasks: BTreeMap<u64, Task<'a, 'r, R>>,
 }
 
-impl<'r, R: Wait + AllocGlobal> Pair<'r, R> {
-    /// New cells, in which so many tasks may be counted in.
-    pub fn new(rt: &'r R, limit: u64) -> Pair<'r, R> {
+impl<'a, 'r, R: Wait + AllocGlobal> Pair<'a, 'r, R> {
+    /// This cell, which nobody has used, and a plain one.
+    pub fn new(cell: &'a Cell, rt: &'r R) -> Self {
         let alloc = rt.alloc();
         Pair {
             rt,
-            limit: limit.min(MAX_WAITERS),
             plain: Tested::new(alloc),
-            shared: Inner::new(false),
+            shared: cell,
             tasks: BTreeMap::new(alloc),
         }
     }
@@ -146,7 +165,7 @@ impl<'r, R: Wait + AllocGlobal> Pair<'r, R> {
 
     /// Whether the value is set.
     pub fn is_set(&self) -> bool {
-        self.shared.is_ready()
+        self.plain.core.word.is_ready()
     }
 
     /// Whether a queue stands at the door of the shared parts.
@@ -156,72 +175,53 @@ impl<'r, R: Wait + AllocGlobal> Pair<'r, R> {
 
     /// Makes a task, where there is none with this number.
     pub fn make(&mut self, t: u64) -> Result<(), Fault> {
-        if self.tasks.contains_key(&t) || self.tasks.insert(t, Task::new()).is_ok() {
+        if self.tasks.contains_key(&t) {
             return Ok(());
         }
-        Err(Fault::Memory)
+        let task = Task::new(self.shared, self.rt, t);
+        match self.tasks.insert(t, task) {
+            Ok(_) => Ok(()),
+            Err(_) => Err(Fault::Memory),
+        }
     }
 
-    /// Begins a poll of a task that rests.
-    pub fn poll(&mut self, t: u64, waker: u64) {
+    /// Begins a poll of a task that rests. The task's waker is its own in each of its polls.
+    pub fn poll(&mut self, t: u64) {
         if let Some(task) = self.tasks.get_mut(&t) {
-            task.poll(waker);
+            task.poll();
         }
     }
 
     /// Begins a drop of a task that rests.
     pub fn begin_drop(&mut self, t: u64) -> Result<(), Fault> {
-        let alloc = self.rt.alloc();
         if let Some(task) = self.tasks.get_mut(&t) {
-            if !task.begin_drop(alloc) {
+            if !task.begin_drop() {
                 return Err(Fault::Drop(t));
             }
         }
         Ok(())
     }
 
-    /// Makes one step of the task in each of the cells: an init that is polled answers so, and memory
-    /// is given or not. None says that no call of the task is under way.
+    /// Makes one step of the task in each of the cells: an init that is polled answers so, and memory for a copy of the
+    /// waker is given or not. None says that no call of the task is under way.
     pub fn go(&mut self, t: u64, answer: Polled, is_granted: bool) -> Result<Option<Shown>, Fault> {
         let Some(task) = self.tasks.get_mut(&t) else {
             return Ok(None);
         };
-        if task.plain.left() == 0 || task.shared.left() == 0 {
+        if task.plain.left() == 0 {
             return Ok(None);
         }
-        let gate = Gate::of(is_granted);
-        let plain = plain_step(self.rt, &mut self.plain, task, answer, &gate, self.limit);
-        let shared = shared_step(self.rt, &self.shared, task, answer, &gate, self.limit);
-        self.compared(t, plain?, shared?)
-    }
-
-    // What a step of this task showed, where it is the same in the two cells.
-    fn compared(&self, t: u64, plain: Seen, shared: Seen) -> Result<Option<Shown>, Fault> {
-        if self.plain.is_broken {
-            return Err(Fault::Unfit(t));
-        }
-        if shared != plain {
-            return Err(Fault::Step(t, shared, plain));
-        }
-        if !self.lists_agree() {
-            return Err(Fault::Lists(t));
-        }
-        Ok(Some(Shown {
-            progress: shared.progress,
-            woken: shared.woken,
-        }))
-    }
-
-    // Whether the two queues have the same flag and the same listings.
-    fn lists_agree(&self) -> bool {
-        let plain = &self.plain.core.lists;
-        match self.shared.parts(self.rt, None).door_get() {
-            None => !plain.head && plain.len() == 0,
-            Some(queue) => {
-                let lists = queue.lock(self.rt);
-                lists.head == plain.head && lists.lists_the_same(plain)
-            }
-        }
+        task.side.answers(answer, is_granted);
+        let progress = task.plain_step(&mut self.plain);
+        let Some(shared) = task.shared.go(answer, is_granted) else {
+            return Ok(None);
+        };
+        let alloc = self.rt.alloc();
+        let (cell, notes) = (plain_cell(alloc, &self.plain), task.side.take());
+        let plain = show(&task.plain, progress, notes, cell)?;
+        let (cell, notes) = (shared_cell(alloc, self.shared), task.shared.take_notes());
+        let shared = show(task.shared.step(), shared, notes, cell)?;
+        compared(t, plain, shared, self.plain.is_broken)
     }
 
     /// Forgets a task that is finished.
@@ -230,86 +230,53 @@ impl<'r, R: Wait + AllocGlobal> Pair<'r, R> {
             self.tasks.remove(&t);
         }
     }
-
-    /// What the owner does once all tasks are forgotten: puts new cells with a value or none in place
-    /// of these, in which so many tasks may be counted in. Where a task is left it does nothing.
-    pub fn renew(&mut self, is_set: bool, limit: u64) {
-        if self.tasks.is_empty() {
-            self.limit = limit.min(MAX_WAITERS);
-            self.plain.renew(is_set);
-            self.shared = Inner::new(is_set);
-        }
-    }
 }
 
-fn plain_step<R: AllocGlobal>(
-    rt: &R,
-    parts: &mut Tested,
-    task: &mut Task,
-    answer: Polled,
-    gate: &Gate,
-    limit: u64,
-) -> Result<Seen, Fault>
-    requires call { in_call task.old.plain ≡ true }
-    requires limit { limit ≤ 2 ^ 62 - 2 }
-    ensures shared { task.new.shared ≡ task.old.shared }
-{
-    let mut side = Noting::new(rt.alloc(), gate, answer, task.waker.unwrap_or(0));
-    if let Some(waker) = task.waker {
-        parts.core.set_waker(waker);
+// What a step of this task showed, where it is the same in the two cells.
+fn compared(t: u64, plain: Seen, shared: Seen, is_broken: bool) -> Result<Option<Shown>, Fault> {
+    if is_broken {
+        return Err(Fault::Unfit(t));
     }
-    parts.core.grant(gate.is_open());
-    let progress = task.plain.advance(parts, &mut side, limit);
-    let (word, has_queue) = (parts.core.word.bits(), Some(parts.core.door.is_some()));
-    show(&task.plain, progress, side, word, has_queue)
+    if shared != plain {
+        return Err(Fault::Step(t, shared, plain));
+    }
+    Ok(Some(Shown {
+        progress: shared.progress,
+        woken: shared.woken(),
+    }))
 }
 
-fn shared_step<R: Wait + AllocGlobal>(
-    rt: &R,
-    inner: &Inner<u64>,
-    task: &mut Task,
-    answer: Polled,
-    gate: &Gate,
-    limit: u64,
-) -> Result<Seen, Fault>
-    requires call { in_call task.old.shared ≡ true }
-    requires limit { limit ≤ 2 ^ 62 - 2 }
-{
-    let mut side = Noting::new(rt.alloc(), gate, answer, task.waker.unwrap_or(0));
-    let mut parts = Gated {
-        shared: inner.parts(rt, task.waker),
-        gate,
-    };
-    let progress = task.shared.advance(&mut parts, &mut side, limit);
-    show(
-        &task.shared,
-        progress,
-        side,
-        inner.word(),
-        inner.has_queue(),
+// What the plain cell shows, as the shared one shows it.
+fn plain_cell(alloc: Global, parts: &Tested) -> Result<String, AllocError> {
+    let word = &parts.core.word;
+    let (ready, quick, count) = (word.is_ready(), word.is_quick(), word.count());
+    let queue = parts.core.door.is_some();
+    format!(in alloc;
+        "Inner {{ ready: {ready}, quick_init: {quick}, refcount: {count}, queue: {queue} }}"
     )
 }
 
-// What a step shows, after which a task stands so, with what it told a side, and what it left.
-fn show<Q: Drop>(
-    step: &Step<u64, Q>,
+fn shared_cell(alloc: Global, cell: &Cell) -> Result<String, AllocError> {
+    format!(in alloc; "{cell:?}")
+}
+
+// What a step shows, after which a task stands so, with what its side noted, and the cell that it left.
+fn show<W: Drop, Q: Drop>(
+    step: &Step<W, Q>,
     progress: Progress,
-    side: Noting<'_>,
-    word: u64,
-    has_queue: Option<bool>,
+    notes: Option<Vec<Note>>,
+    cell: Result<String, AllocError>,
 ) -> Result<Seen, Fault> {
-    if side.is_short {
+    let (Some(notes), Ok(cell)) = (notes, cell) else {
         return Err(Fault::Memory);
-    }
+    };
     Ok(Seen {
         progress,
         left: step.left(),
         is_resting: step.is_resting(),
         is_running: step.is_running(),
         is_leaving: step.is_leaving(),
-        notes: side.notes,
-        woken: side.woken,
-        word,
-        has_queue,
+        notes,
+        cell,
     })
 }

@@ -1,13 +1,9 @@
 //! Whole calls of a task over shared parts, and parts of them.
-ghost use Rattle.std.specs.Prelude.{◌≡◌};
 
-use crate::doubles::{Gate, Gated, Noting, Refused};
-use async_once_cell::inner::{Inner, MAX_WAITERS, Queue};
-use async_once_cell::step::{Ending, Polled, Progress, Step};
+use crate::walker::Walker;
+use once_core::step::{Ending, Polled, Progress};
 use std::alloc::{AllocError, AllocGlobal};
 use std::sync::Wait;
-
-pub type Task = Step<u64, Queue<u64>>;
 
 /// A call of a task.
 #[derive(Clone, Copy)]
@@ -26,13 +22,11 @@ impl Call {
     }
 
     // Begins the call, where none is under way.
-    fn begin(self, task: &mut Task, side: &mut Noting<'_>) {
-        if task.is_resting() {
-            match self {
-                Call::Poll(_) => task.begin(),
-                Call::Drop => {
-                    task.begin_drop(side);
-                }
+    fn begin<R>(self, task: &mut Walker<'_, '_, R>) {
+        match self {
+            Call::Poll(_) => task.poll(),
+            Call::Drop => {
+                task.begin_drop();
             }
         }
     }
@@ -44,55 +38,35 @@ pub const VALUE: Call = Call::Poll(Polled::Value);
 
 pub const ERROR: Call = Call::Poll(Polled::Error);
 
-/// A whole call of a task, with this waker, and what it told as [`carry_on`] has it.
-pub fn carry_out<R: Wait + AllocGlobal>(
-    rt: &R,
-    inner: &Inner<u64>,
-    task: &mut Task,
-    call: Call,
-    waker: u64,
-    refused: Refused,
-) -> Result<String, AllocError> {
-    carry_on(rt, inner, task, call, waker, refused, 16)
-}
-
-/// So many steps of a call of a task, which begins where none is under way. The text has how the call
-/// ended, or None where it goes on, how often it asked for memory, and the notes of its side.
+/// So many steps of a call of a task, which begins where none is under way, and whose waker can be copied or not. The text
+/// has how the call ended, or None where it goes on, and the notes of its side; there is none where a note was lost.
 pub fn carry_on<R: Wait + AllocGlobal>(
     rt: &R,
-    inner: &Inner<u64>,
-    task: &mut Task,
+    task: &mut Walker<'_, '_, R>,
     call: Call,
-    waker: u64,
-    refused: Refused,
+    is_granted: bool,
     steps: u64,
 ) -> Result<String, AllocError> {
-    let gate = Gate::new(refused);
-    let mut side = Noting::new(rt.alloc(), &gate, call.answer(), waker);
-    call.begin(task, &mut side);
-    let ending = go_on(rt, inner, task, &mut side, &gate, steps);
-    format!(in rt.alloc(); "{ending:?} {} {:?}", gate.asked(), side.notes)
+    call.begin(task);
+    let ending = go_on(task, call.answer(), is_granted, steps);
+    match task.take_notes() {
+        Some(notes) => format!(in rt.alloc(); "{ending:?} {notes:?}"),
+        None => Ok(String::new(rt.alloc())),
+    }
 }
 
 // Makes steps of the call that is under way.
 fn go_on<R: Wait + AllocGlobal>(
-    rt: &R,
-    inner: &Inner<u64>,
-    task: &mut Task,
-    side: &mut Noting<'_>,
-    gate: &Gate,
+    task: &mut Walker<'_, '_, R>,
+    answer: Polled,
+    is_granted: bool,
     steps: u64,
 ) -> Option<Ending> {
-    let mut parts = Gated {
-        shared: inner.parts(rt, Some(side.waker)),
-        gate,
-    };
     for _ in 0..steps {
-        if task.left() == 0 {
-            break;
-        }
-        if let Progress::Ended(ending) = task.advance(&mut parts, side, MAX_WAITERS) {
-            return Some(ending);
+        match task.go(answer, is_granted) {
+            Some(Progress::Ended(ending)) => return Some(ending),
+            Some(Progress::More) => {}
+            None => return None,
         }
     }
     None

@@ -1,5 +1,6 @@
 //! What cells do for many threads at a time.
 
+mod counted;
 mod failing;
 mod gathered;
 mod pairs;

@@ -3,7 +3,7 @@
 use cell_doubles::schedule::{refuse_each, run};
 use std::test::Fail;
 
-const TURNS: [(&str, &str); 10] = [
+const TURNS: [(&str, &str); 11] = [
     (
         "called_waiter_dropped",
         "try 0
@@ -99,6 +99,21 @@ poll 0 e1 => e1, done, wakes 1
 poll 1 v4 => v4, done, wakes 2 to 3
 poll 2 v9 => v4, done
 poll 3 v9 => v4, done",
+    ),
+    // It calls those who are listed behind one who was called before, too.
+    (
+        "value_calls_all_behind_one_who_was_called",
+        "try 0
+try 1
+try 2
+try 3
+poll 0 p => pending, wakes 0
+poll 1 v9 => pending
+poll 2 v9 => pending
+poll 0 e1 => e1, done, wakes 1
+poll 3 v4 => v4, done, wakes 2
+poll 1 v9 => v4, done
+poll 2 v9 => v4, done",
     ),
     // However many wait, a failure wakes one task, and a value wakes all.
     (

@@ -1,33 +1,26 @@
-//! Memory that is refused: who waits is refused, and is neither counted nor listed then; nobody else asks.
+//! A copy of a waker that is refused: who waits is refused then, and is neither counted nor listed. A holder copies none.
 
 use super::scene::play;
 
-// A waiter asks three times: for the queue, for a copy of its waker and for the place in the list.
-// Where one of these is refused it is gone, and the holder finds nobody.
+// Where the copy is refused the waiter is gone, and the holder finds nobody. Else the holder calls it.
 #[test]
-fn each_request_of_a_waiter_refused(rt: HostRuntime) {
+fn a_waiter_whose_copy_is_refused(rt: HostRuntime) {
     play(
         &rt,
         &[
             (
-                "1p5+w 2p71w! 1v5-w!",
-                "Some(Memory) 1 [Closed] finished 1+0 Some(false)\n\
-                 Some(Value) 0 [Ran(Value), Closed, Put] finished 2+0 Some(false)\n",
+                "1p+w 2p-w! 1v-w!",
+                "Some(Memory) [Copied(None), Closed] finished\n\
+                 Inner { ready: false, quick_init: true, refcount: 0, queue: true }\n\
+                 Some(Value) [Ran(Value), Closed, Put] finished\n\
+                 Inner { ready: true, quick_init: false, refcount: 0, queue: false }\n",
             ),
             (
-                "1p5+w 2p72w! 1v5-w!",
-                "Some(Memory) 2 [Copied(None), Closed] finished 1+0 Some(true)\n\
-                 Some(Value) 0 [Ran(Value), Closed, Put] finished 2+0 Some(false)\n",
-            ),
-            (
-                "1p5+w 2p73w! 1v5-w!",
-                "Some(Memory) 3 [Copied(Some(7)), Closed] finished 1+0 Some(true)\n\
-                 Some(Value) 0 [Ran(Value), Closed, Put] finished 2+0 Some(false)\n",
-            ),
-            (
-                "1p5+w 2p74w! 1v5-w!",
-                "Some(Pending) 3 [Copied(Some(7))] rests 1+1 Some(true)\n\
-                 Some(Value) 0 [Ran(Value), Closed, Put, Woke(All([Listing { ticket: 0, waker: Some(7) }]))] finished 2+1 Some(true)\n",
+                "1p+w 2p+w! 1v-w!",
+                "Some(Pending) [Copied(Some(2))] rests\n\
+                 Inner { ready: false, quick_init: true, refcount: 1, queue: true }\n\
+                 Some(Value) [Ran(Value), Closed, Put, Woke(All([Listing { ticket: 0, waker: Some(2) }]))] finished\n\
+                 Inner { ready: true, quick_init: false, refcount: 1, queue: true }\n",
             ),
         ],
     );
@@ -35,39 +28,51 @@ fn each_request_of_a_waiter_refused(rt: HostRuntime) {
 
 // A holder by the quick claim, alone or with one who waits, who gives a value, fails or is dropped.
 #[test]
-fn a_quick_holder_asks_for_no_memory(rt: HostRuntime) {
+fn a_quick_holder_copies_no_waker(rt: HostRuntime) {
     play(
         &rt,
         &[
             (
-                "1p5-w! 1v5-w!",
-                "Some(Pending) 0 [Ran(Pending)] rests 1+0 Some(false)\n\
-                 Some(Value) 0 [Ran(Value), Closed, Put] finished 2+0 Some(false)\n",
+                "1p-w! 1v-w!",
+                "Some(Pending) [Ran(Pending)] rests\n\
+                 Inner { ready: false, quick_init: true, refcount: 0, queue: false }\n\
+                 Some(Value) [Ran(Value), Closed, Put] finished\n\
+                 Inner { ready: true, quick_init: false, refcount: 0, queue: false }\n",
             ),
             (
-                "1p5-w! 1e5-w!",
-                "Some(Pending) 0 [Ran(Pending)] rests 1+0 Some(false)\n\
-                 Some(Error) 0 [Ran(Error), Closed] finished 0+0 Some(false)\n",
+                "1p-w! 1e-w!",
+                "Some(Pending) [Ran(Pending)] rests\n\
+                 Inner { ready: false, quick_init: true, refcount: 0, queue: false }\n\
+                 Some(Error) [Ran(Error), Closed] finished\n\
+                 Inner { ready: false, quick_init: false, refcount: 0, queue: false }\n",
             ),
             (
-                "1p5-w! 1d5-w!",
-                "Some(Pending) 0 [Ran(Pending)] rests 1+0 Some(false)\n\
-                 Some(Dropped) 0 [Closed] finished 0+0 Some(false)\n",
+                "1p-w! 1d-w!",
+                "Some(Pending) [Ran(Pending)] rests\n\
+                 Inner { ready: false, quick_init: true, refcount: 0, queue: false }\n\
+                 Some(Dropped) [Closed] finished\n\
+                 Inner { ready: false, quick_init: false, refcount: 0, queue: false }\n",
             ),
             (
-                "1p5-w! 2p7+w 1v5-w!",
-                "Some(Pending) 0 [Ran(Pending)] rests 1+0 Some(false)\n\
-                 Some(Value) 0 [Ran(Value), Closed, Put, Woke(All([Listing { ticket: 0, waker: Some(7) }]))] finished 2+1 Some(true)\n",
+                "1p-w! 2p+w 1v-w!",
+                "Some(Pending) [Ran(Pending)] rests\n\
+                 Inner { ready: false, quick_init: true, refcount: 0, queue: false }\n\
+                 Some(Value) [Ran(Value), Closed, Put, Woke(All([Listing { ticket: 0, waker: Some(2) }]))] finished\n\
+                 Inner { ready: true, quick_init: false, refcount: 1, queue: true }\n",
             ),
             (
-                "1p5-w! 2p7+w 1e5-w!",
-                "Some(Pending) 0 [Ran(Pending)] rests 1+0 Some(false)\n\
-                 Some(Error) 0 [Ran(Error), Closed, Woke(One(Some(7)))] finished 0+1 Some(true)\n",
+                "1p-w! 2p+w 1e-w!",
+                "Some(Pending) [Ran(Pending)] rests\n\
+                 Inner { ready: false, quick_init: true, refcount: 0, queue: false }\n\
+                 Some(Error) [Ran(Error), Closed, Woke(One(Some(2)))] finished\n\
+                 Inner { ready: false, quick_init: false, refcount: 1, queue: true }\n",
             ),
             (
-                "1p5-w! 2p7+w 1d5-w!",
-                "Some(Pending) 0 [Ran(Pending)] rests 1+0 Some(false)\n\
-                 Some(Dropped) 0 [Closed, Woke(One(Some(7)))] finished 0+1 Some(true)\n",
+                "1p-w! 2p+w 1d-w!",
+                "Some(Pending) [Ran(Pending)] rests\n\
+                 Inner { ready: false, quick_init: true, refcount: 0, queue: false }\n\
+                 Some(Dropped) [Closed, Woke(One(Some(2)))] finished\n\
+                 Inner { ready: false, quick_init: false, refcount: 1, queue: true }\n",
             ),
         ],
     );
@@ -76,30 +81,42 @@ fn a_quick_holder_asks_for_no_memory(rt: HostRuntime) {
 // A holder that got the right under the lock, with one who waits and then is dropped. The holder gives
 // a value, fails or is dropped.
 #[test]
-fn a_later_holder_asks_for_no_memory(rt: HostRuntime) {
+fn a_later_holder_copies_no_waker(rt: HostRuntime) {
     play(
         &rt,
         &[
             (
-                "1p5+w 2p7+w 1d5-w 2p7-w! 3p8+w 3p8-w! 2v7-w! 3d8-w!",
-                "Some(Pending) 0 [Ran(Pending)] rests 0+1 Some(true)\n\
-                 Some(Pending) 0 [] rests 0+2 Some(true)\n\
-                 Some(Value) 0 [Ran(Value), Closed, Put, Woke(All([Listing { ticket: 0, waker: Some(8) }]))] finished 2+1 Some(true)\n\
-                 Some(Dropped) 0 [Closed, Woke(One(None))] finished 2+0 Some(false)\n",
+                "1p+w 2p+w 1d-w 2p-w! 3p+w 3p-w! 2v-w! 3d-w!",
+                "Some(Pending) [Ran(Pending)] rests\n\
+                 Inner { ready: false, quick_init: false, refcount: 1, queue: true }\n\
+                 Some(Pending) [] rests\n\
+                 Inner { ready: false, quick_init: false, refcount: 2, queue: true }\n\
+                 Some(Value) [Ran(Value), Closed, Put, Woke(All([Listing { ticket: 0, waker: Some(3) }]))] finished\n\
+                 Inner { ready: true, quick_init: false, refcount: 1, queue: true }\n\
+                 Some(Dropped) [Closed, Woke(One(None))] finished\n\
+                 Inner { ready: true, quick_init: false, refcount: 0, queue: false }\n",
             ),
             (
-                "1p5+w 2p7+w 1d5-w 2p7-w! 3p8+w 3p8-w! 2e7-w! 3d8-w!",
-                "Some(Pending) 0 [Ran(Pending)] rests 0+1 Some(true)\n\
-                 Some(Pending) 0 [] rests 0+2 Some(true)\n\
-                 Some(Error) 0 [Ran(Error), Closed, Woke(One(Some(8)))] finished 0+1 Some(true)\n\
-                 Some(Dropped) 0 [Closed, Woke(One(None))] finished 0+0 Some(true)\n",
+                "1p+w 2p+w 1d-w 2p-w! 3p+w 3p-w! 2e-w! 3d-w!",
+                "Some(Pending) [Ran(Pending)] rests\n\
+                 Inner { ready: false, quick_init: false, refcount: 1, queue: true }\n\
+                 Some(Pending) [] rests\n\
+                 Inner { ready: false, quick_init: false, refcount: 2, queue: true }\n\
+                 Some(Error) [Ran(Error), Closed, Woke(One(Some(3)))] finished\n\
+                 Inner { ready: false, quick_init: false, refcount: 1, queue: true }\n\
+                 Some(Dropped) [Closed, Woke(One(None))] finished\n\
+                 Inner { ready: false, quick_init: false, refcount: 0, queue: true }\n",
             ),
             (
-                "1p5+w 2p7+w 1d5-w 2p7-w! 3p8+w 3p8-w! 2d7-w! 3d8-w!",
-                "Some(Pending) 0 [Ran(Pending)] rests 0+1 Some(true)\n\
-                 Some(Pending) 0 [] rests 0+2 Some(true)\n\
-                 Some(Dropped) 0 [Closed, Woke(One(Some(8)))] finished 0+1 Some(true)\n\
-                 Some(Dropped) 0 [Closed, Woke(One(None))] finished 0+0 Some(true)\n",
+                "1p+w 2p+w 1d-w 2p-w! 3p+w 3p-w! 2d-w! 3d-w!",
+                "Some(Pending) [Ran(Pending)] rests\n\
+                 Inner { ready: false, quick_init: false, refcount: 1, queue: true }\n\
+                 Some(Pending) [] rests\n\
+                 Inner { ready: false, quick_init: false, refcount: 2, queue: true }\n\
+                 Some(Dropped) [Closed, Woke(One(Some(3)))] finished\n\
+                 Inner { ready: false, quick_init: false, refcount: 1, queue: true }\n\
+                 Some(Dropped) [Closed, Woke(One(None))] finished\n\
+                 Inner { ready: false, quick_init: false, refcount: 0, queue: true }\n",
             ),
         ],
     );

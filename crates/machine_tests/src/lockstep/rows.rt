@@ -5,9 +5,27 @@ use async_once_cell::step::Polled;
 use async_once_cell::world::{Input, Kind, Ran};
 use once_script::parse::{Line, RUN_STEPS, Script, parse_script};
 use side_by_side::pair::{Fault, Pair};
+use side_by_side::walker::Cell;
 use std::alloc::AllocGlobal;
 use std::process::Abort;
 use std::sync::Wait;
+
+// Schedules that say nothing of shared parts. These have one limit, the largest. They take the memory of a queue and of a
+// listing from the runtime, so it is not refused when a schedule says so. And a task has one waker, of which a copy that is
+// listed is not taken again.
+const LEFT_OUT: [&str; 11] = [
+    "called_waiter_refused",
+    "door_asks_memory_first",
+    "late_queue_at_limit",
+    "limit_of_the_count",
+    "listed_by_another_and_no_memory",
+    "queue_refused",
+    "refused_and_not_called",
+    "refused_before_counting_in",
+    "refused_then_set",
+    "release_beyond_the_limit",
+    "relisted_without_memory",
+];
 
 // Whether a schedule can be followed: it begins with an empty cell, whose owner makes no call.
 fn is_followed(script: &Script) -> bool {
@@ -19,11 +37,11 @@ fn is_followed(script: &Script) -> bool {
 }
 
 // Takes the inputs of a line. One that does not fit is passed over.
-fn follow<R: Wait + AllocGlobal>(pair: &mut Pair<'_, R>, line: &Line) -> Result<(), Fault> {
+fn follow<R: Wait + AllocGlobal>(pair: &mut Pair<'_, '_, R>, line: &Line) -> Result<(), Fault> {
     match line {
         Line::Single(Input::Make(t)) => pair.make(*t),
-        Line::Single(Input::Poll(t, waker)) => {
-            pair.poll(*t, *waker);
+        Line::Single(Input::Poll(t, _)) => {
+            pair.poll(*t);
             Ok(())
         }
         Line::Single(Input::Drop(t)) => pair.begin_drop(*t),
@@ -35,7 +53,7 @@ fn follow<R: Wait + AllocGlobal>(pair: &mut Pair<'_, R>, line: &Line) -> Result<
 
 // The task makes so many steps.
 fn go<R: Wait + AllocGlobal>(
-    pair: &mut Pair<'_, R>,
+    pair: &mut Pair<'_, '_, R>,
     t: u64,
     answer: Ran,
     is_granted: bool,
@@ -58,7 +76,8 @@ fn polled_of(answer: Ran) -> Polled {
 
 // Follows a schedule. Tells whether a queue stands at the door at the end.
 fn queue_after<R: Wait + AllocGlobal>(rt: &R, script: &Script) -> Result<Option<bool>, Fault> {
-    let mut pair = Pair::new(rt, script.limit);
+    let cell = Cell::new();
+    let mut pair = Pair::new(&cell, rt);
     for line in &script.lines {
         follow(&mut pair, line)?;
     }
@@ -83,6 +102,9 @@ fn is_the_same<R: Wait + AllocGlobal>(rt: &R, text: &str, record: &str) -> Optio
 fn run_rows<R: Wait + AllocGlobal + Abort>(rt: &R, rows: &[(&str, &str, &str)]) -> u64 {
     let mut followed = 0u64;
     for (name, text, record) in rows {
+        if LEFT_OUT.contains(name) {
+            continue;
+        }
         if let Some(is_so) = is_the_same(rt, text, record) {
             assert!(rt; is_so, "in {name}");
             followed = followed.saturating_add(1);
@@ -97,8 +119,8 @@ fn polls_in_turn(rt: HostRuntime) {
 }
 
 #[test]
-fn limits_and_refused_memory(rt: HostRuntime) {
-    assert_eq!(rt; run_rows(&rt, &REFUSALS), 11);
+fn refused_copies(rt: HostRuntime) {
+    assert_eq!(rt; run_rows(&rt, &REFUSALS), 2);
 }
 
 #[test]
@@ -108,7 +130,7 @@ fn drops(rt: HostRuntime) {
 
 #[test]
 fn failures_call_one(rt: HostRuntime) {
-    assert_eq!(rt; run_rows(&rt, &CALLS), 9);
+    assert_eq!(rt; run_rows(&rt, &CALLS), 7);
 }
 
 // Whether a schedule in which a step is made so many times between two others shows the same in both.

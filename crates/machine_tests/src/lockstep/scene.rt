@@ -1,62 +1,50 @@
-//! Scenes of a cell and three tasks over shared parts, of which memory may be refused.
+//! Scenes of a cell and five tasks over shared parts, where a copy of a waker may be refused.
 //!
-//! A scene is written as calls of five letters, with a space between two. A call has
-//! - the task: `1`, `2` or `3`,
+//! A scene is written as calls of four letters, with a space between two. A call has
+//! - the task: `1` to `5`, whose waker has that number,
 //! - what is called: a poll whose init is pending (`p`), gives a value (`v`) or fails (`e`), or a drop
 //!   (`d`),
-//! - the waker, which is a digit,
-//! - the memory: all requests are granted (`+`) or refused (`-`), or the one with this number is
-//!   refused,
+//! - whether a copy of the waker is granted (`+`) or refused (`-`),
 //! - how many steps are made: so many at most, or the whole call (`w`).
 //!
-//! A call with `!` after it is told: how it ended, how often it asked for memory, the notes of its
-//! side, where its task then stands, the flags and the count of the word, and whether a queue stands
-//! at the door.
+//! A call with `!` after it is told: how it ended, the notes of its side, where its task then stands, and in a
+//! line of its own the word, and whether a queue stands at the door.
 
-use async_once_cell::inner::{Inner, QINIT_BIT};
-use async_once_cell::step::Step;
-use side_by_side::doubles::Refused;
-use side_by_side::whole::{Call, ERROR, PENDING, Task, VALUE, carry_on};
+use side_by_side::walker::{Cell, Walker};
+use side_by_side::whole::{Call, ERROR, PENDING, VALUE, carry_on};
 use std::alloc::{AllocError, AllocGlobal};
 use std::process::Abort;
 use std::sync::Wait;
 
-#[derive(Drop)]
-struct Scene {
-    inner: Inner<u64>,
-    tasks: [Task; 3],
+// The five tasks of a cell.
+fn five<'a, 'r, R: AllocGlobal>(
+    cell: &'a Cell,
+    rt: &'r R,
+) -> Result<Vec<Walker<'a, 'r, R>>, AllocError> {
+    let mut tasks = Vec::new(rt.alloc());
+    for t in 1..6 {
+        tasks.push(Walker::new(cell, rt, t))?;
+    }
+    Ok(tasks)
 }
 
-impl Scene {
-    fn new() -> Scene {
-        Scene {
-            inner: Inner::new(false),
-            tasks: [Step::new(), Step::new(), Step::new()],
-        }
-    }
-
-    // Makes a call, and tells of it. A call that cannot be read tells nothing.
-    fn call<R: Wait + AllocGlobal>(&mut self, rt: &R, call: &[u8]) -> Result<String, AllocError> {
-        let [place, what, waker, memory, steps, ..] = call else {
-            return Ok(String::new(rt.alloc()));
-        };
-        let Some(task) = self.tasks.get_mut(digit(*place).wrapping_sub(1) as usize) else {
-            return Ok(String::new(rt.alloc()));
-        };
-        let (waker, steps) = (digit(*waker), digit(*steps));
-        let told = carry_on(
-            rt,
-            &self.inner,
-            task,
-            called(*what),
-            waker,
-            refused(*memory),
-            steps,
-        )?;
-        let (word, queue) = (self.inner.word(), self.inner.has_queue());
-        let (flags, count) = (word / QINIT_BIT, word % QINIT_BIT);
-        format!(in rt.alloc(); "{told} {} {flags}+{count} {queue:?}\n", stage(task))
-    }
+// Makes a call, and tells of it. A call that cannot be read tells nothing.
+fn tell<R: Wait + AllocGlobal>(
+    rt: &R,
+    cell: &Cell,
+    tasks: &mut [Walker<'_, '_, R>],
+    call: &[u8],
+) -> Result<String, AllocError> {
+    let alloc = rt.alloc();
+    let [place, what, memory, steps, ..] = call else {
+        return Ok(String::new(alloc));
+    };
+    let Some(task) = tasks.get_mut(digit(*place).wrapping_sub(1) as usize) else {
+        return Ok(String::new(alloc));
+    };
+    let (is_granted, steps) = (*memory == b'+', digit(*steps));
+    let told = carry_on(rt, task, called(*what), is_granted, steps)?;
+    format!(in alloc; "{told} {}\n{cell:?}\n", stage(task))
 }
 
 // The number that a digit says, and 16 for any other letter.
@@ -77,18 +65,11 @@ fn called(letter: u8) -> Call {
     }
 }
 
-fn refused(letter: u8) -> Refused {
-    match letter {
-        b'+' => Refused::None,
-        b'-' => Refused::All,
-        _ => Refused::Nth(digit(letter)),
-    }
-}
-
-fn stage(task: &Task) -> &'static str {
-    if task.is_resting() {
+fn stage<R>(task: &Walker<'_, '_, R>) -> &'static str {
+    let step = task.step();
+    if step.is_resting() {
         "rests"
-    } else if task.is_finished() {
+    } else if step.is_finished() {
         "finished"
     } else {
         "goes on"
@@ -97,9 +78,11 @@ fn stage(task: &Task) -> &'static str {
 
 // What the calls of a scene tell.
 fn told<R: Wait + AllocGlobal>(rt: &R, calls: &str) -> Result<String, AllocError> {
-    let (mut scene, mut text) = (Scene::new(), String::new(rt.alloc()));
+    let cell = Cell::new();
+    let mut tasks = five(&cell, rt)?;
+    let mut text = String::new(rt.alloc());
     for call in calls.split(' ') {
-        let line = scene.call(rt, call.as_bytes())?;
+        let line = tell(rt, &cell, tasks.as_mut_slice(), call.as_bytes())?;
         if call.ends_with('!') {
             text.push_str(line.as_str())?;
         }

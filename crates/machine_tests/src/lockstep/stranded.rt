@@ -1,34 +1,22 @@
-//! A waiter that is refused memory, or dropped, while another waits behind it: whoever had the turn passes
-//! it on, and nobody is stranded. In each scene the third task fills the cell in the end, and then nobody
-//! is counted.
+//! A waiter whose copy is refused, or that is dropped, while another waits behind it: whoever had the turn passes it on, and
+//! nobody is stranded. In each scene the third task fills the cell in the end.
 
 use super::scene::play;
 
-// Each request of a waiter that has no turn, refused: the one behind it is called by the failure.
+// A waiter that has no turn: the one behind it is called by the failure.
 #[test]
 fn refused_before_it_was_listed(rt: HostRuntime) {
     play(
         &rt,
-        &[
-            (
-                "1p5+w 2p71w! 3p8+w 1e5-w! 3v8-w!",
-                "Some(Memory) 1 [Closed] finished 1+0 Some(false)\n\
-                 Some(Error) 0 [Ran(Error), Closed, Woke(One(Some(8)))] finished 0+1 Some(true)\n\
-                 Some(Value) 0 [Ran(Value), Closed, Put, Woke(All([]))] finished 2+0 Some(false)\n",
-            ),
-            (
-                "1p5+w 2p72w! 3p8+w 1e5-w! 3v8-w!",
-                "Some(Memory) 2 [Copied(None), Closed] finished 1+0 Some(true)\n\
-                 Some(Error) 0 [Ran(Error), Closed, Woke(One(Some(8)))] finished 0+1 Some(true)\n\
-                 Some(Value) 0 [Ran(Value), Closed, Put, Woke(All([]))] finished 2+0 Some(false)\n",
-            ),
-            (
-                "1p5+w 2p73w! 3p8+w 1e5-w! 3v8-w!",
-                "Some(Memory) 3 [Copied(Some(7)), Closed] finished 1+0 Some(true)\n\
-                 Some(Error) 0 [Ran(Error), Closed, Woke(One(Some(8)))] finished 0+1 Some(true)\n\
-                 Some(Value) 0 [Ran(Value), Closed, Put, Woke(All([]))] finished 2+0 Some(false)\n",
-            ),
-        ],
+        &[(
+            "1p+w 2p-w! 3p+w 1e-w! 3v-w!",
+            "Some(Memory) [Copied(None), Closed] finished\n\
+                 Inner { ready: false, quick_init: true, refcount: 0, queue: true }\n\
+                 Some(Error) [Ran(Error), Closed, Woke(One(Some(3)))] finished\n\
+                 Inner { ready: false, quick_init: false, refcount: 1, queue: true }\n\
+                 Some(Value) [Ran(Value), Closed, Put, Woke(All([]))] finished\n\
+                 Inner { ready: true, quick_init: false, refcount: 0, queue: false }\n",
+        )],
     );
 }
 
@@ -39,113 +27,149 @@ fn refused_beside_one_who_waits(rt: HostRuntime) {
         &rt,
         &[
             (
-                "1p5+w 2p7+1 3p8+w 2p7-w! 1e5-w! 3v8-w!",
-                "Some(Memory) 1 [Copied(None), Closed] finished 1+1 Some(true)\n\
-                 Some(Error) 0 [Ran(Error), Closed, Woke(One(Some(8)))] finished 0+1 Some(true)\n\
-                 Some(Value) 0 [Ran(Value), Closed, Put, Woke(All([]))] finished 2+0 Some(false)\n",
+                "1p+w 2p+1 3p+w 2p-w! 1e-w! 3v-w!",
+                "Some(Memory) [Copied(None), Closed] finished\n\
+                 Inner { ready: false, quick_init: true, refcount: 1, queue: true }\n\
+                 Some(Error) [Ran(Error), Closed, Woke(One(Some(3)))] finished\n\
+                 Inner { ready: false, quick_init: false, refcount: 1, queue: true }\n\
+                 Some(Value) [Ran(Value), Closed, Put, Woke(All([]))] finished\n\
+                 Inner { ready: true, quick_init: false, refcount: 0, queue: false }\n",
             ),
             (
-                "1p5+w 2p7+2 3p8+w 2p7-w! 1e5-w! 3v8-w!",
-                "Some(Memory) 1 [Closed] finished 1+1 Some(true)\n\
-                 Some(Error) 0 [Ran(Error), Closed, Woke(One(Some(8)))] finished 0+1 Some(true)\n\
-                 Some(Value) 0 [Ran(Value), Closed, Put, Woke(All([]))] finished 2+0 Some(false)\n",
+                "1p+w 2p+2 3p+w 2p-w! 1e-w! 3v-w!",
+                "Some(Memory) [Copied(None), Closed] finished\n\
+                 Inner { ready: false, quick_init: true, refcount: 1, queue: true }\n\
+                 Some(Error) [Ran(Error), Closed, Woke(One(Some(3)))] finished\n\
+                 Inner { ready: false, quick_init: false, refcount: 1, queue: true }\n\
+                 Some(Value) [Ran(Value), Closed, Put, Woke(All([]))] finished\n\
+                 Inner { ready: true, quick_init: false, refcount: 0, queue: false }\n",
             ),
             (
-                "1p5+w 2p7+3 3p8+w 2p7-w! 1e5-w! 3v8-w!",
-                "Some(Memory) 1 [Copied(None), Closed] finished 1+1 Some(true)\n\
-                 Some(Error) 0 [Ran(Error), Closed, Woke(One(Some(8)))] finished 0+1 Some(true)\n\
-                 Some(Value) 0 [Ran(Value), Closed, Put, Woke(All([]))] finished 2+0 Some(false)\n",
+                "1p+w 2p+3 3p+w 2p-w! 1e-w! 3v-w!",
+                "Some(Memory) [Copied(None), Closed] finished\n\
+                 Inner { ready: false, quick_init: true, refcount: 1, queue: true }\n\
+                 Some(Error) [Ran(Error), Closed, Woke(One(Some(3)))] finished\n\
+                 Inner { ready: false, quick_init: false, refcount: 1, queue: true }\n\
+                 Some(Value) [Ran(Value), Closed, Put, Woke(All([]))] finished\n\
+                 Inner { ready: true, quick_init: false, refcount: 0, queue: false }\n",
             ),
             (
-                "1p5+w 2p7+4 3p8+w 2p7-w! 1e5-w! 3v8-w!",
-                "Some(Memory) 1 [Copied(None), Closed] finished 1+1 Some(true)\n\
-                 Some(Error) 0 [Ran(Error), Closed, Woke(One(Some(8)))] finished 0+1 Some(true)\n\
-                 Some(Value) 0 [Ran(Value), Closed, Put, Woke(All([]))] finished 2+0 Some(false)\n",
+                "1p+w 2p+4 3p+w 2p-w! 1e-w! 3v-w!",
+                "Some(Memory) [Copied(None), Closed] finished\n\
+                 Inner { ready: false, quick_init: true, refcount: 1, queue: true }\n\
+                 Some(Error) [Ran(Error), Closed, Woke(One(Some(3)))] finished\n\
+                 Inner { ready: false, quick_init: false, refcount: 1, queue: true }\n\
+                 Some(Value) [Ran(Value), Closed, Put, Woke(All([]))] finished\n\
+                 Inner { ready: true, quick_init: false, refcount: 0, queue: false }\n",
             ),
             (
-                "1p5+w 2p7+5 3p8+w 2p7-w! 1e5-w! 3v8-w!",
-                "Some(Memory) 1 [Copied(None), Closed] finished 1+1 Some(true)\n\
-                 Some(Error) 0 [Ran(Error), Closed, Woke(One(Some(8)))] finished 0+1 Some(true)\n\
-                 Some(Value) 0 [Ran(Value), Closed, Put, Woke(All([]))] finished 2+0 Some(false)\n",
-            ),
-            (
-                "1p5+w 2p7+6 3p8+w 2p7-w! 1e5-w! 3v8-w!",
-                "Some(Memory) 1 [Closed] finished 1+1 Some(true)\n\
-                 Some(Error) 0 [Ran(Error), Closed, Woke(One(Some(8)))] finished 0+1 Some(true)\n\
-                 Some(Value) 0 [Ran(Value), Closed, Put, Woke(All([]))] finished 2+0 Some(false)\n",
+                "1p+w 2p+5 3p+w 2p-w! 1e-w! 3v-w!",
+                "Some(Memory) [Copied(None), Closed] finished\n\
+                 Inner { ready: false, quick_init: true, refcount: 1, queue: true }\n\
+                 Some(Error) [Ran(Error), Closed, Woke(One(Some(3)))] finished\n\
+                 Inner { ready: false, quick_init: false, refcount: 1, queue: true }\n\
+                 Some(Value) [Ran(Value), Closed, Put, Woke(All([]))] finished\n\
+                 Inner { ready: true, quick_init: false, refcount: 0, queue: false }\n",
             ),
         ],
     );
 }
 
-// The second and the third wait. The waker of the second changed, it is polled, and its copy is refused;
-// it makes so many steps of that poll before the first fails. Called before it looks, it gets the right,
-// and is dropped; called after that, it passes its turn on; and where it is gone, another is called.
+// The second, the third and the fourth wait. The first fails and calls the second, and the fifth holds. Now the second is
+// polled, and the copy of its waker is refused; it makes so many steps of that poll before the fifth fails. Polled after
+// that, it gets the right, and is dropped; refused after that, it passes its turn on to the fourth; and where it left
+// before, the turn is the third's alone.
 #[test]
 fn called_while_it_is_refused(rt: HostRuntime) {
     play(
         &rt,
         &[
             (
-                "1p5+w 2p7+w 3p8+w 2p6-0 1e5-w! 2p6-w! 2d6-w! 3v8-w!",
-                "Some(Error) 0 [Ran(Error), Closed, Woke(One(Some(7)))] finished 0+2 Some(true)\n\
-                 Some(Pending) 0 [Ran(Pending)] rests 0+2 Some(true)\n\
-                 Some(Dropped) 0 [Closed, Woke(One(Some(8)))] finished 0+1 Some(true)\n\
-                 Some(Value) 0 [Ran(Value), Closed, Put, Woke(All([]))] finished 2+0 Some(false)\n",
+                "1p+w 2p+w 3p+w 4p+w 1e+w 5p+w 2p-0 5e-w! 2p-w! 2d-w! 3v-w!",
+                "Some(Error) [Ran(Error), Closed, Woke(One(Some(3)))] finished\n\
+                 Inner { ready: false, quick_init: false, refcount: 3, queue: true }\n\
+                 Some(Pending) [Ran(Pending)] rests\n\
+                 Inner { ready: false, quick_init: false, refcount: 3, queue: true }\n\
+                 Some(Dropped) [Closed, Woke(One(Some(4)))] finished\n\
+                 Inner { ready: false, quick_init: false, refcount: 2, queue: true }\n\
+                 Some(Value) [Ran(Value), Closed, Put, Woke(All([Listing { ticket: 2, waker: None }]))] finished\n\
+                 Inner { ready: true, quick_init: false, refcount: 1, queue: true }\n",
             ),
             (
-                "1p5+w 2p7+w 3p8+w 2p6-1 1e5-w! 2p6-w! 2d6-w! 3v8-w!",
-                "Some(Error) 0 [Ran(Error), Closed, Woke(One(Some(7)))] finished 0+2 Some(true)\n\
-                 Some(Pending) 0 [Ran(Pending)] rests 0+2 Some(true)\n\
-                 Some(Dropped) 0 [Closed, Woke(One(Some(8)))] finished 0+1 Some(true)\n\
-                 Some(Value) 0 [Ran(Value), Closed, Put, Woke(All([]))] finished 2+0 Some(false)\n",
+                "1p+w 2p+w 3p+w 4p+w 1e+w 5p+w 2p-1 5e-w! 2p-w! 2d-w! 3v-w!",
+                "Some(Error) [Ran(Error), Closed, Woke(One(Some(3)))] finished\n\
+                 Inner { ready: false, quick_init: false, refcount: 3, queue: true }\n\
+                 Some(Pending) [Ran(Pending)] rests\n\
+                 Inner { ready: false, quick_init: false, refcount: 3, queue: true }\n\
+                 Some(Dropped) [Closed, Woke(One(Some(4)))] finished\n\
+                 Inner { ready: false, quick_init: false, refcount: 2, queue: true }\n\
+                 Some(Value) [Ran(Value), Closed, Put, Woke(All([Listing { ticket: 2, waker: None }]))] finished\n\
+                 Inner { ready: true, quick_init: false, refcount: 1, queue: true }\n",
             ),
             (
-                "1p5+w 2p7+w 3p8+w 2p6-2 1e5-w! 2p6-w! 3v8-w!",
-                "Some(Error) 0 [Ran(Error), Closed, Woke(One(Some(7)))] finished 0+2 Some(true)\n\
-                 Some(Memory) 0 [Woke(One(Some(8)))] finished 0+1 Some(true)\n\
-                 Some(Value) 0 [Ran(Value), Closed, Put, Woke(All([]))] finished 2+0 Some(false)\n",
+                "1p+w 2p+w 3p+w 4p+w 1e+w 5p+w 2p-2 5e-w! 2p-w! 3v-w!",
+                "Some(Error) [Ran(Error), Closed, Woke(One(Some(3)))] finished\n\
+                 Inner { ready: false, quick_init: false, refcount: 3, queue: true }\n\
+                 Some(Memory) [Woke(One(Some(4)))] finished\n\
+                 Inner { ready: false, quick_init: false, refcount: 2, queue: true }\n\
+                 Some(Value) [Ran(Value), Closed, Put, Woke(All([Listing { ticket: 2, waker: None }]))] finished\n\
+                 Inner { ready: true, quick_init: false, refcount: 1, queue: true }\n",
             ),
             (
-                "1p5+w 2p7+w 3p8+w 2p6-3 1e5-w! 2p6-w! 3v8-w!",
-                "Some(Error) 0 [Ran(Error), Closed, Woke(One(Some(8)))] finished 0+2 Some(true)\n\
-                 Some(Memory) 0 [] finished 0+1 Some(true)\n\
-                 Some(Value) 0 [Ran(Value), Closed, Put, Woke(All([]))] finished 2+0 Some(false)\n",
+                "1p+w 2p+w 3p+w 4p+w 1e+w 5p+w 2p-3 5e-w! 2p-w! 3v-w!",
+                "Some(Error) [Ran(Error), Closed, Woke(One(Some(3)))] finished\n\
+                 Inner { ready: false, quick_init: false, refcount: 3, queue: true }\n\
+                 Some(Memory) [] finished\n\
+                 Inner { ready: false, quick_init: false, refcount: 2, queue: true }\n\
+                 Some(Value) [Ran(Value), Closed, Put, Woke(All([Listing { ticket: 2, waker: Some(4) }]))] finished\n\
+                 Inner { ready: true, quick_init: false, refcount: 1, queue: true }\n",
             ),
             (
-                "1p5+w 2p7+w 3p8+w 2p6-4 1e5-w! 2p6-w! 3v8-w!",
-                "Some(Error) 0 [Ran(Error), Closed, Woke(One(Some(8)))] finished 0+1 Some(true)\n\
-                 None 0 [] finished 0+1 Some(true)\n\
-                 Some(Value) 0 [Ran(Value), Closed, Put, Woke(All([]))] finished 2+0 Some(false)\n",
+                "1p+w 2p+w 3p+w 4p+w 1e+w 5p+w 2p-4 5e-w! 2p-w! 3v-w!",
+                "Some(Error) [Ran(Error), Closed, Woke(One(Some(3)))] finished\n\
+                 Inner { ready: false, quick_init: false, refcount: 2, queue: true }\n\
+                 None [] finished\n\
+                 Inner { ready: false, quick_init: false, refcount: 2, queue: true }\n\
+                 Some(Value) [Ran(Value), Closed, Put, Woke(All([Listing { ticket: 2, waker: Some(4) }]))] finished\n\
+                 Inner { ready: true, quick_init: false, refcount: 1, queue: true }\n",
             ),
         ],
     );
 }
 
-// The same where the second is dropped in place of that poll: it is called before it takes its listing
-// out, or is gone by then.
+// The second and the third wait, and the second is dropped: it is called before it takes its listing out, or is gone by
+// then.
 #[test]
 fn called_while_it_is_dropped(rt: HostRuntime) {
     play(
         &rt,
         &[
             (
-                "1p5+w 2p7+w 3p8+w 2d6-0 1e5-w! 2d6-w! 3v8-w!",
-                "Some(Error) 0 [Ran(Error), Closed, Woke(One(Some(7)))] finished 0+2 Some(true)\n\
-                 Some(Dropped) 0 [Woke(One(Some(8)))] finished 0+1 Some(true)\n\
-                 Some(Value) 0 [Ran(Value), Closed, Put, Woke(All([]))] finished 2+0 Some(false)\n",
+                "1p+w 2p+w 3p+w 2d-0 1e-w! 2d-w! 3v-w!",
+                "Some(Error) [Ran(Error), Closed, Woke(One(Some(2)))] finished\n\
+                 Inner { ready: false, quick_init: false, refcount: 2, queue: true }\n\
+                 Some(Dropped) [Woke(One(Some(3)))] finished\n\
+                 Inner { ready: false, quick_init: false, refcount: 1, queue: true }\n\
+                 Some(Value) [Ran(Value), Closed, Put, Woke(All([]))] finished\n\
+                 Inner { ready: true, quick_init: false, refcount: 0, queue: false }\n",
             ),
             (
-                "1p5+w 2p7+w 3p8+w 2d6-1 1e5-w! 2d6-w! 3v8-w!",
-                "Some(Error) 0 [Ran(Error), Closed, Woke(One(Some(8)))] finished 0+2 Some(true)\n\
-                 Some(Dropped) 0 [] finished 0+1 Some(true)\n\
-                 Some(Value) 0 [Ran(Value), Closed, Put, Woke(All([]))] finished 2+0 Some(false)\n",
+                "1p+w 2p+w 3p+w 2d-1 1e-w! 2d-w! 3v-w!",
+                "Some(Error) [Ran(Error), Closed, Woke(One(Some(3)))] finished\n\
+                 Inner { ready: false, quick_init: false, refcount: 2, queue: true }\n\
+                 Some(Dropped) [] finished\n\
+                 Inner { ready: false, quick_init: false, refcount: 1, queue: true }\n\
+                 Some(Value) [Ran(Value), Closed, Put, Woke(All([]))] finished\n\
+                 Inner { ready: true, quick_init: false, refcount: 0, queue: false }\n",
             ),
             (
-                "1p5+w 2p7+w 3p8+w 2d6-2 1e5-w! 2d6-w! 3v8-w!",
-                "Some(Error) 0 [Ran(Error), Closed, Woke(One(Some(8)))] finished 0+1 Some(true)\n\
-                 None 0 [] finished 0+1 Some(true)\n\
-                 Some(Value) 0 [Ran(Value), Closed, Put, Woke(All([]))] finished 2+0 Some(false)\n",
+                "1p+w 2p+w 3p+w 2d-2 1e-w! 2d-w! 3v-w!",
+                "Some(Error) [Ran(Error), Closed, Woke(One(Some(3)))] finished\n\
+                 Inner { ready: false, quick_init: false, refcount: 1, queue: true }\n\
+                 None [] finished\n\
+                 Inner { ready: false, quick_init: false, refcount: 1, queue: true }\n\
+                 Some(Value) [Ran(Value), Closed, Put, Woke(All([]))] finished\n\
+                 Inner { ready: true, quick_init: false, refcount: 0, queue: false }\n",
             ),
         ],
     );

@@ -4,7 +4,7 @@
 use super::gathered::{CELLS, THREADS, Visited, alike, gathered};
 use async_once_cell::world::Reply;
 use async_once_cell::{Lazy, OnceCell};
-use cell_doubles::slow::{Failing, Slow, ended, left_midway};
+use cell_doubles::slow::{Driven, Failing, Slow, ended, left_midway};
 use cell_doubles::text::{SETTLED, shows};
 use futures::test::MockTask;
 use std::alloc::{AllocError, AllocGlobal, Global};
@@ -90,6 +90,12 @@ fn filled_after_the_failures(rt: HostRuntime) -> Result<(), Fail> {
     Ok(())
 }
 
+// Drives a future until it answers. It takes the future whole: of one that is lent the kit does not know that the init
+// outlives the loan of its cell.
+fn driven<R: Wait + Clock, F: Driven + Drop>(rt: &R, task: &MockTask, mut future: F) -> Reply {
+    ended(rt, task, &mut future)
+}
+
 impl Visited for Lazy<u64, Slow<'_, u64>> {
     // The cell owns its future. At most cells the thread drops some futures midway.
     fn visited<'v, R>(&'v self, rt: &'v R, task: &MockTask, thread: u64, number: u64) -> Option<u64>
@@ -99,7 +105,7 @@ impl Visited for Lazy<u64, Slow<'_, u64>> {
         for _ in 0..thread.wrapping_add(number) % 4 {
             left_midway(rt, task, self.get(rt));
         }
-        match ended(rt, task, &mut self.get(rt)) {
+        match driven(rt, task, self.get(rt)) {
             Reply::Value(value) => Some(value),
             _ => None,
         }

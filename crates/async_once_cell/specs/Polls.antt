@@ -1,0 +1,77 @@
+-- What a poll of a cell's future answers and leaves, in the record too.
+use Rattle.std.specs.Prelude.{◌≡◌, ⊤, Bool, true, List, [], ◌∷◌, Option, Some, None, Result, Ok, Err}
+use Rattle.std.specs.Borrow.{Bor}
+use Rattle.futures.specs.declared.task.Poll.{Poll}
+use Rattle.futures.specs.declared.task.Poll.TheVariants.{Ready, Pending}
+use Rattle.futures.specs.declared.task.context.Context.{Context}
+use Rattle.futures.specs.Task.{IsArmed, Keeps}
+use Rattle.async_once_cell.specs.declared.once.refused.InitError.{InitError}
+use Rattle.async_once_cell.specs.declared.once.refused.InitError.TheVariants.{Init, Memory, Full}
+use Rattle.async_once_cell.specs.declared.once.refused.Refused.{Refused}
+use Rattle.async_once_cell.specs.declared.once.refused.Refused.TheVariants.{Memory as NoMemory, Full as TooMany}
+use Rattle.once_world.specs.Record.{Entry}
+use Rattle.once_world.specs.Places.{EndDropped, EndError, EndFull, EndMemory, EndPending, EndValue, Ending}
+use Rattle.once_moments.specs.Kept.{Grew}
+use Rattle.once_parts.specs.Walks.{end_of}
+use Rattle.async_once_cell.specs.Replies.{is_over}
+use Rattle.async_once_cell.specs.Tokens.{Agrees, IsSetIn}
+use Rattle.async_once_cell.specs.Views.{Call, CellView, Owned, Shared}
+
+module _ {A : Type 0} where
+  -- how a call ended that answers so
+  abbrev pub ending_in : {E : Type 0} → Poll (Result A (InitError E)) → Ending
+  ending_in Pending = EndPending
+  ending_in (Ready (Ok x)) = EndValue
+  ending_in (Ready (Err (Init e))) = EndError
+  ending_in (Ready (Err Memory)) = EndMemory
+  ending_in (Ready (Err Full)) = EndFull
+
+  -- the same where the init cannot fail
+  abbrev pub sure_ending : Poll (Result A Refused) → Ending
+  sure_ending Pending = EndPending
+  sure_ending (Ready (Ok x)) = EndValue
+  sure_ending (Ready (Err NoMemory)) = EndMemory
+  sure_ending (Ready (Err TooMany)) = EndFull
+
+-- the record grew, and its newest entry is the end of this call of the task; a cell that has its owner's value has no record
+abbrev pub Ends : {T : Type 0} → CellView T → Entry → List Entry → List Entry → Type 0
+Ends (Owned x) e old new = new ≡ old
+Ends (Shared s) e old new = Grew (e ∷ []) old new
+
+-- from one moment of a future and of a context to a later one: cell and task are the same; the newest entry of the record is the end of this call with what was answered; where it answered the value, the cell is set in the record; the future is finished exactly where the poll answered; a poll that did not answer has registered its task somewhere or asked for another poll; and what the context had it keeps
+pub record DidPoll {T : Type 0} (old new : Call T) (before after : Context) (e : Ending) : Type 0 where
+  pub cell : new.cell ≡ old.cell
+  pub task : new.task ≡ old.task
+  pub ends : Ends old.cell (end_of old.task e) old.log new.log
+  pub set : e ≡ EndValue → IsSetIn new.cell new.log
+  pub finished : new.finished ≡ is_over e
+  pub armed : e ≡ EndPending → IsArmed after
+  pub kept : Keeps before after
+
+-- the future left its cell as by a drop, and is finished
+pub record HasLeft {T : Type 0} (old new : Call T) : Type 0 where
+  pub cell : new.cell ≡ old.cell
+  pub task : new.task ≡ old.task
+  pub gone : Ends old.cell (end_of old.task EndDropped) old.log new.log
+  pub finished : new.finished ≡ true
+
+-- a poll with a token that knew nothing is a poll, and with one that knew a value the future leaves
+abbrev pub PollsAs : {T : Type 0} → Option T → Call T → Call T → Context → Context → Ending → Type 0
+PollsAs None old new before after e = DidPoll old new before after e
+PollsAs (Some x) old new before after e = HasLeft old new × Keeps before after
+
+-- of a cell that has its owner's value a poll answers that value
+abbrev pub Answers : {T E : Type 0} → CellView T → Poll (Result (Bor T) E) → Type 0
+Answers (Owned x) (Ready (Ok v)) = v.now ≡ x
+Answers (Owned x) _ = ⊥
+Answers (Shared s) r = ⊤
+
+-- what a token knew before a poll and knows after it
+abbrev pub Polls : {T E : Type 0} → Option T → Option T → Poll (Result (Bor T) E) → Type 0
+Polls old new (Ready (Ok x)) = (new ≡ Some x.now) × Agrees old x.now
+Polls old new _ = (old ≡ None) × (new ≡ None)
+
+-- the same for the answer of a wait; where the thread could not wait, the token knows what it knew
+abbrev pub Waits : {T E X : Type 0} → Option T → Option T → Result (Result (Bor T) E) X → Type 0
+Waits old new (Ok answer) = Polls old new (Ready answer)
+Waits old new (Err x) = new ≡ old

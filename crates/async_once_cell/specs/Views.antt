@@ -1,0 +1,75 @@
+-- What a clause sees of a cell, of a token and of a future, and how they are made.
+use Rattle.std.specs.Prelude.{◌≡◌, ℕ, ⊤, Bool, true, false, List, [], Option, Some, None, IfSome}
+use Rattle.std.specs.Option.{is_some}
+use Rattle.pagebook.specs.Pages.{Book}
+use Rattle.pagebook.specs.Slot.{Placed}
+use Rattle.pagebook.specs.declared.slot.Written.{Written}
+use Rattle.once_world.specs.Record.{Entry}
+use Rattle.once_parts.specs.Record.{IsSet}
+use Rattle.async_once_cell.specs.declared.once.value.Value.{Value}
+use Rattle.async_once_cell.specs.declared.once.value.Value.TheVariants.{Owned as OwnedValue, Shared as SharedValue}
+use Rattle.async_once_cell.specs.declared.once.known.Seen.{Seen}
+use Rattle.async_once_cell.specs.declared.once.known.Seen.TheVariants.{Owned as SeenOwned, Shared as SeenShared}
+
+-- a cell: the value that its owner put there, or else the slot into which tasks put one
+pub data CellView (T : Type 0) : Type 0 where
+  Owned : T → CellView T
+  Shared : Placed → CellView T
+
+-- a token: its cell, the value that it knows, if it knows one, and the record as far as it was seen, the oldest entry first
+pub record Knows (T : Type 0) : Type 0 where
+  pub cell : CellView T
+  pub value : Option T
+  pub log : List Entry
+
+-- a future: its cell, its task's number, the record as far as it was seen, and whether it is finished. A cell that has its owner's value has no record
+pub record Call (T : Type 0) : Type 0 where
+  pub cell : CellView T
+  pub task : ℕ
+  pub log : List Entry
+  pub finished : Bool
+
+-- tasks share the cell, and no owner put a value there
+abbrev pub is_shared : {T : Type 0} → CellView T → Bool
+is_shared (Owned x) = false
+is_shared (Shared s) = true
+
+-- a cell, by where it keeps its value
+abbrev pub view_of : {T : Type 0} → Value T → CellView T
+view_of (OwnedValue x) = Owned x
+view_of (SharedValue inner) = Shared inner.slot
+
+-- what was written
+abbrev pub value_in : {T : Type 0} → Option (Written T) → Option T
+value_in None = None
+value_in (Some w) = Some w.value
+
+-- what a token of a cell knows
+abbrev pub known_of : {T : Type 0} → CellView T → Seen T → Option T
+known_of (Owned x) (SeenOwned true) = Some x
+known_of (Owned x) (SeenOwned false) = None
+known_of (Owned x) (SeenShared r w) = None
+known_of (Shared s) (SeenOwned b) = None
+known_of (Shared s) (SeenShared r w) = value_in w
+
+-- the record that a token has seen
+abbrev pub log_of : {T : Type 0} → Seen T → List Entry
+log_of (SeenOwned b) = []
+log_of (SeenShared r w) = r.log
+
+-- what a token saw is of its cell; where it knows a value, the cell of its record is set
+abbrev pub IsOf : {T : Type 0} → CellView T → Seen T → Type 0
+IsOf (Owned x) (SeenOwned b) = ⊤
+IsOf (Owned x) (SeenShared r w) = ⊥
+IsOf (Shared s) (SeenOwned b) = ⊥
+IsOf (Shared s) (SeenShared r w) = (r.book ≡ s.book) × IfSome w (λ y. y.of ≡ s.id) × (is_some w ≡ true → IsSet r.log)
+
+-- a record of this book is of the cell, which tasks share
+abbrev pub IsBookOf : {T : Type 0} → CellView T → Book → Type 0
+IsBookOf (Owned x) book = ⊥
+IsBookOf (Shared s) book = book ≡ s.book
+
+-- a record of this book, and a value of the slot of this name, are of the cell, which tasks share
+abbrev pub IsShown : {T : Type 0} → CellView T → Book → ℕ → Type 0
+IsShown (Owned x) book id = ⊥
+IsShown (Shared s) book id = (book ≡ s.book) × (id ≡ s.id)

@@ -1,0 +1,184 @@
+//! A cell that owns the future that fills it.
+ghost use Rattle.std.specs.Prelude.{◌≡◌, None, false, true};
+ghost use Rattle.std.specs.Result.{result_ok};
+ghost use Rattle.std.specs.Option.{is_some};
+ghost use Rattle.async_once_cell.specs.Tokens.{Gives, IsSetIn, Learns, Lends, Looks};
+ghost use Rattle.async_once_cell.specs.Views.{Owned, is_shared};
+
+mod future;
+
+use crate::held::Held;
+use crate::once::{Known, OnceCell};
+pub use future::{LazyFuturePin, LazyFutureUnpin};
+use futures::Future;
+use std::alloc::AllocGlobal;
+use std::marker::Model;
+use std::sync::{Mutex, Wait};
+use std::{fmt, mem};
+
+/// A cell that is filled by one future of its own.
+///
+/// The task that holds the right drives that future on. The future is never restarted, also where the
+/// task that drives it is dropped. When it gave its value it is dropped, and then the value is set.
+///
+/// A cell may be sent to another thread where `T: Send` and `F: Send`, and shared between threads where
+/// besides `T: Sync`.
+///
+/// ```
+/// let lazy = Lazy::new(ready(3));
+/// let value = lazy.get(rt).wait()?; // Ok(&3)
+/// assert_eq!(rt; lazy.try_get(), Some(&3));
+/// ```
+#[derive(Drop)]
+pub struct Lazy<T, F: Future> {
+    pub(crate) cell: OnceCell<T>,
+    // None while it is polled, and once it gave its value.
+    future: Mutex<Option<Held<F>>>,
+}
+
+/// A clause sees a cell as the value that its owner put there, or else as the slot into which tasks put one.
+impl<T, F: Future> Model for Lazy<T, F> {
+    ghost use Rattle.async_once_cell.specs.Views.{CellView};
+
+    ghost Value = { CellView T };
+
+    ghost view = { λ l. l.cell };
+}
+
+impl<T, F: Future<Output = T>> Lazy<T, F> {
+    /// A cell that this future will fill.
+    pub fn new(future: F) -> Self
+        requires { F.can_poll future }
+        ensures { is_shared result ≡ true }
+    {
+        Lazy {
+            cell: OnceCell::new(),
+            future: Mutex::new(Some(Held::new(future))),
+        }
+    }
+
+    /// As [`Lazy::new`].
+    pub fn from_future(future: F) -> Self
+        requires { F.can_poll future }
+        ensures { is_shared result ≡ true }
+    {
+        Lazy::new(future)
+    }
+
+    /// A future of the value: the one that is set, or the one that the cell's future gives.
+    ///
+    /// Nothing happens before the first poll, see [`LazyFuturePin`].
+    #[inline(always)]
+    pub fn get<'a, R: Wait + AllocGlobal>(&'a self, rt: &'a R) -> LazyFuturePin<'a, T, F, R>
+        ensures cell { result.cell ≡ self.now }
+        ensures live { result.finished ≡ false }
+    {
+        LazyFuturePin::new(&self.cell, rt, &self.future)
+    }
+
+    /// As [`Lazy::get`].
+    pub fn get_unpin<'a, R: Wait + AllocGlobal>(&'a self, rt: &'a R) -> LazyFutureUnpin<'a, T, F, R>
+        ensures cell { result.cell ≡ self.now }
+        ensures live { result.finished ≡ false }
+    {
+        self.get(rt)
+    }
+
+    /// As [`Lazy::get`].
+    pub fn into_future<'a, R: Wait + AllocGlobal>(
+        &'a self,
+        rt: &'a R,
+    ) -> LazyFutureUnpin<'a, T, F, R>
+        ensures cell { result.cell ≡ self.now }
+        ensures live { result.finished ≡ false }
+    {
+        self.get(rt)
+    }
+}
+
+impl<T, F: Future> Lazy<T, F> {
+    /// A cell with this value, and no future.
+    pub fn with_value(value: T) -> Self
+        ensures { result ≡ Owned value }
+    {
+        Lazy {
+            cell: OnceCell::new_with(value),
+            future: Mutex::new(None),
+        }
+    }
+
+    /// The value, where it is set. It polls nothing, and waits for nobody.
+    pub fn try_get(&self) -> Option<&T>
+        ensures { Lends self.now result }
+    {
+        self.cell.get()
+    }
+
+    /// The value for writing, where it is set. It waits for nobody.
+    pub fn try_get_mut(&mut self) -> Option<&mut T> {
+        self.cell.get_mut()
+    }
+
+    /// As [`Lazy::try_get_mut`].
+    pub fn try_get_mut_unpin(&mut self) -> Option<&mut T> {
+        self.cell.get_mut()
+    }
+
+    /// The value, where it was set. Else the future is dropped, and the answer is None, even where one
+    /// poll of the future would give the value. A queue that futures left goes as well. It waits for
+    /// nobody.
+    pub fn into_inner(self) -> Option<T>
+        ensures { Gives self result }
+    {
+        self.into_parts().ok()
+    }
+
+    /// The value, where it was set; else the future in the state that it is in. `Err(None)` would say
+    /// that there is neither; no schedule of calls is known to lead there. A queue that futures left
+    /// goes as well. It waits for nobody.
+    pub fn into_parts(self) -> Result<T, Option<F>>
+        ensures { Gives self (result_ok result) }
+    {
+        let Lazy { cell, future } = self;
+        match cell.into_inner() {
+            Some(value) => Ok(value),
+            None => Err(future.into_inner().map(Held::into_inner)),
+        }
+    }
+
+    /// Puts another cell in place of this one, and answers as [`Lazy::into_inner`] does of that.
+    pub fn replace_and_take(&mut self, replacement: Self) -> Option<T>
+        ensures taken { Gives self.old result }
+        ensures replaced { self.new ≡ replacement }
+    {
+        mem::replace(self, replacement).into_inner()
+    }
+
+    /// A token that knows nothing yet. See [`Known`]. It takes no memory, and waits for nobody.
+    pub fn token(&self) -> Known<'_, T>
+        ensures cell { result.cell ≡ self.now }
+        ensures knows { result.value ≡ None }
+    {
+        self.cell.token()
+    }
+
+    /// As [`Lazy::try_get`], and the token learns the value that is answered. A token that knows a
+    /// value gets that value, always. It waits for nobody.
+    pub fn try_get_as<'a>(&'a self, token: &mut Known<'a, T>) -> Option<&'a T>
+        requires token_of_this_cell { token.old.cell ≡ self.now }
+        ensures cell { token.new.cell ≡ token.old.cell }
+        ensures value { Learns token.old.value token.new.value result }
+        ensures lends { Lends self.now result }
+        ensures look { Looks self.now token.old.value (is_some result) token.old.log token.new.log }
+        ensures set { is_some result ≡ true → IsSetIn self.now token.new.log }
+        ensures stays { IsSetIn self.now token.old.log → is_some result ≡ true }
+    {
+        self.cell.get_as(token)
+    }
+}
+
+impl<T: fmt::Debug, F: Future> fmt::Debug for Lazy<T, F> {
+    fn fmt<W: fmt::Write>(&self, f: &mut fmt::Formatter<W>) -> fmt::Result {
+        self.cell.fmt_as("Lazy", f)
+    }
+}

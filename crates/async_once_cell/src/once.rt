@@ -1,0 +1,228 @@
+//! A cell that is filled once, by the init of one of the calls that ask for its value.
+ghost use Rattle.std.specs.Prelude.{◌≡◌, None, true, false};
+ghost use Rattle.std.specs.Option.{is_some};
+ghost use Rattle.async_once_cell.specs.Views.{CellView, Owned, is_shared};
+ghost use Rattle.async_once_cell.specs.Tokens.{Gives, IsSetIn, Learns, Lends, Looks};
+
+mod future;
+mod init;
+mod known;
+mod parker;
+mod refused;
+mod value;
+mod waits;
+
+pub use future::TryInitFuture;
+use futures::Future;
+pub use init::InitFuture;
+pub use known::Known;
+use once_parts::Inner;
+pub use parker::Parker;
+pub use refused::{InitError, Refused};
+use std::alloc::AllocGlobal;
+use std::marker::Model;
+use std::sync::Wait;
+use std::{fmt, mem};
+use value::Value;
+
+/// A cell that is empty or has one value, and is filled by a future.
+///
+/// Each call brings its own init. One task at a time has the right to run its init; the others wait,
+/// and are woken when the cell is filled. An init that fails, or whose future is dropped, leaves the
+/// cell empty and wakes one who waits, which runs its own. If that one leaves instead, by a drop or a
+/// refusal, and nobody holds then, it wakes the next.
+///
+/// ```
+/// let cell = OnceCell::new();
+/// let first = cell.get_or_init(rt, ready(4)).wait()?; // Ok(&4)
+/// let second = cell.get_or_init(rt, ready(5)).wait()?; // Ok(&4): this init is not polled
+/// ```
+///
+/// A cell that was made with a value lends that value and gives it back, until its owner asks for it to
+/// write it. The contracts say so. Any other cell has a record of all that tasks do with it, which its futures and
+/// tokens have seen as far as they came, see [`TryInitFuture`] and [`Known`].
+///
+/// Memory is taken only where tasks meet: for the queue of those who wait, and for the seat of each and
+/// its place in the queue.
+///
+/// An init may borrow whatever outlives its future. One that asks its own cell for the value waits
+/// there like any other task, and may give its own value all the same. A cell may be sent to another
+/// thread where `T: Send`, and shared between threads where `T: Send + Sync`.
+#[derive(Drop)]
+pub struct OnceCell<T> {
+    pub(crate) value: Value<T>,
+}
+
+/// A clause sees a cell as the value that its owner put there, or else as the slot into which tasks put one.
+impl<T> Model for OnceCell<T> {
+    ghost use Rattle.async_once_cell.specs.Views.{CellView, view_of};
+
+    ghost Value = { CellView T };
+
+    ghost view = { λ c. view_of c.value };
+}
+
+impl<T> OnceCell<T> {
+    /// An empty cell, with a new record. It takes no memory.
+    #[inline(always)]
+    pub fn new() -> Self
+        ensures { is_shared result ≡ true }
+    {
+        OnceCell {
+            value: Value::Shared(Inner::new()),
+        }
+    }
+
+    /// A cell with this value. It takes no memory.
+    pub fn new_with(value: T) -> Self
+        ensures { result ≡ Owned value }
+    {
+        OnceCell {
+            value: Value::Owned(value),
+        }
+    }
+
+    /// The value, where it is set; None where the cell is empty or being filled. It waits for
+    /// nobody.
+    #[inline(always)]
+    pub fn get(&self) -> Option<&T>
+        ensures { Lends self.now result }
+    {
+        match &self.value {
+            Value::Owned(value) => Some(value),
+            Value::Shared(inner) => {
+                let (value, _) = inner.look(&mut inner.record())?;
+                Some(value)
+            }
+        }
+    }
+
+    /// The value for writing, where it is set. A value that tasks set becomes the owner's, and its record ends. It waits
+    /// for nobody.
+    pub fn get_mut(&mut self) -> Option<&mut T> {
+        self.value.get_mut()
+    }
+
+    /// The value, where it was set. The cell is empty after, as a new one, with a new record: a queue that futures left
+    /// there goes as well. It waits for nobody.
+    pub fn take(&mut self) -> Option<T>
+        ensures taken { Gives self.old result }
+        ensures fresh { is_shared self.new ≡ true }
+    {
+        mem::replace(self, OnceCell::new()).into_inner()
+    }
+
+    /// The value, where it was set. All else of the cell goes with it, its record and a queue that futures left there
+    /// too. It waits for nobody.
+    pub fn into_inner(self) -> Option<T>
+        ensures { Gives self result }
+    {
+        let OnceCell { value } = self;
+        value.into_inner()
+    }
+
+    /// A future of the value: the one that is set, or the one that `init` gives.
+    ///
+    /// Nothing happens before the first poll, see [`InitFuture`].
+    #[inline(always)]
+    pub fn get_or_init<'a, F, R>(&'a self, rt: &'a R, init: F) -> InitFuture<'a, T, F, R>
+    where
+        F: Future<Output = T>,
+        R: Wait + AllocGlobal,
+        requires { F.can_poll init }
+        ensures cell { result.cell ≡ self.now }
+        ensures live { result.finished ≡ false }
+    {
+        InitFuture::new(self, rt, init)
+    }
+
+    /// As [`OnceCell::get_or_init`], with an init that may fail. An error goes to its own caller
+    /// alone, and leaves the cell empty.
+    ///
+    /// ```
+    /// let (cell, task) = (OnceCell::new(), MockTask::new(rt)?);
+    /// task.poll(&mut cell.get_or_try_init(rt, err::<u64, u64>(9))); // Ready(Err(Init(9)))
+    /// task.poll(&mut cell.get_or_try_init(rt, ok::<u64, u64>(7))); // Ready(Ok(&7))
+    /// ```
+    #[inline(always)]
+    pub fn get_or_try_init<'a, E, F, R>(
+        &'a self,
+        rt: &'a R,
+        init: F,
+    ) -> TryInitFuture<'a, T, E, F, R>
+    where
+        F: Future<Output = Result<T, E>>,
+        R: Wait + AllocGlobal,
+        requires { F.can_poll init }
+        ensures cell { result.cell ≡ self.now }
+        ensures live { result.finished ≡ false }
+    {
+        TryInitFuture::new(self, rt, init)
+    }
+
+    /// A token that knows nothing yet. See [`Known`]. It takes no memory, and waits for nobody.
+    pub fn token(&self) -> Known<'_, T>
+        ensures cell { result.cell ≡ self.now }
+        ensures knows { result.value ≡ None }
+    {
+        Known::new(self)
+    }
+
+    /// As [`OnceCell::get`], and the token learns the value that is answered. A token that knows a
+    /// value gets that value, always. It waits for nobody.
+    ///
+    /// Of a cell that tasks share it is one look in the record: a value is answered just where the cell is set then. So a
+    /// token in whose record the cell is set gets the value.
+    pub fn get_as<'a>(&'a self, token: &mut Known<'a, T>) -> Option<&'a T>
+        requires token_of_this_cell { token.old.cell ≡ self.now }
+        ensures cell { token.new.cell ≡ token.old.cell }
+        ensures value { Learns token.old.value token.new.value result }
+        ensures lends { Lends self.now result }
+        ensures look { Looks self.now token.old.value (is_some result) token.old.log token.new.log }
+        ensures set { is_some result ≡ true → IsSetIn self.now token.new.log }
+        ensures stays { IsSetIn self.now token.old.log → is_some result ≡ true }
+    {
+        token.learn(self)
+    }
+}
+
+impl<T> Default for OnceCell<T> {
+    fn default() -> Self {
+        OnceCell::new()
+    }
+}
+
+impl<T> From<T> for OnceCell<T> {
+    ghost from_gives = { λ value cell. cell ≡ Owned value };
+
+    fn from(value: T) -> Self {
+        OnceCell::new_with(value)
+    }
+}
+
+impl<T: fmt::Debug> OnceCell<T> {
+    // What a cell of this name shows. A cell of its owner's value shows what a cell shows that was filled with nobody
+    // else there.
+    pub(crate) fn fmt_as<W: fmt::Write>(
+        &self,
+        name: &str,
+        f: &mut fmt::Formatter<W>,
+    ) -> fmt::Result {
+        match &self.value {
+            Value::Owned(value) => write!(
+                f,
+                "{name} {{ value: Some({value:?}), inner: Inner {{ ready: true, quick_init: false, refcount: 0, queue: false }} }}"
+            ),
+            Value::Shared(inner) => {
+                let value = self.get();
+                write!(f, "{name} {{ value: {value:?}, inner: {inner:?} }}")
+            }
+        }
+    }
+}
+
+impl<T: fmt::Debug> fmt::Debug for OnceCell<T> {
+    fn fmt<W: fmt::Write>(&self, f: &mut fmt::Formatter<W>) -> fmt::Result {
+        self.fmt_as("OnceCell", f)
+    }
+}

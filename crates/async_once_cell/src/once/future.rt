@@ -1,0 +1,301 @@
+//! The future of an init that may fail. All other futures of the cells are made of it.
+ghost use Rattle.std.specs.Prelude.{◌≡◌, [], false, true, MatchOption, reverse};
+ghost use mathlib.Core.List.{IsPrefix};
+ghost use Rattle.futures.specs.Task.{Keeps};
+ghost use Rattle.once_core.specs.declared.step.Ending.{Ending};
+ghost use Rattle.once_parts.specs.Walks.{end_of};
+ghost use Rattle.async_once_cell.specs.Futures.{HasBook, IsAsked, is_of_owned, call_of, is_done, seen_of};
+ghost use Rattle.async_once_cell.specs.Polls.{Answers, DidPoll, HasLeft, Polls, PollsAs, ending_in};
+ghost use Rattle.async_once_cell.specs.Tokens.{IsSetIn};
+ghost use Rattle.async_once_cell.specs.Replies.{ValueIn, ending_of};
+ghost use Rattle.async_once_cell.specs.Views.{CellView, is_shared};
+ghost use Rattle.once_world.specs.Record.{Once};
+ghost use Rattle.once_world.specs.Run.{AtEvery, IsRun};
+ghost use Rattle.once_world.specs.Called.{SomebodyCalled};
+ghost use Rattle.once_moments.specs.Kept.{most};
+ghost use Rattle.once_parts.specs.Record.{IsSet, WasFilled};
+
+use super::value::Value;
+use super::{InitError, Known, OnceCell};
+use crate::waiting::{Reply, Waiting};
+use futures::Future;
+use futures::future::TryOutput;
+use futures::task::{Context, Poll};
+use once_parts::Record;
+use once_parts::record::is_run;
+use std::alloc::AllocGlobal;
+use std::fmt;
+use std::marker::{Model, PhantomData};
+use std::sync::Wait;
+
+// How a future comes to the value.
+#[derive(Drop)]
+enum Asked<'a, T, F: Future, R: Wait + AllocGlobal> {
+    // It is that of the cell's owner; whether it was answered.
+    Owned(bool),
+    // It is a task of those that share the cell.
+    Shared(Waiting<'a, T, F, R>),
+}
+
+/// Future of [`OnceCell::get_or_try_init`].
+///
+/// A poll answers the value that is set. While the cell is empty, the task that gets the right polls
+/// its init, and the others are Pending until they are woken. The value wakes all of them. An error, or
+/// the drop of a future that had the right, wakes one. If that one is dropped or refused instead, and
+/// nobody holds then, it wakes the next.
+///
+/// A clause sees the future's cell, the number of its task, the cell's record as far as the task has seen it, and whether
+/// the future is finished. The record is a run of the cell.
+pub struct TryInitFuture<'a, T, E, F: Future, R: Wait + AllocGlobal> {
+    error: PhantomData<E>,
+    cell: &'a OnceCell<T>,
+    rt: &'a R,
+    asked: Asked<'a, T, F, R>,
+}
+
+impl<'a, T, E, F: Future, R: Wait + AllocGlobal> Model for TryInitFuture<'a, T, E, F, R> {
+    ghost use Rattle.async_once_cell.specs.Futures.{IsAsked, call_of};
+    ghost use Rattle.async_once_cell.specs.Views.{Call};
+
+    ghost Value = { Call T };
+
+    ghost view = { λ f. call_of f.cell.now f.asked };
+
+    ghost invariant = { λ f. IsAsked f.cell.now f.asked };
+}
+
+impl<'a, T, E, F: Future, R: Wait + AllocGlobal> TryInitFuture<'a, T, E, F, R> {
+    #[inline(always)]
+    pub(super) fn new(cell: &'a OnceCell<T>, rt: &'a R, init: F) -> Self
+        requires { F.can_poll init }
+        ensures cell { result.cell ≡ cell.now }
+        ensures live { result.finished ≡ false }
+    {
+        let asked = match &cell.value {
+            Value::Owned(_) => Asked::Owned(false),
+            Value::Shared(inner) => Asked::Shared(Waiting::new(inner, rt, init)),
+        };
+        TryInitFuture {
+            error: PhantomData,
+            cell,
+            rt,
+            asked,
+        }
+    }
+
+    #[inline(always)]
+    pub(super) fn cell(&self) -> &'a OnceCell<T>
+        ensures { result.now ≡ self.now.cell }
+    {
+        self.cell
+    }
+
+    #[inline(always)]
+    pub(super) fn rt(&self) -> &'a R {
+        self.rt
+    }
+
+    /// Whether the future answered a value, an error or a refusal. It may not be polled after that.
+    #[inline(always)]
+    pub fn is_finished(&self) -> bool
+        ensures { result ≡ self.now.finished }
+    {
+        self.asked.is_finished()
+    }
+
+    /// Shows that the record of a cell that tasks share is a run of the cell, that at each of its beginnings somebody was
+    /// called where somebody had to be, and that a Fill stands in it where the cell is set. It does nothing.
+    pub fn is_run(&self)
+        ensures run { is_shared self.now.cell ≡ true → IsRun Once most (reverse self.now.log) }
+        ensures called { is_shared self.now.cell ≡ true → AtEvery (SomebodyCalled Once) (reverse self.now.log) }
+        ensures filled { is_shared self.now.cell ≡ true → IsSet self.now.log → WasFilled self.now.log }
+    {
+        if let Some(record) = self.asked.record() {
+            is_run(&record);
+        }
+    }
+
+    /// Tells a token of the cell what this future has seen of the record. It waits for nobody.
+    pub fn tell(&self, token: &mut Known<'a, T>)
+        requires token_of_this_cell { token.old.cell ≡ self.now.cell }
+        ensures cell { token.new.cell ≡ token.old.cell }
+        ensures value { token.new.value ≡ token.old.value }
+        ensures own { IsPrefix token.old.log token.new.log }
+        ensures other { IsPrefix self.now.log token.new.log }
+    {
+        if let Some(record) = self.asked.record() {
+            token.learn_record(&record);
+        }
+    }
+
+    // What a drop does: the init is dropped, and then the task gives the right back, or leaves those who
+    // wait.
+    pub(super) fn leave(&mut self)
+        requires live { self.old.finished ≡ false }
+        ensures { HasLeft self.old self.new }
+    {
+        self.asked.leave();
+    }
+}
+
+impl<'a, T, F: Future, R: Wait + AllocGlobal> Asked<'a, T, F, R> {
+    #[inline(always)]
+    fn is_finished(&self) -> bool
+        ensures { result ≡ is_done self.now }
+    {
+        match self {
+            Asked::Owned(done) => *done,
+            Asked::Shared(waiting) => waiting.is_finished(),
+        }
+    }
+
+    // The record as far as the task has seen it, of a cell that tasks share.
+    fn record(&self) -> Option<Record>
+        ensures { MatchOption result ((is_of_owned self.now ≡ true) × (seen_of self.now ≡ [])) (λ r. (r.log ≡ seen_of self.now) × HasBook self.now r.book) }
+    {
+        match self {
+            Asked::Owned(_) => None,
+            Asked::Shared(waiting) => Some(waiting.record()),
+        }
+    }
+
+    fn leave(&mut self)
+        requires live { is_done self.old ≡ false }
+        ensures left { (c : CellView T) → IsAsked c self.old → IsAsked c self.new × HasLeft (call_of c self.old) (call_of c self.new) }
+    {
+        match self {
+            Asked::Owned(done) => *done = true,
+            Asked::Shared(waiting) => waiting.leave(),
+        }
+    }
+}
+
+impl<'a, T: Drop, F, R: Wait + AllocGlobal> Asked<'a, T, F, R>
+where
+    F: Future,
+{
+    // Polls once.
+    fn poll<E: Drop>(&mut self, cell: &'a OnceCell<T>, cx: &mut Context<'_>) -> Reply<'a, T, E>
+    where
+        F: Future<Output: TryOutput<Ok = T, Error = E>>,
+        requires of { IsAsked cell.now self.old }
+        requires live { is_done self.old ≡ false }
+        ensures of { IsAsked cell.now self.new }
+        ensures did { DidPoll (call_of cell.now self.old) (call_of cell.now self.new) cx.old cx.new (ending_of result) }
+        ensures value { ValueIn cell.now result }
+        ensures set { ending_of result ≡ Ending.Value → IsSetIn cell.now (seen_of self.new) }
+    {
+        match (self, &cell.value) {
+            (Asked::Shared(waiting), _) => waiting.poll(cx),
+            (Asked::Owned(done), Value::Owned(value)) => {
+                *done = true;
+                Reply::Owned(value)
+            }
+            _ => unreachable!(),
+        }
+    }
+}
+
+impl<'a, T: Drop, E: Drop, F, R: Wait + AllocGlobal> TryInitFuture<'a, T, E, F, R>
+where
+    F: Future<Output: TryOutput<Ok = T, Error = E>>,
+{
+    /// Polls the future once.
+    ///
+    /// It answers the value that is set, the error that its own init gave, or a refusal: `Memory`
+    /// where a place among those who wait could not be made, `Full` where as many tasks are counted in
+    /// as may be. After any of these it is finished. After an error or a refusal the cell is as if the
+    /// future had been dropped.
+    ///
+    /// The newest entry of the record is the end of this poll, with what it answers.
+    #[inline(always)]
+    pub fn poll(&mut self, cx: &mut Context<'_>) -> Poll<Result<&'a T, InitError<E>>>
+        requires unfinished { self.old.finished ≡ false }
+        ensures call { DidPoll self.old self.new cx.old cx.new (ending_in result) }
+        ensures value { Answers self.old.cell result }
+    {
+        match self.asked.poll(self.cell, cx) {
+            Reply::Pending => Poll::Pending,
+            Reply::Owned(value) => Poll::Ready(Ok(value)),
+            Reply::Value(value, _) => Poll::Ready(Ok(value)),
+            Reply::Error(error) => Poll::Ready(Err(InitError::Init(error))),
+            Reply::Memory => Poll::Ready(Err(InitError::Memory)),
+            Reply::Full => Poll::Ready(Err(InitError::Full)),
+        }
+    }
+
+    /// As [`poll`](Self::poll), and the token learns the value that is answered. A token that knows
+    /// a value gets that value; the future leaves its cell as by a drop, and is finished.
+    pub fn poll_as(
+        &mut self,
+        cx: &mut Context<'_>,
+        token: &mut Known<'a, T>,
+    ) -> Poll<Result<&'a T, InitError<E>>>
+        requires unfinished { self.old.finished ≡ false }
+        requires token_of_this_cell { token.old.cell ≡ self.old.cell }
+        ensures call { PollsAs token.old.value self.old self.new cx.old cx.new (ending_in result) }
+        ensures of { token.new.cell ≡ token.old.cell }
+        ensures value { Polls token.old.value token.new.value result }
+        ensures log { IsPrefix token.old.log token.new.log }
+    {
+        if token.is_knowing() {
+            self.leave();
+            return Poll::Ready(Ok(token.learn(self.cell).unwrap()));
+        }
+        match self.asked.poll(self.cell, cx) {
+            Reply::Pending => Poll::Pending,
+            Reply::Owned(value) => {
+                token.learn(self.cell);
+                Poll::Ready(Ok(value))
+            }
+            Reply::Value(value, written) => {
+                if let Some(record) = self.asked.record() {
+                    token.learn_value(&record, written);
+                }
+                Poll::Ready(Ok(value))
+            }
+            Reply::Error(error) => Poll::Ready(Err(InitError::Init(error))),
+            Reply::Memory => Poll::Ready(Err(InitError::Memory)),
+            Reply::Full => Poll::Ready(Err(InitError::Full)),
+        }
+    }
+}
+
+/// Polled when it is finished, it asks for another poll and changes nothing.
+impl<'a, T: Drop, E: Drop, F, R: Wait + AllocGlobal> Future for TryInitFuture<'a, T, E, F, R>
+where
+    F: Future<Output: TryOutput<Ok = T, Error = E>>,
+{
+    type Output = Result<&'a T, InitError<E>>;
+
+    #[inline(always)]
+    fn poll(&mut self, cx: &mut Context<'_>) -> Poll<Result<&'a T, InitError<E>>> {
+        if self.is_finished() {
+            return cx.yield_now();
+        }
+        TryInitFuture::poll(self, cx)
+    }
+}
+
+/// Whether the future is finished.
+impl<T, E, F: Future, R: Wait + AllocGlobal> fmt::Debug for TryInitFuture<'_, T, E, F, R> {
+    fn fmt<W: fmt::Write>(&self, f: &mut fmt::Formatter<W>) -> fmt::Result {
+        let finished = self.is_finished();
+        write!(f, "TryInitFuture {{ finished: {finished} }}")
+    }
+}
+
+/// The init is dropped first. Then the task gives the right back, or leaves those who wait.
+impl<T, E, F: Future, R: Wait + AllocGlobal> Drop for TryInitFuture<'_, T, E, F, R> {
+    fn drop(mut self) {
+        if !self.is_finished() {
+            self.leave();
+        }
+        let TryInitFuture {
+            error: _,
+            cell: _,
+            rt: _,
+            asked: _asked,
+        } = self;
+    }
+}

@@ -1,0 +1,281 @@
+//! Tokens: what their holder has learned of one cell.
+ghost use Rattle.std.specs.Prelude.{◌≡◌, ◌↔◌, ◌⊎◌, IsSome, IsTrue, None, Some, true, reverse};
+ghost use Rattle.std.specs.Option.{is_some, option_or};
+ghost use mathlib.Core.List.{IsPrefix};
+ghost use Rattle.once_world.specs.Record.{Once};
+ghost use Rattle.once_world.specs.Run.{AtEvery, IsRun};
+ghost use Rattle.once_world.specs.Called.{SomebodyCalled};
+ghost use Rattle.once_moments.specs.Kept.{most};
+ghost use Rattle.once_parts.specs.Record.{IsSet, WasFilled};
+ghost use Rattle.async_once_cell.specs.Views.{CellView, IsBookOf, IsOf, IsShown, is_shared, known_of, log_of};
+ghost use Rattle.async_once_cell.specs.Tokens.{IsSetIn, Learns, Lends, Looks};
+
+use super::OnceCell;
+use super::value::Value;
+use once_parts::Record;
+use once_parts::record::{is_run, stays_set};
+use pagebook::Written;
+use std::fmt;
+use std::marker::Model;
+use std::sync::OnceToken;
+
+// What a token saw of its cell.
+#[derive(Drop)]
+enum Seen<T> {
+    // Of a cell that has its owner's value: whether the token knows it.
+    Owned(bool),
+    // Of a cell that tasks share: the record as far as it was seen, and what shows the value.
+    Shared(Record, Option<Written<T>>),
+}
+
+/// What its holder has learned of one cell: the cell's value, if it knows it, and the record as far as it was seen.
+///
+/// A token learns the value from a call that answers it: [`OnceCell::get_as`], or the `poll_as` of a
+/// future. From then on each such call answers that value, which the contracts say; so whoever
+/// passes a token on passes on what it knows. A token borrows its cell, so no owner's call comes
+/// between.
+#[derive(Drop)]
+pub struct Known<'a, T> {
+    cell: &'a OnceCell<T>,
+    seen: Seen<T>,
+    // None always. It keeps `'a` at one lifetime, so that the borrow checker follows a token that is
+    // handed on; a `PhantomData` does not do so yet.
+    lifetime: Option<OnceToken<'a, T>>,
+}
+
+impl<'a, T> Model for Known<'a, T> {
+    ghost use Rattle.async_once_cell.specs.Views.{IsOf, Knows, known_of, log_of};
+
+    ghost Value = { Knows T };
+
+    ghost view = { λ k. record { cell = k.cell.now; value = known_of k.cell.now k.seen; log = log_of k.seen } };
+
+    ghost invariant = { λ k. IsOf k.cell.now k.seen };
+}
+
+impl<'a, T> Known<'a, T> {
+    pub(super) fn new(cell: &'a OnceCell<T>) -> Self
+        ensures cell { result.cell ≡ cell.now }
+        ensures knows { result.value ≡ None }
+    {
+        let seen = match &cell.value {
+            Value::Owned(_) => Seen::Owned(false),
+            Value::Shared(inner) => Seen::Shared(inner.record(), None),
+        };
+        Known {
+            cell,
+            seen,
+            lifetime: None,
+        }
+    }
+
+    // The value of the cell, where the token knows it or the cell shows it.
+    pub(super) fn learn(&mut self, cell: &'a OnceCell<T>) -> Option<&'a T>
+        requires token_of_this_cell { self.old.cell ≡ cell.now }
+        ensures cell { self.new.cell ≡ self.old.cell }
+        ensures value { Learns self.old.value self.new.value result }
+        ensures lends { Lends cell.now result }
+        ensures look { Looks cell.now self.old.value (is_some result) self.old.log self.new.log }
+        ensures set { is_some result ≡ true → IsSetIn cell.now self.new.log }
+        ensures stays { IsSetIn cell.now self.old.log → is_some result ≡ true }
+    {
+        cell.look(&mut self.seen)
+    }
+
+    pub(super) fn is_knowing(&self) -> bool
+        ensures { result ≡ is_some self.now.value }
+    {
+        match &self.seen {
+            Seen::Owned(knows) => *knows,
+            Seen::Shared(_, written) => written.is_some(),
+        }
+    }
+
+    // The value, where the token knows it.
+    fn known(&self) -> Option<&T> {
+        let cell = self.cell;
+        match (&cell.value, &self.seen) {
+            (Value::Owned(value), Seen::Owned(true)) => Some(value),
+            (Value::Shared(inner), Seen::Shared(_, Some(written))) => Some(inner.value(written)),
+            _ => None,
+        }
+    }
+
+    // Learns what a task has seen in whose record the cell is set, and the value that this shows.
+    pub(super) fn learn_value(&mut self, seen: &Record, written: Written<T>)
+        requires of { IsShown self.old.cell seen.now.book written.of }
+        requires set { IsSet seen.now.log }
+        ensures cell { self.new.cell ≡ self.old.cell }
+        ensures value { self.new.value ≡ Some written.value }
+        ensures own { IsPrefix self.old.log self.new.log }
+        ensures other { IsPrefix seen.now.log self.new.log }
+    {
+        self.seen.learn_value(seen, written);
+    }
+
+    // Learns what a task of its cell has seen.
+    pub(super) fn learn_record(&mut self, seen: &Record)
+        requires of { IsBookOf self.old.cell seen.now.book }
+        ensures cell { self.new.cell ≡ self.old.cell }
+        ensures value { self.new.value ≡ self.old.value }
+        ensures own { IsPrefix self.old.log self.new.log }
+        ensures other { IsPrefix seen.now.log self.new.log }
+    {
+        self.seen.learn_record(seen);
+    }
+
+    /// Takes over what another token of the cell has seen: its record, and its value where this one knows none. It waits
+    /// for nobody.
+    pub fn learn_from(&mut self, other: &Known<'a, T>)
+        requires tokens_of_one_cell { self.old.cell ≡ other.now.cell }
+        ensures cell { self.new.cell ≡ self.old.cell }
+        ensures value { self.new.value ≡ option_or self.old.value other.now.value }
+        ensures own { IsPrefix self.old.log self.new.log }
+        ensures other { IsPrefix other.now.log self.new.log }
+    {
+        self.seen.learn_from(&other.seen);
+    }
+
+    /// Shows that the record of a cell that tasks share is a run of the cell, that at each of its beginnings somebody was
+    /// called where somebody had to be, and that a Fill stands in it where the cell is set. It does nothing.
+    pub fn is_run(&self)
+        ensures run { is_shared self.now.cell ≡ true → IsRun Once most (reverse self.now.log) }
+        ensures called { is_shared self.now.cell ≡ true → AtEvery (SomebodyCalled Once) (reverse self.now.log) }
+        ensures filled { is_shared self.now.cell ≡ true → IsSet self.now.log → WasFilled self.now.log }
+    {
+        if let Seen::Shared(record, _) = &self.seen {
+            is_run(record);
+        }
+    }
+
+    /// Whether both tokens know a value. Then the two values are one. The tokens are of one cell. It
+    /// waits for nobody.
+    pub fn compare(a: &Known<'a, T>, b: &Known<'a, T>) -> bool
+        requires tokens_of_one_cell { a.now.cell ≡ b.now.cell }
+        ensures both { IsTrue result ↔ (IsSome a.now.value × IsSome b.now.value) }
+        ensures one { IsTrue result → a.now.value ≡ b.now.value }
+    {
+        match (&a.seen, &b.seen) {
+            (Seen::Shared(_, Some(x)), Seen::Shared(_, Some(y))) => {
+                x.agrees(y);
+                true
+            }
+            (Seen::Owned(x), Seen::Owned(y)) => *x && *y,
+            _ => false,
+        }
+    }
+
+    /// Of two tokens of one cell the record of one is a beginning of the other's, and where the cell is set in that beginning
+    /// it is set in the other. It does nothing.
+    pub fn compare_records(a: &Known<'a, T>, b: &Known<'a, T>)
+        requires tokens_of_one_cell { a.now.cell ≡ b.now.cell }
+        ensures begins { IsPrefix a.now.log b.now.log ⊎ IsPrefix b.now.log a.now.log }
+        ensures on { IsPrefix a.now.log b.now.log → IsSetIn a.now.cell a.now.log → IsSetIn b.now.cell b.now.log }
+        ensures back { IsPrefix b.now.log a.now.log → IsSetIn b.now.cell b.now.log → IsSetIn a.now.cell a.now.log }
+    {
+        if let (Seen::Shared(one, _), Seen::Shared(other, _)) = (&a.seen, &b.seen) {
+            one.agrees(other);
+            stays_set(one, other);
+            stays_set(other, one);
+        }
+    }
+}
+
+impl<T> Seen<T> {
+    fn learn_record(&mut self, seen: &Record)
+        requires of { (c : CellView T) × IsOf c self.old × IsBookOf c seen.now.book }
+        ensures of { (c : CellView T) → IsOf c self.old → (IsBookOf c seen.now.book) → IsOf c self.new × (known_of c self.new ≡ known_of c self.old) }
+        ensures own { IsPrefix (log_of self.old) (log_of self.new) }
+        ensures other { IsPrefix seen.now.log (log_of self.new) }
+    {
+        match self {
+            Seen::Owned(_) => unreachable!(),
+            Seen::Shared(own, _) => {
+                let before = own.again();
+                own.learn(seen);
+                stays_set(&before, own);
+            }
+        }
+    }
+
+    fn learn_from(&mut self, other: &Seen<T>)
+        requires of { (c : CellView T) × IsOf c self.old × IsOf c other.now }
+        ensures of { (c : CellView T) → IsOf c self.old → IsOf c other.now
+            → IsOf c self.new × (known_of c self.new ≡ option_or (known_of c self.old) (known_of c other.now)) }
+        ensures own { IsPrefix (log_of self.old) (log_of self.new) }
+        ensures other { IsPrefix (log_of other.now) (log_of self.new) }
+    {
+        match (self, other) {
+            (Seen::Owned(knows), Seen::Owned(other)) => *knows = *knows || *other,
+            (Seen::Shared(own, known), Seen::Shared(record, found)) => {
+                let before = own.again();
+                own.learn(record);
+                stays_set(&before, own);
+                stays_set(record, own);
+                if known.is_none() {
+                    *known = found.as_ref().map(Written::again);
+                }
+            }
+            _ => unreachable!(),
+        }
+    }
+
+    fn learn_value(&mut self, other: &Record, written: Written<T>)
+        requires of { (c : CellView T) × IsOf c self.old × IsShown c other.now.book written.of }
+        requires set { IsSet other.now.log }
+        ensures of { (c : CellView T) → IsOf c self.old → (IsShown c other.now.book written.of) → IsOf c self.new × (known_of c self.new ≡ Some written.value) }
+        ensures own { IsPrefix (log_of self.old) (log_of self.new) }
+        ensures other { IsPrefix other.now.log (log_of self.new) }
+    {
+        match self {
+            Seen::Owned(_) => unreachable!(),
+            Seen::Shared(own, known) => {
+                own.learn(other);
+                stays_set(other, own);
+                *known = Some(written);
+            }
+        }
+    }
+}
+
+impl<T> OnceCell<T> {
+    // The value, where this shows it or the cell does.
+    fn look(&self, seen: &mut Seen<T>) -> Option<&T>
+        requires { IsOf self.now seen.old }
+        ensures of { IsOf self.now seen.new }
+        ensures value { Learns (known_of self.now seen.old) (known_of self.now seen.new) result }
+        ensures lends { Lends self.now result }
+        ensures look { Looks self.now (known_of self.now seen.old) (is_some result) (log_of seen.old) (log_of seen.new) }
+        ensures set { is_some result ≡ true → IsSetIn self.now (log_of seen.new) }
+        ensures stays { IsSetIn self.now (log_of seen.old) → is_some result ≡ true }
+    {
+        match (&self.value, seen) {
+            (Value::Owned(value), Seen::Owned(knows)) => {
+                *knows = true;
+                Some(value)
+            }
+            (Value::Shared(inner), Seen::Shared(record, written)) => {
+                if let Some(written) = written {
+                    return Some(inner.value(written));
+                }
+                let before = record.again();
+                let found = inner.look(record);
+                stays_set(&before, record);
+                let (value, found) = found?;
+                *written = Some(found);
+                Some(value)
+            }
+            _ => None,
+        }
+    }
+}
+
+/// `Known(Some(V))` where the token knows the value, and `Known(None)` where it knows nothing.
+impl<T: fmt::Debug> fmt::Debug for Known<'_, T> {
+    fn fmt<W: fmt::Write>(&self, f: &mut fmt::Formatter<W>) -> fmt::Result {
+        let Some(value) = self.known() else {
+            return f.write_str("Known(None)");
+        };
+        write!(f, "Known(Some({value:?}))")
+    }
+}

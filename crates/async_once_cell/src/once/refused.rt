@@ -1,0 +1,72 @@
+//! Why a poll ended without a value.
+ghost use Rattle.std.specs.Prelude.{◌≡◌, Some};
+
+use std::error::Error;
+use std::fmt;
+
+/// Why a poll ended without a value, though no init failed. Its future is finished, and all else is
+/// as if the future had been dropped.
+#[derive(Clone, Copy, Debug, PartialEq, Eq)]
+pub enum Refused {
+    /// Memory was refused, for a place among those who wait.
+    Memory,
+    /// As many tasks are counted in as may be. Counted are those that wait, those in a call that came to
+    /// the queue, and a holder that claimed there.
+    Full,
+}
+
+impl fmt::Display for Refused {
+    ghost use Rattle.async_once_cell.specs.Refused.{message};
+
+    ghost output = { λ refused. Some (message refused) };
+
+    fn fmt<W: fmt::Write>(&self, f: &mut fmt::Formatter<W>) -> fmt::Result {
+        match self {
+            Refused::Memory => f.write_str("out of memory"),
+            Refused::Full => f.write_str("too many waiters"),
+        }
+    }
+}
+
+impl Error for Refused {}
+
+/// Why a poll ended without a value: the caller's own init failed, or the poll was refused.
+#[derive(Clone, Copy, Debug, Drop, PartialEq, Eq)]
+pub enum InitError<E> {
+    /// The caller's init answered this error. The right was given back, and another caller may fill
+    /// the cell.
+    Init(E),
+    /// As [`Refused::Memory`].
+    Memory,
+    /// As [`Refused::Full`].
+    Full,
+}
+
+impl<E: fmt::Display> fmt::Display for InitError<E> {
+    ghost use Rattle.async_once_cell.specs.Refused.{message_of};
+
+    ghost output = { message_of E.output };
+
+    fn fmt<W: fmt::Write>(&self, f: &mut fmt::Formatter<W>) -> fmt::Result {
+        match self {
+            InitError::Init(error) => fmt::Display::fmt(error, f),
+            InitError::Memory => fmt::Display::fmt(&Refused::Memory, f),
+            InitError::Full => fmt::Display::fmt(&Refused::Full, f),
+        }
+    }
+}
+
+impl<E: fmt::Debug + fmt::Display + Drop> Error for InitError<E> {}
+
+impl<E> From<Refused> for InitError<E> {
+    ghost use Rattle.async_once_cell.specs.Refused.{error_of};
+
+    ghost from_gives = { λ refused error. error ≡ error_of refused };
+
+    fn from(refused: Refused) -> Self {
+        match refused {
+            Refused::Memory => InitError::Memory,
+            Refused::Full => InitError::Full,
+        }
+    }
+}

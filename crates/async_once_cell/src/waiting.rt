@@ -1,0 +1,416 @@
+//! A task of a cell that brings an init, and is called where it waits.
+ghost use Rattle.std.specs.Prelude.{◌≡◌, ◌∷◌, [], List, None, true, false, ⊤};
+ghost use Rattle.std.specs.Option.{is_some};
+ghost use Rattle.once_queue.specs.declared.waiters.Out.{Out};
+ghost use Rattle.futures.specs.Task.{IsArmed, Keeps};
+ghost use Rattle.once_core.specs.declared.step.Ending.{Ending};
+ghost use Rattle.once_world.specs.Record.{DropEnd, Entry, Made};
+ghost use Rattle.once_moments.specs.Kept.{Grew};
+ghost use Rattle.once_parts.specs.Record.{IsSet};
+ghost use Rattle.once_parts.specs.Walks.{end_of};
+ghost use Rattle.async_once_cell.specs.Replies.{ValueOf, ending_of, is_over};
+
+use crate::held::Held;
+use crate::seat::{Seat, Seated, call_all};
+use futures::Future;
+use futures::future::TryOutput;
+use futures::task::{Context, Poll};
+use once_core::step::{Ending, Polled, Side};
+use once_parts::record::is_set_where_answered;
+use once_parts::{Inner, Mark, Record, Task, TaskSide};
+use once_queue::waiters::Out;
+use pagebook::Written;
+use std::alloc::AllocGlobal;
+use std::marker::{Model, PhantomData};
+use std::snapshot::Snapshot;
+use std::sync::Wait;
+
+/// What a poll answers.
+#[derive(Drop)]
+pub(crate) enum Reply<'a, T, E> {
+    Pending,
+    /// The value of the cell's owner.
+    Owned(&'a T),
+    /// The value, and what shows that it is that of the cell.
+    Value(&'a T, Written<T>),
+    Error(E),
+    /// Memory was refused.
+    Memory,
+    /// As many tasks are counted in as may be.
+    Full,
+}
+
+/// A task of a cell with its init. A clause sees the task.
+#[derive(Drop)]
+pub(crate) struct Waiting<'a, T, F: Future, R: Wait + AllocGlobal> {
+    rt: &'a R,
+    task: Task<'a, 'a, T, Seated, R>,
+    init: Option<Held<F>>,
+    // Made when the task waits for the first time.
+    seat: Option<Seat>,
+}
+
+impl<'a, T, F: Future, R: Wait + AllocGlobal> Model for Waiting<'a, T, F, R> {
+    ghost use Rattle.once_parts.specs.Tasks.{TaskView};
+
+    ghost Value = { TaskView };
+
+    ghost view = { λ f. f.task };
+}
+
+impl<'a, T, F: Future, R: Wait + AllocGlobal> Waiting<'a, T, F, R> {
+    /// A new task.
+    #[inline(always)]
+    pub(crate) fn new(inner: &'a Inner<T, Seated>, rt: &'a R, init: F) -> Self
+        requires { F.can_poll init }
+        ensures cell { result.cell ≡ inner.now.slot }
+        ensures live { result.finished ≡ false }
+        ensures made { (seen : List Entry) × Grew (Made result.number ∷ []) seen result.log }
+    {
+        Waiting {
+            rt,
+            task: Task::new(inner, rt),
+            init: Some(Held::new(init)),
+            seat: None,
+        }
+    }
+
+    /// Whether the task answered, or left.
+    #[inline(always)]
+    pub(crate) fn is_finished(&self) -> bool
+        ensures { result ≡ self.now.finished }
+    {
+        self.task.is_finished()
+    }
+
+    /// The record as far as the task has seen it.
+    pub(crate) fn record(&self) -> Record
+        ensures { (result.book ≡ self.now.cell.book) × (result.log ≡ self.now.log) }
+    {
+        self.task.record()
+    }
+
+    /// What a drop does: the init is dropped, and then the task gives the right back, or leaves those who wait.
+    pub(crate) fn leave(&mut self)
+        requires live { self.old.finished ≡ false }
+        ensures cell { self.new.cell ≡ self.old.cell }
+        ensures number { self.new.number ≡ self.old.number }
+        ensures gone { Grew (DropEnd self.new.number ∷ []) self.old.log self.new.log }
+        ensures finished { self.new.finished ≡ true }
+    {
+        drop(self.init.take());
+        let mut side = Leaving::<T, R>::new(self.rt, self.task.mark());
+        self.task.leave(&mut side);
+    }
+}
+
+impl<'a, T: Drop, E: Drop, F, R: Wait + AllocGlobal> Waiting<'a, T, F, R>
+where
+    F: Future<Output: TryOutput<Ok = T, Error = E>>,
+{
+    /// Polls the task once.
+    pub(crate) fn poll(&mut self, cx: &mut Context<'_>) -> Reply<'a, T, E>
+        requires live { self.old.finished ≡ false }
+        ensures cell { self.new.cell ≡ self.old.cell }
+        ensures number { self.new.number ≡ self.old.number }
+        ensures end { Grew (end_of self.new.number (ending_of result) ∷ []) self.old.log self.new.log }
+        ensures finished { self.new.finished ≡ is_over (ending_of result) }
+        ensures armed { ending_of result ≡ Ending.Pending → IsArmed cx.new }
+        ensures kept { Keeps cx.old cx.new }
+        ensures value { ValueOf result self.old.cell.id }
+        ensures set { ending_of result ≡ Ending.Value → IsSet self.new.log }
+    {
+        let (ending, error) = self.steps(cx);
+        match ending {
+            Ending::Pending => Reply::Pending,
+            Ending::Value => {
+                is_set_where_answered(&self.task.record());
+                let (value, written) = self.task.value();
+                Reply::Value(value, written)
+            }
+            Ending::Error => match error {
+                Some(error) => Reply::Error(error),
+                None => unreachable!(),
+            },
+            Ending::Memory => Reply::Memory,
+            Ending::Full => Reply::Full,
+            Ending::Dropped => unreachable!(),
+        }
+    }
+
+    // The steps of a poll: how it ended, and the error that the init gave.
+    fn steps(&mut self, cx: &mut Context<'_>) -> (Ending, Option<E>)
+        requires live { self.old.finished ≡ false }
+        ensures cell { self.new.cell ≡ self.old.cell }
+        ensures number { self.new.number ≡ self.old.number }
+        ensures end { Grew (end_of self.new.number result.0 ∷ []) self.old.log self.new.log }
+        ensures finished { self.new.finished ≡ is_over result.0 }
+        ensures poll { result.0 ≡ Ending.Dropped → ⊥ }
+        ensures error { result.0 ≡ Ending.Error → is_some result.1 ≡ true }
+        ensures armed { result.0 ≡ Ending.Pending → IsArmed cx.new }
+        ensures kept { Keeps cx.old cx.new }
+    {
+        let mut side = Polling {
+            rt: self.rt,
+            mark: self.task.mark(),
+            cx,
+            init: &mut self.init,
+            seat: &mut self.seat,
+            value: None,
+            error: None,
+            is_armed: false,
+            woke: Snapshot::of(&Out::One(None)),
+        };
+        let ending = self.task.poll(&mut side);
+        let Polling {
+            rt: _,
+            mark: _mark,
+            cx,
+            init: _,
+            seat: _,
+            value: _value,
+            error,
+            is_armed,
+            woke: _woke,
+        } = side;
+        self.settle(&ending, is_armed, cx);
+        (ending, error)
+    }
+
+    // Ends a poll that ended so. Where it is Pending, the init saw to it that the task is called, or the seat does.
+    fn settle(&self, ending: &Ending, is_armed: bool, cx: &mut Context<'_>)
+        requires { is_armed ≡ true → IsArmed cx.old }
+        ensures armed { ending.now ≡ Ending.Pending → IsArmed cx.new }
+        ensures kept { Keeps cx.old cx.new }
+    {
+        if is_armed || !matches!(ending, Ending::Pending) {
+            return;
+        }
+        let _: Poll<()> = match &self.seat {
+            Some(seat) => seat.sit(self.rt, cx),
+            None => cx.yield_now(),
+        };
+    }
+}
+
+// What a poll brings.
+struct Polling<'r, 'c, 'd, 'i, 's, T, E, H, R> {
+    rt: &'r R,
+    mark: Mark,
+    cx: &'c mut Context<'d>,
+    init: &'i mut Option<H>,
+    seat: &'s mut Option<Seat>,
+    value: Option<T>,
+    error: Option<E>,
+    // The init was Pending, and saw to it that the task is called.
+    is_armed: bool,
+    // Whom the cell handed out in this poll.
+    woke: Snapshot<Out<Seated>>,
+}
+
+impl<T: Drop, E: Drop, F, R: Wait + AllocGlobal> Side<Seated>
+    for Polling<'_, '_, '_, '_, '_, T, E, Held<F>, R>
+where
+    F: Future<Output: TryOutput<Ok = T, Error = E>>,
+{
+    ghost use Rattle.std.specs.Prelude.{true};
+    ghost use Rattle.std.proofs.Common.{rules};
+    ghost use Rattle.once_parts.specs.Sides.{HasCopied, HasPut, HasRun, HasWoken};
+    ghost use Rattle.async_once_cell.specs.Stays.{Stays, told};
+    ghost use Rattle.async_once_cell.specs.Seats.{whose};
+
+    type Value = T;
+
+    ghost did_run = { λ s a t. HasRun (told s) a (told t) };
+
+    ghost did_close = { λ s t. told t ≡ told s };
+
+    ghost can_put = { λ s. (told s).has_value ≡ true };
+
+    ghost did_put = { λ s t. HasPut (told s) (told t) };
+
+    ghost did_copy = { λ s c t. HasCopied whose (told s) c (told t) };
+
+    ghost did_wake = { λ s out t. HasWoken whose (told s) out (told t) };
+
+    ghost stays = { Stays };
+
+    #[inline(always)]
+    fn run(&mut self) -> Polled {
+        let Some(held) = self.init.take() else {
+            return Polled::Pending;
+        };
+        let mut init = held.into_inner();
+        match init.poll(self.cx) {
+            Poll::Pending => {
+                *self.init = Some(Held::new(init));
+                self.is_armed = true;
+                Polled::Pending
+            }
+            Poll::Ready(output) => match output.into_result() {
+                Ok(value) => {
+                    self.value = Some(value);
+                    Polled::Value
+                }
+                Err(error) => {
+                    self.error = Some(error);
+                    Polled::Error
+                }
+            },
+        }
+    }
+
+    #[inline(always)]
+    fn close(&mut self) {
+        *self.init = None;
+    }
+
+    #[inline(always)]
+    fn put(&mut self) -> T {
+        self.value.take().unwrap()
+    }
+
+    #[inline(always)]
+    fn copy(&mut self) -> Option<Seated> {
+        if let Some(seat) = self.seat.as_ref() {
+            return seat.share_anew(self.rt, &self.mark);
+        }
+        // Nobody can have called a new seat, so its first share is made without its lock.
+        let seat = Seat::new(self.rt.alloc()).ok()?;
+        let share = seat.share(&self.mark);
+        *self.seat = Some(seat);
+        share
+    }
+
+    #[inline(always)]
+    fn wake(&mut self, out: Out<Seated>)
+        ensures did { HasWoken whose (told self.old) out (told self.new) }
+        ensures stays { Stays self.old self.new }
+    {
+        self.woke = Snapshot::of(&out);
+        call_all(self.rt, out);
+    }
+
+    ghost stays_same = { λ a. Prim.search rules };
+
+    ghost stays_on = { λ a b c p q. Prim.search rules };
+}
+
+impl<T: Drop, E: Drop, F, R: Wait + AllocGlobal> TaskSide<Seated>
+    for Polling<'_, '_, '_, '_, '_, T, E, Held<F>, R>
+where
+    F: Future<Output: TryOutput<Ok = T, Error = E>>,
+{
+    ghost use Rattle.async_once_cell.specs.Stays.{told};
+
+    ghost state = { told };
+
+    ghost tells_run = { λ s a t d. d };
+
+    ghost tells_close = { λ s t d. d };
+
+    ghost tells_put = { λ s t d. d };
+
+    ghost tells_copy = { λ s c t d. d };
+
+    ghost tells_wake = { λ s out t d. d };
+
+    ghost puts = { λ s h. h };
+}
+
+// What a drop brings, when the init is gone. It does not name the init's type, so that a program has
+// the machine of a drop once.
+#[derive(Drop)]
+struct Leaving<'r, T, R> {
+    rt: &'r R,
+    mark: Mark,
+    woke: Snapshot<Out<Seated>>,
+    // It has no value.
+    has_value: bool,
+    value: PhantomData<T>,
+}
+
+impl<'r, T, R: Wait + AllocGlobal> Leaving<'r, T, R> {
+    fn new(rt: &'r R, mark: Mark) -> Self
+        ensures number { result.mark ≡ mark }
+        ensures none { result.woke.value ≡ Out.One None }
+        ensures empty { result.has_value ≡ false }
+    {
+        Leaving {
+            rt,
+            mark,
+            woke: Snapshot::of(&Out::One(None)),
+            has_value: false,
+            value: PhantomData,
+        }
+    }
+}
+
+impl<T, R: Wait + AllocGlobal> Side<Seated> for Leaving<'_, T, R> {
+    ghost use Rattle.std.specs.Prelude.{◌≡◌, true, ⊤};
+    ghost use Rattle.once_parts.specs.Sides.{HasCopied, HasPut, HasRun, HasWoken};
+    ghost use Rattle.async_once_cell.specs.Stays.{leaving};
+    ghost use Rattle.async_once_cell.specs.Seats.{whose};
+
+    type Value = T;
+
+    ghost did_run = { λ s a t. HasRun (leaving s) a (leaving t) };
+
+    ghost did_close = { λ s t. leaving t ≡ leaving s };
+
+    ghost can_put = { λ s. s.has_value ≡ true };
+
+    ghost did_put = { λ s t. HasPut (leaving s) (leaving t) };
+
+    ghost did_copy = { λ s c t. HasCopied whose (leaving s) c (leaving t) };
+
+    ghost did_wake = { λ s out t. HasWoken whose (leaving s) out (leaving t) };
+
+    ghost stays = { λ _ _. ⊤ };
+
+    fn run(&mut self) -> Polled {
+        Polled::Pending
+    }
+
+    fn close(&mut self) {}
+
+    // Nobody asks for it: who leaves has no value to give.
+    fn put(&mut self) -> T {
+        for _ in self.rt.forever() {}
+        unreachable!()
+    }
+
+    fn copy(&mut self) -> Option<Seated> {
+        None
+    }
+
+    fn wake(&mut self, out: Out<Seated>)
+        ensures did { HasWoken whose (leaving self.old) out (leaving self.new) }
+        ensures stays { ⊤ }
+    {
+        self.woke = Snapshot::of(&out);
+        call_all(self.rt, out);
+    }
+
+    ghost stays_same = { λ _. tt };
+
+    ghost stays_on = { λ _ _ _ _ _. tt };
+}
+
+impl<T, R: Wait + AllocGlobal> TaskSide<Seated> for Leaving<'_, T, R> {
+    ghost use Rattle.async_once_cell.specs.Stays.{leaving};
+
+    ghost state = { leaving };
+
+    ghost tells_run = { λ s a t d. d };
+
+    ghost tells_close = { λ s t d. d };
+
+    ghost tells_put = { λ s t d. d };
+
+    ghost tells_copy = { λ s c t d. d };
+
+    ghost tells_wake = { λ s out t d. d };
+
+    ghost puts = { λ s h. h };
+}

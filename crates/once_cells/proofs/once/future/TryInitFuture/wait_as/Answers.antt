@@ -1,6 +1,0 @@
--- A token that finds the value learns it.
-use Rattle.std.proofs.Common.{rules}
-use Rattle.once_cells.proofs.once.future.TryInitFuture.wait_as.Goals as goal
-
-pub returns-in-Some-clause-value : goal.returns-in-Some-clause-value
-returns-in-Some-clause-value g c = search rules

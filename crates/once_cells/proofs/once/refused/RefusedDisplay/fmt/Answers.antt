@@ -1,6 +1,0 @@
--- A refusal prints its text.
-use Rattle.std.proofs.Common.{rules}
-use Rattle.once_cells.proofs.once.refused.RefusedDisplay.fmt.Goals as goal
-
-pub returns-in-Memory-clause-writes : goal.returns-in-Memory-clause-writes
-returns-in-Memory-clause-writes g c = search rules

@@ -1,0 +1,73 @@
+//! The waker of a task: its number, and its mark.
+ghost use Rattle.std.specs.Prelude.{◌≡◌};
+
+use once_parts::{Mark, TaskWaker};
+use once_queue::waiters::{Listing, Out, WakerId};
+use std::alloc::{AllocError, Global};
+use std::snapshot::Snapshot;
+
+/// A waker: the number of the task whose it is, and the task's mark.
+#[derive(Drop)]
+pub struct Bell {
+    pub task: u64,
+    pub mark: Snapshot<Mark>,
+}
+
+impl Bell {
+    /// A waker of this task, which has this mark.
+    pub fn new(task: u64, mark: &Mark) -> Bell
+        ensures { result.mark.value ≡ mark.now }
+    {
+        Bell {
+            task,
+            mark: Snapshot::of(mark),
+        }
+    }
+}
+
+impl WakerId for Bell {
+    ghost use Rattle.std.specs.Prelude.{⊤};
+
+    ghost tells_same = { λ _ _. ⊥ };
+
+    ghost tells_other = { λ _ _. ⊤ };
+
+    fn are_all_other() -> bool {
+        true
+    }
+
+    fn same(&self, other: &Bell) -> bool {
+        let _ = other;
+        false
+    }
+}
+
+impl TaskWaker for Bell {
+    ghost whose = { λ b. b.mark.value };
+
+    ghost apart = { λ a b e. e };
+}
+
+/// Whom a section calls, by the numbers of the tasks.
+pub fn named(alloc: Global, out: &Out<Bell>) -> Result<Out<u64>, AllocError> {
+    match out {
+        Out::One(bell) => Ok(Out::One(task_of(bell))),
+        Out::All(listings) => {
+            let mut named = Vec::new(alloc);
+            for listing in listings {
+                named.push(Listing {
+                    ticket: listing.ticket,
+                    waker: task_of(&listing.waker),
+                })?;
+            }
+            Ok(Out::All(named))
+        }
+    }
+}
+
+fn task_of(bell: &Option<Bell>) -> Option<u64> {
+    match bell {
+        Some(bell) => Some(bell.task),
+        None => None,
+    }
+}
