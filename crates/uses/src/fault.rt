@@ -17,6 +17,9 @@ pub enum Fault {
     /// A cell was filled, and its value is not found.
     #[error("a cell that was filled is empty")]
     Empty,
+    /// A load found no setting, for this reason.
+    #[error("a setting was not loaded: {0}")]
+    NotLoaded(u64),
     /// Two tasks were told different values.
     #[error("two tasks were told different values")]
     Differ,

@@ -1,4 +1,5 @@
-//! What such cells are for: settings, a connection, a graph of values, a pool of tasks and a table.
+//! What such cells are for: settings that are read once, a connection, a graph of values, a pool of tasks, a
+//! table, and settings that threads load anew.
 #![tactic(auto)]
 
 mod ask;
@@ -6,8 +7,10 @@ mod connection;
 mod fault;
 mod graph;
 mod pool;
+mod reload;
 mod settings;
 mod table;
+mod told;
 
 use fault::Fault;
 use std::alloc::AllocGlobal;
@@ -17,18 +20,20 @@ use std::io::Write;
 use std::process::ExitCode;
 use std::random::RandomSource;
 use std::sync::Wait;
+use std::thread::Threads;
 use std::time::Clock;
 
 fn run<R, O>(rt: &R, output: &mut O) -> Result<(), Fault>
 where
-    R: Files + Wait + RandomSource + AllocGlobal + Clock,
+    R: Files + Threads + Wait + RandomSource + AllocGlobal + Clock + Sync,
     O: Write,
 {
     settings::show(rt, output)?;
     connection::show(rt, output)?;
     graph::show(rt, output)?;
     pool::show(rt, output)?;
-    table::show(rt, output)
+    table::show(rt, output)?;
+    reload::show(rt, output)
 }
 
 fn main(rt: HostRuntime) -> ExitCode {

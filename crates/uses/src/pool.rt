@@ -2,6 +2,7 @@
 ghost use Rattle.std.specs.Prelude.{◌≡◌, Some, IfOk};
 
 use crate::fault::Fault;
+use crate::told::one_is_called;
 use async_once_cell::OnceCell;
 use async_once_cell::once::{InitFuture, Known};
 use futures::Future;
@@ -79,7 +80,8 @@ where
     Ok(())
 }
 
-/// What the tasks of a pool were told of the cell: the value that the token knows.
+/// What the tasks of a pool were told of the cell: the value that the token knows. At no moment of the record that the token
+/// has seen did all of them sleep while the cell was free and one of them waited: some task was called then.
 fn told_to_all<'a, R>(
     rt: &'a R,
     cell: &'a OnceCell<u64>,
@@ -94,6 +96,7 @@ where
 {
     run_tasks(rt, cell, places)?;
     let value = *cell.get_as(token).ok_or(Fault::Empty)?;
+    one_is_called(token);
     if places.iter().any(|told| told.get() != Some(value)) {
         return Err(Fault::Differ);
     }

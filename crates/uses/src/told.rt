@@ -1,0 +1,39 @@
+//! What those who asked one cell can say of each other, by what they have seen of its record.
+ghost use Rattle.std.specs.Prelude.{◌≡◌, ℕ, true, List, ◌∷◌, ◌++◌, Some, reverse};
+ghost use mathlib.Core.List.{IsPrefix};
+ghost use Rattle.async_once_cell.specs.Record.{End, Entry, Error, Once, RanError};
+ghost use Rattle.async_once_cell.specs.Called.{SomebodyCalled};
+ghost use Rattle.async_once_cell.specs.Tasks.{last_call};
+ghost use Rattle.async_once_cell.specs.Tokens.{IsSetIn};
+ghost use Rattle.async_once_cell.specs.Views.{is_shared};
+
+use async_once_cell::Known;
+use async_once_cell::laws::error_is_ones_own;
+
+/// Who was told that there is no value was told so before it was set. It does nothing.
+pub fn told_before<'a, T>(without: &Known<'a, T>, with: &Known<'a, T>)
+    requires one_cell { without.now.cell ≡ with.now.cell }
+    requires unset { IsSetIn without.now.cell without.now.log → ⊥ }
+    requires set { IsSetIn with.now.cell with.now.log }
+    ensures { IsPrefix without.now.log with.now.log }
+{
+    Known::compare_records(without, with);
+}
+
+/// Wherever in the record of a cell that tasks share an error was told, it was told to the task whose own init gave it. It
+/// does nothing.
+pub fn told_alone<T>(token: &Known<'_, T>)
+    ensures { is_shared token.now.cell ≡ true → (t e : ℕ) → (later before : List Entry)
+        → reverse token.now.log ≡ later ++ End t (Error e) ∷ before → (last_call Once t before).ran ≡ Some (RanError e) }
+{
+    token.is_run();
+    error_is_ones_own();
+}
+
+/// While the cell is free and a task of it waits, some task was called that has neither claimed since nor left: whoever runs the
+/// tasks of a cell has one to poll. It does nothing.
+pub fn one_is_called<T>(token: &Known<'_, T>)
+    ensures { is_shared token.now.cell ≡ true → SomebodyCalled Once (reverse token.now.log) }
+{
+    token.is_run();
+}
