@@ -7,3 +7,5 @@ mod fills;
 mod lockstep;
 #[cfg(test)]
 mod replay;
+#[cfg(test)]
+mod schedule;

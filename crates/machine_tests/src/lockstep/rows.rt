@@ -1,6 +1,7 @@
 //! The worked schedules of `replay` over both kinds of parts: after each step the two show the same.
 use super::between::BETWEEN;
 use crate::replay::rows::{CALLS, DROPS, PLAIN, REFUSALS};
+use crate::schedule::schedules_in;
 use async_once_cell::step::Polled;
 use async_once_cell::world::{Input, Kind, Ran};
 use once_script::parse::{Line, RUN_STEPS, Script, parse_script};
@@ -9,23 +10,7 @@ use side_by_side::walker::Cell;
 use std::alloc::AllocGlobal;
 use std::process::Abort;
 use std::sync::Wait;
-
-// Schedules that say nothing of shared parts. These have one limit, the largest. They take the memory of a queue and of a
-// listing from the runtime, so it is not refused when a schedule says so. And a task has one waker, of which a copy that is
-// listed is not taken again.
-const LEFT_OUT: [&str; 11] = [
-    "called_waiter_refused",
-    "door_asks_memory_first",
-    "late_queue_at_limit",
-    "limit_of_the_count",
-    "listed_by_another_and_no_memory",
-    "queue_refused",
-    "refused_and_not_called",
-    "refused_before_counting_in",
-    "refused_then_set",
-    "release_beyond_the_limit",
-    "relisted_without_memory",
-];
+use std::test::Fail;
 
 // Whether a schedule can be followed: it begins with an empty cell, whose owner makes no call.
 fn is_followed(script: &Script) -> bool {
@@ -98,39 +83,40 @@ fn is_the_same<R: Wait + AllocGlobal>(rt: &R, text: &str, record: &str) -> Optio
     Some(matches!(&seen, Ok(Some(queue)) if *queue == has_queue))
 }
 
-// Follows the schedules of a table, and counts them.
-fn run_rows<R: Wait + AllocGlobal + Abort>(rt: &R, rows: &[(&str, &str, &str)]) -> u64 {
-    let mut followed = 0u64;
-    for (name, text, record) in rows {
-        if LEFT_OUT.contains(name) {
-            continue;
-        }
-        if let Some(is_so) = is_the_same(rt, text, record) {
-            assert!(rt; is_so, "in {name}");
-            followed = followed.saturating_add(1);
+// Follows the schedules of a text, but those that say that they can't be played over shared parts. There a schedule
+// begins with an empty once cell, whose owner makes no call. The limit is the largest. The memory of a queue and of a
+// listing is the runtime's, so it is not refused when a schedule says so. And a task has one waker, of which a copy
+// that is listed is not taken again.
+fn run_rows<R: Wait + AllocGlobal + Abort>(rt: &R, text: &str) -> Result<(), Fail> {
+    let alloc = rt.alloc();
+    for schedule in &schedules_in(alloc, text)? {
+        if schedule.is_shared {
+            let (script, record) = (schedule.script(alloc)?, schedule.record(alloc)?);
+            let is_so = is_the_same(rt, script.as_str(), record.as_str());
+            assert_eq!(rt; is_so, Some(true), "in {}", schedule.name);
         }
     }
-    followed
+    Ok(())
 }
 
 #[test]
-fn polls_in_turn(rt: HostRuntime) {
-    assert_eq!(rt; run_rows(&rt, &PLAIN), 13);
+fn polls_in_turn(rt: HostRuntime) -> Result<(), Fail> {
+    run_rows(&rt, PLAIN)
 }
 
 #[test]
-fn refused_copies(rt: HostRuntime) {
-    assert_eq!(rt; run_rows(&rt, &REFUSALS), 2);
+fn refused_copies(rt: HostRuntime) -> Result<(), Fail> {
+    run_rows(&rt, REFUSALS)
 }
 
 #[test]
-fn drops(rt: HostRuntime) {
-    assert_eq!(rt; run_rows(&rt, &DROPS), 25);
+fn drops(rt: HostRuntime) -> Result<(), Fail> {
+    run_rows(&rt, DROPS)
 }
 
 #[test]
-fn failures_call_one(rt: HostRuntime) {
-    assert_eq!(rt; run_rows(&rt, &CALLS), 7);
+fn failures_call_one(rt: HostRuntime) -> Result<(), Fail> {
+    run_rows(&rt, CALLS)
 }
 
 // Whether a schedule in which a step is made so many times between two others shows the same in both.

@@ -1,12 +1,19 @@
-//! Worked schedules, each with what it must print.
+//! Worked schedules: what each line adds to the record, and the whole record that a replay prints.
 use super::runs::printed_by;
+use crate::schedule::{Schedule, schedules_in};
 pub use calls::CALLS;
 pub use drops::DROPS;
+use once_filter::print::EntryLine;
 use once_script::fault::Fault;
+use once_view::play::{Moment, Watcher, play};
+use once_view::reading::read_script;
 pub use owner::OWNER;
 pub use plain::PLAIN;
 pub use refusals::REFUSALS;
+use std::alloc::{AllocError, Global};
+use std::collections::BTreeSet;
 use std::process::Abort;
+use std::test::Fail;
 
 mod calls;
 mod drops;
@@ -23,34 +30,167 @@ pub fn compare(rt: &impl Abort, name: &str, made: Result<String, Fault>, wanted:
     assert_eq!(rt; made, Ok(wanted), "in {name}");
 }
 
-/// Runs each schedule of a table.
-fn run_rows(rt: &(impl AllocGlobal + Abort), rows: &[(&str, &str, &str)]) {
-    for (name, text, wanted) in rows {
-        compare(rt, name, printed_by(rt.alloc(), text), wanted);
+// What each line of a script adds to the record, the first line included.
+#[derive(Drop)]
+struct Added {
+    alloc: Global,
+    lines: Vec<String>,
+}
+
+impl Watcher for Added {
+    fn see(&mut self, moment: Moment<'_>) -> Result<(), AllocError> {
+        let mut text = String::new(self.alloc);
+        for entry in moment.added {
+            let gap = if text.is_empty() { "" } else { ", " };
+            write!(text, "{gap}{}", EntryLine(entry))?;
+        }
+        self.lines.push(text)?;
+        Ok(())
     }
 }
 
-#[test]
-fn polls_in_turn(rt: HostRuntime) {
-    run_rows(&rt, &PLAIN);
+// What each line of a script adds, and after that the last line of the record that is printed.
+fn added_by(
+    alloc: Global,
+    script: &str,
+    printed: &str,
+) -> Result<Vec<String>, once_view::fault::Fault> {
+    let mut added = Added {
+        alloc,
+        lines: Vec::new(alloc),
+    };
+    play(alloc, read_script(alloc, script.as_bytes())?, &mut added)?;
+    let last = printed.lines().last().unwrap_or("");
+    added.lines.push(String::from_str(alloc, last)?)?;
+    Ok(added.lines)
+}
+
+// What is wrong with the lines of a schedule: one leads to something else than stands beside it, or can't be read.
+fn mistake(
+    alloc: Global,
+    schedule: &Schedule<'_>,
+    printed: &str,
+) -> Result<Option<String>, AllocError> {
+    let script = schedule.script(alloc)?;
+    match added_by(alloc, script.as_str(), printed) {
+        Ok(added) => schedule.difference(alloc, &added),
+        Err(fault) => Ok(Some(format!(in alloc; "in {}: {fault}", schedule.name)?)),
+    }
+}
+
+// What a replay of a schedule prints.
+fn printed(alloc: Global, schedule: &Schedule<'_>) -> Result<String, Fault> {
+    printed_by(alloc, schedule.script(alloc)?.as_str())
+}
+
+/// Plays each schedule of a text: line by line, and whole.
+fn run_rows(rt: &(impl AllocGlobal + Abort), text: &str) -> Result<(), Fail> {
+    let alloc = rt.alloc();
+    for schedule in &schedules_in(alloc, text)? {
+        let printed = printed(alloc, schedule);
+        let record = printed.as_ref().map_or("", |text| text.as_str());
+        if let Some(mistake) = mistake(alloc, schedule, record)? {
+            return Err(Fail::new(mistake));
+        }
+        let wanted = schedule.record(alloc)?;
+        compare(rt, schedule.name, printed, wanted.as_str());
+    }
+    Ok(())
 }
 
 #[test]
-fn limits_and_refused_memory(rt: HostRuntime) {
-    run_rows(&rt, &REFUSALS);
+fn polls_in_turn(rt: HostRuntime) -> Result<(), Fail> {
+    run_rows(&rt, PLAIN)
 }
 
 #[test]
-fn drops_between_steps(rt: HostRuntime) {
-    run_rows(&rt, &DROPS);
+fn limits_and_refused_memory(rt: HostRuntime) -> Result<(), Fail> {
+    run_rows(&rt, REFUSALS)
 }
 
 #[test]
-fn failures_call_one(rt: HostRuntime) {
-    run_rows(&rt, &CALLS);
+fn drops_between_steps(rt: HostRuntime) -> Result<(), Fail> {
+    run_rows(&rt, DROPS)
 }
 
 #[test]
-fn calls_of_the_owner(rt: HostRuntime) {
-    run_rows(&rt, &OWNER);
+fn failures_call_one(rt: HostRuntime) -> Result<(), Fail> {
+    run_rows(&rt, CALLS)
+}
+
+#[test]
+fn calls_of_the_owner(rt: HostRuntime) -> Result<(), Fail> {
+    run_rows(&rt, OWNER)
+}
+
+#[test]
+fn a_name_stands_for_one_schedule(rt: HostRuntime) -> Result<(), Fail> {
+    let mut names = BTreeSet::new(rt.alloc());
+    for text in [PLAIN, REFUSALS, DROPS, CALLS, OWNER] {
+        for schedule in &schedules_in(rt.alloc(), text)? {
+            let is_new = names.insert(schedule.name)?;
+            assert!(rt; is_new, "{}", schedule.name);
+        }
+    }
+    Ok(())
+}
+
+// Schedules that are wrong, and what is said of each.
+const WRONG: &[(&str, &str)] = &[
+    (
+        "# moved: an entry stands beside the line before
+once 8
+make 1 => made 1, begin 1 5
+poll 1 5
+=> queue none",
+        "in moved, line 2 \"make 1\": wanted \"made 1, begin 1 5\", and came \"made 1\"",
+    ),
+    (
+        "# other: another entry stands there
+once 8
+make 1 => made 1
+poll 1 5 => begin 1 6
+=> queue none",
+        "in other, line 3 \"poll 1 5\": wanted \"begin 1 6\", and came \"begin 1 5\"",
+    ),
+    (
+        "# short: an entry is missing
+once 8
+make 1 => made 1
+drop 1 => dropbegin 1
+=> queue none",
+        "in short, line 3 \"drop 1\": wanted \"dropbegin 1\", and came \"dropbegin 1, dropend 1\"",
+    ),
+    (
+        "# endless: the last line is missing
+once 8
+make 1 => made 1",
+        "in endless, line 3 \"\": wanted \"\", and came \"queue none\"",
+    ),
+    (
+        "# long: a line is too much
+once 8
+=> queue none
+=> queue none",
+        "in long, line 3 \"\": wanted \"queue none\", and came \"\"",
+    ),
+    (
+        "# unreadable: a line is no line of a script
+once 8
+look 1 => look none
+=> queue none",
+        "in unreadable: line 2 can't be read: \"look 1\"; expected: `look` alone",
+    ),
+];
+
+#[test]
+fn a_wrong_line_is_told(rt: HostRuntime) -> Result<(), Fail> {
+    let alloc = rt.alloc();
+    for (text, wanted) in WRONG {
+        for schedule in &schedules_in(alloc, text)? {
+            let told = mistake(alloc, schedule, "queue none")?;
+            assert_eq!(rt; told.as_deref(), Some(*wanted));
+        }
+    }
+    Ok(())
 }

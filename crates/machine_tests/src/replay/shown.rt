@@ -1,5 +1,6 @@
 //! What `once_show` makes of a script: its table, its picture, and what it says of a mistake.
 use super::rows::{CALLS, DROPS, OWNER, PLAIN, REFUSALS};
+use crate::schedule::schedules_in;
 use async_once_cell::step::{Place, Step};
 use async_once_cell::world::{Entry, Input, Kind, Ran, World};
 use cell_doubles::target::Target;
@@ -105,21 +106,17 @@ fn a_line_that_adds_nothing_is_passed_over(rt: HostRuntime) {
     }
 }
 
-// Whether the lines of each schedule of a table are told so.
-fn are_honest(alloc: Global, rows: &[(&str, &str, &str)]) -> bool {
-    let mut are_all = true;
-    for (_, text, _) in rows {
-        are_all &= is_honest(alloc, text).unwrap_or(false);
-    }
-    are_all
-}
-
 #[test]
-fn worked_schedules_are_told_honestly(rt: HostRuntime) {
-    let plain = are_honest(rt.alloc(), &PLAIN) && are_honest(rt.alloc(), &REFUSALS);
-    let dropped = are_honest(rt.alloc(), &DROPS) && are_honest(rt.alloc(), &CALLS);
-    let owned = are_honest(rt.alloc(), &OWNER);
-    assert_eq!(rt; (plain, dropped, owned), (true, true, true));
+fn worked_schedules_are_told_honestly(rt: HostRuntime) -> Result<(), Fail> {
+    let alloc = rt.alloc();
+    for text in [PLAIN, REFUSALS, DROPS, CALLS, OWNER] {
+        for schedule in &schedules_in(alloc, text)? {
+            let script = schedule.script(alloc)?;
+            let is_so = is_honest(alloc, script.as_str()).unwrap_or(false);
+            assert!(rt; is_so, "in {}", schedule.name);
+        }
+    }
+    Ok(())
 }
 
 // Texts that are no scripts, and what is said of them.

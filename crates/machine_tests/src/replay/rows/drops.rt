@@ -1,181 +1,446 @@
 //! Tasks that are dropped, between all steps of the others.
 
-/// Each schedule: its name, what it reads and what it must print.
-pub const DROPS: [(&str, &str, &str); 26] = [
-    (
-        "dropped_after_the_fill",
-        "once 8\nmake 1\nmake 2\npoll 1 5\nrun 1 p\npoll 2 7\nrun 2 p\npoll 1 5\nrun 1 v4\ndrop 2\ngo 2 p\ngo 2 p\n",
-        "made 1\nmade 2\nbegin 1 5\nclaim 1\nran 1 p\nend 1 p\nbegin 2 7\nend 2 p\nbegin 1 5\n\
-         ran 1 v4\nfill 1 4 [7]\nend 1 v4\ndropbegin 2\nqueue 1\n",
-    ),
-    (
-        "dropped_holder_nothing_restarted",
-        "lazy 8 p v9\nmake 1\npoll 1 7\nrun 1 p\ndrop 1\nrun 1 p\nmake 2\npoll 2 7\nrun 2 p\nparts\n",
-        "made 1\nbegin 1 7\nclaim 1\nran 1 p\nend 1 p\ndropbegin 1\nfree 1 []\ndropend 1\nmade 2\n\
-         begin 2 7\nclaim 2\nran 2 v9\nfill 2 9 []\nend 2 v9\nown parts v9\nqueue none\n",
-    ),
-    (
-        "head_holder_dropped",
-        "once 8\nmake 1\nmake 2\nmake 3\npoll 1 5\nrun 1 p\npoll 2 7\nrun 2 p\npoll 3 8\nrun 3 p\n\
-         drop 1\nrun 1 p\npoll 2 7\nrun 2 p\npoll 3 8\nrun 3 p\ndrop 2\nrun 2 p\npoll 3 8\nrun 3 v6\n",
-        "made 1\nmade 2\nmade 3\nbegin 1 5\nclaim 1\nran 1 p\nend 1 p\nbegin 2 7\nend 2 p\n\
-         begin 3 8\nend 3 p\ndropbegin 1\nfree 1 [7]\ndropend 1\nbegin 2 7\nclaim 2\nran 2 p\n\
-         end 2 p\nbegin 3 8\nend 3 p\ndropbegin 2\nfree 2 [8]\ndropend 2\nbegin 3 8\nclaim 3\n\
-         ran 3 v6\nfill 3 6 []\nend 3 v6\nqueue none\n",
-    ),
-    (
-        "holder_dropped_between_steps_0",
-        "once 8\nmake 1\nmake 2\npoll 1 5\nrun 1 p\npoll 2 7\ndrop 1\nrun 1 p\nrun 2 v3\n",
-        "made 1\nmade 2\nbegin 1 5\nclaim 1\nran 1 p\nend 1 p\nbegin 2 7\ndropbegin 1\nfree 1 []\n\
-         dropend 1\nclaim 2\nran 2 v3\nfill 2 3 []\nend 2 v3\nqueue none\n",
-    ),
-    (
-        "holder_dropped_between_steps_1",
-        "once 8\nmake 1\nmake 2\npoll 1 5\nrun 1 p\npoll 2 7\ngo 2 p\ndrop 1\nrun 1 p\nrun 2 v3\n",
-        "made 1\nmade 2\nbegin 1 5\nclaim 1\nran 1 p\nend 1 p\nbegin 2 7\ndropbegin 1\nfree 1 []\n\
-         dropend 1\nclaim 2\nran 2 v3\nfill 2 3 []\nend 2 v3\nqueue none\n",
-    ),
-    (
-        "holder_dropped_between_steps_2",
-        "once 8\nmake 1\nmake 2\npoll 1 5\nrun 1 p\npoll 2 7\ngo 2 p\ngo 2 p\ndrop 1\nrun 1 p\nrun 2 v3\n",
-        "made 1\nmade 2\nbegin 1 5\nclaim 1\nran 1 p\nend 1 p\nbegin 2 7\ndropbegin 1\nfree 1 []\n\
-         dropend 1\nclaim 2\nran 2 v3\nfill 2 3 []\nend 2 v3\nqueue none\n",
-    ),
-    (
-        "holder_dropped_between_steps_3",
-        "once 8\nmake 1\nmake 2\npoll 1 5\nrun 1 p\npoll 2 7\ngo 2 p\ngo 2 p\ngo 2 p\ndrop 1\nrun 1 p\nrun 2 v3\n",
-        "made 1\nmade 2\nbegin 1 5\nclaim 1\nran 1 p\nend 1 p\nbegin 2 7\ndropbegin 1\nfree 1 []\n\
-         dropend 1\nclaim 2\nran 2 v3\nfill 2 3 []\nend 2 v3\nqueue none\n",
-    ),
-    (
-        "holder_dropped_between_steps_4",
-        "once 8\nmake 1\nmake 2\npoll 1 5\nrun 1 p\npoll 2 7\ngo 2 p\ngo 2 p\ngo 2 p\ngo 2 p\n\
-         drop 1\nrun 1 p\nrun 2 v3\n",
-        "made 1\nmade 2\nbegin 1 5\nclaim 1\nran 1 p\nend 1 p\nbegin 2 7\ndropbegin 1\nfree 1 []\n\
-         dropend 1\nclaim 2\nran 2 v3\nfill 2 3 []\nend 2 v3\nqueue none\n",
-    ),
-    (
-        "holder_dropped_between_steps_5",
-        "once 8\nmake 1\nmake 2\npoll 1 5\nrun 1 p\npoll 2 7\ngo 2 p\ngo 2 p\ngo 2 p\ngo 2 p\n\
-         go 2 p\ndrop 1\nrun 1 p\nrun 2 v3\n",
-        "made 1\nmade 2\nbegin 1 5\nclaim 1\nran 1 p\nend 1 p\nbegin 2 7\ndropbegin 1\nfree 1 []\n\
-         dropend 1\nclaim 2\nran 2 v3\nfill 2 3 []\nend 2 v3\nqueue none\n",
-    ),
-    (
-        "holder_dropped_between_steps_6",
-        "once 8\nmake 1\nmake 2\npoll 1 5\nrun 1 p\npoll 2 7\ngo 2 p\ngo 2 p\ngo 2 p\ngo 2 p\n\
-         go 2 p\ngo 2 p\ndrop 1\nrun 1 p\nrun 2 v3\n",
-        "made 1\nmade 2\nbegin 1 5\nclaim 1\nran 1 p\nend 1 p\nbegin 2 7\ndropbegin 1\nfree 1 []\n\
-         dropend 1\nclaim 2\nran 2 v3\nfill 2 3 []\nend 2 v3\nqueue none\n",
-    ),
-    (
-        "holder_dropped_between_steps_7",
-        "once 8\nmake 1\nmake 2\npoll 1 5\nrun 1 p\npoll 2 7\ngo 2 p\ngo 2 p\ngo 2 p\ngo 2 p\n\
-         go 2 p\ngo 2 p\ngo 2 p\ndrop 1\nrun 1 p\nrun 2 v3\n",
-        "made 1\nmade 2\nbegin 1 5\nclaim 1\nran 1 p\nend 1 p\nbegin 2 7\nend 2 p\ndropbegin 1\n\
-         free 1 [7]\ndropend 1\nqueue 1\n",
-    ),
-    (
-        "never_polled_drop",
-        "once 8\nmake 1\ndrop 1\ngo 1 p\nmake 1\npoll 1 7\n",
-        "made 1\ndropbegin 1\ndropend 1\nqueue none\n",
-    ),
-    (
-        "two_drops_at_once_0",
-        "once 8\nmake 1\nmake 2\nmake 3\npoll 1 5\nrun 1 p\npoll 2 7\nrun 2 p\npoll 3 8\nrun 3 p\n\
-         drop 1\ndrop 2\nrun 2 p\nrun 1 p\n",
-        "made 1\nmade 2\nmade 3\nbegin 1 5\nclaim 1\nran 1 p\nend 1 p\nbegin 2 7\nend 2 p\n\
-         begin 3 8\nend 3 p\ndropbegin 1\ndropbegin 2\ndropend 2\nfree 1 [8]\ndropend 1\nqueue 1\n",
-    ),
-    (
-        "two_drops_at_once_1",
-        "once 8\nmake 1\nmake 2\nmake 3\npoll 1 5\nrun 1 p\npoll 2 7\nrun 2 p\npoll 3 8\nrun 3 p\n\
-         drop 1\ndrop 2\ngo 1 p\nrun 2 p\nrun 1 p\n",
-        "made 1\nmade 2\nmade 3\nbegin 1 5\nclaim 1\nran 1 p\nend 1 p\nbegin 2 7\nend 2 p\n\
-         begin 3 8\nend 3 p\ndropbegin 1\ndropbegin 2\ndropend 2\nfree 1 [8]\ndropend 1\nqueue 1\n",
-    ),
-    (
-        "two_drops_at_once_2",
-        "once 8\nmake 1\nmake 2\nmake 3\npoll 1 5\nrun 1 p\npoll 2 7\nrun 2 p\npoll 3 8\nrun 3 p\n\
-         drop 1\ndrop 2\ngo 1 p\ngo 1 p\nrun 2 p\nrun 1 p\n",
-        "made 1\nmade 2\nmade 3\nbegin 1 5\nclaim 1\nran 1 p\nend 1 p\nbegin 2 7\nend 2 p\n\
-         begin 3 8\nend 3 p\ndropbegin 1\ndropbegin 2\ndropend 2\nfree 1 [8]\ndropend 1\nqueue 1\n",
-    ),
-    (
-        "two_drops_at_once_3",
-        "once 8\nmake 1\nmake 2\nmake 3\npoll 1 5\nrun 1 p\npoll 2 7\nrun 2 p\npoll 3 8\nrun 3 p\n\
-         drop 1\ndrop 2\ngo 1 p\ngo 1 p\ngo 1 p\nrun 2 p\nrun 1 p\n",
-        "made 1\nmade 2\nmade 3\nbegin 1 5\nclaim 1\nran 1 p\nend 1 p\nbegin 2 7\nend 2 p\n\
-         begin 3 8\nend 3 p\ndropbegin 1\ndropbegin 2\ndropend 2\nfree 1 [8]\ndropend 1\nqueue 1\n",
-    ),
-    (
-        "two_drops_at_once_4",
-        "once 8\nmake 1\nmake 2\nmake 3\npoll 1 5\nrun 1 p\npoll 2 7\nrun 2 p\npoll 3 8\nrun 3 p\n\
-         drop 1\ndrop 2\ngo 1 p\ngo 1 p\ngo 1 p\ngo 1 p\nrun 2 p\nrun 1 p\n",
-        "made 1\nmade 2\nmade 3\nbegin 1 5\nclaim 1\nran 1 p\nend 1 p\nbegin 2 7\nend 2 p\n\
-         begin 3 8\nend 3 p\ndropbegin 1\ndropbegin 2\nfree 1 [7]\npass 2 [8]\ndropend 2\ndropend 1\n\
-         queue 1\n",
-    ),
-    (
-        "two_drops_at_once_5",
-        "once 8\nmake 1\nmake 2\nmake 3\npoll 1 5\nrun 1 p\npoll 2 7\nrun 2 p\npoll 3 8\nrun 3 p\n\
-         drop 1\ndrop 2\ngo 1 p\ngo 1 p\ngo 1 p\ngo 1 p\ngo 1 p\nrun 2 p\nrun 1 p\n",
-        "made 1\nmade 2\nmade 3\nbegin 1 5\nclaim 1\nran 1 p\nend 1 p\nbegin 2 7\nend 2 p\n\
-         begin 3 8\nend 3 p\ndropbegin 1\ndropbegin 2\nfree 1 [7]\ndropend 1\npass 2 [8]\ndropend 2\n\
-         queue 1\n",
-    ),
-    (
-        "waiter_dropped_between_steps_0",
-        "once 8\nmake 1\nmake 2\npoll 1 5\nrun 1 p\npoll 2 7\nrun 2 p\npoll 1 5\ndrop 2\nrun 2 p\nrun 1 v4\n",
-        "made 1\nmade 2\nbegin 1 5\nclaim 1\nran 1 p\nend 1 p\nbegin 2 7\nend 2 p\nbegin 1 5\n\
-         dropbegin 2\ndropend 2\nran 1 v4\nfill 1 4 []\nend 1 v4\nqueue none\n",
-    ),
-    (
-        "waiter_dropped_between_steps_1",
-        "once 8\nmake 1\nmake 2\npoll 1 5\nrun 1 p\npoll 2 7\nrun 2 p\npoll 1 5\ngo 1 v4\ndrop 2\nrun 2 p\nrun 1 v4\n",
-        "made 1\nmade 2\nbegin 1 5\nclaim 1\nran 1 p\nend 1 p\nbegin 2 7\nend 2 p\nbegin 1 5\n\
-         ran 1 v4\ndropbegin 2\ndropend 2\nfill 1 4 []\nend 1 v4\nqueue none\n",
-    ),
-    (
-        "waiter_dropped_between_steps_2",
-        "once 8\nmake 1\nmake 2\npoll 1 5\nrun 1 p\npoll 2 7\nrun 2 p\npoll 1 5\ngo 1 v4\ngo 1 v4\n\
-         drop 2\nrun 2 p\nrun 1 v4\n",
-        "made 1\nmade 2\nbegin 1 5\nclaim 1\nran 1 p\nend 1 p\nbegin 2 7\nend 2 p\nbegin 1 5\n\
-         ran 1 v4\ndropbegin 2\ndropend 2\nfill 1 4 []\nend 1 v4\nqueue none\n",
-    ),
-    (
-        "waiter_dropped_between_steps_3",
-        "once 8\nmake 1\nmake 2\npoll 1 5\nrun 1 p\npoll 2 7\nrun 2 p\npoll 1 5\ngo 1 v4\ngo 1 v4\n\
-         go 1 v4\ndrop 2\nrun 2 p\nrun 1 v4\n",
-        "made 1\nmade 2\nbegin 1 5\nclaim 1\nran 1 p\nend 1 p\nbegin 2 7\nend 2 p\nbegin 1 5\n\
-         ran 1 v4\ndropbegin 2\ndropend 2\nfill 1 4 []\nend 1 v4\nqueue none\n",
-    ),
-    (
-        "waiter_dropped_between_steps_4",
-        "once 8\nmake 1\nmake 2\npoll 1 5\nrun 1 p\npoll 2 7\nrun 2 p\npoll 1 5\ngo 1 v4\ngo 1 v4\n\
-         go 1 v4\ngo 1 v4\ndrop 2\nrun 2 p\nrun 1 v4\n",
-        "made 1\nmade 2\nbegin 1 5\nclaim 1\nran 1 p\nend 1 p\nbegin 2 7\nend 2 p\nbegin 1 5\n\
-         ran 1 v4\ndropbegin 2\ndropend 2\nfill 1 4 []\nend 1 v4\nqueue none\n",
-    ),
-    (
-        "waiter_dropped_between_steps_5",
-        "once 8\nmake 1\nmake 2\npoll 1 5\nrun 1 p\npoll 2 7\nrun 2 p\npoll 1 5\ngo 1 v4\ngo 1 v4\n\
-         go 1 v4\ngo 1 v4\ngo 1 v4\ndrop 2\nrun 2 p\nrun 1 v4\n",
-        "made 1\nmade 2\nbegin 1 5\nclaim 1\nran 1 p\nend 1 p\nbegin 2 7\nend 2 p\nbegin 1 5\n\
-         ran 1 v4\ndropbegin 2\ndropend 2\nfill 1 4 []\nend 1 v4\nqueue none\n",
-    ),
-    (
-        "waiter_dropped_between_steps_6",
-        "once 8\nmake 1\nmake 2\npoll 1 5\nrun 1 p\npoll 2 7\nrun 2 p\npoll 1 5\ngo 1 v4\ngo 1 v4\n\
-         go 1 v4\ngo 1 v4\ngo 1 v4\ngo 1 v4\ndrop 2\nrun 2 p\nrun 1 v4\n",
-        "made 1\nmade 2\nbegin 1 5\nclaim 1\nran 1 p\nend 1 p\nbegin 2 7\nend 2 p\nbegin 1 5\n\
-         ran 1 v4\nfill 1 4 [7]\ndropbegin 2\ndropend 2\nend 1 v4\nqueue none\n",
-    ),
-    (
-        "waiter_dropped_between_steps_7",
-        "once 8\nmake 1\nmake 2\npoll 1 5\nrun 1 p\npoll 2 7\nrun 2 p\npoll 1 5\ngo 1 v4\ngo 1 v4\n\
-         go 1 v4\ngo 1 v4\ngo 1 v4\ngo 1 v4\ngo 1 v4\ndrop 2\nrun 2 p\nrun 1 v4\n",
-        "made 1\nmade 2\nbegin 1 5\nclaim 1\nran 1 p\nend 1 p\nbegin 2 7\nend 2 p\nbegin 1 5\n\
-         ran 1 v4\nfill 1 4 [7]\nend 1 v4\ndropbegin 2\ndropend 2\nqueue none\n",
-    ),
-];
+/// Worked schedules, in the form of `crate::schedule`.
+pub const DROPS: &str = "\
+# drop_not_over: a waiting task is dropped after the fill: two steps do not end its drop
+once 8
+make 1 => made 1
+make 2 => made 2
+poll 1 5 => begin 1 5
+run 1 p => claim 1, ran 1 p, end 1 p
+poll 2 7 => begin 2 7
+run 2 p => end 2 p
+poll 1 5 => begin 1 5
+run 1 v4 => ran 1 v4, fill 1 4 [7], end 1 v4
+drop 2 => dropbegin 2
+go 2 p
+go 2 p
+=> queue 1
+
+# dropped_holder_nothing_restarted: the holder of a lazy cell is dropped, and the next goes on with the same init
+# not over shared parts: a lazy cell
+lazy 8 p v9
+make 1 => made 1
+poll 1 7 => begin 1 7
+run 1 p => claim 1, ran 1 p, end 1 p
+drop 1 => dropbegin 1
+run 1 p => free 1 [], dropend 1
+make 2 => made 2
+poll 2 7 => begin 2 7
+run 2 p => claim 2, ran 2 v9, fill 2 9 [], end 2 v9
+parts => own parts v9
+=> queue none
+
+# head_holder_dropped: a dropped holder calls the next, which is dropped too and calls the third: that makes the value
+once 8
+make 1 => made 1
+make 2 => made 2
+make 3 => made 3
+poll 1 5 => begin 1 5
+run 1 p => claim 1, ran 1 p, end 1 p
+poll 2 7 => begin 2 7
+run 2 p => end 2 p
+poll 3 8 => begin 3 8
+run 3 p => end 3 p
+drop 1 => dropbegin 1
+run 1 p => free 1 [7], dropend 1
+poll 2 7 => begin 2 7
+run 2 p => claim 2, ran 2 p, end 2 p
+poll 3 8 => begin 3 8
+run 3 p => end 3 p
+drop 2 => dropbegin 2
+run 2 p => free 2 [8], dropend 2
+poll 3 8 => begin 3 8
+run 3 v6 => claim 3, ran 3 v6, fill 3 6 [], end 3 v6
+=> queue none
+
+# holder_dropped_between_steps_0: the holder is dropped after no steps of a task that comes, and that task claims
+once 8
+make 1 => made 1
+make 2 => made 2
+poll 1 5 => begin 1 5
+run 1 p => claim 1, ran 1 p, end 1 p
+poll 2 7 => begin 2 7
+drop 1 => dropbegin 1
+run 1 p => free 1 [], dropend 1
+run 2 v3 => claim 2, ran 2 v3, fill 2 3 [], end 2 v3
+=> queue none
+
+# holder_dropped_between_steps_1: the holder is dropped after one step of a task that comes, and that task claims
+once 8
+make 1 => made 1
+make 2 => made 2
+poll 1 5 => begin 1 5
+run 1 p => claim 1, ran 1 p, end 1 p
+poll 2 7 => begin 2 7
+go 2 p
+drop 1 => dropbegin 1
+run 1 p => free 1 [], dropend 1
+run 2 v3 => claim 2, ran 2 v3, fill 2 3 [], end 2 v3
+=> queue none
+
+# holder_dropped_between_steps_2: the holder is dropped after two steps of a task that comes, and that task claims
+once 8
+make 1 => made 1
+make 2 => made 2
+poll 1 5 => begin 1 5
+run 1 p => claim 1, ran 1 p, end 1 p
+poll 2 7 => begin 2 7
+go 2 p
+go 2 p
+drop 1 => dropbegin 1
+run 1 p => free 1 [], dropend 1
+run 2 v3 => claim 2, ran 2 v3, fill 2 3 [], end 2 v3
+=> queue none
+
+# holder_dropped_between_steps_3: the holder is dropped after three steps of a task that comes, and that task claims
+once 8
+make 1 => made 1
+make 2 => made 2
+poll 1 5 => begin 1 5
+run 1 p => claim 1, ran 1 p, end 1 p
+poll 2 7 => begin 2 7
+go 2 p
+go 2 p
+go 2 p
+drop 1 => dropbegin 1
+run 1 p => free 1 [], dropend 1
+run 2 v3 => claim 2, ran 2 v3, fill 2 3 [], end 2 v3
+=> queue none
+
+# holder_dropped_between_steps_4: the holder is dropped after four steps of a task that comes, and that task claims
+once 8
+make 1 => made 1
+make 2 => made 2
+poll 1 5 => begin 1 5
+run 1 p => claim 1, ran 1 p, end 1 p
+poll 2 7 => begin 2 7
+go 2 p
+go 2 p
+go 2 p
+go 2 p
+drop 1 => dropbegin 1
+run 1 p => free 1 [], dropend 1
+run 2 v3 => claim 2, ran 2 v3, fill 2 3 [], end 2 v3
+=> queue none
+
+# holder_dropped_between_steps_5: the holder is dropped after five steps of a task that comes, and that task claims
+once 8
+make 1 => made 1
+make 2 => made 2
+poll 1 5 => begin 1 5
+run 1 p => claim 1, ran 1 p, end 1 p
+poll 2 7 => begin 2 7
+go 2 p
+go 2 p
+go 2 p
+go 2 p
+go 2 p
+drop 1 => dropbegin 1
+run 1 p => free 1 [], dropend 1
+run 2 v3 => claim 2, ran 2 v3, fill 2 3 [], end 2 v3
+=> queue none
+
+# holder_dropped_between_steps_6: the holder is dropped after six steps of a task that comes, and that task claims
+once 8
+make 1 => made 1
+make 2 => made 2
+poll 1 5 => begin 1 5
+run 1 p => claim 1, ran 1 p, end 1 p
+poll 2 7 => begin 2 7
+go 2 p
+go 2 p
+go 2 p
+go 2 p
+go 2 p
+go 2 p
+drop 1 => dropbegin 1
+run 1 p => free 1 [], dropend 1
+run 2 v3 => claim 2, ran 2 v3, fill 2 3 [], end 2 v3
+=> queue none
+
+# holder_dropped_between_steps_7: the holder is dropped after seven steps of a task that comes, and calls that task
+once 8
+make 1 => made 1
+make 2 => made 2
+poll 1 5 => begin 1 5
+run 1 p => claim 1, ran 1 p, end 1 p
+poll 2 7 => begin 2 7
+go 2 p
+go 2 p
+go 2 p
+go 2 p
+go 2 p
+go 2 p
+go 2 p => end 2 p
+drop 1 => dropbegin 1
+run 1 p => free 1 [7], dropend 1
+run 2 v3
+=> queue 1
+
+# never_polled_drop: the drop of a task that was never polled has no steps, and nothing fits after it
+once 8
+make 1 => made 1
+drop 1 => dropbegin 1, dropend 1
+go 1 p
+make 1
+poll 1 7
+=> queue none
+
+# two_drops_at_once_0: a waiting task leaves after no steps of the holder's drop, which calls the next
+once 8
+make 1 => made 1
+make 2 => made 2
+make 3 => made 3
+poll 1 5 => begin 1 5
+run 1 p => claim 1, ran 1 p, end 1 p
+poll 2 7 => begin 2 7
+run 2 p => end 2 p
+poll 3 8 => begin 3 8
+run 3 p => end 3 p
+drop 1 => dropbegin 1
+drop 2 => dropbegin 2
+run 2 p => dropend 2
+run 1 p => free 1 [8], dropend 1
+=> queue 1
+
+# two_drops_at_once_1: a waiting task leaves after one step of the holder's drop, which calls the next
+once 8
+make 1 => made 1
+make 2 => made 2
+make 3 => made 3
+poll 1 5 => begin 1 5
+run 1 p => claim 1, ran 1 p, end 1 p
+poll 2 7 => begin 2 7
+run 2 p => end 2 p
+poll 3 8 => begin 3 8
+run 3 p => end 3 p
+drop 1 => dropbegin 1
+drop 2 => dropbegin 2
+go 1 p
+run 2 p => dropend 2
+run 1 p => free 1 [8], dropend 1
+=> queue 1
+
+# two_drops_at_once_2: a waiting task leaves after two steps of the holder's drop, which calls the next
+once 8
+make 1 => made 1
+make 2 => made 2
+make 3 => made 3
+poll 1 5 => begin 1 5
+run 1 p => claim 1, ran 1 p, end 1 p
+poll 2 7 => begin 2 7
+run 2 p => end 2 p
+poll 3 8 => begin 3 8
+run 3 p => end 3 p
+drop 1 => dropbegin 1
+drop 2 => dropbegin 2
+go 1 p
+go 1 p
+run 2 p => dropend 2
+run 1 p => free 1 [8], dropend 1
+=> queue 1
+
+# two_drops_at_once_3: a waiting task leaves after three steps of the holder's drop, which calls the next
+once 8
+make 1 => made 1
+make 2 => made 2
+make 3 => made 3
+poll 1 5 => begin 1 5
+run 1 p => claim 1, ran 1 p, end 1 p
+poll 2 7 => begin 2 7
+run 2 p => end 2 p
+poll 3 8 => begin 3 8
+run 3 p => end 3 p
+drop 1 => dropbegin 1
+drop 2 => dropbegin 2
+go 1 p
+go 1 p
+go 1 p
+run 2 p => dropend 2
+run 1 p => free 1 [8], dropend 1
+=> queue 1
+
+# two_drops_at_once_4: a waiting task leaves after four steps of the holder's drop: it was called, and calls the next
+once 8
+make 1 => made 1
+make 2 => made 2
+make 3 => made 3
+poll 1 5 => begin 1 5
+run 1 p => claim 1, ran 1 p, end 1 p
+poll 2 7 => begin 2 7
+run 2 p => end 2 p
+poll 3 8 => begin 3 8
+run 3 p => end 3 p
+drop 1 => dropbegin 1
+drop 2 => dropbegin 2
+go 1 p
+go 1 p
+go 1 p
+go 1 p => free 1 [7]
+run 2 p => pass 2 [8], dropend 2
+run 1 p => dropend 1
+=> queue 1
+
+# two_drops_at_once_5: a waiting task leaves after five steps of the holder's drop: it was called, and calls the next
+once 8
+make 1 => made 1
+make 2 => made 2
+make 3 => made 3
+poll 1 5 => begin 1 5
+run 1 p => claim 1, ran 1 p, end 1 p
+poll 2 7 => begin 2 7
+run 2 p => end 2 p
+poll 3 8 => begin 3 8
+run 3 p => end 3 p
+drop 1 => dropbegin 1
+drop 2 => dropbegin 2
+go 1 p
+go 1 p
+go 1 p
+go 1 p => free 1 [7]
+go 1 p => dropend 1
+run 2 p => pass 2 [8], dropend 2
+run 1 p
+=> queue 1
+
+# waiter_dropped_between_steps_0: a waiting task leaves after no steps of the poll that fills, and is not called
+once 8
+make 1 => made 1
+make 2 => made 2
+poll 1 5 => begin 1 5
+run 1 p => claim 1, ran 1 p, end 1 p
+poll 2 7 => begin 2 7
+run 2 p => end 2 p
+poll 1 5 => begin 1 5
+drop 2 => dropbegin 2
+run 2 p => dropend 2
+run 1 v4 => ran 1 v4, fill 1 4 [], end 1 v4
+=> queue none
+
+# waiter_dropped_between_steps_1: a waiting task leaves after one step of the poll that fills, and is not called
+once 8
+make 1 => made 1
+make 2 => made 2
+poll 1 5 => begin 1 5
+run 1 p => claim 1, ran 1 p, end 1 p
+poll 2 7 => begin 2 7
+run 2 p => end 2 p
+poll 1 5 => begin 1 5
+go 1 v4 => ran 1 v4
+drop 2 => dropbegin 2
+run 2 p => dropend 2
+run 1 v4 => fill 1 4 [], end 1 v4
+=> queue none
+
+# waiter_dropped_between_steps_2: a waiting task leaves after two steps of the poll that fills, and is not called
+once 8
+make 1 => made 1
+make 2 => made 2
+poll 1 5 => begin 1 5
+run 1 p => claim 1, ran 1 p, end 1 p
+poll 2 7 => begin 2 7
+run 2 p => end 2 p
+poll 1 5 => begin 1 5
+go 1 v4 => ran 1 v4
+go 1 v4
+drop 2 => dropbegin 2
+run 2 p => dropend 2
+run 1 v4 => fill 1 4 [], end 1 v4
+=> queue none
+
+# waiter_dropped_between_steps_3: a waiting task leaves after three steps of the poll that fills, and is not called
+once 8
+make 1 => made 1
+make 2 => made 2
+poll 1 5 => begin 1 5
+run 1 p => claim 1, ran 1 p, end 1 p
+poll 2 7 => begin 2 7
+run 2 p => end 2 p
+poll 1 5 => begin 1 5
+go 1 v4 => ran 1 v4
+go 1 v4
+go 1 v4
+drop 2 => dropbegin 2
+run 2 p => dropend 2
+run 1 v4 => fill 1 4 [], end 1 v4
+=> queue none
+
+# waiter_dropped_between_steps_4: a waiting task leaves after four steps of the poll that fills, and is not called
+once 8
+make 1 => made 1
+make 2 => made 2
+poll 1 5 => begin 1 5
+run 1 p => claim 1, ran 1 p, end 1 p
+poll 2 7 => begin 2 7
+run 2 p => end 2 p
+poll 1 5 => begin 1 5
+go 1 v4 => ran 1 v4
+go 1 v4
+go 1 v4
+go 1 v4
+drop 2 => dropbegin 2
+run 2 p => dropend 2
+run 1 v4 => fill 1 4 [], end 1 v4
+=> queue none
+
+# waiter_dropped_between_steps_5: a waiting task leaves after five steps of the poll that fills, and is not called
+once 8
+make 1 => made 1
+make 2 => made 2
+poll 1 5 => begin 1 5
+run 1 p => claim 1, ran 1 p, end 1 p
+poll 2 7 => begin 2 7
+run 2 p => end 2 p
+poll 1 5 => begin 1 5
+go 1 v4 => ran 1 v4
+go 1 v4
+go 1 v4
+go 1 v4
+go 1 v4
+drop 2 => dropbegin 2
+run 2 p => dropend 2
+run 1 v4 => fill 1 4 [], end 1 v4
+=> queue none
+
+# waiter_dropped_between_steps_6: a waiting task leaves after six steps of the poll that fills, and was called
+once 8
+make 1 => made 1
+make 2 => made 2
+poll 1 5 => begin 1 5
+run 1 p => claim 1, ran 1 p, end 1 p
+poll 2 7 => begin 2 7
+run 2 p => end 2 p
+poll 1 5 => begin 1 5
+go 1 v4 => ran 1 v4
+go 1 v4
+go 1 v4
+go 1 v4
+go 1 v4
+go 1 v4 => fill 1 4 [7]
+drop 2 => dropbegin 2
+run 2 p => dropend 2
+run 1 v4 => end 1 v4
+=> queue none
+
+# waiter_dropped_between_steps_7: a waiting task leaves after seven steps of the poll that fills, and was called
+once 8
+make 1 => made 1
+make 2 => made 2
+poll 1 5 => begin 1 5
+run 1 p => claim 1, ran 1 p, end 1 p
+poll 2 7 => begin 2 7
+run 2 p => end 2 p
+poll 1 5 => begin 1 5
+go 1 v4 => ran 1 v4
+go 1 v4
+go 1 v4
+go 1 v4
+go 1 v4
+go 1 v4 => fill 1 4 [7]
+go 1 v4 => end 1 v4
+drop 2 => dropbegin 2
+run 2 p => dropend 2
+run 1 v4
+=> queue none
+";

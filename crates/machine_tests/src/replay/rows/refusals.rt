@@ -1,77 +1,178 @@
 //! Limits, and memory that is refused.
 
-/// Each schedule: its name, what it reads and what it must print.
-pub const REFUSALS: [(&str, &str, &str); 11] = [
-    (
-        "door_asks_memory_first",
-        "once 8\nmake 1\nmake 2\nmake 3\npoll 1 5\nrun 1 p\npoll 2 7\ngo 2 p\ngo 2 p\npoll 3 8\n\
-         go 3 p\ngo 3 p\nrun 2 p\ngo 3 p x\ngo 3 p\n",
-        "made 1\nmade 2\nmade 3\nbegin 1 5\nclaim 1\nran 1 p\nend 1 p\nbegin 2 7\nbegin 3 8\n\
-         end 2 p\nend 3 memory\nqueue 1\n",
-    ),
-    (
-        "largest_limit",
-        "once 4611686018427387902\n",
-        "queue none\n",
-    ),
-    (
-        "late_queue_at_limit",
-        "once 1\nmake 1\nmake 2\nmake 3\npoll 1 5\nrun 1 p\npoll 2 7\nrun 2 p\npoll 3 9\ngo 3 p\n\
-         go 3 p\npoll 1 5\nrun 1 v4\nrun 3 p\npoll 2 7\nrun 2 p\n",
-        "made 1\nmade 2\nmade 3\nbegin 1 5\nclaim 1\nran 1 p\nend 1 p\nbegin 2 7\nend 2 p\n\
-         begin 3 9\nbegin 1 5\nran 1 v4\nfill 1 4 [7]\nend 1 v4\nend 3 v4\nbegin 2 7\nend 2 v4\n\
-         queue none\n",
-    ),
-    (
-        "limit_of_the_count",
-        "once 1\nmake 1\nmake 2\nmake 3\npoll 1 5\nrun 1 p\npoll 2 7\nrun 2 p\npoll 3 9\nrun 3 p\n",
-        "made 1\nmade 2\nmade 3\nbegin 1 5\nclaim 1\nran 1 p\nend 1 p\nbegin 2 7\nend 2 p\n\
-         begin 3 9\nend 3 full\nqueue 1\n",
-    ),
-    (
-        "listed_by_another_and_no_memory",
-        "once 8\nmake 1\nmake 2\nmake 3\npoll 1 5\nrun 1 p\npoll 2 7\ngo 2 p\ngo 2 p\ngo 2 p\n\
-         go 2 p\ngo 2 p\ngo 2 p\npoll 3 7\nrun 3 p\ngo 2 p x\nrun 2 p\n",
-        "made 1\nmade 2\nmade 3\nbegin 1 5\nclaim 1\nran 1 p\nend 1 p\nbegin 2 7\nbegin 3 7\n\
-         end 3 p\nend 2 memory\nqueue 1\n",
-    ),
-    (
-        "queue_refused",
-        "once 8\nmake 1\nmake 2\npoll 1 5\nrun 1 p\npoll 2 7\ngo 2 p\ngo 2 p\ngo 2 p x\nrun 2 p\n",
-        "made 1\nmade 2\nbegin 1 5\nclaim 1\nran 1 p\nend 1 p\nbegin 2 7\nend 2 memory\nqueue none\n",
-    ),
-    (
-        "refused_before_counting_in",
-        "once 8\nmake 1\nmake 2\npoll 1 5\nrun 1 p\npoll 2 7\nrun 2 p x\npoll 1 5\nrun 1 v4\n",
-        "made 1\nmade 2\nbegin 1 5\nclaim 1\nran 1 p\nend 1 p\nbegin 2 7\nend 2 memory\nbegin 1 5\n\
-         ran 1 v4\nfill 1 4 []\nend 1 v4\nqueue none\n",
-    ),
-    (
-        "refused_then_set",
-        "once 8\nmake 1\nmake 2\npoll 1 5\nrun 1 p\npoll 2 7\nrun 2 p\npoll 2 6\ngo 2 p\ngo 2 p x\n\
-         poll 1 5\nrun 1 v4\nrun 2 p\n",
-        "made 1\nmade 2\nbegin 1 5\nclaim 1\nran 1 p\nend 1 p\nbegin 2 7\nend 2 p\nbegin 2 6\n\
-         begin 1 5\nran 1 v4\nfill 1 4 [7]\nend 1 v4\nend 2 memory\nqueue none\n",
-    ),
-    (
-        "release_beyond_the_limit",
-        "once 1\nmake 1\nmake 2\nmake 3\npoll 1 5\nrun 1 p\npoll 2 7\nrun 2 p\npoll 3 9\nrun 3 p\n\
-         poll 1 5\nrun 1 e5\npoll 2 7\nrun 2 v6\n",
-        "made 1\nmade 2\nmade 3\nbegin 1 5\nclaim 1\nran 1 p\nend 1 p\nbegin 2 7\nend 2 p\n\
-         begin 3 9\nend 3 full\nbegin 1 5\nran 1 e5\nfree 1 [7]\nend 1 e5\nbegin 2 7\nclaim 2\n\
-         ran 2 v6\nfill 2 6 []\nend 2 v6\nqueue none\n",
-    ),
-    (
-        "relisted_without_memory",
-        "once 8\nmake 1\nmake 2\npoll 1 5\nrun 1 p\npoll 2 7\nrun 2 p\npoll 2 8\ngo 2 p\ngo 2 p\n\
-         go 2 p x\nrun 2 p\npoll 1 5\nrun 1 e9\n",
-        "made 1\nmade 2\nbegin 1 5\nclaim 1\nran 1 p\nend 1 p\nbegin 2 7\nend 2 p\nbegin 2 8\n\
-         end 2 p\nbegin 1 5\nran 1 e9\nfree 1 [8]\nend 1 e9\nqueue 1\n",
-    ),
-    (
-        "waker_copy_refused",
-        "once 8\nmake 1\nmake 2\npoll 1 5\nrun 1 p\npoll 2 7\ngo 2 p\ngo 2 p\ngo 2 p\ngo 2 p\n\
-         go 2 p\ngo 2 p x\nrun 2 p\n",
-        "made 1\nmade 2\nbegin 1 5\nclaim 1\nran 1 p\nend 1 p\nbegin 2 7\nend 2 memory\nqueue 1\n",
-    ),
-];
+/// Worked schedules, in the form of `crate::schedule`.
+pub const REFUSALS: &str = "\
+# door_asks_memory_first: a task is refused memory for a queue, though another put one meanwhile
+# not over shared parts: memory that is refused to a queue
+once 8
+make 1 => made 1
+make 2 => made 2
+make 3 => made 3
+poll 1 5 => begin 1 5
+run 1 p => claim 1, ran 1 p, end 1 p
+poll 2 7 => begin 2 7
+go 2 p
+go 2 p
+poll 3 8 => begin 3 8
+go 3 p
+go 3 p
+run 2 p => end 2 p
+go 3 p x => end 3 memory
+go 3 p
+=> queue 1
+
+# largest_limit: a cell has the largest limit
+once 4611686018427387902
+=> queue none
+
+# late_queue_at_limit: the count is at its limit: the task that finds no room sees that the value is set
+# not over shared parts: a small limit
+once 1
+make 1 => made 1
+make 2 => made 2
+make 3 => made 3
+poll 1 5 => begin 1 5
+run 1 p => claim 1, ran 1 p, end 1 p
+poll 2 7 => begin 2 7
+run 2 p => end 2 p
+poll 3 9 => begin 3 9
+go 3 p
+go 3 p
+poll 1 5 => begin 1 5
+run 1 v4 => ran 1 v4, fill 1 4 [7], end 1 v4
+run 3 p => end 3 v4
+poll 2 7 => begin 2 7
+run 2 p => end 2 v4
+=> queue none
+
+# limit_of_the_count: as many tasks wait as may: one more finds the place full
+# not over shared parts: a small limit
+once 1
+make 1 => made 1
+make 2 => made 2
+make 3 => made 3
+poll 1 5 => begin 1 5
+run 1 p => claim 1, ran 1 p, end 1 p
+poll 2 7 => begin 2 7
+run 2 p => end 2 p
+poll 3 9 => begin 3 9
+run 3 p => end 3 full
+=> queue 1
+
+# listed_by_another_and_no_memory: no memory for a listing, though another task is listed with the same waker
+# not over shared parts: memory that is refused to a listing
+once 8
+make 1 => made 1
+make 2 => made 2
+make 3 => made 3
+poll 1 5 => begin 1 5
+run 1 p => claim 1, ran 1 p, end 1 p
+poll 2 7 => begin 2 7
+go 2 p
+go 2 p
+go 2 p
+go 2 p
+go 2 p
+go 2 p
+poll 3 7 => begin 3 7
+run 3 p => end 3 p
+go 2 p x
+run 2 p => end 2 memory
+=> queue 1
+
+# queue_refused: no memory for a queue
+# not over shared parts: memory that is refused to a queue
+once 8
+make 1 => made 1
+make 2 => made 2
+poll 1 5 => begin 1 5
+run 1 p => claim 1, ran 1 p, end 1 p
+poll 2 7 => begin 2 7
+go 2 p
+go 2 p
+go 2 p x => end 2 memory
+run 2 p
+=> queue none
+
+# refused_before_counting_in: a task that is refused memory is not counted in, and the fill finds nobody
+# not over shared parts: memory that is refused to a queue
+once 8
+make 1 => made 1
+make 2 => made 2
+poll 1 5 => begin 1 5
+run 1 p => claim 1, ran 1 p, end 1 p
+poll 2 7 => begin 2 7
+run 2 p x => end 2 memory
+poll 1 5 => begin 1 5
+run 1 v4 => ran 1 v4, fill 1 4 [], end 1 v4
+=> queue none
+
+# refused_then_set: a refused task leaves after the value was set: it calls nobody, and takes the queue out
+# not over shared parts: a waker that changes
+once 8
+make 1 => made 1
+make 2 => made 2
+poll 1 5 => begin 1 5
+run 1 p => claim 1, ran 1 p, end 1 p
+poll 2 7 => begin 2 7
+run 2 p => end 2 p
+poll 2 6 => begin 2 6
+go 2 p
+go 2 p x
+poll 1 5 => begin 1 5
+run 1 v4 => ran 1 v4, fill 1 4 [7], end 1 v4
+run 2 p => end 2 memory
+=> queue none
+
+# release_beyond_the_limit: the holder needs a place in the count for its release, and takes it at the limit too
+# not over shared parts: a small limit
+once 1
+make 1 => made 1
+make 2 => made 2
+make 3 => made 3
+poll 1 5 => begin 1 5
+run 1 p => claim 1, ran 1 p, end 1 p
+poll 2 7 => begin 2 7
+run 2 p => end 2 p
+poll 3 9 => begin 3 9
+run 3 p => end 3 full
+poll 1 5 => begin 1 5
+run 1 e5 => ran 1 e5, free 1 [7], end 1 e5
+poll 2 7 => begin 2 7
+run 2 v6 => claim 2, ran 2 v6, fill 2 6 [], end 2 v6
+=> queue none
+
+# relisted_without_memory: no memory is needed to list another waker of a task that is listed
+# not over shared parts: a waker that changes
+once 8
+make 1 => made 1
+make 2 => made 2
+poll 1 5 => begin 1 5
+run 1 p => claim 1, ran 1 p, end 1 p
+poll 2 7 => begin 2 7
+run 2 p => end 2 p
+poll 2 8 => begin 2 8
+go 2 p
+go 2 p
+go 2 p x => end 2 p
+run 2 p
+poll 1 5 => begin 1 5
+run 1 e9 => ran 1 e9, free 1 [8], end 1 e9
+=> queue 1
+
+# waker_copy_refused: no memory for the copy of a waker
+once 8
+make 1 => made 1
+make 2 => made 2
+poll 1 5 => begin 1 5
+run 1 p => claim 1, ran 1 p, end 1 p
+poll 2 7 => begin 2 7
+go 2 p
+go 2 p
+go 2 p
+go 2 p
+go 2 p
+go 2 p x
+run 2 p => end 2 memory
+=> queue 1
+";
