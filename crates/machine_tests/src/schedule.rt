@@ -5,8 +5,11 @@
 //! script (docs/SCRIPTS.md). After `=>` stands what it adds to the record, with a comma between two entries; a line
 //! that adds nothing needs no `=>`. The last line begins with `=>`, since no line of the script leads to it: it has
 //! the queue, with which the record ends.
+//!
+//! `A to B * ` before one of the lines makes the schedule stand for several: with A such lines, and so on, to B.
 
 use std::alloc::{AllocError, Global};
+use std::fmt;
 use std::test::Fail;
 
 // How a comment begins that says why a schedule can't be played over shared parts.
@@ -15,17 +18,19 @@ const NOT_SHARED: &str = "# not over shared parts: ";
 /// A schedule of a text.
 #[derive(Drop)]
 pub struct Schedule<'a> {
-    pub name: &'a str,
+    name: &'a str,
+    // How many such lines there are, where it is one of several.
+    times: Option<usize>,
     /// Whether it can be played over shared parts.
     pub is_shared: bool,
-    lines: Vec<Line<'a>>,
+    pub lines: Vec<Line<'a>>,
 }
 
-// A line of a script, and what it leads to.
+/// A line of a script, and what it leads to.
 #[derive(Clone, Copy)]
-struct Line<'a> {
-    order: &'a str,
-    added: &'a str,
+pub struct Line<'a> {
+    pub order: &'a str,
+    pub added: &'a str,
 }
 
 // What is wanted where a schedule has no line.
@@ -44,6 +49,17 @@ impl<'a> Line<'a> {
     }
 }
 
+// The name, and how many lines there are of which there may be several.
+impl fmt::Display for Schedule<'_> {
+    fn fmt<W: fmt::Write>(&self, f: &mut fmt::Formatter<W>) -> fmt::Result {
+        f.write_str(self.name)?;
+        match self.times {
+            Some(times) => write!(f, "_{times}"),
+            None => Ok(()),
+        }
+    }
+}
+
 /// The schedules of a text. One without a name is refused.
 pub fn schedules_in(alloc: Global, text: &str) -> Result<Vec<Schedule<'_>>, Fail> {
     let mut schedules = Vec::new(alloc);
@@ -52,7 +68,7 @@ pub fn schedules_in(alloc: Global, text: &str) -> Result<Vec<Schedule<'_>>, Fail
         let Some(name) = name_in(head) else {
             return Err(Fail::new(format_args!("no schedule begins so: {head}")));
         };
-        schedules.push(read(alloc, name, lines)?)?;
+        add(alloc, &mut schedules, name, lines)?;
     }
     Ok(schedules)
 }
@@ -63,17 +79,58 @@ fn name_in(head: &str) -> Option<&str> {
     Some(name)
 }
 
-fn read<'a>(alloc: Global, name: &'a str, text: &'a str) -> Result<Schedule<'a>, AllocError> {
+// Adds the schedules that these lines stand for.
+fn add<'a>(
+    alloc: Global,
+    schedules: &mut Vec<Schedule<'a>>,
+    name: &'a str,
+    lines: &'a str,
+) -> Result<(), AllocError> {
+    match lines.lines().find_map(repeated) {
+        None => schedules.push(read(alloc, name, lines, None)?)?,
+        Some((least, most, _)) => {
+            for times in least..=most {
+                schedules.push(read(alloc, name, lines, Some(times))?)?;
+            }
+        }
+    }
+    Ok(())
+}
+
+// The numbers and the line of `A to B * LINE`, where B is not below A.
+fn repeated(text: &str) -> Option<(usize, usize, &str)> {
+    let (numbers, line) = text.split_once(" * ")?;
+    let (least, most) = numbers.split_once(" to ")?;
+    let (least, most) = (least.parse().ok()?, most.parse().ok()?);
+    if least > most {
+        return None;
+    }
+    Some((least, most, line))
+}
+
+fn read<'a>(
+    alloc: Global,
+    name: &'a str,
+    text: &'a str,
+    times: Option<usize>,
+) -> Result<Schedule<'a>, AllocError> {
     let (mut lines, mut is_shared) = (Vec::new(alloc), true);
     for line in text.lines() {
         if line.starts_with('#') {
             is_shared &= !line.starts_with(NOT_SHARED);
-        } else {
+            continue;
+        }
+        let (count, line) = match repeated(line) {
+            Some((_, _, line)) => (times.unwrap_or(1), line),
+            None => (1, line),
+        };
+        for _ in 0..count {
             lines.push(Line::read(line))?;
         }
     }
     Ok(Schedule {
         name,
+        times,
         is_shared,
         lines,
     })
@@ -104,21 +161,30 @@ impl Schedule<'_> {
         Ok(record)
     }
 
-    /// Compares what each line led to with what stands beside it. Of the first that differs it says what was
-    /// wanted and what came.
+    /// Says of the first line that led to something else than stands beside it what was wanted and what came.
     pub fn difference(&self, alloc: Global, came: &[String]) -> Result<Option<String>, AllocError> {
-        let name = self.name;
         for place in 0..came.len().max(self.lines.len()) {
             let Line { order, added } = self.lines.get(place).copied().unwrap_or(NO_LINE);
-            let came = came.get(place).map_or("", |text| text.as_str());
+            let came = match came.get(place) {
+                Some(text) => text.as_str(),
+                None => "",
+            };
             if added != came {
                 let number = place.saturating_add(1);
                 let text = format!(in alloc;
-                    "in {name}, line {number} {order:?}: wanted {added:?}, and came {came:?}"
+                    "in {self}, line {number} {order:?}: wanted {added:?}, and came {came:?}"
                 )?;
                 return Ok(Some(text));
             }
         }
         Ok(None)
+    }
+
+    /// Fails with what that says, where a line led to something else.
+    pub fn check(&self, alloc: Global, came: &[String]) -> Result<(), Fail> {
+        match self.difference(alloc, came)? {
+            None => Ok(()),
+            Some(difference) => Err(Fail::new(difference)),
+        }
     }
 }

@@ -1,63 +1,136 @@
 //! Schedules in which some task makes any number of steps between two others.
 
-/// Schedules in which some task makes any number of steps between two others: the name, how many steps
-/// at most, the lines before, the step, and the lines after.
-pub const BETWEEN: [(&str, usize, &str, &str, &str); 8] = [
-    (
-        "holder_dropped_between_steps",
-        7,
-        "once 8\nmake 1\nmake 2\npoll 1 5\nrun 1 p\npoll 2 7\n",
-        "go 2 p\n",
-        "drop 1\nrun 1 p\nrun 2 v3\n",
-    ),
-    (
-        "holder_fails_between_steps",
-        7,
-        "once 8\nmake 1\nmake 2\npoll 1 5\nrun 1 p\npoll 2 7\n",
-        "go 2 p\n",
-        "poll 1 5\nrun 1 e9\nrun 2 v3\n",
-    ),
-    (
-        "holder_fills_between_steps",
-        7,
-        "once 8\nmake 1\nmake 2\npoll 1 5\nrun 1 p\npoll 2 7\n",
-        "go 2 p\n",
-        "poll 1 5\nrun 1 v4\nrun 2 p\npoll 2 7\nrun 2 p\n",
-    ),
-    (
-        "two_drops_at_once",
-        5,
-        "once 8\nmake 1\nmake 2\nmake 3\npoll 1 5\nrun 1 p\npoll 2 7\nrun 2 p\npoll 3 8\nrun 3 p\ndrop 1\ndrop 2\n",
-        "go 1 p\n",
-        "run 2 p\nrun 1 p\n",
-    ),
-    (
-        "waiter_dropped_between_steps",
-        7,
-        "once 8\nmake 1\nmake 2\npoll 1 5\nrun 1 p\npoll 2 7\nrun 2 p\npoll 1 5\n",
-        "go 1 v4\n",
-        "drop 2\nrun 2 p\nrun 1 v4\n",
-    ),
-    (
-        "both_dropped_between_steps",
-        5,
-        "once 8\nmake 1\nmake 2\npoll 1 5\nrun 1 p\npoll 2 7\nrun 2 p\ndrop 1\n",
-        "go 1 p\n",
-        "drop 2\nrun 2 p\nrun 1 p\nmake 3\npoll 3 9\nrun 3 v6\n",
-    ),
-    (
-        "copy_refused_between_steps",
-        7,
-        "once 8\nmake 1\nmake 2\nmake 3\npoll 1 5\nrun 1 p\npoll 3 8\nrun 3 p\npoll 2 7\n",
-        "go 2 p x\n",
-        "poll 1 5\nrun 1 e9\nrun 2 p\npoll 3 8\nrun 3 v4\n",
-    ),
-    (
-        "copy_of_one_who_was_called_refused_between_steps",
-        5,
-        "once 8\nmake 1\nmake 2\nmake 3\nmake 4\nmake 5\npoll 1 5\nrun 1 p\npoll 2 7\nrun 2 p\npoll 3 8\nrun 3 p\n\
-         poll 5 9\nrun 5 p\npoll 1 5\nrun 1 e9\npoll 4 6\nrun 4 p\npoll 2 7\n",
-        "go 2 p x\n",
-        "drop 4\nrun 4 p\nrun 2 p\npoll 3 8\nrun 3 v4\npoll 5 9\nrun 5 p\n",
-    ),
-];
+/// Schedules in the form of `crate::schedule`, which do not say what is added to the record.
+pub const BETWEEN: &str = "\
+# holder_dropped_between_steps: the holder is dropped while another task is in its first poll
+once 8
+make 1
+make 2
+poll 1 5
+run 1 p
+poll 2 7
+0 to 7 * go 2 p
+drop 1
+run 1 p
+run 2 v3
+
+# holder_fails_between_steps: the holder fails while another task is in its first poll
+once 8
+make 1
+make 2
+poll 1 5
+run 1 p
+poll 2 7
+0 to 7 * go 2 p
+poll 1 5
+run 1 e9
+run 2 v3
+
+# holder_fills_between_steps: the holder fills the cell while another task is in its first poll
+once 8
+make 1
+make 2
+poll 1 5
+run 1 p
+poll 2 7
+0 to 7 * go 2 p
+poll 1 5
+run 1 v4
+run 2 p
+poll 2 7
+run 2 p
+
+# two_drops_at_once: a waiting task leaves while the holder's drop is under way
+once 8
+make 1
+make 2
+make 3
+poll 1 5
+run 1 p
+poll 2 7
+run 2 p
+poll 3 8
+run 3 p
+drop 1
+drop 2
+0 to 5 * go 1 p
+run 2 p
+run 1 p
+
+# waiter_dropped_between_steps: a waiting task leaves while the poll that fills is under way
+once 8
+make 1
+make 2
+poll 1 5
+run 1 p
+poll 2 7
+run 2 p
+poll 1 5
+0 to 7 * go 1 v4
+drop 2
+run 2 p
+run 1 v4
+
+# both_dropped_between_steps: a waiting task leaves while the holder's drop is under way, and a third fills the cell
+once 8
+make 1
+make 2
+poll 1 5
+run 1 p
+poll 2 7
+run 2 p
+drop 1
+0 to 5 * go 1 p
+drop 2
+run 2 p
+run 1 p
+make 3
+poll 3 9
+run 3 v6
+
+# copy_refused_between_steps: the holder fails while a task is polled whose copy is refused, and a third waits
+once 8
+make 1
+make 2
+make 3
+poll 1 5
+run 1 p
+poll 3 8
+run 3 p
+poll 2 7
+0 to 7 * go 2 p x
+poll 1 5
+run 1 e9
+run 2 p
+poll 3 8
+run 3 v4
+
+# copy_of_one_who_was_called_refused_between_steps: the same of a task that was called, while another holds
+once 8
+make 1
+make 2
+make 3
+make 4
+make 5
+poll 1 5
+run 1 p
+poll 2 7
+run 2 p
+poll 3 8
+run 3 p
+poll 5 9
+run 5 p
+poll 1 5
+run 1 e9
+poll 4 6
+run 4 p
+poll 2 7
+0 to 5 * go 2 p x
+drop 4
+run 4 p
+run 2 p
+poll 3 8
+run 3 v4
+poll 5 9
+run 5 p
+";

@@ -1,67 +1,120 @@
-//! Scenes of a cell and five tasks over shared parts, where a copy of a waker may be refused.
+//! Scenes of a cell and its tasks over shared parts, where a copy of a waker may be refused.
 //!
-//! A scene is written as calls of four letters, with a space between two. A call has
-//! - the task: `1` to `5`, whose waker has that number,
-//! - what is called: a poll whose init is pending (`p`), gives a value (`v`) or fails (`e`), or a drop
-//!   (`d`),
-//! - whether a copy of the waker is granted (`+`) or refused (`-`),
-//! - how many steps are made: so many at most, or the whole call (`w`).
-//!
-//! A call with `!` after it is told: how it ended, the notes of its side, where its task then stands, and in a
-//! line of its own the word, and whether a queue stands at the door.
+//! A scene is a schedule (`crate::schedule`) of an empty once cell, whose lines lead to something else than entries.
+//! Several lines of a script may stand in one, with `; ` between two. `x` refuses the copy of a waker, and no other
+//! memory. The waker of a task has its number. After `=>` stands what the last step came to: how the call ended, or
+//! None; the notes of its side since the line before; and where its task then stands. `show` tells the word, and
+//! whether a queue stands at the door. What a line without `=>` comes to is not told.
 
+use crate::schedule::{Schedule, schedules_in};
+use async_once_cell::world::{Input, Ran};
+use once_script::parse::{Line, RUN_STEPS, parse_line};
 use side_by_side::walker::{Cell, Walker};
 use side_by_side::whole::{Call, ERROR, PENDING, VALUE, carry_on};
 use std::alloc::{AllocError, AllocGlobal};
-use std::process::Abort;
+use std::collections::BTreeMap;
 use std::sync::Wait;
+use std::test::Fail;
 
-// The five tasks of a cell.
-fn five<'a, 'r, R: AllocGlobal>(
+// A scene under way. What does not fit tells None.
+#[derive(Drop)]
+struct Scene<'a, 'r, R> {
     cell: &'a Cell,
     rt: &'r R,
-) -> Result<Vec<Walker<'a, 'r, R>>, AllocError> {
-    let mut tasks = Vec::new(rt.alloc());
-    for t in 1..6 {
-        tasks.push(Walker::new(cell, rt, t))?;
-    }
-    Ok(tasks)
+    tasks: BTreeMap<u64, Walker<'a, 'r, R>>,
 }
 
-// Makes a call, and tells of it. A call that cannot be read tells nothing.
-fn tell<R: Wait + AllocGlobal>(
+impl<'a, 'r, R: Wait + AllocGlobal> Scene<'a, 'r, R> {
+    // This cell, which nobody has used.
+    fn new(cell: &'a Cell, rt: &'r R) -> Self {
+        Scene {
+            cell,
+            rt,
+            tasks: BTreeMap::new(rt.alloc()),
+        }
+    }
+
+    // What a line of the scene comes to.
+    fn tell(&mut self, order: &str) -> Result<Option<String>, AllocError> {
+        let (alloc, cell) = (self.rt.alloc(), self.cell);
+        if order == "show" {
+            return Ok(Some(format!(in alloc; "{cell:?}")?));
+        }
+        let mut told = None;
+        for text in order.split("; ") {
+            let Some(line) = parse_line(alloc, text)? else {
+                return Ok(None);
+            };
+            told = self.play(&line)?;
+            if told.is_none() {
+                break;
+            }
+        }
+        Ok(told)
+    }
+
+    fn play(&mut self, line: &Line) -> Result<Option<String>, AllocError> {
+        match line {
+            Line::Single(Input::Make(t)) => self.make(*t),
+            Line::Single(Input::Poll(t, _)) => self.begin(*t, PENDING),
+            Line::Single(Input::Drop(t)) => self.begin(*t, Call::Drop),
+            Line::Single(Input::Go(t, answer, is_granted)) => self.go(*t, *answer, *is_granted, 1),
+            Line::Run(t, answer, is_granted) => self.go(*t, *answer, *is_granted, RUN_STEPS),
+            Line::Single(Input::Look | Input::Own(_)) => Ok(None),
+        }
+    }
+
+    fn make(&mut self, t: u64) -> Result<Option<String>, AllocError> {
+        let task = Walker::new(self.cell, self.rt, t);
+        self.tasks.insert(t, task)?;
+        Ok(Some(String::new(self.rt.alloc())))
+    }
+
+    // Begins a call of a task that rests.
+    fn begin(&mut self, t: u64, call: Call) -> Result<Option<String>, AllocError> {
+        if let Some(task) = self.tasks.get_mut(&t) {
+            if task.step().is_resting() {
+                return told(self.rt, task, call, true, 0);
+            }
+        }
+        Ok(None)
+    }
+
+    // Makes steps of the last call of a task. Where it is over they do nothing.
+    fn go(
+        &mut self,
+        t: u64,
+        answer: Ran,
+        is_granted: bool,
+        steps: u64,
+    ) -> Result<Option<String>, AllocError> {
+        if let Some(task) = self.tasks.get_mut(&t) {
+            if !task.step().is_resting() {
+                return told(self.rt, task, called(answer), is_granted, steps);
+            }
+        }
+        Ok(None)
+    }
+}
+
+// Carries a call on, and tells of it.
+fn told<R: Wait + AllocGlobal>(
     rt: &R,
-    cell: &Cell,
-    tasks: &mut [Walker<'_, '_, R>],
-    call: &[u8],
-) -> Result<String, AllocError> {
-    let alloc = rt.alloc();
-    let [place, what, memory, steps, ..] = call else {
-        return Ok(String::new(alloc));
-    };
-    let Some(task) = tasks.get_mut(digit(*place).wrapping_sub(1) as usize) else {
-        return Ok(String::new(alloc));
-    };
-    let (is_granted, steps) = (*memory == b'+', digit(*steps));
-    let told = carry_on(rt, task, called(*what), is_granted, steps)?;
-    format!(in alloc; "{told} {}\n{cell:?}\n", stage(task))
+    task: &mut Walker<'_, '_, R>,
+    call: Call,
+    is_granted: bool,
+    steps: u64,
+) -> Result<Option<String>, AllocError> {
+    let told = carry_on(rt, task, call, is_granted, steps)?;
+    Ok(Some(format!(in rt.alloc(); "{told} {}", stage(task))?))
 }
 
-// The number that a digit says, and 16 for any other letter.
-fn digit(letter: u8) -> u64 {
-    if letter.is_ascii_digit() {
-        u64::from(letter.wrapping_sub(b'0'))
-    } else {
-        16
-    }
-}
-
-fn called(letter: u8) -> Call {
-    match letter {
-        b'p' => PENDING,
-        b'v' => VALUE,
-        b'e' => ERROR,
-        _ => Call::Drop,
+// The poll whose init answers so.
+fn called(answer: Ran) -> Call {
+    match answer {
+        Ran::Pending => PENDING,
+        Ran::Value(_) => VALUE,
+        Ran::Error(_) => ERROR,
     }
 }
 
@@ -76,31 +129,28 @@ fn stage<R>(task: &Walker<'_, '_, R>) -> &'static str {
     }
 }
 
-// What the calls of a scene tell.
-fn told<R: Wait + AllocGlobal>(rt: &R, calls: &str) -> Result<String, AllocError> {
+// What the lines of a scene come to.
+fn came<R: Wait + AllocGlobal>(rt: &R, schedule: &Schedule<'_>) -> Result<Vec<String>, Fail> {
+    let alloc = rt.alloc();
     let cell = Cell::new();
-    let mut tasks = five(&cell, rt)?;
-    let mut text = String::new(rt.alloc());
-    for call in calls.split(' ') {
-        let line = tell(rt, &cell, tasks.as_mut_slice(), call.as_bytes())?;
-        if call.ends_with('!') {
-            text.push_str(line.as_str())?;
-        }
+    let mut scene = Scene::new(&cell, rt);
+    let mut came = Vec::new(alloc);
+    for line in &schedule.lines {
+        let order = line.order;
+        let Some(told) = scene.tell(order)? else {
+            return Err(Fail::new(format_args!("in {schedule}: {order:?} does not fit")));
+        };
+        let is_told = !line.added.is_empty();
+        came.push(if is_told { told } else { String::new(alloc) })?;
     }
-    Ok(text)
+    Ok(came)
 }
 
-fn compare(rt: &impl Abort, calls: &str, told: Result<String, AllocError>, wanted: &str) {
-    let told = match &told {
-        Ok(text) => Some(text.as_str()),
-        Err(_) => None,
-    };
-    assert_eq!(rt; told, Some(wanted), "in {calls}");
-}
-
-/// Plays each scene, and compares what its calls tell with the text after it.
-pub fn play<R: Wait + AllocGlobal + Abort>(rt: &R, scenes: &[(&str, &str)]) {
-    for (calls, wanted) in scenes {
-        compare(rt, calls, told(rt, calls), wanted);
+/// Plays each scene of a text, and compares what its lines come to with what stands beside them.
+pub fn play<R: Wait + AllocGlobal>(rt: &R, text: &str) -> Result<(), Fail> {
+    for schedule in &schedules_in(rt.alloc(), text)? {
+        let came = came(rt, schedule)?;
+        schedule.check(rt.alloc(), &came)?;
     }
+    Ok(())
 }

@@ -1,176 +1,186 @@
-//! A waiter whose copy is refused, or that is dropped, while another waits behind it: whoever had the turn passes it on, and
-//! nobody is stranded. In each scene the third task fills the cell in the end.
+//! A waiter whose copy is refused, or that is dropped, while another waits behind it: whoever had the turn passes it
+//! on, and nobody is stranded. In each scene the third task fills the cell in the end.
 
 use super::scene::play;
+use std::test::Fail;
 
 // A waiter that has no turn: the one behind it is called by the failure.
+const BEFORE: &str = "\
+# refused_before_it_was_listed: the second is refused and gone, and the first calls the third
+make 1; make 2; make 3
+poll 1 1; run 1 p
+poll 2 2; run 2 p x => Some(Memory) [Copied(None), Closed] finished
+show => Inner { ready: false, quick_init: true, refcount: 0, queue: true }
+poll 3 3; run 3 p
+poll 1 1; run 1 e9 x => Some(Error) [Ran(Error), Closed, Woke(One(Some(3)))] finished
+show => Inner { ready: false, quick_init: false, refcount: 1, queue: true }
+poll 3 3; run 3 v4 x => Some(Value) [Ran(Value), Closed, Put, Woke(All([]))] finished
+show => Inner { ready: true, quick_init: false, refcount: 0, queue: false }
+";
+
 #[test]
-fn refused_before_it_was_listed(rt: HostRuntime) {
-    play(
-        &rt,
-        &[(
-            "1p+w 2p-w! 3p+w 1e-w! 3v-w!",
-            "Some(Memory) [Copied(None), Closed] finished\n\
-                 Inner { ready: false, quick_init: true, refcount: 0, queue: true }\n\
-                 Some(Error) [Ran(Error), Closed, Woke(One(Some(3)))] finished\n\
-                 Inner { ready: false, quick_init: false, refcount: 1, queue: true }\n\
-                 Some(Value) [Ran(Value), Closed, Put, Woke(All([]))] finished\n\
-                 Inner { ready: true, quick_init: false, refcount: 0, queue: false }\n",
-        )],
-    );
+fn refused_before_it_was_listed(rt: HostRuntime) -> Result<(), Fail> {
+    play(&rt, BEFORE)
 }
 
 // The same where the one behind it is listed while the call that is refused is under way.
+const BESIDE: &str = "\
+# refused_beside_one_who_waits: the third is listed while the poll of the second is under way
+make 1; make 2; make 3
+poll 1 1; run 1 p
+poll 2 2
+1 to 5 * go 2 p
+poll 3 3; run 3 p
+run 2 p x => Some(Memory) [Copied(None), Closed] finished
+show => Inner { ready: false, quick_init: true, refcount: 1, queue: true }
+poll 1 1; run 1 e9 x => Some(Error) [Ran(Error), Closed, Woke(One(Some(3)))] finished
+show => Inner { ready: false, quick_init: false, refcount: 1, queue: true }
+poll 3 3; run 3 v4 x => Some(Value) [Ran(Value), Closed, Put, Woke(All([]))] finished
+show => Inner { ready: true, quick_init: false, refcount: 0, queue: false }
+";
+
 #[test]
-fn refused_beside_one_who_waits(rt: HostRuntime) {
-    play(
-        &rt,
-        &[
-            (
-                "1p+w 2p+1 3p+w 2p-w! 1e-w! 3v-w!",
-                "Some(Memory) [Copied(None), Closed] finished\n\
-                 Inner { ready: false, quick_init: true, refcount: 1, queue: true }\n\
-                 Some(Error) [Ran(Error), Closed, Woke(One(Some(3)))] finished\n\
-                 Inner { ready: false, quick_init: false, refcount: 1, queue: true }\n\
-                 Some(Value) [Ran(Value), Closed, Put, Woke(All([]))] finished\n\
-                 Inner { ready: true, quick_init: false, refcount: 0, queue: false }\n",
-            ),
-            (
-                "1p+w 2p+2 3p+w 2p-w! 1e-w! 3v-w!",
-                "Some(Memory) [Copied(None), Closed] finished\n\
-                 Inner { ready: false, quick_init: true, refcount: 1, queue: true }\n\
-                 Some(Error) [Ran(Error), Closed, Woke(One(Some(3)))] finished\n\
-                 Inner { ready: false, quick_init: false, refcount: 1, queue: true }\n\
-                 Some(Value) [Ran(Value), Closed, Put, Woke(All([]))] finished\n\
-                 Inner { ready: true, quick_init: false, refcount: 0, queue: false }\n",
-            ),
-            (
-                "1p+w 2p+3 3p+w 2p-w! 1e-w! 3v-w!",
-                "Some(Memory) [Copied(None), Closed] finished\n\
-                 Inner { ready: false, quick_init: true, refcount: 1, queue: true }\n\
-                 Some(Error) [Ran(Error), Closed, Woke(One(Some(3)))] finished\n\
-                 Inner { ready: false, quick_init: false, refcount: 1, queue: true }\n\
-                 Some(Value) [Ran(Value), Closed, Put, Woke(All([]))] finished\n\
-                 Inner { ready: true, quick_init: false, refcount: 0, queue: false }\n",
-            ),
-            (
-                "1p+w 2p+4 3p+w 2p-w! 1e-w! 3v-w!",
-                "Some(Memory) [Copied(None), Closed] finished\n\
-                 Inner { ready: false, quick_init: true, refcount: 1, queue: true }\n\
-                 Some(Error) [Ran(Error), Closed, Woke(One(Some(3)))] finished\n\
-                 Inner { ready: false, quick_init: false, refcount: 1, queue: true }\n\
-                 Some(Value) [Ran(Value), Closed, Put, Woke(All([]))] finished\n\
-                 Inner { ready: true, quick_init: false, refcount: 0, queue: false }\n",
-            ),
-            (
-                "1p+w 2p+5 3p+w 2p-w! 1e-w! 3v-w!",
-                "Some(Memory) [Copied(None), Closed] finished\n\
-                 Inner { ready: false, quick_init: true, refcount: 1, queue: true }\n\
-                 Some(Error) [Ran(Error), Closed, Woke(One(Some(3)))] finished\n\
-                 Inner { ready: false, quick_init: false, refcount: 1, queue: true }\n\
-                 Some(Value) [Ran(Value), Closed, Put, Woke(All([]))] finished\n\
-                 Inner { ready: true, quick_init: false, refcount: 0, queue: false }\n",
-            ),
-        ],
-    );
+fn refused_beside_one_who_waits(rt: HostRuntime) -> Result<(), Fail> {
+    play(&rt, BESIDE)
 }
 
-// The second, the third and the fourth wait. The first fails and calls the second, and the fifth holds. Now the second is
-// polled, and the copy of its waker is refused; it makes so many steps of that poll before the fifth fails. Polled after
-// that, it gets the right, and is dropped; refused after that, it passes its turn on to the fourth; and where it left
-// before, the turn is the third's alone.
+// The second, the third and the fourth wait. The first fails and calls the second, and the fifth holds. Now the
+// second is polled, and the copy of its waker is refused; it makes so many steps of that poll before the fifth fails.
+// Polled after that, it gets the right, and is dropped; refused after that, it passes its turn on to the fourth; and
+// where it left before, the turn is the third's alone.
+const CALLED: &str = "\
+# fails_before_a_refusal: the second finds that nobody holds, gets the right, and is dropped
+make 1; make 2; make 3; make 4; make 5
+poll 1 1; run 1 p
+poll 2 2; run 2 p
+poll 3 3; run 3 p
+poll 4 4; run 4 p
+poll 1 1; run 1 e9
+poll 5 5; run 5 p
+poll 2 2
+0 to 1 * go 2 p x
+poll 5 5; run 5 e9 x => Some(Error) [Ran(Error), Closed, Woke(One(Some(3)))] finished
+show => Inner { ready: false, quick_init: false, refcount: 3, queue: true }
+run 2 p x => Some(Pending) [Ran(Pending)] rests
+show => Inner { ready: false, quick_init: false, refcount: 3, queue: true }
+drop 2 => None [Closed] goes on
+run 2 p x => Some(Dropped) [Woke(One(Some(4)))] finished
+show => Inner { ready: false, quick_init: false, refcount: 2, queue: true }
+poll 3 3; run 3 v4 x => Some(Value) [Ran(Value), Closed, Put, Woke(All([Listing { ticket: 2, waker: None }]))] finished
+show => Inner { ready: true, quick_init: false, refcount: 1, queue: true }
+
+# fails_after_a_refusal: the second was refused before the fifth fails, and passes its turn on
+make 1; make 2; make 3; make 4; make 5
+poll 1 1; run 1 p
+poll 2 2; run 2 p
+poll 3 3; run 3 p
+poll 4 4; run 4 p
+poll 1 1; run 1 e9
+poll 5 5; run 5 p
+poll 2 2
+go 2 p x
+go 2 p x
+poll 5 5; run 5 e9 x => Some(Error) [Ran(Error), Closed, Woke(One(Some(3)))] finished
+show => Inner { ready: false, quick_init: false, refcount: 3, queue: true }
+run 2 p x => Some(Memory) [Woke(One(Some(4)))] finished
+show => Inner { ready: false, quick_init: false, refcount: 2, queue: true }
+poll 3 3; run 3 v4 x => Some(Value) [Ran(Value), Closed, Put, Woke(All([Listing { ticket: 2, waker: None }]))] finished
+show => Inner { ready: true, quick_init: false, refcount: 1, queue: true }
+
+# fails_after_a_leave: the second left before the fifth fails, which calls the third
+make 1; make 2; make 3; make 4; make 5
+poll 1 1; run 1 p
+poll 2 2; run 2 p
+poll 3 3; run 3 p
+poll 4 4; run 4 p
+poll 1 1; run 1 e9
+poll 5 5; run 5 p
+poll 2 2
+go 2 p x
+go 2 p x
+go 2 p x
+poll 5 5; run 5 e9 x => Some(Error) [Ran(Error), Closed, Woke(One(Some(3)))] finished
+show => Inner { ready: false, quick_init: false, refcount: 3, queue: true }
+run 2 p x => Some(Memory) [] finished
+show => Inner { ready: false, quick_init: false, refcount: 2, queue: true }
+poll 3 3
+run 3 v4 x => Some(Value) [Ran(Value), Closed, Put, Woke(All([Listing { ticket: 2, waker: Some(4) }]))] finished
+show => Inner { ready: true, quick_init: false, refcount: 1, queue: true }
+
+# fails_after_a_poll: the poll of the second is over before the fifth fails, which calls the third
+make 1; make 2; make 3; make 4; make 5
+poll 1 1; run 1 p
+poll 2 2; run 2 p
+poll 3 3; run 3 p
+poll 4 4; run 4 p
+poll 1 1; run 1 e9
+poll 5 5; run 5 p
+poll 2 2
+go 2 p x
+go 2 p x
+go 2 p x
+go 2 p x
+poll 5 5; run 5 e9 x => Some(Error) [Ran(Error), Closed, Woke(One(Some(3)))] finished
+show => Inner { ready: false, quick_init: false, refcount: 2, queue: true }
+run 2 p x => None [] finished
+show => Inner { ready: false, quick_init: false, refcount: 2, queue: true }
+poll 3 3
+run 3 v4 x => Some(Value) [Ran(Value), Closed, Put, Woke(All([Listing { ticket: 2, waker: Some(4) }]))] finished
+show => Inner { ready: true, quick_init: false, refcount: 1, queue: true }
+";
+
 #[test]
-fn called_while_it_is_refused(rt: HostRuntime) {
-    play(
-        &rt,
-        &[
-            (
-                "1p+w 2p+w 3p+w 4p+w 1e+w 5p+w 2p-0 5e-w! 2p-w! 2d-w! 3v-w!",
-                "Some(Error) [Ran(Error), Closed, Woke(One(Some(3)))] finished\n\
-                 Inner { ready: false, quick_init: false, refcount: 3, queue: true }\n\
-                 Some(Pending) [Ran(Pending)] rests\n\
-                 Inner { ready: false, quick_init: false, refcount: 3, queue: true }\n\
-                 Some(Dropped) [Closed, Woke(One(Some(4)))] finished\n\
-                 Inner { ready: false, quick_init: false, refcount: 2, queue: true }\n\
-                 Some(Value) [Ran(Value), Closed, Put, Woke(All([Listing { ticket: 2, waker: None }]))] finished\n\
-                 Inner { ready: true, quick_init: false, refcount: 1, queue: true }\n",
-            ),
-            (
-                "1p+w 2p+w 3p+w 4p+w 1e+w 5p+w 2p-1 5e-w! 2p-w! 2d-w! 3v-w!",
-                "Some(Error) [Ran(Error), Closed, Woke(One(Some(3)))] finished\n\
-                 Inner { ready: false, quick_init: false, refcount: 3, queue: true }\n\
-                 Some(Pending) [Ran(Pending)] rests\n\
-                 Inner { ready: false, quick_init: false, refcount: 3, queue: true }\n\
-                 Some(Dropped) [Closed, Woke(One(Some(4)))] finished\n\
-                 Inner { ready: false, quick_init: false, refcount: 2, queue: true }\n\
-                 Some(Value) [Ran(Value), Closed, Put, Woke(All([Listing { ticket: 2, waker: None }]))] finished\n\
-                 Inner { ready: true, quick_init: false, refcount: 1, queue: true }\n",
-            ),
-            (
-                "1p+w 2p+w 3p+w 4p+w 1e+w 5p+w 2p-2 5e-w! 2p-w! 3v-w!",
-                "Some(Error) [Ran(Error), Closed, Woke(One(Some(3)))] finished\n\
-                 Inner { ready: false, quick_init: false, refcount: 3, queue: true }\n\
-                 Some(Memory) [Woke(One(Some(4)))] finished\n\
-                 Inner { ready: false, quick_init: false, refcount: 2, queue: true }\n\
-                 Some(Value) [Ran(Value), Closed, Put, Woke(All([Listing { ticket: 2, waker: None }]))] finished\n\
-                 Inner { ready: true, quick_init: false, refcount: 1, queue: true }\n",
-            ),
-            (
-                "1p+w 2p+w 3p+w 4p+w 1e+w 5p+w 2p-3 5e-w! 2p-w! 3v-w!",
-                "Some(Error) [Ran(Error), Closed, Woke(One(Some(3)))] finished\n\
-                 Inner { ready: false, quick_init: false, refcount: 3, queue: true }\n\
-                 Some(Memory) [] finished\n\
-                 Inner { ready: false, quick_init: false, refcount: 2, queue: true }\n\
-                 Some(Value) [Ran(Value), Closed, Put, Woke(All([Listing { ticket: 2, waker: Some(4) }]))] finished\n\
-                 Inner { ready: true, quick_init: false, refcount: 1, queue: true }\n",
-            ),
-            (
-                "1p+w 2p+w 3p+w 4p+w 1e+w 5p+w 2p-4 5e-w! 2p-w! 3v-w!",
-                "Some(Error) [Ran(Error), Closed, Woke(One(Some(3)))] finished\n\
-                 Inner { ready: false, quick_init: false, refcount: 2, queue: true }\n\
-                 None [] finished\n\
-                 Inner { ready: false, quick_init: false, refcount: 2, queue: true }\n\
-                 Some(Value) [Ran(Value), Closed, Put, Woke(All([Listing { ticket: 2, waker: Some(4) }]))] finished\n\
-                 Inner { ready: true, quick_init: false, refcount: 1, queue: true }\n",
-            ),
-        ],
-    );
+fn called_while_it_is_refused(rt: HostRuntime) -> Result<(), Fail> {
+    play(&rt, CALLED)
 }
 
-// The second and the third wait, and the second is dropped: it is called before it takes its listing out, or is gone by
-// then.
+// The second and the third wait, and the second is dropped: it is called before it takes its listing out, or is gone
+// by then.
+const DROPPED: &str = "\
+# fails_before_a_leave: the second is called, and passes its turn on
+make 1; make 2; make 3
+poll 1 1; run 1 p
+poll 2 2; run 2 p
+poll 3 3; run 3 p
+drop 2
+poll 1 1; run 1 e9 x => Some(Error) [Ran(Error), Closed, Woke(One(Some(2)))] finished
+show => Inner { ready: false, quick_init: false, refcount: 2, queue: true }
+run 2 p x => Some(Dropped) [Woke(One(Some(3)))] finished
+show => Inner { ready: false, quick_init: false, refcount: 1, queue: true }
+poll 3 3; run 3 v4 x => Some(Value) [Ran(Value), Closed, Put, Woke(All([]))] finished
+show => Inner { ready: true, quick_init: false, refcount: 0, queue: false }
+
+# fails_beside_a_drop: the second took its listing out, and the third is called
+make 1; make 2; make 3
+poll 1 1; run 1 p
+poll 2 2; run 2 p
+poll 3 3; run 3 p
+drop 2
+go 2 p x
+poll 1 1; run 1 e9 x => Some(Error) [Ran(Error), Closed, Woke(One(Some(3)))] finished
+show => Inner { ready: false, quick_init: false, refcount: 2, queue: true }
+run 2 p x => Some(Dropped) [] finished
+show => Inner { ready: false, quick_init: false, refcount: 1, queue: true }
+poll 3 3; run 3 v4 x => Some(Value) [Ran(Value), Closed, Put, Woke(All([]))] finished
+show => Inner { ready: true, quick_init: false, refcount: 0, queue: false }
+
+# fails_after_a_drop: the drop of the second is over, and the third is called
+make 1; make 2; make 3
+poll 1 1; run 1 p
+poll 2 2; run 2 p
+poll 3 3; run 3 p
+drop 2
+go 2 p x
+go 2 p x
+poll 1 1; run 1 e9 x => Some(Error) [Ran(Error), Closed, Woke(One(Some(3)))] finished
+show => Inner { ready: false, quick_init: false, refcount: 1, queue: true }
+run 2 p x => None [] finished
+show => Inner { ready: false, quick_init: false, refcount: 1, queue: true }
+poll 3 3; run 3 v4 x => Some(Value) [Ran(Value), Closed, Put, Woke(All([]))] finished
+show => Inner { ready: true, quick_init: false, refcount: 0, queue: false }
+";
+
 #[test]
-fn called_while_it_is_dropped(rt: HostRuntime) {
-    play(
-        &rt,
-        &[
-            (
-                "1p+w 2p+w 3p+w 2d-0 1e-w! 2d-w! 3v-w!",
-                "Some(Error) [Ran(Error), Closed, Woke(One(Some(2)))] finished\n\
-                 Inner { ready: false, quick_init: false, refcount: 2, queue: true }\n\
-                 Some(Dropped) [Woke(One(Some(3)))] finished\n\
-                 Inner { ready: false, quick_init: false, refcount: 1, queue: true }\n\
-                 Some(Value) [Ran(Value), Closed, Put, Woke(All([]))] finished\n\
-                 Inner { ready: true, quick_init: false, refcount: 0, queue: false }\n",
-            ),
-            (
-                "1p+w 2p+w 3p+w 2d-1 1e-w! 2d-w! 3v-w!",
-                "Some(Error) [Ran(Error), Closed, Woke(One(Some(3)))] finished\n\
-                 Inner { ready: false, quick_init: false, refcount: 2, queue: true }\n\
-                 Some(Dropped) [] finished\n\
-                 Inner { ready: false, quick_init: false, refcount: 1, queue: true }\n\
-                 Some(Value) [Ran(Value), Closed, Put, Woke(All([]))] finished\n\
-                 Inner { ready: true, quick_init: false, refcount: 0, queue: false }\n",
-            ),
-            (
-                "1p+w 2p+w 3p+w 2d-2 1e-w! 2d-w! 3v-w!",
-                "Some(Error) [Ran(Error), Closed, Woke(One(Some(3)))] finished\n\
-                 Inner { ready: false, quick_init: false, refcount: 1, queue: true }\n\
-                 None [] finished\n\
-                 Inner { ready: false, quick_init: false, refcount: 1, queue: true }\n\
-                 Some(Value) [Ran(Value), Closed, Put, Woke(All([]))] finished\n\
-                 Inner { ready: true, quick_init: false, refcount: 0, queue: false }\n",
-            ),
-        ],
-    );
+fn called_while_it_is_dropped(rt: HostRuntime) -> Result<(), Fail> {
+    play(&rt, DROPPED)
 }

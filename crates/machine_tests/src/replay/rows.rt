@@ -74,7 +74,7 @@ fn mistake(
     let script = schedule.script(alloc)?;
     match added_by(alloc, script.as_str(), printed) {
         Ok(added) => schedule.difference(alloc, &added),
-        Err(fault) => Ok(Some(format!(in alloc; "in {}: {fault}", schedule.name)?)),
+        Err(fault) => Ok(Some(format!(in alloc; "in {schedule}: {fault}")?)),
     }
 }
 
@@ -88,12 +88,15 @@ fn run_rows(rt: &(impl AllocGlobal + Abort), text: &str) -> Result<(), Fail> {
     let alloc = rt.alloc();
     for schedule in &schedules_in(alloc, text)? {
         let printed = printed(alloc, schedule);
-        let record = printed.as_ref().map_or("", |text| text.as_str());
+        let record = match &printed {
+            Ok(text) => text.as_str(),
+            Err(_) => "",
+        };
         if let Some(mistake) = mistake(alloc, schedule, record)? {
             return Err(Fail::new(mistake));
         }
-        let wanted = schedule.record(alloc)?;
-        compare(rt, schedule.name, printed, wanted.as_str());
+        let (name, wanted) = (format!(in alloc; "{schedule}")?, schedule.record(alloc)?);
+        compare(rt, name.as_str(), printed, wanted.as_str());
     }
     Ok(())
 }
@@ -128,8 +131,8 @@ fn a_name_stands_for_one_schedule(rt: HostRuntime) -> Result<(), Fail> {
     let mut names = BTreeSet::new(rt.alloc());
     for text in [PLAIN, REFUSALS, DROPS, CALLS, OWNER] {
         for schedule in &schedules_in(rt.alloc(), text)? {
-            let is_new = names.insert(schedule.name)?;
-            assert!(rt; is_new, "{}", schedule.name);
+            let is_new = names.insert(format!(in rt.alloc(); "{schedule}")?)?;
+            assert!(rt; is_new, "{schedule}");
         }
     }
     Ok(())
@@ -189,7 +192,11 @@ fn a_wrong_line_is_told(rt: HostRuntime) -> Result<(), Fail> {
     for (text, wanted) in WRONG {
         for schedule in &schedules_in(alloc, text)? {
             let told = mistake(alloc, schedule, "queue none")?;
-            assert_eq!(rt; told.as_deref(), Some(*wanted));
+            let told = match &told {
+                Some(text) => text.as_str(),
+                None => "nothing",
+            };
+            assert_eq!(rt; told, *wanted);
         }
     }
     Ok(())

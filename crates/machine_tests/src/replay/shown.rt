@@ -113,7 +113,7 @@ fn worked_schedules_are_told_honestly(rt: HostRuntime) -> Result<(), Fail> {
         for schedule in &schedules_in(alloc, text)? {
             let script = schedule.script(alloc)?;
             let is_so = is_honest(alloc, script.as_str()).unwrap_or(false);
-            assert!(rt; is_so, "in {}", schedule.name);
+            assert!(rt; is_so, "in {schedule}");
         }
     }
     Ok(())
