@@ -13,7 +13,6 @@ mod layers;
 #[cfg(test)]
 mod left;
 #[cfg(test)]
-mod plain;
 #[cfg(test)]
 mod random;
 #[cfg(test)]

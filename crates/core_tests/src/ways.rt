@@ -2,11 +2,11 @@
 //! schedules at random of four tasks, two of which have the same waker.
 
 use crate::counting::{Counting, Listed};
-use crate::plain::Plain;
 use async_once_cell::inner::MAX_WAITERS;
 use async_once_cell::step::{Ending, Polled, Progress, Step};
 use rand_core::{Rng, SeedableRng};
 use rand_xoshiro::Xoshiro256PlusPlus;
+use side_by_side::tested::Tested;
 use std::alloc::Global;
 
 const SCHEDULES: u64 = 2_000;
@@ -35,7 +35,7 @@ impl Task {
     }
 
     // Begins a poll, and makes its first steps in a row where it is the first and is to do so.
-    fn begin(&mut self, parts: &mut Plain, has_first_steps: bool) -> Progress {
+    fn begin(&mut self, parts: &mut Tested, has_first_steps: bool) -> Progress {
         if has_first_steps && self.step.is_new() {
             return self.step.first_steps(parts, &mut self.side);
         }
@@ -46,7 +46,7 @@ impl Task {
     }
 
     // Makes the steps that are left of a call, the last of which told this: how the call ended.
-    fn go_on(&mut self, parts: &mut Plain, mut told: Progress) -> Ending {
+    fn go_on(&mut self, parts: &mut Tested, mut told: Progress) -> Ending {
         for _ in 0..16 {
             if self.step.left() == 0 {
                 break;
@@ -60,14 +60,14 @@ impl Task {
     }
 
     // A whole poll, in one of the two ways.
-    fn poll(&mut self, parts: &mut Plain, has_first_steps: bool) -> Ending {
+    fn poll(&mut self, parts: &mut Tested, has_first_steps: bool) -> Ending {
         parts.core.set_waker(self.side.waker);
         let told = self.begin(parts, has_first_steps);
         self.go_on(parts, told)
     }
 
     // A whole drop.
-    fn leave(&mut self, parts: &mut Plain) -> Ending {
+    fn leave(&mut self, parts: &mut Tested) -> Ending {
         if self.step.is_resting() {
             self.step.begin_drop(&mut self.side);
         }
@@ -75,7 +75,7 @@ impl Task {
     }
 
     // A poll or a drop. A task that is finished is made anew first.
-    fn call(&mut self, parts: &mut Plain, turn: u64, has_first_steps: bool) -> Shown {
+    fn call(&mut self, parts: &mut Tested, turn: u64, has_first_steps: bool) -> Shown {
         if !self.step.is_resting() {
             self.step = Step::new();
         }
@@ -100,7 +100,7 @@ impl Task {
     }
 }
 
-fn left_of(parts: &Plain) -> Left {
+fn left_of(parts: &Tested) -> Left {
     let core = &parts.core;
     let (word, lists) = (core.word.bits(), &core.lists);
     (word, core.door, lists.len(), lists.head, parts.is_broken)
@@ -117,7 +117,7 @@ fn answer(kind: u64) -> Polled {
 // A cell and its tasks, whose first polls are made in one of the two ways.
 #[derive(Drop)]
 struct Way {
-    parts: Plain,
+    parts: Tested,
     tasks: [Task; 4],
     has_first_steps: bool,
 }
@@ -125,7 +125,7 @@ struct Way {
 impl Way {
     fn new(alloc: Global, has_first_steps: bool) -> Way {
         Way {
-            parts: Plain::new(alloc),
+            parts: Tested::new(alloc),
             tasks: [5, 6, 7, 7].map(|waker| Task::new(alloc, waker)),
             has_first_steps,
         }
