@@ -1,6 +1,6 @@
 -- The parts of a cell as plain data, and what each of their calls asks, answers and leaves.
 use Rattle.std.specs.Prelude.{◌≡◌, ◌≢◌, ℕ, suc, ◌<◌, ◌≤◌, ◌-◌, ◌⊎◌, ◌||◌, Bool, true, false}
-use Rattle.std.specs.Prelude.{cond, not, List, [], ◌∷◌, ◌++◌, Option, Some, None, vec_len, vec_capacity}
+use Rattle.std.specs.Prelude.{if◌then◌else◌, not, List, [], ◌∷◌, ◌++◌, Option, Some, None, vec_len, vec_capacity}
 use Rattle.std.specs.Option.{is_some}
 use Rattle.once_core.specs.declared.plain.Core.{Core}
 use Rattle.once_queue.specs.declared.log.QueueLine.{QueueLine}
@@ -59,12 +59,12 @@ module _ {W : Type 0} where
 
   -- a quick claim is won where the word is NEW, and sets the quick bit
   abbrev pub DidQuick : CoreState W → Bool → CoreState W → Type 0
-  DidQuick s won t = (won ≡ is_zero s.word) × (t ≡ record s { word = cond won (flags_alone true false) s.word })
+  DidQuick s won t = (won ≡ is_zero s.word) × (t ≡ record s { word = if won then flags_alone true false else s.word })
 
   -- a fast release is done where the word is exactly the quick bit; it gives the right back, and tells whether the value is set
   abbrev pub DidFast : CoreState W → Bool → Bool → CoreState W → Type 0
   DidFast s ready won t =
-      (won ≡ is_quick_bit s.word) × (t ≡ record s { word = cond won (flags_alone false ready) s.word })
+      (won ≡ is_quick_bit s.word) × (t ≡ record s { word = if won then flags_alone false ready else s.word })
 
   -- below the limit the count grows; at it the word tells whether the value is set
   abbrev pub DidCountIn : CoreState W → ℕ → Counted → CoreState W → Type 0
@@ -131,7 +131,7 @@ module _ {W : Type 0} where
   abbrev pub release_state : Bool → List (Listing W) → CoreState W → CoreState W
   release_state ready xs s = record s {
     word = record s.word { quick = false; ready = ready };
-    head = cond s.word.quick s.head false;
+    head = if s.word.quick then s.head else false;
     listings = xs;
   }
 

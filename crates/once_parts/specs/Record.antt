@@ -1,5 +1,5 @@
 -- What is known of a record, as far as it was seen.
-use Rattle.std.specs.Prelude.{◌≡◌, ℕ, Bool, true, cond, List, [], ◌∷◌, ◌++◌, Some, None, reverse}
+use Rattle.std.specs.Prelude.{◌≡◌, ℕ, Bool, true, if◌then◌else◌, List, [], ◌∷◌, ◌++◌, Some, None, reverse}
 use mathlib.Core.List.{IsPrefix}
 use Rattle.pagebook.specs.Pages.{View}
 use Rattle.once_queue.specs.Word.{flags_of}
@@ -21,7 +21,7 @@ EndsSet t log = (before : List Entry) × (log ≡ before ++ End t (Value 0) ∷ 
 
 -- a look that came after all that was seen, and found the value exactly where the cell was set then
 abbrev pub Looked : Bool → List Entry → List Entry → Type 0
-Looked found old new = (before : List Entry) × IsPrefix old before × (new ≡ before ++ Look (cond found (Some 0) None) ∷ []) × (is_set (cell Once (reverse new)) ≡ found)
+Looked found old new = (before : List Entry) × IsPrefix old before × (new ≡ before ++ Look (if found then Some 0 else None) ∷ []) × (is_set (cell Once (reverse new)) ≡ found)
 
 -- what a look tells, by the word
 abbrev pub Looks : View Entry Sheet → ℕ → View Entry Sheet → Type 0

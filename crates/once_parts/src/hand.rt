@@ -1,5 +1,5 @@
 // A task's pen, with what the task has seen of the log, and the moments that the task makes by itself.
-ghost use Rattle.std.specs.Prelude.{◌≡◌, ◌^◌, cond};
+ghost use Rattle.std.specs.Prelude.{◌≡◌, ◌^◌, if◌then◌else◌};
 ghost use Rattle.once_parts.specs.Own.{IsHand};
 
 use crate::act::{Act, Makes, Puts, Writes};
@@ -19,7 +19,7 @@ pub(crate) struct Hand {
 }
 
 impl Hand {
-    ghost use Rattle.std.specs.Prelude.{◌==◌, ◌-◌, ◌^◌, None, true, false, cond, List, [], ◌∷◌, reverse};
+    ghost use Rattle.std.specs.Prelude.{◌==◌, ◌-◌, ◌^◌, None, true, false, if◌then◌else◌, List, [], ◌∷◌, reverse};
     ghost use Rattle.std.specs.Option.{MatchOption};
     ghost use Rattle.once_core.specs.Steps.{after_quick, is_resting, step_of_drop};
     ghost use Rattle.once_world.specs.Record.{Begin, Made, Ran};
@@ -227,7 +227,7 @@ impl Hand {
 // The word that a fast release leaves.
 #[inline(always)]
 fn freed(ready: bool) -> u64
-    ensures { result ≡ cond ready (2 ^ 63) 0 }
+    ensures { result ≡ (if ready then 2 ^ 63 else 0) }
 {
     if ready { READY_BIT } else { NEW }
 }

@@ -1,5 +1,5 @@
 -- The slots in which listings stand. One that its listing left has the ticket `hole`, which no listing has.
-use Rattle.std.specs.Prelude.{ℕ, Bool, false, cond, not, ◌==◌}
+use Rattle.std.specs.Prelude.{ℕ, Bool, false, if◌then◌else◌, not, ◌==◌}
 use Rattle.std.specs.Option.{is_some}
 use Rattle.once_queue.specs.declared.waiters.Listing.{Listing}
 
@@ -14,4 +14,4 @@ module _ {W : Type 0} where
 
   -- a listing stands in the slot, and was not called
   abbrev pub is_open : Listing W → Bool
-  is_open x = cond (is_kept x) (is_some x.waker) false
+  is_open x = if is_kept x then is_some x.waker else false

@@ -1,5 +1,5 @@
 -- The list behind a queue's lock: the listings of those who wait, the oldest first. A listing without a waker is one that was called.
-use Rattle.std.specs.Prelude.{ℕ, zero, suc, ◌+◌, ◌==◌, Bool, true, false, cond, List, [], ◌∷◌, ◌++◌, Option, Some, None, map}
+use Rattle.std.specs.Prelude.{ℕ, zero, suc, ◌+◌, ◌==◌, Bool, true, false, if◌then◌else◌, List, [], ◌∷◌, ◌++◌, Option, Some, None, map}
 use Rattle.std.specs.Borrow.{Bor}
 pub use Rattle.once_queue.specs.declared.waiters.Listing.{Listing}
 use Rattle.once_queue.specs.Numbers.{member}
@@ -17,7 +17,7 @@ module _ {W : Type 0} where
   -- the waker of the listing with the ticket
   abbrev pub find_listing : ℕ → List (Listing W) → Option (Option W)
   find_listing n [] = None
-  find_listing n (x ∷ xs) = cond (x.ticket == n) (Some x.waker) (find_listing n xs)
+  find_listing n (x ∷ xs) = if x.ticket == n then Some x.waker else find_listing n xs
 
   -- the same, where there may be no ticket
   abbrev pub own_listing : Option ℕ → List (Listing W) → Option (Option W)
@@ -27,7 +27,7 @@ module _ {W : Type 0} where
   -- the list without the listing of the ticket
   abbrev pub take_out : ℕ → List (Listing W) → List (Listing W)
   take_out n [] = []
-  take_out n (x ∷ xs) = cond (x.ticket == n) (take_out n xs) (x ∷ take_out n xs)
+  take_out n (x ∷ xs) = if x.ticket == n then take_out n xs else x ∷ take_out n xs
 
   -- the same, where there may be no ticket
   abbrev pub list_without : Option ℕ → List (Listing W) → List (Listing W)
@@ -67,7 +67,7 @@ module _ {W : Type 0} where
 -- the least number from n on that is not in the list, of the next f and the one after them
 abbrev pub least_from : ℕ → ℕ → List ℕ → ℕ
 least_from zero n ns = n
-least_from (suc f) n ns = cond (member n ns) (least_from f (suc n) ns) n
+least_from (suc f) n ns = if member n ns then least_from f (suc n) ns else n
 
 -- a number above each of the list
 abbrev pub above_each : List ℕ → ℕ
@@ -109,20 +109,20 @@ module _ {W : Type 0} where
 
   -- who leaves passes its turn on where its listing was called and nobody holds, the value not being set
   abbrev pub passes_turn : Bool → ℕ → List (Listing W) → Bool
-  passes_turn free n xs = cond free (was_called (find_listing n xs)) false
+  passes_turn free n xs = if free then was_called (find_listing n xs) else false
 
   -- the waker that then gets the turn, and the list that is left
   abbrev pub next_waker : Bool → ℕ → List (Listing W) → Option W
-  next_waker passes n xs = cond passes (first_waker (take_out n xs)) None
+  next_waker passes n xs = if passes then first_waker (take_out n xs) else None
 
   -- the list that is left when the listing of who leaves is taken out
   abbrev pub left_list : Bool → ℕ → List (Listing W) → List (Listing W)
-  left_list passes n xs = cond passes (call_first (take_out n xs)) (take_out n xs)
+  left_list passes n xs = if passes then call_first (take_out n xs) else take_out n xs
 
 -- all wakers in the order of their listings, each once: what comes after those that were seen
 abbrev pub out_by : Option ℕ → (List ℕ → List ℕ) → List ℕ → List ℕ
 out_by None rest seen = rest seen
-out_by (Some w) rest seen = cond (member w seen) (rest seen) (w ∷ rest (w ∷ seen))
+out_by (Some w) rest seen = if member w seen then rest seen else w ∷ rest (w ∷ seen)
 
 -- the wakers of the list in order, each once, but for those that were seen
 abbrev pub all_out : List (Listing ℕ) → List ℕ → List ℕ

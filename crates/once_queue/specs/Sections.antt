@@ -1,5 +1,5 @@
 -- What a section under the queue's lock sees, answers and leaves.
-use Rattle.std.specs.Prelude.{◌≡◌, ℕ, ◌<◌, ◌⊎◌, ◌||◌, not, cond, Bool, true, false, List, [], ◌∷◌, Option, Some, None, IfSome, All, HoldsAt, length}
+use Rattle.std.specs.Prelude.{◌≡◌, ℕ, ◌<◌, ◌⊎◌, ◌||◌, not, if◌then◌else◌, Bool, true, false, List, [], ◌∷◌, Option, Some, None, IfSome, All, HoldsAt, length}
 use Rattle.std.specs.declared.vec.Vec.{Vec}
 use Rattle.std.specs.declared.alloc.Global.{Global}
 use Rattle.once_queue.specs.declared.waiters.Answer.{Answer}
@@ -13,11 +13,11 @@ shows_set f = f.ready
 
 -- the value is not set, and neither the word nor the flag beside the list says that some task holds
 abbrev pub shows_free : Flags → Bool → Bool
-shows_free f head = cond f.ready false (not (f.quick || head))
+shows_free f head = if f.ready then false else not (f.quick || head)
 
 -- the value is not set, and some task holds
 abbrev pub shows_taken : Flags → Bool → Bool
-shows_taken f head = cond f.ready false (f.quick || head)
+shows_taken f head = if f.ready then false else f.quick || head
 
 module _ {W : Type 0} (same : W → W → Type 0) where
   -- some waker of the list was told to be the same

@@ -1,5 +1,5 @@
 //! The listings of those who wait, in their order, each found by its ticket without a search.
-ghost use Rattle.std.specs.Prelude.{◌≡◌, ◌==◌, ◌<◌, ◌≤◌, ◌⊎◌, ◌++◌, ◌∷◌, [], ℕ, true, false, cond, Some, None, IsSome, IfSome, IfOk, IsOk, OnOk, length, vec_len, vec_capacity, HoldsAt, filter};
+ghost use Rattle.std.specs.Prelude.{◌≡◌, ◌==◌, ◌<◌, ◌≤◌, ◌⊎◌, ◌++◌, ◌∷◌, [], ℕ, true, false, if◌then◌else◌, Some, None, IsSome, IfSome, IfOk, IsOk, OnOk, length, vec_len, vec_capacity, HoldsAt, filter};
 ghost use Rattle.std.specs.List.{position};
 ghost use Rattle.std.specs.Option.{option_copied, option_map};
 ghost use Rattle.once_queue.specs.Numbers.{is_distinct, member};
@@ -307,7 +307,7 @@ fn mark(marks: &mut Vec<bool>, number: u64)
     requires { (number < vec_len marks.old)
         ⊎ ((number ≡ vec_len marks.old) × (vec_len marks.old < vec_capacity marks.old)) }
     ensures { (n : ℕ) → is_marked n marks.new.items
-        ≡ cond (number == n) true (is_marked n marks.old.items) }
+        ≡ (if number == n then true else is_marked n marks.old.items) }
 {
     match marks.get_mut(number as usize) {
         Some(mark) => *mark = true,
@@ -318,7 +318,7 @@ fn mark(marks: &mut Vec<bool>, number: u64)
 // Takes the mark of this number away, if it has one.
 fn unmark(marks: &mut Vec<bool>, number: u64)
     ensures marks { (n : ℕ) → is_marked n marks.new.items
-        ≡ cond (number == n) false (is_marked n marks.old.items) }
+        ≡ (if number == n then false else is_marked n marks.old.items) }
     ensures len { vec_len marks.new ≡ vec_len marks.old }
 {
     if let Some(mark) = marks.get_mut(number as usize) {

@@ -1,5 +1,5 @@
 //! Who waits: the flag and the list behind a queue's lock, and what a section does with them.
-ghost use Rattle.std.specs.Prelude.{◌≡◌, ◌≢◌, ◌==◌, ◌-◌, ◌||◌, ℕ, true, false, cond, not, [], IsSome, IfSome, IsOk, IfOk, OnOk, OnErr, All, length, Some, None, ◌+◌, ◌<◌, ◌⊎◌, ◌++◌, ◌∷◌, vec_len};
+ghost use Rattle.std.specs.Prelude.{◌≡◌, ◌≢◌, ◌==◌, ◌-◌, ◌||◌, ℕ, true, false, if◌then◌else◌, not, [], IsSome, IfSome, IsOk, IfOk, OnOk, OnErr, All, length, Some, None, ◌+◌, ◌<◌, ◌⊎◌, ◌++◌, ◌∷◌, vec_len};
 ghost use Rattle.std.specs.List.{AllPairs, HoldsAt};
 ghost use Rattle.std.specs.Option.{MatchOption, option_copied, option_flatten, option_map, is_some};
 ghost use Rattle.once_queue.specs.Numbers.{member};
@@ -164,10 +164,9 @@ impl<W: WakerId + Drop> Lists<W> {
         // Only a claim changes anything.
         ensures head { self.new.head ≡ (self.old.head || shows_free (flags_of word) self.old.head) }
         ensures listings { listings_of self.new
-            ≡ cond (shows_free (flags_of word) self.old.head)
-            (list_without ticket.old (listings_of self.old)) (listings_of self.old) }
+            ≡ (if shows_free (flags_of word) self.old.head then list_without ticket.old (listings_of self.old) else listings_of self.old) }
         ensures ticket { ticket.new
-            ≡ cond (shows_free (flags_of word) self.old.head) None ticket.old }
+            ≡ (if shows_free (flags_of word) self.old.head then None else ticket.old) }
     {
         if let Some(answer) = self.claim(ticket, word) {
             return answer;
@@ -189,16 +188,14 @@ impl<W: WakerId + Drop> Lists<W> {
             → result ≡ Answer.Claimed }
         ensures held { shows_taken (flags_of word) self.old.head ≡ true
             → result
-            ≡ cond (is_some (option_flatten (own_listing ticket.old (listings_of self.old))))
-            Answer.Listed Answer.Held }
+            ≡ (if is_some (option_flatten (own_listing ticket.old (listings_of self.old))) then Answer.Listed else Answer.Held) }
 
         // Only a claim changes anything.
         ensures head { self.new.head ≡ (self.old.head || shows_free (flags_of word) self.old.head) }
         ensures listings { listings_of self.new
-            ≡ cond (shows_free (flags_of word) self.old.head)
-            (list_without ticket.old (listings_of self.old)) (listings_of self.old) }
+            ≡ (if shows_free (flags_of word) self.old.head then list_without ticket.old (listings_of self.old) else listings_of self.old) }
         ensures ticket { ticket.new
-            ≡ cond (shows_free (flags_of word) self.old.head) None ticket.old }
+            ≡ (if shows_free (flags_of word) self.old.head then None else ticket.old) }
     {
         if let Some(answer) = self.claim(ticket, word) {
             return answer;
@@ -234,10 +231,9 @@ impl<W: WakerId + Drop> Lists<W> {
         ensures head { self.new.head ≡ (self.old.head || shows_free (flags_of word) self.old.head) }
         ensures listings { shows_taken (flags_of word) self.old.head ≡ false
             → listings_of self.new
-            ≡ cond (shows_free (flags_of word) self.old.head)
-            (list_without ticket.old (listings_of self.old)) (listings_of self.old) }
+            ≡ (if shows_free (flags_of word) self.old.head then list_without ticket.old (listings_of self.old) else listings_of self.old) }
         ensures ticket { shows_taken (flags_of word) self.old.head ≡ false
-            → ticket.new ≡ cond (shows_free (flags_of word) self.old.head) None ticket.old }
+            → ticket.new ≡ (if shows_free (flags_of word) self.old.head then None else ticket.old) }
         ensures waker { shows_taken (flags_of word) self.old.head ≡ false → waker.new ≡ waker.old }
     {
         if let Some(answer) = self.claim(ticket, word) {
@@ -334,10 +330,9 @@ impl<W: WakerId + Drop> Lists<W> {
         ensures held { shows_taken (flags_of word) self.old.head ≡ true → result ≡ None }
         ensures head { self.new.head ≡ (self.old.head || shows_free (flags_of word) self.old.head) }
         ensures listings { listings_of self.new
-            ≡ cond (shows_free (flags_of word) self.old.head)
-            (list_without ticket.old (listings_of self.old)) (listings_of self.old) }
+            ≡ (if shows_free (flags_of word) self.old.head then list_without ticket.old (listings_of self.old) else listings_of self.old) }
         ensures ticket { ticket.new
-            ≡ cond (shows_free (flags_of word) self.old.head) None ticket.old }
+            ≡ (if shows_free (flags_of word) self.old.head then None else ticket.old) }
         ensures room { shows_free (flags_of word) self.old.head ≡ false → self.new ≡ self.old }
     {
         if word >= READY_BIT {

@@ -1,5 +1,5 @@
 //! The word of a cell: how many tasks are counted in, and two flags.
-ghost use Rattle.std.specs.Prelude.{◌≡◌, ◌<◌, ◌+◌, ◌-◌, ◌^◌, true, false, cond};
+ghost use Rattle.std.specs.Prelude.{◌≡◌, ◌<◌, ◌+◌, ◌-◌, ◌^◌, true, false, if◌then◌else◌};
 
 use std::marker::Model;
 
@@ -87,7 +87,7 @@ impl Word {
     #[inline(always)]
     pub fn quick(&mut self) -> bool
         ensures won { result ≡ is_zero self.old }
-        ensures new { self.new ≡ cond result (flags_alone true false) self.old }
+        ensures new { self.new ≡ (if result then flags_alone true false else self.old) }
     {
         if self.bits == NEW {
             self.bits = QINIT_BIT;
@@ -100,7 +100,7 @@ impl Word {
     #[inline(always)]
     pub fn fast(&mut self, ready: bool) -> bool
         ensures won { result ≡ is_quick_bit self.old }
-        ensures new { self.new ≡ cond result (flags_alone false ready) self.old }
+        ensures new { self.new ≡ (if result then flags_alone false ready else self.old) }
     {
         if self.bits == QINIT_BIT {
             self.bits = if ready { READY_BIT } else { NEW };

@@ -1,5 +1,5 @@
 -- How many other tasks wait.
-use Rattle.std.specs.Prelude.{◌≤◌, ℕ, Bool, true, false, cond, ◌==◌, List}
+use Rattle.std.specs.Prelude.{◌≤◌, ℕ, Bool, true, false, if◌then◌else◌, ◌==◌, List}
 use Rattle.once_queue.specs.Numbers.{how_many}
 use Rattle.once_world.specs.Record.{Kind, Entry, made_in}
 use Rattle.once_world.specs.Tasks.{Status, Waiting, status}
@@ -11,7 +11,7 @@ is_waiting _ = false
 
 -- how many other tasks than t wait
 abbrev pub waiters : Kind → ℕ → List Entry → ℕ
-waiters kind t history = how_many (λ u. cond (u == t) false (is_waiting (status kind u history))) (made_in history)
+waiters kind t history = how_many (λ u. if u == t then false else is_waiting (status kind u history)) (made_in history)
 
 -- at least limit other tasks than t wait
 abbrev pub AreWaiting : Kind → ℕ → ℕ → List Entry → Type 0

@@ -1,5 +1,5 @@
 -- Which record belongs to which inputs. The newest input, entry and part stand first.
-use Rattle.std.specs.Prelude.{◌≡◌, ◌≤◌, ℕ, Bool, true, false, cond, ◌==◌, not, List, [], ◌∷◌, ◌++◌, length}
+use Rattle.std.specs.Prelude.{◌≡◌, ◌≤◌, ℕ, Bool, true, false, if◌then◌else◌, ◌==◌, not, List, [], ◌∷◌, ◌++◌, length}
 use Rattle.once_queue.specs.declared.log.QueueLine.{QueueLine}
 use Rattle.once_world.specs.Record.{Answer, Memory, Kind, Once, OnceWith, OwnerCall, Got, Entry, Made, Begin, Claim}
 use Rattle.once_world.specs.Record.{Ran, Free, Fill, Pass, End, DropBegin, DropEnd, Look, Own, has_call}
@@ -81,7 +81,7 @@ AreOfGo false kind t a entries = entries ≡ []
 
 -- an owner's call fits where every made task is gone and the kind has the call
 abbrev pub fits_owner : Kind → OwnerCall → List Entry → Bool
-fits_owner kind o before = cond (all_gone kind before) (has_call kind o) false
+fits_owner kind o before = if all_gone kind before then has_call kind o else false
 
 -- an owner's call and what it is given, where it fits
 abbrev pub own_part : Bool → OwnerCall → Got → List Entry
@@ -101,8 +101,8 @@ Adds kind Looks before entries = entries ≡ Look (value_in (cell kind before)) 
 -- a call of t begins in these entries
 abbrev pub begins_call : ℕ → List Entry → Bool
 begins_call t [] = false
-begins_call t (Begin u w ∷ before) = cond (u == t) true (begins_call t before)
-begins_call t (DropBegin u ∷ before) = cond (u == t) true (begins_call t before)
+begins_call t (Begin u w ∷ before) = if u == t then true else begins_call t before
+begins_call t (DropBegin u ∷ before) = if u == t then true else begins_call t before
 begins_call t (_ ∷ before) = begins_call t before
 
 -- the input is a Go of t
@@ -112,15 +112,13 @@ is_go_of t _ = false
 
 -- the input is a Go of t, and a call of t is under way
 abbrev pub is_fitting_go : Kind → ℕ → Input → List Entry → Bool
-is_fitting_go kind t i before = cond (is_go_of t i) (is_under_way (status kind t before)) false
+is_fitting_go kind t i before = if is_go_of t i then is_under_way (status kind t before) else false
 
 -- the Go of t that fitted since its last call began
 abbrev pub gos : Kind → ℕ → List Part → List Input
 gos kind t [] = []
 gos kind t (p ∷ before) =
-    cond (begins_call t p.entries) []
-    (cond (is_fitting_go kind t p.input (entries_of before)) (p.input ∷ gos kind t before)
-    (gos kind t before))
+    if begins_call t p.entries then [] else (if is_fitting_go kind t p.input (entries_of before) then p.input ∷ gos kind t before else gos kind t before)
 
 -- the input is a Go that is given no memory
 abbrev pub is_ungranted : Input → Bool
@@ -130,12 +128,12 @@ is_ungranted _ = false
 -- no Go of the list is given no memory
 abbrev pub all_granted : List Input → Bool
 all_granted [] = true
-all_granted (i ∷ inputs) = cond (is_ungranted i) false (all_granted inputs)
+all_granted (i ∷ inputs) = if is_ungranted i then false else all_granted inputs
 
 -- a poll of t ends for want of memory in these entries
 abbrev pub ends_for_memory : ℕ → List Entry → Bool
 ends_for_memory t [] = false
-ends_for_memory t (End u Memory ∷ before) = cond (u == t) true (ends_for_memory t before)
+ends_for_memory t (End u Memory ∷ before) = if u == t then true else ends_for_memory t before
 ends_for_memory t (_ ∷ before) = ends_for_memory t before
 
 -- only a call that met a Go without memory ends for want of it

@@ -1,5 +1,5 @@
 -- The queue log: which queue stands at the door, and which log belongs to which parts. The newest line stands first.
-use Rattle.std.specs.Prelude.{◌≡◌, ◌≢◌, ℕ, Bool, true, false, cond, ◌==◌, List, [], ◌∷◌, ◌++◌, Option, Some, None}
+use Rattle.std.specs.Prelude.{◌≡◌, ◌≢◌, ℕ, Bool, true, false, if◌then◌else◌, ◌==◌, List, [], ◌∷◌, ◌++◌, Option, Some, None}
 use Rattle.once_queue.specs.declared.log.QueueLine.{QueueLine}
 use Rattle.once_queue.specs.declared.log.QueueLine.TheVariants.{Put, Entered, Taken}
 use Rattle.once_world.specs.Record.{Answer, Pending, Kind, Entry, Free, Fill, Pass, End, replaces}
@@ -17,7 +17,7 @@ standing_queue (Taken q ∷ before) = None
 -- the queue q was put
 abbrev pub was_put : ℕ → List QueueLine → Bool
 was_put q [] = false
-was_put q (Put n ∷ before) = cond (n == q) true (was_put q before)
+was_put q (Put n ∷ before) = if n == q then true else was_put q before
 was_put q (_ ∷ before) = was_put q before
 
 -- a queue is put where none stands, with a new number; entered and taken out only while it stands there
@@ -54,7 +54,7 @@ needs_queue kind _ before = false
 abbrev pub need_queue : Kind → List Entry → List Entry → Bool
 need_queue kind [] before = false
 need_queue kind (e ∷ entries) before =
-    cond (needs_queue kind e (entries ++ before)) true (need_queue kind entries before)
+    if needs_queue kind e (entries ++ before) then true else need_queue kind entries before
 
 -- some queue was entered
 abbrev pub has_entered : List QueueLine → Bool

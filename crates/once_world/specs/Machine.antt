@@ -1,5 +1,5 @@
 -- The machine: what all tasks share, the place at which each task stands, and what each input does.
-use Rattle.std.specs.Prelude.{◌≡◌, ℕ, suc, Bool, true, false, cond, ◌==◌, ◌-◌, nat_lt, ◌||◌, not, List, [], ◌∷◌, ◌++◌}
+use Rattle.std.specs.Prelude.{◌≡◌, ℕ, suc, Bool, true, false, if◌then◌else◌, ◌==◌, ◌-◌, nat_lt, ◌||◌, not, List, [], ◌∷◌, ◌++◌}
 use Rattle.std.specs.Prelude.{Option, Some, None}
 use Rattle.std.specs.Option.{is_some}
 pub use Rattle.once_world.specs.Places.{Ending, EndPending, EndValue, EndError, EndMemory, EndFull, EndDropped}
@@ -56,7 +56,7 @@ is_taken c = c.quick || c.head
 
 -- nobody holds, and the value is not set
 abbrev pub is_free : SharedState → Bool
-is_free c = cond c.ready false (not (is_taken c))
+is_free c = if c.ready then false else not (is_taken c)
 
 -- the queue q stands at the door
 abbrev pub is_at_door : ℕ → Option ℕ → Bool
@@ -181,7 +181,7 @@ look_shared a c n = record c { head = head_after a c.head; listings = looked_lis
 abbrev pub look_step : QueueState → Bool → Bool → SharedState → ℕ → ℕ → Answer → ℕ → Option ℕ → Outcome
 look_step state listed granted c t w k q n =
     let a = look_answer state listed in
-    outcome_of (look_shared a c n) t k (claim_entries (is_claim a) t) (after_look a (cond granted (Some w) None) q n)
+    outcome_of (look_shared a c n) t k (claim_entries (is_claim a) t) (after_look a (if granted then Some w else None) q n)
 
 -- what a call to list oneself leaves, by its answer
 abbrev pub list_shared : SectionAnswer ℕ → SharedState → Option ℕ → ℕ → SharedState
@@ -342,7 +342,7 @@ pub record World : Type 0 where
 
 -- the tasks, with y at the number t
 abbrev pub put_task : ℕ → Task → (ℕ → Option Task) → ℕ → Option Task
-put_task t y tasks u = cond (t == u) (Some y) (tasks u)
+put_task t y tasks u = if t == u then Some y else tasks u
 
 -- how many tasks are not finished, where one of n comes to this step
 abbrev pub unfinished_after : Step ℕ ℕ → ℕ → ℕ
@@ -422,7 +422,7 @@ IsIdle (Some x) = in_call x.step ≡ false
 
 -- what a look finds
 abbrev pub look_value : SharedState → Option ℕ
-look_value c = cond c.ready (Some c.value) None
+look_value c = if c.ready then Some c.value else None
 
 -- what the owner is given, by whether the value is set
 abbrev pub value_got : Bool → ℕ → Got

@@ -1,5 +1,5 @@
 -- When a poll may be refused: for want of memory, or because as many tasks are counted in as may be.
-use Rattle.std.specs.Prelude.{◌≡◌, ◌≢◌, ◌≤◌, ℕ, Bool, true, false, cond, ◌==◌, ◌⊎◌, List, [], ◌∷◌}
+use Rattle.std.specs.Prelude.{◌≡◌, ◌≢◌, ◌≤◌, ℕ, Bool, true, false, if◌then◌else◌, ◌==◌, ◌⊎◌, List, [], ◌∷◌}
 use Rattle.once_queue.specs.Numbers.{how_many}
 use Rattle.once_world.specs.Record.{Kind, Entry, Begin, made_in}
 use Rattle.once_world.specs.Cell.{Held, is_set, cell}
@@ -13,7 +13,7 @@ is_begin_of t _ = false
 -- the moments since the last Begin of t, the latest first: each is the history that there was then
 abbrev pub moments_since : ℕ → List Entry → List (List Entry)
 moments_since t [] = []
-moments_since t (e ∷ before) = (e ∷ before) ∷ cond (is_begin_of t e) [] (moments_since t before)
+moments_since t (e ∷ before) = (e ∷ before) ∷ (if is_begin_of t e then [] else moments_since t before)
 
 -- P holds at one of these moments
 abbrev pub AtSome : (List Entry → Type 0) → List (List Entry) → Type 0
@@ -43,7 +43,7 @@ is_about _ = false
 
 -- the crowd of t: how many other tasks are about
 abbrev pub crowd : Kind → ℕ → List Entry → ℕ
-crowd kind t history = how_many (λ u. cond (u == t) false (is_about (status kind u history))) (made_in history)
+crowd kind t history = how_many (λ u. if u == t then false else is_about (status kind u history)) (made_in history)
 
 -- the crowd of t has at least limit tasks
 abbrev pub IsCrowded : Kind → ℕ → ℕ → List Entry → Type 0

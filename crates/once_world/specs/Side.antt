@@ -1,5 +1,5 @@
 -- What the side of a replayed task answers and leaves.
-use Rattle.std.specs.Prelude.{◌≡◌, ℕ, cond, List, Option, Some, None, reverse, ⊤}
+use Rattle.std.specs.Prelude.{◌≡◌, ℕ, if◌then◌else◌, List, Option, Some, None, reverse, ⊤}
 use Rattle.once_queue.specs.declared.waiters.Out.{Out}
 use Rattle.once_world.specs.declared.world.side.ReplaySide.{ReplaySide}
 use Rattle.once_core.specs.declared.step.Polled.{Polled}
@@ -35,7 +35,7 @@ DidPut s t = t ≡ record s { value = put_value s.kept s.value }
 
 -- a copy gives the waker where memory is granted
 abbrev pub DidCopy : ReplaySide → Option ℕ → ReplaySide → Type 0
-DidCopy s w t = (w ≡ cond s.granted (Some s.waker) None) × (t ≡ s)
+DidCopy s w t = (w ≡ (if s.granted then Some s.waker else None)) × (t ≡ s)
 
 -- a wake notes who was handed out
 abbrev pub DidWake : ReplaySide → Out ℕ → ReplaySide → Type 0

@@ -1,5 +1,5 @@
 -- What a history tells of one task: its status, and its last call.
-use Rattle.std.specs.Prelude.{ℕ, Bool, true, false, cond, ◌==◌, List, [], ◌∷◌, Option, Some, None}
+use Rattle.std.specs.Prelude.{ℕ, Bool, true, false, if◌then◌else◌, ◌==◌, List, [], ◌∷◌, Option, Some, None}
 use Rattle.once_world.specs.Record.{Answer, Kind, Pending, Entry, Made, Begin, Claim, Ran, Free, Pass, End, DropBegin, DropEnd, is_of, made_in}
 use Rattle.once_world.specs.Cell.{Cell, Held, is_set, cell}
 
@@ -15,7 +15,7 @@ pub data Status : Type 0 where
 
 -- after a poll of t that ended Pending: who held decides
 abbrev pub pending_status : ℕ → Cell → Status
-pending_status t (Held u) = cond (u == t) Holding Waiting
+pending_status t (Held u) = if u == t then Holding else Waiting
 pending_status t _ = Gone
 
 -- the status after an entry of the task, where the cell was c
@@ -32,7 +32,7 @@ status_after _ c s = s
 abbrev pub status : Kind → ℕ → List Entry → Status
 status kind t [] = Unmade
 status kind t (e ∷ before) =
-    cond (is_of t e) (status_after e (cell kind before) (status kind t before)) (status kind t before)
+    if is_of t e then status_after e (cell kind before) (status kind t before) else status kind t before
 
 -- a call is under way
 abbrev pub is_under_way : Status → Bool
@@ -48,7 +48,7 @@ is_gone _ = false
 -- each of these tasks is gone
 abbrev pub are_gone : Kind → List ℕ → List Entry → Bool
 are_gone kind [] history = true
-are_gone kind (t ∷ ts) history = cond (is_gone (status kind t history)) (are_gone kind ts history) false
+are_gone kind (t ∷ ts) history = if is_gone (status kind t history) then are_gone kind ts history else false
 
 -- every task that was made is gone
 abbrev pub all_gone : Kind → List Entry → Bool
@@ -102,5 +102,4 @@ last_call kind t [] = record {
   ran = None;
 }
 last_call kind t (e ∷ before) =
-    cond (is_of t e) (last_call_after e (cell kind before) (status kind t before) (last_call kind t before))
-    (last_call kind t before)
+    if is_of t e then last_call_after e (cell kind before) (status kind t before) (last_call kind t before) else last_call kind t before

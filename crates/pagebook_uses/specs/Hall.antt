@@ -1,5 +1,5 @@
 -- The rule of the hall, and what each of its steps tells.
-use Rattle.std.specs.Prelude.{◌≡◌, ℕ, suc, ◌+◌, ◌%◌, ◌^◌, true, false, cond, List, [], ◌∷◌, length, slice_get}
+use Rattle.std.specs.Prelude.{◌≡◌, ℕ, suc, ◌+◌, ◌%◌, ◌^◌, true, false, if◌then◌else◌, List, [], ◌∷◌, length, slice_get}
 use Rattle.std.specs.declared.option.Option.TheVariants.{Some}
 use Rattle.pagebook.specs.Pages.{View, rewritten}
 use Rattle.pagebook_uses.specs.declared.hall.Arrival.{Arrival}
@@ -9,7 +9,7 @@ use Rattle.pagebook_uses.specs.declared.hall.Page.TheVariants.{AtDesk, OfVisitor
 -- a page counts where its visitor is inside
 abbrev pub counts : Page → ℕ
 counts (AtDesk n) = 0
-counts (OfVisitor b) = cond b 1 0
+counts (OfVisitor b) = if b then 1 else 0
 
 -- how many visitors are inside
 abbrev pub inside : List Page → ℕ

@@ -1,5 +1,5 @@
 -- The rule of numbers that are drawn, and what each step tells.
-use Rattle.std.specs.Prelude.{◌≡◌, ℕ, ◌<◌, ◌==◌, cond, List, [], ◌∷◌, slice_get}
+use Rattle.std.specs.Prelude.{◌≡◌, ℕ, ◌<◌, ◌==◌, if◌then◌else◌, List, [], ◌∷◌, slice_get}
 use mathlib.Core.Logic.{◌⊎◌}
 use Rattle.std.specs.declared.option.Option.TheVariants.{Some}
 use Rattle.pagebook.specs.Pages.{Held, View}
@@ -41,7 +41,7 @@ Looked v n w = w.1 ≡ v.1
 
 -- where the number found is x, it was drawn, and else nothing changed
 abbrev pub Drew : {E : Type 0} → ℕ → View E Drawn → ℕ → View E Drawn → Type 0
-Drew x v n w = w.1 ≡ cond (n == x) (with_number x v.1) v.1
+Drew x v n w = w.1 ≡ (if n == x then with_number x v.1 else v.1)
 
 -- x is one of these
 abbrev pub Has : ℕ → List ℕ → Type 0

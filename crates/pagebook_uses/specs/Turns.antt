@@ -1,5 +1,5 @@
 -- The rule of two words that change in turn, and what each step tells.
-use Rattle.std.specs.Prelude.{◌≡◌, ℕ, zero, suc, ◌+◌, ◌≤◌, Bool, true, not, cond, List, [], ◌∷◌, ◌++◌, length}
+use Rattle.std.specs.Prelude.{◌≡◌, ℕ, zero, suc, ◌+◌, ◌≤◌, Bool, true, not, if◌then◌else◌, List, [], ◌∷◌, ◌++◌, length}
 use Rattle.pagebook.specs.Pages.{View}
 use Rattle.pagebook_uses.specs.declared.turns.Hit.{Hit}
 use Rattle.pagebook_uses.specs.declared.turns.Hit.TheVariants.{Ping, Pong}
@@ -12,7 +12,7 @@ pings_next (suc n) = not (pings_next n)
 -- a rally of so many hits
 abbrev pub rally : ℕ → List Hit
 rally zero = []
-rally (suc n) = rally n ++ cond (pings_next n) Ping Pong ∷ []
+rally (suc n) = rally n ++ (if pings_next n then Ping else Pong) ∷ []
 
 -- the rule
 pub record IsRally (ns : List ℕ) (ps : List ℕ) (log : List Hit) : Type 0 where
