@@ -65,6 +65,7 @@ impl WakerId for Seated {
         true
     }
 
+    #[inline(always)]
     fn same(&self, _other: &Seated) -> bool {
         false
     }

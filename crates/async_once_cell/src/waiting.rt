@@ -84,6 +84,7 @@ impl<'a, T, F: Future, R: Wait + AllocGlobal> Waiting<'a, T, F, R> {
     }
 
     /// The record as far as the task has seen it.
+    #[inline(always)]
     pub(crate) fn record(&self) -> Record
         ensures { (result.book ≡ self.now.cell.book) × (result.log ≡ self.now.log) }
     {
@@ -91,6 +92,7 @@ impl<'a, T, F: Future, R: Wait + AllocGlobal> Waiting<'a, T, F, R> {
     }
 
     /// What a drop does: the init is dropped, and then the task gives the right back, or leaves those who wait.
+    #[inline(always)]
     pub(crate) fn leave(&mut self)
         requires live { self.old.finished ≡ false }
         ensures cell { self.new.cell ≡ self.old.cell }
@@ -109,6 +111,7 @@ where
     F: Future<Output: TryOutput<Ok = T, Error = E>>,
 {
     /// Polls the task once.
+    #[inline(always)]
     pub(crate) fn poll(&mut self, cx: &mut Context<'_>) -> Reply<'a, T, E>
         requires live { self.old.finished ≡ false }
         ensures cell { self.new.cell ≡ self.old.cell }
@@ -139,6 +142,7 @@ where
     }
 
     // The steps of a poll: how it ended, and the error that the init gave.
+    #[inline(always)]
     fn steps(&mut self, cx: &mut Context<'_>) -> (Ending, Option<E>)
         requires live { self.old.finished ≡ false }
         ensures cell { self.new.cell ≡ self.old.cell }
@@ -178,6 +182,7 @@ where
     }
 
     // Ends a poll that ended so. Where it is Pending, the init saw to it that the task is called, or the seat does.
+    #[inline(always)]
     fn settle(&self, ending: &Ending, is_armed: bool, cx: &mut Context<'_>)
         requires { is_armed ≡ true → IsArmed cx.old }
         ensures armed { ending.now ≡ Ending.Pending → IsArmed cx.new }
@@ -331,6 +336,7 @@ struct Leaving<'r, T, R> {
 }
 
 impl<'r, T, R: Wait + AllocGlobal> Leaving<'r, T, R> {
+    #[inline(always)]
     fn new(rt: &'r R, mark: Mark) -> Self
         ensures number { result.mark ≡ mark }
         ensures none { result.woke.value ≡ Out.One None }

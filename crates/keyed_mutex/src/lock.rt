@@ -28,6 +28,7 @@ impl<T: Keyed> Move for KeyedMutex<T> {
 
 impl<T: Keyed> KeyedMutex<T> {
     /// A lock with this content. Its key is the content's.
+    #[inline(always)]
     pub fn new(value: T) -> KeyedMutex<T>
         ensures { result ≡ T.key_of value }
     {
@@ -37,6 +38,7 @@ impl<T: Keyed> KeyedMutex<T> {
     }
 
     /// The content, which has the lock's key.
+    #[inline(always)]
     pub fn into_inner(self) -> T
         ensures { T.key_of result ≡ self }
     {
@@ -48,6 +50,7 @@ impl<T: Keyed> KeyedMutex<T> {
     /// go.
     ///
     /// Asked for: `J` is the lock's key.
+    #[inline(always)]
     pub fn lock<J: Key, R: Wait>(&self, rt: &R) -> MutexGuard<'_, Tied<T, J>>
         requires { self.now ≡ J.key }
     {
@@ -57,6 +60,7 @@ impl<T: Keyed> KeyedMutex<T> {
     /// Takes the lock if it is free.
     ///
     /// Asked for: `J` is the lock's key.
+    #[inline(always)]
     pub fn try_lock<J: Key>(&self) -> Option<MutexGuard<'_, Tied<T, J>>>
         requires { self.now ≡ J.key }
     {
@@ -90,6 +94,7 @@ impl<T: Keyed> KeyedMutex<T> {
     }
 
     // The same lock, for one who knows its key.
+    #[inline(always)]
     fn get<J: Key>(&self) -> &LockOf<T, J>
         requires { self.now ≡ J.key }
     {
@@ -98,6 +103,7 @@ impl<T: Keyed> KeyedMutex<T> {
 }
 
 impl<T: Keyed + Drop> Drop for KeyedMutex<T> {
+    #[inline(always)]
     fn drop(self) {
         drop(self.into_inner());
     }

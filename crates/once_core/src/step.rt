@@ -395,6 +395,7 @@ impl<W: Drop, Q: Drop> Step<W, Q> {
         self.on(Place::DoorGet)
     }
 
+    #[inline(always)]
     fn door_get<P: Parts<W, Queue = Q>>(&mut self, parts: &mut P) -> Progress
         requires { P.can_door_get parts.old }
         ensures line { (q : Option Q) × P.did_door_get parts.old q parts.new × LeadsTo (after_door_get q) result self.new }
@@ -405,6 +406,7 @@ impl<W: Drop, Q: Drop> Step<W, Q> {
         }
     }
 
+    #[inline(always)]
     fn door_put<P: Parts<W, Queue = Q>, S: Side<W>>(
         &mut self,
         parts: &mut P,
@@ -484,6 +486,7 @@ impl<W: Drop, Q: Drop> Step<W, Q> {
         self.end(ending)
     }
 
+    #[inline(always)]
     fn door_again<P: Parts<W, Queue = Q>>(&mut self, ending: Ending, parts: &mut P) -> Progress
         requires { P.can_door_get parts.old }
         ensures line { (q : Option Q) × P.did_door_get parts.old q parts.new
@@ -495,6 +498,7 @@ impl<W: Drop, Q: Drop> Step<W, Q> {
         }
     }
 
+    #[inline(always)]
     fn release<P: Parts<W, Queue = Q>, S: Side<W>>(
         &mut self,
         queue: Q,
@@ -514,6 +518,7 @@ impl<W: Drop, Q: Drop> Step<W, Q> {
         self.on(Place::CountOut(ending))
     }
 
+    #[inline(always)]
     fn count_out<P: Parts<W, Queue = Q>>(&mut self, ending: Ending, parts: &mut P) -> Progress
         requires { P.can_count_out parts.old }
         ensures line { (w : ℕ) × P.did_count_out parts.old w parts.new

@@ -14,6 +14,7 @@ use crate::side::TaskSide;
 use once_core::step::{Ending, Progress, Step};
 use once_queue::word::MAX_WAITERS;
 use std::alloc::AllocGlobal;
+use std::mem;
 use std::sync::Wait;
 
 /// A whole poll: begins it, and makes its steps until it ends. It may wait for the cell's lock, and for whatever the side
@@ -38,8 +39,10 @@ pub fn whole_poll<T, W: TaskWaker + Drop, R: Wait + AllocGlobal, S: TaskSide<W, 
     ensures stays { S.stays side.old side.new }
 {
     parts.begin();
-    let told = start(parts, step, side);
-    go_on(parts, step, side, told)
+    match start(parts, step, side) {
+        Progress::Ended(ending) => ending,
+        Progress::More => go_on(parts, step, side, Progress::More),
+    }
 }
 
 /// A whole drop of a task that is not finished. It may wait as [`whole_poll`].
@@ -77,10 +80,15 @@ fn start<T, W: TaskWaker + Drop, R: Wait + AllocGlobal, S: TaskSide<W, Value = T
     ensures cell { cell_of parts.new ≡ cell_of parts.old }
     ensures walked { Walked (S.state side.old) (own parts.old) result (S.state side.new) (own parts.new) }
     ensures stands { Stands W.whose false (S.state side.new) (own parts.new) result step.new }
+    ensures over { (e : Ending) → result ≡ Progress.Ended e → in_call step.new ≡ false }
     ensures stays { S.stays side.old side.new }
 {
     if step.is_new() {
-        return step.first_steps(parts, side);
+        // This step is made here and put there once, so that the compiler keeps it in registers.
+        let mut first = Step::new();
+        let told = first.first_steps(parts, side);
+        mem::forget(mem::replace(step, first));
+        return told;
     }
     step.begin();
     Progress::More
@@ -110,6 +118,7 @@ pub fn one_step<T, W: TaskWaker + Drop, R: Wait + AllocGlobal, S: TaskSide<W, Va
 
 // Makes the steps that are left of the call, and answers how it ended. There are at most sixteen. The last step so far told
 // this.
+#[inline(never)]
 fn go_on<T, W: TaskWaker + Drop, R: Wait + AllocGlobal, S: TaskSide<W, Value = T>>(
     parts: &mut Shared<'_, '_, T, W, R>,
     step: &mut Step<W, ()>,

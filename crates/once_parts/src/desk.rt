@@ -53,6 +53,7 @@ impl<W: TaskWaker + Drop> Desk<W> {
     ghost use Rattle.std.specs.Prelude.{IsSomeAnd};
 
     /// No queue, and the first two pages of a new book.
+    #[inline(always)]
     pub(crate) fn new(pens: CellPens) -> Self
         requires { pens.held ≡ desk_sheets first_desk }
         ensures { result ≡ pens.book }
@@ -66,6 +67,7 @@ impl<W: TaskWaker + Drop> Desk<W> {
     }
 
     /// Whether a queue stands at the door.
+    #[inline(always)]
     pub(crate) fn get(&mut self, hand: &mut Hand) -> bool
         requires book { self.old ≡ hand.old.seen.book }
         requires can { CanGet (own_of hand.old).task.step }
@@ -78,6 +80,7 @@ impl<W: TaskWaker + Drop> Desk<W> {
     }
 
     /// Puts this queue to the door, where none stands. Else it comes back.
+    #[inline(always)]
     pub(crate) fn put(
         &mut self,
         has_put: &CellWord,
@@ -102,6 +105,7 @@ impl<W: TaskWaker + Drop> Desk<W> {
     }
 
     /// Takes the queue out of the door.
+    #[inline(always)]
     pub(crate) fn take(&mut self, hand: &mut Hand) -> Option<Box<Lists<W>>>
         requires book { self.old ≡ hand.old.seen.book }
         requires can { CanTake (own_of hand.old).task.step }
@@ -114,6 +118,7 @@ impl<W: TaskWaker + Drop> Desk<W> {
     }
 
     /// Claims the right where it is free, else says whether the own listing is there and was not called.
+    #[inline(always)]
     pub(crate) fn look(
         &mut self,
         word: &CellWord,
@@ -138,6 +143,7 @@ impl<W: TaskWaker + Drop> Desk<W> {
     }
 
     /// Claims the right where it is free, else lists this waker, which is the task's.
+    #[inline(always)]
     pub(crate) fn list(
         &mut self,
         word: &CellWord,
@@ -168,6 +174,7 @@ impl<W: TaskWaker + Drop> Desk<W> {
     }
 
     /// Gives the right back: with the value set, and calls all; or without, and calls one.
+    #[inline(always)]
     pub(crate) fn release(&mut self, word: &CellWord, hand: &mut Hand, ready: bool) -> Out<W>
         requires word { IsWord word.now hand.old.seen.book 0 }
         requires book { self.old ≡ hand.old.seen.book }
@@ -189,6 +196,7 @@ impl<W: TaskWaker + Drop> Desk<W> {
     }
 
     /// Takes the listing with this ticket out. Where it was called and nobody holds, calls the next.
+    #[inline(always)]
     pub(crate) fn leave(&mut self, word: &CellWord, hand: &mut Hand, ticket: u64) -> Option<W>
         requires word { IsWord word.now hand.old.seen.book 0 }
         requires book { self.old ≡ hand.old.seen.book }

@@ -31,6 +31,7 @@ impl Hand {
     ghost use Rattle.once_parts.specs.Hands.{own_of};
 
     /// A new task's, by what was seen of the log before.
+    #[inline(always)]
     pub(crate) fn new(front: &Record) -> Hand
         ensures book { result.seen.book ≡ front.now.book }
         ensures task { (own_of result).task ≡ fresh_task }

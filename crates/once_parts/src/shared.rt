@@ -54,6 +54,7 @@ impl<T, W: TaskWaker + Drop> Inner<T, W> {
     ghost use Rattle.once_parts.specs.Shares.{cell_of, own};
 
     /// A new cell. It takes no memory.
+    #[inline(always)]
     pub fn new() -> Self {
         let (word, has_put, blank, front, pens) = Word::open_two_slot::<(), CellRule>(0, 0, &());
         Inner {
@@ -66,6 +67,7 @@ impl<T, W: TaskWaker + Drop> Inner<T, W> {
     }
 
     /// A new task.
+    #[inline(always)]
     pub fn task<'a, 'r, R>(&'a self, rt: &'r R) -> Shared<'a, 'r, T, W, R>
         ensures cell { cell_of result ≡ self.now.slot }
         ensures task { (own result).task ≡ fresh_task }
@@ -79,6 +81,7 @@ impl<T, W: TaskWaker + Drop> Inner<T, W> {
     }
 
     /// What each token of the cell has seen at least.
+    #[inline(always)]
     pub fn record(&self) -> Record
         ensures { result.book ≡ self.now.slot.book }
     {

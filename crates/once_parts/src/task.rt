@@ -116,6 +116,7 @@ impl<'a, 'r, T, W: TaskWaker + Drop, R: Wait + AllocGlobal> Task<'a, 'r, T, W, R
     }
 
     /// A whole drop of a task that is not finished. It may wait as [`poll`](Self::poll).
+    #[inline(always)]
     pub fn leave<S: TaskSide<W, Value = T>>(&mut self, side: &mut S)
         requires live { self.old.finished ≡ false }
         requires number { (S.state side.old).number ≡ self.old.number }

@@ -61,6 +61,7 @@ impl<W: Drop> Slots<W> {
     }
 
     /// The listings, and among them holes, which have no waker to be called.
+    #[inline(always)]
     pub fn as_slice(&self) -> &[Listing<W>]
         ensures { listings_in self.now ≡ filter is_kept result.now }
     {
@@ -93,6 +94,7 @@ impl<W: Drop> Slots<W> {
     }
 
     /// The listing with this ticket.
+    #[inline(always)]
     pub fn find(&self, ticket: u64) -> Option<&Listing<W>>
         ensures { option_map (λ x. x.waker) (option_copied result)
             ≡ find_listing ticket (listings_in self.now) }
@@ -102,6 +104,7 @@ impl<W: Drop> Slots<W> {
     }
 
     /// Takes the listing with this ticket out, if one has it.
+    #[inline(always)]
     pub fn take_out(&mut self, ticket: u64) -> Option<Listing<W>>
         ensures waker { option_map (λ x. x.waker) result
             ≡ find_listing ticket (listings_in self.old) }
@@ -122,6 +125,7 @@ impl<W: Drop> Slots<W> {
     }
 
     /// The least ticket that no listing has.
+    #[inline(always)]
     pub fn free_ticket(&mut self) -> u64
         ensures least { result ≡ new_ticket (listings_in self.old) }
         ensures new { member result (tickets (listings_in self.old)) ≡ false }
@@ -135,6 +139,7 @@ impl<W: Drop> Slots<W> {
     }
 
     /// Puts a listing to the end, for which there is room, and whose ticket no listing has.
+    #[inline(always)]
     pub fn push(&mut self, listing: Listing<W>)
         requires new { member listing.ticket (tickets (listings_in self.old)) ≡ false }
         requires slot { HasSlot self.old }
@@ -148,6 +153,7 @@ impl<W: Drop> Slots<W> {
     }
 
     /// The first listing that has a waker gives it, and stays.
+    #[inline(always)]
     pub fn call_first(&mut self) -> Option<W>
         ensures waker { result ≡ first_waker (listings_in self.old) }
         ensures listings { listings_in self.new ≡ call_first (listings_in self.old) }
@@ -160,6 +166,7 @@ impl<W: Drop> Slots<W> {
     }
 
     /// Makes room for one more listing. Where that is refused the listings are as they were.
+    #[inline(always)]
     pub fn reserve(&mut self) -> Result<(), AllocError>
         ensures slot { OnOk result (HasSlot self.new) }
         ensures mark { OnOk result (HasMark self.new) }
@@ -174,6 +181,7 @@ impl<W: Drop> Slots<W> {
     }
 
     /// Sees to it that the listing that was taken out can be put to the end again, without memory.
+    #[inline(always)]
     pub fn make_room(&mut self)
         requires { length (listings_in self.old) < vec_len self.old.slots }
         ensures slot { HasSlot self.new }
@@ -187,6 +195,7 @@ impl<W: Drop> Slots<W> {
     }
 
     /// Takes all listings out, in their order. It takes no memory.
+    #[inline(always)]
     pub fn take_all(&mut self) -> Vec<Listing<W>>
         ensures all { result.items ≡ listings_in self.old }
         ensures none { listings_in self.new ≡ [] }
@@ -202,6 +211,7 @@ impl<W: Drop> Slots<W> {
     }
 
     // Where the listing with this ticket stands.
+    #[inline(always)]
     fn place(&self, ticket: u64) -> Option<usize>
         ensures some { IfSome result (λ i. (i < length self.now.slots.items)
             × HoldsAt (λ x. x.ticket ≡ ticket) self.now.slots.items i
@@ -218,6 +228,7 @@ impl<W: Drop> Slots<W> {
     }
 
     // Where a listing with this ticket was put, if it stands there.
+    #[inline(always)]
     fn noted(&self, ticket: u64) -> Option<usize>
         ensures { IfSome result (λ i. (i < length self.now.slots.items)
             × HoldsAt (λ x. x.ticket ≡ ticket) self.now.slots.items i) }
@@ -254,6 +265,7 @@ impl<W: Drop> Slots<W> {
     }
 
     // Closes the holes where the last slot is taken and half of all are holes, about.
+    #[inline(always)]
     fn close_many_holes(&mut self)
         ensures room { HasSlot self.old → self.new ≡ self.old }
         ensures length { length (listings_in self.old) < vec_len self.old.slots
@@ -288,6 +300,7 @@ fn note_all<W>(places: &mut Vec<usize>, slots: &[Listing<W>]) {
 }
 
 // Whether a listing stands in the slot and has a waker.
+#[inline(always)]
 fn has_waker<W>(slot: &Listing<W>) -> bool
     ensures { result ≡ is_open slot.now }
 {
@@ -295,6 +308,7 @@ fn has_waker<W>(slot: &Listing<W>) -> bool
 }
 
 // Notes a place by this number, which is within those noted or the next. Without memory it is not.
+#[inline(always)]
 fn note(places: &mut Vec<usize>, number: usize, place: usize) {
     match places.get_mut(number) {
         Some(noted) => *noted = place,
@@ -303,6 +317,7 @@ fn note(places: &mut Vec<usize>, number: usize, place: usize) {
 }
 
 // Marks this number, which is within the marks, or the next, for which there is room.
+#[inline(always)]
 fn mark(marks: &mut Vec<bool>, number: u64)
     requires { (number < vec_len marks.old)
         ⊎ ((number ≡ vec_len marks.old) × (vec_len marks.old < vec_capacity marks.old)) }
@@ -316,6 +331,7 @@ fn mark(marks: &mut Vec<bool>, number: u64)
 }
 
 // Takes the mark of this number away, if it has one.
+#[inline(always)]
 fn unmark(marks: &mut Vec<bool>, number: u64)
     ensures marks { (n : ℕ) → is_marked n marks.new.items
         ≡ (if number == n then false else is_marked n marks.old.items) }

@@ -271,6 +271,7 @@ impl<W: WakerId + Drop> Lists<W> {
     /// Takes the listing with this ticket out. Where it was called, and neither word nor flag says
     /// that a task holds, and the value is not set, the first that was not called yet gives its waker,
     /// and stays. It takes no memory.
+    #[inline(always)]
     pub fn leave(&mut self, ticket: u64, word: u64) -> Option<W>
         ensures waker { result
             ≡ next_waker
@@ -290,6 +291,7 @@ impl<W: WakerId + Drop> Lists<W> {
     }
 
     /// Makes room for one more listing. Where that is refused all is as it was.
+    #[inline(always)]
     pub fn reserve(&mut self) -> Result<(), AllocError>
         ensures room { OnOk result (HasSpace self.new) }
         ensures succeeds { HasSpace self.old → IsOk result }
@@ -349,6 +351,7 @@ impl<W: WakerId + Drop> Lists<W> {
     }
 
     /// Whether the own ticket has a listing.
+    #[inline(always)]
     pub fn is_listed(&self, ticket: Option<u64>) -> bool
         ensures { result ≡ is_some (kept_ticket ticket (listings_of self.now)) }
     {
@@ -359,6 +362,7 @@ impl<W: WakerId + Drop> Lists<W> {
     }
 
     // The waker of the own listing.
+    #[inline(always)]
     fn own(&self, ticket: Option<u64>) -> Option<&W>
         ensures { option_copied result
             ≡ option_flatten (own_listing ticket (listings_of self.now)) }
@@ -367,6 +371,7 @@ impl<W: WakerId + Drop> Lists<W> {
     }
 
     // Takes the own listing out; where there is none, makes room for one. Answers the ticket to list by.
+    #[inline(always)]
     fn make_place(&mut self, ticket: Option<u64>) -> Result<u64, AllocError>
         ensures ticket { IfOk result (λ n. n ≡ ticket_for ticket (listings_of self.old)) }
         ensures listings { IfOk result (λ n. listings_of self.new
@@ -389,6 +394,7 @@ impl<W: WakerId + Drop> Lists<W> {
     }
 
     // Takes the own listing out, if the ticket has one, and answers the ticket then.
+    #[inline(always)]
     fn take_own(&mut self, ticket: Option<u64>) -> Option<u64>
         ensures kept { result ≡ kept_ticket ticket (listings_of self.old) }
         ensures listings { listings_of self.new ≡ list_without ticket (listings_of self.old) }
@@ -405,6 +411,7 @@ impl<W: WakerId + Drop> Lists<W> {
     }
 
     // Takes the listing with this ticket out, if one has it.
+    #[inline(always)]
     fn take_out(&mut self, ticket: u64) -> Option<Listing<W>>
         ensures waker { option_map (λ x. x.waker) result
             ≡ find_listing ticket (listings_of self.old) }
@@ -420,6 +427,7 @@ impl<W: WakerId + Drop> Lists<W> {
     }
 
     // Puts a listing to the end, for which there is room, and whose ticket no listing has.
+    #[inline(always)]
     fn push(&mut self, listing: Listing<W>)
         requires new { member listing.ticket (tickets (listings_of self.old)) ≡ false }
         requires slot { HasSlot self.old.slots }
@@ -433,6 +441,7 @@ impl<W: WakerId + Drop> Lists<W> {
     }
 
     // The first listing that has a waker gives it.
+    #[inline(always)]
     fn call_first(&mut self) -> Option<W>
         ensures waker { result ≡ first_waker (listings_of self.old) }
         ensures listings { listings_of self.new ≡ call_first (listings_of self.old) }
@@ -461,6 +470,7 @@ fn once_each<W: WakerId + Drop>(listings: &mut Vec<Listing<W>>, mixed: bool)
 }
 
 // Whether the listing has a waker that may be the same as one of those before it.
+#[inline(always)]
 fn may_repeat<W: WakerId>(listing: &Listing<W>, before: &[Listing<W>]) -> bool
     ensures { result ≡ false
         → IfSome listing.now.waker
@@ -485,6 +495,7 @@ fn repeats<W: WakerId>(listing: &Listing<W>, before: &[Listing<W>]) -> bool
 }
 
 // Whether the listing has a waker, and that is the same.
+#[inline(always)]
 fn has<W: WakerId>(listing: &Listing<W>, waker: &W) -> bool
     ensures yes { result ≡ true → MatchOption listing.now.waker ⊥ (λ w. W.tells_same w waker.now) }
     ensures no { result ≡ false → IfSome listing.now.waker (λ w. W.tells_other w waker.now) }

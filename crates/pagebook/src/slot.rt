@@ -61,6 +61,7 @@ impl<T, E, P, R: Rule<E, P>> Move for Slot<T, E, P, R> {
 
 impl<T, E, P, R: Rule<E, P>> Slot<T, E, P, R> {
     /// An empty slot. Its state is the word that the blank stood for.
+    #[inline(always)]
     pub fn new(blank: Blank) -> Slot<T, E, P, R>
         ensures { (result.book ≡ blank.book) × (result.key ≡ blank.key) }
     {
@@ -77,6 +78,7 @@ impl<T, E, P, R: Rule<E, P>> Slot<T, E, P, R> {
     ///
     /// Asked for: `seen` and `pens` are of the slot's book; the first step keeps the rule, and by the rule finds 0,
     /// which says that nobody began to put a value; the second keeps the rule wherever the first led.
+    #[inline(always)]
     pub fn put<X, B: Play<X, E, P>, F: Play<X, E, P>>(
         &self,
         value: T,
@@ -105,6 +107,7 @@ impl<T, E, P, R: Rule<E, P>> Slot<T, E, P, R> {
     }
 
     // The field, which by the rule is full.
+    #[inline(always)]
     fn found<'a>(&'a self, seen: &Seen<E, P, R>) -> (&'a Option<T>, Written<T>)
         requires book { seen.now.book ≡ self.now.book }
         requires sure { Sure R.holds seen.now.log self.now.key 2 }
@@ -124,6 +127,7 @@ impl<T, E, P, R: Rule<E, P>> Slot<T, E, P, R> {
     }
 
     // The field, which by a token is full.
+    #[inline(always)]
     fn whole<'a>(&'a self, written: &Written<T>) -> &'a Option<T>
         requires { written.now.of ≡ self.now.id }
         ensures { result.now ≡ Some written.now.value }
@@ -136,6 +140,7 @@ impl<T, E, P, R: Rule<E, P>> Slot<T, E, P, R> {
     }
 
     /// What shows that there is a value, if there is one now. Nothing is asked for: it looks at the state.
+    #[inline(always)]
     pub fn witness(&self) -> Option<Written<T>>
         ensures { IfSome result (λ w. w.of ≡ self.now.id) }
     {
@@ -150,6 +155,7 @@ impl<T, E, P, R: Rule<E, P>> Slot<T, E, P, R> {
     }
 
     /// The value, if there is one.
+    #[inline(always)]
     pub fn into_inner(self) -> Option<T> {
         let Self {
             state: _,
@@ -163,6 +169,7 @@ impl<T, E, P, R: Rule<E, P>> Slot<T, E, P, R> {
     ///
     /// Asked for: `seen` is of the slot's book, and whoever has seen so much of the log knows by the rule that the state
     /// is 2 (`Sure`).
+    #[inline(always)]
     pub fn get<'a>(&'a self, seen: &Seen<E, P, R>) -> (&'a T, Written<T>)
         requires book { seen.now.book ≡ self.now.book }
         requires sure { Sure R.holds seen.now.log self.now.key 2 }
@@ -176,6 +183,7 @@ impl<T, E, P, R: Rule<E, P>> Slot<T, E, P, R> {
     }
 
     // What lies in the field, which by a token is full.
+    #[inline(always)]
     fn taken(self, written: &Written<T>) -> Option<T>
         requires { written.now.of ≡ self.id }
         ensures { result ≡ Some written.now.value }
@@ -192,6 +200,7 @@ impl<T, E, P, R: Rule<E, P>> Slot<T, E, P, R> {
     /// The value, for whoever shows that there is one.
     ///
     /// Asked for: the token is of this slot.
+    #[inline(always)]
     pub fn into_value(self, written: &Written<T>) -> T
         requires { written.now.of ≡ self.id }
         ensures { result ≡ written.now.value }
@@ -205,6 +214,7 @@ impl<T, E, P, R: Rule<E, P>> Slot<T, E, P, R> {
     /// The value, for whoever shows that there is one. No book is needed.
     ///
     /// Asked for: the token is of this slot.
+    #[inline(always)]
     pub fn value<'a>(&'a self, written: &Written<T>) -> &'a T
         requires { written.now.of ≡ self.now.id }
         ensures { result.now ≡ written.now.value }
@@ -218,6 +228,7 @@ impl<T, E, P, R: Rule<E, P>> Slot<T, E, P, R> {
 
 impl<T> Written<T> {
     /// A copy, which shows the same.
+    #[inline(always)]
     pub fn again(&self) -> Written<T>
         ensures { (result.of ≡ self.now.of) × (result.value ≡ self.now.value) }
     {
@@ -229,6 +240,7 @@ impl<T> Written<T> {
     /// A slot has one value, whatever two tokens of it say. It does nothing.
     ///
     /// Asked for: both are of one slot.
+    #[inline(always)]
     pub fn agrees(&self, other: &Written<T>)
         requires { self.now.of ≡ other.now.of }
         ensures { self.now.value ≡ other.now.value }
@@ -236,12 +248,14 @@ impl<T> Written<T> {
 }
 
 impl<T: Drop, E, P, R: Rule<E, P>> Drop for Slot<T, E, P, R> {
+    #[inline(always)]
     fn drop(self) {
         drop(self.into_inner());
     }
 }
 
 impl<T> Drop for Written<T> {
+    #[inline(always)]
     fn drop(self) {
         let Self { marker: _ } = self;
     }

@@ -41,6 +41,7 @@ impl<P> Model for Pens<P> {
 
 impl<E, P, R: Rule<E, P>> Seen<E, P, R> {
     /// A copy, which knows the same.
+    #[inline(always)]
     pub fn again(&self) -> Seen<E, P, R>
         ensures { result ≡ self.now }
     {
@@ -53,6 +54,7 @@ impl<E, P, R: Rule<E, P>> Seen<E, P, R> {
     /// beginning of the other, and the rule holds of that log with some words and pages.
     ///
     /// Asked for: `other` is of the same book.
+    #[inline(always)]
     pub fn learn(&mut self, other: &Seen<E, P, R>)
         requires { other.now.book ≡ self.old.book }
         ensures book { self.new.book ≡ self.old.book }
@@ -63,6 +65,7 @@ impl<E, P, R: Rule<E, P>> Seen<E, P, R> {
     /// Of two logs that were seen of one book, one is a beginning of the other. It does nothing.
     ///
     /// Asked for: `other` is of the same book.
+    #[inline(always)]
     pub fn agrees(&self, other: &Seen<E, P, R>)
         requires { other.now.book ≡ self.now.book }
         ensures { IsPrefix self.now.log other.now.log ⊎ IsPrefix other.now.log self.now.log }
@@ -72,6 +75,7 @@ impl<E, P, R: Rule<E, P>> Seen<E, P, R> {
     }
 
     /// A hand with no pen, for a step that changes no page, or that makes the first page of its hand.
+    #[inline(always)]
     pub fn no_pens(&self) -> Pens<P>
         ensures { (result.book ≡ self.now.book) × (result.held ≡ []) }
     {
@@ -85,6 +89,7 @@ impl<E, P, R: Rule<E, P>> Seen<E, P, R> {
     ///
     /// Asked for: the hand is of the same book, and wherever the rule holds and book, log and hand fit what is known
     /// here, it can be kept so (`Notes`).
+    #[inline(always)]
     pub fn note<X, M: Play<X, E, P>>(&mut self, pens: &mut Pens<P>, about: &X)
         requires pens { pens.old.book ≡ self.old.book }
         requires notes { Notes R.holds (self.old.log, pens.old.held) (M.then about.now (self.old.log, pens.old.held) 0) }
@@ -98,6 +103,7 @@ impl<P> Pens<P> {
     /// Takes all pens of another hand behind its own, and leaves that hand with none.
     ///
     /// Asked for: both hands are of one book.
+    #[inline(always)]
     pub fn append(&mut self, other: &mut Pens<P>)
         requires { other.old.book ≡ self.old.book }
         ensures own { (self.new.book ≡ self.old.book) × (self.new.held ≡ self.old.held ++ other.old.held) }
@@ -105,6 +111,7 @@ impl<P> Pens<P> {
     {}
 
     /// Keeps the first `at` pens, and gives the others away. With fewer than that it gives none.
+    #[inline(always)]
     pub fn split_off(&mut self, at: usize) -> Pens<P>
         ensures kept { (self.new.book ≡ self.old.book) × (self.new.held ≡ take at self.old.held) }
         ensures given { (result.book ≡ self.old.book) × (result.held ≡ drop at self.old.held) }
@@ -117,12 +124,14 @@ impl<P> Pens<P> {
 }
 
 impl<E, P, R: Rule<E, P>> Drop for Seen<E, P, R> {
+    #[inline(always)]
     fn drop(self) {
         let Self { marker: _ } = self;
     }
 }
 
 impl<P> Drop for Pens<P> {
+    #[inline(always)]
     fn drop(self) {
         let Self { marker: _ } = self;
     }

@@ -43,6 +43,7 @@ impl<E, P, R: Rule<E, P>> Word<E, P, R> {
     /// `about`.
     ///
     /// Asked for: the rule holds of how it begins.
+    #[inline(always)]
     pub fn open<X, M: Opening<X, E, P>>(
         bits: u64,
         about: &X,
@@ -67,6 +68,7 @@ impl<E, P, R: Rule<E, P>> Word<E, P, R> {
     }
 
     /// The same with two words.
+    #[inline(always)]
     pub fn open_two<X, M: Opening<X, E, P>>(
         first: u64,
         second: u64,
@@ -96,6 +98,7 @@ impl<E, P, R: Rule<E, P>> Word<E, P, R> {
     }
 
     /// The same with three words.
+    #[inline(always)]
     pub fn open_three<X, M: Opening<X, E, P>>(
         first: u64,
         second: u64,
@@ -136,6 +139,7 @@ impl<E, P, R: Rule<E, P>> Word<E, P, R> {
     }
 
     /// The same with one word, and another for a `Slot`, which is 0.
+    #[inline(always)]
     pub fn open_slot<X, M: Opening<X, E, P>>(
         bits: u64,
         about: &X,
@@ -163,6 +167,7 @@ impl<E, P, R: Rule<E, P>> Word<E, P, R> {
     }
 
     /// The same with two words, and another for a `Slot`, which is 0.
+    #[inline(always)]
     pub fn open_two_slot<X, M: Opening<X, E, P>>(
         first: u64,
         second: u64,
@@ -195,6 +200,7 @@ impl<E, P, R: Rule<E, P>> Word<E, P, R> {
     }
 
     /// The number in the word, which stays.
+    #[inline(always)]
     pub fn load<X, M: Play<X, E, P>>(
         &self,
         about: &X,
@@ -212,6 +218,7 @@ impl<E, P, R: Rule<E, P>> Word<E, P, R> {
     }
 
     /// Writes `new`. Its caller is not told what was there, so `then` holds of some number that was found.
+    #[inline(always)]
     pub fn store<X, M: Play<X, E, P>>(
         &self,
         new: u64,
@@ -230,6 +237,7 @@ impl<E, P, R: Rule<E, P>> Word<E, P, R> {
     }
 
     /// Writes `new`, and returns the number that was there.
+    #[inline(always)]
     pub fn swap<X, M: Play<X, E, P>>(
         &self,
         new: u64,
@@ -248,6 +256,7 @@ impl<E, P, R: Rule<E, P>> Word<E, P, R> {
     }
 
     /// Writes `new` if the number there is `old`, and else leaves it. Returns the number that was there.
+    #[inline(always)]
     pub fn compare_exchange<X, M: Play<X, E, P>>(
         &self,
         old: u64,
@@ -267,6 +276,7 @@ impl<E, P, R: Rule<E, P>> Word<E, P, R> {
     }
 
     /// Adds `k`, past 2 ^ 64 - 1 from 0 on, and returns the number that was there.
+    #[inline(always)]
     pub fn fetch_add<X, M: Play<X, E, P>>(
         &self,
         k: u64,
@@ -285,6 +295,7 @@ impl<E, P, R: Rule<E, P>> Word<E, P, R> {
     }
 
     /// Subtracts `k`, below 0 from 2 ^ 64 - 1 on, and returns the number that was there.
+    #[inline(always)]
     pub fn fetch_sub<X, M: Play<X, E, P>>(
         &self,
         k: u64,
@@ -304,6 +315,7 @@ impl<E, P, R: Rule<E, P>> Word<E, P, R> {
 }
 
 impl<E, P, R: Rule<E, P>> Drop for Word<E, P, R> {
+    #[inline(always)]
     fn drop(self) {
         let Self { bits: _, marker: _ } = self;
     }

@@ -175,6 +175,7 @@ where
     F: Future,
 {
     // Polls once.
+    #[inline(always)]
     fn poll<E: Drop>(&mut self, cell: &'a OnceCell<T>, cx: &mut Context<'_>) -> Reply<'a, T, E>
     where
         F: Future<Output: TryOutput<Ok = T, Error = E>>,

@@ -110,6 +110,7 @@ impl<W, Q: Drop> Place<W, Q> {
     ghost use Rattle.once_core.specs.Steps.{leave_place};
 
     // Where a waiter leaves that is dropped or refused.
+    #[inline(always)]
     pub(super) fn leaving(queue: Q, ticket: Option<u64>, ending: Ending) -> Self
         ensures { result ≡ leave_place queue ticket ending }
     {

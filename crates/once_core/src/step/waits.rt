@@ -17,6 +17,7 @@ impl<W: Drop, Q: Drop> Step<W, Q> {
     ghost use Rattle.once_queue.specs.Ops.{ticket_in};
     ghost use Rattle.once_core.specs.Steps.{Follows, AfterLook, MayRefuse, after_count_in, after_load, after_copy, after_list};
 
+    #[inline(always)]
     pub(super) fn count_in<P: Parts<W, Queue = Q>, S: Side<W>>(
         &mut self,
         queue: Q,
@@ -47,6 +48,7 @@ impl<W: Drop, Q: Drop> Step<W, Q> {
         }
     }
 
+    #[inline(always)]
     pub(super) fn wait_load<P: Parts<W, Queue = Q>, S: Side<W>>(
         &mut self,
         queue: Q,
@@ -66,6 +68,7 @@ impl<W: Drop, Q: Drop> Step<W, Q> {
         self.on(Place::Look(queue, ticket))
     }
 
+    #[inline(always)]
     pub(super) fn look<P: Parts<W, Queue = Q>, S: Side<W>>(
         &mut self,
         queue: Q,
@@ -92,6 +95,7 @@ impl<W: Drop, Q: Drop> Step<W, Q> {
     }
 
     // Copies the waker, while another task holds.
+    #[inline(always)]
     fn copy<P: Parts<W, Queue = Q>, S: Side<W>>(
         &mut self,
         queue: Q,
@@ -115,6 +119,7 @@ impl<W: Drop, Q: Drop> Step<W, Q> {
         }
     }
 
+    #[inline(always)]
     pub(super) fn list<P: Parts<W, Queue = Q>, S: Side<W>>(
         &mut self,
         queue: Q,
@@ -143,6 +148,7 @@ impl<W: Drop, Q: Drop> Step<W, Q> {
         }
     }
 
+    #[inline(always)]
     pub(super) fn leave<P: Parts<W, Queue = Q>, S: Side<W>>(
         &mut self,
         queue: Q,
