@@ -5,6 +5,7 @@ ghost use Rattle.once_world.specs.Run.{AtEvery, IsRun};
 ghost use Rattle.once_world.specs.Called.{SomebodyCalled};
 ghost use Rattle.once_moments.specs.Kept.{most};
 ghost use Rattle.once_parts.specs.Record.{IsSet, WasFilled};
+ghost use Rattle.async_once_cell.specs.Tokens.{IsSetIn};
 ghost use Rattle.async_once_cell.specs.Views.{is_shared};
 ghost use mathlib.Core.List.{IsPrefix};
 ghost use Rattle.async_once_cell.specs.Polls.{Answers, DidPoll, Polls, PollsAs, Waits, sure_ending};
@@ -90,6 +91,7 @@ impl<'a, T, F: Future, R: Wait + AllocGlobal> LazyFuturePin<'a, T, F, R> {
         ensures value { token.new.value ≡ token.old.value }
         ensures own { IsPrefix token.old.log token.new.log }
         ensures other { IsPrefix self.now.log token.new.log }
+        ensures set { IsSetIn self.now.cell self.now.log → IsSetIn token.new.cell token.new.log }
     {
         self.future.tell(token);
     }

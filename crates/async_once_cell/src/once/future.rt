@@ -122,6 +122,7 @@ impl<'a, T, E, F: Future, R: Wait + AllocGlobal> TryInitFuture<'a, T, E, F, R> {
         ensures value { token.new.value ≡ token.old.value }
         ensures own { IsPrefix token.old.log token.new.log }
         ensures other { IsPrefix self.now.log token.new.log }
+        ensures set { IsSetIn self.now.cell self.now.log → IsSetIn token.new.cell token.new.log }
     {
         if let Some(record) = self.asked.record() {
             token.learn_record(&record);

@@ -120,6 +120,7 @@ impl<'a, T> Known<'a, T> {
         ensures value { self.new.value ≡ self.old.value }
         ensures own { IsPrefix self.old.log self.new.log }
         ensures other { IsPrefix seen.now.log self.new.log }
+        ensures set { IsSet seen.now.log → IsSet self.new.log }
     {
         self.seen.learn_record(seen);
     }
@@ -187,6 +188,7 @@ impl<T> Seen<T> {
         ensures of { (c : CellView T) → IsOf c self.old → (IsBookOf c seen.now.book) → IsOf c self.new × (known_of c self.new ≡ known_of c self.old) }
         ensures own { IsPrefix (log_of self.old) (log_of self.new) }
         ensures other { IsPrefix seen.now.log (log_of self.new) }
+        ensures set { IsSet seen.now.log → IsSet (log_of self.new) }
     {
         match self {
             Seen::Owned(_) => unreachable!(),
@@ -194,6 +196,7 @@ impl<T> Seen<T> {
                 let before = own.again();
                 own.learn(seen);
                 stays_set(&before, own);
+                stays_set(seen, own);
             }
         }
     }

@@ -65,7 +65,7 @@ fn polled_and_told<'a, R: Wait + AllocGlobal>(
         return None;
     };
     future.tell(token);
-    let second = cell.get_as(token)?;
+    let second = cell.get_as(token).unwrap();
     Some((first, second))
 }
 
