@@ -18,8 +18,8 @@ use std::{fmt, mem};
 
 /// A cell that is filled by one future of its own.
 ///
-/// The task that holds the right drives that future on. The future is never restarted, also where the
-/// task that drives it is dropped. When it gave its value it is dropped, and then the value is set.
+/// The task that holds the right drives that future on. The future is never restarted, even if the task
+/// that drives it is dropped. Once it has given its value it is dropped, and then the value is set.
 ///
 /// A cell may be sent to another thread where `T: Send` and `F: Send`, and shared between threads where
 /// besides `T: Sync`.
@@ -68,6 +68,18 @@ impl<T, F: Future<Output = T>> Lazy<T, F> {
     /// A future of the value: the one that is set, or the one that the cell's future gives.
     ///
     /// Nothing happens before the first poll, see [`LazyFuturePin`].
+    ///
+    /// Here `Sum` is a future that adds the numbers below `end`, one at each poll, and `end` is 5:
+    ///
+    /// ```
+    /// let lazy = Lazy::new(Sum {
+    ///     next: 0,
+    ///     end,
+    ///     sum: 0,
+    /// });
+    /// let first = *lazy.get(rt).wait()??; // 10: this thread drove the cell's future to its end
+    /// let second = *lazy.get(rt).wait()??; // 10, and nothing is polled
+    /// ```
     #[inline(always)]
     pub fn get<'a, R: Wait + AllocGlobal>(&'a self, rt: &'a R) -> LazyFuturePin<'a, T, F, R>
         ensures cell { result.cell ≡ self.now }
@@ -108,6 +120,14 @@ impl<T, F: Future> Lazy<T, F> {
     }
 
     /// The value, where it is set. It polls nothing, and waits for nobody.
+    ///
+    /// With the cell that stands at [`Lazy::get`]:
+    ///
+    /// ```
+    /// let before = lazy.try_get().copied(); // None: nobody polled the cell's future yet
+    /// let first = *lazy.get(rt).wait()??; // 10
+    /// let still = lazy.try_get().copied(); // Some(10)
+    /// ```
     pub fn try_get(&self) -> Option<&T>
         ensures { Lends self.now result }
     {
@@ -115,6 +135,11 @@ impl<T, F: Future> Lazy<T, F> {
     }
 
     /// The value for writing, where it is set. It waits for nobody.
+    ///
+    /// ```
+    /// let mut lazy: Lazy<u64, Ready<u64>> = Lazy::with_value(7);
+    /// let lent = lazy.try_get_mut().copied(); // Some(7)
+    /// ```
     pub fn try_get_mut(&mut self) -> Option<&mut T> {
         self.cell.get_mut()
     }
@@ -124,9 +149,8 @@ impl<T, F: Future> Lazy<T, F> {
         self.cell.get_mut()
     }
 
-    /// The value, where it was set. Else the future is dropped, and the answer is None, even where one
-    /// poll of the future would give the value. A queue that futures left goes as well. It waits for
-    /// nobody.
+    /// The value, where it was set. Else the future is dropped, and the answer is None, even if one poll
+    /// of the future would give the value. A queue that futures left goes as well. It waits for nobody.
     pub fn into_inner(self) -> Option<T>
         ensures { Gives self result }
     {
@@ -136,6 +160,17 @@ impl<T, F: Future> Lazy<T, F> {
     /// The value, where it was set; else the future in the state that it is in. `Err(None)` would say
     /// that there is neither; no schedule of calls is known to lead there. A queue that futures left
     /// goes as well. It waits for nobody.
+    ///
+    /// Here the cell's future is Pending at its first poll, and gives 9 at the second:
+    ///
+    /// ```
+    /// let is_pending = task.poll(&mut f).is_pending(); // true; `f` is a future of `lazy`
+    /// drop(f);
+    /// let Err(Some(mut future)) = lazy.into_parts() else {
+    ///     return Err(Fail::from("no future came back"));
+    /// };
+    /// assert_eq!(rt; task.poll(&mut future), Poll::Ready(9)); // it went on where it stood
+    /// ```
     pub fn into_parts(self) -> Result<T, Option<F>>
         ensures { Gives self (result_ok result) }
     {
@@ -146,7 +181,17 @@ impl<T, F: Future> Lazy<T, F> {
         }
     }
 
-    /// Puts another cell in place of this one, and answers as [`Lazy::into_inner`] does of that.
+    /// Puts another cell in place of this one, and answers what [`Lazy::into_inner`] would have
+    /// answered before.
+    ///
+    /// ```
+    /// let mut lazy: Lazy<u64, Ready<u64>> = Lazy::with_value(7);
+    /// let (one, set) = (
+    ///     lazy.replace_and_take(Lazy::with_value(8)), // Some(7)
+    ///     lazy.try_get().copied(),                    // Some(8)
+    /// );
+    /// let three = lazy.replace_and_take(Lazy::new(ready(9))); // Some(8), and the cell is empty
+    /// ```
     pub fn replace_and_take(&mut self, replacement: Self) -> Option<T>
         ensures taken { Gives self.old result }
         ensures replaced { self.new ≡ replacement }

@@ -31,8 +31,8 @@
 //! done, the task has the right, and is called a quick holder. This takes no memory and no lock.
 //!
 //! **The door and the queue.** A task that finds neither the value nor the right goes to the door. The
-//! door is where the queue of the cell stands; where none stands, the task puts one there. Both lie behind
-//! one lock. A queue is a flag and a list. The flag says that a task holds which claimed under this lock.
+//! door is the place of the cell's queue; if it has none, the task puts one there. Both lie behind one
+//! lock. A queue is a flag and a list. The flag says that some task holds that claimed under this lock.
 //! The list has a listing for each task that waits: a ticket, by which the task finds it again, and a waker.
 //!
 //! **Counting in.** A task that has found the queue counts in: the count grows by one. The quick claim
@@ -41,9 +41,9 @@
 //!
 //! **Waiting.** A task that is counted loads the word again, and then takes the lock and looks. If the
 //! value is set, it counts out and answers the value. If nobody holds, it raises the flag and has the
-//! right. Else it lets the lock go, copies its waker, takes the lock again and looks again; where still
-//! another task holds, it lists the copy at the end. Now its poll is Pending: the task waits. At its
-//! next poll it does the same again.
+//! right. Else it lets the lock go, copies its waker, takes the lock again and looks again. If another
+//! task still holds, it lists the copy at the end. Now its poll is Pending: the task waits. At its next
+//! poll it does the same again.
 //!
 //! **The release.** A holder whose init gave a value puts it into the cell, and takes the lock. It gives
 //! the right back, sets the ready bit, and takes all listings out. Their wakers are handed out, and are
@@ -64,15 +64,16 @@
 //!
 //! # What is proved
 //!
-//! A call makes sixteen steps of [`step::Step`] at most. What all tasks did with a cell is its record: it
-//! has no bytes, it only grows, and whatever threads do it is a run of a cell that is empty, held by one
-//! task or set, in which nobody who waits is forgotten. A future and a token show to contracts what they
-//! have seen of it: what a poll answered is the newest entry after it, and a look finds the value just
-//! where the cell is set then. [`world::replay`] is the same machine for one caller, over plain data.
+//! A call makes sixteen steps of [`step::Step`] at most. What all tasks did with a cell is its record. It
+//! has no bytes, and it only grows. Whatever threads do, it is a run of a cell that is empty, held by one
+//! task or set, and in this run nobody who waits is forgotten. A clause sees what a future or a token has
+//! seen of the record. After a poll the newest entry is what the poll answered. A look finds the value
+//! exactly when the cell is set at that moment. [`world::replay`] is the same machine for one caller,
+//! over plain data.
 //!
-//! This says nothing of a call that does not return, of fairness, progress or time. That a task which is
-//! called is woken, and that each value and init is dropped once, is tested. Which value it is that was
-//! set the tokens say, see [`Known`]. What one has to believe is the definitions in `specs/` and the kit.
+//! This says nothing of a call that does not return, of fairness, progress or time. Two things are tested
+//! and not proved: a task that is called is woken, and each value and init is dropped once. The tokens say
+//! which value was set, see [`Known`]. The definitions in `specs/` and the kit have to be believed.
 //! `docs/PROVED.md` of the repository has each clause, and `docs/THREADS.md` how it is proved.
 #![tactic(auto)]
 

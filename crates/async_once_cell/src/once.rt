@@ -29,8 +29,8 @@ use value::Value;
 ///
 /// Each call brings its own init. One task at a time has the right to run its init; the others wait,
 /// and are woken when the cell is filled. An init that fails, or whose future is dropped, leaves the
-/// cell empty and wakes one who waits, which runs its own. If that one leaves instead, by a drop or a
-/// refusal, and nobody holds then, it wakes the next.
+/// cell empty and wakes one task that waits, which runs its own init. If that task is dropped or refused
+/// instead, and nobody holds then, it wakes the next.
 ///
 /// ```
 /// let cell = OnceCell::new();
@@ -38,9 +38,9 @@ use value::Value;
 /// let second = cell.get_or_init(rt, ready(5)).wait()?; // Ok(&4): this init is not polled
 /// ```
 ///
-/// A cell that was made with a value lends that value and gives it back, until its owner asks for it to
-/// write it. The contracts say so. Any other cell has a record of all that tasks do with it, which its futures and
-/// tokens have seen as far as they came, see [`TryInitFuture`] and [`Known`].
+/// The contracts say that a cell made with a value lends that value and gives it back, until its owner
+/// asks for it to write it. Any other cell has a record of all that tasks do with it. Each of its futures
+/// and tokens has seen a beginning of the record, see [`TryInitFuture`] and [`Known`].
 ///
 /// Memory is taken only where tasks meet: for the queue of those who wait, and for the seat of each and
 /// its place in the queue.
@@ -97,14 +97,23 @@ impl<T> OnceCell<T> {
         }
     }
 
-    /// The value for writing, where it is set. A value that tasks set becomes the owner's, and its record ends. It waits
-    /// for nobody.
+    /// The value for writing, where it is set. A value that tasks set becomes the owner's, and its record
+    /// ends. It waits for nobody.
+    ///
+    /// ```
+    /// let mut cell = OnceCell::new_with(5u64);
+    /// let lent = cell.get().copied(); // Some(5)
+    /// if let Some(value) = cell.get_mut() {
+    ///     *value = 6;
+    /// }
+    /// let taken = cell.take(); // Some(6), and the cell is empty
+    /// ```
     pub fn get_mut(&mut self) -> Option<&mut T> {
         self.value.get_mut()
     }
 
-    /// The value, where it was set. The cell is empty after, as a new one, with a new record: a queue that futures left
-    /// there goes as well. It waits for nobody.
+    /// The value, where it was set. The cell is empty after, as a new one, with a new record: a queue that
+    /// futures left there goes as well. It waits for nobody.
     pub fn take(&mut self) -> Option<T>
         ensures taken { Gives self.old result }
         ensures fresh { is_shared self.new ≡ true }
@@ -124,6 +133,16 @@ impl<T> OnceCell<T> {
     /// A future of the value: the one that is set, or the one that `init` gives.
     ///
     /// Nothing happens before the first poll, see [`InitFuture`].
+    ///
+    /// ```
+    /// let (cell, task) = (OnceCell::new(), MockTask::new(rt)?);
+    /// let mut holder = cell.get_or_init(rt, pending());
+    /// let mut waiter = cell.get_or_init(rt, ready(9));
+    /// let is_held = task.poll(&mut holder).is_pending(); // true: it has the right
+    /// let _ = task.poll(&mut waiter); // Pending: it waits
+    /// drop(holder);
+    /// let is_made = task.poll(&mut waiter).is_ready(); // true: it polled its own init
+    /// ```
     #[inline(always)]
     pub fn get_or_init<'a, F, R>(&'a self, rt: &'a R, init: F) -> InitFuture<'a, T, F, R>
     where
@@ -139,10 +158,17 @@ impl<T> OnceCell<T> {
     /// As [`OnceCell::get_or_init`], with an init that may fail. An error goes to its own caller
     /// alone, and leaves the cell empty.
     ///
+    /// Here `Dial` is one try to connect, which may fail with the error `Down`:
+    ///
     /// ```
-    /// let (cell, task) = (OnceCell::new(), MockTask::new(rt)?);
-    /// task.poll(&mut cell.get_or_try_init(rt, err::<u64, u64>(9))); // Ready(Err(Init(9)))
-    /// task.poll(&mut cell.get_or_try_init(rt, ok::<u64, u64>(7))); // Ready(Ok(&7))
+    /// for _ in 0..most {
+    ///     match cell.get_or_try_init(rt, Dial { server }).wait()? {
+    ///         Ok(_) => break,
+    ///         Err(InitError::Init(Down)) => {} // the next turn brings an init of its own
+    ///         Err(InitError::Memory) => return Err(Fault::Refused(Refused::Memory)),
+    ///         Err(InitError::Full) => return Err(Fault::Refused(Refused::Full)),
+    ///     }
+    /// }
     /// ```
     #[inline(always)]
     pub fn get_or_try_init<'a, E, F, R>(
@@ -161,6 +187,15 @@ impl<T> OnceCell<T> {
     }
 
     /// A token that knows nothing yet. See [`Known`]. It takes no memory, and waits for nobody.
+    ///
+    /// Here `value` is a function that answers `cell.get_or_init(rt, ready(6)).wait_as(token)??`:
+    ///
+    /// ```
+    /// let cell = OnceCell::new();
+    /// let mut token = cell.token();
+    /// let first = *value(rt, &cell, &mut token)?; // 6, and the token knows it
+    /// let second = *value(rt, &cell, &mut token)?; // the same number, which is proved
+    /// ```
     pub fn token(&self) -> Known<'_, T>
         ensures cell { result.cell ≡ self.now }
         ensures knows { result.value ≡ None }
@@ -171,8 +206,13 @@ impl<T> OnceCell<T> {
     /// As [`OnceCell::get`], and the token learns the value that is answered. A token that knows a
     /// value gets that value, always. It waits for nobody.
     ///
-    /// Of a cell that tasks share it is one look in the record: a value is answered just where the cell is set then. So a
-    /// token in whose record the cell is set gets the value.
+    /// Of a cell that tasks share it is one look in the record: it answers a value exactly when the cell is
+    /// set at that moment. So a token gets the value if the cell is set in the record that it has seen.
+    ///
+    /// ```
+    /// let first = cell.get_as(token)?; // from here on the token knows the value
+    /// let second = cell.get_as(token).unwrap(); // never None, and the same value: both are proved
+    /// ```
     pub fn get_as<'a>(&'a self, token: &mut Known<'a, T>) -> Option<&'a T>
         requires token_of_this_cell { token.old.cell ≡ self.now }
         ensures cell { token.new.cell ≡ token.old.cell }
@@ -201,8 +241,8 @@ impl<T> From<T> for OnceCell<T> {
 }
 
 impl<T: fmt::Debug> OnceCell<T> {
-    // What a cell of this name shows. A cell of its owner's value shows what a cell shows that was filled with nobody
-    // else there.
+    // What a cell of this name shows. A cell with its owner's value shows the same as one that was filled
+    // while nobody else was there.
     pub(crate) fn fmt_as<W: fmt::Write>(
         &self,
         name: &str,

@@ -13,7 +13,7 @@ use std::sync::{Arc, Mutex, Wait};
 // Who sits there.
 #[derive(Drop)]
 struct Sitter {
-    // The seat was called since it was last shared for the list, or was last found called.
+    // Whether a call came since the seat was last shared for the list, or since a call was last found.
     called: bool,
     waker: Option<Waker>,
 }
@@ -24,19 +24,19 @@ struct Place {
     sitter: Mutex<Sitter>,
 }
 
-/// Where the task of a future is called. A future that waits has one, and a share of it lies in the list while it
-/// is listed.
+/// Where the task of a future is called. A future that waits has a seat, and while it is listed a share of
+/// the seat lies in the list.
 ///
-/// A waker of `futures` can't be compared or copied, and letting one go wakes its task. So what is
-/// listed is a share of a seat, and the task's waker lies there from the end of a poll that waits until the
-/// seat is called.
+/// A waker of `futures` can't be compared or copied, and letting one go wakes its task. So what is listed
+/// is a share of a seat. The task's waker lies in the seat from the end of a poll that waits until the seat
+/// is called.
 #[derive(Drop)]
 pub struct Seat {
     shared: Arc<Place>,
 }
 
-/// A share of a seat as the list has it, with the number of the task whose seat it is. Two of these are never compared,
-/// since a task is listed once.
+/// A share of a seat as the list has it, with the number of the task whose seat it is. Two of these are never
+/// compared, since a task is listed once.
 #[derive(Drop)]
 pub struct Seated {
     seat: Seat,

@@ -181,7 +181,8 @@ where
         (ending, error)
     }
 
-    // Ends a poll that ended so. Where it is Pending, the init saw to it that the task is called, or the seat does.
+    // Ends a poll. If it is Pending and the init did not see to it that the task is called, the seat does, and
+    // without a seat the task is to be polled again.
     #[inline(always)]
     fn settle(&self, ending: &Ending, is_armed: bool, cx: &mut Context<'_>)
         requires { is_armed ≡ true → IsArmed cx.old }
@@ -324,13 +325,13 @@ where
 }
 
 // What a drop brings, when the init is gone. It does not name the init's type, so that a program has
-// the machine of a drop once.
+// the code of a drop once for all inits.
 #[derive(Drop)]
 struct Leaving<'r, T, R> {
     rt: &'r R,
     mark: Mark,
     woke: Snapshot<Out<Seated>>,
-    // It has no value.
+    // Always false: a drop brings no value.
     has_value: bool,
     value: PhantomData<T>,
 }
@@ -380,7 +381,7 @@ impl<T, R: Wait + AllocGlobal> Side<Seated> for Leaving<'_, T, R> {
 
     fn close(&mut self) {}
 
-    // Nobody asks for it: who leaves has no value to give.
+    // Nobody calls this: a task that leaves has no value to give.
     fn put(&mut self) -> T {
         for _ in self.rt.forever() {}
         unreachable!()

@@ -1,10 +1,10 @@
 //! A lock whose content knows of which book it is, while no type names the book.
 //!
-//! What lies under a lock may own pens of a book, or know what was seen of it (the crate `pagebook`). Whoever takes the
-//! lock has to know that they are of the book that his own words and tokens are of. A type parameter could name the book,
-//! but then every struct around the lock has that parameter, and nobody can make a book while a program runs. So the
-//! name of the book is a value here: a clause sees a `KeyedMutex` as the `Book` that its content is of, and two locks of
-//! two books have one type.
+//! What lies under a lock may own pens of a book, or know what was seen of it (the crate `pagebook`). Whoever
+//! takes the lock has to know that they are of the book that his own words and tokens are of. A type
+//! parameter could name the book, but then every struct around the lock has that parameter, and nobody can
+//! make a book while a program runs. So the name of the book is a value here: a clause sees a `KeyedMutex` as
+//! the `Book` that its content is of, and two locks of two books have one type.
 //!
 //! ```text
 //! pub struct Desk { entered: u64, pens: Pens<Page> }

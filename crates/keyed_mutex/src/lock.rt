@@ -46,8 +46,8 @@ impl<T: Keyed> KeyedMutex<T> {
         opened::<T, Brand>(lock)
     }
 
-    /// Waits for the lock. The content has the key `J` while the guard is held, and has to have it when the guard is let
-    /// go.
+    /// Waits for the lock. The content has the key `J` while the guard is held, and has to have it when the
+    /// guard is let go.
     ///
     /// Asked for: `J` is the lock's key.
     #[inline(always)]
@@ -67,8 +67,8 @@ impl<T: Keyed> KeyedMutex<T> {
         self.get::<J>().lock.try_lock()
     }
 
-    /// Changes the content by its owner, who takes no lock: it is handed to `change` with `about`, and what comes back is
-    /// the content from then on.
+    /// Changes the content by its owner, who takes no lock: it is handed to `change` with `about`, and what
+    /// comes back is the content from then on.
     ///
     /// Asked for: `change` takes any content with the lock's key, and gives one back that has it.
     pub fn get_mut<X, U, F: FnOnce(T, X) -> (T, U)>(&mut self, about: X, change: F) -> U

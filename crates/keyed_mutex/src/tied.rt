@@ -24,7 +24,9 @@ pub trait Keyed {
 /// A value that has the key `J`. A guard leads to one, and whoever changes the value leaves it with that key.
 #[derive(Drop)]
 pub struct Tied<T: Keyed, J: Key> {
+    /// The value itself.
     pub value: T,
+    /// Names the key in the type. It has no bytes.
     pub of: PhantomData<J>,
     pub ghost fits: { T.key_of value ≡ J.key },
 }
@@ -32,6 +34,7 @@ pub struct Tied<T: Keyed, J: Key> {
 /// A lock whose type names the key: what a `KeyedMutex` is to one who knows its key.
 #[derive(Drop)]
 pub struct LockOf<T: Keyed, J: Key> {
+    /// The lock. A guard of it leads to the value and its key.
     pub lock: Mutex<Tied<T, J>>,
 }
 

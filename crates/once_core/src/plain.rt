@@ -12,12 +12,19 @@ use std::alloc::{AllocError, Global};
 /// The parts as plain data, lent to one caller at a time. Its queues are numbers, counted from 1.
 #[derive(Drop)]
 pub struct Core<W: WakerId> {
+    /// The word: how many tasks are counted in, and the two flags.
     pub word: Word,
+    /// The number of the queue at the door, or None where there is no queue.
     pub door: Option<u64>,
+    /// The flag and the listings of the queue at the door.
     pub lists: Lists<W>,
+    /// How many queues were made, which is the number of the last one.
     pub made: u64,
+    /// Whether the next steps are given memory. [`Core::grant`] sets it.
     pub granted: bool,
+    /// The waker that a look compares with the listed one. [`Core::set_waker`] sets it.
     pub current: Option<W>,
+    /// The queue log, the oldest line first.
     pub log: Vec<QueueLine>,
     ghost counted: { made ≤ vec_len log },
     // Where no queue stands at the door, nobody holds by its flag and nobody is listed.

@@ -23,28 +23,37 @@ use std::mem;
 /// What one poll of an init answered. The side keeps the value or the error.
 #[derive(Clone, Copy, Debug, PartialEq, Eq)]
 pub enum Polled {
+    /// There is no answer yet: the init is Pending, or it was dropped before.
     Pending,
+    /// The init gave a value.
     Value,
+    /// The init gave an error.
     Error,
 }
 
 /// How a call ended. The side keeps the value or the error.
 #[derive(Clone, Copy, Debug, PartialEq, Eq)]
 pub enum Ending {
+    /// The poll is Pending: the task waits for another task, or it holds and its init is Pending.
     Pending,
+    /// The poll answers the value that is set.
     Value,
+    /// The poll answers the error that the task's own init gave.
     Error,
     /// Memory was refused.
     Memory,
     /// As many tasks are counted in as may be.
     Full,
+    /// The call was the drop of the task.
     Dropped,
 }
 
 /// Whether a call goes on after a step.
 #[derive(Clone, Copy, Debug, PartialEq, Eq)]
 pub enum Progress {
+    /// The call is still under way: it has another step to make.
     More,
+    /// The call is over, and this is how it ended.
     Ended(Ending),
 }
 

@@ -17,8 +17,8 @@ use std::alloc::AllocGlobal;
 use std::mem;
 use std::sync::Wait;
 
-/// A whole poll: begins it, and makes its steps until it ends. It may wait for the cell's lock, and for whatever the side
-/// waits for.
+/// A whole poll: begins it, and makes its steps until it ends. It may wait for the cell's lock, and for
+/// whatever the side waits for.
 #[inline(always)]
 pub fn whole_poll<T, W: TaskWaker + Drop, R: Wait + AllocGlobal, S: TaskSide<W, Value = T>>(
     parts: &mut Shared<'_, '_, T, W, R>,
@@ -116,8 +116,8 @@ pub fn one_step<T, W: TaskWaker + Drop, R: Wait + AllocGlobal, S: TaskSide<W, Va
     step.advance(parts, side, MAX_WAITERS)
 }
 
-// Makes the steps that are left of the call, and answers how it ended. There are at most sixteen. The last step so far told
-// this.
+// Makes the steps that are left of the call, and answers how it ended. There are at most sixteen. The last
+// step so far told this.
 #[inline(never)]
 fn go_on<T, W: TaskWaker + Drop, R: Wait + AllocGlobal, S: TaskSide<W, Value = T>>(
     parts: &mut Shared<'_, '_, T, W, R>,

@@ -17,8 +17,8 @@ use once_queue::waiters::{Answer, Lists, Out, WakerId};
 use once_queue::word::{QINIT_BIT, READY_BIT};
 use std::marker::Model;
 
-/// The door, with the queue if one stands there, and the pens of the door's page and of the queue's. A clause sees of which
-/// book they are.
+/// The door, with the queue if one stands there, and the pens of the door's page and of the queue's. A clause
+/// sees of which book they are.
 #[derive(Drop)]
 pub(crate) struct Desk<W: TaskWaker> {
     lists: Option<Box<Lists<W>>>,
@@ -230,7 +230,8 @@ fn given_back(ready: bool, head: bool) -> u64
     }
 }
 
-// Whether a waker can be listed: the own listing is there, or there is room for one more, which is made where it can be.
+// Whether a waker can be listed: the own listing is there, or there is room for one more, which is made where
+// it can be.
 #[inline(always)]
 fn has_room<W: WakerId + Drop>(lists: &mut Lists<W>, ticket: Option<u64>) -> bool
     ensures room { result ≡ true → (is_some (kept_ticket ticket (listings_of lists.new)) ≡ true) ⊎ HasSpace lists.new }

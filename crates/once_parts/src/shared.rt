@@ -1,7 +1,8 @@
 //! What the tasks of a cell share, and that as one task uses it.
 //!
-//! Each load, store, exchange and addition here is sequentially consistent, as all atomics of the kit are: they stand in
-//! one order, on which all threads agree. A task that takes the lock receives all that was done before it was last let go.
+//! Each load, store, exchange and addition here is sequentially consistent, as all atomics of the kit are:
+//! they stand in one order, on which all threads agree. A task that takes the lock receives all that was done
+//! before it was last let go.
 ghost use Rattle.std.specs.Prelude.{◌≡◌, ℕ, false, List, []};
 ghost use Rattle.once_queue.specs.Room.{listings_of};
 ghost use Rattle.once_core.specs.Steps.{next_at};
@@ -27,8 +28,8 @@ use std::fmt;
 use std::marker::Brand;
 use std::sync::Wait;
 
-/// What all tasks of a cell share: the word, whether a queue was ever put to the door, the slot of the value, and under one
-/// lock the door with the queue.
+/// What all tasks of a cell share: the word, whether a queue was ever put to the door, the slot of the value,
+/// and under one lock the door with the queue.
 #[derive(Drop)]
 pub struct Inner<T, W: TaskWaker> {
     word: CellWord,
@@ -351,8 +352,8 @@ impl<T, W: TaskWaker + Drop, R: Wait + AllocGlobal> Parts<W> for Shared<'_, '_, 
         None
     }
 
-    // The queue is made with the lock free, since that takes memory. The look under the lock decides: where two tasks found
-    // no queue, the second finds the queue of the first there, and lets its own go.
+    // The queue is made with the lock free, since that takes memory. The look under the lock decides: where
+    // two tasks found no queue, the second finds the queue of the first there, and lets its own go.
     fn door_put(&mut self) -> Option<()> {
         let alloc = self.rt.alloc();
         let Ok(queue) = Box::new(alloc, Lists::new(alloc)) else {

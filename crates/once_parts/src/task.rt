@@ -20,7 +20,8 @@ use std::sync::Wait;
 
 /// A task of a cell, between two of its calls: its share of the cell, and where its next call begins.
 ///
-/// A clause sees its cell, its number in the record, the record as far as the task has seen it, and whether it is finished.
+/// A clause sees its cell, its number in the record, the record as far as the task has seen it, and whether
+/// it is finished.
 #[derive(Drop)]
 pub struct Task<'a, 'r, T, W: TaskWaker, R> {
     parts: Shared<'a, 'r, T, W, R>,
@@ -59,7 +60,8 @@ impl<'a, 'r, T, W: TaskWaker + Drop, R> Task<'a, 'r, T, W, R> {
         }
     }
 
-    /// Whether the last call ended with anything but Pending, or the task was dropped. It may not be polled after that.
+    /// Whether the last call ended with anything but Pending, or the task was dropped. It may not be polled
+    /// after that.
     #[inline(always)]
     pub fn is_finished(&self) -> bool
         ensures { result ≡ self.now.finished }
@@ -96,8 +98,8 @@ impl<'a, 'r, T, W: TaskWaker + Drop, R> Task<'a, 'r, T, W, R> {
 impl<'a, 'r, T, W: TaskWaker + Drop, R: Wait + AllocGlobal> Task<'a, 'r, T, W, R> {
     /// A whole poll. It may wait for the cell's lock, and for whatever the side waits for.
     ///
-    /// The record grew, and its newest entry is the end of this poll with what is answered here. Whoever was handed to the
-    /// side are the tasks that the entries of this poll name, in their order.
+    /// The record grew, and its newest entry is the end of this poll with what is answered here. Whoever was
+    /// handed to the side are the tasks that the entries of this poll name, in their order.
     #[inline(always)]
     pub fn poll<S: TaskSide<W, Value = T>>(&mut self, side: &mut S) -> Ending
         requires live { self.old.finished ≡ false }

@@ -48,6 +48,7 @@ impl WakerId for u64 {
 pub struct Listing<W> {
     /// The number by which the waiting task finds its listing again.
     pub ticket: u64,
+    /// The waker of the task, until the task is called.
     pub waker: Option<W>,
 }
 
@@ -119,6 +120,7 @@ pub enum Answer<W> {
 /// before it.
 #[derive(Drop)]
 pub struct Lists<W: WakerId> {
+    /// The flag: whether a task holds that took the right under the lock.
     pub head: bool,
     slots: Slots<W>,
     // Whether some waker was told to be the same as one listed before it, since the value was last

@@ -37,6 +37,7 @@ impl Model for Word {
 impl Word {
     ghost use Rattle.once_queue.specs.Word.{flags_of, flags_alone, is_zero, is_quick_bit};
 
+    /// The word of a new cell, which is made with a value or not. Nobody is counted in.
     #[inline(always)]
     pub fn new(ready: bool) -> Self
         ensures { result ≡ flags_alone false ready }
@@ -62,6 +63,7 @@ impl Word {
         self.bits
     }
 
+    /// How many tasks are counted in.
     #[inline(always)]
     pub fn count(&self) -> u64
         ensures { result ≡ self.now.count }
@@ -69,6 +71,7 @@ impl Word {
         self.bits % QINIT_BIT
     }
 
+    /// Whether the ready bit is set: the cell has its value.
     #[inline(always)]
     pub fn is_ready(&self) -> bool
         ensures { result ≡ self.now.ready }
@@ -76,6 +79,7 @@ impl Word {
         self.bits >= READY_BIT
     }
 
+    /// Whether the quick bit is set: a quick holder has the right.
     #[inline(always)]
     pub fn is_quick(&self) -> bool
         ensures { result ≡ self.now.quick }

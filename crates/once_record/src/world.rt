@@ -21,16 +21,22 @@ pub enum Kind {
 /// What one poll of an init answers.
 #[derive(Clone, Copy, Debug, PartialEq, Eq)]
 pub enum Ran {
+    /// There is no answer yet.
     Pending,
+    /// The init gives this value.
     Value(u64),
+    /// The init fails with this error.
     Error(u64),
 }
 
 /// What a poll of a task answers.
 #[derive(Clone, Copy, Debug, PartialEq, Eq)]
 pub enum Reply {
+    /// The poll is Pending.
     Pending,
+    /// The value that is set.
     Value(u64),
+    /// The error that the task's own init gave.
     Error(u64),
     /// Memory was refused.
     Memory,
@@ -56,7 +62,9 @@ pub enum Call {
 /// What an owner's call is given.
 #[derive(Debug, Drop, PartialEq, Eq)]
 pub enum Got {
+    /// Nothing: no value was set.
     None,
+    /// The value that was set before the call.
     Value(u64),
     /// The answers that the init of a lazy cell has left.
     Answers(Vec<Option<u64>>),
@@ -112,7 +120,9 @@ pub enum Entry {
 /// What a replay tells, the oldest entry and the oldest line first.
 #[derive(Debug, Drop, PartialEq, Eq)]
 pub struct Record {
+    /// What the tasks and the owner did, and what they were told.
     pub entries: Vec<Entry>,
+    /// The queue log: when a queue was put to the door, entered, and taken out.
     pub queues: Vec<QueueLine>,
     /// The number of the queue that stands at the door at the end.
     pub queue: Option<u64>,

@@ -25,8 +25,9 @@
 //! - `Seen` is what a thread has seen of the log. It can be copied. Of two `Seen` of one book the one log is a
 //!   beginning of the other (`agrees`), and one can learn what the other knows.
 //! - `Seen::note` is a step that touches no word.
-//! - `Slot` is a place for one value, whose state is a word of the book. By the rule nothing can refuse to put the value,
-//!   and whoever has seen that it was put gets it with no test. `Written` is a token that shows for good what it is.
+//! - `Slot` is a place for one value, whose state is a word of the book. By the rule nothing can refuse to
+//!   put the value, and whoever has seen that it was put gets it with no test. `Written` is a token that
+//!   shows for good what it is.
 //!
 //! # How a structure is made of it
 //!

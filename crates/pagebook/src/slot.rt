@@ -167,8 +167,8 @@ impl<T, E, P, R: Rule<E, P>> Slot<T, E, P, R> {
 
     /// The value, and what shows that it is the slot's.
     ///
-    /// Asked for: `seen` is of the slot's book, and whoever has seen so much of the log knows by the rule that the state
-    /// is 2 (`Sure`).
+    /// Asked for: `seen` is of the slot's book, and whoever has seen so much of the log knows by the rule
+    /// that the state is 2 (`Sure`).
     #[inline(always)]
     pub fn get<'a>(&'a self, seen: &Seen<E, P, R>) -> (&'a T, Written<T>)
         requires book { seen.now.book ≡ self.now.book }

@@ -74,8 +74,9 @@ impl<'a, T, F: Future, R: Wait + AllocGlobal> LazyFuturePin<'a, T, F, R> {
         self.future.is_finished()
     }
 
-    /// Shows that the record of a cell that tasks share is a run of the cell, that at each of its beginnings somebody was
-    /// called where somebody had to be, and that a Fill stands in it where the cell is set. It does nothing.
+    /// It does nothing. Its contract is about the record of a cell that tasks share. The record is a run of
+    /// the cell, and at each of its beginnings somebody was called if somebody had to be. If the cell is set
+    /// in it, it has a Fill.
     pub fn is_run(&self)
         ensures run { is_shared self.now.cell ≡ true → IsRun Once most (reverse self.now.log) }
         ensures called { is_shared self.now.cell ≡ true → AtEvery (SomebodyCalled Once) (reverse self.now.log) }
@@ -107,6 +108,7 @@ impl<T, F: Future, R: Wait + AllocGlobal> fmt::Debug for LazyFuturePin<'_, T, F,
 
 impl<'a, T: Drop, F: Future<Output = T>, R: Wait + AllocGlobal> LazyFuturePin<'a, T, F, R> {
     /// Polls the future once. It answers the value that is set, or a refusal, and is finished then.
+    /// [`InitFuture::poll`] and [`InitFuture::poll_as`] have examples.
     #[inline(always)]
     pub fn poll(&mut self, cx: &mut Context<'_>) -> Poll<Result<&'a T, Refused>>
         requires unfinished { self.old.finished ≡ false }
@@ -153,6 +155,10 @@ impl<'a, T: Drop, F: Future<Output = T>, R: Wait + AllocGlobal> LazyFuturePin<'a
 
     /// As [`wait`](Self::wait), and the token learns the value that is answered. A token that knows
     /// a value gets that value at once.
+    ///
+    /// ```
+    /// Ok(lazy.get(rt).wait_as(token)??)
+    /// ```
     pub fn wait_as(self, token: &mut Known<'a, T>) -> io::Result<Result<&'a T, Refused>>
     where
         R: RandomSource,

@@ -44,8 +44,11 @@ enum Asked<'a, T, F: Future, R: Wait + AllocGlobal> {
 /// the drop of a future that had the right, wakes one. If that one is dropped or refused instead, and
 /// nobody holds then, it wakes the next.
 ///
-/// A clause sees the future's cell, the number of its task, the cell's record as far as the task has seen it, and whether
-/// the future is finished. The record is a run of the cell.
+/// A poll or a drop may wait for the locks of the cell. None of them is held while an init is polled or
+/// dropped. A poll may take memory while another task holds or is in a call.
+///
+/// A clause sees the future's cell, the number of its task, the cell's record as far as the task has seen it,
+/// and whether the future is finished. The record is a run of the cell.
 pub struct TryInitFuture<'a, T, E, F: Future, R: Wait + AllocGlobal> {
     error: PhantomData<E>,
     cell: &'a OnceCell<T>,
@@ -96,6 +99,12 @@ impl<'a, T, E, F: Future, R: Wait + AllocGlobal> TryInitFuture<'a, T, E, F, R> {
     }
 
     /// Whether the future answered a value, an error or a refusal. It may not be polled after that.
+    ///
+    /// ```
+    /// if self.future.is_finished() {
+    ///     return cx.yield_now(); // `poll` and `poll_as` ask for a future that is not finished
+    /// }
+    /// ```
     #[inline(always)]
     pub fn is_finished(&self) -> bool
         ensures { result ≡ self.now.finished }
@@ -103,8 +112,9 @@ impl<'a, T, E, F: Future, R: Wait + AllocGlobal> TryInitFuture<'a, T, E, F, R> {
         self.asked.is_finished()
     }
 
-    /// Shows that the record of a cell that tasks share is a run of the cell, that at each of its beginnings somebody was
-    /// called where somebody had to be, and that a Fill stands in it where the cell is set. It does nothing.
+    /// It does nothing. Its contract is about the record of a cell that tasks share. The record is a run of
+    /// the cell, and at each of its beginnings somebody was called if somebody had to be. If the cell is set
+    /// in it, it has a Fill.
     pub fn is_run(&self)
         ensures run { is_shared self.now.cell ≡ true → IsRun Once most (reverse self.now.log) }
         ensures called { is_shared self.now.cell ≡ true → AtEvery (SomebodyCalled Once) (reverse self.now.log) }
@@ -210,6 +220,15 @@ where
     /// future had been dropped.
     ///
     /// The newest entry of the record is the end of this poll, with what it answers.
+    ///
+    /// ```
+    /// let polled = future.poll(cx);
+    /// match polled {
+    ///     Poll::Ready(Ok(value)) => *value,
+    ///     Poll::Ready(Err(InitError::Init(error))) => error,
+    ///     Poll::Ready(Err(InitError::Memory | InitError::Full)) | Poll::Pending => 0,
+    /// }
+    /// ```
     #[inline(always)]
     pub fn poll(&mut self, cx: &mut Context<'_>) -> Poll<Result<&'a T, InitError<E>>>
         requires unfinished { self.old.finished ≡ false }
@@ -228,6 +247,18 @@ where
 
     /// As [`poll`](Self::poll), and the token learns the value that is answered. A token that knows
     /// a value gets that value; the future leaves its cell as by a drop, and is finished.
+    ///
+    /// In a future that keeps this one and a token, and gives the token with the answer:
+    ///
+    /// ```
+    /// match self.future.poll_as(cx, &mut self.token) {
+    ///     Poll::Ready(answer) => {
+    ///         let token = mem::replace(&mut self.token, self.cell.token());
+    ///         Poll::Ready((answer, token)) // if a value is answered, the token knows it
+    ///     }
+    ///     Poll::Pending => Poll::Pending,
+    /// }
+    /// ```
     pub fn poll_as(
         &mut self,
         cx: &mut Context<'_>,

@@ -20,8 +20,8 @@ use std::fmt;
 use std::marker::Model;
 use std::sync::Wait;
 
-/// Future of [`OnceCell::get_or_init`]. All that is said of [`TryInitFuture`] holds of it, but that
-/// there is no error of an init.
+/// Future of [`OnceCell::get_or_init`]. All that is said of [`TryInitFuture`] holds of it, except that
+/// its init gives no error.
 #[derive(Drop)]
 pub struct InitFuture<'a, T, F: Future, R: Wait + AllocGlobal> {
     future: TryInitFuture<'a, T, Infallible, Sure<F>, R>,
@@ -56,6 +56,12 @@ impl<'a, T, F: Future, R: Wait + AllocGlobal> InitFuture<'a, T, F, R> {
     }
 
     /// Whether the future answered a value or a refusal. It may not be polled after that.
+    ///
+    /// ```
+    /// if !waiter.is_finished() {
+    ///     let _ = task.poll(&mut waiter);
+    /// }
+    /// ```
     #[inline(always)]
     pub fn is_finished(&self) -> bool
         ensures { result ≡ self.now.finished }
@@ -63,8 +69,9 @@ impl<'a, T, F: Future, R: Wait + AllocGlobal> InitFuture<'a, T, F, R> {
         self.future.is_finished()
     }
 
-    /// Shows that the record of a cell that tasks share is a run of the cell, that at each of its beginnings somebody was
-    /// called where somebody had to be, and that a Fill stands in it where the cell is set. It does nothing.
+    /// It does nothing. Its contract is about the record of a cell that tasks share. The record is a run of
+    /// the cell, and at each of its beginnings somebody was called if somebody had to be. If the cell is set
+    /// in it, it has a Fill.
     pub fn is_run(&self)
         ensures run { is_shared self.now.cell ≡ true → IsRun Once most (reverse self.now.log) }
         ensures called { is_shared self.now.cell ≡ true → AtEvery (SomebodyCalled Once) (reverse self.now.log) }
@@ -74,6 +81,14 @@ impl<'a, T, F: Future, R: Wait + AllocGlobal> InitFuture<'a, T, F, R> {
     }
 
     /// Tells a token of the cell what this future has seen of the record. It waits for nobody.
+    ///
+    /// ```
+    /// let Poll::Ready(Ok(first)) = future.poll(cx) else {
+    ///     return None;
+    /// };
+    /// future.tell(token);
+    /// let second = cell.get_as(token).unwrap(); // never None: the token has seen that the cell is set
+    /// ```
     pub fn tell(&self, token: &mut Known<'a, T>)
         requires token_of_this_cell { token.old.cell ≡ self.now.cell }
         ensures cell { token.new.cell ≡ token.old.cell }
@@ -96,6 +111,19 @@ impl<T, F: Future, R: Wait + AllocGlobal> fmt::Debug for InitFuture<'_, T, F, R>
 
 impl<'a, T: Drop, F: Future<Output = T>, R: Wait + AllocGlobal> InitFuture<'a, T, F, R> {
     /// Polls the future once. It answers the value that is set, or a refusal, and is finished then.
+    ///
+    /// One turn of a thread that polls, and pauses where the poll is Pending:
+    ///
+    /// ```
+    /// let task = Solo::new(rt, Doorbell::parking())?;
+    /// let mut cx = task.begin();
+    /// let polled = future.poll(&mut cx);
+    /// cx.end(&polled);
+    /// match polled {
+    ///     Poll::Ready(answer) => return Ok(*answer?),
+    ///     Poll::Pending => thread::sleep(rt, Duration::from_millis(1)),
+    /// }
+    /// ```
     #[inline(always)]
     pub fn poll(&mut self, cx: &mut Context<'_>) -> Poll<Result<&'a T, Refused>>
         requires unfinished { self.old.finished ≡ false }
@@ -107,6 +135,13 @@ impl<'a, T: Drop, F: Future<Output = T>, R: Wait + AllocGlobal> InitFuture<'a, T
 
     /// As [`poll`](Self::poll), and the token learns the value that is answered. A token that knows
     /// a value gets that value; the future leaves its cell as by a drop, and is finished.
+    ///
+    /// ```
+    /// let Poll::Ready(Ok(first)) = future.poll_as(cx, token) else {
+    ///     return None;
+    /// };
+    /// let second = cell.get_as(token).unwrap(); // never None, and the same value: both are proved
+    /// ```
     #[inline(always)]
     pub fn poll_as(
         &mut self,

@@ -31,9 +31,8 @@ enum Seen<T> {
 /// What its holder has learned of one cell: the cell's value, if it knows it, and the record as far as it was seen.
 ///
 /// A token learns the value from a call that answers it: [`OnceCell::get_as`], or the `poll_as` of a
-/// future. From then on each such call answers that value, which the contracts say; so whoever
-/// passes a token on passes on what it knows. A token borrows its cell, so no owner's call comes
-/// between.
+/// future. From then on each such call answers that value: the contracts say so. Whoever passes a
+/// token on passes on what it knows. A token borrows its cell, so its owner makes no call meanwhile.
 #[derive(Drop)]
 pub struct Known<'a, T> {
     cell: &'a OnceCell<T>,
@@ -125,8 +124,15 @@ impl<'a, T> Known<'a, T> {
         self.seen.learn_record(seen);
     }
 
-    /// Takes over what another token of the cell has seen: its record, and its value where this one knows none. It waits
-    /// for nobody.
+    /// Takes over what another token of the cell has seen: its record, and its value where this one knows
+    /// none. It waits for nobody.
+    ///
+    /// Here `other` knows the value, and so `token` does then:
+    ///
+    /// ```
+    /// token.learn_from(other);
+    /// cell.get_as(token).unwrap() // never None, which is proved
+    /// ```
     pub fn learn_from(&mut self, other: &Known<'a, T>)
         requires tokens_of_one_cell { self.old.cell ≡ other.now.cell }
         ensures cell { self.new.cell ≡ self.old.cell }
@@ -137,8 +143,14 @@ impl<'a, T> Known<'a, T> {
         self.seen.learn_from(&other.seen);
     }
 
-    /// Shows that the record of a cell that tasks share is a run of the cell, that at each of its beginnings somebody was
-    /// called where somebody had to be, and that a Fill stands in it where the cell is set. It does nothing.
+    /// It does nothing. Its contract is about the record of a cell that tasks share. The record is a run of
+    /// the cell, and at each of its beginnings somebody was called if somebody had to be. If the cell is set
+    /// in it, it has a Fill.
+    ///
+    /// ```
+    /// token.is_run();
+    /// error_is_ones_own(); // this law of all runs holds of the record that the token has seen
+    /// ```
     pub fn is_run(&self)
         ensures run { is_shared self.now.cell ≡ true → IsRun Once most (reverse self.now.log) }
         ensures called { is_shared self.now.cell ≡ true → AtEvery (SomebodyCalled Once) (reverse self.now.log) }
@@ -149,8 +161,17 @@ impl<'a, T> Known<'a, T> {
         }
     }
 
-    /// Whether both tokens know a value. Then the two values are one. The tokens are of one cell. It
-    /// waits for nobody.
+    /// Whether both tokens, which are of one cell, know a value. Then the two values are one. It waits
+    /// for nobody.
+    ///
+    /// Here two threads ask one cell. By its contract each gives the value and a token that knows it:
+    ///
+    /// ```
+    /// let (one, other) = thread::join(rt, one, other);
+    /// let (first, known) = one?;
+    /// let (second, as_known) = other?;
+    /// Known::compare(&known, &as_known); // after this it is proved that `first` is `second`
+    /// ```
     pub fn compare(a: &Known<'a, T>, b: &Known<'a, T>) -> bool
         requires tokens_of_one_cell { a.now.cell ≡ b.now.cell }
         ensures both { IsTrue result ↔ (IsSome a.now.value × IsSome b.now.value) }
@@ -166,8 +187,14 @@ impl<'a, T> Known<'a, T> {
         }
     }
 
-    /// Of two tokens of one cell the record of one is a beginning of the other's, and where the cell is set in that beginning
-    /// it is set in the other. It does nothing.
+    /// It does nothing. Its contract is about two tokens of one cell: the record of one is a beginning of
+    /// the other's record, and if the cell is set in that beginning it is set in the other too.
+    ///
+    /// Here only the second token has seen that the cell is set:
+    ///
+    /// ```
+    /// Known::compare_records(without, with); // so the first one's record is a beginning of the other's
+    /// ```
     pub fn compare_records(a: &Known<'a, T>, b: &Known<'a, T>)
         requires tokens_of_one_cell { a.now.cell ≡ b.now.cell }
         ensures begins { IsPrefix a.now.log b.now.log ⊎ IsPrefix b.now.log a.now.log }

@@ -6,6 +6,16 @@ use std::fmt;
 
 /// Why a poll ended without a value, though no init failed. Its future is finished, and all else is
 /// as if the future had been dropped.
+///
+/// An init that asks another cell may be refused there. This one passes the refusal on:
+///
+/// ```
+/// match Future::poll(&mut self.base, cx) {
+///     Poll::Ready(Ok(value)) => Poll::Ready(Ok(value.wrapping_mul(2))),
+///     Poll::Ready(Err(refused)) => Poll::Ready(Err(refused)),
+///     Poll::Pending => Poll::Pending,
+/// }
+/// ```
 #[derive(Clone, Copy, Debug, PartialEq, Eq)]
 pub enum Refused {
     /// Memory was refused, for a place among those who wait.
@@ -31,6 +41,15 @@ impl fmt::Display for Refused {
 impl Error for Refused {}
 
 /// Why a poll ended without a value: the caller's own init failed, or the poll was refused.
+///
+/// ```
+/// match cell.get_or_try_init(rt, load).wait_as(token)? {
+///     Ok(value) => Ok(*value),
+///     Err(InitError::Init(error)) => Err(Fault::NotLoaded(error)), // the caller's own load failed
+///     Err(InitError::Memory) => Err(Fault::Refused(Refused::Memory)),
+///     Err(InitError::Full) => Err(Fault::Refused(Refused::Full)),
+/// }
+/// ```
 #[derive(Clone, Copy, Debug, Drop, PartialEq, Eq)]
 pub enum InitError<E> {
     /// The caller's init answered this error. The right was given back, and another caller may fill

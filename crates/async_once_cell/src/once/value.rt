@@ -11,7 +11,7 @@ use once_parts::Inner;
 pub(crate) enum Value<T> {
     /// Put there by whoever had the cell alone. It has no record.
     Owned(T),
-    /// In what tasks share, who set it once at most.
+    /// In what tasks share. They set it once at most.
     Shared(Inner<T, Seated>),
 }
 
@@ -32,7 +32,7 @@ impl<T> Value<T> {
         }
     }
 
-    // A slot lends its value for reading alone, since what a token of it says holds for good. So a value
+    // A slot lends its value for reading alone, since what a token says of it holds for good. So a value
     // that lies in a slot is taken out of it first, and the slot goes.
     pub(super) fn get_mut(&mut self) -> Option<&mut T> {
         let is_set = match self {

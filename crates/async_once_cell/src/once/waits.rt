@@ -19,12 +19,12 @@ where
     F: Future<Output: TryOutput<Ok = T, Error = E>>,
 {
     /// Polls the future on this thread until it answers. The thread sleeps while it has to wait: for its
-    /// own init, or for the task that holds. So it never returns where neither is driven on, as where
-    /// this thread itself keeps another future of the cell, which holds.
+    /// own init, or for the task that holds. So the call never returns if neither is driven on. That is so
+    /// if this thread itself keeps another future of the cell, and that one holds.
     ///
     /// The answer is that of the last poll. `io::Error` says that the thread could not be made ready to
-    /// wait, for want of memory or of random bytes. Then the future was dropped, as it is after an
-    /// answer, so that the cell is as after any drop. A cell that is set answers without any of that.
+    /// wait, since memory or random bytes were refused. Then the future was dropped, as it is after an
+    /// answer, and the cell is as after any drop. A cell that is set answers without any of that.
     ///
     /// ```
     /// let value = cell.get_or_try_init(rt, ok::<u64, u64>(7)).wait()?; // Ok(&7)
@@ -114,6 +114,10 @@ impl<'a, T: Drop, F: Future<Output = T>, R: Wait + AllocGlobal> InitFuture<'a, T
 
     /// As [`wait`](Self::wait), and the token learns the value that is answered. A token that knows
     /// a value gets that value at once.
+    ///
+    /// ```
+    /// Ok(cell.get_or_init(rt, ready(6)).wait_as(token)??)
+    /// ```
     pub fn wait_as(self, token: &mut Known<'a, T>) -> io::Result<Result<&'a T, Refused>>
     where
         R: RandomSource,

@@ -48,6 +48,7 @@ impl ReplayCell {
     ghost use Rattle.once_world.specs.Machine.{first_world, look_value, step_lines, reset_shared, owner_shared, owner_got, owner_lines, advance as outcome};
     ghost use Rattle.once_world.specs.Shown.{kind_of, call_of, got_of, shared_of, log_in, step_entries};
 
+    /// A cell of this kind that nobody used. It takes no memory.
     pub fn new(alloc: Global, kind: Kind) -> Self
         ensures shared { shared_of result ≡ (first_world (kind_of kind)).shared }
         ensures log { log_in result ≡ [] }
@@ -79,7 +80,7 @@ impl ReplayCell {
         }
     }
 
-    // What a look finds.
+    /// What a look finds: the value, where it is set.
     pub fn look(&self) -> Option<u64>
         ensures { result ≡ look_value (shared_of self.now) }
     {
@@ -90,7 +91,7 @@ impl ReplayCell {
         }
     }
 
-    // Makes the room that one step may need. Where that is refused all is as it was.
+    /// Makes the room that one step may need. Where that is refused all is as it was.
     pub fn reserve(&mut self) -> Result<(), AllocError>
         ensures room { OnOk result (HasRoom self.new.core) }
         ensures shared { shared_of self.new ≡ shared_of self.old }
@@ -100,8 +101,8 @@ impl ReplayCell {
         self.core.reserve()
     }
 
-    // Makes one step of a task with a call under way, whose init answers so and which is given
-    // memory or not.
+    /// Makes one step of a task with a call under way. If the step polls the init, the init gives
+    /// `answer`; that of a lazy cell gives its own. `granted` says whether the step is given memory.
     pub fn advance(&mut self, task: &mut Task, answer: Ran, granted: bool, limit: u64) -> StepSeen
         requires call { in_call task.old.step ≡ true }
         requires limit { limit ≤ 2 ^ 62 - 2 }
@@ -146,7 +147,7 @@ impl ReplayCell {
         }
     }
 
-    // Whether this kind of cell has the call.
+    /// Whether this kind of cell has the call.
     pub fn has_call(&self, call: &Call) -> bool
         ensures { (kind : RecordedKind) → is_lazy kind ≡ self.now.side.lazy
             → result ≡ owner_has kind (call_of call.now) }
@@ -158,7 +159,7 @@ impl ReplayCell {
         }
     }
 
-    // Makes a call of the cell's owner, and answers what the owner is given.
+    /// Makes a call of the cell's owner, and answers what the owner is given.
     pub fn own(&mut self, call: &Call) -> Result<Got, AllocError>
         ensures shared { OnOk result (shared_of self.new
             ≡ owner_shared (call_of call.now) (shared_of self.old)) }
