@@ -9,34 +9,34 @@ use Rattle.async_once_cell.specs.Views.{Call, CellView, Owned, Shared}
 module _ {T F R O : Type 0} where
   -- its task's number
   abbrev pub task_of : Asked T F R O → ℕ
-  task_of (AskedOwned b) = 0
+  task_of (AskedOwned r b) = 0
   task_of (AskedShared w) = w.number
 
   -- the record that it has seen
   abbrev pub seen_of : Asked T F R O → List Entry
-  seen_of (AskedOwned b) = []
+  seen_of (AskedOwned r b) = []
   seen_of (AskedShared w) = w.log
 
   -- its task's cell has this book
   abbrev pub HasBook : Asked T F R O → Book → Type 0
-  HasBook (AskedOwned b) book = ⊥
+  HasBook (AskedOwned r b) book = ⊥
   HasBook (AskedShared w) book = book ≡ w.cell.book
 
   -- its cell has its owner's value
   abbrev pub is_of_owned : Asked T F R O → Bool
-  is_of_owned (AskedOwned b) = true
+  is_of_owned (AskedOwned r b) = true
   is_of_owned (AskedShared w) = false
 
   -- whether it answered, or left
   abbrev pub is_done : Asked T F R O → Bool
-  is_done (AskedOwned b) = b
+  is_done (AskedOwned r b) = b
   is_done (AskedShared w) = w.finished
 
   -- it is of this cell
   abbrev pub IsAsked : CellView T → Asked T F R O → Type 0
-  IsAsked (Owned x) (AskedOwned b) = ⊤
+  IsAsked (Owned x) (AskedOwned r b) = ⊤
   IsAsked (Owned x) (AskedShared w) = ⊥
-  IsAsked (Shared s) (AskedOwned b) = ⊥
+  IsAsked (Shared s) (AskedOwned r b) = ⊥
   IsAsked (Shared s) (AskedShared w) = w.cell ≡ s
 
   -- the call of a future of this cell

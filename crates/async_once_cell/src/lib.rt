@@ -74,7 +74,7 @@
 //! This says nothing of a call that does not return, of fairness, progress or time. Two things are tested
 //! and not proved: a task that is called is woken, and each value and init is dropped once. The tokens say
 //! which value was set, see [`Known`]. The definitions in `specs/` and the kit have to be believed.
-//! `docs/PROVED.md` of the repository has each clause, and `docs/THREADS.md` how it is proved.
+//! `docs/PROVED.md` of the repository says what no clause says, and `docs/THREADS.md` what is proved of threads.
 #![tactic(auto)]
 
 mod held;

@@ -226,12 +226,14 @@ impl<T> OnceCell<T> {
     }
 }
 
+/// An empty cell, as [`OnceCell::new`] makes it.
 impl<T> Default for OnceCell<T> {
     fn default() -> Self {
         OnceCell::new()
     }
 }
 
+/// A cell with this value, as [`OnceCell::new_with`] makes it.
 impl<T> From<T> for OnceCell<T> {
     ghost from_gives = { λ value cell. cell ≡ Owned value };
 

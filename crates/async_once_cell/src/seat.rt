@@ -122,7 +122,7 @@ impl Seat {
     //
     // Flag and waker are looked at and changed under one lock. So a call comes before, and is found
     // here, or comes after, and finds the waker.
-    #[inline(always)]
+    #[inline(never)]
     pub fn sit<T, R: Wait>(&self, rt: &R, cx: &mut Context<'_>) -> Poll<T>
         ensures pending { result ≡ Poll.Pending }
         ensures armed { IsArmed cx.new }

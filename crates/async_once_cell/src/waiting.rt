@@ -43,7 +43,6 @@ pub(crate) enum Reply<'a, T, E> {
 /// A task of a cell with its init. A clause sees the task.
 #[derive(Drop)]
 pub(crate) struct Waiting<'a, T, F: Future, R: Wait + AllocGlobal> {
-    rt: &'a R,
     task: Task<'a, 'a, T, Seated, R>,
     init: Option<Held<F>>,
     // Made when the task waits for the first time.
@@ -68,7 +67,6 @@ impl<'a, T, F: Future, R: Wait + AllocGlobal> Waiting<'a, T, F, R> {
         ensures made { (seen : List Entry) × Grew (Made result.number ∷ []) seen result.log }
     {
         Waiting {
-            rt,
             task: Task::new(inner, rt),
             init: Some(Held::new(init)),
             seat: None,
@@ -83,6 +81,12 @@ impl<'a, T, F: Future, R: Wait + AllocGlobal> Waiting<'a, T, F, R> {
         self.task.is_finished()
     }
 
+    /// What the task was made with.
+    #[inline(always)]
+    pub(crate) fn rt(&self) -> &'a R {
+        self.task.rt()
+    }
+
     /// The record as far as the task has seen it.
     #[inline(always)]
     pub(crate) fn record(&self) -> Record
@@ -92,7 +96,7 @@ impl<'a, T, F: Future, R: Wait + AllocGlobal> Waiting<'a, T, F, R> {
     }
 
     /// What a drop does: the init is dropped, and then the task gives the right back, or leaves those who wait.
-    #[inline(always)]
+    #[inline(never)]
     pub(crate) fn leave(&mut self)
         requires live { self.old.finished ≡ false }
         ensures cell { self.new.cell ≡ self.old.cell }
@@ -101,7 +105,7 @@ impl<'a, T, F: Future, R: Wait + AllocGlobal> Waiting<'a, T, F, R> {
         ensures finished { self.new.finished ≡ true }
     {
         drop(self.init.take());
-        let mut side = Leaving::<T, R>::new(self.rt, self.task.mark());
+        let mut side = Leaving::<T, R>::new(self.task.rt(), self.task.mark());
         self.task.leave(&mut side);
     }
 }
@@ -155,7 +159,7 @@ where
         ensures kept { Keeps cx.old cx.new }
     {
         let mut side = Polling {
-            rt: self.rt,
+            rt: self.task.rt(),
             mark: self.task.mark(),
             cx,
             init: &mut self.init,
@@ -177,23 +181,21 @@ where
             is_armed,
             woke: _woke,
         } = side;
-        self.settle(&ending, is_armed, cx);
+        if !is_armed && matches!(ending, Ending::Pending) {
+            self.sit(cx);
+        }
         (ending, error)
     }
 
-    // Ends a poll. If it is Pending and the init did not see to it that the task is called, the seat does, and
-    // without a seat the task is to be polled again.
+    // Ends a poll that is Pending, where the init did not see to it that the task is called. The seat does, and without
+    // a seat the task is to be polled again.
     #[inline(always)]
-    fn settle(&self, ending: &Ending, is_armed: bool, cx: &mut Context<'_>)
-        requires { is_armed ≡ true → IsArmed cx.old }
-        ensures armed { ending.now ≡ Ending.Pending → IsArmed cx.new }
+    fn sit(&self, cx: &mut Context<'_>)
+        ensures armed { IsArmed cx.new }
         ensures kept { Keeps cx.old cx.new }
     {
-        if is_armed || !matches!(ending, Ending::Pending) {
-            return;
-        }
         let _: Poll<()> = match &self.seat {
-            Some(seat) => seat.sit(self.rt, cx),
+            Some(seat) => seat.sit(self.task.rt(), cx),
             None => cx.yield_now(),
         };
     }

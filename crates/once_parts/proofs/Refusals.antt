@@ -1,5 +1,5 @@
 -- After a look that wants a copy of the waker the task is about to list itself, and the refusal of that copy may be told.
-use Rattle.std.proofs.Common.{◌≡◌, ℕ, Bool, true, false, Option, sym, ap, subst}
+use Rattle.std.proofs.Common.{◌≡◌, ℕ, true, Option, sym, ap, subst}
 use Rattle.std.proofs.lemmas.Bool.{false≢true}
 use Rattle.once_queue.specs.declared.waiters.Answer.{Answer}
 use Rattle.once_queue.specs.declared.waiters.Answer.TheVariants.{Ready, Claimed, Listed, Held, Memory, Gone, Released, Left}

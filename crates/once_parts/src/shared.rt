@@ -54,7 +54,7 @@ impl<T, W: TaskWaker + Drop> Inner<T, W> {
     ghost use Rattle.once_parts.specs.Record.{Looked, WasFilled};
     ghost use Rattle.once_parts.specs.Shares.{cell_of, own};
 
-    /// A new cell. It takes no memory.
+    /// A new cell. It takes no memory. No clause says that it is empty.
     #[inline(always)]
     pub fn new() -> Self {
         let (word, has_put, blank, front, pens) = Word::open_two_slot::<(), CellRule>(0, 0, &());
@@ -125,12 +125,12 @@ impl<T, W: TaskWaker + Drop> Inner<T, W> {
         self.slot.value(written)
     }
 
-    /// Whether the value was put.
+    /// Whether the value was put. No clause says so.
     pub fn is_written(&self) -> bool {
         self.slot.witness().is_some()
     }
 
-    /// The value, where it was put. The record ends.
+    /// The value, where it was put. The record ends. No clause says so.
     pub fn into_inner(self) -> Option<T> {
         let Inner {
             word: _word,
@@ -142,7 +142,8 @@ impl<T, W: TaskWaker + Drop> Inner<T, W> {
         slot.into_inner()
     }
 
-    /// Whether a queue stands at the door. `None` says that the lock could not be had at once. It waits for nobody.
+    /// Whether a queue stands at the door. `None` says that the lock could not be had at once. It waits for nobody. It is
+    /// for Debug: no clause says what it answers.
     pub fn has_queue(&self) -> Option<bool> {
         stands::<Brand, T, W>(self)
     }
@@ -213,6 +214,12 @@ impl<'a, 'r, T, W: TaskWaker, R> Shared<'a, 'r, T, W, R> {
     {
         let inner = self.inner;
         inner.slot.get(&self.hand.seen)
+    }
+
+    /// What the task was made with.
+    #[inline(always)]
+    pub fn rt(&self) -> &'r R {
+        self.rt
     }
 
     /// The number of this task, for its wakers.
@@ -434,7 +441,7 @@ fn put<J: Key, T, W: TaskWaker + Drop, R: Wait>(
 }
 
 // The queue, taken out under the lock.
-#[inline(always)]
+#[inline(never)]
 fn taken<J: Key, T, W: TaskWaker + Drop, R: Wait>(
     rt: &R,
     inner: &Inner<T, W>,

@@ -78,6 +78,12 @@ impl<'a, 'r, T, W: TaskWaker + Drop, R> Task<'a, 'r, T, W, R> {
         self.parts.value()
     }
 
+    /// What the task was made with.
+    #[inline(always)]
+    pub fn rt(&self) -> &'r R {
+        self.parts.rt()
+    }
+
     /// The number of this task, for its wakers.
     #[inline(always)]
     pub fn mark(&self) -> Mark
@@ -118,7 +124,6 @@ impl<'a, 'r, T, W: TaskWaker + Drop, R: Wait + AllocGlobal> Task<'a, 'r, T, W, R
     }
 
     /// A whole drop of a task that is not finished. It may wait as [`poll`](Self::poll).
-    #[inline(always)]
     pub fn leave<S: TaskSide<W, Value = T>>(&mut self, side: &mut S)
         requires live { self.old.finished ≡ false }
         requires number { (S.state side.old).number ≡ self.old.number }

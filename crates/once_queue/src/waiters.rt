@@ -317,7 +317,7 @@ impl<W: WakerId + Drop> Lists<W> {
         self.slots.len()
     }
 
-    /// Whether the other list has the same listings in the same order.
+    /// Whether the other list has the same listings in the same order. It has no clause.
     pub fn lists_the_same(&self, other: &Self) -> bool
     where
         W: PartialEq,

@@ -32,7 +32,7 @@ use std::sync::Wait;
 #[derive(Drop)]
 enum Asked<'a, T, F: Future, R: Wait + AllocGlobal> {
     // It is that of the cell's owner; whether it was answered.
-    Owned(bool),
+    Owned(&'a R, bool),
     // It is a task of those that share the cell.
     Shared(Waiting<'a, T, F, R>),
 }
@@ -52,7 +52,6 @@ enum Asked<'a, T, F: Future, R: Wait + AllocGlobal> {
 pub struct TryInitFuture<'a, T, E, F: Future, R: Wait + AllocGlobal> {
     error: PhantomData<E>,
     cell: &'a OnceCell<T>,
-    rt: &'a R,
     asked: Asked<'a, T, F, R>,
 }
 
@@ -74,15 +73,18 @@ impl<'a, T, E, F: Future, R: Wait + AllocGlobal> TryInitFuture<'a, T, E, F, R> {
         ensures cell { result.cell ≡ cell.now }
         ensures live { result.finished ≡ false }
     {
-        let asked = match &cell.value {
-            Value::Owned(_) => Asked::Owned(false),
-            Value::Shared(inner) => Asked::Shared(Waiting::new(inner, rt, init)),
-        };
-        TryInitFuture {
-            error: PhantomData,
-            cell,
-            rt,
-            asked,
+        // Each arm makes a whole future, so that the compiler writes its fields once.
+        match &cell.value {
+            Value::Owned(_) => TryInitFuture {
+                error: PhantomData,
+                cell,
+                asked: Asked::Owned(rt, false),
+            },
+            Value::Shared(inner) => TryInitFuture {
+                error: PhantomData,
+                cell,
+                asked: Asked::Shared(Waiting::new(inner, rt, init)),
+            },
         }
     }
 
@@ -95,7 +97,10 @@ impl<'a, T, E, F: Future, R: Wait + AllocGlobal> TryInitFuture<'a, T, E, F, R> {
 
     #[inline(always)]
     pub(super) fn rt(&self) -> &'a R {
-        self.rt
+        match &self.asked {
+            Asked::Owned(rt, _) => rt,
+            Asked::Shared(waiting) => waiting.rt(),
+        }
     }
 
     /// Whether the future answered a value, an error or a refusal. It may not be polled after that.
@@ -155,7 +160,7 @@ impl<'a, T, F: Future, R: Wait + AllocGlobal> Asked<'a, T, F, R> {
         ensures { result ≡ is_done self.now }
     {
         match self {
-            Asked::Owned(done) => *done,
+            Asked::Owned(_, done) => *done,
             Asked::Shared(waiting) => waiting.is_finished(),
         }
     }
@@ -165,9 +170,19 @@ impl<'a, T, F: Future, R: Wait + AllocGlobal> Asked<'a, T, F, R> {
         ensures { MatchOption result ((is_of_owned self.now ≡ true) × (seen_of self.now ≡ [])) (λ r. (r.log ≡ seen_of self.now) × HasBook self.now r.book) }
     {
         match self {
-            Asked::Owned(_) => None,
+            Asked::Owned(_, _) => None,
             Asked::Shared(waiting) => Some(waiting.record()),
         }
+    }
+
+    // A drop of a future that is not finished. It has the future by value, so that the drop of a finished one leaves that
+    // where it is.
+    #[inline(never)]
+    fn left(self)
+        requires live { is_done self ≡ false }
+    {
+        let mut asked = self;
+        asked.leave();
     }
 
     fn leave(&mut self)
@@ -175,7 +190,7 @@ impl<'a, T, F: Future, R: Wait + AllocGlobal> Asked<'a, T, F, R> {
         ensures left { (c : CellView T) → IsAsked c self.old → IsAsked c self.new × HasLeft (call_of c self.old) (call_of c self.new) }
     {
         match self {
-            Asked::Owned(done) => *done = true,
+            Asked::Owned(_, done) => *done = true,
             Asked::Shared(waiting) => waiting.leave(),
         }
     }
@@ -199,7 +214,7 @@ where
     {
         match (self, &cell.value) {
             (Asked::Shared(waiting), _) => waiting.poll(cx),
-            (Asked::Owned(done), Value::Owned(value)) => {
+            (Asked::Owned(_, done), Value::Owned(value)) => {
                 *done = true;
                 Reply::Owned(value)
             }
@@ -219,7 +234,8 @@ where
     /// as may be. After any of these it is finished. After an error or a refusal the cell is as if the
     /// future had been dropped.
     ///
-    /// The newest entry of the record is the end of this poll, with what it answers.
+    /// A poll that is Pending has registered its task somewhere, or asked for another poll. The newest entry of the
+    /// record is the end of this poll, with what it answers.
     ///
     /// ```
     /// let polled = future.poll(cx);
@@ -320,15 +336,15 @@ impl<T, E, F: Future, R: Wait + AllocGlobal> fmt::Debug for TryInitFuture<'_, T,
 
 /// The init is dropped first. Then the task gives the right back, or leaves those who wait.
 impl<T, E, F: Future, R: Wait + AllocGlobal> Drop for TryInitFuture<'_, T, E, F, R> {
-    fn drop(mut self) {
-        if !self.is_finished() {
-            self.leave();
-        }
+    #[inline(always)]
+    fn drop(self) {
         let TryInitFuture {
             error: _,
             cell: _,
-            rt: _,
-            asked: _asked,
+            asked,
         } = self;
+        if !asked.is_finished() {
+            asked.left();
+        }
     }
 }

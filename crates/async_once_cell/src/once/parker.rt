@@ -5,7 +5,7 @@ use std::io;
 use std::random::RandomSource;
 use std::sync::Wait;
 
-/// Where a thread sleeps while it waits for the value of a cell.
+/// Where a thread sleeps while it waits for the value of a cell. One wait at a time uses it.
 ///
 /// `wait` and `wait_as` of a future make one for themselves. A thread that waits again and again makes
 /// its own, and gives it to `wait_on` and `wait_as_on`: that spares two thirds of a short wait.

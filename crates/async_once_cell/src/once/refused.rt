@@ -5,7 +5,8 @@ use std::error::Error;
 use std::fmt;
 
 /// Why a poll ended without a value, though no init failed. Its future is finished, and all else is
-/// as if the future had been dropped.
+/// as if the future had been dropped. A new future may be tried. By `?` this becomes the [`InitError`]
+/// of the same name. There is no conversion to `io::Error`.
 ///
 /// An init that asks another cell may be refused there. This one passes the refusal on:
 ///
@@ -20,7 +21,7 @@ use std::fmt;
 pub enum Refused {
     /// Memory was refused, for a place among those who wait.
     Memory,
-    /// As many tasks are counted in as may be. Counted are those that wait, those in a call that came to
+    /// As many tasks are counted in as may be, 2^62 - 2. Counted are those that wait, those in a call that came to
     /// the queue, and a holder that claimed there.
     Full,
 }

@@ -1,5 +1,5 @@
 -- A task that stands where its page says may make its next step.
-use Rattle.std.proofs.Common.{◌≡◌, ℕ, Bool, true, Some, refl, sym, subst}
+use Rattle.std.proofs.Common.{◌≡◌, ℕ, Bool, true, refl, sym, subst}
 use Rattle.std.specs.Prelude.{⊤}
 use Rattle.pagebook.specs.Slot.{Placed}
 use Rattle.once_core.specs.Steps.{Asks, AsksAt}

@@ -1,23 +1,22 @@
 -- Where a call begins, and what is known when it has ended.
-use Rattle.std.proofs.Common.{◌≡◌, ℕ, Bool, true, false, List, [], ◌∷◌, ◌++◌, append_assoc, Option, Some, None, reverse, refl, sym, ap, ◌∙◌, subst}
+use Rattle.std.proofs.Common.{◌≡◌, ℕ, true, false, List, [], ◌∷◌, ◌++◌, append_assoc, Some, None, reverse, refl, sym, ap, ◌∙◌, subst}
 use Rattle.std.specs.Prelude.{⊤}
 use Rattle.std.proofs.lemmas.Bool.{false≢true}
 use mathlib.Core.List.{IsPrefix}
 use Rattle.once_core.specs.Steps.{in_call, is_resting, step_of_drop, step_of_poll}
-use Rattle.once_world.specs.Places.{EndDropped, EndError, EndFull, EndMemory, EndPending, EndValue, Ended, Ending, Finished, More, Progress, RestRun, RestStart, RestWait, Resting, Step, UnderWay}
-use Rattle.once_world.specs.Record.{Answer, Begin, DropBegin, DropEnd, Entry, RanError}
+use Rattle.once_world.specs.Places.{EndDropped, Finished, More, RestRun, RestStart, RestWait, Resting, Step, UnderWay}
+use Rattle.once_world.specs.Record.{Begin, DropBegin, DropEnd, Entry}
 use Rattle.once_world.specs.Book.{TaskState}
-use Rattle.once_world.specs.Machine.{drop_entries, end_entry, progress_entries}
+use Rattle.once_world.specs.Machine.{drop_entries}
 use Rattle.once_moments.specs.Kept.{Grew}
 use Rattle.once_moments.specs.Steps.{step_as}
 use Rattle.once_moments.proofs.Steps.{drop_as, poll_as}
 use Rattle.once_parts.specs.Own.{Own, Turned}
 use Rattle.once_parts.specs.Places.{task_begun, task_dropping}
 use Rattle.once_parts.specs.Sides.{Sided}
-use Rattle.once_parts.specs.Walks.{Fits, HasBegun, MayEnd, Rests, Stands, StandsOn, Walked, end_of, the_queue}
+use Rattle.once_parts.specs.Walks.{Fits, HasBegun, Rests, Stands, the_queue}
 use Rattle.once_parts.proofs.Desks.{prefix_on}
 use Rattle.once_parts.proofs.Walk.Fits.{leave_fits, release_fits}
-use Rattle.once_parts.proofs.Walk.Logs.{grew_on}
 
 module _ {W : Type 0} (whose : W → ℕ) (x : Sided) (v w : Own) (s : Step W ⊤) (number : x.number ≡ v.number) (none : x.woke ≡ []) where
   -- a poll fits where it begins

@@ -1,15 +1,15 @@
 -- What is known of a call that has ended.
-use Rattle.std.proofs.Common.{◌≡◌, ℕ, Bool, true, false, List, [], ◌∷◌, Option, refl, sym, ap, ◌∙◌, subst}
+use Rattle.std.proofs.Common.{◌≡◌, ℕ, Bool, true, false, [], ◌∷◌, refl, sym, ap, ◌∙◌, subst}
 use Rattle.std.specs.Prelude.{⊤}
 use Rattle.std.proofs.lemmas.Bool.{false≢true}
-use Rattle.once_core.specs.Steps.{in_call, is_resting}
-use Rattle.once_world.specs.Places.{EndDropped, EndError, EndFull, EndMemory, EndPending, EndValue, Ended, Ending, Finished, More, Progress, Resting, Step, UnderWay}
-use Rattle.once_world.specs.Record.{Answer, Entry, RanError}
-use Rattle.once_world.specs.Machine.{end_entry, error_in, progress_entries}
+use Rattle.once_core.specs.Steps.{in_call}
+use Rattle.once_world.specs.Places.{EndDropped, EndError, EndFull, EndMemory, EndPending, EndValue, Ended, Ending, Finished, Progress, Resting, Step, UnderWay}
+use Rattle.once_world.specs.Record.{Answer, Entry}
+use Rattle.once_world.specs.Machine.{end_entry, progress_entries}
 use Rattle.once_moments.specs.Kept.{Grew}
 use Rattle.once_parts.specs.Own.{Own}
 use Rattle.once_parts.specs.Sides.{Sided}
-use Rattle.once_parts.specs.Walks.{Fits, HasBegun, MayEnd, Rests, Stands, StandsOn, Walked, end_of}
+use Rattle.once_parts.specs.Walks.{Fits, MayEnd, Rests, Stands, Walked, end_of}
 
 -- a call ended once
 same_end : (r : Progress) (d e : Ending) → r ≡ Ended d → r ≡ Ended e → d ≡ e

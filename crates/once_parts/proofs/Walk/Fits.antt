@@ -1,5 +1,5 @@
 -- What is known of a call holds at the place to which each line of the table leads.
-use Rattle.std.proofs.Common.{◌≡◌, ℕ, Bool, true, false, List, [], Option, Some, None, refl, sym, ap, ◌∙◌, subst}
+use Rattle.std.proofs.Common.{◌≡◌, ℕ, Bool, true, false, [], Option, Some, None, refl, sym, ◌∙◌, subst}
 use Rattle.once_queue.specs.declared.waiters.Answer.{Answer}
 use Rattle.once_queue.specs.declared.waiters.Answer.TheVariants.{Ready, Claimed, Listed, Held, Memory, Gone, Released, Left}
 use Rattle.once_core.specs.declared.parts.Counted.{Counted}
@@ -8,9 +8,9 @@ use Rattle.once_core.specs.declared.step.Polled.{Polled}
 use Rattle.once_core.specs.declared.step.Polled.TheVariants.{Pending, Value, Error}
 use Rattle.once_queue.specs.Word.{flags_of}
 use Rattle.once_core.specs.Steps.{Next}
-use Rattle.once_world.specs.Places.{Ending, EndPending, EndValue, EndError, EndMemory, EndFull, EndDropped, Place, UnderWay}
+use Rattle.once_world.specs.Places.{Ending, EndPending, EndValue, EndError, EndMemory, EndFull, EndDropped}
 use Rattle.once_core.specs.Steps.{after_copy, after_count_in, after_count_out, after_door_again, after_door_get, after_door_put, after_fast, after_in, after_list, after_load, after_look, after_quick, after_run, after_start, leave_place, next_at, next_end, release_place}
-use Rattle.once_world.specs.Record.{Answer as InitAnswer, RanError}
+use Rattle.once_world.specs.Record.{RanError}
 use Rattle.once_parts.specs.Own.{Own}
 use Rattle.once_parts.specs.Sides.{Sided}
 use Rattle.once_parts.specs.Walks.{Fits, FitsAt, HasBegun, MayEnd}

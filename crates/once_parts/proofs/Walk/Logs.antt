@@ -1,12 +1,12 @@
 -- How the log grows with a step, and with one step after the other.
-use Rattle.std.proofs.Common.{◌≡◌, ℕ, List, [], ◌∷◌, ◌++◌, append_assoc, reverse, refl, sym, ap, ◌∙◌, subst}
+use Rattle.std.proofs.Common.{◌≡◌, ℕ, List, [], ◌∷◌, ◌++◌, append_assoc, reverse, refl, sym, ap, ◌∙◌}
 use Rattle.std.proofs.lemmas.List.{append-nil, reverse-append}
 use mathlib.Core.List.{IsPrefix}
 use Rattle.once_core.specs.Steps.{Next}
 use Rattle.once_world.specs.Places.{Progress, More, Ended}
-use Rattle.once_world.specs.Record.{Answer, Entry, End, DropEnd, handed_by}
+use Rattle.once_world.specs.Record.{Answer, Entry, handed_by}
 use Rattle.once_world.specs.Book.{TaskState}
-use Rattle.once_world.specs.Machine.{EndDropped, EndError, EndFull, EndMemory, EndPending, EndValue, end_entry, progress_entries}
+use Rattle.once_world.specs.Machine.{EndDropped, EndError, EndFull, EndMemory, EndPending, EndValue, progress_entries}
 use Rattle.once_moments.specs.Kept.{Grew}
 use Rattle.once_parts.specs.Own.{Own, Turned, told}
 use Rattle.once_parts.specs.Sides.{Sided}

@@ -1,25 +1,25 @@
 -- What the calls of a cell's parts ask and tell, and what a call of a task makes of the record, of parts and sides of any type.
-use Rattle.std.proofs.Common.{◌≡◌, ℕ, Bool, true, List, reverse, [], ◌∷◌, ◌++◌, Option, refl, sym, ap, ◌∙◌, subst}
+use Rattle.std.proofs.Common.{◌≡◌, ℕ, Bool, List, reverse, [], ◌∷◌, ◌++◌, Option, sym, ap, ◌∙◌, subst}
 use Rattle.std.specs.Prelude.{⊤}
 use Rattle.std.proofs.lemmas.List.{append-nil}
 use Rattle.std.specs.Option.{is_some}
 use Rattle.pagebook.specs.Slot.{Placed}
 use Rattle.once_queue.specs.declared.waiters.Out.{Out}
 use Rattle.once_core.specs.declared.step.Polled.{Polled}
-use Rattle.once_core.specs.Steps.{Follows, MayClose, Next, PartsAsk, PartsTell, SideTells, after_quick}
+use Rattle.once_core.specs.Steps.{Next, PartsAsk, PartsTell, SideTells, after_quick}
 use Rattle.once_world.specs.Places.{Progress, Step}
-use Rattle.once_world.specs.Record.{Answer, Entry, Ran}
+use Rattle.once_world.specs.Record.{Entry, Ran}
 use Rattle.once_world.specs.Book.{TaskState, refused_step}
 use Rattle.once_world.specs.Machine.{AtDoorPut, AtTryQuick, UnderWay, claim_entries, freed_entries}
 use Rattle.once_moments.specs.Kept.{most}
 use Rattle.once_moments.specs.Steps.{next_as, step_as}
 use Rattle.once_moments.proofs.Steps.{stands_after}
 use Rattle.once_parts.specs.Own.{Did, Own, Turned, told}
-use Rattle.once_parts.specs.Places.{CanAdd, CanCountIn, CanCountOut, CanFast, CanFill, CanGet, CanLoad, CanRefuse, CanRun, CanTake, add_next, fast_next, fill_next, get_next, in_next, load_next, numbered, out_next, put_next, run_next, take_next, task_run, unnamed}
+use Rattle.once_parts.specs.Places.{CanAdd, CanCountIn, CanCountOut, CanFast, CanFill, CanGet, CanLoad, CanRun, CanTake, add_next, fast_next, fill_next, get_next, in_next, load_next, numbered, out_next, put_next, run_next, take_next, task_run, unnamed}
 use Rattle.once_parts.specs.Handed.{CanSection, DidSection}
 use Rattle.once_parts.specs.Sides.{HasCopied, HasPut, HasRun, HasWoken, Sided}
 use Rattle.once_parts.specs.Walks.{Fits, Stands, StandsOn, Walked, handed, the_queue}
-use Rattle.once_parts.proofs.Walk.Logs.{walked_by, walked_none, walked_on}
+use Rattle.once_parts.proofs.Walk.Logs.{walked_by, walked_on}
 
 module _ {P W : Type 0} (cell : P → Placed) (own : P → Own) (whose : W → ℕ) where
   -- what the parts tell

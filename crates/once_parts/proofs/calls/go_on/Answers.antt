@@ -1,7 +1,7 @@
 -- After each step the task stands, so it may make the next one.
-use Rattle.std.proofs.Common.{◌≡◌, Bool, false, rules, arith, refl, ◌∙◌, subst}
+use Rattle.std.proofs.Common.{◌≡◌, false, rules, arith, refl, ◌∙◌, subst}
 use Rattle.once_core.specs.Steps.{in_call}
-use Rattle.once_parts.specs.Shares.{cell_of, own}
+use Rattle.once_parts.specs.Shares.{own}
 use Rattle.once_parts.specs.Walks.{Stands, Walked}
 use Rattle.once_parts.proofs.Walk.Ends.{told_end}
 use Rattle.once_parts.proofs.calls.go_on.Goals as goal

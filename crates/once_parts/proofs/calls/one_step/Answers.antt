@@ -1,11 +1,9 @@
 -- The step is a line of the table. So the task stands after it too.
-use Rattle.std.proofs.Common.{◌≡◌, Bool}
 use Rattle.once_queue.specs.declared.word.TheConstants.{MAX_WAITERS}
 use Rattle.once_core.specs.Steps.{SideTells}
 use Rattle.once_parts.specs.Shares.{cell_of, own}
-use Rattle.once_parts.specs.Walks.{Stands}
 use Rattle.once_parts.proofs.Walk.Logs.{walked_on}
-use Rattle.once_parts.proofs.Walk.Parts.{IsTold, Went}
+use Rattle.once_parts.proofs.Walk.Parts.{IsTold}
 use Rattle.once_parts.proofs.Walk.Asked.{step_asked}
 use Rattle.once_parts.proofs.Walk.Calls.{step_went}
 use Rattle.once_parts.proofs.calls.one_step.Given.{Over}

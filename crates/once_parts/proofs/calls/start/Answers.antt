@@ -1,12 +1,12 @@
 -- The steps of a first poll are lines of the table, and so are none.
-use Rattle.std.proofs.Common.{◌≡◌, false, rules, refl, sym, subst}
+use Rattle.std.proofs.Common.{◌≡◌, false, rules, sym, subst}
 use Rattle.once_queue.specs.declared.word.TheConstants.{MAX_WAITERS}
 use Rattle.once_core.specs.Steps.{SideTells, step_of_poll}
 use Rattle.once_world.specs.Places.{More}
 use Rattle.once_parts.specs.Shares.{cell_of, own}
 use Rattle.once_parts.specs.Walks.{Stands}
 use Rattle.once_parts.proofs.Walk.Logs.{walked_none}
-use Rattle.once_parts.proofs.Walk.Parts.{IsTold, Went, parts_tell}
+use Rattle.once_parts.proofs.Walk.Parts.{IsTold}
 use Rattle.once_parts.proofs.Walk.Calls.{steps_asked, steps_went}
 use Rattle.once_parts.proofs.calls.start.Given.{Over}
 use Rattle.once_parts.proofs.calls.start.Goals as goal

@@ -1,9 +1,9 @@
 -- The drop begins, its steps are made, and so it ends. A task that was never polled has none to make.
-use Rattle.std.proofs.Common.{◌≡◌, ℕ, Bool, true, false, refl, sym, ap, ◌∙◌, ◌∷◌, [], ◌++◌, subst}
+use Rattle.std.proofs.Common.{ℕ, true, refl, sym, ap, ◌∙◌, ◌∷◌, [], ◌++◌, subst}
 use Rattle.once_core.specs.Steps.{in_call}
 use Rattle.once_world.specs.Record.{DropBegin, DropEnd}
 use Rattle.once_moments.specs.Kept.{Grew}
-use Rattle.once_parts.specs.Shares.{cell_of, own}
+use Rattle.once_parts.specs.Shares.{own}
 use Rattle.once_parts.specs.Sides.{Sided}
 use Rattle.once_parts.specs.Walks.{handed}
 use Rattle.once_parts.proofs.Walk.Logs.{by_before, grew_by, grew_on, walked_none}

@@ -1,12 +1,10 @@
 -- The poll begins, its steps are made, and so it ends.
-use Rattle.std.proofs.Common.{◌≡◌, Bool, false, refl, ap, subst, ◌∙◌, ◌∷◌, [], ◌++◌}
-use Rattle.once_core.specs.Steps.{step_of_poll}
-use Rattle.once_world.specs.Record.{Begin}
-use Rattle.once_parts.specs.Shares.{cell_of, own}
+use Rattle.std.proofs.Common.{false, refl, ap, subst, ◌∙◌, ◌++◌}
+use Rattle.once_parts.specs.Shares.{own}
 use Rattle.once_parts.specs.Walks.{Stands, Walked, handed}
 use Rattle.once_parts.proofs.Walk.Logs.{by_before, grew_on}
 use Rattle.once_parts.proofs.Walk.Begins.{grew_from, poll_begins}
-use Rattle.once_parts.proofs.Walk.Ends.{PollEnded, poll_ended}
+use Rattle.once_parts.proofs.Walk.Ends.{poll_ended}
 use Rattle.once_parts.proofs.calls.whole_poll.Goals as goal
 
 pub start-requires-clause-stands : goal.start-requires-clause-stands

@@ -1,5 +1,4 @@
 -- A look keeps the rule of the book.
-use Rattle.std.proofs.Common.{◌≡◌}
 use Rattle.once_parts.proofs.Values.{look_keeps}
 use Rattle.once_parts.proofs.shared.Inner.load.Goals as goal
 
