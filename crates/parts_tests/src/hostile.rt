@@ -2,8 +2,8 @@
 ghost use Rattle.std.specs.Prelude.{◌≡◌, ◌↔◌, ℕ, [], refl, false};
 ghost use Rattle.std.proofs.Common.{rules};
 
-use crate::side::{Bell, Called, NOBODY, TestSide};
-use crate::walks::{Caller, Cell};
+use crate::side::{Bell, Called, NOBODY, Seen, TestSide};
+use crate::walks::{Caller, Cell, ERROR, MEMORY, PENDING, TWO, VALUE};
 use cell_doubles::text::shows;
 use once_core::step::{Ending, Polled, Side};
 use once_parts::{Mark, Task, TaskSide};
@@ -12,7 +12,8 @@ use std::alloc::AllocGlobal;
 use std::marker::Model;
 use std::sync::Wait;
 
-const PENDING: Option<Ending> = Some(Ending::Pending);
+// The task with this name alone is called.
+const NINE: Called = [Some(9), None, None];
 
 const FILLED: &str = "Inner { ready: true, quick_init: false, refcount: 0, queue: false }";
 
@@ -212,12 +213,20 @@ impl<'a, 'r, R: Wait + AllocGlobal> Meddler<'a, 'r, R> {
         Meddler { task, side }
     }
 
-    fn poll(&mut self) -> Ending
-        requires { self.old.task.finished ≡ false }
-        ensures finished { (result ≡ Ending.Pending) ↔ (self.new.task.finished ≡ false) }
-    {
+    // A poll. None says that the task was finished before.
+    fn polled(&mut self) -> Option<Ending> {
+        if self.task.is_finished() {
+            return None;
+        }
         self.side.begin();
-        self.task.poll(&mut self.side)
+        Some(self.task.poll(&mut self.side))
+    }
+
+    // Whom this task and the other called, how often their inits were closed, and how the other's last call
+    // ended. Both tasks are gone then.
+    fn into_seen(self) -> ([Called; 2], [u64; 2], Option<Ending>) {
+        let side = &self.side;
+        (side.called(), side.closes(), side.heard())
     }
 }
 
@@ -229,15 +238,15 @@ fn a_copy_that_polls(rt: HostRuntime) {
     let other = Caller::new(&cell, &rt, 8, Polled::Error);
     let mut waiter = Meddler::new(&cell, &rt, 7, Polled::Error, other);
     waiter.side.polls();
-    assert_eq!(rt; holder.poll(), Ending::Pending);
-    assert_eq!(rt; waiter.poll(), Ending::Pending);
-    assert_eq!(rt; waiter.side.heard(), PENDING);
+    let pending = [holder.polled(), waiter.polled(), waiter.side.heard()];
     holder.answers(Polled::Value);
-    assert_eq!(rt; holder.poll(), Ending::Value);
-    assert_eq!(rt; holder.side.called, [Some(8), Some(7), None]);
-    assert_eq!(rt; waiter.poll(), Ending::Value);
+    let filled = [holder.polled(), waiter.polled()];
     waiter.side.obey(Act::Poll);
-    assert_eq!(rt; waiter.side.heard(), Some(Ending::Value));
+    let seen = holder.into_seen();
+    let (_, _, heard) = waiter.into_seen();
+    assert_eq!(rt; (pending, filled), ([PENDING; 3], [VALUE; 2]));
+    assert_eq!(rt; seen, ([Some(8), Some(7), None], [2, 1]));
+    assert_eq!(rt; heard, VALUE);
     assert!(rt; shows(&rt, &cell, FILLED));
 }
 
@@ -249,12 +258,13 @@ fn an_init_and_a_wake_that_poll(rt: HostRuntime) {
     let other = Caller::new(&cell, &rt, 9, Polled::Error);
     let mut holder = Meddler::new(&cell, &rt, 7, Polled::Pending, other);
     holder.side.polls();
-    assert_eq!(rt; holder.poll(), Ending::Pending);
-    assert_eq!(rt; holder.side.heard(), PENDING);
+    let pending = [holder.polled(), holder.side.heard()];
     holder.side.answers(Polled::Value);
-    assert_eq!(rt; holder.poll(), Ending::Value);
-    assert_eq!(rt; holder.side.called(), [[Some(9), None, None], NOBODY]);
-    assert_eq!(rt; holder.side.heard(), Some(Ending::Value));
+    let filled = holder.polled();
+    let (called, _, heard) = holder.into_seen();
+    assert_eq!(rt; (pending, filled), ([PENDING; 2], VALUE));
+    assert_eq!(rt; called, [NINE, NOBODY]);
+    assert_eq!(rt; heard, VALUE);
     assert!(rt; shows(&rt, &cell, FILLED));
 }
 
@@ -265,9 +275,10 @@ fn a_wake_that_takes_the_right(rt: HostRuntime) {
     let other = Caller::new(&cell, &rt, 9, Polled::Error);
     let mut holder = Meddler::new(&cell, &rt, 7, Polled::Error, other);
     holder.side.polls();
-    assert_eq!(rt; holder.poll(), Ending::Error);
-    assert_eq!(rt; holder.side.heard(), Some(Ending::Error));
-    assert_eq!(rt; holder.side.closes(), [1, 1]);
+    let failed = holder.polled();
+    let (_, closes, heard) = holder.into_seen();
+    assert_eq!(rt; (failed, heard), (ERROR, ERROR));
+    assert_eq!(rt; closes, [1, 1]);
     assert!(rt; shows(&rt, &cell, FREE));
 }
 
@@ -279,17 +290,29 @@ fn a_turn_taken_while_it_is_passed_on(rt: HostRuntime) {
     let mut holder = Caller::new(&cell, &rt, 5, Polled::Pending);
     let mut waiter = Caller::new(&cell, &rt, 7, Polled::Error);
     let mut other = Caller::new(&cell, &rt, 9, Polled::Error);
-    assert_eq!(rt; holder.poll(), Ending::Pending);
-    assert_eq!(rt; waiter.poll(), Ending::Pending);
-    assert_eq!(rt; other.poll(), Ending::Pending);
+    let pending = [holder.polled(), waiter.polled(), other.polled()];
     holder.leave();
-    assert_eq!(rt; holder.side.called, [Some(7), None, None]);
+    let seen = holder.into_seen();
+    let passed_on = left_beside(waiter, other);
+    assert_eq!(rt; pending, [PENDING; 3]);
+    assert_eq!(rt; seen, ([Some(7), None, None], [1, 1]));
+    assert_eq!(rt; passed_on, (NINE, ERROR));
+    assert!(rt; shows(&rt, &cell, FREE));
+}
+
+// A task is dropped, and its side polls the other wherever it can: whom the side called, and how the other's
+// poll ended.
+fn left_beside<'a, 'r, R: Wait + AllocGlobal>(
+    mut waiter: Caller<'a, 'r, R>,
+    other: Caller<'a, 'r, R>,
+) -> (Called, Option<Ending>) {
     let mut side = Meddling::new(7, waiter.task.mark(), Polled::Error, other);
     side.polls();
-    waiter.task.leave(&mut side);
-    assert_eq!(rt; side.side.called, [Some(9), None, None]);
-    assert_eq!(rt; side.heard, Some(Ending::Error));
-    assert!(rt; shows(&rt, &cell, FREE));
+    if !waiter.task.is_finished() {
+        waiter.task.leave(&mut side);
+    }
+    let [called, _] = side.called();
+    (called, side.heard())
 }
 
 // A waiter was called, and another task took the right. The waiter is polled again, and while its bell is
@@ -300,24 +323,47 @@ fn a_called_waiter_that_is_refused(rt: HostRuntime) {
     let mut holder = Caller::new(&cell, &rt, 1, Polled::Pending);
     let other = Caller::new(&cell, &rt, 5, Polled::Pending);
     let mut waiter = Meddler::new(&cell, &rt, 2, Polled::Value, other);
-    let mut third = Caller::new(&cell, &rt, 3, Polled::Value);
-    let mut fourth = Caller::new(&cell, &rt, 4, Polled::Value);
-    assert_eq!(rt; holder.poll(), Ending::Pending);
-    assert_eq!(rt; waiter.poll(), Ending::Pending);
-    assert_eq!(rt; third.poll(), Ending::Pending);
-    assert_eq!(rt; fourth.poll(), Ending::Pending);
+    let mut behind = Behind::new(&cell, &rt);
+    let pending = (holder.polled(), waiter.polled(), behind.polled());
     holder.leave();
-    assert_eq!(rt; holder.side.called, [Some(2), None, None]);
+    let seen = holder.into_seen();
     waiter.side.obey(Act::Poll);
-    assert_eq!(rt; waiter.side.heard(), PENDING);
+    let heard = waiter.side.heard();
     waiter.side.leaves_in_a_copy();
-    assert_eq!(rt; waiter.poll(), Ending::Memory);
-    assert_eq!(rt;
-        waiter.side.called(),
-        [[Some(4), None, None], [Some(3), None, None]]
-    );
-    assert_eq!(rt; third.poll(), Ending::Value);
-    assert_eq!(rt; third.side.called, NOBODY);
-    assert_eq!(rt; fourth.poll(), Ending::Value);
+    let refused = waiter.polled();
+    let (called, _, _) = waiter.into_seen();
+    let filled = behind.polled();
+    let third = behind.into_third();
+    assert_eq!(rt; pending, (PENDING, PENDING, [PENDING; 2]));
+    assert_eq!(rt; seen, (TWO, [1, 1]));
+    assert_eq!(rt; (heard, refused), (PENDING, MEMORY));
+    assert_eq!(rt; called, [[Some(4), None, None], [Some(3), None, None]]);
+    assert_eq!(rt; (filled, third), ([VALUE; 2], (NOBODY, [1, 1])));
     assert!(rt; shows(&rt, &cell, FILLED));
+}
+
+/// Two tasks, with the names 3 and 4, whose inits give a value.
+#[derive(Drop)]
+struct Behind<'a, 'r, R> {
+    third: Caller<'a, 'r, R>,
+    fourth: Caller<'a, 'r, R>,
+}
+
+impl<'a, 'r, R: Wait + AllocGlobal> Behind<'a, 'r, R> {
+    fn new(cell: &'a Cell, rt: &'r R) -> Self {
+        Behind {
+            third: Caller::new(cell, rt, 3, Polled::Value),
+            fourth: Caller::new(cell, rt, 4, Polled::Value),
+        }
+    }
+
+    // A poll of each, in their order.
+    fn polled(&mut self) -> [Option<Ending>; 2] {
+        [self.third.polled(), self.fourth.polled()]
+    }
+
+    // What the side of the first went through. Both tasks are gone then.
+    fn into_third(self) -> Seen {
+        self.third.side.seen()
+    }
 }

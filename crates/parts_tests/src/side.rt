@@ -44,6 +44,9 @@ pub type Called = [Option<u64>; 3];
 /// Nobody is called.
 pub const NOBODY: Called = [None; 3];
 
+/// Whom the last call of a task called, and how often its init was polled and closed.
+pub type Seen = (Called, [u64; 2]);
+
 /// The side of a task. A clause sees what is told of it.
 #[derive(Drop)]
 pub struct TestSide {
@@ -111,6 +114,11 @@ impl TestSide {
         ensures { self.new ≡ self.old }
     {
         self.granted = false;
+    }
+
+    /// What it went through.
+    pub fn seen(&self) -> Seen {
+        (self.called, [self.polls, self.closes])
     }
 
     /// Another call is to begin, in which nobody was called yet.

@@ -2,16 +2,30 @@
 ghost use Rattle.std.specs.Prelude.{◌≡◌, ◌↔◌, false, ℕ};
 ghost use Rattle.once_parts.specs.Record.{EndsSet};
 
-use crate::side::{Bell, NOBODY, TestSide};
+use crate::side::{Bell, Called, NOBODY, Seen, TestSide};
 use cell_doubles::memory::hoard;
 use once_core::step::{Ending, Polled, Step};
 use once_parts::{Inner, Task};
-use std::alloc::AllocGlobal;
+use std::alloc::{AllocError, AllocGlobal, Global};
 use std::mem::size_of;
 use std::sync::Wait;
 use std::test::Fail;
 
 pub type Cell = Inner<u64, Bell>;
+
+// How a poll of a task that was not finished ended.
+pub const PENDING: Option<Ending> = Some(Ending::Pending);
+
+pub const VALUE: Option<Ending> = Some(Ending::Value);
+
+pub const ERROR: Option<Ending> = Some(Ending::Error);
+
+pub const MEMORY: Option<Ending> = Some(Ending::Memory);
+
+// The task with this name alone is called.
+pub const TWO: Called = [Some(2), None, None];
+
+const THREE: Called = [Some(3), None, None];
 
 /// A task, and its side.
 #[derive(Drop)]
@@ -48,6 +62,25 @@ impl<'a, 'r, R: Wait + AllocGlobal> Caller<'a, 'r, R> {
         self.task.poll(&mut self.side)
     }
 
+    // The same of a task that may be finished. None says that it was.
+    pub fn polled(&mut self) -> Option<Ending> {
+        if self.task.is_finished() {
+            return None;
+        }
+        Some(self.poll())
+    }
+
+    // The value that a poll gives. None where it gives none, or the task was finished.
+    pub fn gets(&mut self) -> Option<u64> {
+        if self.task.is_finished() {
+            return None;
+        }
+        match self.poll() {
+            Ending::Value => Some(self.value()),
+            _ => None,
+        }
+    }
+
     // The value, after a poll that answered it.
     pub fn value(&self) -> u64
         requires { EndsSet self.now.task.number self.now.task.log }
@@ -56,12 +89,65 @@ impl<'a, 'r, R: Wait + AllocGlobal> Caller<'a, 'r, R> {
         *value
     }
 
-    // A drop.
-    pub fn leave(&mut self)
-        requires { self.old.task.finished ≡ false }
-    {
+    // A drop. A task that is finished is left as it is.
+    pub fn leave(&mut self) {
+        if self.task.is_finished() {
+            return;
+        }
         self.side.begin();
         self.task.leave(&mut self.side);
+    }
+
+    // What its side went through. The task is gone then: a test that holds few tasks where it asserts is
+    // proved sooner.
+    pub fn into_seen(self) -> Seen {
+        self.side.seen()
+    }
+}
+
+/// Three tasks of a cell, with the names 1, 2 and 3. The init of the first is Pending, and those of the others
+/// give a value.
+#[derive(Drop)]
+struct Three<'a, 'r, R> {
+    holder: Caller<'a, 'r, R>,
+    second: Caller<'a, 'r, R>,
+    third: Caller<'a, 'r, R>,
+}
+
+impl<'a, 'r, R: Wait + AllocGlobal> Three<'a, 'r, R> {
+    fn new(cell: &'a Cell, rt: &'r R) -> Self {
+        Three {
+            holder: Caller::new(cell, rt, 1, Polled::Pending),
+            second: Caller::new(cell, rt, 2, Polled::Value),
+            third: Caller::new(cell, rt, 3, Polled::Value),
+        }
+    }
+
+    // A poll of each, in their order.
+    fn polled(&mut self) -> [Option<Ending>; 3] {
+        [
+            self.holder.polled(),
+            self.second.polled(),
+            self.third.polled(),
+        ]
+    }
+
+    // Whose init failed.
+    fn errors(&self) -> [bool; 3] {
+        [
+            self.holder.side.error,
+            self.second.side.error,
+            self.third.side.error,
+        ]
+    }
+
+    // What the side of each went through. The tasks are gone then.
+    fn into_seen(self) -> [Seen; 3] {
+        [
+            self.holder.side.seen(),
+            self.second.side.seen(),
+            self.third.side.seen(),
+        ]
     }
 }
 
@@ -69,11 +155,11 @@ impl<'a, 'r, R: Wait + AllocGlobal> Caller<'a, 'r, R> {
 fn one_task_fills_a_cell(rt: HostRuntime) {
     let cell = Cell::new();
     let mut one = Caller::new(&cell, &rt, 7, Polled::Value);
-    assert_eq!(rt; one.poll(), Ending::Value);
-    assert_eq!(rt; one.value(), 7);
-    assert_eq!(rt; (one.side.polls, one.side.closes), (1, 1));
-    assert_eq!(rt; one.side.called, NOBODY);
-    assert!(rt; one.task.is_finished());
+    let value = one.gets();
+    let is_finished = one.task.is_finished();
+    let seen = one.into_seen();
+    assert_eq!(rt; (value, is_finished), (Some(7), true));
+    assert_eq!(rt; seen, (NOBODY, [1, 1]));
 }
 
 #[test]
@@ -81,36 +167,25 @@ fn who_waits_gets_the_value(rt: HostRuntime) {
     let cell = Cell::new();
     let mut holder = Caller::new(&cell, &rt, 7, Polled::Pending);
     let mut waiter = Caller::new(&cell, &rt, 8, Polled::Value);
-    assert_eq!(rt; holder.poll(), Ending::Pending);
-    assert_eq!(rt; waiter.poll(), Ending::Pending);
+    let pending = [holder.polled(), waiter.polled()];
     holder.answers(Polled::Value);
-    assert_eq!(rt; holder.poll(), Ending::Value);
-    assert_eq!(rt; holder.side.called, [Some(8), None, None]);
-    assert_eq!(rt; waiter.poll(), Ending::Value);
-    assert_eq!(rt; waiter.value(), 7);
-    assert_eq!(rt; (waiter.side.polls, waiter.side.closes), (0, 1));
-    assert_eq!(rt; waiter.side.called, NOBODY);
+    let (filled, value) = (holder.polled(), waiter.gets());
+    let seen = [holder.into_seen(), waiter.into_seen()];
+    assert_eq!(rt; (pending, filled, value), ([PENDING; 2], VALUE, Some(7)));
+    assert_eq!(rt; seen, [([Some(8), None, None], [2, 1]), (NOBODY, [0, 1])]);
 }
 
 #[test]
 fn an_error_calls_one_who_waits(rt: HostRuntime) {
     let cell = Cell::new();
-    let mut holder = Caller::new(&cell, &rt, 1, Polled::Pending);
-    let mut second = Caller::new(&cell, &rt, 2, Polled::Value);
-    let mut third = Caller::new(&cell, &rt, 3, Polled::Value);
-    assert_eq!(rt; holder.poll(), Ending::Pending);
-    assert_eq!(rt; second.poll(), Ending::Pending);
-    assert_eq!(rt; third.poll(), Ending::Pending);
-    holder.answers(Polled::Error);
-    assert_eq!(rt; holder.poll(), Ending::Error);
-    assert_eq!(rt; holder.side.called, [Some(2), None, None]);
-    assert_eq!(rt; second.poll(), Ending::Value);
-    assert_eq!(rt; second.side.called, [Some(3), None, None]);
-    assert_eq!(rt; third.poll(), Ending::Value);
-    let errors = (holder.side.error, second.side.error, third.side.error);
-    assert_eq!(rt; errors, (true, false, false));
-    let polls = (holder.side.polls, second.side.polls, third.side.polls);
-    assert_eq!(rt; polls, (2, 1, 0));
+    let mut tasks = Three::new(&cell, &rt);
+    let pending = tasks.polled();
+    tasks.holder.answers(Polled::Error);
+    let (ended, errors) = (tasks.polled(), tasks.errors());
+    let seen = tasks.into_seen();
+    assert_eq!(rt; (pending, ended), ([PENDING; 3], [ERROR, VALUE, VALUE]));
+    assert_eq!(rt; errors, [true, false, false]);
+    assert_eq!(rt; seen, [(TWO, [2, 1]), (THREE, [1, 1]), (NOBODY, [0, 1])]);
 }
 
 #[test]
@@ -118,49 +193,39 @@ fn a_holder_that_is_dropped_calls_one(rt: HostRuntime) {
     let cell = Cell::new();
     let mut holder = Caller::new(&cell, &rt, 1, Polled::Pending);
     let mut waiter = Caller::new(&cell, &rt, 2, Polled::Value);
-    assert_eq!(rt; holder.poll(), Ending::Pending);
-    assert_eq!(rt; waiter.poll(), Ending::Pending);
+    let pending = [holder.polled(), waiter.polled()];
     holder.leave();
-    assert_eq!(rt;
-        (holder.side.closes, holder.side.called),
-        (1, [Some(2), None, None])
-    );
-    assert!(rt; holder.task.is_finished());
-    assert_eq!(rt; waiter.poll(), Ending::Value);
-    assert_eq!(rt; waiter.side.polls, 1);
+    let is_finished = holder.task.is_finished();
+    let filled = waiter.polled();
+    let seen = [holder.into_seen(), waiter.into_seen()];
+    assert_eq!(rt; (pending, is_finished, filled), ([PENDING; 2], true, VALUE));
+    assert_eq!(rt; seen, [(TWO, [1, 1]), (NOBODY, [1, 1])]);
 }
 
 #[test]
 fn one_who_was_called_and_leaves_calls_the_next(rt: HostRuntime) {
     let cell = Cell::new();
-    let mut holder = Caller::new(&cell, &rt, 1, Polled::Pending);
-    let mut second = Caller::new(&cell, &rt, 2, Polled::Value);
-    let mut third = Caller::new(&cell, &rt, 3, Polled::Value);
-    assert_eq!(rt; holder.poll(), Ending::Pending);
-    assert_eq!(rt; second.poll(), Ending::Pending);
-    assert_eq!(rt; third.poll(), Ending::Pending);
-    holder.leave();
-    assert_eq!(rt; holder.side.called, [Some(2), None, None]);
-    second.leave();
-    assert_eq!(rt; second.side.called, [Some(3), None, None]);
-    assert_eq!(rt; third.poll(), Ending::Value);
-    assert_eq!(rt; (second.side.polls, third.side.polls), (0, 1));
+    let mut tasks = Three::new(&cell, &rt);
+    let pending = tasks.polled();
+    tasks.holder.leave();
+    tasks.second.leave();
+    let filled = tasks.third.polled();
+    let seen = tasks.into_seen();
+    assert_eq!(rt; (pending, filled), ([PENDING; 3], VALUE));
+    assert_eq!(rt; seen, [(TWO, [1, 1]), (THREE, [0, 1]), (NOBODY, [1, 1])]);
 }
 
 #[test]
 fn one_who_was_not_called_leaves_and_calls_nobody(rt: HostRuntime) {
     let cell = Cell::new();
-    let mut holder = Caller::new(&cell, &rt, 1, Polled::Pending);
-    let mut second = Caller::new(&cell, &rt, 2, Polled::Value);
-    let mut third = Caller::new(&cell, &rt, 3, Polled::Value);
-    assert_eq!(rt; holder.poll(), Ending::Pending);
-    assert_eq!(rt; second.poll(), Ending::Pending);
-    assert_eq!(rt; third.poll(), Ending::Pending);
-    second.leave();
-    assert_eq!(rt; second.side.called, NOBODY);
-    holder.answers(Polled::Value);
-    assert_eq!(rt; holder.poll(), Ending::Value);
-    assert_eq!(rt; holder.side.called, [Some(3), None, None]);
+    let mut tasks = Three::new(&cell, &rt);
+    let pending = tasks.polled();
+    tasks.second.leave();
+    tasks.holder.answers(Polled::Value);
+    let filled = tasks.holder.polled();
+    let seen = tasks.into_seen();
+    assert_eq!(rt; (pending, filled), ([PENDING; 3], VALUE));
+    assert_eq!(rt; seen, [(THREE, [2, 1]), (NOBODY, [0, 1]), (NOBODY, [0, 0])]);
 }
 
 #[test]
@@ -169,13 +234,16 @@ fn a_copy_that_is_refused_ends_with_memory(rt: HostRuntime) {
     let mut holder = Caller::new(&cell, &rt, 1, Polled::Pending);
     let mut waiter = Caller::new(&cell, &rt, 2, Polled::Value);
     waiter.side.refuse_copies();
-    assert_eq!(rt; holder.poll(), Ending::Pending);
-    assert_eq!(rt; waiter.poll(), Ending::Memory);
-    assert!(rt; waiter.task.is_finished());
-    assert_eq!(rt; (waiter.side.polls, waiter.side.closes), (0, 1));
+    let endings = [holder.polled(), waiter.polled()];
+    let is_finished = waiter.task.is_finished();
     holder.answers(Polled::Value);
-    assert_eq!(rt; holder.poll(), Ending::Value);
-    assert_eq!(rt; holder.side.called, NOBODY);
+    let filled = holder.polled();
+    let seen = [holder.into_seen(), waiter.into_seen()];
+    assert_eq!(rt;
+        (endings, is_finished, filled),
+        ([PENDING, MEMORY], true, VALUE)
+    );
+    assert_eq!(rt; seen, [(NOBODY, [2, 1]), (NOBODY, [0, 1])]);
 }
 
 #[test]
@@ -183,15 +251,25 @@ fn a_queue_that_is_refused_ends_with_memory(rt: HostRuntime) -> Result<(), Fail>
     let cell = Cell::new();
     let mut holder = Caller::new(&cell, &rt, 1, Polled::Pending);
     let mut waiter = Caller::new(&cell, &rt, 2, Polled::Value);
-    assert_eq!(rt; holder.poll(), Ending::Pending);
-    let all_memory = hoard(rt.alloc())?;
-    let ending = waiter.poll();
-    drop(all_memory);
-    assert_eq!(rt; ending, Ending::Memory);
-    assert_eq!(rt; (waiter.side.polls, waiter.side.closes), (0, 1));
+    let pending = holder.polled();
+    let refused = without_memory(rt.alloc(), &mut waiter);
     holder.answers(Polled::Value);
-    assert_eq!(rt; holder.poll(), Ending::Value);
+    let filled = holder.polled();
+    let seen = [holder.into_seen(), waiter.into_seen()];
+    assert_eq!(rt; [pending, refused?, filled], [PENDING, MEMORY, VALUE]);
+    assert_eq!(rt; seen, [(NOBODY, [2, 1]), (NOBODY, [0, 1])]);
     Ok(())
+}
+
+// A poll while every request for memory is refused.
+fn without_memory<R: Wait + AllocGlobal>(
+    alloc: Global,
+    caller: &mut Caller<'_, '_, R>,
+) -> Result<Option<Ending>, AllocError> {
+    let all_memory = hoard(alloc)?;
+    let ending = caller.polled();
+    drop(all_memory);
+    Ok(ending)
 }
 
 #[test]
@@ -200,8 +278,10 @@ fn a_task_that_was_never_polled_is_dropped(rt: HostRuntime) {
     let mut first = Caller::new(&cell, &rt, 1, Polled::Value);
     let mut second = Caller::new(&cell, &rt, 2, Polled::Value);
     first.leave();
-    assert_eq!(rt; (first.side.polls, first.side.closes), (0, 1));
-    assert_eq!(rt; second.poll(), Ending::Value);
+    let filled = second.polled();
+    let seen = [first.into_seen(), second.into_seen()];
+    assert_eq!(rt; filled, VALUE);
+    assert_eq!(rt; seen, [(NOBODY, [0, 1]), (NOBODY, [1, 1])]);
 }
 
 // The bytes are two references, to the cell and to the runtime, and where the next call begins. The book has none.
