@@ -13,7 +13,7 @@ import pages
 
 LONG = 35
 Page = collections.namedtuple("Page", "path size lengths")
-LIST_MARK = re.compile(r"\s*(?:[-*+]|\d+\.)\s+")
+LIST_MARK = re.compile(r"^\s*(?:[-*+]|\d+\.)\s+")
 TABLE_RULE = re.compile(r"\s*\|[\s:|-]+\|\s*$")
 
 

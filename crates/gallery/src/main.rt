@@ -92,7 +92,7 @@ fn is_same<R: Files + AllocGlobal>(rt: &R, name: &str, product: Product) -> Resu
     let script = read(rt, name, "txt")?;
     let mut made = Vec::new(rt.alloc());
     match product {
-        Product::Record => once_filter::run(rt.alloc(), script.as_slice(), &mut made)?,
+        Product::Record => once_script::run(rt.alloc(), script.as_slice(), &mut made)?,
         Product::Picture => show(rt.alloc(), Format::Picture, &script, &mut made)?,
         Product::Table => show(rt.alloc(), Format::Table, &script, &mut made)?,
     }

@@ -5,8 +5,8 @@
 //! at which step and ends with the status 1. The same line always gives the same schedule.
 #![tactic(auto)]
 
+use machine_tests::side_by_side::pair::Fault;
 use schedule::play;
-use side_by_side::pair::Fault;
 use std::alloc::AllocGlobal;
 use std::io;
 use std::sync::Wait;

@@ -1,10 +1,10 @@
 //! Schedules at random, from a seed: which task does what next.
 
+use machine_tests::side_by_side::pair::{Fault, Pair, Shown, Stage, Woken};
+use machine_tests::side_by_side::walker::Cell;
 use once_core::step::{Ending, Polled, Progress};
 use rand_core::{Rng, SeedableRng};
 use rand_xoshiro::Xoshiro256PlusPlus;
-use side_by_side::pair::{Fault, Pair, Shown, Stage, Woken};
-use side_by_side::walker::Cell;
 use std::alloc::AllocGlobal;
 use std::fmt;
 use std::sync::Wait;

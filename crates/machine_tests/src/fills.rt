@@ -1,7 +1,8 @@
 //! A fill asks for no memory, also where the list could not note where a listing was put.
 
-use async_once_cell::queue::{Answer, Lists, NEW, Out};
 use cell_doubles::memory::hoard;
+use once_queue::waiters::{Answer, Lists, Out};
+use once_queue::word::NEW;
 use std::alloc::{AllocError, Global};
 use std::test::Fail;
 

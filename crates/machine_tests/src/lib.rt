@@ -1,11 +1,36 @@
-//! The machine in whole schedules: that shared parts do what plain ones do, and what a replay prints.
+//! The machine under test: each layer below the cells by its public calls alone, shared parts beside plain ones, and
+//! what a replay prints of whole schedules.
+//!
+//! `layers`, `ways`, `counting` and `left` show that each call can succeed, and what it does. `errors`, `rounds` and
+//! `threads` let several tasks use one cell. `inside` lets a future use its cell in the middle of one of its steps. `lockstep`
+//! and `random` play schedules over [`side_by_side`], which makes one step over shared and over plain parts, and compares
+//! the two. `replay` has scripts with their records.
 #![tactic(auto)]
 
 #[cfg(test)]
+mod counting;
+#[cfg(test)]
+mod errors;
+#[cfg(test)]
 mod fills;
+#[cfg(test)]
+mod inside;
+#[cfg(test)]
+mod layers;
+#[cfg(test)]
+mod left;
 #[cfg(test)]
 mod lockstep;
 #[cfg(test)]
+mod random;
+#[cfg(test)]
 mod replay;
 #[cfg(test)]
+mod rounds;
+#[cfg(test)]
 mod schedule;
+pub mod side_by_side;
+#[cfg(test)]
+mod threads;
+#[cfg(test)]
+mod ways;

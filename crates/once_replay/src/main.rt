@@ -1,7 +1,7 @@
 //! Replays a cell and its tasks from standard input, and prints the record.
 #![tactic(auto)]
 
-use once_filter::run;
+use once_script::run;
 use std::io;
 use std::process::ExitCode;
 

@@ -1,5 +1,40 @@
-//! The text of scripts, read.
+//! A script is read and replayed, and its record is printed.
+//!
+//! `parse` reads the text, `play` replays its lines by `once_world`, and `print` writes the record.
 #![tactic(auto)]
 
 pub mod fault;
 pub mod parse;
+pub mod play;
+pub mod print;
+
+use crate::fault::Fault;
+use crate::parse::{Script, parse_script};
+use crate::play::replay_lines;
+use crate::print::print_record;
+use std::alloc::Global;
+use std::io;
+use std::io::{BufReader, Read, Write};
+
+/// Reads the input to its end, replays what it says, and prints the record.
+///
+/// A fault on reading, or in the text, leaves nothing printed. One on printing may leave a beginning
+/// of the record.
+pub fn run<I, O>(alloc: Global, input: I, output: O) -> Result<(), Fault>
+where
+    I: Read + Drop,
+    O: Write + Drop,
+{
+    let text = read(alloc, input)?;
+    let Script { kind, limit, lines } = parse_script(alloc, text.as_slice())?;
+    let record = replay_lines(alloc, kind, limit, &lines)?;
+    print_record(alloc, &record, output)?;
+    Ok(())
+}
+
+// All the bytes that the input has left.
+fn read<I: Read + Drop>(alloc: Global, input: I) -> io::Result<Vec<u8>> {
+    let mut text = Vec::new(alloc);
+    BufReader::new(alloc, input)?.read_to_end(&mut text)?;
+    Ok(text)
+}

@@ -2,8 +2,8 @@
 use crate::play::{Moment, Watcher, play};
 use crate::range::LineRange;
 use crate::reading::Script;
-use async_once_cell::world::{Call, Entry, Kind, Reply};
-use once_filter::print::call_word;
+use once_script::print::call_word;
+use once_world::world::{Call, Entry, Kind, Reply};
 use std::alloc::{AllocError, Global};
 use std::io;
 use std::io::Write;

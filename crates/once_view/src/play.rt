@@ -1,10 +1,10 @@
 //! A script, played line by line before one who watches.
 use crate::reading::{Script, TextLine};
-use async_once_cell::step::Step;
-use async_once_cell::world::{Call, Entry, Input, Kind, World};
-use once_filter::play::take_line;
-use once_filter::print::call_word;
+use once_core::step::Step;
 use once_script::parse::{Line, Opening};
+use once_script::play::take_line;
+use once_script::print::call_word;
+use once_world::world::{Call, Entry, Input, Kind, World};
 use std::alloc::{AllocError, Global};
 use std::fmt;
 

@@ -2,7 +2,7 @@
 use crate::play::{Moment, Watcher, play};
 use crate::range::LineRange;
 use crate::reading::Script;
-use async_once_cell::world::Entry;
+use once_world::world::Entry;
 use std::alloc::{AllocError, Global};
 use std::collections::BTreeMap;
 use std::io;

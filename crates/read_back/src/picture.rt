@@ -49,41 +49,7 @@ struct Reading<'a> {
 
 /// Compares a picture with what the world says of these lines.
 pub fn compare(alloc: Global, svg: &str, story: &Story, window: Window) -> Result<Found, Fault> {
-    let mut lanes = Vec::new(alloc);
-    for (place, task) in story.tasks.iter().enumerate() {
-        if task.made <= window.last && task.gone.is_none_or(|gone| gone >= window.first) {
-            lanes.push(place)?;
-        }
-    }
-    let page = Page::read(alloc, svg)?;
-    let is_band = |shape: &&Shape<'_>| is_cell(shape.meaning);
-    let mut reading = Reading {
-        alloc,
-        left: page
-            .shapes
-            .iter()
-            .filter(is_band)
-            .map(|it| it.left)
-            .min()
-            .unwrap_or(0),
-        right: page
-            .shapes
-            .iter()
-            .filter(is_band)
-            .map(|it| it.right)
-            .max()
-            .unwrap_or(0),
-        page,
-        story,
-        window,
-        lanes,
-        columns: window.last.saturating_sub(window.first).saturating_add(1),
-        found: Found {
-            shapes: 0,
-            arrows: 0,
-            words: 0,
-        },
-    };
+    let mut reading = read(alloc, svg, story, window)?;
     reading.compare_labels()?;
     reading.compare_band()?;
     reading.compare_shapes()?;
@@ -93,6 +59,47 @@ pub fn compare(alloc: Global, svg: &str, story: &Story, window: Window) -> Resul
     reading.compare_words("the owner calls")?;
     reading.compare_edges()?;
     Ok(reading.found)
+}
+
+/// A picture that is to be compared with what the world says of these lines.
+fn read<'a>(
+    alloc: Global,
+    svg: &'a str,
+    story: &'a Story,
+    window: Window,
+) -> Result<Reading<'a>, Fault> {
+    let page = Page::read(alloc, svg)?;
+    let is_band = |shape: &&Shape<'_>| is_cell(shape.meaning);
+    let lefts = page.shapes.iter().filter(is_band).map(|it| it.left);
+    let left = lefts.min().unwrap_or(0);
+    let rights = page.shapes.iter().filter(is_band).map(|it| it.right);
+    let right = rights.max().unwrap_or(0);
+    Ok(Reading {
+        alloc,
+        left,
+        right,
+        page,
+        story,
+        window,
+        lanes: lanes_of(alloc, story, window)?,
+        columns: window.last.saturating_sub(window.first).saturating_add(1),
+        found: Found {
+            shapes: 0,
+            arrows: 0,
+            words: 0,
+        },
+    })
+}
+
+/// The tasks that are there at some of these lines.
+fn lanes_of(alloc: Global, story: &Story, window: Window) -> Result<Vec<usize>, AllocError> {
+    let mut lanes = Vec::new(alloc);
+    for (place, task) in story.tasks.iter().enumerate() {
+        if task.made <= window.last && task.gone.is_none_or(|gone| gone >= window.first) {
+            lanes.push(place)?;
+        }
+    }
+    Ok(lanes)
 }
 
 /// Whether a shape says what the cell is.
@@ -474,7 +481,7 @@ impl Reading<'_> {
 }
 
 /// Words.
-impl Reading<'_> {
+impl<'a> Reading<'a> {
     /// Where the polls of a task end it stands what the last one answered, if there is room.
     fn compare_answers(&mut self) -> Result<(), Fault> {
         let is_left_out = self.says("what polls answer");
@@ -523,22 +530,8 @@ impl Reading<'_> {
 
     /// Beside each mark of this kind stands its word, if there is room.
     fn compare_words(&mut self, kind: &str) -> Result<(), Fault> {
-        let (cell, top, is_left_out) = (self.page.cell, self.page.top(), self.says("looks find"));
-        let is_below = kind == "a look, and what it found";
-        let is_in_row = |word: &&Word<'_>| {
-            if is_below {
-                cell < word.y && word.y < top
-            } else {
-                word.y < cell
-            }
-        };
-        let mut row: Vec<Word<'_>> = self
-            .page
-            .words
-            .iter()
-            .filter(is_in_row)
-            .copied()
-            .collect(self.alloc)?;
+        let is_left_out = self.says("looks find");
+        let mut row = self.words_of(kind)?;
         let (story, window, mut free) = (self.story, self.window, 0i64);
         for mark in story
             .marks
@@ -567,6 +560,21 @@ impl Reading<'_> {
             Some(word) => self.differs("a word that says nothing true", self.column(word.x)),
             None => Ok(()),
         }
+    }
+
+    /// The words of the row of these marks: below the cell those of looks, above it those of the owner.
+    fn words_of(&self, kind: &str) -> Result<Vec<Word<'a>>, AllocError> {
+        let (cell, top) = (self.page.cell, self.page.top());
+        let is_below = kind == "a look, and what it found";
+        let is_in_row = |word: &&Word<'_>| {
+            if is_below {
+                cell < word.y && word.y < top
+            } else {
+                word.y < cell
+            }
+        };
+        let words = self.page.words.iter().filter(is_in_row);
+        words.copied().collect(self.alloc)
     }
 
     /// No word runs out of the picture.

@@ -3,7 +3,7 @@ use crate::chance::Chance;
 use crate::fault::Fault;
 use crate::story::{Said, Story, text_of};
 use crate::words::{Answers, stand_word};
-use async_once_cell::world::{Call, Input, Kind, Ran, World};
+use once_world::world::{Call, Input, Kind, Ran, World};
 use std::alloc::{AllocError, Global};
 
 /// A script, and what the world says at each of its lines.

@@ -1,12 +1,12 @@
 //! What the world says at each line of a script, in the words of docs/SCRIPTS.md.
 ghost use Rattle.std.specs.Prelude.{OnOk};
-ghost use Rattle.async_once_cell.specs.Reached.{IsReached};
+ghost use Rattle.once_world.specs.Reached.{IsReached};
 
 use crate::fault::Fault;
 use crate::words::{
     AnswerWord, Answers, FoundWord, RecordLine, ReplyWord, owner_word, stand_word, ticket_of,
 };
-use async_once_cell::world::{Call, Entry, Input, Ran, Reply, World};
+use once_world::world::{Call, Entry, Input, Ran, Reply, World};
 use std::alloc::{AllocError, Global};
 
 /// How many listings a table shows at most.

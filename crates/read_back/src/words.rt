@@ -1,6 +1,6 @@
 //! The words of a table and of a record, as docs/SCRIPTS.md has them.
-use async_once_cell::step::{Place, Rest, Step};
-use async_once_cell::world::{Call, Entry, Got, Ran, Reply};
+use once_core::step::{Place, Rest, Step};
+use once_world::world::{Call, Entry, Got, Ran, Reply};
 use std::fmt;
 
 /// Where a task stands.

@@ -2,11 +2,11 @@
 use super::between::BETWEEN;
 use crate::replay::rows::{CALLS, DROPS, PLAIN, REFUSALS};
 use crate::schedule::schedules_in;
-use async_once_cell::step::Polled;
-use async_once_cell::world::{Input, Kind, Ran};
+use crate::side_by_side::pair::{Fault, Pair};
+use crate::side_by_side::walker::Cell;
+use once_core::step::Polled;
 use once_script::parse::{Line, RUN_STEPS, Script, parse_script};
-use side_by_side::pair::{Fault, Pair};
-use side_by_side::walker::Cell;
+use once_world::world::{Input, Kind, Ran};
 use std::alloc::AllocGlobal;
 use std::process::Abort;
 use std::sync::Wait;

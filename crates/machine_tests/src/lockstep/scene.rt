@@ -7,10 +7,10 @@
 //! whether a queue stands at the door. What a line without `=>` comes to is not told.
 
 use crate::schedule::{Schedule, schedules_in};
-use async_once_cell::world::{Input, Ran};
+use crate::side_by_side::walker::{Cell, Walker};
+use crate::side_by_side::whole::{Call, ERROR, PENDING, VALUE, carry_on};
 use once_script::parse::{Line, RUN_STEPS, parse_line};
-use side_by_side::walker::{Cell, Walker};
-use side_by_side::whole::{Call, ERROR, PENDING, VALUE, carry_on};
+use once_world::world::{Input, Ran};
 use std::alloc::{AllocError, AllocGlobal};
 use std::collections::BTreeMap;
 use std::sync::Wait;

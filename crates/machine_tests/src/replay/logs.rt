@@ -1,9 +1,9 @@
 //! The queue log of a record: which queue was put to the door, entered and taken out.
 
 use crate::schedule::schedules_in;
-use async_once_cell::world::{Input, QueueLine, replay};
 use once_script::fault::Fault;
 use once_script::parse::{Line, RUN_STEPS, parse_script};
+use once_world::world::{Input, QueueLine, replay};
 use std::alloc::{AllocError, Global};
 use std::test::Fail;
 

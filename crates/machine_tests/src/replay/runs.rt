@@ -1,12 +1,12 @@
 //! Whole runs, with readers and writers that fail.
 use super::rows::compare;
-use async_once_cell::world::{Call, Entry, Got, Ran, Record, Reply};
 use cell_doubles::memory::{hoard, hoard_most, hoard_rest};
 use cell_doubles::target::Target;
-use once_filter::print::print_record;
-use once_filter::run;
 use once_script::fault::Fault;
 use once_script::parse::{Line, parse_line, parse_script};
+use once_script::print::print_record;
+use once_script::run;
+use once_world::world::{Call, Entry, Got, Ran, Record, Reply};
 use std::alloc::{AllocError, Global};
 use std::io;
 use std::io::{ErrorKind, Read, Write};

@@ -1,14 +1,14 @@
 //! What `once_show` makes of a script: its table, its picture, and what it says of a mistake.
 use super::rows::{CALLS, DROPS, OWNER, PLAIN, REFUSALS};
 use crate::schedule::schedules_in;
-use async_once_cell::step::{Place, Step};
-use async_once_cell::world::{Entry, Input, Kind, Ran, World};
 use cell_doubles::target::Target;
+use once_core::step::{Place, Step};
 use once_view::fault::Fault;
 use once_view::play::{Moment, Watcher, play};
 use once_view::range::LineRange;
 use once_view::reading::read_script;
 use once_view::{Format, show, show_lines};
+use once_world::world::{Entry, Input, Kind, Ran, World};
 use std::alloc::{AllocError, Global};
 use std::io;
 use std::test::Fail;

@@ -3,7 +3,7 @@ use super::TICKS;
 use super::lanes::{Lane, Lanes};
 use super::legend::write_legend;
 use super::shape::{CellState, LAYERS, Shape, Span};
-use async_once_cell::world::{Ran, Reply};
+use once_world::world::{Ran, Reply};
 use std::alloc::{AllocError, Global};
 use std::io;
 use std::io::Write;

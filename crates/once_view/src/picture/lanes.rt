@@ -1,7 +1,7 @@
 //! The lanes of the tasks, what is open in each, and whose tasks are listed.
 use super::shape::{Shape, Span};
-use async_once_cell::step::{Place, Rest, Step};
-use async_once_cell::world::World;
+use once_core::step::{Place, Rest, Step};
+use once_world::world::World;
 use std::alloc::{AllocError, Global};
 use std::collections::BTreeMap;
 

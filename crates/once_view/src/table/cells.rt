@@ -1,8 +1,8 @@
 //! The cells of a row.
-use async_once_cell::inner::Core;
-use async_once_cell::step::{Place, Rest, Step};
-use async_once_cell::world::Entry;
-use once_filter::print::EntryLine;
+use once_core::plain::Core;
+use once_core::step::{Place, Rest, Step};
+use once_script::print::EntryLine;
+use once_world::world::Entry;
 use std::alloc::{AllocError, Global};
 use std::fmt;
 

@@ -1,5 +1,5 @@
 -- The world was reached by the steps so far.
-use Rattle.async_once_cell.specs.Reached.{IsReached}
+use Rattle.once_world.specs.Reached.{IsReached}
 use Rattle.read_back.proofs.story.Story.take.Given as goal
 
 abbrev pub invariant-loop : goal.invariant-loop

@@ -1,0 +1,33 @@
+-- A task that rests begins a drop, and stands at its beginning if it has steps to make.
+use Rattle.std.proofs.Common.{◌≡◌, true, Some, None, ◌∙◌, ap, sym}
+use Rattle.std.proofs.lemmas.Bool.{false≢true}
+use Rattle.std.specs.Prelude.{⊤}
+use Rattle.once_core.specs.Steps.{in_call, is_resting, step_of_drop}
+use Rattle.once_world.specs.Places.{Finished, RestRun, RestStart, RestWait, Resting, Step, UnderWay}
+use Rattle.once_parts.specs.Shares.{own}
+use Rattle.once_parts.specs.Sides.{Sided}
+use Rattle.once_parts.proofs.Walk.Begins.{drop_begins, stands_closed}
+use Rattle.machine_tests.proofs.side_by_side.walker.Walker.begin_drop.Goals as goal
+
+-- a task whose drop has begun rests no more
+never_rests : {W : Type 0} (s : Step W ⊤) → is_resting (step_of_drop s) ≡ true → ⊥
+never_rests (Resting RestStart) h = false≢true h
+never_rests (Resting (RestWait q None)) h = false≢true h
+never_rests (Resting (RestWait q (Some n))) h = false≢true h
+never_rests (Resting (RestRun None)) h = false≢true h
+never_rests (Resting (RestRun (Some q))) h = false≢true h
+never_rests (UnderWay p) h = false≢true h
+never_rests Finished h = false≢true h
+
+pub invariant_of-self : goal.invariant_of-self
+invariant_of-self g c =
+    let task = c.args.self.now in
+    let rests : is_resting task.step ≡ true = sym c.is_resting.ensures ∙ c.if-not-is_resting.false in
+    let number = ap (λ (x : Sided). x.number) c.begin.ensures ∙ task.same in
+    record {
+      same = ap (λ (x : Sided). x.number) c.begin_drop-2.ensures.close ∙ number ∙ sym c.begin_drop.ensures.did.number;
+      goes = λ h.
+          let begun = drop_begins (λ b. b.mark.value) c.begin.new.self (own task.parts) (own c.begin_drop.new.self) task.step number (ap (λ (x : Sided). x.woke) c.begin.ensures) (rests, task.rests rests) c.begin_drop.ensures.did (ap in_call (sym c.begin_drop-2.ensures.step) ∙ h) in
+          stands_closed (λ b. b.mark.value) c.begin.new.self c.begin_drop-2.new.side (own c.begin_drop.new.self) (step_of_drop task.step) c.begin_drop-2.new.self c.begin_drop-2.ensures.close c.begin_drop-2.ensures.step begun;
+      rests = λ h. absurd (never_rests task.step (ap is_resting (sym c.begin_drop-2.ensures.step) ∙ h));
+    }

@@ -1,0 +1,17 @@
+-- A task that rests begins a poll, and stands at its beginning.
+use Rattle.std.proofs.Common.{◌≡◌, true, false, ◌∙◌, ap, sym, subst}
+use Rattle.once_core.specs.Steps.{is_resting}
+use Rattle.once_world.specs.Places.{More}
+use Rattle.once_parts.specs.Shares.{own}
+use Rattle.once_parts.specs.Sides.{Sided}
+use Rattle.once_parts.specs.Walks.{Stands}
+use Rattle.once_parts.proofs.Walk.Begins.{poll_begins}
+use Rattle.machine_tests.proofs.side_by_side.walker.Walker.poll.Goals as goal
+
+pub invariant_of-self : goal.invariant_of-self
+invariant_of-self g c =
+    let task = c.args.self.now in
+    let rests : is_resting task.step ≡ true = sym c.is_resting.ensures ∙ c.if-not-is_resting.false in
+    let begun = poll_begins (λ b. b.mark.value) c.begin.new.self (own task.parts) (own c.begin-2.new.self) task.step (ap (λ (x : Sided). x.number) c.begin.ensures ∙ task.same) (ap (λ (x : Sided). x.woke) c.begin.ensures) (rests, task.rests rests) c.begin-2.ensures.did in
+    let stands = subst (Stands (λ b. b.mark.value) false c.begin.new.self (own c.begin-2.new.self) More) (sym c.begin-3.ensures) begun in
+    record { same = stands.number; goes = λ h. stands; rests = λ h. stands.step }

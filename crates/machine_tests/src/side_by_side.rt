@@ -1,0 +1,8 @@
+//! Shared and plain parts side by side: one step over each, compared.
+pub mod bell;
+pub mod notes;
+pub mod noting;
+pub mod pair;
+pub mod tested;
+pub mod walker;
+pub mod whole;

@@ -1,0 +1,94 @@
+//! A task over the parts that threads share, walked one step at a time.
+ghost use Rattle.std.specs.Prelude.{◌≡◌, true};
+ghost use Rattle.once_core.specs.Steps.{is_resting};
+ghost use Rattle.once_parts.specs.Shares.{own};
+ghost use Rattle.once_parts.specs.Walks.{StandsOn};
+ghost use Rattle.machine_tests.specs.Goes.{Goes, Goes-prop};
+
+use super::bell::Bell;
+use super::notes::Note;
+use super::noting::Noting;
+use once_core::step::{Polled, Progress, Step};
+use once_parts::{Inner, Shared, one_step};
+use std::alloc::AllocGlobal;
+use std::sync::Wait;
+
+/// What the tasks of a cell share, which has the value `()`.
+pub type Cell = Inner<(), Bell>;
+
+/// A task over shared parts, with its side. Between two of its steps other tasks may make theirs.
+#[derive(Drop)]
+pub struct Walker<'a, 'r, R> {
+    parts: Shared<'a, 'r, (), Bell, R>,
+    step: Step<Bell, ()>,
+    side: Noting,
+    // What the last step told, and whether the call under way is a drop.
+    told: Progress,
+    is_drop: bool,
+    ghost same: { side.number ≡ (own parts).number },
+    // A call that is under way has come so far, and where the next one begins the task stands as its page says.
+    ghost goes: { Goes side (own parts) (λ b. b.mark.value) is_drop told step } by { Goes-prop side (own parts) (λ b. b.mark.value) is_drop told step },
+    ghost rests: { is_resting step ≡ true → StandsOn (λ b. b.mark.value) (own parts) step },
+}
+
+impl<'a, 'r, R: AllocGlobal> Walker<'a, 'r, R> {
+    /// A new task of the cell, with this number.
+    pub fn new(cell: &'a Cell, rt: &'r R, task: u64) -> Self {
+        let parts = cell.task(rt);
+        let side = Noting::new(rt.alloc(), task, parts.mark());
+        Walker {
+            parts,
+            step: Step::new(),
+            side,
+            told: Progress::More,
+            is_drop: false,
+        }
+    }
+}
+
+impl<R> Walker<'_, '_, R> {
+    /// Where the task stands.
+    pub fn step(&self) -> &Step<Bell, ()> {
+        &self.step
+    }
+
+    /// What its side noted since this was last asked; `None` says that a note was lost.
+    pub fn take_notes(&mut self) -> Option<Vec<Note>> {
+        self.side.take()
+    }
+
+    /// Begins a poll, where the task rests.
+    pub fn poll(&mut self) {
+        if !self.step.is_resting() {
+            return;
+        }
+        self.side.begin();
+        self.parts.begin();
+        self.step.begin();
+        (self.told, self.is_drop) = (Progress::More, false);
+    }
+
+    /// Begins a drop, where the task rests. `false` says that there is no step to make.
+    pub fn begin_drop(&mut self) -> bool {
+        if !self.step.is_resting() {
+            return false;
+        }
+        self.side.begin();
+        self.parts.begin_drop();
+        (self.told, self.is_drop) = (Progress::More, true);
+        self.step.begin_drop(&mut self.side)
+    }
+}
+
+impl<R: Wait + AllocGlobal> Walker<'_, '_, R> {
+    /// Makes one step of the call that is under way: an init that is polled answers so, and memory for a copy of the
+    /// waker is given or not. `None` says that no call is under way.
+    pub fn go(&mut self, answer: Polled, is_granted: bool) -> Option<Progress> {
+        if self.step.left() == 0 {
+            return None;
+        }
+        self.side.answers(answer, is_granted);
+        self.told = one_step(&mut self.parts, &mut self.step, &mut self.side, self.told);
+        Some(self.told)
+    }
+}

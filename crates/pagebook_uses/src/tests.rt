@@ -1,0 +1,175 @@
+// Each use is run by two threads, and a test looks at what they were told.
+ghost use Rattle.std.specs.Prelude.{◌≡◌};
+
+use crate::first::race;
+use crate::hall::{Arrival, Desk, HallRule, Page, visits};
+use crate::shelf::{Filled, OneFill, Shelf, Stage, fill_and_look, two_looks};
+use crate::tickets::draw_apart;
+use crate::turns::play;
+use keyed_mutex::{Key, Keyed, KeyedMutex};
+use pagebook::{Pens, Seen, Slot, Word, Written};
+use std::alloc::{AllocError, AllocGlobal};
+use std::marker::Brand;
+use std::mem::size_of;
+use std::process::Abort;
+use std::sync::{Mutex, Wait};
+use std::test::*;
+use std::thread::Threads;
+
+/// How often each thread goes in and out, or tries.
+const TIMES: u32 = 500;
+
+#[test]
+fn what_is_ghost_has_no_bytes(rt: HostRuntime) -> Result<(), Fail> {
+    let sizes = [
+        size_of::<Word<Arrival, Page, HallRule>>(),
+        size_of::<Seen<Arrival, Page, HallRule>>(),
+        size_of::<Pens<Page>>(),
+        size_of::<Written<u64>>(),
+    ];
+    let slot = size_of::<Slot<u64, Filled, Stage, OneFill>>() == size_of::<(u64, Option<u64>)>();
+    let lock = size_of::<KeyedMutex<Desk>>() == size_of::<Mutex<u64>>();
+    assert_eq!(rt; (sizes, slot, lock), ([8, 0, 0, 0], true, true));
+    Ok(())
+}
+
+#[test]
+fn one_of_two_comes_first(rt: HostRuntime) -> Result<(), Fail> {
+    let (one, two) = race(&rt);
+    assert!(rt; one != two);
+    Ok(())
+}
+
+#[test]
+fn all_visitors_are_counted_and_gone(rt: HostRuntime) -> Result<(), Fail> {
+    let (inside, entered, _log) = visits(&rt, TIMES);
+    assert_eq!(rt; (inside, entered), (0, 1000));
+    Ok(())
+}
+
+#[test]
+fn players_hit_in_turn(rt: HostRuntime) -> Result<(), Fail> {
+    let (pings, pongs, _log) = play(&rt, TIMES);
+    let ahead = pings.checked_sub(pongs);
+    assert!(rt; pings >= 1 && (ahead == Some(0) || ahead == Some(1)));
+    Ok(())
+}
+
+// Of the four draws another thread makes two, so a draw is refused twice at most.
+#[test]
+fn four_numbers_are_drawn(rt: HostRuntime) -> Result<(), Fail> {
+    let Some((a, b, c, d)) = draw_apart(&rt, 3) else {
+        return Err(Fail::from("a thread drew no number"));
+    };
+    let mut numbers = [a, b, c, d];
+    numbers.sort_unstable();
+    assert_eq!(rt; numbers, [0, 1, 2, 3]);
+    Ok(())
+}
+
+#[test]
+fn a_shelf_is_filled_and_both_find_the_value(rt: HostRuntime) -> Result<(), Fail> {
+    let (shelf, filler) = Shelf::<u64>::new();
+    let front = filler.seen.again();
+    let before = two_looks(&rt, &shelf, &front);
+    let (_token, seen) = shelf.fill(7, filler);
+    front.agrees(&seen);
+    let after = two_looks(&rt, &shelf, &seen);
+    assert_eq!(rt; (before, after), ((None, None), (Some(7), Some(7))));
+    Ok(())
+}
+
+#[test]
+fn a_look_beside_a_fill_finds_nothing_or_the_value(rt: HostRuntime) -> Result<(), Fail> {
+    let (shelf, filler) = Shelf::<u64>::new();
+    let front = filler.seen.again();
+    let beside = fill_and_look(&rt, &shelf, filler, &front, 5);
+    let after = two_looks(&rt, &shelf, &front);
+    assert!(rt; beside.is_none() || beside == Some(5));
+    assert_eq!(rt; after, (Some(5), Some(5)));
+    Ok(())
+}
+
+#[test]
+fn an_owner_has_the_value(rt: HostRuntime) -> Result<(), Fail> {
+    let (shelf, filler) = Shelf::<u64>::new();
+    let nothing = shelf.shown().is_none();
+    let (token, _seen) = shelf.fill(7, filler);
+    let copy = token.again();
+    let shown = shelf.shown().copied();
+    let value = shelf.into_value(&copy);
+    let (empty, _filler) = Shelf::<u64>::new();
+    assert_eq!(rt;
+        (nothing, shown, value, empty.take()),
+        (true, Some(7), 7, None)
+    );
+    Ok(())
+}
+
+/// A lock's content, which is of the book that its number stands for.
+#[derive(Debug, Drop)]
+struct Tally {
+    number: u64,
+    sum: u64,
+}
+
+impl Keyed for Tally {
+    ghost key_of = { λ t. record { number = t.number; words_name = 0; pages_name = 0; log_name = 0 } };
+}
+
+// Adds under the lock, whose content keeps its book.
+fn add<J: Key, R: Wait>(rt: &R, lock: &KeyedMutex<Tally>, more: u64) -> u64
+    requires { lock.now ≡ J.key }
+    ensures { result ≡ J.key.number }
+{
+    let mut held = lock.lock::<J, R>(rt);
+    held.value.sum = held.value.sum.wrapping_add(more);
+    held.value.number
+}
+
+// What the lock shows while somebody holds it.
+fn shown_held<J: Key, R: Wait + AllocGlobal>(
+    rt: &R,
+    lock: &KeyedMutex<Tally>,
+) -> Result<String, AllocError>
+    requires { lock.now ≡ J.key }
+{
+    let held = lock.lock::<J, R>(rt);
+    let text = format!(in rt.alloc(); "{lock:?}")?;
+    drop(held);
+    Ok(text)
+}
+
+#[test]
+fn a_lock_keeps_its_book_and_shows_its_content(rt: HostRuntime) -> Result<(), Fail> {
+    let mut lock = KeyedMutex::new(Tally { number: 7, sum: 0 });
+    let numbers = (
+        add::<Brand, _>(&rt, &lock, 3),
+        add::<Brand, _>(&rt, &lock, 4),
+    );
+    let free = format!(in rt.alloc(); "{lock:?}")?;
+    let held = shown_held::<Brand, _>(&rt, &lock)?;
+    let sum = lock.get_mut(
+        5,
+        |tally: Tally, more: u64| -> (Tally, u64)
+            ensures { result.0.number ≡ tally.number }
+        {
+            let sum = tally.sum.wrapping_add(more);
+            (
+                Tally {
+                    number: tally.number,
+                    sum,
+                },
+                sum,
+            )
+        },
+    );
+    let last = lock.into_inner();
+    assert_eq!(rt; (numbers, sum, last.number, last.sum), ((7, 7), 12, 7, 12));
+    assert_eq!(rt;
+        free.as_str(),
+        "KeyedMutex { data: Tally { number: 7, sum: 7 }, .. }"
+    );
+    assert_eq!(rt; held.as_str(), "KeyedMutex { data: \"<locked>\", .. }");
+    Ok(())
+}
