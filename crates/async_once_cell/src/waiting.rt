@@ -5,7 +5,7 @@ ghost use Rattle.once_queue.specs.declared.waiters.Out.{Out};
 ghost use Rattle.futures.specs.Task.{IsArmed, Keeps};
 ghost use Rattle.once_core.specs.declared.step.Ending.{Ending};
 ghost use Rattle.once_world.specs.Record.{DropEnd, Entry, Made};
-ghost use Rattle.once_moments.specs.Kept.{Grew};
+ghost use Rattle.once_parts.specs.Kept.{Grew};
 ghost use Rattle.once_parts.specs.Record.{IsSet};
 ghost use Rattle.once_parts.specs.Walks.{end_of};
 ghost use Rattle.async_once_cell.specs.Replies.{ValueOf, ending_of, is_over};
@@ -223,23 +223,15 @@ where
 {
     ghost use Rattle.std.specs.Prelude.{true};
     ghost use Rattle.std.proofs.Common.{rules};
-    ghost use Rattle.once_parts.specs.Sides.{HasCopied, HasPut, HasRun, HasWoken};
+    ghost use Rattle.once_parts.specs.Sides.{HasWoken, sided_tells};
     ghost use Rattle.async_once_cell.specs.Stays.{Stays, told};
     ghost use Rattle.async_once_cell.specs.Seats.{whose};
 
     type Value = T;
 
-    ghost did_run = { λ s a t. HasRun (told s) a (told t) };
-
-    ghost did_close = { λ s t. told t ≡ told s };
+    ghost did = { sided_tells whose told };
 
     ghost can_put = { λ s. (told s).has_value ≡ true };
-
-    ghost did_put = { λ s t. HasPut (told s) (told t) };
-
-    ghost did_copy = { λ s c t. HasCopied whose (told s) c (told t) };
-
-    ghost did_wake = { λ s out t. HasWoken whose (told s) out (told t) };
 
     ghost stays = { Stays };
 
@@ -310,18 +302,12 @@ where
     F: Future<Output: TryOutput<Ok = T, Error = E>>,
 {
     ghost use Rattle.async_once_cell.specs.Stays.{told};
+    ghost use Rattle.once_parts.proofs.Sides.{sided_told};
+    ghost use Rattle.async_once_cell.specs.Seats.{whose};
 
     ghost state = { told };
 
-    ghost tells_run = { λ s a t d. d };
-
-    ghost tells_close = { λ s t d. d };
-
-    ghost tells_put = { λ s t d. d };
-
-    ghost tells_copy = { λ s c t d. d };
-
-    ghost tells_wake = { λ s out t d. d };
+    ghost tells = { sided_told whose told };
 
     ghost puts = { λ s h. h };
 }
@@ -357,23 +343,15 @@ impl<'r, T, R: Wait + AllocGlobal> Leaving<'r, T, R> {
 
 impl<T, R: Wait + AllocGlobal> Side<Seated> for Leaving<'_, T, R> {
     ghost use Rattle.std.specs.Prelude.{◌≡◌, true, ⊤};
-    ghost use Rattle.once_parts.specs.Sides.{HasCopied, HasPut, HasRun, HasWoken};
+    ghost use Rattle.once_parts.specs.Sides.{HasWoken, sided_tells};
     ghost use Rattle.async_once_cell.specs.Stays.{leaving};
     ghost use Rattle.async_once_cell.specs.Seats.{whose};
 
     type Value = T;
 
-    ghost did_run = { λ s a t. HasRun (leaving s) a (leaving t) };
-
-    ghost did_close = { λ s t. leaving t ≡ leaving s };
+    ghost did = { sided_tells whose leaving };
 
     ghost can_put = { λ s. s.has_value ≡ true };
-
-    ghost did_put = { λ s t. HasPut (leaving s) (leaving t) };
-
-    ghost did_copy = { λ s c t. HasCopied whose (leaving s) c (leaving t) };
-
-    ghost did_wake = { λ s out t. HasWoken whose (leaving s) out (leaving t) };
 
     ghost stays = { λ _ _. ⊤ };
 
@@ -408,18 +386,12 @@ impl<T, R: Wait + AllocGlobal> Side<Seated> for Leaving<'_, T, R> {
 
 impl<T, R: Wait + AllocGlobal> TaskSide<Seated> for Leaving<'_, T, R> {
     ghost use Rattle.async_once_cell.specs.Stays.{leaving};
+    ghost use Rattle.once_parts.proofs.Sides.{sided_told};
+    ghost use Rattle.async_once_cell.specs.Seats.{whose};
 
     ghost state = { leaving };
 
-    ghost tells_run = { λ s a t d. d };
-
-    ghost tells_close = { λ s t d. d };
-
-    ghost tells_put = { λ s t d. d };
-
-    ghost tells_copy = { λ s c t d. d };
-
-    ghost tells_wake = { λ s out t d. d };
+    ghost tells = { sided_told whose leaving };
 
     ghost puts = { λ s h. h };
 }

@@ -1,6 +1,7 @@
 //! A side that notes what a call asks of it.
 ghost use Rattle.std.specs.Prelude.{◌≡◌, ⊤, Some};
 ghost use Rattle.std.proofs.Common.{rules};
+ghost use Rattle.once_core.specs.Steps.{side_tells_nothing};
 
 use async_once_cell::inner::Out;
 use async_once_cell::step::{Polled, Side};
@@ -53,7 +54,7 @@ impl Counting {
 }
 
 impl Side<u64> for Counting {
-    ghost did_wake = { λ _ out after. after.woken ≡ Some out };
+    ghost did = { record side_tells_nothing { wake = λ _ out after. after.woken ≡ Some out } };
 
     type Value = ();
 

@@ -1,28 +1,11 @@
 -- Where the parts ask nothing, and the side may always put, each step may be made. For those who write parts of that kind.
-use Rattle.std.specs.Prelude.{ℕ, ⊤}
+use Rattle.std.specs.Prelude.{ℕ}
 use Rattle.once_core.specs.Steps.{Place, AtStart, AtTryQuick, AtDoorGet, AtDoorPut, AtCountIn, AtWaitLoad, AtLook, AtList, AtRun, AtPut, AtFast, AtAddOne, AtDoorAgain, AtRelease, AtLeave, AtCountOut, AtDoorTake}
 use Rattle.once_core.specs.Steps.{Step, Resting, UnderWay, Finished}
-use Rattle.once_core.specs.Steps.{PartsAsk, Asks, AsksAt}
-
--- parts that ask nothing
-abbrev pub silent_asks : {P W Q : Type 0} → PartsAsk P W Q
-silent_asks = record {
-  load = λ _. ⊤;
-  quick = λ _. ⊤;
-  fast = λ _ _. ⊤;
-  count_in = λ _ _. ⊤;
-  add_one = λ _. ⊤;
-  count_out = λ _. ⊤;
-  door_get = λ _. ⊤;
-  door_put = λ _. ⊤;
-  door_take = λ _. ⊤;
-  section = λ _ _ _. ⊤;
-  ran = λ _ _. ⊤;
-  put = λ _. ⊤;
-}
+use Rattle.once_core.specs.Steps.{Asks, AsksAt, asks_nothing}
 
 module _ {P S W Q : Type 0} (can_put : S → Type 0) (puts : (s : S) → can_put s) (limit : ℕ) (p : P) (s : S) where
-  asked_at : (at : Place W Q) → AsksAt silent_asks can_put limit at p s
+  asked_at : (at : Place W Q) → AsksAt asks_nothing can_put limit at p s
   asked_at AtStart = tt
   asked_at AtTryQuick = tt
   asked_at AtDoorGet = tt
@@ -41,7 +24,7 @@ module _ {P S W Q : Type 0} (can_put : S → Type 0) (puts : (s : S) → can_put
   asked_at (AtCountOut e) = tt
   asked_at (AtDoorTake e) = tt
 
-  pub asked : (at : Step W Q) → Asks silent_asks can_put limit at p s
+  pub asked : (at : Step W Q) → Asks asks_nothing can_put limit at p s
   asked (UnderWay at) = asked_at at
   asked (Resting r) = tt
   asked Finished = tt

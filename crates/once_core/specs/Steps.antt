@@ -283,8 +283,27 @@ pub record PartsAsk (P W Q : Type 0) : Type 1 where
   pub door_put : P → Type 0
   pub door_take : P → Type 0
   pub section : P → Q → Op W → Type 0
+  pub refuse : P → Type 0
   pub ran : P → Polled → Type 0
   pub put : P → Type 0
+
+-- nothing is asked
+abbrev pub asks_nothing : {P W Q : Type 0} → PartsAsk P W Q
+asks_nothing = record {
+  load = λ _. Unit {0};
+  quick = λ _. Unit {0};
+  fast = λ _ _. Unit {0};
+  count_in = λ _ _. Unit {0};
+  add_one = λ _. Unit {0};
+  count_out = λ _. Unit {0};
+  door_get = λ _. Unit {0};
+  door_put = λ _. Unit {0};
+  door_take = λ _. Unit {0};
+  section = λ _ _ _. Unit {0};
+  refuse = λ _. Unit {0};
+  ran = λ _ _. Unit {0};
+  put = λ _. Unit {0};
+}
 
 module _ {P S W Q : Type 0} (parts : PartsAsk P W Q) (can_put : S → Type 0) (limit : ℕ) where
   -- what the calls of a place ask of the parts and of the side
@@ -327,6 +346,24 @@ pub record PartsTell (P W Q : Type 0) : Type 1 where
   pub ran : P → Polled → P → Type 0
   pub put : P → P → Type 0
 
+-- nothing is told
+abbrev pub tells_nothing : {P W Q : Type 0} → PartsTell P W Q
+tells_nothing = record {
+  load = λ _ _ _. Unit {0};
+  quick = λ _ _ _. Unit {0};
+  fast = λ _ _ _ _. Unit {0};
+  count_in = λ _ _ _ _. Unit {0};
+  add_one = λ _ _. Unit {0};
+  count_out = λ _ _ _. Unit {0};
+  door_get = λ _ _ _. Unit {0};
+  door_put = λ _ _ _. Unit {0};
+  door_take = λ _ _ _. Unit {0};
+  section = λ _ _ _ _ _ _. Unit {0};
+  refuse = λ _ _. Unit {0};
+  ran = λ _ _ _. Unit {0};
+  put = λ _ _. Unit {0};
+}
+
 -- the same for the calls of the side
 pub record SideTells (S W : Type 0) : Type 1 where
   pub run : S → Polled → S → Type 0
@@ -334,6 +371,16 @@ pub record SideTells (S W : Type 0) : Type 1 where
   pub put : S → S → Type 0
   pub copy : S → Option W → S → Type 0
   pub wake : S → Out W → S → Type 0
+
+-- nothing is told of a side
+abbrev pub side_tells_nothing : {S W : Type 0} → SideTells S W
+side_tells_nothing = record {
+  run = λ _ _ _. Unit {0};
+  close = λ _ _. Unit {0};
+  put = λ _ _. Unit {0};
+  copy = λ _ _ _. Unit {0};
+  wake = λ _ _ _. Unit {0};
+}
 
 module _ {P S W Q : Type 0} (parts : PartsTell P W Q) (side : SideTells S W) where
   -- one line of the table: the limit, the place, parts and side before, the progress, and the step, parts and side after

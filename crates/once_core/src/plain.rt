@@ -188,6 +188,7 @@ impl<W: WakerId + Drop> Core<W> {
 }
 
 impl<W: WakerId + Drop> Parts<W> for Core<W> {
+    ghost use Rattle.once_core.specs.Steps.{asks_nothing};
     ghost use Rattle.once_core.specs.Core.{state_of, HasRoom, CanSection, DidLoad, DidQuick, DidFast, DidCountIn, DidAddOne, DidCountOut, DidDoorGet, DidDoorPut, DidDoorTake, DidSection};
 
     type Queue = u64;
@@ -195,42 +196,29 @@ impl<W: WakerId + Drop> Parts<W> for Core<W> {
     // The side of a task keeps the value.
     type Value = ();
 
-    ghost did_load = { λ s w t. DidLoad (state_of s) w (state_of t) };
+    ghost can = { record asks_nothing {
+      add_one = λ s. s.word.count < 2 ^ 62 - 1;
+      count_out = λ s. 0 < s.word.count;
+      door_put = λ s. HasRoom s;
+      door_take = λ s. HasRoom s;
+      section = λ s q op. HasRoom s × CanSection (state_of s) q op;
+    } };
 
-    ghost did_quick = { λ s won t. DidQuick (state_of s) won (state_of t) };
-
-    ghost did_fast = { λ s ready won t. DidFast (state_of s) ready won (state_of t) };
-
-    ghost did_count_in = { λ s limit c t. DidCountIn (state_of s) limit c (state_of t) };
-
-    ghost can_add_one = { λ s. s.word.count < 2 ^ 62 - 1 };
-
-    ghost did_add_one = { λ s t. DidAddOne (state_of s) (state_of t) };
-
-    ghost can_count_out = { λ s. 0 < s.word.count };
-
-    ghost did_count_out = { λ s w t. DidCountOut (state_of s) w (state_of t) };
-
-    ghost did_door_get = { λ s q t. DidDoorGet (state_of s) q (state_of t) };
-
-    ghost can_door_put = { λ s. HasRoom s };
-
-    ghost did_door_put = { λ s q t. DidDoorPut (state_of s) q (state_of t) };
-
-    ghost can_door_take = { λ s. HasRoom s };
-
-    ghost did_door_take = { λ s stood t. DidDoorTake (state_of s) stood (state_of t) };
-
-    ghost can_section = { λ s q op. HasRoom s × CanSection (state_of s) q op };
-
-    ghost did_section = { λ s q op a o t.
-        DidSection W.tells_same W.tells_other (state_of s) q op a o (state_of t) };
-
-    ghost did_refuse = { λ s t. t ≡ s };
-
-    ghost did_ran = { λ s answer t. t ≡ s };
-
-    ghost did_put = { λ s t. t ≡ s };
+    ghost did = { record {
+      load = λ s w t. DidLoad (state_of s) w (state_of t);
+      quick = λ s won t. DidQuick (state_of s) won (state_of t);
+      fast = λ s ready won t. DidFast (state_of s) ready won (state_of t);
+      count_in = λ s limit c t. DidCountIn (state_of s) limit c (state_of t);
+      add_one = λ s t. DidAddOne (state_of s) (state_of t);
+      count_out = λ s w t. DidCountOut (state_of s) w (state_of t);
+      door_get = λ s q t. DidDoorGet (state_of s) q (state_of t);
+      door_put = λ s q t. DidDoorPut (state_of s) q (state_of t);
+      door_take = λ s stood t. DidDoorTake (state_of s) stood (state_of t);
+      section = λ s q op a o t. DidSection W.tells_same W.tells_other (state_of s) q op a o (state_of t);
+      refuse = λ s t. t ≡ s;
+      ran = λ s answer t. t ≡ s;
+      put = λ s t. t ≡ s;
+    } };
 
     fn load(&mut self) -> u64 {
         self.word.bits()

@@ -57,56 +57,48 @@ pub enum Progress {
     Ended(Ending),
 }
 
-/// What a call brings of its own: its init, the value or error that this gave, and its waker. For each
-/// call here a ghost member says what it answers and leaves; a member that is left out says nothing.
-/// All of these calls keep `stays`.
+/// What a call brings of its own: its init, the value or error that this gave, and its waker. `did` has for each
+/// call what it answers and leaves; where it is left out, it says nothing of any call. All of these calls keep
+/// `stays`.
 pub trait Side<W> {
     /// What the init gives, where the parts keep it.
     type Value;
 
-    ghost use Rattle.std.specs.Prelude.{⊤, Option};
-    ghost use Rattle.once_queue.specs.declared.waiters.Out.{Out};
-    ghost use Rattle.once_core.specs.declared.step.Polled.{Polled};
+    ghost use Rattle.std.specs.Prelude.{⊤};
+    ghost use Rattle.once_core.specs.Steps.{SideTells, side_tells_nothing};
 
-    ghost did_run: { Self → Polled → Self → Type 0 } = { λ _ _ _. ⊤ };
-
-    ghost did_close: { Self → Self → Type 0 } = { λ _ _. ⊤ };
+    // What each call answers and leaves.
+    ghost did: { SideTells Self W } = { side_tells_nothing };
 
     ghost can_put: { Self → Type 0 } = { λ _. ⊤ };
-
-    ghost did_put: { Self → Self → Type 0 } = { λ _ _. ⊤ };
-
-    ghost did_copy: { Self → Option W → Self → Type 0 } = { λ _ _ _. ⊤ };
-
-    ghost did_wake: { Self → Out W → Self → Type 0 } = { λ _ _ _. ⊤ };
 
     ghost stays: { Self → Self → Type 0 };
 
     /// Polls the init once, and keeps a value or an error that it gave. Where the init was dropped
     /// before, the answer is Pending.
     fn run(&mut self) -> Polled
-        ensures did { did_run self.old result self.new }
+        ensures did { did.run self.old result self.new }
         ensures stays { stays self.old self.new };
 
     /// Drops the init.
     fn close(&mut self)
-        ensures did { did_close self.old self.new }
+        ensures did { did.close self.old self.new }
         ensures stays { stays self.old self.new };
 
     /// Gives the value that the init gave to the parts, or sets it.
     fn put(&mut self) -> Self::Value
         requires { can_put self.old }
-        ensures did { did_put self.old self.new }
+        ensures did { did.put self.old self.new }
         ensures stays { stays self.old self.new };
 
     /// Copies the current waker. `None` says that memory was refused.
     fn copy(&mut self) -> Option<W>
-        ensures did { did_copy self.old result self.new }
+        ensures did { did.copy self.old result self.new }
         ensures stays { stays self.old self.new };
 
     /// Calls whom a section handed out: one, all, or nobody.
     fn wake(&mut self, out: Out<W>)
-        ensures did { did_wake self.old out self.new }
+        ensures did { did.wake self.old out self.new }
         ensures stays { stays self.old self.new };
 
     ghost stays_same: { (a : Self) → stays a a };
@@ -226,7 +218,7 @@ impl<W: Drop, Q: Drop> Step<W, Q> {
         requires { is_resting self.old ≡ true }
         ensures step { self.new ≡ step_of_drop self.old }
         ensures more { result ≡ in_call self.new }
-        ensures close { S.did_close side.old side.new }
+        ensures close { S.did.close side.old side.new }
         ensures stays { S.stays side.old side.new }
     {
         side.close();
@@ -252,41 +244,9 @@ impl<W: Drop, Q: Drop> Step<W, Q> {
     ) -> Progress
         requires call { in_call self.old ≡ true }
         requires limit { limit ≤ 2 ^ 62 - 2 }
-        requires asks { Asks
-            record {
-              load = P.can_load;
-              quick = P.can_quick;
-              fast = P.can_fast;
-              count_in = P.can_count_in;
-              add_one = P.can_add_one;
-              count_out = P.can_count_out;
-              door_get = P.can_door_get;
-              door_put = P.can_door_put;
-              door_take = P.can_door_take;
-              section = P.can_section;
-              ran = P.can_ran;
-              put = P.can_put;
-            }
-            S.can_put limit self.old parts.old side.old }
+        requires asks { Asks P.can S.can_put limit self.old parts.old side.old }
         ensures lower { left_of self.new < left_of self.old }
-        ensures line { Advances
-            record {
-              load = P.did_load;
-              quick = P.did_quick;
-              fast = P.did_fast;
-              count_in = P.did_count_in;
-              add_one = P.did_add_one;
-              count_out = P.did_count_out;
-              door_get = P.did_door_get;
-              door_put = P.did_door_put;
-              door_take = P.did_door_take;
-              section = P.did_section;
-              refuse = P.did_refuse;
-              ran = P.did_ran;
-              put = P.did_put;
-            }
-            record { run = S.did_run; close = S.did_close; put = S.did_put; copy = S.did_copy; wake = S.did_wake }
-            limit self.old parts.old side.old result self.new parts.new side.new }
+        ensures line { Advances P.did S.did limit self.old parts.old side.old result self.new parts.new side.new }
         ensures stays { S.stays side.old side.new }
     {
         // A queue is taken out first. A place that keeps none is only looked at. A holder's place stays: its
@@ -377,9 +337,9 @@ impl<W: Drop, Q: Drop> Step<W, Q> {
 
     #[inline(always)]
     fn start<P: Parts<W, Queue = Q>, S: Side<W>>(&mut self, parts: &mut P, side: &mut S) -> Progress
-        requires { P.can_load parts.old }
-        ensures line { (w : ℕ) × P.did_load parts.old w parts.new
-            × Follows S.did_close (after_start (flags_of w).ready (is_zero (flags_of w))) side.old side.new result self.new }
+        requires { P.can.load parts.old }
+        ensures line { (w : ℕ) × P.did.load parts.old w parts.new
+            × Follows S.did.close (after_start (flags_of w).ready (is_zero (flags_of w))) side.old side.new result self.new }
         ensures stays { S.stays side.old side.new }
     {
         let word = parts.load();
@@ -395,8 +355,8 @@ impl<W: Drop, Q: Drop> Step<W, Q> {
 
     #[inline(always)]
     fn try_quick<P: Parts<W, Queue = Q>>(&mut self, parts: &mut P) -> Progress
-        requires { P.can_quick parts.old }
-        ensures line { (b : Bool) × P.did_quick parts.old b parts.new × LeadsTo (after_quick b) result self.new }
+        requires { P.can.quick parts.old }
+        ensures line { (b : Bool) × P.did.quick parts.old b parts.new × LeadsTo (after_quick b) result self.new }
     {
         if parts.quick() {
             return self.on(Place::Run(None));
@@ -406,8 +366,8 @@ impl<W: Drop, Q: Drop> Step<W, Q> {
 
     #[inline(always)]
     fn door_get<P: Parts<W, Queue = Q>>(&mut self, parts: &mut P) -> Progress
-        requires { P.can_door_get parts.old }
-        ensures line { (q : Option Q) × P.did_door_get parts.old q parts.new × LeadsTo (after_door_get q) result self.new }
+        requires { P.can.door_get parts.old }
+        ensures line { (q : Option Q) × P.did.door_get parts.old q parts.new × LeadsTo (after_door_get q) result self.new }
     {
         match parts.door_get() {
             Some(queue) => self.on(Place::CountIn(queue)),
@@ -421,9 +381,9 @@ impl<W: Drop, Q: Drop> Step<W, Q> {
         parts: &mut P,
         side: &mut S,
     ) -> Progress
-        requires { P.can_door_put parts.old }
-        ensures line { (q : Option Q) × P.did_door_put parts.old q parts.new
-            × Follows S.did_close (after_door_put q) side.old side.new result self.new }
+        requires { P.can.door_put parts.old }
+        ensures line { (q : Option Q) × P.did.door_put parts.old q parts.new
+            × Follows S.did.close (after_door_put q) side.old side.new result self.new }
         ensures stays { S.stays side.old side.new }
     {
         match parts.door_put() {
@@ -442,9 +402,9 @@ impl<W: Drop, Q: Drop> Step<W, Q> {
         parts: &mut P,
         side: &mut S,
     ) -> Progress
-        requires { (a : Polled) → P.can_ran parts.old a }
-        ensures line { (a : Polled) × (m : S) × S.did_run side.old a m × P.did_ran parts.old a parts.new
-            × Follows S.did_close (after_run a by) m side.new result self.new }
+        requires { (a : Polled) → P.can.ran parts.old a }
+        ensures line { (a : Polled) × (m : S) × S.did.run side.old a m × P.did.ran parts.old a parts.new
+            × Follows S.did.close (after_run a by) m side.new result self.new }
         ensures stays { S.stays side.old side.new }
     {
         let answer = side.run();
@@ -469,9 +429,9 @@ impl<W: Drop, Q: Drop> Step<W, Q> {
         parts: &mut P,
         side: &mut S,
     ) -> Progress
-        requires parts { P.can_put parts.old }
+        requires parts { P.can.put parts.old }
         requires side { S.can_put side.old }
-        ensures line { S.did_put side.old side.new × P.did_put parts.old parts.new
+        ensures line { S.did.put side.old side.new × P.did.put parts.old parts.new
             × LeadsTo (next_at (release_place by Ending.Value)) result self.new }
         ensures stays { S.stays side.old side.new }
     {
@@ -481,8 +441,8 @@ impl<W: Drop, Q: Drop> Step<W, Q> {
 
     #[inline(always)]
     fn fast<P: Parts<W, Queue = Q>>(&mut self, ending: Ending, parts: &mut P) -> Progress
-        requires { P.can_fast parts.old (is_value ending) }
-        ensures line { (b : Bool) × P.did_fast parts.old (is_value ending) b parts.new
+        requires { P.can.fast parts.old (is_value ending) }
+        ensures line { (b : Bool) × P.did.fast parts.old (is_value ending) b parts.new
             × LeadsTo (after_fast b (is_value ending) ending) result self.new }
     {
         let filled = ending.is_value();
@@ -497,8 +457,8 @@ impl<W: Drop, Q: Drop> Step<W, Q> {
 
     #[inline(always)]
     fn door_again<P: Parts<W, Queue = Q>>(&mut self, ending: Ending, parts: &mut P) -> Progress
-        requires { P.can_door_get parts.old }
-        ensures line { (q : Option Q) × P.did_door_get parts.old q parts.new
+        requires { P.can.door_get parts.old }
+        ensures line { (q : Option Q) × P.did.door_get parts.old q parts.new
             × LeadsTo (after_door_again q ending) result self.new }
     {
         match parts.door_get() {
@@ -515,9 +475,9 @@ impl<W: Drop, Q: Drop> Step<W, Q> {
         parts: &mut P,
         side: &mut S,
     ) -> Progress
-        requires { P.can_section parts.old queue (Op.Release (is_value ending)) }
-        ensures section { (a : Answer W) × (o : Op W) × P.did_section parts.old queue (Op.Release (is_value ending)) a o parts.new
-            × Wakes S.did_wake (out_of a) side.old side.new }
+        requires { P.can.section parts.old queue (Op.Release (is_value ending)) }
+        ensures section { (a : Answer W) × (o : Op W) × P.did.section parts.old queue (Op.Release (is_value ending)) a o parts.new
+            × Wakes S.did.wake (out_of a) side.old side.new }
         ensures more { result ≡ Progress.More }
         ensures step { self.new ≡ Step.UnderWay (Place.CountOut ending) }
         ensures stays { S.stays side.old side.new }
@@ -529,8 +489,8 @@ impl<W: Drop, Q: Drop> Step<W, Q> {
 
     #[inline(always)]
     fn count_out<P: Parts<W, Queue = Q>>(&mut self, ending: Ending, parts: &mut P) -> Progress
-        requires { P.can_count_out parts.old }
-        ensures line { (w : ℕ) × P.did_count_out parts.old w parts.new
+        requires { P.can.count_out parts.old }
+        ensures line { (w : ℕ) × P.did.count_out parts.old w parts.new
             × LeadsTo (after_count_out (is_ready_bit (flags_of w)) ending) result self.new }
     {
         if parts.count_out() == READY_BIT {

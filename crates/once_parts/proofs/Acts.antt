@@ -12,9 +12,9 @@ use Rattle.once_core.specs.Steps.{after_fast, after_in, is_resting}
 use Rattle.once_world.specs.Record.{Entry, Ran, RanPending, RanValue, RanError}
 use Rattle.once_world.specs.Book.{TaskState, refused_step}
 use Rattle.once_world.specs.Machine.{AtAddOne, AtCountIn, AtCountOut, AtDoorPut, AtDoorTake, AtFast, AtList, AtRun, AtStart, AtTryQuick, AtWaitLoad, Ending, Step, UnderWay, freed_entries, is_value, kept_after, next_in}
-use Rattle.once_moments.specs.Kept.{Grew, IsKept, Leaves, Sheet, hand, most, sheets}
-use Rattle.once_moments.proofs.Moves.Words.{add_moves, fast_moves, full_moves, full_page, full_told, in_moves, in_page, none_moves, none_page, none_told, out_moves, quick_moves, start_moves, wait_moves}
-use Rattle.once_moments.proofs.Moves.Calls.{begun_notes, copy_notes, dropped_notes, made_notes, ran_notes, unput_notes}
+use Rattle.once_parts.specs.Kept.{Grew, IsKept, Leaves, Sheet, hand, most, sheets}
+use Rattle.once_parts.proofs.Moments.Moves.Words.{add_moves, fast_moves, full_moves, full_page, full_told, in_moves, in_page, none_moves, none_page, none_told, out_moves, quick_moves, start_moves, wait_moves}
+use Rattle.once_parts.proofs.Moments.Moves.Calls.{begun_notes, copy_notes, dropped_notes, made_notes, ran_notes, unput_notes}
 use Rattle.once_parts.specs.declared.act.Act.TheVariants.{Load, Quick, Fast, AddOne, CountOut, Full, Enter, NonePut, Begin as BeginPoll, BeginDrop, Ran as InitRan, Refused, Unput}
 use Rattle.once_parts.specs.Own.{IsHand, number_in, task_in, told}
 use Rattle.once_parts.specs.Acts.{Goes, Makes, Stays, Tells, Turns}

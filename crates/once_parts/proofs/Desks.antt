@@ -16,14 +16,14 @@ use Rattle.once_core.specs.Steps.{Next}
 use Rattle.once_world.specs.Record.{Entry}
 use Rattle.once_world.specs.Book.{TaskState}
 use Rattle.once_world.specs.Machine.{AtList, AtLook, Step, UnderWay, claim_entries, is_claim, listed_ticket, release_list, release_wakers}
-use Rattle.once_moments.specs.Kept.{Grew}
-use Rattle.once_moments.specs.Named.{as_memory, named, named_one, named_out, ticket_left}
-use Rattle.once_moments.specs.Steps.{answer_as}
-use Rattle.once_moments.proofs.Looks.{look_shown}
-use Rattle.once_moments.proofs.Lists.{list_shown, refusal_shown}
-use Rattle.once_moments.proofs.Named.{tickets_named}
+use Rattle.once_parts.specs.Kept.{Grew}
+use Rattle.once_parts.specs.Named.{as_memory, named, named_one, named_out, ticket_left}
+use Rattle.once_parts.specs.Steps.{answer_as}
+use Rattle.once_parts.proofs.Moments.Looks.{look_shown}
+use Rattle.once_parts.proofs.Moments.Lists.{list_shown, refusal_shown}
+use Rattle.once_parts.proofs.Moments.Named.{tickets_named}
 use Rattle.once_queue.proofs.Listing.Once.{tickets_once}
-use Rattle.once_moments.proofs.Releases.{left_out, left_shown, released_list, released_out}
+use Rattle.once_parts.proofs.Moments.Releases.{left_out, left_shown, released_list, released_out}
 use Rattle.once_parts.specs.Desk.{Desked, IsShown}
 use Rattle.once_parts.specs.Own.{Did, Own, Stayed, told}
 use Rattle.once_parts.specs.Places.{CanList, list_next, look_next}

@@ -1,3 +1,5 @@
+pub mod Moments
+pub mod Sides
 pub mod Tells
 pub mod Acts
 pub mod Sections

@@ -9,8 +9,8 @@ use Rattle.once_world.specs.Book.{TaskState}
 use Rattle.once_world.specs.Machine.{AtCountIn, AtCountOut, AtDoorAgain, AtDoorGet, AtDoorPut, AtDoorTake, AtLeave, AtList, AtLook, AtRelease, Ending, Step, UnderWay, claim_entries, is_claim, is_value, listed_ticket, pass_entries, release_entry, release_wakers}
 use Rattle.once_queue.specs.Listings.{next_waker, one_out}
 use Rattle.once_world.proofs.Moment.Numbers.{release_more}
-use Rattle.once_moments.specs.Kept.{Grew, IsKept, Leaves, Sheet, has_passed, hands_out, locked, sheets}
-use Rattle.once_moments.proofs.Moves.Locked.{again_notes, found_notes, get_notes, leave_moves, list_moves, look_moves, new_moves, pages_after, release_moves, stand_notes, take_notes}
+use Rattle.once_parts.specs.Kept.{Grew, IsKept, Leaves, Sheet, has_passed, hands_out, locked, sheets}
+use Rattle.once_parts.proofs.Moments.Moves.Locked.{again_notes, found_notes, get_notes, leave_moves, list_moves, look_moves, new_moves, pages_after, release_moves, stand_notes, take_notes}
 use Rattle.once_parts.specs.declared.act.Section.{Section}
 use Rattle.once_parts.specs.declared.act.Section.TheVariants.{Stand, Get, Put, Found, Take, Look, List as ListOwn, Release, Leave}
 use Rattle.once_parts.specs.Desk.{Desked, IsDesk, behind, desk_sheets, desked}

@@ -12,8 +12,8 @@ use Rattle.once_world.proofs.Told.Value.{filled, ready_cell, ready_is_set, set_t
 use Rattle.once_world.proofs.Told.Log.{log_is_plain, log_is_run, somebody_called}
 use Rattle.once_world.proofs.Shared.Worlds.{ArePlain}
 use Rattle.once_world.proofs.Law.Crowded.{value_set}
-use Rattle.once_moments.specs.Kept.{IsKept, Sheet, most, pages_in}
-use Rattle.once_moments.proofs.Moves.Words.{some}
+use Rattle.once_parts.specs.Kept.{IsKept, Sheet, most, pages_in}
+use Rattle.once_parts.proofs.Moments.Moves.Words.{some}
 use Rattle.once_parts.specs.Record.{EndsSet, IsSet, WasFilled}
 use Rattle.once_parts.proofs.Values.{stays_set}
 

@@ -5,7 +5,7 @@ use mathlib.Core.List.{IsPrefix}
 use Rattle.pagebook.specs.Pages.{Held, Moves, Notes, View}
 use Rattle.once_world.specs.Record.{Entry}
 use Rattle.once_world.specs.Book.{At, TaskState}
-use Rattle.once_moments.specs.Kept.{Grew, Leaves, Sheet, hand, sheets}
+use Rattle.once_parts.specs.Kept.{Grew, Leaves, Sheet, hand, sheets}
 use Rattle.once_parts.specs.Own.{IsHand, number_in, task_in}
 use Rattle.once_parts.specs.Acts.{Stays, Turns}
 

@@ -14,10 +14,10 @@ use Rattle.once_world.proofs.Shared.Worlds.{ArePlain, IsPlain}
 use Rattle.once_world.proofs.Told.Laws.{value_set_is_answered_answered}
 use Rattle.once_world.proofs.Told.Log.{log_is_plain, log_is_run}
 use Rattle.once_world.proofs.Told.Value.{ready_is_set, ready_written}
-use Rattle.once_moments.specs.Kept.{IsKept, IsState, Sheet, hand, most, pages_in, sheets}
-use Rattle.once_moments.proofs.Moves.Words.{some}
-use Rattle.once_moments.proofs.Moves.Calls.{looked_moves}
-use Rattle.once_moments.proofs.Moves.Slots.{put_value_moves, state_at, write_moves, writing_hand, written_state}
+use Rattle.once_parts.specs.Kept.{IsKept, IsState, Sheet, hand, most, pages_in, sheets}
+use Rattle.once_parts.proofs.Moments.Moves.Words.{some}
+use Rattle.once_parts.proofs.Moments.Moves.Calls.{looked_moves}
+use Rattle.once_parts.proofs.Moments.Moves.Slots.{put_value_moves, state_at, write_moves, writing_hand, written_state}
 use Rattle.once_parts.specs.Desk.{desk_pages, first_desk}
 use Rattle.once_parts.specs.Own.{IsHand, number_in, task_in}
 use Rattle.once_parts.specs.Acts.{Goes, Puts, Writes}

@@ -7,7 +7,7 @@ use Rattle.once_core.specs.Steps.{Next, after_quick, step_of_drop}
 use Rattle.once_world.specs.Record.{Begin, Entry, Made, Ran}
 use Rattle.once_world.specs.Book.{TaskState, refused_step}
 use Rattle.once_world.specs.Machine.{claim_entries, drop_entries, fresh_task, freed_entries}
-use Rattle.once_moments.specs.Kept.{Grew, Sheet, hand, most, sheets, writing_sheet}
+use Rattle.once_parts.specs.Kept.{Grew, Sheet, hand, most, sheets, writing_sheet}
 use Rattle.once_parts.specs.declared.act.Act.{Act}
 use Rattle.once_parts.specs.declared.act.Act.TheVariants.{Load, Quick, Fast, AddOne, CountOut, Full, Enter, NonePut, Begin as BeginPoll, BeginDrop, Ran as InitRan, Refused, Unput}
 use Rattle.once_parts.specs.Own.{IsHand, Stayed, Turned, number_in, own_in, task_in, told}

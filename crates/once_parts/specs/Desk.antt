@@ -7,8 +7,8 @@ use Rattle.once_queue.specs.declared.waiters.Listing.{Listing}
 use Rattle.once_queue.specs.declared.waiters.Lists.{Lists}
 use Rattle.once_queue.specs.Room.{listings_of}
 use Rattle.once_world.specs.Book.{Door, Page, Queue}
-use Rattle.once_moments.specs.Kept.{Sheet, sheet, sheets}
-use Rattle.once_moments.specs.Named.{named}
+use Rattle.once_parts.specs.Kept.{Sheet, sheet, sheets}
+use Rattle.once_parts.specs.Named.{named}
 
 -- both pages: how many queues were made, which one stands at the door, its flag and its listings
 pub record Desked : Type 0 where

@@ -6,9 +6,9 @@ use Rattle.once_queue.specs.declared.waiters.Answer.TheVariants.{Released, Left}
 use Rattle.once_queue.specs.declared.waiters.Op.{Op}
 use Rattle.once_queue.specs.declared.waiters.Op.TheVariants.{Look, List as ListOwn, Release, Leave}
 use Rattle.once_world.specs.Machine.{Step, claim_entries, is_claim, pass_entries, release_entry}
-use Rattle.once_moments.specs.Kept.{has_passed, hands_out}
-use Rattle.once_moments.specs.Named.{named_one, named_out}
-use Rattle.once_moments.specs.Steps.{answer_as}
+use Rattle.once_parts.specs.Kept.{has_passed, hands_out}
+use Rattle.once_parts.specs.Named.{named_one, named_out}
+use Rattle.once_parts.specs.Steps.{answer_as}
 use Rattle.once_parts.specs.Own.{Did, Own}
 use Rattle.once_parts.specs.Places.{CanLeave, CanList, CanLook, CanRelease, leave_next, list_next, look_next, release_next}
 

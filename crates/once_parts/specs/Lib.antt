@@ -1,3 +1,6 @@
+pub mod Steps
+pub mod Named
+pub mod Kept
 pub mod Own
 pub mod Places
 pub mod Acts
@@ -7,6 +10,7 @@ pub mod Hands
 pub mod Record
 pub mod Handed
 pub mod Shares
+pub mod Parts
 pub mod Sides
 pub mod Walks
 pub mod Tasks

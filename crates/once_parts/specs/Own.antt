@@ -6,7 +6,7 @@ use Rattle.once_core.specs.Steps.{Next}
 use Rattle.once_world.specs.Record.{Answer, Entry}
 use Rattle.once_world.specs.Book.{At, Page, TaskState}
 use Rattle.once_world.specs.Machine.{fresh_task, progress_entries}
-use Rattle.once_moments.specs.Kept.{Grew, Sheet, hand, sheets}
+use Rattle.once_parts.specs.Kept.{Grew, Sheet, hand, sheets}
 
 -- the task's number, what stands on its page, and the log as far as it was seen, the oldest entry first
 pub record Own : Type 0 where

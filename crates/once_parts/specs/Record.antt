@@ -5,7 +5,7 @@ use Rattle.pagebook.specs.Pages.{View}
 use Rattle.once_queue.specs.Word.{flags_of}
 use Rattle.once_world.specs.Record.{End, Entry, Fill, Look, Once, Value}
 use Rattle.once_world.specs.Cell.{cell, is_set}
-use Rattle.once_moments.specs.Kept.{Sheet}
+use Rattle.once_parts.specs.Kept.{Sheet}
 
 -- a Fill stands in it: the value was set
 abbrev pub WasFilled : List Entry → Type 0

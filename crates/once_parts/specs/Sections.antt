@@ -12,7 +12,7 @@ use Rattle.once_core.specs.Steps.{next_at}
 use Rattle.once_world.specs.Record.{Entry}
 use Rattle.once_world.specs.UnderLock.{head_after, is_claim, list_answer, listed_list, listed_ticket, look_answer, looked_list, state_seen}
 use Rattle.once_world.specs.Machine.{AtCountIn, AtDoorPut, AtList, Step, UnderWay, claim_entries, pass_entries, release_entry, release_list, release_wakers}
-use Rattle.once_moments.specs.Kept.{Sheet, has_passed, hands_out, locked, sheets}
+use Rattle.once_parts.specs.Kept.{Sheet, has_passed, hands_out, locked, sheets}
 use Rattle.once_parts.specs.declared.act.Section.{Section}
 use Rattle.once_parts.specs.declared.act.Section.TheVariants.{Stand, Get, Put, Found, Take, Look, List as ListOwn, Release, Leave}
 use Rattle.once_parts.specs.Desk.{Desked, behind, desked}

@@ -3,7 +3,8 @@ use Rattle.std.specs.Prelude.{◌≡◌, ℕ, Bool, true, List, [], Option, IfSo
 use Rattle.once_core.specs.declared.step.Polled.{Polled}
 use Rattle.once_core.specs.declared.step.Polled.TheVariants.{Value, Error}
 use Rattle.once_queue.specs.declared.waiters.Out.{Out}
-use Rattle.once_moments.specs.Named.{named_out}
+use Rattle.once_core.specs.Steps.{SideTells}
+use Rattle.once_parts.specs.Named.{named_out}
 
 -- the number of its task, whether it has a value or an error that the init gave, and the tasks whose wakers were handed to it in this call
 pub record Sided : Type 0 where
@@ -33,3 +34,22 @@ module _ {W : Type 0} (whose : W → ℕ) where
   -- the first to be handed to it in this call were these
   abbrev pub HasWoken : Sided → Out W → Sided → Type 0
   HasWoken x out y = x.woke ≡ [] → y ≡ record x { woke = named_out whose out }
+
+module _ {S W : Type 0} (whose : W → ℕ) (state : S → Sided) where
+  -- what the calls of such a side tell
+  abbrev pub sided_tells : SideTells S W
+  sided_tells = record {
+    run = λ s a t. HasRun (state s) a (state t);
+    close = λ s t. state t ≡ state s;
+    put = λ s t. HasPut (state s) (state t);
+    copy = λ s c t. HasCopied whose (state s) c (state t);
+    wake = λ s out t. HasWoken whose (state s) out (state t);
+  }
+
+  -- a side tells this of each of its calls
+  pub record IsTold (side : SideTells S W) : Type 0 where
+    pub run : (s : S) (a : Polled) (t : S) → side.run s a t → HasRun (state s) a (state t)
+    pub close : (s t : S) → side.close s t → state t ≡ state s
+    pub put : (s t : S) → side.put s t → HasPut (state s) (state t)
+    pub copy : (s : S) (c : Option W) (t : S) → side.copy s c t → HasCopied whose (state s) c (state t)
+    pub wake : (s : S) (out : Out W) (t : S) → side.wake s out t → HasWoken whose (state s) out (state t)

@@ -6,8 +6,8 @@ use Rattle.once_world.specs.Places.{Place, AtPut, AtFast, AtAddOne, AtDoorAgain,
 use Rattle.once_core.specs.Steps.{is_resting}
 use Rattle.once_world.specs.Record.{DropEnd, End, Entry, Error, Full, Memory, Pending, RanError, Value, handed_by}
 use Rattle.once_world.specs.Machine.{progress_entries}
-use Rattle.once_moments.specs.Kept.{Grew}
-use Rattle.once_moments.specs.Steps.{StandsForStep}
+use Rattle.once_parts.specs.Kept.{Grew}
+use Rattle.once_parts.specs.Steps.{StandsForStep}
 use Rattle.once_parts.specs.Own.{Own}
 use Rattle.once_parts.specs.Sides.{Sided}
 

@@ -21,7 +21,7 @@ pub struct Leaf;
 impl Model for Leaf {
     ghost use Rattle.std.specs.Prelude.{false, []};
     ghost use Rattle.once_world.specs.Book.{Queue};
-    ghost use Rattle.once_moments.specs.Kept.{Sheet, sheet};
+    ghost use Rattle.once_parts.specs.Kept.{Sheet, sheet};
 
     ghost Value = { Sheet };
 
@@ -32,7 +32,7 @@ impl Model for Leaf {
 pub struct CellRule;
 
 impl Rule<Line, Leaf> for CellRule {
-    ghost use Rattle.once_moments.specs.Kept.{IsKept};
+    ghost use Rattle.once_parts.specs.Kept.{IsKept};
 
     ghost holds = { λ ns ss log. IsKept ns ss log };
 }

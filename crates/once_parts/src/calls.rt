@@ -2,7 +2,7 @@
 ghost use Rattle.std.specs.Prelude.{◌≡◌, ◌<◌, ℕ, Bool, true, false, List, [], ◌∷◌};
 ghost use Rattle.once_core.specs.Steps.{in_call, is_resting, left_of, step_of_poll};
 ghost use Rattle.once_world.specs.Record.{Entry};
-ghost use Rattle.once_moments.specs.Kept.{Grew};
+ghost use Rattle.once_parts.specs.Kept.{Grew};
 ghost use Rattle.once_parts.specs.Shares.{cell_of, own};
 ghost use Rattle.once_parts.specs.Own.{Own};
 ghost use Rattle.once_parts.specs.Sides.{Sided};

@@ -4,7 +4,7 @@ ghost use Rattle.std.specs.Option.{is_some};
 ghost use Rattle.pagebook.specs.Pages.{Book};
 ghost use Rattle.once_queue.specs.Listings.{kept_ticket};
 ghost use Rattle.once_queue.specs.Room.{HasSpace, listings_of};
-ghost use Rattle.once_moments.specs.Named.{as_memory};
+ghost use Rattle.once_parts.specs.Named.{as_memory};
 ghost use Rattle.once_parts.specs.Sections.{more_released};
 
 use crate::act::Section;
@@ -43,9 +43,9 @@ impl<W: TaskWaker> Keyed for Desk<W> {
 impl<W: TaskWaker + Drop> Desk<W> {
     ghost use Rattle.once_core.specs.Steps.{next_at};
     ghost use Rattle.once_world.specs.Machine.{AtCountIn, AtDoorPut, UnderWay, claim_entries, is_claim, pass_entries, release_entry};
-    ghost use Rattle.once_moments.specs.Kept.{has_passed, hands_out};
-    ghost use Rattle.once_moments.specs.Named.{named_one, named_out};
-    ghost use Rattle.once_moments.specs.Steps.{answer_as};
+    ghost use Rattle.once_parts.specs.Kept.{has_passed, hands_out};
+    ghost use Rattle.once_parts.specs.Named.{named_one, named_out};
+    ghost use Rattle.once_parts.specs.Steps.{answer_as};
     ghost use Rattle.once_parts.specs.Desk.{desk_sheets, first_desk};
     ghost use Rattle.once_parts.specs.Own.{Did, IsWord};
     ghost use Rattle.once_parts.specs.Places.{CanGet, CanLeave, CanList, CanLook, CanRelease, CanTake, get_next, leave_next, list_next, look_next, numbered, release_next, take_next};

@@ -25,7 +25,7 @@ impl Hand {
     ghost use Rattle.once_world.specs.Record.{Begin, Made, Ran};
     ghost use Rattle.once_world.specs.Book.{refused_step};
     ghost use Rattle.once_world.specs.Machine.{AtDoorPut, AtTryQuick, UnderWay, claim_entries, drop_entries, freed_entries, fresh_task};
-    ghost use Rattle.once_moments.specs.Kept.{Grew, most};
+    ghost use Rattle.once_parts.specs.Kept.{Grew, most};
     ghost use Rattle.once_parts.specs.Own.{Did, IsWord, Stayed, Turned, told};
     ghost use Rattle.once_parts.specs.Places.{CanAdd, CanCountIn, CanCountOut, CanFast, CanFill, CanLoad, CanRefuse, CanRun, CanTake, add_next, fast_next, fill_next, in_next, load_next, out_next, put_next, run_next, take_next, task_begun, task_dropping, task_run, unnamed};
     ghost use Rattle.once_parts.specs.Hands.{own_of};

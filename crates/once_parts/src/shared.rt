@@ -50,7 +50,7 @@ impl<T, W: TaskWaker + Drop> Inner<T, W> {
     ghost use Rattle.once_queue.specs.Word.{flags_of};
     ghost use Rattle.once_world.specs.Record.{Entry, Made};
     ghost use Rattle.once_world.specs.Machine.{fresh_task};
-    ghost use Rattle.once_moments.specs.Kept.{Grew};
+    ghost use Rattle.once_parts.specs.Kept.{Grew};
     ghost use Rattle.once_parts.specs.Record.{Looked, WasFilled};
     ghost use Rattle.once_parts.specs.Shares.{cell_of, own};
 
@@ -241,79 +241,16 @@ impl<'a, 'r, T, W: TaskWaker, R> Shared<'a, 'r, T, W, R> {
 
 /// Each call is one moment of the cell's book. There is one queue, which lies with the door, so a waiter keeps none.
 impl<T, W: TaskWaker + Drop, R: Wait + AllocGlobal> Parts<W> for Shared<'_, '_, T, W, R> {
-    ghost use Rattle.std.specs.Prelude.{◌∷◌};
-    ghost use Rattle.std.specs.Option.{is_some};
-    ghost use Rattle.once_core.specs.Steps.{after_quick};
-    ghost use Rattle.once_world.specs.Record.{Ran};
-    ghost use Rattle.once_world.specs.Book.{refused_step};
-    ghost use Rattle.once_world.specs.Machine.{AtTryQuick, claim_entries, freed_entries};
-    ghost use Rattle.once_moments.specs.Kept.{most};
-    ghost use Rattle.once_parts.specs.Own.{Turned, told};
-    ghost use Rattle.once_parts.specs.Places.{CanAdd, CanCountIn, CanCountOut, CanFast, CanFill, CanLoad, CanRefuse, CanRun, add_next, fast_next, fill_next, in_next, load_next, out_next, put_next, run_next, task_run, unnamed};
+    ghost use Rattle.once_parts.specs.Parts.{parts_ask, parts_tell};
     ghost use Rattle.once_parts.specs.Shares.{cell_of, own};
 
     type Queue = ();
 
     type Value = T;
 
-    ghost can_load = { λ s. CanLoad (own s).task.step };
+    ghost can = { parts_ask cell_of own W.whose };
 
-    ghost did_load = { λ s n t. (cell_of t ≡ cell_of s) × Did (own s) [] (load_next n (own s).task.step) (own t) };
-
-    ghost can_quick = { λ s. (own s).task.step ≡ UnderWay AtTryQuick };
-
-    ghost did_quick = { λ s won t. (cell_of t ≡ cell_of s)
-        × Did (own s) (claim_entries won (own s).number) (after_quick won) (own t) };
-
-    ghost can_fast = { λ s ready. CanFast ready (own s).task.step };
-
-    ghost did_fast = { λ s ready won t. (cell_of t ≡ cell_of s)
-        × Did (own s) (freed_entries won (own s).number (own s).task.kept) (fast_next won (own s).task.step) (own t) };
-
-    ghost can_count_in = { λ s limit. CanCountIn (own s).task.step × (limit ≡ most) };
-
-    ghost did_count_in = { λ s limit c t. (cell_of t ≡ cell_of s) × Did (own s) [] (in_next c (own s).task.step) (own t) };
-
-    ghost can_add_one = { λ s. CanAdd (own s).task.step };
-
-    ghost did_add_one = { λ s t. (cell_of t ≡ cell_of s) × Did (own s) [] (add_next (own s).task.step) (own t) };
-
-    ghost can_count_out = { λ s. CanCountOut (own s).task.step };
-
-    ghost did_count_out = { λ s n t. (cell_of t ≡ cell_of s) × Did (own s) [] (out_next n (own s).task.step) (own t) };
-
-    ghost can_door_get = { λ s. CanGet (own s).task.step };
-
-    ghost did_door_get = { λ s q t. (cell_of t ≡ cell_of s)
-        × ((n : ℕ) × Did (own s) [] (get_next (numbered n (is_some q)) (own s).task.step) (own t)) };
-
-    ghost can_door_put = { λ s. (own s).task.step ≡ UnderWay AtDoorPut };
-
-    ghost did_door_put = { λ s q t. (cell_of t ≡ cell_of s)
-        × ((n : ℕ) × Did (own s) [] (put_next (numbered n (is_some q))) (own t)) };
-
-    ghost can_door_take = { λ s. CanTake (own s).task.step };
-
-    ghost did_door_take = { λ s stood t. (cell_of t ≡ cell_of s) × Did (own s) [] (take_next (own s).task.step) (own t) };
-
-    ghost can_section = { λ s q op. CanSection W.whose op (own s).task.step };
-
-    ghost did_section = { λ s q op a o t. (cell_of t ≡ cell_of s) × DidSection W.whose op a o (own s) (own t) };
-
-    ghost can_refuse = { λ s. CanRefuse (own s).task.step };
-
-    ghost did_refuse = { λ s t. (cell_of t ≡ cell_of s)
-        × Turned (own s) (record (own s).task { step = refused_step (own s).task.step }) [] (own t) };
-
-    ghost can_ran = { λ s answer. CanRun (own s).task.step };
-
-    ghost did_ran = { λ s answer t. (cell_of t ≡ cell_of s) × Turned (own s) (task_run answer (own s).task)
-        (told (own s).number (task_run answer (own s).task).kept (run_next answer (own s).task.step)
-        (Ran (own s).number (unnamed answer) ∷ [])) (own t) };
-
-    ghost can_put = { λ s. CanFill (own s).task.step };
-
-    ghost did_put = { λ s t. (cell_of t ≡ cell_of s) × Did (own s) [] (fill_next (own s).task.step) (own t) };
+    ghost did = { parts_tell cell_of own W.whose };
 
     #[inline(always)]
     fn load(&mut self) -> u64 {

@@ -1,7 +1,7 @@
 //! A task of a cell, between two of its calls.
 ghost use Rattle.std.specs.Prelude.{◌≡◌, ◌↔◌, ℕ, true, false, List, [], ◌∷◌};
 ghost use Rattle.once_world.specs.Record.{Entry, Made};
-ghost use Rattle.once_moments.specs.Kept.{Grew};
+ghost use Rattle.once_parts.specs.Kept.{Grew};
 ghost use Rattle.once_parts.specs.Record.{EndsSet};
 ghost use Rattle.once_parts.specs.Shares.{cell_of, own};
 ghost use Rattle.once_core.specs.Steps.{in_call, is_resting};

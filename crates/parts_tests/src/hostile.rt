@@ -130,21 +130,13 @@ impl<'a, 'r, R: Wait + AllocGlobal> Meddling<'a, 'r, R> {
 
 impl<R: Wait + AllocGlobal> Side<Bell> for Meddling<'_, '_, R> {
     ghost use Rattle.std.specs.Prelude.{true};
-    ghost use Rattle.once_parts.specs.Sides.{HasCopied, HasPut, HasRun, HasWoken};
+    ghost use Rattle.once_parts.specs.Sides.{HasWoken, sided_tells};
 
     type Value = u64;
 
-    ghost did_run = { HasRun };
-
-    ghost did_close = { λ s t. t ≡ s };
+    ghost did = { sided_tells (λ b. b.mark.value) (λ s. s) };
 
     ghost can_put = { λ s. s.has_value ≡ true };
-
-    ghost did_put = { HasPut };
-
-    ghost did_copy = { HasCopied (λ b. b.mark.value) };
-
-    ghost did_wake = { HasWoken (λ b. b.mark.value) };
 
     ghost stays = { λ s t. t.number ≡ s.number };
 
@@ -180,17 +172,11 @@ impl<R: Wait + AllocGlobal> Side<Bell> for Meddling<'_, '_, R> {
 }
 
 impl<R: Wait + AllocGlobal> TaskSide<Bell> for Meddling<'_, '_, R> {
+    ghost use Rattle.once_parts.proofs.Sides.{sided_told};
+
     ghost state = { λ s. s };
 
-    ghost tells_run = { λ s a t h. h };
-
-    ghost tells_close = { λ s t h. h };
-
-    ghost tells_put = { λ s t h. h };
-
-    ghost tells_copy = { λ s c t h. h };
-
-    ghost tells_wake = { λ s out t h. h };
+    ghost tells = { sided_told (λ b. b.mark.value) (λ s. s) };
 
     ghost puts = { λ s h. h };
 }

@@ -69,7 +69,7 @@ pub struct TestSide {
 
 impl Model for TestSide {
     ghost use Rattle.std.specs.Option.{is_some};
-    ghost use Rattle.once_moments.specs.Named.{named_out};
+    ghost use Rattle.once_parts.specs.Named.{named_out};
     ghost use Rattle.once_parts.specs.Sides.{Sided};
 
     ghost Value = { Sided };
@@ -132,21 +132,13 @@ impl TestSide {
 
 impl Side<Bell> for TestSide {
     ghost use Rattle.std.specs.Prelude.{true};
-    ghost use Rattle.once_parts.specs.Sides.{HasCopied, HasPut, HasRun, HasWoken};
+    ghost use Rattle.once_parts.specs.Sides.{HasWoken, sided_tells};
 
     type Value = u64;
 
-    ghost did_run = { HasRun };
-
-    ghost did_close = { λ s t. t ≡ s };
+    ghost did = { sided_tells (λ b. b.mark.value) (λ s. s) };
 
     ghost can_put = { λ s. s.has_value ≡ true };
-
-    ghost did_put = { HasPut };
-
-    ghost did_copy = { HasCopied (λ b. b.mark.value) };
-
-    ghost did_wake = { HasWoken (λ b. b.mark.value) };
 
     ghost stays = { λ s t. t.number ≡ s.number };
 
@@ -195,17 +187,11 @@ impl Side<Bell> for TestSide {
 }
 
 impl TaskSide<Bell> for TestSide {
+    ghost use Rattle.once_parts.proofs.Sides.{sided_told};
+
     ghost state = { λ s. s };
 
-    ghost tells_run = { λ s a t h. h };
-
-    ghost tells_close = { λ s t h. h };
-
-    ghost tells_put = { λ s t h. h };
-
-    ghost tells_copy = { λ s c t h. h };
-
-    ghost tells_wake = { λ s out t h. h };
+    ghost tells = { sided_told (λ b. b.mark.value) (λ s. s) };
 
     ghost puts = { λ s h. h };
 }

@@ -12,7 +12,7 @@ ghost use Rattle.async_once_cell.specs.Views.{CellView, is_shared};
 ghost use Rattle.once_world.specs.Record.{Once};
 ghost use Rattle.once_world.specs.Run.{AtEvery, IsRun};
 ghost use Rattle.once_world.specs.Called.{SomebodyCalled};
-ghost use Rattle.once_moments.specs.Kept.{most};
+ghost use Rattle.once_parts.specs.Kept.{most};
 ghost use Rattle.once_parts.specs.Record.{IsSet, WasFilled};
 
 use super::value::Value;

@@ -3,7 +3,7 @@ ghost use Rattle.std.specs.Prelude.{◌≡◌, false, true, reverse};
 ghost use Rattle.once_world.specs.Record.{Once};
 ghost use Rattle.once_world.specs.Run.{AtEvery, IsRun};
 ghost use Rattle.once_world.specs.Called.{SomebodyCalled};
-ghost use Rattle.once_moments.specs.Kept.{most};
+ghost use Rattle.once_parts.specs.Kept.{most};
 ghost use Rattle.once_parts.specs.Record.{IsSet, WasFilled};
 ghost use Rattle.async_once_cell.specs.Tokens.{IsSetIn};
 ghost use Rattle.async_once_cell.specs.Views.{is_shared};

@@ -5,7 +5,7 @@ ghost use mathlib.Core.List.{IsPrefix};
 ghost use Rattle.once_world.specs.Record.{Once};
 ghost use Rattle.once_world.specs.Run.{AtEvery, IsRun};
 ghost use Rattle.once_world.specs.Called.{SomebodyCalled};
-ghost use Rattle.once_moments.specs.Kept.{most};
+ghost use Rattle.once_parts.specs.Kept.{most};
 ghost use Rattle.once_parts.specs.Record.{IsSet, WasFilled};
 ghost use Rattle.async_once_cell.specs.Views.{CellView, IsBookOf, IsOf, IsShown, is_shared, known_of, log_of};
 ghost use Rattle.async_once_cell.specs.Tokens.{IsSetIn, Learns, Lends, Looks};

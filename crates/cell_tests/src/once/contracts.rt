@@ -4,7 +4,7 @@ ghost use Rattle.std.specs.Option.{is_some};
 ghost use mathlib.Core.List.{IsPrefix};
 ghost use Rattle.async_once_cell.specs.Record.{End, Once, Value};
 ghost use Rattle.async_once_cell.specs.Run.{IsRun};
-ghost use Rattle.once_moments.specs.Kept.{most};
+ghost use Rattle.async_once_cell.specs.Kept.{most};
 ghost use Rattle.async_once_cell.specs.Polls.{Ends};
 ghost use Rattle.async_once_cell.specs.Views.{is_shared};
 

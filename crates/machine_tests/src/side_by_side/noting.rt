@@ -24,7 +24,7 @@ pub struct Noting {
 }
 
 impl Model for Noting {
-    ghost use Rattle.once_moments.specs.Named.{named_out};
+    ghost use Rattle.once_parts.specs.Named.{named_out};
     ghost use Rattle.once_parts.specs.Sides.{Sided};
 
     ghost Value = { Sided };
@@ -74,19 +74,11 @@ impl Noting {
 }
 
 impl Side<Bell> for Noting {
-    ghost use Rattle.once_parts.specs.Sides.{HasCopied, HasPut, HasRun, HasWoken};
+    ghost use Rattle.once_parts.specs.Sides.{HasWoken, sided_tells};
 
     type Value = ();
 
-    ghost did_run = { HasRun };
-
-    ghost did_close = { λ s t. t ≡ s };
-
-    ghost did_put = { HasPut };
-
-    ghost did_copy = { HasCopied (λ b. b.mark.value) };
-
-    ghost did_wake = { HasWoken (λ b. b.mark.value) };
+    ghost did = { sided_tells (λ b. b.mark.value) (λ s. s) };
 
     ghost stays = { λ s t. t.number ≡ s.number };
 
@@ -130,17 +122,11 @@ impl Side<Bell> for Noting {
 }
 
 impl TaskSide<Bell> for Noting {
+    ghost use Rattle.once_parts.proofs.Sides.{sided_told};
+
     ghost state = { λ s. s };
 
-    ghost tells_run = { λ s a t h. h };
-
-    ghost tells_close = { λ s t h. h };
-
-    ghost tells_put = { λ s t h. h };
-
-    ghost tells_copy = { λ s c t h. h };
-
-    ghost tells_wake = { λ s out t h. h };
+    ghost tells = { sided_told (λ b. b.mark.value) (λ s. s) };
 
     ghost puts = { λ s h. tt };
 }

@@ -21,58 +21,12 @@ impl<W: Drop, Q: Drop> Step<W, Q> {
         side: &mut S,
     ) -> Progress
         requires new { self.old ≡ Step.Resting Rest.Start }
-        requires asks { (told : Progress) → (at : Step W Q) → (p : P) → (s : S) → Makes
-            record {
-              load = P.did_load;
-              quick = P.did_quick;
-              fast = P.did_fast;
-              count_in = P.did_count_in;
-              add_one = P.did_add_one;
-              count_out = P.did_count_out;
-              door_get = P.did_door_get;
-              door_put = P.did_door_put;
-              door_take = P.did_door_take;
-              section = P.did_section;
-              refuse = P.did_refuse;
-              ran = P.did_ran;
-              put = P.did_put;
-            }
-            record { run = S.did_run; close = S.did_close; put = S.did_put; copy = S.did_copy; wake = S.did_wake }
-            MAX_WAITERS (step_of_poll self.old) parts.old side.old told at p s → Asks
-            record {
-              load = P.can_load;
-              quick = P.can_quick;
-              fast = P.can_fast;
-              count_in = P.can_count_in;
-              add_one = P.can_add_one;
-              count_out = P.can_count_out;
-              door_get = P.can_door_get;
-              door_put = P.can_door_put;
-              door_take = P.can_door_take;
-              section = P.can_section;
-              ran = P.can_ran;
-              put = P.can_put;
-            }
-            S.can_put MAX_WAITERS at p s }
+        requires asks { (told : Progress) → (at : Step W Q) → (p : P) → (s : S)
+            → Makes P.did S.did MAX_WAITERS (step_of_poll self.old) parts.old side.old told at p s
+            → Asks P.can S.can_put MAX_WAITERS at p s }
         ensures over { (e : Ending) → result ≡ Progress.Ended e → in_call self.new ≡ false }
-        ensures lines { (limit : ℕ) → Makes
-            record {
-              load = P.did_load;
-              quick = P.did_quick;
-              fast = P.did_fast;
-              count_in = P.did_count_in;
-              add_one = P.did_add_one;
-              count_out = P.did_count_out;
-              door_get = P.did_door_get;
-              door_put = P.did_door_put;
-              door_take = P.did_door_take;
-              section = P.did_section;
-              refuse = P.did_refuse;
-              ran = P.did_ran;
-              put = P.did_put;
-            }
-            record { run = S.did_run; close = S.did_close; put = S.did_put; copy = S.did_copy; wake = S.did_wake }
-            limit (step_of_poll self.old) parts.old side.old result self.new parts.new side.new }
+        ensures lines { (limit : ℕ)
+            → Makes P.did S.did limit (step_of_poll self.old) parts.old side.old result self.new parts.new side.new }
         ensures stays { S.stays side.old side.new }
     {
         self.begin();

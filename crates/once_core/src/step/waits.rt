@@ -26,9 +26,9 @@ impl<W: Drop, Q: Drop> Step<W, Q> {
         limit: u64,
     ) -> Progress
         requires limit { limit ≤ 2 ^ 62 - 2 }
-        requires can { P.can_count_in parts.old limit }
-        ensures line { (c : Counted) × P.did_count_in parts.old limit c parts.new
-            × Follows S.did_close (after_count_in c queue) side.old side.new result self.new }
+        requires can { P.can.count_in parts.old limit }
+        ensures line { (c : Counted) × P.did.count_in parts.old limit c parts.new
+            × Follows S.did.close (after_count_in c queue) side.old side.new result self.new }
         ensures stays { S.stays side.old side.new }
     {
         match parts.count_in(limit) {
@@ -56,9 +56,9 @@ impl<W: Drop, Q: Drop> Step<W, Q> {
         parts: &mut P,
         side: &mut S,
     ) -> Progress
-        requires { P.can_load parts.old }
-        ensures line { (w : ℕ) × P.did_load parts.old w parts.new
-            × Follows S.did_close (after_load (flags_of w).ready queue ticket) side.old side.new result self.new }
+        requires { P.can.load parts.old }
+        ensures line { (w : ℕ) × P.did.load parts.old w parts.new
+            × Follows S.did.close (after_load (flags_of w).ready queue ticket) side.old side.new result self.new }
         ensures stays { S.stays side.old side.new }
     {
         if parts.load() >= READY_BIT {
@@ -76,9 +76,9 @@ impl<W: Drop, Q: Drop> Step<W, Q> {
         parts: &mut P,
         side: &mut S,
     ) -> Progress
-        requires { P.can_section parts.old queue (Op.Look ticket) }
-        ensures line { (a : Answer W) × (o : Op W) × (n : P) × P.did_section parts.old queue (Op.Look ticket) a o n
-            × AfterLook P.did_refuse S.did_close S.did_copy a queue (ticket_in o)
+        requires { P.can.section parts.old queue (Op.Look ticket) }
+        ensures line { (a : Answer W) × (o : Op W) × (n : P) × P.did.section parts.old queue (Op.Look ticket) a o n
+            × AfterLook P.did.refuse S.did.close S.did.copy a queue (ticket_in o)
             n side.old result self.new parts.new side.new }
         ensures stays { S.stays side.old side.new }
     {
@@ -103,10 +103,10 @@ impl<W: Drop, Q: Drop> Step<W, Q> {
         parts: &mut P,
         side: &mut S,
     ) -> Progress
-        requires { P.can_refuse parts.old }
-        ensures line { (c : Option W) × (m : S) × S.did_copy side.old c m
-            × MayRefuse P.did_refuse c parts.old parts.new
-            × Follows S.did_close (after_copy c queue ticket) m side.new result self.new }
+        requires { P.can.refuse parts.old }
+        ensures line { (c : Option W) × (m : S) × S.did.copy side.old c m
+            × MayRefuse P.did.refuse c parts.old parts.new
+            × Follows S.did.close (after_copy c queue ticket) m side.new result self.new }
         ensures stays { S.stays side.old side.new }
     {
         match side.copy() {
@@ -128,9 +128,9 @@ impl<W: Drop, Q: Drop> Step<W, Q> {
         parts: &mut P,
         side: &mut S,
     ) -> Progress
-        requires { P.can_section parts.old queue (Op.List ticket (Some waker)) }
-        ensures line { (a : Answer W) × (o : Op W) × P.did_section parts.old queue (Op.List ticket (Some waker)) a o parts.new
-            × Follows S.did_close (after_list a queue (ticket_in o)) side.old side.new result self.new }
+        requires { P.can.section parts.old queue (Op.List ticket (Some waker)) }
+        ensures line { (a : Answer W) × (o : Op W) × P.did.section parts.old queue (Op.List ticket (Some waker)) a o parts.new
+            × Follows S.did.close (after_list a queue (ticket_in o)) side.old side.new result self.new }
         ensures stays { S.stays side.old side.new }
     {
         let mut op = Op::List(ticket, Some(waker));
@@ -157,9 +157,9 @@ impl<W: Drop, Q: Drop> Step<W, Q> {
         parts: &mut P,
         side: &mut S,
     ) -> Progress
-        requires { P.can_section parts.old queue (Op.Leave ticket) }
-        ensures section { (a : Answer W) × (o : Op W) × P.did_section parts.old queue (Op.Leave ticket) a o parts.new
-            × Wakes S.did_wake (out_of a) side.old side.new }
+        requires { P.can.section parts.old queue (Op.Leave ticket) }
+        ensures section { (a : Answer W) × (o : Op W) × P.did.section parts.old queue (Op.Leave ticket) a o parts.new
+            × Wakes S.did.wake (out_of a) side.old side.new }
         ensures more { result ≡ Progress.More }
         ensures step { self.new ≡ Step.UnderWay (Place.CountOut ending) }
         ensures stays { S.stays side.old side.new }

@@ -6,13 +6,13 @@ use Rattle.once_core.specs.Steps.{Asks, AsksAt}
 use Rattle.once_world.specs.Places.{Progress, Step, Resting, UnderWay, Finished}
 use Rattle.once_core.specs.Steps.{is_value}
 use Rattle.once_world.specs.Places.{Place, AtStart, AtTryQuick, AtDoorGet, AtDoorPut, AtCountIn, AtWaitLoad, AtLook, AtList, AtRun, AtPut, AtFast, AtAddOne, AtDoorAgain, AtRelease, AtLeave, AtCountOut, AtDoorTake}
-use Rattle.once_moments.specs.Kept.{most}
-use Rattle.once_moments.proofs.Places.{at_add, at_again, at_count_in, at_count_out, at_fast, at_get, at_leave, at_list, at_load, at_look, at_put, at_quick, at_release, at_run, at_start, at_take, at_value}
+use Rattle.once_parts.specs.Kept.{most}
+use Rattle.once_parts.proofs.Moments.Places.{at_add, at_again, at_count_in, at_count_out, at_fast, at_get, at_leave, at_list, at_load, at_look, at_put, at_quick, at_release, at_run, at_start, at_take, at_value}
 use Rattle.once_parts.specs.Own.{Own}
 use Rattle.once_parts.specs.Places.{CanAdd, CanCountIn, CanCountOut, CanFast, CanFill, CanGet, CanLeave, CanList, CanLoad, CanLook, CanRelease, CanRun, CanTake}
 use Rattle.once_parts.specs.Sides.{Sided}
 use Rattle.once_parts.specs.Walks.{FitsAt, Stands, StandsOn, the_queue}
-use Rattle.once_parts.proofs.Walk.Parts.{parts_ask}
+use Rattle.once_parts.specs.Parts.{parts_ask}
 
 module _ {P S W : Type 0} (cell : P → Placed) (own : P → Own) (whose : W → ℕ) (state : S → Sided) (can_put : S → Type 0) (puts : (s : S) → (state s).has_value ≡ true → can_put s)
     (drops : Bool) (p : P) (s : S) where

@@ -8,9 +8,9 @@ use Rattle.once_world.specs.Places.{EndDropped, Finished, More, RestRun, RestSta
 use Rattle.once_world.specs.Record.{Begin, DropBegin, DropEnd, Entry}
 use Rattle.once_world.specs.Book.{TaskState}
 use Rattle.once_world.specs.Machine.{drop_entries}
-use Rattle.once_moments.specs.Kept.{Grew}
-use Rattle.once_moments.specs.Steps.{step_as}
-use Rattle.once_moments.proofs.Steps.{drop_as, poll_as}
+use Rattle.once_parts.specs.Kept.{Grew}
+use Rattle.once_parts.specs.Steps.{step_as}
+use Rattle.once_parts.proofs.Moments.Steps.{drop_as, poll_as}
 use Rattle.once_parts.specs.Own.{Own, Turned}
 use Rattle.once_parts.specs.Places.{task_begun, task_dropping}
 use Rattle.once_parts.specs.Sides.{Sided}

@@ -6,12 +6,13 @@ use Rattle.once_core.specs.Steps.{Advances, Asks, SideTells}
 use Rattle.once_world.specs.Places.{Finished, More, Progress, Resting, Step, UnderWay}
 use Rattle.once_core.specs.Chain.{Makes}
 use Rattle.once_core.specs.Chain.Makes.{none, next}
-use Rattle.once_moments.specs.Kept.{most}
+use Rattle.once_parts.specs.Kept.{most}
 use Rattle.once_parts.specs.Own.{Own}
-use Rattle.once_parts.specs.Sides.{Sided}
 use Rattle.once_parts.specs.Walks.{Stands}
 use Rattle.once_parts.proofs.Walk.Logs.{walked_none}
-use Rattle.once_parts.proofs.Walk.Parts.{IsTold, Went, parts_ask, parts_tell, went_on}
+use Rattle.once_parts.specs.Parts.{parts_ask, parts_tell}
+use Rattle.once_parts.specs.Sides.{IsTold, Sided}
+use Rattle.once_parts.proofs.Walk.Parts.{Went, went_on}
 use Rattle.once_parts.proofs.Walk.Lines.{line_went}
 use Rattle.once_parts.proofs.Walk.Asked.{step_asked}
 

@@ -6,7 +6,7 @@ use Rattle.once_core.specs.Steps.{in_call}
 use Rattle.once_world.specs.Places.{EndDropped, EndError, EndFull, EndMemory, EndPending, EndValue, Ended, Ending, Finished, Progress, Resting, Step, UnderWay}
 use Rattle.once_world.specs.Record.{Answer, Entry}
 use Rattle.once_world.specs.Machine.{end_entry, progress_entries}
-use Rattle.once_moments.specs.Kept.{Grew}
+use Rattle.once_parts.specs.Kept.{Grew}
 use Rattle.once_parts.specs.Own.{Own}
 use Rattle.once_parts.specs.Sides.{Sided}
 use Rattle.once_parts.specs.Walks.{Fits, MayEnd, Rests, Stands, Walked, end_of}

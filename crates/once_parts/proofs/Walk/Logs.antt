@@ -7,7 +7,7 @@ use Rattle.once_world.specs.Places.{Progress, More, Ended}
 use Rattle.once_world.specs.Record.{Answer, Entry, handed_by}
 use Rattle.once_world.specs.Book.{TaskState}
 use Rattle.once_world.specs.Machine.{EndDropped, EndError, EndFull, EndMemory, EndPending, EndValue, progress_entries}
-use Rattle.once_moments.specs.Kept.{Grew}
+use Rattle.once_parts.specs.Kept.{Grew}
 use Rattle.once_parts.specs.Own.{Own, Turned, told}
 use Rattle.once_parts.specs.Sides.{Sided}
 use Rattle.once_parts.specs.Walks.{GrewBy, Walked, handed}

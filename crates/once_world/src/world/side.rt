@@ -49,15 +49,7 @@ impl Side<u64> for ReplaySide {
     // The side keeps the value.
     type Value = ();
 
-    ghost did_run = { DidRun };
-
-    ghost did_close = { DidClose };
-
-    ghost did_put = { DidPut };
-
-    ghost did_copy = { DidCopy };
-
-    ghost did_wake = { DidWake };
+    ghost did = { record { run = DidRun; close = DidClose; put = DidPut; copy = DidCopy; wake = DidWake } };
 
     ghost stays = { Stays };
 

@@ -1,55 +1,39 @@
 -- The steps of a first poll are lines of the table, and so are none.
 use Rattle.std.proofs.Common.{◌≡◌, false, rules, sym, subst}
 use Rattle.once_queue.specs.declared.word.TheConstants.{MAX_WAITERS}
-use Rattle.once_core.specs.Steps.{SideTells, step_of_poll}
+use Rattle.once_core.specs.Steps.{step_of_poll}
 use Rattle.once_world.specs.Places.{More}
 use Rattle.once_parts.specs.Shares.{cell_of, own}
 use Rattle.once_parts.specs.Walks.{Stands}
 use Rattle.once_parts.proofs.Walk.Logs.{walked_none}
-use Rattle.once_parts.proofs.Walk.Parts.{IsTold}
 use Rattle.once_parts.proofs.Walk.Calls.{steps_asked, steps_went}
-use Rattle.once_parts.proofs.calls.start.Given.{Over}
 use Rattle.once_parts.proofs.calls.start.Goals as goal
-
--- what the calls of the side tell
-abbrev tells_of : (g : Over) → SideTells g.row.S.Denot g.row.W.Denot
-tells_of g = record { run = g.S.Side.did_run; close = g.S.Side.did_close; put = g.S.Side.did_put; copy = g.S.Side.did_copy; wake = g.S.Side.did_wake }
-
--- that is what it is to tell
-told_of : (g : Over) → IsTold g.W.TaskWaker.whose g.S.TaskSide.state (tells_of g)
-told_of g = record {
-  run = g.met.S.TaskSide.tells_run;
-  close = g.met.S.TaskSide.tells_close;
-  put = g.met.S.TaskSide.tells_put;
-  copy = g.met.S.TaskSide.tells_copy;
-  wake = g.met.S.TaskSide.tells_wake;
-}
 
 pub first_steps-told-requires-clause-asks : goal.first_steps-told-requires-clause-asks
 first_steps-told-requires-clause-asks g c = λ told at p s m.
     let is : c.args.step.now ≡ c.new-first.result = search rules in
     let stands = subst (λ s. Stands g.W.TaskWaker.whose false (g.S.TaskSide.state c.args.side.now) (own c.args.parts.now) More (step_of_poll s)) is c.requires.stands in
-    steps_asked cell_of own g.W.TaskWaker.whose g.S.TaskSide.state (tells_of g) (told_of g) MAX_WAITERS false g.S.Side.can_put g.met.S.TaskSide.puts (step_of_poll c.new-first.result) c.args.parts.now c.args.side.now at p s told stands m
+    steps_asked cell_of own g.W.TaskWaker.whose g.S.TaskSide.state g.S.Side.did g.met.S.TaskSide.tells MAX_WAITERS false g.S.Side.can_put g.met.S.TaskSide.puts (step_of_poll c.new-first.result) c.args.parts.now c.args.side.now at p s told stands m
 
 pub returns-then-is_new-clause-cell : goal.returns-then-is_new-clause-cell
 returns-then-is_new-clause-cell g c =
     let is : c.args.step.now ≡ c.new-first.result = search rules in
     let stands = subst (λ s. Stands g.W.TaskWaker.whose false (g.S.TaskSide.state c.args.side.now) (own c.args.parts.now) More (step_of_poll s)) is c.requires.stands in
-    (steps_went cell_of own g.W.TaskWaker.whose g.S.TaskSide.state (tells_of g) (told_of g) MAX_WAITERS false (step_of_poll c.new-first.result) c.args.parts.now c.args.side.now
+    (steps_went cell_of own g.W.TaskWaker.whose g.S.TaskSide.state g.S.Side.did g.met.S.TaskSide.tells MAX_WAITERS false (step_of_poll c.new-first.result) c.args.parts.now c.args.side.now
     c.first_steps-told.new.self c.first_steps-told.new.parts c.first_steps-told.new.side c.first_steps-told.result stands (c.first_steps-told.ensures.lines MAX_WAITERS)).cell_is
 
 pub returns-then-is_new-clause-walked : goal.returns-then-is_new-clause-walked
 returns-then-is_new-clause-walked g c =
     let is : c.args.step.now ≡ c.new-first.result = search rules in
     let stands = subst (λ s. Stands g.W.TaskWaker.whose false (g.S.TaskSide.state c.args.side.now) (own c.args.parts.now) More (step_of_poll s)) is c.requires.stands in
-    (steps_went cell_of own g.W.TaskWaker.whose g.S.TaskSide.state (tells_of g) (told_of g) MAX_WAITERS false (step_of_poll c.new-first.result) c.args.parts.now c.args.side.now
+    (steps_went cell_of own g.W.TaskWaker.whose g.S.TaskSide.state g.S.Side.did g.met.S.TaskSide.tells MAX_WAITERS false (step_of_poll c.new-first.result) c.args.parts.now c.args.side.now
     c.first_steps-told.new.self c.first_steps-told.new.parts c.first_steps-told.new.side c.first_steps-told.result stands (c.first_steps-told.ensures.lines MAX_WAITERS)).walked
 
 pub returns-then-is_new-clause-stands : goal.returns-then-is_new-clause-stands
 returns-then-is_new-clause-stands g c =
     let is : c.args.step.now ≡ c.new-first.result = search rules in
     let stands = subst (λ s. Stands g.W.TaskWaker.whose false (g.S.TaskSide.state c.args.side.now) (own c.args.parts.now) More (step_of_poll s)) is c.requires.stands in
-    subst (λ s. Stands g.W.TaskWaker.whose false (g.S.TaskSide.state c.first_steps-told.new.side) (own c.first_steps-told.new.parts) c.first_steps-told.result s) (sym c.replace.ensures.after) (steps_went cell_of own g.W.TaskWaker.whose g.S.TaskSide.state (tells_of g) (told_of g) MAX_WAITERS false (step_of_poll c.new-first.result) c.args.parts.now c.args.side.now
+    subst (λ s. Stands g.W.TaskWaker.whose false (g.S.TaskSide.state c.first_steps-told.new.side) (own c.first_steps-told.new.parts) c.first_steps-told.result s) (sym c.replace.ensures.after) (steps_went cell_of own g.W.TaskWaker.whose g.S.TaskSide.state g.S.Side.did g.met.S.TaskSide.tells MAX_WAITERS false (step_of_poll c.new-first.result) c.args.parts.now c.args.side.now
     c.first_steps-told.new.self c.first_steps-told.new.parts c.first_steps-told.new.side c.first_steps-told.result stands (c.first_steps-told.ensures.lines MAX_WAITERS)).stands
 
 pub returns-clause-walked : goal.returns-clause-walked

@@ -2,7 +2,7 @@
 use Rattle.std.proofs.Common.{ℕ, true, refl, sym, ap, ◌∙◌, ◌∷◌, [], ◌++◌, subst}
 use Rattle.once_core.specs.Steps.{in_call}
 use Rattle.once_world.specs.Record.{DropBegin, DropEnd}
-use Rattle.once_moments.specs.Kept.{Grew}
+use Rattle.once_parts.specs.Kept.{Grew}
 use Rattle.once_parts.specs.Shares.{own}
 use Rattle.once_parts.specs.Sides.{Sided}
 use Rattle.once_parts.specs.Walks.{handed}
@@ -16,7 +16,7 @@ go_on-requires g c =
     let call = sym c.begin_drop-2.ensures.more ∙ c.if-not-begin_drop.false in
     let begun = drop_begins g.W.TaskWaker.whose (g.S.TaskSide.state c.args.side.now) (own c.args.parts.now) (own c.begin_drop.new.self) c.args.step.now c.requires.number c.requires.none c.requires.rests c.begin_drop.ensures.did
     (ap in_call (sym c.begin_drop-2.ensures.step) ∙ call) in
-    record { stands = (true, stands_closed g.W.TaskWaker.whose _ _ (own c.begin_drop.new.self) _ _ (g.met.S.TaskSide.tells_close _ _ c.begin_drop-2.ensures.close) c.begin_drop-2.ensures.step begun) }
+    record { stands = (true, stands_closed g.W.TaskWaker.whose _ _ (own c.begin_drop.new.self) _ _ (g.met.S.TaskSide.tells.close _ _ c.begin_drop-2.ensures.close) c.begin_drop-2.ensures.step begun) }
 
 pub returns-then-not-begin_drop-clause-end : goal.returns-then-not-begin_drop-clause-end
 returns-then-not-begin_drop-clause-end g c =
@@ -28,14 +28,14 @@ pub returns-then-not-begin_drop-clause-woke : goal.returns-then-not-begin_drop-c
 returns-then-not-begin_drop-clause-woke g c =
     let over = ap in_call (sym c.begin_drop-2.ensures.step) ∙ sym c.begin_drop-2.ensures.more ∙ c.if-not-begin_drop.true in
     let grew = drop_alone g.W.TaskWaker.whose (own c.args.parts.now) (own c.begin_drop.new.self) c.args.step.now c.requires.rests over c.begin_drop.ensures.did in
-    (DropBegin (own c.args.parts.now).number ∷ DropEnd (own c.args.parts.now).number ∷ [], grew_by (DropBegin (own c.args.parts.now).number ∷ DropEnd (own c.args.parts.now).number ∷ []) _ _ grew, ap (λ (x : Sided). x.woke) (g.met.S.TaskSide.tells_close _ _ c.begin_drop-2.ensures.close) ∙ c.requires.none)
+    (DropBegin (own c.args.parts.now).number ∷ DropEnd (own c.args.parts.now).number ∷ [], grew_by (DropBegin (own c.args.parts.now).number ∷ DropEnd (own c.args.parts.now).number ∷ []) _ _ grew, ap (λ (x : Sided). x.woke) (g.met.S.TaskSide.tells.close _ _ c.begin_drop-2.ensures.close) ∙ c.requires.none)
 
 pub returns : goal.returns
 returns g c =
     let call = sym c.begin_drop-2.ensures.more ∙ c.if-not-begin_drop.false in
     let begun = drop_begins g.W.TaskWaker.whose (g.S.TaskSide.state c.args.side.now) (own c.args.parts.now) (own c.begin_drop.new.self) c.args.step.now c.requires.number c.requires.none c.requires.rests c.begin_drop.ensures.did
     (ap in_call (sym c.begin_drop-2.ensures.step) ∙ call) in
-    let closed = g.met.S.TaskSide.tells_close _ _ c.begin_drop-2.ensures.close in
+    let closed = g.met.S.TaskSide.tells.close _ _ c.begin_drop-2.ensures.close in
     let stands = stands_closed g.W.TaskWaker.whose _ _ (own c.begin_drop.new.self) _ _ closed c.begin_drop-2.ensures.step begun in
     let seen = grew_on _ _ _ c.begin_drop.ensures.did.log in
     let walked = c.go_on.ensures.walked _ _ (walked_none _ _) in

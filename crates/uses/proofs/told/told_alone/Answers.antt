@@ -2,7 +2,7 @@
 use Rattle.std.proofs.Common.{◌≡◌, List, subst}
 use Rattle.async_once_cell.specs.Record.{Once}
 use Rattle.async_once_cell.specs.Run.{IsRun}
-use Rattle.once_moments.specs.Kept.{most}
+use Rattle.async_once_cell.specs.Kept.{most}
 use Rattle.uses.proofs.Runs.{run_before}
 use Rattle.uses.proofs.told.told_alone.Goals as goal
 

@@ -2,7 +2,7 @@
 use Rattle.std.proofs.Common.{◌≡◌, ℕ, Bool, true, false, None, refl, rules, subst}
 use Rattle.once_queue.specs.declared.word.TheConstants.{MAX_WAITERS}
 use Rattle.once_core.specs.declared.step.Polled.{Polled}
-use Rattle.once_core.specs.Steps.{Step, UnderWay, Place, AtStart, AtTryQuick, AtRun, AtPut, AtFast, AtDoorTake, Progress, More, Ending, EndValue, PartsAsk, PartsTell, SideTells, Asks, AsksAt, Line, LeadsTo, Follows, MayClose, after_quick, after_run, after_fast, is_value}
+use Rattle.once_core.specs.Steps.{Step, UnderWay, Place, AtStart, AtTryQuick, AtRun, AtPut, AtFast, AtDoorTake, Progress, More, Ending, EndValue, PartsTell, SideTells, Asks, AsksAt, Line, LeadsTo, Follows, MayClose, after_quick, after_run, after_fast, is_value}
 use Rattle.once_core.specs.Chain.{Makes}
 use Rattle.once_core.specs.Chain.Makes.{none, next}
 use Rattle.once_core.proofs.step.Step.first_steps.Given.{Over}
@@ -39,27 +39,10 @@ put : {P S W Q : Type 0} {parts : PartsTell P W Q} {side : SideTells S W} {limit
     → Makes parts side limit from p s More (UnderWay (AtFast e)) r u
 put e m at_place d done filled = step (AtPut None) m at_place (d, done, refl, rw filled refl)
 
--- what the parts are asked
-abbrev asks_of : (g : Over) → PartsAsk g.row.P.Denot g.row.W.Denot g.row.Q.Denot
-asks_of g = record {
-  load = g.P.Parts.can_load;
-  quick = g.P.Parts.can_quick;
-  fast = g.P.Parts.can_fast;
-  count_in = g.P.Parts.can_count_in;
-  add_one = g.P.Parts.can_add_one;
-  count_out = g.P.Parts.can_count_out;
-  door_get = g.P.Parts.can_door_get;
-  door_put = g.P.Parts.can_door_put;
-  door_take = g.P.Parts.can_door_take;
-  section = g.P.Parts.can_section;
-  ran = g.P.Parts.can_ran;
-  put = g.P.Parts.can_put;
-}
-
 -- what is asked at the place of a step
 asked : (g : Over) (p : g.row.P.Denot) (s : g.row.S.Denot) (place : Place g.row.W.Denot g.row.Q.Denot) (at : Step g.row.W.Denot g.row.Q.Denot)
-    → at ≡ UnderWay place → Asks (asks_of g) g.S.Side.can_put MAX_WAITERS at p s → AsksAt (asks_of g) g.S.Side.can_put MAX_WAITERS place p s
-asked g p s place at is a = subst (λ at. Asks (asks_of g) g.S.Side.can_put MAX_WAITERS at p s) is a
+    → at ≡ UnderWay place → Asks g.P.Parts.can g.S.Side.can_put MAX_WAITERS at p s → AsksAt g.P.Parts.can g.S.Side.can_put MAX_WAITERS place p s
+asked g p s place at is a = subst (λ at. Asks g.P.Parts.can g.S.Side.can_put MAX_WAITERS at p s) is a
 
 pub start-told-requires : goal.start-told-requires
 start-told-requires g c = asked g _ _ AtStart _ (rw c.requires.new refl) (c.requires.asks More _ _ _ none)

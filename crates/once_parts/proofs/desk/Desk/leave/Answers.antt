@@ -8,7 +8,7 @@ use Rattle.once_parts.specs.Places.{leave_next}
 use Rattle.once_parts.specs.Sections.{passing}
 use Rattle.once_parts.specs.Own.{Did}
 use Rattle.once_parts.proofs.Desks.{did_after, leave_fits}
-use Rattle.once_moments.specs.Kept.{hands_out}
+use Rattle.once_parts.specs.Kept.{hands_out}
 use Rattle.once_parts.proofs.desk.Desk.leave.Goals as goal
 
 pub invariant_of-self : goal.invariant_of-self

@@ -5,7 +5,7 @@ use Rattle.once_queue.specs.Room.{listings_of}
 use Rattle.once_queue.specs.Sections.{Lists as DidList}
 use Rattle.once_world.specs.Book.{TaskState}
 use Rattle.once_world.specs.Machine.{claim_entries, is_claim, listed_ticket}
-use Rattle.once_moments.specs.Named.{named}
+use Rattle.once_parts.specs.Named.{named}
 use Rattle.once_parts.specs.Desk.{Desked, IsDesked, IsShown, desked}
 use Rattle.once_parts.specs.Hands.{own_of}
 use Rattle.once_parts.specs.Own.{Did}

@@ -4,7 +4,7 @@ use Rattle.std.specs.Option.{option_map}
 use Rattle.once_world.specs.Machine.{Ending, Step, UnderWay}
 use Rattle.once_world.specs.Machine.{AtStart, AtTryQuick, AtDoorGet, AtDoorPut, AtCountIn, AtWaitLoad, AtLook, AtList, AtRun}
 use Rattle.once_world.specs.Machine.{AtPut, AtFast, AtAddOne, AtDoorAgain, AtRelease, AtLeave, AtCountOut, AtDoorTake}
-use Rattle.once_moments.specs.Steps.{step_as}
+use Rattle.once_parts.specs.Steps.{step_as}
 
 module _ {C : Type 0} (h : ℕ → C) where
   -- AtStart

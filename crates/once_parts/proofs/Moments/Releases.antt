@@ -7,8 +7,8 @@ use Rattle.once_queue.specs.declared.waiters.Out.{Out}
 use Rattle.once_queue.specs.Listings.{left_list, next_waker, one_out, passes_turn, wakers_by, wakers_of}
 use Rattle.once_queue.specs.Sections.{HandsAll, HandsBy, Releases}
 use Rattle.once_world.specs.Machine.{release_list, release_wakers}
-use Rattle.once_moments.specs.Named.{named, named_one, named_out}
-use Rattle.once_moments.proofs.Named.{call_named, first_named, left_named, next_named, passes_named, wakers_named}
+use Rattle.once_parts.specs.Named.{named, named_one, named_out}
+use Rattle.once_parts.proofs.Moments.Named.{call_named, first_named, left_named, next_named, passes_named, wakers_named}
 
 module _ {W : Type 0} (same other : W → W → Type 0) (apart : (v w : W) → same v w → ⊥) where
   -- where no two wakers are told to be the same, the waker of a listing leaves it

@@ -15,8 +15,8 @@ use Rattle.once_world.proofs.Moment.Doors.{take_none}
 use Rattle.once_world.proofs.Moment.Numbers.{in_wraps, out_wraps}
 use Rattle.once_world.proofs.Moment.Step.{Stepped, told}
 use Rattle.once_world.proofs.Moment.Words.{add_one, count_full, count_in, count_out, fast_lost, fast_won, quick_lost, quick_won, start_load, wait_load}
-use Rattle.once_moments.specs.Kept.{IsKept, Leaves, hand, most, sheets}
-use Rattle.once_moments.proofs.Forms.{moves, put_moves}
+use Rattle.once_parts.specs.Kept.{IsKept, Leaves, hand, most, sheets}
+use Rattle.once_parts.proofs.Moments.Forms.{moves, put_moves}
 
 -- some task may be counted
 pub some : 0 < most

@@ -10,9 +10,9 @@ use Rattle.once_queue.specs.Listings.{kept_ticket, list_without, own_listing}
 use Rattle.once_queue.specs.Sections.{Lists as DidList, shows_free, shows_set, shows_taken}
 use Rattle.once_queue.proofs.Listing.Tickets.{own_none}
 use Rattle.once_world.specs.Machine.{head_after, list_answer, listed_list, listed_ticket, queue_state_by, state_seen}
-use Rattle.once_moments.specs.Named.{as_memory, named, ticket_left}
-use Rattle.once_moments.specs.Steps.{answer_as}
-use Rattle.once_moments.proofs.Named.{kept_named, list_named, ticket_named, without_named}
+use Rattle.once_parts.specs.Named.{as_memory, named, ticket_left}
+use Rattle.once_parts.specs.Steps.{answer_as}
+use Rattle.once_parts.proofs.Moments.Named.{kept_named, list_named, ticket_named, without_named}
 
 -- the flag
 head_by : (r q head l : Bool) → (head || cond r false (not (q || head))) ≡ head_after (list_answer (queue_state_by true r (q || head)) l) head

@@ -8,9 +8,9 @@ use Rattle.once_queue.specs.declared.waiters.Answer.TheVariants.{Ready, Claimed,
 use Rattle.once_queue.specs.Listings.{list_without, own_listing}
 use Rattle.once_queue.specs.Sections.{shows_free, shows_set, shows_taken}
 use Rattle.once_world.specs.Machine.{head_after, look_answer, looked_list, queue_state_by, state_seen}
-use Rattle.once_moments.specs.Named.{named, ticket_left}
-use Rattle.once_moments.specs.Steps.{answer_as}
-use Rattle.once_moments.proofs.Named.{uncalled_named, without_named}
+use Rattle.once_parts.specs.Named.{named, ticket_left}
+use Rattle.once_parts.specs.Steps.{answer_as}
+use Rattle.once_parts.proofs.Moments.Named.{uncalled_named, without_named}
 
 -- the answer: set, free and taken are three cases of which one holds
 answer_by : {W : Type 0} (r t l : Bool) (result : Answer W) → (r ≡ true → result ≡ Ready) → (cond r false (not t) ≡ true → result ≡ Claimed)

@@ -13,8 +13,8 @@ use Rattle.once_world.proofs.Moment.Calls.{value_put}
 use Rattle.once_world.proofs.Moment.Pages.{set_here}
 use Rattle.once_world.proofs.Moment.Step.{told}
 use Rattle.once_world.proofs.Told.Value.{StandsIn, WasFilled, filled_ready, put_alone, ready_written}
-use Rattle.once_moments.specs.Kept.{Grew, IsKept, IsState, Sheet, hand, most, pages_in, sheet, sheets, writing_sheet}
-use Rattle.once_moments.proofs.Moves.Words.{set_same, some}
+use Rattle.once_parts.specs.Kept.{Grew, IsKept, IsState, Sheet, hand, most, pages_in, sheet, sheets, writing_sheet}
+use Rattle.once_parts.proofs.Moments.Moves.Words.{set_same, some}
 
 -- a hand whose task writes the slot
 abbrev pub writing_hand : ℕ → TaskState → Held Sheet

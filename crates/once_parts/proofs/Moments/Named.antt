@@ -4,7 +4,7 @@ use Rattle.std.specs.Option.{is_some, option_flatten, option_map}
 use Rattle.once_queue.specs.Numbers.{member}
 use Rattle.once_queue.specs.declared.waiters.Listing.{Listing}
 use Rattle.once_queue.specs.Listings.{above_each, call_by, call_first, find_listing, first_by, first_waker, kept_by, kept_ticket, least_from, left_list, list_with, list_without, next_waker, own_listing, passes_turn, take_out, ticket_for, ticket_or, tickets, was_called, wakers_by, wakers_of}
-use Rattle.once_moments.specs.Named.{named, named_listing}
+use Rattle.once_parts.specs.Named.{named, named_listing}
 
 module _ {W : Type 0} (whose : W → ℕ) where
   -- the same tickets

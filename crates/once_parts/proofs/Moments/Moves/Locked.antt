@@ -19,11 +19,11 @@ use Rattle.once_world.proofs.Moment.Numbers.{release_more}
 use Rattle.once_world.proofs.Moment.Pages.{set_other, zero_one}
 use Rattle.once_world.proofs.Moment.Sections.{leave_load, list_load, look_load, release_add}
 use Rattle.once_world.proofs.Moment.Step.{Stepped, told}
-use Rattle.once_moments.specs.Kept.{IsKept, Leaves, has_passed, hands_out, locked, most, sheets}
-use Rattle.once_moments.proofs.Forms.{moves, notes, put_moves, telling_moves}
+use Rattle.once_parts.specs.Kept.{IsKept, Leaves, has_passed, hands_out, locked, most, sheets}
+use Rattle.once_parts.proofs.Moments.Forms.{moves, notes, put_moves, telling_moves}
 use Rattle.once_world.proofs.Told.Listings.{fill_hands_all}
-use Rattle.once_moments.proofs.Facts.{bare_at, door_at, look_is, passed_at, queue_at, unset_at}
-use Rattle.once_moments.proofs.Moves.Words.{set_same, some}
+use Rattle.once_parts.proofs.Moments.Facts.{bare_at, door_at, look_is, passed_at, queue_at, unset_at}
+use Rattle.once_parts.proofs.Moments.Moves.Words.{set_same, some}
 
 module _ (seen : List Entry) (made : ℕ) (door : Option ℕ) (head : Bool) (xs : List (Listing ℕ)) (t : ℕ) (x : TaskState) where
   -- the three pages after a step: the door's, the queue's and that of x at the step to which the table leads

@@ -12,9 +12,9 @@ use Rattle.once_world.proofs.Moment.Calls.{copy_refused, drop_begun, init_ran, l
 use Rattle.once_world.proofs.Moment.Doors.{put_refused}
 use Rattle.once_world.proofs.Moment.Step.{told}
 use Rattle.once_world.proofs.Told.Value.{WasFilled, ready_filled, ready_is_set}
-use Rattle.once_moments.specs.Kept.{Grew, IsKept, IsState, Leaves, Sheet, hand, most, pages_in, sheet, sheets, writing_sheet}
-use Rattle.once_moments.proofs.Forms.{notes, telling_moves}
-use Rattle.once_moments.proofs.Moves.Words.{some}
+use Rattle.once_parts.specs.Kept.{Grew, IsKept, IsState, Leaves, Sheet, hand, most, pages_in, sheet, sheets, writing_sheet}
+use Rattle.once_parts.proofs.Moments.Forms.{notes, telling_moves}
+use Rattle.once_parts.proofs.Moments.Moves.Words.{some}
 
 -- as many pages as sheets
 same_length : (ss : List Sheet) → length (pages_in ss) ≡ length ss

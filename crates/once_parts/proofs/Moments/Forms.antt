@@ -5,7 +5,7 @@ use Rattle.pagebook.specs.Pages.{Agrees, Apart, Held, Moves, Notes, put, rewritt
 use Rattle.once_world.specs.Record.{Entry}
 use Rattle.once_world.specs.Book.{IsBook, Page, TaskState}
 use Rattle.once_world.proofs.Moment.Pages.{set_other}
-use Rattle.once_moments.specs.Kept.{IsKept, IsState, Leaves, Sheet, most, pages_in, sheet, sheets, writing_sheet}
+use Rattle.once_parts.specs.Kept.{IsKept, IsState, Leaves, Sheet, most, pages_in, sheet, sheets, writing_sheet}
 
 -- the pages of a hand stand in the list
 abbrev pub AreOn : Held Page → List Page → Type 0

@@ -9,7 +9,7 @@ use Rattle.once_world.specs.Cell.{cell}
 use Rattle.once_core.specs.Steps.{next_at}
 use Rattle.once_world.specs.Tasks.{LastCall, last_call}
 use Rattle.once_queue.proofs.Listing.Members.{eqb_self}
-use Rattle.once_moments.specs.Kept.{has_passed, hands_out}
+use Rattle.once_parts.specs.Kept.{has_passed, hands_out}
 use Rattle.once_world.specs.Book.{At, Door, IsBook, Page, Queue, TaskState}
 use Rattle.once_world.specs.Machine.{AtCountOut, AtDoorTake, AtLeave, AtList, AtLook, AtRelease, EndDropped, EndMemory, Ending, Place, SharedState, UnderWay, look_answer, pass_entries, state_seen}
 use Rattle.once_world.proofs.History.Cells.{holder_unset, none_some, set_free}
