@@ -1,4 +1,4 @@
-//! What cells do on one thread, by their public calls alone.
+//! What cells do on one thread and between threads, and what a table of cells does, by their public calls alone.
 #![tactic(auto)]
 
 #[cfg(test)]
@@ -7,3 +7,9 @@ mod lazy;
 mod once;
 #[cfg(test)]
 mod pending;
+#[cfg(test)]
+mod table;
+#[cfg(test)]
+mod threads;
+#[cfg(test)]
+mod waits;
