@@ -2,9 +2,10 @@
 //! what a replay prints of whole schedules.
 //!
 //! `layers`, `ways`, `counting` and `left` show that each call can succeed, and what it does. `errors`, `rounds` and
-//! `threads` let several tasks use one cell. `inside` lets a future use its cell in the middle of one of its steps. `lockstep`
-//! and `random` play schedules over [`side_by_side`], which makes one step over shared and over plain parts, and compares
-//! the two. `replay` has scripts with their records.
+//! `threads` let several tasks use one cell. `inside` lets a future use its cell in the middle of one of its steps. `parts`
+//! has the parts of a cell alone, by hand and by whole calls of tasks. `lockstep` and `random` play schedules over
+//! [`side_by_side`], which makes one step over shared and over plain parts, and compares the two. `replay` has scripts with
+//! their records.
 #![tactic(auto)]
 
 #[cfg(test)]
@@ -21,6 +22,8 @@ mod layers;
 mod left;
 #[cfg(test)]
 mod lockstep;
+#[cfg(test)]
+mod parts;
 #[cfg(test)]
 mod random;
 #[cfg(test)]

@@ -2,8 +2,8 @@
 ghost use Rattle.std.specs.Prelude.{◌≡◌, ◌↔◌, ℕ, [], refl, false};
 ghost use Rattle.std.proofs.Common.{rules};
 
-use crate::side::{Bell, Called, NOBODY, Seen, TestSide};
-use crate::walks::{Caller, Cell, ERROR, MEMORY, PENDING, TWO, VALUE};
+use super::side::{Bell, Called, NOBODY, Seen, TestSide};
+use super::walks::{Caller, Cell, ERROR, MEMORY, PENDING, TWO, VALUE};
 use cell_doubles::text::shows;
 use once_core::step::{Ending, Polled, Side};
 use once_parts::{Mark, Task, TaskSide};

@@ -1,7 +1,7 @@
 // Two threads, each of which polls tasks of its own until they end.
 ghost use Rattle.std.specs.Prelude.{◌≡◌, ◌<◌, ◌^◌};
 
-use crate::walks::{Caller, Cell};
+use super::walks::{Caller, Cell};
 use once_core::step::{Ending, Polled};
 use std::alloc::{AllocError, AllocGlobal, Global};
 use std::sync::Wait;

@@ -2,7 +2,7 @@
 ghost use Rattle.std.specs.Prelude.{◌≡◌, ◌↔◌, false, ℕ};
 ghost use Rattle.once_parts.specs.Record.{EndsSet};
 
-use crate::side::{Bell, Called, NOBODY, Seen, TestSide};
+use super::side::{Bell, Called, NOBODY, Seen, TestSide};
 use cell_doubles::memory::hoard;
 use once_core::step::{Ending, Polled, Step};
 use once_parts::{Inner, Task};
