@@ -1,5 +1,6 @@
 //! Why the program gives up.
 
+use crate::from_rust;
 use async_once_cell::once::{InitError, Refused};
 use std::alloc::AllocError;
 use std::io;
@@ -26,6 +27,9 @@ pub enum Fault {
     /// Memory was refused.
     #[error("out of memory")]
     Memory(#[from(alloc)] AllocError),
+    /// A program of `from_rust` gave up.
+    #[error("{0}")]
+    FromRust(#[from] from_rust::Fault),
     /// The table gave up.
     #[error("{0}")]
     Table(#[from] memo_table::fault::Fault),

@@ -1,10 +1,11 @@
-//! What such cells are for: settings that are read once, a connection, a graph of values, a pool of tasks, a
-//! table, and settings that threads load anew.
+//! What such cells are for: what a Rust programmer writes with `async`, settings that are read once, a connection, a graph
+//! of values, a pool of tasks, a table, and settings that threads load anew.
 #![tactic(auto)]
 
 mod ask;
 mod connection;
 mod fault;
+mod from_rust;
 mod graph;
 mod pool;
 mod reload;
@@ -25,9 +26,10 @@ use std::time::Clock;
 
 fn run<R, O>(rt: &R, output: &mut O) -> Result<(), Fault>
 where
-    R: Files + Threads + Wait + RandomSource + AllocGlobal + Clock + Sync,
+    R: Print + Files + Threads + Wait + RandomSource + AllocGlobal + Clock + Sync,
     O: Write,
 {
+    from_rust::show(rt)?;
     settings::show(rt, output)?;
     connection::show(rt, output)?;
     graph::show(rt, output)?;

@@ -1,6 +1,6 @@
 //! A cell that threads share. It is a field of a value that is lent to them.
 
-use crate::own_error::Fault;
+use super::own_error::Fault;
 use async_once_cell::OnceCell;
 use futures::future::ready;
 use std::alloc::AllocGlobal;

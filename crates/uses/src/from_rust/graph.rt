@@ -1,6 +1,6 @@
 //! Two lazy cells, of which one asks the other.
 
-use crate::own_error::Fault;
+use super::own_error::Fault;
 use async_once_cell::{Lazy, LazyFuturePin, Refused};
 use futures::Future;
 use futures::future::ready;

@@ -1,6 +1,6 @@
 //! A cell that owns its init, which owns what it needs.
 
-use crate::own_error::Fault;
+use super::own_error::Fault;
 use async_once_cell::Lazy;
 use futures::Future;
 use futures::task::{Context, Poll};

@@ -2,7 +2,7 @@
 ghost use Rattle.std.specs.Prelude.{◌≡◌, Some, IfOk};
 ghost use Rattle.async_once_cell.specs.Tokens.{Agrees};
 
-use crate::own_error::Fault;
+use super::own_error::Fault;
 use async_once_cell::{Known, OnceCell};
 use futures::future::ready;
 use std::alloc::AllocGlobal;

@@ -1,6 +1,6 @@
 //! An init of one's own: the future that `async { .. }` would be.
 
-use crate::own_error::Fault;
+use super::own_error::Fault;
 use async_once_cell::OnceCell;
 use futures::Future;
 use futures::task::{Context, Poll};
