@@ -1,121 +1,19 @@
-//! Makes the records, pictures and tables of the scripts in data/ anew, and compares each with its file there.
+//! Compares what `once_view` shows: the files in data/ are made anew and compared with those there, and scripts at random
+//! are shown and read back.
 #![tactic(auto)]
 
-use once_view::{Format, show};
-use std::alloc::AllocGlobal;
-use std::fs::{self, Files};
+mod files;
+mod read_back;
+
+use std::io;
 use std::process::ExitCode;
-use std::{fmt, io};
-
-// What is made of a script.
-#[derive(Clone, Copy)]
-enum Product {
-    Record,
-    Picture,
-    Table,
-}
-
-impl Product {
-    // The ending of its file.
-    fn ending(self) -> &'static str {
-        match self {
-            Product::Record => "record",
-            Product::Picture => "svg",
-            Product::Table => "table",
-        }
-    }
-}
-
-// The scripts, and what is made of each.
-static SCRIPTS: [(&str, &[Product]); 9] = [
-    ("late_queue", &[Product::Record, Product::Picture]),
-    ("lazy_apart", &[Product::Record]),
-    ("lost_wake", &[Product::Record, Product::Picture]),
-    (
-        "one_call",
-        &[Product::Record, Product::Picture, Product::Table],
-    ),
-    ("queue_refused", &[Product::Record]),
-    ("release_beyond_the_limit", &[Product::Record]),
-    ("slow_path", &[Product::Record, Product::Picture]),
-    ("turn_passed_on", &[Product::Record]),
-    ("waker_copy_refused", &[Product::Record]),
-];
-
-// Why nothing was compared.
-#[derive(Drop)]
-enum Failure {
-    // A file can't be read, or there is no memory.
-    File(io::Error),
-    // There is no record of the script.
-    Replay(once_script::fault::Fault),
-    // There is no picture or table of it.
-    Show(once_view::fault::Fault),
-}
-
-impl fmt::Display for Failure {
-    fn fmt<W: fmt::Write>(&self, f: &mut fmt::Formatter<W>) -> fmt::Result {
-        match self {
-            Failure::File(error) => write!(f, "{error}"),
-            Failure::Replay(fault) => write!(f, "{fault}"),
-            Failure::Show(fault) => write!(f, "{fault}"),
-        }
-    }
-}
-
-impl From<io::Error> for Failure {
-    fn from(error: io::Error) -> Failure {
-        Failure::File(error)
-    }
-}
-
-impl From<once_script::fault::Fault> for Failure {
-    fn from(fault: once_script::fault::Fault) -> Failure {
-        Failure::Replay(fault)
-    }
-}
-
-impl From<once_view::fault::Fault> for Failure {
-    fn from(fault: once_view::fault::Fault) -> Failure {
-        Failure::Show(fault)
-    }
-}
-
-// All the bytes of a script, or of what was made of it.
-fn read<R: Files + AllocGlobal>(rt: &R, name: &str, ending: &str) -> io::Result<Vec<u8>> {
-    let path = format!(in rt.alloc(); "{name}.{ending}")?;
-    fs::read(rt, path)
-}
-
-// Whether the product's file has what is made of its script.
-fn is_same<R: Files + AllocGlobal>(rt: &R, name: &str, product: Product) -> Result<bool, Failure> {
-    let script = read(rt, name, "txt")?;
-    let mut made = Vec::new(rt.alloc());
-    match product {
-        Product::Record => once_script::run(rt.alloc(), script.as_slice(), &mut made)?,
-        Product::Picture => show(rt.alloc(), Format::Picture, &script, &mut made)?,
-        Product::Table => show(rt.alloc(), Format::Table, &script, &mut made)?,
-    }
-    Ok(read(rt, name, product.ending())? == made)
-}
 
 fn main(rt: HostRuntime) -> io::Result<ExitCode> {
-    let mut status = ExitCode::SUCCESS;
-    for (name, products) in &SCRIPTS {
-        for product in *products {
-            let ending = product.ending();
-            match is_same(&rt, name, *product) {
-                Ok(true) => println!(rt; "{name}.{ending}: the same")?,
-                Ok(false) => {
-                    println!(rt; "{name}.{ending}: differs")?;
-                    status = ExitCode::FAILURE;
-                }
-                Err(failure) => {
-                    println!(rt; "{name}.{ending}: {failure}")?;
-                    status = ExitCode::FAILURE;
-                }
-            }
-        }
-    }
-    Ok(status)
+    let are_same = files::compare(&rt)?;
+    read_back::run(&rt)?;
+    Ok(if are_same {
+        ExitCode::SUCCESS
+    } else {
+        ExitCode::FAILURE
+    })
 }

@@ -1,9 +1,9 @@
 //! A picture that is read back.
-use crate::fault::Fault;
-use crate::page::{Page, Shape, Word, length, most_room, take_at};
-use crate::story::{Bar, Mark, Story};
-use crate::svg::head_of;
-use crate::table::Window;
+use super::fault::Fault;
+use super::page::{Page, Shape, Word, length, most_room, take_at};
+use super::story::{Bar, Mark, Story};
+use super::svg::head_of;
+use super::table::Window;
 use std::alloc::{AllocError, Global};
 
 /// What a picture was found to have.

@@ -1,6 +1,6 @@
 //! A table that is read back.
-use crate::fault::Fault;
-use crate::story::{Line, Story};
+use super::fault::Fault;
+use super::story::{Line, Story};
 use std::alloc::{AllocError, Global};
 
 /// How many tasks a table has columns for.

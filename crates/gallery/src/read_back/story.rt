@@ -2,8 +2,8 @@
 ghost use Rattle.std.specs.Prelude.{OnOk};
 ghost use Rattle.once_world.specs.Reached.{IsReached};
 
-use crate::fault::Fault;
-use crate::words::{
+use super::fault::Fault;
+use super::words::{
     AnswerWord, Answers, FoundWord, RecordLine, ReplyWord, owner_word, stand_word, ticket_of,
 };
 use once_world::world::{Call, Entry, Input, Ran, Reply, World};

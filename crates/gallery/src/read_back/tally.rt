@@ -1,6 +1,6 @@
 //! How much was compared.
-use crate::picture::Found;
-use crate::story::Story;
+use super::picture::Found;
+use super::story::Story;
 use std::alloc::{AllocError, Global};
 use std::fmt;
 

@@ -1,8 +1,8 @@
 //! Scripts at random, from a seed.
-use crate::chance::Chance;
-use crate::fault::Fault;
-use crate::story::{Said, Story, text_of};
-use crate::words::{Answers, stand_word};
+use super::chance::Chance;
+use super::fault::Fault;
+use super::story::{Said, Story, text_of};
+use super::words::{Answers, stand_word};
 use once_world::world::{Call, Input, Kind, Ran, World};
 use std::alloc::{AllocError, Global};
 

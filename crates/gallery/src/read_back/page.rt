@@ -1,6 +1,6 @@
 //! Where things stand in a picture: its columns, lanes, shapes and words, by its own labels.
-use crate::fault::Fault;
-use crate::svg::{Element, Legend, Point, elements_of, points_of};
+use super::fault::Fault;
+use super::svg::{Element, Legend, Point, elements_of, points_of};
 use std::alloc::{AllocError, Global};
 
 /// So many, as a length.

@@ -6,7 +6,6 @@
 //! `1 100`. For each line one is printed: the same numbers, and how much was compared. At a picture or a
 //! table that differs the program says of which seed and how, and ends with the status 1. The same seed
 //! always gives the same script.
-#![tactic(auto)]
 
 use fault::Fault;
 use once_view::range::LineRange;
@@ -95,13 +94,9 @@ fn numbers_in(line: &str) -> Option<(u64, u64)> {
 }
 
 /// Reads back what each line of the input says.
-fn run<R: Input + Print + AllocGlobal>(rt: &R) -> io::Result<()> {
+pub fn run<R: Input + Print + AllocGlobal>(rt: &R) -> io::Result<()> {
     for line in rt.lines(rt.alloc()) {
         answer(rt, line?.as_str())?;
     }
     Ok(())
-}
-
-fn main(rt: HostRuntime) -> io::Result<()> {
-    run(&rt)
 }
