@@ -2,10 +2,10 @@
 //! what a replay prints of whole schedules.
 //!
 //! `layers`, `ways`, `counting` and `left` show that each call can succeed, and what it does. `errors`, `rounds` and
-//! `threads` let several tasks use one cell. `inside` lets a future use its cell in the middle of one of its steps. `parts`
-//! has the parts of a cell alone, by hand and by whole calls of tasks. `lockstep` and `random` play schedules over
-//! [`side_by_side`], which makes one step over shared and over plain parts, and compares the two. `replay` has scripts with
-//! their records.
+//! `threads` let several tasks use one cell. `inside` lets a future use its cell in the middle of one of its steps.
+//! `parts` has the parts of a cell alone, by hand and by whole calls of tasks. `lockstep` plays schedules over
+//! `side_by_side`, which makes one step over shared and over plain parts, and compares the two. `random` does the same
+//! to the list of those who wait and to a plain one. `replay` has scripts with their records.
 #![tactic(auto)]
 
 #[cfg(test)]
@@ -32,7 +32,8 @@ mod replay;
 mod rounds;
 #[cfg(test)]
 mod schedule;
-pub mod side_by_side;
+#[cfg(test)]
+mod side_by_side;
 #[cfg(test)]
 mod threads;
 #[cfg(test)]

@@ -1,5 +1,6 @@
-//! Worked schedules over shared and plain parts, and over shared parts whose memory is refused.
+//! Schedules over shared and plain parts, worked and at random, and over shared parts whose memory is refused.
 
+mod at_random;
 mod between;
 mod gated;
 mod rows;

@@ -1,31 +1,43 @@
-//! Schedules at random, from a seed: which task does what next.
+//! Schedules at random, from a seed: which task does what next. The same seed always gives the same schedule.
 
-use machine_tests::side_by_side::pair::{Fault, Pair, Shown, Stage, Woken};
-use machine_tests::side_by_side::walker::Cell;
+use crate::side_by_side::pair::{Fault, Pair, Shown, Stage, Woken};
+use crate::side_by_side::walker::Cell;
 use once_core::step::{Ending, Polled, Progress};
 use rand_core::{Rng, SeedableRng};
 use rand_xoshiro::Xoshiro256PlusPlus;
 use std::alloc::AllocGlobal;
 use std::fmt;
 use std::sync::Wait;
+use std::test::Fail;
+
+// How many turns the schedule of each seed has. `bench/lockstep` plays more.
+const TURNS: u64 = 5_000;
+
+// What the schedules of the first four seeds come to.
+const TALLIES: [&str; 4] = [
+    "3860 steps, 25 fills, 85 calls, 3 passes, 25 refusals, 47 cells",
+    "3932 steps, 14 fills, 94 calls, 5 passes, 33 refusals, 31 cells",
+    "3693 steps, 11 fills, 92 calls, 1 passes, 26 refusals, 33 cells",
+    "3816 steps, 12 fills, 99 calls, 4 passes, 36 refusals, 39 cells",
+];
 
 // How many tasks there are at once.
 const TASKS: usize = 4;
 
 /// What a schedule came to.
 #[derive(Clone, Copy)]
-pub struct Tally {
-    pub steps: u64,
+struct Tally {
+    steps: u64,
     /// How often the value was set, with the listings of the queue handed out.
-    pub fills: u64,
+    fills: u64,
     /// How often a failure, or a holder that was dropped, called one who waits.
-    pub calls: u64,
+    calls: u64,
     /// How often one who was called left, and passed its turn on.
-    pub passes: u64,
+    passes: u64,
     /// How many polls ended for want of memory for a copy of the waker.
-    pub refusals: u64,
+    refusals: u64,
     /// How many cells were played.
-    pub cells: u64,
+    cells: u64,
 }
 
 impl Tally {
@@ -230,8 +242,8 @@ impl Schedule {
     }
 }
 
-/// Plays so many turns of the schedule of a seed, and tells what they came to.
-pub fn play<R: Wait + AllocGlobal>(rt: &R, seed: u64, turns: u64) -> Result<Tally, Fault> {
+// Plays so many turns of the schedule of a seed, and tells what they came to.
+fn play<R: Wait + AllocGlobal>(rt: &R, seed: u64, turns: u64) -> Result<Tally, Fault> {
     let mut schedule = Schedule::new(seed, turns);
     for _ in 0..turns {
         if schedule.turns == 0 {
@@ -240,4 +252,15 @@ pub fn play<R: Wait + AllocGlobal>(rt: &R, seed: u64, turns: u64) -> Result<Tall
         schedule.cell(rt)?;
     }
     Ok(schedule.tally)
+}
+
+/// Shared and plain parts show the same after each step, and each schedule comes to what stands above.
+#[test]
+fn shared_and_plain_parts_agree(rt: HostRuntime) -> Result<(), Fail> {
+    for (seed, wanted) in (1u64..).zip(&TALLIES) {
+        let tally = play(&rt, seed, TURNS)?;
+        let told = format!(in rt.alloc(); "{tally}")?;
+        assert_eq!(rt; told.as_str(), *wanted, "of seed {seed}");
+    }
+    Ok(())
 }
