@@ -44,4 +44,4 @@ pub use Rattle.once_queue.specs.declared.log
 pub use Rattle.once_queue.specs.declared.waiters
 pub use Rattle.once_core.specs.declared.parts
 pub use Rattle.once_core.specs.declared.step
-pub use Rattle.once_record.specs.declared.world
+pub use Rattle.once_core.specs.declared.record

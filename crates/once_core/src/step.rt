@@ -16,7 +16,7 @@ mod waits;
 use crate::parts::Parts;
 use handed::wake;
 use once_queue::waiters::{Op, Out};
-use once_queue::word::{NEW, READY_BIT};
+use once_queue::word::Word;
 pub use place::{Place, Rest};
 use std::mem;
 
@@ -235,6 +235,8 @@ impl<W: Drop, Q: Drop> Step<W, Q> {
     }
 
     /// Makes one step of the call that is under way.
+    // A queue is taken out first. A place that keeps none is only looked at. A holder's place stays: its queue
+    // alone is taken out of it.
     #[inline(always)]
     pub fn advance<P: Parts<W, Queue = Q>, S: Side<W, Value = P::Value>>(
         &mut self,
@@ -249,8 +251,6 @@ impl<W: Drop, Q: Drop> Step<W, Q> {
         ensures line { Advances P.did S.did limit self.old parts.old side.old result self.new parts.new side.new }
         ensures stays { S.stays side.old side.new }
     {
-        // A queue is taken out first. A place that keeps none is only looked at. A holder's place stays: its
-        // queue alone is taken out of it.
         match *self {
             Step::UnderWay(Place::Start) => self.start(parts, side),
             Step::UnderWay(Place::TryQuick) => self.try_quick(parts),
@@ -275,24 +275,30 @@ impl<W: Drop, Q: Drop> Step<W, Q> {
                 parts.door_take();
                 self.end(ending)
             }
-            _ => {
-                let Step::UnderWay(place) = mem::replace(self, Step::Finished) else {
-                    unreachable!()
-                };
-                match place {
-                    Place::CountIn(queue) => self.count_in(queue, parts, side, limit),
-                    Place::WaitLoad(queue, ticket) => self.wait_load(queue, ticket, parts, side),
-                    Place::Look(queue, ticket) => self.look(queue, ticket, parts, side),
-                    Place::List(queue, ticket, waker) => self.list(
-                        queue, ticket, waker, parts, side,
-                    ),
-                    Place::Release(queue, ending) => self.release(queue, ending, parts, side),
-                    Place::Leave(queue, ticket, ending) => self.leave(
-                        queue, ticket, ending, parts, side,
-                    ),
-                    _ => unreachable!(),
-                }
-            }
+            _ => match self.take_place() {
+                Place::CountIn(queue) => self.count_in(queue, parts, side, limit),
+                Place::WaitLoad(queue, ticket) => self.wait_load(queue, ticket, parts, side),
+                Place::Look(queue, ticket) => self.look(queue, ticket, parts, side),
+                Place::List(queue, ticket, waker) => self.list(queue, ticket, waker, parts, side),
+                Place::Release(queue, ending) => self.release(queue, ending, parts, side),
+                Place::Leave(queue, ticket, ending) => self.leave(
+                    queue, ticket, ending, parts, side,
+                ),
+                _ => unreachable!(),
+            },
+        }
+    }
+
+    // Takes the place out of a step that is under way, so that what it keeps can be moved.
+    #[inline(always)]
+    fn take_place(&mut self) -> Place<W, Q>
+        requires { in_call self.old ≡ true }
+        ensures place { self.old ≡ Step.UnderWay result }
+        ensures left { self.new ≡ Step.Finished }
+    {
+        match mem::replace(self, Step::Finished) {
+            Step::UnderWay(place) => place,
+            _ => unreachable!(),
         }
     }
 
@@ -342,12 +348,12 @@ impl<W: Drop, Q: Drop> Step<W, Q> {
             × Follows S.did.close (after_start (flags_of w).ready (is_zero (flags_of w))) side.old side.new result self.new }
         ensures stays { S.stays side.old side.new }
     {
-        let word = parts.load();
-        if word >= READY_BIT {
+        let word = Word::from_bits(parts.load());
+        if word.is_ready() {
             side.close();
             return self.end(Ending::Value);
         }
-        if word == NEW {
+        if word.is_new() {
             return self.on(Place::TryQuick);
         }
         self.on(Place::DoorGet)
@@ -493,7 +499,7 @@ impl<W: Drop, Q: Drop> Step<W, Q> {
         ensures line { (w : ℕ) × P.did.count_out parts.old w parts.new
             × LeadsTo (after_count_out (is_ready_bit (flags_of w)) ending) result self.new }
     {
-        if parts.count_out() == READY_BIT {
+        if Word::from_bits(parts.count_out()).is_ready_alone() {
             return self.on(Place::DoorTake(ending));
         }
         self.end(ending)

@@ -12,9 +12,9 @@ use crate::book::{CellPens, CellWord};
 use crate::hand::Hand;
 use crate::mark::TaskWaker;
 use crate::under_lock::{note, put, release, see};
-use keyed_mutex::Keyed;
 use once_queue::waiters::{Answer, Lists, Out, WakerId};
 use once_queue::word::{QINIT_BIT, READY_BIT};
+use pagebook::Keyed;
 use std::marker::Model;
 
 /// The door, with the queue if one stands there, and the pens of the door's page and of the queue's. A clause

@@ -17,12 +17,11 @@ use crate::book::{CellRule, CellSlot, CellWord, Record};
 use crate::desk::Desk;
 use crate::hand::Hand;
 use crate::mark::{Mark, TaskWaker};
-use keyed_mutex::{Key, KeyedMutex};
 use once_core::parts::{Counted, Parts};
 use once_core::step::Polled;
 use once_queue::waiters::{Answer, Lists, Op};
-use once_queue::word::{READY_BIT, Word as Flags};
-use pagebook::{Slot, Word, Written};
+use once_queue::word::Word as Flags;
+use pagebook::{Key, KeyedMutex, Slot, Word, Written};
 use std::alloc::AllocGlobal;
 use std::fmt;
 use std::marker::Brand;
@@ -98,7 +97,7 @@ impl<T, W: TaskWaker + Drop> Inner<T, W> {
         ensures filled { is_some result ≡ true → WasFilled seen.new.log }
         ensures value { IfSome result (λ r. (r.0.now ≡ r.1.value) × (r.1.of ≡ self.now.slot.id)) }
     {
-        if self.load(seen) >= READY_BIT {
+        if Flags::from_bits(self.load(seen)).is_ready() {
             return Some(self.slot.get(seen));
         }
         None

@@ -8,7 +8,7 @@ ghost use Rattle.once_queue.specs.Listings.{tickets};
 ghost use Rattle.once_queue.specs.Sections.{AreApart, HandsAll};
 
 use crate::slots::Slots;
-use crate::word::{QINIT_BIT, READY_BIT};
+use crate::word::Word;
 use std::alloc::{AllocError, Global};
 use std::mem;
 
@@ -286,7 +286,8 @@ impl<W: WakerId + Drop> Lists<W> {
         ensures head { self.new.head ≡ self.old.head }
     {
         let mine = self.take_out(ticket)?;
-        if mine.waker.is_some() || word >= QINIT_BIT || self.head {
+        let word = Word::from_bits(word);
+        if mine.waker.is_some() || word.is_ready() || word.is_quick() || self.head {
             return None;
         }
         self.call_first()
@@ -339,10 +340,11 @@ impl<W: WakerId + Drop> Lists<W> {
             ≡ (if shows_free (flags_of word) self.old.head then None else ticket.old) }
         ensures room { shows_free (flags_of word) self.old.head ≡ false → self.new ≡ self.old }
     {
-        if word >= READY_BIT {
+        let word = Word::from_bits(word);
+        if word.is_ready() {
             return Some(Answer::Ready);
         }
-        if word >= QINIT_BIT || self.head {
+        if word.is_quick() || self.head {
             return None;
         }
         if let Some(mine) = ticket.take() {

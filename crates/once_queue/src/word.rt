@@ -35,7 +35,7 @@ impl Model for Word {
 }
 
 impl Word {
-    ghost use Rattle.once_queue.specs.Word.{flags_of, flags_alone, is_zero, is_quick_bit};
+    ghost use Rattle.once_queue.specs.Word.{flags_of, flags_alone, is_zero, is_quick_bit, is_ready_bit};
 
     /// The word of a new cell, which is made with a value or not. Nobody is counted in.
     #[inline(always)]
@@ -85,6 +85,22 @@ impl Word {
         ensures { result ≡ self.now.quick }
     {
         self.bits % READY_BIT >= QINIT_BIT
+    }
+
+    /// Whether the word is `NEW`.
+    #[inline(always)]
+    pub fn is_new(&self) -> bool
+        ensures { result ≡ is_zero self.now }
+    {
+        self.bits == NEW
+    }
+
+    /// Whether the word is exactly the ready bit: the cell has its value, and nobody is counted in.
+    #[inline(always)]
+    pub fn is_ready_alone(&self) -> bool
+        ensures { result ≡ is_ready_bit self.now }
+    {
+        self.bits == READY_BIT
     }
 
     /// Exchanges `NEW` for the quick bit.

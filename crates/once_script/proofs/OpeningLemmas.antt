@@ -1,7 +1,7 @@
 use Rattle.std.proofs.Common.{◌≡◌, ◌<◌, ◌∷◌, ℕ, List, [], length, arith, refl}
 use Rattle.std.specs.Prelude.{Option, Some, None, MatchOption, IfSome, IsSome}
-use Rattle.once_record.specs.declared.world.Kind.{Kind}
-use Rattle.once_record.specs.declared.world.Kind.TheVariants.{Once, OnceWith, Lazy, LazyWith}
+use Rattle.once_core.specs.declared.record.Kind.{Kind}
+use Rattle.once_core.specs.declared.record.Kind.TheVariants.{Once, OnceWith, Lazy, LazyWith}
 use Rattle.once_script.specs.declared.parse.Opening.{Opening}
 use Rattle.once_script.specs.Number.{limit_of}
 use Rattle.once_script.specs.Answer.{AreAnswers}

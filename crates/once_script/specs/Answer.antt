@@ -1,7 +1,7 @@
 use Rattle.std.specs.Prelude.{ℕ, List, [], ◌∷◌, ◌++◌, ◌≡◌, ◌==◌, codes, Option, Some, None}
 use Rattle.std.specs.List.{slice_split}
-use Rattle.once_record.specs.declared.world.Ran.{Ran}
-use Rattle.once_record.specs.declared.world.Ran.TheVariants.{Pending, Value, Error}
+use Rattle.once_core.specs.declared.record.Ran.{Ran}
+use Rattle.once_core.specs.declared.record.Ran.TheVariants.{Pending, Value, Error}
 use Rattle.once_script.specs.Number.{number_of}
 
 -- a text is this answer

@@ -1,13 +1,13 @@
 //! The text of a script, line by line.
 ghost use Rattle.std.specs.Prelude.{◌≡◌, ◌≢◌, ◌<◌, ◌≤◌, ◌-◌, ◌^◌, ◌++◌, IfOk, IfSome, IsSome, MatchOption, Bool, ℕ, Option, codes};
-ghost use Rattle.once_record.specs.declared.world.Ran.{Ran};
-ghost use Rattle.once_record.specs.declared.world.Call.{Call};
-ghost use Rattle.once_record.specs.declared.world.Kind.{Kind};
+ghost use Rattle.once_core.specs.declared.record.Ran.{Ran};
+ghost use Rattle.once_core.specs.declared.record.Call.{Call};
+ghost use Rattle.once_core.specs.declared.record.Kind.{Kind};
 ghost use Rattle.once_script.specs.Number.{limit_of};
 ghost use Rattle.once_script.specs.Script.{lines_in, IsScript, IsFirstUnreadable};
 ghost use Rattle.once_script.specs.Text.{IsWith, IsOpening, IsOnce, IsLazy, IsPair, IsGiven, IsStep, IsLine};
-ghost use Rattle.once_record.specs.declared.world.Call.TheVariants.{Take, Write, Parts};
-ghost use Rattle.once_record.specs.declared.world.Input.TheVariants.{Make, Poll, Drop, Go, Look, Own};
+ghost use Rattle.once_core.specs.declared.record.Call.TheVariants.{Take, Write, Parts};
+ghost use Rattle.once_core.specs.declared.record.Input.TheVariants.{Make, Poll, Drop, Go, Look, Own};
 ghost use Rattle.once_script.specs.declared.parse.Line.{Line};
 ghost use Rattle.once_script.specs.declared.parse.Line.TheVariants.{Single, Run};
 
@@ -15,7 +15,7 @@ use crate::fault::Fault;
 use answers::{parse_answer, parse_answers};
 use lines::{opening_in, parse_lines, split_lines};
 use number::{parse_limit, parse_number};
-use once_record::world::{Call, Input, Kind, Ran};
+use once_core::record::{Call, Input, Kind, Ran};
 use std::alloc::{AllocError, Global};
 
 mod answers;

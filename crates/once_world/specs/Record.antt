@@ -1,9 +1,9 @@
 -- What a record tells. A list of entries is a history here: the newest entry stands first.
 use Rattle.std.specs.Prelude.{ℕ, Bool, true, false, not, ◌==◌, List, [], ◌∷◌, Option}
-pub use Rattle.once_record.specs.declared.world.Ran.{Ran as Answer}
-pub use Rattle.once_record.specs.declared.world.Ran.TheVariants.{Pending as RanPending, Value as RanValue, Error as RanError}
-pub use Rattle.once_record.specs.declared.world.Reply.{Reply}
-pub use Rattle.once_record.specs.declared.world.Reply.TheVariants.{Pending, Value, Error, Memory, Full}
+pub use Rattle.once_core.specs.declared.record.Ran.{Ran as Answer}
+pub use Rattle.once_core.specs.declared.record.Ran.TheVariants.{Pending as RanPending, Value as RanValue, Error as RanError}
+pub use Rattle.once_core.specs.declared.record.Reply.{Reply}
+pub use Rattle.once_core.specs.declared.record.Reply.TheVariants.{Pending, Value, Error, Memory, Full}
 
 -- the kinds of cell: empty or with a value, and either each caller brings an init, or the cell owns one init that gives these answers (None is pending, Some v is the value v)
 pub data Kind : Type 0 where

@@ -6,23 +6,23 @@ use Rattle.once_queue.specs.declared.waiters.Out.{Out}
 use Rattle.once_queue.specs.declared.waiters.Out.TheVariants.{One, All}
 use Rattle.once_queue.specs.Listings.{one_out, wakers_of}
 use Rattle.once_queue.specs.Room.{listings_of}
-use Rattle.once_record.specs.declared.world.Kind.{Kind as GivenKind}
-use Rattle.once_record.specs.declared.world.Kind.TheVariants.{Once as GivenOnce, OnceWith as GivenOnceWith}
-use Rattle.once_record.specs.declared.world.Kind.TheVariants.{Lazy as GivenLazy, LazyWith as GivenLazyWith}
-use Rattle.once_record.specs.declared.world.Call.{Call}
-use Rattle.once_record.specs.declared.world.Call.TheVariants.{Take as CallTake, Write as CallWrite, Parts as CallParts}
-use Rattle.once_record.specs.declared.world.Call.TheVariants.{ReplaceValue as CallReplaceValue, ReplaceAnswers as CallReplaceAnswers}
-use Rattle.once_record.specs.declared.world.Got.{Got as GivenGot}
-use Rattle.once_record.specs.declared.world.Got.TheVariants.{None as NoneGot, Value as ValueGot, Answers as AnswersGot}
-use Rattle.once_record.specs.declared.world.Input.{Input as GivenInput}
-use Rattle.once_record.specs.declared.world.Input.TheVariants.{Make as InputMake, Poll as InputPoll, Drop as InputDrop}
-use Rattle.once_record.specs.declared.world.Input.TheVariants.{Go as InputGo, Look as InputLook, Own as InputOwn}
-use Rattle.once_record.specs.declared.world.Entry.{Entry as Written}
-use Rattle.once_record.specs.declared.world.Entry.TheVariants.{Made as WrittenMade, Begin as WrittenBegin, Claim as WrittenClaim}
-use Rattle.once_record.specs.declared.world.Entry.TheVariants.{Ran as WrittenRan, Free as WrittenFree, Fill as WrittenFill}
-use Rattle.once_record.specs.declared.world.Entry.TheVariants.{Pass as WrittenPass, End as WrittenEnd, DropBegin as WrittenDropBegin}
-use Rattle.once_record.specs.declared.world.Entry.TheVariants.{DropEnd as WrittenDropEnd, Look as WrittenLook, Own as WrittenOwn}
-use Rattle.once_record.specs.declared.world.Record.{Record as GivenRecord}
+use Rattle.once_core.specs.declared.record.Kind.{Kind as GivenKind}
+use Rattle.once_core.specs.declared.record.Kind.TheVariants.{Once as GivenOnce, OnceWith as GivenOnceWith}
+use Rattle.once_core.specs.declared.record.Kind.TheVariants.{Lazy as GivenLazy, LazyWith as GivenLazyWith}
+use Rattle.once_core.specs.declared.record.Call.{Call}
+use Rattle.once_core.specs.declared.record.Call.TheVariants.{Take as CallTake, Write as CallWrite, Parts as CallParts}
+use Rattle.once_core.specs.declared.record.Call.TheVariants.{ReplaceValue as CallReplaceValue, ReplaceAnswers as CallReplaceAnswers}
+use Rattle.once_core.specs.declared.record.Got.{Got as GivenGot}
+use Rattle.once_core.specs.declared.record.Got.TheVariants.{None as NoneGot, Value as ValueGot, Answers as AnswersGot}
+use Rattle.once_core.specs.declared.record.Input.{Input as GivenInput}
+use Rattle.once_core.specs.declared.record.Input.TheVariants.{Make as InputMake, Poll as InputPoll, Drop as InputDrop}
+use Rattle.once_core.specs.declared.record.Input.TheVariants.{Go as InputGo, Look as InputLook, Own as InputOwn}
+use Rattle.once_core.specs.declared.record.Entry.{Entry as Written}
+use Rattle.once_core.specs.declared.record.Entry.TheVariants.{Made as WrittenMade, Begin as WrittenBegin, Claim as WrittenClaim}
+use Rattle.once_core.specs.declared.record.Entry.TheVariants.{Ran as WrittenRan, Free as WrittenFree, Fill as WrittenFill}
+use Rattle.once_core.specs.declared.record.Entry.TheVariants.{Pass as WrittenPass, End as WrittenEnd, DropBegin as WrittenDropBegin}
+use Rattle.once_core.specs.declared.record.Entry.TheVariants.{DropEnd as WrittenDropEnd, Look as WrittenLook, Own as WrittenOwn}
+use Rattle.once_core.specs.declared.record.Record.{Record as GivenRecord}
 use Rattle.once_queue.specs.declared.log.QueueLine.{QueueLine}
 use Rattle.once_world.specs.declared.world.cell.ReplayCell.{ReplayCell}
 use Rattle.once_world.specs.declared.world.cell.StepSeen.{StepSeen}

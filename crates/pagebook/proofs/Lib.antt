@@ -5,3 +5,4 @@ pub mod State
 pub mod Value
 pub mod Share
 pub mod Walk
+pub mod Locks

@@ -1,3 +1,4 @@
 pub mod Pages
 pub mod Owned
 pub mod Slot
+pub mod LockRows

@@ -28,6 +28,7 @@
 //! - `Slot` is a place for one value, whose state is a word of the book. By the rule nothing can refuse to
 //!   put the value, and whoever has seen that it was put gets it with no test. `Written` is a token that
 //!   shows for good what it is.
+//! - `KeyedMutex` is a lock whose content is of a book, as pens are. A clause can name that book, and no type has to.
 //!
 //! # How a structure is made of it
 //!
@@ -96,12 +97,16 @@
 //! the kit's `boxcar`. The proofs of what a `&` is, and those of `Slot`, follow theirs closely.
 #![tactic(auto)]
 
+mod lock;
 mod rule;
 mod slot;
+mod tied;
 mod tokens;
 mod word;
 
+pub use lock::KeyedMutex;
 pub use rule::{Opening, Play, Rule};
 pub use slot::{Blank, Slot, Written};
+pub use tied::{Key, Keyed, LockOf, Tied};
 pub use tokens::{Pens, Seen};
 pub use word::Word;

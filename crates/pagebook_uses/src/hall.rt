@@ -6,8 +6,7 @@ ghost use Rattle.pagebook_uses.specs.Hall.{IsKept};
 ghost use Rattle.pagebook_uses.specs.declared.hall.Page.{Page};
 ghost use Rattle.pagebook_uses.specs.declared.hall.Page.TheVariants.{AtDesk};
 
-use keyed_mutex::{Key, Keyed, KeyedMutex};
-use pagebook::{Opening, Pens, Play, Rule, Seen, Word};
+use pagebook::{Key, Keyed, KeyedMutex, Opening, Pens, Play, Rule, Seen, Word};
 use std::marker::{Brand, Model};
 use std::sync::Wait;
 use std::thread::{Threads, join};

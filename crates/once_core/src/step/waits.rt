@@ -9,7 +9,7 @@ use super::place::{Place, Rest};
 use super::{Ending, Progress, Side, Step};
 use crate::parts::{Counted, Parts};
 use once_queue::waiters::{Answer, Op};
-use once_queue::word::READY_BIT;
+use once_queue::word::Word;
 
 impl<W: Drop, Q: Drop> Step<W, Q> {
     ghost use Rattle.once_core.specs.declared.parts.Counted.{Counted};
@@ -32,7 +32,7 @@ impl<W: Drop, Q: Drop> Step<W, Q> {
         ensures stays { S.stays side.old side.new }
     {
         match parts.count_in(limit) {
-            Counted::In(word) if word >= READY_BIT => {
+            Counted::In(word) if Word::from_bits(word).is_ready() => {
                 side.close();
                 self.on(Place::CountOut(Ending::Value))
             }
@@ -61,7 +61,7 @@ impl<W: Drop, Q: Drop> Step<W, Q> {
             × Follows S.did.close (after_load (flags_of w).ready queue ticket) side.old side.new result self.new }
         ensures stays { S.stays side.old side.new }
     {
-        if parts.load() >= READY_BIT {
+        if Word::from_bits(parts.load()).is_ready() {
             side.close();
             return self.on(Place::CountOut(Ending::Value));
         }

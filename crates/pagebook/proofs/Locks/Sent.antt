@@ -1,8 +1,8 @@
 -- A lock whose type names its key is `Send` and `Sync` where its content is `Send`.
-use Rattle.keyed_mutex.specs.contracts.tied.LockOf
-use Rattle.keyed_mutex.specs.contracts.tied.Tied
-use Rattle.keyed_mutex.specs.declared.tied.Key
-use Rattle.keyed_mutex.specs.declared.tied.Keyed
+use Rattle.pagebook.specs.contracts.tied.LockOf
+use Rattle.pagebook.specs.contracts.tied.Tied
+use Rattle.pagebook.specs.declared.tied.Key
+use Rattle.pagebook.specs.declared.tied.Keyed
 use Rattle.std.proofs.sync.Mutex.TheSendSync as mutex
 use Rattle.std.proofs.marker.PhantomData.TheSendSync as marker
 use denote.Param.Send.{IsSend, IsSync, struct_send, struct_sync, recorded_send, recorded_sync}

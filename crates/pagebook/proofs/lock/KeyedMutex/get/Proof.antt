@@ -21,12 +21,12 @@ use denote.Builtin.{RefOf}
 use denote.Ref.{shr_vals, shr_Tells}
 use denote.Triple.Walked.{Stays, stay_dropped, walk_of, Goes-dropped, ends_at}
 use Rattle.std.specs.contracts.marker.Brand as Brand
-use Rattle.keyed_mutex.proofs.Same.{shared}
-use Rattle.keyed_mutex.specs.contracts.lock.KeyedMutex.{the_row}
-use Rattle.keyed_mutex.specs.contracts.lock.KeyedMutex.get.{ended, clauses}
-use Rattle.keyed_mutex.specs.contracts.lock.KeyedMutex.get.Key.{name as #self}
-use Rattle.keyed_mutex.proofs.lock.KeyedMutex.get.Statement.{statement}
-use Rattle.keyed_mutex.proofs.lock.KeyedMutex.get.Code as code
+use Rattle.pagebook.proofs.Locks.Same.{shared}
+use Rattle.pagebook.specs.contracts.lock.KeyedMutex.{the_row}
+use Rattle.pagebook.specs.contracts.lock.KeyedMutex.get.{ended, clauses}
+use Rattle.pagebook.specs.contracts.lock.KeyedMutex.get.Key.{name as #self}
+use Rattle.pagebook.proofs.lock.KeyedMutex.get.Statement.{statement}
+use Rattle.pagebook.proofs.lock.KeyedMutex.get.Code as code
 
 pub get_spec : {M : Type 1} → statement M
 get_spec 𝓤 𝓛 𝓜 𝓡 wired T J L LJ g gd h hd _ _ =

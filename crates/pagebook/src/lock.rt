@@ -1,7 +1,26 @@
-// The lock that hides its key.
+//! A lock whose content knows of which book it is, while no type names the book.
+//!
+//! What lies under a lock may own pens of a book, or know what was seen of it. Whoever takes the lock has to know
+//! that they are of the book that his own words and tokens are of. A type parameter could name the book, but then
+//! every struct around the lock has that parameter, and nobody can make a book while a program runs. So the name of
+//! the book is a value here: a clause sees a `KeyedMutex` as the `Book` that its content is of, and two locks of two
+//! books have one type.
+//!
+//! ```text
+//! pub struct Desk { entered: u64, pens: Pens<Page> }
+//! impl Keyed for Desk { ghost key_of = { λ d. d.pens.book }; }        // which book a desk is of
+//!
+//! pub struct Hall { word: Word<Entry, Page, Law>, desk: KeyedMutex<Desk>, ghost same: { desk ≡ word.book } }
+//!
+//! fn locked<J: Key, R: Wait>(rt: &R, hall: &Hall) requires { hall.now.word.book ≡ J.key } {
+//!     let mut held = hall.desk.lock::<J, R>(rt);      // held.value is a Desk, and its pens are of the book J.key
+//! }
+//! ```
+//!
+//! `J` is a name that stands in one call alone. CALLING.md says how its caller picks it.
 ghost use Rattle.std.specs.Prelude.{◌≡◌};
 ghost use Rattle.pagebook.specs.Pages.{Book, book_coded};
-ghost use Rattle.keyed_mutex.specs.Rows.{lock_owns, lock_shares};
+ghost use Rattle.pagebook.specs.LockRows.{lock_owns, lock_shares};
 
 use crate::tied::{Key, Keyed, LockOf, Tied, opened, sealed};
 use core::mem::replace_with;

@@ -33,17 +33,17 @@ use Rattle.std.specs.contracts.marker.Brand as Brand
 use Rattle.std.proofs.marker.Brand.TheLaws as brand
 use Rattle.std.specs.contracts.sync.Mutex as M-row
 use Rattle.std.proofs.sync.Mutex.TheLaws as M-laws
-use Rattle.keyed_mutex.proofs.Marker.{marker, marker_laws, dict}
-use Rattle.keyed_mutex.specs.contracts.tied.Tied as T-row
-use Rattle.keyed_mutex.proofs.tied.Tied.TheLaws as T-laws
-use Rattle.keyed_mutex.specs.declared.tied.Key as Key
-use Rattle.keyed_mutex.specs.contracts.tied.opened as callee
-use Rattle.keyed_mutex.proofs.tied.opened.Met.{met}
-use Rattle.keyed_mutex.specs.contracts.lock.KeyedMutex.{the_row}
-use Rattle.keyed_mutex.specs.contracts.lock.KeyedMutex.into_inner.{ended, clauses}
-use Rattle.keyed_mutex.specs.contracts.lock.KeyedMutex.into_inner.Key.{name as #self}
-use Rattle.keyed_mutex.proofs.lock.KeyedMutex.into_inner.Statement.{statement}
-use Rattle.keyed_mutex.proofs.lock.KeyedMutex.into_inner.Code as code
+use Rattle.pagebook.proofs.Locks.Marker.{marker, marker_laws, dict}
+use Rattle.pagebook.specs.contracts.tied.Tied as T-row
+use Rattle.pagebook.proofs.tied.Tied.TheLaws as T-laws
+use Rattle.pagebook.specs.declared.tied.Key as Key
+use Rattle.pagebook.specs.contracts.tied.opened as callee
+use Rattle.pagebook.proofs.tied.opened.Met.{met}
+use Rattle.pagebook.specs.contracts.lock.KeyedMutex.{the_row}
+use Rattle.pagebook.specs.contracts.lock.KeyedMutex.into_inner.{ended, clauses}
+use Rattle.pagebook.specs.contracts.lock.KeyedMutex.into_inner.Key.{name as #self}
+use Rattle.pagebook.proofs.lock.KeyedMutex.into_inner.Statement.{statement}
+use Rattle.pagebook.proofs.lock.KeyedMutex.into_inner.Code as code
 
 pub into_inner_spec : {M : Type 1} → statement M
 into_inner_spec 𝓤 𝓛 𝓜 𝓡 wired T L g gd gm =
@@ -82,7 +82,7 @@ into_inner_spec 𝓤 𝓛 𝓜 𝓡 wired T L g gd gm =
     sets ! (of_opd ! (get_in ! (fld ! refl (stop !)) (sub ! 0 refl (whole !)))) refl got.2 $
     sets ! (of_opd ! (get ! refl)) refl got.2 $
     calls_at ! (framed 𝓤 H 𝓜 𝓣) k (met 𝓤 𝓛 𝓜 𝓡
-    (code.calls-keyed_mutex::tied::opened 𝓡.env wired) T marker L marker_laws g gd h dict gm (record {})) y
+    (code.calls-pagebook::tied::opened 𝓡.env wired) T marker L marker_laws g gd h dict gm (record {})) y
     (and_then ! (get ! refl) (no_more !)) (λ u.
     use1 𝓛 (later (some (λ (r : R.Denot).
     ((‵ (flft κ q) ⊛ ‵ (flft [] full_share) ⊛ ‵ ftrue) ⊛ ‵ (R.own_val r (u ∷ [])))

@@ -1,5 +1,5 @@
 use Rattle.std.proofs.Common.{◌∙◌}
-use Rattle.keyed_mutex.proofs.lock.fn.KeyedMutex.get_mut.replace_with.Goals as goal
+use Rattle.pagebook.proofs.lock.fn.KeyedMutex.get_mut.replace_with.Goals as goal
 
 -- what was handed out has the lock's key, and so has what comes back
 pub returns : goal.returns

@@ -24,13 +24,13 @@ use base.Fml.{fleft}
 use mir.Raw.{raw, raws}
 use denote.Struct.Struct.{to_tys}
 use mathlib.Core.List.{◌++◌}
-use Rattle.keyed_mutex.specs.contracts.tied.Tied as T-row
-use Rattle.keyed_mutex.specs.contracts.tied.LockOf as L-row
+use Rattle.pagebook.specs.contracts.tied.Tied as T-row
+use Rattle.pagebook.specs.contracts.tied.LockOf as L-row
 use denote.Model.Placed.{some_Along}
 use Rattle.pagebook.specs.Pages.{book_coded}
-use Rattle.keyed_mutex.specs.declared.tied.Keyed as Keyed
-use Rattle.keyed_mutex.specs.declared.tied.Key as Key
-use Rattle.keyed_mutex.specs.declared.tied.Tied.{Tied}
+use Rattle.pagebook.specs.declared.tied.Keyed as Keyed
+use Rattle.pagebook.specs.declared.tied.Key as Key
+use Rattle.pagebook.specs.declared.tied.Tied.{Tied}
 
 module _ (X Y Z : Type 0) (g : Keyed.Ghosts X) (h : Key.Ghosts Y) (k : Key.Ghosts Z) (e : h.key ≡ k.key) where
   -- a value that has the key of the one has that of the other

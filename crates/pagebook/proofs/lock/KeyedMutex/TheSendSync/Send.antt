@@ -2,9 +2,9 @@
 use denote.RattleType.{RattleType}
 use denote.Param.Send.{IsSend}
 use Rattle.std.specs.contracts.marker.Brand as Brand
-use Rattle.keyed_mutex.specs.declared.tied.Keyed.{Ghosts}
-use Rattle.keyed_mutex.specs.contracts.lock.KeyedMutex.{the_row}
-use Rattle.keyed_mutex.proofs.Sent.{lock_send}
+use Rattle.pagebook.specs.declared.tied.Keyed.{Ghosts}
+use Rattle.pagebook.specs.contracts.lock.KeyedMutex.{the_row}
+use Rattle.pagebook.proofs.Locks.Sent.{lock_send}
 
 pub send : (T : RattleType) (g : Ghosts T.Denot) → IsSend T → IsSend (the_row T g)
 send T g s = record {

@@ -5,10 +5,10 @@ use contract.BorrowLft.{⊑_static}
 use denote.Memory.{part_of}
 use Rattle.std.specs.contracts.marker.Brand as Brand
 use Rattle.std.proofs.marker.Brand.TheLaws as brand
-use Rattle.keyed_mutex.specs.declared.tied.Keyed.{Ghosts}
-use Rattle.keyed_mutex.proofs.tied.LockOf.TheLaws as lock_of
-use Rattle.keyed_mutex.proofs.lock.KeyedMutex.TheInside.TheLaws as inside
-use Rattle.keyed_mutex.proofs.lock.KeyedMutex.TheLaw.Statement.{statement}
+use Rattle.pagebook.specs.declared.tied.Keyed.{Ghosts}
+use Rattle.pagebook.proofs.tied.LockOf.TheLaws as lock_of
+use Rattle.pagebook.proofs.lock.KeyedMutex.TheInside.TheLaws as inside
+use Rattle.pagebook.proofs.lock.KeyedMutex.TheLaw.Statement.{statement}
 
 pub shares : (T : RattleType) (g : Ghosts T.Denot) (L : Laws T) → statement T g L
 unfolding part_of

@@ -6,7 +6,7 @@ use denote.RattleType.{RattleType}
 use denote.RawPtr.{Ptr, block_ptr, null_ptr}
 use Rattle.std.specs.contracts.marker.Brand as Brand
 use Rattle.pagebook.specs.Pages.{Book}
-use Rattle.keyed_mutex.specs.contracts.tied.LockOf as LockOf
+use Rattle.pagebook.specs.contracts.tied.LockOf as LockOf
 
 module _ (R : RattleType) (key_of : R.Denot → Book) (k : Book) where
   -- the lock that names k

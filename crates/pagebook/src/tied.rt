@@ -1,4 +1,4 @@
-// A value that is known to have a key, and a lock of one.
+//! A value that is known to have a key, and a lock of one.
 ghost use Rattle.std.specs.Prelude.{◌≡◌};
 ghost use Rattle.pagebook.specs.Pages.{Book};
 

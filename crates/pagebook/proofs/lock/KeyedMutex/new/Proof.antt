@@ -35,19 +35,19 @@ use Rattle.std.specs.contracts.marker.Brand as Brand
 use Rattle.std.proofs.marker.Brand.TheLaws as brand
 use Rattle.std.specs.contracts.sync.Mutex as M-row
 use Rattle.std.proofs.sync.Mutex.TheLaws as M-laws
-use Rattle.keyed_mutex.proofs.Marker.{marker, marker_laws, dict}
-use Rattle.keyed_mutex.specs.contracts.tied.Tied as T-row
-use Rattle.keyed_mutex.proofs.tied.Tied.TheLaws as T-laws
-use Rattle.keyed_mutex.specs.contracts.tied.LockOf as L-row
-use Rattle.keyed_mutex.proofs.tied.LockOf.TheLaws as L-laws
-use Rattle.keyed_mutex.specs.declared.tied.Key as Key
-use Rattle.keyed_mutex.specs.contracts.tied.sealed as callee
-use Rattle.keyed_mutex.proofs.tied.sealed.Met.{met}
-use Rattle.keyed_mutex.specs.contracts.lock.KeyedMutex.{the_row}
-use Rattle.keyed_mutex.specs.contracts.lock.KeyedMutex.new.{ended, clauses}
-use Rattle.keyed_mutex.specs.contracts.lock.KeyedMutex.new.Key.{name as #self}
-use Rattle.keyed_mutex.proofs.lock.KeyedMutex.new.Statement.{statement}
-use Rattle.keyed_mutex.proofs.lock.KeyedMutex.new.Code as code
+use Rattle.pagebook.proofs.Locks.Marker.{marker, marker_laws, dict}
+use Rattle.pagebook.specs.contracts.tied.Tied as T-row
+use Rattle.pagebook.proofs.tied.Tied.TheLaws as T-laws
+use Rattle.pagebook.specs.contracts.tied.LockOf as L-row
+use Rattle.pagebook.proofs.tied.LockOf.TheLaws as L-laws
+use Rattle.pagebook.specs.declared.tied.Key as Key
+use Rattle.pagebook.specs.contracts.tied.sealed as callee
+use Rattle.pagebook.proofs.tied.sealed.Met.{met}
+use Rattle.pagebook.specs.contracts.lock.KeyedMutex.{the_row}
+use Rattle.pagebook.specs.contracts.lock.KeyedMutex.new.{ended, clauses}
+use Rattle.pagebook.specs.contracts.lock.KeyedMutex.new.Key.{name as #self}
+use Rattle.pagebook.proofs.lock.KeyedMutex.new.Statement.{statement}
+use Rattle.pagebook.proofs.lock.KeyedMutex.new.Code as code
 
 pub new_spec : {M : Type 1} → statement M
 new_spec 𝓤 𝓛 𝓜 𝓡 wired T L g gd gm =
@@ -84,7 +84,7 @@ new_spec 𝓤 𝓛 𝓜 𝓡 wired T L g gd gm =
     enter ! 𝓣.C 𝓣.Λ fn (w ∷ []) Post $ alloc_all ! (λ l. pass_all ! refl (got.2, tt) $
     sets ! (of_opd ! (get ! refl)) refl got.2 $
     calls_at ! (framed 𝓤 H 𝓜 𝓣) k (met 𝓤 𝓛 𝓜 𝓡
-    (code.calls-keyed_mutex::tied::sealed 𝓡.env wired) T marker L marker_laws g gd h dict gm (record {})) y
+    (code.calls-pagebook::tied::sealed 𝓡.env wired) T marker L marker_laws g gd h dict gm (record {})) y
     (and_then ! (get ! refl) (no_more !)) (λ u.
     use1 𝓛 (later (some (λ (r : X.Denot).
     ((‵ (flft κ q) ⊛ ‵ (flft [] full_share) ⊛ ‵ ftrue) ⊛ ‵ (X.own_val r (u ∷ [])))

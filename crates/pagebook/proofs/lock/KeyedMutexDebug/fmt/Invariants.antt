@@ -1,4 +1,4 @@
-use Rattle.keyed_mutex.proofs.lock.KeyedMutexDebug.fmt.Given as goal
+use Rattle.pagebook.proofs.lock.KeyedMutexDebug.fmt.Given as goal
 
 -- the lock's own key
 abbrev pub ghosts-shown : goal.ghosts-shown

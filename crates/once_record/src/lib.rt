@@ -1,4 +1,0 @@
-//! The inputs of a replay and its record.
-#![tactic(auto)]
-
-pub mod world;
