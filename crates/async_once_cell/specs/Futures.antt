@@ -3,41 +3,45 @@ use Rattle.std.specs.Prelude.{◌≡◌, ℕ, ⊤, Bool, true, false, List, []}
 use Rattle.pagebook.specs.Pages.{Book}
 use Rattle.once_world.specs.Record.{Entry}
 use Rattle.async_once_cell.specs.declared.once.future.Asked.{Asked}
-use Rattle.async_once_cell.specs.declared.once.future.Asked.TheVariants.{Owned as AskedOwned, Shared as AskedShared}
+use Rattle.async_once_cell.specs.declared.once.future.Asked.TheVariants.{Owned as AskedOwned, Answered as AskedAnswered, Shared as AskedShared}
 use Rattle.async_once_cell.specs.Views.{Call, CellView, Owned, Shared}
 
 module _ {T F R O : Type 0} where
   -- its task's number
   abbrev pub task_of : Asked T F R O → ℕ
-  task_of (AskedOwned r b) = 0
+  task_of (AskedOwned r) = 0
+  task_of (AskedAnswered r) = 0
   task_of (AskedShared w) = w.number
 
   -- the record that it has seen
   abbrev pub seen_of : Asked T F R O → List Entry
-  seen_of (AskedOwned r b) = []
+  seen_of (AskedOwned r) = []
+  seen_of (AskedAnswered r) = []
   seen_of (AskedShared w) = w.log
 
   -- its task's cell has this book
   abbrev pub HasBook : Asked T F R O → Book → Type 0
-  HasBook (AskedOwned r b) book = ⊥
+  HasBook (AskedOwned r) book = ⊥
+  HasBook (AskedAnswered r) book = ⊥
   HasBook (AskedShared w) book = book ≡ w.cell.book
 
   -- its cell has its owner's value
   abbrev pub is_of_owned : Asked T F R O → Bool
-  is_of_owned (AskedOwned r b) = true
   is_of_owned (AskedShared w) = false
+  is_of_owned _ = true
 
   -- whether it answered, or left
   abbrev pub is_done : Asked T F R O → Bool
-  is_done (AskedOwned r b) = b
+  is_done (AskedOwned r) = false
+  is_done (AskedAnswered r) = true
   is_done (AskedShared w) = w.finished
 
   -- it is of this cell
   abbrev pub IsAsked : CellView T → Asked T F R O → Type 0
-  IsAsked (Owned x) (AskedOwned r b) = ⊤
   IsAsked (Owned x) (AskedShared w) = ⊥
-  IsAsked (Shared s) (AskedOwned r b) = ⊥
+  IsAsked (Owned x) _ = ⊤
   IsAsked (Shared s) (AskedShared w) = w.cell ≡ s
+  IsAsked (Shared s) _ = ⊥
 
   -- the call of a future of this cell
   abbrev pub call_of : CellView T → Asked T F R O → Call T

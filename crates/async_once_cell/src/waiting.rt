@@ -127,37 +127,6 @@ where
         ensures value { ValueOf result self.old.cell.id }
         ensures set { ending_of result ≡ Ending.Value → IsSet self.new.log }
     {
-        let (ending, error) = self.steps(cx);
-        match ending {
-            Ending::Pending => Reply::Pending,
-            Ending::Value => {
-                is_set_where_answered(&self.task.record());
-                let (value, written) = self.task.value();
-                Reply::Value(value, written)
-            }
-            Ending::Error => match error {
-                Some(error) => Reply::Error(error),
-                None => unreachable!(),
-            },
-            Ending::Memory => Reply::Memory,
-            Ending::Full => Reply::Full,
-            Ending::Dropped => unreachable!(),
-        }
-    }
-
-    // The steps of a poll: how it ended, and the error that the init gave.
-    #[inline(always)]
-    fn steps(&mut self, cx: &mut Context<'_>) -> (Ending, Option<E>)
-        requires live { self.old.finished ≡ false }
-        ensures cell { self.new.cell ≡ self.old.cell }
-        ensures number { self.new.number ≡ self.old.number }
-        ensures end { Grew (end_of self.new.number result.0 ∷ []) self.old.log self.new.log }
-        ensures finished { self.new.finished ≡ is_over result.0 }
-        ensures poll { result.0 ≡ Ending.Dropped → ⊥ }
-        ensures error { result.0 ≡ Ending.Error → is_some result.1 ≡ true }
-        ensures armed { result.0 ≡ Ending.Pending → IsArmed cx.new }
-        ensures kept { Keeps cx.old cx.new }
-    {
         let mut side = Polling {
             rt: self.task.rt(),
             mark: self.task.mark(),
@@ -181,10 +150,23 @@ where
             is_armed,
             woke: _woke,
         } = side;
-        if !is_armed && matches!(ending, Ending::Pending) {
-            self.sit(cx);
+        match ending {
+            Ending::Pending => {
+                if !is_armed {
+                    self.sit(cx);
+                }
+                Reply::Pending
+            }
+            Ending::Value => {
+                is_set_where_answered(&self.task.record());
+                let (value, written) = self.task.value();
+                Reply::Value(value, written)
+            }
+            Ending::Error => Reply::Error(error.unwrap()),
+            Ending::Memory => Reply::Memory,
+            Ending::Full => Reply::Full,
+            Ending::Dropped => unreachable!(),
         }
-        (ending, error)
     }
 
     // Ends a poll that is Pending, where the init did not see to it that the task is called. The seat does, and without

@@ -1,5 +1,5 @@
-//! Compares what `once_view` shows: the files in data/ are made anew and compared with those there, and scripts at random
-//! are shown and read back.
+//! Compares what `once_view` shows: the files in data/ are made anew and compared with those there, and scripts at
+//! random are shown and read back.
 #![tactic(auto)]
 
 mod files;

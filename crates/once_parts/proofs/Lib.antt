@@ -8,3 +8,4 @@ pub mod Values
 pub mod Seen
 pub mod Refusals
 pub mod Walk
+pub mod Idles

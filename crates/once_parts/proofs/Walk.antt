@@ -7,3 +7,4 @@ pub mod Asked
 pub mod Calls
 pub mod Begins
 pub mod Ends
+pub mod Polls

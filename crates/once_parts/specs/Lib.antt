@@ -14,3 +14,4 @@ pub mod Parts
 pub mod Sides
 pub mod Walks
 pub mod Tasks
+pub mod Idle

@@ -1,31 +1,32 @@
 //! Whole calls of a task: step after step, until the call ends.
-ghost use Rattle.std.specs.Prelude.{◌≡◌, ◌<◌, ℕ, Bool, true, false, List, [], ◌∷◌};
-ghost use Rattle.once_core.specs.Steps.{in_call, is_resting, left_of, step_of_poll};
+ghost use Rattle.std.specs.Prelude.{◌≡◌, ◌<◌, ◌↔◌, Bool, true, false, List, [], ◌∷◌};
+ghost use Rattle.once_core.specs.Steps.{in_call, left_of};
 ghost use Rattle.once_world.specs.Record.{Entry};
 ghost use Rattle.once_parts.specs.Kept.{Grew};
 ghost use Rattle.once_parts.specs.Shares.{cell_of, own};
 ghost use Rattle.once_parts.specs.Own.{Own};
 ghost use Rattle.once_parts.specs.Sides.{Sided};
-ghost use Rattle.once_parts.specs.Walks.{GrewBy, Rests, Stands, Walked, end_of, handed};
+ghost use Rattle.once_parts.specs.Walks.{GrewBy, Rests, Stands, StandsOn, Walked, end_of, handed};
+ghost use Rattle.once_parts.specs.Idle.{is_over, step_of};
 
+use crate::idle::Idle;
 use crate::mark::TaskWaker;
 use crate::shared::Shared;
 use crate::side::TaskSide;
 use once_core::step::{Ending, Progress, Step};
 use once_queue::word::MAX_WAITERS;
 use std::alloc::AllocGlobal;
-use std::mem;
 use std::sync::Wait;
 
-/// A whole poll: begins it, and makes its steps until it ends. It may wait for the cell's lock, and for
-/// whatever the side waits for.
+/// A whole poll of a task that is not finished. It may wait for the cell's lock, and for whatever the side waits for.
 #[inline(always)]
-pub fn whole_poll<T, W: TaskWaker + Drop, R: Wait + AllocGlobal, S: TaskSide<W, Value = T>>(
+pub(crate) fn whole_poll<T, W: TaskWaker + Drop, R: Wait + AllocGlobal, S: TaskSide<W, Value = T>>(
     parts: &mut Shared<'_, '_, T, W, R>,
-    step: &mut Step<W, ()>,
+    idle: &mut Idle,
     side: &mut S,
 ) -> Ending
-    requires rests { Rests W.whose (own parts.old) step.old }
+    requires live { is_over idle.old ≡ false }
+    requires stands { StandsOn W.whose (own parts.old) (step_of idle.old) }
     requires number { (S.state side.old).number ≡ (own parts.old).number }
     requires none { (S.state side.old).woke ≡ [] }
     ensures cell { cell_of parts.new ≡ cell_of parts.old }
@@ -33,19 +34,50 @@ pub fn whole_poll<T, W: TaskWaker + Drop, R: Wait + AllocGlobal, S: TaskSide<W, 
     ensures end { Grew (end_of (own parts.new).number result ∷ []) (own parts.old).log (own parts.new).log }
     ensures woke { (es : List Entry) × GrewBy es (own parts.old).log (own parts.new).log × ((S.state side.new).woke ≡ handed es) }
     ensures error { result ≡ Ending.Error → (S.state side.new).has_error ≡ true }
-    ensures pending { result ≡ Ending.Pending → Rests W.whose (own parts.new) step.new }
-    ensures finished { (result ≡ Ending.Pending → ⊥) → step.new ≡ Step.Finished }
+    ensures finished { (result ≡ Ending.Pending) ↔ (is_over idle.new ≡ false) }
     ensures poll { result ≡ Ending.Dropped → ⊥ }
+    ensures stands { StandsOn W.whose (own parts.new) (step_of idle.new) }
     ensures stays { S.stays side.old side.new }
 {
     parts.begin();
-    match start(parts, step, side) {
-        Progress::Ended(ending) => ending,
-        Progress::More => go_on(parts, step, side, Progress::More),
+    if !idle.is_new() {
+        let mut step = idle.step();
+        step.begin();
+        return steps_left(parts, idle, step, side);
+    }
+    // This step is of a first poll alone, so that the compiler keeps it in registers.
+    let mut first = Step::new();
+    match first.first_steps(parts, side) {
+        Progress::Ended(ending) => {
+            *idle = Idle::of(first);
+            ending
+        }
+        Progress::More => steps_left(parts, idle, first, side),
     }
 }
 
-/// A whole drop of a task that is not finished. It may wait as [`whole_poll`].
+// Makes the steps that are left of a poll, and keeps where the next call begins.
+#[inline(never)]
+fn steps_left<T, W: TaskWaker + Drop, R: Wait + AllocGlobal, S: TaskSide<W, Value = T>>(
+    parts: &mut Shared<'_, '_, T, W, R>,
+    idle: &mut Idle,
+    step: Step<W, ()>,
+    side: &mut S,
+) -> Ending
+    requires stands { Stands W.whose false (S.state side.old) (own parts.old) Progress.More step }
+    ensures cell { cell_of parts.new ≡ cell_of parts.old }
+    ensures walked { (x : Sided) → (v : Own) → Walked x v Progress.More (S.state side.old) (own parts.old)
+        → Walked x v (Progress.Ended result) (S.state side.new) (own parts.new) }
+    ensures stands { Stands W.whose false (S.state side.new) (own parts.new) (Progress.Ended result) (step_of idle.new) }
+    ensures stays { S.stays side.old side.new }
+{
+    let mut step = step;
+    let ending = go_on(parts, &mut step, side, Progress::More);
+    *idle = Idle::of(step);
+    ending
+}
+
+/// A whole drop of a task that is not finished. It may wait as a whole poll.
 pub fn whole_drop<T, W: TaskWaker + Drop, R: Wait + AllocGlobal, S: TaskSide<W, Value = T>>(
     parts: &mut Shared<'_, '_, T, W, R>,
     step: &mut Step<W, ()>,
@@ -66,32 +98,6 @@ pub fn whole_drop<T, W: TaskWaker + Drop, R: Wait + AllocGlobal, S: TaskSide<W, 
         return;
     }
     go_on(parts, step, side, Progress::More);
-}
-
-// Begins a poll: where it is the first, with the steps that it has where it meets nobody.
-#[inline(always)]
-fn start<T, W: TaskWaker + Drop, R: Wait + AllocGlobal, S: TaskSide<W, Value = T>>(
-    parts: &mut Shared<'_, '_, T, W, R>,
-    step: &mut Step<W, ()>,
-    side: &mut S,
-) -> Progress
-    requires rests { is_resting step.old ≡ true }
-    requires stands { Stands W.whose false (S.state side.old) (own parts.old) Progress.More (step_of_poll step.old) }
-    ensures cell { cell_of parts.new ≡ cell_of parts.old }
-    ensures walked { Walked (S.state side.old) (own parts.old) result (S.state side.new) (own parts.new) }
-    ensures stands { Stands W.whose false (S.state side.new) (own parts.new) result step.new }
-    ensures over { (e : Ending) → result ≡ Progress.Ended e → in_call step.new ≡ false }
-    ensures stays { S.stays side.old side.new }
-{
-    if step.is_new() {
-        // This step is made here and put there once, so that the compiler keeps it in registers.
-        let mut first = Step::new();
-        let told = first.first_steps(parts, side);
-        mem::forget(mem::replace(step, first));
-        return told;
-    }
-    step.begin();
-    Progress::More
 }
 
 /// Makes one step of the call that is under way, whose last step told this. It may wait as a whole call.
@@ -118,7 +124,7 @@ pub fn one_step<T, W: TaskWaker + Drop, R: Wait + AllocGlobal, S: TaskSide<W, Va
 
 // Makes the steps that are left of the call, and answers how it ended. There are at most sixteen. The last
 // step so far told this.
-#[inline(never)]
+#[inline(always)]
 fn go_on<T, W: TaskWaker + Drop, R: Wait + AllocGlobal, S: TaskSide<W, Value = T>>(
     parts: &mut Shared<'_, '_, T, W, R>,
     step: &mut Step<W, ()>,

@@ -13,6 +13,7 @@ mod book;
 pub mod calls;
 mod desk;
 mod hand;
+mod idle;
 mod mark;
 pub mod record;
 pub mod shared;
@@ -21,7 +22,7 @@ pub mod task;
 mod under_lock;
 
 pub use book::{CellRule, Leaf, Line, Record};
-pub use calls::{one_step, whole_drop, whole_poll};
+pub use calls::{one_step, whole_drop};
 pub use mark::{Mark, TaskWaker};
 pub use shared::{Inner, Shared};
 pub use side::TaskSide;

@@ -141,8 +141,8 @@ impl<T, W: TaskWaker + Drop> Inner<T, W> {
         slot.into_inner()
     }
 
-    /// Whether a queue stands at the door. `None` says that the lock could not be had at once. It waits for nobody. It is
-    /// for Debug: no clause says what it answers.
+    /// Whether a queue stands at the door. `None` says that the lock could not be had at once. It waits for
+    /// nobody. It is for Debug: no clause says what it answers.
     pub fn has_queue(&self) -> Option<bool> {
         stands::<Brand, T, W>(self)
     }

@@ -4,15 +4,16 @@ ghost use Rattle.once_world.specs.Record.{Entry, Made};
 ghost use Rattle.once_parts.specs.Kept.{Grew};
 ghost use Rattle.once_parts.specs.Record.{EndsSet};
 ghost use Rattle.once_parts.specs.Shares.{cell_of, own};
-ghost use Rattle.once_core.specs.Steps.{in_call, is_resting};
+ghost use Rattle.once_parts.specs.Idle.{is_over, step_of};
 ghost use Rattle.once_parts.specs.Walks.{GrewBy, StandsOn, end_of, handed};
 
 use crate::book::Record;
 use crate::calls::{whole_drop, whole_poll};
+use crate::idle::Idle;
 use crate::mark::{Mark, TaskWaker};
 use crate::shared::{Inner, Shared};
 use crate::side::TaskSide;
-use once_core::step::{Ending, Step};
+use once_core::step::Ending;
 use pagebook::Written;
 use std::alloc::AllocGlobal;
 use std::marker::Model;
@@ -25,15 +26,14 @@ use std::sync::Wait;
 #[derive(Drop)]
 pub struct Task<'a, 'r, T, W: TaskWaker, R> {
     parts: Shared<'a, 'r, T, W, R>,
-    step: Step<W, ()>,
-    ghost idle: { in_call step ≡ false },
+    idle: Idle,
     // Where its next call begins, it stands as its page says.
-    ghost stands: { is_resting step ≡ true → StandsOn W.whose (own parts) step },
+    ghost stands: { is_over idle ≡ false → StandsOn W.whose (own parts) (step_of idle) },
 }
 
 impl<'a, 'r, T, W: TaskWaker, R> Model for Task<'a, 'r, T, W, R> {
-    ghost use Rattle.once_core.specs.Steps.{is_finished};
     ghost use Rattle.once_parts.specs.Shares.{cell_of, own};
+    ghost use Rattle.once_parts.specs.Idle.{is_over};
     ghost use Rattle.once_parts.specs.Tasks.{TaskView};
 
     ghost Value = { TaskView };
@@ -42,7 +42,7 @@ impl<'a, 'r, T, W: TaskWaker, R> Model for Task<'a, 'r, T, W, R> {
       cell = cell_of t.parts;
       number = (own t.parts).number;
       log = (own t.parts).log;
-      finished = is_finished t.step;
+      finished = is_over t.idle;
     } };
 }
 
@@ -56,7 +56,7 @@ impl<'a, 'r, T, W: TaskWaker + Drop, R> Task<'a, 'r, T, W, R> {
     {
         Task {
             parts: inner.task(rt),
-            step: Step::new(),
+            idle: Idle::New,
         }
     }
 
@@ -66,7 +66,7 @@ impl<'a, 'r, T, W: TaskWaker + Drop, R> Task<'a, 'r, T, W, R> {
     pub fn is_finished(&self) -> bool
         ensures { result ≡ self.now.finished }
     {
-        self.step.is_finished()
+        self.idle.is_over()
     }
 
     /// The value, for a task whose last call ended with it.
@@ -120,7 +120,7 @@ impl<'a, 'r, T, W: TaskWaker + Drop, R: Wait + AllocGlobal> Task<'a, 'r, T, W, R
         ensures poll { result ≡ Ending.Dropped → ⊥ }
         ensures stays { S.stays side.old side.new }
     {
-        whole_poll(&mut self.parts, &mut self.step, side)
+        whole_poll(&mut self.parts, &mut self.idle, side)
     }
 
     /// A whole drop of a task that is not finished. It may wait as [`poll`](Self::poll).
@@ -135,6 +135,8 @@ impl<'a, 'r, T, W: TaskWaker + Drop, R: Wait + AllocGlobal> Task<'a, 'r, T, W, R
         ensures finished { self.new.finished ≡ true }
         ensures stays { S.stays side.old side.new }
     {
-        whole_drop(&mut self.parts, &mut self.step, side);
+        let mut step = self.idle.step();
+        whole_drop(&mut self.parts, &mut step, side);
+        self.idle = Idle::Finished;
     }
 }

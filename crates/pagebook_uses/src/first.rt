@@ -1,5 +1,5 @@
-// Who comes first: of two threads one is told so, and never both. Whoever finds 0 in the word adds a page and has its pen,
-// and there is one such pen.
+// Who comes first: of two threads one is told so, and never both. Whoever finds 0 in the word adds a page and has
+// its pen, and there is one such pen.
 ghost use Rattle.std.specs.Prelude.{◌≡◌, true, List, [], ◌∷◌, IfSome};
 ghost use Rattle.pagebook_uses.specs.First.{medal};
 

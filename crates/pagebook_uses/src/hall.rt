@@ -1,5 +1,5 @@
-// A hall that visitors enter and leave. A word counts who is inside, by additions, so nobody waits to leave; the desk at
-// the door counts who came in, under a lock.
+// A hall that visitors enter and leave. A word counts who is inside, by additions, so nobody waits to leave; the
+// desk at the door counts who came in, under a lock.
 ghost use Rattle.std.specs.Prelude.{◌≡◌, ℕ, Bool, ◌+◌, ◌-◌, ◌<◌, ◌^◌, true, false, List, [], ◌∷◌, length};
 ghost use Rattle.pagebook.specs.Pages.{Book};
 ghost use Rattle.pagebook_uses.specs.Hall.{IsKept};

@@ -1,5 +1,6 @@
-// Numbers that threads draw, as tickets at a counter: no number is drawn twice. A page is the list of the numbers that a
-// thread drew. That is a list of a specification, which no type of the program is, so pages have no bytes and no bounds.
+// Numbers that threads draw, as tickets at a counter: no number is drawn twice. A page is the list of the numbers
+// that a thread drew. That is a list of a specification, which no type of the program is, so pages have no bytes
+// and no bounds.
 ghost use Rattle.std.specs.Prelude.{◌≡◌, ℕ, List, [], ◌∷◌, IfSome, IfNone};
 ghost use Rattle.pagebook.specs.Pages.{Book};
 ghost use Rattle.pagebook_uses.specs.Tickets.{NoCommon};
@@ -171,8 +172,8 @@ pub struct Pair {
     pub ghost numbers: { drawer.1 ≡ second ∷ first ∷ [] },
 }
 
-/// Two threads draw two numbers each at a new counter, with so many tries for each: all four numbers, of which no number
-/// of the one is one of the other. None where one of them could not draw.
+/// Two threads draw two numbers each at a new counter, with so many tries for each: all four numbers, of which no
+/// number of the one is one of the other. None where one of them could not draw.
 pub fn draw_apart<R: Threads>(rt: &R, tries: u32) -> Option<(u64, u64, u64, u64)>
     ensures { IfSome result (λ r. NoCommon (r.1 ∷ r.0 ∷ []) (r.3 ∷ r.2 ∷ [])) }
 {

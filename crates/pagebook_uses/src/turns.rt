@@ -1,5 +1,5 @@
-// Two words that change in turn: each says how often its player hit, and a player hits only when it is its turn. Neither
-// takes a lock, and none is told more than the two words say.
+// Two words that change in turn: each says how often its player hit, and a player hits only when it is its turn.
+// Neither takes a lock, and none is told more than the two words say.
 ghost use Rattle.std.specs.Prelude.{◌≡◌, ℕ, suc, ◌+◌, ◌≤◌, true, false, List, [], ◌∷◌};
 ghost use Rattle.pagebook_uses.specs.Turns.{rally};
 
@@ -13,8 +13,8 @@ pub enum Hit {
     Pong,
 }
 
-/// The rule: the log is a rally, in which no player hits twice in a row. A page says how often its player hit, as its word
-/// does.
+/// The rule: the log is a rally, in which no player hits twice in a row. A page says how often its player hit, as
+/// its word does.
 pub struct InTurn;
 
 impl Rule<Hit, u64> for InTurn {

@@ -1,5 +1,5 @@
-//! What such cells are for: what a Rust programmer writes with `async`, settings that are read once, a connection, a graph
-//! of values, a pool of tasks, a table, and settings that threads load anew.
+//! What such cells are for: what a Rust programmer writes with `async`, settings that are read once, a connection,
+//! a graph of values, a pool of tasks, a table, and settings that threads load anew.
 #![tactic(auto)]
 
 mod ask;

@@ -20,8 +20,8 @@ pub fn told_before<'a, T>(without: &Known<'a, T>, with: &Known<'a, T>)
     Known::compare_records(without, with);
 }
 
-/// Wherever in the record of a cell that tasks share an error was told, it was told to the task whose own init gave it. It
-/// does nothing.
+/// Wherever in the record of a cell that tasks share an error was told, it was told to the task whose own init
+/// gave it. It does nothing.
 pub fn told_alone<T>(token: &Known<'_, T>)
     ensures { is_shared token.now.cell ≡ true → (t e : ℕ) → (later before : List Entry)
         → reverse token.now.log ≡ later ++ End t (Error e) ∷ before → (last_call Once t before).ran ≡ Some (RanError e) }
@@ -30,8 +30,8 @@ pub fn told_alone<T>(token: &Known<'_, T>)
     error_is_ones_own();
 }
 
-/// While the cell is free and a task of it waits, some task was called that has neither claimed since nor left: whoever runs the
-/// tasks of a cell has one to poll. It does nothing.
+/// While the cell is free and a task of it waits, some task was called that has neither claimed since nor left:
+/// whoever runs the tasks of a cell has one to poll. It does nothing.
 pub fn one_is_called<T>(token: &Known<'_, T>)
     ensures { is_shared token.now.cell ≡ true → SomebodyCalled Once (reverse token.now.log) }
 {

@@ -208,7 +208,7 @@ impl<'a, T: Drop, F: Future<Output = T>, R: Wait + AllocGlobal> Future
         if self.is_finished() {
             return cx.yield_now();
         }
-        LazyFuturePin::poll(self, cx)
+        self.future.poll(cx)
     }
 }
 

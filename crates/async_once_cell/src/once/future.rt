@@ -31,8 +31,10 @@ use std::sync::Wait;
 // How a future comes to the value.
 #[derive(Drop)]
 enum Asked<'a, T, F: Future, R: Wait + AllocGlobal> {
-    // It is that of the cell's owner; whether it was answered.
-    Owned(&'a R, bool),
+    // It is that of the cell's owner.
+    Owned(&'a R),
+    // It was that of the cell's owner, and was answered.
+    Answered(&'a R),
     // It is a task of those that share the cell.
     Shared(Waiting<'a, T, F, R>),
 }
@@ -78,7 +80,7 @@ impl<'a, T, E, F: Future, R: Wait + AllocGlobal> TryInitFuture<'a, T, E, F, R> {
             Value::Owned(_) => TryInitFuture {
                 error: PhantomData,
                 cell,
-                asked: Asked::Owned(rt, false),
+                asked: Asked::Owned(rt),
             },
             Value::Shared(inner) => TryInitFuture {
                 error: PhantomData,
@@ -98,7 +100,7 @@ impl<'a, T, E, F: Future, R: Wait + AllocGlobal> TryInitFuture<'a, T, E, F, R> {
     #[inline(always)]
     pub(super) fn rt(&self) -> &'a R {
         match &self.asked {
-            Asked::Owned(rt, _) => rt,
+            Asked::Owned(rt) | Asked::Answered(rt) => rt,
             Asked::Shared(waiting) => waiting.rt(),
         }
     }
@@ -160,7 +162,8 @@ impl<'a, T, F: Future, R: Wait + AllocGlobal> Asked<'a, T, F, R> {
         ensures { result ≡ is_done self.now }
     {
         match self {
-            Asked::Owned(_, done) => *done,
+            Asked::Owned(_) => false,
+            Asked::Answered(_) => true,
             Asked::Shared(waiting) => waiting.is_finished(),
         }
     }
@@ -170,13 +173,13 @@ impl<'a, T, F: Future, R: Wait + AllocGlobal> Asked<'a, T, F, R> {
         ensures { MatchOption result ((is_of_owned self.now ≡ true) × (seen_of self.now ≡ [])) (λ r. (r.log ≡ seen_of self.now) × HasBook self.now r.book) }
     {
         match self {
-            Asked::Owned(_, _) => None,
+            Asked::Owned(_) | Asked::Answered(_) => None,
             Asked::Shared(waiting) => Some(waiting.record()),
         }
     }
 
-    // A drop of a future that is not finished. It has the future by value, so that the drop of a finished one leaves that
-    // where it is.
+    // A drop of a future that is not finished. It has the future by value, so that the drop of a finished one
+    // leaves that where it is.
     #[inline(never)]
     fn left(self)
         requires live { is_done self ≡ false }
@@ -190,35 +193,9 @@ impl<'a, T, F: Future, R: Wait + AllocGlobal> Asked<'a, T, F, R> {
         ensures left { (c : CellView T) → IsAsked c self.old → IsAsked c self.new × HasLeft (call_of c self.old) (call_of c self.new) }
     {
         match self {
-            Asked::Owned(_, done) => *done = true,
+            Asked::Owned(rt) => *self = Asked::Answered(*rt),
+            Asked::Answered(_) => unreachable!(),
             Asked::Shared(waiting) => waiting.leave(),
-        }
-    }
-}
-
-impl<'a, T: Drop, F, R: Wait + AllocGlobal> Asked<'a, T, F, R>
-where
-    F: Future,
-{
-    // Polls once.
-    #[inline(always)]
-    fn poll<E: Drop>(&mut self, cell: &'a OnceCell<T>, cx: &mut Context<'_>) -> Reply<'a, T, E>
-    where
-        F: Future<Output: TryOutput<Ok = T, Error = E>>,
-        requires of { IsAsked cell.now self.old }
-        requires live { is_done self.old ≡ false }
-        ensures of { IsAsked cell.now self.new }
-        ensures did { DidPoll (call_of cell.now self.old) (call_of cell.now self.new) cx.old cx.new (ending_of result) }
-        ensures value { ValueIn cell.now result }
-        ensures set { ending_of result ≡ Ending.Value → IsSetIn cell.now (seen_of self.new) }
-    {
-        match (self, &cell.value) {
-            (Asked::Shared(waiting), _) => waiting.poll(cx),
-            (Asked::Owned(_, done), Value::Owned(value)) => {
-                *done = true;
-                Reply::Owned(value)
-            }
-            _ => unreachable!(),
         }
     }
 }
@@ -227,6 +204,24 @@ impl<'a, T: Drop, E: Drop, F, R: Wait + AllocGlobal> TryInitFuture<'a, T, E, F, 
 where
     F: Future<Output: TryOutput<Ok = T, Error = E>>,
 {
+    // Polls once.
+    #[inline(always)]
+    pub(super) fn ask(&mut self, cx: &mut Context<'_>) -> Reply<'a, T, E>
+        requires live { self.old.finished ≡ false }
+        ensures did { DidPoll self.old self.new cx.old cx.new (ending_of result) }
+        ensures value { ValueIn self.old.cell result }
+    {
+        let cell = self.cell;
+        match (&mut self.asked, &cell.value) {
+            (Asked::Shared(waiting), _) => waiting.poll(cx),
+            (Asked::Owned(rt), Value::Owned(value)) => {
+                self.asked = Asked::Answered(*rt);
+                Reply::Owned(value)
+            }
+            _ => unreachable!(),
+        }
+    }
+
     /// Polls the future once.
     ///
     /// It answers the value that is set, the error that its own init gave, or a refusal: `Memory`
@@ -251,7 +246,7 @@ where
         ensures call { DidPoll self.old self.new cx.old cx.new (ending_in result) }
         ensures value { Answers self.old.cell result }
     {
-        match self.asked.poll(self.cell, cx) {
+        match self.ask(cx) {
             Reply::Pending => Poll::Pending,
             Reply::Owned(value) => Poll::Ready(Ok(value)),
             Reply::Value(value, _) => Poll::Ready(Ok(value)),
@@ -291,7 +286,7 @@ where
             self.leave();
             return Poll::Ready(Ok(token.learn(self.cell).unwrap()));
         }
-        match self.asked.poll(self.cell, cx) {
+        match self.ask(cx) {
             Reply::Pending => Poll::Pending,
             Reply::Owned(value) => {
                 token.learn(self.cell);

@@ -12,6 +12,7 @@ ghost use Rattle.async_once_cell.specs.Sure.{IsSame};
 ghost use Rattle.async_once_cell.specs.Polls.{Answers, DidPoll, Polls, PollsAs, sure_ending};
 
 use super::{InitError, Known, OnceCell, Refused, TryInitFuture};
+use crate::waiting::Reply;
 use futures::Future;
 use futures::task::{Context, Poll};
 use std::alloc::AllocGlobal;
@@ -130,7 +131,14 @@ impl<'a, T: Drop, F: Future<Output = T>, R: Wait + AllocGlobal> InitFuture<'a, T
         ensures call { DidPoll self.old self.new cx.old cx.new (sure_ending result) }
         ensures value { Answers self.old.cell result }
     {
-        surely(self.future.poll(cx))
+        match self.future.ask(cx) {
+            Reply::Pending => Poll::Pending,
+            Reply::Owned(value) => Poll::Ready(Ok(value)),
+            Reply::Value(value, _) => Poll::Ready(Ok(value)),
+            Reply::Error(never) => match never {},
+            Reply::Memory => Poll::Ready(Err(Refused::Memory)),
+            Reply::Full => Poll::Ready(Err(Refused::Full)),
+        }
     }
 
     /// As [`poll`](Self::poll), and the token learns the value that is answered. A token that knows

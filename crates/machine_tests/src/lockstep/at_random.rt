@@ -99,8 +99,9 @@ struct Odds {
     steps: u64,
 }
 
-/// A schedule under way, over one cell after the other. The tasks of a cell are polled, dropped and driven on one step at a
-/// time. From time to time, and soon once the value is set, all of them are dropped, and the cell is done.
+/// A schedule under way, over one cell after the other. The tasks of a cell are polled, dropped and driven on one
+/// step at a time. From time to time, and soon once the value is set, all of them are dropped, and the cell is
+/// done.
 #[derive(Drop)]
 struct Schedule {
     rng: Xoshiro256PlusPlus,

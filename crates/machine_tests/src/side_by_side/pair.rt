@@ -1,4 +1,5 @@
-//! A cell of shared parts and one of plain parts, whose tasks make the same steps: after each step the two show the same.
+//! A cell of shared parts and one of plain parts, whose tasks make the same steps: after each step the two show
+//! the same.
 ghost use Rattle.std.specs.Prelude.{◌≡◌, true};
 ghost use Rattle.once_core.specs.Steps.{in_call};
 

@@ -38,8 +38,9 @@ pub const VALUE: Call = Call::Poll(Polled::Value);
 
 pub const ERROR: Call = Call::Poll(Polled::Error);
 
-/// So many steps of a call of a task, which begins where none is under way, and whose waker can be copied or not. The text
-/// has how the call ended, or None where it goes on, and the notes of its side; there is none where a note was lost.
+/// So many steps of a call of a task, which begins where none is under way, and whose waker can be copied or not.
+/// The text has how the call ended, or None where it goes on, and the notes of its side; there is none where a
+/// note was lost.
 pub fn carry_on<R: Wait + AllocGlobal>(
     rt: &R,
     task: &mut Walker<'_, '_, R>,

@@ -52,6 +52,16 @@ module _ {W : Type 0} (whose : W → ℕ) (x : Sided) (v w : Own) (s : Step W �
     fits = drop_fits s is.0 call;
   }
 
+-- a step rests whose names are others
+rests_as : {W V Q P : Type 0} (f : W → V) (g : Q → P) (s : Step W Q) → is_resting (step_as f g s) ≡ is_resting s
+rests_as f g (Resting r) = refl
+rests_as f g (UnderWay p) = refl
+rests_as f g Finished = refl
+
+-- the task rests where the code's step does
+pub rests_there : {W : Type 0} (whose : W → ℕ) (s : Step W ⊤) (y : Step ℕ ℕ) → is_resting s ≡ true → step_as whose (λ q. q) s ≡ step_as (λ w. w) the_queue y → is_resting y ≡ true
+rests_there whose s y rests same = sym (rests_as (λ w. w) the_queue y) ∙ sym (ap is_resting same) ∙ rests_as whose (λ q. q) s ∙ rests
+
 -- it stands so too after the init was dropped
 pub stands_closed : {W : Type 0} (whose : W → ℕ) (x y : Sided) (w : Own) (s t : Step W ⊤) → y ≡ x → t ≡ s → Stands whose true x w More s → Stands whose true y w More t
 stands_closed whose x y w s t same at is = subst (λ (z : Sided). Stands whose true z w More t) (sym same) (subst (Stands whose true x w More) (sym at) is)

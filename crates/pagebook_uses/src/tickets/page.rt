@@ -1,5 +1,5 @@
-// The pages of the counter. A struct whose ghost field is of a specification stands in a file of its own, since the rule
-// is about it.
+// The pages of the counter. A struct whose ghost field is of a specification stands in a file of its own, since
+// the rule is about it.
 ghost use Rattle.std.specs.Prelude.{ℕ, List};
 ghost use base.Stored.{coded_list, coded_ℕ};
 ghost use base.Fml.{ftrue};

@@ -1,50 +1,98 @@
 -- The poll begins, its steps are made, and so it ends.
-use Rattle.std.proofs.Common.{false, refl, ap, subst, ◌∙◌, ◌++◌}
-use Rattle.once_parts.specs.Shares.{own}
-use Rattle.once_parts.specs.Walks.{Stands, Walked, handed}
-use Rattle.once_parts.proofs.Walk.Logs.{by_before, grew_on}
-use Rattle.once_parts.proofs.Walk.Begins.{grew_from, poll_begins}
-use Rattle.once_parts.proofs.Walk.Ends.{poll_ended}
+use Rattle.std.proofs.Common.{◌≡◌, false, rules, sym, ap, subst, ◌∙◌}
+use Rattle.once_queue.specs.declared.word.TheConstants.{MAX_WAITERS}
+use Rattle.once_core.specs.Steps.{step_of_poll}
+use Rattle.once_world.specs.Places.{More, Ended}
+use Rattle.once_parts.specs.Idle.{step_of}
+use Rattle.once_parts.specs.declared.idle.Idle.TheVariants.{New}
+use Rattle.once_parts.specs.Shares.{cell_of, own}
+use Rattle.once_parts.specs.Walks.{Stands, Walked}
+use Rattle.once_parts.proofs.Idles.{rests}
+use Rattle.once_parts.proofs.Walk.Begins.{poll_begins, rests_there}
+use Rattle.once_parts.proofs.Walk.Calls.{steps_asked, steps_went}
+use Rattle.once_parts.proofs.Walk.Logs.{walked_none}
+use Rattle.once_parts.proofs.Walk.Polls.{polled}
 use Rattle.once_parts.proofs.calls.whole_poll.Goals as goal
 
-pub start-requires-clause-stands : goal.start-requires-clause-stands
-start-requires-clause-stands g c = poll_begins g.W.TaskWaker.whose (g.S.TaskSide.state c.args.side.now) (own c.args.parts.now) (own c.begin.new.self) c.args.step.now c.requires.number c.requires.none c.requires.rests c.begin.ensures.did
+pub begin-requires : goal.begin-requires
+begin-requires g c = record { can = rests_there g.W.TaskWaker.whose (step_of c.args.idle.now) (own c.args.parts.now).task.step (rests _ c.args.idle.now c.requires.live) c.requires.stands }
 
-pub go_on-requires : goal.go_on-requires
-go_on-requires g c = record { stands = (false, subst (λ r. Stands g.W.TaskWaker.whose false (g.S.TaskSide.state c.start.new.side) (own c.start.new.parts) r c.start.new.step) c.in-More.is c.start.ensures.stands) }
+pub steps_left-requires : goal.steps_left-requires
+steps_left-requires g c =
+    let begun = poll_begins g.W.TaskWaker.whose (g.S.TaskSide.state c.args.side.now) (own c.args.parts.now) (own c.begin.new.self) (step_of c.args.idle.now) c.requires.number c.requires.none (rests _ c.args.idle.now c.requires.live, c.requires.stands) c.begin.ensures.did in
+    record { stands = subst (λ s. Stands g.W.TaskWaker.whose false (g.S.TaskSide.state c.args.side.now) (own c.begin.new.self) More s) (sym (c.begin-then-not-is_new.ensures ∙ ap step_of_poll c.step-step.ensures.is)) begun }
+
+pub returns-then-not-is_new : goal.returns-then-not-is_new
+returns-then-not-is_new g c =
+    let p = polled g.W.TaskWaker.whose (g.S.TaskSide.state c.args.side.now) (g.S.TaskSide.state c.steps_left.new.side) (own c.args.parts.now) (own c.begin.new.self) (own c.steps_left.new.parts) c.steps_left.result c.steps_left.new.idle c.requires.none c.begin.ensures.did (c.steps_left.ensures.walked _ _ (walked_none _ _)) c.steps_left.ensures.stands in
+    record {
+      cell = c.steps_left.ensures.cell ∙ c.begin.ensures.cell;
+      task = p.number;
+      end = p.end;
+      woke = p.woke;
+      error = p.error;
+      finished = p.finished;
+      poll = p.poll;
+      stands = p.stands;
+      stays = c.steps_left.ensures.stays;
+    }
+
+pub first_steps-requires-clause-asks : goal.first_steps-requires-clause-asks
+first_steps-requires-clause-asks g c = λ told at p s m.
+    let begun = poll_begins g.W.TaskWaker.whose (g.S.TaskSide.state c.args.side.now) (own c.args.parts.now) (own c.begin.new.self) (step_of c.args.idle.now) c.requires.number c.requires.none (rests _ c.args.idle.now c.requires.live, c.requires.stands) c.begin.ensures.did in
+    let new : c.args.idle.now ≡ New = search rules in
+    let stands = subst (λ s. Stands g.W.TaskWaker.whose false (g.S.TaskSide.state c.args.side.now) (own c.begin.new.self) More (step_of_poll s)) (ap step_of new ∙ sym c.new-first.ensures) begun in
+    steps_asked cell_of own g.W.TaskWaker.whose g.S.TaskSide.state g.S.Side.did g.met.S.TaskSide.tells MAX_WAITERS false g.S.Side.can_put g.met.S.TaskSide.puts (step_of_poll c.new-first.result) c.begin.new.self c.args.side.now at p s told stands m
 
 pub returns-in-Ended : goal.returns-in-Ended
 returns-in-Ended g c =
-    let seen = grew_on _ _ _ c.begin.ensures.did.log in
-    let walked = c.start.ensures.walked in
-    let end = poll_ended g.W.TaskWaker.whose (g.S.TaskSide.state c.args.side.now) (g.S.TaskSide.state c.start.new.side) (own c.begin.new.self) (own c.start.new.parts) c.start.result c.in-Ended.ending c.in-Ended.is c.start.new.step walked c.start.ensures.stands (c.start.ensures.over c.in-Ended.ending c.in-Ended.is) in
+    let begun = poll_begins g.W.TaskWaker.whose (g.S.TaskSide.state c.args.side.now) (own c.args.parts.now) (own c.begin.new.self) (step_of c.args.idle.now) c.requires.number c.requires.none (rests _ c.args.idle.now c.requires.live, c.requires.stands) c.begin.ensures.did in
+    let new : c.args.idle.now ≡ New = search rules in
+    let stands = subst (λ s. Stands g.W.TaskWaker.whose false (g.S.TaskSide.state c.args.side.now) (own c.begin.new.self) More (step_of_poll s)) (ap step_of new ∙ sym c.new-first.ensures) begun in
+    let went = steps_went cell_of own g.W.TaskWaker.whose g.S.TaskSide.state g.S.Side.did g.met.S.TaskSide.tells MAX_WAITERS false (step_of_poll c.new-first.result) c.begin.new.self c.args.side.now
+    c.first_steps.new.self c.first_steps.new.parts c.first_steps.new.side c.first_steps.result stands (c.first_steps.ensures.lines MAX_WAITERS) in
+    let walked = subst (λ r. Walked (g.S.TaskSide.state c.args.side.now) (own c.begin.new.self) r (g.S.TaskSide.state c.first_steps.new.side) (own c.first_steps.new.parts)) c.in-Ended.is went.walked in
+    let at = subst (λ r. Stands g.W.TaskWaker.whose false (g.S.TaskSide.state c.first_steps.new.side) (own c.first_steps.new.parts) r c.first_steps.new.self) c.in-Ended.is went.stands in
+    let kept = subst (λ s. Stands g.W.TaskWaker.whose false (g.S.TaskSide.state c.first_steps.new.side) (own c.first_steps.new.parts) (Ended c.in-Ended.ending) s) (sym c.of.ensures.is) at in
+    let p = polled g.W.TaskWaker.whose (g.S.TaskSide.state c.args.side.now) (g.S.TaskSide.state c.first_steps.new.side) (own c.args.parts.now) (own c.begin.new.self) (own c.first_steps.new.parts) c.in-Ended.ending c.of.result c.requires.none c.begin.ensures.did walked kept in
     record {
-      cell = c.start.ensures.cell ∙ c.begin.ensures.cell;
-      task = walked.number ∙ c.begin.ensures.did.number;
-      end = grew_from _ _ _ _ seen end.end;
-      woke = (walked.made.0, by_before walked.made.0 _ _ _ seen walked.made.1, walked.made.2 ∙ ap (λ X. X ++ handed walked.made.0) c.requires.none);
-      error = end.error;
-      pending = end.pending;
-      finished = end.finished;
-      poll = end.poll;
-      stays = c.start.ensures.stays;
+      cell = went.cell_is ∙ c.begin.ensures.cell;
+      task = p.number;
+      end = p.end;
+      woke = p.woke;
+      error = p.error;
+      finished = p.finished;
+      poll = p.poll;
+      stands = p.stands;
+      stays = c.first_steps.ensures.stays;
     }
+
+pub steps_left-requires-in-More : goal.steps_left-requires-in-More
+steps_left-requires-in-More g c =
+    let begun = poll_begins g.W.TaskWaker.whose (g.S.TaskSide.state c.args.side.now) (own c.args.parts.now) (own c.begin.new.self) (step_of c.args.idle.now) c.requires.number c.requires.none (rests _ c.args.idle.now c.requires.live, c.requires.stands) c.begin.ensures.did in
+    let new : c.args.idle.now ≡ New = search rules in
+    let stands = subst (λ s. Stands g.W.TaskWaker.whose false (g.S.TaskSide.state c.args.side.now) (own c.begin.new.self) More (step_of_poll s)) (ap step_of new ∙ sym c.new-first.ensures) begun in
+    let went = steps_went cell_of own g.W.TaskWaker.whose g.S.TaskSide.state g.S.Side.did g.met.S.TaskSide.tells MAX_WAITERS false (step_of_poll c.new-first.result) c.begin.new.self c.args.side.now
+    c.first_steps.new.self c.first_steps.new.parts c.first_steps.new.side c.first_steps.result stands (c.first_steps.ensures.lines MAX_WAITERS) in
+    record { stands = subst (λ r. Stands g.W.TaskWaker.whose false (g.S.TaskSide.state c.first_steps.new.side) (own c.first_steps.new.parts) r c.first_steps.new.self) c.in-More.is went.stands }
 
 pub returns-in-More : goal.returns-in-More
 returns-in-More g c =
-    let seen = grew_on _ _ _ c.begin.ensures.did.log in
-    let stands = subst (λ r. Stands g.W.TaskWaker.whose false (g.S.TaskSide.state c.start.new.side) (own c.start.new.parts) r c.start.new.step) c.in-More.is c.start.ensures.stands in
-    let before = subst (λ r. Walked (g.S.TaskSide.state c.args.side.now) (own c.begin.new.self) r (g.S.TaskSide.state c.start.new.side) (own c.start.new.parts)) c.in-More.is c.start.ensures.walked in
-    let walked = c.go_on.ensures.walked _ _ before in
-    let end = poll_ended g.W.TaskWaker.whose (g.S.TaskSide.state c.args.side.now) (g.S.TaskSide.state c.go_on.new.side) (own c.begin.new.self) (own c.go_on.new.parts) _ c.go_on.result refl c.go_on.new.step walked (c.go_on.ensures.stands false stands) c.go_on.ensures.over in
+    let begun = poll_begins g.W.TaskWaker.whose (g.S.TaskSide.state c.args.side.now) (own c.args.parts.now) (own c.begin.new.self) (step_of c.args.idle.now) c.requires.number c.requires.none (rests _ c.args.idle.now c.requires.live, c.requires.stands) c.begin.ensures.did in
+    let new : c.args.idle.now ≡ New = search rules in
+    let stands = subst (λ s. Stands g.W.TaskWaker.whose false (g.S.TaskSide.state c.args.side.now) (own c.begin.new.self) More (step_of_poll s)) (ap step_of new ∙ sym c.new-first.ensures) begun in
+    let went = steps_went cell_of own g.W.TaskWaker.whose g.S.TaskSide.state g.S.Side.did g.met.S.TaskSide.tells MAX_WAITERS false (step_of_poll c.new-first.result) c.begin.new.self c.args.side.now
+    c.first_steps.new.self c.first_steps.new.parts c.first_steps.new.side c.first_steps.result stands (c.first_steps.ensures.lines MAX_WAITERS) in
+    let walked = subst (λ r. Walked (g.S.TaskSide.state c.args.side.now) (own c.begin.new.self) r (g.S.TaskSide.state c.first_steps.new.side) (own c.first_steps.new.parts)) c.in-More.is went.walked in
+    let p = polled g.W.TaskWaker.whose (g.S.TaskSide.state c.args.side.now) (g.S.TaskSide.state c.steps_left-in-More.new.side) (own c.args.parts.now) (own c.begin.new.self) (own c.steps_left-in-More.new.parts) c.steps_left-in-More.result c.steps_left-in-More.new.idle c.requires.none c.begin.ensures.did (c.steps_left-in-More.ensures.walked _ _ walked) c.steps_left-in-More.ensures.stands in
     record {
-      cell = c.go_on.ensures.cell ∙ c.start.ensures.cell ∙ c.begin.ensures.cell;
-      task = walked.number ∙ c.begin.ensures.did.number;
-      end = grew_from _ _ _ _ seen end.end;
-      woke = (walked.made.0, by_before walked.made.0 _ _ _ seen walked.made.1, walked.made.2 ∙ ap (λ X. X ++ handed walked.made.0) c.requires.none);
-      error = end.error;
-      pending = end.pending;
-      finished = end.finished;
-      poll = end.poll;
-      stays = g.met.S.Side.stays_on _ _ _ c.start.ensures.stays c.go_on.ensures.stays;
+      cell = c.steps_left-in-More.ensures.cell ∙ went.cell_is ∙ c.begin.ensures.cell;
+      task = p.number;
+      end = p.end;
+      woke = p.woke;
+      error = p.error;
+      finished = p.finished;
+      poll = p.poll;
+      stands = p.stands;
+      stays = g.met.S.Side.stays_on _ _ _ c.first_steps.ensures.stays c.steps_left-in-More.ensures.stays;
     }

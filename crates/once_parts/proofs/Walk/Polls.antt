@@ -1,0 +1,52 @@
+-- What a whole poll of a task leaves.
+use Rattle.std.proofs.Common.{◌≡◌, ℕ, false, true, List, [], ◌∷◌, ◌++◌, refl, sym, ap, ◌∙◌}
+use Rattle.std.specs.Prelude.{◌↔◌}
+use Rattle.std.proofs.lemmas.Bool.{false≢true}
+use Rattle.once_world.specs.Places.{EndDropped, EndError, EndFull, EndMemory, EndPending, EndValue, Ended, Ending, Finished}
+use Rattle.once_world.specs.Record.{Begin, Entry}
+use Rattle.once_parts.specs.declared.idle.Idle.{Idle}
+use Rattle.once_parts.specs.Idle.{is_over, step_of}
+use Rattle.once_parts.specs.Kept.{Grew}
+use Rattle.once_parts.specs.Own.{Own, Turned}
+use Rattle.once_parts.specs.Places.{task_begun}
+use Rattle.once_parts.specs.Sides.{Sided}
+use Rattle.once_parts.specs.Walks.{GrewBy, Stands, StandsOn, Walked, end_of, handed}
+use Rattle.once_parts.proofs.Idles.{live, not_in_call, over}
+use Rattle.once_parts.proofs.Walk.Begins.{grew_from}
+use Rattle.once_parts.proofs.Walk.Ends.{poll_ended}
+use Rattle.once_parts.proofs.Walk.Logs.{by_before, grew_on}
+
+-- a task that is not finished after a poll was told Pending
+told_pending : {W : Type 0} (e : Ending) (i : Idle) → ((e ≡ EndPending → ⊥) → step_of {W = W} i ≡ Finished) → is_over i ≡ false → e ≡ EndPending
+told_pending EndPending i ends live = refl
+told_pending EndValue i ends live = absurd (false≢true (sym live ∙ over _ i (ends (λ p. let no : EndValue ≡ EndPending = p in cc))))
+told_pending EndError i ends live = absurd (false≢true (sym live ∙ over _ i (ends (λ p. let no : EndError ≡ EndPending = p in cc))))
+told_pending EndMemory i ends live = absurd (false≢true (sym live ∙ over _ i (ends (λ p. let no : EndMemory ≡ EndPending = p in cc))))
+told_pending EndFull i ends live = absurd (false≢true (sym live ∙ over _ i (ends (λ p. let no : EndFull ≡ EndPending = p in cc))))
+told_pending EndDropped i ends live = absurd (false≢true (sym live ∙ over _ i (ends (λ p. let no : EndDropped ≡ EndPending = p in cc))))
+
+module _ {W : Type 0} (whose : W → ℕ) (x y : Sided) (u v w : Own) (e : Ending) (i : Idle) where
+  -- a poll ended so, and the task is at this
+  pub record Polled : Type 0 where
+    pub number : w.number ≡ u.number
+    pub end : Grew (end_of w.number e ∷ []) u.log w.log
+    pub woke : (es : List Entry) × GrewBy es u.log w.log × (y.woke ≡ handed es)
+    pub error : e ≡ EndError → y.has_error ≡ true
+    pub finished : (e ≡ EndPending) ↔ (is_over i ≡ false)
+    pub poll : e ≡ EndDropped → ⊥
+    pub stands : StandsOn whose w (step_of i)
+
+  -- it began, and its steps were made
+  pub polled : x.woke ≡ [] → Turned u (task_begun u.number u.task) (Begin u.number u.number ∷ []) v → Walked x v (Ended e) y w → Stands whose false y w (Ended e) (step_of i) → Polled
+  polled none begun walked stands =
+      let seen = grew_on _ _ _ begun.log in
+      let ended = poll_ended whose x y v w (Ended e) e refl (step_of i) walked stands (not_in_call _ i) in
+      record {
+        number = walked.number ∙ begun.number;
+        end = grew_from _ _ _ _ seen ended.end;
+        woke = (walked.made.0, by_before walked.made.0 _ _ _ seen walked.made.1, walked.made.2 ∙ ap (λ X. X ++ handed walked.made.0) none);
+        error = ended.error;
+        finished = (λ p. live _ i (ended.pending p).0, told_pending e i ended.finished);
+        poll = ended.poll;
+        stands = stands.step;
+      }

@@ -1,0 +1,19 @@
+-- What a task is at between two calls, and the step of the code that stands for it.
+use Rattle.std.specs.Prelude.{Bool, true, false, None, Some, ⊤}
+use Rattle.once_world.specs.Places.{Finished, RestRun, RestStart, RestWait, Resting, Step}
+use Rattle.once_parts.specs.declared.idle.Idle.{Idle}
+use Rattle.once_parts.specs.declared.idle.Idle.TheVariants.{New, Listed, Unlisted, Quick, Queued, Finished as Over}
+
+-- the step with which the next call begins
+abbrev pub step_of : {W : Type 0} → Idle → Step W ⊤
+step_of New = Resting RestStart
+step_of (Listed n) = Resting (RestWait tt (Some n))
+step_of Unlisted = Resting (RestWait tt None)
+step_of Quick = Resting (RestRun None)
+step_of Queued = Resting (RestRun (Some tt))
+step_of Over = Finished
+
+-- no call is to come
+abbrev pub is_over : Idle → Bool
+is_over Over = true
+is_over _ = false
