@@ -16,6 +16,9 @@ ITEM = re.compile(r"\s*pub (?:const |unsafe )*(fn|struct|enum|trait|const|type|m
 PARTS = {"enum": re.compile(r"\s*([A-Z]\w*)"), "struct": re.compile(r"\s*pub (\w+):"),
          "trait": re.compile(r"\s*(?:fn|type|const) (\w+)")}
 PART_NAMES = {"enum": "case", "struct": "field", "trait": "item"}
+# A line of a doc comment, and what ends a line of code.
+DOC = re.compile(r"\s*//[/!] ?(.*)")
+REMARK = re.compile(r"(?:^|\s)//.*")
 # What compares two numbers, or makes one of two; and no arrow.
 SIGN = r"(?:==|!=|<=|>=|<<|>>|<|(?<![=-])>|[%&|^+*/]|-(?!>))"
 NUMBER = re.compile(r"\b(?:0x[0-9a-fA-F_]+|\d[\d_]*)(?:u64)?\b")
@@ -40,6 +43,29 @@ def closing(code, at):
 def depth_of(text):
     """How many brackets this text opens and leaves open."""
     return sum(text.count(mark) for mark in "([{") - sum(text.count(mark) for mark in ")]}")
+
+
+def lines_of(texts):
+    """Returns these lines of code as one text, without comments and with single spaces."""
+    return " ".join(" ".join(REMARK.sub("", text).split()) for text in texts if REMARK.sub("", text).strip())
+
+
+def examples(text):
+    """Yields the blocks of code in the doc comments of a .rt file: the number of the first line, and the code."""
+    block, start = None, 0
+    for number, line in enumerate(text.split("\n"), 1):
+        found = DOC.match(line)
+        if not found:
+            block = None
+        elif not found[1].startswith("```"):
+            if block is not None:
+                block.append(found[1])
+        elif block is None:
+            block, start, is_code = [], number + 1, found[1] == "```"
+        else:
+            if is_code:
+                yield start, lines_of(block)
+            block = None
 
 
 def words(text):
