@@ -46,8 +46,23 @@ def depth_of(text):
 
 
 def lines_of(texts):
-    """Returns these lines of code as one text, without comments and with single spaces."""
-    return " ".join(" ".join(REMARK.sub("", text).split()) for text in texts if REMARK.sub("", text).strip())
+    """Returns these lines of code, without comments and with single spaces; none that is empty then."""
+    lines = (" ".join(REMARK.sub("", text).split()) for text in texts)
+    return [line for line in lines if line]
+
+
+def follow(lines, code, gap=2):
+    """Whether the lines stand in the code in their order, with so many others between two of them at most."""
+    for start in (at for at, line in enumerate(code) if line == lines[0]):
+        at = start
+        for line in lines[1:]:
+            near = code[at + 1:at + 2 + gap]
+            if line not in near:
+                break
+            at += 1 + near.index(line)
+        else:
+            return True
+    return False
 
 
 def examples(text):

@@ -27,7 +27,7 @@ use std::{fmt, mem};
 /// ```
 /// let lazy = Lazy::new(ready(3));
 /// let value = lazy.get(rt).wait()?; // Ok(&3)
-/// assert_eq!(rt; lazy.try_get(), Some(&3));
+/// let set = lazy.try_get().copied(); // Some(3)
 /// ```
 #[derive(Drop)]
 pub struct Lazy<T, F: Future> {
@@ -164,12 +164,12 @@ impl<T, F: Future> Lazy<T, F> {
     /// Here the cell's future is Pending at its first poll, and gives 9 at the second:
     ///
     /// ```
-    /// let is_pending = task.poll(&mut f).is_pending(); // true; `f` is a future of `lazy`
-    /// drop(f);
+    /// let is_pending = task.poll(&mut held).is_pending(); // true; `held` is a future of `lazy`
+    /// drop(held);
     /// let Err(Some(mut future)) = lazy.into_parts() else {
-    ///     return Err(Fail::from("no future came back"));
+    ///     return Err(Fault::Empty);
     /// };
-    /// assert_eq!(rt; task.poll(&mut future), Poll::Ready(9)); // it went on where it stood
+    /// let last = task.poll(&mut future); // Ready(9): it went on where it stood
     /// ```
     pub fn into_parts(self) -> Result<T, Option<F>>
         ensures { Gives self (result_ok result) }

@@ -11,7 +11,7 @@ use std::sync::atomic::{AtomicU64, Ordering};
 /// ```
 /// let fetches = AtomicU64::new(0);
 /// let mut fetch = Fetch::new(3, &fetches);
-/// task.poll(&mut fetch); // Ready(30), and one fetch is counted
+/// let polled = task.poll(&mut fetch); // Ready(30), and one fetch is counted
 /// ```
 #[derive(Drop)]
 pub struct Fetch<'a> {

@@ -90,7 +90,7 @@ impl<T> Memo<T> {
     /// ```
     /// let mut token = memo.token(7).unwrap();
     /// let early = memo.get_as(7, &mut token); // None
-    /// block_on(rt, memo.cell(7).unwrap().get_or_init(rt, ready(70)))?;
+    /// let _ = block_on(rt, memo.cell(7).unwrap().get_or_init(rt, ready(70)))?; // Ok(&70)
     /// let value = memo.get_as(7, &mut token); // Some(&70), and so at each later call
     /// ```
     pub fn get_as<'a>(&'a self, key: u64, token: &mut Known<'a, T>) -> Option<&'a T>

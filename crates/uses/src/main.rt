@@ -1,9 +1,10 @@
-//! What such cells are for: what a Rust programmer writes with `async`, settings that are read once, a connection,
-//! a graph of values, a pool of tasks, a table, and settings that threads load anew.
+//! What such cells are for: what a Rust programmer writes with `async`, the examples of doc comments, settings that
+//! are read once, a connection, a graph of values, a pool of tasks, a table, and settings that threads load anew.
 #![tactic(auto)]
 
 mod ask;
 mod connection;
+mod examples;
 mod fault;
 mod from_rust;
 mod graph;
@@ -30,6 +31,7 @@ where
     O: Write,
 {
     from_rust::show(rt)?;
+    examples::show(rt)?;
     settings::show(rt, output)?;
     connection::show(rt, output)?;
     graph::show(rt, output)?;

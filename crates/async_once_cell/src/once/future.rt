@@ -267,7 +267,9 @@ where
     ///         let token = mem::replace(&mut self.token, self.cell.token());
     ///         Poll::Ready((answer, token)) // if a value is answered, the token knows it
     ///     }
-    ///     Poll::Pending => Poll::Pending,
+    ///     Poll::Pending => {
+    ///         Poll::Pending
+    ///     }
     /// }
     /// ```
     pub fn poll_as(

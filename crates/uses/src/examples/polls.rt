@@ -1,0 +1,109 @@
+//! Polls of futures by hand, and steps of a replay.
+ghost use Rattle.std.specs.Prelude.{◌≡◌, false};
+
+use crate::fault::Fault;
+use async_once_cell::once::{InitError, TryInitFuture};
+use async_once_cell::world::{Input, Kind, World};
+use async_once_cell::{Lazy, OnceCell};
+use futures::Future;
+use futures::future::{TryOutput, ok, pending, ready};
+use futures::task::{Context, Poll};
+use futures::test::MockTask;
+use std::alloc::{AllocError, AllocGlobal, Global};
+use std::random::RandomSource;
+use std::sync::Wait;
+
+/// Pending once, and then 9.
+#[derive(Drop)]
+struct Later {
+    is_polled: bool,
+}
+
+impl Future for Later {
+    type Output = u64;
+
+    fn poll(&mut self, cx: &mut Context<'_>) -> Poll<u64> {
+        if self.is_polled {
+            return Poll::Ready(9);
+        }
+        self.is_polled = true;
+        cx.yield_now()
+    }
+}
+
+/// A holder is dropped, and the one that waited runs its own init.
+fn dropped_holder<R>(rt: &R) -> Result<(bool, bool), Fault>
+where
+    R: Wait + RandomSource + AllocGlobal,
+{
+    let (cell, task) = (OnceCell::new(), MockTask::new(rt)?);
+    let mut holder = cell.get_or_init(rt, pending());
+    let mut waiter = cell.get_or_init(rt, ready(9));
+    let is_held = task.poll(&mut holder).is_pending();
+    let _ = task.poll(&mut waiter);
+    drop(holder);
+    let is_made = task.poll(&mut waiter).is_ready();
+    if !waiter.is_finished() {
+        let _ = task.poll(&mut waiter);
+    }
+    Ok((is_held, is_made))
+}
+
+/// What one poll gives: the value, the error of the own init, or 0.
+fn polled_once<F, R>(future: &mut TryInitFuture<'_, u64, u64, F, R>, cx: &mut Context<'_>) -> u64
+where
+    F: Future<Output: TryOutput<Ok = u64, Error = u64>>,
+    R: Wait + AllocGlobal,
+    requires { future.old.finished ≡ false }
+{
+    let polled = future.poll(cx);
+    match polled {
+        Poll::Ready(Ok(value)) => *value,
+        Poll::Ready(Err(InitError::Init(error))) => error,
+        Poll::Ready(Err(InitError::Memory | InitError::Full)) | Poll::Pending => 0,
+    }
+}
+
+/// A future that is handed back goes on where it stood.
+fn handed_back<R>(rt: &R) -> Result<bool, Fault>
+where
+    R: Wait + RandomSource + AllocGlobal,
+{
+    let (lazy, task) = (Lazy::new(Later { is_polled: false }), MockTask::new(rt)?);
+    let mut held = lazy.get(rt);
+    let is_pending = task.poll(&mut held).is_pending();
+    drop(held);
+    let Err(Some(mut future)) = lazy.into_parts() else {
+        return Err(Fault::Empty);
+    };
+    let last = task.poll(&mut future);
+    Ok(is_pending && last.is_ready())
+}
+
+/// How many entries two inputs of a replay add.
+fn replayed(alloc: Global) -> Result<usize, AllocError> {
+    let mut world = World::new(alloc, Kind::Once, 8);
+    world.take(&Input::Make(1))?;
+    world.take(&Input::Poll(1, 5))?;
+    let begun = world.entries();
+    let next = world.step_of(1);
+    Ok(if next.is_some() { begun.len() } else { 0 })
+}
+
+/// Prints what these give.
+pub fn show<R>(rt: &R) -> Result<(), Fault>
+where
+    R: Print + Wait + RandomSource + AllocGlobal,
+{
+    let (cell, task) = (OnceCell::new(), MockTask::new(rt)?);
+    let mut future = cell.get_or_try_init(rt, ok::<u64, u64>(7));
+    let value = task.enter(|cx| polled_once(&mut future, cx));
+    println!(rt;
+        "polled: {:?} {} {}",
+        dropped_holder(rt)?,
+        value,
+        handed_back(rt)?
+    )?;
+    println!(rt; "replayed: {} entries", replayed(rt.alloc())?)?;
+    Ok(())
+}

@@ -1,0 +1,84 @@
+//! A table of values that are fetched once.
+ghost use Rattle.std.specs.Prelude.{◌≡◌, IsSome};
+ghost use Rattle.memo_table.specs.Memo.{cell_of};
+
+use crate::fault::Fault;
+use futures::executor::block_on;
+use futures::future::ready;
+use futures::test::MockTask;
+use memo_table::fetch::Fetch;
+use memo_table::memo::Memo;
+use std::alloc::{AllocError, AllocGlobal, Global};
+use std::random::RandomSource;
+use std::sync::Wait;
+use std::sync::atomic::AtomicU64;
+
+/// Two fetches of one key, of which the second is not polled.
+fn fetched<R>(rt: &R) -> Result<(u64, u64), Fault>
+where
+    R: Wait + RandomSource + AllocGlobal,
+{
+    let alloc = rt.alloc();
+    let memo = Memo::new(alloc, vec![in alloc; 1, 2]?)?;
+    let cell = memo.cell(1).unwrap();
+    let first = block_on(rt, cell.get_or_init(rt, ready(10)))?;
+    let second = block_on(rt, cell.get_or_init(rt, ready(11)))?;
+    Ok((*first?, *second?))
+}
+
+/// The tokens of two keys, one of which the table has.
+fn tokens(alloc: Global) -> Result<(bool, bool), AllocError> {
+    let memo = Memo::<u64>::new(alloc, vec![in alloc; 7, 5, 7]?)?;
+    let token = memo.token(7);
+    let missing = memo.token(6);
+    Ok((token.is_some(), missing.is_some()))
+}
+
+/// What a token gets before a fetch, and after.
+fn learned<R>(rt: &R, memo: &Memo<u64>) -> Result<(Option<u64>, Option<u64>), Fault>
+where
+    R: Wait + RandomSource + AllocGlobal,
+    requires { IsSome (cell_of memo.now 7) }
+{
+    let mut token = memo.token(7).unwrap();
+    let early = memo.get_as(7, &mut token);
+    let _ = block_on(rt, memo.cell(7).unwrap().get_or_init(rt, ready(70)))?;
+    let value = memo.get_as(7, &mut token);
+    Ok((early.copied(), value.copied()))
+}
+
+/// The value of a key, looked at without a token.
+fn looked(memo: &Memo<u64>) -> Option<u64> {
+    let value = memo.cell(7).and_then(|cell| cell.get());
+    value.copied()
+}
+
+/// A fetch, polled by hand.
+fn polled<R>(rt: &R) -> Result<bool, Fault>
+where
+    R: RandomSource + AllocGlobal,
+{
+    let task = MockTask::new(rt)?;
+    let fetches = AtomicU64::new(0);
+    let mut fetch = Fetch::new(3, &fetches);
+    let polled = task.poll(&mut fetch);
+    Ok(polled.is_ready())
+}
+
+/// Prints what these give.
+pub fn show<R>(rt: &R) -> Result<(), Fault>
+where
+    R: Print + Wait + RandomSource + AllocGlobal,
+{
+    let alloc = rt.alloc();
+    let memo = Memo::new(alloc, vec![in alloc; 7]?)?;
+    let learned = learned(rt, &memo)?;
+    println!(rt; "a table: {:?} {:?}", fetched(rt)?, tokens(alloc)?)?;
+    println!(rt;
+        "a table: {:?} {:?} {}",
+        learned,
+        looked(&memo),
+        polled(rt)?
+    )?;
+    Ok(())
+}
