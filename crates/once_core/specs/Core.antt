@@ -110,10 +110,6 @@ module _ {W : Type 0} where
   abbrev pub take_state : CoreState W → CoreState W
   take_state s = take_by s.door s
 
-  -- where no queue stands at the door, nobody holds by its flag and nobody is listed
-  abbrev pub IsBare : CoreState W → Type 0
-  IsBare s = s.door ≡ None → (s.head ≡ false) × (s.listings ≡ [])
-
   -- whether a queue was taken out
   abbrev pub DidDoorTake : CoreState W → Bool → CoreState W → Type 0
   DidDoorTake s stood t = (stood ≡ is_some s.door) × (t ≡ take_state s)

@@ -15,11 +15,6 @@ abbrev pub is_set : Cell → Bool
 is_set (SetTo v) = true
 is_set _ = false
 
--- some task holds
-abbrev pub is_held : Cell → Bool
-is_held (Held t) = true
-is_held _ = false
-
 -- what a look finds
 abbrev pub value_in : Cell → Option ℕ
 value_in (SetTo v) = Some v

@@ -164,7 +164,3 @@ pub record FallsInto (kind : Kind) (inputs : List Input) (history : List Entry) 
   pub added : AreAdded kind parts
   pub sixteen_end : Always (SixteenEnd kind) parts
   pub memory : Always (WantsMemoryOnlyUngranted kind) parts
-
--- the record belongs to these inputs
-abbrev pub Belongs : Kind → List Input → List Entry → Type 0
-Belongs kind inputs history = (parts : List Part) × FallsInto kind inputs history parts

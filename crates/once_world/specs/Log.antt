@@ -1,5 +1,6 @@
 -- The queue log: which queue stands at the door, and which log belongs to which parts. The newest line stands first.
 use Rattle.std.specs.Prelude.{◌≡◌, ◌≢◌, ℕ, Bool, true, false, if◌then◌else◌, ◌==◌, List, [], ◌∷◌, ◌++◌, Option, Some, None}
+use Rattle.std.specs.Option.{is_none}
 use Rattle.once_queue.specs.declared.log.QueueLine.{QueueLine}
 use Rattle.once_queue.specs.declared.log.QueueLine.TheVariants.{Put, Entered, Taken}
 use Rattle.once_world.specs.Record.{Answer, Pending, Kind, Entry, Free, Fill, Pass, End, replaces}
@@ -37,17 +38,12 @@ abbrev pub is_some_waker : List ℕ → Bool
 is_some_waker [] = false
 is_some_waker _ = true
 
--- the init was not polled
-abbrev pub did_not_run : Option Answer → Bool
-did_not_run None = true
-did_not_run _ = false
-
 -- the entry hands out a waker, or ends a poll Pending that did not run
 abbrev pub needs_queue : Kind → Entry → List Entry → Bool
 needs_queue kind (Free t X) before = is_some_waker X
 needs_queue kind (Fill t v X) before = is_some_waker X
 needs_queue kind (Pass t X) before = is_some_waker X
-needs_queue kind (End t Pending) before = did_not_run (last_call kind t before).ran
+needs_queue kind (End t Pending) before = is_none (last_call kind t before).ran
 needs_queue kind _ before = false
 
 -- some of these entries, which follow those before, needs the queue

@@ -1,7 +1,7 @@
 -- The machine: what all tasks share, the place at which each task stands, and what each input does.
 use Rattle.std.specs.Prelude.{◌≡◌, ℕ, suc, Bool, true, false, if◌then◌else◌, ◌==◌, ◌-◌, nat_lt, ◌||◌, not, List, [], ◌∷◌, ◌++◌}
 use Rattle.std.specs.Prelude.{Option, Some, None}
-use Rattle.std.specs.Option.{is_some}
+use Rattle.std.specs.Option.{is_some, unwrap_or}
 pub use Rattle.once_world.specs.Places.{Ending, EndPending, EndValue, EndError, EndMemory, EndFull, EndDropped}
 pub use Rattle.once_world.specs.Places.{Rest, RestStart, RestWait, RestRun, Step, Resting, UnderWay, Finished}
 pub use Rattle.once_world.specs.Places.{Place, AtStart, AtTryQuick, AtDoorGet, AtDoorPut, AtCountIn, AtWaitLoad, AtLook, AtList, AtRun}
@@ -439,23 +439,13 @@ abbrev pub owner_got : OwnerCall → SharedState → Got
 owner_got Parts c = parts_got c.ready c
 owner_got _ c = value_got c.ready c.value
 
--- there is a value
-abbrev pub is_some_value : Option ℕ → Bool
-is_some_value (Some v) = true
-is_some_value None = false
-
--- the new value, or else the old one
-abbrev pub value_or : Option ℕ → ℕ → ℕ
-value_or (Some v) old = v
-value_or None old = old
-
 -- the cell as a new one, with this value or none and with these answers, without a queue at the door
 abbrev pub reset_shared : SharedState → Option ℕ → List (Option ℕ) → SharedState
 reset_shared c v l = record (take_shared c) {
   count = 0;
   quick = false;
-  ready = is_some_value v;
-  value = value_or v c.value;
+  ready = is_some v;
+  value = unwrap_or v c.value;
   answers = l;
 }
 
@@ -495,11 +485,6 @@ world_after kind limit w (Go t a granted) = go_world (is_lazy kind) limit w t a 
 world_after kind limit w (Owns o) = own_world_by (w.unfinished == 0) (has_call kind o) w o
 world_after kind limit w Looks = record w { history = Look (look_value w.shared) ∷ w.history }
 
--- the value that a cell is made with, or 0
-abbrev pub value_at_start : Option ℕ → ℕ
-value_at_start (Some v) = v
-value_at_start None = 0
-
 -- a cell of the kind that nobody used
 abbrev pub first_world : Kind → World
 first_world kind = record {
@@ -511,7 +496,7 @@ first_world kind = record {
     head = false;
     listings = [];
     queues = 0;
-    value = value_at_start (value_in (first_cell kind));
+    value = unwrap_or (value_in (first_cell kind)) 0;
     answers = first_answers kind;
   };
   tasks = λ t. None;

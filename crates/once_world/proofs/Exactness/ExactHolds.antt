@@ -4,7 +4,7 @@ use Rattle.std.proofs.lemmas.Bool.Decides.{nat_tests}
 use Rattle.once_core.specs.declared.step.Polled.{Polled}
 use Rattle.once_world.specs.declared.world.side.ReplaySide.{ReplaySide}
 use Rattle.once_queue.specs.Word.{flags_alone, is_quick_bit}
-use Rattle.once_core.specs.Core.{CoreState, DidAddOne, IsBare, take_by, take_state}
+use Rattle.once_core.specs.Core.{CoreState, DidAddOne, take_by, take_state}
 use Rattle.once_world.specs.Places.{AtAddOne, AtCountOut, AtDoorAgain, AtDoorTake, AtFast, AtPut, AtRun, EndValue, Ending, More, Progress, Step, UnderWay}
 use Rattle.once_core.specs.Steps.{Follows, after_count_out, after_door_again, after_fast, after_run, release_place, is_running, next_at, next_end}
 use Rattle.once_world.specs.Record.{Answer, RanError, RanPending, RanValue}
@@ -12,7 +12,7 @@ use Rattle.once_world.specs.Cell.{rest_of}
 use Rattle.once_world.specs.Log.{take_lines}
 use Rattle.once_world.specs.Machine.{TakenLine, again_step, claim_entries, out_shared, take_shared, fast_step, outcome_of, fast_shared, freed_entries, kept_after, out_step, polled_of, put_value, run_shared, run_step}
 use Rattle.once_world.specs.Side.{DidClose, DidPut, DidRun, answers_in, next_of}
-use Rattle.once_world.proofs.Exactness.Outcomes.{IsFresh, IsOutcome, follows_by, shared_by, is_freed, ran_by, reverse_push, unclosed}
+use Rattle.once_world.proofs.Exactness.Outcomes.{IsBare, IsFresh, IsOutcome, follows_by, shared_by, is_freed, ran_by, reverse_push, unclosed}
 use Rattle.once_world.proofs.Exactness.ExactWaits.{IsIdle}
 
 -- the side after a poll of the init that answered x, where nothing else was seen

@@ -40,6 +40,10 @@ pub record IsOutcome (from : Step ℕ ℕ) (o : ℕ → Outcome) (lines : List Q
   pub log : reverse s'.log ≡ lines ++ reverse s.log
   pub lazy_is : c'.lazy ≡ c.lazy
 
+-- where no queue stands at the door, nobody holds by its flag and nobody is listed
+abbrev pub IsBare : CoreState ℕ → Type 0
+IsBare s = s.door ≡ None → (s.head ≡ false) × (s.listings ≡ [])
+
 -- the side before a step has seen nothing
 pub record IsFresh (c : ReplaySide) : Type 0 where
   pub ran : c.ran ≡ None

@@ -1,9 +1,14 @@
 -- Small facts on a cell: who holds it, and which value is set.
-use Rattle.std.proofs.Common.{◌≡◌, ◌≢◌, ℕ, true, false, Option, Some, None, refl, arith}
+use Rattle.std.proofs.Common.{◌≡◌, ◌≢◌, ℕ, Bool, true, false, Option, Some, None, refl, arith}
 use Rattle.std.proofs.lemmas.Bool.{false≢true}
 use Rattle.std.proofs.lemmas.Bool.Decides.{nat_tests}
-use Rattle.once_world.specs.Cell.{Cell, Empty, Held, SetTo, is_held, is_set}
+use Rattle.once_world.specs.Cell.{Cell, Empty, Held, SetTo, is_set}
 use Rattle.once_world.proofs.History.Others.{holds}
+
+-- some task holds
+abbrev pub is_held : Cell → Bool
+is_held (Held t) = true
+is_held _ = false
 
 -- who holds a cell that is held
 pub holder_of : (c : Cell) → is_held c ≡ true → (u : ℕ) × (c ≡ Held u)

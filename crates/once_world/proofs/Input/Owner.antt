@@ -1,15 +1,16 @@
 -- The owner's calls: where no task is unfinished they keep all that holds.
 use Rattle.std.proofs.Common.{◌≡◌, ◌≢◌, ℕ, Bool, true, false, ◌==◌, ◌⊎◌, inl, inr, ⊎_elim, List, [], ◌∷◌, Option, Some, None, refl, sym, ap, ◌∙◌, arith}
 use Rattle.std.proofs.lemmas.Bool.{false≢true, eqb-true}
+use Rattle.std.specs.Option.{is_some, unwrap_or}
 use Rattle.once_queue.specs.Numbers.{how_many}
 use Rattle.once_world.specs.Record.{Entry, Got, GotAnswers, Kind, Own, OwnerCall, Parts, ReplaceAnswers, ReplaceValue, Take, Write, made_in, replaces}
-use Rattle.once_world.specs.Cell.{Cell, Empty, Held, SetTo, answers_left, cell, got, got_parts, got_value, is_held, is_set, cell_after_call, write_cell}
+use Rattle.once_world.specs.Cell.{Cell, Empty, Held, SetTo, answers_left, cell, got, got_parts, got_value, is_set, cell_after_call, write_cell}
 use Rattle.once_world.specs.Tasks.{Waiting, status}
 use Rattle.once_queue.specs.Listings.{find_listing}
-use Rattle.once_world.specs.Machine.{SharedState, Task, World, is_some_value, own_world_by, owner_got, owner_shared, parts_got, reset_shared, write_shared, value_got, value_or, step_of}
+use Rattle.once_world.specs.Machine.{SharedState, Task, World, own_world_by, owner_got, owner_shared, parts_got, reset_shared, write_shared, value_got, step_of}
 use Rattle.once_queue.proofs.Listing.Members.{eqb_self}
 use Rattle.once_world.proofs.History.Others.{holds}
-use Rattle.once_world.proofs.History.Cells.{empty_cell, empty_not_set, holder_of, same_value, value_of_set}
+use Rattle.once_world.proofs.History.Cells.{empty_cell, empty_not_set, holder_of, is_held, same_value, value_of_set}
 use Rattle.once_world.proofs.History.Waiters.{QueueFits, quiet}
 use Rattle.once_world.proofs.Listing.Counting.{count_none}
 use Rattle.once_world.proofs.Invariant.Facts.{is_counted}
@@ -75,8 +76,8 @@ owner_is_got K limit (ReplaceAnswers l) c h f = value_is_got K limit c h (cell K
 
 -- a cell made new fits
 reset_fits : (K : Kind) (limit : ℕ) (c : SharedState) (v : Option ℕ) (l : List (Option ℕ)) (h : List Entry)
-    → is_some_value v ≡ is_set (cell K h) → is_held (cell K h) ≡ false
-    → ((u : ℕ) → cell K h ≡ SetTo u → value_or v c.value ≡ u) → l ≡ answers_left K h
+    → is_some v ≡ is_set (cell K h) → is_held (cell K h) ≡ false
+    → ((u : ℕ) → cell K h ≡ SetTo u → unwrap_or v c.value ≡ u) → l ≡ answers_left K h
     → SharedFits K limit (reset_shared c v l) h
 reset_fits K limit c v l h r n s a = record {
   ready_is = r;

@@ -3,12 +3,13 @@ use Rattle.std.proofs.Common.{◌≡◌, ◌≤◌, ◌<◌, ℕ, suc, Bool, tru
 use Rattle.std.specs.Prelude.{◌||◌, not}
 use Rattle.once_queue.specs.Numbers.{how_many, is_distinct, member}
 use Rattle.once_world.specs.Record.{Entry, Kind, made_in}
-use Rattle.once_world.specs.Cell.{SetTo, answers_left, cell, is_held, is_set}
+use Rattle.once_world.specs.Cell.{SetTo, answers_left, cell, is_set}
 use Rattle.once_world.specs.Tasks.{Unmade, last_call}
 use Rattle.once_queue.specs.Listings.{find_listing}
 use Rattle.once_world.specs.Run.{AtEvery, IsRun}
 use Rattle.once_world.specs.Called.{SomebodyCalled}
 use Rattle.once_world.specs.Machine.{SharedState, Task, World, is_finished, step_of}
+use Rattle.once_world.proofs.History.Cells.{is_held}
 use Rattle.once_world.proofs.History.Waiters.{QueueFits}
 use Rattle.once_world.proofs.Invariant.Facts.{AtStep, InStatus, IsSomeDoor, is_counted, is_inside, is_take, kept_of, ticket_of}
 

@@ -3,7 +3,7 @@ use Rattle.std.proofs.Common.{◌≡◌, ◌<◌, ℕ, Bool, true, false, cond, 
 use Rattle.std.proofs.lemmas.Bool.{false≢true, cases_Bool}
 use Rattle.std.proofs.lemmas.Bool.Decides.{nat_tests}
 use Rattle.once_world.specs.Record.{Begin, Claim, DropBegin, DropEnd, End, Entry, Error, Fill, Free, Full, Kind, Look, Made, Memory, Own, Pass, Pending, Ran, Value}
-use Rattle.once_world.specs.Inputs.{Always, Belongs, Input, Part, WantsMemoryOnlyUngranted, all_granted, begins_call, ends_for_memory, entries_of, gos, inputs_of, is_fitting_go, is_ungranted}
+use Rattle.once_world.specs.Inputs.{Always, FallsInto, Input, Part, WantsMemoryOnlyUngranted, all_granted, begins_call, ends_for_memory, entries_of, gos, inputs_of, is_fitting_go, is_ungranted}
 use Rattle.once_world.specs.Machine.{history_of}
 use Rattle.once_world.proofs.Part.Belonging.{belongs}
 
@@ -53,7 +53,7 @@ no_memory K t (p ∷ before) a g =
     ends_for_memory-append t p.entries (entries_of before) ∙ rw here ih
 
 -- where every step is given memory, no record that belongs to these inputs has a call that ended for want of it
-granted_memory : (kind : Kind) (inputs : List Input) (h : List Entry) (t : ℕ) → Belongs kind inputs h → all_granted inputs ≡ true → ends_for_memory t h ≡ false
+granted_memory : (kind : Kind) (inputs : List Input) (h : List Entry) (t : ℕ) → (parts : List Part) × FallsInto kind inputs h parts → all_granted inputs ≡ true → ends_for_memory t h ≡ false
 granted_memory kind inputs h t b g = let f = b.1 in rw (← f.entries_are) (no_memory kind t b.0 f.memory (ap all_granted f.inputs_are ∙ g))
 
 -- where every step is given memory, the record has no call that ended for want of it

@@ -3,13 +3,13 @@ use Rattle.std.proofs.Common.{◌≡◌, ◌≢◌, ◌≤◌, ◌<◌, ℕ, suc
 use Rattle.std.specs.Prelude.{◌||◌}
 use Rattle.std.proofs.lemmas.Bool.{false≢true, cases_Bool}
 use Rattle.once_world.specs.Record.{Answer, Claim, Entry, Kind, Ran}
-use Rattle.once_world.specs.Cell.{Held, SetTo, answers_left, cell, is_held, is_set, rest_of}
+use Rattle.once_world.specs.Cell.{Held, SetTo, answers_left, cell, is_set, rest_of}
 use Rattle.once_world.specs.Tasks.{Waiting, status}
 use Rattle.once_queue.specs.declared.waiters.Listing.{Listing}
 use Rattle.once_world.specs.Machine.{SharedState, take_shared, is_at_door, run_shared}
 use Rattle.once_queue.proofs.Listing.Members.{eqb_self}
 use Rattle.once_world.proofs.History.Others.{holds}
-use Rattle.once_world.proofs.History.Cells.{held_not_set, none_some, set_free}
+use Rattle.once_world.proofs.History.Cells.{held_not_set, is_held, none_some, set_free}
 use Rattle.once_world.proofs.History.Waiters.{QueueFits, list_fits, nobody_called}
 use Rattle.once_world.proofs.Invariant.Facts.{IsSomeDoor}
 use Rattle.once_world.proofs.Invariant.Fits.{SharedFits}

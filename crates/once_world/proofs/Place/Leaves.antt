@@ -3,7 +3,7 @@ use Rattle.std.proofs.Common.{◌≡◌, ◌≢◌, ◌≤◌, ◌+◌, ℕ, Boo
 use Rattle.std.proofs.lemmas.Bool.{false≢true, cases_eq}
 use Rattle.once_queue.specs.Numbers.{times_in}
 use Rattle.once_world.specs.Record.{Answer, Entry, Kind, Pass}
-use Rattle.once_world.specs.Cell.{Empty, cell, is_held, is_set}
+use Rattle.once_world.specs.Cell.{Empty, cell, is_set}
 use Rattle.once_world.specs.Tasks.{Waiting, last_call, status}
 use Rattle.once_queue.specs.declared.waiters.Listing.{Listing}
 use Rattle.once_queue.specs.Listings.{call_first, find_listing, first_waker, left_list, next_waker, one_out, take_out}
@@ -11,7 +11,7 @@ use Rattle.once_world.specs.Run.{IsLegal, IsRun, MayPass}
 use Rattle.once_world.specs.Machine.{AtCountOut, AtLeave, EndDropped, EndError, EndFull, EndMemory, EndPending, EndValue, Ending, SharedState, UnderWay, is_at_door, is_taken, leave_step, pass_entries, is_passing}
 use Rattle.once_queue.proofs.Listing.Members.{eqb_self}
 use Rattle.once_world.proofs.History.Others.{legal_keeps}
-use Rattle.once_world.proofs.History.Cells.{empty_cell}
+use Rattle.once_world.proofs.History.Cells.{empty_cell, is_held}
 use Rattle.once_world.proofs.Listing.Listings.{asks, asks_call, asks_take, find_take_other, none_found}
 use Rattle.once_world.proofs.Listing.CalledFirst.{call_back, call_called, call_none}
 use Rattle.once_world.proofs.History.Waiters.{CalledAt, QueueFits, entry_fits, list_fits, open_by}
