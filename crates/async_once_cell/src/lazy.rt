@@ -7,8 +7,8 @@ ghost use Rattle.async_once_cell.specs.Views.{Owned, is_shared};
 
 mod future;
 
-use crate::held::Held;
 use crate::once::{Known, OnceCell};
+use crate::pollable::Pollable;
 pub use future::{LazyFuturePin, LazyFutureUnpin};
 use futures::Future;
 use std::alloc::AllocGlobal;
@@ -33,7 +33,7 @@ use std::{fmt, mem};
 pub struct Lazy<T, F: Future> {
     pub(crate) cell: OnceCell<T>,
     // None while it is polled, and once it gave its value.
-    future: Mutex<Option<Held<F>>>,
+    future: Mutex<Option<Pollable<F>>>,
 }
 
 /// A clause sees a cell as the value that its owner put there, or else as the slot into which tasks put one.
@@ -53,7 +53,7 @@ impl<T, F: Future<Output = T>> Lazy<T, F> {
     {
         Lazy {
             cell: OnceCell::new(),
-            future: Mutex::new(Some(Held::new(future))),
+            future: Mutex::new(Some(Pollable::new(future))),
         }
     }
 
@@ -177,7 +177,7 @@ impl<T, F: Future> Lazy<T, F> {
         let Lazy { cell, future } = self;
         match cell.into_inner() {
             Some(value) => Ok(value),
-            None => Err(future.into_inner().map(Held::into_inner)),
+            None => Err(future.into_inner().map(Pollable::into_inner)),
         }
     }
 

@@ -77,10 +77,10 @@
 //! `docs/PROVED.md` of the repository says what no clause says, and `docs/THREADS.md` what is proved of threads.
 #![tactic(auto)]
 
-mod held;
 pub mod inner;
 pub mod lazy;
 pub mod once;
+mod pollable;
 pub mod queue;
 mod seat;
 mod waiting;

@@ -10,7 +10,7 @@ ghost use Rattle.once_parts.specs.Record.{IsSet};
 ghost use Rattle.once_parts.specs.Walks.{end_of};
 ghost use Rattle.async_once_cell.specs.Replies.{ValueOf, ending_of, is_over};
 
-use crate::held::Held;
+use crate::pollable::Pollable;
 use crate::seat::{Seat, Seated, call_all};
 use futures::Future;
 use futures::future::TryOutput;
@@ -44,7 +44,7 @@ pub(crate) enum Reply<'a, T, E> {
 #[derive(Drop)]
 pub(crate) struct Waiting<'a, T, F: Future, R: Wait + AllocGlobal> {
     task: Task<'a, 'a, T, Seated, R>,
-    init: Option<Held<F>>,
+    init: Option<Pollable<F>>,
     // Made when the task waits for the first time.
     seat: Option<Seat>,
 }
@@ -68,7 +68,7 @@ impl<'a, T, F: Future, R: Wait + AllocGlobal> Waiting<'a, T, F, R> {
     {
         Waiting {
             task: Task::new(inner, rt),
-            init: Some(Held::new(init)),
+            init: Some(Pollable::new(init)),
             seat: None,
         }
     }
@@ -199,7 +199,7 @@ struct Polling<'r, 'c, 'd, 'i, 's, T, E, H, R> {
 }
 
 impl<T: Drop, E: Drop, F, R: Wait + AllocGlobal> Side<Seated>
-    for Polling<'_, '_, '_, '_, '_, T, E, Held<F>, R>
+    for Polling<'_, '_, '_, '_, '_, T, E, Pollable<F>, R>
 where
     F: Future<Output: TryOutput<Ok = T, Error = E>>,
 {
@@ -219,13 +219,13 @@ where
 
     #[inline(always)]
     fn run(&mut self) -> Polled {
-        let Some(held) = self.init.take() else {
+        let Some(pollable) = self.init.take() else {
             return Polled::Pending;
         };
-        let mut init = held.into_inner();
+        let mut init = pollable.into_inner();
         match init.poll(self.cx) {
             Poll::Pending => {
-                *self.init = Some(Held::new(init));
+                *self.init = Some(Pollable::new(init));
                 self.is_armed = true;
                 Polled::Pending
             }
@@ -279,7 +279,7 @@ where
 }
 
 impl<T: Drop, E: Drop, F, R: Wait + AllocGlobal> TaskSide<Seated>
-    for Polling<'_, '_, '_, '_, '_, T, E, Held<F>, R>
+    for Polling<'_, '_, '_, '_, '_, T, E, Pollable<F>, R>
 where
     F: Future<Output: TryOutput<Ok = T, Error = E>>,
 {

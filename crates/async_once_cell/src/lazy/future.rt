@@ -10,8 +10,8 @@ ghost use Rattle.async_once_cell.specs.Views.{is_shared};
 ghost use mathlib.Core.List.{IsPrefix};
 ghost use Rattle.async_once_cell.specs.Polls.{Answers, DidPoll, Polls, PollsAs, Waits, sure_ending};
 
-use crate::held::Held;
 use crate::once::{InitFuture, Known, OnceCell, Parker, Refused};
+use crate::pollable::Pollable;
 use futures::Future;
 use futures::task::{Context, Poll};
 use std::alloc::AllocGlobal;
@@ -49,7 +49,11 @@ impl<'a, T, F: Future, R: Wait + AllocGlobal> Model for LazyFuturePin<'a, T, F, 
 
 impl<'a, T, F: Future, R: Wait + AllocGlobal> LazyFuturePin<'a, T, F, R> {
     #[inline(always)]
-    pub(crate) fn new(cell: &'a OnceCell<T>, rt: &'a R, future: &'a Mutex<Option<Held<F>>>) -> Self
+    pub(crate) fn new(
+        cell: &'a OnceCell<T>,
+        rt: &'a R,
+        future: &'a Mutex<Option<Pollable<F>>>,
+    ) -> Self
         ensures cell { result.cell ≡ cell.now }
         ensures live { result.finished ≡ false }
     {
@@ -216,17 +220,17 @@ impl<'a, T: Drop, F: Future<Output = T>, R: Wait + AllocGlobal> Future
 #[derive(Drop)]
 pub(crate) struct Driven<'a, F: Future, R> {
     rt: &'a R,
-    future: &'a Mutex<Option<Held<F>>>,
+    future: &'a Mutex<Option<Pollable<F>>>,
 }
 
 impl<F: Future, R: Wait> Driven<'_, F, R> {
     #[inline(always)]
-    fn take_out(&self) -> Option<Held<F>> {
+    fn take_out(&self) -> Option<Pollable<F>> {
         self.future.lock(self.rt).take()
     }
 
     #[inline(always)]
-    fn put_back(&self, future: Held<F>) {
+    fn put_back(&self, future: Pollable<F>) {
         *self.future.lock(self.rt) = Some(future);
     }
 }
@@ -238,14 +242,14 @@ impl<F: Future, R: Wait> Future for Driven<'_, F, R> {
     // value is set.
     #[inline(always)]
     fn poll(&mut self, cx: &mut Context<'_>) -> Poll<F::Output> {
-        let Some(held) = self.take_out() else {
+        let Some(pollable) = self.take_out() else {
             return cx.yield_now();
         };
-        let mut future = held.into_inner();
+        let mut future = pollable.into_inner();
         match future.poll(cx) {
             Poll::Ready(value) => Poll::Ready(value),
             Poll::Pending => {
-                self.put_back(Held::new(future));
+                self.put_back(Pollable::new(future));
                 Poll::Pending
             }
         }

@@ -5,10 +5,10 @@ use base.Logic.{via, mono_r}
 use denote.Triple.Entry.{on_entry}
 use borrow.Fn.Kinds.{sig_of}
 use contract.Monad.{fact_mono}
-use Rattle.async_once_cell.proofs.held.Held.into_inner.Statement.{statement}
-use Rattle.async_once_cell.proofs.held.Held.into_inner.Lts as lts
-use Rattle.async_once_cell.proofs.held.Held.into_inner.Reads as reads
-use Rattle.async_once_cell.proofs.held.Held.into_inner.Tie as tie
+use Rattle.async_once_cell.proofs.pollable.Pollable.into_inner.Statement.{statement}
+use Rattle.async_once_cell.proofs.pollable.Pollable.into_inner.Lts as lts
+use Rattle.async_once_cell.proofs.pollable.Pollable.into_inner.Reads as reads
+use Rattle.async_once_cell.proofs.pollable.Pollable.into_inner.Tie as tie
 
 pub into_inner_spec : {M : Type 1} → statement M
 into_inner_spec {M} =
