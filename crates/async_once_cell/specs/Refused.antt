@@ -1,5 +1,7 @@
--- What the refusals and errors of a poll print, and as which error a refusal ends a poll.
+-- What the refusals and errors of a poll print, and which other errors a refusal becomes.
 use Rattle.std.specs.Prelude.{ℕ, List, Option, Some, codes}
+use Rattle.std.specs.declared.io.ErrorKind.{ErrorKind}
+use Rattle.std.specs.declared.io.ErrorKind.TheVariants.{OutOfMemory, Other}
 use Rattle.async_once_cell.specs.declared.once.refused.Refused.{Refused}
 use Rattle.async_once_cell.specs.declared.once.refused.Refused.TheVariants.{Memory, Full}
 use Rattle.async_once_cell.specs.declared.once.refused.InitError.{InitError}
@@ -15,6 +17,11 @@ abbrev pub message_of : {E : Type 0} → (E → Option (List ℕ)) → InitError
 message_of text (Init e) = text e
 message_of text NoMemory = Some (message Memory)
 message_of text TooMany = Some (message Full)
+
+-- the kind of the `io::Error` that a refusal becomes
+abbrev pub kind_of : Refused → ErrorKind
+kind_of Memory = OutOfMemory
+kind_of Full = Other
 
 -- a refusal as the error of a poll
 abbrev pub error_of : {E : Type 0} → Refused → InitError E

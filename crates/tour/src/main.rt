@@ -8,19 +8,19 @@ use std::random::RandomSource;
 use std::sync::Wait;
 use std::{io, thread};
 
-fn forced<R>(rt: &R, lazy: &Lazy<u64, Ready<u64>>) -> io::Result<Option<u64>>
+fn forced<R>(rt: &R, lazy: &Lazy<u64, Ready<u64>>) -> io::Result<u64>
 where
     R: Wait + RandomSource + AllocGlobal,
 {
-    Ok(lazy.get(rt).wait()?.ok().copied())
+    Ok(*lazy.get(rt).wait()??)
 }
 
 fn main(rt: HostRuntime) -> io::Result<()> {
     let cell = OnceCell::new();
-    println!(rt; "{:?}", cell.get_or_init(&rt, ready(4)).wait()?)?; // Ok(4)
-    println!(rt; "{:?}", cell.get_or_init(&rt, ready(5)).wait()?)?; // Ok(4): this init is not polled
+    println!(rt; "{}", cell.get_or_init(&rt, ready(4)).wait()??)?; // 4
+    println!(rt; "{}", cell.get_or_init(&rt, ready(5)).wait()??)?; // 4: this init is not polled
 
     let lazy = Lazy::new(ready(3));
     let (here, there) = thread::join(&rt, || forced(&rt, &lazy), || forced(&rt, &lazy));
-    println!(rt; "{:?} {:?}", here?, there?) // Some(3) Some(3)
+    println!(rt; "{} {}", here?, there?) // 3 3
 }

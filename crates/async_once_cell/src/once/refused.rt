@@ -2,11 +2,12 @@
 ghost use Rattle.std.specs.Prelude.{◌≡◌, Some};
 
 use std::error::Error;
-use std::fmt;
+use std::io::ErrorKind;
+use std::{fmt, io};
 
 /// Why a poll ended without a value, though no init failed. Its future is finished, and all else is
 /// as if the future had been dropped. A new future may be tried. By `?` this becomes the [`InitError`]
-/// of the same name. There is no conversion to `io::Error`.
+/// of the same name, or an `io::Error` that prints the same.
 ///
 /// An init that asks another cell may be refused there. This one passes the refusal on:
 ///
@@ -77,6 +78,22 @@ impl<E: fmt::Display> fmt::Display for InitError<E> {
 }
 
 impl<E: fmt::Debug + fmt::Display + Drop> Error for InitError<E> {}
+
+/// So `future.wait()??` may stand where the error is an `io::Error`. That of [`Refused::Memory`] has the kind of
+/// refused memory.
+impl From<Refused> for io::Error {
+    ghost use Rattle.std.specs.IoError.{error_kind};
+    ghost use Rattle.async_once_cell.specs.Refused.{kind_of};
+
+    ghost from_gives = { λ refused error. error_kind error ≡ kind_of refused };
+
+    fn from(refused: Refused) -> Self {
+        match refused {
+            Refused::Memory => io::Error::from(ErrorKind::OutOfMemory),
+            Refused::Full => io::Error::other("too many waiters"),
+        }
+    }
+}
 
 impl<E> From<Refused> for InitError<E> {
     ghost use Rattle.async_once_cell.specs.Refused.{error_of};
