@@ -10,12 +10,12 @@ use Rattle.once_world.specs.Book.{Door, Page, Queue}
 use Rattle.once_parts.specs.Kept.{Sheet, sheet, sheets}
 use Rattle.once_parts.specs.Named.{named}
 
--- both pages: how many queues were made, which one stands at the door, its flag and its listings
+-- what stands on both pages
 pub record Desked : Type 0 where
-  pub made : ℕ
-  pub door : Option ℕ
-  pub head : Bool
-  pub listings : List (Listing ℕ)
+  pub made : ℕ  -- how many queues were made
+  pub door : Option ℕ  -- which one stands at the door
+  pub head : Bool  -- its flag
+  pub listings : List (Listing ℕ)  -- its listings
 
 -- those of a new cell
 abbrev pub first_desk : Desked

@@ -12,10 +12,10 @@ use Rattle.once_world.specs.Machine.{AtPut, UnderWay}
 abbrev pub most : ℕ
 most = 2 ^ 62 - 2
 
--- a page of the book, and whether its task began to write the slot
+-- a page of the book as pagebook keeps it
 pub record Sheet : Type 0 where
-  pub page : Page
-  pub writing : Bool
+  pub page : Page  -- the page
+  pub writing : Bool  -- whether its task began to write the slot
 
 -- the page of one that does not write
 abbrev pub sheet : Page → Sheet
@@ -36,15 +36,15 @@ IsState k slot ss =
     ⊎ ((k ≡ 1) × (slot ≡ false) × (t : ℕ) × (x : TaskState) × (by : Option ℕ)
     × (slice_get ss (suc (suc t)) ≡ Some (writing_sheet x)) × (x.step ≡ UnderWay (AtPut by)))
 
--- between any two steps: the words are the cell's word, whether a queue was ever put, and the state of the slot
+-- what holds between any two steps
 pub record IsKept (ns : List ℕ) (ss : List Sheet) (log : List Entry) : Type 0 where
-  pub word : ℕ
-  pub has_put : ℕ
-  pub state : ℕ
-  pub slot : Bool
-  pub words_are : ns ≡ word ∷ has_put ∷ state ∷ []
-  pub book : IsBook most word has_put slot (pages_in ss) log
-  pub state_is : IsState state slot ss
+  pub word : ℕ  -- the cell's word
+  pub has_put : ℕ  -- whether a queue was ever put
+  pub state : ℕ  -- the state of the slot
+  pub slot : Bool  -- whether the slot is written
+  pub words_are : ns ≡ word ∷ has_put ∷ state ∷ []  -- these three are the words of the book
+  pub book : IsBook most word has_put slot (pages_in ss) log  -- it is the book of some world
+  pub state_is : IsState state slot ss  -- the state says how far the slot is
 
 -- a hand of those who do not write
 abbrev pub sheets : Held Page → Held Sheet

@@ -8,10 +8,10 @@ use Rattle.once_world.specs.Wakers.{handed_since}
 
 -- t is in a call that it began while waiting, and in which it neither claimed nor passed its turn on
 pub record HasTurn (kind : Kind) (t : ℕ) (history : List Entry) : Type 0 where
-  pub under_way : is_under_way (status kind t history) ≡ true
-  pub began : (last_call kind t history).began ≡ Waiting
-  pub unclaimed : (last_call kind t history).claimed ≡ false
-  pub unpassed : (last_call kind t history).passed ≡ false
+  pub under_way : is_under_way (status kind t history) ≡ true  -- t is in a call
+  pub began : (last_call kind t history).began ≡ Waiting  -- it waited as the call began
+  pub unclaimed : (last_call kind t history).claimed ≡ false  -- it did not claim in it
+  pub unpassed : (last_call kind t history).passed ≡ false  -- it did not pass its turn on in it
 
 -- t was called: it waits or is in such a call, and the waker of its last poll that ended Pending was handed out since that End
 abbrev pub IsCalled : Kind → ℕ → List Entry → Type 0

@@ -105,7 +105,7 @@ NoneKept kind parts =
 
 -- the log falls into the lines of these parts
 pub record IsLogOf (kind : Kind) (log : List QueueLine) (parts : List Part) : Type 0 where
-  pub lines_are : lines_of parts ≡ log
-  pub logged : AreLogged kind parts
-  pub waiting_stands : Always (WaitingStands kind) parts
-  pub none_kept : Always (NoneKept kind) parts
+  pub lines_are : lines_of parts ≡ log  -- the log is all their lines
+  pub logged : AreLogged kind parts  -- each part has the lines that its input adds
+  pub waiting_stands : Always (WaitingStands kind) parts  -- a queue stood at the door whenever a task waited
+  pub none_kept : Always (NoneKept kind) parts  -- a set cell kept none that no task used or waited for

@@ -3,15 +3,15 @@ use Rattle.std.specs.Prelude.{ℕ, Bool, true, false, if◌then◌else◌, ◌==
 use Rattle.once_world.specs.Record.{Answer, Kind, Pending, Entry, Made, Begin, Claim, Ran, Free, Pass, End, DropBegin, DropEnd, is_of, made_in}
 use Rattle.once_world.specs.Cell.{Cell, Held, is_set, cell}
 
--- Unmade; Fresh: made, and no call began; Polling and Dropping: such a call is under way; Waiting: its last poll ended Pending while another task held; Holding: the same while it held itself; Gone: a poll ended otherwise, or it was dropped
+-- what a task is at
 pub data Status : Type 0 where
-  Unmade : Status
-  Fresh : Status
-  Polling : Status
-  Dropping : Status
-  Waiting : Status
-  Holding : Status
-  Gone : Status
+  Unmade : Status  -- it was not made
+  Fresh : Status  -- it was made, and no call of it began
+  Polling : Status  -- a poll is under way
+  Dropping : Status  -- a drop is under way
+  Waiting : Status  -- its last poll ended Pending while another task held
+  Holding : Status  -- its last poll ended Pending while it held itself
+  Gone : Status  -- a poll of it ended otherwise, or it was dropped
 
 -- after a poll of t that ended Pending: who held decides
 abbrev pub pending_status : ℕ → Cell → Status
@@ -54,16 +54,16 @@ are_gone kind (t ∷ ts) history = if is_gone (status kind t history) then are_g
 abbrev pub all_gone : Kind → List Entry → Bool
 all_gone kind history = are_gone kind (made_in history) history
 
--- a task's last call: the waker of its last poll, and of its last poll that ended Pending; what the task was as the call began, and whether the cell was set then; and since then, whether the task claimed, freed the cell or passed its turn on, and what the init answered
+-- a task's last call
 pub record LastCall : Type 0 where
-  pub waker : ℕ
-  pub listed : ℕ
-  pub began : Status
-  pub set_then : Bool
-  pub claimed : Bool
-  pub freed : Bool
-  pub passed : Bool
-  pub ran : Option Answer
+  pub waker : ℕ  -- the waker of the task's last poll
+  pub listed : ℕ  -- the waker of its last poll that ended Pending
+  pub began : Status  -- what the task was as the call began
+  pub set_then : Bool  -- whether the cell was set then
+  pub claimed : Bool  -- whether the task claimed since then
+  pub freed : Bool  -- whether it freed the cell since then
+  pub passed : Bool  -- whether it passed its turn on since then
+  pub ran : Option Answer  -- what the init answered since then, if it was polled
 
 -- a call that begins with the waker w, where the cell was c and the task s
 abbrev pub begins : ℕ → Cell → Status → LastCall → LastCall

@@ -46,14 +46,14 @@ times_handed w (e ∷ before) = if is_replacing e then 0 else times_in w (handed
 abbrev pub IsOpen : Kind → ℕ → List Entry → Type 0
 IsOpen kind w history = times_handed w history < times_opened kind w history
 
--- what a release with a value hands out: no waker twice, every waker that is due, and none that is not open
+-- what a release with a value hands out
 pub record HandsOut (kind : Kind) (X : List ℕ) (history : List Entry) : Type 0 where
-  pub once : is_distinct X ≡ true
-  pub due : (w : ℕ) → IsDue kind w history → member w X ≡ true
-  pub open_alone : (w : ℕ) → member w X ≡ true → IsOpen kind w history
+  pub once : is_distinct X ≡ true  -- no waker twice
+  pub due : (w : ℕ) → IsDue kind w history → member w X ≡ true  -- every waker that is due
+  pub open_alone : (w : ℕ) → member w X ≡ true → IsOpen kind w history  -- none that is not open
 
--- what a release without a value hands out: one waker at most, some waker where one is due, and none that is not open
+-- what a release without a value hands out
 pub record CallsOne (kind : Kind) (X : List ℕ) (history : List Entry) : Type 0 where
-  pub one : length X ≤ 1
-  pub due : (w : ℕ) → IsDue kind w history → X ≢ []
-  pub open_alone : (w : ℕ) → member w X ≡ true → IsOpen kind w history
+  pub one : length X ≤ 1  -- one waker at most
+  pub due : (w : ℕ) → IsDue kind w history → X ≢ []  -- some waker where one is due
+  pub open_alone : (w : ℕ) → member w X ≡ true → IsOpen kind w history  -- none that is not open

@@ -18,7 +18,7 @@ book_coded = coded_via (coded× (coded× coded_ℕ coded_ℕ) (coded× coded_ℕ
 
 -- which word of which book it is
 pub record Named : Type 0 where
-  pub book : Book
+  pub book : Book  -- its book
   pub key : ℕ  -- its place among the words, from 0
 
 -- the word k of the book b

@@ -18,7 +18,7 @@ use Rattle.pagebook.specs.Owned.{known, word_pen, lies}
 
 -- which slot it is
 pub record Placed : Type 0 where
-  pub book : Book
+  pub book : Book  -- the book that has its state as a word
   pub key : ℕ  -- the place of its state among the book's words
   pub id : GName  -- the name under which its value is told
 
