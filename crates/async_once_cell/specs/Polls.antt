@@ -33,7 +33,8 @@ module _ {A : Type 0} where
   sure_ending (Ready (Err NoMemory)) = EndMemory
   sure_ending (Ready (Err TooMany)) = EndFull
 
--- the record grew, and its newest entry is the end of this call of the task; a cell that has its owner's value has no record
+-- the record grew, and its newest entry is the end of this call of the task.
+-- A cell that has its owner's value has no record
 abbrev pub Ends : {T : Type 0} → CellView T → Entry → List Entry → List Entry → Type 0
 Ends (Owned x) e old new = new ≡ old
 Ends (Shared s) e old new = Grew (e ∷ []) old new

@@ -3,7 +3,8 @@ use Rattle.std.specs.Prelude.{ℕ}
 use Rattle.once_core.specs.Steps.{Step, Progress, More, PartsTell, SideTells, Advances}
 
 -- the steps so far. They begin at a step, its parts and its side, and lead to others; the last one told the progress
-pub data Makes {P S W Q : Type 0} (parts : PartsTell P W Q) (side : SideTells S W) (limit : ℕ) (from : Step W Q) (p : P) (s : S) : Progress → Step W Q → P → S → Type 0 where
+pub data Makes {P S W Q : Type 0} (parts : PartsTell P W Q) (side : SideTells S W) (limit : ℕ)
+    (from : Step W Q) (p : P) (s : S) : Progress → Step W Q → P → S → Type 0 where
   -- no step
   none : Makes parts side limit from p s More from p s
   -- some steps, and one more, which is a line of the table

@@ -1,5 +1,6 @@
 -- The rule of a cell's book as pagebook asks for it: of the values of its words, its pages and its log.
-use Rattle.std.specs.Prelude.{◌≡◌, ◌⊎◌, ◌-◌, ◌^◌, ℕ, suc, Bool, true, false, List, [], ◌∷◌, ◌++◌, map, Option, Some, reverse, slice_get}
+use Rattle.std.specs.Prelude.{◌≡◌, ◌⊎◌, ◌-◌, ◌^◌, ℕ, suc, Bool, true, false}
+use Rattle.std.specs.Prelude.{List, [], ◌∷◌, ◌++◌, map, Option, Some, reverse, slice_get}
 use mathlib.Core.List.{IsPrefix}
 use Rattle.pagebook.specs.Pages.{Held, View, rewritten}
 use Rattle.once_queue.specs.declared.waiters.Listing.{Listing}
@@ -29,7 +30,8 @@ writing_sheet x = record { page = At x; writing = true }
 abbrev pub pages_in : List Sheet → List Page
 pages_in ss = map (λ (s : Sheet). s.page) ss
 
--- the state of the slot: 0 where it is not written, 2 where it is, and 1 while the task writes it that is about to put the value
+-- the state of the slot: 0 where it is not written, 2 where it is,
+-- and 1 while the task writes it that is about to put the value
 abbrev pub IsState : ℕ → Bool → List Sheet → Type 0
 IsState k slot ss =
     ((k ≡ 0) × (slot ≡ false)) ⊎ ((k ≡ 2) × (slot ≡ true))
@@ -55,7 +57,8 @@ sheets (e ∷ h) = (e.0, sheet e.1) ∷ sheets h
 abbrev pub hand : ℕ → TaskState → Held Page
 hand t x = (suc (suc t), At x) ∷ []
 
--- the same with what lies under the lock: how many queues were made, which stands at the door, its flag and its listings
+-- the same with what lies under the lock:
+-- how many queues were made, which one stands at the door, its flag and its listings
 abbrev pub locked : ℕ → Option ℕ → Bool → List (Listing ℕ) → ℕ → TaskState → Held Page
 locked made door head xs t x = (0, Door made door) ∷ (1, Queue head xs) ∷ hand t x
 

@@ -1,8 +1,10 @@
 -- What a whole call of a task makes of the record.
 use Rattle.std.specs.Prelude.{◌≡◌, ℕ, Bool, true, false, List, [], ◌∷◌, ◌++◌, ⊤}
 use mathlib.Core.List.{IsPrefix}
-use Rattle.once_world.specs.Places.{Ending, EndPending, EndValue, EndError, EndMemory, EndFull, EndDropped, Progress, More, Ended, Step, Resting, UnderWay, Finished}
-use Rattle.once_world.specs.Places.{Place, AtPut, AtFast, AtAddOne, AtDoorAgain, AtRelease, AtLeave, AtCountOut, AtDoorTake}
+use Rattle.once_world.specs.Places.{Ending, EndPending, EndValue, EndError, EndMemory, EndFull, EndDropped}
+use Rattle.once_world.specs.Places.{Progress, More, Ended, Step, Resting, UnderWay, Finished}
+use Rattle.once_world.specs.Places.{Place, AtPut, AtFast, AtAddOne, AtDoorAgain, AtRelease, AtLeave}
+use Rattle.once_world.specs.Places.{AtCountOut, AtDoorTake}
 use Rattle.once_core.specs.Steps.{is_resting}
 use Rattle.once_world.specs.Record.{DropEnd, End, Entry, Error, Full, Memory, Pending, RanError, Value, handed_by}
 use Rattle.once_world.specs.Machine.{progress_entries}
@@ -62,7 +64,8 @@ abbrev pub StandsOn : {W : Type 0} → (W → ℕ) → Own → Step W ⊤ → Ty
 StandsOn whose v s = StandsForStep whose (λ q. q) the_queue s v.task.step
 
 -- the side is the task's, and its call has come so far
-pub record Stands {W : Type 0} (whose : W → ℕ) (drops : Bool) (x : Sided) (v : Own) (r : Progress) (s : Step W ⊤) : Type 0 where
+pub record Stands {W : Type 0} (whose : W → ℕ) (drops : Bool) (x : Sided) (v : Own)
+    (r : Progress) (s : Step W ⊤) : Type 0 where
   pub step : StandsOn whose v s  -- the code's step stands for the page's
   pub number : x.number ≡ v.number  -- the side is the task's
   pub fits : Fits drops x v r s  -- what holds at this place of a call does hold

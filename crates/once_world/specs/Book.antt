@@ -5,7 +5,8 @@ use Rattle.once_queue.specs.Numbers.{bit}
 use Rattle.once_queue.specs.Word.{flags_of}
 use Rattle.once_world.specs.Record.{Answer, RanValue, Entry, Once}
 use Rattle.once_world.specs.Inputs.{Input, Poll, Go, Owns}
-use Rattle.once_world.specs.Machine.{Listing, Task, Step, UnderWay, Place, AtList, AtFast, AtAddOne, AtDoorAgain, AtRelease, EndMemory}
+use Rattle.once_world.specs.Machine.{Listing, Task, Step, UnderWay, Place, AtList, AtFast}
+use Rattle.once_world.specs.Machine.{AtAddOne, AtDoorAgain, AtRelease, EndMemory}
 use Rattle.once_world.specs.Machine.{World, is_value, leave_place, put_task, step_of, first_world, world_after, word_of}
 
 -- what a thread may do next
@@ -84,7 +85,8 @@ task_page None = None
 task_page (Some x) = Some (At x)
 
 -- the book of the world w
-pub record IsBookOf (limit : ℕ) (w : World) (word has_put : ℕ) (slot : Bool) (pages : List Page) (log : List Entry) : Type 0 where
+pub record IsBookOf (limit : ℕ) (w : World) (word has_put : ℕ) (slot : Bool) (pages : List Page)
+    (log : List Entry) : Type 0 where
   pub reached : TasksReach limit w  -- tasks that share the cell led here
   pub within : word < 2 ^ 64  -- the word is a u64
   pub word_is : flags_of word ≡ word_of w.shared  -- the word is the count and the two flags

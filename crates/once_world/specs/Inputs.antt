@@ -119,7 +119,11 @@ is_fitting_go kind t i before = if is_go_of t i then is_under_way (status kind t
 abbrev pub gos : Kind → ℕ → List Part → List Input
 gos kind t [] = []
 gos kind t (p ∷ before) =
-    if begins_call t p.entries then [] else (if is_fitting_go kind t p.input (entries_of before) then p.input ∷ gos kind t before else gos kind t before)
+    if begins_call t p.entries
+    then []
+    else (if is_fitting_go kind t p.input (entries_of before)
+    then p.input ∷ gos kind t before
+    else gos kind t before)
 
 -- the input is a Go that is given no memory
 abbrev pub is_ungranted : Input → Bool

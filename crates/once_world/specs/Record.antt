@@ -1,7 +1,8 @@
 -- What a record tells. A list of entries is a history here: the newest entry stands first.
 use Rattle.std.specs.Prelude.{ℕ, Bool, true, false, not, ◌==◌, List, [], ◌∷◌, Option}
 pub use Rattle.once_core.specs.declared.record.Ran.{Ran as Answer}
-pub use Rattle.once_core.specs.declared.record.Ran.TheVariants.{Pending as RanPending, Value as RanValue, Error as RanError}
+pub use Rattle.once_core.specs.declared.record.Ran.TheVariants.{Pending as RanPending, Value as RanValue}
+pub use Rattle.once_core.specs.declared.record.Ran.TheVariants.{Error as RanError}
 pub use Rattle.once_core.specs.declared.record.Reply.{Reply}
 pub use Rattle.once_core.specs.declared.record.Reply.TheVariants.{Pending, Value, Error, Memory, Full}
 
