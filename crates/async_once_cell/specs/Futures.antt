@@ -3,7 +3,8 @@ use Rattle.std.specs.Prelude.{◌≡◌, ℕ, ⊤, Bool, true, false, List, []}
 use Rattle.pagebook.specs.Pages.{Book}
 use Rattle.once_world.specs.Record.{Entry}
 use Rattle.async_once_cell.specs.declared.once.future.Asked.{Asked}
-use Rattle.async_once_cell.specs.declared.once.future.Asked.TheVariants.{Owned as AskedOwned, Answered as AskedAnswered, Shared as AskedShared}
+use Rattle.async_once_cell.specs.declared.once.future.Asked.TheVariants.{Owned as AskedOwned, Answered as AskedAnswered}
+use Rattle.async_once_cell.specs.declared.once.future.Asked.TheVariants.{Shared as AskedShared}
 use Rattle.async_once_cell.specs.Views.{Call, CellView, Owned, Shared}
 
 module _ {T F R O : Type 0} where

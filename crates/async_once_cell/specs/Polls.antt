@@ -33,12 +33,19 @@ module _ {A : Type 0} where
   sure_ending (Ready (Err NoMemory)) = EndMemory
   sure_ending (Ready (Err TooMany)) = EndFull
 
--- the record grew, and its newest entry is the end of this call of the task; a cell that has its owner's value has no record
+-- the record grew, and its newest entry is the end of this call of the task.
+-- A cell that has its owner's value has no record
 abbrev pub Ends : {T : Type 0} → CellView T → Entry → List Entry → List Entry → Type 0
 Ends (Owned x) e old new = new ≡ old
 Ends (Shared s) e old new = Grew (e ∷ []) old new
 
--- from one moment of a future and of a context to a later one: cell and task are the same; the newest entry of the record is the end of this call with what was answered; where it answered the value, the cell is set in the record; the future is finished exactly where the poll answered; a poll that did not answer has registered its task somewhere or asked for another poll; and what the context had it keeps
+-- from one moment of a future and of a context to a later one
+--   cell, task: both are the same
+--   ends: the newest entry of the record is the end of this call, with what was answered
+--   set: where the poll answered the value, the cell is set in the record
+--   finished: the future is finished exactly where the poll answered
+--   armed: a poll that did not answer has registered its task somewhere, or asked for another poll
+--   kept: the context keeps what it had
 pub record DidPoll {T : Type 0} (old new : Call T) (before after : Context) (e : Ending) : Type 0 where
   pub cell : new.cell ≡ old.cell
   pub task : new.task ≡ old.task
@@ -48,12 +55,12 @@ pub record DidPoll {T : Type 0} (old new : Call T) (before after : Context) (e :
   pub armed : e ≡ EndPending → IsArmed after
   pub kept : Keeps before after
 
--- the future left its cell as by a drop, and is finished
+-- the future left its cell as by a drop
 pub record HasLeft {T : Type 0} (old new : Call T) : Type 0 where
-  pub cell : new.cell ≡ old.cell
-  pub task : new.task ≡ old.task
-  pub gone : Ends old.cell (end_of old.task EndDropped) old.log new.log
-  pub finished : new.finished ≡ true
+  pub cell : new.cell ≡ old.cell  -- the cell is the same
+  pub task : new.task ≡ old.task  -- the task is the same
+  pub gone : Ends old.cell (end_of old.task EndDropped) old.log new.log  -- the newest entry is the end of the drop
+  pub finished : new.finished ≡ true  -- the future is finished
 
 -- a poll with a token that knew nothing is a poll, and with one that knew a value the future leaves
 abbrev pub PollsAs : {T : Type 0} → Option T → Call T → Call T → Context → Context → Ending → Type 0

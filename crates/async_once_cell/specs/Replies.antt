@@ -3,7 +3,8 @@ use Rattle.std.specs.Prelude.{◌≡◌, ℕ, Bool, true, false}
 use Rattle.once_world.specs.Places.{EndError, EndFull, EndMemory, EndPending, EndValue, Ending}
 use Rattle.async_once_cell.specs.Views.{CellView, Owned, Shared}
 use Rattle.async_once_cell.specs.declared.waiting.Reply.{Reply}
-use Rattle.async_once_cell.specs.declared.waiting.Reply.TheVariants.{Pending, Owned as OwnersValue, Value, Error, Memory, Full}
+use Rattle.async_once_cell.specs.declared.waiting.Reply.TheVariants.{Pending, Owned as OwnersValue, Value}
+use Rattle.async_once_cell.specs.declared.waiting.Reply.TheVariants.{Error, Memory, Full}
 
 -- all but Pending are the end of the task
 abbrev pub is_over : Ending → Bool

@@ -11,23 +11,23 @@ use Rattle.async_once_cell.specs.declared.once.value.Value.TheVariants.{Owned as
 use Rattle.async_once_cell.specs.declared.once.known.Seen.{Seen}
 use Rattle.async_once_cell.specs.declared.once.known.Seen.TheVariants.{Owned as SeenOwned, Shared as SeenShared}
 
--- a cell: the value that its owner put there, or else the slot into which tasks put one
+-- a cell
 pub data CellView (T : Type 0) : Type 0 where
-  Owned : T → CellView T
-  Shared : Placed → CellView T
+  Owned : T → CellView T  -- the value that its owner put there
+  Shared : Placed → CellView T  -- or else the slot into which tasks put one
 
--- a token: its cell, the value that it knows, if it knows one, and the record as far as it was seen, the oldest entry first
+-- a token
 pub record Knows (T : Type 0) : Type 0 where
-  pub cell : CellView T
-  pub value : Option T
-  pub log : List Entry
+  pub cell : CellView T  -- its cell
+  pub value : Option T  -- the value that it knows, if it knows one
+  pub log : List Entry  -- the record as far as it was seen, the oldest entry first
 
--- a future: its cell, its task's number, the record as far as it was seen, and whether it is finished. A cell that has its owner's value has no record
+-- a future
 pub record Call (T : Type 0) : Type 0 where
-  pub cell : CellView T
-  pub task : ℕ
-  pub log : List Entry
-  pub finished : Bool
+  pub cell : CellView T  -- its cell
+  pub task : ℕ  -- its task's number
+  pub log : List Entry  -- the record as far as it was seen; a cell that has its owner's value has none
+  pub finished : Bool  -- whether it is finished
 
 -- tasks share the cell, and no owner put a value there
 abbrev pub is_shared : {T : Type 0} → CellView T → Bool

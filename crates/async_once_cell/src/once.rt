@@ -253,7 +253,8 @@ impl<T: fmt::Debug> OnceCell<T> {
         match &self.value {
             Value::Owned(value) => write!(
                 f,
-                "{name} {{ value: Some({value:?}), inner: Inner {{ ready: true, quick_init: false, refcount: 0, queue: false }} }}"
+                "{name} {{ value: Some({value:?}), \
+                inner: Inner {{ ready: true, quick_init: false, refcount: 0, queue: false }} }}"
             ),
             Value::Shared(inner) => {
                 let value = self.get();

@@ -1,6 +1,15 @@
 use Rattle.std.specs.Prelude.{◌≡◌, ℕ, List, ◌++◌, ◌∷◌, codes}
 use Rattle.cell_bench.specs.declared.operation.Operation.{Operation}
-use Rattle.cell_bench.specs.declared.operation.Operation.TheVariants.{Get, Init, Listed, OneWaits, TenWait, HundredWait, ThousandWait, TenThousandWait, HundredThousandWait, TenThousandDrop, FailureBeforeOne, FailureBeforeTen, FailureBeforeHundred, TenTurns, HundredTurns, TenThousandTurns, TwoLook, FourLook, TwoFill, FourFill, LazyFirst, LazyLater, WaitNew, WaitSet, WaitKept, LostWake}
+use Rattle.cell_bench.specs.declared.operation.Operation.TheVariants.{Get, Init, Listed}
+use Rattle.cell_bench.specs.declared.operation.Operation.TheVariants.{OneWaits, TenWait, HundredWait}
+use Rattle.cell_bench.specs.declared.operation.Operation.TheVariants.{ThousandWait, TenThousandWait}
+use Rattle.cell_bench.specs.declared.operation.Operation.TheVariants.{HundredThousandWait, TenThousandDrop}
+use Rattle.cell_bench.specs.declared.operation.Operation.TheVariants.{FailureBeforeOne, FailureBeforeTen}
+use Rattle.cell_bench.specs.declared.operation.Operation.TheVariants.{FailureBeforeHundred}
+use Rattle.cell_bench.specs.declared.operation.Operation.TheVariants.{TenTurns, HundredTurns, TenThousandTurns}
+use Rattle.cell_bench.specs.declared.operation.Operation.TheVariants.{TwoLook, FourLook, TwoFill, FourFill}
+use Rattle.cell_bench.specs.declared.operation.Operation.TheVariants.{LazyFirst, LazyLater}
+use Rattle.cell_bench.specs.declared.operation.Operation.TheVariants.{WaitNew, WaitSet, WaitKept, LostWake}
 
 -- what an operation is called in the input
 abbrev pub name_of : Operation → List ℕ

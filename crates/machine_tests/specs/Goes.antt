@@ -4,8 +4,11 @@ use Rattle.std.specs.Coded.{Π_prop}
 use Rattle.std.proofs.Props.{props}
 use Rattle.std.proofs.lemmas.Bool.{false≢true}
 use Rattle.once_core.specs.Steps.{in_call}
-use Rattle.once_world.specs.Places.{Ending, EndDropped, EndError, EndFull, EndMemory, EndPending, EndValue, Finished, Place, Progress, Resting, Step, UnderWay}
-use Rattle.once_world.specs.Places.{AtAddOne, AtCountIn, AtCountOut, AtDoorAgain, AtDoorGet, AtDoorPut, AtDoorTake, AtFast, AtLeave, AtList, AtLook, AtPut, AtRelease, AtRun, AtStart, AtTryQuick, AtWaitLoad}
+use Rattle.once_world.specs.Places.{Ending, EndDropped, EndError, EndFull, EndMemory, EndPending, EndValue}
+use Rattle.once_world.specs.Places.{Finished, Place, Progress, Resting, Step, UnderWay}
+use Rattle.once_world.specs.Places.{AtAddOne, AtCountIn, AtCountOut, AtDoorAgain, AtDoorGet}
+use Rattle.once_world.specs.Places.{AtDoorPut, AtDoorTake, AtFast}
+use Rattle.once_world.specs.Places.{AtLeave, AtList, AtLook, AtPut, AtRelease, AtRun, AtStart, AtTryQuick, AtWaitLoad}
 use Rattle.once_parts.specs.Own.{Own}
 use Rattle.once_parts.specs.Sides.{Sided}
 use Rattle.once_parts.specs.Walks.{FitsAt, MayEnd, Stands}
@@ -48,7 +51,8 @@ module _ (x : Sided) (v : Own) where
   abbrev pub Goes : {W : Type 0} → (W → ℕ) → Bool → Progress → Step W ⊤ → Type 0
   Goes whose drops r s = in_call s ≡ true → Stands whose drops x v r s
 
-  pub Goes-prop : {W : Type 0} (whose : W → ℕ) (drops : Bool) (r : Progress) (s : Step W ⊤) → IsProp (Goes whose drops r s)
+  pub Goes-prop : {W : Type 0} (whose : W → ℕ) (drops : Bool) (r : Progress) (s : Step W ⊤)
+      → IsProp (Goes whose drops r s)
   Goes-prop whose drops r (UnderWay p) = hlevel (FitsAt-prop, props)
   Goes-prop whose drops r (Resting rest) = Π_prop (λ h. absurd (false≢true h))
   Goes-prop whose drops r Finished = Π_prop (λ h. absurd (false≢true h))

@@ -10,12 +10,12 @@ use Rattle.once_world.specs.Book.{Door, Page, Queue}
 use Rattle.once_parts.specs.Kept.{Sheet, sheet, sheets}
 use Rattle.once_parts.specs.Named.{named}
 
--- both pages: how many queues were made, which one stands at the door, its flag and its listings
+-- what stands on both pages
 pub record Desked : Type 0 where
-  pub made : ℕ
-  pub door : Option ℕ
-  pub head : Bool
-  pub listings : List (Listing ℕ)
+  pub made : ℕ  -- how many queues were made
+  pub door : Option ℕ  -- which one stands at the door
+  pub head : Bool  -- its flag
+  pub listings : List (Listing ℕ)  -- its listings
 
 -- those of a new cell
 abbrev pub first_desk : Desked
@@ -51,7 +51,12 @@ listings_on _ = []
 
 -- what a hand says whose first two pages are the door's and the queue's
 abbrev pub desked : Held Sheet → Desked
-desked (a ∷ b ∷ h) = record { made = made_on a.1.page; door = door_on a.1.page; head = head_on b.1.page; listings = listings_on b.1.page }
+desked (a ∷ b ∷ h) = record {
+  made = made_on a.1.page;
+  door = door_on a.1.page;
+  head = head_on b.1.page;
+  listings = listings_on b.1.page;
+}
 desked _ = first_desk
 
 -- a hand has these two pages
@@ -63,7 +68,8 @@ abbrev pub behind : Held Sheet → Held Sheet
 behind h = drop 2 h
 
 module _ {W : Type 0} {g : _} (whose : W → ℕ) where
-  -- a queue stands at the door, with this flag and these listings: their wakers are those of the tasks that the page names
+  -- a queue stands at the door, with this flag and these listings.
+  -- Their wakers are those of the tasks that the page names
   abbrev pub IsShown : Lists W g → Desked → Type 0
   IsShown l d = ((q : ℕ) × (d.door ≡ Some q)) × (l.head ≡ d.head) × (named whose (listings_of l) ≡ d.listings)
 

@@ -1,4 +1,5 @@
--- What a section asks and tells, by what it was to do: whom it hands out are the tasks that the record names, in that order.
+-- What a section asks and tells, by what it was to do.
+-- Those whom it hands out are the tasks that the record names, in that order.
 use Rattle.std.specs.Prelude.{◌≡◌, ℕ, List, [], ◌∷◌, Some, None}
 use Rattle.once_queue.specs.Ops.{ticket_in}
 use Rattle.once_queue.specs.declared.waiters.Answer.{Answer}
@@ -10,7 +11,8 @@ use Rattle.once_parts.specs.Kept.{has_passed, hands_out}
 use Rattle.once_parts.specs.Named.{named_one, named_out}
 use Rattle.once_parts.specs.Steps.{answer_as}
 use Rattle.once_parts.specs.Own.{Did, Own}
-use Rattle.once_parts.specs.Places.{CanLeave, CanList, CanLook, CanRelease, leave_next, list_next, look_next, release_next}
+use Rattle.once_parts.specs.Places.{CanLeave, CanList, CanLook, CanRelease}
+use Rattle.once_parts.specs.Places.{leave_next, list_next, look_next, release_next}
 
 module _ {W : Type 0} (whose : W → ℕ) where
   -- the tasks whose wakers an answer hands out
@@ -27,9 +29,17 @@ module _ {W : Type 0} (whose : W → ℕ) where
   CanSection (Release r) s = CanRelease r s
   CanSection (Leave k) s = CanLeave k s
 
-  -- what it was to do, what it answered and left there, and what the task knew before and knows after. Of one who leaves, the record says that it passed its turn on just where somebody is handed out
+  -- what it was to do, what it answered and left there, and what the task knew before and knows after.
+  -- Of one who leaves, the record says that it passed its turn on just where somebody is handed out
   abbrev pub DidSection : Op W → Answer W → Op W → Own → Own → Type 0
-  DidSection (Look k) a o v w = Did v (claim_entries (is_claim (answer_as a)) v.number) (look_next (answer_as a) (ticket_in o) v.task.waker v.task.step) w
-  DidSection (ListOwn k x) a o v w = Did v (claim_entries (is_claim (answer_as a)) v.number) (list_next (answer_as a) (ticket_in o) v.task.step) w
-  DidSection (Release r) a o v w = Did v (release_entry v.task.kept v.number (handed_in a) ∷ []) (release_next v.task.step) w
-  DidSection (Leave k) a o v w = Did v (pass_entries v.number (handed_in a)) (leave_next v.task.step) w × (has_passed w.number w.log ≡ hands_out (handed_in a))
+  DidSection (Look k) a o v w =
+      Did v (claim_entries (is_claim (answer_as a)) v.number)
+      (look_next (answer_as a) (ticket_in o) v.task.waker v.task.step) w
+  DidSection (ListOwn k x) a o v w =
+      Did v (claim_entries (is_claim (answer_as a)) v.number)
+      (list_next (answer_as a) (ticket_in o) v.task.step) w
+  DidSection (Release r) a o v w =
+      Did v (release_entry v.task.kept v.number (handed_in a) ∷ []) (release_next v.task.step) w
+  DidSection (Leave k) a o v w =
+      Did v (pass_entries v.number (handed_in a)) (leave_next v.task.step) w
+      × (has_passed w.number w.log ≡ hands_out (handed_in a))

@@ -1,5 +1,6 @@
 -- The rule of a cell's book as pagebook asks for it: of the values of its words, its pages and its log.
-use Rattle.std.specs.Prelude.{◌≡◌, ◌⊎◌, ◌-◌, ◌^◌, ℕ, suc, Bool, true, false, List, [], ◌∷◌, ◌++◌, map, Option, Some, reverse, slice_get}
+use Rattle.std.specs.Prelude.{◌≡◌, ◌⊎◌, ◌-◌, ◌^◌, ℕ, suc, Bool, true, false}
+use Rattle.std.specs.Prelude.{List, [], ◌∷◌, ◌++◌, map, Option, Some, reverse, slice_get}
 use mathlib.Core.List.{IsPrefix}
 use Rattle.pagebook.specs.Pages.{Held, View, rewritten}
 use Rattle.once_queue.specs.declared.waiters.Listing.{Listing}
@@ -12,10 +13,10 @@ use Rattle.once_world.specs.Machine.{AtPut, UnderWay}
 abbrev pub most : ℕ
 most = 2 ^ 62 - 2
 
--- a page of the book, and whether its task began to write the slot
+-- a page of the book as pagebook keeps it
 pub record Sheet : Type 0 where
-  pub page : Page
-  pub writing : Bool
+  pub page : Page  -- the page
+  pub writing : Bool  -- whether its task began to write the slot
 
 -- the page of one that does not write
 abbrev pub sheet : Page → Sheet
@@ -29,22 +30,23 @@ writing_sheet x = record { page = At x; writing = true }
 abbrev pub pages_in : List Sheet → List Page
 pages_in ss = map (λ (s : Sheet). s.page) ss
 
--- the state of the slot: 0 where it is not written, 2 where it is, and 1 while the task writes it that is about to put the value
+-- the state of the slot: 0 where it is not written, 2 where it is,
+-- and 1 while the task writes it that is about to put the value
 abbrev pub IsState : ℕ → Bool → List Sheet → Type 0
 IsState k slot ss =
     ((k ≡ 0) × (slot ≡ false)) ⊎ ((k ≡ 2) × (slot ≡ true))
     ⊎ ((k ≡ 1) × (slot ≡ false) × (t : ℕ) × (x : TaskState) × (by : Option ℕ)
     × (slice_get ss (suc (suc t)) ≡ Some (writing_sheet x)) × (x.step ≡ UnderWay (AtPut by)))
 
--- between any two steps: the words are the cell's word, whether a queue was ever put, and the state of the slot
+-- what holds between any two steps
 pub record IsKept (ns : List ℕ) (ss : List Sheet) (log : List Entry) : Type 0 where
-  pub word : ℕ
-  pub has_put : ℕ
-  pub state : ℕ
-  pub slot : Bool
-  pub words_are : ns ≡ word ∷ has_put ∷ state ∷ []
-  pub book : IsBook most word has_put slot (pages_in ss) log
-  pub state_is : IsState state slot ss
+  pub word : ℕ  -- the cell's word
+  pub has_put : ℕ  -- whether a queue was ever put
+  pub state : ℕ  -- the state of the slot
+  pub slot : Bool  -- whether the slot is written
+  pub words_are : ns ≡ word ∷ has_put ∷ state ∷ []  -- these three are the words of the book
+  pub book : IsBook most word has_put slot (pages_in ss) log  -- it is the book of some world
+  pub state_is : IsState state slot ss  -- the state says how far the slot is
 
 -- a hand of those who do not write
 abbrev pub sheets : Held Page → Held Sheet
@@ -55,7 +57,8 @@ sheets (e ∷ h) = (e.0, sheet e.1) ∷ sheets h
 abbrev pub hand : ℕ → TaskState → Held Page
 hand t x = (suc (suc t), At x) ∷ []
 
--- the same with what lies under the lock: how many queues were made, which stands at the door, its flag and its listings
+-- the same with what lies under the lock:
+-- how many queues were made, which one stands at the door, its flag and its listings
 abbrev pub locked : ℕ → Option ℕ → Bool → List (Listing ℕ) → ℕ → TaskState → Held Page
 locked made door head xs t x = (0, Door made door) ∷ (1, Queue head xs) ∷ hand t x
 

@@ -1,4 +1,5 @@
--- What a list of those who wait shows on the queue's page: the same listings, each waker by the number of the task whose it is.
+-- What a list of those who wait shows on the queue's page: the same listings.
+-- Each waker is told by the number of the task whose it is.
 use Rattle.std.specs.Prelude.{ℕ, List, [], ◌∷◌, map, Option, None}
 use Rattle.std.specs.Option.{option_map}
 use Rattle.once_queue.specs.declared.waiters.Listing.{Listing}

@@ -8,11 +8,11 @@ use Rattle.once_world.specs.Book.{At, Page, TaskState}
 use Rattle.once_world.specs.Machine.{fresh_task, progress_entries}
 use Rattle.once_parts.specs.Kept.{Grew, Sheet, hand, sheets}
 
--- the task's number, what stands on its page, and the log as far as it was seen, the oldest entry first
+-- what a task knows of itself and of the log
 pub record Own : Type 0 where
-  pub number : ℕ
-  pub task : TaskState
-  pub log : List Entry
+  pub number : ℕ  -- the task's number
+  pub task : TaskState  -- what stands on its page
+  pub log : List Entry  -- the log as far as it was seen, the oldest entry first
 
 -- whose page lies first in a hand
 abbrev pub number_in : Held Sheet → ℕ
@@ -41,22 +41,23 @@ own_in v = record { number = number_in v.1; task = task_in v.1; log = v.0 }
 abbrev pub IsWord : Named → Book → ℕ → Type 0
 IsWord w b k = (w.book ≡ b) × (w.key ≡ k)
 
--- the entries of a step of t, the oldest first: what it did, and the end of the call, where the table of places tells one
+-- the entries of a step of t, the oldest first:
+-- what it did, and the end of the call, where the table of places tells one
 abbrev pub told : ℕ → Answer → Next ℕ ℕ → List Entry → List Entry
 told t k next did = reverse (progress_entries next.progress t 0 k ++ did)
 
--- y stands on the task's page now, and the log grew: its newest entries are these
+-- the task's page was turned
 pub record Turned (v : Own) (y : TaskState) (es : List Entry) (w : Own) : Type 0 where
-  pub number : w.number ≡ v.number
-  pub task : w.task ≡ y
-  pub log : Grew es v.log w.log
+  pub number : w.number ≡ v.number  -- it is the same task
+  pub task : w.task ≡ y  -- y stands on its page now
+  pub log : Grew es v.log w.log  -- the log grew, and its newest entries are these
 
 -- the task did this, and goes on as the table of places says
 abbrev pub Did : Own → List Entry → Next ℕ ℕ → Own → Type 0
 Did v did next w = Turned v (record v.task { step = next.step }) (told v.number v.task.kept next did) w
 
--- the task did nothing. Others may have added to the log
+-- the task did nothing
 pub record Stayed (v w : Own) : Type 0 where
-  pub number : w.number ≡ v.number
-  pub task : w.task ≡ v.task
-  pub log : IsPrefix v.log w.log
+  pub number : w.number ≡ v.number  -- it is the same task
+  pub task : w.task ≡ v.task  -- the same stands on its page
+  pub log : IsPrefix v.log w.log  -- others may have added to the log

@@ -8,7 +8,11 @@ use Rattle.once_world.specs.Book.{refused_step}
 use Rattle.once_world.specs.Machine.{AtDoorPut, AtTryQuick, UnderWay, claim_entries, freed_entries}
 use Rattle.once_parts.specs.Kept.{most}
 use Rattle.once_parts.specs.Own.{Did, Own, Turned, told}
-use Rattle.once_parts.specs.Places.{CanAdd, CanCountIn, CanCountOut, CanFast, CanFill, CanGet, CanLoad, CanRefuse, CanRun, CanTake, add_next, fast_next, fill_next, get_next, in_next, load_next, numbered, out_next, put_next, run_next, take_next, task_run, unnamed}
+use Rattle.once_parts.specs.Places.{CanLoad, CanFast, CanAdd, CanCountOut, CanCountIn}
+use Rattle.once_parts.specs.Places.{CanGet, CanTake, CanRun, CanFill, CanRefuse}
+use Rattle.once_parts.specs.Places.{load_next, fast_next, add_next, out_next, in_next}
+use Rattle.once_parts.specs.Places.{get_next, put_next, take_next, run_next, fill_next}
+use Rattle.once_parts.specs.Places.{numbered, task_run, unnamed}
 use Rattle.once_parts.specs.Handed.{CanSection, DidSection}
 
 module _ {P W : Type 0} (cell : P → Placed) (own : P → Own) (whose : W → ℕ) where
@@ -35,16 +39,21 @@ module _ {P W : Type 0} (cell : P → Placed) (own : P → Own) (whose : W → �
   parts_tell = record {
     load = λ s n t. (cell t ≡ cell s) × Did (own s) [] (load_next n (own s).task.step) (own t);
     quick = λ s won t. (cell t ≡ cell s) × Did (own s) (claim_entries won (own s).number) (after_quick won) (own t);
-    fast = λ s r won t. (cell t ≡ cell s) × Did (own s) (freed_entries won (own s).number (own s).task.kept) (fast_next won (own s).task.step) (own t);
+    fast = λ s r won t. (cell t ≡ cell s)
+        × Did (own s) (freed_entries won (own s).number (own s).task.kept) (fast_next won (own s).task.step) (own t);
     count_in = λ s l c t. (cell t ≡ cell s) × Did (own s) [] (in_next c (own s).task.step) (own t);
     add_one = λ s t. (cell t ≡ cell s) × Did (own s) [] (add_next (own s).task.step) (own t);
     count_out = λ s n t. (cell t ≡ cell s) × Did (own s) [] (out_next n (own s).task.step) (own t);
-    door_get = λ s q t. (cell t ≡ cell s) × ((n : ℕ) × Did (own s) [] (get_next (numbered n (is_some q)) (own s).task.step) (own t));
+    door_get = λ s q t. (cell t ≡ cell s)
+        × ((n : ℕ) × Did (own s) [] (get_next (numbered n (is_some q)) (own s).task.step) (own t));
     door_put = λ s q t. (cell t ≡ cell s) × ((n : ℕ) × Did (own s) [] (put_next (numbered n (is_some q))) (own t));
     door_take = λ s b t. (cell t ≡ cell s) × Did (own s) [] (take_next (own s).task.step) (own t);
     section = λ s q op a o t. (cell t ≡ cell s) × DidSection whose op a o (own s) (own t);
-    refuse = λ s t. (cell t ≡ cell s) × Turned (own s) (record (own s).task { step = refused_step (own s).task.step }) [] (own t);
+    refuse = λ s t. (cell t ≡ cell s)
+        × Turned (own s) (record (own s).task { step = refused_step (own s).task.step }) [] (own t);
     ran = λ s a t. (cell t ≡ cell s)
-        × Turned (own s) (task_run a (own s).task) (told (own s).number (task_run a (own s).task).kept (run_next a (own s).task.step) (Ran (own s).number (unnamed a) ∷ [])) (own t);
+        × Turned (own s) (task_run a (own s).task)
+        (told (own s).number (task_run a (own s).task).kept (run_next a (own s).task.step)
+        (Ran (own s).number (unnamed a) ∷ [])) (own t);
     put = λ s t. (cell t ≡ cell s) × Did (own s) [] (fill_next (own s).task.step) (own t);
   }

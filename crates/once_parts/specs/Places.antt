@@ -6,10 +6,15 @@ use Rattle.once_core.specs.declared.parts.Counted.{Counted}
 use Rattle.once_core.specs.declared.parts.Counted.TheVariants.{Full, SeenReady}
 use Rattle.once_core.specs.declared.step.Polled.{Polled}
 use Rattle.once_core.specs.declared.step.Polled.TheVariants.{Pending, Value, Error}
-use Rattle.once_core.specs.Steps.{Next, after_count_in, after_count_out, after_door_again, after_door_get, after_door_put, after_fast, after_list, after_load, after_look, after_run, after_start, next_at, next_end, release_place, step_of_drop, step_of_poll}
+use Rattle.once_core.specs.Steps.{Next, next_at, next_end, release_place, step_of_drop, step_of_poll}
+use Rattle.once_core.specs.Steps.{after_start, after_door_get, after_door_put, after_count_in}
+use Rattle.once_core.specs.Steps.{after_load, after_look, after_list}
+use Rattle.once_core.specs.Steps.{after_run, after_fast, after_door_again, after_count_out}
 use Rattle.once_world.specs.Record.{Answer, RanPending, RanValue, RanError}
 use Rattle.once_world.specs.Book.{TaskState}
-use Rattle.once_world.specs.Machine.{AtStart, AtCountIn, AtWaitLoad, AtLook, AtList, AtRun, AtPut, AtFast, AtAddOne, AtDoorGet, AtDoorAgain, AtRelease, AtLeave, AtCountOut, AtDoorTake, EndValue, Step, UnderWay, is_value, kept_after}
+use Rattle.once_world.specs.Machine.{AtStart, AtDoorGet, AtCountIn, AtWaitLoad, AtLook, AtList, AtRun, AtPut}
+use Rattle.once_world.specs.Machine.{AtFast, AtAddOne, AtDoorAgain, AtRelease, AtLeave, AtCountOut, AtDoorTake}
+use Rattle.once_world.specs.Machine.{EndValue, Step, UnderWay, is_value, kept_after}
 
 -- at another place nothing of this is done, and it is left open where that would lead
 abbrev pub nowhere : Next ℕ ℕ
@@ -109,7 +114,8 @@ abbrev pub CanLook : Option ℕ → Step ℕ ℕ → Type 0
 CanLook k (UnderWay (AtLook q m)) = m ≡ k
 CanLook k _ = ⊥
 
--- by the answer and the ticket that is left. Who finds a holder copies its waker, which is v; the refusal of that is a moment of its own
+-- by the answer and the ticket that is left.
+-- Who finds a holder copies its waker, which is v; the refusal of that copy is a moment of its own
 abbrev pub look_next : SectionAnswer ℕ → Option ℕ → ℕ → Step ℕ ℕ → Next ℕ ℕ
 look_next a k v (UnderWay (AtLook q m)) = after_look a (Some v) q k
 look_next a k v _ = nowhere

@@ -9,7 +9,8 @@ use Rattle.once_parts.specs.Kept.{Sheet}
 
 -- a Fill stands in it: the value was set
 abbrev pub WasFilled : List Entry → Type 0
-WasFilled log = (t : ℕ) × (X : List ℕ) × ((before : List Entry) × (after : List Entry) × (log ≡ before ++ Fill t 0 X ∷ after))
+WasFilled log =
+    (t : ℕ) × (X : List ℕ) × ((before : List Entry) × (after : List Entry) × (log ≡ before ++ Fill t 0 X ∷ after))
 
 -- the cell is set after its entries
 abbrev pub IsSet : List Entry → Type 0
@@ -21,7 +22,9 @@ EndsSet t log = (before : List Entry) × (log ≡ before ++ End t (Value 0) ∷ 
 
 -- a look that came after all that was seen, and found the value exactly where the cell was set then
 abbrev pub Looked : Bool → List Entry → List Entry → Type 0
-Looked found old new = (before : List Entry) × IsPrefix old before × (new ≡ before ++ Look (if found then Some 0 else None) ∷ []) × (is_set (cell Once (reverse new)) ≡ found)
+Looked found old new =
+    (before : List Entry) × IsPrefix old before × (new ≡ before ++ Look (if found then Some 0 else None) ∷ [])
+    × (is_set (cell Once (reverse new)) ≡ found)
 
 -- what a look tells, by the word
 abbrev pub Looks : View Entry Sheet → ℕ → View Entry Sheet → Type 0

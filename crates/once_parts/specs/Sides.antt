@@ -6,25 +6,25 @@ use Rattle.once_queue.specs.declared.waiters.Out.{Out}
 use Rattle.once_core.specs.Steps.{SideTells}
 use Rattle.once_parts.specs.Named.{named_out}
 
--- the number of its task, whether it has a value or an error that the init gave, and the tasks whose wakers were handed to it in this call
+-- a side
 pub record Sided : Type 0 where
-  pub number : ℕ
-  pub has_value : Bool
-  pub has_error : Bool
-  pub woke : List ℕ
+  pub number : ℕ  -- the number of its task
+  pub has_value : Bool  -- whether it has a value that the init gave
+  pub has_error : Bool  -- whether it has an error that the init gave
+  pub woke : List ℕ  -- the tasks whose wakers were handed to it in this call
 
--- the init was polled, and answered so: what it gave is there
+-- the init was polled, and answered so
 pub record HasRun (x : Sided) (a : Polled) (y : Sided) : Type 0 where
-  pub number : y.number ≡ x.number
-  pub woke : y.woke ≡ x.woke
-  pub value : a ≡ Value → y.has_value ≡ true
-  pub error : a ≡ Error → y.has_error ≡ true
+  pub number : y.number ≡ x.number  -- the task is the same
+  pub woke : y.woke ≡ x.woke  -- nobody was handed out
+  pub value : a ≡ Value → y.has_value ≡ true  -- the value that the init gave is there
+  pub error : a ≡ Error → y.has_error ≡ true  -- the error that the init gave is there
 
 -- the value was given away
 pub record HasPut (x y : Sided) : Type 0 where
-  pub number : y.number ≡ x.number
-  pub woke : y.woke ≡ x.woke
-  pub error : y.has_error ≡ x.has_error
+  pub number : y.number ≡ x.number  -- the task is the same
+  pub woke : y.woke ≡ x.woke  -- nobody was handed out
+  pub error : y.has_error ≡ x.has_error  -- an error stays there
 
 module _ {W : Type 0} (whose : W → ℕ) where
   -- the waker was copied: it is the task's own

@@ -1,11 +1,13 @@
--- A step of a call as it looks where wakers and queues have other names: the code's wakers are objects, and those of a page are numbers.
+-- A step of a call as it looks where wakers and queues have other names.
+-- The code's wakers are objects, and those of a page are numbers.
 use Rattle.std.specs.Prelude.{◌≡◌, ℕ}
 use Rattle.std.specs.Option.{option_map}
 use Rattle.once_queue.specs.declared.waiters.Answer.{Answer}
 use Rattle.once_queue.specs.declared.waiters.Answer.TheVariants.{Ready, Claimed, Listed, Held, Memory, Gone}
 use Rattle.once_core.specs.Steps.{Next}
 use Rattle.once_world.specs.Machine.{Rest, RestStart, RestWait, RestRun, Step, Resting, UnderWay, Finished}
-use Rattle.once_world.specs.Machine.{Place, AtStart, AtTryQuick, AtDoorGet, AtDoorPut, AtCountIn, AtWaitLoad, AtLook, AtList, AtRun}
+use Rattle.once_world.specs.Machine.{Place, AtStart, AtTryQuick, AtDoorGet, AtDoorPut, AtCountIn}
+use Rattle.once_world.specs.Machine.{AtWaitLoad, AtLook, AtList, AtRun}
 use Rattle.once_world.specs.Machine.{AtPut, AtFast, AtAddOne, AtDoorAgain, AtRelease, AtLeave, AtCountOut, AtDoorTake}
 
 -- where a call begins

@@ -3,9 +3,9 @@ use Rattle.std.specs.Prelude.{ℕ, Bool, List}
 use Rattle.pagebook.specs.Slot.{Placed}
 use Rattle.once_world.specs.Record.{Entry}
 
--- its cell, its number, the record as far as it has seen it, and whether it is finished
+-- a task
 pub record TaskView : Type 0 where
-  pub cell : Placed
-  pub number : ℕ
-  pub log : List Entry
-  pub finished : Bool
+  pub cell : Placed  -- its cell
+  pub number : ℕ  -- its number
+  pub log : List Entry  -- the record as far as it has seen it
+  pub finished : Bool  -- whether it is finished

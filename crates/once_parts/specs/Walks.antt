@@ -1,8 +1,10 @@
 -- What a whole call of a task makes of the record.
 use Rattle.std.specs.Prelude.{◌≡◌, ℕ, Bool, true, false, List, [], ◌∷◌, ◌++◌, ⊤}
 use mathlib.Core.List.{IsPrefix}
-use Rattle.once_world.specs.Places.{Ending, EndPending, EndValue, EndError, EndMemory, EndFull, EndDropped, Progress, More, Ended, Step, Resting, UnderWay, Finished}
-use Rattle.once_world.specs.Places.{Place, AtPut, AtFast, AtAddOne, AtDoorAgain, AtRelease, AtLeave, AtCountOut, AtDoorTake}
+use Rattle.once_world.specs.Places.{Ending, EndPending, EndValue, EndError, EndMemory, EndFull, EndDropped}
+use Rattle.once_world.specs.Places.{Progress, More, Ended, Step, Resting, UnderWay, Finished}
+use Rattle.once_world.specs.Places.{Place, AtPut, AtFast, AtAddOne, AtDoorAgain, AtRelease, AtLeave}
+use Rattle.once_world.specs.Places.{AtCountOut, AtDoorTake}
 use Rattle.once_core.specs.Steps.{is_resting}
 use Rattle.once_world.specs.Record.{DropEnd, End, Entry, Error, Full, Memory, Pending, RanError, Value, handed_by}
 use Rattle.once_world.specs.Machine.{progress_entries}
@@ -62,15 +64,17 @@ abbrev pub StandsOn : {W : Type 0} → (W → ℕ) → Own → Step W ⊤ → Ty
 StandsOn whose v s = StandsForStep whose (λ q. q) the_queue s v.task.step
 
 -- the side is the task's, and its call has come so far
-pub record Stands {W : Type 0} (whose : W → ℕ) (drops : Bool) (x : Sided) (v : Own) (r : Progress) (s : Step W ⊤) : Type 0 where
-  pub step : StandsOn whose v s
-  pub number : x.number ≡ v.number
-  pub fits : Fits drops x v r s
+pub record Stands {W : Type 0} (whose : W → ℕ) (drops : Bool) (x : Sided) (v : Own)
+    (r : Progress) (s : Step W ⊤) : Type 0 where
+  pub step : StandsOn whose v s  -- the code's step stands for the page's
+  pub number : x.number ≡ v.number  -- the side is the task's
+  pub fits : Fits drops x v r s  -- what holds at this place of a call does hold
 
--- from x and v to y and w a call made its steps, the last of which told r: an end is the newest entry, and who was handed to the side are those that the entries of the steps name
+-- from x and v to y and w a call made its steps, the last of which told r
 pub record Walked (x : Sided) (v : Own) (r : Progress) (y : Sided) (w : Own) : Type 0 where
-  pub number : w.number ≡ v.number
-  pub ends : Grew (progress_entries r w.number 0 w.task.kept) v.log w.log
+  pub number : w.number ≡ v.number  -- it is the same task
+  pub ends : Grew (progress_entries r w.number 0 w.task.kept) v.log w.log  -- an end is the newest entry
+  -- those who were handed to the side are those whom the entries of the steps name
   pub made : (es : List Entry) × GrewBy es v.log w.log × (y.woke ≡ x.woke ++ handed es)
 
 -- the task rests, and the code's step stands for the page's

@@ -32,7 +32,8 @@ pub(crate) fn whole_poll<T, W: TaskWaker + Drop, R: Wait + AllocGlobal, S: TaskS
     ensures cell { cell_of parts.new ≡ cell_of parts.old }
     ensures task { (own parts.new).number ≡ (own parts.old).number }
     ensures end { Grew (end_of (own parts.new).number result ∷ []) (own parts.old).log (own parts.new).log }
-    ensures woke { (es : List Entry) × GrewBy es (own parts.old).log (own parts.new).log × ((S.state side.new).woke ≡ handed es) }
+    ensures woke { (es : List Entry) × GrewBy es (own parts.old).log (own parts.new).log
+        × ((S.state side.new).woke ≡ handed es) }
     ensures error { result ≡ Ending.Error → (S.state side.new).has_error ≡ true }
     ensures finished { (result ≡ Ending.Pending) ↔ (is_over idle.new ≡ false) }
     ensures poll { result ≡ Ending.Dropped → ⊥ }
@@ -68,7 +69,8 @@ fn steps_left<T, W: TaskWaker + Drop, R: Wait + AllocGlobal, S: TaskSide<W, Valu
     ensures cell { cell_of parts.new ≡ cell_of parts.old }
     ensures walked { (x : Sided) → (v : Own) → Walked x v Progress.More (S.state side.old) (own parts.old)
         → Walked x v (Progress.Ended result) (S.state side.new) (own parts.new) }
-    ensures stands { Stands W.whose false (S.state side.new) (own parts.new) (Progress.Ended result) (step_of idle.new) }
+    ensures stands { Stands W.whose false (S.state side.new) (own parts.new) (Progress.Ended result)
+        (step_of idle.new) }
     ensures stays { S.stays side.old side.new }
 {
     let mut step = step;
@@ -89,7 +91,8 @@ pub fn whole_drop<T, W: TaskWaker + Drop, R: Wait + AllocGlobal, S: TaskSide<W, 
     ensures cell { cell_of parts.new ≡ cell_of parts.old }
     ensures task { (own parts.new).number ≡ (own parts.old).number }
     ensures end { Grew (end_of (own parts.new).number Ending.Dropped ∷ []) (own parts.old).log (own parts.new).log }
-    ensures woke { (es : List Entry) × GrewBy es (own parts.old).log (own parts.new).log × ((S.state side.new).woke ≡ handed es) }
+    ensures woke { (es : List Entry) × GrewBy es (own parts.old).log (own parts.new).log
+        × ((S.state side.new).woke ≡ handed es) }
     ensures finished { step.new ≡ Step.Finished }
     ensures stays { S.stays side.old side.new }
 {

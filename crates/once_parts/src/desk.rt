@@ -42,13 +42,16 @@ impl<W: TaskWaker> Keyed for Desk<W> {
 
 impl<W: TaskWaker + Drop> Desk<W> {
     ghost use Rattle.once_core.specs.Steps.{next_at};
-    ghost use Rattle.once_world.specs.Machine.{AtCountIn, AtDoorPut, UnderWay, claim_entries, is_claim, pass_entries, release_entry};
+    ghost use Rattle.once_world.specs.Machine.{AtCountIn, AtDoorPut, UnderWay};
+    ghost use Rattle.once_world.specs.Machine.{claim_entries, is_claim, pass_entries, release_entry};
     ghost use Rattle.once_parts.specs.Kept.{has_passed, hands_out};
     ghost use Rattle.once_parts.specs.Named.{named_one, named_out};
     ghost use Rattle.once_parts.specs.Steps.{answer_as};
     ghost use Rattle.once_parts.specs.Desk.{desk_sheets, first_desk};
     ghost use Rattle.once_parts.specs.Own.{Did, IsWord};
-    ghost use Rattle.once_parts.specs.Places.{CanGet, CanLeave, CanList, CanLook, CanRelease, CanTake, get_next, leave_next, list_next, look_next, numbered, release_next, take_next};
+    ghost use Rattle.once_parts.specs.Places.{CanGet, CanTake, CanLook, CanList, CanRelease, CanLeave};
+    ghost use Rattle.once_parts.specs.Places.{get_next, take_next, look_next, list_next, release_next, leave_next};
+    ghost use Rattle.once_parts.specs.Places.{numbered};
     ghost use Rattle.once_parts.specs.Hands.{own_of};
     ghost use Rattle.std.specs.Prelude.{IsSomeAnd};
 
@@ -73,7 +76,8 @@ impl<W: TaskWaker + Drop> Desk<W> {
         requires can { CanGet (own_of hand.old).task.step }
         ensures desk { self.new ≡ self.old }
         ensures book { hand.new.seen.book ≡ hand.old.seen.book }
-        ensures did { (q : ℕ) × Did (own_of hand.old) [] (get_next (numbered q result) (own_of hand.old).task.step) (own_of hand.new) }
+        ensures did { (q : ℕ)
+            × Did (own_of hand.old) [] (get_next (numbered q result) (own_of hand.old).task.step) (own_of hand.new) }
     {
         note(&mut self.pens, hand, &Section::Get);
         self.lists.is_some()
@@ -131,7 +135,8 @@ impl<W: TaskWaker + Drop> Desk<W> {
         ensures desk { self.new ≡ self.old }
         ensures book { hand.new.seen.book ≡ hand.old.seen.book }
         ensures did { Did (own_of hand.old) (claim_entries (is_claim (answer_as result)) (own_of hand.old).number)
-            (look_next (answer_as result) ticket.new (own_of hand.old).task.waker (own_of hand.old).task.step) (own_of hand.new) }
+            (look_next (answer_as result) ticket.new (own_of hand.old).task.waker (own_of hand.old).task.step)
+            (own_of hand.new) }
     {
         note(&mut self.pens, hand, &Section::Stand);
         let Some(queue) = &mut self.lists else {
@@ -205,7 +210,8 @@ impl<W: TaskWaker + Drop> Desk<W> {
         ensures book { hand.new.seen.book ≡ hand.old.seen.book }
         ensures did { Did (own_of hand.old) (pass_entries (own_of hand.old).number (named_one W.whose result))
             (leave_next (own_of hand.old).task.step) (own_of hand.new) }
-        ensures passed { has_passed (own_of hand.new).number (own_of hand.new).log ≡ hands_out (named_one W.whose result) }
+        ensures passed { has_passed (own_of hand.new).number (own_of hand.new).log
+            ≡ hands_out (named_one W.whose result) }
     {
         note(&mut self.pens, hand, &Section::Stand);
         let Some(queue) = &mut self.lists else {

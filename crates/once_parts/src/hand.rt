@@ -24,10 +24,15 @@ impl Hand {
     ghost use Rattle.once_core.specs.Steps.{after_quick, is_resting, step_of_drop};
     ghost use Rattle.once_world.specs.Record.{Begin, Made, Ran};
     ghost use Rattle.once_world.specs.Book.{refused_step};
-    ghost use Rattle.once_world.specs.Machine.{AtDoorPut, AtTryQuick, UnderWay, claim_entries, drop_entries, freed_entries, fresh_task};
+    ghost use Rattle.once_world.specs.Machine.{AtDoorPut, AtTryQuick, UnderWay, fresh_task};
+    ghost use Rattle.once_world.specs.Machine.{claim_entries, drop_entries, freed_entries};
     ghost use Rattle.once_parts.specs.Kept.{Grew, most};
     ghost use Rattle.once_parts.specs.Own.{Did, IsWord, Stayed, Turned, told};
-    ghost use Rattle.once_parts.specs.Places.{CanAdd, CanCountIn, CanCountOut, CanFast, CanFill, CanLoad, CanRefuse, CanRun, CanTake, add_next, fast_next, fill_next, in_next, load_next, out_next, put_next, run_next, take_next, task_begun, task_dropping, task_run, unnamed};
+    ghost use Rattle.once_parts.specs.Places.{CanLoad, CanFast, CanAdd, CanCountIn, CanCountOut, CanTake};
+    ghost use Rattle.once_parts.specs.Places.{CanRun, CanFill, CanRefuse};
+    ghost use Rattle.once_parts.specs.Places.{load_next, fast_next, add_next, in_next, out_next};
+    ghost use Rattle.once_parts.specs.Places.{put_next, take_next, run_next, fill_next};
+    ghost use Rattle.once_parts.specs.Places.{task_begun, task_dropping, task_run, unnamed};
     ghost use Rattle.once_parts.specs.Hands.{own_of};
 
     /// A new task's, by what was seen of the log before.
@@ -60,7 +65,8 @@ impl Hand {
         requires word { IsWord word.now self.old.seen.book 0 }
         requires can { (own_of self.old).task.step ≡ UnderWay AtTryQuick }
         ensures book { self.new.seen.book ≡ self.old.seen.book }
-        ensures did { Did (own_of self.old) (claim_entries result (own_of self.old).number) (after_quick result) (own_of self.new) }
+        ensures did { Did (own_of self.old) (claim_entries result (own_of self.old).number) (after_quick result)
+            (own_of self.new) }
     {
         let found = word.compare_exchange::<Act, Act>(
             NEW,
@@ -151,7 +157,8 @@ impl Hand {
         requires word { IsWord has_put.now self.old.seen.book 1 }
         requires can { CanTake (own_of self.old).task.step }
         ensures book { self.new.seen.book ≡ self.old.seen.book }
-        ensures none { result ≡ true → Did (own_of self.old) [] (take_next (own_of self.old).task.step) (own_of self.new) }
+        ensures none { result ≡ true
+            → Did (own_of self.old) [] (take_next (own_of self.old).task.step) (own_of self.new) }
         ensures some { result ≡ false → Stayed (own_of self.old) (own_of self.new) }
     {
         has_put.load::<Act, Act>(&Act::NonePut, &mut self.seen, &mut self.pens) == 0
@@ -174,7 +181,8 @@ impl Hand {
         requires can { is_resting (own_of self.old).task.step ≡ true }
         ensures book { self.new.seen.book ≡ self.old.seen.book }
         ensures did { Turned (own_of self.old) (task_dropping (own_of self.old).task)
-            (reverse (drop_entries (own_of self.old).number (step_of_drop (own_of self.old).task.step))) (own_of self.new) }
+            (reverse (drop_entries (own_of self.old).number (step_of_drop (own_of self.old).task.step)))
+            (own_of self.new) }
     {
         self.seen.note::<Act, Act>(&mut self.pens, &Act::BeginDrop);
     }
@@ -185,7 +193,8 @@ impl Hand {
         requires can { CanRun (own_of self.old).task.step }
         ensures book { self.new.seen.book ≡ self.old.seen.book }
         ensures did { Turned (own_of self.old) (task_run answer (own_of self.old).task)
-            (told (own_of self.old).number (task_run answer (own_of self.old).task).kept (run_next answer (own_of self.old).task.step)
+            (told (own_of self.old).number (task_run answer (own_of self.old).task).kept
+            (run_next answer (own_of self.old).task.step)
             (Ran (own_of self.old).number (unnamed answer) ∷ [])) (own_of self.new) }
     {
         self.seen
@@ -197,7 +206,8 @@ impl Hand {
     pub(crate) fn refused(&mut self)
         requires can { CanRefuse (own_of self.old).task.step }
         ensures book { self.new.seen.book ≡ self.old.seen.book }
-        ensures did { Turned (own_of self.old) (record (own_of self.old).task { step = refused_step (own_of self.old).task.step }) [] (own_of self.new) }
+        ensures did { Turned (own_of self.old)
+            (record (own_of self.old).task { step = refused_step (own_of self.old).task.step }) [] (own_of self.new) }
     {
         self.seen.note::<Act, Act>(&mut self.pens, &Act::Refused);
     }

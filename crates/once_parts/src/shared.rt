@@ -349,7 +349,8 @@ fn got<J: Key, T, W: TaskWaker + Drop, R: Wait>(
     requires book { hand.old.seen.book ≡ J.key }
     requires can { CanGet (own_of hand.old).task.step }
     ensures book { hand.new.seen.book ≡ hand.old.seen.book }
-    ensures did { (q : ℕ) × Did (own_of hand.old) [] (get_next (numbered q result) (own_of hand.old).task.step) (own_of hand.new) }
+    ensures did { (q : ℕ)
+        × Did (own_of hand.old) [] (get_next (numbered q result) (own_of hand.old).task.step) (own_of hand.new) }
 {
     inner.desk.lock::<J, R>(rt).value.get(hand)
 }

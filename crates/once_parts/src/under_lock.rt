@@ -21,7 +21,8 @@ pub(crate) fn note(desk: &mut CellPens, hand: &mut Hand, section: &Section)
     requires can { CanNote section.now (desked desk.old.held) (own_of hand.old).task.step }
     ensures book { (desk.new.book ≡ hand.old.seen.book) × (hand.new.seen.book ≡ hand.old.seen.book) }
     ensures desk { IsDesk desk.new.held }
-    ensures told { Moment section.now 0 (desked desk.old.held) (own_of hand.old) (desked desk.new.held) (own_of hand.new) }
+    ensures told { Moment section.now 0 (desked desk.old.held) (own_of hand.old) (desked desk.new.held)
+        (own_of hand.new) }
 {
     desk.append(&mut hand.pens);
     hand.seen.note::<Section, Section>(desk, section);
@@ -37,7 +38,8 @@ pub(crate) fn see(word: &CellWord, desk: &mut CellPens, hand: &mut Hand, section
     requires can { CanSee section.now (own_of hand.old).task.step }
     ensures book { (desk.new.book ≡ hand.old.seen.book) × (hand.new.seen.book ≡ hand.old.seen.book) }
     ensures desk { IsDesk desk.new.held }
-    ensures told { Moment section.now result (desked desk.old.held) (own_of hand.old) (desked desk.new.held) (own_of hand.new) }
+    ensures told { Moment section.now result (desked desk.old.held) (own_of hand.old) (desked desk.new.held)
+        (own_of hand.new) }
 {
     desk.append(&mut hand.pens);
     let found = word.load::<Section, Section>(section, &mut hand.seen, desk);
@@ -55,7 +57,8 @@ pub(crate) fn put(has_put: &CellWord, desk: &mut CellPens, hand: &mut Hand)
     requires can { (own_of hand.old).task.step ≡ UnderWay AtDoorPut }
     ensures book { (desk.new.book ≡ hand.old.seen.book) × (hand.new.seen.book ≡ hand.old.seen.book) }
     ensures desk { IsDesk desk.new.held }
-    ensures told { (n : ℕ) × Moment Section.Put n (desked desk.old.held) (own_of hand.old) (desked desk.new.held) (own_of hand.new) }
+    ensures told { (n : ℕ)
+        × Moment Section.Put n (desked desk.old.held) (own_of hand.old) (desked desk.new.held) (own_of hand.new) }
 {
     desk.append(&mut hand.pens);
     has_put.store::<Section, Section>(1, &Section::Put, &mut hand.seen, desk);
@@ -72,7 +75,9 @@ pub(crate) fn release(word: &CellWord, desk: &mut CellPens, hand: &mut Hand, rea
     requires more { more ≡ more_released ready (desked desk.old.held).head }
     ensures book { (desk.new.book ≡ hand.old.seen.book) × (hand.new.seen.book ≡ hand.old.seen.book) }
     ensures desk { IsDesk desk.new.held }
-    ensures told { (n : ℕ) × Moment (Section.Release ready) n (desked desk.old.held) (own_of hand.old) (desked desk.new.held) (own_of hand.new) }
+    ensures told { (n : ℕ)
+        × Moment (Section.Release ready) n (desked desk.old.held) (own_of hand.old) (desked desk.new.held)
+        (own_of hand.new) }
 {
     desk.append(&mut hand.pens);
     word.fetch_add::<Section, Section>(more, &Section::Release(ready), &mut hand.seen, desk);

@@ -20,5 +20,5 @@ message Memory = codes "once_replay: out of memory"
 
 -- the fault that an error of a read or a write is
 pub record Reports (error : Error) (fault : Fault) : Type 0 where
-  pub memory : (fault ≡ Memory) ↔ (error_kind error ≡ OutOfMemory)
-  pub other : (fault ≡ Io) ↔ (error_kind error ≢ OutOfMemory)
+  pub memory : (fault ≡ Memory) ↔ (error_kind error ≡ OutOfMemory)  -- it is Memory for the kind OutOfMemory
+  pub other : (fault ≡ Io) ↔ (error_kind error ≢ OutOfMemory)  -- it is Io for all other kinds

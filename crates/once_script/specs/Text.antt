@@ -64,9 +64,9 @@ all_inputs lines = flat_map inputs_of lines
 
 -- a text is these two numbers
 pub record IsPair (first second : ℕ) (text : List ℕ) : Type 0 where
-  pub digits : List ℕ
-  pub more : List ℕ
-  pub parts : text ≡ digits ++ (32 ∷ more)
+  pub digits : List ℕ  -- the text of the first
+  pub more : List ℕ  -- the text of the second
+  pub parts : text ≡ digits ++ (32 ∷ more)  -- one space is between them
   pub first_number : number_of digits ≡ Some first
   pub second_number : number_of more ≡ Some second
 
@@ -77,9 +77,9 @@ IsGiven answer false text = (field : List ℕ) × (text ≡ field ++ codes " x")
 
 -- a text is this task and what its step is given
 pub record IsStep (task : ℕ) (answer : Ran) (memory : Bool) (text : List ℕ) : Type 0 where
-  pub digits : List ℕ
-  pub given : List ℕ
-  pub parts : text ≡ digits ++ (32 ∷ given)
+  pub digits : List ℕ  -- the text of the task
+  pub given : List ℕ  -- the text of what its step is given
+  pub parts : text ≡ digits ++ (32 ∷ given)  -- one space is between them
   pub task_number : number_of digits ≡ Some task
   pub is_given : IsGiven answer memory given
 

@@ -1,5 +1,6 @@
 //! The text of a script, line by line.
-ghost use Rattle.std.specs.Prelude.{◌≡◌, ◌≢◌, ◌<◌, ◌≤◌, ◌-◌, ◌^◌, ◌++◌, IfOk, IfSome, IsSome, MatchOption, Bool, ℕ, Option, codes};
+ghost use Rattle.std.specs.Prelude.{◌≡◌, ◌≢◌, ◌<◌, ◌≤◌, ◌-◌, ◌^◌, ◌++◌, Bool, ℕ, Option, codes};
+ghost use Rattle.std.specs.Prelude.{IfOk, IfSome, IsSome, MatchOption};
 ghost use Rattle.once_core.specs.declared.record.Ran.{Ran};
 ghost use Rattle.once_core.specs.declared.record.Call.{Call};
 ghost use Rattle.once_core.specs.declared.record.Kind.{Kind};

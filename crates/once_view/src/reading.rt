@@ -109,7 +109,8 @@ fn first_form(text: &str) -> Expected {
             has_numbers: true,
         },
         Some(("lazy", _)) => Expected {
-            form: "`lazy LIMIT`, `lazy LIMIT ANSWER ..` or `lazy LIMIT with VALUE`; the limit is from 1 to 4611686018427387902, and an answer is `p` or `vVALUE`",
+            form: "`lazy LIMIT`, `lazy LIMIT ANSWER ..` or `lazy LIMIT with VALUE`; \
+                the limit is from 1 to 4611686018427387902, and an answer is `p` or `vVALUE`",
             has_numbers: true,
         },
         _ => Expected {

@@ -5,13 +5,14 @@ use Rattle.once_queue.specs.Numbers.{bit}
 use Rattle.once_queue.specs.Word.{flags_of}
 use Rattle.once_world.specs.Record.{Answer, RanValue, Entry, Once}
 use Rattle.once_world.specs.Inputs.{Input, Poll, Go, Owns}
-use Rattle.once_world.specs.Machine.{Listing, Task, Step, UnderWay, Place, AtList, AtFast, AtAddOne, AtDoorAgain, AtRelease, EndMemory}
+use Rattle.once_world.specs.Machine.{Listing, Task, Step, UnderWay, Place, AtList, AtFast}
+use Rattle.once_world.specs.Machine.{AtAddOne, AtDoorAgain, AtRelease, EndMemory}
 use Rattle.once_world.specs.Machine.{World, is_value, leave_place, put_task, step_of, first_world, world_after, word_of}
 
--- what a thread may do next: give the machine an input, or be refused the copy of its waker, which it asked for after a look
+-- what a thread may do next
 pub data Move : Type 0 where
-  Given : (input : Input) → Move
-  Refuse : (task : ℕ) → Move
+  Given : (input : Input) → Move  -- it gives the machine an input
+  Refuse : (task : ℕ) → Move  -- it is refused the copy of its waker, which it asked for after a look
 
 -- who looked and would list itself leaves for want of memory, if its copy is refused
 abbrev pub refused_step : Step ℕ ℕ → Step ℕ ℕ
@@ -72,28 +73,29 @@ has_written _ = false
 abbrev pub SlotIs : Bool → World → Type 0
 SlotIs slot w = (slot ≡ true) ↔ ((w.shared.ready ≡ true) ⊎ ((t : ℕ) × (has_written (step_of (w.tasks t)) ≡ true)))
 
--- a page: how many queues were made and which stands at the door; the queue's flag and listings; or a task
+-- what stands on a page
 pub data Page : Type 0 where
-  Door : (made : ℕ) → (queue : Option ℕ) → Page
-  Queue : (head : Bool) → (listings : List (Listing ℕ)) → Page
-  At : (task : Task) → Page
+  Door : (made : ℕ) → (queue : Option ℕ) → Page  -- how many queues were made, and which stands at the door
+  Queue : (head : Bool) → (listings : List (Listing ℕ)) → Page  -- the queue's flag, and its listings
+  At : (task : Task) → Page  -- a task
 
 -- the page of a task that was made
 abbrev pub task_page : Option Task → Option Page
 task_page None = None
 task_page (Some x) = Some (At x)
 
--- the book of the world w: its word, whether a queue was ever put (0 or 1), whether the slot is written, its pages, and its log, the oldest entry first
-pub record IsBookOf (limit : ℕ) (w : World) (word has_put : ℕ) (slot : Bool) (pages : List Page) (log : List Entry) : Type 0 where
+-- the book of the world w
+pub record IsBookOf (limit : ℕ) (w : World) (word has_put : ℕ) (slot : Bool) (pages : List Page)
+    (log : List Entry) : Type 0 where
   pub reached : TasksReach limit w  -- tasks that share the cell led here
   pub within : word < 2 ^ 64  -- the word is a u64
   pub word_is : flags_of word ≡ word_of w.shared  -- the word is the count and the two flags
-  pub put_is : has_put ≡ bit (nat_lt 0 w.shared.queues)  -- a queue was put
-  pub slot_is : SlotIs slot w  -- the slot is written
+  pub put_is : has_put ≡ bit (nat_lt 0 w.shared.queues)  -- 1 where a queue was ever put, and else 0
+  pub slot_is : SlotIs slot w  -- whether the slot is written
   pub door_is : slice_get pages 0 ≡ Some (Door w.shared.queues w.shared.door)  -- page 0 is the door's
   pub queue_is : slice_get pages 1 ≡ Some (Queue w.shared.head w.shared.listings)  -- page 1 is the queue's
   pub tasks_are : (t : ℕ) → slice_get pages (suc (suc t)) ≡ task_page (w.tasks t)  -- page t + 2 is that of the task t
-  pub log_is : w.history ≡ reverse log  -- the log is the record
+  pub log_is : w.history ≡ reverse log  -- the log is the record, the oldest entry first
 
 -- the rule: between any two steps it is the book of some world
 abbrev pub IsBook : ℕ → ℕ → ℕ → Bool → List Page → List Entry → Type 0

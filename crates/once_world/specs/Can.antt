@@ -3,7 +3,8 @@ use Rattle.std.specs.Prelude.{◌≡◌, ◌≤◌, ◌<◌, ℕ, false, not, le
 use Rattle.once_world.specs.Inputs.{Input, Go, Make}
 use Rattle.once_world.specs.Machine.{Task, Step, UnderWay, Place, AtAddOne, AtRelease, AtCountOut, SharedState, World}
 
--- what the call of a place asks of what is shared: a free place in the count, a counted task, or, on the queue at the door, a holder that may release
+-- what the call of a place asks of what is shared: a free place in the count, a counted task,
+-- or, on the queue at the door, a holder that may release
 abbrev pub CanStep : ℕ → SharedState → Place ℕ ℕ → Type 0
 CanStep limit c (AtAddOne e) = c.count ≤ limit
 CanStep limit c (AtRelease q e) = c.door ≡ Some q → (c.ready ≡ false) × (c.head ≡ not c.quick)
@@ -20,7 +21,8 @@ abbrev pub TaskCan : ℕ → SharedState → Option Task → Type 0
 TaskCan limit c (Some x) = CanAdvance limit c x.step
 TaskCan limit c None = Unit {0}
 
--- the input may be taken: a task that it moves may make its step; where it makes a task, no more tasks are unfinished than there are entries
+-- the input may be taken: a task that it moves may make its step.
+-- Where it makes a task, no more tasks are unfinished than there are entries
 abbrev pub MayTake : ℕ → World → Input → Type 0
 MayTake limit w (Go t a granted) = TaskCan limit w.shared (w.tasks t)
 MayTake limit w (Make t) = w.unfinished ≤ length w.history

@@ -4,11 +4,11 @@ use Rattle.once_world.specs.Record.{Answer, RanPending, RanValue, Kind, Once, On
 use Rattle.once_world.specs.Record.{OwnerCall, Take, Write, Parts, ReplaceValue, ReplaceAnswers, Got, GotNone}
 use Rattle.once_world.specs.Record.{GotValue, GotAnswers, Entry, Claim, Ran, Free, Fill, Own}
 
--- what a cell is: empty, held by a task, or set to a value
+-- what a cell is
 pub data Cell : Type 0 where
-  Empty : Cell
-  Held : (task : ℕ) → Cell
-  SetTo : (value : ℕ) → Cell
+  Empty : Cell  -- it has no value, and no task has the right
+  Held : (task : ℕ) → Cell  -- this task has the right
+  SetTo : (value : ℕ) → Cell  -- it is set to this value
 
 -- the value is set
 abbrev pub is_set : Cell → Bool

@@ -6,20 +6,21 @@ use Rattle.once_world.specs.Record.{Ran, Free, Fill, Pass, End, DropBegin, DropE
 use Rattle.once_world.specs.Cell.{cell, value_in, answers_left, got}
 use Rattle.once_world.specs.Tasks.{Status, Unmade, Fresh, Waiting, Holding, status, is_under_way, all_gone}
 
--- one input of a replay. Go says what an init answers that is polled in this step, and whether the step is given memory
+-- one input of a replay
 pub data Input : Type 0 where
-  Make : (task : ℕ) → Input
-  Poll : (task : ℕ) → (waker : ℕ) → Input
-  Drop : (task : ℕ) → Input
+  Make : (task : ℕ) → Input  -- the task is made
+  Poll : (task : ℕ) → (waker : ℕ) → Input  -- a poll of it begins, with this waker
+  Drop : (task : ℕ) → Input  -- a drop of it begins
+  -- its call makes one step: what an init answers that is polled in it, and whether the step is given memory
   Go : (task : ℕ) → (answer : Answer) → (granted : Bool) → Input
-  Looks : Input
-  Owns : (owner_call : OwnerCall) → Input
+  Looks : Input  -- somebody looks for the value
+  Owns : (owner_call : OwnerCall) → Input  -- the owner makes this call
 
--- one input, with what it adds to the record and to the queue log
+-- one input, with what it adds
 pub record Part : Type 0 where
   pub input : Input
-  pub entries : List Entry
-  pub lines : List QueueLine
+  pub entries : List Entry  -- what it adds to the record
+  pub lines : List QueueLine  -- what it adds to the queue log
 
 -- the inputs of the parts
 abbrev pub inputs_of : List Part → List Input
@@ -118,7 +119,11 @@ is_fitting_go kind t i before = if is_go_of t i then is_under_way (status kind t
 abbrev pub gos : Kind → ℕ → List Part → List Input
 gos kind t [] = []
 gos kind t (p ∷ before) =
-    if begins_call t p.entries then [] else (if is_fitting_go kind t p.input (entries_of before) then p.input ∷ gos kind t before else gos kind t before)
+    if begins_call t p.entries
+    then []
+    else (if is_fitting_go kind t p.input (entries_of before)
+    then p.input ∷ gos kind t before
+    else gos kind t before)
 
 -- the input is a Go that is given no memory
 abbrev pub is_ungranted : Input → Bool
@@ -159,8 +164,8 @@ Always P (p ∷ before) = P (p ∷ before) × Always P before
 
 -- the record falls into these parts, one for each input
 pub record FallsInto (kind : Kind) (inputs : List Input) (history : List Entry) (parts : List Part) : Type 0 where
-  pub inputs_are : inputs_of parts ≡ inputs
-  pub entries_are : entries_of parts ≡ history
-  pub added : AreAdded kind parts
-  pub sixteen_end : Always (SixteenEnd kind) parts
-  pub memory : Always (WantsMemoryOnlyUngranted kind) parts
+  pub inputs_are : inputs_of parts ≡ inputs  -- there is one part for each input
+  pub entries_are : entries_of parts ≡ history  -- the record is all their entries
+  pub added : AreAdded kind parts  -- each part has the entries that its input adds
+  pub sixteen_end : Always (SixteenEnd kind) parts  -- every call ended within sixteen steps
+  pub memory : Always (WantsMemoryOnlyUngranted kind) parts  -- only a call that was refused memory ended for want of it

@@ -1,5 +1,6 @@
 -- The queue log: which queue stands at the door, and which log belongs to which parts. The newest line stands first.
-use Rattle.std.specs.Prelude.{◌≡◌, ◌≢◌, ℕ, Bool, true, false, if◌then◌else◌, ◌==◌, List, [], ◌∷◌, ◌++◌, Option, Some, None}
+use Rattle.std.specs.Prelude.{◌≡◌, ◌≢◌, ℕ, Bool, true, false, if◌then◌else◌, ◌==◌}
+use Rattle.std.specs.Prelude.{List, [], ◌∷◌, ◌++◌, Option, Some, None}
 use Rattle.std.specs.Option.{is_none}
 use Rattle.once_queue.specs.declared.log.QueueLine.{QueueLine}
 use Rattle.once_queue.specs.declared.log.QueueLine.TheVariants.{Put, Entered, Taken}
@@ -73,7 +74,9 @@ abbrev pub owned_lines : Bool → Bool → Option ℕ → List QueueLine
 owned_lines true true door = take_lines door
 owned_lines _ _ door = []
 
--- an input whose entries are these adds these lines: a Go at most one, and one that enters the queue where it needs it; an owner's call takes the queue out where it replaces the cell; all others none
+-- an input whose entries are these adds these lines.
+-- A Go adds at most one, and one that enters the queue where it needs it.
+-- An owner's call takes the queue out where it replaces the cell. All others add none
 abbrev pub AddsLines : Kind → Input → List Entry → List Entry → List QueueLine → List QueueLine → Type 0
 AddsLines kind (Go t a granted) before entries log lines =
     IsAtMostOne lines × (need_queue kind entries before ≡ true → has_entered lines ≡ true)
@@ -101,7 +104,7 @@ NoneKept kind parts =
 
 -- the log falls into the lines of these parts
 pub record IsLogOf (kind : Kind) (log : List QueueLine) (parts : List Part) : Type 0 where
-  pub lines_are : lines_of parts ≡ log
-  pub logged : AreLogged kind parts
-  pub waiting_stands : Always (WaitingStands kind) parts
-  pub none_kept : Always (NoneKept kind) parts
+  pub lines_are : lines_of parts ≡ log  -- the log is all their lines
+  pub logged : AreLogged kind parts  -- each part has the lines that its input adds
+  pub waiting_stands : Always (WaitingStands kind) parts  -- a queue stood at the door whenever a task waited
+  pub none_kept : Always (NoneKept kind) parts  -- a set cell kept none that no task used or waited for

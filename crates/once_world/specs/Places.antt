@@ -1,11 +1,14 @@
 -- The places of a step, and how a call ends.
 pub use Rattle.once_core.specs.declared.step.Ending.{Ending}
-pub use Rattle.once_core.specs.declared.step.Ending.TheVariants.{Pending as EndPending, Value as EndValue, Error as EndError}
-pub use Rattle.once_core.specs.declared.step.Ending.TheVariants.{Memory as EndMemory, Full as EndFull, Dropped as EndDropped}
+pub use Rattle.once_core.specs.declared.step.Ending.TheVariants.{Pending as EndPending, Value as EndValue}
+pub use Rattle.once_core.specs.declared.step.Ending.TheVariants.{Error as EndError}
+pub use Rattle.once_core.specs.declared.step.Ending.TheVariants.{Memory as EndMemory, Full as EndFull}
+pub use Rattle.once_core.specs.declared.step.Ending.TheVariants.{Dropped as EndDropped}
 pub use Rattle.once_core.specs.declared.step.Progress.{Progress}
 pub use Rattle.once_core.specs.declared.step.Progress.TheVariants.{More, Ended}
 pub use Rattle.once_core.specs.declared.step.place.Rest.{Rest}
-pub use Rattle.once_core.specs.declared.step.place.Rest.TheVariants.{Start as RestStart, Wait as RestWait, Run as RestRun}
+pub use Rattle.once_core.specs.declared.step.place.Rest.TheVariants.{Start as RestStart, Wait as RestWait}
+pub use Rattle.once_core.specs.declared.step.place.Rest.TheVariants.{Run as RestRun}
 pub use Rattle.once_core.specs.declared.step.place.Place.{Place}
 pub use Rattle.once_core.specs.declared.step.place.Place.TheVariants.{Start as AtStart, TryQuick as AtTryQuick}
 pub use Rattle.once_core.specs.declared.step.place.Place.TheVariants.{DoorGet as AtDoorGet, DoorPut as AtDoorPut}

@@ -1,45 +1,47 @@
 -- What a record tells. A list of entries is a history here: the newest entry stands first.
 use Rattle.std.specs.Prelude.{ℕ, Bool, true, false, not, ◌==◌, List, [], ◌∷◌, Option}
 pub use Rattle.once_core.specs.declared.record.Ran.{Ran as Answer}
-pub use Rattle.once_core.specs.declared.record.Ran.TheVariants.{Pending as RanPending, Value as RanValue, Error as RanError}
+pub use Rattle.once_core.specs.declared.record.Ran.TheVariants.{Pending as RanPending, Value as RanValue}
+pub use Rattle.once_core.specs.declared.record.Ran.TheVariants.{Error as RanError}
 pub use Rattle.once_core.specs.declared.record.Reply.{Reply}
 pub use Rattle.once_core.specs.declared.record.Reply.TheVariants.{Pending, Value, Error, Memory, Full}
 
--- the kinds of cell: empty or with a value, and either each caller brings an init, or the cell owns one init that gives these answers (None is pending, Some v is the value v)
+-- the kinds of cell
 pub data Kind : Type 0 where
-  Once : Kind
-  OnceWith : (value : ℕ) → Kind
+  Once : Kind  -- it is empty, and each caller brings an init
+  OnceWith : (value : ℕ) → Kind  -- it has this value, and each caller brings an init
+  -- it is empty, and owns one init that gives these answers: None is pending, and Some v is the value v
   Lazy : (answers : List (Option ℕ)) → Kind
-  LazyWith : (value : ℕ) → Kind
+  LazyWith : (value : ℕ) → Kind  -- it is of those that own an init, and has this value
 
 -- what the owner of the cell may do with it
 pub data OwnerCall : Type 0 where
-  Take : OwnerCall
-  Write : (value : ℕ) → OwnerCall
-  Parts : OwnerCall
-  ReplaceValue : (value : ℕ) → OwnerCall
-  ReplaceAnswers : (answers : List (Option ℕ)) → OwnerCall
+  Take : OwnerCall  -- it takes the value out
+  Write : (value : ℕ) → OwnerCall  -- it writes another value where one is set
+  Parts : OwnerCall  -- it takes a lazy cell apart
+  ReplaceValue : (value : ℕ) → OwnerCall  -- it puts a lazy cell with this value in its place
+  ReplaceAnswers : (answers : List (Option ℕ)) → OwnerCall  -- it puts one with an init of these answers there
 
 -- what the owner is given
 pub data Got : Type 0 where
-  GotNone : Got
-  GotValue : (value : ℕ) → Got
-  GotAnswers : (answers : List (Option ℕ)) → Got
+  GotNone : Got  -- no value was set
+  GotValue : (value : ℕ) → Got  -- the value that was set
+  GotAnswers : (answers : List (Option ℕ)) → Got  -- the answers that the init has left
 
--- one entry of a record. Free and Fill are the releases: they give the right back, and hand the wakers out. By Pass a waiter that was called and leaves passes its turn on, to the wakers
+-- one entry of a record
 pub data Entry : Type 0 where
-  Made : (task : ℕ) → Entry
-  Begin : (task : ℕ) → (waker : ℕ) → Entry
-  Claim : (task : ℕ) → Entry
-  Ran : (task : ℕ) → (answer : Answer) → Entry
-  Free : (task : ℕ) → (wakers : List ℕ) → Entry
-  Fill : (task : ℕ) → (value : ℕ) → (wakers : List ℕ) → Entry
-  Pass : (task : ℕ) → (wakers : List ℕ) → Entry
-  End : (task : ℕ) → (reply : Reply) → Entry
-  DropBegin : (task : ℕ) → Entry
-  DropEnd : (task : ℕ) → Entry
-  Look : (found : Option ℕ) → Entry
-  Own : (owner_call : OwnerCall) → (got : Got) → Entry
+  Made : (task : ℕ) → Entry  -- the task was made
+  Begin : (task : ℕ) → (waker : ℕ) → Entry  -- a poll of the task began, with this waker
+  Claim : (task : ℕ) → Entry  -- the task got the right
+  Ran : (task : ℕ) → (answer : Answer) → Entry  -- the task polled its init, which answered this
+  Free : (task : ℕ) → (wakers : List ℕ) → Entry  -- a release: it gave the right back, and handed these out
+  Fill : (task : ℕ) → (value : ℕ) → (wakers : List ℕ) → Entry  -- a release that set this value
+  Pass : (task : ℕ) → (wakers : List ℕ) → Entry  -- it was called as a waiter, left, and passed its turn on to these
+  End : (task : ℕ) → (reply : Reply) → Entry  -- the poll of the task ended, and answered this
+  DropBegin : (task : ℕ) → Entry  -- a drop of the task began
+  DropEnd : (task : ℕ) → Entry  -- the drop ended
+  Look : (found : Option ℕ) → Entry  -- somebody looked for the value, and found this
+  Own : (owner_call : OwnerCall) → (got : Got) → Entry  -- the owner made this call, and was given this
 
 -- whether the entry is one of the task
 abbrev pub is_of : ℕ → Entry → Bool

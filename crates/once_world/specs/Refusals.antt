@@ -49,7 +49,9 @@ crowd kind t history = how_many (λ u. if u == t then false else is_about (statu
 abbrev pub IsCrowded : Kind → ℕ → ℕ → List Entry → Type 0
 IsCrowded kind limit t history = limit ≤ crowd kind t history
 
--- memory may be refused, by what t was at its Begin: to a fresh task where the cell was not set then and another task acted since, to a waiting one where another task held since
+-- memory may be refused, by what t was at its Begin:
+-- to a fresh task where the cell was not set then and another task acted since,
+-- to a waiting one where another task held since
 abbrev pub MemoryFrom : Kind → Status → ℕ → List Entry → Type 0
 MemoryFrom kind Fresh t history = ((last_call kind t history).set_then ≡ false) × Since t (OtherActs kind t) history
 MemoryFrom kind Waiting t history = Since t (OtherHolds kind t) history

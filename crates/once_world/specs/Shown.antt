@@ -11,24 +11,30 @@ use Rattle.once_core.specs.declared.record.Kind.TheVariants.{Once as GivenOnce, 
 use Rattle.once_core.specs.declared.record.Kind.TheVariants.{Lazy as GivenLazy, LazyWith as GivenLazyWith}
 use Rattle.once_core.specs.declared.record.Call.{Call}
 use Rattle.once_core.specs.declared.record.Call.TheVariants.{Take as CallTake, Write as CallWrite, Parts as CallParts}
-use Rattle.once_core.specs.declared.record.Call.TheVariants.{ReplaceValue as CallReplaceValue, ReplaceAnswers as CallReplaceAnswers}
+use Rattle.once_core.specs.declared.record.Call.TheVariants.{ReplaceValue as CallReplaceValue}
+use Rattle.once_core.specs.declared.record.Call.TheVariants.{ReplaceAnswers as CallReplaceAnswers}
 use Rattle.once_core.specs.declared.record.Got.{Got as GivenGot}
 use Rattle.once_core.specs.declared.record.Got.TheVariants.{None as NoneGot, Value as ValueGot, Answers as AnswersGot}
 use Rattle.once_core.specs.declared.record.Input.{Input as GivenInput}
 use Rattle.once_core.specs.declared.record.Input.TheVariants.{Make as InputMake, Poll as InputPoll, Drop as InputDrop}
 use Rattle.once_core.specs.declared.record.Input.TheVariants.{Go as InputGo, Look as InputLook, Own as InputOwn}
 use Rattle.once_core.specs.declared.record.Entry.{Entry as Written}
-use Rattle.once_core.specs.declared.record.Entry.TheVariants.{Made as WrittenMade, Begin as WrittenBegin, Claim as WrittenClaim}
-use Rattle.once_core.specs.declared.record.Entry.TheVariants.{Ran as WrittenRan, Free as WrittenFree, Fill as WrittenFill}
-use Rattle.once_core.specs.declared.record.Entry.TheVariants.{Pass as WrittenPass, End as WrittenEnd, DropBegin as WrittenDropBegin}
-use Rattle.once_core.specs.declared.record.Entry.TheVariants.{DropEnd as WrittenDropEnd, Look as WrittenLook, Own as WrittenOwn}
+use Rattle.once_core.specs.declared.record.Entry.TheVariants.{Made as WrittenMade, Begin as WrittenBegin}
+use Rattle.once_core.specs.declared.record.Entry.TheVariants.{Claim as WrittenClaim}
+use Rattle.once_core.specs.declared.record.Entry.TheVariants.{Ran as WrittenRan, Free as WrittenFree}
+use Rattle.once_core.specs.declared.record.Entry.TheVariants.{Fill as WrittenFill}
+use Rattle.once_core.specs.declared.record.Entry.TheVariants.{Pass as WrittenPass, End as WrittenEnd}
+use Rattle.once_core.specs.declared.record.Entry.TheVariants.{DropBegin as WrittenDropBegin}
+use Rattle.once_core.specs.declared.record.Entry.TheVariants.{DropEnd as WrittenDropEnd}
+use Rattle.once_core.specs.declared.record.Entry.TheVariants.{Look as WrittenLook, Own as WrittenOwn}
 use Rattle.once_core.specs.declared.record.Record.{Record as GivenRecord}
 use Rattle.once_queue.specs.declared.log.QueueLine.{QueueLine}
 use Rattle.once_world.specs.declared.world.cell.ReplayCell.{ReplayCell}
 use Rattle.once_world.specs.declared.world.cell.StepSeen.{StepSeen}
 use Rattle.once_world.specs.declared.world.play.World.{World}
 use Rattle.once_world.specs.Record.{Answer, Kind, Once, OnceWith, Lazy, LazyWith, OwnerCall, Take, Write, Parts}
-use Rattle.once_world.specs.Record.{ReplaceValue, ReplaceAnswers, Got, GotNone, GotValue, GotAnswers, Entry, Made, Begin, Claim}
+use Rattle.once_world.specs.Record.{ReplaceValue, ReplaceAnswers, Got, GotNone, GotValue, GotAnswers}
+use Rattle.once_world.specs.Record.{Entry, Made, Begin, Claim}
 use Rattle.once_world.specs.Record.{Ran, Free, Fill, Pass, End, DropBegin, DropEnd, Look, Own}
 use Rattle.once_world.specs.Inputs.{Input, Make, Poll, Drop, Go, Looks, Owns}
 pub use Rattle.once_world.specs.Machine.{claim_entries, freed_entries, progress_entries}

@@ -17,11 +17,11 @@ next_of s = init_answer s.lazy (answers_in s) s.answer
 
 -- a poll of the init answers the next answer, and keeps it
 pub record DidRun (s : ReplaySide) (r : Polled) (t : ReplaySide) : Type 0 where
-  pub ran : t.ran ≡ Some (next_of s)
-  pub polled : r ≡ polled_of (next_of s)
-  pub kept : t.kept ≡ kept_after (next_of s) s.kept
-  pub answers : answers_in t ≡ rest_of (answers_in s)
-  pub lazy : t.lazy ≡ s.lazy
+  pub ran : t.ran ≡ Some (next_of s)  -- the side notes the answer
+  pub polled : r ≡ polled_of (next_of s)  -- the poll answers so
+  pub kept : t.kept ≡ kept_after (next_of s) s.kept  -- the side keeps a value or an error
+  pub answers : answers_in t ≡ rest_of (answers_in s)  -- the first answer is taken off
+  pub lazy : t.lazy ≡ s.lazy  -- nothing else changes
   pub value : t.value ≡ s.value
   pub handed : t.handed ≡ s.handed
 

@@ -3,7 +3,8 @@
 //! These functions do nothing: the contract of each is a law, and it follows from "the record is a
 //! run" alone, which `replay` ensures. In the contracts the newest entry stands first.
 ghost use Rattle.std.specs.Prelude.{◌≡◌, ◌≢◌, ◌≤◌, ◌⊎◌, ℕ, true, false, List, [], ◌∷◌, Some, None, length};
-ghost use Rattle.once_world.specs.Record.{Answer, RanError, Kind, Reply, Value, Error, Memory, Full, Entry, Claim, Ran, Free, Pass, End, DropEnd, is_own};
+ghost use Rattle.once_world.specs.Record.{Answer, RanError, Kind, Reply, Value, Error, Memory, Full};
+ghost use Rattle.once_world.specs.Record.{Entry, Claim, Ran, Free, Pass, End, DropEnd, is_own};
 ghost use Rattle.once_world.specs.Cell.{Empty, Held, SetTo, cell, answers_left};
 ghost use Rattle.once_world.specs.Tasks.{Fresh, Dropping, Holding, Gone, status, is_under_way, last_call};
 ghost use Rattle.once_world.specs.Wakers.{IsDue, IsOpen, times_opened, times_handed};

@@ -1,6 +1,9 @@
 -- What a word and the tokens of a book own.
--- Each page lies in two parts under one name: the book keeps a quarter of it, and three quarters are its pen. Whoever has both may change it, and whoever has one knows its value. The words lie in the same way under a name of their own, where the pen of a word is in the `Word`.
--- The book's part is an invariant for good. It has no bytes. A word that is shared is an invariant too, with a greater number, so that a step can open both.
+-- Each page lies in two parts under one name: the book keeps a quarter of it, and three quarters are its pen.
+-- Whoever has both may change it, and whoever has one knows its value.
+-- The words lie in the same way under a name of their own, where the pen of a word is in the `Word`.
+-- The book's part is an invariant for good. It has no bytes.
+-- A word that is shared is an invariant too, with a greater number, so that a step can open both.
 use Rattle.core.specs.Prelude.{ℕ, suc, ◌<◌, List, [], ◌∷◌, map}
 use base.Fraction.{full_share}
 use base.Share.{quarter, three_quarters}

@@ -18,7 +18,7 @@ book_coded = coded_via (coded× (coded× coded_ℕ coded_ℕ) (coded× coded_ℕ
 
 -- which word of which book it is
 pub record Named : Type 0 where
-  pub book : Book
+  pub book : Book  -- its book
   pub key : ℕ  -- its place among the words, from 0
 
 -- the word k of the book b
@@ -74,13 +74,15 @@ module _ {P : Type 0} where
   dealt k (a ∷ bs) h = (k, a) ∷ dealt (suc k) bs h
 
 module _ {E P : Type 0} (holds : List ℕ → List P → List E → Type 0) (v : View E P) where
-  -- With these words the rule can be kept: there are new values `ys` for the hand's first pages, new pages `bs` and new entries `more` after which it holds, and `then` holds of the view after them
+  -- With these words the rule can be kept: there are new values `ys` for the hand's first pages, new pages `bs` and
+  -- new entries `more` after which it holds, and `then` holds of the view after them
   abbrev pub Keeps : List ℕ → (View E P → Type 0) → List P → List E → Type 0
   Keeps ns then ps log = (ys : List P) × (bs : List P) × (more : List E)
       × holds ns (extended bs (put ys v.1 ps)) (log ++ more)
       × then (log ++ more, dealt (length ps) bs (rewritten ys v.1))
 
-  -- Wherever the rule holds and the view fits the book, the step keeps the rule by which the word k becomes `f` of the number `n` found there, and `then n` holds after it
+  -- Wherever the rule holds and the view fits the book, the step keeps the rule by which the word k becomes `f` of the
+  -- number `n` found there, and `then n` holds after it
   pub record Moves (k : ℕ) (f : ℕ → ℕ) (then : ℕ → View E P → Type 0) : Type 0 where
     pub goes : (ns : List ℕ) (n : ℕ) (ps : List P) (log : List E)
         → holds ns ps log → slice_get ns k ≡ Some n → IsPrefix v.0 log → Agrees v.1 ps

@@ -1,6 +1,7 @@
 -- What a `Slot` owns and shares.
 -- Its state is a word of a book: 0 while the slot is empty, 1 while one thread writes it, and 2 from then on.
--- Each time the slot is lent it takes a turn. One invariant, whose number is greater than the book's, then holds the word and, by its phase, the right to write the value, or the value to be read.
+-- Each time the slot is lent it takes a turn. One invariant, whose number is greater than the book's, then holds the
+-- word and, by its phase, the right to write the value, or the value to be read.
 use Rattle.core.specs.Prelude.{◌≡◌, ℕ, ◌+◌, ◌<◌}
 use base.Stored.{Gv, gnil, gcons, Coded, coded×, coded_ℕ, coded_via}
 use base.Fml.{Lft, GName, Fml, ftrue, ffalse, feq, fsep, fex, fobs, fauth, fres, fbor, fnamed}
@@ -18,7 +19,7 @@ use Rattle.pagebook.specs.Owned.{known, word_pen, lies}
 
 -- which slot it is
 pub record Placed : Type 0 where
-  pub book : Book
+  pub book : Book  -- the book that has its state as a word
   pub key : ℕ  -- the place of its state among the book's words
   pub id : GName  -- the name under which its value is told
 

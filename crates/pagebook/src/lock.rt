@@ -92,7 +92,8 @@ impl<T: Keyed> KeyedMutex<T> {
     /// Asked for: `change` takes any content with the lock's key, and gives one back that has it.
     pub fn get_mut<X, U, F: FnOnce(T, X) -> (T, U)>(&mut self, about: X, change: F) -> U
         requires takes { (t : T) → T.key_of t ≡ self.old → F.pre change t about }
-        requires keeps { (t : T) (r : T × U) → T.key_of t ≡ self.old → F.post change t about r → T.key_of r.0 ≡ self.old }
+        requires keeps { (t : T) (r : T × U) → T.key_of t ≡ self.old → F.post change t about r
+            → T.key_of r.0 ≡ self.old }
         ensures key { self.new ≡ self.old }
         ensures changed { (t s : T) × (T.key_of t ≡ self.old) × F.post change t about (s, result) }
     {
@@ -102,7 +103,8 @@ impl<T: Keyed> KeyedMutex<T> {
             (about, change),
             |lock, pair|
                 requires takes { (t : T) → T.key_of t ≡ lock → F.pre pair.1 t pair.0 }
-                requires keeps { (t : T) (r : T × U) → T.key_of t ≡ lock → F.post pair.1 t pair.0 r → T.key_of r.0 ≡ lock }
+                requires keeps { (t : T) (r : T × U) → T.key_of t ≡ lock → F.post pair.1 t pair.0 r
+                    → T.key_of r.0 ≡ lock }
                 ensures { (result.0 ≡ lock) × ((t s : T) × (T.key_of t ≡ lock) × F.post pair.1 t pair.0 (s, result.1)) }
             {
                 let (about, change) = pair;

@@ -56,7 +56,8 @@ impl<T, E, P, R: Rule<E, P>> Owns for Slot<T, E, P, R> {
 }
 
 impl<T, E, P, R: Rule<E, P>> Move for Slot<T, E, P, R> {
-    ghost own_val = { λ l vs. fex (Rest T.row.Denot) (λ s. fsep (Fields.own_val (record { state = s.0; value = s.1; marker = record {} }) vs) (resting T.row l s)) };
+    ghost own_val = { λ l vs. fex (Rest T.row.Denot)
+        (λ s. fsep (Fields.own_val (record { state = s.0; value = s.1; marker = record {} }) vs) (resting T.row l s)) };
 }
 
 impl<T, E, P, R: Rule<E, P>> Slot<T, E, P, R> {
@@ -88,11 +89,14 @@ impl<T, E, P, R: Rule<E, P>> Slot<T, E, P, R> {
     ) -> Written<T>
         requires seen { seen.old.book ≡ self.now.book }
         requires pens { pens.old.book ≡ self.now.book }
-        requires begins { Moves R.holds (seen.old.log, pens.old.held) self.now.key (λ _. 1) (λ n w. (n ≡ 0) × B.then about.now (seen.old.log, pens.old.held) n w) }
-        requires fills { (w : View E P) → B.then about.now (seen.old.log, pens.old.held) 0 w → Moves R.holds w self.now.key (λ _. 2) (λ n u. F.then about.now w n u) }
+        requires begins { Moves R.holds (seen.old.log, pens.old.held) self.now.key (λ _. 1)
+            (λ n w. (n ≡ 0) × B.then about.now (seen.old.log, pens.old.held) n w) }
+        requires fills { (w : View E P) → B.then about.now (seen.old.log, pens.old.held) 0 w
+            → Moves R.holds w self.now.key (λ _. 2) (λ n u. F.then about.now w n u) }
         ensures book { (seen.new.book ≡ seen.old.book) × (pens.new.book ≡ pens.old.book) }
         ensures log { IsPrefix seen.old.log seen.new.log }
-        ensures then { (w : View E P) × B.then about.now (seen.old.log, pens.old.held) 0 w × F.then about.now w 1 (seen.new.log, pens.new.held) }
+        ensures then { (w : View E P) × B.then about.now (seen.old.log, pens.old.held) 0 w
+            × F.then about.now w 1 (seen.new.log, pens.new.held) }
         ensures written { (result.of ≡ self.now.id) × (result.value ≡ value) }
     {
         let slot = self as *const Slot<T, E, P, R>;

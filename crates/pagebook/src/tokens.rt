@@ -92,7 +92,8 @@ impl<E, P, R: Rule<E, P>> Seen<E, P, R> {
     #[inline(always)]
     pub fn note<X, M: Play<X, E, P>>(&mut self, pens: &mut Pens<P>, about: &X)
         requires pens { pens.old.book ≡ self.old.book }
-        requires notes { Notes R.holds (self.old.log, pens.old.held) (M.then about.now (self.old.log, pens.old.held) 0) }
+        requires notes { Notes R.holds (self.old.log, pens.old.held)
+            (M.then about.now (self.old.log, pens.old.held) 0) }
         ensures book { (self.new.book ≡ self.old.book) × (pens.new.book ≡ pens.old.book) }
         ensures log { IsPrefix self.old.log self.new.log }
         ensures then { M.then about.now (self.old.log, pens.old.held) 0 (self.new.log, pens.new.held) }

@@ -35,7 +35,8 @@ impl<E, P, R: Rule<E, P>> Owns for Word<E, P, R> {
 }
 
 impl<E, P, R: Rule<E, P>> Move for Word<E, P, R> {
-    ghost own_val = { λ w vs. fex ℕ (λ n. fsep (Fields.own_val (record { bits = n; marker = record {} }) vs) (word_pen w n)) };
+    ghost own_val = { λ w vs. fex ℕ
+        (λ n. fsep (Fields.own_val (record { bits = n; marker = record {} }) vs) (word_pen w n)) };
 }
 
 impl<E, P, R: Rule<E, P>> Word<E, P, R> {
@@ -112,7 +113,8 @@ impl<E, P, R: Rule<E, P>> Word<E, P, R> {
         Pens<P>,
     )
         requires { R.holds (first ∷ second ∷ third ∷ []) (M.pages about.now) (M.log about.now) }
-        ensures words { (result.0.key ≡ 0) × (result.1.key ≡ 1) × (result.2.key ≡ 2) × (result.1.book ≡ result.0.book) × (result.2.book ≡ result.0.book) }
+        ensures words { (result.0.key ≡ 0) × (result.1.key ≡ 1) × (result.2.key ≡ 2)
+            × (result.1.book ≡ result.0.book) × (result.2.book ≡ result.0.book) }
         ensures seen { (result.3.book ≡ result.0.book) × (result.3.log ≡ (M.log about.now)) }
         ensures pens { (result.4.book ≡ result.0.book) × (result.4.held ≡ dealt 0 (M.pages about.now) []) }
     {
@@ -174,7 +176,8 @@ impl<E, P, R: Rule<E, P>> Word<E, P, R> {
         about: &X,
     ) -> (Word<E, P, R>, Word<E, P, R>, Blank, Seen<E, P, R>, Pens<P>)
         requires { R.holds (first ∷ second ∷ 0 ∷ []) (M.pages about.now) (M.log about.now) }
-        ensures words { (result.0.key ≡ 0) × (result.1.key ≡ 1) × (result.2.key ≡ 2) × (result.1.book ≡ result.0.book) × (result.2.book ≡ result.0.book) }
+        ensures words { (result.0.key ≡ 0) × (result.1.key ≡ 1) × (result.2.key ≡ 2)
+            × (result.1.book ≡ result.0.book) × (result.2.book ≡ result.0.book) }
         ensures seen { (result.3.book ≡ result.0.book) × (result.3.log ≡ (M.log about.now)) }
         ensures pens { (result.4.book ≡ result.0.book) × (result.4.held ≡ dealt 0 (M.pages about.now) []) }
     {
@@ -209,7 +212,8 @@ impl<E, P, R: Rule<E, P>> Word<E, P, R> {
     ) -> u64
         requires seen { seen.old.book ≡ self.now.book }
         requires pens { pens.old.book ≡ self.now.book }
-        requires moves { Moves R.holds (seen.old.log, pens.old.held) self.now.key (λ n. n) (M.then about.now (seen.old.log, pens.old.held)) }
+        requires moves { Moves R.holds (seen.old.log, pens.old.held) self.now.key (λ n. n)
+            (M.then about.now (seen.old.log, pens.old.held)) }
         ensures book { (seen.new.book ≡ seen.old.book) × (pens.new.book ≡ pens.old.book) }
         ensures log { IsPrefix seen.old.log seen.new.log }
         ensures then { M.then about.now (seen.old.log, pens.old.held) result (seen.new.log, pens.new.held) }
@@ -228,7 +232,8 @@ impl<E, P, R: Rule<E, P>> Word<E, P, R> {
     )
         requires seen { seen.old.book ≡ self.now.book }
         requires pens { pens.old.book ≡ self.now.book }
-        requires moves { Moves R.holds (seen.old.log, pens.old.held) self.now.key (λ _. new) (M.then about.now (seen.old.log, pens.old.held)) }
+        requires moves { Moves R.holds (seen.old.log, pens.old.held) self.now.key (λ _. new)
+            (M.then about.now (seen.old.log, pens.old.held)) }
         ensures book { (seen.new.book ≡ seen.old.book) × (pens.new.book ≡ pens.old.book) }
         ensures log { IsPrefix seen.old.log seen.new.log }
         ensures then { (n : ℕ) × M.then about.now (seen.old.log, pens.old.held) n (seen.new.log, pens.new.held) }
@@ -247,7 +252,8 @@ impl<E, P, R: Rule<E, P>> Word<E, P, R> {
     ) -> u64
         requires seen { seen.old.book ≡ self.now.book }
         requires pens { pens.old.book ≡ self.now.book }
-        requires moves { Moves R.holds (seen.old.log, pens.old.held) self.now.key (λ _. new) (M.then about.now (seen.old.log, pens.old.held)) }
+        requires moves { Moves R.holds (seen.old.log, pens.old.held) self.now.key (λ _. new)
+            (M.then about.now (seen.old.log, pens.old.held)) }
         ensures book { (seen.new.book ≡ seen.old.book) × (pens.new.book ≡ pens.old.book) }
         ensures log { IsPrefix seen.old.log seen.new.log }
         ensures then { M.then about.now (seen.old.log, pens.old.held) result (seen.new.log, pens.new.held) }
@@ -267,7 +273,8 @@ impl<E, P, R: Rule<E, P>> Word<E, P, R> {
     ) -> u64
         requires seen { seen.old.book ≡ self.now.book }
         requires pens { pens.old.book ≡ self.now.book }
-        requires moves { Moves R.holds (seen.old.log, pens.old.held) self.now.key (λ n. either (n == old) new n) (M.then about.now (seen.old.log, pens.old.held)) }
+        requires moves { Moves R.holds (seen.old.log, pens.old.held) self.now.key (λ n. either (n == old) new n)
+            (M.then about.now (seen.old.log, pens.old.held)) }
         ensures book { (seen.new.book ≡ seen.old.book) × (pens.new.book ≡ pens.old.book) }
         ensures log { IsPrefix seen.old.log seen.new.log }
         ensures then { M.then about.now (seen.old.log, pens.old.held) result (seen.new.log, pens.new.held) }
@@ -286,7 +293,8 @@ impl<E, P, R: Rule<E, P>> Word<E, P, R> {
     ) -> u64
         requires seen { seen.old.book ≡ self.now.book }
         requires pens { pens.old.book ≡ self.now.book }
-        requires moves { Moves R.holds (seen.old.log, pens.old.held) self.now.key (λ n. (n + k) % 2 ^ 64) (M.then about.now (seen.old.log, pens.old.held)) }
+        requires moves { Moves R.holds (seen.old.log, pens.old.held) self.now.key (λ n. (n + k) % 2 ^ 64)
+            (M.then about.now (seen.old.log, pens.old.held)) }
         ensures book { (seen.new.book ≡ seen.old.book) × (pens.new.book ≡ pens.old.book) }
         ensures log { IsPrefix seen.old.log seen.new.log }
         ensures then { M.then about.now (seen.old.log, pens.old.held) result (seen.new.log, pens.new.held) }
@@ -305,7 +313,8 @@ impl<E, P, R: Rule<E, P>> Word<E, P, R> {
     ) -> u64
         requires seen { seen.old.book ≡ self.now.book }
         requires pens { pens.old.book ≡ self.now.book }
-        requires moves { Moves R.holds (seen.old.log, pens.old.held) self.now.key (λ n. (n + (2 ^ 64 - k)) % 2 ^ 64) (M.then about.now (seen.old.log, pens.old.held)) }
+        requires moves { Moves R.holds (seen.old.log, pens.old.held) self.now.key (λ n. (n + (2 ^ 64 - k)) % 2 ^ 64)
+            (M.then about.now (seen.old.log, pens.old.held)) }
         ensures book { (seen.new.book ≡ seen.old.book) × (pens.new.book ≡ pens.old.book) }
         ensures log { IsPrefix seen.old.log seen.new.log }
         ensures then { M.then about.now (seen.old.log, pens.old.held) result (seen.new.log, pens.new.held) }

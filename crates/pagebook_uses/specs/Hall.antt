@@ -19,7 +19,8 @@ inside (p ∷ ps) = counts p + inside ps
 -- the rule
 pub record IsKept (ns : List ℕ) (ps : List Page) (log : List Arrival) : Type 0 where
   pub words : ns ≡ inside ps % 2 ^ 64 ∷ []  -- the one word counts them, as far as a word can
-  pub desk : slice_get ps 0 ≡ Some (AtDesk (length log))  -- page 0 is the desk's, and an entry stands for each that came in
+  -- page 0 is the desk's, and an entry stands for each that came in
+  pub desk : slice_get ps 0 ≡ Some (AtDesk (length log))
 
 -- a visitor's page was added, who is not inside
 abbrev pub Arrived : View Arrival Page → ℕ → View Arrival Page → Type 0

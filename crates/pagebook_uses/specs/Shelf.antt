@@ -32,10 +32,10 @@ log_of Open = filled ∷ []
 
 -- the rule
 pub record IsShelf (ns : List ℕ) (ps : List Stage) (log : List Filled) : Type 0 where
-  pub stage : Stage
-  pub words : ns ≡ bit_of stage ∷ state_of stage ∷ []
-  pub page : ps ≡ stage ∷ []
-  pub entries : log ≡ log_of stage
+  pub stage : Stage  -- how far the shelf is
+  pub words : ns ≡ bit_of stage ∷ state_of stage ∷ []  -- the words are the bit and the state of the slot
+  pub page : ps ≡ stage ∷ []  -- the one page says the stage
+  pub entries : log ≡ log_of stage  -- the entry stands in the log once the slot is full
 
 -- the one who fills came to the stage s, and the log is as it is there
 abbrev pub Came : Stage → View Filled Stage → ℕ → View Filled Stage → Type 0

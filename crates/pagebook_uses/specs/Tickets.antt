@@ -14,11 +14,12 @@ abbrev pub Owned : (ℕ → ℕ) → ℕ → ℕ → List ℕ → Type 0
 Owned owner next k [] = Unit {0}
 Owned owner next k (x ∷ xs) = (x < next) × ((owner x ≡ k) × Owned owner next k xs)
 
--- the rule: a number belongs to one page, and a page has none but its own
+-- the rule
 pub record IsDealt (ns : List ℕ) (ps : List Drawn) : Type 0 where
-  pub next : ℕ
-  pub owner : ℕ → ℕ
-  pub words : ns ≡ next ∷ []
+  pub next : ℕ  -- the number that is drawn next
+  pub owner : ℕ → ℕ  -- a number belongs to one page
+  pub words : ns ≡ next ∷ []  -- the one word is the next number
+  -- a page has no number but its own
   pub pages : (k : ℕ) (p : Drawn) → slice_get ps k ≡ Some p → Owned owner next k p.numbers
 
 -- the numbers on the first page of a hand

@@ -16,12 +16,12 @@ rally (suc n) = rally n ++ (if pings_next n then Ping else Pong) ∷ []
 
 -- the rule
 pub record IsRally (ns : List ℕ) (ps : List ℕ) (log : List Hit) : Type 0 where
-  pub pings : ℕ
-  pub pongs : ℕ
-  pub words : ns ≡ pings ∷ pongs ∷ []
-  pub pages : ps ≡ pings ∷ pongs ∷ []
+  pub pings : ℕ  -- how often the one who begins has hit
+  pub pongs : ℕ  -- how often the other has
+  pub words : ns ≡ pings ∷ pongs ∷ []  -- the words count both
+  pub pages : ps ≡ pings ∷ pongs ∷ []  -- so do the pages
   pub turn : (pongs ≤ pings) × (pings ≤ suc pongs)  -- neither is ahead by more than its turn
-  pub hits : log ≡ rally (pings + pongs)
+  pub hits : log ≡ rally (pings + pongs)  -- the log is a rally of all hits
 
 -- Nothing changed, and where the other's word is this player's, as many hits were seen as both have
 abbrev pub Looked : ℕ → View Hit ℕ → ℕ → View Hit ℕ → Type 0

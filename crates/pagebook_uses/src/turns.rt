@@ -130,7 +130,8 @@ impl Pinger {
     pub fn hit(&mut self, table: &Table) -> bool
         requires { self.old.pens.book ≡ table.now.pings.book }
         ensures book { self.new.pens.book ≡ self.old.pens.book }
-        ensures hit { result ≡ true → (self.new.hits ≡ self.old.hits + 1) × (self.new.seen.log ≡ rally (suc (self.old.hits + self.old.hits))) }
+        ensures hit { result ≡ true → (self.new.hits ≡ self.old.hits + 1)
+            × (self.new.seen.log ≡ rally (suc (self.old.hits + self.old.hits))) }
         ensures missed { result ≡ false → self.new.hits ≡ self.old.hits }
     {
         let hits = self.hits;
@@ -158,7 +159,8 @@ impl Ponger {
     pub fn hit(&mut self, table: &Table) -> bool
         requires { self.old.pens.book ≡ table.now.pings.book }
         ensures book { self.new.pens.book ≡ self.old.pens.book }
-        ensures hit { result ≡ true → (self.new.hits ≡ self.old.hits + 1) × (self.new.seen.log ≡ rally (suc (suc (self.old.hits + self.old.hits)))) }
+        ensures hit { result ≡ true → (self.new.hits ≡ self.old.hits + 1)
+            × (self.new.seen.log ≡ rally (suc (suc (self.old.hits + self.old.hits)))) }
         ensures missed { result ≡ false → self.new.hits ≡ self.old.hits }
     {
         let hits = self.hits;

@@ -24,7 +24,8 @@ pub fn told_before<'a, T>(without: &Known<'a, T>, with: &Known<'a, T>)
 /// gave it. It does nothing.
 pub fn told_alone<T>(token: &Known<'_, T>)
     ensures { is_shared token.now.cell ≡ true → (t e : ℕ) → (later before : List Entry)
-        → reverse token.now.log ≡ later ++ End t (Error e) ∷ before → (last_call Once t before).ran ≡ Some (RanError e) }
+        → reverse token.now.log ≡ later ++ End t (Error e) ∷ before
+        → (last_call Once t before).ran ≡ Some (RanError e) }
 {
     token.is_run();
     error_is_ones_own();

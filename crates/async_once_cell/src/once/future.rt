@@ -170,7 +170,8 @@ impl<'a, T, F: Future, R: Wait + AllocGlobal> Asked<'a, T, F, R> {
 
     // The record as far as the task has seen it, of a cell that tasks share.
     fn record(&self) -> Option<Record>
-        ensures { MatchOption result ((is_of_owned self.now ≡ true) × (seen_of self.now ≡ [])) (λ r. (r.log ≡ seen_of self.now) × HasBook self.now r.book) }
+        ensures { MatchOption result ((is_of_owned self.now ≡ true) × (seen_of self.now ≡ []))
+            (λ r. (r.log ≡ seen_of self.now) × HasBook self.now r.book) }
     {
         match self {
             Asked::Owned(_) | Asked::Answered(_) => None,
@@ -190,7 +191,8 @@ impl<'a, T, F: Future, R: Wait + AllocGlobal> Asked<'a, T, F, R> {
 
     fn leave(&mut self)
         requires live { is_done self.old ≡ false }
-        ensures left { (c : CellView T) → IsAsked c self.old → IsAsked c self.new × HasLeft (call_of c self.old) (call_of c self.new) }
+        ensures left { (c : CellView T) → IsAsked c self.old
+            → IsAsked c self.new × HasLeft (call_of c self.old) (call_of c self.new) }
     {
         match self {
             Asked::Owned(rt) => *self = Asked::Answered(*rt),

@@ -212,7 +212,8 @@ impl<'a, T> Known<'a, T> {
 impl<T> Seen<T> {
     fn learn_record(&mut self, seen: &Record)
         requires of { (c : CellView T) × IsOf c self.old × IsBookOf c seen.now.book }
-        ensures of { (c : CellView T) → IsOf c self.old → (IsBookOf c seen.now.book) → IsOf c self.new × (known_of c self.new ≡ known_of c self.old) }
+        ensures of { (c : CellView T) → IsOf c self.old → (IsBookOf c seen.now.book)
+            → IsOf c self.new × (known_of c self.new ≡ known_of c self.old) }
         ensures own { IsPrefix (log_of self.old) (log_of self.new) }
         ensures other { IsPrefix seen.now.log (log_of self.new) }
         ensures set { IsSet seen.now.log → IsSet (log_of self.new) }
@@ -253,7 +254,8 @@ impl<T> Seen<T> {
     fn learn_value(&mut self, other: &Record, written: Written<T>)
         requires of { (c : CellView T) × IsOf c self.old × IsShown c other.now.book written.of }
         requires set { IsSet other.now.log }
-        ensures of { (c : CellView T) → IsOf c self.old → (IsShown c other.now.book written.of) → IsOf c self.new × (known_of c self.new ≡ Some written.value) }
+        ensures of { (c : CellView T) → IsOf c self.old → (IsShown c other.now.book written.of)
+            → IsOf c self.new × (known_of c self.new ≡ Some written.value) }
         ensures own { IsPrefix (log_of self.old) (log_of self.new) }
         ensures other { IsPrefix other.now.log (log_of self.new) }
     {
@@ -275,7 +277,8 @@ impl<T> OnceCell<T> {
         ensures of { IsOf self.now seen.new }
         ensures value { Learns (known_of self.now seen.old) (known_of self.now seen.new) result }
         ensures lends { Lends self.now result }
-        ensures look { Looks self.now (known_of self.now seen.old) (is_some result) (log_of seen.old) (log_of seen.new) }
+        ensures look { Looks self.now (known_of self.now seen.old) (is_some result) (log_of seen.old)
+            (log_of seen.new) }
         ensures set { is_some result ≡ true → IsSetIn self.now (log_of seen.new) }
         ensures stays { IsSetIn self.now (log_of seen.old) → is_some result ≡ true }
     {

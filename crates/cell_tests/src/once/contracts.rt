@@ -86,7 +86,8 @@ fn learned_and_asked<'a>(
 // Two tokens, each of which looked at the cell once.
 fn both_looked<'a>(cell: &'a OnceCell<u64>) -> (Known<'a, u64>, Known<'a, u64>)
     ensures cell { (result.0.cell ≡ cell.now) × (result.1.cell ≡ cell.now) }
-    ensures runs { is_shared cell.now ≡ true → IsRun Once most (reverse result.0.log) × IsRun Once most (reverse result.1.log) }
+    ensures runs { is_shared cell.now ≡ true
+        → IsRun Once most (reverse result.0.log) × IsRun Once most (reverse result.1.log) }
     ensures one_record { IsPrefix result.0.log result.1.log ⊎ IsPrefix result.1.log result.0.log }
 {
     let (mut a, mut b) = (cell.token(), cell.token());

@@ -135,15 +135,18 @@ const UNREADABLE: [(&[u8], &str); 12] = [
     ),
     (
         b"\nonce 0\n",
-        "line 2 can't be read: \"once 0\"; expected: `once LIMIT` or `once LIMIT with VALUE`; the limit is from 1 to 4611686018427387902; a number is below 2^64, with no sign and no leading zero",
+        "line 2 can't be read: \"once 0\"; expected: `once LIMIT` or `once LIMIT with VALUE`; \
+        the limit is from 1 to 4611686018427387902; a number is below 2^64, with no sign and no leading zero",
     ),
     (
         b"once 8\n\n# one\npoll 1\n",
-        "line 4 can't be read: \"poll 1\"; expected: `poll TASK WAKER`; a number is below 2^64, with no sign and no leading zero",
+        "line 4 can't be read: \"poll 1\"; expected: `poll TASK WAKER`; \
+        a number is below 2^64, with no sign and no leading zero",
     ),
     (
         b"once 8\n poll 1 5\n",
-        "line 2 can't be read: \" poll 1 5\"; expected: `poll TASK WAKER`; a number is below 2^64, with no sign and no leading zero",
+        "line 2 can't be read: \" poll 1 5\"; expected: `poll TASK WAKER`; \
+        a number is below 2^64, with no sign and no leading zero",
     ),
     (
         b"once 8\nlook\r\n",
@@ -151,16 +154,19 @@ const UNREADABLE: [(&[u8], &str); 12] = [
     ),
     (
         b"once 8\nmack 1\n",
-        "line 2 can't be read: \"mack 1\"; expected: `make`, `poll`, `drop`, `go`, `run`, `look`, `take`, `write`, `parts` or `replace`",
+        "line 2 can't be read: \"mack 1\"; expected: \
+        `make`, `poll`, `drop`, `go`, `run`, `look`, `take`, `write`, `parts` or `replace`",
     ),
     (
         b"once 8\n # x\n",
-        "line 2 can't be read: \" # x\"; expected: `make`, `poll`, `drop`, `go`, `run`, `look`, `take`, `write`, `parts` or `replace`",
+        "line 2 can't be read: \" # x\"; expected: \
+        `make`, `poll`, `drop`, `go`, `run`, `look`, `take`, `write`, `parts` or `replace`",
     ),
     (b"once 8\nmake \xff\n", "line 2 is not UTF-8"),
     (
         b"once 8\nlooks\nmake \xff\n",
-        "line 2 can't be read: \"looks\"; expected: `make`, `poll`, `drop`, `go`, `run`, `look`, `take`, `write`, `parts` or `replace`",
+        "line 2 can't be read: \"looks\"; expected: \
+        `make`, `poll`, `drop`, `go`, `run`, `look`, `take`, `write`, `parts` or `replace`",
     ),
     (b"# \xff\nonce 8\xff\n", "line 2 is not UTF-8"),
 ];

@@ -27,7 +27,8 @@ pub struct Walker<'a, 'r, R> {
     is_drop: bool,
     ghost same: { side.number ≡ (own parts).number },
     // A call that is under way has come so far, and where the next one begins the task stands as its page says.
-    ghost goes: { Goes side (own parts) (λ b. b.mark.value) is_drop told step } by { Goes-prop side (own parts) (λ b. b.mark.value) is_drop told step },
+    ghost goes: { Goes side (own parts) (λ b. b.mark.value) is_drop told step } by { Goes-prop side (own parts)
+        (λ b. b.mark.value) is_drop told step },
     ghost rests: { is_resting step ≡ true → StandsOn (λ b. b.mark.value) (own parts) step },
 }
 

@@ -15,7 +15,8 @@ impl<W: Drop, Q: Drop> Step<W, Q> {
     ghost use Rattle.once_core.specs.declared.parts.Counted.{Counted};
     ghost use Rattle.once_queue.specs.Word.{flags_of};
     ghost use Rattle.once_queue.specs.Ops.{ticket_in};
-    ghost use Rattle.once_core.specs.Steps.{Follows, AfterLook, MayRefuse, after_count_in, after_load, after_copy, after_list};
+    ghost use Rattle.once_core.specs.Steps.{Follows, AfterLook, MayRefuse};
+    ghost use Rattle.once_core.specs.Steps.{after_count_in, after_load, after_copy, after_list};
 
     #[inline(always)]
     pub(super) fn count_in<P: Parts<W, Queue = Q>, S: Side<W>>(
@@ -129,7 +130,8 @@ impl<W: Drop, Q: Drop> Step<W, Q> {
         side: &mut S,
     ) -> Progress
         requires { P.can.section parts.old queue (Op.List ticket (Some waker)) }
-        ensures line { (a : Answer W) × (o : Op W) × P.did.section parts.old queue (Op.List ticket (Some waker)) a o parts.new
+        ensures line { (a : Answer W) × (o : Op W)
+            × P.did.section parts.old queue (Op.List ticket (Some waker)) a o parts.new
             × Follows S.did.close (after_list a queue (ticket_in o)) side.old side.new result self.new }
         ensures stays { S.stays side.old side.new }
     {

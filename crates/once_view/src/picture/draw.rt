@@ -379,9 +379,11 @@ impl<'a> Drawing<'a> {
             (true, _) =>
                 "Left out, since there are many tasks: what polls answer, and every other name.",
             (false, 1) =>
-                "Left out, since there are many lines and tasks: what polls answer, looks find and the owner calls, nine of ten numbers of lines, and every other name.",
+                "Left out, since there are many lines and tasks: what polls answer, looks find and the owner calls, \
+                nine of ten numbers of lines, and every other name.",
             (false, _) =>
-                "Left out, since there are many lines: what polls answer, looks find and the owner calls, and nine of ten numbers of lines.",
+                "Left out, since there are many lines: what polls answer, looks find and the owner calls, \
+                and nine of ten numbers of lines.",
         };
         write_text(output, 8, y, text)
     }

@@ -29,7 +29,8 @@ const LEGEND: &str = "<rect class='poll' x='8' y='2' width='24' height='16'/>
 <text x='478' y='36'>a look, and what it found</text>
 <path class='look' d='M670 38L666 26H674Z'/>
 <text x='688' y='36'>the owner calls</text>
-<text x='8' y='56'>Where the polls of a task end, it stands what the last one answered. A word for which there is no room is left out.</text>";
+<text x='8' y='56'>Where the polls of a task end, it stands what the last one answered. \
+A word for which there is no room is left out.</text>";
 
 /// Writes the legend, below this height.
 pub fn write_legend<O: Write>(top: u64, output: &mut O) -> io::Result<()> {

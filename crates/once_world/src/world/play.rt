@@ -1,8 +1,11 @@
 //! A replay under way, one input at a time.
-ghost use Rattle.std.specs.Prelude.{◌≡◌, ◌<◌, ◌≤◌, ◌+◌, ◌-◌, ◌^◌, ◌++◌, ◌∷◌, ◌==◌, ℕ, List, true, [], Some, None, OnOk, IfOk, length, replicate};
+ghost use Rattle.std.specs.Prelude.{◌≡◌, ◌<◌, ◌≤◌, ◌+◌, ◌-◌, ◌^◌, ◌==◌, ℕ, true};
+ghost use Rattle.std.specs.Prelude.{List, [], ◌++◌, ◌∷◌, Some, None, OnOk, IfOk, length, replicate};
 ghost use Rattle.std.specs.Option.{option_copied, option_map};
-ghost use Rattle.once_world.specs.Machine.{unfinished_after, error_in as error_of, release_entry as release_of, end_entry as end_of};
-ghost use Rattle.once_world.specs.Shown.{call_of, entry_of, history_in, claim_entries, ran_entries, out_entries, wakers_in, step_entries};
+ghost use Rattle.once_world.specs.Machine.{unfinished_after, error_in as error_of};
+ghost use Rattle.once_world.specs.Machine.{release_entry as release_of, end_entry as end_of};
+ghost use Rattle.once_world.specs.Shown.{call_of, entry_of, history_in, wakers_in};
+ghost use Rattle.once_world.specs.Shown.{claim_entries, ran_entries, out_entries, step_entries};
 
 use super::cell::{ReplayCell, StepSeen, Task};
 use super::{Call, Entry, Input, Kind, Ran, Record, Reply};
@@ -36,10 +39,12 @@ pub struct World {
 
 impl World {
     ghost use Rattle.once_world.specs.Record.{Kind as RecordedKind, is_lazy, has_call as owner_has};
-    ghost use Rattle.once_world.specs.Machine.{world_after, word_of, make_world, poll_world, drop_world, go_world, own_world_by, IsIdle};
+    ghost use Rattle.once_world.specs.Machine.{world_after, word_of, IsIdle};
+    ghost use Rattle.once_world.specs.Machine.{make_world, poll_world, drop_world, go_world, own_world_by};
     ghost use Rattle.once_world.specs.Can.{MayTake, TaskCan};
     ghost use Rattle.once_world.specs.Run.{IsRun};
-    ghost use Rattle.once_world.specs.Shown.{kind_of, call_of, input_of, shared_of, world_in, record_entries, record_lines};
+    ghost use Rattle.once_world.specs.Shown.{kind_of, call_of, input_of};
+    ghost use Rattle.once_world.specs.Shown.{shared_of, world_in, record_entries, record_lines};
     ghost use Rattle.once_world.specs.Reached.{IsAfter, IsReached};
     ghost use Rattle.once_world.specs.Inputs.{Input as Taken, Go};
     ghost use Rattle.once_core.specs.Core.{state_of};
