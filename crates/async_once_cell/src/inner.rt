@@ -2,6 +2,6 @@
 
 pub use once_core::parts::{Counted, Parts, QueueLine};
 pub use once_core::plain::Core;
-pub use once_parts::{Inner, Mark, Record, Shared, Task, TaskSide, TaskWaker, record, whole_drop};
+pub use once_parts::{Inner, Mark, Record, Shared, Task, TaskSide, TaskWaker, record};
 pub use once_queue::waiters::{Answer, Listing, Op, Out};
 pub use once_queue::word::{MAX_WAITERS, NEW, QINIT_BIT, READY_BIT};

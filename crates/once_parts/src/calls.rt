@@ -80,7 +80,7 @@ fn steps_left<T, W: TaskWaker + Drop, R: Wait + AllocGlobal, S: TaskSide<W, Valu
 }
 
 /// A whole drop of a task that is not finished. It may wait as a whole poll.
-pub fn whole_drop<T, W: TaskWaker + Drop, R: Wait + AllocGlobal, S: TaskSide<W, Value = T>>(
+pub(crate) fn whole_drop<T, W: TaskWaker + Drop, R: Wait + AllocGlobal, S: TaskSide<W, Value = T>>(
     parts: &mut Shared<'_, '_, T, W, R>,
     step: &mut Step<W, ()>,
     side: &mut S,

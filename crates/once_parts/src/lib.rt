@@ -22,7 +22,7 @@ pub mod task;
 mod under_lock;
 
 pub use book::{CellRule, Leaf, Line, Record};
-pub use calls::{one_step, whole_drop};
+pub use calls::one_step;
 pub use mark::{Mark, TaskWaker};
 pub use shared::{Inner, Shared};
 pub use side::TaskSide;
