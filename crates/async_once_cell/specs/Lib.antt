@@ -12,6 +12,7 @@ pub use Rattle.once_queue.specs.Numbers
 pub use Rattle.once_queue.specs.Word
 pub use Rattle.once_queue.specs.Listings
 pub use Rattle.once_queue.specs.Marks
+pub use Rattle.once_queue.specs.Claims
 pub use Rattle.once_queue.specs.Room
 pub use Rattle.once_queue.specs.Ops
 pub use Rattle.once_queue.specs.Sections
@@ -41,6 +42,7 @@ pub use Rattle.once_world.specs.Reached
 pub use Rattle.once_parts.specs.Kept
 -- the types that users name
 pub use Rattle.once_queue.specs.declared.log
+pub use Rattle.once_queue.specs.declared.word.Sees
 pub use Rattle.once_queue.specs.declared.waiters
 pub use Rattle.once_core.specs.declared.parts
 pub use Rattle.once_core.specs.declared.step

@@ -13,10 +13,11 @@ use Rattle.once_queue.specs.declared.waiters.Answer.{Answer}
 use Rattle.once_queue.specs.declared.waiters.Answer.TheVariants.{Ready, Claimed, Listed, Memory, Released, Left, Gone}
 use Rattle.once_queue.specs.Ops.{ticket_in, without_ticket}
 use Rattle.once_queue.specs.Room.{HasSpace, listings_of}
-use Rattle.once_queue.specs.Word.{Flags, flags_of, flags_alone, is_zero, is_quick_bit}
+use Rattle.once_queue.specs.declared.word.Sees.{Sees}
+use Rattle.once_queue.specs.Word.{Flags, flags_of, flags_alone, is_zero, is_quick_bit, sees, is_free}
 use Rattle.once_queue.specs.declared.waiters.Listing.{Listing}
 use Rattle.once_queue.specs.Listings.{own_listing, kept_ticket, ticket_for, list_with, list_without, passes_turn, next_waker, left_list}
-use Rattle.once_queue.specs.Sections.{shows_set, shows_free, shows_taken, Looked, Releases}
+use Rattle.once_queue.specs.Sections.{Looked, Releases}
 
 -- what contracts see: the word; the number of the queue at the door, its flag and its listings; how many queues were made; whether memory is given; the current waker; and the queue log, the oldest line first
 pub record CoreState (W : Type 0) : Type 0 where
@@ -119,10 +120,6 @@ module _ {W : Type 0} where
   CanSection s q (Release ready) = s.door ≡ Some q → (s.word.ready ≡ false) × (s.head ≡ not s.word.quick)
   CanSection s q op = Unit {0}
 
-  -- nobody holds, and the value is not set
-  abbrev pub is_free : CoreState W → Bool
-  is_free s = shows_free s.word s.head
-
   -- what a release leaves, with these listings
   abbrev pub release_state : Bool → List (Listing W) → CoreState W → CoreState W
   release_state ready xs s = record s {
@@ -133,7 +130,7 @@ module _ {W : Type 0} where
 
   -- who leaves takes its listing out, and passes its turn on where it had it
   abbrev pub is_passing : ℕ → CoreState W → Bool
-  is_passing n s = passes_turn (is_free s) n s.listings
+  is_passing n s = passes_turn (is_free (sees s.word s.head)) n s.listings
 
   -- what is left when who has this ticket left
   abbrev pub leave_state : ℕ → CoreState W → CoreState W
@@ -155,11 +152,11 @@ module _ {W : Type 0} (same other : W → W → Type 0) where
       × (o ≡ ListOp (Some (ticket_for k s.listings)) None))
   FindsHolder s op a o t = ⊥
 
-  -- a look or a listing on the queue at the door, by what the flags show
+  -- a look or a listing on the queue at the door, by what is seen
   pub record Found (s : CoreState W) (op : Op W) (a : Answer W) (o : Op W) (t : CoreState W) : Type 0 where
-    pub set : shows_set s.word ≡ true → (a ≡ Ready) × (t ≡ s) × (o ≡ op)
-    pub free : shows_free s.word s.head ≡ true → (a ≡ Claimed) × (t ≡ claim_state op s) × (o ≡ without_ticket op)
-    pub taken : shows_taken s.word s.head ≡ true → FindsHolder s op a o t
+    pub set : sees s.word s.head ≡ Sees.Set → (a ≡ Ready) × (t ≡ s) × (o ≡ op)
+    pub free : sees s.word s.head ≡ Sees.Free → (a ≡ Claimed) × (t ≡ claim_state op s) × (o ≡ without_ticket op)
+    pub taken : sees s.word s.head ≡ Sees.Taken → FindsHolder s op a o t
 
   -- a section on the queue at the door
   abbrev pub AtDoor : CoreState W → Op W → Answer W → Op W → CoreState W → Type 0

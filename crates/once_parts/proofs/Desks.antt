@@ -1,17 +1,19 @@
 -- What lies under the lock fits its pages after each section, and the section's answer is that of the page.
-use Rattle.std.proofs.Common.{◌≡◌, ◌⊎◌, ℕ, Bool, true, false, cond, ◌||◌, List, ◌++◌, append_assoc, Option, Some, None, refl, sym, ap, ◌∙◌, subst}
+use Rattle.std.proofs.Common.{◌≡◌, ◌⊎◌, ℕ, Bool, true, false, cond, List, ◌++◌, append_assoc, Option, Some, None, refl, sym, ap, ◌∙◌, subst}
 use Rattle.std.specs.Prelude.{IsSomeAnd}
 use Rattle.std.specs.Option.{is_some, option_flatten}
 use mathlib.Core.List.{IsPrefix}
 use Rattle.once_queue.specs.Numbers.{is_distinct}
-use Rattle.once_queue.specs.Word.{flags_of}
+use Rattle.once_queue.specs.declared.word.Sees.{Sees}
+use Rattle.once_queue.specs.Word.{flags_of, sees, is_free}
 use Rattle.once_queue.specs.declared.waiters.Lists.{Lists}
 use Rattle.once_queue.specs.declared.waiters.Answer.{Answer}
-use Rattle.once_queue.specs.declared.waiters.Answer.TheVariants.{Ready, Claimed, Listed, Held, Memory}
+use Rattle.once_queue.specs.declared.waiters.Answer.TheVariants.{Claimed, Listed, Held, Memory}
 use Rattle.once_queue.specs.declared.waiters.Out.{Out}
-use Rattle.once_queue.specs.Listings.{kept_ticket, left_list, list_without, next_waker, one_out, own_listing, passes_turn, tickets}
-use Rattle.once_queue.specs.Room.{listings_of}
-use Rattle.once_queue.specs.Sections.{Lists as DidList, Releases, shows_free, shows_set, shows_taken}
+use Rattle.once_queue.specs.Listings.{kept_ticket, left_list, next_waker, one_out, own_listing, passes_turn, tickets}
+use Rattle.once_queue.specs.Claims.{Claims}
+use Rattle.once_queue.specs.Room.{listings_of, waiting}
+use Rattle.once_queue.specs.Sections.{Lists as DidList, Releases}
 use Rattle.once_core.specs.Steps.{Next}
 use Rattle.once_world.specs.Record.{Entry}
 use Rattle.once_world.specs.Book.{TaskState}
@@ -90,28 +92,25 @@ module _ {W : Type 0} {g : _} (whose : W → ℕ) (l : Lists W g) (d : Desked) (
 
   -- after a look
   pub look_fits : (n : ℕ) (k k' : Option ℕ) (l' : Lists W g) (result : Answer W)
-      → (shows_set (flags_of n) ≡ true → result ≡ Ready) → (shows_free (flags_of n) l.head ≡ true → result ≡ Claimed)
-      → (shows_taken (flags_of n) l.head ≡ true → result ≡ cond (is_some (option_flatten (own_listing k (listings_of l)))) Listed Held)
-      → l'.head ≡ (l.head || shows_free (flags_of n) l.head) → listings_of l' ≡ cond (shows_free (flags_of n) l.head) (list_without k (listings_of l)) (listings_of l)
-      → k' ≡ cond (shows_free (flags_of n) l.head) None k
+      → Claims (sees (flags_of n) l.head) (waiting l k) result (waiting l' k')
+      → (sees (flags_of n) l.head ≡ Sees.Taken → result ≡ cond (is_some (option_flatten (own_listing k (listings_of l)))) Listed Held)
+      → (sees (flags_of n) l.head ≡ Sees.Taken → waiting l' k' ≡ waiting l k)
       → IsShown whose l' (desk_looked (looked n k d) k d) × (answer_as result ≡ looked n k d) × (k' ≡ ticket_left (looked n k d) k)
-  look_fits n k k' l' result ready claimed held flag listings ticket =
-      let s = look_shown whose (flags_of n) l.head k (listings_of l) result l'.head (listings_of l') k' ready claimed held flag listings ticket in
+  look_fits n k k' l' result claims held stays =
+      let s = look_shown whose (sees (flags_of n) l.head) (waiting l k) result (waiting l' k') claims held stays in
       subst (λ (e : Desked). IsShown whose l' (desk_looked (looked n k e) k e) × (answer_as result ≡ looked n k e) × (k' ≡ ticket_left (looked n k e) k)) shown_is
       (((fits.0, s.flag, s.listings), s.answer, s.ticket))
 
   -- after a listing of w, where there was room
   pub list_fits : (n : ℕ) (k k' : Option ℕ) (w : W) (w' : Option W) (l' : Lists W g) (result : Answer W)
       → (is_some (kept_ticket k (listings_of l)) ≡ true) ⊎ (result ≡ Memory → ⊥)
-      → (shows_set (flags_of n) ≡ true → result ≡ Ready) → (shows_free (flags_of n) l.head ≡ true → result ≡ Claimed)
-      → (shows_taken (flags_of n) l.head ≡ true → DidList k w (listings_of l) result k' w' (listings_of l'))
-      → l'.head ≡ (l.head || shows_free (flags_of n) l.head)
-      → (shows_taken (flags_of n) l.head ≡ false → listings_of l' ≡ cond (shows_free (flags_of n) l.head) (list_without k (listings_of l)) (listings_of l))
-      → (shows_taken (flags_of n) l.head ≡ false → k' ≡ cond (shows_free (flags_of n) l.head) None k)
+      → Claims (sees (flags_of n) l.head) (waiting l k) result (waiting l' k')
+      → (sees (flags_of n) l.head ≡ Sees.Taken → DidList k w (listings_of l) result k' w' (listings_of l'))
+      → (sees (flags_of n) l.head ≡ Sees.Taken → l'.head ≡ l.head)
       → IsShown whose l' (desk_listed (listed n k true d) k (whose w) d) × (answer_as result ≡ listed n k true d)
       × (k' ≡ ticket_left (listed n k true d) (listed_ticket (listed n k true d) k d.listings))
-  list_fits n k k' w w' l' result room ready claimed held flag listings ticket =
-      let s = list_shown whose (flags_of n) l.head k (listings_of l) w w' result l'.head (listings_of l') k' room ready claimed held flag listings ticket in
+  list_fits n k k' w w' l' result room claims held head =
+      let s = list_shown whose (sees (flags_of n) l.head) (waiting l k) w w' result (waiting l' k') room claims held head in
       subst
       (λ (e : Desked). IsShown whose l' (desk_listed (listed n k true e) k (whose w) e) × (answer_as result ≡ listed n k true e)
       × (k' ≡ ticket_left (listed n k true e) (listed_ticket (listed n k true e) k e.listings)))
@@ -119,14 +118,13 @@ module _ {W : Type 0} {g : _} (whose : W → ℕ) (l : Lists W g) (d : Desked) (
 
   -- after a look in place of a listing for which there was no room
   pub refusal_fits : (n : ℕ) (k k' : Option ℕ) (v : ℕ) (l' : Lists W g) (result : Answer W) → is_some (kept_ticket k (listings_of l)) ≡ false
-      → (shows_set (flags_of n) ≡ true → result ≡ Ready) → (shows_free (flags_of n) l.head ≡ true → result ≡ Claimed)
-      → (shows_taken (flags_of n) l.head ≡ true → result ≡ cond (is_some (option_flatten (own_listing k (listings_of l)))) Listed Held)
-      → l'.head ≡ (l.head || shows_free (flags_of n) l.head) → listings_of l' ≡ cond (shows_free (flags_of n) l.head) (list_without k (listings_of l)) (listings_of l)
-      → k' ≡ cond (shows_free (flags_of n) l.head) None k
+      → Claims (sees (flags_of n) l.head) (waiting l k) result (waiting l' k')
+      → (sees (flags_of n) l.head ≡ Sees.Taken → result ≡ cond (is_some (option_flatten (own_listing k (listings_of l)))) Listed Held)
+      → (sees (flags_of n) l.head ≡ Sees.Taken → waiting l' k' ≡ waiting l k)
       → IsShown whose l' (desk_listed (listed n k false d) k v d) × (answer_as (as_memory result) ≡ listed n k false d)
       × (k' ≡ ticket_left (listed n k false d) (listed_ticket (listed n k false d) k d.listings))
-  refusal_fits n k k' v l' result gone ready claimed held flag listings ticket =
-      let s = refusal_shown whose (flags_of n) l.head k (listings_of l) v result l'.head (listings_of l') k' gone ready claimed held flag listings ticket in
+  refusal_fits n k k' v l' result gone claims held stays =
+      let s = refusal_shown whose (sees (flags_of n) l.head) (waiting l k) v result (waiting l' k') gone claims held stays in
       subst
       (λ (e : Desked). IsShown whose l' (desk_listed (listed n k false e) k v e) × (answer_as (as_memory result) ≡ listed n k false e)
       × (k' ≡ ticket_left (listed n k false e) (listed_ticket (listed n k false e) k e.listings)))
@@ -144,10 +142,10 @@ module _ {W : Type 0} {g : _} (whose : W → ℕ) (l : Lists W g) (d : Desked) (
   )
 
   -- after one left
-  pub leave_fits : (n k : ℕ) (l' : Lists W g) (o : Option W) → o ≡ next_waker (passes_turn (shows_free (flags_of n) l.head) k (listings_of l)) k (listings_of l)
-      → listings_of l' ≡ left_list (passes_turn (shows_free (flags_of n) l.head) k (listings_of l)) k (listings_of l) → l'.head ≡ l.head
+  pub leave_fits : (n k : ℕ) (l' : Lists W g) (o : Option W) → o ≡ next_waker (passes_turn (is_free (sees (flags_of n) l.head)) k (listings_of l)) k (listings_of l)
+      → listings_of l' ≡ left_list (passes_turn (is_free (sees (flags_of n) l.head)) k (listings_of l)) k (listings_of l) → l'.head ≡ l.head
       → IsShown whose l' (desk_left (passing n k d) k d) × (named_one whose o ≡ one_out (next_waker (passing n k d) k d.listings))
   leave_fits n k l' o handed listings flag =
-      let f : Bool = shows_free (flags_of n) l.head in
+      let f : Bool = is_free (sees (flags_of n) l.head) in
       subst (λ (e : Desked). IsShown whose l' (desk_left (passing n k e) k e) × (named_one whose o ≡ one_out (next_waker (passing n k e) k e.listings))) shown_is
       ((fits.0, flag, left_shown whose f k (listings_of l) (listings_of l') listings), left_out whose f k (listings_of l) o handed)

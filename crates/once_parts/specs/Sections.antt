@@ -3,14 +3,14 @@ use Rattle.std.specs.Prelude.{◌≡◌, ℕ, suc, ◌*◌, ◌^◌, ◌||◌, B
 use Rattle.std.specs.Option.{is_some, option_flatten}
 use Rattle.pagebook.specs.Pages.{Held, View}
 use Rattle.once_queue.specs.Numbers.{is_distinct}
-use Rattle.once_queue.specs.Word.{flags_of}
+use Rattle.once_queue.specs.Word.{flags_of, sees, is_free}
 use Rattle.once_queue.specs.declared.waiters.Listing.{Listing}
 use Rattle.once_queue.specs.declared.waiters.Answer.{Answer as SectionAnswer}
 use Rattle.once_queue.specs.Listings.{kept_ticket, left_list, next_waker, one_out, own_listing, passes_turn, tickets, wakers_of}
-use Rattle.once_queue.specs.Sections.{shows_free}
 use Rattle.once_core.specs.Steps.{next_at}
 use Rattle.once_world.specs.Record.{Entry}
-use Rattle.once_world.specs.UnderLock.{head_after, is_claim, list_answer, listed_list, listed_ticket, look_answer, looked_list, state_seen}
+use Rattle.once_world.specs.UnderLock.{head_after, is_claim, list_answer, listed_list, listed_ticket}
+use Rattle.once_world.specs.UnderLock.{look_answer, looked_list}
 use Rattle.once_world.specs.Machine.{AtCountIn, AtDoorPut, AtList, Step, UnderWay, claim_entries, pass_entries, release_entry, release_list, release_wakers}
 use Rattle.once_parts.specs.Kept.{Sheet, has_passed, hands_out, locked, sheets}
 use Rattle.once_parts.specs.declared.act.Section.{Section}
@@ -38,7 +38,7 @@ door_number None = 0
 
 -- what a look answers, by the word
 abbrev pub looked : ℕ → Option ℕ → Desked → SectionAnswer ℕ
-looked n k d = look_answer (state_seen (flags_of n) d.head) (is_some (option_flatten (own_listing k d.listings)))
+looked n k d = look_answer (Some (sees (flags_of n) d.head)) (is_some (option_flatten (own_listing k d.listings)))
 
 -- what it leaves
 abbrev pub desk_looked : SectionAnswer ℕ → Option ℕ → Desked → Desked
@@ -46,7 +46,7 @@ desk_looked a k d = record d { head = head_after a d.head; listings = looked_lis
 
 -- what a listing answers, by the word and whether there is room
 abbrev pub listed : ℕ → Option ℕ → Bool → Desked → SectionAnswer ℕ
-listed n k room d = list_answer (state_seen (flags_of n) d.head) (is_some (kept_ticket k d.listings) || room)
+listed n k room d = list_answer (Some (sees (flags_of n) d.head)) (is_some (kept_ticket k d.listings) || room)
 
 -- what it leaves, where it lists the waker v
 abbrev pub desk_listed : SectionAnswer ℕ → Option ℕ → ℕ → Desked → Desked
@@ -63,7 +63,7 @@ desk_released r d = record d { head = false; listings = release_list r d.listing
 
 -- who has this ticket passes its turn on as it leaves, by the word
 abbrev pub passing : ℕ → ℕ → Desked → Bool
-passing n k d = passes_turn (shows_free (flags_of n) d.head) k d.listings
+passing n k d = passes_turn (is_free (sees (flags_of n) d.head)) k d.listings
 
 -- what is left when it left
 abbrev pub desk_left : Bool → ℕ → Desked → Desked

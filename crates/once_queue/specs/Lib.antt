@@ -4,6 +4,7 @@ pub mod Listings
 pub mod Marks
 pub mod Kept
 pub mod Slots
+pub mod Claims
 pub mod Room
 pub mod Ops
 pub mod Sections

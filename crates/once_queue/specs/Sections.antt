@@ -1,23 +1,11 @@
 -- What a section under the queue's lock sees, answers and leaves.
-use Rattle.std.specs.Prelude.{◌≡◌, ℕ, ◌<◌, ◌⊎◌, ◌||◌, not, if◌then◌else◌, Bool, true, false, List, [], ◌∷◌, Option, Some, None, IfSome, All, HoldsAt, length}
+use Rattle.std.specs.Prelude.{◌≡◌, ℕ, ◌<◌, ◌⊎◌, Bool, true, false, List, [], ◌∷◌, Option, Some, None}
+use Rattle.std.specs.Prelude.{IfSome, All, HoldsAt, length}
 use Rattle.std.specs.declared.vec.Vec.{Vec}
 use Rattle.std.specs.declared.alloc.Global.{Global}
 use Rattle.once_queue.specs.declared.waiters.Answer.{Answer}
 use Rattle.once_queue.specs.declared.waiters.Out.{Out}
-use Rattle.once_queue.specs.Word.{Flags}
 use Rattle.once_queue.specs.Listings.{Listing, kept_ticket, ticket_for, list_with, first_waker, call_first, wakers_by}
-
--- the word says that the value is set
-abbrev pub shows_set : Flags → Bool
-shows_set f = f.ready
-
--- the value is not set, and neither the word nor the flag beside the list says that some task holds
-abbrev pub shows_free : Flags → Bool → Bool
-shows_free f head = if f.ready then false else not (f.quick || head)
-
--- the value is not set, and some task holds
-abbrev pub shows_taken : Flags → Bool → Bool
-shows_taken f head = if f.ready then false else f.quick || head
 
 module _ {W : Type 0} (same : W → W → Type 0) where
   -- some waker of the list was told to be the same

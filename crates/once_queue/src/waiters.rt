@@ -1,5 +1,6 @@
 //! Who waits: the flag and the list behind a queue's lock, and what a section does with them.
-ghost use Rattle.std.specs.Prelude.{◌≡◌, ◌≢◌, ◌==◌, ◌-◌, ◌||◌, ℕ, true, false, if◌then◌else◌, not, [], IsSome, IfSome, IsOk, IfOk, OnOk, OnErr, All, length, Some, None, ◌+◌, ◌<◌, ◌⊎◌, ◌++◌, ◌∷◌, vec_len};
+ghost use Rattle.std.specs.Prelude.{◌≡◌, ◌≢◌, ◌↔◌, ◌+◌, ◌<◌, ◌⊎◌, ◌++◌, ◌∷◌, [], ℕ, true, false, if◌then◌else◌};
+ghost use Rattle.std.specs.Prelude.{IsSome, IfSome, IsOk, IfOk, OnOk, OnErr, All, length, Some, None, vec_len};
 ghost use Rattle.std.specs.List.{AllPairs, HoldsAt};
 ghost use Rattle.std.specs.Option.{MatchOption, option_copied, option_flatten, option_map, is_some};
 ghost use Rattle.once_queue.specs.Numbers.{member};
@@ -8,7 +9,7 @@ ghost use Rattle.once_queue.specs.Listings.{tickets};
 ghost use Rattle.once_queue.specs.Sections.{AreApart, HandsAll};
 
 use crate::slots::Slots;
-use crate::word::Word;
+use crate::word::{Sees, Word};
 use std::alloc::{AllocError, Global};
 use std::mem;
 
@@ -131,11 +132,12 @@ pub struct Lists<W: WakerId> {
 }
 
 impl<W: WakerId + Drop> Lists<W> {
-    ghost use Rattle.once_queue.specs.Word.{flags_of};
+    ghost use Rattle.once_queue.specs.Word.{flags_of, sees, is_free};
     ghost use Rattle.once_queue.specs.Listings.{Listing, find_listing, own_listing, take_out, list_without, first_waker, call_first, kept_ticket, ticket_for, passes_turn, next_waker, left_list, lent_listings};
     ghost use Rattle.once_queue.specs.Slots.{HasMark, HasSlot};
-    ghost use Rattle.once_queue.specs.Room.{HasSpace, listings_of};
-    ghost use Rattle.once_queue.specs.Sections.{shows_set, shows_free, shows_taken, Looked, Lists as DidList, Releases};
+    ghost use Rattle.once_queue.specs.Claims.{Claims};
+    ghost use Rattle.once_queue.specs.Room.{HasSpace, listings_of, waiting};
+    ghost use Rattle.once_queue.specs.Sections.{Looked, Lists as DidList, Releases};
 
     /// No holder, and nobody listed. It takes no memory.
     #[inline(always)]
@@ -155,20 +157,13 @@ impl<W: WakerId + Drop> Lists<W> {
     /// is no waker or no ticket, or where the listing was called.
     #[inline(always)]
     pub fn look(&mut self, ticket: &mut Option<u64>, waker: Option<&W>, word: u64) -> Answer<W>
-        // The first case that holds gives the answer.
-        ensures ready { shows_set (flags_of word) ≡ true → result ≡ Answer.Ready }
-        ensures claimed { shows_free (flags_of word) self.old.head ≡ true
-            → result ≡ Answer.Claimed }
-        ensures held { shows_taken (flags_of word) self.old.head ≡ true
+        ensures claims { Claims (sees (flags_of word) self.old.head)
+            (waiting self.old ticket.old) result (waiting self.new ticket.new) }
+        ensures held { sees (flags_of word) self.old.head ≡ Sees.Taken
             → Looked W.tells_same W.tells_other (option_copied waker.entry)
             (own_listing ticket.old (listings_of self.old)) result }
-
-        // Only a claim changes anything.
-        ensures head { self.new.head ≡ (self.old.head || shows_free (flags_of word) self.old.head) }
-        ensures listings { listings_of self.new
-            ≡ (if shows_free (flags_of word) self.old.head then list_without ticket.old (listings_of self.old) else listings_of self.old) }
-        ensures ticket { ticket.new
-            ≡ (if shows_free (flags_of word) self.old.head then None else ticket.old) }
+        ensures stays { sees (flags_of word) self.old.head ≡ Sees.Taken
+            → waiting self.new ticket.new ≡ waiting self.old ticket.old }
     {
         if let Some(answer) = self.claim(ticket, word) {
             return answer;
@@ -184,20 +179,14 @@ impl<W: WakerId + Drop> Lists<W> {
     /// whose tickets stand for one waker each.
     #[inline(always)]
     pub fn look_own(&mut self, ticket: &mut Option<u64>, word: u64) -> Answer<W>
-        // The first case that holds gives the answer.
-        ensures ready { shows_set (flags_of word) ≡ true → result ≡ Answer.Ready }
-        ensures claimed { shows_free (flags_of word) self.old.head ≡ true
-            → result ≡ Answer.Claimed }
-        ensures held { shows_taken (flags_of word) self.old.head ≡ true
+        ensures claims { Claims (sees (flags_of word) self.old.head)
+            (waiting self.old ticket.old) result (waiting self.new ticket.new) }
+        ensures held { sees (flags_of word) self.old.head ≡ Sees.Taken
             → result
-            ≡ (if is_some (option_flatten (own_listing ticket.old (listings_of self.old))) then Answer.Listed else Answer.Held) }
-
-        // Only a claim changes anything.
-        ensures head { self.new.head ≡ (self.old.head || shows_free (flags_of word) self.old.head) }
-        ensures listings { listings_of self.new
-            ≡ (if shows_free (flags_of word) self.old.head then list_without ticket.old (listings_of self.old) else listings_of self.old) }
-        ensures ticket { ticket.new
-            ≡ (if shows_free (flags_of word) self.old.head then None else ticket.old) }
+            ≡ (if is_some (option_flatten (own_listing ticket.old (listings_of self.old)))
+            then Answer.Listed else Answer.Held) }
+        ensures stays { sees (flags_of word) self.old.head ≡ Sees.Taken
+            → waiting self.new ticket.new ≡ waiting self.old ticket.old }
     {
         if let Some(answer) = self.claim(ticket, word) {
             return answer;
@@ -218,25 +207,15 @@ impl<W: WakerId + Drop> Lists<W> {
     #[inline(always)]
     pub fn list(&mut self, ticket: &mut Option<u64>, waker: &mut Option<W>, word: u64) -> Answer<W>
         requires { IsSome waker.old }
-
-        // The first case that holds gives the answer.
-        ensures ready { shows_set (flags_of word) ≡ true → result ≡ Answer.Ready }
-        ensures claimed { shows_free (flags_of word) self.old.head ≡ true
-            → result ≡ Answer.Claimed }
-        ensures held { shows_taken (flags_of word) self.old.head ≡ true
+        ensures claims { Claims (sees (flags_of word) self.old.head)
+            (waiting self.old ticket.old) result (waiting self.new ticket.new) }
+        ensures held { sees (flags_of word) self.old.head ≡ Sees.Taken
             → IfSome waker.old
             (λ w. DidList ticket.old w (listings_of self.old)
             result ticket.new waker.new (listings_of self.new)) }
+        ensures head { sees (flags_of word) self.old.head ≡ Sees.Taken → self.new.head ≡ self.old.head }
+        ensures waker { sees (flags_of word) self.old.head ≢ Sees.Taken → waker.new ≡ waker.old }
         ensures room { HasSpace self.old → result ≢ Answer.Memory }
-
-        // Only a claim changes the flag, and takes a listing out where no task holds.
-        ensures head { self.new.head ≡ (self.old.head || shows_free (flags_of word) self.old.head) }
-        ensures listings { shows_taken (flags_of word) self.old.head ≡ false
-            → listings_of self.new
-            ≡ (if shows_free (flags_of word) self.old.head then list_without ticket.old (listings_of self.old) else listings_of self.old) }
-        ensures ticket { shows_taken (flags_of word) self.old.head ≡ false
-            → ticket.new ≡ (if shows_free (flags_of word) self.old.head then None else ticket.old) }
-        ensures waker { shows_taken (flags_of word) self.old.head ≡ false → waker.new ≡ waker.old }
     {
         if let Some(answer) = self.claim(ticket, word) {
             return answer;
@@ -277,20 +256,19 @@ impl<W: WakerId + Drop> Lists<W> {
     pub fn leave(&mut self, ticket: u64, word: u64) -> Option<W>
         ensures waker { result
             ≡ next_waker
-            (passes_turn (shows_free (flags_of word) self.old.head) ticket (listings_of self.old))
+            (passes_turn (is_free (sees (flags_of word) self.old.head)) ticket (listings_of self.old))
             ticket (listings_of self.old) }
         ensures listings { listings_of self.new
             ≡ left_list
-            (passes_turn (shows_free (flags_of word) self.old.head) ticket (listings_of self.old))
+            (passes_turn (is_free (sees (flags_of word) self.old.head)) ticket (listings_of self.old))
             ticket (listings_of self.old) }
         ensures head { self.new.head ≡ self.old.head }
     {
         let mine = self.take_out(ticket)?;
-        let word = Word::from_bits(word);
-        if mine.waker.is_some() || word.is_ready() || word.is_quick() || self.head {
-            return None;
+        match Word::from_bits(word).sees(self.head) {
+            Sees::Free if mine.waker.is_none() => self.call_first(),
+            _ => None,
         }
-        self.call_first()
     }
 
     /// Makes room for one more listing. Where that is refused all is as it was.
@@ -329,29 +307,23 @@ impl<W: WakerId + Drop> Lists<W> {
     // The right where it is free, and None where some task holds it.
     #[inline(always)]
     fn claim(&mut self, ticket: &mut Option<u64>, word: u64) -> Option<Answer<W>>
-        ensures ready { shows_set (flags_of word) ≡ true → result ≡ Some Answer.Ready }
-        ensures claimed { shows_free (flags_of word) self.old.head ≡ true
-            → result ≡ Some Answer.Claimed }
-        ensures held { shows_taken (flags_of word) self.old.head ≡ true → result ≡ None }
-        ensures head { self.new.head ≡ (self.old.head || shows_free (flags_of word) self.old.head) }
-        ensures listings { listings_of self.new
-            ≡ (if shows_free (flags_of word) self.old.head then list_without ticket.old (listings_of self.old) else listings_of self.old) }
-        ensures ticket { ticket.new
-            ≡ (if shows_free (flags_of word) self.old.head then None else ticket.old) }
-        ensures room { shows_free (flags_of word) self.old.head ≡ false → self.new ≡ self.old }
+        ensures claims { IfSome result (λ answer. Claims (sees (flags_of word) self.old.head)
+            (waiting self.old ticket.old) answer (waiting self.new ticket.new)) }
+        ensures held { result ≡ None ↔ sees (flags_of word) self.old.head ≡ Sees.Taken }
+        ensures stays { sees (flags_of word) self.old.head ≢ Sees.Free → self.new ≡ self.old }
+        ensures ticket { sees (flags_of word) self.old.head ≢ Sees.Free → ticket.new ≡ ticket.old }
     {
-        let word = Word::from_bits(word);
-        if word.is_ready() {
-            return Some(Answer::Ready);
+        match Word::from_bits(word).sees(self.head) {
+            Sees::Set => Some(Answer::Ready),
+            Sees::Taken => None,
+            Sees::Free => {
+                if let Some(mine) = ticket.take() {
+                    drop(self.take_out(mine));
+                }
+                self.head = true;
+                Some(Answer::Claimed)
+            }
         }
-        if word.is_quick() || self.head {
-            return None;
-        }
-        if let Some(mine) = ticket.take() {
-            drop(self.take_out(mine));
-        }
-        self.head = true;
-        Some(Answer::Claimed)
     }
 
     /// Whether the own ticket has a listing.

@@ -20,6 +20,17 @@ pub fn largest_limit()
     ensures { MAX_WAITERS ≡ 2 ^ 62 - 2 }
 {}
 
+/// What a cell's word and the flag beside the list say of the right.
+#[derive(Clone, Copy, Debug, PartialEq, Eq)]
+pub enum Sees {
+    /// The value is set.
+    Set,
+    /// The value is not set, and nobody holds.
+    Free,
+    /// The value is not set, and some task holds.
+    Taken,
+}
+
 /// A word: how many tasks are counted in, and the two flags.
 #[derive(Drop)]
 pub struct Word {
@@ -35,7 +46,7 @@ impl Model for Word {
 }
 
 impl Word {
-    ghost use Rattle.once_queue.specs.Word.{flags_of, flags_alone, is_zero, is_quick_bit, is_ready_bit};
+    ghost use Rattle.once_queue.specs.Word.{flags_of, flags_alone, is_zero, is_quick_bit, is_ready_bit, sees};
 
     /// The word of a new cell, which is made with a value or not. Nobody is counted in.
     #[inline(always)]
@@ -85,6 +96,20 @@ impl Word {
         ensures { result ≡ self.now.quick }
     {
         self.bits % READY_BIT >= QINIT_BIT
+    }
+
+    /// What the word and the flag beside the list, `head`, say of the right.
+    #[inline(always)]
+    pub fn sees(&self, head: bool) -> Sees
+        ensures { result ≡ sees self.now head }
+    {
+        if self.is_ready() {
+            return Sees::Set;
+        }
+        if self.is_quick() || head {
+            return Sees::Taken;
+        }
+        Sees::Free
     }
 
     /// Whether the word is `NEW`.

@@ -1,6 +1,6 @@
 -- The machine: what all tasks share, the place at which each task stands, and what each input does.
-use Rattle.std.specs.Prelude.{◌≡◌, ℕ, suc, Bool, true, false, if◌then◌else◌, ◌==◌, ◌-◌, nat_lt, ◌||◌, not, List, [], ◌∷◌, ◌++◌}
-use Rattle.std.specs.Prelude.{Option, Some, None}
+use Rattle.std.specs.Prelude.{◌≡◌, ℕ, suc, Bool, true, false, if◌then◌else◌, ◌==◌, ◌-◌, nat_lt, ◌||◌}
+use Rattle.std.specs.Prelude.{List, [], ◌∷◌, ◌++◌, Option, Some, None}
 use Rattle.std.specs.Option.{is_some, unwrap_or}
 pub use Rattle.once_world.specs.Places.{Ending, EndPending, EndValue, EndError, EndMemory, EndFull, EndDropped}
 pub use Rattle.once_world.specs.Places.{Rest, RestStart, RestWait, RestRun, Step, Resting, UnderWay, Finished}
@@ -17,8 +17,9 @@ use Rattle.once_core.specs.declared.parts.Counted.TheVariants.{Full as CountFull
 use Rattle.once_core.specs.declared.step.Polled.{Polled}
 use Rattle.once_core.specs.declared.step.Polled.TheVariants.{Pending as PolledPending, Value as PolledValue, Error as PolledError}
 use Rattle.once_queue.specs.declared.waiters.Answer.{Answer as SectionAnswer}
-use Rattle.once_queue.specs.Word.{Flags, is_zero, is_quick_bit, is_ready_bit}
-pub use Rattle.once_world.specs.UnderLock.{QueueState, QueueGone, QueueSet, QueueFree, QueueHeld, queue_state_by, state_seen}
+use Rattle.once_queue.specs.declared.word.Sees.{Sees}
+use Rattle.once_queue.specs.Word.{Flags, is_zero, is_quick_bit, is_ready_bit, sees, is_free}
+pub use Rattle.once_world.specs.UnderLock.{seen_by}
 pub use Rattle.once_world.specs.UnderLock.{look_answer, list_answer, is_claim, head_after, looked_list, listed_list, listed_ticket}
 pub use Rattle.once_world.specs.declared.world.cell.Task.{Task}
 pub use Rattle.once_queue.specs.declared.log.QueueLine.{QueueLine}
@@ -50,13 +51,9 @@ pub record SharedState : Type 0 where
 abbrev pub word_of : SharedState → Flags
 word_of c = record { count = c.count; quick = c.quick; ready = c.ready }
 
--- some task holds
-abbrev pub is_taken : SharedState → Bool
-is_taken c = c.quick || c.head
-
--- nobody holds, and the value is not set
-abbrev pub is_free : SharedState → Bool
-is_free c = if c.ready then false else not (is_taken c)
+-- what the word and the flag beside the list say of the right
+abbrev pub sees_of : SharedState → Sees
+sees_of c = sees (word_of c) c.head
 
 -- the queue q stands at the door
 abbrev pub is_at_door : ℕ → Option ℕ → Bool
@@ -169,28 +166,28 @@ in_step below ready c t k q = outcome_of (in_shared below c) t k [] (next_in bel
 abbrev pub load_step : Bool → SharedState → ℕ → Answer → ℕ → Option ℕ → Outcome
 load_step ready c t k q n = outcome_of c t k [] (after_load ready q n)
 
--- how a call finds the queue q
-abbrev pub queue_state : ℕ → SharedState → QueueState
-queue_state q c = queue_state_by (is_at_door q c.door) c.ready (is_taken c)
+-- what a call finds of the queue q
+abbrev pub seen_at : ℕ → SharedState → Option Sees
+seen_at q c = seen_by (is_at_door q c.door) (sees_of c)
 
 -- what a look leaves, by its answer
 abbrev pub look_shared : SectionAnswer ℕ → SharedState → Option ℕ → SharedState
 look_shared a c n = record c { head = head_after a c.head; listings = looked_list a n c.listings }
 
--- how a look finds its queue, whether its own listing has its waker, and whether memory is given
-abbrev pub look_step : QueueState → Bool → Bool → SharedState → ℕ → ℕ → Answer → ℕ → Option ℕ → Outcome
-look_step state listed granted c t w k q n =
-    let a = look_answer state listed in
+-- what a look finds of its queue, whether its own listing has its waker, and whether memory is given
+abbrev pub look_step : Option Sees → Bool → Bool → SharedState → ℕ → ℕ → Answer → ℕ → Option ℕ → Outcome
+look_step seen listed granted c t w k q n =
+    let a = look_answer seen listed in
     outcome_of (look_shared a c n) t k (claim_entries (is_claim a) t) (after_look a (if granted then Some w else None) q n)
 
 -- what a call to list oneself leaves, by its answer
 abbrev pub list_shared : SectionAnswer ℕ → SharedState → Option ℕ → ℕ → SharedState
 list_shared a c n w = record c { head = head_after a c.head; listings = listed_list a n w c.listings }
 
--- how a listing finds its queue, and whether there is room
-abbrev pub list_step : QueueState → Bool → SharedState → ℕ → ℕ → Answer → ℕ → Option ℕ → Outcome
-list_step state room c t w k q n =
-    let a = list_answer state room in
+-- what a listing finds of its queue, and whether there is room
+abbrev pub list_step : Option Sees → Bool → SharedState → ℕ → ℕ → Answer → ℕ → Option ℕ → Outcome
+list_step seen room c t w k q n =
+    let a = list_answer seen room in
     outcome_of (list_shared a c n w) t k (claim_entries (is_claim a) t) (after_list a q (listed_ticket a n c.listings))
 
 -- the answer of the init: of a lazy one the next, of another what the input says
@@ -256,7 +253,7 @@ release_step false c t k e = outcome_of c t k [] (next_at (AtCountOut e))
 
 -- who leaves with this ticket passes its turn on
 abbrev pub is_passing : SharedState → ℕ → Bool
-is_passing c n = passes_turn (is_free c) n c.listings
+is_passing c n = passes_turn (is_free (sees_of c)) n c.listings
 
 -- at the door
 abbrev pub leave_step : Bool → SharedState → ℕ → Answer → ℕ → Ending → Outcome
@@ -286,8 +283,10 @@ place_step lazy limit c t w k a granted AtDoorGet = door_step c.door c t k
 place_step lazy limit c t w k a granted AtDoorPut = put_step granted c.door c t k
 place_step lazy limit c t w k a granted (AtCountIn q) = in_step (nat_lt c.count limit) c.ready c t k q
 place_step lazy limit c t w k a granted (AtWaitLoad q n) = load_step c.ready c t k q n
-place_step lazy limit c t w k a granted (AtLook q n) = look_step (queue_state q c) (is_waker w (own_listing n c.listings)) granted c t w k q n
-place_step lazy limit c t w k a granted (AtList q n v) = list_step (queue_state q c) (is_some (kept_ticket n c.listings) || granted) c t v k q n
+place_step lazy limit c t w k a granted (AtLook q n) =
+    look_step (seen_at q c) (is_waker w (own_listing n c.listings)) granted c t w k q n
+place_step lazy limit c t w k a granted (AtList q n v) =
+    list_step (seen_at q c) (is_some (kept_ticket n c.listings) || granted) c t v k q n
 place_step lazy limit c t w k a granted (AtRun by) = run_step (init_answer lazy c.answers a) (run_shared c) t k by
 place_step lazy limit c t w k a granted (AtPut by) = outcome_of (record c { value = put_value k c.value }) t k [] (next_at (release_place by EndValue))
 place_step lazy limit c t w k a granted (AtFast e) = fast_step (is_quick_bit (word_of c)) (is_value e) c t k e

@@ -1,44 +1,32 @@
 -- What a look and a listing under the queue's lock answer, and what they then leave of the flag beside the list, of the listings and of the ticket.
-use Rattle.std.specs.Prelude.{ℕ, Bool, true, false, ◌||◌, List, Option, Some}
-use Rattle.once_queue.specs.Word.{Flags}
+use Rattle.std.specs.Prelude.{ℕ, Bool, true, false, List, Option, Some, None}
+use Rattle.once_queue.specs.declared.word.Sees.{Sees}
+use Rattle.once_queue.specs.declared.word.Sees.TheVariants.{Set, Free, Taken}
 use Rattle.once_queue.specs.declared.waiters.Listing.{Listing}
 use Rattle.once_queue.specs.declared.waiters.Answer.{Answer as SectionAnswer}
 use Rattle.once_queue.specs.declared.waiters.Answer.TheVariants.{Ready, Claimed, Listed, Held, Memory as NoMemory, Gone}
 use Rattle.once_queue.specs.Listings.{list_with, list_without, ticket_for}
 
--- how a call under the lock finds its queue: gone from the door, in a cell that is set, free to be claimed, or held
-pub data QueueState : Type 0 where
-  QueueGone : QueueState
-  QueueSet : QueueState
-  QueueFree : QueueState
-  QueueHeld : QueueState
-
--- by whether it stands at the door, the value is set, some task holds
-abbrev pub queue_state_by : Bool → Bool → Bool → QueueState
-queue_state_by false _ _ = QueueGone
-queue_state_by true true _ = QueueSet
-queue_state_by true false false = QueueFree
-queue_state_by true false true = QueueHeld
-
--- how a queue at the door is found, by the word and the flag beside the list
-abbrev pub state_seen : Flags → Bool → QueueState
-state_seen f head = queue_state_by true f.ready (f.quick || head)
+-- what a call under the lock finds of its queue, by whether that stands at the door: what is seen, or that it is gone
+abbrev pub seen_by : Bool → Sees → Option Sees
+seen_by true seen = Some seen
+seen_by false seen = None
 
 -- what a look answers, by whether its own listing has its waker
-abbrev pub look_answer : QueueState → Bool → SectionAnswer ℕ
-look_answer QueueGone _ = Gone
-look_answer QueueSet _ = Ready
-look_answer QueueFree _ = Claimed
-look_answer QueueHeld true = Listed
-look_answer QueueHeld false = Held
+abbrev pub look_answer : Option Sees → Bool → SectionAnswer ℕ
+look_answer None _ = Gone
+look_answer (Some Set) _ = Ready
+look_answer (Some Free) _ = Claimed
+look_answer (Some Taken) true = Listed
+look_answer (Some Taken) false = Held
 
 -- what a listing answers, by whether there is room: its listing is there, or memory is given
-abbrev pub list_answer : QueueState → Bool → SectionAnswer ℕ
-list_answer QueueGone _ = Gone
-list_answer QueueSet _ = Ready
-list_answer QueueFree _ = Claimed
-list_answer QueueHeld true = Listed
-list_answer QueueHeld false = NoMemory
+abbrev pub list_answer : Option Sees → Bool → SectionAnswer ℕ
+list_answer None _ = Gone
+list_answer (Some Set) _ = Ready
+list_answer (Some Free) _ = Claimed
+list_answer (Some Taken) true = Listed
+list_answer (Some Taken) false = NoMemory
 
 -- a section claimed the right
 abbrev pub is_claim : SectionAnswer ℕ → Bool

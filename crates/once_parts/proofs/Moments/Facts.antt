@@ -1,7 +1,7 @@
 -- What a task knows of the door, of the queue and of the word by where it stands.
 use Rattle.std.proofs.Common.{◌≡◌, ◌<◌, ℕ, suc, Bool, true, false, cond, ◌||◌, List, [], ◌∷◌, ◌++◌, Option, Some, None, slice_get, refl, sym, ap, ◌∙◌, arith}
 use Rattle.std.specs.Option.{is_some, option_flatten}
-use Rattle.once_queue.specs.Word.{Flags, flags_of}
+use Rattle.once_queue.specs.Word.{Flags, flags_of, sees}
 use Rattle.once_queue.specs.declared.waiters.Listing.{Listing}
 use Rattle.once_queue.specs.Listings.{is_waker, own_listing}
 use Rattle.once_world.specs.Record.{Entry, Once}
@@ -11,7 +11,7 @@ use Rattle.once_world.specs.Tasks.{LastCall, last_call}
 use Rattle.once_queue.proofs.Listing.Members.{eqb_self}
 use Rattle.once_parts.specs.Kept.{has_passed, hands_out}
 use Rattle.once_world.specs.Book.{At, Door, IsBook, Page, Queue, TaskState}
-use Rattle.once_world.specs.Machine.{AtCountOut, AtDoorTake, AtLeave, AtList, AtLook, AtRelease, EndDropped, EndMemory, Ending, Place, SharedState, UnderWay, look_answer, pass_entries, state_seen}
+use Rattle.once_world.specs.Machine.{AtCountOut, AtDoorTake, AtLeave, AtList, AtLook, AtRelease, EndDropped, EndMemory, Ending, Place, SharedState, UnderWay, look_answer, pass_entries}
 use Rattle.once_world.proofs.History.Cells.{holder_unset, none_some, set_free}
 use Rattle.once_world.proofs.Invariant.Facts.{AtPlace, Leaves}
 use Rattle.once_world.proofs.Invariant.Kept.{releasing_holds}
@@ -89,6 +89,6 @@ module _ (limit n put : ℕ) (slot : Bool) (pages : List Page) (log : List Entry
 
     -- a look need not compare wakers: its own listing has its waker where it was not called
     pub look_is : (q : ℕ) (k : Option ℕ) → x.step ≡ UnderWay (AtLook q k) → (r : Bool) → (flags_of n).ready ≡ r
-        → look_answer (state_seen (flags_of n) head) (is_waker x.waker (own_listing k xs)) ≡ look_answer (state_seen (flags_of n) head) (is_some (option_flatten (own_listing k xs)))
+        → look_answer (Some (sees (flags_of n) head)) (is_waker x.waker (own_listing k xs)) ≡ look_answer (Some (sees (flags_of n) head)) (is_some (option_flatten (own_listing k xs)))
     look_is q k at true e = rw e refl
-    look_is q k at false e = ap (look_answer (state_seen (flags_of n) head)) (look_own limit n put slot pages log t x some book pen head xs queue q k at e)
+    look_is q k at false e = ap (look_answer (Some (sees (flags_of n) head))) (look_own limit n put slot pages log t x some book pen head xs queue q k at e)

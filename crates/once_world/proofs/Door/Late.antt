@@ -6,14 +6,15 @@ use Rattle.std.proofs.lemmas.Bool.{false≢true, ltb-false}
 use Rattle.std.proofs.lemmas.Bool.Decides.{nat_tests}
 use Rattle.once_world.specs.Record.{Answer, Entry, Kind, RanError, RanPending, RanValue, is_lazy}
 use Rattle.once_world.specs.Cell.{cell}
-use Rattle.once_world.specs.Machine.{AtAddOne, AtCountIn, AtCountOut, AtDoorAgain, AtDoorGet, AtDoorPut, AtDoorTake, AtFast, AtLeave, AtList, AtLook, AtPut, AtRelease, AtRun, AtStart, AtTryQuick, AtWaitLoad, EndError, EndMemory, EndValue, Ending, Finished, SharedState, Place, RestRun, RestWait, Resting, Step, UnderWay, again_step, out_shared, door_step, take_shared, fast_step, release_place, init_answer, in_step, is_at_door, is_taken, is_value, is_waker, kept_ticket, leave_place, leave_step, list_step, load_step, look_step, out_step, own_listing, place_step, put_step, put_value, quick_step, run_shared, release_step, release_flags, run_step, start_step, step_at, word_of, queue_state_by, QueueHeld}
+use Rattle.once_world.specs.Machine.{AtAddOne, AtCountIn, AtCountOut, AtDoorAgain, AtDoorGet, AtDoorPut, AtDoorTake, AtFast, AtLeave, AtList, AtLook, AtPut, AtRelease, AtRun, AtStart, AtTryQuick, AtWaitLoad, EndError, EndMemory, EndValue, Ending, Finished, SharedState, Place, RestRun, RestWait, Resting, Step, UnderWay, again_step, out_shared, door_step, take_shared, fast_step, release_place, init_answer, in_step, is_at_door, is_value, is_waker, kept_ticket, leave_place, leave_step, list_step, load_step, look_step, out_step, own_listing, place_step, put_step, put_value, quick_step, run_shared, release_step, release_flags, run_step, start_step, step_at, word_of, seen_by}
 use Rattle.once_world.proofs.History.Others.{holds}
 use Rattle.once_world.proofs.History.Cells.{holder_unset, none_some, set_free}
 use Rattle.once_world.proofs.Invariant.Facts.{AtPlace, AtStep, IsSomeDoor, is_counted, is_counted_at, is_take, is_take_at}
 use Rattle.once_world.proofs.Invariant.Fits.{SharedFits}
 use Rattle.once_world.proofs.Invariant.Kept.{releasing_holds}
 use Rattle.once_world.proofs.Invariant.Around.{Around}
-use Rattle.once_queue.specs.Word.{is_zero, is_quick_bit, is_ready_bit}
+use Rattle.once_queue.specs.Word.{is_zero, is_quick_bit, is_ready_bit, sees_by}
+use Rattle.once_queue.specs.declared.word.Sees.TheVariants.{Taken}
 use Rattle.once_world.proofs.Place.Outcomes.{claim_shared}
 
 -- the places whose task will see to the queue at the door of a set cell
@@ -98,7 +99,7 @@ module _ (K : Kind) (limit t w : ℕ) (k : Answer) (c : SharedState) (h : List E
   clean_refused p q (Some m) l n = clean_same c (UnderWay p) (UnderWay (AtLeave q m EndMemory)) Other l n
 
   clean_look : (d r f b g : Bool) (q : ℕ) (m : Option ℕ) → c.ready ≡ r → Clean c (UnderWay (AtLook q m)) Other
-      → Clean (look_step (queue_state_by d r f) b g c t w k q m).shared (look_step (queue_state_by d r f) b g c t w k q m).step Other
+      → Clean (look_step (seen_by d (sees_by r f)) b g c t w k q m).shared (look_step (seen_by d (sees_by r f)) b g c t w k q m).step Other
   clean_look true true f b g q m x n = clean_same c (UnderWay (AtLook q m)) (UnderWay (AtCountOut EndValue)) Other refl n
   clean_look true false false b g q m x n = clean_held (claim_shared c m) (UnderWay (AtRun (Some q))) Other x
   clean_look true false true true g q m x n = clean_same c (UnderWay (AtLook q m)) (Resting (RestWait q m)) Other refl n
@@ -108,11 +109,11 @@ module _ (K : Kind) (limit t w : ℕ) (k : Answer) (c : SharedState) (h : List E
   clean_look false r f b false q m x n = clean_refused (AtLook q m) q m refl n
 
   clean_list : (d r f g : Bool) (q v : ℕ) (m : Option ℕ) → c.ready ≡ r → Clean c (UnderWay (AtList q m v)) Other
-      → Clean (list_step (queue_state_by d r f) g c t v k q m).shared (list_step (queue_state_by d r f) g c t v k q m).step Other
+      → Clean (list_step (seen_by d (sees_by r f)) g c t v k q m).shared (list_step (seen_by d (sees_by r f)) g c t v k q m).step Other
   clean_list false r f g q v m x n = clean_same c (UnderWay (AtList q m v)) (Resting (RestWait q m)) Other refl n
   clean_list true true f g q v m x n = clean_same c (UnderWay (AtList q m v)) (UnderWay (AtCountOut EndValue)) Other refl n
   clean_list true false false g q v m x n = clean_held (claim_shared c m) (UnderWay (AtRun (Some q))) Other x
-  clean_list true false true true q v m x n = clean_held (list_step QueueHeld true c t v k q m).shared (list_step QueueHeld true c t v k q m).step Other x
+  clean_list true false true true q v m x n = clean_held (list_step (Some Taken) true c t v k q m).shared (list_step (Some Taken) true c t v k q m).step Other x
   clean_list true false true false q v m x n = clean_refused (AtList q m v) q m refl n
 
   clean_run : (a : Answer) (by : Option ℕ) → c.ready ≡ false → Clean (run_step a (run_shared c) t k by).shared (run_step a (run_shared c) t k by).step Other
@@ -164,8 +165,8 @@ module _ (K : Kind) (limit t w : ℕ) (k : Answer) (c : SharedState) (h : List E
   clean_at a g AtDoorPut ar at n = clean_put g c.door n
   clean_at a g (AtCountIn q) ar at n = clean_in (nat_lt c.count limit) c.ready q refl refl
   clean_at a g (AtWaitLoad q m) ar at n = clean_load c.ready q m n
-  clean_at a g (AtLook q m) ar at n = clean_look (is_at_door q c.door) c.ready (is_taken c) (is_waker w (own_listing m c.listings)) g q m refl n
-  clean_at a g (AtList q m v) ar at n = clean_list (is_at_door q c.door) c.ready (is_taken c) (is_some (kept_ticket m c.listings) || g) q v m refl n
+  clean_at a g (AtLook q m) ar at n = clean_look (is_at_door q c.door) c.ready (c.quick || c.head) (is_waker w (own_listing m c.listings)) g q m refl n
+  clean_at a g (AtList q m v) ar at n = clean_list (is_at_door q c.door) c.ready (c.quick || c.head) (is_some (kept_ticket m c.listings) || g) q v m refl n
   clean_at a g (AtRun by) ar at n = clean_run (init_answer (is_lazy K) c.answers a) by (unset_by at.0.holds_is)
   clean_at a g (AtPut by) ar at n = clean_held (record c { value = put_value k c.value }) (UnderWay (release_place by EndValue)) Other (unset_by at.1.holds_is)
   clean_at a g (AtFast e) ar at n = clean_fast (is_quick_bit (word_of c)) (is_value e) e (unset_by (releasing_holds K t c h e at.0))

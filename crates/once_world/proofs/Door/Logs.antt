@@ -5,9 +5,11 @@ use Rattle.std.specs.Option.{is_some}
 use Rattle.std.proofs.lemmas.Bool.Decides.{nat_tests}
 use Rattle.once_world.specs.Record.{Answer, Entry, Kind, RanError, RanPending, RanValue, is_lazy}
 use Rattle.once_world.specs.Log.{IsSound, standing_queue, take_lines, was_put}
-use Rattle.once_world.specs.Machine.{AtAddOne, AtCountIn, AtCountOut, AtDoorAgain, AtDoorGet, AtDoorPut, AtDoorTake, AtFast, AtLeave, AtList, AtLook, AtPut, AtRelease, AtRun, AtStart, AtTryQuick, AtWaitLoad, Ending, EnteredLine, Finished, SharedState, Place, QueueLine, Resting, Step, UnderWay, out_shared, take_shared, fast_step, init_answer, in_step, is_at_door, is_value, is_waker, kept_ticket, leave_step, list_step, look_step, out_step, own_listing, place_lines, place_step, put_lines, put_step, quick_step, run_shared, release_step, release_flags, run_step, step_at, step_lines, word_of, QueueState, QueueGone, QueueSet, QueueFree, QueueHeld, queue_state}
+use Rattle.once_world.specs.Machine.{AtAddOne, AtCountIn, AtCountOut, AtDoorAgain, AtDoorGet, AtDoorPut, AtDoorTake, AtFast, AtLeave, AtList, AtLook, AtPut, AtRelease, AtRun, AtStart, AtTryQuick, AtWaitLoad, Ending, EnteredLine, Finished, SharedState, Place, QueueLine, Resting, Step, UnderWay, out_shared, take_shared, fast_step, init_answer, in_step, is_at_door, is_value, is_waker, kept_ticket, leave_step, list_step, look_step, out_step, own_listing, place_lines, place_step, put_lines, put_step, quick_step, run_shared, release_step, release_flags, run_step, step_at, step_lines, word_of, seen_at}
 use Rattle.once_world.proofs.Invariant.Facts.{AtPlace, AtStep}
 use Rattle.once_queue.specs.Word.{is_zero, is_quick_bit, is_ready_bit}
+use Rattle.once_queue.specs.declared.word.Sees.TheVariants.{Set, Free, Taken}
+use Rattle.once_queue.specs.declared.word.Sees.{Sees}
 
 -- the log against what is shared: a number that no queue was made with yet was never put
 pub record LogFits (c : SharedState) (log : List QueueLine) : Type 0 where
@@ -60,21 +62,21 @@ same_in true false c t k q = record { door_is = refl; queues_is = refl }
 same_in false true c t k q = same c
 same_in false false c t k q = same c
 
-same_look : (f : QueueState) (m g : Bool) (c : SharedState) (t w : ℕ) (k : Answer) (q : ℕ) (n : Option ℕ) → SameDoor c (look_step f m g c t w k q n).shared
-same_look QueueSet m g c t w k q n = same c
-same_look QueueFree m g c t w k q n = record { door_is = refl; queues_is = refl }
-same_look QueueHeld true g c t w k q n = same c
-same_look QueueHeld false true c t w k q n = same c
-same_look QueueHeld false false c t w k q n = same c
-same_look QueueGone m true c t w k q n = same c
-same_look QueueGone m false c t w k q n = same c
+same_look : (f : Option Sees) (m g : Bool) (c : SharedState) (t w : ℕ) (k : Answer) (q : ℕ) (n : Option ℕ) → SameDoor c (look_step f m g c t w k q n).shared
+same_look (Some Set) m g c t w k q n = same c
+same_look (Some Free) m g c t w k q n = record { door_is = refl; queues_is = refl }
+same_look (Some Taken) true g c t w k q n = same c
+same_look (Some Taken) false true c t w k q n = same c
+same_look (Some Taken) false false c t w k q n = same c
+same_look None m true c t w k q n = same c
+same_look None m false c t w k q n = same c
 
-same_list : (f : QueueState) (g : Bool) (c : SharedState) (t w : ℕ) (k : Answer) (q : ℕ) (n : Option ℕ) → SameDoor c (list_step f g c t w k q n).shared
-same_list QueueGone g c t w k q n = same c
-same_list QueueSet g c t w k q n = same c
-same_list QueueFree g c t w k q n = record { door_is = refl; queues_is = refl }
-same_list QueueHeld true c t w k q n = record { door_is = refl; queues_is = refl }
-same_list QueueHeld false c t w k q n = same c
+same_list : (f : Option Sees) (g : Bool) (c : SharedState) (t w : ℕ) (k : Answer) (q : ℕ) (n : Option ℕ) → SameDoor c (list_step f g c t w k q n).shared
+same_list None g c t w k q n = same c
+same_list (Some Set) g c t w k q n = same c
+same_list (Some Free) g c t w k q n = record { door_is = refl; queues_is = refl }
+same_list (Some Taken) true c t w k q n = record { door_is = refl; queues_is = refl }
+same_list (Some Taken) false c t w k q n = same c
 
 same_run : (a : Answer) (c : SharedState) (t : ℕ) (k : Answer) (by : Option ℕ) → SameDoor c (run_step a (run_shared c) t k by).shared
 same_run RanPending c t k by = record { door_is = refl; queues_is = refl }
@@ -112,10 +114,10 @@ module _ (K : Kind) (limit : ℕ) (c : SharedState) (t w : ℕ) (k a : Answer) (
   log_at AtDoorPut at = log_put c t k g c.door log refl f
   log_at (AtCountIn q) at = log_same c (place_step (is_lazy K) limit c t w k a g (AtCountIn q)).shared log (same_in (nat_lt c.count limit) c.ready c t k q) f
   log_at (AtWaitLoad q n) at = f
-  log_at (AtLook q n) at = log_entered c (place_step (is_lazy K) limit c t w k a g (AtLook q n)).shared q log at.1 (same_look (queue_state q c) (is_waker w (own_listing n c.listings)) g c t w k q n) f
+  log_at (AtLook q n) at = log_entered c (place_step (is_lazy K) limit c t w k a g (AtLook q n)).shared q log at.1 (same_look (seen_at q c) (is_waker w (own_listing n c.listings)) g c t w k q n) f
   log_at (AtList q n v) at =
       log_entered c (place_step (is_lazy K) limit c t w k a g (AtList q n v)).shared q log at.1
-      (same_list (queue_state q c) (is_some (kept_ticket n c.listings) || g) c t v k q n) f
+      (same_list (seen_at q c) (is_some (kept_ticket n c.listings) || g) c t v k q n) f
   log_at (AtRun by) at = log_same c (place_step (is_lazy K) limit c t w k a g (AtRun by)).shared log (same_run (init_answer (is_lazy K) c.answers a) c t k by) f
   log_at (AtPut by) at = record { door_is = f.door_is; sound = f.sound; fresh = f.fresh }
   log_at (AtFast e) at = log_same c (place_step (is_lazy K) limit c t w k a g (AtFast e)).shared log (same_fast (is_quick_bit (word_of c)) (is_value e) c t k e) f

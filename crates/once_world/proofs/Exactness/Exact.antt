@@ -12,7 +12,7 @@ use Rattle.once_queue.specs.Listings.{kept_ticket}
 use Rattle.once_core.specs.Core.{CoreState, DidAddOne, DidCountIn, DidCountOut, DidDoorGet, DidDoorPut, DidDoorTake, DidFast, DidLoad, DidQuick, put_answer, put_state}
 use Rattle.once_world.specs.Places.{AtAddOne, AtCountIn, AtCountOut, AtDoorAgain, AtDoorGet, AtDoorPut, AtDoorTake, AtFast, AtLeave, AtList, AtLook, AtPut, AtRelease, AtRun, AtStart, AtTryQuick, AtWaitLoad, Finished, Place, Progress, Resting, Step, UnderWay}
 use Rattle.once_core.specs.Steps.{Advances, AfterLook, Follows, Line, MayRefuse, PartsTell, SideTells, after_count_out, after_door_again, after_door_get, after_door_put, after_load, after_start, is_value}
-use Rattle.once_world.specs.Machine.{EnteredLine, out_shared, fast_step, init_answer, list_step, place_lines, place_step, quick_step, step_at, step_lines, word_of, queue_state}
+use Rattle.once_world.specs.Machine.{EnteredLine, out_shared, fast_step, init_answer, list_step, place_lines, place_step, quick_step, step_at, step_lines, word_of, seen_at}
 use Rattle.once_world.specs.Side.{DidClose, DidCopy, DidPut, DidRun, DidWake, answers_in}
 use Rattle.once_world.proofs.Exactness.Outcomes.{IsBare, IsFresh, IsOutcome, shared_by}
 use Rattle.once_world.proofs.Exactness.ExactWaits.{door_exact, door_put_exact, in_exact, load_exact, quick_exact, start_exact}
@@ -79,7 +79,7 @@ module _ {P : Type 0} (see : P → CoreState ℕ) where
       let alone = looked_alone a q (ticket_in o) n y c c' p t z in
       look_exact c f (see x) c' p t q k a o (see y) w (subst (λ v. NumberSection (see x) q (LookOp k) a o (see v)) (sym alone.0) d) alone.1
   line_exact limit (AtList q k v) x y c c' p t f bare w g (a, o, d, z) =
-      subst (λ b. IsOutcome (UnderWay (AtList q k v)) (λ n. list_step (queue_state q (shared_by (see x) c))
+      subst (λ b. IsOutcome (UnderWay (AtList q k v)) (λ n. list_step (seen_at q (shared_by (see x) c))
       (is_some (kept_ticket k (see x).listings) || b) (shared_by (see x) c) n v c.kept q k) (EnteredLine q ∷ [])
       (see x) c (see y) c' p t)
       g (list_exact c f (see x) c' p t q k a o (see y) v d z)

@@ -14,9 +14,11 @@ use Rattle.once_core.specs.Core.{CoreState, DidSection, FindsHolder}
 use Rattle.once_world.specs.Places.{AtList, AtLook, Progress, Step, UnderWay}
 use Rattle.once_queue.specs.Ops.{ticket_in}
 use Rattle.once_core.specs.Steps.{Follows, after_copy, after_list, after_look, is_running}
-use Rattle.once_world.specs.Machine.{EnteredLine, claim_entries, is_claim, is_at_door, list_answer, list_shared, list_step, listed_ticket, look_answer, look_shared, look_step, queue_state_by, queue_state, QueueHeld}
+use Rattle.once_world.specs.Machine.{EnteredLine, claim_entries, is_claim, is_at_door, list_answer, list_shared, list_step, listed_ticket, look_answer, look_shared, look_step, seen_by, seen_at}
 use Rattle.once_world.specs.Side.{DidClose, DidCopy}
 use Rattle.once_queue.proofs.Listing.Members.{eqb_self}
+use Rattle.once_queue.specs.Word.{sees_by}
+use Rattle.once_queue.specs.declared.word.Sees.TheVariants.{Taken}
 use Rattle.once_world.proofs.Exactness.Outcomes.{IsFresh, IsOutcome, follows_by, shared_by, reverse_push}
 use Rattle.once_world.proofs.Exactness.ExactWaits.{IsIdle}
 
@@ -123,9 +125,9 @@ module _ (c : ReplaySide) (f : IsFresh c) (s : CoreState ℕ) (c' : ReplaySide) 
   -- a look, by what it finds
   look_by : (at ready taken is : Bool) → is_at_door q s.door ≡ at → s.word.ready ≡ ready
       → (s.word.quick || s.head) ≡ taken → is_waker c.waker (own_listing k s.listings) ≡ is → s.current ≡ Some c.waker
-      → NumberSection s q (LookOp k) a o s' → Looks a o → LookFinds (look_answer (queue_state_by at ready taken) is)
+      → NumberSection s q (LookOp k) a o s' → Looks a o → LookFinds (look_answer (seen_by at (sees_by ready taken)) is)
   look_by true true taken is d r h m w x y =
-      let z = (x.here (at_door q s.door d)).set r in
+      let z = (x.here (at_door q s.door d)).set (rw r refl) in
       record { shared = ap (λ y. shared_by y c) z.1; log = ap (λ y. y.log) z.1; after = looks_as Ready (LookOp k) z.0 z.2 y }
   look_by true false false is d r h m w x y =
       let z = (x.here (at_door q s.door d)).free (rw (r, h) refl) in
@@ -144,11 +146,11 @@ module _ (c : ReplaySide) (f : IsFresh c) (s : CoreState ℕ) (c' : ReplaySide) 
 
   -- a look is the machine's
   pub look_exact : s.current ≡ Some c.waker → NumberSection s q (LookOp k) a o s' → Looks a o
-      → IsOutcome (UnderWay (AtLook q k)) (λ n. look_step (queue_state q (shared_by s c))
+      → IsOutcome (UnderWay (AtLook q k)) (λ n. look_step (seen_at q (shared_by s c))
       (is_waker c.waker (own_listing k s.listings)) c.granted (shared_by s c) n c.waker c.kept q k)
       (EnteredLine q ∷ []) s c s' c' p t
   look_exact w x y =
-      let b = look_answer (queue_state q (shared_by s c)) (is_waker c.waker (own_listing k s.listings)) in
+      let b = look_answer (seen_at q (shared_by s c)) (is_waker c.waker (own_listing k s.listings)) in
       let z : LookFinds b = look_by (is_at_door q s.door) s.word.ready (s.word.quick || s.head) (is_waker c.waker (own_listing k s.listings)) refl refl refl refl w x y in
       follows_by (UnderWay (AtLook q k)) s c f s' c' p t (EnteredLine q ∷ []) (look_shared b (shared_by s c) k)
       (λ n. claim_entries (is_claim b) n) (after_look b copy q k) (entered_log q s s' z.log) z.shared
@@ -171,7 +173,7 @@ module _ (c : ReplaySide) (f : IsFresh c) (s : CoreState ℕ) (c' : ReplaySide) 
   -- a listing that finds the holder
   list_holder : (w : ℕ) (room : Bool) → (is_some (kept_ticket k s.listings) || s.granted) ≡ room
       → FindsHolder (λ x y. x ≡ y) (λ x y. x ≢ y) (entered q s) (ListOp k (Some w)) a o s' → Lists a o
-      → ListFinds w (list_answer QueueHeld room)
+      → ListFinds w (list_answer (Some Taken) room)
   list_holder w true m (inl d) x = absurd (false≢true (sym (ap (λ b. is_some b || s.granted) d.1 ∙ d.2) ∙ m))
   list_holder w false m (inl d) x = record { shared = ap (λ y. shared_by y c) d.3; log = ap (λ y. y.log) d.3; after = lists_as NoMemory (ListOp k (Some w)) d.0 d.4 x }
   list_holder w true m (inr d) x = record { shared = ap (λ y. shared_by y c) d.2; log = ap (λ y. y.log) d.2; after = lists_as Listed (ListOp (Some (ticket_for k s.listings)) None) d.0 d.3 x }
@@ -180,9 +182,9 @@ module _ (c : ReplaySide) (f : IsFresh c) (s : CoreState ℕ) (c' : ReplaySide) 
   -- a listing of the waker w, by what it finds
   list_by : (w : ℕ) (at ready taken room : Bool) → is_at_door q s.door ≡ at → s.word.ready ≡ ready
       → (s.word.quick || s.head) ≡ taken → (is_some (kept_ticket k s.listings) || s.granted) ≡ room
-      → NumberSection s q (ListOp k (Some w)) a o s' → Lists a o → ListFinds w (list_answer (queue_state_by at ready taken) room)
+      → NumberSection s q (ListOp k (Some w)) a o s' → Lists a o → ListFinds w (list_answer (seen_by at (sees_by ready taken)) room)
   list_by w true true taken room d r h m x y =
-      let z = (x.here (at_door q s.door d)).set r in
+      let z = (x.here (at_door q s.door d)).set (rw r refl) in
       record { shared = ap (λ y. shared_by y c) z.1; log = ap (λ y. y.log) z.1; after = lists_as Ready (ListOp k (Some w)) z.0 z.2 y }
   list_by w true false false room d r h m x y =
       let z = (x.here (at_door q s.door d)).free (rw (r, h) refl) in
@@ -194,11 +196,11 @@ module _ (c : ReplaySide) (f : IsFresh c) (s : CoreState ℕ) (c' : ReplaySide) 
 
   -- a listing is the machine's
   pub list_exact : (w : ℕ) → NumberSection s q (ListOp k (Some w)) a o s' → Lists a o
-      → IsOutcome (UnderWay (AtList q k w)) (λ n. list_step (queue_state q (shared_by s c))
+      → IsOutcome (UnderWay (AtList q k w)) (λ n. list_step (seen_at q (shared_by s c))
       (is_some (kept_ticket k s.listings) || s.granted) (shared_by s c) n w c.kept q k)
       (EnteredLine q ∷ []) s c s' c' p t
   list_exact w x y =
-      let b = list_answer (queue_state q (shared_by s c)) (is_some (kept_ticket k s.listings) || s.granted) in
+      let b = list_answer (seen_at q (shared_by s c)) (is_some (kept_ticket k s.listings) || s.granted) in
       let m = listed_ticket b k (shared_by s c).listings in
       let z : ListFinds w b = list_by w (is_at_door q s.door) s.word.ready (s.word.quick || s.head) (is_some (kept_ticket k s.listings) || s.granted) refl refl refl refl x y in
       follows_by (UnderWay (AtList q k w)) s c f s' c' p t (EnteredLine q ∷ []) (list_shared b (shared_by s c) k w)

@@ -2,16 +2,15 @@
 use Rattle.std.proofs.Common.{◌≡◌, ◌<◌, ◌+◌, ◌%◌, ◌^◌, ℕ, suc, Bool, true, false, cond, List, [], ◌∷◌, Option, Some, None, slice_get, slice_set, refl, sym, ap, ◌∙◌}
 use Rattle.std.specs.Prelude.{◌||◌, not}
 use Rattle.std.specs.Option.{is_some}
-use Rattle.once_queue.specs.Word.{Flags, flags_of}
+use Rattle.once_queue.specs.Word.{Flags, flags_of, sees, sees_by, is_free}
 use Rattle.once_queue.specs.declared.waiters.Listing.{Listing}
 use Rattle.once_queue.specs.declared.waiters.Answer.{Answer as SectionAnswer}
 use Rattle.once_queue.specs.Listings.{is_waker, kept_ticket, left_list, next_waker, one_out, own_listing, passes_turn}
-use Rattle.once_queue.specs.Sections.{shows_free}
 use Rattle.once_core.specs.Steps.{Next, after_list, after_look, next_at}
 use Rattle.once_world.specs.Record.{Entry, Once, RanPending}
 use Rattle.once_world.specs.Cell.{cell}
 use Rattle.once_world.specs.Book.{At, Door, IsBook, Page, Queue}
-use Rattle.once_world.specs.Machine.{AtCountOut, AtLeave, AtList, AtLook, AtRelease, Ending, Place, SharedState, Task, UnderWay, claim_entries, head_after, is_claim, is_passing, is_value, leave_step, list_answer, list_shared, list_step, listed_list, listed_ticket, look_answer, look_shared, look_step, looked_list, outcome_of, pass_entries, place_step, queue_state, queue_state_by, release_entry, release_flags, release_list, release_step, release_wakers, state_seen, word_of}
+use Rattle.once_world.specs.Machine.{AtCountOut, AtLeave, AtList, AtLook, AtRelease, Ending, Place, SharedState, Task, UnderWay, claim_entries, head_after, is_claim, is_passing, is_value, leave_step, list_answer, list_shared, list_step, listed_list, listed_ticket, look_answer, look_shared, look_step, looked_list, outcome_of, pass_entries, place_step, seen_at, seen_by, release_entry, release_flags, release_list, release_step, release_wakers, word_of}
 use Rattle.once_world.proofs.History.Cells.{holder_unset}
 use Rattle.once_world.proofs.Invariant.Kept.{releasing_holds}
 use Rattle.once_world.proofs.Exactness.Asked.{one_flag}
@@ -55,36 +54,36 @@ module _ (limit n put : ℕ) (slot : Bool) (pages : List Page) (log : List Entry
       (λ u. set_other pages 1 (suc (suc u)) (Queue h ys) (one_task u))
 
   -- how the queue q is found that stands at the door
-  state_is : (q : ℕ) → c.door ≡ Some q → queue_state q c ≡ state_seen (flags_of n) head
+  state_is : (q : ℕ) → c.door ≡ Some q → seen_at q c ≡ Some (sees (flags_of n) head)
   state_is q d =
-      ap (λ b. queue_state_by b c.ready (c.quick || c.head)) (at_door q c.door d)
-      ∙ ap (λ (f : Flags). queue_state_by true f.ready (f.quick || c.head)) (sym book.1.word_is)
-      ∙ ap (λ b. state_seen (flags_of n) b) own_queue.0
+      ap (λ b. seen_by b (sees_by c.ready (c.quick || c.head))) (at_door q c.door d)
+      ∙ ap (λ (f : Flags). seen_by true (sees_by f.ready (f.quick || c.head))) (sym book.1.word_is)
+      ∙ ap (λ b. Some (sees (flags_of n) b)) own_queue.0
 
   -- AtLook: the load
   pub look_load : (q : ℕ) (k : Option ℕ) (granted : Bool) → x.step ≡ UnderWay (AtLook q k)
-      → let a = look_answer (state_seen (flags_of n) head) (is_waker x.waker (own_listing k xs)) in
+      → let a = look_answer (Some (sees (flags_of n) head)) (is_waker x.waker (own_listing k xs)) in
       Stepped limit n put slot (slice_set pages 1 (Queue (head_after a head) (looked_list a k xs))) log t x
       (claim_entries (is_claim a) t) (after_look a (cond granted (Some x.waker) None) q k)
   look_load q k granted at =
       let d = stands limit n put slot pages log t x some book pen (AtLook q k) at in
-      let a : SectionAnswer ℕ = look_answer (state_seen (flags_of n) head) (is_waker x.waker (own_listing k xs)) in
+      let a : SectionAnswer ℕ = look_answer (Some (sees (flags_of n) head)) (is_waker x.waker (own_listing k xs)) in
       queue_set n (AtLook q k) granted (look_shared a c k) (claim_entries (is_claim a) t) (after_look a (cond granted (Some x.waker) None) q k) (head_after a head) (looked_list a k xs) at
       (ap (λ s. look_step s (is_waker x.waker (own_listing k c.listings)) granted c t x.waker x.kept q k) (state_is q d.1)
-      ∙ ap (λ ys. look_step (state_seen (flags_of n) head) (is_waker x.waker (own_listing k ys)) granted c t x.waker x.kept q k) own_queue.1)
+      ∙ ap (λ ys. look_step (Some (sees (flags_of n) head)) (is_waker x.waker (own_listing k ys)) granted c t x.waker x.kept q k) own_queue.1)
       book.1.within book.1.word_is refl refl (ap (head_after a) own_queue.0) (ap (looked_list a k) own_queue.1)
 
   -- AtList: the load
   pub list_load : (q : ℕ) (k : Option ℕ) (v : ℕ) (granted : Bool) → x.step ≡ UnderWay (AtList q k v)
-      → let a = list_answer (state_seen (flags_of n) head) (is_some (kept_ticket k xs) || granted) in
+      → let a = list_answer (Some (sees (flags_of n) head)) (is_some (kept_ticket k xs) || granted) in
       Stepped limit n put slot (slice_set pages 1 (Queue (head_after a head) (listed_list a k v xs))) log t x
       (claim_entries (is_claim a) t) (after_list a q (listed_ticket a k xs))
   list_load q k v granted at =
       let d = stands limit n put slot pages log t x some book pen (AtList q k v) at in
-      let a : SectionAnswer ℕ = list_answer (state_seen (flags_of n) head) (is_some (kept_ticket k xs) || granted) in
+      let a : SectionAnswer ℕ = list_answer (Some (sees (flags_of n) head)) (is_some (kept_ticket k xs) || granted) in
       queue_set n (AtList q k v) granted (list_shared a c k v) (claim_entries (is_claim a) t) (after_list a q (listed_ticket a k xs)) (head_after a head) (listed_list a k v xs) at
       (ap (λ s. list_step s (is_some (kept_ticket k c.listings) || granted) c t v x.kept q k) (state_is q d.1)
-      ∙ ap (λ ys. list_step (state_seen (flags_of n) head) (is_some (kept_ticket k ys) || granted) c t v x.kept q k) own_queue.1
+      ∙ ap (λ ys. list_step (Some (sees (flags_of n) head)) (is_some (kept_ticket k ys) || granted) c t v x.kept q k) own_queue.1
       ∙ ap (λ ys. outcome_of (list_shared a c k v) t x.kept (claim_entries (is_claim a) t) (after_list a q (listed_ticket a k ys))) own_queue.1)
       book.1.within book.1.word_is refl refl (ap (head_after a) own_queue.0) (ap (listed_list a k v) own_queue.1)
 
@@ -109,14 +108,14 @@ module _ (limit n put : ℕ) (slot : Bool) (pages : List Page) (log : List Entry
 
   -- AtLeave: the load
   pub leave_load : (q k : ℕ) (e : Ending) → x.step ≡ UnderWay (AtLeave q k e)
-      → let passing = passes_turn (shows_free (flags_of n) head) k xs in
+      → let passing = passes_turn (is_free (sees (flags_of n) head)) k xs in
       Stepped limit n put slot (slice_set pages 1 (Queue head (left_list passing k xs))) log t x
       (pass_entries t (one_out (next_waker passing k xs))) (next_at (AtCountOut e))
   leave_load q k e at =
       let d = stands limit n put slot pages log t x some book pen (AtLeave q k e) at in
-      let passing : Bool = passes_turn (shows_free (flags_of n) head) k xs in
-      let same : is_passing c k ≡ passing = ap (λ f. passes_turn (shows_free f c.head) k c.listings) (sym book.1.word_is)
-      ∙ ap (λ b. passes_turn (shows_free (flags_of n) b) k c.listings) own_queue.0 ∙ ap (passes_turn (shows_free (flags_of n) head) k) own_queue.1 in
+      let passing : Bool = passes_turn (is_free (sees (flags_of n) head)) k xs in
+      let same : is_passing c k ≡ passing = ap (λ f. passes_turn (is_free (sees f c.head)) k c.listings) (sym book.1.word_is)
+      ∙ ap (λ b. passes_turn (is_free (sees (flags_of n) b)) k c.listings) own_queue.0 ∙ ap (passes_turn (is_free (sees (flags_of n) head)) k) own_queue.1 in
       queue_set n (AtLeave q k e) false (record c { listings = left_list passing k xs }) (pass_entries t (one_out (next_waker passing k xs))) (next_at (AtCountOut e)) head (left_list passing k xs) at
       (ap (λ b. leave_step b c t x.kept k e) (at_door q c.door d.1)
       ∙ ap (λ b. outcome_of (record c { listings = left_list b k c.listings }) t x.kept (pass_entries t (one_out (next_waker b k c.listings))) (next_at (AtCountOut e))) same

@@ -4,8 +4,10 @@ use Rattle.std.specs.Prelude.{◌||◌, nat_lt}
 use Rattle.std.specs.Option.{is_some}
 use Rattle.once_world.specs.Record.{Answer, Kind, Lazy, LazyWith, Once, OnceWith, RanError, RanPending, RanValue, is_lazy}
 use Rattle.once_world.specs.Inputs.{AreOfStep, IsAsked, IsOfStep}
-use Rattle.once_world.specs.Machine.{AtAddOne, AtCountIn, AtCountOut, AtDoorAgain, AtDoorGet, AtDoorPut, AtDoorTake, AtFast, AtLeave, AtList, AtLook, AtPut, AtRelease, AtRun, AtStart, AtTryQuick, AtWaitLoad, EndDropped, EndError, EndFull, EndMemory, EndPending, EndValue, Ending, Finished, SharedState, Place, Resting, Step, UnderWay, again_step, out_shared, door_step, take_shared, end_entry, fast_step, init_answer, release_wakers, in_step, is_at_door, is_value, is_waker, kept_ticket, leave_step, list_step, load_step, look_step, next_waker, one_out, out_step, own_listing, pass_entries, is_passing, place_step, put_step, quick_step, run_shared, release_entry, release_step, run_step, start_step, step_at, word_of, QueueState, QueueGone, QueueSet, QueueFree, QueueHeld, queue_state}
+use Rattle.once_world.specs.Machine.{AtAddOne, AtCountIn, AtCountOut, AtDoorAgain, AtDoorGet, AtDoorPut, AtDoorTake, AtFast, AtLeave, AtList, AtLook, AtPut, AtRelease, AtRun, AtStart, AtTryQuick, AtWaitLoad, EndDropped, EndError, EndFull, EndMemory, EndPending, EndValue, Ending, Finished, SharedState, Place, Resting, Step, UnderWay, again_step, out_shared, door_step, take_shared, end_entry, fast_step, init_answer, release_wakers, in_step, is_at_door, is_value, is_waker, kept_ticket, leave_step, list_step, load_step, look_step, next_waker, one_out, out_step, own_listing, pass_entries, is_passing, place_step, put_step, quick_step, run_shared, release_entry, release_step, run_step, start_step, step_at, word_of, seen_at}
 use Rattle.once_queue.specs.Word.{is_zero, is_quick_bit, is_ready_bit}
+use Rattle.once_queue.specs.declared.word.Sees.TheVariants.{Set, Free, Taken}
+use Rattle.once_queue.specs.declared.word.Sees.{Sees}
 
 -- the last entry of a call is of its task
 last_part : (K : Kind) (t : ℕ) (a : Answer) (v : ℕ) (k : Answer) (e : Ending) → IsOfStep K t a (end_entry e t v k)
@@ -64,21 +66,21 @@ module _ (K : Kind) (c : SharedState) (t : ℕ) (k a : Answer) where
   part_load true q n = tt
   part_load false q n = tt
 
-  part_look : (f : QueueState) (m g : Bool) (w q : ℕ) (n : Option ℕ) → AreOfStep K t a (look_step f m g c t w k q n).entries
-  part_look QueueSet m g w q n = tt
-  part_look QueueFree m g w q n = refl
-  part_look QueueHeld true g w q n = refl
-  part_look QueueHeld false true w q n = tt
-  part_look QueueHeld false false w q n = tt
-  part_look QueueGone m true w q n = tt
-  part_look QueueGone m false w q n = tt
+  part_look : (f : Option Sees) (m g : Bool) (w q : ℕ) (n : Option ℕ) → AreOfStep K t a (look_step f m g c t w k q n).entries
+  part_look (Some Set) m g w q n = tt
+  part_look (Some Free) m g w q n = refl
+  part_look (Some Taken) true g w q n = refl
+  part_look (Some Taken) false true w q n = tt
+  part_look (Some Taken) false false w q n = tt
+  part_look None m true w q n = tt
+  part_look None m false w q n = tt
 
-  part_list : (f : QueueState) (g : Bool) (w q : ℕ) (n : Option ℕ) → AreOfStep K t a (list_step f g c t w k q n).entries
-  part_list QueueGone g w q n = refl
-  part_list QueueSet g w q n = tt
-  part_list QueueFree g w q n = refl
-  part_list QueueHeld true w q n = refl
-  part_list QueueHeld false w q n = tt
+  part_list : (f : Option Sees) (g : Bool) (w q : ℕ) (n : Option ℕ) → AreOfStep K t a (list_step f g c t w k q n).entries
+  part_list None g w q n = refl
+  part_list (Some Set) g w q n = tt
+  part_list (Some Free) g w q n = refl
+  part_list (Some Taken) true w q n = refl
+  part_list (Some Taken) false w q n = tt
 
   part_run : (b : Answer) (by : Option ℕ) → IsAsked K a b → AreOfStep K t a (run_step b (run_shared c) t k by).entries
   part_run RanPending by x = (refl, (refl, x))
@@ -114,8 +116,8 @@ module _ (K : Kind) (c : SharedState) (t : ℕ) (k a : Answer) where
   part_at limit w g AtDoorPut = part_put g c.door
   part_at limit w g (AtCountIn q) = part_in (nat_lt c.count limit) c.ready q
   part_at limit w g (AtWaitLoad q n) = part_load c.ready q n
-  part_at limit w g (AtLook q n) = part_look (queue_state q c) (is_waker w (own_listing n c.listings)) g w q n
-  part_at limit w g (AtList q n v) = part_list (queue_state q c) (is_some (kept_ticket n c.listings) || g) v q n
+  part_at limit w g (AtLook q n) = part_look (seen_at q c) (is_waker w (own_listing n c.listings)) g w q n
+  part_at limit w g (AtList q n v) = part_list (seen_at q c) (is_some (kept_ticket n c.listings) || g) v q n
   part_at limit w g (AtRun by) = part_run (init_answer (is_lazy K) c.answers a) by (asked_so K c.answers a)
   part_at limit w g (AtPut by) = tt
   part_at limit w g (AtFast e) = part_fast (is_quick_bit (word_of c)) (is_value e) e

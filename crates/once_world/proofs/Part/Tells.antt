@@ -5,8 +5,10 @@ use Rattle.std.specs.Option.{is_some}
 use Rattle.std.proofs.lemmas.Bool.{false≢true}
 use Rattle.once_world.specs.Record.{Answer, Entry, RanError, RanPending, RanValue}
 use Rattle.once_world.specs.Inputs.{ends_for_memory}
-use Rattle.once_world.specs.Machine.{AtAddOne, AtCountIn, AtCountOut, AtDoorAgain, AtDoorGet, AtDoorPut, AtDoorTake, AtFast, AtLeave, AtList, AtLook, AtPut, AtRelease, AtRun, AtStart, AtTryQuick, AtWaitLoad, EndDropped, EndError, EndFull, EndMemory, EndPending, EndValue, Ending, Finished, SharedState, Outcome, Place, Resting, Step, UnderWay, again_step, out_shared, door_step, take_shared, end_entry, fast_step, release_place, init_answer, release_wakers, in_call, in_step, is_at_door, is_value, is_waker, kept_ticket, leave_place, leave_step, left_at, left_of, list_step, load_step, look_step, next_waker, one_out, out_step, own_listing, pass_entries, is_passing, place_step, put_step, put_value, quick_step, run_shared, release_entry, release_step, run_step, start_step, step_at, word_of, QueueState, QueueGone, QueueSet, QueueFree, QueueHeld, queue_state}
+use Rattle.once_world.specs.Machine.{AtAddOne, AtCountIn, AtCountOut, AtDoorAgain, AtDoorGet, AtDoorPut, AtDoorTake, AtFast, AtLeave, AtList, AtLook, AtPut, AtRelease, AtRun, AtStart, AtTryQuick, AtWaitLoad, EndDropped, EndError, EndFull, EndMemory, EndPending, EndValue, Ending, Finished, SharedState, Outcome, Place, Resting, Step, UnderWay, again_step, out_shared, door_step, take_shared, end_entry, fast_step, release_place, init_answer, release_wakers, in_call, in_step, is_at_door, is_value, is_waker, kept_ticket, leave_place, leave_step, left_at, left_of, list_step, load_step, look_step, next_waker, one_out, out_step, own_listing, pass_entries, is_passing, place_step, put_step, put_value, quick_step, run_shared, release_entry, release_step, run_step, start_step, step_at, word_of, seen_at}
 use Rattle.once_queue.specs.Word.{is_zero, is_quick_bit, is_ready_bit}
+use Rattle.once_queue.specs.declared.word.Sees.TheVariants.{Set, Free, Taken}
+use Rattle.once_queue.specs.declared.word.Sees.{Sees}
 use Rattle.once_world.proofs.Place.Outcomes.{ends, goes_to}
 
 -- the call ends for want of memory
@@ -116,21 +118,21 @@ module _ (c : SharedState) (t : ℕ) (k : Answer) (g : Bool) where
   tell_refused p q None l z = on_to g p (AtCountOut EndMemory) c k (omega arith) (λ e. inr z)
   tell_refused p q (Some m) l z = on_to g p (AtLeave q m EndMemory) c k l (λ e. inr z)
 
-  tell_look : (f : QueueState) (m b : Bool) (w q : ℕ) (n : Option ℕ) → g ≡ b → Tells g (UnderWay (AtLook q n)) (look_step f m b c t w k q n)
-  tell_look QueueSet m b w q n z = on_to g (AtLook q n) (AtCountOut EndValue) c k (omega arith) (λ e. none_refuses e)
-  tell_look QueueFree m b w q n z = goes_by g (AtLook q n) (look_step QueueFree m b c t w k q n) (omega arith) refl (λ u. refl)
-  tell_look QueueHeld true b w q n z = stops g (AtLook q n) (look_step QueueHeld true b c t w k q n) refl refl (λ u e. none_refuses e)
-  tell_look QueueHeld false true w q n z = on_to g (AtLook q n) (AtList q n w) c k (omega arith) (λ e. none_refuses e)
-  tell_look QueueHeld false false w q n z = tell_refused (AtLook q n) q n (omega arith) z
-  tell_look QueueGone m true w q n z = on_to g (AtLook q n) (AtList q n w) c k (omega arith) (λ e. none_refuses e)
-  tell_look QueueGone m false w q n z = tell_refused (AtLook q n) q n (omega arith) z
+  tell_look : (f : Option Sees) (m b : Bool) (w q : ℕ) (n : Option ℕ) → g ≡ b → Tells g (UnderWay (AtLook q n)) (look_step f m b c t w k q n)
+  tell_look (Some Set) m b w q n z = on_to g (AtLook q n) (AtCountOut EndValue) c k (omega arith) (λ e. none_refuses e)
+  tell_look (Some Free) m b w q n z = goes_by g (AtLook q n) (look_step (Some Free) m b c t w k q n) (omega arith) refl (λ u. refl)
+  tell_look (Some Taken) true b w q n z = stops g (AtLook q n) (look_step (Some Taken) true b c t w k q n) refl refl (λ u e. none_refuses e)
+  tell_look (Some Taken) false true w q n z = on_to g (AtLook q n) (AtList q n w) c k (omega arith) (λ e. none_refuses e)
+  tell_look (Some Taken) false false w q n z = tell_refused (AtLook q n) q n (omega arith) z
+  tell_look None m true w q n z = on_to g (AtLook q n) (AtList q n w) c k (omega arith) (λ e. none_refuses e)
+  tell_look None m false w q n z = tell_refused (AtLook q n) q n (omega arith) z
 
-  tell_list : (f : QueueState) (b : Bool) (w q : ℕ) (n : Option ℕ) → (b ≡ false → g ≡ false) → Tells g (UnderWay (AtList q n w)) (list_step f b c t w k q n)
-  tell_list QueueGone b w q n z = stops g (AtList q n w) (list_step QueueGone b c t w k q n) refl refl (λ u e. none_refuses e)
-  tell_list QueueSet b w q n z = on_to g (AtList q n w) (AtCountOut EndValue) c k (omega arith) (λ e. none_refuses e)
-  tell_list QueueFree b w q n z = goes_by g (AtList q n w) (list_step QueueFree b c t w k q n) (omega arith) refl (λ u. refl)
-  tell_list QueueHeld true w q n z = stops g (AtList q n w) (list_step QueueHeld true c t w k q n) refl refl (λ u e. none_refuses e)
-  tell_list QueueHeld false w q n z = tell_refused (AtList q n w) q n (omega arith) (z refl)
+  tell_list : (f : Option Sees) (b : Bool) (w q : ℕ) (n : Option ℕ) → (b ≡ false → g ≡ false) → Tells g (UnderWay (AtList q n w)) (list_step f b c t w k q n)
+  tell_list None b w q n z = stops g (AtList q n w) (list_step None b c t w k q n) refl refl (λ u e. none_refuses e)
+  tell_list (Some Set) b w q n z = on_to g (AtList q n w) (AtCountOut EndValue) c k (omega arith) (λ e. none_refuses e)
+  tell_list (Some Free) b w q n z = goes_by g (AtList q n w) (list_step (Some Free) b c t w k q n) (omega arith) refl (λ u. refl)
+  tell_list (Some Taken) true w q n z = stops g (AtList q n w) (list_step (Some Taken) true c t w k q n) refl refl (λ u e. none_refuses e)
+  tell_list (Some Taken) false w q n z = tell_refused (AtList q n w) q n (omega arith) (z refl)
 
   tell_run : (a : Answer) (by : Option ℕ) → Tells g (UnderWay (AtRun by)) (run_step a (run_shared c) t k by)
   tell_run RanPending by = stops g (AtRun by) (run_step RanPending (run_shared c) t k by) refl refl (λ u e. none_refuses e)
@@ -179,8 +181,8 @@ module _ (c : SharedState) (t : ℕ) (k : Answer) (g : Bool) where
   tells_at lazy limit w a AtDoorPut = tell_put c.door g refl
   tells_at lazy limit w a (AtCountIn q) = tell_in (nat_lt c.count limit) c.ready q
   tells_at lazy limit w a (AtWaitLoad q n) = tell_load c.ready q n
-  tells_at lazy limit w a (AtLook q n) = tell_look (queue_state q c) (is_waker w (own_listing n c.listings)) g w q n refl
-  tells_at lazy limit w a (AtList q n v) = tell_list (queue_state q c) (is_some (kept_ticket n c.listings) || g) v q n (right_false (is_some (kept_ticket n c.listings)) g)
+  tells_at lazy limit w a (AtLook q n) = tell_look (seen_at q c) (is_waker w (own_listing n c.listings)) g w q n refl
+  tells_at lazy limit w a (AtList q n v) = tell_list (seen_at q c) (is_some (kept_ticket n c.listings) || g) v q n (right_false (is_some (kept_ticket n c.listings)) g)
   tells_at lazy limit w a (AtRun by) = tell_run (init_answer lazy c.answers a) by
   tells_at lazy limit w a (AtPut by) = tell_value by (record c { value = put_value k c.value })
   tells_at lazy limit w a (AtFast e) = tell_fast (is_quick_bit (word_of c)) (is_value e) e

@@ -1,14 +1,15 @@
 -- The place at which a waiter leaves: its listing is taken out, and it passes its turn on where it had it.
-use Rattle.std.proofs.Common.{◌≡◌, ◌≢◌, ◌≤◌, ◌+◌, ℕ, Bool, true, false, ⊎_elim, inr, List, [], ◌∷◌, Option, Some, None, refl, sym, ap, ◌∙◌, subst, arith}
+use Rattle.std.proofs.Common.{◌≡◌, ◌≢◌, ◌≤◌, ◌+◌, ℕ, Bool, true, false, ⊎_elim, inr, List, [], ◌∷◌, Option, Some, None, cond, refl, sym, ap, ◌∙◌, subst, arith, ◌||◌}
 use Rattle.std.proofs.lemmas.Bool.{false≢true, cases_eq}
 use Rattle.once_queue.specs.Numbers.{times_in}
 use Rattle.once_world.specs.Record.{Answer, Entry, Kind, Pass}
 use Rattle.once_world.specs.Cell.{Empty, cell, is_set}
 use Rattle.once_world.specs.Tasks.{Waiting, last_call, status}
 use Rattle.once_queue.specs.declared.waiters.Listing.{Listing}
-use Rattle.once_queue.specs.Listings.{call_first, find_listing, first_waker, left_list, next_waker, one_out, take_out}
+use Rattle.once_queue.specs.Word.{is_free, sees_by}
+use Rattle.once_queue.specs.Listings.{call_first, find_listing, first_waker, left_list, next_waker, one_out, take_out, was_called}
 use Rattle.once_world.specs.Run.{IsLegal, IsRun, MayPass}
-use Rattle.once_world.specs.Machine.{AtCountOut, AtLeave, EndDropped, EndError, EndFull, EndMemory, EndPending, EndValue, Ending, SharedState, UnderWay, is_at_door, is_taken, leave_step, pass_entries, is_passing}
+use Rattle.once_world.specs.Machine.{AtCountOut, AtLeave, EndDropped, EndError, EndFull, EndMemory, EndPending, EndValue, Ending, SharedState, UnderWay, is_at_door, leave_step, pass_entries, is_passing}
 use Rattle.once_queue.proofs.Listing.Members.{eqb_self}
 use Rattle.once_world.proofs.History.Others.{legal_keeps}
 use Rattle.once_world.proofs.History.Cells.{empty_cell, is_held}
@@ -65,12 +66,18 @@ passed_owes K t h X EndPending b a = absurd a
 passed_owes K t h X EndFull b a = absurd a
 
 -- in an empty cell a called listing passes its turn on
-passes_in : (c : SharedState) (n : ℕ) → c.ready ≡ false → is_taken c ≡ false → find_listing n c.listings ≡ Some None → is_passing c n ≡ true
+passes_in : (c : SharedState) (n : ℕ) → c.ready ≡ false → (c.quick || c.head) ≡ false → find_listing n c.listings ≡ Some None → is_passing c n ≡ true
 passes_in c n r q f = rw (f, r, q) refl
 
+-- a truth that holds where the right is free
+free_where : (ready taken called : Bool) → cond (is_free (sees_by ready taken)) called false ≡ true → (ready ≡ false) × (taken ≡ false)
+free_where false false called e = (refl, refl)
+free_where false true called e = absurd (false≢true e)
+free_where true taken called e = absurd (false≢true e)
+
 -- and only in an empty cell
-passes_when : (c : SharedState) (n : ℕ) → is_passing c n ≡ true → (c.ready ≡ false) × (is_taken c ≡ false)
-passes_when c n e = grind arith
+passes_when : (c : SharedState) (n : ℕ) → is_passing c n ≡ true → (c.ready ≡ false) × ((c.quick || c.head) ≡ false)
+passes_when c n e = free_where c.ready (c.quick || c.head) (was_called (find_listing n c.listings)) e
 
 module _ (K : Kind) (limit t w : ℕ) (k : Answer) (c : SharedState) (h : List Entry) (run : IsRun K limit h)
     (shared : SharedFits K limit c h) (queue : QueueFits K c.listings h) (wk : (last_call K t h).waker ≡ w)

@@ -1,13 +1,14 @@
 -- The sections of a waiter: the load, the look and the listing.
-use Rattle.std.proofs.Common.{◌≡◌, ℕ, Bool, true, false, cond, ◌⊎◌, inl, inr, List, [], ◌∷◌, Option, Some, None, refl, sym, ◌∙◌, arith}
+use Rattle.std.proofs.Common.{◌≡◌, ℕ, Bool, true, false, cond, ◌⊎◌, inl, inr, List, [], ◌∷◌, Option, Some, None, refl, sym, ◌∙◌, arith, ◌||◌}
 use Rattle.std.proofs.lemmas.Bool.{false≢true, or_parts}
 use Rattle.once_world.specs.Record.{Answer, Claim, End, Entry, Kind, Pending}
 use Rattle.once_world.specs.Cell.{cell}
 use Rattle.once_world.specs.Tasks.{Dropping, Fresh, Gone, Holding, Polling, Status, Unmade, Waiting, last_call}
 use Rattle.once_queue.specs.Listings.{find_listing, is_waker, list_with, own_listing, ticket_for}
+use Rattle.once_queue.specs.Word.{sees_by}
 use Rattle.once_world.specs.Refusals.{AtSome, MemoryFrom, OtherActs, OtherHolds, is_begin_of, moments_since}
 use Rattle.once_world.specs.Run.{IsRun}
-use Rattle.once_world.specs.Machine.{AtCountOut, AtLeave, AtList, AtLook, AtWaitLoad, EndMemory, EndValue, SharedState, Place, is_at_door, is_taken, leave_place, list_step, load_step, look_step, queue_state_by}
+use Rattle.once_world.specs.Machine.{AtCountOut, AtLeave, AtList, AtLook, AtWaitLoad, EndMemory, EndValue, SharedState, Place, is_at_door, leave_place, list_step, load_step, look_step, seen_by}
 use Rattle.once_world.proofs.History.Others.{Met, MetHolder, since_now_holder}
 use Rattle.once_world.proofs.History.Cells.{empty_cell}
 use Rattle.once_world.proofs.History.Waiters.{QueueFits}
@@ -60,7 +61,7 @@ module _ (K : Kind) (limit t w : ℕ) (k : Answer) (c : SharedState) (h : List E
   load_goes false q n r a = stays K limit t w k (AtWaitLoad q n) c h run shared queue wk kk (AtLook q n) a refl refl (λ e. inl refl) (inl refl)
 
   -- a waiter claims under the lock, and its listing is taken out
-  claims_head : (p : Place ℕ ℕ) (q : ℕ) → is_counted_at p ≡ true → c.ready ≡ false → is_taken c ≡ false
+  claims_head : (p : Place ℕ ℕ) (q : ℕ) → is_counted_at p ≡ true → c.ready ≡ false → (c.quick || c.head) ≡ false
       → Entered K t h → c.door ≡ Some q → Goes K limit t w p c h (claims (claim_shared c (ticket_at p)) t k (Some q))
   claims_head p q n r f e d =
       let c' : SharedState = claim_shared c (ticket_at p) in
@@ -92,9 +93,9 @@ module _ (K : Kind) (limit t w : ℕ) (k : Answer) (c : SharedState) (h : List E
 
   -- the look
   pub look_goes : (door ready taken there granted : Bool) (q : ℕ) (n : Option ℕ) → is_at_door q c.door ≡ door
-      → c.ready ≡ ready → is_taken c ≡ taken → is_waker w (own_listing n c.listings) ≡ there
+      → c.ready ≡ ready → (c.quick || c.head) ≡ taken → is_waker w (own_listing n c.listings) ≡ there
       → AtPlace K limit t c h (AtLook q n)
-      → Goes K limit t w (AtLook q n) c h (look_step (queue_state_by door ready taken) there granted c t w k q n)
+      → Goes K limit t w (AtLook q n) c h (look_step (seen_by door (sees_by ready taken)) there granted c t w k q n)
   look_goes false ready taken there granted q n d r f m a = absurd (false≢true (sym d ∙ at_door q c.door a.1))
   look_goes true true taken there granted q n d r f m a =
       stays K limit t w k (AtLook q n) c h run shared queue wk kk (AtCountOut EndValue)
@@ -108,8 +109,8 @@ module _ (K : Kind) (limit t w : ℕ) (k : Answer) (c : SharedState) (h : List E
 
   -- the listing
   pub list_goes : (door ready taken may : Bool) (q : ℕ) (n : Option ℕ) (v : ℕ) → is_at_door q c.door ≡ door
-      → c.ready ≡ ready → is_taken c ≡ taken → AtPlace K limit t c h (AtList q n v)
-      → Goes K limit t w (AtList q n v) c h (list_step (queue_state_by door ready taken) may c t v k q n)
+      → c.ready ≡ ready → (c.quick || c.head) ≡ taken → AtPlace K limit t c h (AtList q n v)
+      → Goes K limit t w (AtList q n v) c h (list_step (seen_by door (sees_by ready taken)) may c t v k q n)
   list_goes false ready taken may q n v d r f a = absurd (false≢true (sym d ∙ at_door q c.door a.1))
   list_goes true true taken may q n v d r f a =
       stays K limit t w k (AtList q n v) c h run shared queue wk kk (AtCountOut EndValue)

@@ -3,12 +3,12 @@ use Rattle.std.proofs.Common.{◌≡◌, ℕ, suc, Bool, true, false, ◌⊎◌,
 use Rattle.std.specs.Prelude.{◌||◌, nat_lt}
 use Rattle.std.specs.Option.{is_some}
 use Rattle.std.proofs.lemmas.Bool.{false≢true}
-use Rattle.once_queue.specs.Word.{is_zero, is_quick_bit, is_ready_bit}
+use Rattle.once_queue.specs.Word.{is_zero, is_quick_bit, is_ready_bit, sees_by}
 use Rattle.once_queue.specs.Listings.{call_first, is_waker, kept_ticket, left_list, own_listing}
 use Rattle.once_world.specs.Record.{Answer, Entry, Once, RanError, RanPending, RanValue}
 use Rattle.once_world.specs.Cell.{cell}
 use Rattle.once_world.specs.Book.{IsUnnamed, has_written, has_written_at}
-use Rattle.once_world.specs.Machine.{AtAddOne, AtCountIn, AtCountOut, AtDoorAgain, AtDoorGet, AtDoorPut, AtDoorTake, AtFast, AtLeave, AtList, AtLook, AtPut, AtRelease, AtRun, AtStart, AtTryQuick, AtWaitLoad, EndError, EndMemory, EndValue, Ending, Outcome, Place, SharedState, again_step, door_step, fast_step, in_step, is_at_door, is_passing, is_taken, is_value, kept_after, leave_place, leave_step, list_step, load_step, look_step, out_shared, out_step, place_step, put_step, put_value, queue_state_by, quick_step, release_flags, release_list, release_place, release_step, run_shared, run_step, start_step, take_shared, word_of}
+use Rattle.once_world.specs.Machine.{AtAddOne, AtCountIn, AtCountOut, AtDoorAgain, AtDoorGet, AtDoorPut, AtDoorTake, AtFast, AtLeave, AtList, AtLook, AtPut, AtRelease, AtRun, AtStart, AtTryQuick, AtWaitLoad, EndError, EndMemory, EndValue, Ending, Outcome, Place, SharedState, again_step, door_step, fast_step, in_step, is_at_door, is_passing, is_value, kept_after, leave_place, leave_step, list_step, load_step, look_step, out_shared, out_step, place_step, put_step, put_value, seen_by, quick_step, release_flags, release_list, release_place, release_step, run_shared, run_step, start_step, take_shared, word_of}
 use Rattle.once_world.proofs.History.Cells.{holder_unset, none_some}
 use Rattle.once_world.proofs.Invariant.Facts.{AtPlace, Releasing}
 use Rattle.once_world.proofs.Invariant.Fits.{SharedFits}
@@ -107,7 +107,7 @@ module _ (limit t w : ℕ) (k : Answer) (c : SharedState) (h : List Entry) (shar
   claimed n = like (claim_shared c n) refl refl refl (without_none n c.listings)
 
   -- AtLook
-  at_look : (d r f b g : Bool) (q : ℕ) (n : Option ℕ) → q ≡ 1 → StepKeeps false false c (look_step (queue_state_by d r f) b g c t w k q n)
+  at_look : (d r f b g : Bool) (q : ℕ) (n : Option ℕ) → q ≡ 1 → StepKeeps false false c (look_step (seen_by d (sees_by r f)) b g c t w k q n)
   at_look true true f b g q n i = keeps queue tt z m refl refl
   at_look true false false b g q n i = keeps (claimed n) i z m refl refl
   at_look true false true true g q n i = keeps queue i z m refl refl
@@ -117,7 +117,7 @@ module _ (limit t w : ℕ) (k : Answer) (c : SharedState) (h : List Entry) (shar
   at_look false r f b false q n i = keeps queue (leave_first q n EndMemory i) z m (leave_unwritten q n EndMemory) refl
 
   -- AtList
-  at_list : (d r f g : Bool) (q v : ℕ) (n : Option ℕ) → c.ready ≡ r → c.door ≡ Some q → q ≡ 1 → StepKeeps false false c (list_step (queue_state_by d r f) g c t v k q n)
+  at_list : (d r f g : Bool) (q v : ℕ) (n : Option ℕ) → c.ready ≡ r → c.door ≡ Some q → q ≡ 1 → StepKeeps false false c (list_step (seen_by d (sees_by r f)) g c t v k q n)
   at_list true true f g q v n e d i = keeps queue tt z m refl refl
   at_list true false false g q v n e d i = keeps (claimed n) i z m refl refl
   at_list true false true true q v n e d i = keeps
@@ -229,8 +229,8 @@ module _ (limit t w : ℕ) (k : Answer) (c : SharedState) (h : List Entry) (shar
   place_keeps a g AtDoorPut j at i = at_door_put g c.door refl
   place_keeps a g (AtCountIn q) j at i = at_in (nat_lt c.count limit) c.ready q refl at.1
   place_keeps a g (AtWaitLoad q n) j at i = at_load c.ready q n i
-  place_keeps a g (AtLook q n) j at i = at_look (is_at_door q c.door) c.ready (is_taken c) (is_waker w (own_listing n c.listings)) g q n i
-  place_keeps a g (AtList q n v) j at i = at_list (is_at_door q c.door) c.ready (is_taken c) (is_some (kept_ticket n c.listings) || g) q v n refl at.1 i
+  place_keeps a g (AtLook q n) j at i = at_look (is_at_door q c.door) c.ready (c.quick || c.head) (is_waker w (own_listing n c.listings)) g q n i
+  place_keeps a g (AtList q n v) j at i = at_list (is_at_door q c.door) c.ready (c.quick || c.head) (is_some (kept_ticket n c.listings) || g) q v n refl at.1 i
   place_keeps a g (AtRun by) j at i = at_run a by j i
   place_keeps a g (AtPut by) j at i = at_put by i
   place_keeps a g (AtFast e) j at i = at_fast (is_quick_bit (word_of c)) (is_value e) e (unset_by e at.0) refl refl

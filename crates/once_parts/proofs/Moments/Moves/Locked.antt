@@ -5,15 +5,14 @@ use Rattle.std.specs.Option.{is_some, option_flatten}
 use Rattle.std.proofs.lemmas.List.{append-nil}
 use Rattle.pagebook.specs.Pages.{Moves, Notes}
 use Rattle.once_queue.specs.Numbers.{is_distinct}
-use Rattle.once_queue.specs.Word.{flags_of}
+use Rattle.once_queue.specs.Word.{flags_of, sees, is_free}
 use Rattle.once_queue.specs.declared.waiters.Listing.{Listing}
 use Rattle.once_queue.specs.declared.waiters.Answer.{Answer as SectionAnswer}
 use Rattle.once_queue.specs.Listings.{kept_ticket, left_list, next_waker, one_out, own_listing, passes_turn, tickets, wakers_of}
-use Rattle.once_queue.specs.Sections.{shows_free}
 use Rattle.once_core.specs.Steps.{Next, after_door_get, after_list, after_look, next_at, next_end}
 use Rattle.once_world.specs.Record.{Entry}
 use Rattle.once_world.specs.Book.{At, Door, IsBook, Page, Queue, TaskState}
-use Rattle.once_world.specs.Machine.{AtCountIn, AtCountOut, AtDoorAgain, AtDoorGet, AtDoorPut, AtDoorTake, AtLeave, AtList, AtLook, AtRelease, Ending, Place, UnderWay, claim_entries, head_after, is_claim, is_value, list_answer, listed_list, listed_ticket, look_answer, looked_list, pass_entries, release_entry, release_list, release_wakers, state_seen}
+use Rattle.once_world.specs.Machine.{AtCountIn, AtCountOut, AtDoorAgain, AtDoorGet, AtDoorPut, AtDoorTake, AtLeave, AtList, AtLook, AtRelease, Ending, Place, UnderWay, claim_entries, head_after, is_claim, is_value, list_answer, listed_list, listed_ticket, look_answer, looked_list, pass_entries, release_entry, release_list, release_wakers}
 use Rattle.once_world.proofs.Moment.Doors.{door_again, door_get, door_take, put_found, put_new}
 use Rattle.once_world.proofs.Moment.Numbers.{release_more}
 use Rattle.once_world.proofs.Moment.Pages.{set_other, zero_one}
@@ -52,7 +51,7 @@ module _ (seen : List Entry) (made : ℕ) (door : Option ℕ) (head : Bool) (xs 
 
   -- AtLook: the answer, by whether the own listing has its waker still
   abbrev pub looked : Option ℕ → ℕ → SectionAnswer ℕ
-  looked k n = look_answer (state_seen (flags_of n) head) (is_some (option_flatten (own_listing k xs)))
+  looked k n = look_answer (Some (sees (flags_of n) head)) (is_some (option_flatten (own_listing k xs)))
 
   -- where it leads
   abbrev pub look_next : ℕ → Option ℕ → Bool → ℕ → Next ℕ ℕ
@@ -76,7 +75,7 @@ module _ (seen : List Entry) (made : ℕ) (door : Option ℕ) (head : Bool) (xs 
 
   -- AtList
   abbrev pub listed : Option ℕ → Bool → ℕ → SectionAnswer ℕ
-  listed k granted n = list_answer (state_seen (flags_of n) head) (is_some (kept_ticket k xs) || granted)
+  listed k granted n = list_answer (Some (sees (flags_of n) head)) (is_some (kept_ticket k xs) || granted)
 
   -- where it leads
   abbrev pub list_next : ℕ → Option ℕ → Bool → ℕ → Next ℕ ℕ
@@ -115,7 +114,7 @@ module _ (seen : List Entry) (made : ℕ) (door : Option ℕ) (head : Bool) (xs 
 
   -- AtLeave: the log says that the turn was passed on just where somebody is handed out
   abbrev pub passing : ℕ → ℕ → Bool
-  passing k n = passes_turn (shows_free (flags_of n) head) k xs
+  passing k n = passes_turn (is_free (sees (flags_of n) head)) k xs
 
   -- a load, with the lock
   pub leave_moves : (q k : ℕ) (e : Ending) → x.step ≡ UnderWay (AtLeave q k e)

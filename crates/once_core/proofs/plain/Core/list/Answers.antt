@@ -1,13 +1,14 @@
 -- A ticket without a listing is answered that it has none.
-use Rattle.std.proofs.Common.{◌≡◌, Option, Some, None, true, sym, subst, arith}
+use Rattle.std.proofs.Common.{◌≡◌, Option, Some, None, sym, subst, arith}
 use Rattle.std.proofs.lemmas.Grind.{common_steps}
 use Rattle.std.proofs.lemmas.Option.{none-some}
 use Rattle.once_queue.specs.Room.{listings_of}
 use Rattle.once_queue.proofs.Listing.Tickets.{own_none}
 use Rattle.once_queue.specs.declared.waiters.Answer.{Answer}
 use Rattle.once_queue.specs.declared.waiters.Answer.TheVariants.{Held}
-use Rattle.once_queue.specs.Sections.{Looked, shows_taken}
-use Rattle.once_queue.specs.Word.{Flags}
+use Rattle.once_queue.specs.Sections.{Looked}
+use Rattle.once_queue.specs.Word.{Flags, sees}
+use Rattle.once_queue.specs.declared.word.Sees.{Sees}
 use Rattle.once_core.proofs.plain.Core.list.Goals as goal
 
 looked_held : {W : Type 0} (same other : W → W → Type 0) (o : Option W) (mine : Option (Option W)) (a : Answer W) → mine ≡ None → Looked same other o mine a → a ≡ Held
@@ -20,8 +21,8 @@ returns-in_default g c =
     let same = g.W.WakerId.tells_same in
     let other = g.W.WakerId.tells_other in
     let gone = own_none c.args.ticket.now (listings_of c.args.self.now.lists) (sym c.if-is_listed.ensures) in
-    let held = λ (e : shows_taken c.args.self.now.word c.args.self.now.lists.head ≡ true).
-    c.look.ensures.held (subst (λ (f : Flags). shows_taken f c.args.self.now.lists.head ≡ true) (sym c.bits-word.ensures) e) in
+    let held = λ (e : sees c.args.self.now.word c.args.self.now.lists.head ≡ Sees.Taken).
+    c.look.ensures.held (subst (λ (f : Flags). sees f c.args.self.now.lists.head ≡ Sees.Taken) (sym c.bits-word.ensures) e) in
     record {
       set = grind (arith, common_steps);
       free = grind (arith, common_steps);

@@ -2,8 +2,8 @@
 use Rattle.std.proofs.Common.{rules}
 use Rattle.once_queue.proofs.waiters.Lists.claim.Goals as goal
 
-pub returns-clause-held : goal.returns-clause-held
-returns-clause-held g c = search rules
+pub returns-in-Taken-clause-held : goal.returns-in-Taken-clause-held
+returns-in-Taken-clause-held g c = search rules
 
-pub returns-clause-listings : goal.returns-clause-listings
-returns-clause-listings g c = search rules
+pub returns-after-take-clause-claims : goal.returns-after-take-clause-claims
+returns-after-take-clause-claims g c = search rules

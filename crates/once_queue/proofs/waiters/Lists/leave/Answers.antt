@@ -5,5 +5,5 @@ use Rattle.once_queue.proofs.waiters.Lists.leave.Goals as goal
 pub returns-clause-waker : goal.returns-clause-waker
 returns-clause-waker g c = search rules
 
-pub returns-then-is_some-clause-waker : goal.returns-then-is_some-clause-waker
-returns-then-is_some-clause-waker g c = search rules
+pub returns-in-Free-clause-waker : goal.returns-in-Free-clause-waker
+returns-in-Free-clause-waker g c = search rules

@@ -1,0 +1,24 @@
+-- How a task asks for the right under the queue's lock.
+use Rattle.std.specs.Prelude.{◌≡◌, ℕ, Bool, true, List, Option, None}
+use Rattle.once_queue.specs.declared.waiters.Listing.{Listing}
+use Rattle.once_queue.specs.declared.waiters.Answer.{Answer}
+use Rattle.once_queue.specs.declared.word.Sees.{Sees}
+use Rattle.once_queue.specs.declared.word.Sees.TheVariants.{Set, Free, Taken}
+use Rattle.once_queue.specs.Listings.{list_without}
+
+-- what it can change: the flag beside the list, the listings, and its own ticket
+pub record Waiting (W : Type 0) : Type 0 where
+  pub head : Bool
+  pub listings : List (Listing W)
+  pub ticket : Option ℕ
+
+module _ {W : Type 0} where
+  -- the right is claimed: the own listing leaves, and the ticket is given up
+  abbrev pub claimed : Waiting W → Waiting W
+  claimed s = record { head = true; listings = list_without s.ticket s.listings; ticket = None }
+
+  -- by what is seen: the value is set, and all stays; the right is free, and is claimed; else this says nothing
+  abbrev pub Claims : Sees → Waiting W → Answer W → Waiting W → Type 0
+  Claims Set s answer t = (answer ≡ Answer.Ready) × (t ≡ s)
+  Claims Free s answer t = (answer ≡ Answer.Claimed) × (t ≡ claimed s)
+  Claims Taken s answer t = Unit {0}
