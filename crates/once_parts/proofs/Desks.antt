@@ -12,7 +12,7 @@ use Rattle.once_queue.specs.declared.waiters.Answer.TheVariants.{Claimed, Listed
 use Rattle.once_queue.specs.declared.waiters.Out.{Out}
 use Rattle.once_queue.specs.Listings.{kept_ticket, left_list, next_waker, one_out, own_listing, passes_turn, tickets}
 use Rattle.once_queue.specs.Claims.{Claims}
-use Rattle.once_queue.specs.Room.{listings_of, waiting}
+use Rattle.once_queue.specs.Room.{listings_of, claimant}
 use Rattle.once_queue.specs.Sections.{Lists as DidList, Releases}
 use Rattle.once_core.specs.Steps.{Next}
 use Rattle.once_world.specs.Record.{Entry}
@@ -92,25 +92,25 @@ module _ {W : Type 0} {g : _} (whose : W → ℕ) (l : Lists W g) (d : Desked) (
 
   -- after a look
   pub look_fits : (n : ℕ) (k k' : Option ℕ) (l' : Lists W g) (result : Answer W)
-      → Claims (sees (flags_of n) l.head) (waiting l k) result (waiting l' k')
+      → Claims (sees (flags_of n) l.head) (claimant l k) result (claimant l' k')
       → (sees (flags_of n) l.head ≡ Sees.Taken → result ≡ cond (is_some (option_flatten (own_listing k (listings_of l)))) Listed Held)
-      → (sees (flags_of n) l.head ≡ Sees.Taken → waiting l' k' ≡ waiting l k)
+      → (sees (flags_of n) l.head ≡ Sees.Taken → claimant l' k' ≡ claimant l k)
       → IsShown whose l' (desk_looked (looked n k d) k d) × (answer_as result ≡ looked n k d) × (k' ≡ ticket_left (looked n k d) k)
   look_fits n k k' l' result claims held stays =
-      let s = look_shown whose (sees (flags_of n) l.head) (waiting l k) result (waiting l' k') claims held stays in
+      let s = look_shown whose (sees (flags_of n) l.head) (claimant l k) result (claimant l' k') claims held stays in
       subst (λ (e : Desked). IsShown whose l' (desk_looked (looked n k e) k e) × (answer_as result ≡ looked n k e) × (k' ≡ ticket_left (looked n k e) k)) shown_is
       (((fits.0, s.flag, s.listings), s.answer, s.ticket))
 
   -- after a listing of w, where there was room
   pub list_fits : (n : ℕ) (k k' : Option ℕ) (w : W) (w' : Option W) (l' : Lists W g) (result : Answer W)
       → (is_some (kept_ticket k (listings_of l)) ≡ true) ⊎ (result ≡ Memory → ⊥)
-      → Claims (sees (flags_of n) l.head) (waiting l k) result (waiting l' k')
+      → Claims (sees (flags_of n) l.head) (claimant l k) result (claimant l' k')
       → (sees (flags_of n) l.head ≡ Sees.Taken → DidList k w (listings_of l) result k' w' (listings_of l'))
       → (sees (flags_of n) l.head ≡ Sees.Taken → l'.head ≡ l.head)
       → IsShown whose l' (desk_listed (listed n k true d) k (whose w) d) × (answer_as result ≡ listed n k true d)
       × (k' ≡ ticket_left (listed n k true d) (listed_ticket (listed n k true d) k d.listings))
   list_fits n k k' w w' l' result room claims held head =
-      let s = list_shown whose (sees (flags_of n) l.head) (waiting l k) w w' result (waiting l' k') room claims held head in
+      let s = list_shown whose (sees (flags_of n) l.head) (claimant l k) w w' result (claimant l' k') room claims held head in
       subst
       (λ (e : Desked). IsShown whose l' (desk_listed (listed n k true e) k (whose w) e) × (answer_as result ≡ listed n k true e)
       × (k' ≡ ticket_left (listed n k true e) (listed_ticket (listed n k true e) k e.listings)))
@@ -118,13 +118,13 @@ module _ {W : Type 0} {g : _} (whose : W → ℕ) (l : Lists W g) (d : Desked) (
 
   -- after a look in place of a listing for which there was no room
   pub refusal_fits : (n : ℕ) (k k' : Option ℕ) (v : ℕ) (l' : Lists W g) (result : Answer W) → is_some (kept_ticket k (listings_of l)) ≡ false
-      → Claims (sees (flags_of n) l.head) (waiting l k) result (waiting l' k')
+      → Claims (sees (flags_of n) l.head) (claimant l k) result (claimant l' k')
       → (sees (flags_of n) l.head ≡ Sees.Taken → result ≡ cond (is_some (option_flatten (own_listing k (listings_of l)))) Listed Held)
-      → (sees (flags_of n) l.head ≡ Sees.Taken → waiting l' k' ≡ waiting l k)
+      → (sees (flags_of n) l.head ≡ Sees.Taken → claimant l' k' ≡ claimant l k)
       → IsShown whose l' (desk_listed (listed n k false d) k v d) × (answer_as (as_memory result) ≡ listed n k false d)
       × (k' ≡ ticket_left (listed n k false d) (listed_ticket (listed n k false d) k d.listings))
   refusal_fits n k k' v l' result gone claims held stays =
-      let s = refusal_shown whose (sees (flags_of n) l.head) (waiting l k) v result (waiting l' k') gone claims held stays in
+      let s = refusal_shown whose (sees (flags_of n) l.head) (claimant l k) v result (claimant l' k') gone claims held stays in
       subst
       (λ (e : Desked). IsShown whose l' (desk_listed (listed n k false e) k v e) × (answer_as (as_memory result) ≡ listed n k false e)
       × (k' ≡ ticket_left (listed n k false e) (listed_ticket (listed n k false e) k e.listings)))

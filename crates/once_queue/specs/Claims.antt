@@ -6,19 +6,19 @@ use Rattle.once_queue.specs.declared.word.Sees.{Sees}
 use Rattle.once_queue.specs.declared.word.Sees.TheVariants.{Set, Free, Taken}
 use Rattle.once_queue.specs.Listings.{list_without}
 
--- what it can change: the flag beside the list, the listings, and its own ticket
-pub record Waiting (W : Type 0) : Type 0 where
+-- what a task that asks for the right can change: the flag beside the list, the listings, and its own ticket
+pub record Claimant (W : Type 0) : Type 0 where
   pub head : Bool
   pub listings : List (Listing W)
   pub ticket : Option ℕ
 
 module _ {W : Type 0} where
   -- the right is claimed: the own listing leaves, and the ticket is given up
-  abbrev pub claimed : Waiting W → Waiting W
+  abbrev pub claimed : Claimant W → Claimant W
   claimed s = record { head = true; listings = list_without s.ticket s.listings; ticket = None }
 
   -- by what is seen: the value is set, and all stays; the right is free, and is claimed; else this says nothing
-  abbrev pub Claims : Sees → Waiting W → Answer W → Waiting W → Type 0
+  abbrev pub Claims : Sees → Claimant W → Answer W → Claimant W → Type 0
   Claims Set s answer t = (answer ≡ Answer.Ready) × (t ≡ s)
   Claims Free s answer t = (answer ≡ Answer.Claimed) × (t ≡ claimed s)
   Claims Taken s answer t = Unit {0}

@@ -2,16 +2,16 @@
 use Rattle.std.specs.Prelude.{ℕ, List, Option}
 use Rattle.once_queue.specs.declared.waiters.Listing.{Listing}
 use Rattle.once_queue.specs.declared.waiters.Lists.{Lists}
-use Rattle.once_queue.specs.Claims.{Waiting}
+use Rattle.once_queue.specs.Claims.{Claimant}
 use Rattle.once_queue.specs.Slots.{HasMark, HasSlot, listings_in}
 
 -- the listings, the oldest first
 abbrev pub listings_of : {W : Type 0} {g : _} → Lists W g → List (Listing W)
 listings_of l = listings_in l.slots
 
--- what a task with this ticket can change as it asks for the right
-abbrev pub waiting : {W : Type 0} {g : _} → Lists W g → Option ℕ → Waiting W
-waiting l ticket = record { head = l.head; listings = listings_of l; ticket = ticket }
+-- what a task with this ticket can change
+abbrev pub claimant : {W : Type 0} {g : _} → Lists W g → Option ℕ → Claimant W
+claimant l ticket = record { head = l.head; listings = listings_of l; ticket = ticket }
 
 -- room for one more listing, and for the mark of its ticket
 abbrev pub HasSpace : {W : Type 0} {g : _} → Lists W g → Type 0

@@ -136,7 +136,7 @@ impl<W: WakerId + Drop> Lists<W> {
     ghost use Rattle.once_queue.specs.Listings.{Listing, find_listing, own_listing, take_out, list_without, first_waker, call_first, kept_ticket, ticket_for, passes_turn, next_waker, left_list, lent_listings};
     ghost use Rattle.once_queue.specs.Slots.{HasMark, HasSlot};
     ghost use Rattle.once_queue.specs.Claims.{Claims};
-    ghost use Rattle.once_queue.specs.Room.{HasSpace, listings_of, waiting};
+    ghost use Rattle.once_queue.specs.Room.{HasSpace, listings_of, claimant};
     ghost use Rattle.once_queue.specs.Sections.{Looked, Lists as DidList, Releases};
 
     /// No holder, and nobody listed. It takes no memory.
@@ -158,12 +158,12 @@ impl<W: WakerId + Drop> Lists<W> {
     #[inline(always)]
     pub fn look(&mut self, ticket: &mut Option<u64>, waker: Option<&W>, word: u64) -> Answer<W>
         ensures claims { Claims (sees (flags_of word) self.old.head)
-            (waiting self.old ticket.old) result (waiting self.new ticket.new) }
+            (claimant self.old ticket.old) result (claimant self.new ticket.new) }
         ensures held { sees (flags_of word) self.old.head ≡ Sees.Taken
             → Looked W.tells_same W.tells_other (option_copied waker.entry)
             (own_listing ticket.old (listings_of self.old)) result }
         ensures stays { sees (flags_of word) self.old.head ≡ Sees.Taken
-            → waiting self.new ticket.new ≡ waiting self.old ticket.old }
+            → claimant self.new ticket.new ≡ claimant self.old ticket.old }
     {
         if let Some(answer) = self.claim(ticket, word) {
             return answer;
@@ -180,13 +180,13 @@ impl<W: WakerId + Drop> Lists<W> {
     #[inline(always)]
     pub fn look_own(&mut self, ticket: &mut Option<u64>, word: u64) -> Answer<W>
         ensures claims { Claims (sees (flags_of word) self.old.head)
-            (waiting self.old ticket.old) result (waiting self.new ticket.new) }
+            (claimant self.old ticket.old) result (claimant self.new ticket.new) }
         ensures held { sees (flags_of word) self.old.head ≡ Sees.Taken
             → result
             ≡ (if is_some (option_flatten (own_listing ticket.old (listings_of self.old)))
             then Answer.Listed else Answer.Held) }
         ensures stays { sees (flags_of word) self.old.head ≡ Sees.Taken
-            → waiting self.new ticket.new ≡ waiting self.old ticket.old }
+            → claimant self.new ticket.new ≡ claimant self.old ticket.old }
     {
         if let Some(answer) = self.claim(ticket, word) {
             return answer;
@@ -208,7 +208,7 @@ impl<W: WakerId + Drop> Lists<W> {
     pub fn list(&mut self, ticket: &mut Option<u64>, waker: &mut Option<W>, word: u64) -> Answer<W>
         requires { IsSome waker.old }
         ensures claims { Claims (sees (flags_of word) self.old.head)
-            (waiting self.old ticket.old) result (waiting self.new ticket.new) }
+            (claimant self.old ticket.old) result (claimant self.new ticket.new) }
         ensures held { sees (flags_of word) self.old.head ≡ Sees.Taken
             → IfSome waker.old
             (λ w. DidList ticket.old w (listings_of self.old)
@@ -308,7 +308,7 @@ impl<W: WakerId + Drop> Lists<W> {
     #[inline(always)]
     fn claim(&mut self, ticket: &mut Option<u64>, word: u64) -> Option<Answer<W>>
         ensures claims { IfSome result (λ answer. Claims (sees (flags_of word) self.old.head)
-            (waiting self.old ticket.old) answer (waiting self.new ticket.new)) }
+            (claimant self.old ticket.old) answer (claimant self.new ticket.new)) }
         ensures held { result ≡ None ↔ sees (flags_of word) self.old.head ≡ Sees.Taken }
         ensures stays { sees (flags_of word) self.old.head ≢ Sees.Free → self.new ≡ self.old }
         ensures ticket { sees (flags_of word) self.old.head ≢ Sees.Free → ticket.new ≡ ticket.old }

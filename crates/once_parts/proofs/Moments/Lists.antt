@@ -6,7 +6,7 @@ use Rattle.once_queue.specs.declared.word.Sees.{Sees}
 use Rattle.once_queue.specs.declared.word.Sees.TheVariants.{Set, Free, Taken}
 use Rattle.once_queue.specs.declared.waiters.Answer.{Answer}
 use Rattle.once_queue.specs.declared.waiters.Answer.TheVariants.{Listed, Held, Memory}
-use Rattle.once_queue.specs.Claims.{Claims, Waiting}
+use Rattle.once_queue.specs.Claims.{Claims, Claimant}
 use Rattle.once_queue.specs.Listings.{kept_ticket, own_listing}
 use Rattle.once_queue.specs.Sections.{Lists as DidList}
 use Rattle.once_queue.proofs.Listing.Tickets.{own_none}
@@ -22,28 +22,28 @@ or_true false = refl
 
 module _ {W : Type 0} (whose : W → ℕ) where
   -- what a listing of the task v leaves, by the answer a of the machine
-  pub record ListShown (v : ℕ) (a : Answer ℕ) (s : Waiting W) (result : Answer W) (t : Waiting W) : Type 0 where
+  pub record ListShown (v : ℕ) (a : Answer ℕ) (s : Claimant W) (result : Answer W) (t : Claimant W) : Type 0 where
     pub answer : answer_as result ≡ a
     pub flag : t.head ≡ head_after a s.head
     pub listings : named whose t.listings ≡ listed_list a s.ticket v (named whose s.listings)
     pub ticket : t.ticket ≡ ticket_left a (listed_ticket a s.ticket (named whose s.listings))
 
   -- by what is seen, where there is room
-  granted_by : (seen : Sees) (s : Waiting W) (w : W) (w' : Option W) (result : Answer W) (t : Waiting W)
+  granted_by : (seen : Sees) (s : Claimant W) (w : W) (w' : Option W) (result : Answer W) (t : Claimant W)
       → (is_some (kept_ticket s.ticket s.listings) ≡ true) ⊎ (result ≡ Memory → ⊥) → Claims seen s result t
       → (seen ≡ Sees.Taken → DidList s.ticket w s.listings result t.ticket w' t.listings) → (seen ≡ Sees.Taken → t.head ≡ s.head)
       → ListShown (whose w) (list_answer (Some seen) true) s result t
   granted_by Set s w w' result t fits claims held head = record {
     answer = ap answer_as claims.0;
-    flag = ap (λ (q : Waiting W). q.head) claims.1;
-    listings = ap (λ (q : Waiting W). named whose q.listings) claims.1;
-    ticket = ap (λ (q : Waiting W). q.ticket) claims.1;
+    flag = ap (λ (q : Claimant W). q.head) claims.1;
+    listings = ap (λ (q : Claimant W). named whose q.listings) claims.1;
+    ticket = ap (λ (q : Claimant W). q.ticket) claims.1;
   }
   granted_by Free s w w' result t fits claims held head = record {
     answer = ap answer_as claims.0;
-    flag = ap (λ (q : Waiting W). q.head) claims.1;
-    listings = ap (λ (q : Waiting W). named whose q.listings) claims.1 ∙ sym (without_named whose s.ticket s.listings);
-    ticket = ap (λ (q : Waiting W). q.ticket) claims.1;
+    flag = ap (λ (q : Claimant W). q.head) claims.1;
+    listings = ap (λ (q : Claimant W). named whose q.listings) claims.1 ∙ sym (without_named whose s.ticket s.listings);
+    ticket = ap (λ (q : Claimant W). q.ticket) claims.1;
   }
   granted_by Taken s w w' result t fits claims held head = ⊎_elim
       (λ d. record {
@@ -56,7 +56,7 @@ module _ {W : Type 0} (whose : W → ℕ) where
       (held refl)
 
   -- from what `list` tells, where the own ticket has a listing, or memory cannot be refused any more
-  pub list_shown : (seen : Sees) (s : Waiting W) (w : W) (w' : Option W) (result : Answer W) (t : Waiting W)
+  pub list_shown : (seen : Sees) (s : Claimant W) (w : W) (w' : Option W) (result : Answer W) (t : Claimant W)
       → (is_some (kept_ticket s.ticket s.listings) ≡ true) ⊎ (result ≡ Memory → ⊥) → Claims seen s result t
       → (seen ≡ Sees.Taken → DidList s.ticket w s.listings result t.ticket w' t.listings) → (seen ≡ Sees.Taken → t.head ≡ s.head)
       → ListShown (whose w) (list_answer (Some seen) (is_some (kept_ticket s.ticket (named whose s.listings)) || true)) s result t
@@ -64,29 +64,29 @@ module _ {W : Type 0} (whose : W → ℕ) where
       rw (or_true (is_some (kept_ticket s.ticket (named whose s.listings)))) (granted_by seen s w w' result t fits claims held head)
 
   -- by what is seen, where there is no room: a look in place of the listing
-  refused_by : (seen : Sees) (s : Waiting W) (v : ℕ) (result : Answer W) (t : Waiting W) → Claims seen s result t
+  refused_by : (seen : Sees) (s : Claimant W) (v : ℕ) (result : Answer W) (t : Claimant W) → Claims seen s result t
       → (seen ≡ Sees.Taken → result ≡ Held) → (seen ≡ Sees.Taken → t ≡ s) → ListShown v (list_answer (Some seen) false) s (as_memory result) t
   refused_by Set s v result t claims held stays = record {
     answer = ap (λ r. answer_as (as_memory r)) claims.0;
-    flag = ap (λ (q : Waiting W). q.head) claims.1;
-    listings = ap (λ (q : Waiting W). named whose q.listings) claims.1;
-    ticket = ap (λ (q : Waiting W). q.ticket) claims.1;
+    flag = ap (λ (q : Claimant W). q.head) claims.1;
+    listings = ap (λ (q : Claimant W). named whose q.listings) claims.1;
+    ticket = ap (λ (q : Claimant W). q.ticket) claims.1;
   }
   refused_by Free s v result t claims held stays = record {
     answer = ap (λ r. answer_as (as_memory r)) claims.0;
-    flag = ap (λ (q : Waiting W). q.head) claims.1;
-    listings = ap (λ (q : Waiting W). named whose q.listings) claims.1 ∙ sym (without_named whose s.ticket s.listings);
-    ticket = ap (λ (q : Waiting W). q.ticket) claims.1;
+    flag = ap (λ (q : Claimant W). q.head) claims.1;
+    listings = ap (λ (q : Claimant W). named whose q.listings) claims.1 ∙ sym (without_named whose s.ticket s.listings);
+    ticket = ap (λ (q : Claimant W). q.ticket) claims.1;
   }
   refused_by Taken s v result t claims held stays = record {
     answer = ap (λ r. answer_as (as_memory r)) (held refl);
-    flag = ap (λ (q : Waiting W). q.head) (stays refl);
-    listings = ap (λ (q : Waiting W). named whose q.listings) (stays refl);
-    ticket = ap (λ (q : Waiting W). q.ticket) (stays refl);
+    flag = ap (λ (q : Claimant W). q.head) (stays refl);
+    listings = ap (λ (q : Claimant W). named whose q.listings) (stays refl);
+    ticket = ap (λ (q : Claimant W). q.ticket) (stays refl);
   }
 
   -- from what `look_own` tells, where the own ticket has no listing and room was refused: who would list itself looks in place of it
-  pub refusal_shown : (seen : Sees) (s : Waiting W) (v : ℕ) (result : Answer W) (t : Waiting W)
+  pub refusal_shown : (seen : Sees) (s : Claimant W) (v : ℕ) (result : Answer W) (t : Claimant W)
       → is_some (kept_ticket s.ticket s.listings) ≡ false → Claims seen s result t
       → (seen ≡ Sees.Taken → result ≡ cond (is_some (option_flatten (own_listing s.ticket s.listings))) Listed Held)
       → (seen ≡ Sees.Taken → t ≡ s)

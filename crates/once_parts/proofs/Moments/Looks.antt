@@ -5,7 +5,7 @@ use Rattle.once_queue.specs.declared.word.Sees.{Sees}
 use Rattle.once_queue.specs.declared.word.Sees.TheVariants.{Set, Free, Taken}
 use Rattle.once_queue.specs.declared.waiters.Answer.{Answer}
 use Rattle.once_queue.specs.declared.waiters.Answer.TheVariants.{Listed, Held}
-use Rattle.once_queue.specs.Claims.{Claims, Waiting}
+use Rattle.once_queue.specs.Claims.{Claims, Claimant}
 use Rattle.once_queue.specs.Listings.{own_listing}
 use Rattle.once_world.specs.Machine.{head_after, look_answer, looked_list}
 use Rattle.once_parts.specs.Named.{named, ticket_left}
@@ -14,44 +14,44 @@ use Rattle.once_parts.proofs.Moments.Named.{uncalled_named, without_named}
 
 module _ {W : Type 0} (whose : W → ℕ) where
   -- what a look leaves, by the answer a of the machine
-  pub record LookShown (a : Answer ℕ) (s : Waiting W) (result : Answer W) (t : Waiting W) : Type 0 where
+  pub record LookShown (a : Answer ℕ) (s : Claimant W) (result : Answer W) (t : Claimant W) : Type 0 where
     pub answer : answer_as result ≡ a
     pub flag : t.head ≡ head_after a s.head
     pub listings : named whose t.listings ≡ looked_list a s.ticket (named whose s.listings)
     pub ticket : t.ticket ≡ ticket_left a s.ticket
 
   -- where some task holds all is as it was, by whether the own listing was not called
-  look_held : (l : Bool) (s : Waiting W) (result : Answer W) (t : Waiting W) → result ≡ cond l Listed Held → t ≡ s
+  look_held : (l : Bool) (s : Claimant W) (result : Answer W) (t : Claimant W) → result ≡ cond l Listed Held → t ≡ s
       → LookShown (look_answer (Some Taken) l) s result t
   look_held true s result t a e = record {
     answer = ap answer_as a;
-    flag = ap (λ (q : Waiting W). q.head) e;
-    listings = ap (λ (q : Waiting W). named whose q.listings) e;
-    ticket = ap (λ (q : Waiting W). q.ticket) e;
+    flag = ap (λ (q : Claimant W). q.head) e;
+    listings = ap (λ (q : Claimant W). named whose q.listings) e;
+    ticket = ap (λ (q : Claimant W). q.ticket) e;
   }
   look_held false s result t a e = record {
     answer = ap answer_as a;
-    flag = ap (λ (q : Waiting W). q.head) e;
-    listings = ap (λ (q : Waiting W). named whose q.listings) e;
-    ticket = ap (λ (q : Waiting W). q.ticket) e;
+    flag = ap (λ (q : Claimant W). q.head) e;
+    listings = ap (λ (q : Claimant W). named whose q.listings) e;
+    ticket = ap (λ (q : Claimant W). q.ticket) e;
   }
 
   -- from what `look_own` tells, by what is seen
-  pub look_shown : (seen : Sees) (s : Waiting W) (result : Answer W) (t : Waiting W) → Claims seen s result t
+  pub look_shown : (seen : Sees) (s : Claimant W) (result : Answer W) (t : Claimant W) → Claims seen s result t
       → (seen ≡ Sees.Taken → result ≡ cond (is_some (option_flatten (own_listing s.ticket s.listings))) Listed Held)
       → (seen ≡ Sees.Taken → t ≡ s)
       → LookShown (look_answer (Some seen) (is_some (option_flatten (own_listing s.ticket (named whose s.listings))))) s result t
   look_shown Set s result t claims held stays = record {
     answer = ap answer_as claims.0;
-    flag = ap (λ (q : Waiting W). q.head) claims.1;
-    listings = ap (λ (q : Waiting W). named whose q.listings) claims.1;
-    ticket = ap (λ (q : Waiting W). q.ticket) claims.1;
+    flag = ap (λ (q : Claimant W). q.head) claims.1;
+    listings = ap (λ (q : Claimant W). named whose q.listings) claims.1;
+    ticket = ap (λ (q : Claimant W). q.ticket) claims.1;
   }
   look_shown Free s result t claims held stays = record {
     answer = ap answer_as claims.0;
-    flag = ap (λ (q : Waiting W). q.head) claims.1;
-    listings = ap (λ (q : Waiting W). named whose q.listings) claims.1 ∙ sym (without_named whose s.ticket s.listings);
-    ticket = ap (λ (q : Waiting W). q.ticket) claims.1;
+    flag = ap (λ (q : Claimant W). q.head) claims.1;
+    listings = ap (λ (q : Claimant W). named whose q.listings) claims.1 ∙ sym (without_named whose s.ticket s.listings);
+    ticket = ap (λ (q : Claimant W). q.ticket) claims.1;
   }
   look_shown Taken s result t claims held stays =
       look_held (is_some (option_flatten (own_listing s.ticket (named whose s.listings)))) s result t
