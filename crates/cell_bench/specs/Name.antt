@@ -1,3 +1,4 @@
+-- What the operations are called in the input.
 use Rattle.std.specs.Prelude.{◌≡◌, ℕ, List, ◌++◌, ◌∷◌, codes}
 use Rattle.cell_bench.specs.declared.operation.Operation.{Operation}
 use Rattle.cell_bench.specs.declared.operation.Operation.TheVariants.{Get, Init, Listed}

@@ -1,7 +1,7 @@
 -- What lies under the lock fits its pages after each section, and the section's answer is that of the page.
 use Rattle.std.proofs.Common.{◌≡◌, ◌⊎◌, ℕ, Bool, true, false, cond, List, ◌++◌, append_assoc, Option, Some, None, refl, sym, ap, ◌∙◌, subst}
 use Rattle.std.specs.Prelude.{IsSomeAnd}
-use Rattle.std.specs.Option.{is_some, option_flatten}
+use Rattle.std.specs.Option.{is_some, option_flatten, option_to_list}
 use mathlib.Core.List.{IsPrefix}
 use Rattle.once_queue.specs.Numbers.{is_distinct}
 use Rattle.once_queue.specs.declared.word.Sees.{Sees}
@@ -10,7 +10,7 @@ use Rattle.once_queue.specs.declared.waiters.Lists.{Lists}
 use Rattle.once_queue.specs.declared.waiters.Answer.{Answer}
 use Rattle.once_queue.specs.declared.waiters.Answer.TheVariants.{Claimed, Listed, Held, Memory}
 use Rattle.once_queue.specs.declared.waiters.Out.{Out}
-use Rattle.once_queue.specs.Listings.{kept_ticket, left_list, next_waker, one_out, own_listing, passes_turn, tickets}
+use Rattle.once_queue.specs.Listings.{kept_ticket, left_list, next_waker, own_listing, passes_turn, tickets}
 use Rattle.once_queue.specs.Claims.{Claims}
 use Rattle.once_queue.specs.Room.{listings_of, claimant}
 use Rattle.once_queue.specs.Sections.{Lists as DidList, Releases}
@@ -144,8 +144,8 @@ module _ {W : Type 0} {g : _} (whose : W → ℕ) (l : Lists W g) (d : Desked) (
   -- after one left
   pub leave_fits : (n k : ℕ) (l' : Lists W g) (o : Option W) → o ≡ next_waker (passes_turn (is_free (sees (flags_of n) l.head)) k (listings_of l)) k (listings_of l)
       → listings_of l' ≡ left_list (passes_turn (is_free (sees (flags_of n) l.head)) k (listings_of l)) k (listings_of l) → l'.head ≡ l.head
-      → IsShown whose l' (desk_left (passing n k d) k d) × (named_one whose o ≡ one_out (next_waker (passing n k d) k d.listings))
+      → IsShown whose l' (desk_left (passing n k d) k d) × (named_one whose o ≡ option_to_list (next_waker (passing n k d) k d.listings))
   leave_fits n k l' o handed listings flag =
       let f : Bool = is_free (sees (flags_of n) l.head) in
-      subst (λ (e : Desked). IsShown whose l' (desk_left (passing n k e) k e) × (named_one whose o ≡ one_out (next_waker (passing n k e) k e.listings))) shown_is
+      subst (λ (e : Desked). IsShown whose l' (desk_left (passing n k e) k e) × (named_one whose o ≡ option_to_list (next_waker (passing n k e) k e.listings))) shown_is
       ((fits.0, flag, left_shown whose f k (listings_of l) (listings_of l') listings), left_out whose f k (listings_of l) o handed)

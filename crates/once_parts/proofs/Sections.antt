@@ -1,13 +1,13 @@
 -- Each moment of a task that has the lock keeps the rule of the book, and tells what it is to tell.
 use Rattle.std.proofs.Common.{◌≡◌, ◌+◌, ◌%◌, ◌^◌, ℕ, suc, Bool, true, false, List, [], ◌∷◌, ◌++◌, Option, Some, None, refl, sym, ap, ◌∙◌, subst}
-use Rattle.std.specs.Option.{is_some}
+use Rattle.std.specs.Option.{is_some, option_to_list}
 use Rattle.std.proofs.lemmas.Bool.{false≢true}
 use Rattle.pagebook.specs.Pages.{Held, Moves, Notes, View}
 use Rattle.once_core.specs.Steps.{Next, after_door_again, after_door_get, after_list, after_look, next_at, next_end}
 use Rattle.once_world.specs.Record.{Entry}
 use Rattle.once_world.specs.Book.{TaskState}
 use Rattle.once_world.specs.Machine.{AtCountIn, AtCountOut, AtDoorAgain, AtDoorGet, AtDoorPut, AtDoorTake, AtLeave, AtList, AtLook, AtRelease, Ending, Step, UnderWay, claim_entries, is_claim, is_value, listed_ticket, pass_entries, release_entry, release_wakers}
-use Rattle.once_queue.specs.Listings.{next_waker, one_out}
+use Rattle.once_queue.specs.Listings.{next_waker}
 use Rattle.once_world.proofs.Moment.Numbers.{release_more}
 use Rattle.once_parts.specs.Kept.{Grew, IsKept, Leaves, Sheet, has_passed, hands_out, locked, sheets}
 use Rattle.once_parts.proofs.Moments.Moves.Locked.{again_notes, found_notes, get_notes, leave_moves, list_moves, look_moves, new_moves, pages_after, release_moves, stand_notes, take_notes}
@@ -120,7 +120,7 @@ module _ (seen : List Entry) (d : Desked) (t : ℕ) (x : TaskState) where
 
   -- who is handed out when one leaves
   abbrev to_whom : ℕ → ℕ → List ℕ
-  to_whom k n = one_out (next_waker (passing n k d) k d.listings)
+  to_whom k n = option_to_list (next_waker (passing n k d) k d.listings)
 
   -- what one who leaves tells
   abbrev Leaving : ℕ → Next ℕ ℕ → ℕ → View Entry Sheet → Type 0

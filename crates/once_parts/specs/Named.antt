@@ -1,13 +1,13 @@
 -- What a list of those who wait shows on the queue's page: the same listings.
 -- Each waker is told by the number of the task whose it is.
 use Rattle.std.specs.Prelude.{ℕ, List, [], ◌∷◌, map, Option, None}
-use Rattle.std.specs.Option.{option_map}
+use Rattle.std.specs.Option.{option_map, option_to_list}
 use Rattle.once_queue.specs.declared.waiters.Listing.{Listing}
 use Rattle.once_queue.specs.declared.waiters.Answer.{Answer}
 use Rattle.once_queue.specs.declared.waiters.Answer.TheVariants.{Claimed, Held, Memory}
 use Rattle.once_queue.specs.declared.waiters.Out.{Out}
 use Rattle.once_queue.specs.declared.waiters.Out.TheVariants.{One, All}
-use Rattle.once_queue.specs.Listings.{one_out, wakers_of}
+use Rattle.once_queue.specs.Listings.{wakers_of}
 
 module _ {W : Type 0} (whose : W → ℕ) where
   -- one listing
@@ -21,7 +21,7 @@ module _ {W : Type 0} (whose : W → ℕ) where
 
   -- the task of the waker, if there is one, as a list
   abbrev pub named_one : Option W → List ℕ
-  named_one o = one_out (option_map whose o)
+  named_one o = option_to_list (option_map whose o)
 
   -- the tasks whose wakers a release hands out, in their order
   abbrev pub named_out : Out W → List ℕ

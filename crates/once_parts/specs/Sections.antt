@@ -1,12 +1,12 @@
 -- What each moment of a task that has the lock tells of the task, and what it makes of the door's page and the queue's.
 use Rattle.std.specs.Prelude.{◌≡◌, ℕ, suc, ◌*◌, ◌^◌, ◌||◌, Bool, true, false, List, [], ◌∷◌, Option, Some, None}
-use Rattle.std.specs.Option.{is_some, option_flatten}
+use Rattle.std.specs.Option.{is_some, option_flatten, option_to_list}
 use Rattle.pagebook.specs.Pages.{Held, View}
 use Rattle.once_queue.specs.Numbers.{is_distinct}
 use Rattle.once_queue.specs.Word.{flags_of, sees, is_free}
 use Rattle.once_queue.specs.declared.waiters.Listing.{Listing}
 use Rattle.once_queue.specs.declared.waiters.Answer.{Answer as SectionAnswer}
-use Rattle.once_queue.specs.Listings.{kept_ticket, left_list, next_waker, one_out, own_listing, passes_turn, tickets, wakers_of}
+use Rattle.once_queue.specs.Listings.{kept_ticket, left_list, next_waker, own_listing, passes_turn, tickets, wakers_of}
 use Rattle.once_core.specs.Steps.{next_at}
 use Rattle.once_world.specs.Record.{Entry}
 use Rattle.once_world.specs.UnderLock.{head_after, is_claim, list_answer, listed_list, listed_ticket}
@@ -94,8 +94,8 @@ Moment (ListOwn k room) n d x e y = (e ≡ desk_listed (listed n k room d) k (wa
 Moment (Release r) n d x e y = (e ≡ desk_released r d)
     × Did x (release_entry x.task.kept x.number (release_wakers r d.listings) ∷ []) (release_next x.task.step) y × HandsEach r d.listings
 Moment (Leave k) n d x e y = (e ≡ desk_left (passing n k d) k d)
-    × Did x (pass_entries x.number (one_out (next_waker (passing n k d) k d.listings))) (leave_next x.task.step) y
-    × (has_passed y.number y.log ≡ hands_out (one_out (next_waker (passing n k d) k d.listings)))
+    × Did x (pass_entries x.number (option_to_list (next_waker (passing n k d) k d.listings))) (leave_next x.task.step) y
+    × (has_passed y.number y.log ≡ hands_out (option_to_list (next_waker (passing n k d) k d.listings)))
 
 -- the same by the view: the hand has both pages and the task's still
 abbrev pub Tells : Section → View Entry Sheet → ℕ → View Entry Sheet → Type 0

@@ -1,5 +1,7 @@
 -- The list behind a queue's lock: the listings of those who wait, the oldest first. A listing without a waker is one that was called.
 use Rattle.std.specs.Prelude.{ℕ, zero, suc, ◌+◌, ◌==◌, Bool, true, false, if◌then◌else◌, List, [], ◌∷◌, ◌++◌, Option, Some, None, map}
+use Rattle.std.specs.List.{cons_option}
+use Rattle.std.specs.Option.{option_or, unwrap_or}
 use Rattle.std.specs.Borrow.{Bor}
 pub use Rattle.once_queue.specs.declared.waiters.Listing.{Listing}
 use Rattle.once_queue.specs.Numbers.{member}
@@ -34,15 +36,10 @@ module _ {W : Type 0} where
   list_without None xs = xs
   list_without (Some n) xs = take_out n xs
 
-  -- this waker, or else the rest
-  abbrev pub first_by : Option W → Option W → Option W
-  first_by (Some w) rest = Some w
-  first_by None rest = rest
-
   -- the waker of the first listing that has one
   abbrev pub first_waker : List (Listing W) → Option W
   first_waker [] = None
-  first_waker (x ∷ xs) = first_by x.waker (first_waker xs)
+  first_waker (x ∷ xs) = option_or x.waker (first_waker xs)
 
   -- a listing is called where it has a waker, or else the rest is
   abbrev pub call_by : Listing W → Option W → List (Listing W) → List (Listing W) → List (Listing W)
@@ -54,15 +51,10 @@ module _ {W : Type 0} where
   call_first [] = []
   call_first (x ∷ xs) = call_by x x.waker xs (call_first xs)
 
-  -- this waker, where there is one, and the rest
-  abbrev pub wakers_by : Option W → List W → List W
-  wakers_by (Some w) rest = w ∷ rest
-  wakers_by None rest = rest
-
   -- the wakers, in the order of their listings
   abbrev pub wakers_of : List (Listing W) → List W
   wakers_of [] = []
-  wakers_of (x ∷ xs) = wakers_by x.waker (wakers_of xs)
+  wakers_of (x ∷ xs) = cons_option x.waker (wakers_of xs)
 
 -- the least number from n on that is not in the list, of the next f and the one after them
 abbrev pub least_from : ℕ → ℕ → List ℕ → ℕ
@@ -74,16 +66,6 @@ abbrev pub above_each : List ℕ → ℕ
 above_each [] = 0
 above_each (x ∷ xs) = suc x + above_each xs
 
--- the number where the test holds
-abbrev pub kept_by : Bool → ℕ → Option ℕ
-kept_by true n = Some n
-kept_by false n = None
-
--- the own ticket, or else the new one
-abbrev pub ticket_or : Option ℕ → ℕ → ℕ
-ticket_or (Some n) new = n
-ticket_or None new = new
-
 module _ {W : Type 0} where
   -- the least number that no listing has
   abbrev pub new_ticket : List (Listing W) → ℕ
@@ -92,11 +74,11 @@ module _ {W : Type 0} where
   -- the own ticket counts while its listing is there
   abbrev pub kept_ticket : Option ℕ → List (Listing W) → Option ℕ
   kept_ticket None xs = None
-  kept_ticket (Some n) xs = kept_by (member n (tickets xs)) n
+  kept_ticket (Some n) xs = if member n (tickets xs) then Some n else None
 
   -- the ticket by which a waker is listed: the own one, or a new one
   abbrev pub ticket_for : Option ℕ → List (Listing W) → ℕ
-  ticket_for k xs = ticket_or (kept_ticket k xs) (new_ticket xs)
+  ticket_for k xs = unwrap_or (kept_ticket k xs) (new_ticket xs)
 
   -- the own listing is taken out, and one with the ticket and the waker goes to the end
   abbrev pub list_with : ℕ → W → List (Listing W) → List (Listing W)
@@ -128,11 +110,6 @@ out_by (Some w) rest seen = if member w seen then rest seen else w ∷ rest (w �
 abbrev pub all_out : List (Listing ℕ) → List ℕ → List ℕ
 all_out [] seen = []
 all_out (x ∷ xs) seen = out_by x.waker (all_out xs) seen
-
--- the one waker as a list, or nobody
-abbrev pub one_out : Option ℕ → List ℕ
-one_out (Some w) = w ∷ []
-one_out None = []
 
 -- the own listing has the waker
 abbrev pub is_waker : ℕ → Option (Option ℕ) → Bool

@@ -1,11 +1,12 @@
 -- What a section under the queue's lock sees, answers and leaves.
 use Rattle.std.specs.Prelude.{◌≡◌, ℕ, ◌<◌, ◌⊎◌, Bool, true, false, List, [], ◌∷◌, Option, Some, None}
+use Rattle.std.specs.List.{cons_option}
 use Rattle.std.specs.Prelude.{IfSome, All, HoldsAt, length}
 use Rattle.std.specs.declared.vec.Vec.{Vec}
 use Rattle.std.specs.declared.alloc.Global.{Global}
 use Rattle.once_queue.specs.declared.waiters.Answer.{Answer}
 use Rattle.once_queue.specs.declared.waiters.Out.{Out}
-use Rattle.once_queue.specs.Listings.{Listing, kept_ticket, ticket_for, list_with, first_waker, call_first, wakers_by}
+use Rattle.once_queue.specs.Listings.{Listing, kept_ticket, ticket_for, list_with, first_waker, call_first}
 
 module _ {W : Type 0} (same : W → W → Type 0) where
   -- some waker of the list was told to be the same
@@ -46,7 +47,7 @@ module _ {W : Type 0} (same other : W → W → Type 0) where
   abbrev pub HandsAll : List W → List (Listing W) → List (Listing W) → Type 0
   HandsAll seen [] [] = Unit {0}
   HandsAll seen (x ∷ xs) (y ∷ ys) =
-      (y.ticket ≡ x.ticket) × HandsBy seen x.waker y.waker × HandsAll (wakers_by x.waker seen) xs ys
+      (y.ticket ≡ x.ticket) × HandsBy seen x.waker y.waker × HandsAll (cons_option x.waker seen) xs ys
   HandsAll seen _ _ = ⊥
 
   -- a release, by whether the value is set: it calls the first who was not called, or all leave

@@ -1,3 +1,4 @@
+-- Into which fields a text falls at its spaces.
 use Rattle.std.proofs.Common.{◌≡◌, ◌≢◌, ℕ, List, [], ◌∷◌, ◌++◌, Bool, true, false, ◌<◌, ◌-◌, ◌^◌, ◌==◌, length, suc, take, drop, add-one, length-append, arith, refl, codes, ap}
 use Rattle.std.specs.Prelude.{Option, Some, None, ◌&&◌, nat_lt, nat_le, if◌then◌else◌}
 use Rattle.std.specs.Option.{option_and_then}

@@ -1,3 +1,4 @@
+-- What stands after the first word of a line.
 use Rattle.std.proofs.Common.{◌≡◌, ◌≢◌, ◌∷◌, ◌++◌, ℕ, List, [], Bool, codes, get_or, ap, sym, ◌∙◌, refl, arith}
 use Rattle.std.specs.Prelude.{Option, IsSome}
 use Rattle.once_core.specs.declared.record.Call.{Call}

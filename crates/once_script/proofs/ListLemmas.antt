@@ -1,3 +1,4 @@
+-- One more answer of a list, and one more field.
 use Rattle.std.proofs.Common.{◌≡◌, ◌==◌, ◌<◌, ◌∷◌, ◌++◌, ℕ, List, [], length, get_or, zero, suc, arith, sym, subst}
 use Rattle.std.specs.Prelude.{Option}
 use Rattle.std.specs.List.{slice_split}

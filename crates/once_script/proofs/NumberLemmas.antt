@@ -1,3 +1,4 @@
+-- The number that a text is.
 use Rattle.std.proofs.Common.{◌≡◌, ◌≢◌, ℕ, List, Bool, true, false, ◌<◌, ◌^◌, length, get_or, arith, refl, cond}
 use Rattle.std.specs.Prelude.{Result, Ok, Err, Some, None}
 use Rattle.std.proofs.lemmas.Bool.Decides.{nat_tests}

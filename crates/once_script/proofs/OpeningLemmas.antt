@@ -1,3 +1,4 @@
+-- What a first line says of the kind and the limit.
 use Rattle.std.proofs.Common.{◌≡◌, ◌<◌, ◌∷◌, ℕ, List, [], length, arith, refl}
 use Rattle.std.specs.Prelude.{Option, Some, None, MatchOption, IfSome, IsSome}
 use Rattle.once_core.specs.declared.record.Kind.{Kind}

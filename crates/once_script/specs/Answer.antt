@@ -1,3 +1,4 @@
+-- The answers of an init, as text.
 use Rattle.std.specs.Prelude.{ℕ, List, [], ◌∷◌, ◌++◌, ◌≡◌, ◌==◌, codes, Option, Some, None}
 use Rattle.std.specs.List.{slice_split}
 use Rattle.once_core.specs.declared.record.Ran.{Ran}

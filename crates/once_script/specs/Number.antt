@@ -1,3 +1,4 @@
+-- Numbers, as text.
 use Rattle.std.specs.Prelude.{ℕ, ◌^◌, ◌-◌, ◌==◌, nat_lt, nat_le, Bool, not, ◌&&◌, ◌||◌, if◌then◌else◌}
 use Rattle.std.specs.Prelude.{List, length, slice_index, Option, Some, None}
 use Rattle.std.specs.Option.{option_and_then}

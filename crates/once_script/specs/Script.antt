@@ -1,3 +1,4 @@
+-- The lines of a script: when a text is one, and which line of another is the first that is none.
 use Rattle.std.specs.Prelude.{ℕ, suc, ◌⊎◌, Bool, List, [], ◌∷◌, ◌≡◌, ◌==◌, ◌-◌, length, take, drop, map, if◌then◌else◌}
 use Rattle.std.specs.Borrow.{Bor}
 use Rattle.std.specs.List.{slice_split}

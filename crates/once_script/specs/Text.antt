@@ -1,3 +1,4 @@
+-- What a line of a script says, and to which inputs it leads.
 use Rattle.std.specs.Prelude.{ℕ, Bool, true, false, List, [], ◌∷◌, ◌++◌, ◌≡◌, codes, Option, Some, replicate, flat_map}
 use Rattle.once_core.specs.declared.record.Call.TheVariants.{Take, Write, Parts, ReplaceValue, ReplaceAnswers}
 use Rattle.once_core.specs.declared.record.Kind.{Kind}

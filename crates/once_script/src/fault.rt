@@ -1,3 +1,4 @@
+//! Why a program gives up, and with which status.
 ghost use Rattle.std.specs.Prelude.{◌≡◌, Some};
 
 use std::alloc::{AllocError, AllocFailed};

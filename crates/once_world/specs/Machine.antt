@@ -1,7 +1,7 @@
 -- The machine: what all tasks share, the place at which each task stands, and what each input does.
 use Rattle.std.specs.Prelude.{◌≡◌, ℕ, suc, Bool, true, false, if◌then◌else◌, ◌==◌, ◌-◌, nat_lt, ◌||◌}
 use Rattle.std.specs.Prelude.{List, [], ◌∷◌, ◌++◌, Option, Some, None}
-use Rattle.std.specs.Option.{is_some, unwrap_or}
+use Rattle.std.specs.Option.{is_some, unwrap_or, option_to_list}
 pub use Rattle.once_world.specs.Places.{Ending, EndPending, EndValue, EndError, EndMemory, EndFull, EndDropped}
 pub use Rattle.once_world.specs.Places.{Rest, RestStart, RestWait, RestRun, Step, Resting, UnderWay, Finished}
 pub use Rattle.once_world.specs.Places.{Place, AtStart, AtTryQuick, AtDoorGet, AtDoorPut, AtCountIn, AtWaitLoad, AtLook, AtList, AtRun}
@@ -26,7 +26,7 @@ pub use Rattle.once_queue.specs.declared.log.QueueLine.{QueueLine}
 pub use Rattle.once_queue.specs.declared.log.QueueLine.TheVariants.{Put as PutLine, Entered as EnteredLine, Taken as TakenLine}
 pub use Rattle.once_queue.specs.declared.waiters.Listing.{Listing}
 pub use Rattle.once_queue.specs.Listings.{own_listing, kept_ticket, ticket_for, list_with, list_without, passes_turn, next_waker}
-pub use Rattle.once_queue.specs.Listings.{left_list, first_waker, call_first, all_out, one_out, is_waker}
+pub use Rattle.once_queue.specs.Listings.{left_list, first_waker, call_first, all_out, is_waker}
 use Rattle.once_world.specs.Record.{Kind, is_lazy, has_call, replaces, OwnerCall, Take, Write, Parts, ReplaceValue, ReplaceAnswers}
 use Rattle.once_world.specs.Record.{Got, GotNone, GotValue, GotAnswers, Answer, RanPending, RanValue, RanError}
 use Rattle.once_world.specs.Record.{Pending, Value, Error, Memory, Full}
@@ -241,7 +241,7 @@ release_list false xs = call_first xs
 -- and hands out these wakers
 abbrev pub release_wakers : Bool → List (Listing ℕ) → List ℕ
 release_wakers true xs = all_out xs []
-release_wakers false xs = one_out (first_waker xs)
+release_wakers false xs = option_to_list (first_waker xs)
 
 -- at the door
 abbrev pub release_step : Bool → SharedState → ℕ → Answer → Ending → Outcome
@@ -260,7 +260,7 @@ abbrev pub leave_step : Bool → SharedState → ℕ → Answer → ℕ → Endi
 leave_step true c t k n e =
     let passing = is_passing c n in
     outcome_of (record c { listings = left_list passing n c.listings }) t k
-    (pass_entries t (one_out (next_waker passing n c.listings))) (next_at (AtCountOut e))
+    (pass_entries t (option_to_list (next_waker passing n c.listings))) (next_at (AtCountOut e))
 leave_step false c t k n e = outcome_of c t k [] (next_at (AtCountOut e))
 
 -- one less is counted

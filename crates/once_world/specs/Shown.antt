@@ -1,10 +1,11 @@
 -- The program's values, with their vectors, as the definitions see them.
 use Rattle.std.specs.Prelude.{ℕ, Bool, true, false, List, [], ◌∷◌, ◌++◌, Option, Some, None, map, reverse}
+use Rattle.std.specs.Option.{option_to_list}
 use Rattle.std.specs.Ordering.{nat_cmp}
 use Rattle.std.specs.BTreeMap.{get}
 use Rattle.once_queue.specs.declared.waiters.Out.{Out}
 use Rattle.once_queue.specs.declared.waiters.Out.TheVariants.{One, All}
-use Rattle.once_queue.specs.Listings.{one_out, wakers_of}
+use Rattle.once_queue.specs.Listings.{wakers_of}
 use Rattle.once_queue.specs.Room.{listings_of}
 use Rattle.once_core.specs.declared.record.Kind.{Kind as GivenKind}
 use Rattle.once_core.specs.declared.record.Kind.TheVariants.{Once as GivenOnce, OnceWith as GivenOnceWith}
@@ -118,7 +119,7 @@ ran_entries None t = []
 
 -- the wakers in what was handed out, in their order
 abbrev pub wakers_in : Out ℕ → List ℕ
-wakers_in (One w) = one_out w
+wakers_in (One w) = option_to_list w
 wakers_in (All X) = wakers_of X.items
 
 -- by one who leaves, or by one who gives the right back

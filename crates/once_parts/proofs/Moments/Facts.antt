@@ -13,7 +13,7 @@ use Rattle.once_parts.specs.Kept.{has_passed, hands_out}
 use Rattle.once_world.specs.Book.{At, Door, IsBook, Page, Queue, TaskState}
 use Rattle.once_world.specs.Machine.{AtCountOut, AtDoorTake, AtLeave, AtList, AtLook, AtRelease, EndDropped, EndMemory, Ending, Place, SharedState, UnderWay, look_answer, pass_entries}
 use Rattle.once_world.proofs.History.Cells.{holder_unset, none_some, set_free}
-use Rattle.once_world.proofs.Invariant.Facts.{AtPlace, Leaves}
+use Rattle.once_world.proofs.Invariant.Facts.{AtPlace, MayLeave}
 use Rattle.once_world.proofs.Invariant.Kept.{releasing_holds}
 use Rattle.once_world.proofs.Moment.Pages.{door_of, queue_of}
 use Rattle.once_world.proofs.Moment.Step.{Moment, grown, moment, stands, told}
@@ -40,7 +40,7 @@ no_head : (a b : Bool) → false ≡ (a || b) → b ≡ false
 no_head a b e = grind arith
 
 -- who is about to leave has not passed its turn on in this call
-leaves_unpassed : (t : ℕ) (h : List Entry) (e : Ending) → Leaves Once t h e → (last_call Once t h).passed ≡ false
+leaves_unpassed : (t : ℕ) (h : List Entry) (e : Ending) → MayLeave Once t h e → (last_call Once t h).passed ≡ false
 leaves_unpassed t h EndMemory l = l.0.poll.unpassed
 leaves_unpassed t h EndDropped l = l.2
 leaves_unpassed t h _ l = absurd l

@@ -1,9 +1,10 @@
 -- Each word of a list of those who wait says of the named list what it says of the list itself.
 use Rattle.std.proofs.Common.{◌≡◌, ℕ, Bool, true, false, cond, ◌==◌, List, [], ◌∷◌, ◌++◌, map, Option, Some, None, refl, ap, ◌∙◌}
-use Rattle.std.specs.Option.{is_some, option_flatten, option_map}
+use Rattle.std.specs.List.{cons_option}
+use Rattle.std.specs.Option.{is_some, option_flatten, option_map, option_or, unwrap_or}
 use Rattle.once_queue.specs.Numbers.{member}
 use Rattle.once_queue.specs.declared.waiters.Listing.{Listing}
-use Rattle.once_queue.specs.Listings.{above_each, call_by, call_first, find_listing, first_by, first_waker, kept_by, kept_ticket, least_from, left_list, list_with, list_without, next_waker, own_listing, passes_turn, take_out, ticket_for, ticket_or, tickets, was_called, wakers_by, wakers_of}
+use Rattle.once_queue.specs.Listings.{above_each, call_by, call_first, find_listing, first_waker, kept_ticket, least_from, left_list, list_with, list_without, next_waker, own_listing, passes_turn, take_out, ticket_for, tickets, was_called, wakers_of}
 use Rattle.once_parts.specs.Named.{named, named_listing}
 
 module _ {W : Type 0} (whose : W → ℕ) where
@@ -15,11 +16,11 @@ module _ {W : Type 0} (whose : W → ℕ) where
   -- the same ticket is kept
   pub kept_named : (k : Option ℕ) (xs : List (Listing W)) → kept_ticket k (named whose xs) ≡ kept_ticket k xs
   kept_named None xs = refl
-  kept_named (Some n) xs = ap (λ ns. kept_by (member n ns) n) (tickets_named xs)
+  kept_named (Some n) xs = ap (λ ns. cond (member n ns) (Some n) None) (tickets_named xs)
 
   -- and the same one is given
   pub ticket_named : (k : Option ℕ) (xs : List (Listing W)) → ticket_for k (named whose xs) ≡ ticket_for k xs
-  ticket_named k xs = λ i. ticket_or (kept_named k xs i) (least_from (above_each (tickets_named xs i)) 0 (tickets_named xs i))
+  ticket_named k xs = λ i. unwrap_or (kept_named k xs i) (least_from (above_each (tickets_named xs i)) 0 (tickets_named xs i))
 
   -- a listing that is found, by whether it is the first
   found_by : (b : Bool) (o : Option W) (f : Option (Option W)) (g : Option (Option ℕ)) → g ≡ option_map (option_map whose) f
@@ -87,14 +88,14 @@ module _ {W : Type 0} (whose : W → ℕ) where
       ∙ push_named (take_out n xs) (record { ticket = n; waker = Some w })
 
   -- the first of two wakers
-  first_by_named : (o p : Option W) → first_by (option_map whose o) (option_map whose p) ≡ option_map whose (first_by o p)
+  first_by_named : (o p : Option W) → option_or (option_map whose o) (option_map whose p) ≡ option_map whose (option_or o p)
   first_by_named (Some w) p = refl
   first_by_named None p = refl
 
   -- the first that was not called
   pub first_named : (xs : List (Listing W)) → first_waker (named whose xs) ≡ option_map whose (first_waker xs)
   first_named [] = refl
-  first_named (x ∷ xs) = ap (first_by (option_map whose x.waker)) (first_named xs) ∙ first_by_named x.waker (first_waker xs)
+  first_named (x ∷ xs) = ap (option_or (option_map whose x.waker)) (first_named xs) ∙ first_by_named x.waker (first_waker xs)
 
   -- a listing is called, by whether it has a waker
   call_by_named : (x : Listing W) (o : Option W) (xs rest : List (Listing W))
@@ -118,11 +119,11 @@ module _ {W : Type 0} (whose : W → ℕ) where
   next_named false n xs = refl
 
   -- a waker before others
-  wakers_by_named : (o : Option W) (ws : List W) → wakers_by (option_map whose o) (map whose ws) ≡ map whose (wakers_by o ws)
+  wakers_by_named : (o : Option W) (ws : List W) → cons_option (option_map whose o) (map whose ws) ≡ map whose (cons_option o ws)
   wakers_by_named (Some w) ws = refl
   wakers_by_named None ws = refl
 
   -- all wakers, in the order of their listings
   pub wakers_named : (xs : List (Listing W)) → wakers_of (named whose xs) ≡ map whose (wakers_of xs)
   wakers_named [] = refl
-  wakers_named (x ∷ xs) = ap (wakers_by (option_map whose x.waker)) (wakers_named xs) ∙ wakers_by_named x.waker (wakers_of xs)
+  wakers_named (x ∷ xs) = ap (cons_option (option_map whose x.waker)) (wakers_named xs) ∙ wakers_by_named x.waker (wakers_of xs)

@@ -1,10 +1,12 @@
 -- A release of the list, and one who leaves it, are the machine's on the page, and hand out the wakers of the tasks that it names.
 use Rattle.std.proofs.Common.{◌≡◌, ℕ, Bool, true, false, List, [], ◌∷◌, map, Option, Some, None, ⊎_elim, refl, sym, ap, ◌∙◌}
+use Rattle.std.specs.Option.{option_to_list}
+use Rattle.std.specs.List.{cons_option}
 use mathlib.Core.Logic.{∥∥₁_elim}
 use base.Stored.{Coded-set, coded_list, coded_ℕ}
 use Rattle.once_queue.specs.declared.waiters.Listing.{Listing}
 use Rattle.once_queue.specs.declared.waiters.Out.{Out}
-use Rattle.once_queue.specs.Listings.{left_list, next_waker, one_out, passes_turn, wakers_by, wakers_of}
+use Rattle.once_queue.specs.Listings.{left_list, next_waker, passes_turn, wakers_of}
 use Rattle.once_queue.specs.Sections.{HandsAll, HandsBy, Releases}
 use Rattle.once_world.specs.Machine.{release_list, release_wakers}
 use Rattle.once_parts.specs.Named.{named, named_one, named_out}
@@ -19,7 +21,7 @@ module _ {W : Type 0} (same other : W → W → Type 0) (apart : (v w : W) → s
   -- so all leave
   all_leave : (seen : List W) (xs os : List (Listing W)) → HandsAll same other seen xs os → wakers_of os ≡ wakers_of xs
   all_leave seen [] [] h = refl
-  all_leave seen (x ∷ xs) (o ∷ os) h = ap (λ p. wakers_by p (wakers_of os)) (leaves_at seen x.waker o.waker h.1) ∙ ap (wakers_by x.waker) (all_leave (wakers_by x.waker seen) xs os h.2)
+  all_leave seen (x ∷ xs) (o ∷ os) h = ap (λ p. cons_option p (wakers_of os)) (leaves_at seen x.waker o.waker h.1) ∙ ap (cons_option x.waker) (all_leave (cons_option x.waker seen) xs os h.2)
   all_leave seen [] (o ∷ os) h = absurd h
   all_leave seen (x ∷ xs) [] h = absurd h
 
@@ -33,7 +35,7 @@ module _ {W : Type 0} (whose : W → ℕ) where
   -- a release hands out the tasks that the page names: one without a value the first who was not called, one with the value all, where the page has each waker once
   pub released_out : (same other : W → W → Type 0) → ((v w : W) → same v w → ⊥) → (v : Bool) (xs xs' : List (Listing W)) (out : Out W) → Releases same other v xs out xs'
       → (v ≡ true → release_wakers true (named whose xs) ≡ wakers_of (named whose xs)) → named_out whose out ≡ release_wakers v (named whose xs)
-  released_out same other apart false xs xs' out r each = ap (named_out whose) r.0 ∙ ap one_out (sym (first_named whose xs))
+  released_out same other apart false xs xs' out r each = ap (named_out whose) r.0 ∙ ap option_to_list (sym (first_named whose xs))
   released_out same other apart true xs xs' out r each =
       ap (named_out whose) r.1
       ∙ ∥∥₁_elim r.2 (Coded-set (coded_list coded_ℕ) _ _)
@@ -47,6 +49,6 @@ module _ {W : Type 0} (whose : W → ℕ) where
 
     -- and so is the one to whom it passes its turn
     pub left_out : (o : Option W) → o ≡ next_waker (passes_turn free n xs) n xs
-        → named_one whose o ≡ one_out (next_waker (passes_turn free n (named whose xs)) n (named whose xs))
+        → named_one whose o ≡ option_to_list (next_waker (passes_turn free n (named whose xs)) n (named whose xs))
     left_out o e = ap (named_one whose) e
-        ∙ ap one_out (sym (next_named whose (passes_turn free n xs) n xs) ∙ ap (λ b. next_waker b n (named whose xs)) (sym (passes_named whose free n xs)))
+        ∙ ap option_to_list (sym (next_named whose (passes_turn free n xs) n xs) ∙ ap (λ b. next_waker b n (named whose xs)) (sym (passes_named whose free n xs)))

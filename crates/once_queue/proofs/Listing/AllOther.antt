@@ -1,13 +1,13 @@
 -- Listings of which each two wakers were told to be other.
 use Rattle.std.proofs.Common.{◌≡◌, ◌<◌, ◌⊎◌, ℕ, suc, Bool, true, false, ◌||◌, List, [], ◌∷◌, ◌++◌, Option, Some, None, All, IfSome, length, get_or, set, refl, inl, inr, sym, ap, subst, arith, cond, not, ◌==◌, filter}
 use mathlib.Core.Logic.{∥∥₁_map}
-use Rattle.std.specs.List.{AllPairs, position}
+use Rattle.std.specs.List.{AllPairs, position, cons_option}
 use Rattle.std.proofs.lemmas.Bool.{false≢true, cases_eq}
 use Rattle.std.proofs.lemmas.List.{get_or-set_other, get_or-set_same, length-set}
 use Rattle.std.proofs.lemmas.List.Quantifiers.{all_pairs_push}
 use Rattle.std.proofs.lemmas.List.Elements.{All-filter}
 use Rattle.std.proofs.lemmas.List.Kept.{AllPairs-filter}
-use Rattle.once_queue.specs.Listings.{Listing, call_first, take_out, wakers_by}
+use Rattle.once_queue.specs.Listings.{Listing, call_first, take_out}
 use Rattle.once_queue.specs.Sections.{AreApart, HandsAll, HandsBy, IsOther}
 use Rattle.once_queue.proofs.Listing.Repeats.{other_by}
 use Rattle.once_queue.proofs.Listing.Uncalled.{first_left, first_within, has_waker, nobody_left}
@@ -90,7 +90,7 @@ module _ {W : Type 0} (same other : W → W → Type 0) where
   hands_by None seen new = refl
 
   new_by : (o p : Option W) (seen : List W) → IfSome p (λ w. IfSome o (λ v. other v w))
-      → IfSome p (λ w. IsOther other w seen) → IfSome p (λ w. IsOther other w (wakers_by o seen))
+      → IfSome p (λ w. IsOther other w seen) → IfSome p (λ w. IsOther other w (cons_option o seen))
   new_by o (Some w) seen apart new = other_by other w o seen apart new
   new_by o None seen apart new = tt
 
@@ -99,7 +99,7 @@ module _ {W : Type 0} (same other : W → W → Type 0) where
   hands_new (x ∷ xs) seen apart new = (
     refl,
     hands_by x.waker seen (new 0 x (omega arith)),
-    hands_new xs (wakers_by x.waker seen) (λ j k d l m. apart (suc j) (suc k) d (omega arith) (omega arith))
+    hands_new xs (cons_option x.waker seen) (λ j k d l m. apart (suc j) (suc k) d (omega arith) (omega arith))
         (λ k d l. new_by x.waker (get_or xs k d).waker seen (apart 0 (suc k) d (omega arith) (omega arith)) (new (suc k) d (omega arith))),
   )
 

@@ -1,14 +1,14 @@
 -- Listings among holes: what taking one out, adding one and calling the first leave of those that are kept.
 use Rattle.std.proofs.Common.{◌≡◌, ◌<◌, ◌≤◌, ◌⊎◌, ℕ, zero, suc, Bool, true, false, cond, not, ◌==◌, List, [], ◌∷◌, ◌++◌, filter, Option, Some, None, length, get_or, set, refl, inl, inr, sym, ap, ◌∙◌, arith}
 use Rattle.std.specs.List.{HoldsAt}
-use Rattle.std.specs.Option.{is_some}
+use Rattle.std.specs.Option.{is_some, option_or}
 use Rattle.std.proofs.lemmas.Bool.{false≢true, cases_eq}
 use Rattle.std.proofs.lemmas.Bool.Decides.{nat_tests}
 use Rattle.std.proofs.lemmas.List.{get_or-set_other, get_or-set_same, get_or_append_left}
 use Rattle.std.proofs.lemmas.List.Elements.{filter-append}
 use Rattle.once_queue.proofs.Listing.Tickets.{take_none}
 use Rattle.once_queue.specs.Numbers.{is_distinct, member}
-use Rattle.once_queue.specs.Listings.{Listing, call_by, call_first, find_listing, first_by, first_waker, take_out, tickets}
+use Rattle.once_queue.specs.Listings.{Listing, call_by, call_first, find_listing, first_waker, take_out, tickets}
 
 module _ {W : Type 0} where
   member_by : (b : Bool) (n : ℕ) (x : Listing W) (ys : List (Listing W)) → member n (tickets ys) ≡ true → member n (tickets (cond b (x ∷ ys) ys)) ≡ true
@@ -41,7 +41,7 @@ module _ {W : Type 0} where
 
   -- the first listing with a waker
   calls_by : (x : Listing W) (o : Option W) (ys : List (Listing W)) → is_some o ≡ true
-      → (o ≡ first_by o (first_waker ys)) × (record { ticket = x.ticket; waker = None } ∷ ys ≡ call_by x o ys (call_first ys))
+      → (o ≡ option_or o (first_waker ys)) × (record { ticket = x.ticket; waker = None } ∷ ys ≡ call_by x o ys (call_first ys))
   calls_by x (Some w) ys s = (refl, refl)
   calls_by x None ys s = absurd (false≢true s)
 

@@ -2,30 +2,30 @@
 use Rattle.std.proofs.Common.{◌≡◌, ◌<◌, ◌≤◌, ℕ, zero, suc, List, [], ◌∷◌, Option, Some, None, All, IfSome, length, get_or, set, take, drop, refl, sym, ap, ◌∙◌, inl, inr, arith, ◌++◌}
 use Rattle.std.proofs.Math.Seq.{drop-cons, take-suc}
 use Rattle.std.proofs.lemmas.List.{get_or_default, get_or-set_same, get_or-take, take-take, take-set, length-set, drop-set-lt}
-use Rattle.std.specs.List.{HoldsAt}
+use Rattle.std.specs.List.{HoldsAt, cons_option}
 use Rattle.std.specs.Option.{MatchOption}
-use Rattle.once_queue.specs.Listings.{Listing, wakers_by}
+use Rattle.once_queue.specs.Listings.{Listing}
 use Rattle.once_queue.specs.Sections.{HandsAll, HandsBy, IsAmong, IsOther}
 
 module _ {W : Type 0} where
   -- the wakers of the listings, the last first, before those that were seen
   abbrev pub seen_after : List W → List (Listing W) → List W
   seen_after seen [] = seen
-  seen_after seen (x ∷ xs) = seen_after (wakers_by x.waker seen) xs
+  seen_after seen (x ∷ xs) = seen_after (cons_option x.waker seen) xs
 
 module _ {W : Type 0} (same : W → W → Type 0) (w : W) where
   among_more : (v : W) (seen : List W) → IsAmong same w seen → IsAmong same w (v ∷ seen)
   among_more v seen a = (suc a.0, omega (arith, a.1), a.2)
 
-  among_by : (o : Option W) (seen : List W) → IsAmong same w seen → IsAmong same w (wakers_by o seen)
+  among_by : (o : Option W) (seen : List W) → IsAmong same w seen → IsAmong same w (cons_option o seen)
   among_by (Some v) seen a = among_more v seen a
   among_by None seen a = a
 
   among_after : (xs : List (Listing W)) (seen : List W) → IsAmong same w seen → IsAmong same w (seen_after seen xs)
   among_after [] seen a = a
-  among_after (x ∷ xs) seen a = among_after xs (wakers_by x.waker seen) (among_by x.waker seen a)
+  among_after (x ∷ xs) seen a = among_after xs (cons_option x.waker seen) (among_by x.waker seen a)
 
-  among_here : (o : Option W) (seen : List W) → MatchOption o ⊥ (λ v. same v w) → IsAmong same w (wakers_by o seen)
+  among_here : (o : Option W) (seen : List W) → MatchOption o ⊥ (λ v. same v w) → IsAmong same w (cons_option o seen)
   among_here (Some v) seen s = (0, omega arith, λ d. s)
   among_here None seen s = absurd s
 
@@ -33,8 +33,8 @@ module _ {W : Type 0} (same : W → W → Type 0) (w : W) where
   among_seen : (k : ℕ) (xs : List (Listing W)) (seen : List W) → k < length xs
       → HoldsAt (λ x. MatchOption x.waker ⊥ (λ v. same v w)) xs k → IsAmong same w (seen_after seen xs)
   among_seen k [] seen l s = absurd (omega arith)
-  among_seen zero (x ∷ xs) seen l s = among_after xs (wakers_by x.waker seen) (among_here x.waker seen (s x))
-  among_seen (suc k) (x ∷ xs) seen l s = among_seen k xs (wakers_by x.waker seen) (omega arith) s
+  among_seen zero (x ∷ xs) seen l s = among_after xs (cons_option x.waker seen) (among_here x.waker seen (s x))
+  among_seen (suc k) (x ∷ xs) seen l s = among_seen k xs (cons_option x.waker seen) (omega arith) s
 
 module _ {W : Type 0} (other : W → W → Type 0) (w : W) where
   other_more : (v : W) (seen : List W) → other v w → IsOther other w seen → IsOther other w (v ∷ seen)
@@ -42,7 +42,7 @@ module _ {W : Type 0} (other : W → W → Type 0) (w : W) where
   other_more v seen o rest (suc k) d l = rest k d (omega arith)
 
   -- a waker that is other than those seen, and than the next
-  pub other_by : (o : Option W) (seen : List W) → IfSome o (λ v. other v w) → IsOther other w seen → IsOther other w (wakers_by o seen)
+  pub other_by : (o : Option W) (seen : List W) → IfSome o (λ v. other v w) → IsOther other w seen → IsOther other w (cons_option o seen)
   other_by (Some v) seen o rest = other_more v seen o rest
   other_by None seen o rest = rest
 
@@ -50,7 +50,7 @@ module _ {W : Type 0} (other : W → W → Type 0) (w : W) where
   other_seen : (xs : List (Listing W)) (seen : List W) → All (λ x. IfSome x.waker (λ v. other v w)) xs
       → IsOther other w seen → IsOther other w (seen_after seen xs)
   other_seen [] seen all rest = rest
-  other_seen (x ∷ xs) seen all rest = other_seen xs (wakers_by x.waker seen) (λ k d l. all (suc k) d (omega arith)) (other_by x.waker seen (all 0 x (omega arith)) rest)
+  other_seen (x ∷ xs) seen all rest = other_seen xs (cons_option x.waker seen) (λ k d l. all (suc k) d (omega arith)) (other_by x.waker seen (all 0 x (omega arith)) rest)
 
 module _ {W : Type 0} (same other : W → W → Type 0) where
   -- what the comparisons with those before tell of what a listing hands out
@@ -66,9 +66,9 @@ module _ {W : Type 0} (same other : W → W → Type 0) where
   hands_itself (Some w) before all = inr (refl, other_seen other w before [] all (λ k d l. absurd (omega arith)))
   hands_itself None before all = refl
 
-  seen_push : (x : Listing W) (xs : List (Listing W)) (seen : List W) → seen_after seen (xs ++ x ∷ []) ≡ wakers_by x.waker (seen_after seen xs)
+  seen_push : (x : Listing W) (xs : List (Listing W)) (seen : List W) → seen_after seen (xs ++ x ∷ []) ≡ cons_option x.waker (seen_after seen xs)
   seen_push x [] seen = refl
-  seen_push x (y ∷ xs) seen = seen_push x xs (wakers_by y.waker seen)
+  seen_push x (y ∷ xs) seen = seen_push x xs (cons_option y.waker seen)
 
   -- one listing more from the end
   hands_more : (i : ℕ) (xs ys : List (Listing W)) (d : Listing W) → i < length xs → i < length ys → (get_or ys i d).ticket ≡ (get_or xs i d).ticket

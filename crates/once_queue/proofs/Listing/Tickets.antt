@@ -7,9 +7,9 @@ use Rattle.std.proofs.lemmas.Bool.Decides.{nat_tests}
 use Rattle.std.proofs.lemmas.List.Quantifiers.{position-Some}
 use Rattle.once_queue.proofs.Listing.Members.{eqb_self, is_distinct-push}
 use Rattle.once_queue.specs.Numbers.{is_distinct, member}
-use Rattle.once_queue.specs.Listings.{Listing, find_listing, kept_by, kept_ticket, own_listing, take_out, tickets}
+use Rattle.once_queue.specs.Listings.{Listing, find_listing, kept_ticket, own_listing, take_out, tickets}
 
-kept_listed : (b : Bool) (n : ℕ) → b ≡ is_some (kept_by b n)
+kept_listed : (b : Bool) (n : ℕ) → b ≡ is_some (cond b (Some n) None)
 kept_listed true n = refl
 kept_listed false n = refl
 

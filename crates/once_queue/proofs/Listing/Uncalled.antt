@@ -1,22 +1,22 @@
 -- The first listing that was not called yet: where it stands, and what a call leaves.
 use Rattle.std.proofs.Common.{◌≡◌, ◌<◌, ◌≤◌, ℕ, zero, suc, Bool, true, false, List, [], ◌∷◌, Option, Some, None, length, get_or, set, refl, sym, ap, ◌∙◌, arith}
 use Rattle.std.specs.List.{position, position_or_len}
-use Rattle.std.specs.Option.{is_some}
+use Rattle.std.specs.Option.{is_some, option_or}
 use Rattle.std.proofs.lemmas.Bool.{false≢true}
 use Rattle.std.proofs.lemmas.Bool.Decides.{nat_tests}
 use Rattle.std.proofs.lemmas.Option.{none-some}
 use Rattle.std.proofs.lemmas.List.Quantifiers.{position-Some}
-use Rattle.once_queue.specs.Listings.{Listing, call_by, call_first, first_by, first_waker, tickets}
+use Rattle.once_queue.specs.Listings.{Listing, call_by, call_first, first_waker, tickets}
 
 module _ {W : Type 0} where
   abbrev pub has_waker : Listing W → Bool
   has_waker x = is_some x.waker
 
-  some_by : (o rest : Option W) → is_some o ≡ true → first_by o rest ≡ o
+  some_by : (o rest : Option W) → is_some o ≡ true → option_or o rest ≡ o
   some_by (Some w) rest s = refl
   some_by None rest s = absurd (false≢true s)
 
-  none_by : (o rest : Option W) → is_some o ≡ false → first_by o rest ≡ rest
+  none_by : (o rest : Option W) → is_some o ≡ false → option_or o rest ≡ rest
   none_by (Some w) rest s = absurd (false≢true (sym s))
   none_by None rest s = refl
 

@@ -1,5 +1,6 @@
 -- The sections of one who gives the right back, and of one who leaves, are exactly the machine's.
 use Rattle.std.proofs.Common.{◌≡◌, ◌≢◌, ℕ, Bool, true, false, cond, List, [], ◌∷◌, Option, Some, None, refl, sym, ap, ◌∙◌, subst}
+use Rattle.std.specs.Option.{option_to_list}
 use Rattle.once_queue.specs.declared.waiters.Op.{Op}
 use Rattle.once_queue.specs.declared.waiters.Op.TheVariants.{Leave as LeaveOp, Release as ReleaseOp}
 use Rattle.once_queue.specs.declared.waiters.Answer.{Answer as SectionAnswer}
@@ -8,7 +9,7 @@ use Rattle.once_queue.specs.declared.waiters.Out.{Out}
 use Rattle.once_queue.specs.declared.waiters.Out.TheVariants.{One}
 use Rattle.once_world.specs.declared.world.side.ReplaySide.{ReplaySide}
 use Rattle.once_queue.specs.declared.waiters.Listing.{Listing}
-use Rattle.once_queue.specs.Listings.{left_list, next_waker, one_out}
+use Rattle.once_queue.specs.Listings.{left_list, next_waker}
 use Rattle.once_queue.specs.Sections.{Releases}
 use Rattle.once_core.specs.Core.{CoreState, leave_state, release_state}
 use Rattle.once_world.specs.Places.{AtCountOut, AtLeave, AtRelease, Ending, More, Progress, Step, UnderWay}
@@ -27,7 +28,7 @@ released_shared c s false r xs e = λ i. record { count = s.word.count; quick = 
 
 -- one who leaves passes its turn on to one waker at most
 pass_seen : (q k : ℕ) (e : Ending) (c : ReplaySide) (n : ℕ) (w : Option ℕ)
-    → seen_entries (UnderWay (AtLeave q k e)) n (record c { ran = None; handed = Some (One w) }) More (UnderWay (AtCountOut e)) ≡ pass_entries n (one_out w)
+    → seen_entries (UnderWay (AtLeave q k e)) n (record c { ran = None; handed = Some (One w) }) More (UnderWay (AtCountOut e)) ≡ pass_entries n (option_to_list w)
 pass_seen q k e c n (Some w) = refl
 pass_seen q k e c n None = refl
 
@@ -75,8 +76,8 @@ module _ (c : ReplaySide) (f : IsFresh c) (s : CoreState ℕ) (c' : ReplaySide) 
   leave_here k w next same wake =
       wakes_by (UnderWay (AtLeave q k e)) s c f s' c' p t (EnteredLine q ∷ []) (One w) e
       (record (shared_by s c) { listings = left_list (is_passing (shared_by s c) k) k s.listings })
-      (λ n. pass_entries n (one_out (next_waker (is_passing (shared_by s c) k) k s.listings)))
-      (entered_log q s s' (ap (λ y. y.log) same)) wake more step (ap (λ y. shared_by y c) same) (λ n. pass_seen q k e c n w ∙ ap (λ x. pass_entries n (one_out x)) next)
+      (λ n. pass_entries n (option_to_list (next_waker (is_passing (shared_by s c) k) k s.listings)))
+      (entered_log q s s' (ap (λ y. y.log) same)) wake more step (ap (λ y. shared_by y c) same) (λ n. pass_seen q k e c n w ∙ ap (λ x. pass_entries n (option_to_list x)) next)
 
   -- one who leaves, by where its queue is
   leave_by : (k : ℕ) (at : Bool) (a : SectionAnswer ℕ) → is_at_door q s.door ≡ at → NumberSection s q (LeaveOp k) a o s' → Wakes DidWake (out_of a) c c'

@@ -1,12 +1,13 @@
 -- The listings against the history.
 use Rattle.std.proofs.Common.{◌≡◌, ◌≢◌, ◌≤◌, ◌<◌, ◌+◌, ℕ, true, false, List, [], ◌∷◌, Option, Some, None, length, refl, arith}
+use Rattle.std.specs.Option.{option_to_list}
 use Rattle.std.proofs.lemmas.Bool.{false≢true}
 use Rattle.once_queue.specs.Numbers.{bit, member, times_in}
 use Rattle.once_world.specs.Record.{Entry, Kind, handed_by, is_of, is_replacing}
 use Rattle.once_world.specs.Cell.{Empty, cell, cell_after}
 use Rattle.once_world.specs.Tasks.{Waiting, status, status_after}
 use Rattle.once_queue.specs.declared.waiters.Listing.{Listing}
-use Rattle.once_queue.specs.Listings.{all_out, find_listing, first_waker, one_out}
+use Rattle.once_queue.specs.Listings.{all_out, find_listing, first_waker}
 use Rattle.once_world.specs.Wakers.{CallsOne, HandsOut, IsDue, IsOpen, times_handed, times_opened, opens}
 use Rattle.once_world.proofs.Listing.Listings.{asks, asks_call, first_asks}
 use Rattle.once_world.proofs.Listing.AllOut.{all_due, all_once, all_times, member_times}
@@ -71,21 +72,21 @@ hands_out K xs h q due = record {
   open_alone = λ w. open_by K w (all_out xs []) xs h q (λ k. all_times k xs []);
 }
 
-one_by : (o : Option ℕ) → length (one_out o) ≤ 1
+one_by : (o : Option ℕ) → length (option_to_list o) ≤ 1
 one_by (Some w) = omega arith
 one_by None = omega arith
 
-some_out : (o : Option ℕ) → one_out o ≡ [] → o ≡ None
+some_out : (o : Option ℕ) → option_to_list o ≡ [] → o ≡ None
 some_out (Some w) e = grind arith
 some_out None e = refl
 
 -- and so does what one without a value hands out
 pub calls_one : (K : Kind) (xs : List (Listing ℕ)) (h : List Entry) → QueueFits K xs h
-    → ((w : ℕ) → IsDue K w h → 0 < asks w xs) → CallsOne K (one_out (first_waker xs)) h
+    → ((w : ℕ) → IsDue K w h → 0 < asks w xs) → CallsOne K (option_to_list (first_waker xs)) h
 calls_one K xs h q due = record {
   one = one_by (first_waker xs);
   due = λ w d e. let l = due w d in let z = first_asks w xs (some_out (first_waker xs) e) in absurd (omega arith);
-  open_alone = λ w. open_by K w (one_out (first_waker xs)) xs h q (λ k. let a = asks_call k xs in omega arith);
+  open_alone = λ w. open_by K w (option_to_list (first_waker xs)) xs h q (λ k. let a = asks_call k xs in omega arith);
 }
 
 -- where nobody waits nothing need be handed out

@@ -10,7 +10,7 @@ use Rattle.once_queue.proofs.Listing.Members.{eqb_self}
 use Rattle.once_world.proofs.History.Others.{Met, SomeoneWaits, holds, since_now, since_now_acts}
 use Rattle.once_world.proofs.History.Cells.{held_by, holder_of}
 use Rattle.once_world.proofs.Listing.Counting.{count_some, count_weaker}
-use Rattle.once_world.proofs.Invariant.Facts.{AtPlace, AtRest, AtStep, HoldsBy, IsSomeDoor, Leaves, Owes, Releasing, is_counted, is_counted_at, is_inside, is_take}
+use Rattle.once_world.proofs.Invariant.Facts.{AtPlace, AtRest, AtStep, HoldsBy, IsSomeDoor, MayLeave, Owes, Releasing, is_counted, is_counted_at, is_inside, is_take}
 use Rattle.once_world.proofs.Invariant.Fits.{Fits, StandsFor}
 use Rattle.once_world.proofs.Invariant.Moves.{in_count, inside_counted}
 
@@ -52,7 +52,7 @@ releasing_acts K u c h EndMemory r = absurd r
 releasing_acts K u c h EndFull r = absurd r
 
 -- a call that leaves is under way
-pub leaves_acts : (K : Kind) (u : ℕ) (h : List Entry) (e : Ending) → Leaves K u h e → is_under_way (status K u h) ≡ true
+pub leaves_acts : (K : Kind) (u : ℕ) (h : List Entry) (e : Ending) → MayLeave K u h e → is_under_way (status K u h) ≡ true
 leaves_acts K u h EndMemory o = ap is_under_way o.0.poll.status_is
 leaves_acts K u h EndDropped o = ap is_under_way o.0.status_is
 leaves_acts K u h EndValue o = absurd o

@@ -111,13 +111,13 @@ RestsOn K t c h None = ⊥
 RestsOn K t c h (Some n) = ((last_call K t h).listed ≡ (last_call K t h).waker) × IsListed K t c h n
 
 -- what stands in a call that leaves, and will end so
-abbrev pub Leaves : Kind → ℕ → List Entry → Ending → Type 0
-Leaves K t h EndMemory = Entered K t h × MemoryFrom K (last_call K t h).began t h
-Leaves K t h EndDropped = InStatus K t h Dropping false × ((last_call K t h).claimed ≡ false) × ((last_call K t h).passed ≡ false)
-Leaves K t h EndValue = ⊥
-Leaves K t h EndError = ⊥
-Leaves K t h EndPending = ⊥
-Leaves K t h EndFull = ⊥
+abbrev pub MayLeave : Kind → ℕ → List Entry → Ending → Type 0
+MayLeave K t h EndMemory = Entered K t h × MemoryFrom K (last_call K t h).began t h
+MayLeave K t h EndDropped = InStatus K t h Dropping false × ((last_call K t h).claimed ≡ false) × ((last_call K t h).passed ≡ false)
+MayLeave K t h EndValue = ⊥
+MayLeave K t h EndError = ⊥
+MayLeave K t h EndPending = ⊥
+MayLeave K t h EndFull = ⊥
 
 -- what stands for a task at rest
 abbrev pub AtRest : Kind → ℕ → ℕ → SharedState → List Entry → Rest ℕ → Type 0
@@ -141,7 +141,7 @@ AtPlace K limit t c h (AtFast e) = Releasing K t h c e × QuickFlag c × (c.coun
 AtPlace K limit t c h (AtAddOne e) = Releasing K t h c e × QuickFlag c × (c.count ≤ limit) × IsSomeDoor c
 AtPlace K limit t c h (AtDoorAgain e) = Releasing K t h c e × QuickFlag c × IsSomeDoor c
 AtPlace K limit t c h (AtRelease q e) = Releasing K t h c e × (QuickFlag c ⊎ HeadFlag c) × (c.door ≡ Some q)
-AtPlace K limit t c h (AtLeave q n e) = Leaves K t h e × (c.door ≡ Some q) × ((last_call K t h).began ≡ Waiting) × IsListed K t c h n
+AtPlace K limit t c h (AtLeave q n e) = MayLeave K t h e × (c.door ≡ Some q) × ((last_call K t h).began ≡ Waiting) × IsListed K t c h n
 AtPlace K limit t c h (AtCountOut e) = Owes K t h e
 AtPlace K limit t c h (AtDoorTake e) = Owes K t h e × (c.ready ≡ true)
 

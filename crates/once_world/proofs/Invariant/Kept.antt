@@ -8,7 +8,7 @@ use Rattle.once_world.specs.Refusals.{MemoryFrom}
 use Rattle.once_world.specs.Machine.{AtAddOne, AtCountIn, AtCountOut, AtDoorAgain, AtDoorGet, AtDoorPut, AtDoorTake, AtFast, AtList, AtLook, AtPut, AtLeave, AtRelease, AtRun, AtStart, AtTryQuick, AtWaitLoad, EndDropped, EndError, EndFull, EndMemory, EndPending, EndValue, Ending, Finished, SharedState, Place, Rest, RestRun, RestStart, RestWait, Resting, Step, UnderWay}
 use Rattle.once_world.proofs.History.Others.{Keeps, holds}
 use Rattle.once_world.proofs.History.Cells.{holder_unset}
-use Rattle.once_world.proofs.Invariant.Facts.{AnyIn, AtPlace, AtRest, AtStep, Entered, FreshIn, GaveNothing, HeadFlag, HoldsBy, InPoll, InStatus, Leaves, Owes, QuickFlag, RefusedIn, Releasing, is_inside, is_inside_at, ticket_at, ticket_of}
+use Rattle.once_world.proofs.Invariant.Facts.{AnyIn, AtPlace, AtRest, AtStep, Entered, FreshIn, GaveNothing, HeadFlag, HoldsBy, InPoll, InStatus, MayLeave, Owes, QuickFlag, RefusedIn, Releasing, is_inside, is_inside_at, ticket_at, ticket_of}
 use Rattle.once_world.proofs.Invariant.Listed.{ListKept, listed_kept, rests_kept, ticket_kept}
 
 -- what a step of another task leaves for u of what all tasks share
@@ -69,7 +69,7 @@ refused_kept K u h h' k p = record {
   unclaimed = ap (λ (x : LastCall). x.claimed) k.call_is ∙ p.unclaimed;
 }
 
-leaves_kept : (K : Kind) (u : ℕ) (h h' : List Entry) (e : Ending) → Keeps K u h h' → Leaves K u h e → Leaves K u h' e
+leaves_kept : (K : Kind) (u : ℕ) (h h' : List Entry) (e : Ending) → Keeps K u h h' → MayLeave K u h e → MayLeave K u h' e
 leaves_kept K u h h' EndMemory k o = (entered_kept K u h h' k o.0, rw k.call_is (memory_kept K (last_call K u h).began u h h' k o.1))
 leaves_kept K u h h' EndDropped k o = (in_status_kept K u h h' Dropping false k o.0, rw k.call_is o.1, rw k.call_is o.2)
 leaves_kept K u h h' EndValue k o = absurd o

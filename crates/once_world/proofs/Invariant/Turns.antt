@@ -8,7 +8,7 @@ use Rattle.once_queue.specs.Listings.{find_listing}
 use Rattle.once_world.specs.Called.{HasTurn, SomebodyCalled}
 use Rattle.once_world.specs.Machine.{AtLeave, AtList, AtLook, AtWaitLoad, EndDropped, EndError, EndFull, EndMemory, EndPending, EndValue, Ending, Finished, SharedState, Place, Rest, RestRun, RestStart, RestWait, Resting, Step, Task, UnderWay, step_of}
 use Rattle.once_world.proofs.History.Waiters.{CalledAt}
-use Rattle.once_world.proofs.Invariant.Facts.{AnyIn, AtPlace, AtRest, AtStep, HasTicket, IsListed, IsSomeDoor, Leaves, RestsOn, ticket_at, ticket_of}
+use Rattle.once_world.proofs.Invariant.Facts.{AnyIn, AtPlace, AtRest, AtStep, HasTicket, IsListed, IsSomeDoor, MayLeave, RestsOn, ticket_at, ticket_of}
 use Rattle.once_world.proofs.Invariant.Fits.{StandsFor}
 use Rattle.once_world.proofs.Invariant.Listed.{IsKept, none_not_some, same_some}
 
@@ -64,7 +64,7 @@ polls_at K u n q c h k e a d f =
     record { acts = inr (record { under_way = ap is_under_way a.entered.poll.status_is; began = l.0; unclaimed = a.entered.unclaimed; unpassed = a.entered.poll.unpassed }); listed = l.1; door = (q, d) }
 
 -- who leaves has its turn until it passes it on
-leaves_turn : (K : Kind) (u : ℕ) (h : List Entry) (e : Ending) → (last_call K u h).began ≡ Waiting → Leaves K u h e → HasTurn K u h
+leaves_turn : (K : Kind) (u : ℕ) (h : List Entry) (e : Ending) → (last_call K u h).began ≡ Waiting → MayLeave K u h e → HasTurn K u h
 leaves_turn K u h EndMemory b a = record { under_way = ap is_under_way a.0.poll.status_is; began = b; unclaimed = a.0.unclaimed; unpassed = a.0.poll.unpassed }
 leaves_turn K u h EndDropped b a = record { under_way = ap is_under_way a.0.status_is; began = b; unclaimed = a.1; unpassed = a.2 }
 leaves_turn K u h EndValue b a = absurd a

@@ -1,10 +1,11 @@
 -- Where the one who is listed under a waker is told by the waker, no waker is listed twice, and a fill hands out all of them.
 use Rattle.std.proofs.Common.{◌≡◌, ℕ, Bool, true, false, ◌==◌, List, [], ◌∷◌, Option, Some, None, refl, sym, ap, ◌∙◌, subst, arith}
+use Rattle.std.specs.List.{cons_option}
 use Rattle.std.proofs.lemmas.Bool.{false≢true, eqb-true}
 use Rattle.std.proofs.lemmas.Bool.Decides.{nat_tests}
 use Rattle.once_queue.specs.Numbers.{is_distinct, member}
 use Rattle.once_queue.specs.declared.waiters.Listing.{Listing}
-use Rattle.once_queue.specs.Listings.{all_out, find_listing, out_by, tickets, wakers_by, wakers_of}
+use Rattle.once_queue.specs.Listings.{all_out, find_listing, out_by, tickets, wakers_of}
 use Rattle.once_queue.proofs.Listing.Members.{eqb_self}
 use Rattle.once_queue.proofs.Listing.Tickets.{found_ticket}
 use Rattle.once_world.proofs.Invariant.Listed.{same_some}
@@ -18,10 +19,10 @@ not_seen : (w n : ℕ) (ws seen : List ℕ) → member w ws ≡ false → member
 not_seen w n ws seen other m fresh = grind (arith, nat_tests)
 
 -- the first listing hands its waker out, if that was not seen
-out_apart : (o : Option ℕ) (xs : List (Listing ℕ)) (seen : List ℕ) → is_distinct (wakers_by o (wakers_of xs)) ≡ true
-    → ((n : ℕ) → member n (wakers_by o (wakers_of xs)) ≡ true → member n seen ≡ false)
+out_apart : (o : Option ℕ) (xs : List (Listing ℕ)) (seen : List ℕ) → is_distinct (cons_option o (wakers_of xs)) ≡ true
+    → ((n : ℕ) → member n (cons_option o (wakers_of xs)) ≡ true → member n seen ≡ false)
     → ((s : List ℕ) → is_distinct (wakers_of xs) ≡ true → ((n : ℕ) → member n (wakers_of xs) ≡ true → member n s ≡ false) → all_out xs s ≡ wakers_of xs)
-    → out_by o (all_out xs) seen ≡ wakers_by o (wakers_of xs)
+    → out_by o (all_out xs) seen ≡ cons_option o (wakers_of xs)
 out_apart None xs seen d apart rest = rest seen d apart
 out_apart (Some w) xs seen d apart rest =
     let ws : List ℕ = wakers_of xs in
@@ -50,7 +51,7 @@ rest_once x xs d = grind arith
 
 -- the listing of a waker, by the first one's waker
 listing_by : (x : Listing ℕ) (o : Option ℕ) (v : ℕ) (xs : List (Listing ℕ)) → x.waker ≡ o → is_distinct (tickets (x ∷ xs)) ≡ true
-    → member v (wakers_by o (wakers_of xs)) ≡ true → (member v (wakers_of xs) ≡ true → (n : ℕ) × (find_listing n xs ≡ Some (Some v)))
+    → member v (cons_option o (wakers_of xs)) ≡ true → (member v (wakers_of xs) ≡ true → (n : ℕ) × (find_listing n xs ≡ Some (Some v)))
     → (n : ℕ) × (find_listing n (x ∷ xs) ≡ Some (Some v))
 listing_by x None v xs is d m rest = let r = rest m in (r.0, found_later x r.0 (Some v) xs (first_new x xs d) r.1)
 listing_by x (Some w) v xs is d m rest = here (w == v) refl
@@ -66,7 +67,7 @@ listing_of v (x ∷ xs) d m = listing_by x x.waker v xs refl d m (listing_of v x
 
 -- the first waker is not among the later ones, where the ticket of each is told by the waker
 apart_by : (T : ℕ → Option ℕ) (x : Listing ℕ) (o : Option ℕ) (xs : List (Listing ℕ)) → x.waker ≡ o → is_distinct (tickets (x ∷ xs)) ≡ true
-    → ((n v : ℕ) → find_listing n (x ∷ xs) ≡ Some (Some v) → T v ≡ Some n) → is_distinct (wakers_of xs) ≡ true → is_distinct (wakers_by o (wakers_of xs)) ≡ true
+    → ((n v : ℕ) → find_listing n (x ∷ xs) ≡ Some (Some v) → T v ≡ Some n) → is_distinct (wakers_of xs) ≡ true → is_distinct (cons_option o (wakers_of xs)) ≡ true
 apart_by T x None xs is d own rest = rest
 apart_by T x (Some w) xs is d own rest = here (member w (wakers_of xs)) refl
   where

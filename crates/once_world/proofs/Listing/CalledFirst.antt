@@ -1,7 +1,8 @@
 -- What the call of the first listing leaves.
 use Rattle.std.proofs.Common.{◌≡◌, ℕ, Bool, true, false, ◌==◌, ◌⊎◌, inl, inr, List, [], ◌∷◌, Option, Some, None, refl, ap, arith}
+use Rattle.std.specs.Option.{option_or}
 use Rattle.once_queue.specs.declared.waiters.Listing.{Listing}
-use Rattle.once_queue.specs.Listings.{call_by, call_first, find_listing, first_by, first_waker}
+use Rattle.once_queue.specs.Listings.{call_by, call_first, find_listing, first_waker}
 use Rattle.once_queue.proofs.Listing.Members.{eqb_self}
 
 -- what it leaves of the listing n that had the waker o, if any: the same, or none where it was called
@@ -10,7 +11,7 @@ Called n o xs = (find_listing n (call_first xs) ≡ Some o) ⊎ ((w : ℕ) × (o
 
 call_find_by : (n : ℕ) (o : Option ℕ) (x : Listing ℕ) (xs : List (Listing ℕ)) (k : Option ℕ) (b : Bool) → x.waker ≡ k
     → (x.ticket == n) ≡ b → find_listing n (x ∷ xs) ≡ Some o → (find_listing n xs ≡ Some o → Called n o xs)
-    → (find_listing n (call_by x k xs (call_first xs)) ≡ Some o) ⊎ ((w : ℕ) × (o ≡ Some w) × (find_listing n (call_by x k xs (call_first xs)) ≡ Some None) × (first_by k (first_waker xs) ≡ Some w))
+    → (find_listing n (call_by x k xs (call_first xs)) ≡ Some o) ⊎ ((w : ℕ) × (o ≡ Some w) × (find_listing n (call_by x k xs (call_first xs)) ≡ Some None) × (option_or k (first_waker xs) ≡ Some w))
 call_find_by n o x xs (Some w) true is b f ih = inr (w, grind arith, grind arith, refl)
 call_find_by n o x xs (Some w) false is b f ih = inl (grind arith)
 call_find_by n o x xs None true is b f ih = inl (grind arith)
@@ -42,7 +43,7 @@ pub call_called : (w : ℕ) (xs : List (Listing ℕ)) → first_waker xs ≡ Som
 call_called w [] e = grind arith
 call_called w (x ∷ xs) e = called_by x xs x.waker refl
 
-call_none_by : (x : Listing ℕ) (xs : List (Listing ℕ)) (k : Option ℕ) → first_by k (first_waker xs) ≡ None
+call_none_by : (x : Listing ℕ) (xs : List (Listing ℕ)) (k : Option ℕ) → option_or k (first_waker xs) ≡ None
     → (first_waker xs ≡ None → call_first xs ≡ xs) → call_by x k xs (call_first xs) ≡ x ∷ xs
 call_none_by x xs (Some w) e ih = grind arith
 call_none_by x xs None e ih = ap (λ (ys : List (Listing ℕ)). x ∷ ys) (ih e)

@@ -1,10 +1,11 @@
 -- What a section hands out where wakers are numbers, from what the comparisons of wakers tell.
 use Rattle.std.proofs.Common.{◌≡◌, ◌≢◌, ℕ, ◌<◌, Bool, true, false, cond, ◌==◌, inl, inr, List, [], ◌∷◌, Option, Some, None, length, slice_index_or, zero, suc, refl, sym, ap, ◌∙◌, arith}
+use Rattle.std.specs.List.{cons_option}
 use Rattle.std.proofs.lemmas.Bool.{ne_eqb}
 use Rattle.std.proofs.lemmas.Bool.Decides.{nat_tests}
 use Rattle.once_queue.specs.declared.waiters.Out.{Out}
 use Rattle.once_queue.specs.declared.waiters.Listing.{Listing}
-use Rattle.once_queue.specs.Listings.{all_out, out_by, wakers_by, wakers_of}
+use Rattle.once_queue.specs.Listings.{all_out, out_by, wakers_of}
 use Rattle.once_queue.specs.Sections.{HandsAll, HandsBy, IsAmong, IsOther, Releases}
 use Rattle.once_queue.specs.Numbers.{member}
 use Rattle.once_world.specs.Machine.{release_wakers, release_list}
@@ -37,8 +38,8 @@ seen_again w v xs m = grind (arith, nat_tests)
 -- one listing leaves, where what comes after it is told by those that were seen until then
 hands_by : (o out : Option ℕ) (seen before rest : List ℕ) (after : List ℕ → List ℕ)
     → ((w : ℕ) → member w seen ≡ member w before) → HandsBy (λ a b. a ≡ b) (λ a b. a ≢ b) seen o out
-    → ((now : List ℕ) → ((w : ℕ) → member w (wakers_by o seen) ≡ member w now) → rest ≡ after now)
-    → wakers_by out rest ≡ out_by o after before
+    → ((now : List ℕ) → ((w : ℕ) → member w (cons_option o seen) ≡ member w now) → rest ≡ after now)
+    → cons_option out rest ≡ out_by o after before
 hands_by None out seen before rest after same d told = rw d (told before same)
 hands_by (Some w) out seen before rest after same (inl d) told =
     let m = among_member w seen d.1 in
@@ -50,7 +51,7 @@ hands_by (Some w) out seen before rest after same (inr d) told =
 hands_all : (xs ys : List (Listing ℕ)) (seen before : List ℕ) → ((w : ℕ) → member w seen ≡ member w before)
     → HandsAll (λ a b. a ≡ b) (λ a b. a ≢ b) seen xs ys → wakers_of ys ≡ all_out xs before
 hands_all [] [] seen before same d = refl
-hands_all (x ∷ xs) (y ∷ ys) seen before same d = hands_by x.waker y.waker seen before (wakers_of ys) (all_out xs) same d.1 (λ now e. hands_all xs ys (wakers_by x.waker seen) now e d.2)
+hands_all (x ∷ xs) (y ∷ ys) seen before same d = hands_by x.waker y.waker seen before (wakers_of ys) (all_out xs) same d.1 (λ now e. hands_all xs ys (cons_option x.waker seen) now e d.2)
 hands_all [] (y ∷ ys) seen before same d = absurd d
 hands_all (x ∷ xs) [] seen before same d = absurd d
 

@@ -1,9 +1,10 @@
 -- Lists of listings: what is found by a ticket, and how many have a waker.
 use Rattle.std.proofs.Common.{◌≡◌, ◌≢◌, ◌≤◌, ◌<◌, ◌+◌, ℕ, Bool, true, false, ◌==◌, List, [], ◌∷◌, ◌++◌, Option, Some, None, refl, arith}
+use Rattle.std.specs.Option.{option_or, option_to_list}
 use Rattle.std.proofs.lemmas.Bool.Decides.{nat_tests}
 use Rattle.once_queue.specs.Numbers.{bit, member, times_in}
 use Rattle.once_queue.specs.declared.waiters.Listing.{Listing}
-use Rattle.once_queue.specs.Listings.{call_by, call_first, find_listing, first_by, first_waker, new_ticket, one_out, take_out, tickets}
+use Rattle.once_queue.specs.Listings.{call_by, call_first, find_listing, first_waker, new_ticket, take_out, tickets}
 use Rattle.once_queue.proofs.Listing.Least.{least_new}
 
 abbrev pub is_for : ℕ → Option ℕ → Bool
@@ -60,17 +61,17 @@ asks_found n w [] e = grind arith
 asks_found n w (x ∷ xs) e = found_by n w x xs (x.ticket == n) refl e (asks_found n w xs)
 
 asks_call_by : (w : ℕ) (x : Listing ℕ) (xs : List (Listing ℕ)) (o : Option ℕ) → x.waker ≡ o
-    → asks w (call_first xs) + times_in w (one_out (first_waker xs)) ≡ asks w xs
-    → asks w (call_by x o xs (call_first xs)) + times_in w (one_out (first_by o (first_waker xs))) ≡ bit (is_for w o) + asks w xs
+    → asks w (call_first xs) + times_in w (option_to_list (first_waker xs)) ≡ asks w xs
+    → asks w (call_by x o xs (call_first xs)) + times_in w (option_to_list (option_or o (first_waker xs))) ≡ bit (is_for w o) + asks w xs
 asks_call_by w x xs (Some k) is ih = omega arith
 asks_call_by w x xs None is ih = let z : bit (is_for w x.waker) ≡ 0 = rw is refl in omega arith
 
 -- the call of the first hands out what it takes away
-pub asks_call : (w : ℕ) (xs : List (Listing ℕ)) → asks w (call_first xs) + times_in w (one_out (first_waker xs)) ≡ asks w xs
+pub asks_call : (w : ℕ) (xs : List (Listing ℕ)) → asks w (call_first xs) + times_in w (option_to_list (first_waker xs)) ≡ asks w xs
 asks_call w [] = refl
 asks_call w (x ∷ xs) = asks_call_by w x xs x.waker refl (asks_call w xs)
 
-first_asks_by : (w : ℕ) (o rest : Option ℕ) (m : ℕ) → first_by o rest ≡ None → (rest ≡ None → m ≡ 0) → bit (is_for w o) + m ≡ 0
+first_asks_by : (w : ℕ) (o rest : Option ℕ) (m : ℕ) → option_or o rest ≡ None → (rest ≡ None → m ≡ 0) → bit (is_for w o) + m ≡ 0
 first_asks_by w (Some k) rest m e ih = grind arith
 first_asks_by w None rest m e ih = let z = ih e in omega arith
 

@@ -1,11 +1,11 @@
 -- The moments under the queue's lock: the queue's page changes, and that of the task.
 use Rattle.std.proofs.Common.{◌≡◌, ◌<◌, ◌+◌, ◌%◌, ◌^◌, ℕ, suc, Bool, true, false, cond, List, [], ◌∷◌, Option, Some, None, slice_get, slice_set, refl, sym, ap, ◌∙◌}
 use Rattle.std.specs.Prelude.{◌||◌, not}
-use Rattle.std.specs.Option.{is_some}
+use Rattle.std.specs.Option.{is_some, option_to_list}
 use Rattle.once_queue.specs.Word.{Flags, flags_of, sees, sees_by, is_free}
 use Rattle.once_queue.specs.declared.waiters.Listing.{Listing}
 use Rattle.once_queue.specs.declared.waiters.Answer.{Answer as SectionAnswer}
-use Rattle.once_queue.specs.Listings.{is_waker, kept_ticket, left_list, next_waker, one_out, own_listing, passes_turn}
+use Rattle.once_queue.specs.Listings.{is_waker, kept_ticket, left_list, next_waker, own_listing, passes_turn}
 use Rattle.once_core.specs.Steps.{Next, after_list, after_look, next_at}
 use Rattle.once_world.specs.Record.{Entry, Once, RanPending}
 use Rattle.once_world.specs.Cell.{cell}
@@ -110,14 +110,14 @@ module _ (limit n put : ℕ) (slot : Bool) (pages : List Page) (log : List Entry
   pub leave_load : (q k : ℕ) (e : Ending) → x.step ≡ UnderWay (AtLeave q k e)
       → let passing = passes_turn (is_free (sees (flags_of n) head)) k xs in
       Stepped limit n put slot (slice_set pages 1 (Queue head (left_list passing k xs))) log t x
-      (pass_entries t (one_out (next_waker passing k xs))) (next_at (AtCountOut e))
+      (pass_entries t (option_to_list (next_waker passing k xs))) (next_at (AtCountOut e))
   leave_load q k e at =
       let d = stands limit n put slot pages log t x some book pen (AtLeave q k e) at in
       let passing : Bool = passes_turn (is_free (sees (flags_of n) head)) k xs in
       let same : is_passing c k ≡ passing = ap (λ f. passes_turn (is_free (sees f c.head)) k c.listings) (sym book.1.word_is)
       ∙ ap (λ b. passes_turn (is_free (sees (flags_of n) b)) k c.listings) own_queue.0 ∙ ap (passes_turn (is_free (sees (flags_of n) head)) k) own_queue.1 in
-      queue_set n (AtLeave q k e) false (record c { listings = left_list passing k xs }) (pass_entries t (one_out (next_waker passing k xs))) (next_at (AtCountOut e)) head (left_list passing k xs) at
+      queue_set n (AtLeave q k e) false (record c { listings = left_list passing k xs }) (pass_entries t (option_to_list (next_waker passing k xs))) (next_at (AtCountOut e)) head (left_list passing k xs) at
       (ap (λ b. leave_step b c t x.kept k e) (at_door q c.door d.1)
-      ∙ ap (λ b. outcome_of (record c { listings = left_list b k c.listings }) t x.kept (pass_entries t (one_out (next_waker b k c.listings))) (next_at (AtCountOut e))) same
-      ∙ ap (λ ys. outcome_of (record c { listings = left_list passing k ys }) t x.kept (pass_entries t (one_out (next_waker passing k ys))) (next_at (AtCountOut e))) own_queue.1)
+      ∙ ap (λ b. outcome_of (record c { listings = left_list b k c.listings }) t x.kept (pass_entries t (option_to_list (next_waker b k c.listings))) (next_at (AtCountOut e))) same
+      ∙ ap (λ ys. outcome_of (record c { listings = left_list passing k ys }) t x.kept (pass_entries t (option_to_list (next_waker passing k ys))) (next_at (AtCountOut e))) own_queue.1)
       book.1.within book.1.word_is refl refl own_queue.0 refl

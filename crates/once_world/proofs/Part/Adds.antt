@@ -1,10 +1,10 @@
 -- The entries of a step are entries of its task, two at most.
 use Rattle.std.proofs.Common.{ℕ, Bool, true, false, List, [], ◌∷◌, Option, Some, None, refl}
 use Rattle.std.specs.Prelude.{◌||◌, nat_lt}
-use Rattle.std.specs.Option.{is_some}
+use Rattle.std.specs.Option.{is_some, option_to_list}
 use Rattle.once_world.specs.Record.{Answer, Kind, Lazy, LazyWith, Once, OnceWith, RanError, RanPending, RanValue, is_lazy}
 use Rattle.once_world.specs.Inputs.{AreOfStep, IsAsked, IsOfStep}
-use Rattle.once_world.specs.Machine.{AtAddOne, AtCountIn, AtCountOut, AtDoorAgain, AtDoorGet, AtDoorPut, AtDoorTake, AtFast, AtLeave, AtList, AtLook, AtPut, AtRelease, AtRun, AtStart, AtTryQuick, AtWaitLoad, EndDropped, EndError, EndFull, EndMemory, EndPending, EndValue, Ending, Finished, SharedState, Place, Resting, Step, UnderWay, again_step, out_shared, door_step, take_shared, end_entry, fast_step, init_answer, release_wakers, in_step, is_at_door, is_value, is_waker, kept_ticket, leave_step, list_step, load_step, look_step, next_waker, one_out, out_step, own_listing, pass_entries, is_passing, place_step, put_step, quick_step, run_shared, release_entry, release_step, run_step, start_step, step_at, word_of, seen_at}
+use Rattle.once_world.specs.Machine.{AtAddOne, AtCountIn, AtCountOut, AtDoorAgain, AtDoorGet, AtDoorPut, AtDoorTake, AtFast, AtLeave, AtList, AtLook, AtPut, AtRelease, AtRun, AtStart, AtTryQuick, AtWaitLoad, EndDropped, EndError, EndFull, EndMemory, EndPending, EndValue, Ending, Finished, SharedState, Place, Resting, Step, UnderWay, again_step, out_shared, door_step, take_shared, end_entry, fast_step, init_answer, release_wakers, in_step, is_at_door, is_value, is_waker, kept_ticket, leave_step, list_step, load_step, look_step, next_waker, out_step, own_listing, pass_entries, is_passing, place_step, put_step, quick_step, run_shared, release_entry, release_step, run_step, start_step, step_at, word_of, seen_at}
 use Rattle.once_queue.specs.Word.{is_zero, is_quick_bit, is_ready_bit}
 use Rattle.once_queue.specs.declared.word.Sees.TheVariants.{Set, Free, Taken}
 use Rattle.once_queue.specs.declared.word.Sees.{Sees}
@@ -101,7 +101,7 @@ module _ (K : Kind) (c : SharedState) (t : ℕ) (k a : Answer) where
   part_release false e = tt
 
   part_leave : (d : Bool) (n : ℕ) (e : Ending) → AreOfStep K t a (leave_step d c t k n e).entries
-  part_leave true n e = pass_part K t a (one_out (next_waker (is_passing c n) n c.listings))
+  part_leave true n e = pass_part K t a (option_to_list (next_waker (is_passing c n) n c.listings))
   part_leave false n e = tt
 
   part_out : (x : Bool) (e : Ending) → AreOfStep K t a (out_step x (out_shared c) t k e).entries

@@ -14,7 +14,7 @@ use Rattle.once_world.proofs.Input.Owner.{owner_is_got}
 use Rattle.once_world.proofs.Input.Makes.{looked_is}
 use Rattle.once_world.proofs.Input.Headline.{task_fits}
 use Rattle.once_world.proofs.Part.Adds.{step_part}
-use Rattle.once_world.proofs.Part.Tells.{Tells, is_refused, tells}
+use Rattle.once_world.proofs.Part.Tells.{StepTells, is_refused, tells}
 use Rattle.once_world.proofs.Part.Needs.{need_step, one_line}
 use Rattle.once_world.proofs.Part.Apart.{step_begins, step_memory}
 use Rattle.once_world.proofs.Part.Budget.{Budget, HasPart, begin_part, gos_after, nothing, quiet_part, ungranted_after}
@@ -37,7 +37,7 @@ met_refusal false u r = refl
 met_refusal true u (inr e) = absurd (false≢true (sym e))
 
 -- a step keeps within the budget
-stepped_budget : (n : ℕ) (u g : Bool) (s : Step ℕ ℕ) (o : Outcome) → in_call s ≡ true → Tells g s o → Budget n u s
+stepped_budget : (n : ℕ) (u g : Bool) (s : Step ℕ ℕ) (o : Outcome) → in_call s ≡ true → StepTells g s o → Budget n u s
     → Budget (suc n) (ungranted_after false true (not g) u) o.step
 stepped_budget n u g s o c l b = record {
   steps = λ e. let k = b.steps c in let m = l.lowers e in omega arith;
@@ -46,7 +46,7 @@ stepped_budget n u g s o c l b = record {
 
 -- the part of a step of t, which is at s and comes to y
 go_budget : (K : Kind) (w w' : World) (t : ℕ) (a : Answer) (g : Bool) (s : Step ℕ ℕ) (y : Task) (o : Outcome)
-    → step_of (w.tasks t) ≡ s → in_call s ≡ true → is_under_way (status K t w.history) ≡ true → Tells g s o
+    → step_of (w.tasks t) ≡ s → in_call s ≡ true → is_under_way (status K t w.history) ≡ true → StepTells g s o
     → y.step ≡ o.step → Puts t y w.tasks w'.tasks → AreOfStep K t a o.entries
     → (v n : ℕ) (u : Bool) → (t ≡ v) ⊎ (t ≢ v) → Budget n u (step_of (w.tasks v))
     → Budget (gos_after (begins_call v o.entries) (is_fitting_go K v (Go t a g) w.history) n)
@@ -61,7 +61,7 @@ go_budget K w w' t a g s y o found c acts l d q z v n u (inr m) b = rw (step_beg
 
 -- what a step of t refuses
 go_memory : (K : Kind) (w : World) (t : ℕ) (a : Answer) (g : Bool) (s : Step ℕ ℕ) (o : Outcome)
-    → step_of (w.tasks t) ≡ s → is_under_way (status K t w.history) ≡ true → Tells g s o → AreOfStep K t a o.entries
+    → step_of (w.tasks t) ≡ s → is_under_way (status K t w.history) ≡ true → StepTells g s o → AreOfStep K t a o.entries
     → (v n : ℕ) (u : Bool) → (t ≡ v) ⊎ (t ≢ v) → Budget n u (step_of (w.tasks v))
     → ends_for_memory v o.entries ≡ true → ungranted_after (begins_call v o.entries)
     (is_fitting_go K v (Go t a g) w.history) (not g) u ≡ true
@@ -80,7 +80,7 @@ go_part K limit w t a g x f found true c =
     let acts : is_under_way (status K t w.history) ≡ true = step_acts K limit t w.shared w.history x.step own.step ∙ c in
     let o : Outcome = advance (is_lazy K) limit w.shared t x a g in
     let y : Task = record x { step = o.step; kept = o.kept } in
-    let l : Tells g x.step o = tells w.shared t x.kept g (is_lazy K) limit x.waker a x.step c in
+    let l : StepTells g x.step o = tells w.shared t x.kept g (is_lazy K) limit x.waker a x.step c in
     let z : AreOfStep K t a o.entries = step_part K w.shared t x.kept a limit x.waker g x.step in
     let was : step_of (w.tasks t) ≡ x.step = ap step_of found in
     record {

@@ -1,5 +1,6 @@
 -- The place at which a waiter leaves: its listing is taken out, and it passes its turn on where it had it.
 use Rattle.std.proofs.Common.{◌≡◌, ◌≢◌, ◌≤◌, ◌+◌, ℕ, Bool, true, false, ⊎_elim, inr, List, [], ◌∷◌, Option, Some, None, cond, refl, sym, ap, ◌∙◌, subst, arith, ◌||◌}
+use Rattle.std.specs.Option.{option_to_list}
 use Rattle.std.proofs.lemmas.Bool.{false≢true, cases_eq}
 use Rattle.once_queue.specs.Numbers.{times_in}
 use Rattle.once_world.specs.Record.{Answer, Entry, Kind, Pass}
@@ -7,7 +8,7 @@ use Rattle.once_world.specs.Cell.{Empty, cell, is_set}
 use Rattle.once_world.specs.Tasks.{Waiting, last_call, status}
 use Rattle.once_queue.specs.declared.waiters.Listing.{Listing}
 use Rattle.once_queue.specs.Word.{is_free, sees_by}
-use Rattle.once_queue.specs.Listings.{call_first, find_listing, first_waker, left_list, next_waker, one_out, take_out, was_called}
+use Rattle.once_queue.specs.Listings.{call_first, find_listing, first_waker, left_list, next_waker, take_out, was_called}
 use Rattle.once_world.specs.Run.{IsLegal, IsRun, MayPass}
 use Rattle.once_world.specs.Machine.{AtCountOut, AtLeave, EndDropped, EndError, EndFull, EndMemory, EndPending, EndValue, Ending, SharedState, UnderWay, is_at_door, leave_step, pass_entries, is_passing}
 use Rattle.once_queue.proofs.Listing.Members.{eqb_self}
@@ -16,7 +17,7 @@ use Rattle.once_world.proofs.History.Cells.{empty_cell, is_held}
 use Rattle.once_world.proofs.Listing.Listings.{asks, asks_call, asks_take, find_take_other, none_found}
 use Rattle.once_world.proofs.Listing.CalledFirst.{call_back, call_called, call_none}
 use Rattle.once_world.proofs.History.Waiters.{CalledAt, QueueFits, entry_fits, list_fits, open_by}
-use Rattle.once_world.proofs.Invariant.Facts.{AtPlace, Leaves, Owes, kept_of, refused_in}
+use Rattle.once_world.proofs.Invariant.Facts.{AtPlace, MayLeave, Owes, kept_of, refused_in}
 use Rattle.once_world.proofs.Invariant.Fits.{SharedFits}
 use Rattle.once_world.proofs.Invariant.Listed.{none_not_some, same_some}
 use Rattle.once_world.proofs.Invariant.Calls.{call_kept}
@@ -28,7 +29,7 @@ use Rattle.once_world.proofs.Place.Relisted.{take_back, without_lists}
 use Rattle.once_world.proofs.Place.Outcomes.{goes_to}
 
 -- who leaves owes an end
-leaves_owes : (K : Kind) (t : ℕ) (h : List Entry) (e : Ending) → Leaves K t h e → Owes K t h e
+leaves_owes : (K : Kind) (t : ℕ) (h : List Entry) (e : Ending) → MayLeave K t h e → Owes K t h e
 leaves_owes K t h EndMemory a = (refused_in K t h a.0, a.1)
 leaves_owes K t h EndDropped a = a.0
 leaves_owes K t h EndValue a = absurd a
@@ -37,7 +38,7 @@ leaves_owes K t h EndPending a = absurd a
 leaves_owes K t h EndFull a = absurd a
 
 -- it may pass its turn on, and did not yet
-leaves_may : (K : Kind) (t : ℕ) (h : List Entry) (e : Ending) → Leaves K t h e
+leaves_may : (K : Kind) (t : ℕ) (h : List Entry) (e : Ending) → MayLeave K t h e
     → MayPass (status K t h) (last_call K t h).claimed (last_call K t h).ran × ((last_call K t h).passed ≡ false)
 leaves_may K t h EndMemory a = (rw (a.0.poll.status_is, a.0.unclaimed, a.0.poll.ran_is) tt, a.0.poll.unpassed)
 leaves_may K t h EndDropped a = (rw a.0.status_is tt, a.2)
@@ -47,7 +48,7 @@ leaves_may K t h EndPending a = absurd a
 leaves_may K t h EndFull a = absurd a
 
 -- and owes the end after it passed
-passed_owes : (K : Kind) (t : ℕ) (h : List Entry) (X : List ℕ) (e : Ending) → (last_call K t h).began ≡ Waiting → Leaves K t h e → Owes K t (Pass t X ∷ h) e
+passed_owes : (K : Kind) (t : ℕ) (h : List Entry) (X : List ℕ) (e : Ending) → (last_call K t h).began ≡ Waiting → MayLeave K t h e → Owes K t (Pass t X ∷ h) e
 passed_owes K t h X EndMemory b a = (
   record {
     status_is = rw (eqb_self t) a.0.poll.status_is;
@@ -98,7 +99,7 @@ module _ (K : Kind) (limit t w : ℕ) (k : Answer) (c : SharedState) (h : List E
   leaves_on q n v e a empty first =
       let xs : List (Listing ℕ) = take_out n c.listings in
       let c' : SharedState = record c { listings = call_first xs } in
-      let one : one_out (first_waker xs) ≡ v ∷ [] = rw first refl in
+      let one : option_to_list (first_waker xs) ≡ v ∷ [] = rw first refl in
       let less : (x : ℕ) → times_in x (v ∷ []) + asks x (call_first xs) ≤ asks x c.listings = λ x. let i : asks x
       (call_first xs) + times_in x (v ∷ []) ≡ asks x xs = rw one at
       (asks_call x xs) in let j = asks_take x n c.listings in omega arith in
@@ -138,7 +139,7 @@ module _ (K : Kind) (limit t w : ℕ) (k : Answer) (c : SharedState) (h : List E
 
   -- what a step at this place leaves, by the waker that is called and the list that is left
   abbrev Left : ℕ → ℕ → Ending → Option ℕ → List (Listing ℕ) → Type 0
-  Left q n e o xs = Goes K limit t w (AtLeave q n e) c h (record { shared = record c { listings = xs }; step = UnderWay (AtCountOut e); kept = k; entries = pass_entries t (one_out o) })
+  Left q n e o xs = Goes K limit t w (AtLeave q n e) c h (record { shared = record c { listings = xs }; step = UnderWay (AtCountOut e); kept = k; entries = pass_entries t (option_to_list o) })
 
   -- the turn goes to the first that was not called
   pass_goes : (o : Option ℕ) (q n : ℕ) (e : Ending) → first_waker (take_out n c.listings) ≡ o → is_passing c n ≡ true

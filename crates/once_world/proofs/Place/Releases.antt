@@ -1,12 +1,13 @@
 -- The releases, and the places of a call that ends.
 use Rattle.std.proofs.Common.{◌≡◌, ◌≢◌, ℕ, Bool, true, false, ⊎_elim, inl, inr, List, [], ◌∷◌, Option, Some, None, refl, sym, ap, ◌∙◌, subst, arith}
+use Rattle.std.specs.Option.{option_to_list}
 use Rattle.std.specs.Prelude.{◌-◌}
 use Rattle.std.proofs.lemmas.Bool.{false≢true}
 use Rattle.once_world.specs.Record.{Answer, Entry, Fill, Free, Kind}
 use Rattle.once_world.specs.Cell.{cell}
 use Rattle.once_world.specs.Tasks.{Waiting, last_call, status}
 use Rattle.once_queue.specs.declared.waiters.Listing.{Listing}
-use Rattle.once_queue.specs.Listings.{all_out, call_first, first_waker, one_out}
+use Rattle.once_queue.specs.Listings.{all_out, call_first, first_waker}
 use Rattle.once_world.specs.Run.{IsLegal, IsRun}
 use Rattle.once_world.specs.Machine.{AtAddOne, AtCountOut, AtDoorTake, AtFast, AtRelease, EndDropped, EndError, EndFull, EndMemory, EndPending, EndValue, Ending, Finished, SharedState, UnderWay, out_shared, take_shared, end_entry, fast_step, release_wakers, is_at_door, is_value, release_list, out_step, release_entry, release_step, release_flags, word_of}
 use Rattle.once_queue.proofs.Listing.Members.{eqb_self}
@@ -152,19 +153,19 @@ module _ (K : Kind) (limit t w : ℕ) (k : Answer) (c : SharedState) (h : List E
 
   -- who waits was called, or the first is called now
   free_called : (o : Option ℕ) (e : Ending) → first_waker c.listings ≡ o → c.ready ≡ false → AroundList K t None c h
-      → Releasing K t h c e → CalledAt K (call_first c.listings) (Free t (one_out (first_waker c.listings)) ∷ h)
+      → Releasing K t h c e → CalledAt K (call_first c.listings) (Free t (option_to_list (first_waker c.listings)) ∷ h)
   free_called (Some v) e first r al a = λ _ u s. call_called v c.listings first
   free_called None e first r al a = λ _ u s.
-      let l = al.listed u (waited K (Free t (one_out (first_waker c.listings))) h (λ u is. releasing_awake K t u h c e a is) u s) in
+      let l = al.listed u (waited K (Free t (option_to_list (first_waker c.listings))) h (λ u is. releasing_awake K t u h c e a is) u s) in
       (l.0, rw (call_none c.listings first) (⊎_elim (λ f. absurd (none_found l.0 (last_call K u h).listed c.listings first f)) (λ f. f.0) (l.3 r)))
 
   -- without it the first listing is called that was not
   release_frees : (q : ℕ) (e : Ending) (c' : SharedState) → is_value e ≡ false
       → Cleared c c' (is_value e) (call_first c.listings) → AroundList K t None c h
       → AtPlace K limit t c h (AtRelease q e)
-      → Goes K limit t w (AtRelease q e) c h (record { shared = c'; step = UnderWay (AtCountOut e); kept = k; entries = release_entry k t (one_out (first_waker c.listings)) ∷ [] })
+      → Goes K limit t w (AtRelease q e) c h (record { shared = c'; step = UnderWay (AtCountOut e); kept = k; entries = release_entry k t (option_to_list (first_waker c.listings)) ∷ [] })
   release_frees q e c' nv cl al a =
-      let X : List ℕ = one_out (first_waker c.listings) in
+      let X : List ℕ = option_to_list (first_waker c.listings) in
       let unset : c.ready ≡ false = shared.ready_is ∙ holder_unset t (cell K h) (releasing_holds K t c h e a.0) in
       release_moves q e (Free t X) c' X (call_first c.listings) a cl
       (free_legal K limit t h c X e nv a.0 (calls_one K c.listings h queue (due_asks K t None c h unset al)))

@@ -1,14 +1,14 @@
 -- The moves under the lock, with the pens of the door's page, the queue's and the task's.
 use Rattle.std.proofs.Common.{◌≡◌, ◌+◌, ◌%◌, ◌^◌, ℕ, suc, Bool, true, false, cond, List, [], ◌∷◌, ◌++◌, Option, Some, None, slice_get, slice_set, refl, sym, ◌∙◌, subst}
 use Rattle.std.specs.Prelude.{◌||◌}
-use Rattle.std.specs.Option.{is_some, option_flatten}
+use Rattle.std.specs.Option.{is_some, option_flatten, option_to_list}
 use Rattle.std.proofs.lemmas.List.{append-nil}
 use Rattle.pagebook.specs.Pages.{Moves, Notes}
 use Rattle.once_queue.specs.Numbers.{is_distinct}
 use Rattle.once_queue.specs.Word.{flags_of, sees, is_free}
 use Rattle.once_queue.specs.declared.waiters.Listing.{Listing}
 use Rattle.once_queue.specs.declared.waiters.Answer.{Answer as SectionAnswer}
-use Rattle.once_queue.specs.Listings.{kept_ticket, left_list, next_waker, one_out, own_listing, passes_turn, tickets, wakers_of}
+use Rattle.once_queue.specs.Listings.{kept_ticket, left_list, next_waker, own_listing, passes_turn, tickets, wakers_of}
 use Rattle.once_core.specs.Steps.{Next, after_door_get, after_list, after_look, next_at, next_end}
 use Rattle.once_world.specs.Record.{Entry}
 use Rattle.once_world.specs.Book.{At, Door, IsBook, Page, Queue, TaskState}
@@ -119,16 +119,16 @@ module _ (seen : List Entry) (made : ℕ) (door : Option ℕ) (head : Bool) (xs 
   -- a load, with the lock
   pub leave_moves : (q k : ℕ) (e : Ending) → x.step ≡ UnderWay (AtLeave q k e)
       → Moves IsKept (seen, sheets (locked made door head xs t x)) 0 (λ n. n)
-      (λ n v. (has_passed t v.0 ≡ hands_out (one_out (next_waker (passing k n) k xs)))
+      (λ n v. (has_passed t v.0 ≡ hands_out (option_to_list (next_waker (passing k n) k xs)))
       × Leaves seen (locked made door head xs t x) (pages_after made door head (left_list (passing k n) k xs) (next_at (AtCountOut e)))
-      (told t x.kept (next_at (AtCountOut e)) (pass_entries t (one_out (next_waker (passing k n) k xs)))) v)
+      (told t x.kept (next_at (AtCountOut e)) (pass_entries t (option_to_list (next_waker (passing k n) k xs)))) v)
   leave_moves q k e at = telling_moves seen (locked made door head xs t x) (λ n. n)
       (λ n. pages_after made door head (left_list (passing k n) k xs) (next_at (AtCountOut e)))
-      (λ n. told t x.kept (next_at (AtCountOut e)) (pass_entries t (one_out (next_waker (passing k n) k xs))))
-      (λ n log. has_passed t log ≡ hands_out (one_out (next_waker (passing k n) k xs)))
+      (λ n. told t x.kept (next_at (AtCountOut e)) (pass_entries t (option_to_list (next_waker (passing k n) k xs))))
+      (λ n log. has_passed t log ≡ hands_out (option_to_list (next_waker (passing k n) k xs)))
       (λ n put slot pages log book on. (
-        passed_at most n put slot pages log t x some book on.1.1.0 q k e at (one_out (next_waker (passing k n) k xs)),
-        only_queue most n put slot pages log (pass_entries t (one_out (next_waker (passing k n) k xs))) (next_at (AtCountOut e)) on.0 on.1.0 head (left_list (passing k n) k xs)
+        passed_at most n put slot pages log t x some book on.1.1.0 q k e at (option_to_list (next_waker (passing k n) k xs)),
+        only_queue most n put slot pages log (pass_entries t (option_to_list (next_waker (passing k n) k xs))) (next_at (AtCountOut e)) on.0 on.1.0 head (left_list (passing k n) k xs)
             (leave_load most n put slot pages log t x some book on.1.1.0 head xs on.1.0 q k e at),
       ))
 

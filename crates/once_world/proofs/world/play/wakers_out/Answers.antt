@@ -5,18 +5,18 @@ use Rattle.std.proofs.lemmas.Iterator.{items_from_collect}
 use Rattle.std.proofs.lemmas.Iterator.Adapters.{YieldsList-from_vec}
 use Rattle.std.proofs.lemmas.Iterator.Consumers.{YieldsList-from_filter_map}
 use Rattle.once_queue.specs.declared.waiters.Listing.{Listing}
-use Rattle.once_queue.specs.Listings.{wakers_by, wakers_of}
+use Rattle.once_queue.specs.Listings.{wakers_of}
 use Rattle.once_world.proofs.world.play.wakers_out.Goals as goal
 
 -- a waker before others
-one_waker : (w : Option ℕ) (ws : List ℕ) → cons_option w ws ≡ wakers_by w ws
+one_waker : (w : Option ℕ) (ws : List ℕ) → cons_option w ws ≡ cons_option w ws
 one_waker (Some w) ws = refl
 one_waker None ws = refl
 
 -- the wakers of a list are its listings, filtered
 filtered : (xs : List (Listing ℕ)) → filter_map (λ x. x.waker) xs ≡ wakers_of xs
 filtered [] = refl
-filtered (x ∷ xs) = one_waker x.waker (filter_map (λ x. x.waker) xs) ∙ ap (wakers_by x.waker) (filtered xs)
+filtered (x ∷ xs) = one_waker x.waker (filter_map (λ x. x.waker) xs) ∙ ap (cons_option x.waker) (filtered xs)
 
 pub returns-in-All : goal.returns-in-All
 returns-in-All c =
