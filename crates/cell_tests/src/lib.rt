@@ -4,6 +4,8 @@
 #[cfg(test)]
 mod lazy;
 #[cfg(test)]
+mod left;
+#[cfg(test)]
 mod once;
 #[cfg(test)]
 mod pending;

@@ -2,6 +2,7 @@
 
 mod contracts;
 mod drops;
+mod inside;
 mod owner;
 mod records;
 mod schedules;

@@ -1,25 +1,18 @@
 //! The machine under test: each layer below the cells by its public calls alone, shared parts beside plain ones, and
 //! what a replay prints of whole schedules.
 //!
-//! `layers`, `ways`, `counting` and `left` show that each call can succeed, and what it does. `errors`, `rounds` and
-//! `threads` let several tasks use one cell. `inside` lets a future use its cell in the middle of one of its steps.
-//! `parts` has the parts of a cell alone, by hand and by whole calls of tasks. `lockstep` plays schedules over
-//! `side_by_side`, which makes one step over shared and over plain parts, and compares the two. `random` does the same
-//! to the list of those who wait and to a plain one. `replay` has scripts with their records.
+//! `layers`, `ways` and `counting` show that each call can succeed, and what it does. `parts` has the parts of a cell
+//! alone, by hand and by whole calls of tasks. `lockstep` plays schedules over `side_by_side`, which makes one step
+//! over shared and over plain parts, and compares the two. `random` does the same to the list of those who wait and to
+//! a plain one. `replay` has scripts with their records.
 #![tactic(auto)]
 
 #[cfg(test)]
 mod counting;
 #[cfg(test)]
-mod errors;
-#[cfg(test)]
 mod fills;
 #[cfg(test)]
-mod inside;
-#[cfg(test)]
 mod layers;
-#[cfg(test)]
-mod left;
 #[cfg(test)]
 mod lockstep;
 #[cfg(test)]
@@ -29,12 +22,8 @@ mod random;
 #[cfg(test)]
 mod replay;
 #[cfg(test)]
-mod rounds;
-#[cfg(test)]
 mod schedule;
 #[cfg(test)]
 mod side_by_side;
-#[cfg(test)]
-mod threads;
 #[cfg(test)]
 mod ways;
