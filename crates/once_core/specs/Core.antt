@@ -16,19 +16,20 @@ use Rattle.once_queue.specs.Room.{HasSpace, listings_of}
 use Rattle.once_queue.specs.declared.word.Sees.{Sees}
 use Rattle.once_queue.specs.Word.{Flags, flags_of, flags_alone, is_zero, is_quick_bit, sees, is_free}
 use Rattle.once_queue.specs.declared.waiters.Listing.{Listing}
-use Rattle.once_queue.specs.Listings.{own_listing, kept_ticket, ticket_for, list_with, list_without, passes_turn, next_waker, left_list}
+use Rattle.once_queue.specs.Listings.{own_listing, kept_ticket, ticket_for, list_with}
+use Rattle.once_queue.specs.Listings.{list_without, passes_turn, next_waker, left_list}
 use Rattle.once_queue.specs.Sections.{Looked, Releases}
 
--- what contracts see: the word; the number of the queue at the door, its flag and its listings; how many queues were made; whether memory is given; the current waker; and the queue log, the oldest line first
+-- what contracts see of a core
 pub record CoreState (W : Type 0) : Type 0 where
   pub word : Flags
-  pub door : Option ℕ
-  pub head : Bool
-  pub listings : List (Listing W)
-  pub made : ℕ
-  pub granted : Bool
-  pub current : Option W
-  pub log : List QueueLine
+  pub door : Option ℕ  -- the number of the queue at the door
+  pub head : Bool  -- its flag
+  pub listings : List (Listing W)  -- its listings
+  pub made : ℕ  -- how many queues were made
+  pub granted : Bool  -- whether memory is given
+  pub current : Option W  -- the current waker
+  pub log : List QueueLine  -- the queue log, the oldest line first
 
 -- all that a core holds
 abbrev pub state_of : {W : Type 0} {g : _} → Core W g → CoreState W
@@ -62,7 +63,8 @@ module _ {W : Type 0} where
   abbrev pub DidQuick : CoreState W → Bool → CoreState W → Type 0
   DidQuick s won t = (won ≡ is_zero s.word) × (t ≡ record s { word = if won then flags_alone true false else s.word })
 
-  -- a fast release is done where the word is exactly the quick bit; it gives the right back, and tells whether the value is set
+  -- a fast release is done where the word is exactly the quick bit; it gives the right back, and tells whether the
+  -- value is set
   abbrev pub DidFast : CoreState W → Bool → Bool → CoreState W → Type 0
   DidFast s ready won t =
       (won ≡ is_quick_bit s.word) × (t ≡ record s { word = if won then flags_alone false ready else s.word })
@@ -141,7 +143,8 @@ module _ {W : Type 0} where
   claim_state op s = record s { head = true; listings = list_without (ticket_in op) s.listings }
 
 module _ {W : Type 0} (same other : W → W → Type 0) where
-  -- a section on the queue at the door, where some task holds. A listing that was not there is refused where memory is not given
+  -- a section on the queue at the door, where some task holds. A listing that was not there is refused where memory is
+  -- not given
   abbrev pub FindsHolder : CoreState W → Op W → Answer W → Op W → CoreState W → Type 0
   FindsHolder s (Look k) a o t = Looked same other s.current (own_listing k s.listings) a × (t ≡ s) × (o ≡ Look k)
   FindsHolder s (ListOp k None) a o t = ⊥

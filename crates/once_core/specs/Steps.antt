@@ -3,20 +3,26 @@ use Rattle.std.specs.Prelude.{◌≡◌, ℕ, Bool, true, false, Option, Some, N
 use Rattle.once_core.specs.declared.parts.Counted.{Counted}
 use Rattle.once_core.specs.declared.parts.Counted.TheVariants.{In, Full as CountFull, SeenReady}
 use Rattle.once_queue.specs.declared.waiters.Op.{Op}
-use Rattle.once_queue.specs.declared.waiters.Op.TheVariants.{Look as LookOp, List as ListOp, Release as ReleaseOp, Leave as LeaveOp}
+use Rattle.once_queue.specs.declared.waiters.Op.TheVariants.{Look as LookOp, List as ListOp}
+use Rattle.once_queue.specs.declared.waiters.Op.TheVariants.{Release as ReleaseOp, Leave as LeaveOp}
 use Rattle.once_queue.specs.declared.waiters.Answer.{Answer as SectionAnswer}
-use Rattle.once_queue.specs.declared.waiters.Answer.TheVariants.{Ready, Claimed, Listed, Memory as NoMemory, Released, Left}
+use Rattle.once_queue.specs.declared.waiters.Answer.TheVariants.{Ready, Claimed, Listed}
+use Rattle.once_queue.specs.declared.waiters.Answer.TheVariants.{Memory as NoMemory, Released, Left}
 use Rattle.once_queue.specs.declared.waiters.Out.{Out}
 use Rattle.once_queue.specs.declared.waiters.Out.TheVariants.{One}
 use Rattle.once_core.specs.declared.step.Polled.{Polled}
-use Rattle.once_core.specs.declared.step.Polled.TheVariants.{Pending as PolledPending, Value as PolledValue, Error as PolledError}
+use Rattle.once_core.specs.declared.step.Polled.TheVariants.{Pending as PolledPending, Value as PolledValue}
+use Rattle.once_core.specs.declared.step.Polled.TheVariants.{Error as PolledError}
 pub use Rattle.once_core.specs.declared.step.Ending.{Ending}
-pub use Rattle.once_core.specs.declared.step.Ending.TheVariants.{Pending as EndPending, Value as EndValue, Error as EndError}
-pub use Rattle.once_core.specs.declared.step.Ending.TheVariants.{Memory as EndMemory, Full as EndFull, Dropped as EndDropped}
+pub use Rattle.once_core.specs.declared.step.Ending.TheVariants.{Pending as EndPending, Value as EndValue}
+pub use Rattle.once_core.specs.declared.step.Ending.TheVariants.{Error as EndError}
+pub use Rattle.once_core.specs.declared.step.Ending.TheVariants.{Memory as EndMemory, Full as EndFull}
+pub use Rattle.once_core.specs.declared.step.Ending.TheVariants.{Dropped as EndDropped}
 pub use Rattle.once_core.specs.declared.step.Progress.{Progress}
 pub use Rattle.once_core.specs.declared.step.Progress.TheVariants.{More, Ended}
 pub use Rattle.once_core.specs.declared.step.place.Rest.{Rest}
-pub use Rattle.once_core.specs.declared.step.place.Rest.TheVariants.{Start as RestStart, Wait as RestWait, Run as RestRun}
+pub use Rattle.once_core.specs.declared.step.place.Rest.TheVariants.{Start as RestStart, Wait as RestWait}
+pub use Rattle.once_core.specs.declared.step.place.Rest.TheVariants.{Run as RestRun}
 pub use Rattle.once_core.specs.declared.step.place.Place.{Place}
 pub use Rattle.once_core.specs.declared.step.place.Place.TheVariants.{Start as AtStart, TryQuick as AtTryQuick}
 pub use Rattle.once_core.specs.declared.step.place.Place.TheVariants.{DoorGet as AtDoorGet, DoorPut as AtDoorPut}
@@ -127,9 +133,9 @@ module _ {W Q : Type 0} where
   step_of_drop (Resting r) = step_of_drop_at r
   step_of_drop s = s
 
--- what follows a call: whether the init is closed, the progress, and the step after
+-- what follows a call
 pub record Next (W Q : Type 0) : Type 0 where
-  pub closes : Bool
+  pub closes : Bool  -- whether the init is closed
   pub progress : Progress
   pub step : Step W Q
 
@@ -383,7 +389,8 @@ side_tells_nothing = record {
 }
 
 module _ {P S W Q : Type 0} (parts : PartsTell P W Q) (side : SideTells S W) where
-  -- one line of the table: the limit, the place, parts and side before, the progress, and the step, parts and side after
+  -- one line of the table: the limit, the place, parts and side before, the progress, and the step, parts and side
+  -- after
   abbrev pub Line : ℕ → Place W Q → P → S → Progress → Step W Q → P → S → Type 0
   Line limit AtStart p s r t p' s' =
       (w : ℕ) × parts.load p w p'

@@ -1,7 +1,8 @@
 //! The parts as plain data.
 ghost use Rattle.once_queue.specs.declared.waiters.Op.{Op};
 ghost use Rattle.once_queue.specs.Room.{listings_of};
-ghost use Rattle.std.specs.Prelude.{◌≡◌, ◌<◌, ◌≤◌, ◌+◌, ◌-◌, ◌^◌, ◌++◌, ◌∷◌, true, false, [], Some, None, Option, OnOk, IsSome, IsTrue, ◌↔◌, not, vec_len, vec_capacity};
+ghost use Rattle.std.specs.Prelude.{◌≡◌, ◌<◌, ◌≤◌, ◌+◌, ◌-◌, ◌^◌, ◌++◌, ◌∷◌, true, false, []};
+ghost use Rattle.std.specs.Prelude.{Some, None, Option, OnOk, IsSome, IsTrue, ◌↔◌, not, vec_len, vec_capacity};
 
 use crate::parts::{Counted, Parts, QueueLine};
 use crate::step::Polled;
@@ -33,7 +34,8 @@ pub struct Core<W: WakerId> {
 
 impl<W: WakerId + Drop> Core<W> {
     ghost use Rattle.once_queue.specs.Word.{flags_alone};
-    ghost use Rattle.once_core.specs.Core.{state_of, HasRoom, take_state, release_state, leave_state, is_passing, Found};
+    ghost use Rattle.once_core.specs.Core.{state_of, HasRoom, take_state, release_state};
+    ghost use Rattle.once_core.specs.Core.{leave_state, is_passing, Found};
     ghost use Rattle.once_queue.specs.Listings.{next_waker};
     ghost use Rattle.once_queue.specs.Room.{HasSpace};
     ghost use Rattle.once_queue.specs.Sections.{Releases};
@@ -189,7 +191,8 @@ impl<W: WakerId + Drop> Core<W> {
 
 impl<W: WakerId + Drop> Parts<W> for Core<W> {
     ghost use Rattle.once_core.specs.Steps.{asks_nothing};
-    ghost use Rattle.once_core.specs.Core.{state_of, HasRoom, CanSection, DidLoad, DidQuick, DidFast, DidCountIn, DidAddOne, DidCountOut, DidDoorGet, DidDoorPut, DidDoorTake, DidSection};
+    ghost use Rattle.once_core.specs.Core.{state_of, HasRoom, CanSection, DidLoad, DidQuick, DidFast, DidCountIn};
+    ghost use Rattle.once_core.specs.Core.{DidAddOne, DidCountOut, DidDoorGet, DidDoorPut, DidDoorTake, DidSection};
 
     type Queue = u64;
 

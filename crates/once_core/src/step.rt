@@ -119,7 +119,11 @@ pub enum Step<W, Q> {
 
 impl<W: Drop, Q: Drop> Step<W, Q> {
     ghost use Rattle.once_queue.specs.Word.{flags_of, is_zero, is_ready_bit};
-    ghost use Rattle.once_core.specs.Steps.{left_of, is_resting, in_call, is_running, is_leaving, is_freeing, is_adding, is_value, step_of_poll, step_of_drop, release_place, next_at, Asks, Advances, LeadsTo, Follows, after_start, after_quick, after_door_get, after_door_put, after_run, after_fast, after_door_again, after_count_out};
+    ghost use Rattle.once_core.specs.Steps.{left_of, is_resting, in_call, is_running, is_leaving};
+    ghost use Rattle.once_core.specs.Steps.{is_freeing, is_adding, is_value, step_of_poll, step_of_drop};
+    ghost use Rattle.once_core.specs.Steps.{release_place, next_at, Asks, Advances, LeadsTo};
+    ghost use Rattle.once_core.specs.Steps.{Follows, after_start, after_quick, after_door_get, after_door_put};
+    ghost use Rattle.once_core.specs.Steps.{after_run, after_fast, after_door_again, after_count_out};
 
     /// A task that was not polled yet.
     #[inline(always)]
@@ -345,7 +349,8 @@ impl<W: Drop, Q: Drop> Step<W, Q> {
     fn start<P: Parts<W, Queue = Q>, S: Side<W>>(&mut self, parts: &mut P, side: &mut S) -> Progress
         requires { P.can.load parts.old }
         ensures line { (w : ℕ) × P.did.load parts.old w parts.new
-            × Follows S.did.close (after_start (flags_of w).ready (is_zero (flags_of w))) side.old side.new result self.new }
+            × Follows S.did.close (after_start (flags_of w).ready (is_zero (flags_of w)))
+            side.old side.new result self.new }
         ensures stays { S.stays side.old side.new }
     {
         let word = Word::from_bits(parts.load());
@@ -373,7 +378,8 @@ impl<W: Drop, Q: Drop> Step<W, Q> {
     #[inline(always)]
     fn door_get<P: Parts<W, Queue = Q>>(&mut self, parts: &mut P) -> Progress
         requires { P.can.door_get parts.old }
-        ensures line { (q : Option Q) × P.did.door_get parts.old q parts.new × LeadsTo (after_door_get q) result self.new }
+        ensures line { (q : Option Q) × P.did.door_get parts.old q parts.new
+            × LeadsTo (after_door_get q) result self.new }
     {
         match parts.door_get() {
             Some(queue) => self.on(Place::CountIn(queue)),
@@ -482,7 +488,8 @@ impl<W: Drop, Q: Drop> Step<W, Q> {
         side: &mut S,
     ) -> Progress
         requires { P.can.section parts.old queue (Op.Release (is_value ending)) }
-        ensures section { (a : Answer W) × (o : Op W) × P.did.section parts.old queue (Op.Release (is_value ending)) a o parts.new
+        ensures section { (a : Answer W) × (o : Op W)
+            × P.did.section parts.old queue (Op.Release (is_value ending)) a o parts.new
             × Wakes S.did.wake (out_of a) side.old side.new }
         ensures more { result ≡ Progress.More }
         ensures step { self.new ≡ Step.UnderWay (Place.CountOut ending) }

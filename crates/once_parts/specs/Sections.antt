@@ -11,13 +11,16 @@ use Rattle.once_core.specs.Steps.{next_at}
 use Rattle.once_world.specs.Record.{Entry}
 use Rattle.once_world.specs.UnderLock.{head_after, is_claim, list_answer, listed_list, listed_ticket}
 use Rattle.once_world.specs.UnderLock.{look_answer, looked_list}
-use Rattle.once_world.specs.Machine.{AtCountIn, AtDoorPut, AtList, Step, UnderWay, claim_entries, pass_entries, release_entry, release_list, release_wakers}
+use Rattle.once_world.specs.Machine.{AtCountIn, AtDoorPut, AtList, Step, UnderWay}
+use Rattle.once_world.specs.Machine.{claim_entries, pass_entries, release_entry, release_list, release_wakers}
 use Rattle.once_parts.specs.Kept.{Sheet, has_passed, hands_out, locked, sheets}
 use Rattle.once_parts.specs.declared.act.Section.{Section}
-use Rattle.once_parts.specs.declared.act.Section.TheVariants.{Stand, Get, Put, Found, Take, Look, List as ListOwn, Release, Leave}
+use Rattle.once_parts.specs.declared.act.Section.TheVariants.{Stand, Get, Put, Found, Take}
+use Rattle.once_parts.specs.declared.act.Section.TheVariants.{Look, List as ListOwn, Release, Leave}
 use Rattle.once_parts.specs.Desk.{Desked, behind, desked}
 use Rattle.once_parts.specs.Own.{Did, Own, Stayed, number_in, own_in, task_in}
-use Rattle.once_parts.specs.Places.{CanEnter, CanGet, CanLeave, CanList, CanLook, CanTake, get_next, leave_next, list_next, look_next, release_next, take_next}
+use Rattle.once_parts.specs.Places.{CanEnter, CanGet, CanLeave, CanList, CanLook, CanTake}
+use Rattle.once_parts.specs.Places.{get_next, leave_next, list_next, look_next, release_next, take_next}
 
 -- what the task knows whose page lies behind the two under the lock
 abbrev pub own_behind : View Entry Sheet → Own
@@ -25,7 +28,9 @@ own_behind v = own_in (v.0, behind v.1)
 
 -- a hand has both pages, and that of a task behind them
 abbrev pub IsBoth : Held Sheet → Type 0
-IsBoth h = h ≡ sheets (locked (desked h).made (desked h).door (desked h).head (desked h).listings (number_in (behind h)) (task_in (behind h)))
+IsBoth h =
+    h ≡ sheets (locked (desked h).made (desked h).door (desked h).head (desked h).listings
+    (number_in (behind h)) (task_in (behind h)))
 
 -- a queue is put
 abbrev pub desk_put : Desked → Desked
@@ -86,15 +91,19 @@ Moment Stand n d x e y = (e ≡ d) × Stayed x y × ((q : ℕ) × (d.door ≡ So
 Moment Get n d x e y = (e ≡ d) × Did x [] (get_next d.door x.task.step) y
 Moment Put n d x e y = (e ≡ desk_put d) × Did x [] (next_at (AtCountIn (suc d.made))) y
 Moment Found n d x e y = (e ≡ d) × Did x [] (next_at (AtCountIn (door_number d.door))) y
-Moment Take n d x e y = (e ≡ record d { door = None }) × Did x [] (take_next x.task.step) y × (d.head ≡ false) × (d.listings ≡ [])
+Moment Take n d x e y =
+    (e ≡ record d { door = None }) × Did x [] (take_next x.task.step) y × (d.head ≡ false) × (d.listings ≡ [])
 Moment (Look k) n d x e y = (e ≡ desk_looked (looked n k d) k d)
     × Did x (claim_entries (is_claim (looked n k d)) x.number) (look_next (looked n k d) k x.task.waker x.task.step) y
 Moment (ListOwn k room) n d x e y = (e ≡ desk_listed (listed n k room d) k (waker_at x.task.step) d)
-    × Did x (claim_entries (is_claim (listed n k room d)) x.number) (list_next (listed n k room d) (listed_ticket (listed n k room d) k d.listings) x.task.step) y
+    × Did x (claim_entries (is_claim (listed n k room d)) x.number)
+    (list_next (listed n k room d) (listed_ticket (listed n k room d) k d.listings) x.task.step) y
 Moment (Release r) n d x e y = (e ≡ desk_released r d)
-    × Did x (release_entry x.task.kept x.number (release_wakers r d.listings) ∷ []) (release_next x.task.step) y × HandsEach r d.listings
+    × Did x (release_entry x.task.kept x.number (release_wakers r d.listings) ∷ []) (release_next x.task.step) y
+    × HandsEach r d.listings
 Moment (Leave k) n d x e y = (e ≡ desk_left (passing n k d) k d)
-    × Did x (pass_entries x.number (option_to_list (next_waker (passing n k d) k d.listings))) (leave_next x.task.step) y
+    × Did x (pass_entries x.number (option_to_list (next_waker (passing n k d) k d.listings)))
+    (leave_next x.task.step) y
     × (has_passed y.number y.log ≡ hands_out (option_to_list (next_waker (passing n k d) k d.listings)))
 
 -- the same by the view: the hand has both pages and the task's still

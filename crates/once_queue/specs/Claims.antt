@@ -6,11 +6,11 @@ use Rattle.once_queue.specs.declared.word.Sees.{Sees}
 use Rattle.once_queue.specs.declared.word.Sees.TheVariants.{Set, Free, Taken}
 use Rattle.once_queue.specs.Listings.{list_without}
 
--- what a task that asks for the right can change: the flag beside the list, the listings, and its own ticket
+-- what a task that asks for the right can change
 pub record Claimant (W : Type 0) : Type 0 where
-  pub head : Bool
+  pub head : Bool  -- the flag beside the list
   pub listings : List (Listing W)
-  pub ticket : Option ℕ
+  pub ticket : Option ℕ  -- its own ticket
 
 module _ {W : Type 0} where
   -- the right is claimed: the own listing leaves, and the ticket is given up

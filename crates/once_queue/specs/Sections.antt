@@ -29,7 +29,8 @@ module _ {W : Type 0} (same other : W → W → Type 0) where
   Looked _ _ answer = answer ≡ Answer.Held
 
 module _ {W : Type 0} where
-  -- a listing where some task holds: the own listing is taken out, and one with the waker goes to the end; or there was none, and no memory for one
+  -- a listing where some task holds: the own listing is taken out, and one with the waker goes to the end; or there
+  -- was none, and no memory for one
   abbrev pub Lists : Option ℕ → W → List (Listing W) → Answer W → Option ℕ → Option W → List (Listing W) → Type 0
   Lists ticket w xs answer ticket' waker' xs' =
       ((answer ≡ Answer.Listed) × (ticket' ≡ Some (ticket_for ticket xs)) × (waker' ≡ None)
@@ -38,7 +39,8 @@ module _ {W : Type 0} where
       × (xs' ≡ xs))
 
 module _ {W : Type 0} (same other : W → W → Type 0) where
-  -- the waker that leaves a listing, by those of the listings before: none where it was called, or where an earlier waker is the same
+  -- the waker that leaves a listing, by those of the listings before: none where it was called, or where an earlier
+  -- waker is the same
   abbrev pub HandsBy : List W → Option W → Option W → Type 0
   HandsBy seen None out = out ≡ None
   HandsBy seen (Some w) out = ((out ≡ None) × IsAmong same w seen) ⊎ ((out ≡ Some w) × IsOther other w seen)

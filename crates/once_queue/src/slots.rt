@@ -1,5 +1,7 @@
 //! The listings of those who wait, in their order, each found by its ticket without a search.
-ghost use Rattle.std.specs.Prelude.{◌≡◌, ◌==◌, ◌<◌, ◌≤◌, ◌⊎◌, ◌++◌, ◌∷◌, [], ℕ, true, false, if◌then◌else◌, Some, None, IsSome, IfSome, IfOk, IsOk, OnOk, length, vec_len, vec_capacity, HoldsAt, filter};
+ghost use Rattle.std.specs.Prelude.{◌≡◌, ◌==◌, ◌<◌, ◌≤◌, ◌⊎◌, ◌++◌, ◌∷◌, []};
+ghost use Rattle.std.specs.Prelude.{ℕ, true, false, if◌then◌else◌, Some, None, IsSome, IfSome};
+ghost use Rattle.std.specs.Prelude.{IfOk, IsOk, OnOk, length, vec_len, vec_capacity, HoldsAt, filter};
 ghost use Rattle.std.specs.List.{position};
 ghost use Rattle.std.specs.Option.{option_copied, option_map};
 ghost use Rattle.once_queue.specs.Numbers.{is_distinct, member};
@@ -42,7 +44,8 @@ pub struct Slots<W> {
 }
 
 impl<W: Drop> Slots<W> {
-    ghost use Rattle.once_queue.specs.Listings.{find_listing, take_out, first_waker, call_first, new_ticket, lent_listings};
+    ghost use Rattle.once_queue.specs.Listings.{find_listing, take_out, first_waker};
+    ghost use Rattle.once_queue.specs.Listings.{call_first, new_ticket, lent_listings};
     ghost use Rattle.once_queue.specs.Slots.{HasMark, HasSlot, listings_in};
 
     /// No listing. It takes no memory.

@@ -133,7 +133,9 @@ pub struct Lists<W: WakerId> {
 
 impl<W: WakerId + Drop> Lists<W> {
     ghost use Rattle.once_queue.specs.Word.{flags_of, sees, is_free};
-    ghost use Rattle.once_queue.specs.Listings.{Listing, find_listing, own_listing, take_out, list_without, first_waker, call_first, kept_ticket, ticket_for, passes_turn, next_waker, left_list, lent_listings};
+    ghost use Rattle.once_queue.specs.Listings.{Listing, find_listing, own_listing, take_out, list_without};
+    ghost use Rattle.once_queue.specs.Listings.{first_waker, call_first, kept_ticket, ticket_for, passes_turn};
+    ghost use Rattle.once_queue.specs.Listings.{next_waker, left_list, lent_listings};
     ghost use Rattle.once_queue.specs.Slots.{HasMark, HasSlot};
     ghost use Rattle.once_queue.specs.Claims.{Claims};
     ghost use Rattle.once_queue.specs.Room.{HasSpace, listings_of, claimant};

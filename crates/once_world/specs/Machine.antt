@@ -4,48 +4,58 @@ use Rattle.std.specs.Prelude.{List, [], ◌∷◌, ◌++◌, Option, Some, None}
 use Rattle.std.specs.Option.{is_some, unwrap_or, option_to_list}
 pub use Rattle.once_world.specs.Places.{Ending, EndPending, EndValue, EndError, EndMemory, EndFull, EndDropped}
 pub use Rattle.once_world.specs.Places.{Rest, RestStart, RestWait, RestRun, Step, Resting, UnderWay, Finished}
-pub use Rattle.once_world.specs.Places.{Place, AtStart, AtTryQuick, AtDoorGet, AtDoorPut, AtCountIn, AtWaitLoad, AtLook, AtList, AtRun}
-pub use Rattle.once_world.specs.Places.{AtPut, AtFast, AtAddOne, AtDoorAgain, AtRelease, AtLeave, AtCountOut, AtDoorTake}
+pub use Rattle.once_world.specs.Places.{Place, AtStart, AtTryQuick, AtDoorGet, AtDoorPut}
+pub use Rattle.once_world.specs.Places.{AtCountIn, AtWaitLoad, AtLook, AtList, AtRun}
+pub use Rattle.once_world.specs.Places.{AtPut, AtFast, AtAddOne, AtDoorAgain}
+pub use Rattle.once_world.specs.Places.{AtRelease, AtLeave, AtCountOut, AtDoorTake}
 use Rattle.once_world.specs.Places.{Progress, More, Ended}
 pub use Rattle.once_core.specs.Steps.{is_value, left_at, left_of, is_resting, in_call, is_leaving, is_finished}
-pub use Rattle.once_core.specs.Steps.{place_of_poll, step_of_poll, release_place, leave_place, step_of_drop_at, step_of_drop}
+pub use Rattle.once_core.specs.Steps.{place_of_poll, step_of_poll, release_place}
+pub use Rattle.once_core.specs.Steps.{leave_place, step_of_drop_at, step_of_drop}
 use Rattle.once_core.specs.Steps.{Next, next_at, next_end}
-use Rattle.once_core.specs.Steps.{after_start, after_quick, after_door_get, after_door_put, after_in, after_count_in, after_load}
+use Rattle.once_core.specs.Steps.{after_start, after_quick, after_door_get, after_door_put}
+use Rattle.once_core.specs.Steps.{after_in, after_count_in, after_load}
 use Rattle.once_core.specs.Steps.{after_look, after_list, after_run, after_fast, after_door_again, after_count_out}
 use Rattle.once_core.specs.Core.{put_answer}
 use Rattle.once_core.specs.declared.parts.Counted.TheVariants.{Full as CountFull, SeenReady}
 use Rattle.once_core.specs.declared.step.Polled.{Polled}
-use Rattle.once_core.specs.declared.step.Polled.TheVariants.{Pending as PolledPending, Value as PolledValue, Error as PolledError}
+use Rattle.once_core.specs.declared.step.Polled.TheVariants.{Pending as PolledPending, Value as PolledValue}
+use Rattle.once_core.specs.declared.step.Polled.TheVariants.{Error as PolledError}
 use Rattle.once_queue.specs.declared.waiters.Answer.{Answer as SectionAnswer}
 use Rattle.once_queue.specs.declared.word.Sees.{Sees}
 use Rattle.once_queue.specs.Word.{Flags, is_zero, is_quick_bit, is_ready_bit, sees, is_free}
 pub use Rattle.once_world.specs.UnderLock.{seen_by}
-pub use Rattle.once_world.specs.UnderLock.{look_answer, list_answer, is_claim, head_after, looked_list, listed_list, listed_ticket}
+pub use Rattle.once_world.specs.UnderLock.{look_answer, list_answer, is_claim, head_after}
+pub use Rattle.once_world.specs.UnderLock.{looked_list, listed_list, listed_ticket}
 pub use Rattle.once_world.specs.declared.world.cell.Task.{Task}
 pub use Rattle.once_queue.specs.declared.log.QueueLine.{QueueLine}
-pub use Rattle.once_queue.specs.declared.log.QueueLine.TheVariants.{Put as PutLine, Entered as EnteredLine, Taken as TakenLine}
+pub use Rattle.once_queue.specs.declared.log.QueueLine.TheVariants.{Put as PutLine, Entered as EnteredLine}
+pub use Rattle.once_queue.specs.declared.log.QueueLine.TheVariants.{Taken as TakenLine}
 pub use Rattle.once_queue.specs.declared.waiters.Listing.{Listing}
-pub use Rattle.once_queue.specs.Listings.{own_listing, kept_ticket, ticket_for, list_with, list_without, passes_turn, next_waker}
+pub use Rattle.once_queue.specs.Listings.{own_listing, kept_ticket, ticket_for, list_with}
+pub use Rattle.once_queue.specs.Listings.{list_without, passes_turn, next_waker}
 pub use Rattle.once_queue.specs.Listings.{left_list, first_waker, call_first, all_out, is_waker}
-use Rattle.once_world.specs.Record.{Kind, is_lazy, has_call, replaces, OwnerCall, Take, Write, Parts, ReplaceValue, ReplaceAnswers}
+use Rattle.once_world.specs.Record.{Kind, is_lazy, has_call, replaces, OwnerCall}
+use Rattle.once_world.specs.Record.{Take, Write, Parts, ReplaceValue, ReplaceAnswers}
 use Rattle.once_world.specs.Record.{Got, GotNone, GotValue, GotAnswers, Answer, RanPending, RanValue, RanError}
 use Rattle.once_world.specs.Record.{Pending, Value, Error, Memory, Full}
-use Rattle.once_world.specs.Record.{Entry, Made, Begin, Claim, Ran, Free, Fill, Pass, End, DropBegin, DropEnd, Look, Own}
+use Rattle.once_world.specs.Record.{Entry, Made, Begin, Claim, Ran, Free, Fill}
+use Rattle.once_world.specs.Record.{Pass, End, DropBegin, DropEnd, Look, Own}
 use Rattle.once_world.specs.Cell.{is_set, value_in, first_cell, first_answers, rest_of, next_answer}
 use Rattle.once_world.specs.Inputs.{Input, Make, Poll, Drop, Go, Looks, Owns}
 use Rattle.once_world.specs.Log.{take_lines}
 
--- what all tasks share: the word's count and flags; the queue at the door, its flag and listings; how many were made; the value put last; what a lazy init will still answer
+-- what all tasks share
 pub record SharedState : Type 0 where
-  pub count : ℕ
-  pub quick : Bool
-  pub ready : Bool
-  pub door : Option ℕ
-  pub head : Bool
-  pub listings : List (Listing ℕ)
-  pub queues : ℕ
-  pub value : ℕ
-  pub answers : List (Option ℕ)
+  pub count : ℕ  -- the count of the word
+  pub quick : Bool  -- its quick flag
+  pub ready : Bool  -- its ready flag
+  pub door : Option ℕ  -- the queue at the door
+  pub head : Bool  -- its flag
+  pub listings : List (Listing ℕ)  -- its listings
+  pub queues : ℕ  -- how many queues were made
+  pub value : ℕ  -- the value put last
+  pub answers : List (Option ℕ)  -- what a lazy init will still answer
 
 -- the word as a count and two flags
 abbrev pub word_of : SharedState → Flags
@@ -60,12 +70,12 @@ abbrev pub is_at_door : ℕ → Option ℕ → Bool
 is_at_door q None = false
 is_at_door q (Some d) = d == q
 
--- what one step leaves: what is shared, the task's own step and what its init gave, and the entries, the newest first
+-- what one step of a task leaves
 pub record Outcome : Type 0 where
   pub shared : SharedState
-  pub step : Step ℕ ℕ
-  pub kept : Answer
-  pub entries : List Entry
+  pub step : Step ℕ ℕ  -- what the task is at
+  pub kept : Answer  -- what its init gave
+  pub entries : List Entry  -- what the step adds to the record, the newest entry first
 
 -- the error that the init gave
 abbrev pub error_in : Answer → ℕ
@@ -111,7 +121,8 @@ abbrev pub freed_entries : Bool → ℕ → Answer → List Entry
 freed_entries true t k = release_entry k t [] ∷ []
 freed_entries false t k = []
 
--- the outcome of a step of t: what it leaves, what its init gave, what it did, and what the table of places says of the call
+-- the outcome of a step of t: what it leaves, what its init gave, what it did, and what the table of places says of
+-- the call
 abbrev pub outcome_of : SharedState → ℕ → Answer → List Entry → Next ℕ ℕ → Outcome
 outcome_of c t k did n = record {
   shared = c;
@@ -178,7 +189,8 @@ look_shared a c n = record c { head = head_after a c.head; listings = looked_lis
 abbrev pub look_step : Option Sees → Bool → Bool → SharedState → ℕ → ℕ → Answer → ℕ → Option ℕ → Outcome
 look_step seen listed granted c t w k q n =
     let a = look_answer seen listed in
-    outcome_of (look_shared a c n) t k (claim_entries (is_claim a) t) (after_look a (if granted then Some w else None) q n)
+    outcome_of (look_shared a c n) t k (claim_entries (is_claim a) t)
+    (after_look a (if granted then Some w else None) q n)
 
 -- what a call to list oneself leaves, by its answer
 abbrev pub list_shared : SectionAnswer ℕ → SharedState → Option ℕ → ℕ → SharedState
@@ -275,7 +287,8 @@ out_step last c t k e = outcome_of c t k [] (after_count_out last e)
 abbrev pub take_shared : SharedState → SharedState
 take_shared c = record c { door = None; head = false; listings = [] }
 
--- one step at a place: of the task t with the waker w and what its init gave so far, the init answering a, memory being given or not
+-- one step at a place: of the task t with the waker w and what its init gave so far, the init answering a, memory
+-- being given or not
 abbrev pub place_step : Bool → ℕ → SharedState → ℕ → ℕ → Answer → Answer → Bool → Place ℕ ℕ → Outcome
 place_step lazy limit c t w k a granted AtStart = start_step c.ready (is_zero (word_of c)) c t k
 place_step lazy limit c t w k a granted AtTryQuick = quick_step (is_zero (word_of c)) c t k
@@ -288,13 +301,16 @@ place_step lazy limit c t w k a granted (AtLook q n) =
 place_step lazy limit c t w k a granted (AtList q n v) =
     list_step (seen_at q c) (is_some (kept_ticket n c.listings) || granted) c t v k q n
 place_step lazy limit c t w k a granted (AtRun by) = run_step (init_answer lazy c.answers a) (run_shared c) t k by
-place_step lazy limit c t w k a granted (AtPut by) = outcome_of (record c { value = put_value k c.value }) t k [] (next_at (release_place by EndValue))
+place_step lazy limit c t w k a granted (AtPut by) =
+    outcome_of (record c { value = put_value k c.value }) t k [] (next_at (release_place by EndValue))
 place_step lazy limit c t w k a granted (AtFast e) = fast_step (is_quick_bit (word_of c)) (is_value e) c t k e
-place_step lazy limit c t w k a granted (AtAddOne e) = outcome_of (record c { count = suc c.count }) t k [] (next_at (AtDoorAgain e))
+place_step lazy limit c t w k a granted (AtAddOne e) =
+    outcome_of (record c { count = suc c.count }) t k [] (next_at (AtDoorAgain e))
 place_step lazy limit c t w k a granted (AtDoorAgain e) = again_step c.door c t k e
 place_step lazy limit c t w k a granted (AtRelease q e) = release_step (is_at_door q c.door) c t k e
 place_step lazy limit c t w k a granted (AtLeave q n e) = leave_step (is_at_door q c.door) c t k n e
-place_step lazy limit c t w k a granted (AtCountOut e) = out_step (is_ready_bit (word_of (out_shared c))) (out_shared c) t k e
+place_step lazy limit c t w k a granted (AtCountOut e) =
+    out_step (is_ready_bit (word_of (out_shared c))) (out_shared c) t k e
 place_step lazy limit c t w k a granted (AtDoorTake e) = outcome_of (take_shared c) t k [] (next_end e)
 
 -- one step of a call that is under way; nothing else makes one
@@ -331,13 +347,13 @@ abbrev pub drop_entries : ℕ → Step ℕ ℕ → List Entry
 drop_entries t Finished = DropEnd t ∷ DropBegin t ∷ []
 drop_entries t _ = DropBegin t ∷ []
 
--- what is shared, the tasks by their numbers, how many tasks are not finished, the record and the queue log
+-- a replay under way. Of the clauses of `replay`, `exact` alone speaks of it
 pub record World : Type 0 where
   pub shared : SharedState
-  pub tasks : ℕ → Option Task
-  pub unfinished : ℕ
-  pub history : List Entry
-  pub log : List QueueLine
+  pub tasks : ℕ → Option Task  -- the tasks by their numbers
+  pub unfinished : ℕ  -- how many are not finished
+  pub history : List Entry  -- the record, the newest entry first
+  pub log : List QueueLine  -- the queue log, the newest line first
 
 -- the tasks, with y at the number t
 abbrev pub put_task : ℕ → Task → (ℕ → Option Task) → ℕ → Option Task

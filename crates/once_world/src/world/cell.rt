@@ -25,7 +25,7 @@ pub(super) struct ReplayCell {
     pub side: ReplaySide,
 }
 
-/// What one step of a task was seen to do.
+/// What one step of a task was seen to do. `step_entries` of `specs/Shown` reads its fields.
 #[derive(Drop)]
 pub(super) struct StepSeen {
     pub claimed: bool,
@@ -45,7 +45,8 @@ impl ReplayCell {
     ghost use Rattle.once_world.specs.Can.{CanAdvance};
     ghost use Rattle.once_core.specs.Core.{HasRoom};
     ghost use Rattle.once_core.specs.Steps.{in_call};
-    ghost use Rattle.once_world.specs.Machine.{first_world, look_value, step_lines, reset_shared, owner_shared, owner_got, owner_lines, advance as outcome};
+    ghost use Rattle.once_world.specs.Machine.{first_world, look_value, step_lines, reset_shared};
+    ghost use Rattle.once_world.specs.Machine.{owner_shared, owner_got, owner_lines, advance as outcome};
     ghost use Rattle.once_world.specs.Shown.{kind_of, call_of, got_of, shared_of, log_in, step_entries};
 
     /// A cell of this kind that nobody used. It takes no memory.
