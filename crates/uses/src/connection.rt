@@ -72,6 +72,16 @@ where
     cell.get_as(token).copied().ok_or(Fault::Tries(most))
 }
 
+// Prints what a caller was told.
+fn show_told<O: Write>(output: &mut O, told: Result<Connection, Fault>) -> Result<(), Fault> {
+    match told {
+        Ok(Connection { number }) => writeln!(output, "connected at try {number}")?,
+        Err(Fault::Tries(tries)) => writeln!(output, "no connection after {tries} tries")?,
+        Err(other) => return Err(other),
+    }
+    Ok(())
+}
+
 /// Connects with too few tries, and then with enough.
 pub fn show<R, O>(rt: &R, output: &mut O) -> Result<(), Fault>
 where
@@ -85,11 +95,8 @@ where
         },
     );
     for most in [2, 4, 4] {
-        match connect(rt, &cell, &server, &mut cell.token(), most) {
-            Ok(Connection { number }) => writeln!(output, "connected at try {number}")?,
-            Err(Fault::Tries(tries)) => writeln!(output, "no connection after {tries} tries")?,
-            Err(other) => return Err(other),
-        }
+        let told = connect(rt, &cell, &server, &mut cell.token(), most);
+        show_told(output, told)?;
     }
     Ok(())
 }

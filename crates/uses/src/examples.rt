@@ -4,10 +4,11 @@ mod polls;
 mod tables;
 
 use crate::fault::Fault;
-use async_once_cell::{Lazy, OnceCell, Parker};
+use async_once_cell::{Lazy, OnceCell, Parker, Refused};
 use futures::Future;
 use futures::future::{Ready, ok, ready};
 use std::alloc::AllocGlobal;
+use std::fmt::Debug;
 use std::random::RandomSource;
 use std::sync::Wait;
 
@@ -22,6 +23,15 @@ where
 
     let lazy = Lazy::new(ready(3));
     let third = lazy.get(rt).wait()?;
+    values(first, second, third)
+}
+
+/// The values that were told.
+fn values(
+    first: Result<&u64, Refused>,
+    second: Result<&u64, Refused>,
+    third: Result<&u64, Refused>,
+) -> Result<[u64; 3], Fault> {
     Ok([*first?, *second?, *third?])
 }
 
@@ -33,6 +43,11 @@ where
     let lazy = Lazy::new(ready(3));
     let value = lazy.get(rt).wait()?;
     let set = lazy.try_get().copied();
+    beside(value, set)
+}
+
+/// A value that was told, beside what was seen then.
+fn beside(value: Result<&u64, Refused>, set: Option<u64>) -> Result<(u64, Option<u64>), Fault> {
     Ok((*value?, set))
 }
 
@@ -52,11 +67,22 @@ fn waited<R>(rt: &R) -> Result<[u64; 3], Fault>
 where
     R: Wait + RandomSource + AllocGlobal,
 {
-    let (cell, other) = (OnceCell::new(), OnceCell::new());
+    let (cell, other, lazy) = (OnceCell::new(), OnceCell::new(), Lazy::new(ready(3)));
+    all([made(rt, &cell), tried(rt, &other), forced(rt, &lazy)])
+}
+
+/// The numbers, or the first fault.
+fn all([one, two, three]: [Result<u64, Fault>; 3]) -> Result<[u64; 3], Fault> {
+    Ok([one?, two?, three?])
+}
+
+/// The value of a cell.
+fn made<R>(rt: &R, cell: &OnceCell<u64>) -> Result<u64, Fault>
+where
+    R: Wait + RandomSource + AllocGlobal,
+{
     let value = cell.get_or_init(rt, ready(4)).wait()??;
-    let lazy = Lazy::new(ready(3));
-    let third = forced(rt, &lazy)?;
-    Ok([*value, tried(rt, &other)?, third])
+    Ok(*value)
 }
 
 /// An init that may fail, and does not.
@@ -125,18 +151,33 @@ fn exchanged() -> (Option<u64>, Option<u64>) {
     (one, if three.is_some() { set } else { None })
 }
 
+/// Prints what two examples give.
+fn print<R, A, B>(
+    rt: &R,
+    name: &str,
+    one: Result<A, Fault>,
+    other: Result<B, Fault>,
+) -> Result<(), Fault>
+where
+    R: Print,
+    A: Debug + Drop,
+    B: Debug + Drop,
+{
+    let (one, other) = (one?, other?);
+    println!(rt; "{name}: {one:?} {other:?}")?;
+    Ok(())
+}
+
 /// Prints what each of the examples gives.
 pub fn show<R>(rt: &R) -> Result<(), Fault>
 where
     R: Print + Wait + RandomSource + AllocGlobal,
 {
-    println!(rt; "filled: {:?} {:?}", filled(rt)?, lazily(rt)?)?;
-    println!(rt; "of an owner: {:?} {:?}", owned(), replaced())?;
-    println!(rt; "waited for: {:?} {}", waited(rt)?, parked(rt)?)?;
-    println!(rt;
-        "a lazy cell: {:?}",
-        before_and_after(rt, &Lazy::new(ready(10)))?
-    )?;
+    print(rt, "filled", filled(rt), lazily(rt))?;
+    print(rt, "of an owner", Ok(owned()), Ok(replaced()))?;
+    print(rt, "waited for", waited(rt), parked(rt))?;
+    let seen = before_and_after(rt, &Lazy::new(ready(10)))?;
+    println!(rt; "a lazy cell: {seen:?}")?;
     polls::show(rt)?;
     tables::show(rt)
 }

@@ -185,7 +185,27 @@ where
     Ok(())
 }
 
-// Makes the sum, asks for the nodes in this order, and says how many values were made.
+// Asks for the nodes in this order, and says how many values were made.
+fn show_line<'a, F, G, H, R, O>(
+    rt: &'a R,
+    output: &mut O,
+    order: [Node; 4],
+    nodes: &Nodes<'a, F, G>,
+    sum: &'a Lazy<Value, H>,
+) -> Result<(), Fault>
+where
+    F: Future<Output = Value>,
+    G: Future<Output = Value>,
+    H: Future<Output = Value>,
+    R: Wait + RandomSource + AllocGlobal,
+    O: Write,
+{
+    show_told(rt, output, order, nodes, sum)?;
+    writeln!(output, "({} made)", nodes.made.get())?;
+    Ok(())
+}
+
+// Makes the sum, and asks for the nodes in this order.
 fn show_order<'a, F, G, R, O>(
     rt: &'a R,
     output: &mut O,
@@ -204,9 +224,7 @@ where
         kept: None,
         made: nodes.made,
     });
-    show_told(rt, output, order, &nodes, &sum)?;
-    writeln!(output, "({} made)", nodes.made.get())?;
-    Ok(())
+    show_line(rt, output, order, &nodes, &sum)
 }
 
 // Makes the graph over a base, and asks for its nodes.

@@ -104,11 +104,10 @@ where
     Ok(value)
 }
 
-/// Has four tasks ask one cell, and prints what they were told.
-pub fn show<R, O>(rt: &R, output: &mut O) -> Result<(), Fault>
+// What four tasks of a pool are told of a new cell.
+fn told_to_four<R>(rt: &R) -> Result<u64, Fault>
 where
     R: Wait + RandomSource + AllocGlobal,
-    O: Write,
 {
     let cell = OnceCell::new();
     let places = [
@@ -117,7 +116,16 @@ where
         Cell::new(None),
         Cell::new(None),
     ];
-    let value = told_to_all(rt, &cell, &places, &mut cell.token())?;
+    told_to_all(rt, &cell, &places, &mut cell.token())
+}
+
+/// Has four tasks ask one cell, and prints what they were told.
+pub fn show<R, O>(rt: &R, output: &mut O) -> Result<(), Fault>
+where
+    R: Wait + RandomSource + AllocGlobal,
+    O: Write,
+{
+    let value = told_to_four(rt)?;
     writeln!(output, "four tasks were told {value}")?;
     Ok(())
 }

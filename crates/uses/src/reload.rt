@@ -161,23 +161,38 @@ where
     }
 }
 
+// Has threads load a setting, prints what they were told, and unloads it.
+fn show_load<R, O>(
+    rt: &R,
+    output: &mut O,
+    table: &mut Table,
+    found: u64,
+    loads: &AtomicU64,
+) -> Result<(), Fault>
+where
+    R: Threads + Wait + RandomSource + AllocGlobal + Sync,
+    O: Write,
+{
+    let cell = table.setting(1)?;
+    let error = failed(rt, cell, loads)?;
+    let (one, other) = filled(rt, cell, found, loads)?;
+    writeln!(
+        output,
+        "not loaded: {error}; two threads were told {one} and {other}"
+    )?;
+    table.unload(1)?;
+    Ok(())
+}
+
 /// Has threads load a setting, unloads it, and has them load it anew. Prints what they were told.
 pub fn show<R, O>(rt: &R, output: &mut O) -> Result<(), Fault>
 where
     R: Threads + Wait + RandomSource + AllocGlobal + Sync,
     O: Write,
 {
-    let mut table = Table::new(rt.alloc(), 2)?;
-    let loads = AtomicU64::new(0);
+    let (mut table, loads) = (Table::new(rt.alloc(), 2)?, AtomicU64::new(0));
     for found in [80, 8080] {
-        let cell = table.setting(1)?;
-        let error = failed(rt, cell, &loads)?;
-        let (one, other) = filled(rt, cell, found, &loads)?;
-        writeln!(
-            output,
-            "not loaded: {error}; two threads were told {one} and {other}"
-        )?;
-        table.unload(1)?;
+        show_load(rt, output, &mut table, found, &loads)?;
     }
     writeln!(output, "({} loads)", loads.load(Ordering::SeqCst))?;
     Ok(())

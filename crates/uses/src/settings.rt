@@ -130,6 +130,14 @@ fn show_outcome<O: Write>(output: &mut O, path: &str, outcome: Outcome) -> io::R
     }
 }
 
+// What one who asks twice is told of the file at this path.
+fn told_of<R>(rt: &R, path: &str, reads: &Cell<u64>) -> Result<Outcome, Fault>
+where
+    R: Files + Wait + RandomSource + AllocGlobal,
+{
+    told_twice(rt, &Lazy::new(Reading { rt, path, reads }))
+}
+
 // Asks twice for the settings of a file, and prints what was told, and how often it was read.
 fn show_file<R, O>(rt: &R, output: &mut O, path: &str) -> Result<(), Fault>
 where
@@ -137,12 +145,7 @@ where
     O: Write,
 {
     let reads = Cell::new(0);
-    let reading = Reading {
-        rt,
-        path,
-        reads: &reads,
-    };
-    let outcome = told_twice(rt, &Lazy::new(reading))?;
+    let outcome = told_of(rt, path, &reads)?;
     show_outcome(output, path, outcome)?;
     writeln!(output, " ({} read)", reads.get())?;
     Ok(())

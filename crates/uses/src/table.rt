@@ -16,18 +16,27 @@ const KEYS: [u64; 3] = [5, 6, 7];
 // What is asked for. The value of one key is never asked for, and so not fetched.
 const ASKED: [u64; 3] = [7, 5, 7];
 
+// Asks this table for values, and prints what was told, and how many were fetched.
+fn show_told<R, O>(rt: &R, output: &mut O, memo: &Memo<u64>) -> Result<(), Fault>
+where
+    R: Wait + RandomSource + AllocGlobal + Clock,
+    O: Write,
+{
+    let fetches = AtomicU64::new(0);
+    for key in ASKED {
+        let answer = ask(rt, memo, &fetches, key, TURNS)?;
+        write!(output, "{} ", answer.value)?;
+    }
+    writeln!(output, "({} fetched)", fetches.load(Ordering::SeqCst))?;
+    Ok(())
+}
+
 /// Asks a table for values, and prints what was told, and how many were fetched.
 pub fn show<R, O>(rt: &R, output: &mut O) -> Result<(), Fault>
 where
     R: Wait + RandomSource + AllocGlobal + Clock,
     O: Write,
 {
-    let memo = Memo::new(rt.alloc(), Vec::from_array(rt.alloc(), KEYS)?)?;
-    let fetches = AtomicU64::new(0);
-    for key in ASKED {
-        let answer = ask(rt, &memo, &fetches, key, TURNS)?;
-        write!(output, "{} ", answer.value)?;
-    }
-    writeln!(output, "({} fetched)", fetches.load(Ordering::SeqCst))?;
-    Ok(())
+    let keys = Vec::from_array(rt.alloc(), KEYS)?;
+    show_told(rt, output, &Memo::new(rt.alloc(), keys)?)
 }

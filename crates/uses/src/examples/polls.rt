@@ -2,11 +2,11 @@
 ghost use Rattle.std.specs.Prelude.{◌≡◌, false};
 
 use crate::fault::Fault;
-use async_once_cell::once::{InitError, TryInitFuture};
+use async_once_cell::once::{InitError, InitFuture, TryInitFuture};
 use async_once_cell::world::{Input, Kind, World};
 use async_once_cell::{Lazy, OnceCell};
 use futures::Future;
-use futures::future::{TryOutput, ok, pending, ready};
+use futures::future::{Ready, TryOutput, ok, pending, ready};
 use futures::task::{Context, Poll};
 use futures::test::MockTask;
 use std::alloc::{AllocError, AllocGlobal, Global};
@@ -43,10 +43,18 @@ where
     let _ = task.poll(&mut waiter);
     drop(holder);
     let is_made = task.poll(&mut waiter).is_ready();
+    poll_to_its_end(&task, waiter);
+    Ok((is_held, is_made))
+}
+
+/// Polls a future once more, if it is not finished.
+fn poll_to_its_end<R>(task: &MockTask, mut waiter: InitFuture<'_, u64, Ready<u64>, R>)
+where
+    R: Wait + AllocGlobal,
+{
     if !waiter.is_finished() {
         let _ = task.poll(&mut waiter);
     }
-    Ok((is_held, is_made))
 }
 
 /// What one poll gives: the value, the error of the own init, or 0.
@@ -90,20 +98,23 @@ fn replayed(alloc: Global) -> Result<usize, AllocError> {
     Ok(if next.is_some() { begun.len() } else { 0 })
 }
 
+/// What the first poll of a future gives.
+fn first_polled<R>(rt: &R) -> Result<u64, Fault>
+where
+    R: Wait + RandomSource + AllocGlobal,
+{
+    let (cell, task) = (OnceCell::new(), MockTask::new(rt)?);
+    let mut future = cell.get_or_try_init(rt, ok::<u64, u64>(7));
+    Ok(task.enter(|cx| polled_once(&mut future, cx)))
+}
+
 /// Prints what these give.
 pub fn show<R>(rt: &R) -> Result<(), Fault>
 where
     R: Print + Wait + RandomSource + AllocGlobal,
 {
-    let (cell, task) = (OnceCell::new(), MockTask::new(rt)?);
-    let mut future = cell.get_or_try_init(rt, ok::<u64, u64>(7));
-    let value = task.enter(|cx| polled_once(&mut future, cx));
-    println!(rt;
-        "polled: {:?} {} {}",
-        dropped_holder(rt)?,
-        value,
-        handed_back(rt)?
-    )?;
+    let (dropped, value) = (dropped_holder(rt)?, first_polled(rt)?);
+    println!(rt; "polled: {dropped:?} {value} {}", handed_back(rt)?)?;
     println!(rt; "replayed: {} entries", replayed(rt.alloc())?)?;
     Ok(())
 }

@@ -2,13 +2,15 @@
 ghost use Rattle.std.specs.Prelude.{◌≡◌, IsSome};
 ghost use Rattle.memo_table.specs.Memo.{cell_of};
 
+use super::print;
 use crate::fault::Fault;
+use async_once_cell::Refused;
 use futures::executor::block_on;
 use futures::future::ready;
 use futures::test::MockTask;
 use memo_table::fetch::Fetch;
 use memo_table::memo::Memo;
-use std::alloc::{AllocError, AllocGlobal, Global};
+use std::alloc::{AllocGlobal, Global};
 use std::random::RandomSource;
 use std::sync::Wait;
 use std::sync::atomic::AtomicU64;
@@ -23,11 +25,16 @@ where
     let cell = memo.cell(1).unwrap();
     let first = block_on(rt, cell.get_or_init(rt, ready(10)))?;
     let second = block_on(rt, cell.get_or_init(rt, ready(11)))?;
+    both(first, second)
+}
+
+/// Both values that were told.
+fn both(first: Result<&u64, Refused>, second: Result<&u64, Refused>) -> Result<(u64, u64), Fault> {
     Ok((*first?, *second?))
 }
 
 /// The tokens of two keys, one of which the table has.
-fn tokens(alloc: Global) -> Result<(bool, bool), AllocError> {
+fn tokens(alloc: Global) -> Result<(bool, bool), Fault> {
     let memo = Memo::<u64>::new(alloc, vec![in alloc; 7, 5, 7]?)?;
     let token = memo.token(7);
     let missing = memo.token(6);
@@ -65,20 +72,25 @@ where
     Ok(polled.is_ready())
 }
 
+/// What a table tells of a key, before and after a fetch, and what it has then.
+fn learned_and_looked<R>(rt: &R) -> Result<(Option<u64>, Option<u64>, Option<u64>), Fault>
+where
+    R: Wait + RandomSource + AllocGlobal,
+{
+    let alloc = rt.alloc();
+    let memo = Memo::new(alloc, vec![in alloc; 7]?)?;
+    let (early, value) = learned(rt, &memo)?;
+    Ok((early, value, looked(&memo)))
+}
+
 /// Prints what these give.
 pub fn show<R>(rt: &R) -> Result<(), Fault>
 where
     R: Print + Wait + RandomSource + AllocGlobal,
 {
-    let alloc = rt.alloc();
-    let memo = Memo::new(alloc, vec![in alloc; 7]?)?;
-    let learned = learned(rt, &memo)?;
-    println!(rt; "a table: {:?} {:?}", fetched(rt)?, tokens(alloc)?)?;
-    println!(rt;
-        "a table: {:?} {:?} {}",
-        learned,
-        looked(&memo),
-        polled(rt)?
-    )?;
+    print(rt, "a table", fetched(rt), tokens(rt.alloc()))?;
+    let (early, value, looked) = learned_and_looked(rt)?;
+    let polled = polled(rt)?;
+    println!(rt; "a table: {:?} {looked:?} {polled}", (early, value))?;
     Ok(())
 }
