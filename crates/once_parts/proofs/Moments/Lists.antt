@@ -33,18 +33,8 @@ module _ {W : Type 0} (whose : W → ℕ) where
       → (is_some (kept_ticket s.ticket s.listings) ≡ true) ⊎ (result ≡ Memory → ⊥) → Claims seen s result t
       → (seen ≡ Sees.Taken → DidList s.ticket w s.listings result t.ticket w' t.listings) → (seen ≡ Sees.Taken → t.head ≡ s.head)
       → ListShown (whose w) (list_answer (Some seen) true) s result t
-  granted_by Set s w w' result t fits claims held head = record {
-    answer = ap answer_as claims.0;
-    flag = ap (λ (q : Claimant W). q.head) claims.1;
-    listings = ap (λ (q : Claimant W). named whose q.listings) claims.1;
-    ticket = ap (λ (q : Claimant W). q.ticket) claims.1;
-  }
-  granted_by Free s w w' result t fits claims held head = record {
-    answer = ap answer_as claims.0;
-    flag = ap (λ (q : Claimant W). q.head) claims.1;
-    listings = ap (λ (q : Claimant W). named whose q.listings) claims.1 ∙ sym (without_named whose s.ticket s.listings);
-    ticket = ap (λ (q : Claimant W). q.ticket) claims.1;
-  }
+  granted_by Set s w w' result t fits claims held head = rw (claims.0, claims.1) record { answer = refl; flag = refl; listings = refl; ticket = refl }
+  granted_by Free s w w' result t fits claims held head = rw (claims.0, claims.1) record { answer = refl; flag = refl; listings = sym (without_named whose s.ticket s.listings); ticket = refl }
   granted_by Taken s w w' result t fits claims held head = ⊎_elim
       (λ d. record {
         answer = ap answer_as d.0;
@@ -66,24 +56,9 @@ module _ {W : Type 0} (whose : W → ℕ) where
   -- by what is seen, where there is no room: a look in place of the listing
   refused_by : (seen : Sees) (s : Claimant W) (v : ℕ) (result : Answer W) (t : Claimant W) → Claims seen s result t
       → (seen ≡ Sees.Taken → result ≡ Held) → (seen ≡ Sees.Taken → t ≡ s) → ListShown v (list_answer (Some seen) false) s (as_memory result) t
-  refused_by Set s v result t claims held stays = record {
-    answer = ap (λ r. answer_as (as_memory r)) claims.0;
-    flag = ap (λ (q : Claimant W). q.head) claims.1;
-    listings = ap (λ (q : Claimant W). named whose q.listings) claims.1;
-    ticket = ap (λ (q : Claimant W). q.ticket) claims.1;
-  }
-  refused_by Free s v result t claims held stays = record {
-    answer = ap (λ r. answer_as (as_memory r)) claims.0;
-    flag = ap (λ (q : Claimant W). q.head) claims.1;
-    listings = ap (λ (q : Claimant W). named whose q.listings) claims.1 ∙ sym (without_named whose s.ticket s.listings);
-    ticket = ap (λ (q : Claimant W). q.ticket) claims.1;
-  }
-  refused_by Taken s v result t claims held stays = record {
-    answer = ap (λ r. answer_as (as_memory r)) (held refl);
-    flag = ap (λ (q : Claimant W). q.head) (stays refl);
-    listings = ap (λ (q : Claimant W). named whose q.listings) (stays refl);
-    ticket = ap (λ (q : Claimant W). q.ticket) (stays refl);
-  }
+  refused_by Set s v result t claims held stays = rw (claims.0, claims.1) record { answer = refl; flag = refl; listings = refl; ticket = refl }
+  refused_by Free s v result t claims held stays = rw (claims.0, claims.1) record { answer = refl; flag = refl; listings = sym (without_named whose s.ticket s.listings); ticket = refl }
+  refused_by Taken s v result t claims held stays = rw (held refl, stays refl) record { answer = refl; flag = refl; listings = refl; ticket = refl }
 
   -- from what `look_own` tells, where the own ticket has no listing and room was refused: who would list itself looks in place of it
   pub refusal_shown : (seen : Sees) (s : Claimant W) (v : ℕ) (result : Answer W) (t : Claimant W)

@@ -23,36 +23,16 @@ module _ {W : Type 0} (whose : W → ℕ) where
   -- where some task holds all is as it was, by whether the own listing was not called
   look_held : (l : Bool) (s : Claimant W) (result : Answer W) (t : Claimant W) → result ≡ cond l Listed Held → t ≡ s
       → LookShown (look_answer (Some Taken) l) s result t
-  look_held true s result t a e = record {
-    answer = ap answer_as a;
-    flag = ap (λ (q : Claimant W). q.head) e;
-    listings = ap (λ (q : Claimant W). named whose q.listings) e;
-    ticket = ap (λ (q : Claimant W). q.ticket) e;
-  }
-  look_held false s result t a e = record {
-    answer = ap answer_as a;
-    flag = ap (λ (q : Claimant W). q.head) e;
-    listings = ap (λ (q : Claimant W). named whose q.listings) e;
-    ticket = ap (λ (q : Claimant W). q.ticket) e;
-  }
+  look_held true s result t a e = rw (a, e) record { answer = refl; flag = refl; listings = refl; ticket = refl }
+  look_held false s result t a e = rw (a, e) record { answer = refl; flag = refl; listings = refl; ticket = refl }
 
   -- from what `look_own` tells, by what is seen
   pub look_shown : (seen : Sees) (s : Claimant W) (result : Answer W) (t : Claimant W) → Claims seen s result t
       → (seen ≡ Sees.Taken → result ≡ cond (is_some (option_flatten (own_listing s.ticket s.listings))) Listed Held)
       → (seen ≡ Sees.Taken → t ≡ s)
       → LookShown (look_answer (Some seen) (is_some (option_flatten (own_listing s.ticket (named whose s.listings))))) s result t
-  look_shown Set s result t claims held stays = record {
-    answer = ap answer_as claims.0;
-    flag = ap (λ (q : Claimant W). q.head) claims.1;
-    listings = ap (λ (q : Claimant W). named whose q.listings) claims.1;
-    ticket = ap (λ (q : Claimant W). q.ticket) claims.1;
-  }
-  look_shown Free s result t claims held stays = record {
-    answer = ap answer_as claims.0;
-    flag = ap (λ (q : Claimant W). q.head) claims.1;
-    listings = ap (λ (q : Claimant W). named whose q.listings) claims.1 ∙ sym (without_named whose s.ticket s.listings);
-    ticket = ap (λ (q : Claimant W). q.ticket) claims.1;
-  }
+  look_shown Set s result t claims held stays = rw (claims.0, claims.1) record { answer = refl; flag = refl; listings = refl; ticket = refl }
+  look_shown Free s result t claims held stays = rw (claims.0, claims.1) record { answer = refl; flag = refl; listings = sym (without_named whose s.ticket s.listings); ticket = refl }
   look_shown Taken s result t claims held stays =
       look_held (is_some (option_flatten (own_listing s.ticket (named whose s.listings)))) s result t
       (held refl ∙ ap (λ b. cond b Listed Held) (sym (uncalled_named whose s.ticket s.listings))) (stays refl)

@@ -53,9 +53,9 @@ module _ (limit n put : ℕ) (slot : Bool) (pages : List Page) (log : List Entry
       (set_here pages 1 (Queue head xs) (Queue h ys) queue ∙ ap (λ v. Some (Queue v ys)) (sym b) ∙ ap (λ zs. Some (Queue c'.head zs)) (sym l))
       (λ u. set_other pages 1 (suc (suc u)) (Queue h ys) (one_task u))
 
-  -- how the queue q is found that stands at the door
-  state_is : (q : ℕ) → c.door ≡ Some q → seen_at q c ≡ Some (sees (flags_of n) head)
-  state_is q d =
+  -- what is seen in the queue q that stands at the door
+  seen_is : (q : ℕ) → c.door ≡ Some q → seen_at q c ≡ Some (sees (flags_of n) head)
+  seen_is q d =
       ap (λ b. seen_by b (sees_by c.ready (c.quick || c.head))) (at_door q c.door d)
       ∙ ap (λ (f : Flags). seen_by true (sees_by f.ready (f.quick || c.head))) (sym book.1.word_is)
       ∙ ap (λ b. Some (sees (flags_of n) b)) own_queue.0
@@ -69,7 +69,7 @@ module _ (limit n put : ℕ) (slot : Bool) (pages : List Page) (log : List Entry
       let d = stands limit n put slot pages log t x some book pen (AtLook q k) at in
       let a : SectionAnswer ℕ = look_answer (Some (sees (flags_of n) head)) (is_waker x.waker (own_listing k xs)) in
       queue_set n (AtLook q k) granted (look_shared a c k) (claim_entries (is_claim a) t) (after_look a (cond granted (Some x.waker) None) q k) (head_after a head) (looked_list a k xs) at
-      (ap (λ s. look_step s (is_waker x.waker (own_listing k c.listings)) granted c t x.waker x.kept q k) (state_is q d.1)
+      (ap (λ s. look_step s (is_waker x.waker (own_listing k c.listings)) granted c t x.waker x.kept q k) (seen_is q d.1)
       ∙ ap (λ ys. look_step (Some (sees (flags_of n) head)) (is_waker x.waker (own_listing k ys)) granted c t x.waker x.kept q k) own_queue.1)
       book.1.within book.1.word_is refl refl (ap (head_after a) own_queue.0) (ap (looked_list a k) own_queue.1)
 
@@ -82,7 +82,7 @@ module _ (limit n put : ℕ) (slot : Bool) (pages : List Page) (log : List Entry
       let d = stands limit n put slot pages log t x some book pen (AtList q k v) at in
       let a : SectionAnswer ℕ = list_answer (Some (sees (flags_of n) head)) (is_some (kept_ticket k xs) || granted) in
       queue_set n (AtList q k v) granted (list_shared a c k v) (claim_entries (is_claim a) t) (after_list a q (listed_ticket a k xs)) (head_after a head) (listed_list a k v xs) at
-      (ap (λ s. list_step s (is_some (kept_ticket k c.listings) || granted) c t v x.kept q k) (state_is q d.1)
+      (ap (λ s. list_step s (is_some (kept_ticket k c.listings) || granted) c t v x.kept q k) (seen_is q d.1)
       ∙ ap (λ ys. list_step (Some (sees (flags_of n) head)) (is_some (kept_ticket k ys) || granted) c t v x.kept q k) own_queue.1
       ∙ ap (λ ys. outcome_of (list_shared a c k v) t x.kept (claim_entries (is_claim a) t) (after_list a q (listed_ticket a k ys))) own_queue.1)
       book.1.within book.1.word_is refl refl (ap (head_after a) own_queue.0) (ap (listed_list a k v) own_queue.1)
