@@ -23,14 +23,27 @@ where
     Ok(lost)
 }
 
-// A round: a future holds quickly and is pending, and one that waited is dropped. Then one thread polls
-// a new future, while the other polls the holder, a little later, whose init fails.
+// A round over a new cell, by three tasks.
 fn is_lost<R>(rt: &R, delay: u64) -> io::Result<bool>
 where
     R: Wait + AllocGlobal + RandomSource + Threads + Sync,
 {
-    let (cell, arrived) = (OnceCell::new(), AtomicU64::new(0));
-    let (one, two, three) = (MockTask::new(rt)?, MockTask::new(rt)?, MockTask::new(rt)?);
+    let tasks = [MockTask::new(rt)?, MockTask::new(rt)?, MockTask::new(rt)?];
+    Ok(is_lost_by(rt, &tasks, &OnceCell::new(), delay))
+}
+
+// A round: a future holds quickly and is pending, and one that waited is dropped. Then one thread polls
+// a new future, while the other polls the holder, a little later, whose init fails.
+fn is_lost_by<R>(
+    rt: &R,
+    [one, two, three]: &[MockTask; 3],
+    cell: &OnceCell<u64>,
+    delay: u64,
+) -> bool
+where
+    R: Wait + AllocGlobal + Threads + Sync,
+{
+    let arrived = AtomicU64::new(0);
     let mut holder = cell.get_or_try_init(rt, Failing::new());
     let holds = one.poll(&mut holder).is_pending();
     let left = two
@@ -48,7 +61,7 @@ where
             three.poll(&mut waiter).is_pending()
         },
     );
-    Ok(holds && left && ended && waits && !three.is_woken())
+    holds && left && ended && waits && !three.is_woken()
 }
 
 // Waits until two threads are here, and so many looks longer.

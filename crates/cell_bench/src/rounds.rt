@@ -25,6 +25,7 @@ pub fn perform<R>(rt: &R, operation: Operation, count: u64, cx: &mut Context<'_>
 where
     R: Wait + RandomSource + AllocGlobal + Threads + Sync,
 {
+    let number = number_waiting(operation);
     let sum = match operation {
         Operation::TwoLook => Ok(looks_of_two(rt, &filled(rt, cx), count)),
         Operation::FourLook => Ok(looks_of_four(rt, &filled(rt, cx), count)),
@@ -37,23 +38,38 @@ where
         Operation::Get => Ok(get(&filled(rt, cx), count)),
         Operation::Init => Ok(init(rt, count, cx)),
         Operation::Listed => listed(rt, count, cx),
-        Operation::OneWaits => waiters(rt, 1, count, cx),
-        Operation::TenWait => waiters(rt, 10, count, cx),
-        Operation::HundredWait => waiters(rt, 100, count, cx),
-        Operation::ThousandWait => waiters(rt, 1_000, count, cx),
-        Operation::TenThousandWait => waiters(rt, 10_000, count, cx),
-        Operation::HundredThousandWait => waiters(rt, 100_000, count, cx),
-        Operation::TenThousandDrop => drops(rt, 10_000, count, cx),
-        Operation::FailureBeforeOne => failures(rt, 1, count, cx),
-        Operation::FailureBeforeTen => failures(rt, 10, count, cx),
-        Operation::FailureBeforeHundred => failures(rt, 100, count, cx),
-        Operation::TenTurns => turns(rt, 10, count, cx),
-        Operation::HundredTurns => turns(rt, 100, count, cx),
-        Operation::TenThousandTurns => turns(rt, 10_000, count, cx),
+        Operation::OneWaits
+        | Operation::TenWait
+        | Operation::HundredWait
+        | Operation::ThousandWait
+        | Operation::TenThousandWait
+        | Operation::HundredThousandWait => waiters(rt, number, count, cx),
+        Operation::TenThousandDrop => drops(rt, number, count, cx),
+        Operation::FailureBeforeOne
+        | Operation::FailureBeforeTen
+        | Operation::FailureBeforeHundred => failures(rt, number, count, cx),
+        Operation::TenTurns | Operation::HundredTurns | Operation::TenThousandTurns => {
+            turns(rt, number, count, cx)
+        }
         Operation::LazyFirst => Ok(lazy_first(rt, count, cx)),
         Operation::LazyLater => Ok(lazy_later(rt, &filled_lazy(rt, cx), count, cx)),
     };
     Ok(sum?)
+}
+
+// How many wait in an operation, where others do.
+fn number_waiting(operation: Operation) -> usize {
+    match operation {
+        Operation::OneWaits | Operation::FailureBeforeOne => 1,
+        Operation::TenWait | Operation::FailureBeforeTen | Operation::TenTurns => 10,
+        Operation::HundredWait | Operation::FailureBeforeHundred | Operation::HundredTurns => 100,
+        Operation::ThousandWait => 1_000,
+        Operation::TenThousandWait | Operation::TenThousandDrop | Operation::TenThousandTurns => {
+            10_000
+        }
+        Operation::HundredThousandWait => 100_000,
+        _ => 0,
+    }
 }
 
 // A cell whose value an init gave.

@@ -36,11 +36,16 @@ pub fn kept_parker<R: Wait + RandomSource + AllocGlobal>(rt: &R, count: u64) -> 
     let mut parker = Parker::new(rt)?;
     let mut sum: u64 = 0;
     for _ in 0..count {
-        let cell = OnceCell::new();
-        let future = cell.get_or_init(rt, ready(1));
-        sum = sum.wrapping_add(value_of(future.wait_on(&mut parker)?));
+        sum = sum.wrapping_add(one_kept_wait(rt, &OnceCell::new(), &mut parker)?);
     }
     Ok(sum)
+}
+
+fn one_kept_wait<R>(rt: &R, cell: &OnceCell<u64>, parker: &mut Parker) -> io::Result<u64>
+where
+    R: Wait + AllocGlobal,
+{
+    Ok(value_of(cell.get_or_init(rt, ready(1)).wait_on(parker)?))
 }
 
 fn one_wait<R>(rt: &R, cell: &OnceCell<u64>) -> io::Result<u64>

@@ -1,4 +1,4 @@
-//! What a poll of a cell's future answered, without the borrow of the value.
+//! What a poll of a cell's future answered, without the borrow of the value; and the tasks that poll.
 
 use async_once_cell::once::{InitError, Refused};
 use async_once_cell::world::Reply;
@@ -6,6 +6,9 @@ use futures::Future;
 use futures::future::TryOutput;
 use futures::task::Poll;
 use futures::test::MockTask;
+use std::alloc::AllocGlobal;
+use std::io;
+use std::random::RandomSource;
 
 /// Why a poll ended without a value.
 pub trait Refusal: Drop {
@@ -53,6 +56,15 @@ where
             Err(refusal) => refusal.reply(),
         },
     }
+}
+
+/// So many tasks.
+pub fn tasks<R: AllocGlobal + RandomSource>(rt: &R, count: usize) -> io::Result<Vec<MockTask>> {
+    let mut tasks = Vec::new(rt.alloc());
+    for _ in 0..count {
+        tasks.push(MockTask::new(rt)?)?;
+    }
+    Ok(tasks)
 }
 
 /// Forgets that the task was woken.

@@ -20,7 +20,7 @@ mod refusals;
 
 use crate::made::{Looks, Made, Within};
 use crate::memory::hoard;
-use crate::poll::calm;
+use crate::poll::{calm, tasks};
 use crate::stub::{Init, Stub, Tried, count};
 use async_once_cell::world::Reply;
 use async_once_cell::{Lazy, OnceCell};
@@ -87,11 +87,9 @@ struct Tasks {
 
 impl Tasks {
     fn new<R: AllocGlobal + RandomSource>(rt: &R, most: usize) -> io::Result<Self> {
-        let mut tasks = Vec::new(rt.alloc());
-        for _ in 0..most {
-            tasks.push(MockTask::new(rt)?)?;
-        }
-        let tasks = Tasks { tasks };
+        let tasks = Tasks {
+            tasks: tasks(rt, most)?,
+        };
         // A new task counts as woken.
         tasks.calm();
         Ok(tasks)
@@ -494,14 +492,23 @@ where
     compare(name, "end", text, end)
 }
 
-/// Runs schedules, each with its name and over cells of its own. Each line must lead to what stands
-/// after its `=>`, or wake nobody where nothing stands there. `A..B * ` before a line stands for such
-/// lines at the numbers from A to B - 1, by which each `n` is read, and `N * ` for N of them.
-pub fn run<R>(rt: &R, schedules: &[(&str, &str)]) -> Result<(), Fail>
+// A schedule of a text: its name, and its lines.
+fn named(part: &str) -> (&str, &str) {
+    let (head, lines) = part.split_once('\n').unwrap_or((part, ""));
+    let (name, _) = head.split_once(": ").unwrap_or((head, ""));
+    (name, lines)
+}
+
+/// Runs the schedules of a text, each over cells of its own. An empty line stands between two, and `# NAME` or
+/// `# NAME: WHAT IT IS ABOUT` before the lines of each. Each line must lead to what stands after its `=>`, or wake
+/// nobody where nothing stands there. `A..B * ` before a line stands for such lines at the numbers from A to B - 1,
+/// by which each `n` is read, and `N * ` for N of them.
+pub fn run<R>(rt: &R, schedules: &str) -> Result<(), Fail>
 where
     R: Wait + AllocGlobal + RandomSource,
 {
-    for (name, lines) in schedules {
+    for part in schedules.split("\n\n") {
+        let (name, lines) = named(part);
         run_one(rt, name, lines)?;
     }
     Ok(())

@@ -4,12 +4,12 @@ mod fault;
 mod table;
 mod users;
 
-use async_once_cell::{Lazy, OnceCell, Parker};
+use async_once_cell::{Lazy, OnceCell, Parker, Refused};
 use cell_doubles::meeting::{Blocking, Meeting};
 use cell_doubles::memory::hoard;
 use fault::Fault;
 use futures::future::ready;
-use std::alloc::AllocGlobal;
+use std::alloc::{AllocError, AllocGlobal};
 use std::random::RandomSource;
 use std::sync::Wait;
 use std::sync::atomic::{AtomicU64, Ordering};
@@ -19,52 +19,81 @@ use std::time::Clock;
 use table::{Table, sums};
 use users::{Service, by_any, doubled, forced, known, known_on, lent, slow, tried, value};
 
-// What each kind of caller is told by an empty cell, and how many inits were done.
-fn values<R>(rt: &R) -> Result<([u64; 7], u64), Fault>
+// What each kind of caller of a `OnceCell` is told by an empty one, and by one that is set.
+fn values_of_cells<R>(rt: &R, done: &AtomicU64) -> Result<[u64; 4], Fault>
 where
     R: Wait + RandomSource + AllocGlobal,
 {
-    let done = AtomicU64::new(0);
     let (one, two, three) = (OnceCell::new(), OnceCell::new(), OnceCell::new());
-    let lazy = Lazy::new(slow(25, &done));
     let told = [
-        value(rt, &one, &done)?,
-        *lent(rt, &two, &done)?,
+        value(rt, &one, done)?,
+        *lent(rt, &two, done)?,
         *by_any(rt, &three, ready(20))??,
-        *by_any(rt, &three, slow(1, &done))??,
+        *by_any(rt, &three, slow(1, done))??,
+    ];
+    Ok(told)
+}
+
+// What is told by a `Lazy`, by one over another, and by a cell in a struct.
+fn values_of_owners<R>(rt: &R, done: &AtomicU64) -> Result<[u64; 3], Fault>
+where
+    R: Wait + RandomSource + AllocGlobal,
+{
+    let lazy = Lazy::new(slow(25, done));
+    let told = [
         forced(rt, &lazy)?,
-        doubled(rt, &done)?,
+        doubled(rt, done)?,
         *Service::new().value(rt)?,
     ];
-    Ok((told, done.load(Ordering::SeqCst)))
+    Ok(told)
 }
 
 /// An empty cell answers the value of the init that was given, also where the init borrows and is
 /// Pending a few times; a set one answers what is set. Each init is done once.
 #[test]
 fn value_of_each_kind(rt: HostRuntime) -> Result<(), Fail> {
-    assert_eq!(rt; values(&rt)?, ([21, 22, 20, 20, 25, 52, 27], 4));
+    let done = AtomicU64::new(0);
+    let told = (values_of_cells(&rt, &done)?, values_of_owners(&rt, &done)?);
+    assert_eq!(rt; told, ([21, 22, 20, 20], [25, 52, 27]));
+    assert_eq!(rt; done.load(Ordering::SeqCst), 4);
     Ok(())
 }
 
 // What a token is told by two waits, of which the second keeps its parker and brings another value.
-fn told_by_token<R>(rt: &R) -> Result<[u64; 3], Fault>
+fn told_by_token<'a, R>(
+    rt: &'a R,
+    cell: &'a OnceCell<u64>,
+    parker: &mut Parker,
+) -> Result<[u64; 2], Fault>
+where
+    R: Wait + RandomSource + AllocGlobal,
+{
+    let (done, mut token) = (AtomicU64::new(0), cell.token());
+    let first = *known(rt, cell, &done, &mut token)?;
+    let second = *known_on(rt, cell, &done, &mut token, parker)?;
+    Ok([first, second])
+}
+
+// What a token is told by a wait that keeps its parker.
+fn told_by_another<'a, R>(
+    rt: &'a R,
+    cell: &'a OnceCell<u64>,
+    parker: &mut Parker,
+) -> Result<u64, Fault>
 where
     R: Wait + RandomSource + AllocGlobal,
 {
     let done = AtomicU64::new(0);
-    let (cell, mut parker) = (OnceCell::new(), Parker::new(rt)?);
-    let mut token = cell.token();
-    let first = *known(rt, &cell, &done, &mut token)?;
-    let second = *known_on(rt, &cell, &done, &mut token, &mut parker)?;
-    let third = *known_on(rt, &cell, &done, &mut cell.token(), &mut parker)?;
-    Ok([first, second, third])
+    Ok(*known_on(rt, cell, &done, &mut cell.token(), parker)?)
 }
 
 /// A token learns the value by a wait. Another init is not polled then.
 #[test]
 fn value_that_a_token_knows(rt: HostRuntime) -> Result<(), Fail> {
-    assert_eq!(rt; told_by_token(&rt)?, [23; 3]);
+    let (cell, mut parker) = (OnceCell::new(), Parker::new(&rt)?);
+    let told = told_by_token(&rt, &cell, &mut parker)?;
+    let other = told_by_another(&rt, &cell, &mut parker)?;
+    assert_eq!(rt; (told, other), ([23; 2], 23));
     Ok(())
 }
 
@@ -136,14 +165,27 @@ fn value_of_another_thread(rt: HostRuntime) -> Result<(), Fail> {
     Ok(())
 }
 
+// Whether a wait for an empty cell is refused where all memory is taken, and what a set one answers.
+fn told_without_memory<'a, R>(
+    rt: &'a R,
+    empty: &'a OnceCell<u64>,
+    set: &'a OnceCell<u64>,
+) -> Result<(bool, Option<Result<&'a u64, Refused>>), AllocError>
+where
+    R: Wait + RandomSource + AllocGlobal,
+{
+    let held = hoard(rt.alloc())?;
+    let is_refused = by_any(rt, empty, ready(1)).is_err();
+    let told = by_any(rt, set, ready(2)).ok();
+    drop(held);
+    Ok((is_refused, told))
+}
+
 /// Without memory a thread can't wait for an empty cell, which is as it was then. A set one answers.
 #[test]
 fn no_memory_to_wait(rt: HostRuntime) -> Result<(), Fail> {
     let (empty, set) = (OnceCell::new(), OnceCell::new_with(7u64));
-    let held = hoard(rt.alloc())?;
-    let is_refused = by_any(&rt, &empty, ready(1)).is_err();
-    let told = by_any(&rt, &set, ready(2)).ok();
-    drop(held);
+    let (is_refused, told) = told_without_memory(&rt, &empty, &set)?;
     let later = by_any(&rt, &empty, ready(3))?;
     assert_eq!(rt; (is_refused, told, later), (true, Some(Ok(&7)), Ok(&3)));
     Ok(())

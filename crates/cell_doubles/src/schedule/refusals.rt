@@ -1,6 +1,6 @@
 //! Schedules of which each request for memory is refused in turn.
 
-use super::{Inits, Scene, Schedule, Tasks, most, turns_in};
+use super::{Inits, Scene, Schedule, Tasks, most, named, turns_in};
 use crate::memory::{Rations, Request, hoard_most};
 use crate::poll::wake;
 use crate::stub::Init;
@@ -187,13 +187,14 @@ fn is_plain(lines: &str) -> bool {
 ///
 /// How many requests were refused. A schedule is passed over in which a future is forgotten or is polled by
 /// another's task, memory is short anyway, the owner takes the value, or more than a hundred futures wait.
-pub fn refuse_each<R>(rt: &R, schedules: &[(&str, &str)]) -> Result<usize, Fail>
+pub fn refuse_each<R>(rt: &R, schedules: &str) -> Result<usize, Fail>
 where
     R: Wait + AllocGlobal + RandomSource,
 {
     let held = hoard_most(rt.alloc())?;
     let mut refused = 0usize;
-    for (name, lines) in schedules {
+    for part in schedules.split("\n\n") {
+        let (name, lines) = named(part);
         if is_plain(lines) && most(lines) <= 102 {
             refused = refused.saturating_add(refused_in(rt, name, lines)?);
         }

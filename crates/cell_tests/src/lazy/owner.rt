@@ -9,6 +9,13 @@ use futures::task::Poll;
 use futures::test::MockTask;
 use std::test::Fail;
 
+// What a poll of the future that came back gives, which was polled once before.
+fn polled_on(mut future: Init<'_, u64>, stub: &Stub<u64>, task: &MockTask) -> (Poll<u64>, u64) {
+    stub.answer.set(Some(9));
+    let polled = task.poll(&mut future);
+    (polled, stub.polls.get())
+}
+
 /// A future that was not done comes back as it was left, and goes on where it stood.
 #[test]
 fn future_handed_back(rt: HostRuntime) -> Result<(), Fail> {
@@ -17,14 +24,14 @@ fn future_handed_back(rt: HostRuntime) -> Result<(), Fail> {
     let mut f = lazy.get(&rt);
     let reply = polled(&task, &mut f);
     drop(f);
-    assert_eq!(rt; (reply, lazy.try_get()), (Reply::Pending, None));
-    let Err(Some(mut future)) = lazy.into_parts() else {
+    let value = lazy.try_get().copied();
+    let Err(Some(future)) = lazy.into_parts() else {
         return Err(Fail::from("no future came back"));
     };
-    assert_eq!(rt; stub.counts(), (1, 0));
-    stub.answer.set(Some(9));
-    assert_eq!(rt; task.poll(&mut future), Poll::Ready(9));
-    assert_eq!(rt; stub.polls.get(), 2);
+    let counts = stub.counts();
+    let later = polled_on(future, &stub, &task);
+    assert_eq!(rt; (reply, value, counts), (Reply::Pending, None, (1, 0)));
+    assert_eq!(rt; later, (Poll::Ready(9), 2));
     Ok(())
 }
 

@@ -4,12 +4,9 @@ use cell_doubles::schedule::{refuse_each, run};
 use std::test::Fail;
 
 // Schedules over a `Lazy`.
-const SCHEDULES: [(&str, &str); 5] = [
-    // Four futures of one cell, polled by one task: its own future is driven by the first, and all get the
-    // value.
-    (
-        "four_of_one_cell",
-        "get 0
+const SCHEDULES: &str = "\
+# four_of_one_cell: one task polls all: the cell's own future is driven by the first, and all get the value
+get 0
 unpin 1
 into 2
 get 3
@@ -23,12 +20,10 @@ poll 1 v2 0 => v2, done
 poll 2 v2 0 => v2, done
 poll 3 v2 0 => v2, done
 inits => 2 polls, 1 drops
-lazy => Some(2), Lazy { value: Some(2), inner: Inner { ready: true, quick_init: false, refcount: 0, queue: false } }",
-    ),
-    // A holder is dropped: the cell's future stays, and goes on where it stood.
-    (
-        "holder_dropped",
-        "get 0
+lazy => Some(2), Lazy { value: Some(2), inner: Inner { ready: true, quick_init: false, refcount: 0, queue: false } }
+
+# holder_dropped: a holder is dropped: the cell's future stays, and goes on where it stood
+get 0
 get 1
 poll 0 p => pending, wakes 0
 poll 1 p => pending
@@ -37,45 +32,35 @@ inits => 1 polls, 0 drops
 poll 1 p => pending, wakes 1
 poll 1 v5 => v5, done
 drop 1
-inits => 3 polls, 1 drops",
-    ),
-    // A future that is done asks for another poll, and leaves its cell as it is.
-    (
-        "polled_when_done",
-        "get 0
+inits => 3 polls, 1 drops
+
+# polled_when_done: a future that is done asks for another poll, and leaves its cell as it is
+get 0
 poll 0 v5 => v5, done
 poll 0 v5 => pending, done, wakes 0
 inits => 1 polls, 1 drops
-lazy => Some(5), Lazy { value: Some(5), inner: Inner { ready: true, quick_init: false, refcount: 0, queue: false } }",
-    ),
-    // A future says whether it is finished.
-    (
-        "futures_shown",
-        "get 0
+lazy => Some(5), Lazy { value: Some(5), inner: Inner { ready: true, quick_init: false, refcount: 0, queue: false } }
+
+# futures_shown: a future says whether it is finished
+get 0
 future 0 => LazyFuturePin { finished: false }
 unpin 1
 poll 1 v5 => v5, done
 future 0 => LazyFuturePin { finished: false }
-future 1 => LazyFuturePin { finished: true }",
-    ),
-    // A value that the future gave is there for all calls, and the future is not.
-    (
-        "value_of_the_future",
-        "into 0
+future 1 => LazyFuturePin { finished: true }
+
+# value_of_the_future: a value that the future gave is there for all calls, and the future is not
+into 0
 poll 0 v9 => v9, done
 drop 0
 lazy => Some(9), Lazy { value: Some(9), inner: Inner { ready: true, quick_init: false, refcount: 0, queue: false } }
 inits => 1 polls, 1 drops
-end => None, Some(9)",
-    ),
-];
+end => None, Some(9)";
 
 // A schedule over a `Lazy` that needs no memory from some point on, and gets none.
-const STARVED: [(&str, &str); 1] = [
-    // A future that would wait is refused, and the cell's own goes on unharmed.
-    (
-        "no_memory_to_wait",
-        "get 0
+const STARVED: &str = "\
+# no_memory_to_wait: who would wait is refused and done, and the cell stays as it is. The holder goes on
+get 0
 get 1
 starve
 poll 0 p => pending, wakes 0
@@ -84,24 +69,22 @@ poll 0 v4 => v4, done
 drop 0
 drop 1
 inits => 2 polls, 1 drops
-lazy => Some(4), Lazy { value: Some(4), inner: Inner { ready: true, quick_init: false, refcount: 0, queue: false } }",
-    ),
-];
+lazy => Some(4), Lazy { value: Some(4), inner: Inner { ready: true, quick_init: false, refcount: 0, queue: false } }";
 
 #[test]
 fn memory_as_asked(rt: HostRuntime) -> Result<(), Fail> {
-    run(&rt, &SCHEDULES)
+    run(&rt, SCHEDULES)
 }
 
 #[test]
 fn starved(rt: HostRuntime) -> Result<(), Fail> {
-    run(&rt, &STARVED)
+    run(&rt, STARVED)
 }
 
 // Each request for memory of these schedules is refused in turn. There are so many at least.
 #[test]
 fn each_request_refused(rt: HostRuntime) -> Result<(), Fail> {
-    let refused = refuse_each(&rt, &SCHEDULES)?;
+    let refused = refuse_each(&rt, SCHEDULES)?;
     assert!(rt; refused >= 9, "{refused}");
     Ok(())
 }

@@ -11,7 +11,9 @@ use futures::task::{Context, Poll};
 use futures::test::MockTask;
 use std::alloc::AllocGlobal;
 use std::cell::Cell;
+use std::io;
 use std::mem::replace;
+use std::random::RandomSource;
 use std::sync::{Mutex, Wait};
 use std::test::Fail;
 
@@ -109,6 +111,15 @@ impl Plan {
             at_drop: Act::Nothing,
         }
     }
+
+    // To give 6, and to do this where it is dropped.
+    fn with_at_drop(act: Act) -> Plan {
+        let plan = Plan::to_answer(Ok(6));
+        Plan {
+            at_drop: act,
+            ..plan
+        }
+    }
 }
 
 /// An init that uses another future of its cell.
@@ -156,37 +167,63 @@ const PENDING: Option<Reply> = Some(Reply::Pending);
 
 const VALUE: Option<Reply> = Some(Reply::Value(4));
 
+/// A cell, and a task for each of three futures of it.
+#[derive(Drop)]
+struct Scene {
+    one: MockTask,
+    two: MockTask,
+    three: MockTask,
+    cell: OnceCell<u64>,
+}
+
+impl Scene {
+    fn new<R: AllocGlobal + RandomSource>(rt: &R) -> io::Result<Self> {
+        Ok(Scene {
+            one: MockTask::new(rt)?,
+            two: MockTask::new(rt)?,
+            three: MockTask::new(rt)?,
+            cell: OnceCell::new(),
+        })
+    }
+}
+
 /// An init polls another future, which waits, and then fails. The other is called, and its init fills
 /// the cell.
 #[test]
 fn polls_another_and_fails(rt: HostRuntime) -> Result<(), Fail> {
-    let (one, two, cell) = (MockTask::new(&rt)?, MockTask::new(&rt)?, OnceCell::new());
-    let other = Other::new(&cell, &rt, &two);
+    let scene = Scene::new(&rt)?;
+    let (one, two, cell) = (&scene.one, &scene.two, &scene.cell);
+    let other = Other::new(cell, &rt, two);
     let plan = Plan::to_answer(Err(9));
     let plan = Plan {
         at_first: Act::Poll,
         ..plan
     };
     let mut holder = cell.get_or_try_init(&rt, Meddling::new(&other, plan));
-    let first = polled(&one, &mut holder);
-    let waits = shows(&rt, &cell, "quick_init: true, refcount: 1, queue: true");
+    let first = polled(one, &mut holder);
+    let waits = shows(&rt, cell, "quick_init: true, refcount: 1, queue: true");
     let calm = !two.is_woken();
-    let second = polled(&one, &mut holder);
+    let second = polled(one, &mut holder);
+    let (heard, is_woken) = (other.heard.get(), two.is_woken());
+    let polls = [other.poll(), other.poll()];
+    let is_filled = is_filled(&rt, cell);
+    drop(holder);
+    drop(other);
     assert_eq!(rt;
-        (first, other.heard.get(), second),
+        (first, heard, second),
         (Reply::Pending, PENDING, Reply::Error(9))
     );
-    assert_eq!(rt; (waits, calm, two.is_woken()), (true, true, true));
-    assert_eq!(rt; [other.poll(), other.poll()], [PENDING, VALUE]);
-    assert!(rt; is_filled(&rt, &cell));
+    assert_eq!(rt; (waits, calm, is_woken), (true, true, true));
+    assert_eq!(rt; (polls, is_filled), ([PENDING, VALUE], true));
     Ok(())
 }
 
 /// An init polls another future, which waits, and then drops it and gives the value. Nobody is left.
 #[test]
 fn drops_who_waits(rt: HostRuntime) -> Result<(), Fail> {
-    let (one, two, cell) = (MockTask::new(&rt)?, MockTask::new(&rt)?, OnceCell::new());
-    let other = Other::new(&cell, &rt, &two);
+    let scene = Scene::new(&rt)?;
+    let (one, two, cell) = (&scene.one, &scene.two, &scene.cell);
+    let other = Other::new(cell, &rt, two);
     let plan = Plan::to_answer(Ok(6));
     let plan = Plan {
         at_first: Act::Poll,
@@ -194,10 +231,13 @@ fn drops_who_waits(rt: HostRuntime) -> Result<(), Fail> {
         ..plan
     };
     let mut holder = cell.get_or_try_init(&rt, Meddling::new(&other, plan));
-    let replies = [polled(&one, &mut holder), polled(&one, &mut holder)];
+    let replies = [polled(one, &mut holder), polled(one, &mut holder)];
+    let (heard, gone) = (other.heard.get(), other.poll());
+    let is_filled = is_filled(&rt, cell);
+    drop(holder);
+    drop(other);
     assert_eq!(rt; replies, [Reply::Pending, Reply::Value(6)]);
-    assert_eq!(rt; (other.heard.get(), other.poll()), (PENDING, None));
-    assert!(rt; is_filled(&rt, &cell));
+    assert_eq!(rt; (heard, gone, is_filled), (PENDING, None, true));
     Ok(())
 }
 
@@ -205,42 +245,44 @@ fn drops_who_waits(rt: HostRuntime) -> Result<(), Fail> {
 /// the other waits. The value calls it.
 #[test]
 fn polls_another_when_it_is_done(rt: HostRuntime) -> Result<(), Fail> {
-    let (one, two, cell) = (MockTask::new(&rt)?, MockTask::new(&rt)?, OnceCell::new());
-    let other = Other::new(&cell, &rt, &two);
-    let plan = Plan::to_answer(Ok(6));
-    let plan = Plan {
-        at_drop: Act::Poll,
-        ..plan
-    };
+    let scene = Scene::new(&rt)?;
+    let (one, two, cell) = (&scene.one, &scene.two, &scene.cell);
+    let other = Other::new(cell, &rt, two);
+    let plan = Plan::with_at_drop(Act::Poll);
     let mut holder = cell.get_or_try_init(&rt, Meddling::new(&other, plan));
-    let replies = [polled(&one, &mut holder), polled(&one, &mut holder)];
+    let replies = [polled(one, &mut holder), polled(one, &mut holder)];
     let (heard, is_woken) = (other.heard.get(), two.is_woken());
+    let told = other.poll();
+    let is_filled = is_filled(&rt, cell);
+    drop(holder);
+    drop(other);
     assert_eq!(rt;
         (replies, heard),
         ([Reply::Pending, Reply::Value(6)], PENDING)
     );
-    assert_eq!(rt; (is_woken, other.poll()), (true, Some(Reply::Value(6))));
-    assert!(rt; is_filled(&rt, &cell));
+    assert_eq!(rt;
+        (is_woken, told, is_filled),
+        (true, Some(Reply::Value(6)), true)
+    );
     Ok(())
 }
 
 /// The same of the init of a holder that is dropped: the other is called, and its init fills the cell.
 #[test]
 fn polls_another_when_its_future_is_dropped(rt: HostRuntime) -> Result<(), Fail> {
-    let (one, two, cell) = (MockTask::new(&rt)?, MockTask::new(&rt)?, OnceCell::new());
-    let other = Other::new(&cell, &rt, &two);
-    let plan = Plan::to_answer(Ok(6));
-    let plan = Plan {
-        at_drop: Act::Poll,
-        ..plan
-    };
+    let scene = Scene::new(&rt)?;
+    let (one, two, cell) = (&scene.one, &scene.two, &scene.cell);
+    let other = Other::new(cell, &rt, two);
+    let plan = Plan::with_at_drop(Act::Poll);
     let mut holder = cell.get_or_try_init(&rt, Meddling::new(&other, plan));
-    let reply = polled(&one, &mut holder);
+    let reply = polled(one, &mut holder);
     drop(holder);
-    assert_eq!(rt; (reply, other.heard.get()), (Reply::Pending, PENDING));
-    assert!(rt; two.is_woken());
-    assert_eq!(rt; [other.poll(), other.poll()], [PENDING, VALUE]);
-    assert!(rt; is_filled(&rt, &cell));
+    let (heard, is_woken) = (other.heard.get(), two.is_woken());
+    let polls = [other.poll(), other.poll()];
+    let is_filled = is_filled(&rt, cell);
+    drop(other);
+    assert_eq!(rt; (reply, heard, is_woken), (Reply::Pending, PENDING, true));
+    assert_eq!(rt; (polls, is_filled), ([PENDING, VALUE], true));
     Ok(())
 }
 
@@ -248,18 +290,20 @@ fn polls_another_when_its_future_is_dropped(rt: HostRuntime) -> Result<(), Fail>
 /// calls all who are listed. Then the future leaves, the last to do so.
 #[test]
 fn leaves_after_the_value(rt: HostRuntime) -> Result<(), Fail> {
-    let (one, two, cell) = (MockTask::new(&rt)?, MockTask::new(&rt)?, OnceCell::new());
-    let holder = Other::new(&cell, &rt, &one);
-    let plan = Plan::to_answer(Ok(6));
-    let plan = Plan {
-        at_drop: Act::Poll,
-        ..plan
-    };
+    let scene = Scene::new(&rt)?;
+    let (one, two, cell) = (&scene.one, &scene.two, &scene.cell);
+    let holder = Other::new(cell, &rt, one);
+    let plan = Plan::with_at_drop(Act::Poll);
     let mut waiter = cell.get_or_try_init(&rt, Meddling::new(&holder, plan));
-    let replies = [holder.poll(), Some(polled(&two, &mut waiter))];
+    let replies = [holder.poll(), Some(polled(two, &mut waiter))];
     drop(waiter);
-    assert_eq!(rt; (replies, holder.heard.get()), ([PENDING, PENDING], VALUE));
-    assert!(rt; is_filled(&rt, &cell));
+    let heard = holder.heard.get();
+    let is_filled = is_filled(&rt, cell);
+    drop(holder);
+    assert_eq!(rt;
+        (replies, heard, is_filled),
+        ([PENDING, PENDING], VALUE, true)
+    );
     Ok(())
 }
 
@@ -267,34 +311,29 @@ fn leaves_after_the_value(rt: HostRuntime) -> Result<(), Fail> {
 /// turn on to the next.
 #[test]
 fn called_while_it_leaves(rt: HostRuntime) -> Result<(), Fail> {
-    let (one, two, three) = (
-        MockTask::new(&rt)?,
-        MockTask::new(&rt)?,
-        MockTask::new(&rt)?,
-    );
-    let cell = OnceCell::new();
-    let holder = Other::new(&cell, &rt, &one);
-    let plan = Plan::to_answer(Ok(6));
-    let plan = Plan {
-        at_drop: Act::Drop,
-        ..plan
-    };
+    let scene = Scene::new(&rt)?;
+    let (three, cell) = (&scene.three, &scene.cell);
+    let holder = Other::new(cell, &rt, &scene.one);
+    let plan = Plan::with_at_drop(Act::Drop);
     let mut waiter = cell.get_or_try_init(&rt, Meddling::new(&holder, plan));
     let mut next = cell.get_or_init(&rt, LATER);
     let replies = [
         holder.poll(),
-        Some(polled(&two, &mut waiter)),
-        Some(polled(&three, &mut next)),
+        Some(polled(&scene.two, &mut waiter)),
+        Some(polled(three, &mut next)),
     ];
     let calm = !three.is_woken();
     drop(waiter);
+    let is_woken = three.is_woken();
+    let last = [polled(three, &mut next), polled(three, &mut next)];
+    let is_filled = is_filled(&rt, cell);
+    drop(next);
+    drop(holder);
+    assert_eq!(rt; (replies, calm, is_woken), ([PENDING; 3], true, true));
     assert_eq!(rt;
-        (replies, calm, three.is_woken()),
-        ([PENDING; 3], true, true)
+        (last, is_filled),
+        ([Reply::Pending, Reply::Value(4)], true)
     );
-    let replies = [polled(&three, &mut next), polled(&three, &mut next)];
-    assert_eq!(rt; replies, [Reply::Pending, Reply::Value(4)]);
-    assert!(rt; is_filled(&rt, &cell));
     Ok(())
 }
 
@@ -302,39 +341,32 @@ fn called_while_it_leaves(rt: HostRuntime) -> Result<(), Fail> {
 /// turn is passed on, until that one gives its value.
 #[test]
 fn right_taken_while_it_leaves(rt: HostRuntime) -> Result<(), Fail> {
-    let (one, two, three) = (
-        MockTask::new(&rt)?,
-        MockTask::new(&rt)?,
-        MockTask::new(&rt)?,
-    );
-    let cell = OnceCell::new();
-    let other = Other::new(&cell, &rt, &one);
-    let plan = Plan::to_answer(Ok(6));
-    let plan = Plan {
-        at_drop: Act::Poll,
-        ..plan
-    };
+    let scene = Scene::new(&rt)?;
+    let (two, three, cell) = (&scene.two, &scene.three, &scene.cell);
+    let other = Other::new(cell, &rt, &scene.one);
+    let plan = Plan::with_at_drop(Act::Poll);
     let mut holder = cell.get_or_init(&rt, LATER);
     let mut waiter = cell.get_or_try_init(&rt, Meddling::new(&other, plan));
     let mut next = cell.get_or_init(&rt, LATER);
     let replies = [
-        polled(&one, &mut holder),
-        polled(&two, &mut waiter),
-        polled(&three, &mut next),
+        polled(&scene.one, &mut holder),
+        polled(two, &mut waiter),
+        polled(three, &mut next),
     ];
     drop(holder);
     let called = [two.is_woken(), three.is_woken()];
     drop(waiter);
     let calm = !three.is_woken();
+    let polls = [other.heard.get(), other.poll()];
+    let last = (three.is_woken(), polled(three, &mut next));
+    let is_filled = is_filled(&rt, cell);
+    drop(next);
+    drop(other);
     assert_eq!(rt;
         (replies, called, calm),
         ([Reply::Pending; 3], [true, false], true)
     );
-    assert_eq!(rt; [other.heard.get(), other.poll()], [PENDING, VALUE]);
-    assert_eq!(rt;
-        (three.is_woken(), polled(&three, &mut next)),
-        (true, Reply::Value(4))
-    );
-    assert!(rt; is_filled(&rt, &cell));
+    assert_eq!(rt; polls, [PENDING, VALUE]);
+    assert_eq!(rt; (last, is_filled), ((true, Reply::Value(4)), true));
     Ok(())
 }

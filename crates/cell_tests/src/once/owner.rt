@@ -130,11 +130,14 @@ fn written_after_a_fill(rt: HostRuntime) -> Result<(), Fail> {
     let filled = task.enter(|cx| told(&rt, cx, &cell, &stub));
     let lent = changed(&mut cell);
     let written = task.enter(|cx| told(&rt, cx, &cell, &stub));
+    let (counts, left) = (stub.counts(), left(cell));
     assert_eq!(rt;
         [filled, written],
         [(Reply::Value(4), Some(4)), (Reply::Value(6), Some(6))]
     );
-    assert_eq!(rt; (lent, stub.counts()), (Some(4), (1, 2)));
-    assert_eq!(rt; left(cell), [Some(6), Some(6), Some(6), None]);
+    assert_eq!(rt;
+        (lent, counts, left),
+        (Some(4), (1, 2), [Some(6), Some(6), Some(6), None])
+    );
     Ok(())
 }

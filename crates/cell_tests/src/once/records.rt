@@ -43,11 +43,15 @@ fn filled_and_learned<R: Wait + AllocGlobal>(
 fn learned_from_another(rt: HostRuntime) -> Result<(), Fail> {
     let task = MockTask::new(&rt)?;
     let filled = task.enter(|cx| filled_and_learned(&rt, cx, &OnceCell::new()));
-    assert_eq!(rt; filled, ([false, true, true], Some(4)));
-    assert_eq!(rt;
+    let learned = [
+        filled,
         learned(&OnceCell::new_with(5)),
-        ([false, true, true], Some(5))
+        learned(&OnceCell::new()),
+    ];
+    let knows = [false, true, true];
+    assert_eq!(rt;
+        learned,
+        [(knows, Some(4)), (knows, Some(5)), ([false; 3], None)]
     );
-    assert_eq!(rt; learned(&OnceCell::new()), ([false; 3], None));
     Ok(())
 }

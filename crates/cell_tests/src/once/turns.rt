@@ -3,10 +3,9 @@
 use cell_doubles::schedule::{refuse_each, run};
 use std::test::Fail;
 
-const TURNS: [(&str, &str); 11] = [
-    (
-        "called_waiter_dropped",
-        "try 0
+const TURNS: &str = "\
+# called_waiter_dropped
+try 0
 try 1
 try 2
 poll 0 p => pending, wakes 0
@@ -16,11 +15,10 @@ poll 0 e1 => e1, done, wakes 1
 drop 1 => so, wakes 2
 poll 2 v2 => v2, done
 inits => 3 polls, 3 drops
-show => OnceCell { value: Some(2), inner: Inner { ready: true, quick_init: false, refcount: 0, queue: false } }",
-    ),
-    (
-        "each_in_its_turn",
-        "try 0
+show => OnceCell { value: Some(2), inner: Inner { ready: true, quick_init: false, refcount: 0, queue: false } }
+
+# each_in_its_turn
+try 0
 try 1
 try 2
 try 3
@@ -32,12 +30,10 @@ drop 0 => so, wakes 1
 poll 1 e1 => e1, done, wakes 2
 poll 2 e2 => e2, done, wakes 3
 poll 3 v3 => v3, done
-inits => 4 polls, 4 drops",
-    ),
-    // Who was not called leaves, and only its own waker is let go. The next failure calls another.
-    (
-        "waiter_dropped_before_its_turn",
-        "try 0
+inits => 4 polls, 4 drops
+
+# waiter_dropped_before_its_turn: who was not called leaves, with its own waker. A failure calls another
+try 0
 try 1
 try 2
 try 3
@@ -49,12 +45,10 @@ drop 1 => so, wakes 1
 poll 0 e1 => e1, done, wakes 2
 drop 3 => so, wakes 3
 drop 2
-show => OnceCell { value: None, inner: Inner { ready: false, quick_init: false, refcount: 0, queue: true } }",
-    ),
-    // While another holds, a turn is not passed on: that one's failure calls the next.
-    (
-        "no_turn_while_another_holds",
-        "try 0
+show => OnceCell { value: None, inner: Inner { ready: false, quick_init: false, refcount: 0, queue: true } }
+
+# no_turn_while_another_holds: while another holds, a turn is not passed on: that one's failure calls the next
+try 0
 try 1
 try 2
 try 3
@@ -65,12 +59,10 @@ poll 0 e1 => e1, done, wakes 1
 poll 3 p => pending, wakes 3
 drop 1
 poll 3 e3 => e3, done, wakes 2
-poll 2 v2 => v2, done",
-    ),
-    // Who was called and finds another holder lists itself anew, at the end.
-    (
-        "listed_anew_behind_the_others",
-        "try 0
+poll 2 v2 => v2, done
+
+# listed_anew_behind_the_others: who was called and finds another holder lists itself anew, at the end
+try 0
 try 1
 try 2
 try 3
@@ -82,12 +74,10 @@ poll 3 p => pending, wakes 3
 poll 1 v9 => pending
 poll 3 e3 => e3, done, wakes 2
 poll 2 e2 => e2, done, wakes 1
-poll 1 v1 => v1, done",
-    ),
-    // The value calls all, also after a turn was given.
-    (
-        "value_calls_all",
-        "try 0
+poll 1 v1 => v1, done
+
+# value_calls_all: the value calls all, also after a turn was given
+try 0
 try 1
 try 2
 try 3
@@ -98,12 +88,10 @@ poll 3 v9 => pending
 poll 0 e1 => e1, done, wakes 1
 poll 1 v4 => v4, done, wakes 2 to 3
 poll 2 v9 => v4, done
-poll 3 v9 => v4, done",
-    ),
-    // It calls those who are listed behind one who was called before, too.
-    (
-        "value_calls_all_behind_one_who_was_called",
-        "try 0
+poll 3 v9 => v4, done
+
+# value_calls_all_behind_one_who_was_called: it calls those who are listed behind one who was called before, too
+try 0
 try 1
 try 2
 try 3
@@ -113,45 +101,39 @@ poll 2 v9 => pending
 poll 0 e1 => e1, done, wakes 1
 poll 3 v4 => v4, done, wakes 2
 poll 1 v9 => v4, done
-poll 2 v9 => v4, done",
-    ),
-    // However many wait, a failure wakes one task, and a value wakes all.
-    (
-        "one_task_is_woken_of_1",
-        "try 0
+poll 2 v9 => v4, done
+
+# one_task_is_woken_of_1: however many wait, a failure wakes one task, and a value wakes all
+try 0
 poll 0 p => pending, wakes 0
 1..2 * try n
 1..2 * poll n v9 => pending
 poll 0 e1 => e1, done, wakes 1
 poll 1 v4 => v4, done
-inits => 3 polls, 2 drops",
-    ),
-    (
-        "one_task_is_woken_of_10",
-        "try 0
+inits => 3 polls, 2 drops
+
+# one_task_is_woken_of_10
+try 0
 poll 0 p => pending, wakes 0
 1..11 * try n
 1..11 * poll n v9 => pending
 poll 0 e1 => e1, done, wakes 1
 poll 1 v4 => v4, done, wakes 2 to 10
 2..11 * poll n v9 => v4, done
-inits => 3 polls, 11 drops",
-    ),
-    (
-        "one_task_is_woken_of_100",
-        "try 0
+inits => 3 polls, 11 drops
+
+# one_task_is_woken_of_100
+try 0
 poll 0 p => pending, wakes 0
 1..101 * try n
 1..101 * poll n v9 => pending
 poll 0 e1 => e1, done, wakes 1
 poll 1 v4 => v4, done, wakes 2 to 100
 2..101 * poll n v9 => v4, done
-inits => 3 polls, 101 drops",
-    ),
-    // Ten wait. Nine are called and dropped, one after another, and the tenth fills the cell.
-    (
-        "turn_passed_on_to_the_last",
-        "try 0
+inits => 3 polls, 101 drops
+
+# turn_passed_on_to_the_last: ten wait. Nine are called and dropped, one after another, and the tenth fills the cell
+try 0
 poll 0 p => pending, wakes 0
 1..11 * try n
 1..11 * poll n v9 => pending
@@ -166,14 +148,12 @@ drop 7 => so, wakes 8
 drop 8 => so, wakes 9
 drop 9 => so, wakes 10
 poll 10 v7 => v7, done
-inits => 2 polls, 11 drops",
-    ),
-];
+inits => 2 polls, 11 drops";
 
 // A schedule in which a waiter is refused memory, and takes nobody's turn.
-const STARVED: [(&str, &str); 1] = [(
-    "refused_beside_who_waits",
-    "try 0
+const STARVED: &str = "\
+# refused_beside_who_waits
+try 0
 try 1
 try 2
 poll 0 p => pending, wakes 0
@@ -181,23 +161,22 @@ poll 1 v9 => pending
 starve
 poll 2 v9 => memory, done
 poll 0 e1 => e1, done, wakes 1
-poll 1 v1 => v1, done",
-)];
+poll 1 v1 => v1, done";
 
 #[test]
 fn memory_as_asked(rt: HostRuntime) -> Result<(), Fail> {
-    run(&rt, &TURNS)
+    run(&rt, TURNS)
 }
 
 #[test]
 fn starved(rt: HostRuntime) -> Result<(), Fail> {
-    run(&rt, &STARVED)
+    run(&rt, STARVED)
 }
 
 // Each request for memory of these schedules is refused in turn. There are so many at least.
 #[test]
 fn each_request_refused(rt: HostRuntime) -> Result<(), Fail> {
-    let refused = refuse_each(&rt, &TURNS)?;
+    let refused = refuse_each(&rt, TURNS)?;
     assert!(rt; refused >= 250, "{refused}");
     Ok(())
 }

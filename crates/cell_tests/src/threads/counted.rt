@@ -15,6 +15,9 @@ use std::thread::{self, Threads};
 
 const CELLS: u64 = 200;
 
+// How many values were made and were dropped, and whether each init was dropped.
+type Found = ([u64; 2], bool);
+
 // What went through all cells: how many inits were begun and dropped, and how many values were made and dropped.
 #[derive(Drop)]
 struct Counts {
@@ -44,8 +47,7 @@ impl Counts {
         }
     }
 
-    // How many values were made and were dropped, and whether each init was dropped.
-    fn found(&self) -> ([u64; 2], bool) {
+    fn found(&self) -> Found {
         let values = [read(&self.values), read(&self.values_dropped)];
         (values, read(&self.inits) == read(&self.inits_dropped))
     }
@@ -181,31 +183,52 @@ where
     Ok(told)
 }
 
-// Whether so many threads are told the same by all cells.
-fn are_alike<R, C>(rt: &R, cells: &[C], threads: usize) -> io::Result<bool>
+// What so many threads are told by all cells: a list for each thread.
+fn told_to_all<R, C>(rt: &R, cells: &[C], threads: usize) -> io::Result<Vec<io::Result<Vec<u64>>>>
 where
     R: Wait + AllocGlobal + RandomSource + Threads + Sync,
     C: Asked + Sync,
 {
     let alloc = rt.alloc();
     let work = |thread: usize| told(rt, alloc, cells, thread);
-    let mut first: Option<Vec<u64>> = None;
-    for told in thread::map_indices(rt, alloc, threads, &work)? {
-        let told = told?;
-        if told.len() != cells.len() {
-            return Ok(false);
-        }
-        match &first {
-            None => first = Some(told),
-            Some(first) => {
-                if first.as_slice() != told.as_slice() {
-                    return Ok(false);
-                }
-            }
-        }
-    }
-    Ok(true)
+    Ok(thread::map_indices(rt, alloc, threads, &work)?)
 }
+
+// Whether all lists are the same, with so many values.
+fn are_alike(lists: &[io::Result<Vec<u64>>], length: usize) -> bool {
+    let Some(Ok(first)) = lists.first() else {
+        return false;
+    };
+    first.len() == length && lists.iter().all(|it| is_list(it, first.as_slice()))
+}
+
+fn is_list(list: &io::Result<Vec<u64>>, wanted: &[u64]) -> bool {
+    match list {
+        Ok(values) => values.as_slice() == wanted,
+        Err(_) => false,
+    }
+}
+
+// Whether so many threads are told the same by all cells, and what was found then and after the cells were dropped.
+fn asked_and_dropped<R, C>(
+    rt: &R,
+    counts: &Counts,
+    cells: Vec<C>,
+    threads: usize,
+) -> io::Result<(bool, [Found; 2])>
+where
+    R: Wait + AllocGlobal + RandomSource + Threads + Sync,
+    C: Asked + Sync + Drop,
+{
+    let lists = told_to_all(rt, &cells, threads)?;
+    let are_alike = are_alike(&lists, cells.len());
+    let kept = counts.found();
+    drop(cells);
+    Ok((are_alike, [kept, counts.found()]))
+}
+
+// All threads are told the same. Each value is kept until its cell is dropped, and each init was dropped before.
+const WANTED: (bool, [Found; 2]) = (true, [([CELLS, 0], true), ([CELLS, CELLS], true)]);
 
 fn all_cells(alloc: Global, counts: &Counts) -> Result<Vec<Contested<'_>>, AllocError> {
     let mut cells = Vec::new(alloc);
@@ -222,11 +245,8 @@ fn threads_get_one_value(rt: HostRuntime) -> Result<(), Fail> {
     for threads in [2, 4] {
         let counts = Counts::new();
         let cells = all_cells(rt.alloc(), &counts)?;
-        let are_alike = are_alike(&rt, &cells, threads)?;
-        let kept = counts.found();
-        drop(cells);
-        assert_eq!(rt; (are_alike, kept), (true, ([CELLS, 0], true)));
-        assert_eq!(rt; counts.found(), ([CELLS, CELLS], true));
+        let found = asked_and_dropped(&rt, &counts, cells, threads)?;
+        assert_eq!(rt; found, WANTED);
     }
     Ok(())
 }
@@ -247,11 +267,8 @@ fn threads_drive_one_future(rt: HostRuntime) -> Result<(), Fail> {
     for threads in [2, 4] {
         let counts = Counts::new();
         let lazies = lazies(rt.alloc(), &counts)?;
-        let are_alike = are_alike(&rt, &lazies, threads)?;
-        let kept = counts.found();
-        drop(lazies);
-        assert_eq!(rt; (are_alike, kept), (true, ([CELLS, 0], true)));
-        assert_eq!(rt; counts.found(), ([CELLS, CELLS], true));
+        let found = asked_and_dropped(&rt, &counts, lazies, threads)?;
+        assert_eq!(rt; found, WANTED);
     }
     Ok(())
 }

@@ -8,9 +8,13 @@ use cell_doubles::slow::{Driven, Failing, Slow, ended, left_midway};
 use cell_doubles::text::{SETTLED, shows};
 use futures::test::MockTask;
 use std::alloc::{AllocError, AllocGlobal, Global};
+use std::io;
+use std::io::Eprint;
+use std::random::RandomSource;
 use std::sync::Wait;
 use std::sync::atomic::{AtomicU64, Ordering};
 use std::test::Fail;
+use std::thread::Threads;
 use std::time::Clock;
 
 // How often a thread begins anew at a cell, at most: more often than the inits of one fail.
@@ -75,18 +79,28 @@ fn filled(cells: &[Contested]) -> u64 {
     filled
 }
 
+// How many threads got 1 of all cells, how many cells are filled, and whether nobody is left in any.
+fn visited_by_all<R>(rt: &R, cells: &[Contested]) -> io::Result<(usize, u64, bool)>
+where
+    R: Wait + AllocGlobal + Clock + RandomSource + Threads + Eprint + Sync,
+{
+    let got = gathered(rt, cells)?;
+    let are_settled = cells.iter().all(|it| shows(rt, &it.cell, SETTLED));
+    Ok((
+        alike(&got, &[1; CELLS as usize]),
+        filled(cells),
+        are_settled,
+    ))
+}
+
 /// Each cell is filled once, after all its failures, and all threads get that value. Nobody is left in any
 /// cell.
 #[test]
 fn filled_after_the_failures(rt: HostRuntime) -> Result<(), Fail> {
     let cells = all_cells(rt.alloc())?;
-    let got = gathered(&rt, &cells)?;
-    let alike = alike(&got, &[1; CELLS as usize]);
-    let are_settled = cells.iter().all(|it| shows(&rt, &it.cell, SETTLED));
-    assert_eq!(rt;
-        (alike, filled(&cells), are_settled),
-        (THREADS, CELLS, true)
-    );
+    let seen = visited_by_all(&rt, &cells)?;
+    drop(cells);
+    assert_eq!(rt; seen, (THREADS, CELLS, true));
     Ok(())
 }
 
@@ -132,18 +146,23 @@ fn numbers(alloc: Global) -> Result<Vec<u64>, AllocError> {
     Ok(numbers)
 }
 
+// How many threads got its number of each cell, how many inits were done, and whether nobody is left in any cell.
+fn driven_by_all<R>(rt: &R) -> io::Result<(usize, u64, bool)>
+where
+    R: Wait + AllocGlobal + Clock + RandomSource + Threads + Eprint + Sync,
+{
+    let done = AtomicU64::new(0);
+    let lazies = lazies(rt.alloc(), &done)?;
+    let got = gathered(rt, &lazies)?;
+    let are_settled = lazies.iter().all(|it| shows(rt, it, SETTLED));
+    let alike = alike(&got, &numbers(rt.alloc())?);
+    Ok((alike, done.load(Ordering::SeqCst), are_settled))
+}
+
 /// Threads drive one future by turns, and drop some of those by which they do. It is done once, and nobody
 /// is left in its cell.
 #[test]
 fn filled_after_the_drops(rt: HostRuntime) -> Result<(), Fail> {
-    let (done, numbers) = (AtomicU64::new(0), numbers(rt.alloc())?);
-    let lazies = lazies(rt.alloc(), &done)?;
-    let got = gathered(&rt, &lazies)?;
-    let alike = alike(&got, &numbers);
-    let are_settled = lazies.iter().all(|it| shows(&rt, it, SETTLED));
-    assert_eq!(rt;
-        (alike, done.load(Ordering::SeqCst), are_settled),
-        (THREADS, CELLS, true)
-    );
+    assert_eq!(rt; driven_by_all(&rt)?, (THREADS, CELLS, true));
     Ok(())
 }

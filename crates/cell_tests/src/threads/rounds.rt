@@ -3,13 +3,16 @@
 use crate::left::{is_filled, is_free};
 use async_once_cell::OnceCell;
 use async_once_cell::world::Reply;
+use cell_doubles::poll::tasks;
 use cell_doubles::slow::{Slow, ended, left_midway};
 use cell_doubles::stub::Tried;
 use futures::test::MockTask;
 use rand_core::{Rng, SeedableRng};
 use rand_xoshiro::Xoshiro256PlusPlus;
 use std::alloc::{AllocError, AllocGlobal};
+use std::io;
 use std::mem::replace;
+use std::random::RandomSource;
 use std::sync::Wait;
 use std::sync::atomic::{AtomicU64, Ordering};
 use std::test::Fail;
@@ -137,15 +140,15 @@ fn is_found(cell: &mut OnceCell<u64>, turn: u64) -> bool {
 }
 
 // The first round of so many threads that did not end as it should.
-fn first_bad<R>(rt: &R, tasks: &[MockTask]) -> Result<Option<u64>, AllocError>
+fn first_bad<R>(rt: &R, threads: usize) -> io::Result<Option<u64>>
 where
-    R: Wait + AllocGlobal + Clock + Threads + Sync,
+    R: Wait + AllocGlobal + Clock + Threads + RandomSource + Sync,
 {
-    let mut cell = OnceCell::new();
+    let (tasks, mut cell) = (tasks(rt, threads)?, OnceCell::new());
     for number in 0..ROUNDS {
         let value = cell.get().copied();
         let round = Round::new(value.unwrap_or(number), number % 3 > 0);
-        let are_used = are_used(rt, &cell, &round, tasks, number)?;
+        let are_used = are_used(rt, &cell, &round, &tasks, number)?;
         let is_settled = is_settled(rt, &cell, &round, value.is_some());
         if !are_used || !is_settled || !is_found(&mut cell, number) {
             return Ok(Some(number));
@@ -157,15 +160,7 @@ where
 /// After each round of two, three and four threads the cell is free or filled. Who waited was called.
 #[test]
 fn rounds_leave_nothing(rt: HostRuntime) -> Result<(), Fail> {
-    let tasks = [
-        MockTask::new(&rt)?,
-        MockTask::new(&rt)?,
-        MockTask::new(&rt)?,
-        MockTask::new(&rt)?,
-    ];
-    let two = first_bad(&rt, &tasks[..2])?;
-    let three = first_bad(&rt, &tasks[..3])?;
-    let four = first_bad(&rt, &tasks)?;
-    assert_eq!(rt; [two, three, four], [None; 3]);
+    let bad = [first_bad(&rt, 2)?, first_bad(&rt, 3)?, first_bad(&rt, 4)?];
+    assert_eq!(rt; bad, [None; 3]);
     Ok(())
 }

@@ -8,9 +8,13 @@ use cell_doubles::stub::Tried;
 use cell_doubles::text::{SETTLED, shows};
 use futures::test::MockTask;
 use std::alloc::{AllocError, AllocGlobal, Global};
+use std::io;
+use std::io::Eprint;
+use std::random::RandomSource;
 use std::sync::Wait;
 use std::sync::atomic::{AtomicU64, Ordering};
 use std::test::Fail;
+use std::thread::Threads;
 use std::time::Clock;
 
 // A cell that all threads fill.
@@ -105,17 +109,23 @@ fn sound(cells: &[Contested], values: &[u64]) -> u64 {
     sound
 }
 
+// How many threads got the values of all cells, how many cells are sound, and whether nobody is left in any.
+fn visited_by_all<R>(rt: &R, cells: &[Contested]) -> io::Result<(usize, u64, bool)>
+where
+    R: Wait + AllocGlobal + Clock + RandomSource + Threads + Eprint + Sync,
+{
+    let got = gathered(rt, cells)?;
+    let values = values(rt.alloc(), cells)?;
+    let are_settled = cells.iter().all(|it| shows(rt, &it.cell, SETTLED));
+    Ok((alike(&got, &values), sound(cells, &values), are_settled))
+}
+
 /// All threads get one value of a cell, whose inits gave a value once. Nobody is left in any cell.
 #[test]
 fn many_threads_one_value(rt: HostRuntime) -> Result<(), Fail> {
     let cells = all_cells(rt.alloc())?;
-    let got = gathered(&rt, &cells)?;
-    let values = values(rt.alloc(), &cells)?;
-    let alike = alike(&got, &values);
-    let are_settled = cells.iter().all(|it| shows(&rt, &it.cell, SETTLED));
-    assert_eq!(rt;
-        (alike, sound(&cells, &values), are_settled),
-        (THREADS, CELLS, true)
-    );
+    let seen = visited_by_all(&rt, &cells)?;
+    drop(cells);
+    assert_eq!(rt; seen, (THREADS, CELLS, true));
     Ok(())
 }

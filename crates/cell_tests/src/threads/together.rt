@@ -3,7 +3,7 @@
 use crate::left::{is_filled, is_free, meet, shows};
 use async_once_cell::OnceCell;
 use async_once_cell::world::Reply;
-use cell_doubles::poll::{heard, polled};
+use cell_doubles::poll::{heard, polled, tasks};
 use cell_doubles::slow::Slow;
 use cell_doubles::stub::Tried;
 use futures::Future;
@@ -11,6 +11,7 @@ use futures::future::{pending, ready};
 use futures::task::{Context, Poll};
 use futures::test::MockTask;
 use std::alloc::{AllocError, AllocGlobal};
+use std::io;
 use std::random::RandomSource;
 use std::sync::Wait;
 use std::sync::atomic::{AtomicU64, Ordering};
@@ -75,41 +76,42 @@ where
     is_always
 }
 
+// So many threads poll new futures, each by a task of its own: whether no two inits were polled at a time,
+// and whether nobody holds, is counted or is listed in the end.
+fn hold_in_turn<R>(
+    rt: &R,
+    cell: &OnceCell<u64>,
+    threads: usize,
+    (calls, looks): (u64, u64),
+) -> io::Result<[bool; 2]>
+where
+    R: Wait + AllocGlobal + Threads + RandomSource + Sync,
+{
+    let (tasks, inside) = (tasks(rt, threads)?, AtomicU64::new(0));
+    let work = |thread: usize| match tasks.get(thread) {
+        Some(task) => is_always_alone(rt, task, cell, &inside, (calls, looks)),
+        None => false,
+    };
+    let are_alone = thread::map_indices(rt, rt.alloc(), threads, &work)?;
+    Ok([are_alone.iter().all(|it| *it), is_free(rt, cell)])
+}
+
 /// Two threads claim, wait, fail and leave: one task holds at a time, and at the end nobody holds, is
 /// counted or is listed.
 #[test]
 fn two_threads_hold_in_turn(rt: HostRuntime) -> Result<(), Fail> {
-    let (cell, inside) = (OnceCell::new(), AtomicU64::new(0));
-    let (first, second) = (MockTask::new(&rt)?, MockTask::new(&rt)?);
-    let (one, two) = thread::join(
-        &rt,
-        || is_always_alone(&rt, &first, &cell, &inside, (CALLS, 0)),
-        || is_always_alone(&rt, &second, &cell, &inside, (CALLS, 0)),
-    );
-    assert_eq!(rt; [one, two, is_free(&rt, &cell)], [true; 3], "{cell:?}");
+    let cell = OnceCell::new();
+    let seen = hold_in_turn(&rt, &cell, 2, (CALLS, 0))?;
+    assert_eq!(rt; seen, [true; 2], "{cell:?}");
     Ok(())
 }
 
 /// The same with three threads, each of which holds for a while.
 #[test]
 fn three_threads_hold_in_turn(rt: HostRuntime) -> Result<(), Fail> {
-    let (cell, inside) = (OnceCell::new(), AtomicU64::new(0));
-    let (a, b, c) = (
-        MockTask::new(&rt)?,
-        MockTask::new(&rt)?,
-        MockTask::new(&rt)?,
-    );
-    let alone = |task: &MockTask| is_always_alone(&rt, task, &cell, &inside, (LONG_CALLS, 100));
-    let (one, (two, three)) = thread::join(
-        &rt,
-        || alone(&a),
-        || thread::join(&rt, || alone(&b), || alone(&c)),
-    );
-    assert_eq!(rt;
-        [one, two, three, is_free(&rt, &cell)],
-        [true; 4],
-        "{cell:?}"
-    );
+    let cell = OnceCell::new();
+    let seen = hold_in_turn(&rt, &cell, 3, (LONG_CALLS, 100))?;
+    assert_eq!(rt; seen, [true; 2], "{cell:?}");
     Ok(())
 }
 
@@ -162,36 +164,30 @@ impl Fills {
 }
 
 // How many inits gave a value where so many threads use the cells, and whether all are filled then.
-fn filled_by<R>(rt: &R, tasks: &[MockTask], leaves: bool) -> Result<(u64, bool), AllocError>
+fn filled_by<R>(rt: &R, threads: usize, leaves: bool) -> io::Result<(u64, bool)>
 where
-    R: Wait + AllocGlobal + Threads + Sync,
+    R: Wait + AllocGlobal + Threads + RandomSource + Sync,
 {
-    let fills = Fills::new(rt, leaves)?;
+    let (tasks, fills) = (tasks(rt, threads)?, Fills::new(rt, leaves)?);
     let work = |thread: usize| {
         if let Some(task) = tasks.get(thread) {
-            fills.use_all(rt, task, tasks.len() as u64);
+            fills.use_all(rt, task, threads as u64);
         }
     };
-    thread::map_indices(rt, rt.alloc(), tasks.len(), &work)?;
+    thread::map_indices(rt, rt.alloc(), threads, &work)?;
     let are_filled = fills.cells.iter().all(|cell| is_filled(rt, cell));
     Ok((fills.made.load(Ordering::SeqCst), are_filled))
 }
 
 // Whether two, three and four threads fill each cell once, however often they are started.
-fn are_always_filled<R>(rt: &R, leaves: bool) -> Result<bool, Fail>
+fn are_always_filled<R>(rt: &R, leaves: bool) -> io::Result<bool>
 where
-    R: Wait + AllocGlobal + Threads + Sync + RandomSource,
+    R: Wait + AllocGlobal + Threads + RandomSource + Sync,
 {
-    let tasks = [
-        MockTask::new(rt)?,
-        MockTask::new(rt)?,
-        MockTask::new(rt)?,
-        MockTask::new(rt)?,
-    ];
     let mut are_always = true;
     for _ in 0..REPEATS {
-        for threads in 2..=tasks.len() {
-            are_always &= filled_by(rt, &tasks[..threads], leaves)? == (CELLS, true);
+        for threads in 2..=4 {
+            are_always &= filled_by(rt, threads, leaves)? == (CELLS, true);
         }
     }
     Ok(are_always)
@@ -241,19 +237,33 @@ fn was_busy<R: AllocGlobal>(rt: &R, cell: &OnceCell<u64>, stop: &AtomicU64) -> b
     was_busy
 }
 
+// What a holder's poll answered, and whether the cell showed once that its queue is in use, while another
+// task came and went in a thread of its own.
+fn shown_beside<R>(
+    rt: &R,
+    cell: &OnceCell<u64>,
+    (first, second): (&MockTask, &MockTask),
+) -> (Reply, bool)
+where
+    R: Wait + AllocGlobal + Threads + Sync,
+{
+    let stop = AtomicU64::new(0);
+    let mut holder = cell.get_or_init(rt, pending());
+    let reply = polled(first, &mut holder);
+    let ((), was_busy) = thread::join(
+        rt,
+        || come_and_go(rt, second, cell, &stop),
+        || was_busy(rt, cell, &stop),
+    );
+    (reply, was_busy)
+}
+
 /// While one thread uses the queue of a cell, another that shows the cell waits for nobody.
 #[test]
 fn a_busy_queue_is_shown(rt: HostRuntime) -> Result<(), Fail> {
-    let (cell, stop) = (OnceCell::new(), AtomicU64::new(0));
     let (first, second) = (MockTask::new(&rt)?, MockTask::new(&rt)?);
-    let mut holder = cell.get_or_init(&rt, pending());
-    let reply = polled(&first, &mut holder);
-    let ((), was_busy) = thread::join(
-        &rt,
-        || come_and_go(&rt, &second, &cell, &stop),
-        || was_busy(&rt, &cell, &stop),
-    );
-    assert_eq!(rt; (reply, was_busy), (Reply::Pending, true));
+    let seen = shown_beside(&rt, &OnceCell::new(), (&first, &second));
+    assert_eq!(rt; seen, (Reply::Pending, true));
     Ok(())
 }
 

@@ -146,7 +146,25 @@ where
     R: Wait + RandomSource + AllocGlobal,
 {
     let base = Lazy::new(slow(26, done));
+    twice(rt, &base)
+}
+
+// Twice the value of a lazy cell, by another over it.
+fn twice<R>(rt: &R, base: &Lazy<u64, Slow<'_, u64>>) -> Result<u64, Fault>
+where
+    R: Wait + RandomSource + AllocGlobal,
+{
     let double = Lazy::new(Double { base: base.get(rt) });
+    of_double(rt, &double)
+}
+
+fn of_double<R>(
+    rt: &R,
+    double: &Lazy<Result<u64, Refused>, Double<'_, Slow<'_, u64>, R>>,
+) -> Result<u64, Fault>
+where
+    R: Wait + RandomSource + AllocGlobal,
+{
     Ok((*double.get(rt).wait()??)?)
 }
 
