@@ -46,4 +46,4 @@ pub use Rattle.once_queue.specs.declared.word.Sees
 pub use Rattle.once_queue.specs.declared.waiters
 pub use Rattle.once_core.specs.declared.parts
 pub use Rattle.once_core.specs.declared.step
-pub use Rattle.once_core.specs.declared.record
+pub use Rattle.once_world.specs.declared.record

@@ -9,7 +9,8 @@ use Rattle.once_core.specs.declared.parts.Counted.TheVariants.{In}
 use Rattle.once_core.specs.declared.step.Polled.{Polled}
 use Rattle.once_core.specs.declared.step.Polled.TheVariants.{Pending, Value, Error}
 use Rattle.once_core.specs.Steps.{after_fast, after_in, is_resting}
-use Rattle.once_world.specs.Record.{Entry, Ran, RanPending, RanValue, RanError}
+use Rattle.once_world.specs.Record.{Entry, Ran}
+use Rattle.once_world.specs.declared.record.Ran.TheVariants.{Pending as RanPending, Value as RanValue, Error as RanError}
 use Rattle.once_world.specs.Book.{TaskState, refused_step}
 use Rattle.once_world.specs.Machine.{AtAddOne, AtCountIn, AtCountOut, AtDoorPut, AtDoorTake, AtFast, AtList, AtRun, AtStart, AtTryQuick, AtWaitLoad, Ending, Step, UnderWay, freed_entries, is_value, kept_after, next_in}
 use Rattle.once_parts.specs.Kept.{Grew, IsKept, Leaves, Sheet, hand, most, sheets}

@@ -3,7 +3,8 @@ use Rattle.std.proofs.Common.{◌≡◌, ℕ, true, List, [], ◌∷◌, ◌++�
 use Rattle.std.proofs.lemmas.Bool.{false≢true}
 use Rattle.std.proofs.lemmas.List.{reverse-append}
 use mathlib.Core.List.{IsPrefix}
-use Rattle.once_world.specs.Record.{End, Entry, Fill, Once, Value}
+use Rattle.once_world.specs.Record.{End, Entry, Fill, Once}
+use Rattle.once_world.specs.declared.record.Reply.TheVariants.{Value}
 use Rattle.once_world.specs.Cell.{Cell, Empty, Held, SetTo, cell, is_set}
 use Rattle.once_world.specs.Run.{AtEvery, IsRun}
 use Rattle.once_world.specs.Called.{SomebodyCalled}

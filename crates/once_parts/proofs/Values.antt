@@ -3,7 +3,8 @@ use Rattle.std.proofs.Common.{◌≡◌, ℕ, Bool, true, false, inl, List, [], 
 use Rattle.std.proofs.lemmas.List.{reverse-append}
 use Rattle.pagebook.specs.Pages.{Held, Moves, Sure, View}
 use Rattle.once_queue.specs.Word.{flags_of}
-use Rattle.once_world.specs.Record.{End, Entry, Once, Own as OwnersCall, Value, is_own}
+use Rattle.once_world.specs.Record.{End, Entry, Once, Own as OwnersCall, is_own}
+use Rattle.once_world.specs.declared.record.Reply.TheVariants.{Value}
 use Rattle.once_world.specs.Book.{IsBook, Page, TaskState}
 use Rattle.once_world.specs.Cell.{SetTo, cell, is_set}
 use Rattle.once_world.specs.Run.{IsRun}

@@ -3,7 +3,8 @@ use Rattle.std.specs.Prelude.{◌≡◌, ℕ, suc, List, [], ◌∷◌, ◌++◌
 use mathlib.Core.List.{IsPrefix}
 use Rattle.pagebook.specs.Pages.{Book, Held, Named, View}
 use Rattle.once_core.specs.Steps.{Next}
-use Rattle.once_world.specs.Record.{Answer, Entry}
+use Rattle.once_world.specs.Record.{Entry}
+use Rattle.once_world.specs.declared.record.Ran.{Ran as Answer}
 use Rattle.once_world.specs.Book.{At, Page, TaskState}
 use Rattle.once_world.specs.Machine.{fresh_task, progress_entries}
 use Rattle.once_parts.specs.Kept.{Grew, Sheet, hand, sheets}

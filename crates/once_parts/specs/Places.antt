@@ -10,7 +10,8 @@ use Rattle.once_core.specs.Steps.{Next, next_at, next_end, release_place, step_o
 use Rattle.once_core.specs.Steps.{after_start, after_door_get, after_door_put, after_count_in}
 use Rattle.once_core.specs.Steps.{after_load, after_look, after_list}
 use Rattle.once_core.specs.Steps.{after_run, after_fast, after_door_again, after_count_out}
-use Rattle.once_world.specs.Record.{Answer, RanPending, RanValue, RanError}
+use Rattle.once_world.specs.declared.record.Ran.{Ran as Answer}
+use Rattle.once_world.specs.declared.record.Ran.TheVariants.{Pending as RanPending, Value as RanValue, Error as RanError}
 use Rattle.once_world.specs.Book.{TaskState}
 use Rattle.once_world.specs.Machine.{AtStart, AtDoorGet, AtCountIn, AtWaitLoad, AtLook, AtList, AtRun, AtPut}
 use Rattle.once_world.specs.Machine.{AtFast, AtAddOne, AtDoorAgain, AtRelease, AtLeave, AtCountOut, AtDoorTake}

@@ -3,7 +3,8 @@ use Rattle.std.specs.Prelude.{◌≡◌, ℕ, Bool, true, if◌then◌else◌, L
 use mathlib.Core.List.{IsPrefix}
 use Rattle.pagebook.specs.Pages.{View}
 use Rattle.once_queue.specs.Word.{flags_of}
-use Rattle.once_world.specs.Record.{End, Entry, Fill, Look, Once, Value}
+use Rattle.once_world.specs.Record.{End, Entry, Fill, Look, Once}
+use Rattle.once_world.specs.declared.record.Reply.TheVariants.{Value}
 use Rattle.once_world.specs.Cell.{cell, is_set}
 use Rattle.once_parts.specs.Kept.{Sheet}
 

@@ -6,7 +6,9 @@ use Rattle.once_world.specs.Places.{Progress, More, Ended, Step, Resting, UnderW
 use Rattle.once_world.specs.Places.{Place, AtPut, AtFast, AtAddOne, AtDoorAgain, AtRelease, AtLeave}
 use Rattle.once_world.specs.Places.{AtCountOut, AtDoorTake}
 use Rattle.once_core.specs.Steps.{is_resting}
-use Rattle.once_world.specs.Record.{DropEnd, End, Entry, Error, Full, Memory, Pending, RanError, Value, handed_by}
+use Rattle.once_world.specs.Record.{DropEnd, End, Entry, handed_by}
+use Rattle.once_world.specs.declared.record.Ran.TheVariants.{Error as RanError}
+use Rattle.once_world.specs.declared.record.Reply.TheVariants.{Error, Full, Memory, Pending, Value}
 use Rattle.once_world.specs.Machine.{progress_entries}
 use Rattle.once_parts.specs.Kept.{Grew}
 use Rattle.once_parts.specs.Steps.{StandsForStep}

@@ -7,28 +7,28 @@ use Rattle.once_queue.specs.declared.waiters.Out.{Out}
 use Rattle.once_queue.specs.declared.waiters.Out.TheVariants.{One, All}
 use Rattle.once_queue.specs.Listings.{wakers_of}
 use Rattle.once_queue.specs.Room.{listings_of}
-use Rattle.once_core.specs.declared.record.Kind.{Kind as GivenKind}
-use Rattle.once_core.specs.declared.record.Kind.TheVariants.{Once as GivenOnce, OnceWith as GivenOnceWith}
-use Rattle.once_core.specs.declared.record.Kind.TheVariants.{Lazy as GivenLazy, LazyWith as GivenLazyWith}
-use Rattle.once_core.specs.declared.record.Call.{Call}
-use Rattle.once_core.specs.declared.record.Call.TheVariants.{Take as CallTake, Write as CallWrite, Parts as CallParts}
-use Rattle.once_core.specs.declared.record.Call.TheVariants.{ReplaceValue as CallReplaceValue}
-use Rattle.once_core.specs.declared.record.Call.TheVariants.{ReplaceAnswers as CallReplaceAnswers}
-use Rattle.once_core.specs.declared.record.Got.{Got as GivenGot}
-use Rattle.once_core.specs.declared.record.Got.TheVariants.{None as NoneGot, Value as ValueGot, Answers as AnswersGot}
-use Rattle.once_core.specs.declared.record.Input.{Input as GivenInput}
-use Rattle.once_core.specs.declared.record.Input.TheVariants.{Make as InputMake, Poll as InputPoll, Drop as InputDrop}
-use Rattle.once_core.specs.declared.record.Input.TheVariants.{Go as InputGo, Look as InputLook, Own as InputOwn}
-use Rattle.once_core.specs.declared.record.Entry.{Entry as Written}
-use Rattle.once_core.specs.declared.record.Entry.TheVariants.{Made as WrittenMade, Begin as WrittenBegin}
-use Rattle.once_core.specs.declared.record.Entry.TheVariants.{Claim as WrittenClaim}
-use Rattle.once_core.specs.declared.record.Entry.TheVariants.{Ran as WrittenRan, Free as WrittenFree}
-use Rattle.once_core.specs.declared.record.Entry.TheVariants.{Fill as WrittenFill}
-use Rattle.once_core.specs.declared.record.Entry.TheVariants.{Pass as WrittenPass, End as WrittenEnd}
-use Rattle.once_core.specs.declared.record.Entry.TheVariants.{DropBegin as WrittenDropBegin}
-use Rattle.once_core.specs.declared.record.Entry.TheVariants.{DropEnd as WrittenDropEnd}
-use Rattle.once_core.specs.declared.record.Entry.TheVariants.{Look as WrittenLook, Own as WrittenOwn}
-use Rattle.once_core.specs.declared.record.Record.{Record as GivenRecord}
+use Rattle.once_world.specs.declared.record.Kind.{Kind as GivenKind}
+use Rattle.once_world.specs.declared.record.Kind.TheVariants.{Once as GivenOnce, OnceWith as GivenOnceWith}
+use Rattle.once_world.specs.declared.record.Kind.TheVariants.{Lazy as GivenLazy, LazyWith as GivenLazyWith}
+use Rattle.once_world.specs.declared.record.Call.{Call}
+use Rattle.once_world.specs.declared.record.Call.TheVariants.{Take as CallTake, Write as CallWrite, Parts as CallParts}
+use Rattle.once_world.specs.declared.record.Call.TheVariants.{ReplaceValue as CallReplaceValue}
+use Rattle.once_world.specs.declared.record.Call.TheVariants.{ReplaceAnswers as CallReplaceAnswers}
+use Rattle.once_world.specs.declared.record.Got.{Got as GivenGot}
+use Rattle.once_world.specs.declared.record.Got.TheVariants.{None as NoneGot, Value as ValueGot, Answers as AnswersGot}
+use Rattle.once_world.specs.declared.record.Input.{Input as GivenInput}
+use Rattle.once_world.specs.declared.record.Input.TheVariants.{Make as InputMake, Poll as InputPoll, Drop as InputDrop}
+use Rattle.once_world.specs.declared.record.Input.TheVariants.{Go as InputGo, Look as InputLook, Own as InputOwn}
+use Rattle.once_world.specs.declared.record.Entry.{Entry as Written}
+use Rattle.once_world.specs.declared.record.Entry.TheVariants.{Made as WrittenMade, Begin as WrittenBegin}
+use Rattle.once_world.specs.declared.record.Entry.TheVariants.{Claim as WrittenClaim}
+use Rattle.once_world.specs.declared.record.Entry.TheVariants.{Ran as WrittenRan, Free as WrittenFree}
+use Rattle.once_world.specs.declared.record.Entry.TheVariants.{Fill as WrittenFill}
+use Rattle.once_world.specs.declared.record.Entry.TheVariants.{Pass as WrittenPass, End as WrittenEnd}
+use Rattle.once_world.specs.declared.record.Entry.TheVariants.{DropBegin as WrittenDropBegin}
+use Rattle.once_world.specs.declared.record.Entry.TheVariants.{DropEnd as WrittenDropEnd}
+use Rattle.once_world.specs.declared.record.Entry.TheVariants.{Look as WrittenLook, Own as WrittenOwn}
+use Rattle.once_world.specs.declared.record.Record.{Record as GivenRecord}
 use Rattle.once_queue.specs.declared.log.QueueLine.{QueueLine}
 use Rattle.once_world.specs.declared.world.cell.ReplayCell.{ReplayCell}
 use Rattle.once_world.specs.declared.world.cell.StepSeen.{StepSeen}

@@ -9,7 +9,7 @@ ghost use Rattle.once_world.specs.Log.{IsLogOf, IsSound, standing_queue};
 ghost use Rattle.once_world.specs.Machine.{history_of, log_of, queue_of};
 ghost use Rattle.once_world.specs.Shown.{kind_of, inputs_in, record_entries, record_lines};
 
-pub use once_core::record::{Call, Entry, Got, Input, Kind, QueueLine, Ran, Record, Reply};
+pub use crate::record::{Call, Entry, Got, Input, Kind, QueueLine, Ran, Record, Reply};
 use std::alloc::{AllocError, Global};
 
 mod cell;

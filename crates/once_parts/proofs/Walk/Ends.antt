@@ -4,7 +4,8 @@ use Rattle.std.specs.Prelude.{⊤}
 use Rattle.std.proofs.lemmas.Bool.{false≢true}
 use Rattle.once_core.specs.Steps.{in_call}
 use Rattle.once_world.specs.Places.{EndDropped, EndError, EndFull, EndMemory, EndPending, EndValue, Ended, Ending, Finished, Progress, Resting, Step, UnderWay}
-use Rattle.once_world.specs.Record.{Answer, Entry}
+use Rattle.once_world.specs.Record.{Entry}
+use Rattle.once_world.specs.declared.record.Ran.{Ran as Answer}
 use Rattle.once_world.specs.Machine.{end_entry, progress_entries}
 use Rattle.once_parts.specs.Kept.{Grew}
 use Rattle.once_parts.specs.Own.{Own}

@@ -14,7 +14,9 @@ use Rattle.once_core.specs.Steps.{AfterLook, Follows, Line, MayClose, MayRefuse,
 use Rattle.once_world.specs.Places.{Ending, EndValue, More, Progress, Step, UnderWay}
 use Rattle.once_world.specs.Places.{Place, AtStart, AtTryQuick, AtDoorGet, AtDoorPut, AtCountIn, AtWaitLoad, AtLook, AtList, AtRun, AtPut, AtFast, AtAddOne, AtDoorAgain, AtRelease, AtLeave, AtCountOut, AtDoorTake}
 use Rattle.once_core.specs.Steps.{after_copy, after_count_in, after_count_out, after_door_again, after_door_get, after_door_put, after_fast, after_list, after_load, after_look, after_quick, after_run, after_start, is_value, next_at, next_end, release_place}
-use Rattle.once_world.specs.Record.{Answer as InitAnswer, Entry, Ran, RanError, RanValue, RanPending}
+use Rattle.once_world.specs.Record.{Entry, Ran}
+use Rattle.once_world.specs.declared.record.Ran.{Ran as InitAnswer}
+use Rattle.once_world.specs.declared.record.Ran.TheVariants.{Error as RanError, Value as RanValue, Pending as RanPending}
 use Rattle.once_world.specs.Book.{TaskState, refused_step}
 use Rattle.once_world.specs.Machine.{claim_entries, freed_entries, is_claim, pass_entries, release_entry, kept_after}
 use Rattle.once_parts.specs.Steps.{answer_as, next_as}

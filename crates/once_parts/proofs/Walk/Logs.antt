@@ -4,7 +4,8 @@ use Rattle.std.proofs.lemmas.List.{append-nil, reverse-append}
 use mathlib.Core.List.{IsPrefix}
 use Rattle.once_core.specs.Steps.{Next}
 use Rattle.once_world.specs.Places.{Progress, More, Ended}
-use Rattle.once_world.specs.Record.{Answer, Entry, handed_by}
+use Rattle.once_world.specs.Record.{Entry, handed_by}
+use Rattle.once_world.specs.declared.record.Ran.{Ran as Answer}
 use Rattle.once_world.specs.Book.{TaskState}
 use Rattle.once_world.specs.Machine.{EndDropped, EndError, EndFull, EndMemory, EndPending, EndValue, progress_entries}
 use Rattle.once_parts.specs.Kept.{Grew}

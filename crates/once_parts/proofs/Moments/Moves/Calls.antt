@@ -4,7 +4,8 @@ use Rattle.std.proofs.lemmas.List.{map-append, append-nil}
 use Rattle.pagebook.specs.Pages.{Held, Moves, Notes}
 use Rattle.once_queue.specs.Word.{flags_of}
 use Rattle.once_core.specs.Steps.{after_run, closing_end}
-use Rattle.once_world.specs.Record.{Answer, Begin, Entry, Look, Made, Once, Ran}
+use Rattle.once_world.specs.Record.{Begin, Entry, Look, Made, Once, Ran}
+use Rattle.once_world.specs.declared.record.Ran.{Ran as Answer}
 use Rattle.once_world.specs.Cell.{cell, is_set}
 use Rattle.once_world.specs.Book.{At, IsBook, IsUnnamed, Page, TaskState}
 use Rattle.once_world.specs.Machine.{AtDoorPut, AtList, AtRun, EndMemory, UnderWay, drop_entries, fresh_task, is_resting, kept_after, leave_place, polled_of, step_of_drop, step_of_poll}
