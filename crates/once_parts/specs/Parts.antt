@@ -1,5 +1,5 @@
 -- What the calls of a cell's parts ask and tell, by what a task knows of itself and of the record.
-use Rattle.std.specs.Prelude.{◌≡◌, ℕ, ⊤, List, [], ◌∷◌}
+use Rattle.std.specs.Prelude.{◌≡◌, ℕ, ⊤, [], ◌∷◌}
 use Rattle.std.specs.Option.{is_some}
 use Rattle.pagebook.specs.Slot.{Placed}
 use Rattle.once_core.specs.Steps.{PartsAsk, PartsTell, after_quick}

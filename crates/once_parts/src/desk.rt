@@ -201,7 +201,8 @@ impl<W: TaskWaker + Drop> Desk<W> {
     }
 
     /// Takes the listing with this ticket out. Where it was called and nobody holds, calls the next.
-    #[inline(always)]
+    // With this one inlined too, a section is so large that the kit inlines none.
+    #[inline(never)]
     pub(crate) fn leave(&mut self, word: &CellWord, hand: &mut Hand, ticket: u64) -> Option<W>
         requires word { IsWord word.now hand.old.seen.book 0 }
         requires book { self.old ≡ hand.old.seen.book }
@@ -248,7 +249,7 @@ fn has_room<W: WakerId + Drop>(lists: &mut Lists<W>, ticket: Option<u64>) -> boo
     lists.is_listed(ticket) || lists.reserve().is_ok()
 }
 
-// What a listing answers for which there was no room, by what a look answers.
+// What a `List` answers where there was no room, by what a look answers.
 #[inline(always)]
 fn without_memory<W: Drop>(answer: Answer<W>) -> Answer<W>
     ensures { result ≡ as_memory answer }

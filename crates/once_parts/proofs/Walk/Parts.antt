@@ -1,24 +1,16 @@
 -- What a call of a task makes of the record, of parts and sides of any type.
-use Rattle.std.proofs.Common.{◌≡◌, ℕ, Bool, List, reverse, [], ◌∷◌, ◌++◌, Option, sym, ap, ◌∙◌, subst}
+use Rattle.std.proofs.Common.{◌≡◌, ℕ, Bool, List, reverse, [], ◌++◌, sym, ap, ◌∙◌, subst}
 use Rattle.std.specs.Prelude.{⊤}
 use Rattle.std.proofs.lemmas.List.{append-nil}
-use Rattle.std.specs.Option.{is_some}
 use Rattle.pagebook.specs.Slot.{Placed}
-use Rattle.once_queue.specs.declared.waiters.Out.{Out}
-use Rattle.once_core.specs.declared.step.Polled.{Polled}
-use Rattle.once_core.specs.Steps.{Next, PartsAsk, PartsTell, SideTells, after_quick}
+use Rattle.once_core.specs.Steps.{Next}
 use Rattle.once_world.specs.Places.{Progress, Step}
-use Rattle.once_world.specs.Record.{Entry, Ran}
-use Rattle.once_world.specs.Book.{TaskState, refused_step}
-use Rattle.once_world.specs.Machine.{AtDoorPut, AtTryQuick, UnderWay, claim_entries, freed_entries}
-use Rattle.once_parts.specs.Kept.{most}
+use Rattle.once_world.specs.Record.{Entry}
+use Rattle.once_world.specs.Book.{TaskState}
 use Rattle.once_parts.specs.Steps.{next_as, step_as}
 use Rattle.once_parts.proofs.Moments.Steps.{stands_after}
-use Rattle.once_parts.specs.Own.{Did, Own, Turned, told}
-use Rattle.once_parts.specs.Places.{CanAdd, CanCountIn, CanCountOut, CanFast, CanFill, CanGet, CanLoad, CanRun, CanTake, add_next, fast_next, fill_next, get_next, in_next, load_next, numbered, out_next, put_next, run_next, take_next, task_run, unnamed}
-use Rattle.once_parts.specs.Handed.{CanSection, DidSection}
-use Rattle.once_parts.specs.Parts.{parts_ask, parts_tell}
-use Rattle.once_parts.specs.Sides.{HasCopied, HasPut, HasRun, HasWoken, IsTold, Sided}
+use Rattle.once_parts.specs.Own.{Own, Turned, told}
+use Rattle.once_parts.specs.Sides.{Sided}
 use Rattle.once_parts.specs.Walks.{Fits, Stands, StandsOn, Walked, handed, the_queue}
 use Rattle.once_parts.proofs.Walk.Logs.{walked_by, walked_on}
 
