@@ -1,8 +1,9 @@
 -- What a whole poll of a task leaves.
-use Rattle.std.proofs.Common.{◌≡◌, ℕ, false, true, List, [], ◌∷◌, ◌++◌, refl, sym, ap, ◌∙◌}
-use Rattle.std.specs.Prelude.{◌↔◌}
+use Rattle.std.proofs.Common.{◌≡◌, ℕ, false, true, List, [], ◌∷◌, ◌++◌, refl, sym, ap, ◌∙◌, subst}
+use Rattle.std.specs.Prelude.{◌↔◌, ⊤}
 use Rattle.std.proofs.lemmas.Bool.{false≢true}
-use Rattle.once_world.specs.Places.{EndDropped, EndError, EndFull, EndMemory, EndPending, EndValue, Ended, Ending, Finished}
+use Rattle.once_core.specs.Steps.{step_of_poll}
+use Rattle.once_world.specs.Places.{EndDropped, EndError, EndFull, EndMemory, EndPending, EndValue, Ended, Ending, Finished, More, Step}
 use Rattle.once_world.specs.Record.{Begin, Entry}
 use Rattle.once_parts.specs.declared.idle.Idle.{Idle}
 use Rattle.once_parts.specs.Idle.{is_over, step_of}
@@ -11,8 +12,8 @@ use Rattle.once_parts.specs.Own.{Own, Turned}
 use Rattle.once_parts.specs.Places.{task_begun}
 use Rattle.once_parts.specs.Sides.{Sided}
 use Rattle.once_parts.specs.Walks.{GrewBy, Stands, StandsOn, Walked, end_of, handed}
-use Rattle.once_parts.proofs.Idles.{live, not_in_call, over}
-use Rattle.once_parts.proofs.Walk.Begins.{grew_from}
+use Rattle.once_parts.proofs.Idles.{live, not_in_call, over, rests}
+use Rattle.once_parts.proofs.Walk.Begins.{grew_from, poll_begins}
 use Rattle.once_parts.proofs.Walk.Ends.{poll_ended}
 use Rattle.once_parts.proofs.Walk.Logs.{by_before, grew_on}
 
@@ -24,6 +25,12 @@ told_pending EndError i ends live = absurd (false≢true (sym live ∙ over _ i 
 told_pending EndMemory i ends live = absurd (false≢true (sym live ∙ over _ i (ends (λ p. let no : EndMemory ≡ EndPending = p in cc))))
 told_pending EndFull i ends live = absurd (false≢true (sym live ∙ over _ i (ends (λ p. let no : EndFull ≡ EndPending = p in cc))))
 told_pending EndDropped i ends live = absurd (false≢true (sym live ∙ over _ i (ends (λ p. let no : EndDropped ≡ EndPending = p in cc))))
+
+-- a poll of a task that is not finished begins where the task rests
+pub begins_at : {W : Type 0} (whose : W → ℕ) (x : Sided) (v w : Own) (i : Idle) (s : Step W ⊤) → x.number ≡ v.number → x.woke ≡ [] → is_over i ≡ false → StandsOn whose v (step_of i)
+    → Turned v (task_begun v.number v.task) (Begin v.number v.number ∷ []) w → step_of_poll (step_of i) ≡ s → Stands whose false x w More s
+begins_at whose x v w i s number none live stands begun at =
+    subst (Stands whose false x w More) at (poll_begins whose x v w (step_of i) number none (rests _ i live, stands) begun)
 
 module _ {W : Type 0} (whose : W → ℕ) (x y : Sided) (u v w : Own) (e : Ending) (i : Idle) where
   -- a poll ended so, and the task is at this
