@@ -5,7 +5,7 @@ use Rattle.once_world.specs.Record.{Entry}
 use Rattle.async_once_cell.specs.declared.once.future.Asked.{Asked}
 use Rattle.async_once_cell.specs.declared.once.future.Asked.TheVariants.{Owned as AskedOwned, Answered as AskedAnswered}
 use Rattle.async_once_cell.specs.declared.once.future.Asked.TheVariants.{Shared as AskedShared}
-use Rattle.async_once_cell.specs.Views.{Call, CellView, Owned, Shared}
+use Rattle.async_once_cell.specs.Views.{CellView, FutureView, Owned, Shared}
 
 module _ {T F R O : Type 0} where
   -- its task's number
@@ -44,6 +44,6 @@ module _ {T F R O : Type 0} where
   IsAsked (Shared s) (AskedShared w) = w.cell ≡ s
   IsAsked (Shared s) _ = ⊥
 
-  -- the call of a future of this cell
-  abbrev pub call_of : CellView T → Asked T F R O → Call T
-  call_of c a = record { cell = c; task = task_of a; log = seen_of a; finished = is_done a }
+  -- what a clause sees of a future of this cell
+  abbrev pub view_of_future : CellView T → Asked T F R O → FutureView T
+  view_of_future c a = record { cell = c; task = task_of a; log = seen_of a; finished = is_done a }

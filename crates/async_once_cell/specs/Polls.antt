@@ -15,10 +15,10 @@ use Rattle.once_parts.specs.Kept.{Grew}
 use Rattle.once_parts.specs.Walks.{end_of}
 use Rattle.async_once_cell.specs.Replies.{is_over}
 use Rattle.async_once_cell.specs.Tokens.{Agrees, IsSetIn}
-use Rattle.async_once_cell.specs.Views.{Call, CellView, Owned, Shared}
+use Rattle.async_once_cell.specs.Views.{CellView, FutureView, Owned, Shared}
 
 module _ {A : Type 0} where
-  -- how a call ended that answers so
+  -- the ending of a call with this answer
   abbrev pub ending_in : {E : Type 0} → Poll (Result A (InitError E)) → Ending
   ending_in Pending = EndPending
   ending_in (Ready (Ok x)) = EndValue
@@ -39,31 +39,26 @@ abbrev pub Ends : {T : Type 0} → CellView T → Entry → List Entry → List 
 Ends (Owned x) e old new = new ≡ old
 Ends (Shared s) e old new = Grew (e ∷ []) old new
 
--- from one moment of a future and of a context to a later one
---   cell, task: both are the same
---   ends: the newest entry of the record is the end of this call, with what was answered
---   set: where the poll answered the value, the cell is set in the record
---   finished: the future is finished exactly where the poll answered
---   armed: a poll that did not answer has registered its task somewhere, or asked for another poll
---   kept: the context keeps what it had
-pub record DidPoll {T : Type 0} (old new : Call T) (before after : Context) (e : Ending) : Type 0 where
-  pub cell : new.cell ≡ old.cell
-  pub task : new.task ≡ old.task
+-- what a poll did to its future and to the context, by how it ended
+pub record DidPoll {T : Type 0} (old new : FutureView T) (before after : Context) (e : Ending) : Type 0 where
+  pub cell : new.cell ≡ old.cell  -- the cell is the same
+  pub task : new.task ≡ old.task  -- the task is the same
+  -- the newest entry of the record is the end of this call, with what was answered
   pub ends : Ends old.cell (end_of old.task e) old.log new.log
-  pub set : e ≡ EndValue → IsSetIn new.cell new.log
-  pub finished : new.finished ≡ is_over e
-  pub armed : e ≡ EndPending → IsArmed after
-  pub kept : Keeps before after
+  pub set : e ≡ EndValue → IsSetIn new.cell new.log  -- where it answered the value, the cell is set in the record
+  pub finished : new.finished ≡ is_over e  -- the future is finished exactly where the poll answered
+  pub armed : e ≡ EndPending → IsArmed after  -- else it has registered its task somewhere, or asked for another poll
+  pub kept : Keeps before after  -- the context keeps what it had
 
 -- the future left its cell as by a drop
-pub record HasLeft {T : Type 0} (old new : Call T) : Type 0 where
+pub record HasLeft {T : Type 0} (old new : FutureView T) : Type 0 where
   pub cell : new.cell ≡ old.cell  -- the cell is the same
   pub task : new.task ≡ old.task  -- the task is the same
   pub gone : Ends old.cell (end_of old.task EndDropped) old.log new.log  -- the newest entry is the end of the drop
   pub finished : new.finished ≡ true  -- the future is finished
 
 -- a poll with a token that knew nothing is a poll, and with one that knew a value the future leaves
-abbrev pub PollsAs : {T : Type 0} → Option T → Call T → Call T → Context → Context → Ending → Type 0
+abbrev pub PollsAs : {T : Type 0} → Option T → FutureView T → FutureView T → Context → Context → Ending → Type 0
 PollsAs None old new before after e = DidPoll old new before after e
 PollsAs (Some x) old new before after e = HasLeft old new × Keeps before after
 
@@ -73,12 +68,13 @@ Answers (Owned x) (Ready (Ok v)) = v.now ≡ x
 Answers (Owned x) _ = ⊥
 Answers (Shared s) r = ⊤
 
--- what a token knew before a poll and knows after it
+-- what a token knew before a poll and knows after it: where a value was answered, that, which is the known one if
+-- there was one; else nothing, as before
 abbrev pub Polls : {T E : Type 0} → Option T → Option T → Poll (Result (Bor T) E) → Type 0
 Polls old new (Ready (Ok x)) = (new ≡ Some x.now) × Agrees old x.now
 Polls old new _ = (old ≡ None) × (new ≡ None)
 
--- the same for the answer of a wait; where the thread could not wait, the token knows what it knew
+-- the same for the answer of a wait; only a token that knew nothing is told that the thread could not wait
 abbrev pub Waits : {T E X : Type 0} → Option T → Option T → Result (Result (Bor T) E) X → Type 0
 Waits old new (Ok answer) = Polls old new (Ready answer)
-Waits old new (Err x) = new ≡ old
+Waits old new (Err x) = (old ≡ None) × (new ≡ None)

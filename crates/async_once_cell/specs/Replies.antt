@@ -1,4 +1,4 @@
--- How a poll ended that answers so.
+-- How a poll ended, by what it answered.
 use Rattle.std.specs.Prelude.{◌≡◌, ℕ, Bool, true, false}
 use Rattle.once_world.specs.Places.{EndError, EndFull, EndMemory, EndPending, EndValue, Ending}
 use Rattle.async_once_cell.specs.Views.{CellView, Owned, Shared}
@@ -12,7 +12,7 @@ is_over EndPending = false
 is_over _ = true
 
 module _ {T E : Type 0} where
-  -- by the answer
+  -- the ending of a poll with this answer
   abbrev pub ending_of : Reply T E → Ending
   ending_of Pending = EndPending
   ending_of (OwnersValue x) = EndValue

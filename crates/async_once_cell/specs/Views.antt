@@ -11,19 +11,19 @@ use Rattle.async_once_cell.specs.declared.once.value.Value.TheVariants.{Owned as
 use Rattle.async_once_cell.specs.declared.once.known.Seen.{Seen}
 use Rattle.async_once_cell.specs.declared.once.known.Seen.TheVariants.{Owned as SeenOwned, Shared as SeenShared}
 
--- a cell
+-- what a clause sees of a cell
 pub data CellView (T : Type 0) : Type 0 where
   Owned : T → CellView T  -- the value that its owner put there
   Shared : Placed → CellView T  -- or else the slot into which tasks put one
 
--- a token
-pub record Knows (T : Type 0) : Type 0 where
+-- what a clause sees of a token
+pub record TokenView (T : Type 0) : Type 0 where
   pub cell : CellView T  -- its cell
   pub value : Option T  -- the value that it knows, if it knows one
   pub log : List Entry  -- the record as far as it was seen, the oldest entry first
 
--- a future
-pub record Call (T : Type 0) : Type 0 where
+-- what a clause sees of a future
+pub record FutureView (T : Type 0) : Type 0 where
   pub cell : CellView T  -- its cell
   pub task : ℕ  -- its task's number
   pub log : List Entry  -- the record as far as it was seen; a cell that has its owner's value has none

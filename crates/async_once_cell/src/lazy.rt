@@ -1,5 +1,5 @@
 //! A cell that owns the future that fills it.
-ghost use Rattle.std.specs.Prelude.{◌≡◌, None, false, true};
+ghost use Rattle.std.specs.Prelude.{◌≡◌, IsSome, None, false, true};
 ghost use Rattle.std.specs.Result.{result_ok};
 ghost use Rattle.std.specs.Option.{is_some};
 ghost use Rattle.async_once_cell.specs.Tokens.{Gives, IsSetIn, Learns, Lends, Looks};
@@ -119,7 +119,8 @@ impl<T, F: Future> Lazy<T, F> {
         }
     }
 
-    /// The value, where it is set. It polls nothing, and waits for nobody.
+    /// The value, where it is set. It polls nothing, and waits for nobody. Of a cell that tasks share no clause says
+    /// what it answers: [`Lazy::try_get_as`] has such clauses.
     ///
     /// With the cell that stands at [`Lazy::get`]:
     ///
@@ -134,7 +135,8 @@ impl<T, F: Future> Lazy<T, F> {
         self.cell.get()
     }
 
-    /// The value for writing, where it is set. It waits for nobody.
+    /// The value for writing, where it is set. It waits for nobody. No clause says what it lends, or what the cell is
+    /// after it.
     ///
     /// ```
     /// let mut lazy: Lazy<u64, Ready<u64>> = Lazy::with_value(7);
@@ -215,8 +217,8 @@ impl<T, F: Future> Lazy<T, F> {
         ensures value { Learns token.old.value token.new.value result }
         ensures lends { Lends self.now result }
         ensures look { Looks self.now token.old.value (is_some result) token.old.log token.new.log }
-        ensures set { is_some result ≡ true → IsSetIn self.now token.new.log }
-        ensures stays { IsSetIn self.now token.old.log → is_some result ≡ true }
+        ensures set { IsSome result → IsSetIn self.now token.new.log }
+        ensures stays { IsSetIn self.now token.old.log → IsSome result }
     {
         self.cell.get_as(token)
     }

@@ -24,7 +24,7 @@
 //! Pending it keeps the right.
 //!
 //! **The word.** The tasks of a cell share one number, the word. Its low 62 bits are the count: how
-//! many tasks are counted in. The next bit is the quick bit: a quick holder has the right. The last one
+//! many tasks are counted in. The next bit is the quick bit: a quick holder has the right. The top bit
 //! is the ready bit: the value is set. The word of a new cell is 0.
 //!
 //! **The quick claim.** A task that finds the word 0 tries to exchange it for the quick bit. If that is
@@ -32,7 +32,7 @@
 //!
 //! **The door and the queue.** A task that finds neither the value nor the right goes to the door. The
 //! door is the place of the cell's queue; if it has none, the task puts one there. Both lie behind one
-//! lock. A queue is a flag and a list. The flag says that some task holds that claimed under this lock.
+//! lock. A queue is a flag and a list. The flag says that a task holds which claimed under this lock.
 //! The list has a listing for each task that waits: a ticket, by which the task finds it again, and a waker.
 //!
 //! **Counting in.** A task that has found the queue counts in: the count grows by one. The quick claim
@@ -73,7 +73,7 @@
 //!
 //! This says nothing of a call that does not return, of fairness, progress or time. Two things are tested
 //! and not proved: a task that is called is woken, and each value and init is dropped once. The tokens say
-//! which value was set, see [`Known`]. The definitions in `specs/` and the kit have to be believed.
+//! which value was set, see [`Known`]. The definitions in `specs/` and the kit have to be trusted.
 //! `docs/PROVED.md` of the repository says what no clause says, and `docs/THREADS.md` what is proved of threads.
 #![tactic(auto)]
 

@@ -1,5 +1,5 @@
 //! A cell that is filled once, by the init of one of the calls that ask for its value.
-ghost use Rattle.std.specs.Prelude.{◌≡◌, None, true, false};
+ghost use Rattle.std.specs.Prelude.{◌≡◌, IsSome, None, true, false};
 ghost use Rattle.std.specs.Option.{is_some};
 ghost use Rattle.async_once_cell.specs.Views.{CellView, Owned, is_shared};
 ghost use Rattle.async_once_cell.specs.Tokens.{Gives, IsSetIn, Learns, Lends, Looks};
@@ -63,7 +63,8 @@ impl<T> Model for OnceCell<T> {
 }
 
 impl<T> OnceCell<T> {
-    /// An empty cell, with a new record. It takes no memory.
+    /// An empty cell, with a new record. It takes no memory. The clause says that tasks share it; none says
+    /// that it is empty.
     #[inline(always)]
     pub fn new() -> Self
         ensures { is_shared result ≡ true }
@@ -83,7 +84,7 @@ impl<T> OnceCell<T> {
     }
 
     /// The value, where it is set; None where the cell is empty or being filled. It waits for
-    /// nobody.
+    /// nobody. Of a cell that tasks share no clause says what it answers: [`OnceCell::get_as`] has such clauses.
     #[inline(always)]
     pub fn get(&self) -> Option<&T>
         ensures { Lends self.now result }
@@ -98,7 +99,7 @@ impl<T> OnceCell<T> {
     }
 
     /// The value for writing, where it is set. A value that tasks set becomes the owner's, and its record
-    /// ends. It waits for nobody.
+    /// ends. It waits for nobody. No clause says what it lends, or what the cell is after it.
     ///
     /// ```
     /// let mut cell = OnceCell::new_with(5u64);
@@ -112,7 +113,7 @@ impl<T> OnceCell<T> {
         self.value.get_mut()
     }
 
-    /// The value, where it was set. The cell is empty after, as a new one, with a new record: a queue that
+    /// The value, where it was set. The cell is then as a new one: empty, with a new record. A queue that
     /// futures left there goes as well. It waits for nobody.
     pub fn take(&mut self) -> Option<T>
         ensures taken { Gives self.old result }
@@ -219,8 +220,8 @@ impl<T> OnceCell<T> {
         ensures value { Learns token.old.value token.new.value result }
         ensures lends { Lends self.now result }
         ensures look { Looks self.now token.old.value (is_some result) token.old.log token.new.log }
-        ensures set { is_some result ≡ true → IsSetIn self.now token.new.log }
-        ensures stays { IsSetIn self.now token.old.log → is_some result ≡ true }
+        ensures set { IsSome result → IsSetIn self.now token.new.log }
+        ensures stays { IsSetIn self.now token.old.log → IsSome result }
     {
         token.learn(self)
     }
@@ -228,6 +229,8 @@ impl<T> OnceCell<T> {
 
 /// An empty cell, as [`OnceCell::new`] makes it.
 impl<T> Default for OnceCell<T> {
+    ghost is_default = { λ cell. is_shared cell ≡ true };
+
     fn default() -> Self {
         OnceCell::new()
     }

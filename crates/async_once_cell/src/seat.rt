@@ -1,7 +1,7 @@
 //! Where a waiting future's task is called: the waker of the cells.
 ghost use Rattle.std.specs.Prelude.{◌≡◌, IfSome};
 ghost use Rattle.futures.specs.Task.{IsArmed, Keeps};
-ghost use Rattle.async_once_cell.specs.Seats.{number_on};
+ghost use Rattle.async_once_cell.specs.Seats.{whose};
 
 use boxcar::tag::{Names, Tag};
 use futures::task::{Context, Poll, Source, Waker};
@@ -18,8 +18,9 @@ struct Sitter {
     waker: Option<Waker>,
 }
 
+// A seat, as its shares have it.
 #[derive(Drop)]
-struct Place {
+struct SharedSeat {
     source: Source,
     sitter: Mutex<Sitter>,
 }
@@ -32,7 +33,7 @@ struct Place {
 /// is called.
 #[derive(Drop)]
 pub struct Seat {
-    shared: Arc<Place>,
+    shared: Arc<SharedSeat>,
 }
 
 /// A share of a seat as the list has it, with the number of the task whose seat it is. Two of these are never
@@ -88,14 +89,14 @@ impl Seat {
             waker: None,
         });
         let source = Source::new();
-        let shared = Arc::new(alloc, Place { source, sitter })?;
+        let shared = Arc::new(alloc, SharedSeat { source, sitter })?;
         Ok(Seat { shared })
     }
 
     /// A share, to be listed by the task of this number.
     #[inline(always)]
     pub fn share(&self, mark: &Mark) -> Option<Seated>
-        ensures { IfSome result (λ s. number_on s.tag.numbers ≡ mark.now) }
+        ensures { IfSome result (λ s. whose s ≡ mark.now) }
     {
         let shared = Arc::try_clone(&self.shared).ok()?;
         Some(Seated {
@@ -110,7 +111,7 @@ impl Seat {
     // comes after the listing raises the flag again.
     #[inline(always)]
     pub fn share_anew<R: Wait>(&self, rt: &R, mark: &Mark) -> Option<Seated>
-        ensures { IfSome result (λ s. number_on s.tag.numbers ≡ mark.now) }
+        ensures { IfSome result (λ s. whose s ≡ mark.now) }
     {
         let seated = self.share(mark)?;
         self.shared.sitter.lock(rt).called = false;

@@ -81,7 +81,7 @@ impl<'a, T, F: Future, R: Wait + AllocGlobal> Waiting<'a, T, F, R> {
         self.task.is_finished()
     }
 
-    /// What the task was made with.
+    /// The handle that the task was made with.
     #[inline(always)]
     pub(crate) fn rt(&self) -> &'a R {
         self.task.rt()

@@ -18,7 +18,7 @@ use Rattle.once_queue.specs.Word.{Flags, flags_of, flags_alone, is_zero, is_quic
 use Rattle.once_queue.specs.declared.waiters.Listing.{Listing}
 use Rattle.once_queue.specs.Listings.{own_listing, kept_ticket, ticket_for, list_with}
 use Rattle.once_queue.specs.Listings.{list_without, passes_turn, next_waker, left_list}
-use Rattle.once_queue.specs.Sections.{Looked, Releases}
+use Rattle.once_queue.specs.Sections.{DidLook, Releases}
 
 -- what contracts see of a core
 pub record CoreState (W : Type 0) : Type 0 where
@@ -117,7 +117,8 @@ module _ {W : Type 0} where
   abbrev pub DidDoorTake : CoreState W → Bool → CoreState W → Type 0
   DidDoorTake s stood t = (stood ≡ is_some s.door) × (t ≡ take_state s)
 
-  -- a release on the queue at the door asks that the value is not set, and that exactly one of the two flags stands
+  -- a release on the queue at the door asks that the value is not set, and that either the quick bit is set or the
+  -- flag beside the list is raised, and not both
   abbrev pub CanSection : CoreState W → ℕ → Op W → Type 0
   CanSection s q (Release ready) = s.door ≡ Some q → (s.word.ready ≡ false) × (s.head ≡ not s.word.quick)
   CanSection s q op = Unit {0}
@@ -146,7 +147,7 @@ module _ {W : Type 0} (same other : W → W → Type 0) where
   -- a section on the queue at the door, where some task holds. A listing that was not there is refused where memory is
   -- not given
   abbrev pub FindsHolder : CoreState W → Op W → Answer W → Op W → CoreState W → Type 0
-  FindsHolder s (Look k) a o t = Looked same other s.current (own_listing k s.listings) a × (t ≡ s) × (o ≡ Look k)
+  FindsHolder s (Look k) a o t = DidLook same other s.current (own_listing k s.listings) a × (t ≡ s) × (o ≡ Look k)
   FindsHolder s (ListOp k None) a o t = ⊥
   FindsHolder s (ListOp k (Some w)) a o t =
       ((a ≡ Memory) × (kept_ticket k s.listings ≡ None) × (s.granted ≡ false) × (t ≡ s) × (o ≡ ListOp k (Some w)))

@@ -38,7 +38,7 @@ pub use Rattle.once_core.specs.declared.step.Step.TheVariants.{Resting, UnderWay
 use Rattle.once_queue.specs.Ops.{ticket_in}
 use Rattle.once_queue.specs.Word.{flags_of, is_zero, is_ready_bit}
 
--- only a call that stops with the value gives the right back with the value set
+-- whether the call ends with the value: only then does its release set the ready bit
 abbrev pub is_value : Ending → Bool
 is_value EndValue = true
 is_value _ = false
@@ -64,6 +64,7 @@ module _ {W Q : Type 0} where
   left_at (AtCountOut e) = 2
   left_at (AtDoorTake e) = 1
 
+  -- how many steps the call may still take; 0 where none is under way
   abbrev pub left_of : Step W Q → ℕ
   left_of (UnderWay p) = left_at p
   left_of _ = 0
@@ -109,6 +110,7 @@ module _ {W Q : Type 0} where
   place_of_poll (RestWait q k) = AtWaitLoad q k
   place_of_poll (RestRun by) = AtRun by
 
+  -- the step with which a poll begins
   abbrev pub step_of_poll : Step W Q → Step W Q
   step_of_poll (Resting r) = UnderWay (place_of_poll r)
   step_of_poll s = s
@@ -129,6 +131,7 @@ module _ {W Q : Type 0} where
   step_of_drop_at (RestWait q k) = UnderWay (leave_place q k EndDropped)
   step_of_drop_at (RestRun by) = UnderWay (release_place by EndDropped)
 
+  -- the step with which a drop begins
   abbrev pub step_of_drop : Step W Q → Step W Q
   step_of_drop (Resting r) = step_of_drop_at r
   step_of_drop s = s
@@ -148,31 +151,35 @@ module _ {W Q : Type 0} where
   abbrev pub closing_at : Place W Q → Next W Q
   closing_at p = record { closes = true; progress = More; step = UnderWay p }
 
-  -- the call stops for good
+  -- the call ends, and the task is finished
   abbrev pub next_end : Ending → Next W Q
   next_end e = record { closes = false; progress = Ended e; step = Finished }
 
+  -- the same, after the init was closed
   abbrev pub closing_end : Ending → Next W Q
   closing_end e = record { closes = true; progress = Ended e; step = Finished }
 
-  -- the poll stops Pending
+  -- the poll ends Pending
   abbrev pub next_rest : Rest Q → Next W Q
   next_rest r = record { closes = false; progress = Ended EndPending; step = Resting r }
 
-  -- ready, NEW
+  -- after the first load: whether the word is ready, and whether it is NEW
   abbrev pub after_start : Bool → Bool → Next W Q
   after_start true _ = closing_end EndValue
   after_start false true = next_at AtTryQuick
   after_start false false = next_at AtDoorGet
 
+  -- after a quick claim, by whether it was won
   abbrev pub after_quick : Bool → Next W Q
   after_quick true = next_at (AtRun None)
   after_quick false = next_at AtDoorGet
 
+  -- after the look at the door
   abbrev pub after_door_get : Option Q → Next W Q
   after_door_get (Some q) = next_at (AtCountIn q)
   after_door_get None = next_at AtDoorPut
 
+  -- after a queue was put or found; None where memory was refused
   abbrev pub after_door_put : Option Q → Next W Q
   after_door_put (Some q) = next_at (AtCountIn q)
   after_door_put None = closing_end EndMemory
@@ -182,15 +189,18 @@ module _ {W Q : Type 0} where
   after_in true q = closing_at (AtCountOut EndValue)
   after_in false q = next_at (AtWaitLoad q None)
 
+  -- after counting in
   abbrev pub after_count_in : Counted → Q → Next W Q
   after_count_in (In w) q = after_in (flags_of w).ready q
   after_count_in CountFull q = closing_end EndFull
   after_count_in SeenReady q = closing_end EndValue
 
+  -- after a waiter's load: whether the word is ready
   abbrev pub after_load : Bool → Q → Option ℕ → Next W Q
   after_load true q k = closing_at (AtCountOut EndValue)
   after_load false q k = next_at (AtLook q k)
 
+  -- after the copy of the waker; None where memory was refused
   abbrev pub after_copy : Option W → Q → Option ℕ → Next W Q
   after_copy (Some w) q k = next_at (AtList q k w)
   after_copy None q k = closing_at (leave_place q k EndMemory)
@@ -202,29 +212,31 @@ module _ {W Q : Type 0} where
   after_look Listed w q k = next_rest (RestWait q k)
   after_look _ w q k = after_copy w q k
 
-  -- with the ticket that the section left
+  -- after a List, with the ticket that the section left
   abbrev pub after_list : SectionAnswer W → Q → Option ℕ → Next W Q
   after_list Ready q k = closing_at (AtCountOut EndValue)
   after_list Claimed q k = next_at (AtRun (Some q))
   after_list NoMemory q k = closing_at (leave_place q k EndMemory)
   after_list _ q k = next_rest (RestWait q k)
 
+  -- after the init was polled
   abbrev pub after_run : Polled → Option Q → Next W Q
   after_run PolledPending by = next_rest (RestRun by)
   after_run PolledValue by = closing_at (AtPut by)
   after_run PolledError by = closing_at (release_place by EndError)
 
-  -- the word was exactly the quick bit; the call stops with the value
+  -- after a fast release: whether it was done, and whether it sets the value
   abbrev pub after_fast : Bool → Bool → Ending → Next W Q
   after_fast true true e = next_at (AtDoorTake e)
   after_fast true false e = next_end e
   after_fast false fills e = next_at (AtAddOne e)
 
+  -- after a holder looked for the queue of those who are counted
   abbrev pub after_door_again : Option Q → Ending → Next W Q
   after_door_again (Some q) e = next_at (AtRelease q e)
   after_door_again None e = next_at (AtCountOut e)
 
-  -- the word is exactly the ready bit
+  -- after counting out: whether the word is exactly the ready bit
   abbrev pub after_count_out : Bool → Ending → Next W Q
   after_count_out true e = next_at (AtDoorTake e)
   after_count_out false e = next_end e
@@ -235,6 +247,7 @@ module _ {W Q : Type 0} where
   LeadsTo n r t = (r ≡ n.progress) × (t ≡ n.step)
 
 module _ {S : Type 0} (close : S → S → Type 0) where
+  -- the init is closed or not; else the side is the same
   abbrev pub MayClose : Bool → S → S → Type 0
   MayClose true s s' = close s s'
   MayClose false s s' = s' ≡ s
@@ -332,6 +345,7 @@ module _ {P S W Q : Type 0} (parts : PartsAsk P W Q) (can_put : S → Type 0) (l
   AsksAt (AtCountOut e) p s = parts.count_out p
   AsksAt (AtDoorTake e) p s = parts.door_take p
 
+  -- the same of a step: one that is not under way asks nothing
   abbrev pub Asks : Step W Q → P → S → Type 0
   Asks (UnderWay at) p s = AsksAt at p s
   Asks _ p s = Unit {0}
@@ -431,6 +445,7 @@ module _ {P S W Q : Type 0} (parts : PartsTell P W Q) (side : SideTells S W) whe
   Line limit (AtDoorTake e) p s r t p' s' =
       (b : Bool) × parts.door_take p b p' × Follows side.close (next_end e) s s' r t
 
+  -- one step of a call under way is its line of the table
   abbrev pub Advances : ℕ → Step W Q → P → S → Progress → Step W Q → P → S → Type 0
   Advances limit (UnderWay at) p s r t p' s' = Line limit at p s r t p' s'
   Advances limit _ p s r t p' s' = ⊥

@@ -13,7 +13,7 @@ use std::alloc::{AllocError, Global};
 /// The parts as plain data, lent to one caller at a time. Its queues are numbers, counted from 1.
 #[derive(Drop)]
 pub struct Core<W: WakerId> {
-    /// The word: how many tasks are counted in, and the two flags.
+    /// The word: how many tasks are counted in, and the two bits.
     pub word: Word,
     /// The number of the queue at the door, or None where there is no queue.
     pub door: Option<u64>,
@@ -73,7 +73,7 @@ impl<W: WakerId + Drop> Core<W> {
         self.current = Some(waker);
     }
 
-    /// Says whether the next steps are given memory.
+    /// Sets whether the next steps are given memory.
     pub fn grant(&mut self, granted: bool)
         ensures state { state_of self.new ≡ record (state_of self.old) { granted = granted } }
         ensures room { HasRoom self.old → HasRoom self.new }
@@ -118,7 +118,7 @@ impl<W: WakerId + Drop> Core<W> {
         self.lists.look(ticket, self.current.as_ref(), word)
     }
 
-    // The section of a listing: where memory is not given, one that was not there is refused.
+    // The section of a `List`: where memory is not given, a task without a listing is refused.
     fn list(&mut self, ticket: &mut Option<u64>, waker: &mut Option<W>) -> Answer<W>
         requires door { IsSome self.old.door }
         requires waker { IsSome waker.old }
@@ -137,7 +137,7 @@ impl<W: WakerId + Drop> Core<W> {
         }
     }
 
-    // The section of a release: clears the quick flag if it stood, else the flag beside the list.
+    // The section of a release: clears the quick bit if it is set, else the flag beside the list.
     fn release(&mut self, ready: bool) -> Out<W>
         requires door { IsSome self.old.door }
         requires unset { self.old.word.ready ≡ false }

@@ -70,8 +70,10 @@ pub trait Side<W> {
     // What each call answers and leaves.
     ghost did: { SideTells Self W } = { side_tells_nothing };
 
+    // What `put` asks.
     ghost can_put: { Self → Type 0 } = { λ _. ⊤ };
 
+    // What each call keeps, from the side before it to the side after.
     ghost stays: { Self → Self → Type 0 };
 
     /// Polls the init once, and keeps a value or an error that it gave. Where the init was dropped
@@ -85,7 +87,7 @@ pub trait Side<W> {
         ensures did { did.close self.old self.new }
         ensures stays { stays self.old self.new };
 
-    /// Gives the value that the init gave to the parts, or sets it.
+    /// Hands over the value that the init gave, for the parts to set. A side that keeps values itself answers `()`.
     fn put(&mut self) -> Self::Value
         requires { can_put self.old }
         ensures did { did.put self.old self.new }
@@ -101,12 +103,14 @@ pub trait Side<W> {
         ensures did { did.wake self.old out self.new }
         ensures stays { stays self.old self.new };
 
+    // A side keeps it with itself.
     ghost stays_same: { (a : Self) → stays a a };
 
+    // It goes on from call to call.
     ghost stays_on: { (a b c : Self) → stays a b → stays b c → stays a c };
 }
 
-/// The place at which a task stands.
+/// Where a task stands: between two calls, in one, or after its last.
 #[derive(Drop)]
 pub enum Step<W, Q> {
     /// No call is under way.

@@ -13,7 +13,7 @@ use Rattle.once_queue.specs.declared.waiters.Out.{Out}
 use Rattle.once_queue.specs.Listings.{kept_ticket, left_list, next_waker, own_listing, passes_turn, tickets}
 use Rattle.once_queue.specs.Claims.{Claims}
 use Rattle.once_queue.specs.Room.{listings_of, claimant}
-use Rattle.once_queue.specs.Sections.{Lists as DidList, Releases}
+use Rattle.once_queue.specs.Sections.{DidList, Releases}
 use Rattle.once_core.specs.Steps.{Next}
 use Rattle.once_world.specs.Record.{Entry}
 use Rattle.once_world.specs.Book.{TaskState}

@@ -9,7 +9,7 @@ use Rattle.once_world.specs.Tasks.{last_call}
 use Rattle.once_world.specs.Book.{At, Door, IsBook, Page, Queue, TaskState}
 use Rattle.once_world.specs.Machine.{AtPut, UnderWay}
 
--- as many tasks may be counted
+-- how many tasks may be counted in
 abbrev pub most : ℕ
 most = 2 ^ 62 - 2
 
@@ -31,7 +31,7 @@ abbrev pub pages_in : List Sheet → List Page
 pages_in ss = map (λ (s : Sheet). s.page) ss
 
 -- the state of the slot: 0 where it is not written, 2 where it is,
--- and 1 while the task writes it that is about to put the value
+-- and 1 while the task that is about to put the value writes it
 abbrev pub IsState : ℕ → Bool → List Sheet → Type 0
 IsState k slot ss =
     ((k ≡ 0) × (slot ≡ false)) ⊎ ((k ≡ 2) × (slot ≡ true))

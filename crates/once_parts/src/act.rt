@@ -67,7 +67,7 @@ impl Play<(), Line, Leaf> for Writes {
     ghost then = { λ _ v n w. Wrote v w };
 }
 
-/// It is written.
+/// A task puts the value into the slot.
 pub(crate) struct Puts;
 
 impl Play<(), Line, Leaf> for Puts {

@@ -36,7 +36,7 @@ pub(crate) fn whole_poll<T, W: TaskWaker + Drop, R: Wait + AllocGlobal, S: TaskS
         × ((S.state side.new).woke ≡ handed es) }
     ensures error { result ≡ Ending.Error → (S.state side.new).has_error ≡ true }
     ensures finished { (result ≡ Ending.Pending) ↔ (is_over idle.new ≡ false) }
-    ensures poll { result ≡ Ending.Dropped → ⊥ }
+    ensures not_dropped { result ≡ Ending.Dropped → ⊥ }
     ensures stands { StandsOn W.whose (own parts.new) (step_of idle.new) }
     ensures stays { S.stays side.old side.new }
 {
@@ -103,7 +103,8 @@ pub(crate) fn whole_drop<T, W: TaskWaker + Drop, R: Wait + AllocGlobal, S: TaskS
     go_on(parts, step, side, Progress::More);
 }
 
-/// Makes one step of the call that is under way, whose last step told this. It may wait as a whole call.
+/// Makes one step of the call that is under way, whose last step told this: `told` is for the contract alone. It
+/// may wait as a whole call.
 #[inline(always)]
 pub fn one_step<T, W: TaskWaker + Drop, R: Wait + AllocGlobal, S: TaskSide<W, Value = T>>(
     parts: &mut Shared<'_, '_, T, W, R>,

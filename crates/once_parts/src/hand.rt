@@ -121,8 +121,8 @@ impl Hand {
         found - 1
     }
 
-    /// Counts the task in, where fewer are counted than may be, and where no other changed the word
-    /// meanwhile; else `None`, and nothing was done.
+    /// Counts the task in, or answers that as many are counted as may be. `None` says that another task
+    /// changed the word between the load and the exchange: then nothing was done.
     #[inline(always)]
     pub(crate) fn try_count_in(&mut self, word: &CellWord) -> Option<Counted>
         requires word { IsWord word.now self.old.seen.book 0 }

@@ -44,7 +44,7 @@ pub struct Inner<T, W: TaskWaker> {
 }
 
 impl<T, W: TaskWaker + Drop> Inner<T, W> {
-    ghost use Rattle.std.specs.Prelude.{List, [], ◌∷◌, true, IfSome};
+    ghost use Rattle.std.specs.Prelude.{List, [], ◌∷◌, true, IfSome, IsSome};
     ghost use Rattle.std.specs.Option.{is_some};
     ghost use Rattle.once_queue.specs.Word.{flags_of};
     ghost use Rattle.once_world.specs.Record.{Entry, Made};
@@ -80,7 +80,7 @@ impl<T, W: TaskWaker + Drop> Inner<T, W> {
         }
     }
 
-    /// What each token of the cell has seen at least.
+    /// The record as a new task or token has seen it.
     #[inline(always)]
     pub fn record(&self) -> Record
         ensures { result.book ≡ self.now.slot.book }
@@ -94,7 +94,7 @@ impl<T, W: TaskWaker + Drop> Inner<T, W> {
         requires book { seen.old.book ≡ self.now.slot.book }
         ensures book { seen.new.book ≡ seen.old.book }
         ensures look { Looked (is_some result) seen.old.log seen.new.log }
-        ensures filled { is_some result ≡ true → WasFilled seen.new.log }
+        ensures filled { IsSome result → WasFilled seen.new.log }
         ensures value { IfSome result (λ r. (r.0.now ≡ r.1.value) × (r.1.of ≡ self.now.slot.id)) }
     {
         if Flags::from_bits(self.load(seen)).is_ready() {
@@ -215,7 +215,7 @@ impl<'a, 'r, T, W: TaskWaker, R> Shared<'a, 'r, T, W, R> {
         inner.slot.get(&self.hand.seen)
     }
 
-    /// What the task was made with.
+    /// The handle that the task was made with.
     #[inline(always)]
     pub fn rt(&self) -> &'r R {
         self.rt

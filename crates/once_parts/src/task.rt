@@ -78,7 +78,7 @@ impl<'a, 'r, T, W: TaskWaker + Drop, R> Task<'a, 'r, T, W, R> {
         self.parts.value()
     }
 
-    /// What the task was made with.
+    /// The handle that the task was made with.
     #[inline(always)]
     pub fn rt(&self) -> &'r R {
         self.parts.rt()
@@ -104,8 +104,8 @@ impl<'a, 'r, T, W: TaskWaker + Drop, R> Task<'a, 'r, T, W, R> {
 impl<'a, 'r, T, W: TaskWaker + Drop, R: Wait + AllocGlobal> Task<'a, 'r, T, W, R> {
     /// A whole poll. It may wait for the cell's lock, and for whatever the side waits for.
     ///
-    /// The record grew, and its newest entry is the end of this poll with what is answered here. Whoever was
-    /// handed to the side are the tasks that the entries of this poll name, in their order.
+    /// The record grew, and its newest entry is the end of this poll with what is answered here. The wakers that
+    /// were handed to the side are those of the tasks that the entries of this poll name, in their order.
     #[inline(always)]
     pub fn poll<S: TaskSide<W, Value = T>>(&mut self, side: &mut S) -> Ending
         requires live { self.old.finished ≡ false }
@@ -117,7 +117,7 @@ impl<'a, 'r, T, W: TaskWaker + Drop, R: Wait + AllocGlobal> Task<'a, 'r, T, W, R
         ensures woke { (es : List Entry) × GrewBy es self.old.log self.new.log × ((S.state side.new).woke ≡ handed es) }
         ensures error { result ≡ Ending.Error → (S.state side.new).has_error ≡ true }
         ensures finished { (result ≡ Ending.Pending) ↔ (self.new.finished ≡ false) }
-        ensures poll { result ≡ Ending.Dropped → ⊥ }
+        ensures not_dropped { result ≡ Ending.Dropped → ⊥ }
         ensures stays { S.stays side.old side.new }
     {
         whole_poll(&mut self.parts, &mut self.idle, side)

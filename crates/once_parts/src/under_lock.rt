@@ -29,7 +29,7 @@ pub(crate) fn note(desk: &mut CellPens, hand: &mut Hand, section: &Section)
     hand.pens = desk.split_off(2);
 }
 
-/// A moment that a load of the word marks: a look, a listing, or the leaving of a waiter.
+/// A moment that a load of the word marks: a look, a `List`, or the leaving of a waiter.
 #[inline(always)]
 pub(crate) fn see(word: &CellWord, desk: &mut CellPens, hand: &mut Hand, section: &Section) -> u64
     requires word { IsWord word.now hand.old.seen.book 0 }

@@ -58,7 +58,7 @@ module _ {W : Type 0} where
   wakers_of [] = []
   wakers_of (x ∷ xs) = cons_option x.waker (wakers_of xs)
 
--- the least number from n on that is not in the list, of the next f and the one after them
+-- the least number from n on that is not in the list; n + f where the f numbers from n on all are
 abbrev pub least_from : ℕ → ℕ → List ℕ → ℕ
 least_from zero n ns = n
 least_from (suc f) n ns = if member n ns then least_from f (suc n) ns else n
@@ -95,7 +95,7 @@ module _ {W : Type 0} where
   abbrev pub passes_turn : Bool → ℕ → List (Listing W) → Bool
   passes_turn free n xs = if free then was_called (find_listing n xs) else false
 
-  -- the waker that then gets the turn, and the list that is left
+  -- the waker that then gets the turn, if there is one
   abbrev pub next_waker : Bool → ℕ → List (Listing W) → Option W
   next_waker passes n xs = if passes then first_waker (take_out n xs) else None
 

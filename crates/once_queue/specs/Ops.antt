@@ -3,18 +3,18 @@ use Rattle.std.specs.Prelude.{ℕ, Option, None}
 use Rattle.once_queue.specs.declared.waiters.Op.{Op}
 use Rattle.once_queue.specs.declared.waiters.Op.TheVariants.{Look as LookOp, List as ListOp}
 
--- a listing has its waker
+-- a List brings its waker
 abbrev pub HasWaker : {W : Type 0} → Op W → Type 0
 HasWaker (ListOp k None) = ⊥
 HasWaker _ = Unit {0}
 
--- the ticket of a look or a listing
+-- the ticket that a Look or a List carries
 abbrev pub ticket_in : {W : Type 0} → Op W → Option ℕ
 ticket_in (LookOp k) = k
 ticket_in (ListOp k w) = k
 ticket_in _ = None
 
--- the same without its ticket
+-- the operation without its ticket
 abbrev pub without_ticket : {W : Type 0} → Op W → Op W
 without_ticket (LookOp k) = LookOp None
 without_ticket (ListOp k w) = ListOp None w

@@ -23,16 +23,16 @@ module _ {W : Type 0} (other : W → W → Type 0) where
   AreApart x y = IfSome y.waker (λ w. IfSome x.waker (λ v. other v w))
 
 module _ {W : Type 0} (same other : W → W → Type 0) where
-  -- a look where some task holds, by the current waker and the own listing: whether that has the same waker
-  abbrev pub Looked : Option W → Option (Option W) → Answer W → Type 0
-  Looked (Some w) (Some (Some v)) answer = ((answer ≡ Answer.Listed) × same v w) ⊎ ((answer ≡ Answer.Held) × other v w)
-  Looked _ _ answer = answer ≡ Answer.Held
+  -- a Look where some task holds, by the current waker and the own listing: whether that has the same waker
+  abbrev pub DidLook : Option W → Option (Option W) → Answer W → Type 0
+  DidLook (Some w) (Some (Some v)) answer = ((answer ≡ Answer.Listed) × same v w) ⊎ ((answer ≡ Answer.Held) × other v w)
+  DidLook _ _ answer = answer ≡ Answer.Held
 
 module _ {W : Type 0} where
-  -- a listing where some task holds: the own listing is taken out, and one with the waker goes to the end; or there
+  -- a List where some task holds: the own listing is taken out, and one with the waker goes to the end; or there
   -- was none, and no memory for one
-  abbrev pub Lists : Option ℕ → W → List (Listing W) → Answer W → Option ℕ → Option W → List (Listing W) → Type 0
-  Lists ticket w xs answer ticket' waker' xs' =
+  abbrev pub DidList : Option ℕ → W → List (Listing W) → Answer W → Option ℕ → Option W → List (Listing W) → Type 0
+  DidList ticket w xs answer ticket' waker' xs' =
       ((answer ≡ Answer.Listed) × (ticket' ≡ Some (ticket_for ticket xs)) × (waker' ≡ None)
       × (xs' ≡ list_with (ticket_for ticket xs) w xs))
       ⊎ ((answer ≡ Answer.Memory) × (kept_ticket ticket xs ≡ None) × (ticket' ≡ ticket) × (waker' ≡ Some w)

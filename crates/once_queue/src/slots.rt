@@ -179,6 +179,7 @@ impl<W: Drop> Slots<W> {
         self.close_many_holes();
         self.slots.reserve(1)?;
         self.used.reserve(1)?;
+        // Without this memory a listing is found by a search.
         let _ = self.places.reserve(1);
         Ok(())
     }
@@ -310,12 +311,15 @@ fn has_waker<W>(slot: &Listing<W>) -> bool
     slot.ticket != HOLE && slot.waker.is_some()
 }
 
-// Notes a place by this number, which is within those noted or the next. Without memory it is not.
+// Notes a place by this number. Without memory it is not noted, and a later one may then lie at the number of
+// another: `noted` looks whether the listing stands there.
 #[inline(always)]
 fn note(places: &mut Vec<usize>, number: usize, place: usize) {
     match places.get_mut(number) {
         Some(noted) => *noted = place,
-        None => drop(places.push(place)),
+        None => {
+            let _ = places.push(place);
+        }
     }
 }
 

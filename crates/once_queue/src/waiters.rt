@@ -63,7 +63,7 @@ pub enum Out<W> {
     All(Vec<Listing<W>>),
 }
 
-/// What one section under the queue's lock is to do. A look and a listing carry the ticket of the
+/// What one section under the queue's lock is to do. A `Look` and a `List` carry the ticket of the
 /// waiting task, if it has one; the section leaves there the ticket that the task has after it.
 #[derive(Debug, Drop, PartialEq, Eq)]
 pub enum Op<W> {
@@ -80,7 +80,7 @@ pub enum Op<W> {
 impl<W> Op<W> {
     ghost use Rattle.once_queue.specs.Ops.{ticket_in};
 
-    /// The ticket of a look or a listing.
+    /// The ticket that a `Look` or a `List` carries.
     pub fn ticket(&self) -> Option<u64>
         ensures { result ≡ ticket_in self.now }
     {
@@ -121,7 +121,7 @@ pub enum Answer<W> {
 /// before it.
 #[derive(Drop)]
 pub struct Lists<W: WakerId> {
-    /// The flag: whether a task holds that took the right under the lock.
+    /// The flag: whether a task holds that claimed under the lock.
     pub head: bool,
     slots: Slots<W>,
     // Whether some waker was told to be the same as one listed before it, since the value was last
@@ -139,7 +139,7 @@ impl<W: WakerId + Drop> Lists<W> {
     ghost use Rattle.once_queue.specs.Slots.{HasMark, HasSlot};
     ghost use Rattle.once_queue.specs.Claims.{Claims};
     ghost use Rattle.once_queue.specs.Room.{HasSpace, listings_of, claimant};
-    ghost use Rattle.once_queue.specs.Sections.{Looked, Lists as DidList, Releases};
+    ghost use Rattle.once_queue.specs.Sections.{DidLook, DidList, Releases};
 
     /// No holder, and nobody listed. It takes no memory.
     #[inline(always)]
@@ -162,7 +162,7 @@ impl<W: WakerId + Drop> Lists<W> {
         ensures claims { Claims (sees (flags_of word) self.old.head)
             (claimant self.old ticket.old) result (claimant self.new ticket.new) }
         ensures held { sees (flags_of word) self.old.head ≡ Sees.Taken
-            → Looked W.tells_same W.tells_other (option_copied waker.entry)
+            → DidLook W.tells_same W.tells_other (option_copied waker.entry)
             (own_listing ticket.old (listings_of self.old)) result }
         ensures stays { sees (flags_of word) self.old.head ≡ Sees.Taken
             → claimant self.new ticket.new ≡ claimant self.old ticket.old }

@@ -1,4 +1,4 @@
-//! The word of a cell: how many tasks are counted in, and two flags.
+//! The word of a cell: how many tasks are counted in, and two bits.
 ghost use Rattle.std.specs.Prelude.{◌≡◌, ◌<◌, ◌+◌, ◌-◌, ◌^◌, true, false, if◌then◌else◌};
 
 use std::marker::Model;
@@ -6,10 +6,10 @@ use std::marker::Model;
 /// The word of a cell that is neither set nor held by a quick holder, and in which nobody is counted.
 pub const NEW: u64 = 0;
 
-/// The bit of the word that says that a quick holder has the right to initialise.
+/// The quick bit of the word: a quick holder has the right.
 pub const QINIT_BIT: u64 = 0x4000_0000_0000_0000;
 
-/// The bit of the word that says that the value is set.
+/// The ready bit of the word: the value is set.
 pub const READY_BIT: u64 = 0x8000_0000_0000_0000;
 
 /// The largest number of tasks that may be counted in.
@@ -31,7 +31,7 @@ pub enum Sees {
     Taken,
 }
 
-/// A word: how many tasks are counted in, and the two flags.
+/// A word: how many tasks are counted in, and the two bits.
 #[derive(Drop)]
 pub struct Word {
     bits: u64,
@@ -128,7 +128,7 @@ impl Word {
         self.bits == READY_BIT
     }
 
-    /// Exchanges `NEW` for the quick bit.
+    /// Exchanges `NEW` for the quick bit, and says whether it did. Any other word stays.
     #[inline(always)]
     pub fn quick(&mut self) -> bool
         ensures won { result ≡ is_zero self.old }
@@ -141,7 +141,7 @@ impl Word {
         false
     }
 
-    /// Exchanges the quick bit for the ready bit, or for `NEW`.
+    /// Exchanges the quick bit for the ready bit or for `NEW`, and says whether it did. Any other word stays.
     #[inline(always)]
     pub fn fast(&mut self, ready: bool) -> bool
         ensures won { result ≡ is_quick_bit self.old }
@@ -172,7 +172,7 @@ impl Word {
         self.bits -= 1;
     }
 
-    /// Clears the quick flag, and sets the ready flag or not.
+    /// Clears the quick bit, and sets the ready bit or not.
     #[inline(always)]
     pub fn give_back(&mut self, ready: bool)
         ensures { self.new ≡ record self.old { quick = false; ready = ready } }

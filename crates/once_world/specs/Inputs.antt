@@ -167,5 +167,5 @@ pub record FallsInto (kind : Kind) (inputs : List Input) (history : List Entry) 
   pub inputs_are : inputs_of parts ≡ inputs  -- there is one part for each input
   pub entries_are : entries_of parts ≡ history  -- the record is all their entries
   pub added : AreAdded kind parts  -- each part has the entries that its input adds
-  pub sixteen_end : Always (SixteenEnd kind) parts  -- every call ended within sixteen steps
+  pub sixteen_end : Always (SixteenEnd kind) parts  -- a call that was given sixteen steps has ended
   pub memory : Always (WantsMemoryOnlyUngranted kind) parts  -- only a call that was refused memory ended for want of it

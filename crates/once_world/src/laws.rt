@@ -104,8 +104,8 @@ pub fn leaver_passes_its_turn_on()
         → (is_under_way (status kind t h) ≡ true) ⊎ (status kind t h ≡ Gone) }
 {}
 
-/// No waker is handed out more often than tasks waited with it. Since the owner last replaced the cell
-/// that is at most once for each poll begun with it that ended Pending while another task held.
+/// No waker is handed out more often than tasks waited with it. Since the owner last replaced the
+/// cell it is handed out at most once for each poll that began with it and ended Pending while another task held.
 pub fn wakes_answer_waits()
     ensures { (kind : Kind) (limit w : ℕ) (h : List Entry) → IsRun kind limit h
         → times_handed w h ≤ times_opened kind w h }

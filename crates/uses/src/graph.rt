@@ -164,8 +164,8 @@ where
     }
 }
 
-// Asks for the nodes in this order, and prints what was told.
-fn show_told<'a, F, G, H, R, O>(
+// Asks for the nodes in this order, and prints what was told and how many values were made.
+fn show_line<'a, F, G, H, R, O>(
     rt: &'a R,
     output: &mut O,
     order: [Node; 4],
@@ -182,25 +182,6 @@ where
     for node in order {
         write!(output, "{} ", told_at(rt, node, nodes, sum)?)?;
     }
-    Ok(())
-}
-
-// Asks for the nodes in this order, and says how many values were made.
-fn show_line<'a, F, G, H, R, O>(
-    rt: &'a R,
-    output: &mut O,
-    order: [Node; 4],
-    nodes: &Nodes<'a, F, G>,
-    sum: &'a Lazy<Value, H>,
-) -> Result<(), Fault>
-where
-    F: Future<Output = Value>,
-    G: Future<Output = Value>,
-    H: Future<Output = Value>,
-    R: Wait + RandomSource + AllocGlobal,
-    O: Write,
-{
-    show_told(rt, output, order, nodes, sum)?;
     writeln!(output, "({} made)", nodes.made.get())?;
     Ok(())
 }

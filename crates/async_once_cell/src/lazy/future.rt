@@ -40,9 +40,9 @@ pub struct LazyFuturePin<'a, T, F: Future, R: Wait + AllocGlobal> {
 pub type LazyFutureUnpin<'a, T, F, R> = LazyFuturePin<'a, T, F, R>;
 
 impl<'a, T, F: Future, R: Wait + AllocGlobal> Model for LazyFuturePin<'a, T, F, R> {
-    ghost use Rattle.async_once_cell.specs.Views.{Call};
+    ghost use Rattle.async_once_cell.specs.Views.{FutureView};
 
-    ghost Value = { Call T };
+    ghost Value = { FutureView T };
 
     ghost view = { λ f. f.future };
 }
@@ -70,7 +70,8 @@ impl<'a, T, F: Future, R: Wait + AllocGlobal> LazyFuturePin<'a, T, F, R> {
         future
     }
 
-    /// Whether the future answered a value or a refusal. It may not be polled after that.
+    /// Whether the future answered a value or a refusal. After that neither `poll` nor `poll_as` may be called; the
+    /// `poll` of the trait may, and asks for another poll.
     #[inline(always)]
     pub fn is_finished(&self) -> bool
         ensures { result ≡ self.now.finished }
@@ -78,9 +79,8 @@ impl<'a, T, F: Future, R: Wait + AllocGlobal> LazyFuturePin<'a, T, F, R> {
         self.future.is_finished()
     }
 
-    /// It does nothing. Its contract is about the record of a cell that tasks share. The record is a run of
-    /// the cell, and at each of its beginnings somebody was called if somebody had to be. If the cell is set
-    /// in it, it has a Fill.
+    /// Shows that the record of a cell that tasks share is a run of the cell, and that at each of its beginnings
+    /// somebody was called if somebody had to be. If the cell is set in it, it has a Fill. It does nothing else.
     pub fn is_run(&self)
         ensures run { is_shared self.now.cell ≡ true → IsRun Once most (reverse self.now.log) }
         ensures called { is_shared self.now.cell ≡ true → AtEvery (SomebodyCalled Once) (reverse self.now.log) }
@@ -111,7 +111,8 @@ impl<T, F: Future, R: Wait + AllocGlobal> fmt::Debug for LazyFuturePin<'_, T, F,
 }
 
 impl<'a, T: Drop, F: Future<Output = T>, R: Wait + AllocGlobal> LazyFuturePin<'a, T, F, R> {
-    /// Polls the future once. It answers the value that is set, or a refusal, and is finished then.
+    /// Polls the future once. It is Pending, or it answers the value that is set or a refusal, and the future is
+    /// finished then.
     /// [`InitFuture::poll`] and [`InitFuture::poll_as`] have examples.
     #[inline(always)]
     pub fn poll(&mut self, cx: &mut Context<'_>) -> Poll<Result<&'a T, Refused>>
@@ -132,7 +133,7 @@ impl<'a, T: Drop, F: Future<Output = T>, R: Wait + AllocGlobal> LazyFuturePin<'a
         requires unfinished { self.old.finished ≡ false }
         requires token_of_this_cell { token.old.cell ≡ self.old.cell }
         ensures call { PollsAs token.old.value self.old self.new cx.old cx.new (sure_ending result) }
-        ensures of { token.new.cell ≡ token.old.cell }
+        ensures cell { token.new.cell ≡ token.old.cell }
         ensures value { Polls token.old.value token.new.value result }
         ensures log { IsPrefix token.old.log token.new.log }
     {
@@ -153,8 +154,7 @@ impl<'a, T: Drop, F: Future<Output = T>, R: Wait + AllocGlobal> LazyFuturePin<'a
         R: RandomSource,
         requires unfinished { self.finished ≡ false }
     {
-        let future = self.into_future();
-        future.wait()
+        self.into_future().wait()
     }
 
     /// As [`wait`](Self::wait), and the token learns the value that is answered. A token that knows
@@ -168,12 +168,11 @@ impl<'a, T: Drop, F: Future<Output = T>, R: Wait + AllocGlobal> LazyFuturePin<'a
         R: RandomSource,
         requires unfinished { self.finished ≡ false }
         requires token_of_this_cell { token.old.cell ≡ self.cell }
-        ensures of { token.new.cell ≡ token.old.cell }
+        ensures cell { token.new.cell ≡ token.old.cell }
         ensures value { Waits token.old.value token.new.value result }
         ensures log { IsPrefix token.old.log token.new.log }
     {
-        let future = self.into_future();
-        future.wait_as(token)
+        self.into_future().wait_as(token)
     }
 
     /// As [`wait`](Self::wait), by a parker that the caller keeps. `io::Error` says that there was no
@@ -181,8 +180,7 @@ impl<'a, T: Drop, F: Future<Output = T>, R: Wait + AllocGlobal> LazyFuturePin<'a
     pub fn wait_on(self, parker: &mut Parker) -> io::Result<Result<&'a T, Refused>>
         requires unfinished { self.finished ≡ false }
     {
-        let future = self.into_future();
-        future.wait_on(parker)
+        self.into_future().wait_on(parker)
     }
 
     /// As [`wait_as`](Self::wait_as), by a parker that the caller keeps.
@@ -193,12 +191,11 @@ impl<'a, T: Drop, F: Future<Output = T>, R: Wait + AllocGlobal> LazyFuturePin<'a
     ) -> io::Result<Result<&'a T, Refused>>
         requires unfinished { self.finished ≡ false }
         requires token_of_this_cell { token.old.cell ≡ self.cell }
-        ensures of { token.new.cell ≡ token.old.cell }
+        ensures cell { token.new.cell ≡ token.old.cell }
         ensures value { Waits token.old.value token.new.value result }
         ensures log { IsPrefix token.old.log token.new.log }
     {
-        let future = self.into_future();
-        future.wait_as_on(token, parker)
+        self.into_future().wait_as_on(token, parker)
     }
 }
 
@@ -242,6 +239,7 @@ impl<F: Future, R: Wait> Future for Driven<'_, F, R> {
     // value is set.
     #[inline(always)]
     fn poll(&mut self, cx: &mut Context<'_>) -> Poll<F::Output> {
+        // Only the task that holds polls this, so the future is there. No clause says so.
         let Some(pollable) = self.take_out() else {
             return cx.yield_now();
         };

@@ -4,7 +4,7 @@ ghost use mathlib.Core.List.{IsPrefix};
 ghost use Rattle.futures.specs.Task.{Keeps};
 ghost use Rattle.once_core.specs.declared.step.Ending.{Ending};
 ghost use Rattle.once_parts.specs.Walks.{end_of};
-ghost use Rattle.async_once_cell.specs.Futures.{HasBook, IsAsked, is_of_owned, call_of, is_done, seen_of};
+ghost use Rattle.async_once_cell.specs.Futures.{HasBook, IsAsked, is_of_owned, view_of_future, is_done, seen_of};
 ghost use Rattle.async_once_cell.specs.Polls.{Answers, DidPoll, HasLeft, Polls, PollsAs, ending_in};
 ghost use Rattle.async_once_cell.specs.Tokens.{IsSetIn};
 ghost use Rattle.async_once_cell.specs.Replies.{ValueIn, ending_of};
@@ -28,14 +28,14 @@ use std::fmt;
 use std::marker::{Model, PhantomData};
 use std::sync::Wait;
 
-// How a future comes to the value.
+// What a future asks.
 #[derive(Drop)]
 enum Asked<'a, T, F: Future, R: Wait + AllocGlobal> {
-    // It is that of the cell's owner.
+    // A cell with its owner's value: the next poll answers that.
     Owned(&'a R),
-    // It was that of the cell's owner, and was answered.
+    // Such a cell, which the future has answered or left.
     Answered(&'a R),
-    // It is a task of those that share the cell.
+    // A cell that tasks share, of which the future is one.
     Shared(Waiting<'a, T, F, R>),
 }
 
@@ -58,12 +58,12 @@ pub struct TryInitFuture<'a, T, E, F: Future, R: Wait + AllocGlobal> {
 }
 
 impl<'a, T, E, F: Future, R: Wait + AllocGlobal> Model for TryInitFuture<'a, T, E, F, R> {
-    ghost use Rattle.async_once_cell.specs.Futures.{IsAsked, call_of};
-    ghost use Rattle.async_once_cell.specs.Views.{Call};
+    ghost use Rattle.async_once_cell.specs.Futures.{IsAsked, view_of_future};
+    ghost use Rattle.async_once_cell.specs.Views.{FutureView};
 
-    ghost Value = { Call T };
+    ghost Value = { FutureView T };
 
-    ghost view = { λ f. call_of f.cell.now f.asked };
+    ghost view = { λ f. view_of_future f.cell.now f.asked };
 
     ghost invariant = { λ f. IsAsked f.cell.now f.asked };
 }
@@ -105,7 +105,8 @@ impl<'a, T, E, F: Future, R: Wait + AllocGlobal> TryInitFuture<'a, T, E, F, R> {
         }
     }
 
-    /// Whether the future answered a value, an error or a refusal. It may not be polled after that.
+    /// Whether the future answered a value, an error or a refusal. After that neither `poll` nor `poll_as` may be
+    /// called; the `poll` of the trait may, and asks for another poll.
     ///
     /// ```
     /// if self.future.is_finished() {
@@ -119,9 +120,8 @@ impl<'a, T, E, F: Future, R: Wait + AllocGlobal> TryInitFuture<'a, T, E, F, R> {
         self.asked.is_finished()
     }
 
-    /// It does nothing. Its contract is about the record of a cell that tasks share. The record is a run of
-    /// the cell, and at each of its beginnings somebody was called if somebody had to be. If the cell is set
-    /// in it, it has a Fill.
+    /// Shows that the record of a cell that tasks share is a run of the cell, and that at each of its beginnings
+    /// somebody was called if somebody had to be. If the cell is set in it, it has a Fill. It does nothing else.
     pub fn is_run(&self)
         ensures run { is_shared self.now.cell ≡ true → IsRun Once most (reverse self.now.log) }
         ensures called { is_shared self.now.cell ≡ true → AtEvery (SomebodyCalled Once) (reverse self.now.log) }
@@ -182,17 +182,16 @@ impl<'a, T, F: Future, R: Wait + AllocGlobal> Asked<'a, T, F, R> {
     // A drop of a future that is not finished. It has the future by value, so that the drop of a finished one
     // leaves that where it is.
     #[inline(never)]
-    fn left(self)
+    fn drop_unfinished(mut self)
         requires live { is_done self ≡ false }
     {
-        let mut asked = self;
-        asked.leave();
+        self.leave();
     }
 
     fn leave(&mut self)
         requires live { is_done self.old ≡ false }
         ensures left { (c : CellView T) → IsAsked c self.old
-            → IsAsked c self.new × HasLeft (call_of c self.old) (call_of c self.new) }
+            → IsAsked c self.new × HasLeft (view_of_future c self.old) (view_of_future c self.new) }
     {
         match self {
             Asked::Owned(rt) => *self = Asked::Answered(*rt),
@@ -227,9 +226,8 @@ where
     /// Polls the future once.
     ///
     /// It answers the value that is set, the error that its own init gave, or a refusal: `Memory`
-    /// where a place among those who wait could not be made, `Full` where as many tasks are counted in
-    /// as may be. After any of these it is finished. After an error or a refusal the cell is as if the
-    /// future had been dropped.
+    /// where memory to wait was refused, `Full` where as many tasks are counted in as may be. After any of
+    /// these it is finished. After an error or a refusal the cell is as if the future had been dropped.
     ///
     /// A poll that is Pending has registered its task somewhere, or asked for another poll. The newest entry of the
     /// record is the end of this poll, with what it answers.
@@ -282,11 +280,11 @@ where
         requires unfinished { self.old.finished ≡ false }
         requires token_of_this_cell { token.old.cell ≡ self.old.cell }
         ensures call { PollsAs token.old.value self.old self.new cx.old cx.new (ending_in result) }
-        ensures of { token.new.cell ≡ token.old.cell }
+        ensures cell { token.new.cell ≡ token.old.cell }
         ensures value { Polls token.old.value token.new.value result }
         ensures log { IsPrefix token.old.log token.new.log }
     {
-        if token.is_knowing() {
+        if token.knows_value() {
             self.leave();
             return Poll::Ready(Ok(token.learn(self.cell).unwrap()));
         }
@@ -343,7 +341,7 @@ impl<T, E, F: Future, R: Wait + AllocGlobal> Drop for TryInitFuture<'_, T, E, F,
             asked,
         } = self;
         if !asked.is_finished() {
-            asked.left();
+            asked.drop_unfinished();
         }
     }
 }

@@ -11,6 +11,7 @@ ghost use mathlib.Core.List.{IsPrefix};
 ghost use Rattle.async_once_cell.specs.Sure.{IsSame};
 ghost use Rattle.async_once_cell.specs.Polls.{Answers, DidPoll, Polls, PollsAs, sure_ending};
 
+use super::waits::surely_answered;
 use super::{InitError, Known, OnceCell, Refused, TryInitFuture};
 use crate::waiting::Reply;
 use futures::Future;
@@ -29,9 +30,9 @@ pub struct InitFuture<'a, T, F: Future, R: Wait + AllocGlobal> {
 }
 
 impl<'a, T, F: Future, R: Wait + AllocGlobal> Model for InitFuture<'a, T, F, R> {
-    ghost use Rattle.async_once_cell.specs.Views.{Call};
+    ghost use Rattle.async_once_cell.specs.Views.{FutureView};
 
-    ghost Value = { Call T };
+    ghost Value = { FutureView T };
 
     ghost view = { λ f. f.future };
 }
@@ -56,7 +57,8 @@ impl<'a, T, F: Future, R: Wait + AllocGlobal> InitFuture<'a, T, F, R> {
         future
     }
 
-    /// Whether the future answered a value or a refusal. It may not be polled after that.
+    /// Whether the future answered a value or a refusal. After that neither `poll` nor `poll_as` may be called; the
+    /// `poll` of the trait may, and asks for another poll.
     ///
     /// ```
     /// if !waiter.is_finished() {
@@ -70,9 +72,8 @@ impl<'a, T, F: Future, R: Wait + AllocGlobal> InitFuture<'a, T, F, R> {
         self.future.is_finished()
     }
 
-    /// It does nothing. Its contract is about the record of a cell that tasks share. The record is a run of
-    /// the cell, and at each of its beginnings somebody was called if somebody had to be. If the cell is set
-    /// in it, it has a Fill.
+    /// Shows that the record of a cell that tasks share is a run of the cell, and that at each of its beginnings
+    /// somebody was called if somebody had to be. If the cell is set in it, it has a Fill. It does nothing else.
     pub fn is_run(&self)
         ensures run { is_shared self.now.cell ≡ true → IsRun Once most (reverse self.now.log) }
         ensures called { is_shared self.now.cell ≡ true → AtEvery (SomebodyCalled Once) (reverse self.now.log) }
@@ -111,7 +112,8 @@ impl<T, F: Future, R: Wait + AllocGlobal> fmt::Debug for InitFuture<'_, T, F, R>
 }
 
 impl<'a, T: Drop, F: Future<Output = T>, R: Wait + AllocGlobal> InitFuture<'a, T, F, R> {
-    /// Polls the future once. It answers the value that is set, or a refusal, and is finished then.
+    /// Polls the future once. It is Pending, or it answers the value that is set or a refusal, and the future is
+    /// finished then.
     ///
     /// One turn of a thread that polls, and pauses where the poll is Pending:
     ///
@@ -159,7 +161,7 @@ impl<'a, T: Drop, F: Future<Output = T>, R: Wait + AllocGlobal> InitFuture<'a, T
         requires unfinished { self.old.finished ≡ false }
         requires token_of_this_cell { token.old.cell ≡ self.old.cell }
         ensures call { PollsAs token.old.value self.old self.new cx.old cx.new (sure_ending result) }
-        ensures of { token.new.cell ≡ token.old.cell }
+        ensures cell { token.new.cell ≡ token.old.cell }
         ensures value { Polls token.old.value token.new.value result }
         ensures log { IsPrefix token.old.log token.new.log }
     {
@@ -207,9 +209,6 @@ fn surely<T>(polled: Poll<Result<T, InitError<Infallible>>>) -> Poll<Result<T, R
 {
     match polled {
         Poll::Pending => Poll::Pending,
-        Poll::Ready(Ok(value)) => Poll::Ready(Ok(value)),
-        Poll::Ready(Err(InitError::Init(never))) => match never {},
-        Poll::Ready(Err(InitError::Memory)) => Poll::Ready(Err(Refused::Memory)),
-        Poll::Ready(Err(InitError::Full)) => Poll::Ready(Err(Refused::Full)),
+        Poll::Ready(answer) => Poll::Ready(surely_answered(answer)),
     }
 }

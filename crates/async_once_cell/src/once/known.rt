@@ -32,7 +32,7 @@ enum Seen<T> {
 ///
 /// A token learns the value from a call that answers it: [`OnceCell::get_as`], or the `poll_as` of a
 /// future. From then on each such call answers that value: the contracts say so. Whoever passes a
-/// token on passes on what it knows. A token borrows its cell, so its owner makes no call meanwhile.
+/// token on passes on what it knows. A token borrows its cell, so the cell's owner makes no call meanwhile.
 #[derive(Drop)]
 pub struct Known<'a, T> {
     cell: &'a OnceCell<T>,
@@ -43,9 +43,9 @@ pub struct Known<'a, T> {
 }
 
 impl<'a, T> Model for Known<'a, T> {
-    ghost use Rattle.async_once_cell.specs.Views.{IsOf, Knows, known_of, log_of};
+    ghost use Rattle.async_once_cell.specs.Views.{IsOf, TokenView, known_of, log_of};
 
-    ghost Value = { Knows T };
+    ghost Value = { TokenView T };
 
     ghost view = { λ k. record { cell = k.cell.now; value = known_of k.cell.now k.seen; log = log_of k.seen } };
 
@@ -75,13 +75,13 @@ impl<'a, T> Known<'a, T> {
         ensures value { Learns self.old.value self.new.value result }
         ensures lends { Lends cell.now result }
         ensures look { Looks cell.now self.old.value (is_some result) self.old.log self.new.log }
-        ensures set { is_some result ≡ true → IsSetIn cell.now self.new.log }
-        ensures stays { IsSetIn cell.now self.old.log → is_some result ≡ true }
+        ensures set { IsSome result → IsSetIn cell.now self.new.log }
+        ensures stays { IsSetIn cell.now self.old.log → IsSome result }
     {
         cell.look(&mut self.seen)
     }
 
-    pub(super) fn is_knowing(&self) -> bool
+    pub(super) fn knows_value(&self) -> bool
         ensures { result ≡ is_some self.now.value }
     {
         match &self.seen {
@@ -237,7 +237,7 @@ impl<T> Seen<T> {
         ensures other { IsPrefix (log_of other.now) (log_of self.new) }
     {
         match (self, other) {
-            (Seen::Owned(knows), Seen::Owned(other)) => *knows = *knows || *other,
+            (Seen::Owned(knows), Seen::Owned(others)) => *knows |= *others,
             (Seen::Shared(own, known), Seen::Shared(record, found)) => {
                 let before = own.again();
                 own.learn(record);
@@ -279,8 +279,8 @@ impl<T> OnceCell<T> {
         ensures lends { Lends self.now result }
         ensures look { Looks self.now (known_of self.now seen.old) (is_some result) (log_of seen.old)
             (log_of seen.new) }
-        ensures set { is_some result ≡ true → IsSetIn self.now (log_of seen.new) }
-        ensures stays { IsSetIn self.now (log_of seen.old) → is_some result ≡ true }
+        ensures set { IsSome result → IsSetIn self.now (log_of seen.new) }
+        ensures stays { IsSetIn self.now (log_of seen.old) → IsSome result }
     {
         match (&self.value, seen) {
             (Value::Owned(value), Seen::Owned(knows)) => {

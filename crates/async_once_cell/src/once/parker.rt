@@ -37,7 +37,8 @@ impl Parker {
         Ok(())
     }
 
-    // Sleeps until the thread's task is to be polled.
+    // Sleeps until the thread's task is to be polled. There always is one: `begin` adds it, and one wait at a time
+    // uses the parker.
     pub(super) fn next<R: Wait>(&self, rt: &R) -> io::Result<Context<'_>> {
         match self.tasks.next(rt) {
             Some(cx) => Ok(cx),

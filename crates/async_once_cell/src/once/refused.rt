@@ -20,7 +20,7 @@ use std::{fmt, io};
 /// ```
 #[derive(Clone, Copy, Debug, PartialEq, Eq)]
 pub enum Refused {
-    /// Memory was refused, for a place among those who wait.
+    /// Memory was refused: for the queue of those who wait, for the task's seat, or for its place in the queue.
     Memory,
     /// As many tasks are counted in as may be, 2^62 - 2. Counted are those that wait, those in a call that came to
     /// the queue, and a holder that claimed there.
@@ -79,8 +79,8 @@ impl<E: fmt::Display> fmt::Display for InitError<E> {
 
 impl<E: fmt::Debug + fmt::Display + Drop> Error for InitError<E> {}
 
-/// So `future.wait()??` may stand where the error is an `io::Error`. That of [`Refused::Memory`] has the kind of
-/// refused memory.
+/// Lets `future.wait()??` stand where the error is an `io::Error`. Its kind is `OutOfMemory` for
+/// [`Refused::Memory`], and `Other` for [`Refused::Full`].
 impl From<Refused> for io::Error {
     ghost use Rattle.std.specs.IoError.{error_kind};
     ghost use Rattle.async_once_cell.specs.Refused.{kind_of};

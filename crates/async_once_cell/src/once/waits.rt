@@ -19,8 +19,8 @@ where
     F: Future<Output: TryOutput<Ok = T, Error = E>>,
 {
     /// Polls the future on this thread until it answers. The thread sleeps while it has to wait: for its
-    /// own init, or for the task that holds. So the call never returns if neither is driven on. That is so
-    /// if this thread itself keeps another future of the cell, and that one holds.
+    /// own init, or for the task that holds. So the call never returns if neither is driven on, as where this
+    /// thread itself keeps another future of the cell, which holds.
     ///
     /// The answer is that of the last poll. `io::Error` says that the thread could not be made ready to
     /// wait, since memory or random bytes were refused. Then the future was dropped, as it is after an
@@ -45,7 +45,7 @@ where
         R: RandomSource,
         requires unfinished { self.finished ≡ false }
         requires token_of_this_cell { token.old.cell ≡ self.cell }
-        ensures of { token.new.cell ≡ token.old.cell }
+        ensures cell { token.new.cell ≡ token.old.cell }
         ensures value { Waits token.old.value token.new.value result }
         ensures log { IsPrefix token.old.log token.new.log }
     {
@@ -75,7 +75,7 @@ where
     ) -> io::Result<Result<&'a T, InitError<E>>>
         requires unfinished { self.finished ≡ false }
         requires token_of_this_cell { token.old.cell ≡ self.cell }
-        ensures of { token.new.cell ≡ token.old.cell }
+        ensures cell { token.new.cell ≡ token.old.cell }
         ensures value { Waits token.old.value token.new.value result }
         ensures log { IsPrefix token.old.log token.new.log }
     {
@@ -108,8 +108,7 @@ impl<'a, T: Drop, F: Future<Output = T>, R: Wait + AllocGlobal> InitFuture<'a, T
         R: RandomSource,
         requires unfinished { self.finished ≡ false }
     {
-        let future = self.into_future();
-        Ok(surely_answered(future.wait()?))
+        Ok(surely_answered(self.into_future().wait()?))
     }
 
     /// As [`wait`](Self::wait), and the token learns the value that is answered. A token that knows
@@ -123,12 +122,11 @@ impl<'a, T: Drop, F: Future<Output = T>, R: Wait + AllocGlobal> InitFuture<'a, T
         R: RandomSource,
         requires unfinished { self.finished ≡ false }
         requires token_of_this_cell { token.old.cell ≡ self.cell }
-        ensures of { token.new.cell ≡ token.old.cell }
+        ensures cell { token.new.cell ≡ token.old.cell }
         ensures value { Waits token.old.value token.new.value result }
         ensures log { IsPrefix token.old.log token.new.log }
     {
-        let future = self.into_future();
-        Ok(surely_answered(future.wait_as(token)?))
+        Ok(surely_answered(self.into_future().wait_as(token)?))
     }
 
     /// As [`wait`](Self::wait), by a parker that the caller keeps. `io::Error` says that there was no
@@ -136,8 +134,7 @@ impl<'a, T: Drop, F: Future<Output = T>, R: Wait + AllocGlobal> InitFuture<'a, T
     pub fn wait_on(self, parker: &mut Parker) -> io::Result<Result<&'a T, Refused>>
         requires unfinished { self.finished ≡ false }
     {
-        let future = self.into_future();
-        Ok(surely_answered(future.wait_on(parker)?))
+        Ok(surely_answered(self.into_future().wait_on(parker)?))
     }
 
     /// As [`wait_as`](Self::wait_as), by a parker that the caller keeps.
@@ -148,18 +145,17 @@ impl<'a, T: Drop, F: Future<Output = T>, R: Wait + AllocGlobal> InitFuture<'a, T
     ) -> io::Result<Result<&'a T, Refused>>
         requires unfinished { self.finished ≡ false }
         requires token_of_this_cell { token.old.cell ≡ self.cell }
-        ensures of { token.new.cell ≡ token.old.cell }
+        ensures cell { token.new.cell ≡ token.old.cell }
         ensures value { Waits token.old.value token.new.value result }
         ensures log { IsPrefix token.old.log token.new.log }
     {
-        let future = self.into_future();
-        Ok(surely_answered(future.wait_as_on(token, parker)?))
+        Ok(surely_answered(self.into_future().wait_as_on(token, parker)?))
     }
 }
 
 // The answer without the error that can't be.
 #[inline(always)]
-fn surely_answered<T>(answer: Result<T, InitError<Infallible>>) -> Result<T, Refused>
+pub(super) fn surely_answered<T>(answer: Result<T, InitError<Infallible>>) -> Result<T, Refused>
     ensures { IsSameAnswer answer result }
 {
     match answer {

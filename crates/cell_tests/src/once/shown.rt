@@ -7,6 +7,7 @@ use cell_doubles::poll::Refusal;
 use cell_doubles::text::shows;
 use futures::future::ready;
 use futures::test::MockTask;
+use std::io;
 use std::test::Fail;
 
 /// A token says what it knows.
@@ -41,4 +42,16 @@ fn refusals_as_errors(rt: HostRuntime) {
     let memory = InitError::<u64>::from(Refused::Memory).reply();
     let full = InitError::<u64>::from(Refused::Full).reply();
     assert_eq!(rt; [memory, full], [Reply::Memory, Reply::Full]);
+}
+
+/// As an error of input and output it prints the same.
+#[test]
+fn refusals_as_io_errors(rt: HostRuntime) -> Result<(), Fail> {
+    for refused in [Refused::Memory, Refused::Full] {
+        let error = io::Error::from(refused);
+        let printed = format!(in rt.alloc(); "{error}")?;
+        let wanted = format!(in rt.alloc(); "{refused}")?;
+        assert_eq!(rt; printed, wanted);
+    }
+    Ok(())
 }

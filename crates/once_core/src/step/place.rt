@@ -25,7 +25,7 @@ pub enum Rest<Q> {
     Run(Option<Q>),
 }
 
-/// The step that a call makes next. An ending says how the call will end.
+/// Where a call makes its next step. An ending says how the call will end.
 #[derive(Drop)]
 pub enum Place<W, Q> {
     /// Load the word.

@@ -8,7 +8,7 @@ use Rattle.once_queue.specs.declared.waiters.Answer.{Answer}
 use Rattle.once_queue.specs.declared.waiters.Answer.TheVariants.{Listed, Held, Memory}
 use Rattle.once_queue.specs.Claims.{Claims, Claimant}
 use Rattle.once_queue.specs.Listings.{kept_ticket, own_listing}
-use Rattle.once_queue.specs.Sections.{Lists as DidList}
+use Rattle.once_queue.specs.Sections.{DidList}
 use Rattle.once_queue.proofs.Listing.Tickets.{own_none}
 use Rattle.once_world.specs.Machine.{head_after, list_answer, listed_list, listed_ticket}
 use Rattle.once_parts.specs.Named.{as_memory, named, ticket_left}

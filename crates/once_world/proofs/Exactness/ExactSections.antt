@@ -9,7 +9,7 @@ use Rattle.once_queue.specs.declared.waiters.Answer.{Answer as SectionAnswer}
 use Rattle.once_queue.specs.declared.waiters.Answer.TheVariants.{Ready, Claimed, Listed, Held, Memory as NoMemory, Released, Left, Gone}
 use Rattle.once_world.specs.declared.world.side.ReplaySide.{ReplaySide}
 use Rattle.once_queue.specs.Listings.{is_waker, kept_ticket, own_listing, ticket_for}
-use Rattle.once_queue.specs.Sections.{Looked}
+use Rattle.once_queue.specs.Sections.{DidLook}
 use Rattle.once_core.specs.Core.{CoreState, DidSection, FindsHolder}
 use Rattle.once_world.specs.Places.{AtList, AtLook, Progress, Step, UnderWay}
 use Rattle.once_queue.specs.Ops.{ticket_in}
@@ -45,7 +45,7 @@ NumberSection = DidSection (λ a b. a ≡ b) (λ a b. a ≢ b)
 
 -- where some task holds, a look says whether the own listing has the waker
 looked_as : (w : ℕ) (own : Option (Option ℕ)) (a : SectionAnswer ℕ)
-    → Looked (λ x y. x ≡ y) (λ x y. x ≢ y) (Some w) own a → a ≡ cond (is_waker w own) Listed Held
+    → DidLook (λ x y. x ≡ y) (λ x y. x ≢ y) (Some w) own a → a ≡ cond (is_waker w own) Listed Held
 looked_as w (Some (Some v)) a (inl d) = rw (eq-eqb v w d.1) d.0
 looked_as w (Some (Some v)) a (inr d) = rw (ne_eqb v w d.1) d.0
 looked_as w (Some None) a d = d
@@ -134,11 +134,11 @@ module _ (c : ReplaySide) (f : IsFresh c) (s : CoreState ℕ) (c' : ReplaySide) 
       record { shared = ap (λ y. shared_by y c) z.1; log = ap (λ y. y.log) z.1; after = looks_as Claimed (LookOp None) z.0 z.2 y }
   look_by true false true true d r h m w x y =
       let z = (x.here (at_door q s.door d)).taken (rw (r, h) refl) in
-      let is = looked_as c.waker (own_listing k s.listings) a (subst (λ v. Looked (λ x y. x ≡ y) (λ x y. x ≢ y) v (own_listing k s.listings) a) w z.0) in
+      let is = looked_as c.waker (own_listing k s.listings) a (subst (λ v. DidLook (λ x y. x ≡ y) (λ x y. x ≢ y) v (own_listing k s.listings) a) w z.0) in
       record { shared = ap (λ y. shared_by y c) z.1; log = ap (λ y. y.log) z.1; after = looks_as Listed (LookOp k) (is ∙ ap (λ b. cond b Listed Held) m) z.2 y }
   look_by true false true false d r h m w x y =
       let z = (x.here (at_door q s.door d)).taken (rw (r, h) refl) in
-      let is = looked_as c.waker (own_listing k s.listings) a (subst (λ v. Looked (λ x y. x ≡ y) (λ x y. x ≢ y) v (own_listing k s.listings) a) w z.0) in
+      let is = looked_as c.waker (own_listing k s.listings) a (subst (λ v. DidLook (λ x y. x ≡ y) (λ x y. x ≢ y) v (own_listing k s.listings) a) w z.0) in
       record { shared = ap (λ y. shared_by y c) z.1; log = ap (λ y. y.log) z.1; after = looks_as Held (LookOp k) (is ∙ ap (λ b. cond b Listed Held) m) z.2 y }
   look_by false ready taken is d r h m w x y =
       let z = x.gone (not_at_door q s.door d) in

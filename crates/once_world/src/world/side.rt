@@ -34,6 +34,7 @@ impl ReplaySide {
         ensures answers { answers_in self.new ≡ rest_of (answers_in self.old) }
         ensures others { self.new ≡ record self.old { answers = self.new.answers } }
     {
+        // Popped in either case, as `answers` says: a cell that is not lazy has none.
         match self.answers.pop() {
             _ if !self.lazy => self.answer,
             Some(Some(v)) => Ran::Value(v),

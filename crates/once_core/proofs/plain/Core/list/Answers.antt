@@ -6,12 +6,12 @@ use Rattle.once_queue.specs.Room.{listings_of}
 use Rattle.once_queue.proofs.Listing.Tickets.{own_none}
 use Rattle.once_queue.specs.declared.waiters.Answer.{Answer}
 use Rattle.once_queue.specs.declared.waiters.Answer.TheVariants.{Held}
-use Rattle.once_queue.specs.Sections.{Looked}
+use Rattle.once_queue.specs.Sections.{DidLook}
 use Rattle.once_queue.specs.Word.{Flags, sees}
 use Rattle.once_queue.specs.declared.word.Sees.{Sees}
 use Rattle.once_core.proofs.plain.Core.list.Goals as goal
 
-looked_held : {W : Type 0} (same other : W → W → Type 0) (o : Option W) (mine : Option (Option W)) (a : Answer W) → mine ≡ None → Looked same other o mine a → a ≡ Held
+looked_held : {W : Type 0} (same other : W → W → Type 0) (o : Option W) (mine : Option (Option W)) (a : Answer W) → mine ≡ None → DidLook same other o mine a → a ≡ Held
 looked_held same other o (Some m) a none looked = absurd (none-some m (sym none))
 looked_held same other (Some w) None a none looked = looked
 looked_held same other None None a none looked = looked

@@ -2,7 +2,7 @@ use Rattle.std.proofs.Common.{◌≡◌, ◌∙◌, Bool, true, false, IfSome, i
 use Rattle.std.specs.Option.{is_some}
 use Rattle.once_queue.specs.Listings.{kept_ticket}
 use Rattle.once_queue.specs.Room.{listings_of}
-use Rattle.once_queue.specs.Sections.{Lists as DidList}
+use Rattle.once_queue.specs.Sections.{DidList}
 use Rattle.once_world.specs.Book.{TaskState}
 use Rattle.once_world.specs.Machine.{claim_entries, is_claim, listed_ticket}
 use Rattle.once_parts.specs.Named.{named}
