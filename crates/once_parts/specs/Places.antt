@@ -11,7 +11,8 @@ use Rattle.once_core.specs.Steps.{after_start, after_door_get, after_door_put, a
 use Rattle.once_core.specs.Steps.{after_load, after_look, after_list}
 use Rattle.once_core.specs.Steps.{after_run, after_fast, after_door_again, after_count_out}
 use Rattle.once_world.specs.declared.record.Ran.{Ran as Answer}
-use Rattle.once_world.specs.declared.record.Ran.TheVariants.{Pending as RanPending, Value as RanValue, Error as RanError}
+use Rattle.once_world.specs.declared.record.Ran.TheVariants.{Pending as RanPending, Value as RanValue}
+use Rattle.once_world.specs.declared.record.Ran.TheVariants.{Error as RanError}
 use Rattle.once_world.specs.Book.{TaskState}
 use Rattle.once_world.specs.Machine.{AtStart, AtDoorGet, AtCountIn, AtWaitLoad, AtLook, AtList, AtRun, AtPut}
 use Rattle.once_world.specs.Machine.{AtFast, AtAddOne, AtDoorAgain, AtRelease, AtLeave, AtCountOut, AtDoorTake}

@@ -25,7 +25,8 @@ module _ {W : Type 0} (other : W → W → Type 0) where
 module _ {W : Type 0} (same other : W → W → Type 0) where
   -- a Look where some task holds, by the current waker and the own listing: whether that has the same waker
   abbrev pub DidLook : Option W → Option (Option W) → Answer W → Type 0
-  DidLook (Some w) (Some (Some v)) answer = ((answer ≡ Answer.Listed) × same v w) ⊎ ((answer ≡ Answer.Held) × other v w)
+  DidLook (Some w) (Some (Some v)) answer =
+      ((answer ≡ Answer.Listed) × same v w) ⊎ ((answer ≡ Answer.Held) × other v w)
   DidLook _ _ answer = answer ≡ Answer.Held
 
 module _ {W : Type 0} where
