@@ -1,8 +1,8 @@
-//! What the contracts of `memo_table` do not say of its table, and whole runs of `memo`.
+//! What the contracts of `memo_table` do not say of its table, and its whole runs.
 ghost use Rattle.std.specs.Prelude.{◌*◌, ◌^◌, ◌<◌};
 
 use async_once_cell::OnceCell;
-use async_once_cell::once::{Known, Refused};
+use async_once_cell::once::Known;
 use cell_doubles::memory::hoard;
 use cell_doubles::target::Target;
 use futures::future::pending;
@@ -11,12 +11,9 @@ use memo_table::ask::{Answer, KEYS, agreed, answer_within, ask};
 use memo_table::fault::Fault;
 use memo_table::fetch::Fetch;
 use memo_table::memo::Memo;
-use memo_table::{run, show, status};
+use memo_table::{run, show};
 use std::alloc::{AllocError, AllocGlobal, Global};
-use std::cell::Cell;
-use std::fmt::Display;
-use std::io;
-use std::io::{Eprint, ErrorKind};
+use std::io::ErrorKind;
 use std::random::RandomSource;
 use std::sync::Wait;
 use std::sync::atomic::{AtomicU64, Ordering};
@@ -223,7 +220,7 @@ fn without_memory<R: Threads + Wait + RandomSource + AllocGlobal + Clock + Sync>
     Ok(seen)
 }
 
-/// Where all memory is refused, no table is made, and the program prints nothing.
+/// Where all memory is refused, no table is made, and a run prints nothing.
 #[test]
 fn refused_memory_prints_nothing(rt: HostRuntime) -> Result<(), Fail> {
     assert_eq!(rt; without_memory(&rt)?, (true, true, 0));
@@ -311,67 +308,4 @@ fn turns_used_up_print_nothing(rt: HostRuntime) -> Result<(), Fail> {
     let memo = table(rt.alloc(), &KEYS)?;
     assert_eq!(rt; beside_a_holder(&rt, &memo).ok(), Some((true, 0)));
     Ok(())
-}
-
-// A standard error that keeps what it was told.
-#[derive(Drop)]
-struct Errors {
-    alloc: Global,
-    told: Cell<Option<String>>,
-}
-
-impl Eprint for Errors {
-    fn eprint<D: Display + Drop>(&self, value: D) -> io::Result<()> {
-        let text = match self.told.take() {
-            None => format!(in self.alloc; "{value}")?,
-            Some(before) => format!(in self.alloc; "{before}{value}")?,
-        };
-        self.told.set(Some(text));
-        Ok(())
-    }
-
-    fn eprintln<D: Display + Drop>(&self, value: D) -> io::Result<()> {
-        self.eprint(value)?;
-        self.eprint("\n")
-    }
-}
-
-// The status of a run that ended so, and what it told standard error.
-fn ended_with(alloc: Global, ended: Result<(), Fault>) -> (u8, Option<String>) {
-    let errors = Errors {
-        alloc,
-        told: Cell::new(None),
-    };
-    let status = status(&errors, ended);
-    (status, errors.told.take())
-}
-
-fn faults() -> [(Fault, &'static str); 5] {
-    [
-        (Fault::Turns, "a cell has no value after all turns\n"),
-        (
-            Fault::Refused(Refused::Memory),
-            "a poll was refused: out of memory\n",
-        ),
-        (Fault::Thread, "a thread could not be started\n"),
-        (Fault::Memory(AllocError), "out of memory\n"),
-        (
-            Fault::Io(io::Error::other("no such output")),
-            "no such output\n",
-        ),
-    ]
-}
-
-/// A run that gave up says why in one line on standard error, and a run that did not says nothing.
-#[test]
-fn a_line_says_why(rt: HostRuntime) {
-    let done = ended_with(rt.alloc(), Ok(()));
-    assert_eq!(rt; done, (0, None));
-    for (fault, wanted) in faults() {
-        let (status, told) = ended_with(rt.alloc(), Err(fault));
-        assert_eq!(rt;
-            (status, told.as_ref().map(String::as_str)),
-            (1, Some(wanted))
-        );
-    }
 }

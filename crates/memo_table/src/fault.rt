@@ -1,11 +1,11 @@
-//! Why the program gives up.
+//! Why a run gives up.
 
 use async_once_cell::once::Refused;
 use std::alloc::AllocError;
 use std::io;
 use thiserror::Error;
 
-/// Why the program gives up.
+/// Why a run gives up.
 #[derive(Debug, Drop, Error)]
 pub enum Fault {
     /// The table has no cell for this key. No cell was asked.

@@ -1,4 +1,4 @@
-//! A table whose values are fetched when they are first asked for.
+//! Tables whose values are fetched when they are first asked for.
 
 use crate::fault::Fault;
 use memo_table::ask::{TURNS, ask};
@@ -8,9 +8,10 @@ use std::io::Write;
 use std::random::RandomSource;
 use std::sync::Wait;
 use std::sync::atomic::{AtomicU64, Ordering};
+use std::thread::Threads;
 use std::time::Clock;
 
-// The keys of the table.
+// The keys of the table that one thread asks.
 const KEYS: [u64; 3] = [5, 6, 7];
 
 // What is asked for. The value of one key is never asked for, and so not fetched.
@@ -31,12 +32,15 @@ where
     Ok(())
 }
 
-/// Asks a table for values, and prints what was told, and how many were fetched.
+/// Asks a table for values, and prints what was told, and how many were fetched. Then it has two threads ask
+/// another table, and prints the same of that.
 pub fn show<R, O>(rt: &R, output: &mut O) -> Result<(), Fault>
 where
-    R: Wait + RandomSource + AllocGlobal + Clock,
+    R: Threads + Wait + RandomSource + AllocGlobal + Clock + Sync,
     O: Write,
 {
     let keys = Vec::from_array(rt.alloc(), KEYS)?;
-    show_told(rt, output, &Memo::new(rt.alloc(), keys)?)
+    show_told(rt, output, &Memo::new(rt.alloc(), keys)?)?;
+    memo_table::run(rt, output)?;
+    Ok(())
 }
