@@ -1,7 +1,8 @@
 //! What all tasks of a cell share: the word, the door and the queue behind it, with the record of the cell.
 
+pub use once_book::{Mark, Record, TaskWaker, record};
 pub use once_core::parts::{Counted, Parts, QueueLine};
 pub use once_core::plain::Core;
-pub use once_parts::{Inner, Mark, Record, Shared, Task, TaskSide, TaskWaker, record};
+pub use once_parts::{Inner, Shared, Task, TaskSide};
 pub use once_queue::waiters::{Answer, Listing, Op, Out};
 pub use once_queue::word::{MAX_WAITERS, NEW, QINIT_BIT, READY_BIT};

@@ -5,7 +5,7 @@ ghost use Rattle.async_once_cell.specs.Seats.{whose};
 
 use boxcar::tag::{Names, Tag};
 use futures::task::{Context, Poll, Source, Waker};
-use once_parts::{Mark, TaskWaker};
+use once_book::{Mark, TaskWaker};
 use once_queue::waiters::{Out, WakerId};
 use std::alloc::{AllocError, Global};
 use std::sync::{Arc, Mutex, Wait};

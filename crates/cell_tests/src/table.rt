@@ -2,7 +2,7 @@
 ghost use Rattle.std.specs.Prelude.{◌*◌, ◌^◌, ◌<◌};
 
 use async_once_cell::OnceCell;
-use async_once_cell::once::Known;
+use async_once_cell::once::{Known, Refused};
 use cell_doubles::memory::hoard;
 use cell_doubles::target::Target;
 use futures::future::pending;
@@ -13,7 +13,7 @@ use memo_table::fetch::Fetch;
 use memo_table::memo::Memo;
 use memo_table::{run, show};
 use std::alloc::{AllocError, AllocGlobal, Global};
-use std::io::ErrorKind;
+use std::io::{self, ErrorKind};
 use std::random::RandomSource;
 use std::sync::Wait;
 use std::sync::atomic::{AtomicU64, Ordering};
@@ -307,5 +307,31 @@ fn beside_a_holder<R: Threads + Wait + RandomSource + AllocGlobal + Clock + Sync
 fn turns_used_up_print_nothing(rt: HostRuntime) -> Result<(), Fail> {
     let memo = table(rt.alloc(), &KEYS)?;
     assert_eq!(rt; beside_a_holder(&rt, &memo).ok(), Some((true, 0)));
+    Ok(())
+}
+
+fn faults() -> [(Fault, &'static str); 5] {
+    [
+        (Fault::Turns, "a cell has no value after all turns"),
+        (
+            Fault::Refused(Refused::Memory),
+            "a poll was refused: out of memory",
+        ),
+        (Fault::Thread, "a thread could not be started"),
+        (Fault::Memory(AllocError), "out of memory"),
+        (
+            Fault::Io(io::Error::other("no such output")),
+            "no such output",
+        ),
+    ]
+}
+
+/// A fault says why a run gave up.
+#[test]
+fn faults_say_why(rt: HostRuntime) -> Result<(), Fail> {
+    for (fault, wanted) in faults() {
+        let said = format!(in rt.alloc(); "{fault}")?;
+        assert_eq!(rt; said.as_str(), wanted);
+    }
     Ok(())
 }

@@ -2,17 +2,17 @@
 ghost use Rattle.std.specs.Prelude.{◌≡◌, ◌<◌, ◌↔◌, Bool, true, false, List, [], ◌∷◌};
 ghost use Rattle.once_core.specs.Steps.{in_call, left_of};
 ghost use Rattle.once_world.specs.Record.{Entry};
-ghost use Rattle.once_parts.specs.Kept.{Grew};
+ghost use Rattle.once_book.specs.Kept.{Grew};
 ghost use Rattle.once_parts.specs.Shares.{cell_of, own};
-ghost use Rattle.once_parts.specs.Own.{Own};
+ghost use Rattle.once_book.specs.Own.{Own};
 ghost use Rattle.once_parts.specs.Sides.{Sided};
 ghost use Rattle.once_parts.specs.Walks.{GrewBy, Rests, Stands, StandsOn, Walked, end_of, handed};
 ghost use Rattle.once_parts.specs.Idle.{is_over, step_of};
 
 use crate::idle::Idle;
-use crate::mark::TaskWaker;
 use crate::shared::Shared;
 use crate::side::TaskSide;
+use once_book::mark::TaskWaker;
 use once_core::step::{Ending, Progress, Step};
 use once_queue::word::MAX_WAITERS;
 use std::alloc::AllocGlobal;

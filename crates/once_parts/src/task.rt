@@ -1,18 +1,18 @@
 //! A task of a cell, between two of its calls.
 ghost use Rattle.std.specs.Prelude.{◌≡◌, ◌↔◌, ℕ, true, false, List, [], ◌∷◌};
 ghost use Rattle.once_world.specs.Record.{Entry, Made};
-ghost use Rattle.once_parts.specs.Kept.{Grew};
-ghost use Rattle.once_parts.specs.Record.{EndsSet};
+ghost use Rattle.once_book.specs.Kept.{Grew};
+ghost use Rattle.once_book.specs.Record.{EndsSet};
 ghost use Rattle.once_parts.specs.Shares.{cell_of, own};
 ghost use Rattle.once_parts.specs.Idle.{is_over, step_of};
 ghost use Rattle.once_parts.specs.Walks.{GrewBy, StandsOn, end_of, handed};
 
-use crate::book::Record;
 use crate::calls::{whole_drop, whole_poll};
 use crate::idle::Idle;
-use crate::mark::{Mark, TaskWaker};
 use crate::shared::{Inner, Shared};
 use crate::side::TaskSide;
+use once_book::book::Record;
+use once_book::mark::{Mark, TaskWaker};
 use once_core::step::Ending;
 use pagebook::Written;
 use std::alloc::AllocGlobal;

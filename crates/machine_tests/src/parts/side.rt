@@ -2,8 +2,9 @@
 ghost use Rattle.std.specs.Prelude.{◌≡◌, ℕ, [], refl};
 ghost use Rattle.std.proofs.Common.{rules};
 
+use once_book::{Mark, TaskWaker};
 use once_core::step::{Polled, Side};
-use once_parts::{Mark, TaskSide, TaskWaker};
+use once_parts::TaskSide;
 use once_queue::waiters::{Out, WakerId};
 use std::marker::Model;
 use std::snapshot::Snapshot;
@@ -69,7 +70,7 @@ pub struct TestSide {
 
 impl Model for TestSide {
     ghost use Rattle.std.specs.Option.{is_some};
-    ghost use Rattle.once_parts.specs.Named.{named_out};
+    ghost use Rattle.once_book.specs.Named.{named_out};
     ghost use Rattle.once_parts.specs.Sides.{Sided};
 
     ghost Value = { Sided };

@@ -1,6 +1,6 @@
 // Whole calls of tasks, by the values, the bells and the inits that they lead to.
 ghost use Rattle.std.specs.Prelude.{◌≡◌, ◌↔◌, false, ℕ};
-ghost use Rattle.once_parts.specs.Record.{EndsSet};
+ghost use Rattle.once_book.specs.Record.{EndsSet};
 
 use super::side::{Bell, Called, NOBODY, Seen, TestSide};
 use cell_doubles::memory::hoard;

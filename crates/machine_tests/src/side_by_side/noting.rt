@@ -4,8 +4,9 @@ ghost use Rattle.std.proofs.Common.{rules};
 
 use super::bell::{Bell, named};
 use super::notes::{Note, Notes};
+use once_book::Mark;
 use once_core::step::{Polled, Side};
-use once_parts::{Mark, TaskSide};
+use once_parts::TaskSide;
 use once_queue::waiters::Out;
 use std::alloc::Global;
 use std::marker::Model;
@@ -24,7 +25,7 @@ pub struct Noting {
 }
 
 impl Model for Noting {
-    ghost use Rattle.once_parts.specs.Named.{named_out};
+    ghost use Rattle.once_book.specs.Named.{named_out};
     ghost use Rattle.once_parts.specs.Sides.{Sided};
 
     ghost Value = { Sided };

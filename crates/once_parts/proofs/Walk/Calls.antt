@@ -6,8 +6,8 @@ use Rattle.once_core.specs.Steps.{Advances, Asks, SideTells}
 use Rattle.once_world.specs.Places.{Finished, More, Progress, Resting, Step, UnderWay}
 use Rattle.once_core.specs.Chain.{Makes}
 use Rattle.once_core.specs.Chain.Makes.{none, next}
-use Rattle.once_parts.specs.Kept.{most}
-use Rattle.once_parts.specs.Own.{Own}
+use Rattle.once_book.specs.Kept.{most}
+use Rattle.once_book.specs.Own.{Own}
 use Rattle.once_parts.specs.Walks.{Stands}
 use Rattle.once_parts.proofs.Walk.Logs.{walked_none}
 use Rattle.once_parts.specs.Parts.{parts_ask, parts_tell}

@@ -7,9 +7,9 @@ use Rattle.once_world.specs.Places.{EndDropped, EndError, EndFull, EndMemory, En
 use Rattle.once_world.specs.Record.{Begin, Entry}
 use Rattle.once_parts.specs.declared.idle.Idle.{Idle}
 use Rattle.once_parts.specs.Idle.{is_over, step_of}
-use Rattle.once_parts.specs.Kept.{Grew}
-use Rattle.once_parts.specs.Own.{Own, Turned}
-use Rattle.once_parts.specs.Places.{task_begun}
+use Rattle.once_book.specs.Kept.{Grew}
+use Rattle.once_book.specs.Own.{Own, Turned}
+use Rattle.once_book.specs.Places.{task_begun}
 use Rattle.once_parts.specs.Sides.{Sided}
 use Rattle.once_parts.specs.Walks.{GrewBy, Stands, StandsOn, Walked, end_of, handed}
 use Rattle.once_parts.proofs.Idles.{live, not_in_call, over, rests}

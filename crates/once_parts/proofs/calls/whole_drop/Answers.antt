@@ -2,7 +2,7 @@
 use Rattle.std.proofs.Common.{ℕ, true, refl, sym, ap, ◌∙◌, ◌∷◌, [], ◌++◌, subst}
 use Rattle.once_core.specs.Steps.{in_call}
 use Rattle.once_world.specs.Record.{DropBegin, DropEnd}
-use Rattle.once_parts.specs.Kept.{Grew}
+use Rattle.once_book.specs.Kept.{Grew}
 use Rattle.once_parts.specs.Shares.{own}
 use Rattle.once_parts.specs.Sides.{Sided}
 use Rattle.once_parts.specs.Walks.{handed}

@@ -1,0 +1,23 @@
+//! The book of a cell: the rule that every step keeps, and each step as a move of it.
+//!
+//! A cell's word, its door and its queue change by steps of threads. Behind them stands a ghost book, whose
+//! pages are what the machine of `once_world` keeps, and whose log is the record of that machine. A [`Hand`]
+//! has what one task holds of the book: each of its calls makes one step of the word, and turns the page as
+//! the machine's table of places says. A [`Desk`] is what lies under the cell's one lock, and does the same
+//! for a section. So the record which a task has seen is a run of the cell.
+//!
+//! Begin with `book`, which ties the rule to the words, and with `act`, which has a name for each move.
+#![tactic(auto)]
+
+pub mod act;
+pub mod book;
+pub mod desk;
+pub mod hand;
+pub mod mark;
+pub mod record;
+mod under_lock;
+
+pub use book::{CellRule, Leaf, Line, Record};
+pub use desk::Desk;
+pub use hand::Hand;
+pub use mark::{Mark, TaskWaker};

@@ -1,7 +1,0 @@
--- What a task knows that has a hand.
-use Rattle.once_parts.specs.declared.hand.Hand.{Hand}
-use Rattle.once_parts.specs.Own.{Own, own_in}
-
--- by what it has seen, and by its page
-abbrev pub own_of : Hand → Own
-own_of h = own_in (h.seen.log, h.pens.held)
