@@ -8,6 +8,8 @@
 #![tactic(auto)]
 
 #[cfg(test)]
+mod bell;
+#[cfg(test)]
 mod counting;
 #[cfg(test)]
 mod fills;

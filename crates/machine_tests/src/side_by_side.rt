@@ -1,5 +1,4 @@
 //! Shared and plain parts side by side: one step over each, compared.
-pub mod bell;
 pub mod notes;
 pub mod noting;
 pub mod pair;

@@ -2,8 +2,9 @@
 ghost use Rattle.std.specs.Prelude.{◌≡◌, ◌↔◌, ℕ, [], refl, false};
 ghost use Rattle.std.proofs.Common.{rules};
 
-use super::side::{Bell, Called, NOBODY, Seen, TestSide};
+use super::side::{Called, NOBODY, Seen, TestSide};
 use super::walks::{Caller, Cell, ERROR, MEMORY, PENDING, TWO, VALUE};
+use crate::bell::Bell;
 use cell_doubles::text::shows;
 use once_book::Mark;
 use once_core::step::{Ending, Polled, Side};

@@ -2,42 +2,13 @@
 ghost use Rattle.std.specs.Prelude.{◌≡◌, ℕ, [], refl};
 ghost use Rattle.std.proofs.Common.{rules};
 
-use once_book::{Mark, TaskWaker};
+use crate::bell::{Bell, task_of};
+use once_book::Mark;
 use once_core::step::{Polled, Side};
 use once_parts::TaskSide;
-use once_queue::waiters::{Out, WakerId};
+use once_queue::waiters::Out;
 use std::marker::Model;
 use std::snapshot::Snapshot;
-
-/// A waker, by the name that a test gives its task.
-#[derive(Drop)]
-pub struct Bell {
-    pub name: u64,
-    pub mark: Snapshot<Mark>,
-}
-
-impl WakerId for Bell {
-    ghost use Rattle.std.specs.Prelude.{⊤};
-
-    ghost tells_same = { λ _ _. ⊥ };
-
-    ghost tells_other = { λ _ _. ⊤ };
-
-    fn are_all_other() -> bool {
-        true
-    }
-
-    fn same(&self, other: &Bell) -> bool {
-        let _ = other;
-        false
-    }
-}
-
-impl TaskWaker for Bell {
-    ghost whose = { λ b. b.mark.value };
-
-    ghost apart = { λ a b e. e };
-}
 
 /// The names of the first three whose bells are called, in their order.
 pub type Called = [Option<u64>; 3];
@@ -172,10 +143,7 @@ impl Side<Bell> for TestSide {
         if !self.granted {
             return None;
         }
-        Some(Bell {
-            name: self.name,
-            mark: Snapshot::of(&self.mark),
-        })
+        Some(Bell::new(self.name, &self.mark))
     }
 
     fn wake(&mut self, out: Out<Bell>)
@@ -201,19 +169,12 @@ impl TaskSide<Bell> for TestSide {
 fn names_of(out: &Out<Bell>) -> Called {
     let mut names = NOBODY;
     match out {
-        Out::One(bell) => names[0] = name_of(bell),
+        Out::One(bell) => names[0] = task_of(bell),
         Out::All(listings) => {
             for (place, listing) in names.iter_mut().zip(listings.iter()) {
-                *place = name_of(&listing.waker);
+                *place = task_of(&listing.waker);
             }
         }
     }
     names
-}
-
-fn name_of(bell: &Option<Bell>) -> Option<u64> {
-    match bell {
-        Some(bell) => Some(bell.name),
-        None => None,
-    }
 }

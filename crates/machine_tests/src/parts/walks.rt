@@ -2,7 +2,8 @@
 ghost use Rattle.std.specs.Prelude.{◌≡◌, ◌↔◌, false, ℕ};
 ghost use Rattle.once_book.specs.Record.{EndsSet};
 
-use super::side::{Bell, Called, NOBODY, Seen, TestSide};
+use super::side::{Called, NOBODY, Seen, TestSide};
+use crate::bell::Bell;
 use cell_doubles::memory::hoard;
 use once_core::step::{Ending, Polled, Step};
 use once_parts::{Inner, Task};

@@ -2,8 +2,8 @@
 ghost use Rattle.std.specs.Prelude.{◌≡◌, ℕ, [], refl};
 ghost use Rattle.std.proofs.Common.{rules};
 
-use super::bell::{Bell, named};
 use super::notes::{Note, Notes};
+use crate::bell::{Bell, named};
 use once_book::Mark;
 use once_core::step::{Polled, Side};
 use once_parts::TaskSide;

@@ -1,4 +1,4 @@
-//! The waker of a task: its number, and its mark.
+//! The waker of a task under test.
 ghost use Rattle.std.specs.Prelude.{◌≡◌};
 
 use once_book::{Mark, TaskWaker};
@@ -6,7 +6,7 @@ use once_queue::waiters::{Listing, Out, WakerId};
 use std::alloc::{AllocError, Global};
 use std::snapshot::Snapshot;
 
-/// A waker: the number of the task whose it is, and the task's mark.
+/// A waker: the number that a test gives its task, and the task's mark.
 #[derive(Drop)]
 pub struct Bell {
     pub task: u64,
@@ -65,7 +65,8 @@ pub fn named(alloc: Global, out: &Out<Bell>) -> Result<Out<u64>, AllocError> {
     }
 }
 
-fn task_of(bell: &Option<Bell>) -> Option<u64> {
+/// Whose this bell is.
+pub fn task_of(bell: &Option<Bell>) -> Option<u64> {
     match bell {
         Some(bell) => Some(bell.task),
         None => None,
