@@ -1,4 +1,4 @@
-// The moments of a cell, by the name of what a thread does. A step of the book is told which it makes.
+//! The moments of a cell, by the name of what a thread does. A step of the book is told which it makes.
 use crate::book::{Leaf, Line};
 use once_core::step::Polled;
 use pagebook::Play;

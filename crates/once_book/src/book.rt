@@ -1,5 +1,5 @@
-// The book of a cell. What a line of its log and a page say are types of a specification, so the two types
-// here are for clauses alone: nobody makes a value of them.
+//! The book of a cell. What a line of its log and a page say are types of a specification, so the two types
+//! here are for clauses alone: nobody makes a value of them.
 use pagebook::{Opening, Pens, Rule, Seen, Slot, Word};
 use std::marker::Model;
 

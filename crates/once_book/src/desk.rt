@@ -1,4 +1,4 @@
-// What lies under the one lock of a cell.
+//! What lies under the one lock of a cell.
 ghost use Rattle.std.specs.Prelude.{◌≡◌, ◌*◌, ◌^◌, ◌⊎◌, ℕ, suc, true, false, List, [], ◌∷◌, Option, Some, None};
 ghost use Rattle.std.specs.Option.{is_some};
 ghost use Rattle.pagebook.specs.Pages.{Book};

@@ -1,4 +1,4 @@
-// A task's pen, with what the task has seen of the log, and the moments that the task makes by itself.
+//! A task's pen, with what the task has seen of the log, and the moments that the task makes by itself.
 ghost use Rattle.std.specs.Prelude.{◌≡◌, ◌^◌, if◌then◌else◌};
 ghost use Rattle.once_book.specs.Own.{IsHand};
 
@@ -12,7 +12,9 @@ use pagebook::Written;
 /// What a task has of its cell's book. It has no bytes.
 #[derive(Drop)]
 pub struct Hand {
+    /// What the task has seen of the log.
     pub seen: Record,
+    /// The pen of its page.
     pub pens: CellPens,
     pub ghost book_is: { pens.book ≡ seen.book },
     pub ghost is_hand: { IsHand pens.held },

@@ -1,4 +1,4 @@
-// Whose a waker is.
+//! Whose a waker is.
 ghost use Rattle.std.specs.Prelude.{ℕ};
 
 use crate::book::CellPens;
