@@ -1,4 +1,4 @@
--- What a task knows that has a hand.
+-- `own_of`: what a task knows by the hand that it has.
 use Rattle.once_book.specs.declared.hand.Hand.{Hand}
 use Rattle.once_book.specs.Own.{Own, own_in}
 

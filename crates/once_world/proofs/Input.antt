@@ -1,7 +1,7 @@
 -- Each input keeps the invariant, so every record is a run.
 pub mod Gone
 pub mod Owner
-pub mod Moments
+pub mod Drops
 pub mod Begins
 pub mod Advances
 pub mod Makes

@@ -1,4 +1,4 @@
-//! Two threads: one polls while the other is inside the init.
+//! Two threads, each with a task: one polls while the other is inside the init.
 ghost use Rattle.std.specs.Prelude.{◌≡◌, IfSome};
 
 use async_once_cell::once::Known;

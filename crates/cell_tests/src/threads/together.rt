@@ -1,4 +1,4 @@
-//! Threads that use one cell, or many cells, at the same time.
+//! Threads that hold one cell in turn, fill many cells, or look at a cell that others use.
 
 use crate::left::{is_filled, is_free, meet, shows};
 use async_once_cell::OnceCell;

@@ -15,7 +15,7 @@ use Rattle.once_world.proofs.Invariant.Fits.{SharedFits}
 use Rattle.once_world.proofs.Invariant.Turns.{lists_stay}
 use Rattle.once_world.proofs.Invariant.Moves.{Moves}
 use Rattle.once_world.proofs.Place.Builders.{shared_at, of_other, same_shared}
-use Rattle.once_world.proofs.Input.Moments.{drop_moment, now}
+use Rattle.once_world.proofs.Input.Drops.{drop_moment, now}
 
 module _ (K : Kind) (limit t w : ℕ) (k : Answer) (c : SharedState) (h : List Entry) (run : IsRun K limit h) (shared : SharedFits K limit c h) (queue : QueueFits K c.listings h) where
   -- a poll that begins

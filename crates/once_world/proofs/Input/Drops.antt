@@ -1,4 +1,4 @@
--- What holds at the moments of a record: now, and between two entries of one input.
+-- The drop of a task that was never polled: whoever was called stays called between its two entries.
 use Rattle.std.proofs.Common.{◌≡◌, ◌≢◌, ℕ, ⊎_elim, inl, inr, List, [], ◌∷◌, refl, sym, ap, ◌∙◌, subst}
 use Rattle.std.proofs.lemmas.Bool.{false≢true}
 use Rattle.once_world.specs.Record.{DropBegin, Entry, Kind}
