@@ -24,3 +24,21 @@ fn pending_lazy_holder_is_not_called(rt: HostRuntime) -> Result<(), Fail> {
     assert_eq!(rt; (is_pending, task.is_woken()), (true, false));
     Ok(())
 }
+
+/// The same of a holder that waited before.
+#[test]
+fn pending_holder_that_waited_is_not_called(rt: HostRuntime) -> Result<(), Fail> {
+    let (one, two) = (MockTask::new(&rt)?, MockTask::new(&rt)?);
+    let cell = OnceCell::new();
+    let mut holder = cell.get_or_init(&rt, pending::<u64>());
+    let mut waiter = cell.get_or_init(&rt, pending::<u64>());
+    let are_pending = one.poll(&mut holder).is_pending() && two.poll(&mut waiter).is_pending();
+    drop(holder);
+    let is_called = two.is_woken();
+    let holds = two.poll(&mut waiter).is_pending();
+    assert_eq!(rt;
+        ([are_pending, is_called, holds], two.is_woken()),
+        ([true; 3], false)
+    );
+    Ok(())
+}

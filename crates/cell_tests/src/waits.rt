@@ -17,7 +17,9 @@ use std::test::Fail;
 use std::thread;
 use std::time::Clock;
 use table::{Table, sums};
-use users::{Service, by_any, doubled, forced, known, known_on, lent, slow, tried, value};
+use users::{
+    Service, by_any, doubled, forced, forced_on, known, known_on, lent, slow, tried, value,
+};
 
 // What each kind of caller of a `OnceCell` is told by an empty one, and by one that is set.
 fn values_of_cells<R>(rt: &R, done: &AtomicU64) -> Result<[u64; 4], Fault>
@@ -94,6 +96,16 @@ fn value_that_a_token_knows(rt: HostRuntime) -> Result<(), Fail> {
     let told = told_by_token(&rt, &cell, &mut parker)?;
     let other = told_by_another(&rt, &cell, &mut parker)?;
     assert_eq!(rt; (told, other), ([23; 2], 23));
+    Ok(())
+}
+
+/// Two lazy cells are waited for by one parker, and each init is done once.
+#[test]
+fn values_of_lazy_cells_by_one_parker(rt: HostRuntime) -> Result<(), Fail> {
+    let (done, mut parker) = (AtomicU64::new(0), Parker::new(&rt)?);
+    let (one, two) = (Lazy::new(slow(28, &done)), Lazy::new(slow(29, &done)));
+    let told = forced_on(&rt, [&one, &two], &mut parker)?;
+    assert_eq!(rt; (told, done.load(Ordering::SeqCst)), ([28, 29], 2));
     Ok(())
 }
 
@@ -179,6 +191,29 @@ where
     let told = by_any(rt, set, ready(2)).ok();
     drop(held);
     Ok((is_refused, told))
+}
+
+// What a set cell answers to a wait by a parker that was made before, where all memory is taken.
+fn told_by_a_kept_parker<R>(
+    rt: &R,
+    set: &OnceCell<u64>,
+    parker: &mut Parker,
+) -> Result<Option<u64>, AllocError>
+where
+    R: Wait + AllocGlobal,
+{
+    let held = hoard(rt.alloc())?;
+    let told = set.get_or_init(rt, ready(2)).wait_on(parker).ok();
+    drop(held);
+    Ok(told.and_then(Result::ok).copied())
+}
+
+/// A set cell answers without memory to a parker that is kept, too.
+#[test]
+fn no_memory_for_a_kept_parker(rt: HostRuntime) -> Result<(), Fail> {
+    let (set, mut parker) = (OnceCell::new_with(7u64), Parker::new(&rt)?);
+    assert_eq!(rt; told_by_a_kept_parker(&rt, &set, &mut parker)?, Some(7));
+    Ok(())
 }
 
 /// Without memory a thread can't wait for an empty cell, which is as it was then. A set one answers.

@@ -162,7 +162,10 @@ show => OnceCell { value: None, inner: Inner { ready: false, quick_init: false, 
 init 1
 poll 1 v2 => v2, done
 poll 1 v9 => pending, done, wakes 1
-inits => 2 polls, 2 drops
+try 2
+poll 2 e1 => v2, done
+poll 2 e1 => pending, done, wakes 2
+inits => 2 polls, 3 drops
 show => OnceCell { value: Some(2), inner: Inner { ready: true, quick_init: false, refcount: 0, queue: false } }
 
 # right_held_until_the_init_is_dropped: an init is dropped before the right is given back, when its future is dropped
@@ -207,6 +210,8 @@ show => OnceCell { value: Some(6), inner: Inner { ready: true, quick_init: false
 # futures_shown: a future says whether it is finished
 try 0
 future 0 => TryInitFuture { finished: false }
+poll 0 e1 => e1, done
+future 0 => TryInitFuture { finished: true }
 drop 0
 init 1
 future 1 => InitFuture { finished: false }

@@ -1,10 +1,10 @@
 //! Tokens: what they know, and when two of them know one value.
 
 use async_once_cell::OnceCell;
-use async_once_cell::once::Known;
+use async_once_cell::once::{InitFuture, Known};
 use async_once_cell::world::Reply;
 use cell_doubles::poll::heard;
-use cell_doubles::stub::Stub;
+use cell_doubles::stub::{Init, Stub};
 use cell_doubles::text::shows;
 use futures::task::Context;
 use futures::test::MockTask;
@@ -159,4 +159,33 @@ fn token_of_a_look(rt: HostRuntime) {
     let after = Known::compare(&token, &token);
     assert_eq!(rt; (nothing, before), (None, false));
     assert_eq!(rt; (first, again, after), (Some(4), Some(4), true));
+}
+
+// A new future that is polled with a token that knows nothing, and what it answered.
+fn polled_with_a_token<'a, R: Wait + AllocGlobal>(
+    rt: &'a R,
+    cx: &mut Context<'_>,
+    cell: &'a OnceCell<u64>,
+    stub: &'a Stub<u64>,
+) -> (InitFuture<'a, u64, Init<'a, u64>, R>, Reply) {
+    let (mut future, mut token) = (cell.get_or_init(rt, stub.init()), cell.token());
+    let reply = heard(future.poll_as(cx, &mut token));
+    (future, reply)
+}
+
+/// Of two futures that are polled with tokens, one polls its init once, and the other's task is not woken.
+#[test]
+fn polls_with_tokens(rt: HostRuntime) -> Result<(), Fail> {
+    let (one, two) = (MockTask::new(&rt)?, MockTask::new(&rt)?);
+    let (stub, cell) = (Stub::new(), OnceCell::new());
+    let (holder, held) = one.enter(|cx| polled_with_a_token(&rt, cx, &cell, &stub));
+    let (waiter, waits) = two.enter(|cx| polled_with_a_token(&rt, cx, &cell, &stub));
+    let (is_woken, polls) = (two.is_woken(), stub.polls.get());
+    drop(waiter);
+    drop(holder);
+    assert_eq!(rt;
+        ([held, waits], is_woken, polls),
+        ([Reply::Pending; 2], false, 1)
+    );
+    Ok(())
 }

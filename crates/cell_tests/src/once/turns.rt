@@ -150,7 +150,7 @@ drop 9 => so, wakes 10
 poll 10 v7 => v7, done
 inits => 2 polls, 11 drops";
 
-// A schedule in which a waiter is refused memory, and takes nobody's turn.
+// Schedules without memory: a waiter that is refused takes nobody's turn, and one that was called needs none.
 const STARVED: &str = "\
 # refused_beside_who_waits
 try 0
@@ -161,7 +161,20 @@ poll 1 v9 => pending
 starve
 poll 2 v9 => memory, done
 poll 0 e1 => e1, done, wakes 1
-poll 1 v1 => v1, done";
+poll 1 v1 => v1, done
+
+# listed_anew_without_memory: who was called and finds another holder lists itself anew, in the seat that it has
+try 0
+try 1
+try 2
+poll 0 p => pending, wakes 0
+poll 1 v9 => pending
+starve
+poll 0 e1 => e1, done, wakes 1
+poll 2 p => pending, wakes 2
+poll 1 v9 => pending
+poll 2 v4 => v4, done, wakes 1
+poll 1 v9 => v4, done";
 
 #[test]
 fn memory_as_asked(rt: HostRuntime) -> Result<(), Fail> {

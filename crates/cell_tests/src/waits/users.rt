@@ -13,10 +13,10 @@ use std::random::RandomSource;
 use std::sync::Wait;
 use std::sync::atomic::AtomicU64;
 
-/// An init that is Pending three times and borrows the counter of those that are done.
+/// An init that is Pending forty times and borrows the counter of those that are done.
 pub fn slow(answer: u64, done: &AtomicU64) -> Slow<'_, u64> {
     Slow {
-        pending: 3,
+        pending: 40,
         answer,
         done,
     }
@@ -120,6 +120,20 @@ where
     R: Wait + RandomSource + AllocGlobal,
 {
     Ok(*lazy.get(rt).wait()??)
+}
+
+/// The values of two lazy cells, by a parker that is kept: without a token, and with one.
+pub fn forced_on<R>(
+    rt: &R,
+    [one, two]: [&Lazy<u64, Slow<'_, u64>>; 2],
+    parker: &mut Parker,
+) -> Result<[u64; 2], Fault>
+where
+    R: Wait + AllocGlobal,
+{
+    let mut token = two.token();
+    let first = *one.get(rt).wait_on(parker)??;
+    Ok([first, *two.get(rt).wait_as_on(&mut token, parker)??])
 }
 
 // The init of a lazy cell that asks another: twice its value.
