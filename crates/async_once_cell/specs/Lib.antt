@@ -7,6 +7,7 @@ pub mod Tokens
 pub mod Polls
 pub mod Futures
 pub mod Sure
+pub mod Record
 -- the definitions of the machine
 pub use Rattle.once_queue.specs.Numbers
 pub use Rattle.once_queue.specs.Word
@@ -20,7 +21,6 @@ pub use Rattle.once_core.specs.Core
 pub use Rattle.once_core.specs.Steps
 pub use Rattle.once_core.specs.Chain
 pub use Rattle.once_world.specs.Places
-pub use Rattle.once_world.specs.Record
 pub use Rattle.once_world.specs.Cell
 pub use Rattle.once_world.specs.Tasks
 pub use Rattle.once_world.specs.Wakers
