@@ -18,7 +18,8 @@ use std::thread;
 use std::time::Clock;
 use table::{Table, sums};
 use users::{
-    Service, by_any, doubled, forced, forced_on, known, known_on, lent, slow, tried, value,
+    Service, by_any, doubled, forced, forced_as_on, forced_on, known, known_on, lent, slow, tried,
+    value,
 };
 
 // What each kind of caller of a `OnceCell` is told by an empty one, and by one that is set.
@@ -99,12 +100,22 @@ fn value_that_a_token_knows(rt: HostRuntime) -> Result<(), Fail> {
     Ok(())
 }
 
+// What two lazy cells are told to give, by one parker: without a token, and with one.
+fn forced_by_one_parker<R>(rt: &R, done: &AtomicU64) -> Result<[u64; 2], Fault>
+where
+    R: Wait + RandomSource + AllocGlobal,
+{
+    let mut parker = Parker::new(rt)?;
+    let (one, two) = (Lazy::new(slow(28, done)), Lazy::new(slow(29, done)));
+    let first = forced_on(rt, &one, &mut parker)?;
+    Ok([first, forced_as_on(rt, &two, &mut parker)?])
+}
+
 /// Two lazy cells are waited for by one parker, and each init is done once.
 #[test]
 fn values_of_lazy_cells_by_one_parker(rt: HostRuntime) -> Result<(), Fail> {
-    let (done, mut parker) = (AtomicU64::new(0), Parker::new(&rt)?);
-    let (one, two) = (Lazy::new(slow(28, &done)), Lazy::new(slow(29, &done)));
-    let told = forced_on(&rt, [&one, &two], &mut parker)?;
+    let done = AtomicU64::new(0);
+    let told = forced_by_one_parker(&rt, &done)?;
     assert_eq!(rt; (told, done.load(Ordering::SeqCst)), ([28, 29], 2));
     Ok(())
 }

@@ -1,12 +1,11 @@
 //! Tokens of a cell that owns its future, and its future's own `poll`.
 
+use async_once_cell::Lazy;
 use async_once_cell::once::Known;
 use async_once_cell::world::Reply;
-use async_once_cell::{Lazy, LazyFuturePin};
 use cell_doubles::poll::heard;
 use cell_doubles::stub::{Init, Stub};
-use futures::Future;
-use futures::future::pending;
+use futures::future::{Pending, pending};
 use futures::task::Context;
 use futures::test::MockTask;
 use std::alloc::AllocGlobal;
@@ -37,34 +36,23 @@ fn tokens_compared(rt: HostRuntime) -> Result<(), Fail> {
     Ok(())
 }
 
-// A new future that is polled by its own `poll`, and what it answered.
-fn polled<'a, F, R>(
+// What two futures answer to their own `poll`: one drives the cell's future, which asks for nothing, and one waits.
+fn pending_by_their_own_poll<'a, R: Wait + AllocGlobal>(
     rt: &'a R,
     cx: &mut Context<'_>,
-    lazy: &'a Lazy<u64, F>,
-) -> (LazyFuturePin<'a, u64, F, R>, Reply)
-where
-    F: Future<Output = u64>,
-    R: Wait + AllocGlobal,
-{
-    let mut future = lazy.get(rt);
-    let reply = heard(future.poll(cx));
-    (future, reply)
+    lazy: &'a Lazy<u64, Pending<u64>>,
+) -> [Reply; 2] {
+    let (mut holder, mut waiter) = (lazy.get(rt), lazy.get(rt));
+    let held = heard(holder.poll(cx));
+    let waits = heard(waiter.poll(cx));
+    [held, waits]
 }
 
-/// Neither the task that drives the cell's future nor one that waits is woken while that is Pending.
+/// Neither who drives the cell's future nor who waits is woken while that is Pending.
 #[test]
 fn pending_polls_wake_nobody(rt: HostRuntime) -> Result<(), Fail> {
-    let (one, two) = (MockTask::new(&rt)?, MockTask::new(&rt)?);
-    let lazy = Lazy::new(pending::<u64>());
-    let (holder, held) = one.enter(|cx| polled(&rt, cx, &lazy));
-    let (waiter, waits) = two.enter(|cx| polled(&rt, cx, &lazy));
-    let are_woken = [one.is_woken(), two.is_woken()];
-    drop(waiter);
-    drop(holder);
-    assert_eq!(rt;
-        ([held, waits], are_woken),
-        ([Reply::Pending; 2], [false; 2])
-    );
+    let (task, lazy) = (MockTask::new(&rt)?, Lazy::new(pending()));
+    let told = task.enter(|cx| pending_by_their_own_poll(&rt, cx, &lazy));
+    assert_eq!(rt; (told, task.is_woken()), ([Reply::Pending; 2], false));
     Ok(())
 }

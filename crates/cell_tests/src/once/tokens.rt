@@ -1,11 +1,12 @@
 //! Tokens: what they know, and when two of them know one value.
 
 use async_once_cell::OnceCell;
-use async_once_cell::once::{InitFuture, Known};
+use async_once_cell::once::Known;
 use async_once_cell::world::Reply;
 use cell_doubles::poll::heard;
-use cell_doubles::stub::{Init, Stub};
+use cell_doubles::stub::Stub;
 use cell_doubles::text::shows;
+use futures::future::pending;
 use futures::task::Context;
 use futures::test::MockTask;
 use std::alloc::AllocGlobal;
@@ -161,31 +162,26 @@ fn token_of_a_look(rt: HostRuntime) {
     assert_eq!(rt; (first, again, after), (Some(4), Some(4), true));
 }
 
-// A new future that is polled with a token that knows nothing, and what it answered.
-fn polled_with_a_token<'a, R: Wait + AllocGlobal>(
+// What two futures answer to polls with tokens that know nothing: one holds, and one waits. No init asks for
+// anything.
+fn pending_with_tokens<'a, R: Wait + AllocGlobal>(
     rt: &'a R,
     cx: &mut Context<'_>,
     cell: &'a OnceCell<u64>,
-    stub: &'a Stub<u64>,
-) -> (InitFuture<'a, u64, Init<'a, u64>, R>, Reply) {
-    let (mut future, mut token) = (cell.get_or_init(rt, stub.init()), cell.token());
-    let reply = heard(future.poll_as(cx, &mut token));
-    (future, reply)
+) -> [Reply; 2] {
+    let (mut a, mut b) = (cell.token(), cell.token());
+    let mut holder = cell.get_or_init(rt, pending());
+    let mut waiter = cell.get_or_init(rt, pending());
+    let held = heard(holder.poll_as(cx, &mut a));
+    let waits = heard(waiter.poll_as(cx, &mut b));
+    [held, waits]
 }
 
-/// Of two futures that are polled with tokens, one polls its init once, and the other's task is not woken.
+/// A poll with a token wakes neither who holds nor who waits.
 #[test]
-fn polls_with_tokens(rt: HostRuntime) -> Result<(), Fail> {
-    let (one, two) = (MockTask::new(&rt)?, MockTask::new(&rt)?);
-    let (stub, cell) = (Stub::new(), OnceCell::new());
-    let (holder, held) = one.enter(|cx| polled_with_a_token(&rt, cx, &cell, &stub));
-    let (waiter, waits) = two.enter(|cx| polled_with_a_token(&rt, cx, &cell, &stub));
-    let (is_woken, polls) = (two.is_woken(), stub.polls.get());
-    drop(waiter);
-    drop(holder);
-    assert_eq!(rt;
-        ([held, waits], is_woken, polls),
-        ([Reply::Pending; 2], false, 1)
-    );
+fn pending_polls_with_tokens(rt: HostRuntime) -> Result<(), Fail> {
+    let (task, cell) = (MockTask::new(&rt)?, OnceCell::new());
+    let told = task.enter(|cx| pending_with_tokens(&rt, cx, &cell));
+    assert_eq!(rt; (told, task.is_woken()), ([Reply::Pending; 2], false));
     Ok(())
 }

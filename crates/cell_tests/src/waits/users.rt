@@ -122,18 +122,29 @@ where
     Ok(*lazy.get(rt).wait()??)
 }
 
-/// The values of two lazy cells, by a parker that is kept: without a token, and with one.
+/// The same by a parker that is kept.
 pub fn forced_on<R>(
     rt: &R,
-    [one, two]: [&Lazy<u64, Slow<'_, u64>>; 2],
+    lazy: &Lazy<u64, Slow<'_, u64>>,
     parker: &mut Parker,
-) -> Result<[u64; 2], Fault>
+) -> Result<u64, Fault>
 where
     R: Wait + AllocGlobal,
 {
-    let mut token = two.token();
-    let first = *one.get(rt).wait_on(parker)??;
-    Ok([first, *two.get(rt).wait_as_on(&mut token, parker)??])
+    Ok(*lazy.get(rt).wait_on(parker)??)
+}
+
+/// The same with a token.
+pub fn forced_as_on<R>(
+    rt: &R,
+    lazy: &Lazy<u64, Slow<'_, u64>>,
+    parker: &mut Parker,
+) -> Result<u64, Fault>
+where
+    R: Wait + AllocGlobal,
+{
+    let mut token = lazy.token();
+    Ok(*lazy.get(rt).wait_as_on(&mut token, parker)??)
 }
 
 // The init of a lazy cell that asks another: twice its value.
