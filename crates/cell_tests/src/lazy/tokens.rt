@@ -36,23 +36,21 @@ fn tokens_compared(rt: HostRuntime) -> Result<(), Fail> {
     Ok(())
 }
 
-// What two futures answer to their own `poll`: one drives the cell's future, which asks for nothing, and one waits.
-fn pending_by_their_own_poll<'a, R: Wait + AllocGlobal>(
+// What a future answers to its own `poll`. The cell's future asks for nothing.
+fn pending_by_its_own_poll<'a, R: Wait + AllocGlobal>(
     rt: &'a R,
     cx: &mut Context<'_>,
     lazy: &'a Lazy<u64, Pending<u64>>,
-) -> [Reply; 2] {
-    let (mut holder, mut waiter) = (lazy.get(rt), lazy.get(rt));
-    let held = heard(holder.poll(cx));
-    let waits = heard(waiter.poll(cx));
-    [held, waits]
+) -> Reply {
+    let mut future = lazy.get(rt);
+    heard(future.poll(cx))
 }
 
-/// Neither who drives the cell's future nor who waits is woken while that is Pending.
+/// Its own `poll` does not wake a task that drives a future which asks for nothing.
 #[test]
-fn pending_polls_wake_nobody(rt: HostRuntime) -> Result<(), Fail> {
+fn pending_poll_wakes_nobody(rt: HostRuntime) -> Result<(), Fail> {
     let (task, lazy) = (MockTask::new(&rt)?, Lazy::new(pending()));
-    let told = task.enter(|cx| pending_by_their_own_poll(&rt, cx, &lazy));
-    assert_eq!(rt; (told, task.is_woken()), ([Reply::Pending; 2], false));
+    let told = task.enter(|cx| pending_by_its_own_poll(&rt, cx, &lazy));
+    assert_eq!(rt; (told, task.is_woken()), (Reply::Pending, false));
     Ok(())
 }
