@@ -1,7 +1,6 @@
 pub mod Refused
 pub mod Seats
 pub mod Views
-pub mod Replies
 pub mod Stays
 pub mod Tokens
 pub mod Polls

@@ -1,5 +1,5 @@
 -- What a poll of a cell's future answers and leaves, in the record too.
-use Rattle.std.specs.Prelude.{◌≡◌, ⊤, Bool, true, List, [], ◌∷◌, Option, Some, None, Result, Ok, Err}
+use Rattle.std.specs.Prelude.{◌≡◌, ⊤, Bool, true, false, List, [], ◌∷◌, Option, Some, None, Result, Ok, Err}
 use Rattle.std.specs.Borrow.{Bor}
 use Rattle.futures.specs.declared.task.Poll.{Poll}
 use Rattle.futures.specs.declared.task.Poll.TheVariants.{Ready, Pending}
@@ -13,25 +13,37 @@ use Rattle.once_world.specs.Record.{Entry}
 use Rattle.once_world.specs.Places.{EndDropped, EndError, EndFull, EndMemory, EndPending, EndValue, Ending}
 use Rattle.once_book.specs.Kept.{Grew}
 use Rattle.once_parts.specs.Walks.{end_of}
-use Rattle.async_once_cell.specs.Replies.{is_over}
 use Rattle.async_once_cell.specs.Tokens.{Agrees, IsSetIn}
 use Rattle.async_once_cell.specs.Views.{CellView, FutureView, Owned, Shared}
 
-module _ {A : Type 0} where
-  -- the ending of a call with this answer
-  abbrev pub ending_in : {E : Type 0} → Poll (Result A (InitError E)) → Ending
-  ending_in Pending = EndPending
-  ending_in (Ready (Ok x)) = EndValue
-  ending_in (Ready (Err (Init e))) = EndError
-  ending_in (Ready (Err Memory)) = EndMemory
-  ending_in (Ready (Err Full)) = EndFull
+-- how a poll ended that tells this error, and one whose init cannot fail and that tells this refusal
+abbrev pub ending_of_error : {E : Type 0} → InitError E → Ending
+ending_of_error (Init e) = EndError
+ending_of_error Memory = EndMemory
+ending_of_error Full = EndFull
 
-  -- the same where the init cannot fail
+abbrev pub ending_of_refusal : Refused → Ending
+ending_of_refusal NoMemory = EndMemory
+ending_of_refusal TooMany = EndFull
+
+module _ {A : Type 0} where
+  -- the ending of a poll with this answer, by that of what is told in place of a value
+  abbrev pub ending_by : {X : Type 0} → (X → Ending) → Poll (Result A X) → Ending
+  ending_by ending Pending = EndPending
+  ending_by ending (Ready (Ok x)) = EndValue
+  ending_by ending (Ready (Err x)) = ending x
+
+  -- the same where the init may fail, and where it cannot
+  abbrev pub ending_in : {E : Type 0} → Poll (Result A (InitError E)) → Ending
+  ending_in r = ending_by ending_of_error r
+
   abbrev pub sure_ending : Poll (Result A Refused) → Ending
-  sure_ending Pending = EndPending
-  sure_ending (Ready (Ok x)) = EndValue
-  sure_ending (Ready (Err NoMemory)) = EndMemory
-  sure_ending (Ready (Err TooMany)) = EndFull
+  sure_ending r = ending_by ending_of_refusal r
+
+-- all but Pending are the end of the task
+abbrev pub is_over : Ending → Bool
+is_over EndPending = false
+is_over _ = true
 
 -- the record grew, and its newest entry is the end of this call of the task.
 -- A cell that has its owner's value has no record

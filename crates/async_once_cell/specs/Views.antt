@@ -68,8 +68,3 @@ IsOf (Shared s) (SeenShared r w) = (r.book ≡ s.book) × IfSome w (λ y. y.of �
 abbrev pub IsBookOf : {T : Type 0} → CellView T → Book → Type 0
 IsBookOf (Owned x) book = ⊥
 IsBookOf (Shared s) book = book ≡ s.book
-
--- a record of this book, and a value of the slot of this name, are of the cell, which tasks share
-abbrev pub IsShown : {T : Type 0} → CellView T → Book → ℕ → Type 0
-IsShown (Owned x) book id = ⊥
-IsShown (Shared s) book id = (book ≡ s.book) × (id ≡ s.id)

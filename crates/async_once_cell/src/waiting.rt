@@ -8,8 +8,9 @@ ghost use Rattle.once_world.specs.Record.{DropEnd, Entry, Made};
 ghost use Rattle.once_book.specs.Kept.{Grew};
 ghost use Rattle.once_book.specs.Record.{IsSet};
 ghost use Rattle.once_parts.specs.Walks.{end_of};
-ghost use Rattle.async_once_cell.specs.Replies.{ValueOf, ending_of, is_over};
+ghost use Rattle.async_once_cell.specs.Polls.{ending_by, is_over};
 
+use crate::once::{InitError, Told};
 use crate::pollable::Pollable;
 use crate::seat::{Seat, Seated, call_all};
 use futures::Future;
@@ -20,26 +21,10 @@ use once_book::{Mark, Record};
 use once_core::step::{Ending, Polled, Side};
 use once_parts::{Inner, Task, TaskSide};
 use once_queue::waiters::Out;
-use pagebook::Written;
 use std::alloc::AllocGlobal;
 use std::marker::{Model, PhantomData};
 use std::snapshot::Snapshot;
 use std::sync::Wait;
-
-/// What a poll answers.
-#[derive(Drop)]
-pub(crate) enum Reply<'a, T, E> {
-    Pending,
-    /// The value of the cell's owner.
-    Owned(&'a T),
-    /// The value, and what shows that it is that of the cell.
-    Value(&'a T, Written<T>),
-    Error(E),
-    /// Memory was refused.
-    Memory,
-    /// As many tasks are counted in as may be.
-    Full,
-}
 
 /// A task of a cell with its init. A clause sees the task.
 #[derive(Drop)]
@@ -96,7 +81,21 @@ impl<'a, T, F: Future, R: Wait + AllocGlobal> Waiting<'a, T, F, R> {
         self.task.record()
     }
 
-    /// What a drop does: the init is dropped, and then the task gives the right back, or leaves those who wait.
+    /// Its future is dropped. It has the task by value, so that a finished one stays where it is.
+    #[inline(always)]
+    pub(crate) fn dropped(self) {
+        let Waiting {
+            task,
+            init,
+            seat: _seat,
+        } = self;
+        if !task.is_finished() {
+            drop(init);
+            leave_at_last(task);
+        }
+    }
+
+    /// As by a drop: the init is dropped, and then the task gives the right back, or leaves those who wait.
     #[inline(never)]
     pub(crate) fn leave(&mut self)
         requires live { self.old.finished ≡ false }
@@ -111,22 +110,30 @@ impl<'a, T, F: Future, R: Wait + AllocGlobal> Waiting<'a, T, F, R> {
     }
 }
 
+// A task that is not finished, and whose init is gone, is dropped.
+#[inline(never)]
+fn leave_at_last<T, R: Wait + AllocGlobal>(mut task: Task<'_, '_, T, Seated, R>)
+    requires live { task.finished ≡ false }
+{
+    let mut side = Leaving::<T, R>::new(task.rt(), task.mark());
+    task.leave(&mut side);
+}
+
 impl<'a, T: Drop, E: Drop, F, R: Wait + AllocGlobal> Waiting<'a, T, F, R>
 where
     F: Future<Output: TryOutput<Ok = T, Error = E>>,
 {
     /// Polls the task once.
     #[inline(always)]
-    pub(crate) fn poll(&mut self, cx: &mut Context<'_>) -> Reply<'a, T, E>
+    pub(crate) fn poll<X: Told<E>>(&mut self, cx: &mut Context<'_>) -> Poll<Result<&'a T, X>>
         requires live { self.old.finished ≡ false }
         ensures cell { self.new.cell ≡ self.old.cell }
         ensures number { self.new.number ≡ self.old.number }
-        ensures end { Grew (end_of self.new.number (ending_of result) ∷ []) self.old.log self.new.log }
-        ensures finished { self.new.finished ≡ is_over (ending_of result) }
-        ensures armed { ending_of result ≡ Ending.Pending → IsArmed cx.new }
+        ensures end { Grew (end_of self.new.number (ending_by X.ending result) ∷ []) self.old.log self.new.log }
+        ensures set { ending_by X.ending result ≡ Ending.Value → IsSet self.new.log }
+        ensures finished { self.new.finished ≡ is_over (ending_by X.ending result) }
+        ensures armed { ending_by X.ending result ≡ Ending.Pending → IsArmed cx.new }
         ensures kept { Keeps cx.old cx.new }
-        ensures value { ValueOf result self.old.cell.id }
-        ensures set { ending_of result ≡ Ending.Value → IsSet self.new.log }
     {
         let mut side = Polling {
             rt: self.task.rt(),
@@ -156,16 +163,16 @@ where
                 if !is_armed {
                     self.sit(cx);
                 }
-                Reply::Pending
+                Poll::Pending
             }
             Ending::Value => {
                 is_set_where_answered(&self.task.record());
-                let (value, written) = self.task.value();
-                Reply::Value(value, written)
+                let (value, _) = self.task.value();
+                Poll::Ready(Ok(value))
             }
-            Ending::Error => Reply::Error(error.unwrap()),
-            Ending::Memory => Reply::Memory,
-            Ending::Full => Reply::Full,
+            Ending::Error => Poll::Ready(Err(X::of(InitError::Init(error.unwrap())))),
+            Ending::Memory => Poll::Ready(Err(X::of(InitError::Memory))),
+            Ending::Full => Poll::Ready(Err(X::of(InitError::Full))),
             Ending::Dropped => unreachable!(),
         }
     }

@@ -2,12 +2,9 @@
 ghost use Rattle.std.specs.Prelude.{◌≡◌, [], false, true, MatchOption, reverse};
 ghost use mathlib.Core.List.{IsPrefix};
 ghost use Rattle.futures.specs.Task.{Keeps};
-ghost use Rattle.once_core.specs.declared.step.Ending.{Ending};
-ghost use Rattle.once_parts.specs.Walks.{end_of};
 ghost use Rattle.async_once_cell.specs.Futures.{HasBook, IsAsked, is_of_owned, view_of_future, is_done, seen_of};
-ghost use Rattle.async_once_cell.specs.Polls.{Answers, DidPoll, HasLeft, Polls, PollsAs, ending_in};
+ghost use Rattle.async_once_cell.specs.Polls.{Answers, DidPoll, HasLeft, Polls, PollsAs, ending_by, ending_in};
 ghost use Rattle.async_once_cell.specs.Tokens.{IsSetIn};
-ghost use Rattle.async_once_cell.specs.Replies.{ValueIn, ending_of};
 ghost use Rattle.async_once_cell.specs.Views.{CellView, is_shared};
 ghost use Rattle.once_world.specs.Record.{Once};
 ghost use Rattle.once_world.specs.Run.{AtEvery, IsRun};
@@ -16,8 +13,8 @@ ghost use Rattle.once_book.specs.Kept.{most};
 ghost use Rattle.once_book.specs.Record.{IsSet, WasFilled};
 
 use super::value::Value;
-use super::{InitError, Known, OnceCell};
-use crate::waiting::{Reply, Waiting};
+use super::{InitError, Known, OnceCell, Told};
+use crate::waiting::Waiting;
 use futures::Future;
 use futures::future::TryOutput;
 use futures::task::{Context, Poll};
@@ -179,15 +176,6 @@ impl<'a, T, F: Future, R: Wait + AllocGlobal> Asked<'a, T, F, R> {
         }
     }
 
-    // A drop of a future that is not finished. It has the future by value, so that the drop of a finished one
-    // leaves that where it is.
-    #[inline(never)]
-    fn drop_unfinished(mut self)
-        requires live { is_done self ≡ false }
-    {
-        self.leave();
-    }
-
     fn leave(&mut self)
         requires live { is_done self.old ≡ false }
         ensures left { (c : CellView T) → IsAsked c self.old
@@ -205,19 +193,19 @@ impl<'a, T: Drop, E: Drop, F, R: Wait + AllocGlobal> TryInitFuture<'a, T, E, F, 
 where
     F: Future<Output: TryOutput<Ok = T, Error = E>>,
 {
-    // Polls once.
+    // Polls once, and tells why there is no value.
     #[inline(always)]
-    pub(super) fn ask(&mut self, cx: &mut Context<'_>) -> Reply<'a, T, E>
+    pub(super) fn ask<X: Told<E>>(&mut self, cx: &mut Context<'_>) -> Poll<Result<&'a T, X>>
         requires live { self.old.finished ≡ false }
-        ensures did { DidPoll self.old self.new cx.old cx.new (ending_of result) }
-        ensures value { ValueIn self.old.cell result }
+        ensures did { DidPoll self.old self.new cx.old cx.new (ending_by X.ending result) }
+        ensures value { Answers self.old.cell result }
     {
         let cell = self.cell;
         match (&mut self.asked, &cell.value) {
             (Asked::Shared(waiting), _) => waiting.poll(cx),
             (Asked::Owned(rt), Value::Owned(value)) => {
                 self.asked = Asked::Answered(*rt);
-                Reply::Owned(value)
+                Poll::Ready(Ok(value))
             }
             _ => unreachable!(),
         }
@@ -246,14 +234,7 @@ where
         ensures call { DidPoll self.old self.new cx.old cx.new (ending_in result) }
         ensures value { Answers self.old.cell result }
     {
-        match self.ask(cx) {
-            Reply::Pending => Poll::Pending,
-            Reply::Owned(value) => Poll::Ready(Ok(value)),
-            Reply::Value(value, _) => Poll::Ready(Ok(value)),
-            Reply::Error(error) => Poll::Ready(Err(InitError::Init(error))),
-            Reply::Memory => Poll::Ready(Err(InitError::Memory)),
-            Reply::Full => Poll::Ready(Err(InitError::Full)),
-        }
+        self.ask(cx)
     }
 
     /// As [`poll`](Self::poll), and the token learns the value that is answered. A token that knows
@@ -288,21 +269,13 @@ where
             self.leave();
             return Poll::Ready(Ok(token.learn(self.cell).unwrap()));
         }
-        match self.ask(cx) {
-            Reply::Pending => Poll::Pending,
-            Reply::Owned(value) => {
-                token.learn(self.cell);
-                Poll::Ready(Ok(value))
+        match self.poll(cx) {
+            // The token learns that the cell is set, and so it finds the value.
+            Poll::Ready(Ok(_)) => {
+                self.tell(token);
+                Poll::Ready(Ok(token.learn(self.cell).unwrap()))
             }
-            Reply::Value(value, written) => {
-                if let Some(record) = self.asked.record() {
-                    token.learn_value(&record, written);
-                }
-                Poll::Ready(Ok(value))
-            }
-            Reply::Error(error) => Poll::Ready(Err(InitError::Init(error))),
-            Reply::Memory => Poll::Ready(Err(InitError::Memory)),
-            Reply::Full => Poll::Ready(Err(InitError::Full)),
+            polled => polled,
         }
     }
 }
@@ -340,8 +313,8 @@ impl<T, E, F: Future, R: Wait + AllocGlobal> Drop for TryInitFuture<'_, T, E, F,
             cell: _,
             asked,
         } = self;
-        if !asked.is_finished() {
-            asked.drop_unfinished();
+        if let Asked::Shared(waiting) = asked {
+            waiting.dropped();
         }
     }
 }

@@ -13,7 +13,6 @@ ghost use Rattle.async_once_cell.specs.Polls.{Answers, DidPoll, Polls, PollsAs, 
 
 use super::waits::surely_answered;
 use super::{InitError, Known, OnceCell, Refused, TryInitFuture};
-use crate::waiting::Reply;
 use futures::Future;
 use futures::task::{Context, Poll};
 use std::alloc::AllocGlobal;
@@ -133,14 +132,7 @@ impl<'a, T: Drop, F: Future<Output = T>, R: Wait + AllocGlobal> InitFuture<'a, T
         ensures call { DidPoll self.old self.new cx.old cx.new (sure_ending result) }
         ensures value { Answers self.old.cell result }
     {
-        match self.future.ask(cx) {
-            Reply::Pending => Poll::Pending,
-            Reply::Owned(value) => Poll::Ready(Ok(value)),
-            Reply::Value(value, _) => Poll::Ready(Ok(value)),
-            Reply::Error(never) => match never {},
-            Reply::Memory => Poll::Ready(Err(Refused::Memory)),
-            Reply::Full => Poll::Ready(Err(Refused::Full)),
-        }
+        self.future.ask(cx)
     }
 
     /// As [`poll`](Self::poll), and the token learns the value that is answered. A token that knows

@@ -7,7 +7,7 @@ ghost use Rattle.once_world.specs.Run.{AtEvery, IsRun};
 ghost use Rattle.once_world.specs.Called.{SomebodyCalled};
 ghost use Rattle.once_book.specs.Kept.{most};
 ghost use Rattle.once_book.specs.Record.{IsSet, WasFilled};
-ghost use Rattle.async_once_cell.specs.Views.{CellView, IsBookOf, IsOf, IsShown, is_shared, known_of, log_of};
+ghost use Rattle.async_once_cell.specs.Views.{CellView, IsBookOf, IsOf, is_shared, known_of, log_of};
 ghost use Rattle.async_once_cell.specs.Tokens.{IsSetIn, Learns, Lends, Looks};
 
 use super::OnceCell;
@@ -98,18 +98,6 @@ impl<'a, T> Known<'a, T> {
             (Value::Shared(inner), Seen::Shared(_, Some(written))) => Some(inner.value(written)),
             _ => None,
         }
-    }
-
-    // Learns what a task has seen in whose record the cell is set, and the value that this shows.
-    pub(super) fn learn_value(&mut self, seen: &Record, written: Written<T>)
-        requires of { IsShown self.old.cell seen.now.book written.of }
-        requires set { IsSet seen.now.log }
-        ensures cell { self.new.cell ≡ self.old.cell }
-        ensures value { self.new.value ≡ Some written.value }
-        ensures own { IsPrefix self.old.log self.new.log }
-        ensures other { IsPrefix seen.now.log self.new.log }
-    {
-        self.seen.learn_value(seen, written);
     }
 
     // Learns what a task of its cell has seen.
@@ -248,24 +236,6 @@ impl<T> Seen<T> {
                 }
             }
             _ => unreachable!(),
-        }
-    }
-
-    fn learn_value(&mut self, other: &Record, written: Written<T>)
-        requires of { (c : CellView T) × IsOf c self.old × IsShown c other.now.book written.of }
-        requires set { IsSet other.now.log }
-        ensures of { (c : CellView T) → IsOf c self.old → (IsShown c other.now.book written.of)
-            → IsOf c self.new × (known_of c self.new ≡ Some written.value) }
-        ensures own { IsPrefix (log_of self.old) (log_of self.new) }
-        ensures other { IsPrefix other.now.log (log_of self.new) }
-    {
-        match self {
-            Seen::Owned(_) => unreachable!(),
-            Seen::Shared(own, known) => {
-                own.learn(other);
-                stays_set(other, own);
-                *known = Some(written);
-            }
         }
     }
 }

@@ -1,6 +1,9 @@
 //! Why a poll ended without a value.
 ghost use Rattle.std.specs.Prelude.{◌≡◌, Some};
+ghost use Rattle.once_core.specs.declared.step.Ending.{Ending};
+ghost use Rattle.async_once_cell.specs.Polls.{ending_of_error, ending_of_refusal};
 
+use std::convert::Infallible;
 use std::error::Error;
 use std::io::ErrorKind;
 use std::{fmt, io};
@@ -104,6 +107,45 @@ impl<E> From<Refused> for InitError<E> {
         match refused {
             Refused::Memory => InitError::Memory,
             Refused::Full => InitError::Full,
+        }
+    }
+}
+
+/// What the caller of a future is told of a poll that ended without a value.
+pub(crate) trait Told<E> {
+    // How the poll ended.
+    ghost ending: { Self → Ending };
+
+    fn of(error: InitError<E>) -> Self
+        ensures { Self.ending result ≡ ending_of_error error };
+}
+
+impl<E> Told<E> for InitError<E> {
+    ghost use Rattle.async_once_cell.specs.Polls.{ending_of_error};
+
+    ghost ending = { ending_of_error };
+
+    #[inline(always)]
+    fn of(error: InitError<E>) -> Self
+        ensures { ending_of_error result ≡ ending_of_error error }
+    {
+        error
+    }
+}
+
+impl Told<Infallible> for Refused {
+    ghost use Rattle.async_once_cell.specs.Polls.{ending_of_refusal};
+
+    ghost ending = { ending_of_refusal };
+
+    #[inline(always)]
+    fn of(error: InitError<Infallible>) -> Self
+        ensures { ending_of_refusal result ≡ ending_of_error error }
+    {
+        match error {
+            InitError::Init(never) => match never {},
+            InitError::Memory => Refused::Memory,
+            InitError::Full => Refused::Full,
         }
     }
 }

@@ -171,3 +171,13 @@ fn pending_poll_with_a_token(rt: HostRuntime) -> Result<(), Fail> {
     assert_eq!(rt; (told, task.is_woken()), (Reply::Pending, false));
     Ok(())
 }
+
+/// A poll with a token polls the init once.
+#[test]
+fn one_poll_with_a_token(rt: HostRuntime) -> Result<(), Fail> {
+    let (task, stub, cell) = (MockTask::new(&rt)?, Stub::<u64>::new(), OnceCell::new());
+    let (mut holder, mut token) = (cell.get_or_init(&rt, stub.init()), cell.token());
+    let told = task.enter(|cx| heard(holder.poll_as(cx, &mut token)));
+    assert_eq!(rt; (told, stub.polls.get()), (Reply::Pending, 1));
+    Ok(())
+}
