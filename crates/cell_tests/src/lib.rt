@@ -2,11 +2,15 @@
 #![tactic(auto)]
 
 #[cfg(test)]
+mod doubles;
+#[cfg(test)]
 mod lazy;
 #[cfg(test)]
 mod left;
 #[cfg(test)]
 mod once;
+#[cfg(test)]
+mod paths;
 #[cfg(test)]
 mod pending;
 #[cfg(test)]

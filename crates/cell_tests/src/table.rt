@@ -3,8 +3,6 @@ ghost use Rattle.std.specs.Prelude.{◌*◌, ◌^◌, ◌<◌};
 
 use async_once_cell::OnceCell;
 use async_once_cell::once::{Known, Refused};
-use cell_doubles::memory::hoard;
-use cell_doubles::target::Target;
 use futures::future::pending;
 use futures::test::MockTask;
 use memo_table::ask::{Answer, KEYS, agreed, answer_within, ask};
@@ -20,6 +18,8 @@ use std::sync::atomic::{AtomicU64, Ordering};
 use std::test::Fail;
 use std::thread::Threads;
 use std::time::Clock;
+use test_doubles::memory::hoard;
+use test_doubles::target::Target;
 
 const TEXT: &str = "1 10\n2 20\n3 30\nfetches 3\n";
 

@@ -4,9 +4,8 @@ mod fault;
 mod table;
 mod users;
 
+use crate::doubles::meeting::{Blocking, Meeting};
 use async_once_cell::{Lazy, OnceCell, Parker, Refused};
-use cell_doubles::meeting::{Blocking, Meeting};
-use cell_doubles::memory::hoard;
 use fault::Fault;
 use futures::future::ready;
 use std::alloc::{AllocError, AllocGlobal};
@@ -17,6 +16,7 @@ use std::test::Fail;
 use std::thread;
 use std::time::Clock;
 use table::{Table, sums};
+use test_doubles::memory::hoard;
 use users::{
     Service, by_any, doubled, forced, forced_as_on, forced_on, known, known_on, lent, slow, tried,
     value,

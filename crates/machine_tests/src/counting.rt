@@ -3,8 +3,8 @@ ghost use Rattle.std.specs.Prelude.{◌≡◌, ⊤, Some};
 ghost use Rattle.std.proofs.Common.{rules};
 ghost use Rattle.once_core.specs.Steps.{side_tells_nothing};
 
-use async_once_cell::inner::Out;
-use async_once_cell::step::{Polled, Side};
+use once_core::step::{Polled, Side};
+use once_queue::waiters::Out;
 use std::alloc::Global;
 
 /// A side whose init answers this, and which counts what is asked of it.

@@ -1,9 +1,11 @@
 //! The calls of `Lists`, `Step` and `Core`, one by one.
 
 use crate::counting::{Counting, Listed, all_called};
-use async_once_cell::inner::{Core, Counted, Parts, QueueLine};
-use async_once_cell::queue::{Answer, Lists, NEW, Op, Out, QINIT_BIT, READY_BIT};
-use async_once_cell::step::{Ending, Polled, Progress, Step};
+use once_core::parts::{Counted, Parts, QueueLine};
+use once_core::plain::Core;
+use once_core::step::{Ending, Polled, Progress, Step};
+use once_queue::waiters::{Answer, Lists, Op, Out};
+use once_queue::word::{NEW, QINIT_BIT, READY_BIT};
 use std::alloc::Global;
 use std::test::Fail;
 

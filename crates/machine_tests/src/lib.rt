@@ -24,8 +24,6 @@ mod random;
 #[cfg(test)]
 mod replay;
 #[cfg(test)]
-mod schedule;
-#[cfg(test)]
 mod side_by_side;
 #[cfg(test)]
 mod ways;

@@ -1,6 +1,7 @@
 //! The list of those who wait and a plain one, through the same random operations.
 
-use async_once_cell::queue::{Answer, Listing, Lists, NEW, Out, QINIT_BIT, READY_BIT};
+use once_queue::waiters::{Answer, Listing, Lists, Out};
+use once_queue::word::{NEW, QINIT_BIT, READY_BIT};
 use rand_core::{Rng, SeedableRng};
 use rand_xoshiro::Xoshiro256PlusPlus;
 use std::alloc::Global;

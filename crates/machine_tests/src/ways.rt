@@ -3,8 +3,8 @@
 
 use crate::counting::{Counting, Listed};
 use crate::side_by_side::tested::Tested;
-use async_once_cell::inner::MAX_WAITERS;
-use async_once_cell::step::{Ending, Polled, Progress, Step};
+use once_core::step::{Ending, Polled, Progress, Step};
+use once_queue::word::MAX_WAITERS;
 use rand_core::{Rng, SeedableRng};
 use rand_xoshiro::Xoshiro256PlusPlus;
 use std::alloc::Global;

@@ -1,8 +1,8 @@
 //! When the future of a cell and its value are dropped.
 
+use crate::doubles::stub::Stub;
+use crate::doubles::value::Makes;
 use async_once_cell::Lazy;
-use cell_doubles::stub::Stub;
-use cell_doubles::value::Makes;
 use futures::test::MockTask;
 use std::alloc::AllocGlobal;
 use std::cell::Cell;

@@ -1,13 +1,13 @@
 //! The calls of whoever has the cell alone.
 
+use crate::doubles::poll::polled;
+use crate::doubles::stub::{Init, Stub};
 use async_once_cell::Lazy;
 use async_once_cell::world::Reply;
-use cell_doubles::poll::polled;
-use cell_doubles::stub::{Init, Stub};
-use cell_doubles::text::shows;
 use futures::task::Poll;
 use futures::test::MockTask;
 use std::test::Fail;
+use test_doubles::text::shows;
 
 // What a poll of the future that came back gives, which was polled once before.
 fn polled_on(mut future: Init<'_, u64>, stub: &Stub<u64>, task: &MockTask) -> (Poll<u64>, u64) {

@@ -1,6 +1,6 @@
 //! Who drives the future of a cell, and what the others get, as schedules of polls and drops.
 
-use cell_doubles::schedule::{refuse_each, run};
+use crate::doubles::schedule::{refuse_each, run};
 use std::test::Fail;
 
 // Schedules over a `Lazy`.

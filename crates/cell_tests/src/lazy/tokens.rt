@@ -1,10 +1,10 @@
 //! Tokens of a cell that owns its future, and its future's own `poll`.
 
+use crate::doubles::poll::heard;
+use crate::doubles::stub::{Init, Stub};
 use async_once_cell::Lazy;
 use async_once_cell::once::Known;
 use async_once_cell::world::Reply;
-use cell_doubles::poll::heard;
-use cell_doubles::stub::{Init, Stub};
 use futures::future::{Pending, pending};
 use futures::task::Context;
 use futures::test::MockTask;

@@ -8,9 +8,9 @@ ghost use Rattle.async_once_cell.specs.Kept.{most};
 ghost use Rattle.async_once_cell.specs.Polls.{Ends};
 ghost use Rattle.async_once_cell.specs.Views.{is_shared};
 
+use crate::doubles::stub::{Init, Stub};
 use async_once_cell::OnceCell;
 use async_once_cell::once::{InitFuture, Known};
-use cell_doubles::stub::{Init, Stub};
 use futures::task::{Context, Poll};
 use futures::test::MockTask;
 use std::alloc::AllocGlobal;

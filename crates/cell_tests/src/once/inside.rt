@@ -1,11 +1,11 @@
 //! Inits that use another future of their cell: where they are polled, and where they are dropped.
 
+use crate::doubles::poll::polled;
+use crate::doubles::stub::Tried;
 use crate::left::{is_filled, shows};
 use async_once_cell::OnceCell;
 use async_once_cell::once::InitFuture;
 use async_once_cell::world::Reply;
-use cell_doubles::poll::polled;
-use cell_doubles::stub::Tried;
 use futures::Future;
 use futures::task::{Context, Poll};
 use futures::test::MockTask;

@@ -1,8 +1,8 @@
 //! In which order a value calls those who wait.
 
+use crate::doubles::stub::Stub;
 use async_once_cell::OnceCell;
 use async_once_cell::once::InitFuture;
-use cell_doubles::stub::Stub;
 use futures::Future;
 use futures::future::{Ready, ready};
 use futures::task::{Doorbell, Queue};

@@ -1,16 +1,16 @@
 //! The calls of whoever has the cell alone.
 
+use crate::doubles::poll::heard;
+use crate::doubles::stub::Stub;
 use async_once_cell::OnceCell;
 use async_once_cell::world::Reply;
-use cell_doubles::poll::heard;
-use cell_doubles::stub::Stub;
-use cell_doubles::text::shows;
 use futures::task::Context;
 use futures::test::MockTask;
 use std::alloc::AllocGlobal;
 use std::mem::forget;
 use std::sync::Wait;
 use std::test::Fail;
+use test_doubles::text::shows;
 
 const EMPTY: &str =
     "OnceCell { value: None, inner: Inner { ready: false, quick_init: false, refcount: 0, queue: false } }";

@@ -1,6 +1,6 @@
 //! Schedules of polls and drops over a cell, line by line.
 
-use cell_doubles::schedule::{refuse_each, run};
+use crate::doubles::schedule::{refuse_each, run};
 use std::test::Fail;
 
 // Schedules over a `OnceCell`. Who leaves the list lets its waker go, which wakes its task.

@@ -1,14 +1,14 @@
 //! What tokens print, and as which error a refusal ends a poll.
 
+use crate::doubles::poll::Refusal;
 use async_once_cell::OnceCell;
 use async_once_cell::once::{InitError, Refused};
 use async_once_cell::world::Reply;
-use cell_doubles::poll::Refusal;
-use cell_doubles::text::shows;
 use futures::future::ready;
 use futures::test::MockTask;
 use std::io;
 use std::test::Fail;
+use test_doubles::text::shows;
 
 /// A token says what it knows.
 #[test]

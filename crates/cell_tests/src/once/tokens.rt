@@ -1,11 +1,10 @@
 //! Tokens: what they know, and when two of them know one value.
 
+use crate::doubles::poll::heard;
+use crate::doubles::stub::Stub;
 use async_once_cell::OnceCell;
 use async_once_cell::once::Known;
 use async_once_cell::world::Reply;
-use cell_doubles::poll::heard;
-use cell_doubles::stub::Stub;
-use cell_doubles::text::shows;
 use futures::future::pending;
 use futures::task::Context;
 use futures::test::MockTask;
@@ -15,6 +14,7 @@ use std::io::Eprint;
 use std::random::RandomSource;
 use std::sync::Wait;
 use std::test::Fail;
+use test_doubles::text::shows;
 
 // What polls answered, and what held between them.
 type Found = ([Reply; 2], [bool; 4]);

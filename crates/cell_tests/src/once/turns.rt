@@ -1,6 +1,6 @@
 //! A failure calls one of those who wait, and who was called and leaves passes its turn on.
 
-use cell_doubles::schedule::{refuse_each, run};
+use crate::doubles::schedule::{refuse_each, run};
 use std::test::Fail;
 
 const TURNS: &str = "\

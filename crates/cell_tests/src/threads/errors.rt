@@ -1,10 +1,10 @@
 //! Inits that fail while another waits, which then fills the cell at once.
 
+use crate::doubles::poll::heard;
 use crate::left::{is_filled, meet};
 use async_once_cell::OnceCell;
 use async_once_cell::once::TryInitFuture;
 use async_once_cell::world::Reply;
-use cell_doubles::poll::heard;
 use futures::Future;
 use futures::future::ready;
 use futures::task::{Context, Poll};

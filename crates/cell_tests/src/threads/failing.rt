@@ -2,10 +2,9 @@
 //! cells are filled at last, and no thread waits in vain.
 
 use super::gathered::{CELLS, THREADS, Visited, alike, gathered};
+use crate::doubles::slow::{Driven, Failing, Slow, ended, left_midway};
 use async_once_cell::world::Reply;
 use async_once_cell::{Lazy, OnceCell};
-use cell_doubles::slow::{Driven, Failing, Slow, ended, left_midway};
-use cell_doubles::text::{SETTLED, shows};
 use futures::test::MockTask;
 use std::alloc::{AllocError, AllocGlobal, Global};
 use std::io;
@@ -16,6 +15,7 @@ use std::sync::atomic::{AtomicU64, Ordering};
 use std::test::Fail;
 use std::thread::Threads;
 use std::time::Clock;
+use test_doubles::text::{SETTLED, shows};
 
 // How often a thread begins anew at a cell, at most: more often than the inits of one fail.
 const TRIES: u64 = 20;

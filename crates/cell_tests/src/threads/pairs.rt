@@ -1,12 +1,11 @@
 //! Two threads, each with a task: one polls while the other is inside the init.
 ghost use Rattle.std.specs.Prelude.{◌≡◌, IfSome};
 
+use crate::doubles::meeting::{Meeting, Spinning};
+use crate::doubles::poll::heard;
 use async_once_cell::once::Known;
 use async_once_cell::world::Reply;
 use async_once_cell::{Lazy, LazyFuturePin, OnceCell};
-use cell_doubles::meeting::{Meeting, Spinning};
-use cell_doubles::poll::heard;
-use cell_doubles::text::{SETTLED, shows};
 use futures::Future;
 use futures::future::ready;
 use futures::test::MockTask;
@@ -15,6 +14,7 @@ use std::sync::Wait;
 use std::test::Fail;
 use std::thread::{self, Threads};
 use std::time::{Clock, Duration};
+use test_doubles::text::{SETTLED, shows};
 
 fn once<R>(task: &MockTask, future: &mut LazyFuturePin<'_, u64, Spinning<'_>, R>) -> Reply
 where

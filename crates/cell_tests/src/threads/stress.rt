@@ -1,11 +1,10 @@
 //! Four threads and two hundred cells: what comes out does not depend on who was first.
 
 use super::gathered::{CELLS, THREADS, Visited, alike, gathered};
+use crate::doubles::slow::{Driven, Slow, ended};
+use crate::doubles::stub::Tried;
 use async_once_cell::OnceCell;
 use async_once_cell::world::Reply;
-use cell_doubles::slow::{Driven, Slow, ended};
-use cell_doubles::stub::Tried;
-use cell_doubles::text::{SETTLED, shows};
 use futures::test::MockTask;
 use std::alloc::{AllocError, AllocGlobal, Global};
 use std::io;
@@ -16,6 +15,7 @@ use std::sync::atomic::{AtomicU64, Ordering};
 use std::test::Fail;
 use std::thread::Threads;
 use std::time::Clock;
+use test_doubles::text::{SETTLED, shows};
 
 // A cell that all threads fill.
 #[derive(Drop)]

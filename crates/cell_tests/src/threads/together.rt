@@ -1,11 +1,11 @@
 //! Threads that hold one cell in turn, fill many cells, or look at a cell that others use.
 
+use crate::doubles::poll::{heard, polled, tasks};
+use crate::doubles::slow::Slow;
+use crate::doubles::stub::Tried;
 use crate::left::{is_filled, is_free, meet, shows};
 use async_once_cell::OnceCell;
 use async_once_cell::world::Reply;
-use cell_doubles::poll::{heard, polled, tasks};
-use cell_doubles::slow::Slow;
-use cell_doubles::stub::Tried;
 use futures::Future;
 use futures::future::{pending, ready};
 use futures::task::{Context, Poll};

@@ -1,10 +1,9 @@
 //! Two threads, each with a token of its own: what both were told is one value.
 ghost use Rattle.std.specs.Prelude.{◌≡◌, IfSome};
 
+use crate::doubles::meeting::{Blocking, Meeting};
 use async_once_cell::OnceCell;
 use async_once_cell::once::{InitError, Known, TryInitFuture};
-use cell_doubles::meeting::{Blocking, Meeting};
-use cell_doubles::text::{SETTLED, shows};
 use futures::Future;
 use futures::executor::block_on;
 use futures::task::{Context, Poll};
@@ -15,6 +14,7 @@ use std::sync::Wait;
 use std::test::Fail;
 use std::thread::{self, Threads};
 use std::time::Clock;
+use test_doubles::text::{SETTLED, shows};
 
 // A future of a cell, polled with a token, which comes with the answer. Once it waits, it lets the
 // init of the other go on.

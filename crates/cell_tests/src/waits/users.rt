@@ -3,8 +3,8 @@ ghost use Rattle.std.specs.Prelude.{◌≡◌, Some, IfOk};
 ghost use Rattle.async_once_cell.specs.Tokens.{Agrees};
 
 use super::fault::Fault;
+use crate::doubles::slow::Slow;
 use async_once_cell::{InitError, Known, Lazy, LazyFuturePin, OnceCell, Parker, Refused};
-use cell_doubles::slow::Slow;
 use futures::Future;
 use futures::task::{Context, Poll};
 use std::alloc::AllocGlobal;

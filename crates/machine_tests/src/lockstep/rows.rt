@@ -1,7 +1,5 @@
 //! The worked schedules of `replay` over both kinds of parts: after each step the two show the same.
 use super::between::BETWEEN;
-use crate::replay::rows::{CALLS, DROPS, PLAIN, REFUSALS};
-use crate::schedule::schedules_in;
 use crate::side_by_side::pair::{Fault, Pair};
 use crate::side_by_side::walker::Cell;
 use once_core::step::Polled;
@@ -11,6 +9,8 @@ use std::alloc::AllocGlobal;
 use std::process::Abort;
 use std::sync::Wait;
 use std::test::Fail;
+use test_doubles::rows::{CALLS, DROPS, PLAIN, REFUSALS};
+use test_doubles::schedule::schedules_in;
 
 // Whether a schedule can be followed: it begins with an empty cell, whose owner makes no call.
 fn is_followed(script: &Script) -> bool {

@@ -6,7 +6,6 @@
 //! None; the notes of its side since the line before; and where its task then stands. `show` tells the word, and
 //! whether a queue stands at the door. What a line without `=>` comes to is not told.
 
-use crate::schedule::{Schedule, schedules_in};
 use crate::side_by_side::walker::{Cell, Walker};
 use crate::side_by_side::whole::{Call, ERROR, PENDING, VALUE, carry_on};
 use once_script::parse::{Line, RUN_STEPS, parse_line};
@@ -15,6 +14,7 @@ use std::alloc::{AllocError, AllocGlobal};
 use std::collections::BTreeMap;
 use std::sync::Wait;
 use std::test::Fail;
+use test_doubles::schedule::{Schedule, schedules_in};
 
 // A scene under way. What does not fit tells None.
 #[derive(Drop)]

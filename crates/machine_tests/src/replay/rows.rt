@@ -1,25 +1,16 @@
 //! Worked schedules: what each line adds to the record, and the whole record that a replay prints.
+
 use super::runs::printed_by;
-use crate::schedule::{Schedule, schedules_in};
-pub use calls::CALLS;
-pub use drops::DROPS;
 use once_script::fault::Fault;
 use once_script::print::EntryLine;
 use once_view::play::{Moment, Watcher, play};
 use once_view::reading::read_script;
-pub use owner::OWNER;
-pub use plain::PLAIN;
-pub use refusals::REFUSALS;
 use std::alloc::{AllocError, Global};
 use std::collections::BTreeSet;
 use std::process::Abort;
 use std::test::Fail;
-
-mod calls;
-mod drops;
-mod owner;
-mod plain;
-mod refusals;
+use test_doubles::rows::{CALLS, DROPS, OWNER, PLAIN, REFUSALS};
+use test_doubles::schedule::{Schedule, schedules_in};
 
 /// Compares what was made with this text.
 pub fn compare(rt: &impl Abort, name: &str, made: Result<String, Fault>, wanted: &str) {

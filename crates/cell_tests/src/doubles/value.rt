@@ -1,6 +1,6 @@
 //! Values that count when they are dropped.
 
-use crate::stub::count;
+use crate::doubles::stub::count;
 use futures::Future;
 use futures::task::{Context, Poll};
 use std::cell::Cell;

@@ -1,7 +1,7 @@
 //! Futures of cells that a schedule makes.
 
-use crate::poll::heard;
-use crate::stub::{Init, Stub, Tried, count};
+use crate::doubles::poll::heard;
+use crate::doubles::stub::{Init, Stub, Tried, count};
 use async_once_cell::once::{InitFuture, TryInitFuture};
 use async_once_cell::world::Reply;
 use async_once_cell::{LazyFuturePin, OnceCell};

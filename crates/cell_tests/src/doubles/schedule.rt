@@ -18,10 +18,9 @@
 
 mod refusals;
 
-use crate::made::{Looks, Made, Within};
-use crate::memory::hoard;
-use crate::poll::{calm, tasks};
-use crate::stub::{Init, Stub, Tried, count};
+use crate::doubles::made::{Looks, Made, Within};
+use crate::doubles::poll::{calm, tasks};
+use crate::doubles::stub::{Init, Stub, Tried, count};
 use async_once_cell::world::Reply;
 use async_once_cell::{Lazy, OnceCell};
 use futures::test::MockTask;
@@ -32,6 +31,7 @@ use std::random::RandomSource;
 use std::sync::Wait;
 use std::test::Fail;
 use std::{fmt, io, mem};
+use test_doubles::memory::hoard;
 
 // What a line led to: what a poll answered, and whether the future is done.
 #[derive(Clone, Copy)]

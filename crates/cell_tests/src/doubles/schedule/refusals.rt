@@ -1,9 +1,8 @@
 //! Schedules of which each request for memory is refused in turn.
 
 use super::{Inits, Scene, Schedule, Tasks, most, named, turns_in};
-use crate::memory::{Rations, Request, hoard_most};
-use crate::poll::wake;
-use crate::stub::Init;
+use crate::doubles::poll::wake;
+use crate::doubles::stub::Init;
 use async_once_cell::world::Reply;
 use async_once_cell::{Lazy, OnceCell};
 use std::alloc::{AllocError, AllocGlobal};
@@ -11,6 +10,7 @@ use std::io;
 use std::random::RandomSource;
 use std::sync::Wait;
 use std::test::Fail;
+use test_doubles::memory::{Rations, Request, hoard_most};
 
 // How often a woken future is polled until all are finished.
 const POLLS: u64 = 10;

@@ -1,0 +1,36 @@
+//! The parts below the cells, by the paths that users write.
+
+use async_once_cell::inner::{Core, MAX_WAITERS, Op, Parts};
+use async_once_cell::queue::{Answer, Lists, NEW};
+use async_once_cell::step::Step;
+use std::test::Fail;
+
+// The first one who is listed gets the right, and the next waits.
+#[test]
+fn a_list(rt: HostRuntime) {
+    let mut lists = Lists::new(rt.alloc());
+    let answers = [7, 8].map(|waker| lists.list(&mut None, &mut Some(waker), NEW));
+    assert_eq!(rt; answers, [Answer::Claimed, Answer::Listed]);
+}
+
+// A queue is put to the door of a new cell, and a look into it gets the right.
+#[test]
+fn a_core(rt: HostRuntime) -> Result<(), Fail> {
+    let mut core = Core::<u64>::new(rt.alloc(), false);
+    core.grant(true);
+    core.reserve()?;
+    let Some(queue) = core.door_put() else {
+        return Err(Fail::new("no queue was put"));
+    };
+    core.reserve()?;
+    assert_eq!(rt; core.section(&queue, &mut Op::Look(None)), Answer::Claimed);
+    Ok(())
+}
+
+// A new step rests, and no step is left of it.
+#[test]
+fn a_step(rt: HostRuntime) {
+    let step = Step::<u64, u64>::new();
+    assert_eq!(rt; (step.is_resting(), step.left()), (true, 0));
+    assert!(rt; MAX_WAITERS > 0);
+}

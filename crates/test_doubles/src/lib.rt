@@ -1,0 +1,9 @@
+//! What tests share that knows no cell: worked schedules and their reader, a machine without memory, a writer that
+//! fails, and how what is shown of a cell ends.
+#![tactic(auto)]
+
+pub mod memory;
+pub mod rows;
+pub mod schedule;
+pub mod target;
+pub mod text;
