@@ -18,7 +18,7 @@ pub use init::InitFuture;
 pub use known::Known;
 use once_parts::Inner;
 pub use parker::Parker;
-pub(crate) use refused::Told;
+pub(crate) use refused::PollError;
 pub use refused::{InitError, Refused};
 use std::alloc::AllocGlobal;
 use std::marker::Model;

@@ -1,6 +1,5 @@
 //! A task of a cell that brings an init, and is called where it waits.
 ghost use Rattle.std.specs.Prelude.{◌≡◌, ◌∷◌, [], List, None, true, false, ⊤};
-ghost use Rattle.std.specs.Option.{is_some};
 ghost use Rattle.once_queue.specs.declared.waiters.Out.{Out};
 ghost use Rattle.futures.specs.Task.{IsArmed, Keeps};
 ghost use Rattle.once_core.specs.declared.step.Ending.{Ending};
@@ -10,7 +9,7 @@ ghost use Rattle.once_book.specs.Record.{IsSet};
 ghost use Rattle.once_parts.specs.Walks.{end_of};
 ghost use Rattle.async_once_cell.specs.Polls.{ending_by, is_over};
 
-use crate::once::{InitError, Told};
+use crate::once::{InitError, PollError};
 use crate::pollable::Pollable;
 use crate::seat::{Seat, Seated, call_all};
 use futures::Future;
@@ -81,18 +80,18 @@ impl<'a, T, F: Future, R: Wait + AllocGlobal> Waiting<'a, T, F, R> {
         self.task.record()
     }
 
-    /// Its future is dropped. It has the task by value, so that a finished one stays where it is.
+    /// As [`leave`](Self::leave), where its future is dropped.
     #[inline(always)]
-    pub(crate) fn dropped(self) {
+    pub(crate) fn discard(self)
+        requires live { self.finished ≡ false }
+    {
         let Waiting {
             task,
             init,
             seat: _seat,
         } = self;
-        if !task.is_finished() {
-            drop(init);
-            leave_at_last(task);
-        }
+        drop(init);
+        leave_unfinished(task);
     }
 
     /// As by a drop: the init is dropped, and then the task gives the right back, or leaves those who wait.
@@ -110,9 +109,9 @@ impl<'a, T, F: Future, R: Wait + AllocGlobal> Waiting<'a, T, F, R> {
     }
 }
 
-// A task that is not finished, and whose init is gone, is dropped.
+// A task that is not finished, and whose init is gone, leaves.
 #[inline(never)]
-fn leave_at_last<T, R: Wait + AllocGlobal>(mut task: Task<'_, '_, T, Seated, R>)
+fn leave_unfinished<T, R: Wait + AllocGlobal>(mut task: Task<'_, '_, T, Seated, R>)
     requires live { task.finished ≡ false }
 {
     let mut side = Leaving::<T, R>::new(task.rt(), task.mark());
@@ -125,7 +124,7 @@ where
 {
     /// Polls the task once.
     #[inline(always)]
-    pub(crate) fn poll<X: Told<E>>(&mut self, cx: &mut Context<'_>) -> Poll<Result<&'a T, X>>
+    pub(crate) fn poll<X: PollError<E>>(&mut self, cx: &mut Context<'_>) -> Poll<Result<&'a T, X>>
         requires live { self.old.finished ≡ false }
         ensures cell { self.new.cell ≡ self.old.cell }
         ensures number { self.new.number ≡ self.old.number }

@@ -7,13 +7,13 @@ ghost use Rattle.once_parts.specs.Shares.{cell_of, own};
 ghost use Rattle.once_parts.specs.Idle.{is_over, step_of};
 ghost use Rattle.once_parts.specs.Walks.{GrewBy, StandsOn, end_of, handed};
 
-use crate::calls::{whole_drop, whole_poll};
+use crate::calls::{go_on, steps_left};
 use crate::idle::Idle;
 use crate::shared::{Inner, Shared};
 use crate::side::TaskSide;
 use once_book::book::Record;
 use once_book::mark::{Mark, TaskWaker};
-use once_core::step::Ending;
+use once_core::step::{Ending, Progress, Step};
 use pagebook::Written;
 use std::alloc::AllocGlobal;
 use std::marker::Model;
@@ -120,7 +120,21 @@ impl<'a, 'r, T, W: TaskWaker + Drop, R: Wait + AllocGlobal> Task<'a, 'r, T, W, R
         ensures not_dropped { result ≡ Ending.Dropped → ⊥ }
         ensures stays { S.stays side.old side.new }
     {
-        whole_poll(&mut self.parts, &mut self.idle, side)
+        self.parts.begin();
+        if !self.idle.is_new() {
+            let mut step = self.idle.step();
+            step.begin();
+            return steps_left(&mut self.parts, &mut self.idle, step, side);
+        }
+        // This step is of a first poll alone, so that the compiler keeps it in registers.
+        let mut first = Step::new();
+        match first.first_steps(&mut self.parts, side) {
+            Progress::Ended(ending) => {
+                self.idle = Idle::of(first);
+                ending
+            }
+            Progress::More => steps_left(&mut self.parts, &mut self.idle, first, side),
+        }
     }
 
     /// A whole drop of a task that is not finished. It may wait as [`poll`](Self::poll).
@@ -135,8 +149,12 @@ impl<'a, 'r, T, W: TaskWaker + Drop, R: Wait + AllocGlobal> Task<'a, 'r, T, W, R
         ensures finished { self.new.finished ≡ true }
         ensures stays { S.stays side.old side.new }
     {
+        self.parts.begin_drop();
         let mut step = self.idle.step();
-        whole_drop(&mut self.parts, &mut step, side);
         self.idle = Idle::Finished;
+        if !step.begin_drop(side) {
+            return;
+        }
+        go_on(&mut self.parts, &mut step, side, Progress::More);
     }
 }

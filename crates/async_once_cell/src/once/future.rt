@@ -1,7 +1,6 @@
 //! The future of an init that may fail. All other futures of the cells are made of it.
 ghost use Rattle.std.specs.Prelude.{◌≡◌, [], false, true, MatchOption, reverse};
 ghost use mathlib.Core.List.{IsPrefix};
-ghost use Rattle.futures.specs.Task.{Keeps};
 ghost use Rattle.async_once_cell.specs.Futures.{HasBook, IsAsked, is_of_owned, view_of_future, is_done, seen_of};
 ghost use Rattle.async_once_cell.specs.Polls.{Answers, DidPoll, HasLeft, Polls, PollsAs, ending_by, ending_in};
 ghost use Rattle.async_once_cell.specs.Tokens.{IsSetIn};
@@ -13,7 +12,7 @@ ghost use Rattle.once_book.specs.Kept.{most};
 ghost use Rattle.once_book.specs.Record.{IsSet, WasFilled};
 
 use super::value::Value;
-use super::{InitError, Known, OnceCell, Told};
+use super::{InitError, Known, OnceCell, PollError};
 use crate::waiting::Waiting;
 use futures::Future;
 use futures::future::TryOutput;
@@ -143,8 +142,7 @@ impl<'a, T, E, F: Future, R: Wait + AllocGlobal> TryInitFuture<'a, T, E, F, R> {
         }
     }
 
-    // What a drop does: the init is dropped, and then the task gives the right back, or leaves those who
-    // wait.
+    // As by a drop: the init is dropped, and then the task gives the right back, or leaves those who wait.
     pub(super) fn leave(&mut self)
         requires live { self.old.finished ≡ false }
         ensures { HasLeft self.old self.new }
@@ -193,9 +191,9 @@ impl<'a, T: Drop, E: Drop, F, R: Wait + AllocGlobal> TryInitFuture<'a, T, E, F, 
 where
     F: Future<Output: TryOutput<Ok = T, Error = E>>,
 {
-    // Polls once, and tells why there is no value.
+    // Polls once, and tells the caller's own kind of error where there is no value.
     #[inline(always)]
-    pub(super) fn ask<X: Told<E>>(&mut self, cx: &mut Context<'_>) -> Poll<Result<&'a T, X>>
+    pub(super) fn poll_into<X: PollError<E>>(&mut self, cx: &mut Context<'_>) -> Poll<Result<&'a T, X>>
         requires live { self.old.finished ≡ false }
         ensures did { DidPoll self.old self.new cx.old cx.new (ending_by X.ending result) }
         ensures value { Answers self.old.cell result }
@@ -234,7 +232,7 @@ where
         ensures call { DidPoll self.old self.new cx.old cx.new (ending_in result) }
         ensures value { Answers self.old.cell result }
     {
-        self.ask(cx)
+        self.poll_into(cx)
     }
 
     /// As [`poll`](Self::poll), and the token learns the value that is answered. A token that knows
@@ -292,7 +290,7 @@ where
         if self.is_finished() {
             return cx.yield_now();
         }
-        TryInitFuture::poll(self, cx)
+        TryInitFuture::poll_into(self, cx)
     }
 }
 
@@ -313,8 +311,11 @@ impl<T, E, F: Future, R: Wait + AllocGlobal> Drop for TryInitFuture<'_, T, E, F,
             cell: _,
             asked,
         } = self;
-        if let Asked::Shared(waiting) = asked {
-            waiting.dropped();
+        // A finished future is not given to a call that may wait, which would cost it a test.
+        if let Asked::Shared(waiting) = asked
+            && !waiting.is_finished()
+        {
+            waiting.discard();
         }
     }
 }

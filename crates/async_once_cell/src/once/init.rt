@@ -132,7 +132,7 @@ impl<'a, T: Drop, F: Future<Output = T>, R: Wait + AllocGlobal> InitFuture<'a, T
         ensures call { DidPoll self.old self.new cx.old cx.new (sure_ending result) }
         ensures value { Answers self.old.cell result }
     {
-        self.future.ask(cx)
+        self.future.poll_into(cx)
     }
 
     /// As [`poll`](Self::poll), and the token learns the value that is answered. A token that knows
@@ -170,7 +170,7 @@ impl<'a, T: Drop, F: Future<Output = T>, R: Wait + AllocGlobal> Future for InitF
         if self.is_finished() {
             return cx.yield_now();
         }
-        InitFuture::poll(self, cx)
+        TryInitFuture::poll_into(&mut self.future, cx)
     }
 }
 

@@ -111,8 +111,8 @@ impl<E> From<Refused> for InitError<E> {
     }
 }
 
-/// What the caller of a future is told of a poll that ended without a value.
-pub(crate) trait Told<E> {
+/// An error that tells how a poll ended without a value, where the init's own error is an `E`.
+pub(crate) trait PollError<E> {
     // How the poll ended.
     ghost ending: { Self → Ending };
 
@@ -120,7 +120,7 @@ pub(crate) trait Told<E> {
         ensures { Self.ending result ≡ ending_of_error error };
 }
 
-impl<E> Told<E> for InitError<E> {
+impl<E> PollError<E> for InitError<E> {
     ghost use Rattle.async_once_cell.specs.Polls.{ending_of_error};
 
     ghost ending = { ending_of_error };
@@ -133,7 +133,7 @@ impl<E> Told<E> for InitError<E> {
     }
 }
 
-impl Told<Infallible> for Refused {
+impl PollError<Infallible> for Refused {
     ghost use Rattle.async_once_cell.specs.Polls.{ending_of_refusal};
 
     ghost ending = { ending_of_refusal };

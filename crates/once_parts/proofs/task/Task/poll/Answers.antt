@@ -1,0 +1,153 @@
+-- The poll begins, its steps are made, and so it ends.
+use Rattle.std.proofs.Common.{◌≡◌, false, rules, sym, ap, subst, ◌∙◌}
+use Rattle.once_queue.specs.declared.word.TheConstants.{MAX_WAITERS}
+use Rattle.once_core.specs.Steps.{step_of_poll}
+use Rattle.once_world.specs.Places.{More, Ended}
+use Rattle.once_parts.specs.Idle.{step_of}
+use Rattle.once_parts.specs.declared.idle.Idle.TheVariants.{New}
+use Rattle.once_parts.specs.Shares.{cell_of, own}
+use Rattle.once_parts.specs.Walks.{Stands, Walked}
+use Rattle.once_parts.proofs.Idles.{rests}
+use Rattle.once_parts.proofs.Walk.Begins.{rests_there}
+use Rattle.once_parts.proofs.Walk.Calls.{steps_asked, steps_went}
+use Rattle.once_parts.proofs.Walk.Logs.{walked_none}
+use Rattle.once_parts.proofs.Walk.Polls.{begins_at, polled}
+use Rattle.once_parts.specs.Tasks.{TaskView}
+use Rattle.once_parts.proofs.task.Task.poll.Goals as goal
+
+pub begin-requires : goal.begin-requires
+begin-requires g c =
+    let live = ap (λ (t : TaskView). t.finished) c.self.view_is ∙ c.requires.live in
+    record { can = rests_there g.W.TaskWaker.whose (step_of c.self.inside.idle) (own c.self.inside.parts).task.step (rests _ c.self.inside.idle live) (c.self.inside.stands live) }
+
+pub steps_left-requires : goal.steps_left-requires
+steps_left-requires g c =
+    let live = ap (λ (t : TaskView). t.finished) c.self.view_is ∙ c.requires.live in
+    let number = c.requires.number ∙ sym (ap (λ (t : TaskView). t.number) c.self.view_is) in
+    record {
+      stands = begins_at g.W.TaskWaker.whose (g.S.TaskSide.state c.args.side.now) (own c.self.inside.parts) (own c.begin.new.self) c.self.inside.idle
+          _ number c.requires.none live (c.self.inside.stands live) c.begin.ensures.did
+          (sym (c.begin-then-not-is_new.ensures ∙ ap step_of_poll c.step-step.ensures.is));
+    }
+
+pub returns-then-not-is_new : goal.returns-then-not-is_new
+returns-then-not-is_new g c =
+    let p = polled g.W.TaskWaker.whose (g.S.TaskSide.state c.args.side.now) (g.S.TaskSide.state c.steps_left.new.side) (own c.self.inside.parts) (own c.begin.new.self)
+    (own c.steps_left.new.parts) c.steps_left.result c.steps_left.new.idle c.requires.none c.begin.ensures.did
+    (c.steps_left.ensures.walked _ _ (walked_none _ _)) c.steps_left.ensures.stands in
+    rw (← c.self.view_is) (record {
+      cell = c.steps_left.ensures.cell ∙ c.begin.ensures.cell;
+      number = p.number;
+      end = p.end;
+      woke = p.woke;
+      error = p.error;
+      finished = p.finished;
+      not_dropped = p.poll;
+      stays = c.steps_left.ensures.stays;
+    })
+
+pub first_steps-requires-clause-asks : goal.first_steps-requires-clause-asks
+first_steps-requires-clause-asks g c = λ told at p s m.
+    let live = ap (λ (t : TaskView). t.finished) c.self.view_is ∙ c.requires.live in
+    let number = c.requires.number ∙ sym (ap (λ (t : TaskView). t.number) c.self.view_is) in
+    let new : c.self.inside.idle ≡ New = search rules in
+    let stands = begins_at g.W.TaskWaker.whose (g.S.TaskSide.state c.args.side.now) (own c.self.inside.parts) (own c.begin.new.self) c.self.inside.idle
+    (step_of_poll c.new-first.result) number c.requires.none live (c.self.inside.stands live) c.begin.ensures.did
+    (ap step_of_poll (ap step_of new ∙ sym c.new-first.ensures)) in
+    steps_asked cell_of own g.W.TaskWaker.whose g.S.TaskSide.state g.S.Side.did g.met.S.TaskSide.tells MAX_WAITERS false
+    g.S.Side.can_put g.met.S.TaskSide.puts (step_of_poll c.new-first.result)
+    c.begin.new.self c.args.side.now at p s told stands m
+
+pub returns-in-Ended : goal.returns-in-Ended
+returns-in-Ended g c =
+    let live = ap (λ (t : TaskView). t.finished) c.self.view_is ∙ c.requires.live in
+    let number = c.requires.number ∙ sym (ap (λ (t : TaskView). t.number) c.self.view_is) in
+    let new : c.self.inside.idle ≡ New = search rules in
+    let stands = begins_at g.W.TaskWaker.whose (g.S.TaskSide.state c.args.side.now) (own c.self.inside.parts) (own c.begin.new.self) c.self.inside.idle
+    (step_of_poll c.new-first.result) number c.requires.none live (c.self.inside.stands live) c.begin.ensures.did
+    (ap step_of_poll (ap step_of new ∙ sym c.new-first.ensures)) in
+    let went = steps_went cell_of own g.W.TaskWaker.whose g.S.TaskSide.state g.S.Side.did g.met.S.TaskSide.tells MAX_WAITERS false
+    (step_of_poll c.new-first.result) c.begin.new.self c.args.side.now c.first_steps.new.self c.first_steps.new.parts c.first_steps.new.side
+    c.first_steps.result stands (c.first_steps.ensures.lines MAX_WAITERS) in
+    let walked = subst (λ r. Walked (g.S.TaskSide.state c.args.side.now) (own c.begin.new.self) r
+    (g.S.TaskSide.state c.first_steps.new.side) (own c.first_steps.new.parts)) c.in-Ended.is went.walked in
+    let at = subst (λ r. Stands g.W.TaskWaker.whose false (g.S.TaskSide.state c.first_steps.new.side) (own c.first_steps.new.parts) r c.first_steps.new.self)
+    c.in-Ended.is went.stands in
+    let kept = subst (λ s. Stands g.W.TaskWaker.whose false (g.S.TaskSide.state c.first_steps.new.side) (own c.first_steps.new.parts) (Ended c.in-Ended.ending) s)
+    (sym c.of-self-inside.ensures.is) at in
+    let p = polled g.W.TaskWaker.whose (g.S.TaskSide.state c.args.side.now) (g.S.TaskSide.state c.first_steps.new.side) (own c.self.inside.parts) (own c.begin.new.self)
+    (own c.first_steps.new.parts) c.in-Ended.ending c.of-self-inside.result c.requires.none c.begin.ensures.did walked kept in
+    rw (← c.self.view_is) (record {
+      cell = went.cell_is ∙ c.begin.ensures.cell;
+      number = p.number;
+      end = p.end;
+      woke = p.woke;
+      error = p.error;
+      finished = p.finished;
+      not_dropped = p.poll;
+      stays = c.first_steps.ensures.stays;
+    })
+
+pub invariant_of-self-inside-in-Ended : goal.invariant_of-self-inside-in-Ended
+invariant_of-self-inside-in-Ended g c =
+    let live = ap (λ (t : TaskView). t.finished) c.self.view_is ∙ c.requires.live in
+    let number = c.requires.number ∙ sym (ap (λ (t : TaskView). t.number) c.self.view_is) in
+    let new : c.self.inside.idle ≡ New = search rules in
+    let stands = begins_at g.W.TaskWaker.whose (g.S.TaskSide.state c.args.side.now) (own c.self.inside.parts) (own c.begin.new.self) c.self.inside.idle
+    (step_of_poll c.new-first.result) number c.requires.none live (c.self.inside.stands live) c.begin.ensures.did
+    (ap step_of_poll (ap step_of new ∙ sym c.new-first.ensures)) in
+    let went = steps_went cell_of own g.W.TaskWaker.whose g.S.TaskSide.state g.S.Side.did g.met.S.TaskSide.tells MAX_WAITERS false
+    (step_of_poll c.new-first.result) c.begin.new.self c.args.side.now c.first_steps.new.self c.first_steps.new.parts c.first_steps.new.side
+    c.first_steps.result stands (c.first_steps.ensures.lines MAX_WAITERS) in
+    let walked = subst (λ r. Walked (g.S.TaskSide.state c.args.side.now) (own c.begin.new.self) r
+    (g.S.TaskSide.state c.first_steps.new.side) (own c.first_steps.new.parts)) c.in-Ended.is went.walked in
+    let at = subst (λ r. Stands g.W.TaskWaker.whose false (g.S.TaskSide.state c.first_steps.new.side) (own c.first_steps.new.parts) r c.first_steps.new.self)
+    c.in-Ended.is went.stands in
+    let kept = subst (λ s. Stands g.W.TaskWaker.whose false (g.S.TaskSide.state c.first_steps.new.side) (own c.first_steps.new.parts) (Ended c.in-Ended.ending) s)
+    (sym c.of-self-inside.ensures.is) at in
+    let p = polled g.W.TaskWaker.whose (g.S.TaskSide.state c.args.side.now) (g.S.TaskSide.state c.first_steps.new.side) (own c.self.inside.parts) (own c.begin.new.self)
+    (own c.first_steps.new.parts) c.in-Ended.ending c.of-self-inside.result c.requires.none c.begin.ensures.did walked kept in
+    (λ l. p.stands, tt)
+
+pub steps_left-requires-in-More : goal.steps_left-requires-in-More
+steps_left-requires-in-More g c =
+    let live = ap (λ (t : TaskView). t.finished) c.self.view_is ∙ c.requires.live in
+    let number = c.requires.number ∙ sym (ap (λ (t : TaskView). t.number) c.self.view_is) in
+    let new : c.self.inside.idle ≡ New = search rules in
+    let stands = begins_at g.W.TaskWaker.whose (g.S.TaskSide.state c.args.side.now) (own c.self.inside.parts) (own c.begin.new.self) c.self.inside.idle
+    (step_of_poll c.new-first.result) number c.requires.none live (c.self.inside.stands live) c.begin.ensures.did
+    (ap step_of_poll (ap step_of new ∙ sym c.new-first.ensures)) in
+    let went = steps_went cell_of own g.W.TaskWaker.whose g.S.TaskSide.state g.S.Side.did g.met.S.TaskSide.tells MAX_WAITERS false
+    (step_of_poll c.new-first.result) c.begin.new.self c.args.side.now c.first_steps.new.self c.first_steps.new.parts c.first_steps.new.side
+    c.first_steps.result stands (c.first_steps.ensures.lines MAX_WAITERS) in
+    record {
+      stands = subst (λ r. Stands g.W.TaskWaker.whose false (g.S.TaskSide.state c.first_steps.new.side) (own c.first_steps.new.parts) r c.first_steps.new.self)
+          c.in-More.is went.stands;
+    }
+
+pub returns-in-More : goal.returns-in-More
+returns-in-More g c =
+    let live = ap (λ (t : TaskView). t.finished) c.self.view_is ∙ c.requires.live in
+    let number = c.requires.number ∙ sym (ap (λ (t : TaskView). t.number) c.self.view_is) in
+    let new : c.self.inside.idle ≡ New = search rules in
+    let stands = begins_at g.W.TaskWaker.whose (g.S.TaskSide.state c.args.side.now) (own c.self.inside.parts) (own c.begin.new.self) c.self.inside.idle
+    (step_of_poll c.new-first.result) number c.requires.none live (c.self.inside.stands live) c.begin.ensures.did
+    (ap step_of_poll (ap step_of new ∙ sym c.new-first.ensures)) in
+    let went = steps_went cell_of own g.W.TaskWaker.whose g.S.TaskSide.state g.S.Side.did g.met.S.TaskSide.tells MAX_WAITERS false
+    (step_of_poll c.new-first.result) c.begin.new.self c.args.side.now c.first_steps.new.self c.first_steps.new.parts c.first_steps.new.side
+    c.first_steps.result stands (c.first_steps.ensures.lines MAX_WAITERS) in
+    let walked = subst (λ r. Walked (g.S.TaskSide.state c.args.side.now) (own c.begin.new.self) r
+    (g.S.TaskSide.state c.first_steps.new.side) (own c.first_steps.new.parts)) c.in-More.is went.walked in
+    let p = polled g.W.TaskWaker.whose (g.S.TaskSide.state c.args.side.now) (g.S.TaskSide.state c.steps_left-in-More.new.side) (own c.self.inside.parts) (own c.begin.new.self)
+    (own c.steps_left-in-More.new.parts) c.steps_left-in-More.result c.steps_left-in-More.new.idle c.requires.none c.begin.ensures.did
+    (c.steps_left-in-More.ensures.walked _ _ walked) c.steps_left-in-More.ensures.stands in
+    rw (← c.self.view_is) (record {
+      cell = c.steps_left-in-More.ensures.cell ∙ went.cell_is ∙ c.begin.ensures.cell;
+      number = p.number;
+      end = p.end;
+      woke = p.woke;
+      error = p.error;
+      finished = p.finished;
+      not_dropped = p.poll;
+      stays = g.met.S.Side.stays_on _ _ _ c.first_steps.ensures.stays c.steps_left-in-More.ensures.stays;
+    })
