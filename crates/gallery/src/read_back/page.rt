@@ -142,16 +142,19 @@ impl<'a> Page<'a> {
 
     fn add_shape(&mut self, legend: &Legend<'a>, element: &Element<'a>) -> Result<(), Fault> {
         let class = element.attribute("class");
-        let points = points_of(self.alloc, element.attribute("d"))?;
         if class == "life" {
+            let points = points_of(self.alloc, element.attribute("d"))?;
             return self.add_life(&points);
         }
-        let Some(meaning) = legend.meaning(element)? else {
-            if class == "" || class == "grid" {
-                return Ok(());
-            }
-            return self.differs(class, "a shape of the legend");
-        };
+        match legend.meaning(element)? {
+            Some(meaning) => self.add_meaning(meaning, element),
+            None if class == "" || class == "grid" => Ok(()),
+            None => self.differs(class, "a shape of the legend"),
+        }
+    }
+
+    fn add_meaning(&mut self, meaning: &'a str, element: &Element<'a>) -> Result<(), Fault> {
+        let points = points_of(self.alloc, element.attribute("d"))?;
         let (left, right, y) = place_of(element, points.first().copied());
         self.shapes.push(Shape {
             meaning,

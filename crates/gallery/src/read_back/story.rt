@@ -332,22 +332,23 @@ impl Story {
             Entry::Claim(task) => self.claim(*task),
             Entry::Ran(task, answer) => self.run(*task, *answer)?,
             Entry::Free(task, wakers) | Entry::Pass(task, wakers) => {
-                self.release(*task)?;
                 self.call(*task, wakers, before, after)?;
             }
             Entry::Fill(task, value, wakers) => {
                 self.value = *value;
-                self.release(*task)?;
                 self.call(*task, wakers, before, after)?;
             }
             Entry::End(task, reply) => self.end(world, *task, *reply)?,
             Entry::DropEnd(task) => self.leave(*task)?,
-            Entry::Look(found) => {
-                let word = format!(in self.alloc; "{}", FoundWord(*found))?;
-                self.mark(None, "a look, and what it found", word)?;
-            }
+            Entry::Look(found) => self.look(*found)?,
             Entry::Own(call, _) => self.own(call)?,
         }
+        Ok(())
+    }
+
+    fn look(&mut self, found: Option<u64>) -> Result<(), Fault> {
+        let word = format!(in self.alloc; "{}", FoundWord(found))?;
+        self.mark(None, "a look, and what it found", word)?;
         Ok(())
     }
 
@@ -449,7 +450,8 @@ impl Story {
         self.close(number, "holds the right", held)
     }
 
-    /// The task hands out wakers. Whom each calls was listed with it before, and is not after.
+    /// The task gives the right back, if it had it, and hands out wakers. Whom each calls was listed with it
+    /// before, and is not after.
     fn call(
         &mut self,
         number: u64,
@@ -457,6 +459,7 @@ impl Story {
         before: &[Waiting],
         after: &[Waiting],
     ) -> Result<(), Fault> {
+        self.release(number)?;
         let Some(caller) = self.place(number) else {
             return Ok(());
         };
