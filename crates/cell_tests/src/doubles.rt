@@ -1,9 +1,10 @@
-//! Inits that do as a test tells them, schedules of polls and drops, and inits that keep their thread.
+//! Inits that do as a test tells them, what polls answer, and schedules of polls and drops.
 
+#[cfg(test)]
 pub mod made;
-pub mod meeting;
 pub mod poll;
+#[cfg(test)]
 pub mod schedule;
-pub mod slow;
 pub mod stub;
+#[cfg(test)]
 pub mod value;

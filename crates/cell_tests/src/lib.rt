@@ -1,21 +1,13 @@
-//! What cells do on one thread and between threads, and what a table of cells does, by their public calls alone.
+//! What cells do on one thread, by their public calls alone. `doubles` and `left` are for `thread_tests` too.
 #![tactic(auto)]
 
-#[cfg(test)]
-mod doubles;
+pub mod doubles;
 #[cfg(test)]
 mod lazy;
-#[cfg(test)]
-mod left;
+pub mod left;
 #[cfg(test)]
 mod once;
 #[cfg(test)]
 mod paths;
 #[cfg(test)]
 mod pending;
-#[cfg(test)]
-mod table;
-#[cfg(test)]
-mod threads;
-#[cfg(test)]
-mod waits;

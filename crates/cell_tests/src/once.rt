@@ -3,6 +3,7 @@
 mod contracts;
 mod drops;
 mod inside;
+mod leaving;
 mod order;
 mod owner;
 mod records;

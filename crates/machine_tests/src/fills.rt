@@ -1,10 +1,10 @@
 //! A fill asks for no memory, also where the list could not note where a listing was put.
 
+use crate::doubles::memory::hoard;
 use once_queue::waiters::{Answer, Lists, Out};
 use once_queue::word::NEW;
 use std::alloc::{AllocError, Global};
 use std::test::Fail;
-use test_doubles::memory::hoard;
 
 // How many bytes the list would ask for to note a fifth place.
 const NOTES: usize = 64;

@@ -1,6 +1,6 @@
 //! What `once_replay` and `once_show` make of their input, text against text.
 
 mod logs;
-pub mod rows;
+mod rows;
 mod runs;
 mod shown;

@@ -24,6 +24,7 @@ use crate::doubles::stub::{Init, Stub, Tried, count};
 use async_once_cell::world::Reply;
 use async_once_cell::{Lazy, OnceCell};
 use futures::test::MockTask;
+use machine_tests::doubles::memory::hoard;
 pub use refusals::refuse_each;
 use std::alloc::{AllocError, AllocGlobal, Global};
 use std::cell::Cell;
@@ -31,7 +32,6 @@ use std::random::RandomSource;
 use std::sync::Wait;
 use std::test::Fail;
 use std::{fmt, io, mem};
-use test_doubles::memory::hoard;
 
 // What a line led to: what a poll answered, and whether the future is done.
 #[derive(Clone, Copy)]

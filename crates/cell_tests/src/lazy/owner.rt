@@ -6,8 +6,8 @@ use async_once_cell::Lazy;
 use async_once_cell::world::Reply;
 use futures::task::Poll;
 use futures::test::MockTask;
+use machine_tests::doubles::text::shows;
 use std::test::Fail;
-use test_doubles::text::shows;
 
 // What a poll of the future that came back gives, which was polled once before.
 fn polled_on(mut future: Init<'_, u64>, stub: &Stub<u64>, task: &MockTask) -> (Poll<u64>, u64) {

@@ -127,23 +127,19 @@ fn are_told<'a, R: Wait + AllocGlobal>(
     [nothing, asked, told]
 }
 
-// Whether a token knows the value that another looked for, and a poll answers one.
-fn are_answered<'a, R: Wait + AllocGlobal>(
-    rt: &'a R,
-    cx: &mut Context<'_>,
-    cell: &'a OnceCell<u64>,
-    stub: &'a Stub<u64>,
-) -> [bool; 2] {
-    let has_answered = has_answered(&mut cell.get_or_init(rt, stub.init()), cx);
-    let (mut a, _b) = both_looked(cell);
+// Whether a token finds the value that looked at the cell before, beside another.
+fn is_found(cell: &OnceCell<u64>) -> bool {
+    let (mut token, _other) = both_looked(cell);
+    cell.get_as(&mut token).is_some()
+}
+
+// Whether a token knows the value that another looked for.
+fn is_learned(cell: &OnceCell<u64>) -> bool {
     let (mut token, mut other) = (cell.token(), cell.token());
-    let _ = cell.get_as(&mut other);
-    let _ = cell.get_as(&mut a);
-    let is_learned = match cell.get_as(&mut other) {
+    match cell.get_as(&mut other) {
         Some(value) => learned_and_asked(cell, &mut token, &other) == value,
         None => false,
-    };
-    [has_answered, is_learned]
+    }
 }
 
 /// The contracts of the cells are enough for callers that have contracts of their own.
@@ -151,7 +147,11 @@ fn are_answered<'a, R: Wait + AllocGlobal>(
 fn contracts_at_work(rt: HostRuntime) -> Result<(), Fail> {
     let (task, stub, cell) = (MockTask::new(&rt)?, Stub::giving(4), OnceCell::new());
     let are_told = task.enter(|cx| are_told(&rt, cx, &cell, &stub));
-    let are_answered = task.enter(|cx| are_answered(&rt, cx, &cell, &stub));
-    assert_eq!(rt; (are_told, are_answered), ([true; 3], [true; 2]));
+    let has_answered = task.enter(|cx| has_answered(&mut cell.get_or_init(&rt, stub.init()), cx));
+    let are_found = [is_found(&cell), is_learned(&cell)];
+    assert_eq!(rt;
+        (are_told, has_answered, are_found),
+        ([true; 3], true, [true; 2])
+    );
     Ok(())
 }

@@ -4,11 +4,11 @@ use crate::doubles::value::{Makes, Value};
 use async_once_cell::OnceCell;
 use futures::future::pending;
 use futures::test::MockTask;
+use machine_tests::doubles::memory::{Rations, hoard_most};
 use std::alloc::{AllocError, AllocGlobal};
 use std::cell::Cell;
 use std::sync::Wait;
 use std::test::Fail;
-use test_doubles::memory::{Rations, hoard_most};
 
 // Whether a value was made, was lent and was taken, and how often it was dropped before it was taken,
 // after that, and with its cell.

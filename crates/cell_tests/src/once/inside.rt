@@ -2,7 +2,7 @@
 
 use crate::doubles::poll::polled;
 use crate::doubles::stub::Tried;
-use crate::left::{is_filled, shows};
+use crate::left::{has_text, is_filled};
 use async_once_cell::OnceCell;
 use async_once_cell::once::InitFuture;
 use async_once_cell::world::Reply;
@@ -201,7 +201,7 @@ fn polls_another_and_fails(rt: HostRuntime) -> Result<(), Fail> {
     };
     let mut holder = cell.get_or_try_init(&rt, Meddling::new(&other, plan));
     let first = polled(one, &mut holder);
-    let waits = shows(&rt, cell, "quick_init: true, refcount: 1, queue: true");
+    let waits = has_text(&rt, cell, "quick_init: true, refcount: 1, queue: true");
     let calm = !two.is_woken();
     let second = polled(one, &mut holder);
     let (heard, is_woken) = (other.heard.get(), two.is_woken());

@@ -6,11 +6,11 @@ use async_once_cell::OnceCell;
 use async_once_cell::world::Reply;
 use futures::task::Context;
 use futures::test::MockTask;
+use machine_tests::doubles::text::shows;
 use std::alloc::AllocGlobal;
 use std::mem::forget;
 use std::sync::Wait;
 use std::test::Fail;
-use test_doubles::text::shows;
 
 const EMPTY: &str =
     "OnceCell { value: None, inner: Inner { ready: false, quick_init: false, refcount: 0, queue: false } }";

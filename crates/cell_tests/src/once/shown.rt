@@ -6,9 +6,9 @@ use async_once_cell::once::{InitError, Refused};
 use async_once_cell::world::Reply;
 use futures::future::ready;
 use futures::test::MockTask;
+use machine_tests::doubles::text::shows;
 use std::io;
 use std::test::Fail;
-use test_doubles::text::shows;
 
 /// A token says what it knows.
 #[test]

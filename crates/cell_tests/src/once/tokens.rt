@@ -8,13 +8,13 @@ use async_once_cell::world::Reply;
 use futures::future::pending;
 use futures::task::Context;
 use futures::test::MockTask;
+use machine_tests::doubles::text::shows;
 use std::alloc::AllocGlobal;
 use std::io;
 use std::io::Eprint;
 use std::random::RandomSource;
 use std::sync::Wait;
 use std::test::Fail;
-use test_doubles::text::shows;
 
 // What polls answered, and what held between them.
 type Found = ([Reply; 2], [bool; 4]);

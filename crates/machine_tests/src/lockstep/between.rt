@@ -1,6 +1,6 @@
 //! Schedules in which some task makes any number of steps between two others.
 
-/// Schedules in the form of `crate::schedule`, which do not say what is added to the record.
+/// Schedules in the form of `crate::doubles::schedule`, which do not say what is added to the record.
 pub const BETWEEN: &str = "\
 # holder_dropped_between_steps: the holder is dropped while another task is in its first poll
 once 8

@@ -1,5 +1,7 @@
-//! The worked schedules of `replay` over both kinds of parts: after each step the two show the same.
+//! The worked schedules of `crate::doubles::rows` over both kinds of parts: after each step the two show the same.
 use super::between::BETWEEN;
+use crate::doubles::rows::{CALLS, DROPS, PLAIN, REFUSALS};
+use crate::doubles::schedule::schedules_in;
 use crate::side_by_side::pair::{Fault, Pair};
 use crate::side_by_side::walker::Cell;
 use once_core::step::Polled;
@@ -9,8 +11,6 @@ use std::alloc::AllocGlobal;
 use std::process::Abort;
 use std::sync::Wait;
 use std::test::Fail;
-use test_doubles::rows::{CALLS, DROPS, PLAIN, REFUSALS};
-use test_doubles::schedule::schedules_in;
 
 // Whether a schedule can be followed: it begins with an empty cell, whose owner makes no call.
 fn is_followed(script: &Script) -> bool {

@@ -1,11 +1,12 @@
 //! Scenes of a cell and its tasks over shared parts, where a copy of a waker may be refused.
 //!
-//! A scene is a schedule (`crate::schedule`) of an empty once cell, whose lines lead to something else than entries.
-//! Several lines of a script may stand in one, with `; ` between two. `x` refuses the copy of a waker, and no other
-//! memory. The waker of a task has its number. After `=>` stands what the last step came to: how the call ended, or
-//! None; the notes of its side since the line before; and where its task then stands. `show` tells the word, and
+//! A scene is a schedule (`crate::doubles::schedule`) of an empty once cell, whose lines lead to something else than
+//! entries. Several lines of a script may stand in one, with `; ` between two. `x` refuses the copy of a waker, and no
+//! other memory. The waker of a task has its number. After `=>` stands what the last step came to: how the call ended,
+//! or None; the notes of its side since the line before; and where its task then stands. `show` tells the word, and
 //! whether a queue stands at the door. What a line without `=>` comes to is not told.
 
+use crate::doubles::schedule::{Schedule, schedules_in};
 use crate::side_by_side::walker::{Cell, Walker};
 use crate::side_by_side::whole::{Call, ERROR, PENDING, VALUE, carry_on};
 use once_script::parse::{Line, RUN_STEPS, parse_line};
@@ -14,7 +15,6 @@ use std::alloc::{AllocError, AllocGlobal};
 use std::collections::BTreeMap;
 use std::sync::Wait;
 use std::test::Fail;
-use test_doubles::schedule::{Schedule, schedules_in};
 
 // A scene under way. What does not fit tells None.
 #[derive(Drop)]

@@ -5,6 +5,7 @@ ghost use Rattle.std.proofs.Common.{rules};
 use super::side::{Called, NOBODY, Seen, TestSide};
 use super::walks::{Caller, Cell, ERROR, MEMORY, PENDING, TWO, VALUE};
 use crate::bell::Bell;
+use crate::doubles::text::shows;
 use once_book::Mark;
 use once_core::step::{Ending, Polled, Side};
 use once_parts::{Task, TaskSide};
@@ -12,7 +13,6 @@ use once_queue::waiters::Out;
 use std::alloc::AllocGlobal;
 use std::marker::Model;
 use std::sync::Wait;
-use test_doubles::text::shows;
 
 // The task with this name alone is called.
 const NINE: Called = [Some(9), None, None];

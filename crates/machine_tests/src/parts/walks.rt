@@ -4,13 +4,13 @@ ghost use Rattle.once_book.specs.Record.{EndsSet};
 
 use super::side::{Called, NOBODY, Seen, TestSide};
 use crate::bell::Bell;
+use crate::doubles::memory::hoard;
 use once_core::step::{Ending, Polled, Step};
 use once_parts::{Inner, Task};
 use std::alloc::{AllocError, AllocGlobal, Global};
 use std::mem::size_of;
 use std::sync::Wait;
 use std::test::Fail;
-use test_doubles::memory::hoard;
 
 pub type Cell = Inner<u64, Bell>;
 

@@ -1,6 +1,8 @@
 //! Worked schedules: what each line adds to the record, and the whole record that a replay prints.
 
 use super::runs::printed_by;
+use crate::doubles::rows::{CALLS, DROPS, OWNER, PLAIN, REFUSALS};
+use crate::doubles::schedule::{Schedule, schedules_in};
 use once_script::fault::Fault;
 use once_script::print::EntryLine;
 use once_view::play::{Moment, Watcher, play};
@@ -9,8 +11,6 @@ use std::alloc::{AllocError, Global};
 use std::collections::BTreeSet;
 use std::process::Abort;
 use std::test::Fail;
-use test_doubles::rows::{CALLS, DROPS, OWNER, PLAIN, REFUSALS};
-use test_doubles::schedule::{Schedule, schedules_in};
 
 /// Compares what was made with this text.
 pub fn compare(rt: &impl Abort, name: &str, made: Result<String, Fault>, wanted: &str) {

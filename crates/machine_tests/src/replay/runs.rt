@@ -1,5 +1,7 @@
 //! Whole runs, with readers and writers that fail.
 use super::rows::compare;
+use crate::doubles::memory::{hoard, hoard_most, hoard_rest};
+use crate::doubles::target::Target;
 use once_script::fault::Fault;
 use once_script::parse::{Line, parse_line, parse_script};
 use once_script::print::print_record;
@@ -9,8 +11,6 @@ use std::alloc::{AllocError, Global};
 use std::io;
 use std::io::{ErrorKind, Read, Write};
 use std::test::Fail;
-use test_doubles::memory::{hoard, hoard_most, hoard_rest};
-use test_doubles::target::Target;
 
 /// A reader that gives a text in pieces, and fails at the read with this number.
 #[derive(Drop)]

@@ -1,4 +1,7 @@
 //! What `once_show` makes of a script: its table, its picture, and what it says of a mistake.
+use crate::doubles::rows::{CALLS, DROPS, OWNER, PLAIN, REFUSALS};
+use crate::doubles::schedule::schedules_in;
+use crate::doubles::target::Target;
 use once_core::step::{Place, Step};
 use once_view::fault::Fault;
 use once_view::play::{Moment, Watcher, play};
@@ -9,9 +12,6 @@ use once_world::world::{Entry, Input, Kind, Ran, World};
 use std::alloc::{AllocError, Global};
 use std::io;
 use std::test::Fail;
-use test_doubles::rows::{CALLS, DROPS, OWNER, PLAIN, REFUSALS};
-use test_doubles::schedule::schedules_in;
-use test_doubles::target::Target;
 
 // A script as it is shown.
 fn shown(alloc: Global, format: Format, text: &[u8]) -> Result<String, Fault> {

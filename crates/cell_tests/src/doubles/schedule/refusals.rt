@@ -5,12 +5,12 @@ use crate::doubles::poll::wake;
 use crate::doubles::stub::Init;
 use async_once_cell::world::Reply;
 use async_once_cell::{Lazy, OnceCell};
+use machine_tests::doubles::memory::{Rations, Request, hoard_most};
 use std::alloc::{AllocError, AllocGlobal};
 use std::io;
 use std::random::RandomSource;
 use std::sync::Wait;
 use std::test::Fail;
-use test_doubles::memory::{Rations, Request, hoard_most};
 
 // How often a woken future is polled until all are finished.
 const POLLS: u64 = 10;

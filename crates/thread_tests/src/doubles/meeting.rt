@@ -1,7 +1,8 @@
-//! Two threads that meet while one is inside an init.
+//! Where threads meet, also while one is inside an init.
 
 use futures::Future;
 use futures::task::{Context, Poll};
+use std::sync::Wait;
 use std::sync::atomic::{AtomicU64, Ordering};
 use std::thread;
 use std::time::{Clock, Duration};
@@ -93,5 +94,17 @@ impl Future for Spinning<'_> {
             thread::yield_now();
         }
         Poll::Ready(9)
+    }
+}
+
+/// Waits until so many threads are at this meeting, of which 0 is the first.
+pub fn meet<R: Wait>(rt: &R, arrived: &AtomicU64, threads: u64, meeting: u64) {
+    arrived.fetch_add(1, Ordering::SeqCst);
+    let all = meeting.saturating_add(1).saturating_mul(threads);
+    for _ in rt.forever() {
+        if arrived.load(Ordering::SeqCst) >= all {
+            break;
+        }
+        thread::yield_now();
     }
 }

@@ -5,6 +5,8 @@ use async_once_cell::OnceCell;
 use async_once_cell::once::{Known, Refused};
 use futures::future::pending;
 use futures::test::MockTask;
+use machine_tests::doubles::memory::hoard;
+use machine_tests::doubles::target::Target;
 use memo_table::ask::{Answer, KEYS, agreed, answer_within, ask};
 use memo_table::fault::Fault;
 use memo_table::fetch::Fetch;
@@ -18,8 +20,6 @@ use std::sync::atomic::{AtomicU64, Ordering};
 use std::test::Fail;
 use std::thread::Threads;
 use std::time::Clock;
-use test_doubles::memory::hoard;
-use test_doubles::target::Target;
 
 const TEXT: &str = "1 10\n2 20\n3 30\nfetches 3\n";
 

@@ -4,9 +4,11 @@ ghost use Rattle.std.specs.Prelude.{◌≡◌, IfSome};
 use crate::doubles::meeting::{Blocking, Meeting};
 use async_once_cell::OnceCell;
 use async_once_cell::once::{InitError, Known, TryInitFuture};
+use cell_tests::left::FILLED;
 use futures::Future;
 use futures::executor::block_on;
 use futures::task::{Context, Poll};
+use machine_tests::doubles::text::shows;
 use std::alloc::AllocGlobal;
 use std::mem;
 use std::random::RandomSource;
@@ -14,7 +16,6 @@ use std::sync::Wait;
 use std::test::Fail;
 use std::thread::{self, Threads};
 use std::time::Clock;
-use test_doubles::text::{SETTLED, shows};
 
 // A future of a cell, polled with a token, which comes with the answer. Once it waits, it lets the
 // init of the other go on.
@@ -107,6 +108,6 @@ where
 fn tokens_of_two_threads(rt: HostRuntime) -> Result<(), Fail> {
     let (cell, meeting) = (OnceCell::new(), Meeting::new());
     let are_told = both_told(&rt, &cell, &meeting);
-    assert!(rt; are_told && shows(&rt, &cell, SETTLED));
+    assert!(rt; are_told && shows(&rt, &cell, FILLED));
     Ok(())
 }

@@ -5,7 +5,9 @@ use super::gathered::{CELLS, THREADS, Visited, alike, gathered};
 use crate::doubles::slow::{Driven, Failing, Slow, ended, left_midway};
 use async_once_cell::world::Reply;
 use async_once_cell::{Lazy, OnceCell};
+use cell_tests::left::FILLED;
 use futures::test::MockTask;
+use machine_tests::doubles::text::shows;
 use std::alloc::{AllocError, AllocGlobal, Global};
 use std::io;
 use std::io::Eprint;
@@ -15,7 +17,6 @@ use std::sync::atomic::{AtomicU64, Ordering};
 use std::test::Fail;
 use std::thread::Threads;
 use std::time::Clock;
-use test_doubles::text::{SETTLED, shows};
 
 // How often a thread begins anew at a cell, at most: more often than the inits of one fail.
 const TRIES: u64 = 20;
@@ -85,7 +86,7 @@ where
     R: Wait + AllocGlobal + Clock + RandomSource + Threads + Eprint + Sync,
 {
     let got = gathered(rt, cells)?;
-    let are_settled = cells.iter().all(|it| shows(rt, &it.cell, SETTLED));
+    let are_settled = cells.iter().all(|it| shows(rt, &it.cell, FILLED));
     Ok((
         alike(&got, &[1; CELLS as usize]),
         filled(cells),
@@ -154,7 +155,7 @@ where
     let done = AtomicU64::new(0);
     let lazies = lazies(rt.alloc(), &done)?;
     let got = gathered(rt, &lazies)?;
-    let are_settled = lazies.iter().all(|it| shows(rt, it, SETTLED));
+    let are_settled = lazies.iter().all(|it| shows(rt, it, FILLED));
     let alike = alike(&got, &numbers(rt.alloc())?);
     Ok((alike, done.load(Ordering::SeqCst), are_settled))
 }

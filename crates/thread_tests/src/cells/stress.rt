@@ -2,10 +2,12 @@
 
 use super::gathered::{CELLS, THREADS, Visited, alike, gathered};
 use crate::doubles::slow::{Driven, Slow, ended};
-use crate::doubles::stub::Tried;
 use async_once_cell::OnceCell;
 use async_once_cell::world::Reply;
+use cell_tests::doubles::stub::Tried;
+use cell_tests::left::FILLED;
 use futures::test::MockTask;
+use machine_tests::doubles::text::shows;
 use std::alloc::{AllocError, AllocGlobal, Global};
 use std::io;
 use std::io::Eprint;
@@ -15,7 +17,6 @@ use std::sync::atomic::{AtomicU64, Ordering};
 use std::test::Fail;
 use std::thread::Threads;
 use std::time::Clock;
-use test_doubles::text::{SETTLED, shows};
 
 // A cell that all threads fill.
 #[derive(Drop)]
@@ -116,7 +117,7 @@ where
 {
     let got = gathered(rt, cells)?;
     let values = values(rt.alloc(), cells)?;
-    let are_settled = cells.iter().all(|it| shows(rt, &it.cell, SETTLED));
+    let are_settled = cells.iter().all(|it| shows(rt, &it.cell, FILLED));
     Ok((alike(&got, &values), sound(cells, &values), are_settled))
 }
 

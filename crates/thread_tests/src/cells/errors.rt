@@ -1,10 +1,11 @@
 //! Inits that fail while another waits, which then fills the cell at once.
 
-use crate::doubles::poll::heard;
-use crate::left::{is_filled, meet};
+use crate::doubles::meeting::meet;
 use async_once_cell::OnceCell;
 use async_once_cell::once::TryInitFuture;
 use async_once_cell::world::Reply;
+use cell_tests::doubles::poll::heard;
+use cell_tests::left::is_filled;
 use futures::Future;
 use futures::future::ready;
 use futures::task::{Context, Poll};

@@ -1,11 +1,12 @@
 //! Threads that hold one cell in turn, fill many cells, or look at a cell that others use.
 
-use crate::doubles::poll::{heard, polled, tasks};
+use crate::doubles::meeting::meet;
 use crate::doubles::slow::Slow;
-use crate::doubles::stub::Tried;
-use crate::left::{is_filled, is_free, meet, shows};
 use async_once_cell::OnceCell;
 use async_once_cell::world::Reply;
+use cell_tests::doubles::poll::{heard, polled, tasks};
+use cell_tests::doubles::stub::Tried;
+use cell_tests::left::{has_text, is_filled, is_free};
 use futures::Future;
 use futures::future::{pending, ready};
 use futures::task::{Context, Poll};
@@ -228,7 +229,7 @@ fn come_and_go<R: Wait + AllocGlobal>(
 fn was_busy<R: AllocGlobal>(rt: &R, cell: &OnceCell<u64>, stop: &AtomicU64) -> bool {
     let mut was_busy = false;
     for _ in 0..LOOKS {
-        if shows(rt, cell, "queue: busy") {
+        if has_text(rt, cell, "queue: busy") {
             was_busy = true;
             break;
         }

@@ -2,19 +2,20 @@
 ghost use Rattle.std.specs.Prelude.{◌≡◌, IfSome};
 
 use crate::doubles::meeting::{Meeting, Spinning};
-use crate::doubles::poll::heard;
 use async_once_cell::once::Known;
 use async_once_cell::world::Reply;
 use async_once_cell::{Lazy, LazyFuturePin, OnceCell};
+use cell_tests::doubles::poll::heard;
+use cell_tests::left::FILLED;
 use futures::Future;
 use futures::future::ready;
 use futures::test::MockTask;
+use machine_tests::doubles::text::shows;
 use std::alloc::AllocGlobal;
 use std::sync::Wait;
 use std::test::Fail;
 use std::thread::{self, Threads};
 use std::time::{Clock, Duration};
-use test_doubles::text::{SETTLED, shows};
 
 fn once<R>(task: &MockTask, future: &mut LazyFuturePin<'_, u64, Spinning<'_>, R>) -> Reply
 where
@@ -112,7 +113,7 @@ fn lazy_waits_for_another_thread(rt: HostRuntime) -> Result<(), Fail> {
     let tasks = (MockTask::new(&rt)?, MockTask::new(&rt)?);
     let lazy = Lazy::new(Spinning::new(&meeting));
     let are_told = both_told(&rt, (&tasks.0, &tasks.1), &lazy, &meeting);
-    assert!(rt; are_told && shows(&rt, &lazy, SETTLED));
+    assert!(rt; are_told && shows(&rt, &lazy, FILLED));
     Ok(())
 }
 

@@ -8,6 +8,7 @@ use crate::doubles::meeting::{Blocking, Meeting};
 use async_once_cell::{Lazy, OnceCell, Parker, Refused};
 use fault::Fault;
 use futures::future::ready;
+use machine_tests::doubles::memory::hoard;
 use std::alloc::{AllocError, AllocGlobal};
 use std::random::RandomSource;
 use std::sync::Wait;
@@ -16,7 +17,6 @@ use std::test::Fail;
 use std::thread;
 use std::time::Clock;
 use table::{Table, sums};
-use test_doubles::memory::hoard;
 use users::{
     Service, by_any, doubled, forced, forced_as_on, forced_on, known, known_on, lent, slow, tried,
     value,
