@@ -3,7 +3,7 @@
 use async_once_cell::LazyFuturePin;
 use async_once_cell::once::TryInitFuture;
 use async_once_cell::world::Reply;
-use cell_tests::doubles::poll::polled;
+use cell_tests::doubles::poll::heard;
 use cell_tests::doubles::stub::Tried;
 use futures::Future;
 use futures::task::{Context, Poll};
@@ -80,19 +80,19 @@ pub trait Driven {
 
 impl<R: Wait + AllocGlobal> Driven for TryInitFuture<'_, u64, u64, Slow<'_, Tried>, R> {
     fn poll_by(&mut self, task: &MockTask) -> Reply {
-        polled(task, self)
+        task.enter(|cx| heard(Future::poll(self, cx)))
     }
 }
 
 impl<R: Wait + AllocGlobal> Driven for TryInitFuture<'_, u64, u64, Failing<'_>, R> {
     fn poll_by(&mut self, task: &MockTask) -> Reply {
-        polled(task, self)
+        task.enter(|cx| heard(Future::poll(self, cx)))
     }
 }
 
 impl<R: Wait + AllocGlobal> Driven for LazyFuturePin<'_, u64, Slow<'_, u64>, R> {
     fn poll_by(&mut self, task: &MockTask) -> Reply {
-        polled(task, self)
+        task.enter(|cx| heard(Future::poll(self, cx)))
     }
 }
 
