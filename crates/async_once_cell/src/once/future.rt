@@ -193,7 +193,10 @@ where
 {
     // Polls once, and tells the caller's own kind of error where there is no value.
     #[inline(always)]
-    pub(super) fn poll_into<X: PollError<E>>(&mut self, cx: &mut Context<'_>) -> Poll<Result<&'a T, X>>
+    pub(super) fn poll_into<X: PollError<E>>(
+        &mut self,
+        cx: &mut Context<'_>,
+    ) -> Poll<Result<&'a T, X>>
         requires live { self.old.finished ≡ false }
         ensures did { DidPoll self.old self.new cx.old cx.new (ending_by X.ending result) }
         ensures value { Answers self.old.cell result }
