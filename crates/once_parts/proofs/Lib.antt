@@ -2,7 +2,7 @@
 --   Refusals  after a look the refusal of the copy may be told: `section` of the parts of `Shared`
 --   Sides     what the calls of a side tell, by what is told of the side; those who write sides cite it
 --   Idles     what a task is at between two calls, and the step that stands for it
---   Walk      a whole call, step by step along the table: `end`, `woke` and `finished` of `Task::poll` and `Task::leave`
+--   Walk      a whole call, step by step along the table: `end` and `woke` of `Task::poll` and `Task::leave`
 --
 -- The other folders are named after files and functions of src. `Answers` has the proofs of goals that are left open
 -- there, and `Invariants` what a loop keeps. Where an answer has one tactic, it is there only so that an edit that

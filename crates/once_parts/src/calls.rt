@@ -16,7 +16,7 @@ use once_queue::word::MAX_WAITERS;
 use std::alloc::AllocGlobal;
 use std::sync::Wait;
 
-// Makes the steps that are left of a poll, and keeps where the next call begins.
+/// Makes the steps that are left of a poll, and keeps where the next call begins.
 #[inline(never)]
 pub(crate) fn steps_left<T, W: TaskWaker + Drop, R: Wait + AllocGlobal, S: TaskSide<W, Value = T>>(
     parts: &mut Shared<'_, '_, T, W, R>,
@@ -38,8 +38,8 @@ pub(crate) fn steps_left<T, W: TaskWaker + Drop, R: Wait + AllocGlobal, S: TaskS
     ending
 }
 
-/// Makes one step of the call that is under way, whose last step told this: `told` is for the contract alone. It
-/// may wait as a whole call.
+/// Makes one step of the call that is under way. `told` is what its last step told, for the contract alone. It
+/// may wait as [`Task::poll`](crate::task::Task::poll).
 #[inline(always)]
 pub fn one_step<T, W: TaskWaker + Drop, R: Wait + AllocGlobal, S: TaskSide<W, Value = T>>(
     parts: &mut Shared<'_, '_, T, W, R>,
@@ -61,8 +61,8 @@ pub fn one_step<T, W: TaskWaker + Drop, R: Wait + AllocGlobal, S: TaskSide<W, Va
     step.advance(parts, side, MAX_WAITERS)
 }
 
-// Makes the steps that are left of the call, and answers how it ended. There are at most sixteen. The last
-// step so far told this.
+/// Makes the steps that are left of the call, and answers how it ended. There are at most sixteen. `told` is what
+/// the last step so far told.
 #[inline(always)]
 pub(crate) fn go_on<T, W: TaskWaker + Drop, R: Wait + AllocGlobal, S: TaskSide<W, Value = T>>(
     parts: &mut Shared<'_, '_, T, W, R>,

@@ -1,5 +1,5 @@
-//! A task of a cell, between two of its calls.
-ghost use Rattle.std.specs.Prelude.{◌≡◌, ◌↔◌, ℕ, true, false, List, [], ◌∷◌};
+//! A task of a cell, with its whole polls and drops.
+ghost use Rattle.std.specs.Prelude.{◌≡◌, ◌↔◌, true, false, List, [], ◌∷◌};
 ghost use Rattle.once_world.specs.Record.{Entry, Made};
 ghost use Rattle.once_book.specs.Kept.{Grew};
 ghost use Rattle.once_book.specs.Record.{EndsSet};
@@ -151,6 +151,7 @@ impl<'a, 'r, T, W: TaskWaker + Drop, R: Wait + AllocGlobal> Task<'a, 'r, T, W, R
     {
         self.parts.begin_drop();
         let mut step = self.idle.step();
+        // Whichever way the drop ends, nothing comes after it.
         self.idle = Idle::Finished;
         if !step.begin_drop(side) {
             return;

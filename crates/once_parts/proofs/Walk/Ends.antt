@@ -87,10 +87,10 @@ module _ {W : Type 0} (whose : W → ℕ) (x y : Sided) (v w : Own) (r : Progres
       }
 
   -- a drop ends so
-  pub drop_ended : (s : Step W ⊤) → Walked x v r y w → Stands whose true y w r s → in_call s ≡ false → (s ≡ Finished) × Grew (end_of w.number EndDropped ∷ []) v.log w.log
+  pub drop_ended : (s : Step W ⊤) → Walked x v r y w → Stands whose true y w r s → in_call s ≡ false → Grew (end_of w.number EndDropped ∷ []) v.log w.log
   drop_ended (UnderWay p) m is over = absurd (false≢true (sym over))
   drop_ended (Resting rest) m is over = absurd (false≢true (sym is.fits.1.0))
   drop_ended Finished m is over =
       let same : is.fits.0 ≡ e = same_end r is.fits.0 e is.fits.1 told in
       let may : MayEnd true y w e = subst (MayEnd true y w) same is.fits.2 in
-      (refl, subst (λ d. Grew (end_of w.number d ∷ []) v.log w.log) (only_dropped y w e may) (end_is m (entry_is true y w e may)))
+      subst (λ d. Grew (end_of w.number d ∷ []) v.log w.log) (only_dropped y w e may) (end_is m (entry_is true y w e may))

@@ -26,7 +26,6 @@ go_on-requires g c =
 pub returns-then-not-begin_drop-clause-end : goal.returns-then-not-begin_drop-clause-end
 returns-then-not-begin_drop-clause-end g c =
     let live = ap (λ (t : TaskView). t.finished) c.self.view_is ∙ c.requires.live in
-    let number = c.requires.number ∙ sym (ap (λ (t : TaskView). t.number) c.self.view_is) in
     let rests : Rests g.W.TaskWaker.whose (own c.self.inside.parts) c.step-step.result =
     (c.step-step.ensures.rests live, subst (StandsOn g.W.TaskWaker.whose (own c.self.inside.parts)) (sym c.step-step.ensures.is) (c.self.inside.stands live)) in
     let over = ap in_call (sym c.begin_drop-2.ensures.step) ∙ sym c.begin_drop-2.ensures.more ∙ c.if-not-begin_drop.true in
@@ -36,7 +35,6 @@ returns-then-not-begin_drop-clause-end g c =
 pub returns-then-not-begin_drop-clause-woke : goal.returns-then-not-begin_drop-clause-woke
 returns-then-not-begin_drop-clause-woke g c =
     let live = ap (λ (t : TaskView). t.finished) c.self.view_is ∙ c.requires.live in
-    let number = c.requires.number ∙ sym (ap (λ (t : TaskView). t.number) c.self.view_is) in
     let rests : Rests g.W.TaskWaker.whose (own c.self.inside.parts) c.step-step.result =
     (c.step-step.ensures.rests live, subst (StandsOn g.W.TaskWaker.whose (own c.self.inside.parts)) (sym c.step-step.ensures.is) (c.self.inside.stands live)) in
     let over = ap in_call (sym c.begin_drop-2.ensures.step) ∙ sym c.begin_drop-2.ensures.more ∙ c.if-not-begin_drop.true in
@@ -61,7 +59,7 @@ returns g c =
     rw (← c.self.view_is) (record {
       cell = c.go_on.ensures.cell ∙ c.begin_drop.ensures.cell;
       number = walked.number ∙ c.begin_drop.ensures.did.number;
-      end = grew_from _ _ _ _ seen end.1;
+      end = grew_from _ _ _ _ seen end;
       woke = (walked.made.0, by_before walked.made.0 _ _ _ seen walked.made.1, walked.made.2 ∙ ap (λ X. X ++ handed walked.made.0) (ap (λ (x : Sided). x.woke) closed ∙ c.requires.none));
       finished = refl;
       stays = g.met.S.Side.stays_on _ _ _ c.begin_drop-2.ensures.stays c.go_on.ensures.stays;

@@ -11,7 +11,7 @@ use Rattle.once_parts.proofs.Idles.{rests}
 use Rattle.once_parts.proofs.Walk.Begins.{rests_there}
 use Rattle.once_parts.proofs.Walk.Calls.{steps_asked, steps_went}
 use Rattle.once_parts.proofs.Walk.Logs.{walked_none}
-use Rattle.once_parts.proofs.Walk.Polls.{begins_at, polled}
+use Rattle.once_parts.proofs.Walk.Polls.{begins_at, polled, polled_at_once}
 use Rattle.once_parts.specs.Tasks.{TaskView}
 use Rattle.once_parts.proofs.task.Task.poll.Goals as goal
 
@@ -66,25 +66,18 @@ returns-in-Ended g c =
     let stands = begins_at g.W.TaskWaker.whose (g.S.TaskSide.state c.args.side.now) (own c.self.inside.parts) (own c.begin.new.self) c.self.inside.idle
     (step_of_poll c.new-first.result) number c.requires.none live (c.self.inside.stands live) c.begin.ensures.did
     (ap step_of_poll (ap step_of new ∙ sym c.new-first.ensures)) in
-    let went = steps_went cell_of own g.W.TaskWaker.whose g.S.TaskSide.state g.S.Side.did g.met.S.TaskSide.tells MAX_WAITERS false
-    (step_of_poll c.new-first.result) c.begin.new.self c.args.side.now c.first_steps.new.self c.first_steps.new.parts c.first_steps.new.side
-    c.first_steps.result stands (c.first_steps.ensures.lines MAX_WAITERS) in
-    let walked = subst (λ r. Walked (g.S.TaskSide.state c.args.side.now) (own c.begin.new.self) r
-    (g.S.TaskSide.state c.first_steps.new.side) (own c.first_steps.new.parts)) c.in-Ended.is went.walked in
-    let at = subst (λ r. Stands g.W.TaskWaker.whose false (g.S.TaskSide.state c.first_steps.new.side) (own c.first_steps.new.parts) r c.first_steps.new.self)
-    c.in-Ended.is went.stands in
-    let kept = subst (λ s. Stands g.W.TaskWaker.whose false (g.S.TaskSide.state c.first_steps.new.side) (own c.first_steps.new.parts) (Ended c.in-Ended.ending) s)
-    (sym c.of-self-inside.ensures.is) at in
-    let p = polled g.W.TaskWaker.whose (g.S.TaskSide.state c.args.side.now) (g.S.TaskSide.state c.first_steps.new.side) (own c.self.inside.parts) (own c.begin.new.self)
-    (own c.first_steps.new.parts) c.in-Ended.ending c.of-self-inside.result c.requires.none c.begin.ensures.did walked kept in
+    let p = polled_at_once cell_of own g.W.TaskWaker.whose g.S.TaskSide.state g.S.Side.did g.met.S.TaskSide.tells MAX_WAITERS
+    (own c.self.inside.parts) c.begin.new.self c.args.side.now (step_of_poll c.new-first.result) c.first_steps.new.self c.first_steps.new.parts c.first_steps.new.side
+    c.first_steps.result c.in-Ended.ending c.of-self-inside.result
+    c.requires.none c.begin.ensures.did stands (c.first_steps.ensures.lines MAX_WAITERS) c.in-Ended.is c.of-self-inside.ensures.is in
     rw (← c.self.view_is) (record {
-      cell = went.cell_is ∙ c.begin.ensures.cell;
-      number = p.number;
-      end = p.end;
-      woke = p.woke;
-      error = p.error;
-      finished = p.finished;
-      not_dropped = p.poll;
+      cell = p.0 ∙ c.begin.ensures.cell;
+      number = p.1.number;
+      end = p.1.end;
+      woke = p.1.woke;
+      error = p.1.error;
+      finished = p.1.finished;
+      not_dropped = p.1.poll;
       stays = c.first_steps.ensures.stays;
     })
 
@@ -96,18 +89,11 @@ invariant_of-self-inside-in-Ended g c =
     let stands = begins_at g.W.TaskWaker.whose (g.S.TaskSide.state c.args.side.now) (own c.self.inside.parts) (own c.begin.new.self) c.self.inside.idle
     (step_of_poll c.new-first.result) number c.requires.none live (c.self.inside.stands live) c.begin.ensures.did
     (ap step_of_poll (ap step_of new ∙ sym c.new-first.ensures)) in
-    let went = steps_went cell_of own g.W.TaskWaker.whose g.S.TaskSide.state g.S.Side.did g.met.S.TaskSide.tells MAX_WAITERS false
-    (step_of_poll c.new-first.result) c.begin.new.self c.args.side.now c.first_steps.new.self c.first_steps.new.parts c.first_steps.new.side
-    c.first_steps.result stands (c.first_steps.ensures.lines MAX_WAITERS) in
-    let walked = subst (λ r. Walked (g.S.TaskSide.state c.args.side.now) (own c.begin.new.self) r
-    (g.S.TaskSide.state c.first_steps.new.side) (own c.first_steps.new.parts)) c.in-Ended.is went.walked in
-    let at = subst (λ r. Stands g.W.TaskWaker.whose false (g.S.TaskSide.state c.first_steps.new.side) (own c.first_steps.new.parts) r c.first_steps.new.self)
-    c.in-Ended.is went.stands in
-    let kept = subst (λ s. Stands g.W.TaskWaker.whose false (g.S.TaskSide.state c.first_steps.new.side) (own c.first_steps.new.parts) (Ended c.in-Ended.ending) s)
-    (sym c.of-self-inside.ensures.is) at in
-    let p = polled g.W.TaskWaker.whose (g.S.TaskSide.state c.args.side.now) (g.S.TaskSide.state c.first_steps.new.side) (own c.self.inside.parts) (own c.begin.new.self)
-    (own c.first_steps.new.parts) c.in-Ended.ending c.of-self-inside.result c.requires.none c.begin.ensures.did walked kept in
-    (λ l. p.stands, tt)
+    let p = polled_at_once cell_of own g.W.TaskWaker.whose g.S.TaskSide.state g.S.Side.did g.met.S.TaskSide.tells MAX_WAITERS
+    (own c.self.inside.parts) c.begin.new.self c.args.side.now (step_of_poll c.new-first.result) c.first_steps.new.self c.first_steps.new.parts c.first_steps.new.side
+    c.first_steps.result c.in-Ended.ending c.of-self-inside.result
+    c.requires.none c.begin.ensures.did stands (c.first_steps.ensures.lines MAX_WAITERS) c.in-Ended.is c.of-self-inside.ensures.is in
+    (λ l. p.1.stands, tt)
 
 pub steps_left-requires-in-More : goal.steps_left-requires-in-More
 steps_left-requires-in-More g c =
