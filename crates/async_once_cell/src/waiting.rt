@@ -80,7 +80,7 @@ impl<'a, T, F: Future, R: Wait + AllocGlobal> Waiting<'a, T, F, R> {
         self.task.record()
     }
 
-    /// As [`leave`](Self::leave), where its future is dropped.
+    /// The task of a future that is dropped leaves, as by [`leave`](Self::leave).
     #[inline(always)]
     pub(crate) fn discard(self)
         requires live { self.finished ≡ false }

@@ -1,9 +1,9 @@
 //! The future of an init that may fail. All other futures of the cells are made of it.
-ghost use Rattle.std.specs.Prelude.{◌≡◌, [], false, true, MatchOption, reverse};
+ghost use Rattle.std.specs.Prelude.{◌≡◌, [], false, true, MatchOption, Some, reverse};
 ghost use mathlib.Core.List.{IsPrefix};
 ghost use Rattle.async_once_cell.specs.Futures.{HasBook, IsAsked, is_of_owned, view_of_future, is_done, seen_of};
 ghost use Rattle.async_once_cell.specs.Polls.{Answers, DidPoll, HasLeft, Polls, PollsAs, ending_by, ending_in};
-ghost use Rattle.async_once_cell.specs.Tokens.{IsSetIn};
+ghost use Rattle.async_once_cell.specs.Tokens.{Agrees, IsSetIn};
 ghost use Rattle.async_once_cell.specs.Views.{CellView, is_shared};
 ghost use Rattle.once_world.specs.Record.{Once};
 ghost use Rattle.once_world.specs.Run.{AtEvery, IsRun};
@@ -271,13 +271,21 @@ where
             return Poll::Ready(Ok(token.learn(self.cell).unwrap()));
         }
         match self.poll(cx) {
-            // The token learns that the cell is set, and so it finds the value.
-            Poll::Ready(Ok(_)) => {
-                self.tell(token);
-                Poll::Ready(Ok(token.learn(self.cell).unwrap()))
-            }
+            Poll::Ready(Ok(_)) => Poll::Ready(Ok(self.teach(token))),
             polled => polled,
         }
+    }
+
+    // The value of a cell that the future has seen set. The token learns so too, and finds the value.
+    fn teach(&self, token: &mut Known<'a, T>) -> &'a T
+        requires token_of_this_cell { token.old.cell ≡ self.now.cell }
+        requires set { IsSetIn self.now.cell self.now.log }
+        ensures cell { token.new.cell ≡ token.old.cell }
+        ensures value { (token.new.value ≡ Some result.now) × Agrees token.old.value result.now }
+        ensures log { IsPrefix token.old.log token.new.log }
+    {
+        self.tell(token);
+        token.learn(self.cell).unwrap()
     }
 }
 

@@ -1,5 +1,5 @@
 //! The calls by which a thread waits for a value.
-ghost use Rattle.std.specs.Prelude.{◌≡◌, false};
+ghost use Rattle.std.specs.Prelude.{◌≡◌, None, false};
 ghost use mathlib.Core.List.{IsPrefix};
 ghost use Rattle.async_once_cell.specs.Sure.{IsSameAnswer};
 ghost use Rattle.async_once_cell.specs.Polls.{Waits};
@@ -82,8 +82,24 @@ where
         if let Some(value) = self.cell().get_as(token) {
             return Ok(Ok(value));
         }
-        let rt = self.rt();
         parker.begin()?;
+        self.wait_begun(token, parker)
+    }
+
+    // The wait of a token that knows nothing, by a parker that has begun.
+    fn wait_begun(
+        mut self,
+        token: &mut Known<'a, T>,
+        parker: &mut Parker,
+    ) -> io::Result<Result<&'a T, InitError<E>>>
+        requires unfinished { self.finished ≡ false }
+        requires token_of_this_cell { token.old.cell ≡ self.cell }
+        requires nothing_known { token.old.value ≡ None }
+        ensures cell { token.new.cell ≡ token.old.cell }
+        ensures value { Waits token.old.value token.new.value result }
+        ensures log { IsPrefix token.old.log token.new.log }
+    {
+        let rt = self.rt();
         for _ in rt.forever() {
             let mut cx = parker.next(rt)?;
             let polled = self.poll_as(&mut cx, token);

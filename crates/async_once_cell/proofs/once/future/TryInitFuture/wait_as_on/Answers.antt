@@ -1,9 +1,6 @@
--- What the token learns: from the cell before the wait, or from the last poll.
+-- A token that finds the value learns it.
 use Rattle.std.proofs.Common.{rules}
 use Rattle.async_once_cell.proofs.once.future.TryInitFuture.wait_as_on.Goals as goal
 
 pub returns-in-Some-clause-value : goal.returns-in-Some-clause-value
 returns-in-Some-clause-value g c = search rules
-
-pub returns-in-Ready-clause-value : goal.returns-in-Ready-clause-value
-returns-in-Ready-clause-value g c = search rules
