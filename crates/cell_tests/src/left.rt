@@ -9,7 +9,7 @@ const FREE: &str = "Inner { ready: false, quick_init: false, refcount: 0, queue:
 /// The value is set, nobody is counted, and no queue stands.
 pub const FILLED: &str = "Inner { ready: true, quick_init: false, refcount: 0, queue: false } }";
 
-/// Whether the text that a cell shows of itself has this in it.
+/// Whether this stands in the text that a cell shows of itself.
 pub fn has_text<R: AllocGlobal>(rt: &R, cell: &impl Debug, wanted: &str) -> bool {
     match format!(in rt.alloc(); "{cell:?}") {
         Ok(text) => text.contains(wanted),

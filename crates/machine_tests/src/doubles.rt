@@ -1,5 +1,5 @@
-//! What tests share that knows no cell: worked schedules and their reader, a machine without memory, a writer that
-//! fails, and how the text ends that a value shows of itself.
+//! What tests of cells use too, and what knows no cell: worked schedules and their reader, a machine without memory, a
+//! writer that fails, and a look at how a Debug text ends.
 
 pub mod memory;
 pub mod rows;

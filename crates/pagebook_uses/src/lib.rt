@@ -10,7 +10,5 @@
 pub mod first;
 pub mod hall;
 pub mod shelf;
-#[cfg(test)]
-mod tests;
 pub mod tickets;
 pub mod turns;

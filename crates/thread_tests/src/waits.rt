@@ -27,14 +27,20 @@ fn values_of_cells<R>(rt: &R, done: &AtomicU64) -> Result<[u64; 4], Fault>
 where
     R: Wait + RandomSource + AllocGlobal,
 {
-    let (one, two, three) = (OnceCell::new(), OnceCell::new(), OnceCell::new());
-    let told = [
-        value(rt, &one, done)?,
-        *lent(rt, &two, done)?,
-        *by_any(rt, &three, ready(20))??,
-        *by_any(rt, &three, slow(1, done))??,
-    ];
-    Ok(told)
+    let (one, two) = (OnceCell::new(), OnceCell::new());
+    let (first, second) = (value(rt, &one, done)?, *lent(rt, &two, done)?);
+    let [third, fourth] = values_by_any(rt, done)?;
+    Ok([first, second, third, fourth])
+}
+
+// What a caller that names no kind of init is told, first with one that is ready.
+fn values_by_any<R>(rt: &R, done: &AtomicU64) -> Result<[u64; 2], Fault>
+where
+    R: Wait + RandomSource + AllocGlobal,
+{
+    let cell = OnceCell::new();
+    let first = *by_any(rt, &cell, ready(20))??;
+    Ok([first, *by_any(rt, &cell, slow(1, done))??])
 }
 
 // What is told by a `Lazy`, by one over another, and by a cell in a struct.
@@ -43,12 +49,15 @@ where
     R: Wait + RandomSource + AllocGlobal,
 {
     let lazy = Lazy::new(slow(25, done));
-    let told = [
-        forced(rt, &lazy)?,
-        doubled(rt, done)?,
-        *Service::new().value(rt)?,
-    ];
-    Ok(told)
+    Ok([forced(rt, &lazy)?, doubled(rt, done)?, served(rt)?])
+}
+
+// What is told by a cell in a struct.
+fn served<R>(rt: &R) -> Result<u64, Fault>
+where
+    R: Wait + RandomSource + AllocGlobal,
+{
+    Ok(*Service::new().value(rt)?)
 }
 
 /// An empty cell answers the value of the init that was given, also where the init borrows and is
@@ -106,9 +115,24 @@ where
     R: Wait + RandomSource + AllocGlobal,
 {
     let mut parker = Parker::new(rt)?;
-    let (one, two) = (Lazy::new(slow(28, done)), Lazy::new(slow(29, done)));
-    let first = forced_on(rt, &one, &mut parker)?;
-    Ok([first, forced_as_on(rt, &two, &mut parker)?])
+    let first = forced_without_a_token(rt, done, &mut parker)?;
+    Ok([first, forced_with_a_token(rt, done, &mut parker)?])
+}
+
+fn forced_without_a_token<R>(rt: &R, done: &AtomicU64, parker: &mut Parker) -> Result<u64, Fault>
+where
+    R: Wait + RandomSource + AllocGlobal,
+{
+    let lazy = Lazy::new(slow(28, done));
+    forced_on(rt, &lazy, parker)
+}
+
+fn forced_with_a_token<R>(rt: &R, done: &AtomicU64, parker: &mut Parker) -> Result<u64, Fault>
+where
+    R: Wait + RandomSource + AllocGlobal,
+{
+    let lazy = Lazy::new(slow(29, done));
+    forced_as_on(rt, &lazy, parker)
 }
 
 /// Two lazy cells are waited for by one parker, and each init is done once.

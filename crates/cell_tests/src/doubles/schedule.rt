@@ -174,6 +174,20 @@ struct Scene<'a, 'i, R> {
 }
 
 impl<'a, 'i: 'a, R: Wait + AllocGlobal> Scene<'a, 'i, R> {
+    fn new(
+        rt: &'a R,
+        (cell, lazy): (&'a OnceCell<u64>, &'a Lazy<u64, Init<'i, u64>>),
+        (inits, tasks): (&'i Inits, &'a Tasks),
+    ) -> Self {
+        Scene {
+            rt,
+            cell,
+            lazy,
+            inits,
+            tasks,
+        }
+    }
+
     // A future of this kind. None stands for every other word.
     fn made(&self, word: &str, wanted: &'a str) -> Option<Made<'a, 'i, R>> {
         let (rt, cell, inits) = (self.rt, self.cell, self.inits);
@@ -264,15 +278,20 @@ impl<'a, 'i: 'a, R: Wait + AllocGlobal> Schedule<'a, 'i, R> {
 
     fn run(&mut self, name: &str, lines: &'a str) -> Result<(), Fail> {
         for line in lines.lines() {
-            let (order, wanted) = line.split_once(" => ").unwrap_or((line, "so"));
-            let (turns, order) = order.split_once(" * ").unwrap_or(("1", order));
-            let Some((from, to)) = turns_in(turns) else {
-                return Err(Fail::new(format_args!("{line} in {name} can't be read")));
-            };
-            for turn in from..to {
-                self.turn = turn;
-                self.follow(name, order, wanted)?;
-            }
+            self.run_line(name, line)?;
+        }
+        Ok(())
+    }
+
+    fn run_line(&mut self, name: &str, line: &'a str) -> Result<(), Fail> {
+        let (order, wanted) = line.split_once(" => ").unwrap_or((line, "so"));
+        let (turns, order) = order.split_once(" * ").unwrap_or(("1", order));
+        let Some((from, to)) = turns_in(turns) else {
+            return Err(Fail::new(format_args!("{line} in {name} can't be read")));
+        };
+        for turn in from..to {
+            self.turn = turn;
+            self.follow(name, order, wanted)?;
         }
         Ok(())
     }
@@ -415,22 +434,15 @@ fn compare(
 
 fn run_part<'s, 'i: 's, R>(
     rt: &'s R,
-    (cell, lazy): (&'s OnceCell<u64>, &'s Lazy<u64, Init<'i, u64>>),
-    (inits, tasks): (&'i Inits, &'s Tasks),
+    cells: (&'s OnceCell<u64>, &'s Lazy<u64, Init<'i, u64>>),
+    doubles: (&'i Inits, &'s Tasks),
     name: &str,
     lines: &'s str,
 ) -> Result<(), Fail>
 where
     R: Wait + AllocGlobal,
 {
-    let scene = Scene {
-        rt,
-        cell,
-        lazy,
-        inits,
-        tasks,
-    };
-    Schedule::new(scene)?.run(name, lines)
+    Schedule::new(Scene::new(rt, cells, doubles))?.run(name, lines)
 }
 
 // What comes out of the cell, with the tasks that this woke.

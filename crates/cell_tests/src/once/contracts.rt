@@ -1,5 +1,5 @@
 //! Callers with contracts of their own, which rest on those of the cells.
-ghost use Rattle.std.specs.Prelude.{◌≡◌, ◌⊎◌, IfSome, None, true, false, reverse};
+ghost use Rattle.std.specs.Prelude.{◌≡◌, ◌⊎◌, IfSome, true, false, reverse};
 ghost use Rattle.std.specs.Option.{is_some};
 ghost use mathlib.Core.List.{IsPrefix};
 ghost use Rattle.async_once_cell.specs.Record.{End, Once, Value};
@@ -110,7 +110,7 @@ fn has_answered<'a, R: Wait + AllocGlobal>(
     matches!(future.poll(cx), Poll::Ready(Ok(_)))
 }
 
-// What one token answers after two looks, after a poll and a look, and after another was told.
+// Whether a token finds nothing in two looks, finds the value after its own poll, and after another future told it.
 fn are_told<'a, R: Wait + AllocGlobal>(
     rt: &'a R,
     cx: &mut Context<'_>,
@@ -148,9 +148,9 @@ fn contracts_at_work(rt: HostRuntime) -> Result<(), Fail> {
     let (task, stub, cell) = (MockTask::new(&rt)?, Stub::giving(4), OnceCell::new());
     let are_told = task.enter(|cx| are_told(&rt, cx, &cell, &stub));
     let has_answered = task.enter(|cx| has_answered(&mut cell.get_or_init(&rt, stub.init()), cx));
-    let are_found = [is_found(&cell), is_learned(&cell)];
+    let are_right = [is_found(&cell), is_learned(&cell)];
     assert_eq!(rt;
-        (are_told, has_answered, are_found),
+        (are_told, has_answered, are_right),
         ([true; 3], true, [true; 2])
     );
     Ok(())

@@ -2,6 +2,7 @@
 
 use crate::doubles::value::{Makes, Value};
 use async_once_cell::OnceCell;
+use async_once_cell::once::InitFuture;
 use futures::future::pending;
 use futures::test::MockTask;
 use machine_tests::doubles::memory::{Rations, hoard_most};
@@ -68,6 +69,17 @@ fn value_lent_for_writing(rt: HostRuntime) -> Result<(), Fail> {
     Ok(())
 }
 
+// Polls a future with this ration of memory.
+fn poll_rationed<'d, R: Wait + AllocGlobal>(
+    task: &MockTask,
+    future: &mut InitFuture<'_, Value<'d>, Makes<'d>, R>,
+    rations: &mut Rations,
+) -> Result<(), AllocError> {
+    let held = rations.begin()?;
+    let _ = task.poll(future);
+    rations.end(held)
+}
+
 // A future waits while another holds, with this ration of memory. The other is dropped, and the one who waits,
 // or a third, makes a value. Whether it did, and how often it was dropped before its cell was, and with it.
 fn made_after<R: Wait + AllocGlobal>(
@@ -81,9 +93,7 @@ fn made_after<R: Wait + AllocGlobal>(
     let mut waiter = cell.get_or_init(rt, Makes { drops: &drops });
     let mut third = cell.get_or_init(rt, Makes { drops: &drops });
     let is_held = tasks[0].poll(&mut holder).is_pending();
-    let held = rations.begin()?;
-    let _ = tasks[1].poll(&mut waiter);
-    rations.end(held)?;
+    let waits = poll_rationed(&tasks[1], &mut waiter, rations);
     drop(holder);
     if !waiter.is_finished() {
         let _ = tasks[1].poll(&mut waiter);
@@ -93,6 +103,7 @@ fn made_after<R: Wait + AllocGlobal>(
     drop(third);
     let before = drops.get();
     drop(cell);
+    waits?;
     Ok((is_held && is_made, [before, drops.get()]))
 }
 

@@ -1,59 +1,34 @@
-//! What a cell shows while the init of a future that leaves it is dropped.
+//! What a cell shows while the init of a future is dropped that is polled with a token that knows the value.
 ghost use Rattle.std.specs.Prelude.{◌≡◌, IfSome, false};
 
+use crate::doubles::made::Looks;
 use crate::doubles::poll::heard;
 use crate::doubles::stub::Stub;
-use crate::left::has_text;
 use async_once_cell::OnceCell;
 use async_once_cell::once::InitFuture;
 use async_once_cell::world::Reply;
-use futures::Future;
-use futures::task::{Context, Poll};
+use futures::task::Context;
 use futures::test::MockTask;
 use std::alloc::AllocGlobal;
 use std::cell::Cell;
 use std::sync::Wait;
 use std::test::Fail;
 
-/// An init that gives nothing. Where it is dropped it notes whether its task is counted still.
-struct Watching<'c, R: AllocGlobal> {
-    rt: &'c R,
-    cell: &'c OnceCell<u64>,
-    was_counted: &'c Cell<Option<bool>>,
-}
+// The value is set, and the future that leaves is counted still.
+const COUNTED: &str = "Inner { ready: true, quick_init: false, refcount: 1, queue: true } }";
 
-impl<R: AllocGlobal> Future for Watching<'_, R> {
-    type Output = u64;
-
-    fn poll(&mut self, cx: &mut Context<'_>) -> Poll<u64> {
-        cx.yield_now()
-    }
-}
-
-impl<R: AllocGlobal> Drop for Watching<'_, R> {
-    fn drop(self) {
-        let Watching {
-            rt,
-            cell,
-            was_counted,
-        } = self;
-        was_counted.set(Some(has_text(rt, cell, "refcount: 1, queue: true")));
-    }
-}
-
-type Waiter<'a, R> = InitFuture<'a, u64, Watching<'a, R>, R>;
-
-// A future that waits, while another sets the value of the cell. None if it does not wait.
+// A future that waits, while another sets the value of the cell to 2. None if it does not wait.
 fn waiter<'a, R: Wait + AllocGlobal>(
+    rt: &'a R,
     cell: &'a OnceCell<u64>,
-    watching: Watching<'a, R>,
+    looks: Looks<'a>,
     cx: &mut Context<'_>,
-) -> Option<Waiter<'a, R>>
+) -> Option<InitFuture<'a, u64, Looks<'a>, R>>
     ensures { IfSome result (λ f. (f.cell ≡ cell.now) × (f.finished ≡ false)) }
 {
-    let (rt, stub) = (watching.rt, Stub::new());
+    let stub = Stub::new();
     let mut holder = cell.get_or_init(rt, stub.init());
-    let mut waiter = cell.get_or_init(rt, watching);
+    let mut waiter = cell.get_or_init(rt, looks);
     let (first, second) = (holder.poll(cx), waiter.poll(cx));
     if first.is_ready() || second.is_ready() {
         return None;
@@ -63,57 +38,32 @@ fn waiter<'a, R: Wait + AllocGlobal>(
     Some(waiter)
 }
 
-// Drops a future that waits, and answers what its init had noted before.
-fn left_by_a_drop<'a, R: Wait + AllocGlobal>(
-    cell: &'a OnceCell<u64>,
-    watching: Watching<'a, R>,
-    cx: &mut Context<'_>,
-) -> Option<Option<bool>> {
-    let was_counted = watching.was_counted;
-    let waiter = waiter(cell, watching, cx)?;
-    let before = was_counted.get();
-    drop(waiter);
-    Some(before)
-}
-
-// Polls a future that waits with a token that knows the value, and answers what its init has noted then.
+// What a poll with a token that knows the value answers to a future that waits.
 fn left_by_a_poll<'a, R: Wait + AllocGlobal>(
-    cell: &'a OnceCell<u64>,
-    watching: Watching<'a, R>,
+    rt: &'a R,
+    looks: Looks<'a>,
     cx: &mut Context<'_>,
-) -> Option<(Reply, Option<bool>)> {
-    let was_counted = watching.was_counted;
-    let mut waiter = waiter(cell, watching, cx)?;
+) -> Option<Reply> {
+    let cell = looks.cell;
+    let mut waiter = waiter(rt, cell, looks, cx)?;
     let mut token = cell.token();
     let _ = cell.get_as(&mut token);
-    let told = heard(waiter.poll_as(cx, &mut token));
-    Some((told, was_counted.get()))
+    Some(heard(waiter.poll_as(cx, &mut token)))
 }
 
-/// A future that is dropped drops its init, and then leaves.
-#[test]
-fn init_dropped_before_its_future_leaves(rt: HostRuntime) -> Result<(), Fail> {
-    let (task, cell, was_counted) = (MockTask::new(&rt)?, OnceCell::new(), Cell::new(None));
-    let watching = Watching {
-        rt: &rt,
-        cell: &cell,
-        was_counted: &was_counted,
-    };
-    let before = task.enter(|cx| left_by_a_drop(&cell, watching, cx));
-    assert_eq!(rt; (before, was_counted.get()), (Some(None), Some(true)));
-    Ok(())
-}
-
-/// So does one that is polled with a token that knows the value.
+/// The init is dropped, and then the future leaves. `schedules` has the same of a future that is dropped.
 #[test]
 fn init_dropped_before_a_knowing_poll_leaves(rt: HostRuntime) -> Result<(), Fail> {
-    let (task, cell, was_counted) = (MockTask::new(&rt)?, OnceCell::new(), Cell::new(None));
-    let watching = Watching {
-        rt: &rt,
+    let (task, cell, found) = (MockTask::new(&rt)?, OnceCell::new(), Cell::new(None));
+    let stub = Stub::new();
+    let looks = Looks {
         cell: &cell,
-        was_counted: &was_counted,
+        alloc: rt.alloc(),
+        wanted: COUNTED,
+        found: &found,
+        stub: &stub,
     };
-    let told = task.enter(|cx| left_by_a_poll(&cell, watching, cx));
-    assert_eq!(rt; told, Some((Reply::Value(2), Some(true))));
+    let told = task.enter(|cx| left_by_a_poll(&rt, looks, cx));
+    assert_eq!(rt; (told, found.get()), (Some(Reply::Value(2)), Some(true)));
     Ok(())
 }

@@ -11,18 +11,21 @@ use std::alloc::AllocGlobal;
 use std::sync::Wait;
 use std::test::Fail;
 
-// Polls a future by a new task of the queue.
-fn poll_by<R: Wait + AllocGlobal>(
+// Polls a future by a new task of the queue. Whether that could be made.
+fn is_polled_by<R: Wait + AllocGlobal>(
     rt: &R,
     queue: &Queue,
     future: &mut InitFuture<'_, u64, Ready<u64>, R>,
-) -> Result<(), Fail> {
-    queue.add()?.schedule();
+) -> bool {
+    let Ok(task) = queue.add() else {
+        return false;
+    };
+    task.schedule();
     if let Some(mut cx) = queue.next(rt) {
         let polled = Future::poll(future, &mut cx);
         cx.end(&polled);
     }
-    Ok(())
+    true
 }
 
 // The number of the task that was called first of those that were not looked for yet.
@@ -42,11 +45,11 @@ fn called_as_they_were_listed(rt: HostRuntime) -> Result<(), Fail> {
     let is_held = task.poll(&mut holder).is_pending();
     let mut one = cell.get_or_init(&rt, ready(1));
     let mut two = cell.get_or_init(&rt, ready(2));
-    poll_by(&rt, &queue, &mut one)?;
-    poll_by(&rt, &queue, &mut two)?;
+    let are_listed = is_polled_by(&rt, &queue, &mut one) && is_polled_by(&rt, &queue, &mut two);
     stub.answer.set(Some(4));
     let is_filled = task.poll(&mut holder).is_ready();
     let order = [called(&rt, &queue), called(&rt, &queue)];
-    assert_eq!(rt; (is_held && is_filled, order), (true, [Some(0), Some(1)]));
+    let is_so = is_held && are_listed && is_filled;
+    assert_eq!(rt; (is_so, order), (true, [Some(0), Some(1)]));
     Ok(())
 }

@@ -109,15 +109,20 @@ impl<'a> Page<'a> {
             cell: 0,
             left_out: "",
         };
+        page.add_all(&legend, elements.as_slice())?;
+        Ok(page)
+    }
+
+    fn add_all(&mut self, legend: &Legend<'a>, elements: &[Element<'a>]) -> Result<(), Fault> {
         for element in elements.iter().filter(|element| !element.is_legend) {
             match element.name {
-                "svg" => page.width = element.number("width"),
-                "text" => page.add_word(element)?,
-                "rect" | "circle" | "path" => page.add_shape(&legend, element)?,
+                "svg" => self.width = element.number("width"),
+                "text" => self.add_word(element)?,
+                "rect" | "circle" | "path" => self.add_shape(legend, element)?,
                 _ => {}
             }
         }
-        Ok(page)
+        Ok(())
     }
 
     fn add_word(&mut self, element: &Element<'a>) -> Result<(), AllocError> {

@@ -53,14 +53,7 @@ struct Reading<'a> {
 /// Compares a picture with what the world says of these lines.
 pub fn compare(alloc: Global, svg: &str, story: &Story, window: Window) -> Result<Found, Fault> {
     let mut reading = read(alloc, svg, story, window)?;
-    reading.compare_labels()?;
-    reading.compare_band()?;
-    reading.compare_shapes()?;
-    reading.compare_arrows()?;
-    reading.compare_answers()?;
-    reading.compare_words("a look, and what it found")?;
-    reading.compare_words("the owner calls")?;
-    reading.compare_edges()?;
+    reading.compare()?;
     Ok(reading.found)
 }
 
@@ -71,12 +64,9 @@ fn read<'a>(
     story: &'a Story,
     window: Window,
 ) -> Result<Reading<'a>, Fault> {
+    let lanes = lanes_of(alloc, story, window)?;
     let page = Page::read(alloc, svg)?;
-    let is_band = |shape: &&Shape<'_>| is_cell(shape.meaning);
-    let lefts = page.shapes.iter().filter(is_band).map(|it| it.left);
-    let left = lefts.min().unwrap_or(0);
-    let rights = page.shapes.iter().filter(is_band).map(|it| it.right);
-    let right = rights.max().unwrap_or(0);
+    let (left, right) = band_of(&page);
     Ok(Reading {
         alloc,
         left,
@@ -84,7 +74,7 @@ fn read<'a>(
         page,
         story,
         window,
-        lanes: lanes_of(alloc, story, window)?,
+        lanes,
         columns: window.last.saturating_sub(window.first).saturating_add(1),
         found: Found {
             shapes: 0,
@@ -92,6 +82,14 @@ fn read<'a>(
             words: 0,
         },
     })
+}
+
+/// From where to where the row of the cell lies.
+fn band_of(page: &Page<'_>) -> (i64, i64) {
+    let is_band = |shape: &&Shape<'_>| is_cell(shape.meaning);
+    let lefts = page.shapes.iter().filter(is_band).map(|it| it.left);
+    let rights = page.shapes.iter().filter(is_band).map(|it| it.right);
+    (lefts.min().unwrap_or(0), rights.max().unwrap_or(0))
 }
 
 /// The tasks that are there at some of these lines.
@@ -111,6 +109,17 @@ fn is_cell(meaning: &str) -> bool {
 }
 
 impl<'a> Reading<'a> {
+    fn compare(&mut self) -> Result<(), Fault> {
+        self.compare_labels()?;
+        self.compare_band()?;
+        self.compare_shapes()?;
+        self.compare_arrows()?;
+        self.compare_answers()?;
+        self.compare_words("a look, and what it found")?;
+        self.compare_words("the owner calls")?;
+        self.compare_edges()
+    }
+
     fn differs<T>(&self, what: &str, column: usize) -> Result<T, Fault> {
         let line = self
             .story

@@ -1,4 +1,7 @@
 //! Scripts at random, from a seed.
+ghost use Rattle.std.specs.Prelude.{◌<◌, ◌≤◌};
+ghost use Rattle.once_world.specs.Reached.{IsReached};
+
 use super::chance::Chance;
 use super::fault::Fault;
 use super::story::{Said, Story, text_of};
@@ -55,26 +58,42 @@ pub fn play(alloc: Global, seed: u64) -> Result<Played, Fault> {
         Kind::LazyWith(value) => (true, Some(*value)),
     };
     schedule.is_lazy = is_lazy;
-    let limit = match schedule.chance.draw(8) {
-        0 => 1,
-        1 => 2,
-        _ => 100,
-    };
+    let limit = limit_of(&mut schedule.chance);
     let first = first_line(alloc, &kind, limit)?;
     let mut world = World::new(alloc, kind, limit);
     let mut story = Story::new(alloc, is_lazy, value);
     let number = schedule.write(first.as_str())?;
     story.note_first(&world, number, first)?;
-    for _ in 0..schedule.length() {
-        let said = schedule.next(&world)?;
-        let number = schedule.write(said.text.as_str())?;
-        story.take(&mut world, number, said)?;
-    }
-    story.close_all()?;
+    play_on(&mut schedule, &mut world, &mut story)?;
     Ok(Played {
         script: schedule.script,
         story,
     })
+}
+
+/// Plays all lines after the first.
+fn play_on(schedule: &mut Schedule, world: &mut World, story: &mut Story) -> Result<(), Fault>
+    requires reached { IsReached world.old }
+{
+    for _ in 0..schedule.length() {
+        let said = schedule.next(world)?;
+        let number = schedule.write(said.text.as_str())?;
+        story.take(world, number, said)?;
+    }
+    story.close_all()?;
+    Ok(())
+}
+
+/// The limit of the count. It is small now and then.
+fn limit_of(chance: &mut Chance) -> u64
+    ensures some { 0 < result }
+    ensures within { result ≤ 100 }
+{
+    match chance.draw(8) {
+        0 => 1,
+        1 => 2,
+        _ => 100,
+    }
 }
 
 /// The first line of a script.

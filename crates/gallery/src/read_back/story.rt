@@ -324,32 +324,33 @@ impl Story {
         entry: &Entry,
         before: &[Waiting],
         after: &[Waiting],
-    ) -> Result<(), Fault> {
+    ) -> Result<(), AllocError> {
         match entry {
-            Entry::Made(task) => self.make(*task)?,
-            Entry::Begin(task, _) => self.begin(*task, "a poll")?,
-            Entry::DropBegin(task) => self.begin(*task, "a drop")?,
-            Entry::Claim(task) => self.claim(*task),
-            Entry::Ran(task, answer) => self.run(*task, *answer)?,
+            Entry::Made(task) => self.make(*task),
+            Entry::Begin(task, _) => self.begin(*task, "a poll"),
+            Entry::DropBegin(task) => self.begin(*task, "a drop"),
+            Entry::Claim(task) => {
+                self.claim(*task);
+                Ok(())
+            }
+            Entry::Ran(task, answer) => self.run(*task, *answer),
             Entry::Free(task, wakers) | Entry::Pass(task, wakers) => {
-                self.call(*task, wakers, before, after)?;
+                self.call(*task, wakers, before, after)
             }
             Entry::Fill(task, value, wakers) => {
                 self.value = *value;
-                self.call(*task, wakers, before, after)?;
+                self.call(*task, wakers, before, after)
             }
-            Entry::End(task, reply) => self.end(world, *task, *reply)?,
-            Entry::DropEnd(task) => self.leave(*task)?,
-            Entry::Look(found) => self.look(*found)?,
-            Entry::Own(call, _) => self.own(call)?,
+            Entry::End(task, reply) => self.end(world, *task, *reply),
+            Entry::DropEnd(task) => self.leave(*task),
+            Entry::Look(found) => self.look(*found),
+            Entry::Own(call, _) => self.own(call),
         }
-        Ok(())
     }
 
-    fn look(&mut self, found: Option<u64>) -> Result<(), Fault> {
+    fn look(&mut self, found: Option<u64>) -> Result<(), AllocError> {
         let word = format!(in self.alloc; "{}", FoundWord(found))?;
-        self.mark(None, "a look, and what it found", word)?;
-        Ok(())
+        self.mark(None, "a look, and what it found", word)
     }
 
     /// The place of the line that is being played.
@@ -458,7 +459,7 @@ impl Story {
         wakers: &[u64],
         before: &[Waiting],
         after: &[Waiting],
-    ) -> Result<(), Fault> {
+    ) -> Result<(), AllocError> {
         self.release(number)?;
         let Some(caller) = self.place(number) else {
             return Ok(());
@@ -580,15 +581,17 @@ pub fn text_of(alloc: Global, input: &Input, times: u64) -> Result<String, Alloc
             format!(in alloc; "{word} {task} {}{refused}", AnswerWord(*answer))
         }
         Input::Look => String::from_str(alloc, "look"),
-        Input::Own(call) => match call {
-            Call::Take => String::from_str(alloc, "take"),
-            Call::Write(value) => format!(in alloc; "write {value}"),
-            Call::Parts => String::from_str(alloc, "parts"),
-            Call::ReplaceValue(value) => format!(in alloc; "replace with {value}"),
-            Call::ReplaceAnswers(answers) if answers.is_empty() => {
-                String::from_str(alloc, "replace")
-            }
-            Call::ReplaceAnswers(answers) => format!(in alloc; "replace {}", Answers(answers)),
-        },
+        Input::Own(call) => text_of_call(alloc, call),
+    }
+}
+
+fn text_of_call(alloc: Global, call: &Call) -> Result<String, AllocError> {
+    match call {
+        Call::Take => String::from_str(alloc, "take"),
+        Call::Write(value) => format!(in alloc; "write {value}"),
+        Call::Parts => String::from_str(alloc, "parts"),
+        Call::ReplaceValue(value) => format!(in alloc; "replace with {value}"),
+        Call::ReplaceAnswers(answers) if answers.is_empty() => String::from_str(alloc, "replace"),
+        Call::ReplaceAnswers(answers) => format!(in alloc; "replace {}", Answers(answers)),
     }
 }

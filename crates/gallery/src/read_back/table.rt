@@ -50,20 +50,7 @@ pub fn compare(alloc: Global, table: &str, story: &Story, window: Window) -> Res
         columns: Vec::new(alloc),
         cells: 0,
     };
-    for row in table.lines() {
-        if let Some(text) = row.strip_prefix("other tasks: ") {
-            reading.others = String::from_str(alloc, text)?;
-        } else if row.starts_with("line") {
-            reading.read_headers(row)?;
-        } else if row.is_empty() {
-            reading.others.clear();
-        } else {
-            reading.read_row(row)?;
-        }
-    }
-    if reading.at != window.last.saturating_add(1) {
-        return Err(Fault::Differs(format!(in alloc; "the table ends before line {}", reading.at)?));
-    }
+    reading.read_rows(table)?;
     Ok(reading.cells)
 }
 
@@ -76,31 +63,54 @@ fn cells_of(alloc: Global, row: &str) -> Result<Vec<&str>, AllocError> {
 }
 
 impl Reading<'_> {
+    fn read_rows(&mut self, table: &str) -> Result<(), Fault> {
+        for row in table.lines() {
+            if let Some(text) = row.strip_prefix("other tasks: ") {
+                self.others = String::from_str(self.alloc, text)?;
+            } else if row.starts_with("line") {
+                self.read_headers(row)?;
+            } else if row.is_empty() {
+                self.others.clear();
+            } else {
+                self.read_row(row)?;
+            }
+        }
+        if self.at != self.window.last.saturating_add(1) {
+            return self.differs("the end", "more rows");
+        }
+        Ok(())
+    }
+
     /// Reads the headers of a part. It has a column for each task that lives, or it says how many others there
     /// are.
     fn read_headers(&mut self, row: &str) -> Result<(), Fault> {
         let cells = cells_of(self.alloc, row)?;
         self.columns.clear();
         for (index, cell) in cells.iter().enumerate() {
-            if let Some(header) = HEADERS.get(index) {
-                self.same(cell, header)?;
-            } else if index.saturating_add(1) == cells.len() {
-                self.same(cell, "record")?;
-            } else {
-                let number = cell
-                    .strip_prefix("task ")
-                    .and_then(|it| it.parse::<u64>().ok());
-                match number.and_then(|it| self.story.place(it)) {
-                    Some(place) => self.add_column(place)?,
-                    None => return self.differs(cell, "a task"),
-                }
-            }
+            self.read_header(cell, index, cells.len())?;
         }
         if self.columns.len() > MOST_TASKS {
             return self.differs(row, "so many tasks at most");
         }
         let wanted = self.others_now()?;
         self.same(self.others.as_str(), wanted.as_str())
+    }
+
+    /// Reads the header with this index, of so many.
+    fn read_header(&mut self, cell: &str, index: usize, count: usize) -> Result<(), Fault> {
+        if let Some(header) = HEADERS.get(index) {
+            return self.same(cell, header);
+        }
+        if index.saturating_add(1) == count {
+            return self.same(cell, "record");
+        }
+        let number = cell
+            .strip_prefix("task ")
+            .and_then(|it| it.parse::<u64>().ok());
+        match number.and_then(|it| self.story.place(it)) {
+            Some(place) => self.add_column(place),
+            None => self.differs(cell, "a task"),
+        }
     }
 
     /// Columns are in the order in which their tasks were made, and none comes twice.
@@ -112,22 +122,22 @@ impl Reading<'_> {
         Ok(())
     }
 
-    /// How many tasks live before the next line and have no column.
-    fn others_now(&self) -> Result<String, AllocError> {
-        let mut text = String::new(self.alloc);
+    /// How many tasks live before the next line and have no column: new ones, those that wait, those that hold, and
+    /// those in a call.
+    fn counts_now(&self) -> [u64; 4] {
+        let mut counts = [0u64; 4];
         let before = self
             .at
             .checked_sub(1)
             .and_then(|at| self.story.lines.get(at));
         let Some(line) = before else {
-            return Ok(text);
+            return counts;
         };
         let others = line
             .stands
             .iter()
             .enumerate()
             .filter(|(place, _)| !self.columns.contains(place));
-        let mut counts = [0u64; 4];
         for (_, stand) in others {
             match *stand {
                 "gone" => {}
@@ -137,7 +147,14 @@ impl Reading<'_> {
                 _ => raise(&mut counts[3]),
             }
         }
-        for (count, word) in counts
+        counts
+    }
+
+    /// The same in words.
+    fn others_now(&self) -> Result<String, AllocError> {
+        let mut text = String::new(self.alloc);
+        for (count, word) in self
+            .counts_now()
             .iter()
             .zip(&["new", "waiting", "holding", "in a call"])
         {

@@ -1,5 +1,5 @@
 // Sides that use another task of their cell in the middle of a step of their own.
-ghost use Rattle.std.specs.Prelude.{◌≡◌, ◌↔◌, ℕ, [], refl, false};
+ghost use Rattle.std.specs.Prelude.{◌≡◌, [], refl, false};
 ghost use Rattle.std.proofs.Common.{rules};
 
 use super::side::{Called, NOBODY, Seen, TestSide};

@@ -1,5 +1,5 @@
 // Whole calls of tasks, by the values, the bells and the inits that they lead to.
-ghost use Rattle.std.specs.Prelude.{◌≡◌, ◌↔◌, false, ℕ};
+ghost use Rattle.std.specs.Prelude.{◌≡◌, ◌↔◌, false};
 ghost use Rattle.once_book.specs.Record.{EndsSet};
 
 use super::side::{Called, NOBODY, Seen, TestSide};

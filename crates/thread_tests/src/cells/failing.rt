@@ -86,12 +86,8 @@ where
     R: Wait + AllocGlobal + Clock + RandomSource + Threads + Eprint + Sync,
 {
     let got = gathered(rt, cells)?;
-    let are_settled = cells.iter().all(|it| shows(rt, &it.cell, FILLED));
-    Ok((
-        alike(&got, &[1; CELLS as usize]),
-        filled(cells),
-        are_settled,
-    ))
+    let are_filled = cells.iter().all(|it| shows(rt, &it.cell, FILLED));
+    Ok((alike(&got, &[1; CELLS as usize]), filled(cells), are_filled))
 }
 
 /// Each cell is filled once, after all its failures, and all threads get that value. Nobody is left in any
@@ -155,9 +151,9 @@ where
     let done = AtomicU64::new(0);
     let lazies = lazies(rt.alloc(), &done)?;
     let got = gathered(rt, &lazies)?;
-    let are_settled = lazies.iter().all(|it| shows(rt, it, FILLED));
+    let are_filled = lazies.iter().all(|it| shows(rt, it, FILLED));
     let alike = alike(&got, &numbers(rt.alloc())?);
-    Ok((alike, done.load(Ordering::SeqCst), are_settled))
+    Ok((alike, done.load(Ordering::SeqCst), are_filled))
 }
 
 /// Threads drive one future by turns, and drop some of those by which they do. It is done once, and nobody

@@ -117,8 +117,8 @@ where
 {
     let got = gathered(rt, cells)?;
     let values = values(rt.alloc(), cells)?;
-    let are_settled = cells.iter().all(|it| shows(rt, &it.cell, FILLED));
-    Ok((alike(&got, &values), sound(cells, &values), are_settled))
+    let are_filled = cells.iter().all(|it| shows(rt, &it.cell, FILLED));
+    Ok((alike(&got, &values), sound(cells, &values), are_filled))
 }
 
 /// All threads get one value of a cell, whose inits gave a value once. Nobody is left in any cell.

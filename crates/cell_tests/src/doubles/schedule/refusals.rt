@@ -1,10 +1,12 @@
 //! Schedules of which each request for memory is refused in turn.
 
 use super::{Inits, Scene, Schedule, Tasks, most, named, turns_in};
+use crate::doubles::made::Made;
 use crate::doubles::poll::wake;
 use crate::doubles::stub::Init;
 use async_once_cell::world::Reply;
 use async_once_cell::{Lazy, OnceCell};
+use futures::test::MockTask;
 use machine_tests::doubles::memory::{Rations, Request, hoard_most};
 use std::alloc::{AllocError, AllocGlobal};
 use std::io;
@@ -82,46 +84,43 @@ impl<'a, 'i: 'a, R: Wait + AllocGlobal> Schedule<'a, 'i, R> {
 impl<'a, 'i: 'a, R: Wait + AllocGlobal> Scene<'a, 'i, R> {
     // Whether nobody is left in the cells, and a new future of each has its value.
     fn works(&self) -> Result<bool, AllocError> {
-        let (cell, lazy) = (self.shown()?, self.shown_lazy()?);
-        let are_left = |text: &str| LEFT.iter().any(|end| text.ends_with(end));
+        let are_left = is_left(self.shown()?.as_str()) && is_left(self.shown_lazy()?.as_str());
         let value = self.cell.get().copied().unwrap_or(7);
         let own = self.lazy.try_get().copied().unwrap_or(7);
         self.inits.set(Some(Ok(7)));
-        Ok(
-            are_left(cell.as_str())
-                && are_left(lazy.as_str())
-                && self.answers("init") == Some(Reply::Value(value))
-                && self.answers("get") == Some(Reply::Value(own)),
-        )
+        let answers = [self.answers("init"), self.answers("get")];
+        Ok(are_left && answers == [Some(Reply::Value(value)), Some(Reply::Value(own))])
     }
 
     // What a new future of this kind answers.
     fn answers(&self, word: &str) -> Option<Reply> {
         let task = self.tasks.tasks.first()?;
-        let (reply, _) = self.made(word, "")?.polled(task);
-        Some(reply)
+        Some(answer_of(self.made(word, "")?, task))
     }
+}
+
+// What a future answers to its only poll.
+fn answer_of<R: Wait + AllocGlobal>(mut made: Made<'_, '_, R>, task: &MockTask) -> Reply {
+    made.polled(task).0
+}
+
+// Whether a cell with this Debug text has nobody in it any more.
+fn is_left(text: &str) -> bool {
+    LEFT.iter().any(|end| text.ends_with(end))
 }
 
 // Runs a schedule with rations: whether nobody waits in vain, and the cells still work.
 fn works_after<'s, 'i: 's, R>(
     rt: &'s R,
-    (cell, lazy): (&'s OnceCell<u64>, &'s Lazy<u64, Init<'i, u64>>),
-    (inits, tasks): (&'i Inits, &'s Tasks),
+    cells: (&'s OnceCell<u64>, &'s Lazy<u64, Init<'i, u64>>),
+    doubles: (&'i Inits, &'s Tasks),
     lines: &'s str,
     rations: &mut Rations,
 ) -> Result<bool, AllocError>
 where
     R: Wait + AllocGlobal,
 {
-    let scene = Scene {
-        rt,
-        cell,
-        lazy,
-        inits,
-        tasks,
-    };
-    let mut schedule = Schedule::new(scene)?;
+    let mut schedule = Schedule::new(Scene::new(rt, cells, doubles))?;
     schedule.run_rationed(lines, rations)?;
     let settles = schedule.settles();
     schedule.futures.clear();

@@ -1,12 +1,12 @@
-// Each use is run by two threads, and a test looks at what they were told.
+//! The uses of `pagebook` at work: two threads run each, and a test looks at what they were told.
 ghost use Rattle.std.specs.Prelude.{◌≡◌};
 
-use crate::first::race;
-use crate::hall::{Arrival, Desk, HallRule, Page, visits};
-use crate::shelf::{Filled, OneFill, Shelf, Stage, fill_and_look, two_looks};
-use crate::tickets::draw_apart;
-use crate::turns::play;
 use pagebook::{Key, Keyed, KeyedMutex, Pens, Seen, Slot, Word, Written};
+use pagebook_uses::first::race;
+use pagebook_uses::hall::{Arrival, Desk, HallRule, Page, visits};
+use pagebook_uses::shelf::{Filled, OneFill, Shelf, Stage, fill_and_look, two_looks};
+use pagebook_uses::tickets::draw_apart;
+use pagebook_uses::turns::play;
 use std::alloc::{AllocError, AllocGlobal};
 use std::marker::Brand;
 use std::mem::size_of;

@@ -1,4 +1,4 @@
-use Rattle.pagebook_uses.proofs.tests.a_lock_keeps_its_book_and_shows_its_content.Given as goal
+use Rattle.machine_tests.proofs.book_uses.a_lock_keeps_its_book_and_shows_its_content.Given as goal
 
 -- the lock's own book
 abbrev pub ghosts-add : goal.ghosts-add
