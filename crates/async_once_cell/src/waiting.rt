@@ -80,7 +80,7 @@ impl<'a, T, F: Future, R: Wait + AllocGlobal> Waiting<'a, T, F, R> {
         self.task.record()
     }
 
-    /// The task of a future that is dropped leaves, as by [`leave`](Self::leave).
+    /// Drops the init, and then the task leaves: for a future that is dropped.
     #[inline(always)]
     pub(crate) fn discard(self)
         requires live { self.finished ≡ false }
@@ -94,7 +94,7 @@ impl<'a, T, F: Future, R: Wait + AllocGlobal> Waiting<'a, T, F, R> {
         leave_unfinished(task);
     }
 
-    /// As by a drop: the init is dropped, and then the task gives the right back, or leaves those who wait.
+    /// The same for a future that lives on: the task gives the right back, or leaves those who wait.
     #[inline(never)]
     pub(crate) fn leave(&mut self)
         requires live { self.old.finished ≡ false }

@@ -1,4 +1,4 @@
-//! The uses of `pagebook` at work: two threads run each, and a test looks at what they were told.
+//! The uses of `pagebook` at work, most of them by two threads; and the sizes and the lock of `pagebook`.
 ghost use Rattle.std.specs.Prelude.{◌≡◌};
 
 use pagebook::{Key, Keyed, KeyedMutex, Pens, Seen, Slot, Word, Written};
@@ -10,14 +10,13 @@ use pagebook_uses::turns::play;
 use std::alloc::{AllocError, AllocGlobal};
 use std::marker::Brand;
 use std::mem::size_of;
-use std::process::Abort;
 use std::sync::{Mutex, Wait};
 use std::test::*;
-use std::thread::Threads;
 
 /// How often each thread goes in and out, or tries.
 const TIMES: u32 = 500;
 
+/// What is ghost takes no bytes, and a lock whose content is of a book takes as many as any lock.
 #[test]
 fn what_is_ghost_has_no_bytes(rt: HostRuntime) -> Result<(), Fail> {
     let sizes = [
@@ -32,6 +31,7 @@ fn what_is_ghost_has_no_bytes(rt: HostRuntime) -> Result<(), Fail> {
     Ok(())
 }
 
+/// Just one of two threads is told that it came first.
 #[test]
 fn one_of_two_comes_first(rt: HostRuntime) -> Result<(), Fail> {
     let (one, two) = race(&rt);
@@ -39,6 +39,7 @@ fn one_of_two_comes_first(rt: HostRuntime) -> Result<(), Fail> {
     Ok(())
 }
 
+/// Two threads visit 500 times each. All visits are counted, and nobody is inside at the end.
 #[test]
 fn all_visitors_are_counted_and_gone(rt: HostRuntime) -> Result<(), Fail> {
     let (inside, entered, _log) = visits(&rt, TIMES);
@@ -46,6 +47,7 @@ fn all_visitors_are_counted_and_gone(rt: HostRuntime) -> Result<(), Fail> {
     Ok(())
 }
 
+/// The first player hits at least once, and as often as the second or once more.
 #[test]
 fn players_hit_in_turn(rt: HostRuntime) -> Result<(), Fail> {
     let (pings, pongs, _log) = play(&rt, TIMES);
@@ -54,7 +56,8 @@ fn players_hit_in_turn(rt: HostRuntime) -> Result<(), Fail> {
     Ok(())
 }
 
-// Of the four draws another thread makes two, so a draw is refused twice at most.
+/// Two threads draw two numbers each, which are 0 to 3. Of the four draws another thread makes two, so a draw is
+/// refused twice at most.
 #[test]
 fn four_numbers_are_drawn(rt: HostRuntime) -> Result<(), Fail> {
     let Some((a, b, c, d)) = draw_apart(&rt, 3) else {
@@ -66,6 +69,7 @@ fn four_numbers_are_drawn(rt: HostRuntime) -> Result<(), Fail> {
     Ok(())
 }
 
+/// Two threads find nothing before a fill, and the value after it.
 #[test]
 fn a_shelf_is_filled_and_both_find_the_value(rt: HostRuntime) -> Result<(), Fail> {
     let (shelf, filler) = Shelf::<u64>::new();
@@ -78,6 +82,7 @@ fn a_shelf_is_filled_and_both_find_the_value(rt: HostRuntime) -> Result<(), Fail
     Ok(())
 }
 
+/// A look beside a fill finds nothing or the value, and each later one finds the value.
 #[test]
 fn a_look_beside_a_fill_finds_nothing_or_the_value(rt: HostRuntime) -> Result<(), Fail> {
     let (shelf, filler) = Shelf::<u64>::new();
@@ -89,6 +94,7 @@ fn a_look_beside_a_fill_finds_nothing_or_the_value(rt: HostRuntime) -> Result<()
     Ok(())
 }
 
+/// The owner of a shelf sees the value once it is there, and takes it.
 #[test]
 fn an_owner_has_the_value(rt: HostRuntime) -> Result<(), Fail> {
     let (shelf, filler) = Shelf::<u64>::new();
@@ -139,6 +145,7 @@ fn shown_held<J: Key, R: Wait + AllocGlobal>(
     Ok(text)
 }
 
+/// Calls under a lock find the number of its book. What the lock shows is its content, where nobody holds it.
 #[test]
 fn a_lock_keeps_its_book_and_shows_its_content(rt: HostRuntime) -> Result<(), Fail> {
     let mut lock = KeyedMutex::new(Tally { number: 7, sum: 0 });

@@ -1,5 +1,5 @@
-//! What tests of cells use too, and what knows no cell: worked schedules and their reader, a machine without memory, a
-//! writer that fails, and a look at how a Debug text ends.
+//! What tests of cells use too. It knows no cell: worked schedules and their reader, a machine without memory, a
+//! writer that fails, and whether a Debug text ends so.
 
 pub mod memory;
 pub mod rows;

@@ -16,7 +16,7 @@ use once_queue::word::MAX_WAITERS;
 use std::alloc::AllocGlobal;
 use std::sync::Wait;
 
-/// Makes the steps that are left of a poll, and keeps where the next call begins.
+/// Makes the steps that are left of a poll, keeps where the next call begins, and answers how the poll ended.
 #[inline(never)]
 pub(crate) fn steps_left<T, W: TaskWaker + Drop, R: Wait + AllocGlobal, S: TaskSide<W, Value = T>>(
     parts: &mut Shared<'_, '_, T, W, R>,
@@ -38,8 +38,8 @@ pub(crate) fn steps_left<T, W: TaskWaker + Drop, R: Wait + AllocGlobal, S: TaskS
     ending
 }
 
-/// Makes one step of the call that is under way. `told` is what its last step told, for the contract alone. It
-/// may wait as [`Task::poll`](crate::task::Task::poll).
+/// Makes one step of the call that is under way. It may wait as [`Task::poll`](crate::task::Task::poll). `told` is
+/// what the last step told, for the contract alone.
 #[inline(always)]
 pub fn one_step<T, W: TaskWaker + Drop, R: Wait + AllocGlobal, S: TaskSide<W, Value = T>>(
     parts: &mut Shared<'_, '_, T, W, R>,

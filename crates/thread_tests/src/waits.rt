@@ -33,7 +33,8 @@ where
     Ok([first, second, third, fourth])
 }
 
-// What a caller that names no kind of init is told, first with one that is ready.
+// What a caller that names no kind of init is told: by an empty cell, with an init that is ready, and then by the
+// same cell, set.
 fn values_by_any<R>(rt: &R, done: &AtomicU64) -> Result<[u64; 2], Fault>
 where
     R: Wait + RandomSource + AllocGlobal,
@@ -109,7 +110,7 @@ fn value_that_a_token_knows(rt: HostRuntime) -> Result<(), Fail> {
     Ok(())
 }
 
-// What two lazy cells are told to give, by one parker: without a token, and with one.
+// What two lazy cells give, by one parker: without a token, and with one.
 fn forced_by_one_parker<R>(rt: &R, done: &AtomicU64) -> Result<[u64; 2], Fault>
 where
     R: Wait + RandomSource + AllocGlobal,

@@ -276,7 +276,7 @@ where
         }
     }
 
-    // The value of a cell that the future has seen set. The token learns so too, and finds the value.
+    // The value of the cell, which the future has seen set. The token is told that, and learns the value.
     fn teach(&self, token: &mut Known<'a, T>) -> &'a T
         requires token_of_this_cell { token.old.cell ≡ self.now.cell }
         requires set { IsSetIn self.now.cell self.now.log }

@@ -69,7 +69,7 @@ where
 
     /// As [`wait_as`](Self::wait_as), by a parker that the caller keeps.
     pub fn wait_as_on(
-        mut self,
+        self,
         token: &mut Known<'a, T>,
         parker: &mut Parker,
     ) -> io::Result<Result<&'a T, InitError<E>>>
@@ -86,7 +86,7 @@ where
         self.wait_begun(token, parker)
     }
 
-    // The wait of a token that knows nothing, by a parker that has begun.
+    // Polls until the future answers, with a token that knows nothing and a parker that has begun.
     fn wait_begun(
         mut self,
         token: &mut Known<'a, T>,

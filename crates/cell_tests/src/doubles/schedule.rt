@@ -435,14 +435,14 @@ fn compare(
 fn run_part<'s, 'i: 's, R>(
     rt: &'s R,
     cells: (&'s OnceCell<u64>, &'s Lazy<u64, Init<'i, u64>>),
-    doubles: (&'i Inits, &'s Tasks),
+    inits_and_tasks: (&'i Inits, &'s Tasks),
     name: &str,
     lines: &'s str,
 ) -> Result<(), Fail>
 where
     R: Wait + AllocGlobal,
 {
-    Schedule::new(Scene::new(rt, cells, doubles))?.run(name, lines)
+    Schedule::new(Scene::new(rt, cells, inits_and_tasks))?.run(name, lines)
 }
 
 // What comes out of the cell, with the tasks that this woke.

@@ -110,7 +110,7 @@ fn has_answered<'a, R: Wait + AllocGlobal>(
     matches!(future.poll(cx), Poll::Ready(Ok(_)))
 }
 
-// Whether a token finds nothing in two looks, finds the value after its own poll, and after another future told it.
+// Whether a token finds nothing, a second finds the value after a poll with it, and a third after a future told it.
 fn are_told<'a, R: Wait + AllocGlobal>(
     rt: &'a R,
     cx: &mut Context<'_>,
@@ -148,9 +148,9 @@ fn contracts_at_work(rt: HostRuntime) -> Result<(), Fail> {
     let (task, stub, cell) = (MockTask::new(&rt)?, Stub::giving(4), OnceCell::new());
     let are_told = task.enter(|cx| are_told(&rt, cx, &cell, &stub));
     let has_answered = task.enter(|cx| has_answered(&mut cell.get_or_init(&rt, stub.init()), cx));
-    let are_right = [is_found(&cell), is_learned(&cell)];
+    let are_known = [is_found(&cell), is_learned(&cell)];
     assert_eq!(rt;
-        (are_told, has_answered, are_right),
+        (are_told, has_answered, are_known),
         ([true; 3], true, [true; 2])
     );
     Ok(())

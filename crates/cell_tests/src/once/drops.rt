@@ -93,7 +93,7 @@ fn made_after<R: Wait + AllocGlobal>(
     let mut waiter = cell.get_or_init(rt, Makes { drops: &drops });
     let mut third = cell.get_or_init(rt, Makes { drops: &drops });
     let is_held = tasks[0].poll(&mut holder).is_pending();
-    let waits = poll_rationed(&tasks[1], &mut waiter, rations);
+    let polled = poll_rationed(&tasks[1], &mut waiter, rations);
     drop(holder);
     if !waiter.is_finished() {
         let _ = tasks[1].poll(&mut waiter);
@@ -103,7 +103,7 @@ fn made_after<R: Wait + AllocGlobal>(
     drop(third);
     let before = drops.get();
     drop(cell);
-    waits?;
+    polled?;
     Ok((is_held && is_made, [before, drops.get()]))
 }
 

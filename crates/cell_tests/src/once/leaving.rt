@@ -1,4 +1,4 @@
-//! What a cell shows while the init of a future is dropped that is polled with a token that knows the value.
+//! What a cell that is set shows while the init of a future is dropped that waits and leaves.
 ghost use Rattle.std.specs.Prelude.{◌≡◌, IfSome, false};
 
 use crate::doubles::made::Looks;
@@ -16,6 +16,22 @@ use std::test::Fail;
 
 // The value is set, and the future that leaves is counted still.
 const COUNTED: &str = "Inner { ready: true, quick_init: false, refcount: 1, queue: true } }";
+
+// An init that notes whether its future is counted still when it is dropped.
+fn looks<'a, R: AllocGlobal>(
+    rt: &R,
+    cell: &'a OnceCell<u64>,
+    found: &'a Cell<Option<bool>>,
+    stub: &'a Stub<u64>,
+) -> Looks<'a> {
+    Looks {
+        cell,
+        alloc: rt.alloc(),
+        wanted: COUNTED,
+        found,
+        stub,
+    }
+}
 
 // A future that waits, while another sets the value of the cell to 2. None if it does not wait.
 fn waiter<'a, R: Wait + AllocGlobal>(
@@ -38,32 +54,51 @@ fn waiter<'a, R: Wait + AllocGlobal>(
     Some(waiter)
 }
 
-// What a poll with a token that knows the value answers to a future that waits.
+// What the init of a future that waits has noted before the future is dropped, and after.
+fn left_by_a_drop<'a, R: Wait + AllocGlobal>(
+    rt: &'a R,
+    looks: Looks<'a>,
+    cx: &mut Context<'_>,
+) -> Option<[Option<bool>; 2]> {
+    let (cell, found) = (looks.cell, looks.found);
+    let waiter = waiter(rt, cell, looks, cx)?;
+    let before = found.get();
+    drop(waiter);
+    Some([before, found.get()])
+}
+
+// What a poll with a token that knows the value answers to a future that waits, and what its init has noted then.
 fn left_by_a_poll<'a, R: Wait + AllocGlobal>(
     rt: &'a R,
     looks: Looks<'a>,
     cx: &mut Context<'_>,
-) -> Option<Reply> {
-    let cell = looks.cell;
+) -> Option<(Reply, Option<bool>)> {
+    let (cell, found) = (looks.cell, looks.found);
     let mut waiter = waiter(rt, cell, looks, cx)?;
     let mut token = cell.token();
     let _ = cell.get_as(&mut token);
-    Some(heard(waiter.poll_as(cx, &mut token)))
+    let told = heard(waiter.poll_as(cx, &mut token));
+    Some((told, found.get()))
 }
 
-/// The init is dropped, and then the future leaves. `schedules` has the same of a future that is dropped.
+/// A future that is dropped drops its init, and then leaves.
+#[test]
+fn init_dropped_before_its_future_leaves(rt: HostRuntime) -> Result<(), Fail> {
+    let (task, cell, found) = (MockTask::new(&rt)?, OnceCell::new(), Cell::new(None));
+    let stub = Stub::new();
+    let looks = looks(&rt, &cell, &found, &stub);
+    let noted = task.enter(|cx| left_by_a_drop(&rt, looks, cx));
+    assert_eq!(rt; noted, Some([None, Some(true)]));
+    Ok(())
+}
+
+/// So does one that is polled with a token that knows the value.
 #[test]
 fn init_dropped_before_a_knowing_poll_leaves(rt: HostRuntime) -> Result<(), Fail> {
     let (task, cell, found) = (MockTask::new(&rt)?, OnceCell::new(), Cell::new(None));
     let stub = Stub::new();
-    let looks = Looks {
-        cell: &cell,
-        alloc: rt.alloc(),
-        wanted: COUNTED,
-        found: &found,
-        stub: &stub,
-    };
+    let looks = looks(&rt, &cell, &found, &stub);
     let told = task.enter(|cx| left_by_a_poll(&rt, looks, cx));
-    assert_eq!(rt; (told, found.get()), (Some(Reply::Value(2)), Some(true)));
+    assert_eq!(rt; told, Some((Reply::Value(2), Some(true))));
     Ok(())
 }

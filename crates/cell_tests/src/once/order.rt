@@ -11,8 +11,8 @@ use std::alloc::AllocGlobal;
 use std::sync::Wait;
 use std::test::Fail;
 
-// Polls a future by a new task of the queue. Whether that could be made.
-fn is_polled_by<R: Wait + AllocGlobal>(
+// Polls a future by a new task of the queue. Whether it was polled, and waits.
+fn is_listed_by<R: Wait + AllocGlobal>(
     rt: &R,
     queue: &Queue,
     future: &mut InitFuture<'_, u64, Ready<u64>, R>,
@@ -21,11 +21,12 @@ fn is_polled_by<R: Wait + AllocGlobal>(
         return false;
     };
     task.schedule();
-    if let Some(mut cx) = queue.next(rt) {
-        let polled = Future::poll(future, &mut cx);
-        cx.end(&polled);
-    }
-    true
+    let Some(mut cx) = queue.next(rt) else {
+        return false;
+    };
+    let polled = Future::poll(future, &mut cx);
+    cx.end(&polled);
+    polled.is_pending()
 }
 
 // The number of the task that was called first of those that were not looked for yet.
@@ -45,7 +46,7 @@ fn called_as_they_were_listed(rt: HostRuntime) -> Result<(), Fail> {
     let is_held = task.poll(&mut holder).is_pending();
     let mut one = cell.get_or_init(&rt, ready(1));
     let mut two = cell.get_or_init(&rt, ready(2));
-    let are_listed = is_polled_by(&rt, &queue, &mut one) && is_polled_by(&rt, &queue, &mut two);
+    let are_listed = is_listed_by(&rt, &queue, &mut one) && is_listed_by(&rt, &queue, &mut two);
     stub.answer.set(Some(4));
     let is_filled = task.poll(&mut holder).is_ready();
     let order = [called(&rt, &queue), called(&rt, &queue)];

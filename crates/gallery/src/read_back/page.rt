@@ -113,6 +113,7 @@ impl<'a> Page<'a> {
         Ok(page)
     }
 
+    /// Adds all elements but those of the legend.
     fn add_all(&mut self, legend: &Legend<'a>, elements: &[Element<'a>]) -> Result<(), Fault> {
         for element in elements.iter().filter(|element| !element.is_legend) {
             match element.name {

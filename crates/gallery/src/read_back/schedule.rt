@@ -71,7 +71,7 @@ pub fn play(alloc: Global, seed: u64) -> Result<Played, Fault> {
     })
 }
 
-/// Plays all lines after the first.
+/// Plays all lines after the first, and closes what is open in the story.
 fn play_on(schedule: &mut Schedule, world: &mut World, story: &mut Story) -> Result<(), Fault>
     requires reached { IsReached world.old }
 {
@@ -84,7 +84,7 @@ fn play_on(schedule: &mut Schedule, world: &mut World, story: &mut Story) -> Res
     Ok(())
 }
 
-/// The limit of the count. It is small now and then.
+/// Draws the limit of the count, which is small now and then.
 fn limit_of(chance: &mut Chance) -> u64
     ensures some { 0 < result }
     ensures within { result ≤ 100 }

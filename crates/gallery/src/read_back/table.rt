@@ -96,7 +96,7 @@ impl Reading<'_> {
         self.same(self.others.as_str(), wanted.as_str())
     }
 
-    /// Reads the header with this index, of so many.
+    /// Reads one header of `count`, by its index.
     fn read_header(&mut self, cell: &str, index: usize, count: usize) -> Result<(), Fault> {
         if let Some(header) = HEADERS.get(index) {
             return self.same(cell, header);
@@ -150,7 +150,7 @@ impl Reading<'_> {
         counts
     }
 
-    /// The same in words.
+    /// What the part is to say of tasks without a column: the counts in words, without those that are 0.
     fn others_now(&self) -> Result<String, AllocError> {
         let mut text = String::new(self.alloc);
         for (count, word) in self

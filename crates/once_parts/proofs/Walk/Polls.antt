@@ -62,7 +62,7 @@ module _ {W : Type 0} (whose : W → ℕ) (x y : Sided) (u v w : Own) (e : Endin
         stands = stands.step;
       }
 
--- a poll whose first steps were all: how it ended, and it is of the same cell
+-- a poll that ended in its first steps: how it ended, and that its parts are of the same cell
 pub polled_at_once : {P S W : Type 0} (cell : P → Placed) (own : P → Own) (whose : W → ℕ) (state : S → Sided) (side : SideTells S W) → IsTold whose state side → (limit : ℕ)
     (u : Own) (p : P) (s : S) (from to : Step W ⊤) (p' : P) (s' : S) (told : Progress) (e : Ending) (i : Idle)
     → (state s).woke ≡ [] → Turned u (task_begun u.number u.task) (Begin u.number u.number ∷ []) (own p) → Stands whose false (state s) (own p) More from

@@ -69,25 +69,29 @@ fn all_cells(alloc: Global) -> Result<Vec<Contested>, AllocError> {
 }
 
 // How many cells have 1, and no init that is still to fail.
-fn filled(cells: &[Contested]) -> u64 {
-    let mut filled = 0u64;
+fn with_one(cells: &[Contested]) -> u64 {
+    let mut count = 0u64;
     for contested in cells {
         let failures = contested.failures.load(Ordering::SeqCst);
         if failures == 0 && contested.cell.get() == Some(&1) {
-            filled = filled.wrapping_add(1);
+            count = count.wrapping_add(1);
         }
     }
-    filled
+    count
 }
 
-// How many threads got 1 of all cells, how many cells are filled, and whether nobody is left in any.
+// How many threads got 1 of all cells, how many cells have it, and whether nobody is left in any.
 fn visited_by_all<R>(rt: &R, cells: &[Contested]) -> io::Result<(usize, u64, bool)>
 where
     R: Wait + AllocGlobal + Clock + RandomSource + Threads + Eprint + Sync,
 {
     let got = gathered(rt, cells)?;
     let are_filled = cells.iter().all(|it| shows(rt, &it.cell, FILLED));
-    Ok((alike(&got, &[1; CELLS as usize]), filled(cells), are_filled))
+    Ok((
+        alike(&got, &[1; CELLS as usize]),
+        with_one(cells),
+        are_filled,
+    ))
 }
 
 /// Each cell is filled once, after all its failures, and all threads get that value. Nobody is left in any

@@ -99,12 +99,12 @@ impl<'a, 'i: 'a, R: Wait + AllocGlobal> Scene<'a, 'i, R> {
     }
 }
 
-// What a future answers to its only poll.
+// Polls a future once and drops it: what it answered.
 fn answer_of<R: Wait + AllocGlobal>(mut made: Made<'_, '_, R>, task: &MockTask) -> Reply {
     made.polled(task).0
 }
 
-// Whether a cell with this Debug text has nobody in it any more.
+// Whether nobody uses the cell that shows this Debug text.
 fn is_left(text: &str) -> bool {
     LEFT.iter().any(|end| text.ends_with(end))
 }
@@ -113,14 +113,14 @@ fn is_left(text: &str) -> bool {
 fn works_after<'s, 'i: 's, R>(
     rt: &'s R,
     cells: (&'s OnceCell<u64>, &'s Lazy<u64, Init<'i, u64>>),
-    doubles: (&'i Inits, &'s Tasks),
+    inits_and_tasks: (&'i Inits, &'s Tasks),
     lines: &'s str,
     rations: &mut Rations,
 ) -> Result<bool, AllocError>
 where
     R: Wait + AllocGlobal,
 {
-    let mut schedule = Schedule::new(Scene::new(rt, cells, doubles))?;
+    let mut schedule = Schedule::new(Scene::new(rt, cells, inits_and_tasks))?;
     schedule.run_rationed(lines, rations)?;
     let settles = schedule.settles();
     schedule.futures.clear();

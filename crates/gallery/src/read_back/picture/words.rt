@@ -67,8 +67,8 @@ impl<'a> Reading<'a> {
         }
     }
 
-    /// Takes the word of a mark out of its row. Before the word the row is free from `free` on, and after it from
-    /// the answer on. A word may be left out where it has no room.
+    /// Takes the word of a mark out of its row. The row is free from `free` on before it, and from the answer on
+    /// after it. A word may be left out where it has no room, or where the picture says so.
     fn take_word(&mut self, row: &mut Vec<Word<'a>>, mark: &Mark, free: i64) -> Result<i64, Fault> {
         let (column, text) = (
             mark.line.saturating_sub(self.window.first),

@@ -2,7 +2,6 @@
 use Rattle.std.proofs.Common.{◌≡◌, false, rules, sym, ap, subst, ◌∙◌}
 use Rattle.once_queue.specs.declared.word.TheConstants.{MAX_WAITERS}
 use Rattle.once_core.specs.Steps.{step_of_poll}
-use Rattle.once_world.specs.Places.{More, Ended}
 use Rattle.once_parts.specs.Idle.{step_of}
 use Rattle.once_parts.specs.declared.idle.Idle.TheVariants.{New}
 use Rattle.once_parts.specs.Shares.{cell_of, own}
