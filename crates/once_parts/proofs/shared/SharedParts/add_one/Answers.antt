@@ -1,0 +1,5 @@
+use Rattle.std.proofs.Common.{rules}
+use Rattle.once_parts.proofs.shared.SharedParts.add_one.Goals as goal
+
+pub returns : goal.returns
+returns g c = search rules
