@@ -1,11 +1,11 @@
 //! A task of a cell that brings an init, and is called where it waits.
-ghost use Rattle.std.specs.Prelude.{◌≡◌, ◌∷◌, [], List, None, true, false, ⊤};
+ghost use Rattle.std.specs.Prelude.{◌≡◌, ◌∷◌, [], IsSome, List, None, true, false, ⊤};
 ghost use Rattle.once_queue.specs.declared.waiters.Out.{Out};
 ghost use Rattle.futures.specs.Task.{IsArmed, Keeps};
 ghost use Rattle.once_core.specs.declared.step.Ending.{Ending};
 ghost use Rattle.once_world.specs.Record.{DropEnd, Entry, Made};
 ghost use Rattle.once_book.specs.Kept.{Grew};
-ghost use Rattle.once_book.specs.Record.{IsSet};
+ghost use Rattle.once_book.specs.Record.{EndsSet, IsSet};
 ghost use Rattle.once_parts.specs.Walks.{end_of};
 ghost use Rattle.async_once_cell.specs.Polls.{ending_by, is_over};
 
@@ -157,13 +157,23 @@ where
             is_armed,
             woke: _woke,
         } = side;
+        if ending == Ending::Pending && !is_armed {
+            self.sit(cx);
+        }
+        self.answer(ending, error)
+    }
+
+    // What a poll answers that ended so, with the error of the init where it gave one.
+    #[inline(always)]
+    fn answer<X: PollError<E>>(&self, ending: Ending, error: Option<E>) -> Poll<Result<&'a T, X>>
+        requires value { ending ≡ Ending.Value → EndsSet self.now.number self.now.log }
+        requires error { ending ≡ Ending.Error → IsSome error }
+        requires not_dropped { ending ≡ Ending.Dropped → ⊥ }
+        ensures told { ending_by X.ending result ≡ ending }
+        ensures set { ending ≡ Ending.Value → IsSet self.now.log }
+    {
         match ending {
-            Ending::Pending => {
-                if !is_armed {
-                    self.sit(cx);
-                }
-                Poll::Pending
-            }
+            Ending::Pending => Poll::Pending,
             Ending::Value => {
                 is_set_where_answered(&self.task.record());
                 let (value, _) = self.task.value();

@@ -1,5 +1,7 @@
 //! Holders whose inits are Pending and ask for nothing.
 
+use crate::doubles::poll::polled_once;
+use async_once_cell::world::Reply;
 use async_once_cell::{Lazy, OnceCell};
 use futures::future::pending;
 use futures::test::MockTask;
@@ -9,9 +11,8 @@ use std::test::Fail;
 #[test]
 fn pending_holder_is_not_called(rt: HostRuntime) -> Result<(), Fail> {
     let (cell, task) = (OnceCell::new(), MockTask::new(&rt)?);
-    let mut f = cell.get_or_init(&rt, pending::<u64>());
-    let is_pending = task.poll(&mut f).is_pending();
-    assert_eq!(rt; (is_pending, task.is_woken()), (true, false));
+    let told = polled_once(&task, cell.get_or_init(&rt, pending::<u64>()));
+    assert_eq!(rt; told, (Reply::Pending, false));
     Ok(())
 }
 
@@ -19,9 +20,8 @@ fn pending_holder_is_not_called(rt: HostRuntime) -> Result<(), Fail> {
 #[test]
 fn pending_lazy_holder_is_not_called(rt: HostRuntime) -> Result<(), Fail> {
     let (lazy, task) = (Lazy::new(pending::<u64>()), MockTask::new(&rt)?);
-    let mut f = lazy.get(&rt);
-    let is_pending = task.poll(&mut f).is_pending();
-    assert_eq!(rt; (is_pending, task.is_woken()), (true, false));
+    let told = polled_once(&task, lazy.get(&rt));
+    assert_eq!(rt; told, (Reply::Pending, false));
     Ok(())
 }
 

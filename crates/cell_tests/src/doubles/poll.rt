@@ -58,6 +58,16 @@ where
     }
 }
 
+/// Polls a future of a cell by this task and drops it: what it answered, and whether the task was woken before that.
+pub fn polled_once<'a, E: Refusal, F>(task: &MockTask, mut future: F) -> (Reply, bool)
+where
+    F: Future<Output: TryOutput<Ok = &'a u64, Error = E>>,
+    requires { F.can_poll future }
+{
+    let reply = polled(task, &mut future);
+    (reply, task.is_woken())
+}
+
 /// So many tasks.
 pub fn tasks<R: AllocGlobal + RandomSource>(rt: &R, count: usize) -> io::Result<Vec<MockTask>> {
     let mut tasks = Vec::new(rt.alloc());

@@ -347,21 +347,16 @@ impl<'a, 'i: 'a, R: Wait + AllocGlobal> Schedule<'a, 'i, R> {
         }
     }
 
-    // Puts a future in the place with this number, and gives back the one before.
-    fn replace(
-        &mut self,
-        number: &str,
-        future: Option<Made<'a, 'i, R>>,
-    ) -> Option<Option<Made<'a, 'i, R>>> {
+    // The place of the future with this number.
+    fn place(&mut self, number: &str) -> Option<&mut Option<Made<'a, 'i, R>>> {
         let number = self.number(number);
-        let place = self.futures.get_mut(number)?;
-        Some(mem::replace(place, future))
+        self.futures.get_mut(number)
     }
 
     fn forget(&mut self, number: &str) -> Outcome {
-        match self.replace(number, None) {
-            Some(before) => {
-                mem::forget(before);
+        match self.place(number) {
+            Some(place) => {
+                mem::forget(place.take());
                 Outcome::Obeyed
             }
             None => Outcome::Unreadable,
@@ -372,8 +367,11 @@ impl<'a, 'i: 'a, R: Wait + AllocGlobal> Schedule<'a, 'i, R> {
     fn make(&mut self, word: &str, rest: &'a str) -> Outcome {
         let (number, wanted) = rest.split_once(' ').unwrap_or((rest, ""));
         let made = self.scene.made(word, wanted);
-        match self.replace(number, made) {
-            Some(_before) => Outcome::Obeyed,
+        match self.place(number) {
+            Some(place) => {
+                *place = made;
+                Outcome::Obeyed
+            }
             None => Outcome::Unreadable,
         }
     }

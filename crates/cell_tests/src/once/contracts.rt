@@ -110,6 +110,30 @@ fn has_answered<'a, R: Wait + AllocGlobal>(
     matches!(future.poll(cx), Poll::Ready(Ok(_)))
 }
 
+// Whether a token finds the value after a poll with it.
+fn is_asked<'a, R: Wait + AllocGlobal>(
+    rt: &'a R,
+    cx: &mut Context<'_>,
+    cell: &'a OnceCell<u64>,
+    stub: &'a Stub<u64>,
+) -> bool {
+    let mut token = cell.token();
+    let mut f = cell.get_or_init(rt, stub.init());
+    polled_and_asked(cell, &mut f, cx, &mut token).is_some()
+}
+
+// The same after a future told it.
+fn is_told<'a, R: Wait + AllocGlobal>(
+    rt: &'a R,
+    cx: &mut Context<'_>,
+    cell: &'a OnceCell<u64>,
+    stub: &'a Stub<u64>,
+) -> bool {
+    let mut token = cell.token();
+    let mut f = cell.get_or_init(rt, stub.init());
+    polled_and_told(cell, &mut f, cx, &mut token).is_some()
+}
+
 // Whether a token finds nothing, a second finds the value after a poll with it, and a third after a future told it.
 fn are_told<'a, R: Wait + AllocGlobal>(
     rt: &'a R,
@@ -117,14 +141,9 @@ fn are_told<'a, R: Wait + AllocGlobal>(
     cell: &'a OnceCell<u64>,
     stub: &'a Stub<u64>,
 ) -> [bool; 3] {
-    let mut token = cell.token();
-    let nothing = asked_twice(cell, &mut token).is_none();
-    let (mut a, mut b) = (cell.token(), cell.token());
-    let mut f = cell.get_or_init(rt, stub.init());
-    let asked = polled_and_asked(cell, &mut f, cx, &mut a).is_some();
-    let mut f = cell.get_or_init(rt, stub.init());
-    let told = polled_and_told(cell, &mut f, cx, &mut b).is_some();
-    [nothing, asked, told]
+    let nothing = asked_twice(cell, &mut cell.token()).is_none();
+    let asked = is_asked(rt, cx, cell, stub);
+    [nothing, asked, is_told(rt, cx, cell, stub)]
 }
 
 // Whether a token finds the value that looked at the cell before, beside another.

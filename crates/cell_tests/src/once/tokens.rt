@@ -1,9 +1,10 @@
 //! Tokens: what they know, and when two of them know one value.
+ghost use Rattle.std.specs.Prelude.{◌≡◌, false};
 
 use crate::doubles::poll::heard;
-use crate::doubles::stub::Stub;
+use crate::doubles::stub::{Init, Stub};
 use async_once_cell::OnceCell;
-use async_once_cell::once::Known;
+use async_once_cell::once::{InitFuture, Known};
 use async_once_cell::world::Reply;
 use futures::future::pending;
 use futures::task::Context;
@@ -19,6 +20,20 @@ use std::test::Fail;
 // What polls answered, and what held between them.
 type Found = ([Reply; 2], [bool; 4]);
 
+// What a poll with this token answers to a future of its cell, and whether that is finished then.
+fn polled_as<'a, R: Wait + AllocGlobal>(
+    mut future: InitFuture<'a, u64, Init<'_, u64>, R>,
+    cx: &mut Context<'_>,
+    token: &mut Known<'a, u64>,
+) -> (Reply, bool)
+    requires unfinished { future.finished ≡ false }
+    requires token_of_this_cell { token.old.cell ≡ future.cell }
+    ensures cell { token.new.cell ≡ token.old.cell }
+{
+    let reply = heard(future.poll_as(cx, token));
+    (reply, future.is_finished())
+}
+
 // A token learns the value by a poll, and another by a look. What the poll answered, and whether the two
 // agree before, between and after.
 fn learn_in_turn<'a, R: Wait + AllocGlobal>(
@@ -29,7 +44,7 @@ fn learn_in_turn<'a, R: Wait + AllocGlobal>(
 ) -> Found {
     let (mut a, mut b) = (cell.token(), cell.token());
     let before = Known::compare(&a, &b);
-    let reply = heard(cell.get_or_init(rt, stub.init()).poll_as(cx, &mut a));
+    let (reply, _) = polled_as(cell.get_or_init(rt, stub.init()), cx, &mut a);
     let (between, turned) = (Known::compare(&a, &b), Known::compare(&b, &a));
     let _ = cell.get_as(&mut b);
     (
@@ -48,9 +63,8 @@ fn poll_knowing<'a, R: Wait + AllocGlobal>(
 ) -> Found {
     let mut token = cell.token();
     let _ = cell.get_as(&mut token);
-    let mut f = cell.get_or_init(rt, stub.init());
-    let reply = heard(f.poll_as(cx, &mut token));
-    ([reply; 2], [f.is_finished(); 4])
+    let (reply, is_finished) = polled_as(cell.get_or_init(rt, stub.init()), cx, &mut token);
+    ([reply; 2], [is_finished; 4])
 }
 
 // A future waits until another has set the value, and is polled with a token that knows it. What the
@@ -73,7 +87,7 @@ fn leave_with_a_token<'a, R: Wait + AllocGlobal + Eprint>(
     let counted = shows(rt, cell, "refcount: 1, queue: true } }");
     let mut token = cell.token();
     let _ = cell.get_as(&mut token);
-    let leaves = heard(f2.poll_as(cx, &mut token));
+    let (leaves, _) = polled_as(f2, cx, &mut token);
     ([fills, leaves], [counted; 4])
 }
 
@@ -176,8 +190,9 @@ fn pending_poll_with_a_token(rt: HostRuntime) -> Result<(), Fail> {
 #[test]
 fn one_poll_with_a_token(rt: HostRuntime) -> Result<(), Fail> {
     let (task, stub, cell) = (MockTask::new(&rt)?, Stub::<u64>::new(), OnceCell::new());
-    let (mut holder, mut token) = (cell.get_or_init(&rt, stub.init()), cell.token());
-    let told = task.enter(|cx| heard(holder.poll_as(cx, &mut token)));
-    assert_eq!(rt; (told, stub.polls.get()), (Reply::Pending, 1));
+    let told = task.enter(|cx| {
+        polled_as(cell.get_or_init(&rt, stub.init()), cx, &mut cell.token())
+    });
+    assert_eq!(rt; (told, stub.polls.get()), ((Reply::Pending, false), 1));
     Ok(())
 }

@@ -69,12 +69,8 @@ impl<'a, 'i: 'a, R: Wait + AllocGlobal> Schedule<'a, 'i, R> {
     fn settles(&mut self) -> bool {
         self.scene.inits.set(Some(Ok(4)));
         for _ in 0..POLLS {
-            for (place, task) in self.futures.iter_mut().zip(&self.scene.tasks.tasks) {
-                if let Some(future) = place {
-                    if task.is_woken() && !future.is_finished() {
-                        future.polled(task);
-                    }
-                }
+            for (future, task) in self.futures.iter_mut().zip(&self.scene.tasks.tasks) {
+                poll_woken(future, task);
             }
         }
         self.futures.iter().flatten().all(|it| it.is_finished())
@@ -96,6 +92,15 @@ impl<'a, 'i: 'a, R: Wait + AllocGlobal> Scene<'a, 'i, R> {
     fn answers(&self, word: &str) -> Option<Reply> {
         let task = self.tasks.tasks.first()?;
         Some(answer_of(self.made(word, "")?, task))
+    }
+}
+
+// Polls a future that is not finished, where its task was woken.
+fn poll_woken<R: Wait + AllocGlobal>(future: &mut Option<Made<'_, '_, R>>, task: &MockTask) {
+    if let Some(future) = future {
+        if task.is_woken() && !future.is_finished() {
+            future.polled(task);
+        }
     }
 }
 

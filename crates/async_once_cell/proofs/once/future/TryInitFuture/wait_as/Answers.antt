@@ -1,6 +1,12 @@
--- A token that finds the value learns it.
-use Rattle.std.proofs.Common.{rules}
+-- A token that finds the value learns it. One that finds nothing knew nothing, so the wait is as by one that waits.
+use Rattle.std.proofs.Common.{rules, Option, sym, ◌∙◌, subst}
+use Rattle.async_once_cell.specs.Polls.{Waits}
 use Rattle.async_once_cell.proofs.once.future.TryInitFuture.wait_as.Goals as goal
 
 pub returns-in-Some-clause-value : goal.returns-in-Some-clause-value
 returns-in-Some-clause-value g c = search rules
+
+pub returns-clause-value : goal.returns-clause-value
+returns-clause-value g c =
+    let same = c.in-None.ensures.value.1 ∙ sym c.in-None.ensures.value.0 in
+    subst (λ (k : Option g.row.T.Denot). Waits k c.wait_as_on.new.token.value c.wait_as_on.result) same c.wait_as_on.ensures.value

@@ -1,6 +1,17 @@
--- What the token learns from the last poll.
-use Rattle.std.proofs.Common.{rules}
+-- What the token learns from the last poll. One that is Pending leaves the future as unfinished as it was, and a token
+-- that knows nothing.
+use Rattle.std.proofs.Common.{rules, Option, sym, ◌∙◌, subst}
+use Rattle.once_book.proofs.Desks.{prefix_on}
+use Rattle.async_once_cell.specs.Polls.{DidPoll, Polls, PollsAs, ending_in}
 use Rattle.async_once_cell.proofs.once.future.TryInitFuture.wait_begun.Goals as goal
 
 pub returns-in-Ready-clause-value : goal.returns-in-Ready-clause-value
 returns-in-Ready-clause-value g c = search rules
+
+pub loop-preserved : goal.loop-preserved
+loop-preserved g c =
+    let asked = c.poll_as-polled.ensures in
+    let call = subst (λ (k : Option g.row.T.Denot). PollsAs k c.loop.self c.poll_as-polled.new.self c.in_ok-cx.cx c.poll_as-polled.new.cx (ending_in c.poll_as-polled.result)) c.loop.invariant.3 asked.call in
+    let did = subst (λ r. DidPoll c.loop.self c.poll_as-polled.new.self c.in_ok-cx.cx c.poll_as-polled.new.cx (ending_in r)) c.in_default.is call in
+    let told = subst (λ r. Polls c.loop.token.value c.poll_as-polled.new.token.value r) c.in_default.is asked.value in
+    (did.finished, asked.cell ∙ c.loop.invariant.1 ∙ sym did.cell, asked.cell ∙ c.loop.invariant.2, told.1, prefix_on c.args.token.now.log c.loop.token.log _ c.loop.invariant.4 asked.log)
