@@ -163,13 +163,13 @@ where
         self.answer(ending, error)
     }
 
-    // What a poll answers that ended so, with the error of the init where it gave one.
+    // The answer of a poll that ended in this way. `error` is what its init gave, if it gave an error.
     #[inline(always)]
     fn answer<X: PollError<E>>(&self, ending: Ending, error: Option<E>) -> Poll<Result<&'a T, X>>
         requires value { ending ≡ Ending.Value → EndsSet self.now.number self.now.log }
         requires error { ending ≡ Ending.Error → IsSome error }
         requires not_dropped { ending ≡ Ending.Dropped → ⊥ }
-        ensures told { ending_by X.ending result ≡ ending }
+        ensures ending { ending_by X.ending result ≡ ending }
         ensures set { ending ≡ Ending.Value → IsSet self.now.log }
     {
         match ending {

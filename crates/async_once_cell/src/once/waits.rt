@@ -69,7 +69,7 @@ where
 
     /// As [`wait_as`](Self::wait_as), by a parker that the caller keeps.
     pub fn wait_as_on(
-        self,
+        mut self,
         token: &mut Known<'a, T>,
         parker: &mut Parker,
     ) -> io::Result<Result<&'a T, InitError<E>>>
@@ -88,12 +88,12 @@ where
 
     // Polls until the future answers, with a token that knows nothing and a parker that has begun.
     fn wait_begun(
-        mut self,
+        &mut self,
         token: &mut Known<'a, T>,
         parker: &mut Parker,
     ) -> io::Result<Result<&'a T, InitError<E>>>
-        requires unfinished { self.finished ≡ false }
-        requires token_of_this_cell { token.old.cell ≡ self.cell }
+        requires unfinished { self.old.finished ≡ false }
+        requires token_of_this_cell { token.old.cell ≡ self.old.cell }
         requires nothing_known { token.old.value ≡ None }
         ensures cell { token.new.cell ≡ token.old.cell }
         ensures value { Waits token.old.value token.new.value result }

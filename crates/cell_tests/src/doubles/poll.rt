@@ -58,7 +58,8 @@ where
     }
 }
 
-/// Polls a future of a cell by this task and drops it: what it answered, and whether the task was woken before that.
+/// Polls a future of a cell once, by this task, and drops it: what it answered, and whether the task was woken before
+/// the drop.
 pub fn polled_once<'a, E: Refusal, F>(task: &MockTask, mut future: F) -> (Reply, bool)
 where
     F: Future<Output: TryOutput<Ok = &'a u64, Error = E>>,

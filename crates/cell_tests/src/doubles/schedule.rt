@@ -347,16 +347,16 @@ impl<'a, 'i: 'a, R: Wait + AllocGlobal> Schedule<'a, 'i, R> {
         }
     }
 
-    // The place of the future with this number.
-    fn place(&mut self, number: &str) -> Option<&mut Option<Made<'a, 'i, R>>> {
+    // The future with this number, or None in its place. No answer says that no future can have the number.
+    fn future(&mut self, number: &str) -> Option<&mut Option<Made<'a, 'i, R>>> {
         let number = self.number(number);
         self.futures.get_mut(number)
     }
 
     fn forget(&mut self, number: &str) -> Outcome {
-        match self.place(number) {
-            Some(place) => {
-                mem::forget(place.take());
+        match self.future(number) {
+            Some(future) => {
+                mem::forget(future.take());
                 Outcome::Obeyed
             }
             None => Outcome::Unreadable,
@@ -367,9 +367,9 @@ impl<'a, 'i: 'a, R: Wait + AllocGlobal> Schedule<'a, 'i, R> {
     fn make(&mut self, word: &str, rest: &'a str) -> Outcome {
         let (number, wanted) = rest.split_once(' ').unwrap_or((rest, ""));
         let made = self.scene.made(word, wanted);
-        match self.place(number) {
-            Some(place) => {
-                *place = made;
+        match self.future(number) {
+            Some(future) => {
+                *future = made;
                 Outcome::Obeyed
             }
             None => Outcome::Unreadable,

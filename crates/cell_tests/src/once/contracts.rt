@@ -111,7 +111,7 @@ fn has_answered<'a, R: Wait + AllocGlobal>(
 }
 
 // Whether a token finds the value after a poll with it.
-fn is_asked<'a, R: Wait + AllocGlobal>(
+fn finds_after_a_poll<'a, R: Wait + AllocGlobal>(
     rt: &'a R,
     cx: &mut Context<'_>,
     cell: &'a OnceCell<u64>,
@@ -122,28 +122,33 @@ fn is_asked<'a, R: Wait + AllocGlobal>(
     polled_and_asked(cell, &mut f, cx, &mut token).is_some()
 }
 
-// The same after a future told it.
-fn is_told<'a, R: Wait + AllocGlobal>(
+// Whether this token, which knows nothing, finds the value after a future told it.
+fn finds_when_told<'a, R: Wait + AllocGlobal>(
     rt: &'a R,
     cx: &mut Context<'_>,
     cell: &'a OnceCell<u64>,
     stub: &'a Stub<u64>,
-) -> bool {
-    let mut token = cell.token();
+    token: &mut Known<'a, u64>,
+) -> bool
+    requires token_of_this_cell { token.old.cell ≡ cell.now }
+{
     let mut f = cell.get_or_init(rt, stub.init());
-    polled_and_told(cell, &mut f, cx, &mut token).is_some()
+    polled_and_told(cell, &mut f, cx, token).is_some()
 }
 
-// Whether a token finds nothing, a second finds the value after a poll with it, and a third after a future told it.
+// What three tokens of an empty cell find: the first finds nothing, the second the value after a poll with it, and the
+// third the value after a future told it.
 fn are_told<'a, R: Wait + AllocGlobal>(
     rt: &'a R,
     cx: &mut Context<'_>,
     cell: &'a OnceCell<u64>,
     stub: &'a Stub<u64>,
 ) -> [bool; 3] {
+    let mut third = cell.token();
     let nothing = asked_twice(cell, &mut cell.token()).is_none();
-    let asked = is_asked(rt, cx, cell, stub);
-    [nothing, asked, is_told(rt, cx, cell, stub)]
+    let polled = finds_after_a_poll(rt, cx, cell, stub);
+    let told = finds_when_told(rt, cx, cell, stub, &mut third);
+    [nothing, polled, told]
 }
 
 // Whether a token finds the value that looked at the cell before, beside another.

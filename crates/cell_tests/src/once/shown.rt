@@ -1,6 +1,6 @@
 //! What tokens print, and as which error a refusal ends a poll.
 
-use crate::doubles::poll::{Refusal, polled_once};
+use crate::doubles::poll::{Refusal, polled};
 use async_once_cell::OnceCell;
 use async_once_cell::once::{InitError, Refused};
 use async_once_cell::world::Reply;
@@ -25,13 +25,13 @@ fn tokens(rt: HostRuntime) {
 #[test]
 fn token_of_a_fill(rt: HostRuntime) -> Result<(), Fail> {
     let (task, cell) = (MockTask::new(&rt)?, OnceCell::new());
-    let told = polled_once(&task, cell.get_or_init(&rt, ready(5u64)));
+    let filled = polled(&task, &mut cell.get_or_init(&rt, ready(5u64)));
     let mut token = cell.token();
     let knows_nothing = shows(&rt, &token, "Known(None)");
     let _ = cell.get_as(&mut token);
     let knows_it = shows(&rt, &token, "Known(Some(5))");
     assert_eq!(rt;
-        (told.0, knows_nothing, knows_it),
+        (filled, knows_nothing, knows_it),
         (Reply::Value(5), true, true)
     );
     Ok(())

@@ -20,7 +20,8 @@ use std::test::Fail;
 // What polls answered, and what held between them.
 type Found = ([Reply; 2], [bool; 4]);
 
-// What a poll with this token answers to a future of its cell, and whether that is finished then.
+// Polls a future once, with a token of its cell, and drops it: what it answered, and whether it was finished before
+// the drop.
 fn polled_as<'a, R: Wait + AllocGlobal>(
     mut future: InitFuture<'a, u64, Init<'_, u64>, R>,
     cx: &mut Context<'_>,

@@ -1,5 +1,5 @@
 -- All listings come out, and nothing is left.
-use Rattle.std.proofs.Common.{◌≡◌, [], filter, refl, rules, ap, ◌∙◌, arith}
+use Rattle.std.proofs.Common.{◌≡◌, [], refl, rules, ap, ◌∙◌, arith}
 use Rattle.std.proofs.lemmas.Fn.{filter_same}
 use Rattle.once_queue.proofs.slots.Slots.take_all.Goals as goal
 

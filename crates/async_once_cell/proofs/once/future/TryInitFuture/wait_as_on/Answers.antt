@@ -1,4 +1,5 @@
--- A token that finds the value learns it. One that finds nothing knew nothing, so the wait is as by one that waits.
+-- A token that finds the value learns it. One that finds nothing knew nothing before, and knows nothing after the look.
+-- So what `wait_begun` says holds of the whole call.
 use Rattle.std.proofs.Common.{rules, Option, sym, ◌∙◌, subst}
 use Rattle.async_once_cell.specs.Polls.{Waits}
 use Rattle.async_once_cell.proofs.once.future.TryInitFuture.wait_as_on.Goals as goal

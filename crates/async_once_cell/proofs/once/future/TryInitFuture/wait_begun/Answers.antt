@@ -1,5 +1,5 @@
--- What the token learns from the last poll. One that is Pending leaves the future as unfinished as it was, and a token
--- that knows nothing.
+-- What the token learns from the last poll. After a poll that is Pending the future is unfinished still, and the token
+-- knows nothing.
 use Rattle.std.proofs.Common.{rules, Option, sym, ◌∙◌, subst}
 use Rattle.once_book.proofs.Desks.{prefix_on}
 use Rattle.async_once_cell.specs.Polls.{DidPoll, Polls, PollsAs, ending_in}
@@ -11,7 +11,14 @@ returns-in-Ready-clause-value g c = search rules
 pub loop-preserved : goal.loop-preserved
 loop-preserved g c =
     let asked = c.poll_as-polled.ensures in
-    let call = subst (λ (k : Option g.row.T.Denot). PollsAs k c.loop.self c.poll_as-polled.new.self c.in_ok-cx.cx c.poll_as-polled.new.cx (ending_in c.poll_as-polled.result)) c.loop.invariant.3 asked.call in
-    let did = subst (λ r. DidPoll c.loop.self c.poll_as-polled.new.self c.in_ok-cx.cx c.poll_as-polled.new.cx (ending_in r)) c.in_default.is call in
-    let told = subst (λ r. Polls c.loop.token.value c.poll_as-polled.new.token.value r) c.in_default.is asked.value in
-    (did.finished, asked.cell ∙ c.loop.invariant.1 ∙ sym did.cell, asked.cell ∙ c.loop.invariant.2, told.1, prefix_on c.args.token.now.log c.loop.token.log _ c.loop.invariant.4 asked.log)
+    let new = c.poll_as-polled.new in
+    let call = subst (λ (k : Option g.row.T.Denot).
+    PollsAs k c.loop.self new.self c.in_ok-cx.cx new.cx (ending_in c.poll_as-polled.result)) c.loop.invariant.3 asked.call in
+    let did = subst (λ r. DidPoll c.loop.self new.self c.in_ok-cx.cx new.cx (ending_in r)) c.in_default.is call in
+    let told = subst (λ r. Polls c.loop.token.value new.token.value r) c.in_default.is asked.value in (
+      did.finished,
+      asked.cell ∙ c.loop.invariant.1 ∙ sym did.cell,
+      asked.cell ∙ c.loop.invariant.2,
+      told.1,
+      prefix_on c.args.token.now.log c.loop.token.log _ c.loop.invariant.4 asked.log,
+    )
