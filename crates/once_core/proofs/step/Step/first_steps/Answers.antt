@@ -1,5 +1,5 @@
 -- Each step is a line of the table, and they follow one after the other. So what is asked of the next one is what the caller gave for it.
-use Rattle.std.proofs.Common.{◌≡◌, ℕ, Bool, true, false, None, refl, rules, subst}
+use Rattle.std.proofs.Common.{◌≡◌, ℕ, Bool, true, false, None, refl, rules, ap, subst, ◌∙◌}
 use Rattle.once_queue.specs.declared.word.TheConstants.{MAX_WAITERS}
 use Rattle.once_core.specs.declared.step.Polled.{Polled}
 use Rattle.once_core.specs.Steps.{Step, UnderWay, Place, AtStart, AtTryQuick, AtRun, AtPut, AtFast, AtDoorTake, Progress, More, Ending, EndValue, PartsTell, SideTells, Asks, AsksAt, Line, LeadsTo, Follows, MayClose, after_quick, after_run, after_fast, is_value}
@@ -54,38 +54,58 @@ try_quick-requires g c =
 
 pub run-told-requires : goal.run-told-requires
 run-told-requires g c =
-    let at_quick : c.start-told.new.self ≡ UnderWay AtTryQuick = search rules in
-    let at_run : c.try_quick.new.self ≡ UnderWay (AtRun None) = search rules in
-    asked g _ _ (AtRun None) _ at_run (c.requires.asks _ _ _ _ (quick (step AtStart none (rw c.requires.new refl) c.start-told.ensures.line) at_quick c.try_quick.ensures.line))
+    let at_quick = c.in-UnderWay-TryQuick.is ∙ ap UnderWay (rw c.in-UnderWay-TryQuick.is at c.in-UnderWay-TryQuick.field-0-is) in
+    let was_quick = quick (step AtStart none (rw c.requires.new refl) c.start-told.ensures.line) at_quick c.try_quick.ensures.line in
+    let run_there = rw c.in-UnderWay-Run-None.is at c.in-UnderWay-Run-None.field-0-is in
+    let at_run = c.in-UnderWay-Run-None.is ∙ ap UnderWay (run_there ∙ ap AtRun (rw (c.in-UnderWay-Run-None.is, run_there) at c.in-UnderWay-Run-None.field-0-0-is)) in
+    asked g _ _ (AtRun None) _ at_run (c.requires.asks _ _ _ _ was_quick)
 
 pub put-requires-clause-parts : goal.put-requires-clause-parts
 put-requires-clause-parts g c =
-    let at_quick : c.start-told.new.self ≡ UnderWay AtTryQuick = search rules in
-    let at_run : c.try_quick.new.self ≡ UnderWay (AtRun None) = search rules in
-    let at_put : c.run-told.new.self ≡ UnderWay (AtPut None) = search rules in
-    (asked g _ _ (AtPut None) _ at_put (c.requires.asks _ _ _ _ (run (quick (step AtStart none (rw c.requires.new refl) c.start-told.ensures.line) at_quick c.try_quick.ensures.line) at_run c.run-told.ensures.line))).0
+    let at_quick = c.in-UnderWay-TryQuick.is ∙ ap UnderWay (rw c.in-UnderWay-TryQuick.is at c.in-UnderWay-TryQuick.field-0-is) in
+    let was_quick = quick (step AtStart none (rw c.requires.new refl) c.start-told.ensures.line) at_quick c.try_quick.ensures.line in
+    let run_there = rw c.in-UnderWay-Run-None.is at c.in-UnderWay-Run-None.field-0-is in
+    let at_run = c.in-UnderWay-Run-None.is ∙ ap UnderWay (run_there ∙ ap AtRun (rw (c.in-UnderWay-Run-None.is, run_there) at c.in-UnderWay-Run-None.field-0-0-is)) in
+    let was_run = run was_quick at_run c.run-told.ensures.line in
+    let put_there = rw c.in-UnderWay-Put-None.is at c.in-UnderWay-Put-None.field-0-is in
+    let at_put = c.in-UnderWay-Put-None.is ∙ ap UnderWay (put_there ∙ ap AtPut (rw (c.in-UnderWay-Put-None.is, put_there) at c.in-UnderWay-Put-None.field-0-0-is)) in
+    (asked g _ _ (AtPut None) _ at_put (c.requires.asks _ _ _ _ was_run)).0
 
 pub put-requires-clause-side : goal.put-requires-clause-side
 put-requires-clause-side g c =
-    let at_quick : c.start-told.new.self ≡ UnderWay AtTryQuick = search rules in
-    let at_run : c.try_quick.new.self ≡ UnderWay (AtRun None) = search rules in
-    let at_put : c.run-told.new.self ≡ UnderWay (AtPut None) = search rules in
-    (asked g _ _ (AtPut None) _ at_put (c.requires.asks _ _ _ _ (run (quick (step AtStart none (rw c.requires.new refl) c.start-told.ensures.line) at_quick c.try_quick.ensures.line) at_run c.run-told.ensures.line))).1
+    let at_quick = c.in-UnderWay-TryQuick.is ∙ ap UnderWay (rw c.in-UnderWay-TryQuick.is at c.in-UnderWay-TryQuick.field-0-is) in
+    let was_quick = quick (step AtStart none (rw c.requires.new refl) c.start-told.ensures.line) at_quick c.try_quick.ensures.line in
+    let run_there = rw c.in-UnderWay-Run-None.is at c.in-UnderWay-Run-None.field-0-is in
+    let at_run = c.in-UnderWay-Run-None.is ∙ ap UnderWay (run_there ∙ ap AtRun (rw (c.in-UnderWay-Run-None.is, run_there) at c.in-UnderWay-Run-None.field-0-0-is)) in
+    let was_run = run was_quick at_run c.run-told.ensures.line in
+    let put_there = rw c.in-UnderWay-Put-None.is at c.in-UnderWay-Put-None.field-0-is in
+    let at_put = c.in-UnderWay-Put-None.is ∙ ap UnderWay (put_there ∙ ap AtPut (rw (c.in-UnderWay-Put-None.is, put_there) at c.in-UnderWay-Put-None.field-0-0-is)) in
+    (asked g _ _ (AtPut None) _ at_put (c.requires.asks _ _ _ _ was_run)).1
 
 pub fast-told-requires : goal.fast-told-requires
 fast-told-requires g c =
-    let at_quick : c.start-told.new.self ≡ UnderWay AtTryQuick = search rules in
-    let at_run : c.try_quick.new.self ≡ UnderWay (AtRun None) = search rules in
-    let at_put : c.run-told.new.self ≡ UnderWay (AtPut None) = search rules in
-    asked g c.put.new.parts c.put.new.side (AtFast c.in-UnderWay-Fast.ending) _ refl (c.requires.asks More _ c.put.new.parts c.put.new.side (put c.in-UnderWay-Fast.ending (run (quick (step AtStart none (rw c.requires.new refl) c.start-told.ensures.line) at_quick c.try_quick.ensures.line) at_run c.run-told.ensures.line) at_put c.put.ensures.line.0 c.put.ensures.line.1 (search rules)))
+    let at_quick = c.in-UnderWay-TryQuick.is ∙ ap UnderWay (rw c.in-UnderWay-TryQuick.is at c.in-UnderWay-TryQuick.field-0-is) in
+    let was_quick = quick (step AtStart none (rw c.requires.new refl) c.start-told.ensures.line) at_quick c.try_quick.ensures.line in
+    let run_there = rw c.in-UnderWay-Run-None.is at c.in-UnderWay-Run-None.field-0-is in
+    let at_run = c.in-UnderWay-Run-None.is ∙ ap UnderWay (run_there ∙ ap AtRun (rw (c.in-UnderWay-Run-None.is, run_there) at c.in-UnderWay-Run-None.field-0-0-is)) in
+    let was_run = run was_quick at_run c.run-told.ensures.line in
+    let put_there = rw c.in-UnderWay-Put-None.is at c.in-UnderWay-Put-None.field-0-is in
+    let at_put = c.in-UnderWay-Put-None.is ∙ ap UnderWay (put_there ∙ ap AtPut (rw (c.in-UnderWay-Put-None.is, put_there) at c.in-UnderWay-Put-None.field-0-0-is)) in
+    let was_put = put c.in-UnderWay-Fast.ending was_run at_put c.put.ensures.line.0 c.put.ensures.line.1 (search rules) in
+    asked g c.put.new.parts c.put.new.side (AtFast c.in-UnderWay-Fast.ending) _ refl (c.requires.asks More _ c.put.new.parts c.put.new.side was_put)
 
 pub door_take-requires : goal.door_take-requires
 door_take-requires g c =
-    let at_quick : c.start-told.new.self ≡ UnderWay AtTryQuick = search rules in
-    let at_run : c.try_quick.new.self ≡ UnderWay (AtRun None) = search rules in
-    let at_put : c.run-told.new.self ≡ UnderWay (AtPut None) = search rules in
-    let at_take : c.fast-told.new.self ≡ UnderWay (AtDoorTake c.in-UnderWay-DoorTake.ending) = search rules in
-    asked g c.fast-told.new.parts c.put.new.side (AtDoorTake c.in-UnderWay-DoorTake.ending) _ at_take (c.requires.asks c.fast-told.result _ c.fast-told.new.parts c.put.new.side (fast _ (put c.in-UnderWay-Fast.ending (run (quick (step AtStart none (rw c.requires.new refl) c.start-told.ensures.line) at_quick c.try_quick.ensures.line) at_run c.run-told.ensures.line) at_put c.put.ensures.line.0 c.put.ensures.line.1 (search rules)) refl c.fast-told.ensures.line))
+    let at_quick = c.in-UnderWay-TryQuick.is ∙ ap UnderWay (rw c.in-UnderWay-TryQuick.is at c.in-UnderWay-TryQuick.field-0-is) in
+    let was_quick = quick (step AtStart none (rw c.requires.new refl) c.start-told.ensures.line) at_quick c.try_quick.ensures.line in
+    let run_there = rw c.in-UnderWay-Run-None.is at c.in-UnderWay-Run-None.field-0-is in
+    let at_run = c.in-UnderWay-Run-None.is ∙ ap UnderWay (run_there ∙ ap AtRun (rw (c.in-UnderWay-Run-None.is, run_there) at c.in-UnderWay-Run-None.field-0-0-is)) in
+    let was_run = run was_quick at_run c.run-told.ensures.line in
+    let put_there = rw c.in-UnderWay-Put-None.is at c.in-UnderWay-Put-None.field-0-is in
+    let at_put = c.in-UnderWay-Put-None.is ∙ ap UnderWay (put_there ∙ ap AtPut (rw (c.in-UnderWay-Put-None.is, put_there) at c.in-UnderWay-Put-None.field-0-0-is)) in
+    let was_put = put c.in-UnderWay-Fast.ending was_run at_put c.put.ensures.line.0 c.put.ensures.line.1 (search rules) in
+    let at_take = c.in-UnderWay-DoorTake.is ∙ ap UnderWay (rw c.in-UnderWay-DoorTake.is at c.in-UnderWay-DoorTake.field-0-is) in
+    asked g c.fast-told.new.parts c.put.new.side (AtDoorTake c.in-UnderWay-DoorTake.ending) _ at_take (c.requires.asks c.fast-told.result _ c.fast-told.new.parts c.put.new.side (fast _ was_put refl c.fast-told.ensures.line))
 
 pub returns-in_default-clause-lines : goal.returns-in_default-clause-lines
 returns-in_default-clause-lines g c limit =
@@ -97,32 +117,46 @@ returns-in_default-2-clause-lines g c limit =
 
 pub returns-in_default-self-5-clause-lines : goal.returns-in_default-self-5-clause-lines
 returns-in_default-self-5-clause-lines g c limit =
-    let at_quick : c.start-told.new.self ≡ UnderWay AtTryQuick = search rules in
+    let at_quick = c.in-UnderWay-TryQuick.is ∙ ap UnderWay (rw c.in-UnderWay-TryQuick.is at c.in-UnderWay-TryQuick.field-0-is) in
     quick (step AtStart none (rw c.requires.new refl) c.start-told.ensures.line) at_quick c.try_quick.ensures.line
 
 pub returns-in_default-self-2-2-clause-lines : goal.returns-in_default-self-2-2-clause-lines
 returns-in_default-self-2-2-clause-lines g c limit =
-    let at_quick : c.start-told.new.self ≡ UnderWay AtTryQuick = search rules in
-    let at_run : c.try_quick.new.self ≡ UnderWay (AtRun None) = search rules in
-    run (quick (step AtStart none (rw c.requires.new refl) c.start-told.ensures.line) at_quick c.try_quick.ensures.line) at_run c.run-told.ensures.line
+    let at_quick = c.in-UnderWay-TryQuick.is ∙ ap UnderWay (rw c.in-UnderWay-TryQuick.is at c.in-UnderWay-TryQuick.field-0-is) in
+    let was_quick = quick (step AtStart none (rw c.requires.new refl) c.start-told.ensures.line) at_quick c.try_quick.ensures.line in
+    let run_there = rw c.in-UnderWay-Run-None.is at c.in-UnderWay-Run-None.field-0-is in
+    let at_run = c.in-UnderWay-Run-None.is ∙ ap UnderWay (run_there ∙ ap AtRun (rw (c.in-UnderWay-Run-None.is, run_there) at c.in-UnderWay-Run-None.field-0-0-is)) in
+    run was_quick at_run c.run-told.ensures.line
 
 pub returns-in_default-self-2-3-clause-lines : goal.returns-in_default-self-2-3-clause-lines
 returns-in_default-self-2-3-clause-lines g c limit =
-    let at_quick : c.start-told.new.self ≡ UnderWay AtTryQuick = search rules in
-    let at_run : c.try_quick.new.self ≡ UnderWay (AtRun None) = search rules in
-    run (quick (step AtStart none (rw c.requires.new refl) c.start-told.ensures.line) at_quick c.try_quick.ensures.line) at_run c.run-told.ensures.line
+    let at_quick = c.in-UnderWay-TryQuick.is ∙ ap UnderWay (rw c.in-UnderWay-TryQuick.is at c.in-UnderWay-TryQuick.field-0-is) in
+    let was_quick = quick (step AtStart none (rw c.requires.new refl) c.start-told.ensures.line) at_quick c.try_quick.ensures.line in
+    let run_there = rw c.in-UnderWay-Run-None.is at c.in-UnderWay-Run-None.field-0-is in
+    let at_run = c.in-UnderWay-Run-None.is ∙ ap UnderWay (run_there ∙ ap AtRun (rw (c.in-UnderWay-Run-None.is, run_there) at c.in-UnderWay-Run-None.field-0-0-is)) in
+    run was_quick at_run c.run-told.ensures.line
 
 pub returns-in_default-self-4-clause-lines : goal.returns-in_default-self-4-clause-lines
 returns-in_default-self-4-clause-lines g c limit =
-    let at_quick : c.start-told.new.self ≡ UnderWay AtTryQuick = search rules in
-    let at_run : c.try_quick.new.self ≡ UnderWay (AtRun None) = search rules in
-    let at_put : c.run-told.new.self ≡ UnderWay (AtPut None) = search rules in
-    fast _ (put c.in-UnderWay-Fast.ending (run (quick (step AtStart none (rw c.requires.new refl) c.start-told.ensures.line) at_quick c.try_quick.ensures.line) at_run c.run-told.ensures.line) at_put c.put.ensures.line.0 c.put.ensures.line.1 (search rules)) refl c.fast-told.ensures.line
+    let at_quick = c.in-UnderWay-TryQuick.is ∙ ap UnderWay (rw c.in-UnderWay-TryQuick.is at c.in-UnderWay-TryQuick.field-0-is) in
+    let was_quick = quick (step AtStart none (rw c.requires.new refl) c.start-told.ensures.line) at_quick c.try_quick.ensures.line in
+    let run_there = rw c.in-UnderWay-Run-None.is at c.in-UnderWay-Run-None.field-0-is in
+    let at_run = c.in-UnderWay-Run-None.is ∙ ap UnderWay (run_there ∙ ap AtRun (rw (c.in-UnderWay-Run-None.is, run_there) at c.in-UnderWay-Run-None.field-0-0-is)) in
+    let was_run = run was_quick at_run c.run-told.ensures.line in
+    let put_there = rw c.in-UnderWay-Put-None.is at c.in-UnderWay-Put-None.field-0-is in
+    let at_put = c.in-UnderWay-Put-None.is ∙ ap UnderWay (put_there ∙ ap AtPut (rw (c.in-UnderWay-Put-None.is, put_there) at c.in-UnderWay-Put-None.field-0-0-is)) in
+    let was_put = put c.in-UnderWay-Fast.ending was_run at_put c.put.ensures.line.0 c.put.ensures.line.1 (search rules) in
+    fast _ was_put refl c.fast-told.ensures.line
 
 pub returns-clause-lines : goal.returns-clause-lines
 returns-clause-lines g c limit =
-    let at_quick : c.start-told.new.self ≡ UnderWay AtTryQuick = search rules in
-    let at_run : c.try_quick.new.self ≡ UnderWay (AtRun None) = search rules in
-    let at_put : c.run-told.new.self ≡ UnderWay (AtPut None) = search rules in
-    let at_take : c.fast-told.new.self ≡ UnderWay (AtDoorTake c.in-UnderWay-DoorTake.ending) = search rules in
-    step (AtDoorTake _) (fast _ (put c.in-UnderWay-Fast.ending (run (quick (step AtStart none (rw c.requires.new refl) c.start-told.ensures.line) at_quick c.try_quick.ensures.line) at_run c.run-told.ensures.line) at_put c.put.ensures.line.0 c.put.ensures.line.1 (search rules)) refl c.fast-told.ensures.line) at_take (c.door_take.result, c.door_take.ensures, (refl, c.end.ensures.ended, c.end.ensures.step))
+    let at_quick = c.in-UnderWay-TryQuick.is ∙ ap UnderWay (rw c.in-UnderWay-TryQuick.is at c.in-UnderWay-TryQuick.field-0-is) in
+    let was_quick = quick (step AtStart none (rw c.requires.new refl) c.start-told.ensures.line) at_quick c.try_quick.ensures.line in
+    let run_there = rw c.in-UnderWay-Run-None.is at c.in-UnderWay-Run-None.field-0-is in
+    let at_run = c.in-UnderWay-Run-None.is ∙ ap UnderWay (run_there ∙ ap AtRun (rw (c.in-UnderWay-Run-None.is, run_there) at c.in-UnderWay-Run-None.field-0-0-is)) in
+    let was_run = run was_quick at_run c.run-told.ensures.line in
+    let put_there = rw c.in-UnderWay-Put-None.is at c.in-UnderWay-Put-None.field-0-is in
+    let at_put = c.in-UnderWay-Put-None.is ∙ ap UnderWay (put_there ∙ ap AtPut (rw (c.in-UnderWay-Put-None.is, put_there) at c.in-UnderWay-Put-None.field-0-0-is)) in
+    let was_put = put c.in-UnderWay-Fast.ending was_run at_put c.put.ensures.line.0 c.put.ensures.line.1 (search rules) in
+    let at_take = c.in-UnderWay-DoorTake.is ∙ ap UnderWay (rw c.in-UnderWay-DoorTake.is at c.in-UnderWay-DoorTake.field-0-is) in
+    step (AtDoorTake _) (fast _ was_put refl c.fast-told.ensures.line) at_take (c.door_take.result, c.door_take.ensures, (refl, c.end.ensures.ended, c.end.ensures.step))
