@@ -1,6 +1,7 @@
 -- A task that was not counted in for another's sake stands where it stood, now as before.
-use Rattle.std.proofs.Common.{rules, ◌∙◌}
-use Rattle.once_book.proofs.Desks.{prefix_on}
+use Rattle.std.proofs.Common.{rules, [], ◌∙◌}
+use Rattle.once_book.specs.Places.{in_next}
+use Rattle.once_book.proofs.Desks.{did_after, prefix_on}
 use Rattle.once_parts.proofs.shared.SharedParts.count_in.Goals as goal
 
 pub loop-preserved : goal.loop-preserved
@@ -16,3 +17,7 @@ loop-preserved g c =
         log = prefix_on _ _ _ before.log after.log;
       },
     )
+
+pub returns-in-Some-try_count_in : goal.returns-in-Some-try_count_in
+returns-in-Some-try_count_in g c =
+    (search rules, did_after (λ _ _. []) (λ task. in_next c.in-Some-try_count_in.counted task.step) _ _ _ c.loop.invariant.3 c.in-Some-try_count_in.ensures.did)

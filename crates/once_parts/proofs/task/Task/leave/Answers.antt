@@ -1,6 +1,11 @@
 -- The drop begins, its steps are made, and so it ends. A task that was never polled has none to make.
-use Rattle.std.proofs.Common.{ℕ, true, refl, sym, ap, ◌∙◌, ◌∷◌, [], ◌++◌, subst}
-use Rattle.once_core.specs.Steps.{in_call}
+use Rattle.std.specs.Prelude.{⊤}
+use Rattle.std.proofs.Common.{◌≡◌, ℕ, true, false, refl, sym, ap, ◌∙◌, ◌∷◌, [], ◌++◌, subst}
+use Rattle.once_core.specs.Steps.{in_call, is_resting}
+use Rattle.once_world.specs.Places.{Step}
+use Rattle.once_book.specs.Own.{Own}
+use Rattle.once_parts.specs.declared.idle.Idle.{Idle}
+use Rattle.once_parts.specs.Idle.{is_over, step_of}
 use Rattle.once_world.specs.Record.{DropBegin, DropEnd}
 use Rattle.once_book.specs.Kept.{Grew}
 use Rattle.once_parts.specs.Shares.{own}
@@ -12,12 +17,18 @@ use Rattle.once_parts.proofs.Walk.Begins.{drop_alone, drop_begins, grew_from, gr
 use Rattle.once_parts.proofs.Walk.Ends.{drop_ended}
 use Rattle.once_parts.proofs.task.Task.leave.Goals as goal
 
+-- a task, as a contract sees it, rests where its call begins
+rests_at : {W : Type 0} (whose : W → ℕ) (v : Own) (i : Idle) (s : Step W ⊤) {seen told : TaskView} → seen ≡ told → is_over i ≡ seen.finished → told.finished ≡ false
+    → (is_over i ≡ false → is_resting s ≡ true) → s ≡ step_of i → (is_over i ≡ false → StandsOn whose v (step_of i)) → Rests whose v s
+rests_at whose v i s same is_idle unfinished rests is stands =
+    let live = is_idle ∙ ap (λ (t : TaskView). t.finished) same ∙ unfinished in
+    (rests live, subst (StandsOn whose v) (sym is) (stands live))
+
 pub go_on-requires : goal.go_on-requires
 go_on-requires g c =
-    let live = ap (λ (t : TaskView). t.finished) c.self.view_is ∙ c.requires.live in
     let number = c.requires.number ∙ sym (ap (λ (t : TaskView). t.number) c.self.view_is) in
-    let rests : Rests g.W.TaskWaker.whose (own c.self.inside.parts) c.step-step.result =
-    (c.step-step.ensures.rests live, subst (StandsOn g.W.TaskWaker.whose (own c.self.inside.parts)) (sym c.step-step.ensures.is) (c.self.inside.stands live)) in
+    let rests = rests_at g.W.TaskWaker.whose (own c.self.inside.parts) c.self.inside.idle c.step-step.result c.self.view_is refl c.requires.live
+    c.step-step.ensures.rests c.step-step.ensures.is c.self.inside.stands in
     let call = sym c.begin_drop-2.ensures.more ∙ c.if-not-begin_drop.false in
     let begun = drop_begins g.W.TaskWaker.whose (g.S.TaskSide.state c.args.side.now) (own c.self.inside.parts) (own c.begin_drop.new.self) c.step-step.result number c.requires.none rests c.begin_drop.ensures.did
     (ap in_call (sym c.begin_drop-2.ensures.step) ∙ call) in
@@ -25,28 +36,25 @@ go_on-requires g c =
 
 pub returns-then-not-begin_drop-clause-end : goal.returns-then-not-begin_drop-clause-end
 returns-then-not-begin_drop-clause-end g c =
-    let live = ap (λ (t : TaskView). t.finished) c.self.view_is ∙ c.requires.live in
-    let rests : Rests g.W.TaskWaker.whose (own c.self.inside.parts) c.step-step.result =
-    (c.step-step.ensures.rests live, subst (StandsOn g.W.TaskWaker.whose (own c.self.inside.parts)) (sym c.step-step.ensures.is) (c.self.inside.stands live)) in
+    let rests = rests_at g.W.TaskWaker.whose (own c.self.inside.parts) c.self.inside.idle c.step-step.result c.self.view_is refl c.requires.live
+    c.step-step.ensures.rests c.step-step.ensures.is c.self.inside.stands in
     let over = ap in_call (sym c.begin_drop-2.ensures.step) ∙ sym c.begin_drop-2.ensures.more ∙ c.if-not-begin_drop.true in
     let grew = drop_alone g.W.TaskWaker.whose (own c.self.inside.parts) (own c.begin_drop.new.self) c.step-step.result rests over c.begin_drop.ensures.did in
     rw (← c.self.view_is) (subst (λ (t : ℕ). Grew (DropEnd t ∷ []) (own c.self.inside.parts).log (own c.begin_drop.new.self).log) (sym c.begin_drop.ensures.did.number) (grew_last (DropEnd (own c.self.inside.parts).number) (DropBegin (own c.self.inside.parts).number ∷ []) _ _ grew))
 
 pub returns-then-not-begin_drop-clause-woke : goal.returns-then-not-begin_drop-clause-woke
 returns-then-not-begin_drop-clause-woke g c =
-    let live = ap (λ (t : TaskView). t.finished) c.self.view_is ∙ c.requires.live in
-    let rests : Rests g.W.TaskWaker.whose (own c.self.inside.parts) c.step-step.result =
-    (c.step-step.ensures.rests live, subst (StandsOn g.W.TaskWaker.whose (own c.self.inside.parts)) (sym c.step-step.ensures.is) (c.self.inside.stands live)) in
+    let rests = rests_at g.W.TaskWaker.whose (own c.self.inside.parts) c.self.inside.idle c.step-step.result c.self.view_is refl c.requires.live
+    c.step-step.ensures.rests c.step-step.ensures.is c.self.inside.stands in
     let over = ap in_call (sym c.begin_drop-2.ensures.step) ∙ sym c.begin_drop-2.ensures.more ∙ c.if-not-begin_drop.true in
     let grew = drop_alone g.W.TaskWaker.whose (own c.self.inside.parts) (own c.begin_drop.new.self) c.step-step.result rests over c.begin_drop.ensures.did in
     rw (← c.self.view_is) (DropBegin (own c.self.inside.parts).number ∷ DropEnd (own c.self.inside.parts).number ∷ [], grew_by (DropBegin (own c.self.inside.parts).number ∷ DropEnd (own c.self.inside.parts).number ∷ []) _ _ grew, ap (λ (x : Sided). x.woke) (g.met.S.TaskSide.tells.close _ _ c.begin_drop-2.ensures.close) ∙ c.requires.none)
 
 pub returns : goal.returns
 returns g c =
-    let live = ap (λ (t : TaskView). t.finished) c.self.view_is ∙ c.requires.live in
     let number = c.requires.number ∙ sym (ap (λ (t : TaskView). t.number) c.self.view_is) in
-    let rests : Rests g.W.TaskWaker.whose (own c.self.inside.parts) c.step-step.result =
-    (c.step-step.ensures.rests live, subst (StandsOn g.W.TaskWaker.whose (own c.self.inside.parts)) (sym c.step-step.ensures.is) (c.self.inside.stands live)) in
+    let rests = rests_at g.W.TaskWaker.whose (own c.self.inside.parts) c.self.inside.idle c.step-step.result c.self.view_is refl c.requires.live
+    c.step-step.ensures.rests c.step-step.ensures.is c.self.inside.stands in
     let call = sym c.begin_drop-2.ensures.more ∙ c.if-not-begin_drop.false in
     let begun = drop_begins g.W.TaskWaker.whose (g.S.TaskSide.state c.args.side.now) (own c.self.inside.parts) (own c.begin_drop.new.self) c.step-step.result number c.requires.none rests c.begin_drop.ensures.did
     (ap in_call (sym c.begin_drop-2.ensures.step) ∙ call) in

@@ -1,11 +1,18 @@
 -- The poll begins, its steps are made, and so it ends.
-use Rattle.std.proofs.Common.{◌≡◌, false, rules, sym, ap, subst, ◌∙◌}
+use Rattle.std.proofs.Common.{◌≡◌, ℕ, false, [], ◌∷◌, rules, refl, sym, ap, subst, ◌∙◌}
+use Rattle.std.specs.Prelude.{⊤}
 use Rattle.once_queue.specs.declared.word.TheConstants.{MAX_WAITERS}
 use Rattle.once_core.specs.Steps.{step_of_poll}
-use Rattle.once_parts.specs.Idle.{step_of}
+use Rattle.once_world.specs.Places.{More, RestStart, Resting, Step}
+use Rattle.once_world.specs.Record.{Begin}
+use Rattle.once_book.specs.Own.{Own, Turned}
+use Rattle.once_book.specs.Places.{task_begun}
+use Rattle.once_parts.specs.declared.idle.Idle.{Idle}
+use Rattle.once_parts.specs.Idle.{is_over, step_of}
+use Rattle.once_parts.specs.Sides.{Sided}
 use Rattle.once_parts.specs.declared.idle.Idle.TheVariants.{New}
 use Rattle.once_parts.specs.Shares.{cell_of, own}
-use Rattle.once_parts.specs.Walks.{Stands, Walked}
+use Rattle.once_parts.specs.Walks.{Stands, StandsOn, Walked}
 use Rattle.once_parts.proofs.Idles.{rests}
 use Rattle.once_parts.proofs.Walk.Begins.{rests_there}
 use Rattle.once_parts.proofs.Walk.Calls.{steps_asked, steps_went}
@@ -13,6 +20,15 @@ use Rattle.once_parts.proofs.Walk.Logs.{walked_none}
 use Rattle.once_parts.proofs.Walk.Polls.{begins_at, polled, polled_at_once}
 use Rattle.once_parts.specs.Tasks.{TaskView}
 use Rattle.once_parts.proofs.task.Task.poll.Goals as goal
+
+-- a first poll of a task, as a contract sees it, begins where every task begins
+first_begins : {W : Type 0} (whose : W → ℕ) (x : Sided) (v w : Own) (i : Idle) (s : Step W ⊤) {seen told : TaskView} → seen ≡ told → is_over i ≡ seen.finished → v.number ≡ seen.number
+    → told.finished ≡ false → x.number ≡ told.number → x.woke ≡ [] → (is_over i ≡ false → StandsOn whose v (step_of i))
+    → Turned v (task_begun v.number v.task) (Begin v.number v.number ∷ []) w → i ≡ New → s ≡ Resting RestStart → Stands whose false x w More (step_of_poll s)
+first_begins whose x v w i s same is_idle is_own unfinished number none stands begun new start =
+    let live = is_idle ∙ ap (λ (t : TaskView). t.finished) same ∙ unfinished in
+    let is_its = number ∙ sym (is_own ∙ ap (λ (t : TaskView). t.number) same) in
+    begins_at whose x v w i (step_of_poll s) is_its none live (stands live) begun (ap step_of_poll (ap step_of new ∙ sym start))
 
 pub begin-requires : goal.begin-requires
 begin-requires g c =
@@ -47,24 +63,20 @@ returns-then-not-is_new g c =
 
 pub first_steps-requires-clause-asks : goal.first_steps-requires-clause-asks
 first_steps-requires-clause-asks g c = λ told at p s m.
-    let live = ap (λ (t : TaskView). t.finished) c.self.view_is ∙ c.requires.live in
-    let number = c.requires.number ∙ sym (ap (λ (t : TaskView). t.number) c.self.view_is) in
     let new : c.self.inside.idle ≡ New = search rules in
-    let stands = begins_at g.W.TaskWaker.whose (g.S.TaskSide.state c.args.side.now) (own c.self.inside.parts) (own c.begin.new.self) c.self.inside.idle
-    (step_of_poll c.new-first.result) number c.requires.none live (c.self.inside.stands live) c.begin.ensures.did
-    (ap step_of_poll (ap step_of new ∙ sym c.new-first.ensures)) in
+    let stands = first_begins g.W.TaskWaker.whose (g.S.TaskSide.state c.args.side.now) (own c.self.inside.parts) (own c.begin.new.self) c.self.inside.idle
+    c.new-first.result c.self.view_is refl refl c.requires.live c.requires.number c.requires.none c.self.inside.stands c.begin.ensures.did new
+    c.new-first.ensures in
     steps_asked cell_of own g.W.TaskWaker.whose g.S.TaskSide.state g.S.Side.did g.met.S.TaskSide.tells MAX_WAITERS false
     g.S.Side.can_put g.met.S.TaskSide.puts (step_of_poll c.new-first.result)
     c.begin.new.self c.args.side.now at p s told stands m
 
 pub returns-in-Ended : goal.returns-in-Ended
 returns-in-Ended g c =
-    let live = ap (λ (t : TaskView). t.finished) c.self.view_is ∙ c.requires.live in
-    let number = c.requires.number ∙ sym (ap (λ (t : TaskView). t.number) c.self.view_is) in
     let new : c.self.inside.idle ≡ New = search rules in
-    let stands = begins_at g.W.TaskWaker.whose (g.S.TaskSide.state c.args.side.now) (own c.self.inside.parts) (own c.begin.new.self) c.self.inside.idle
-    (step_of_poll c.new-first.result) number c.requires.none live (c.self.inside.stands live) c.begin.ensures.did
-    (ap step_of_poll (ap step_of new ∙ sym c.new-first.ensures)) in
+    let stands = first_begins g.W.TaskWaker.whose (g.S.TaskSide.state c.args.side.now) (own c.self.inside.parts) (own c.begin.new.self) c.self.inside.idle
+    c.new-first.result c.self.view_is refl refl c.requires.live c.requires.number c.requires.none c.self.inside.stands c.begin.ensures.did new
+    c.new-first.ensures in
     let p = polled_at_once cell_of own g.W.TaskWaker.whose g.S.TaskSide.state g.S.Side.did g.met.S.TaskSide.tells MAX_WAITERS
     (own c.self.inside.parts) c.begin.new.self c.args.side.now (step_of_poll c.new-first.result) c.first_steps.new.self c.first_steps.new.parts c.first_steps.new.side
     c.first_steps.result c.in-Ended.ending c.of-self-inside.result
@@ -82,12 +94,10 @@ returns-in-Ended g c =
 
 pub invariant_of-self-inside-in-Ended : goal.invariant_of-self-inside-in-Ended
 invariant_of-self-inside-in-Ended g c =
-    let live = ap (λ (t : TaskView). t.finished) c.self.view_is ∙ c.requires.live in
-    let number = c.requires.number ∙ sym (ap (λ (t : TaskView). t.number) c.self.view_is) in
     let new : c.self.inside.idle ≡ New = search rules in
-    let stands = begins_at g.W.TaskWaker.whose (g.S.TaskSide.state c.args.side.now) (own c.self.inside.parts) (own c.begin.new.self) c.self.inside.idle
-    (step_of_poll c.new-first.result) number c.requires.none live (c.self.inside.stands live) c.begin.ensures.did
-    (ap step_of_poll (ap step_of new ∙ sym c.new-first.ensures)) in
+    let stands = first_begins g.W.TaskWaker.whose (g.S.TaskSide.state c.args.side.now) (own c.self.inside.parts) (own c.begin.new.self) c.self.inside.idle
+    c.new-first.result c.self.view_is refl refl c.requires.live c.requires.number c.requires.none c.self.inside.stands c.begin.ensures.did new
+    c.new-first.ensures in
     let p = polled_at_once cell_of own g.W.TaskWaker.whose g.S.TaskSide.state g.S.Side.did g.met.S.TaskSide.tells MAX_WAITERS
     (own c.self.inside.parts) c.begin.new.self c.args.side.now (step_of_poll c.new-first.result) c.first_steps.new.self c.first_steps.new.parts c.first_steps.new.side
     c.first_steps.result c.in-Ended.ending c.of-self-inside.result
@@ -96,12 +106,10 @@ invariant_of-self-inside-in-Ended g c =
 
 pub steps_left-requires-in-More : goal.steps_left-requires-in-More
 steps_left-requires-in-More g c =
-    let live = ap (λ (t : TaskView). t.finished) c.self.view_is ∙ c.requires.live in
-    let number = c.requires.number ∙ sym (ap (λ (t : TaskView). t.number) c.self.view_is) in
     let new : c.self.inside.idle ≡ New = search rules in
-    let stands = begins_at g.W.TaskWaker.whose (g.S.TaskSide.state c.args.side.now) (own c.self.inside.parts) (own c.begin.new.self) c.self.inside.idle
-    (step_of_poll c.new-first.result) number c.requires.none live (c.self.inside.stands live) c.begin.ensures.did
-    (ap step_of_poll (ap step_of new ∙ sym c.new-first.ensures)) in
+    let stands = first_begins g.W.TaskWaker.whose (g.S.TaskSide.state c.args.side.now) (own c.self.inside.parts) (own c.begin.new.self) c.self.inside.idle
+    c.new-first.result c.self.view_is refl refl c.requires.live c.requires.number c.requires.none c.self.inside.stands c.begin.ensures.did new
+    c.new-first.ensures in
     let went = steps_went cell_of own g.W.TaskWaker.whose g.S.TaskSide.state g.S.Side.did g.met.S.TaskSide.tells MAX_WAITERS false
     (step_of_poll c.new-first.result) c.begin.new.self c.args.side.now c.first_steps.new.self c.first_steps.new.parts c.first_steps.new.side
     c.first_steps.result stands (c.first_steps.ensures.lines MAX_WAITERS) in
@@ -112,12 +120,10 @@ steps_left-requires-in-More g c =
 
 pub returns-in-More : goal.returns-in-More
 returns-in-More g c =
-    let live = ap (λ (t : TaskView). t.finished) c.self.view_is ∙ c.requires.live in
-    let number = c.requires.number ∙ sym (ap (λ (t : TaskView). t.number) c.self.view_is) in
     let new : c.self.inside.idle ≡ New = search rules in
-    let stands = begins_at g.W.TaskWaker.whose (g.S.TaskSide.state c.args.side.now) (own c.self.inside.parts) (own c.begin.new.self) c.self.inside.idle
-    (step_of_poll c.new-first.result) number c.requires.none live (c.self.inside.stands live) c.begin.ensures.did
-    (ap step_of_poll (ap step_of new ∙ sym c.new-first.ensures)) in
+    let stands = first_begins g.W.TaskWaker.whose (g.S.TaskSide.state c.args.side.now) (own c.self.inside.parts) (own c.begin.new.self) c.self.inside.idle
+    c.new-first.result c.self.view_is refl refl c.requires.live c.requires.number c.requires.none c.self.inside.stands c.begin.ensures.did new
+    c.new-first.ensures in
     let went = steps_went cell_of own g.W.TaskWaker.whose g.S.TaskSide.state g.S.Side.did g.met.S.TaskSide.tells MAX_WAITERS false
     (step_of_poll c.new-first.result) c.begin.new.self c.args.side.now c.first_steps.new.self c.first_steps.new.parts c.first_steps.new.side
     c.first_steps.result stands (c.first_steps.ensures.lines MAX_WAITERS) in
