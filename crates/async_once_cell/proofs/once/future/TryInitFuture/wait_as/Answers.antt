@@ -2,6 +2,7 @@
 -- So what `wait_as_on` says holds of the whole call.
 use Rattle.std.proofs.Common.{rules, Option, sym, ◌∙◌, subst}
 use Rattle.async_once_cell.specs.Polls.{Waits}
+use Rattle.async_once_cell.proofs.Looks.{grows_on}
 use Rattle.async_once_cell.proofs.once.future.TryInitFuture.wait_as.Goals as goal
 
 pub returns-in-Some-clause-value : goal.returns-in-Some-clause-value
@@ -11,3 +12,6 @@ pub returns-clause-value : goal.returns-clause-value
 returns-clause-value g c =
     let same = c.in-None.ensures.value.1 ∙ sym c.in-None.ensures.value.0 in
     subst (λ (k : Option g.row.T.Denot). Waits k c.wait_as_on.new.token.value c.wait_as_on.result) same c.wait_as_on.ensures.value
+
+pub returns-clause-log : goal.returns-clause-log
+returns-clause-log g c = grows_on _ _ _ _ _ _ c.get_as.ensures.look c.wait_as_on.ensures.log

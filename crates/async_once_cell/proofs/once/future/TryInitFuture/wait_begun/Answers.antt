@@ -22,3 +22,6 @@ loop-preserved g c =
       told.1,
       prefix_on c.args.token.now.log c.loop.token.log _ c.loop.invariant.4 asked.log,
     )
+
+pub returns-in-Ready-clause-log : goal.returns-in-Ready-clause-log
+returns-in-Ready-clause-log g c = prefix_on c.args.token.now.log c.loop.token.log _ c.loop.invariant.4 c.poll_as-polled.ensures.log
