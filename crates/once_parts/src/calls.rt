@@ -40,6 +40,10 @@ pub(crate) fn steps_left<T, W: TaskWaker + Drop, R: Wait + AllocGlobal, S: TaskS
 
 /// Makes one step of the call that is under way. It may wait as [`Task::poll`](crate::task::Task::poll). `told` is
 /// what the last step told, for the contract alone.
+///
+/// ```
+/// told = one_step(parts, step, side, told);
+/// ```
 #[inline(always)]
 pub fn one_step<T, W: TaskWaker + Drop, R: Wait + AllocGlobal, S: TaskSide<W, Value = T>>(
     parts: &mut Shared<'_, '_, T, W, R>,

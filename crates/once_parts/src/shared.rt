@@ -54,6 +54,11 @@ impl<T, W: TaskWaker + Drop> Inner<T, W> {
     ghost use Rattle.once_parts.specs.Shares.{cell_of, own};
 
     /// A new cell. It takes no memory. No clause says that it is empty.
+    ///
+    /// ```
+    /// let cell = Inner::<u64, Bell>::new();
+    /// assert_eq!(rt; cell.has_queue(), Some(false));
+    /// ```
     #[inline(always)]
     pub fn new() -> Self {
         let (word, has_put, blank, front, pens) = Word::open_two_slot::<(), CellRule>(0, 0, &());
@@ -67,6 +72,12 @@ impl<T, W: TaskWaker + Drop> Inner<T, W> {
     }
 
     /// A new task.
+    ///
+    /// ```
+    /// let mut task = cell.task(&rt);
+    /// task.begin();
+    /// let word = task.load();
+    /// ```
     #[inline(always)]
     pub fn task<'a, 'r, R>(&'a self, rt: &'r R) -> Shared<'a, 'r, T, W, R>
         ensures cell { cell_of result ≡ self.now.slot }
@@ -81,6 +92,11 @@ impl<T, W: TaskWaker + Drop> Inner<T, W> {
     }
 
     /// The record as a new task or token has seen it.
+    ///
+    /// ```
+    /// let mut record = cell.record();
+    /// assert!(rt; cell.look(&mut record).is_some());
+    /// ```
     #[inline(always)]
     pub fn record(&self) -> Record
         ensures { result.book ≡ self.now.slot.book }
@@ -89,6 +105,11 @@ impl<T, W: TaskWaker + Drop> Inner<T, W> {
     }
 
     /// Looks for the value: one load of the word. Where that is ready the value is there.
+    ///
+    /// ```
+    /// let mut record = cell.record();
+    /// assert!(rt; cell.look(&mut record).is_none()); // at a moment of this call the cell was not set
+    /// ```
     #[inline(always)]
     pub fn look<'a>(&'a self, seen: &mut Record) -> Option<(&'a T, Written<T>)>
         requires book { seen.old.book ≡ self.now.slot.book }
@@ -116,6 +137,10 @@ impl<T, W: TaskWaker + Drop> Inner<T, W> {
     }
 
     /// The value, for whoever has what shows it.
+    ///
+    /// ```
+    /// (Value::Shared(inner), Seen::Shared(_, Some(written))) => Some(inner.value(written)),
+    /// ```
     #[inline(always)]
     pub fn value<'a>(&'a self, written: &Written<T>) -> &'a T
         requires { written.now.of ≡ self.now.slot.id }
@@ -125,11 +150,19 @@ impl<T, W: TaskWaker + Drop> Inner<T, W> {
     }
 
     /// Whether the value was put. No clause says so.
+    ///
+    /// ```
+    /// Value::Shared(inner) => inner.is_written(),
+    /// ```
     pub fn is_written(&self) -> bool {
         self.slot.witness().is_some()
     }
 
     /// The value, where it was put. The record ends. No clause says so.
+    ///
+    /// ```
+    /// Value::Shared(inner) => inner.into_inner(),
+    /// ```
     pub fn into_inner(self) -> Option<T> {
         let Inner {
             word: _word,
@@ -143,6 +176,10 @@ impl<T, W: TaskWaker + Drop> Inner<T, W> {
 
     /// Whether a queue stands at the door. `None` says that the lock could not be had at once. It waits for
     /// nobody. It is for Debug: no clause says what it answers.
+    ///
+    /// ```
+    /// assert_eq!(rt; cell.has_queue(), Some(false)); // nobody had to wait yet
+    /// ```
     pub fn has_queue(&self) -> Option<bool> {
         stands::<Brand, T, W>(self)
     }
@@ -184,6 +221,11 @@ impl<'a, 'r, T, W: TaskWaker, R> Shared<'a, 'r, T, W, R> {
     ghost use Rattle.once_parts.specs.Shares.{cell_of, own};
 
     /// Begins a poll.
+    ///
+    /// ```
+    /// task.begin();
+    /// let word = task.load();
+    /// ```
     #[inline(always)]
     pub fn begin(&mut self)
         requires can { is_resting (own self.old).task.step ≡ true }
@@ -195,6 +237,10 @@ impl<'a, 'r, T, W: TaskWaker, R> Shared<'a, 'r, T, W, R> {
     }
 
     /// Begins a drop.
+    ///
+    /// ```
+    /// task.begin_drop();
+    /// ```
     #[inline(always)]
     pub fn begin_drop(&mut self)
         requires can { is_resting (own self.old).task.step ≡ true }
@@ -206,6 +252,11 @@ impl<'a, 'r, T, W: TaskWaker, R> Shared<'a, 'r, T, W, R> {
     }
 
     /// The value, for a task whose last call ended with it.
+    ///
+    /// ```
+    /// task.door_take(); // the last step of a poll that filled the cell
+    /// let (value, _) = task.value();
+    /// ```
     #[inline(always)]
     pub fn value(&self) -> (&'a T, Written<T>)
         requires ended { EndsSet (own self.now).number (own self.now).log }
@@ -222,6 +273,10 @@ impl<'a, 'r, T, W: TaskWaker, R> Shared<'a, 'r, T, W, R> {
     }
 
     /// The number of this task, for its wakers.
+    ///
+    /// ```
+    /// let side = Noting::new(rt.alloc(), task, parts.mark());
+    /// ```
     #[inline(always)]
     pub fn mark(&self) -> Mark
         ensures { result ≡ (own self.now).number }

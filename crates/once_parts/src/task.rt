@@ -48,6 +48,11 @@ impl<'a, 'r, T, W: TaskWaker, R> Model for Task<'a, 'r, T, W, R> {
 
 impl<'a, 'r, T, W: TaskWaker + Drop, R> Task<'a, 'r, T, W, R> {
     /// A new task.
+    ///
+    /// ```
+    /// let task = Task::new(cell, rt);
+    /// let side = TestSide::new(name, task.mark(), answer);
+    /// ```
     #[inline(always)]
     pub fn new(inner: &'a Inner<T, W>, rt: &'r R) -> Self
         ensures cell { result.cell ≡ inner.now.slot }
@@ -62,6 +67,12 @@ impl<'a, 'r, T, W: TaskWaker + Drop, R> Task<'a, 'r, T, W, R> {
 
     /// Whether the last call ended with anything but Pending, or the task was dropped. It may not be polled
     /// after that.
+    ///
+    /// ```
+    /// if self.task.is_finished() {
+    ///     return None;
+    /// }
+    /// ```
     #[inline(always)]
     pub fn is_finished(&self) -> bool
         ensures { result ≡ self.now.finished }
@@ -70,6 +81,10 @@ impl<'a, 'r, T, W: TaskWaker + Drop, R> Task<'a, 'r, T, W, R> {
     }
 
     /// The value, for a task whose last call ended with it.
+    ///
+    /// ```
+    /// let (value, _) = self.task.value();
+    /// ```
     #[inline(always)]
     pub fn value(&self) -> (&'a T, Written<T>)
         requires ended { EndsSet self.now.number self.now.log }
@@ -85,6 +100,10 @@ impl<'a, 'r, T, W: TaskWaker + Drop, R> Task<'a, 'r, T, W, R> {
     }
 
     /// The number of this task, for its wakers.
+    ///
+    /// ```
+    /// let side = TestSide::new(name, task.mark(), answer);
+    /// ```
     #[inline(always)]
     pub fn mark(&self) -> Mark
         ensures { result ≡ self.now.number }
@@ -106,6 +125,11 @@ impl<'a, 'r, T, W: TaskWaker + Drop, R: Wait + AllocGlobal> Task<'a, 'r, T, W, R
     ///
     /// The record grew, and its newest entry is the end of this poll with what is answered here. The wakers that
     /// were handed to the side are those of the tasks that the entries of this poll name, in their order.
+    ///
+    /// ```
+    /// self.side.begin();
+    /// self.task.poll(&mut self.side)
+    /// ```
     #[inline(always)]
     pub fn poll<S: TaskSide<W, Value = T>>(&mut self, side: &mut S) -> Ending
         requires live { self.old.finished ≡ false }
@@ -138,6 +162,11 @@ impl<'a, 'r, T, W: TaskWaker + Drop, R: Wait + AllocGlobal> Task<'a, 'r, T, W, R
     }
 
     /// A whole drop of a task that is not finished. It may wait as [`poll`](Self::poll).
+    ///
+    /// ```
+    /// self.side.begin();
+    /// self.task.leave(&mut self.side);
+    /// ```
     pub fn leave<S: TaskSide<W, Value = T>>(&mut self, side: &mut S)
         requires live { self.old.finished ≡ false }
         requires number { (S.state side.old).number ≡ self.old.number }

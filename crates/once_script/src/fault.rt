@@ -20,6 +20,10 @@ impl Fault {
     ghost use Rattle.once_script.specs.Fault.{status_of};
 
     /// The status that the process ends with.
+    ///
+    /// ```
+    /// ExitCode::from(fault.status())
+    /// ```
     pub fn status(&self) -> u8
         ensures { result ≡ status_of self.now }
     {

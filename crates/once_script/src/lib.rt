@@ -20,6 +20,11 @@ use std::io::{BufReader, Read, Write};
 ///
 /// A fault on reading, or in the text, leaves nothing printed. One on printing may leave a beginning
 /// of the record.
+///
+/// ```
+/// match run(rt.alloc(), rt.reader(), io::writer(&rt)) {
+///     Ok(()) => ExitCode::SUCCESS,
+/// ```
 pub fn run<I, O>(alloc: Global, input: I, output: O) -> Result<(), Fault>
 where
     I: Read + Drop,

@@ -58,6 +58,11 @@ pub struct Script {
 /// Reads a whole text. Each line ends with a line feed, which the last may lack.
 ///
 /// `Unreadable` names the first line that cannot be read.
+///
+/// ```
+/// let Script { kind, limit, lines } = parse_script(alloc, text.as_slice())?;
+/// let record = replay_lines(alloc, kind, limit, &lines)?;
+/// ```
 pub fn parse_script(alloc: Global, text: &[u8]) -> Result<Script, Fault>
     ensures read { IfOk result
         (λ script. IsScript script.kind script.limit script.lines.items (lines_in text.now)) }
@@ -78,6 +83,10 @@ pub fn parse_script(alloc: Global, text: &[u8]) -> Result<Script, Fault>
 }
 
 /// Reads the first line.
+///
+/// ```
+/// let Some(opening) = parse_opening(alloc, first.text)? else {
+/// ```
 pub fn parse_opening(alloc: Global, text: &str) -> Result<Option<Opening>, AllocError>
     ensures read { IfOk result
         (λ read. IfSome read (λ opening. IsOpening opening.kind opening.limit text.now)) }
@@ -144,6 +153,10 @@ fn parse_with(text: &str) -> Option<u64>
 }
 
 /// Reads a line after the first.
+///
+/// ```
+/// let Some(line) = parse_line(alloc, source.text)? else {
+/// ```
 pub fn parse_line(alloc: Global, text: &str) -> Result<Option<Line>, AllocError>
     ensures read { IfOk result (λ read. IfSome read (λ line. IsLine line text.now)) }
     ensures all { (line : Line) → IsLine line text.now → IfOk result (λ read. IsSome read) }

@@ -15,6 +15,11 @@ use std::alloc::{AllocError, Global};
 /// of `replay` for the inputs that the lines stand for.
 ///
 /// `AllocError` says that the record or the world could not grow.
+///
+/// ```
+/// let record = replay_lines(alloc, kind, limit, &lines)?;
+/// print_record(alloc, &record, output)?;
+/// ```
 pub fn replay_lines(
     alloc: Global,
     kind: Kind,
@@ -40,6 +45,12 @@ pub fn replay_lines(
 /// Takes the inputs that a line stands for.
 ///
 /// `AllocError` says what it says of `World::take`.
+///
+/// ```
+/// let mut world = World::new(alloc, kind, limit);
+/// for line in lines {
+///     take_line(&mut world, line)?;
+/// ```
 pub fn take_line(world: &mut World, line: &Line) -> Result<(), AllocError>
     requires reached { IsReached world.old }
     ensures reached { OnOk result (IsReached world.new) }

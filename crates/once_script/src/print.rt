@@ -5,6 +5,11 @@ use std::io::{BufWriter, Write};
 use std::{fmt, io};
 
 /// Prints a line for each entry, and one for the queue.
+///
+/// ```
+/// let record = replay_lines(alloc, kind, limit, &lines)?;
+/// print_record(alloc, &record, output)?;
+/// ```
 pub fn print_record<O: Write + Drop>(alloc: Global, record: &Record, output: O) -> io::Result<()> {
     let mut output = BufWriter::new(alloc, output)?;
     for entry in &record.entries {
@@ -15,6 +20,12 @@ pub fn print_record<O: Write + Drop>(alloc: Global, record: &Record, output: O) 
 }
 
 /// The line of an entry, without its end.
+///
+/// ```
+/// for entry in &record.entries {
+///     writeln!(output, "{}", EntryLine(entry))?;
+/// }
+/// ```
 #[derive(Clone, Copy)]
 pub struct EntryLine<'a>(pub &'a Entry);
 
@@ -116,6 +127,10 @@ impl fmt::Display for QueueText {
 }
 
 /// The word for a call of the owner.
+///
+/// ```
+/// Some(Reason::NotOfOnce(call_word(call)))
+/// ```
 pub fn call_word(call: &Call) -> &'static str {
     match call {
         Call::Take => "take",

@@ -8,6 +8,12 @@ use once_world::record::Ran;
 use std::alloc::{AllocError, Global};
 
 /// Reads what one poll of an init answers.
+///
+/// ```
+/// match parse_answer(text)? {
+///     Ran::Pending => Some(None), // the text is `p`
+///     Ran::Value(value) => Some(Some(value)), // `v4` gives 4
+/// ```
 pub fn parse_answer(text: &str) -> Option<Ran>
     ensures { MatchOption result ((a : Ran) → ¬ IsAnswer a text.now)
         (λ answer. IsAnswer answer text.now) }
@@ -25,6 +31,10 @@ pub fn parse_answer(text: &str) -> Option<Ran>
 }
 
 /// Reads one answer of a list, which holds no error.
+///
+/// ```
+/// let Some(answer) = parse_listed(field) else { // None of `e4`: a list holds no error
+/// ```
 pub fn parse_listed(text: &str) -> Option<Option<u64>>
     ensures { MatchOption result ((a : Option ℕ) → ¬ IsListed a text.now)
         (λ answer. IsListed answer text.now) }
@@ -37,6 +47,10 @@ pub fn parse_listed(text: &str) -> Option<Option<u64>>
 }
 
 /// Reads one or more answers, parted by one space each.
+///
+/// ```
+/// let Some(answers) = parse_answers(alloc, given)? else { // two of `p v4`
+/// ```
 pub fn parse_answers(alloc: Global, text: &str) -> Result<Option<Vec<Option<u64>>>, AllocError>
     ensures read { IfOk result (λ read. IfSome read (λ list. AreAnswers list.items text.now)) }
     ensures all { (answers : List (Option ℕ)) → AreAnswers answers text.now

@@ -10,6 +10,11 @@ use crate::parse::{Line, Opening, parse_line, parse_opening};
 use std::alloc::{AllocError, Global};
 
 /// The lines of a text, without their ends.
+///
+/// ```
+/// let lines = split_lines(alloc, text)?;
+/// let (first, later) = lines.split_first().ok_or(Fault::Unreadable(1))?;
+/// ```
 pub fn split_lines(alloc: Global, text: &[u8]) -> Result<Vec<&[u8]>, AllocError>
     ensures { IfOk result (λ lines. texts_of lines.items ≡ lines_in text.now) }
 {
@@ -25,6 +30,10 @@ fn without_last_feed(text: &[u8]) -> &[u8]
 }
 
 /// Reads the lines after the first, which has the number 1.
+///
+/// ```
+/// lines: parse_lines(alloc, later)?,
+/// ```
 pub fn parse_lines(alloc: Global, lines: &[&[u8]]) -> Result<Vec<Line>, Fault>
     ensures read { IfOk result (λ read. AreLines (texts_of lines.now) read.items) }
     ensures unreadable { (n : ℕ) → result ≡ Err (Fault.Unreadable n)
@@ -44,6 +53,11 @@ pub fn parse_lines(alloc: Global, lines: &[&[u8]]) -> Result<Vec<Line>, Fault>
 }
 
 /// Reads the bytes of a first line. Bytes that are no text are none.
+///
+/// ```
+/// let Some(Opening { kind, limit }) = opening_in(alloc, first)? else {
+///     return Err(Fault::Unreadable(1));
+/// ```
 pub fn opening_in(alloc: Global, bytes: &[u8]) -> Result<Option<Opening>, AllocError>
     ensures { IfOk result (λ read. MatchOption read
         ((kind : Kind) → (limit : ℕ) → ¬ IsOpening kind limit bytes.now)

@@ -5,6 +5,10 @@ ghost use Rattle.once_script.specs.Number.{is_plain, number_of, limit_of};
 use once_queue::word::MAX_WAITERS;
 
 /// Reads how many tasks may be counted in.
+///
+/// ```
+/// let limit = parse_limit(text)?; // None of `0`
+/// ```
 pub fn parse_limit(text: &str) -> Option<u64>
     ensures value { result ≡ limit_of text.now }
     ensures within { IfSome result (λ limit. (0 < limit) × (limit ≤ 2 ^ 62 - 2)) }
@@ -17,6 +21,10 @@ pub fn parse_limit(text: &str) -> Option<u64>
 }
 
 /// Reads a number, with no sign and no zero in front.
+///
+/// ```
+/// let number = parse_number(rest)?; // None of `012`
+/// ```
 pub fn parse_number(text: &str) -> Option<u64>
     ensures { result ≡ number_of text.now }
 {
