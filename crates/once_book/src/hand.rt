@@ -21,14 +21,14 @@ pub struct Hand {
 }
 
 impl Hand {
-    ghost use Rattle.std.specs.Prelude.{◌==◌, ◌-◌, ◌^◌, None, true, false, if◌then◌else◌, List, [], ◌∷◌, reverse};
+    ghost use Rattle.std.specs.Prelude.{◌==◌, ◌-◌, ◌^◌, None, true, false, if◌then◌else◌, [], ◌∷◌, reverse};
     ghost use Rattle.std.specs.Option.{MatchOption};
     ghost use Rattle.once_core.specs.Steps.{after_quick, is_resting, step_of_drop};
     ghost use Rattle.once_world.specs.Record.{Begin, Made, Ran};
     ghost use Rattle.once_world.specs.Book.{refused_step};
     ghost use Rattle.once_world.specs.Machine.{AtDoorPut, AtTryQuick, UnderWay, fresh_task};
     ghost use Rattle.once_world.specs.Machine.{claim_entries, drop_entries, freed_entries};
-    ghost use Rattle.once_book.specs.Kept.{Grew, most};
+    ghost use Rattle.once_book.specs.Kept.{Grew};
     ghost use Rattle.once_book.specs.Own.{Did, IsWord, Stayed, Turned, told};
     ghost use Rattle.once_book.specs.Places.{CanLoad, CanFast, CanAdd, CanCountIn, CanCountOut, CanTake};
     ghost use Rattle.once_book.specs.Places.{CanRun, CanFill, CanRefuse};

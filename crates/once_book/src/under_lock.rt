@@ -1,6 +1,6 @@
 // The moments of a task that has the lock. For each of them the pens of the door's page and of the queue's
 // are put together with the task's own, and parted again after the step.
-ghost use Rattle.std.specs.Prelude.{◌≡◌, ◌+◌, ◌%◌, ◌^◌, ℕ, None};
+ghost use Rattle.std.specs.Prelude.{◌≡◌, ℕ, None};
 ghost use Rattle.once_book.specs.Own.{IsWord};
 ghost use Rattle.once_book.specs.Desk.{IsDesk, desked};
 ghost use Rattle.once_book.specs.Places.{CanRelease};

@@ -1,6 +1,6 @@
 // A place for one value, whose state is a word of the book: 0 while it is empty, 1 while one thread writes it, and 2
 // from then on. So the rule can say when the value stands: to put it needs no refusal, and to get it no test.
-ghost use Rattle.core.specs.Prelude.{◌≡◌, ℕ, List, IfSome};
+ghost use Rattle.core.specs.Prelude.{◌≡◌, ℕ, IfSome};
 ghost use mathlib.Core.List.{IsPrefix};
 ghost use base.Fml.{fsep, fex};
 ghost use denote.Sharing.{said};

@@ -1,5 +1,5 @@
 // A word that threads read and change in single steps, with the book behind it.
-ghost use Rattle.core.specs.Prelude.{◌≡◌, ℕ, ◌+◌, ◌-◌, ◌%◌, ◌^◌, ◌==◌, List, [], ◌∷◌};
+ghost use Rattle.core.specs.Prelude.{◌≡◌, ℕ, ◌+◌, ◌-◌, ◌%◌, ◌^◌, ◌==◌, [], ◌∷◌};
 ghost use mathlib.Core.List.{IsPrefix};
 ghost use base.Fml.{fsep, fex};
 ghost use prog.Atomic.{either};

@@ -1,6 +1,6 @@
 // Who comes first: of two threads one is told so, and never both. Whoever finds 0 in the word adds a page and has
 // its pen, and there is one such pen.
-ghost use Rattle.std.specs.Prelude.{◌≡◌, true, List, [], ◌∷◌, IfSome};
+ghost use Rattle.std.specs.Prelude.{◌≡◌, true, [], ◌∷◌, IfSome};
 ghost use Rattle.pagebook_uses.specs.First.{medal};
 
 use pagebook::{Opening, Pens, Play, Rule, Seen, Word};

@@ -1,6 +1,6 @@
 // A shelf for one value: it is put once, and then a bit is set. Whoever finds the bit has the value, with no test
 // and no lock, and a token that shows for good which value it is.
-ghost use Rattle.std.specs.Prelude.{◌≡◌, ℕ, List, [], ◌∷◌, IfSome};
+ghost use Rattle.std.specs.Prelude.{◌≡◌, ℕ, [], ◌∷◌, IfSome};
 ghost use Rattle.std.specs.declared.option.Option.TheVariants.{Some};
 ghost use mathlib.Core.List.{IsPrefix};
 ghost use Rattle.pagebook_uses.specs.Shelf.{filled};

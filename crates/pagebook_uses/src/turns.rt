@@ -1,6 +1,6 @@
 // Two words that change in turn: each says how often its player hit, and a player hits only when it is its turn.
 // Neither takes a lock, and none is told more than the two words say.
-ghost use Rattle.std.specs.Prelude.{◌≡◌, ℕ, suc, ◌+◌, ◌≤◌, true, false, List, [], ◌∷◌};
+ghost use Rattle.std.specs.Prelude.{◌≡◌, suc, ◌+◌, ◌≤◌, true, false, [], ◌∷◌};
 ghost use Rattle.pagebook_uses.specs.Turns.{rally};
 
 use pagebook::{Opening, Pens, Play, Rule, Seen, Word};

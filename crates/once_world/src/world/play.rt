@@ -1,6 +1,6 @@
 //! A replay under way, one input at a time.
 ghost use Rattle.std.specs.Prelude.{◌≡◌, ◌<◌, ◌≤◌, ◌+◌, ◌-◌, ◌^◌, ◌==◌, ℕ, true};
-ghost use Rattle.std.specs.Prelude.{List, [], ◌++◌, ◌∷◌, Some, None, OnOk, IfOk, length, replicate};
+ghost use Rattle.std.specs.Prelude.{List, [], ◌++◌, ◌∷◌, Some, OnOk, IfOk, length, replicate};
 ghost use Rattle.std.specs.Option.{option_copied, option_map};
 ghost use Rattle.once_world.specs.Machine.{unfinished_after, error_in as error_of};
 ghost use Rattle.once_world.specs.Machine.{release_entry as release_of, end_entry as end_of};
