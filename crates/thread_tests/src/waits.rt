@@ -4,9 +4,10 @@ mod fault;
 mod table;
 mod users;
 
-use crate::doubles::meeting::{Blocking, Meeting};
+use crate::doubles::meeting::{Blocking, Listening, Meeting};
 use async_once_cell::{Lazy, OnceCell, Parker, Refused};
 use fault::Fault;
+use futures::channel::oneshot::{Receiver, Sender, channel};
 use futures::future::ready;
 use machine_tests::doubles::memory::hoard;
 use std::alloc::{AllocError, AllocGlobal};
@@ -15,7 +16,7 @@ use std::sync::Wait;
 use std::sync::atomic::{AtomicU64, Ordering};
 use std::test::Fail;
 use std::thread;
-use std::time::Clock;
+use std::time::{Clock, Duration};
 use table::{Table, sums};
 use users::{
     Service, by_any, doubled, forced, forced_as_on, forced_on, known, known_on, lent, slow, tried,
@@ -210,6 +211,48 @@ fn value_of_another_thread(rt: HostRuntime) -> Result<(), Fail> {
         );
         assert_eq!(rt; both, (Some(5), Some(5)));
     }
+    Ok(())
+}
+
+// What a thread is told that waits for what the other sends.
+fn told_what_is_sent<R>(
+    rt: &R,
+    cell: &OnceCell<u64>,
+    polls: &AtomicU64,
+    sent: Receiver<u64>,
+) -> Option<u64>
+where
+    R: Wait + RandomSource + AllocGlobal,
+{
+    let init = Listening::new(polls, sent);
+    cell.get_or_try_init(rt, init).wait().ok()?.ok().copied()
+}
+
+// Sends the value twenty milliseconds after the init was polled first, and says how often it was polled before that.
+fn sent_later<R: Clock>(rt: &R, polls: &AtomicU64, sender: Sender<u64>) -> u64 {
+    for _ in 0..10_000 {
+        if polls.load(Ordering::SeqCst) > 0 {
+            break;
+        }
+        thread::sleep(rt, Duration::from_millis(1));
+    }
+    thread::sleep(rt, Duration::from_millis(20));
+    let before = polls.load(Ordering::SeqCst);
+    let _ = sender.send(5);
+    before
+}
+
+/// A thread that waits does not try again and again: its init is not polled a second time while nobody calls it.
+#[test]
+fn no_poll_that_nobody_called_for(rt: HostRuntime) -> Result<(), Fail> {
+    let (cell, polls) = (OnceCell::new(), AtomicU64::new(0));
+    let (sender, sent) = channel(rt.alloc())?;
+    let both = thread::join(
+        &rt,
+        || told_what_is_sent(&rt, &cell, &polls, sent),
+        || sent_later(&rt, &polls, sender),
+    );
+    assert_eq!(rt; both, (Some(5), 1));
     Ok(())
 }
 

@@ -16,6 +16,7 @@
 //! `take` is the owner's call on the `OnceCell`, and puts an end to all futures before. `end`, the last
 //! line, has what `into_inner` of both cells answers. `lazy` has what `try_get` answers before the text.
 
+mod little;
 mod refusals;
 
 use crate::doubles::made::{Looks, Made, Within};
@@ -24,6 +25,7 @@ use crate::doubles::stub::{Init, Stub, Tried, count};
 use async_once_cell::world::Reply;
 use async_once_cell::{Lazy, OnceCell};
 use futures::test::MockTask;
+pub use little::run_in_little;
 use machine_tests::doubles::memory::hoard;
 pub use refusals::refuse_each;
 use std::alloc::{AllocError, AllocGlobal, Global};

@@ -1,6 +1,6 @@
 //! Who drives the future of a cell, and what the others get, as schedules of polls and drops.
 
-use crate::doubles::schedule::{refuse_each, run};
+use crate::doubles::schedule::{refuse_each, run, run_in_little};
 use std::test::Fail;
 
 // Schedules over a `Lazy`.
@@ -86,5 +86,13 @@ fn starved(rt: HostRuntime) -> Result<(), Fail> {
 fn each_request_refused(rt: HostRuntime) -> Result<(), Fail> {
     let refused = refuse_each(&rt, SCHEDULES)?;
     assert!(rt; refused >= 9, "{refused}");
+    Ok(())
+}
+
+// No run of these schedules keeps memory. There are so many at least.
+#[test]
+fn no_memory_kept(rt: HostRuntime) -> Result<(), Fail> {
+    let ran = run_in_little(&rt, SCHEDULES)?;
+    assert!(rt; ran >= 5, "{ran}");
     Ok(())
 }

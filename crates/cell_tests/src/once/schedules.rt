@@ -1,6 +1,6 @@
 //! Schedules of polls and drops over a cell, line by line.
 
-use crate::doubles::schedule::{refuse_each, run};
+use crate::doubles::schedule::{refuse_each, run, run_in_little};
 use std::test::Fail;
 
 // Schedules over a `OnceCell`. Who leaves the list lets its waker go, which wakes its task.
@@ -308,5 +308,13 @@ fn starved(rt: HostRuntime) -> Result<(), Fail> {
 fn each_request_refused(rt: HostRuntime) -> Result<(), Fail> {
     let refused = refuse_each(&rt, SCHEDULES)?;
     assert!(rt; refused >= 50, "{refused}");
+    Ok(())
+}
+
+// No run of these schedules keeps memory. There are so many at least.
+#[test]
+fn no_memory_kept(rt: HostRuntime) -> Result<(), Fail> {
+    let ran = run_in_little(&rt, SCHEDULES)?;
+    assert!(rt; ran >= 12, "{ran}");
     Ok(())
 }

@@ -1,6 +1,6 @@
 //! A failure calls one of those who wait, and who was called and leaves passes its turn on.
 
-use crate::doubles::schedule::{refuse_each, run};
+use crate::doubles::schedule::{refuse_each, run, run_in_little};
 use std::test::Fail;
 
 const TURNS: &str = "\
@@ -191,5 +191,13 @@ fn starved(rt: HostRuntime) -> Result<(), Fail> {
 fn each_request_refused(rt: HostRuntime) -> Result<(), Fail> {
     let refused = refuse_each(&rt, TURNS)?;
     assert!(rt; refused >= 250, "{refused}");
+    Ok(())
+}
+
+// No run of these schedules keeps memory. There are so many at least.
+#[test]
+fn no_memory_kept(rt: HostRuntime) -> Result<(), Fail> {
+    let ran = run_in_little(&rt, TURNS)?;
+    assert!(rt; ran >= 10, "{ran}");
     Ok(())
 }

@@ -1,6 +1,7 @@
 //! Where threads meet, also while one is inside an init.
 
 use futures::Future;
+use futures::channel::oneshot::{Canceled, Receiver};
 use futures::task::{Context, Poll};
 use std::sync::Wait;
 use std::sync::atomic::{AtomicU64, Ordering};
@@ -94,6 +95,28 @@ impl Future for Spinning<'_> {
             thread::yield_now();
         }
         Poll::Ready(9)
+    }
+}
+
+/// An init that waits for what another thread sends, and counts how often it is polled.
+#[derive(Drop)]
+pub struct Listening<'p> {
+    polls: &'p AtomicU64,
+    sent: Receiver<u64>,
+}
+
+impl<'p> Listening<'p> {
+    pub fn new(polls: &'p AtomicU64, sent: Receiver<u64>) -> Self {
+        Listening { polls, sent }
+    }
+}
+
+impl Future for Listening<'_> {
+    type Output = Result<u64, Canceled>;
+
+    fn poll(&mut self, cx: &mut Context<'_>) -> Poll<Result<u64, Canceled>> {
+        self.polls.fetch_add(1, Ordering::SeqCst);
+        self.sent.poll(cx)
     }
 }
 
