@@ -42,7 +42,9 @@ pub(crate) fn steps_left<T, W: TaskWaker + Drop, R: Wait + AllocGlobal, S: TaskS
 /// what the last step told, for the contract alone.
 ///
 /// ```
-/// told = one_step(parts, step, side, told);
+/// while step.left() > 0 {
+///     told = one_step(parts, step, side, told);
+/// }
 /// ```
 #[inline(always)]
 pub fn one_step<T, W: TaskWaker + Drop, R: Wait + AllocGlobal, S: TaskSide<W, Value = T>>(

@@ -139,7 +139,9 @@ impl<T, W: TaskWaker + Drop> Inner<T, W> {
     /// The value, for whoever has what shows it.
     ///
     /// ```
-    /// (Value::Shared(inner), Seen::Shared(_, Some(written))) => Some(inner.value(written)),
+    /// if let Some(written) = written {
+    ///     return Some(inner.value(written)); // without a look at the word
+    /// }
     /// ```
     #[inline(always)]
     pub fn value<'a>(&'a self, written: &Written<T>) -> &'a T
@@ -152,7 +154,10 @@ impl<T, W: TaskWaker + Drop> Inner<T, W> {
     /// Whether the value was put. No clause says so.
     ///
     /// ```
-    /// Value::Shared(inner) => inner.is_written(),
+    /// let is_set = match self {
+    ///     Value::Owned(_) => false,
+    ///     Value::Shared(inner) => inner.is_written(),
+    /// };
     /// ```
     pub fn is_written(&self) -> bool {
         self.slot.witness().is_some()
@@ -161,7 +166,10 @@ impl<T, W: TaskWaker + Drop> Inner<T, W> {
     /// The value, where it was put. The record ends. No clause says so.
     ///
     /// ```
-    /// Value::Shared(inner) => inner.into_inner(),
+    /// match self {
+    ///     Value::Owned(value) => Some(value),
+    ///     Value::Shared(inner) => inner.into_inner(),
+    /// }
     /// ```
     pub fn into_inner(self) -> Option<T> {
         let Inner {
@@ -239,7 +247,8 @@ impl<'a, 'r, T, W: TaskWaker, R> Shared<'a, 'r, T, W, R> {
     /// Begins a drop.
     ///
     /// ```
-    /// task.begin_drop();
+    /// self.side.begin();
+    /// self.parts.begin_drop();
     /// ```
     #[inline(always)]
     pub fn begin_drop(&mut self)

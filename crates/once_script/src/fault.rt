@@ -22,7 +22,10 @@ impl Fault {
     /// The status that the process ends with.
     ///
     /// ```
-    /// ExitCode::from(fault.status())
+    /// Err(fault) => {
+    ///     let _ = rt.eprintln(fault);
+    ///     ExitCode::from(fault.status())
+    /// }
     /// ```
     pub fn status(&self) -> u8
         ensures { result ≡ status_of self.now }

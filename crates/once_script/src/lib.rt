@@ -24,6 +24,11 @@ use std::io::{BufReader, Read, Write};
 /// ```
 /// match run(rt.alloc(), rt.reader(), io::writer(&rt)) {
 ///     Ok(()) => ExitCode::SUCCESS,
+///     Err(fault) => {
+///         let _ = rt.eprintln(fault);
+///         ExitCode::from(fault.status())
+///     }
+/// }
 /// ```
 pub fn run<I, O>(alloc: Global, input: I, output: O) -> Result<(), Fault>
 where

@@ -86,6 +86,8 @@ pub fn parse_script(alloc: Global, text: &[u8]) -> Result<Script, Fault>
 ///
 /// ```
 /// let Some(opening) = parse_opening(alloc, first.text)? else {
+///     return Err(unreadable(alloc, first, first_form(first.text))?);
+/// };
 /// ```
 pub fn parse_opening(alloc: Global, text: &str) -> Result<Option<Opening>, AllocError>
     ensures read { IfOk result
@@ -156,6 +158,8 @@ fn parse_with(text: &str) -> Option<u64>
 ///
 /// ```
 /// let Some(line) = parse_line(alloc, source.text)? else {
+///     return Err(unreadable(alloc, source, expected_form(source.text))?);
+/// };
 /// ```
 pub fn parse_line(alloc: Global, text: &str) -> Result<Option<Line>, AllocError>
     ensures read { IfOk result (λ read. IfSome read (λ line. IsLine line text.now)) }

@@ -50,6 +50,8 @@ pub fn replay_lines(
 /// let mut world = World::new(alloc, kind, limit);
 /// for line in lines {
 ///     take_line(&mut world, line)?;
+/// }
+/// Ok(world.into_record())
 /// ```
 pub fn take_line(world: &mut World, line: &Line) -> Result<(), AllocError>
     requires reached { IsReached world.old }

@@ -129,7 +129,7 @@ impl fmt::Display for QueueText {
 /// The word for a call of the owner.
 ///
 /// ```
-/// Some(Reason::NotOfOnce(call_word(call)))
+/// Call::Take if lazy => Some(Reason::NotOfLazy(call_word(call))), // the word is `take`
 /// ```
 pub fn call_word(call: &Call) -> &'static str {
     match call {

@@ -13,6 +13,8 @@ use std::alloc::{AllocError, Global};
 /// match parse_answer(text)? {
 ///     Ran::Pending => Some(None), // the text is `p`
 ///     Ran::Value(value) => Some(Some(value)), // `v4` gives 4
+///     Ran::Error(_) => None, // `e4`
+/// }
 /// ```
 pub fn parse_answer(text: &str) -> Option<Ran>
     ensures { MatchOption result ((a : Ran) → ¬ IsAnswer a text.now)
@@ -34,6 +36,9 @@ pub fn parse_answer(text: &str) -> Option<Ran>
 ///
 /// ```
 /// let Some(answer) = parse_listed(field) else { // None of `e4`: a list holds no error
+///     return Ok(None);
+/// };
+/// answers.push(answer)?;
 /// ```
 pub fn parse_listed(text: &str) -> Option<Option<u64>>
     ensures { MatchOption result ((a : Option ℕ) → ¬ IsListed a text.now)
@@ -49,7 +54,10 @@ pub fn parse_listed(text: &str) -> Option<Option<u64>>
 /// Reads one or more answers, parted by one space each.
 ///
 /// ```
-/// let Some(answers) = parse_answers(alloc, given)? else { // two of `p v4`
+/// let Some(answers) = parse_answers(alloc, given)? else {
+///     return Ok(None);
+/// };
+/// Ok(with_limit(Kind::Lazy(answers), limit)) // of `p v4` a lazy cell whose future has two answers
 /// ```
 pub fn parse_answers(alloc: Global, text: &str) -> Result<Option<Vec<Option<u64>>>, AllocError>
     ensures read { IfOk result (λ read. IfSome read (λ list. AreAnswers list.items text.now)) }

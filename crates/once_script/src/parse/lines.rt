@@ -32,7 +32,11 @@ fn without_last_feed(text: &[u8]) -> &[u8]
 /// Reads the lines after the first, which has the number 1.
 ///
 /// ```
-/// lines: parse_lines(alloc, later)?,
+/// Ok(Script {
+///     kind,
+///     limit,
+///     lines: parse_lines(alloc, later)?,
+/// })
 /// ```
 pub fn parse_lines(alloc: Global, lines: &[&[u8]]) -> Result<Vec<Line>, Fault>
     ensures read { IfOk result (λ read. AreLines (texts_of lines.now) read.items) }
@@ -57,6 +61,7 @@ pub fn parse_lines(alloc: Global, lines: &[&[u8]]) -> Result<Vec<Line>, Fault>
 /// ```
 /// let Some(Opening { kind, limit }) = opening_in(alloc, first)? else {
 ///     return Err(Fault::Unreadable(1));
+/// };
 /// ```
 pub fn opening_in(alloc: Global, bytes: &[u8]) -> Result<Option<Opening>, AllocError>
     ensures { IfOk result (λ read. MatchOption read

@@ -8,6 +8,7 @@ use once_queue::word::MAX_WAITERS;
 ///
 /// ```
 /// let limit = parse_limit(text)?; // None of `0`
+/// Some(Opening { kind, limit })
 /// ```
 pub fn parse_limit(text: &str) -> Option<u64>
     ensures value { result ≡ limit_of text.now }
