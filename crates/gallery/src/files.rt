@@ -97,23 +97,26 @@ fn is_same<R: Files + AllocGlobal>(rt: &R, name: &str, product: Product) -> Resu
     Ok(read(rt, name, product.ending())? == made)
 }
 
+// Prints whether the product's file is the same, and returns that.
+fn compare_one<R>(rt: &R, name: &str, product: Product) -> io::Result<bool>
+where
+    R: Files + Print + AllocGlobal,
+{
+    let (ending, found) = (product.ending(), is_same(rt, name, product));
+    match &found {
+        Ok(true) => println!(rt; "{name}.{ending}: the same")?,
+        Ok(false) => println!(rt; "{name}.{ending}: differs")?,
+        Err(failure) => println!(rt; "{name}.{ending}: {failure}")?,
+    }
+    Ok(found.unwrap_or(false))
+}
+
 /// Prints of each product whether its file is the same, and returns whether all are.
 pub fn compare<R: Files + Print + AllocGlobal>(rt: &R) -> io::Result<bool> {
     let mut are_same = true;
     for (name, products) in &SCRIPTS {
         for product in *products {
-            let ending = product.ending();
-            match is_same(rt, name, *product) {
-                Ok(true) => println!(rt; "{name}.{ending}: the same")?,
-                Ok(false) => {
-                    println!(rt; "{name}.{ending}: differs")?;
-                    are_same = false;
-                }
-                Err(failure) => {
-                    println!(rt; "{name}.{ending}: {failure}")?;
-                    are_same = false;
-                }
-            }
+            are_same &= compare_one(rt, name, *product)?;
         }
     }
     Ok(are_same)

@@ -1,5 +1,8 @@
 //! A script, played line by line before one who watches.
-use crate::reading::{Script, TextLine};
+ghost use Rattle.std.specs.Prelude.{OnOk};
+ghost use Rattle.once_world.specs.Reached.{IsReached};
+
+use crate::reading::{Script, ScriptLine, TextLine};
 use once_core::step::Step;
 use once_script::parse::{Line, Opening};
 use once_script::play::take_line;
@@ -99,18 +102,31 @@ pub fn play<V: Watcher>(
     // Each task that an entry before this one made is gone.
     let mut gone = 0usize;
     for line in &lines {
-        let before = world.entries().len();
         let reason = reason_of(&world, &line.line, lazy, &mut gone);
-        take_line(&mut world, &line.line)?;
-        watcher.see(Moment {
-            source: line.source,
-            task: task_of(&line.line),
-            reason,
-            added: world.entries().get(before..).unwrap_or(&[]),
-            world: &world,
-        })?;
+        play_line(&mut world, line, reason, watcher)?;
     }
     Ok(())
+}
+
+// Plays a line, which is passed over for this reason, if there is one.
+fn play_line<V: Watcher>(
+    world: &mut World,
+    line: &ScriptLine<'_>,
+    reason: Option<Reason>,
+    watcher: &mut V,
+) -> Result<(), AllocError>
+    requires reached { IsReached world.old }
+    ensures reached { OnOk result (IsReached world.new) }
+{
+    let before = world.entries().len();
+    take_line(world, &line.line)?;
+    watcher.see(Moment {
+        source: line.source,
+        task: task_of(&line.line),
+        reason,
+        added: world.entries().get(before..).unwrap_or(&[]),
+        world,
+    })
 }
 
 /// The task that a line names.

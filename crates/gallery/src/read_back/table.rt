@@ -122,29 +122,20 @@ impl Reading<'_> {
         Ok(())
     }
 
+    /// The line before the next one.
+    fn line_before(&self) -> Option<&Line> {
+        self.story.lines.get(self.at.checked_sub(1)?)
+    }
+
     /// How many tasks live before the next line and have no column: new ones, those that wait, those that hold, and
     /// those in a call.
     fn counts_now(&self) -> [u64; 4] {
         let mut counts = [0u64; 4];
-        let before = self
-            .at
-            .checked_sub(1)
-            .and_then(|at| self.story.lines.get(at));
-        let Some(line) = before else {
-            return counts;
-        };
-        let others = line
-            .stands
-            .iter()
-            .enumerate()
-            .filter(|(place, _)| !self.columns.contains(place));
-        for (_, stand) in others {
-            match *stand {
-                "gone" => {}
-                "new" => raise(&mut counts[0]),
-                "waits" => raise(&mut counts[1]),
-                "holds" => raise(&mut counts[2]),
-                _ => raise(&mut counts[3]),
+        if let Some(line) = self.line_before() {
+            for (place, stand) in line.stands.iter().enumerate() {
+                if !self.columns.contains(&place) {
+                    count(&mut counts, stand);
+                }
             }
         }
         counts
@@ -220,6 +211,17 @@ impl Reading<'_> {
         Err(Fault::Differs(format!(in self.alloc;
             "table, line {number}: \"{read}\", and not \"{wanted}\""
         )?))
+    }
+}
+
+/// Counts a task that stands so among the new ones, those that wait, those that hold, and those in a call.
+fn count(counts: &mut [u64; 4], stand: &str) {
+    match stand {
+        "gone" => {}
+        "new" => raise(&mut counts[0]),
+        "waits" => raise(&mut counts[1]),
+        "holds" => raise(&mut counts[2]),
+        _ => raise(&mut counts[3]),
     }
 }
 
