@@ -209,7 +209,7 @@ impl<'a, T: Drop, F: Future<Output = T>, R: Wait + AllocGlobal> Future
         if self.is_finished() {
             return cx.yield_now();
         }
-        self.future.poll(cx)
+        InitFuture::poll(&mut self.future, cx)
     }
 }
 

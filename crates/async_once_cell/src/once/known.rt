@@ -208,12 +208,7 @@ impl<T> Seen<T> {
     {
         match self {
             Seen::Owned(_) => unreachable!(),
-            Seen::Shared(own, _) => {
-                let before = own.again();
-                own.learn(seen);
-                stays_set(&before, own);
-                stays_set(seen, own);
-            }
+            Seen::Shared(own, _) => take_over(own, seen),
         }
     }
 
@@ -227,10 +222,7 @@ impl<T> Seen<T> {
         match (self, other) {
             (Seen::Owned(knows), Seen::Owned(others)) => *knows |= *others,
             (Seen::Shared(own, known), Seen::Shared(record, found)) => {
-                let before = own.again();
-                own.learn(record);
-                stays_set(&before, own);
-                stays_set(record, own);
+                take_over(own, record);
                 if known.is_none() {
                     *known = found.as_ref().map(Written::again);
                 }
@@ -238,6 +230,22 @@ impl<T> Seen<T> {
             _ => unreachable!(),
         }
     }
+}
+
+// Adds to a record what another one of its cell has. Where the cell is set in one of the two, it is set in what
+// comes of them.
+fn take_over(own: &mut Record, seen: &Record)
+    requires book { seen.now.book ≡ own.old.book }
+    ensures book { own.new.book ≡ own.old.book }
+    ensures own { IsPrefix own.old.log own.new.log }
+    ensures other { IsPrefix seen.now.log own.new.log }
+    ensures own_set { IsSet own.old.log → IsSet own.new.log }
+    ensures other_set { IsSet seen.now.log → IsSet own.new.log }
+{
+    let before = own.again();
+    own.learn(seen);
+    stays_set(&before, own);
+    stays_set(seen, own);
 }
 
 impl<T> OnceCell<T> {

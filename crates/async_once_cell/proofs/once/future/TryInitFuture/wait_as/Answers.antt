@@ -1,17 +1,14 @@
 -- A token that finds the value learns it. One that finds nothing knew nothing before, and knows nothing after the look.
 -- So what `wait_as_on` says holds of the whole call.
-use Rattle.std.proofs.Common.{rules, Option, sym, ◌∙◌, subst}
-use Rattle.async_once_cell.specs.Polls.{Waits}
-use Rattle.async_once_cell.proofs.Looks.{grows_on}
+use Rattle.std.proofs.Common.{rules}
+use Rattle.async_once_cell.proofs.Looks.{grows_on, waits_on}
 use Rattle.async_once_cell.proofs.once.future.TryInitFuture.wait_as.Goals as goal
 
 pub returns-in-Some-clause-value : goal.returns-in-Some-clause-value
 returns-in-Some-clause-value g c = search rules
 
 pub returns-clause-value : goal.returns-clause-value
-returns-clause-value g c =
-    let same = c.in-None.ensures.value.1 ∙ sym c.in-None.ensures.value.0 in
-    subst (λ (k : Option g.row.T.Denot). Waits k c.wait_as_on.new.token.value c.wait_as_on.result) same c.wait_as_on.ensures.value
+returns-clause-value g c = waits_on _ _ c.in-None.ensures.value c.wait_as_on.ensures.value
 
 pub returns-clause-log : goal.returns-clause-log
 returns-clause-log g c = grows_on _ _ _ _ _ _ c.get_as.ensures.look c.wait_as_on.ensures.log
