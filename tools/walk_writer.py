@@ -10,6 +10,8 @@ import re
 TOP = os.path.dirname(os.path.dirname(os.path.abspath(__file__)))
 PROOFS = os.path.join(TOP, "crates", "pagebook", "proofs")
 WIDTH = 119
+# What an import may have, and a line that only a broken tuple would shorten.
+WIDEST = 160
 
 # What a walk may cite. Those names that it does cite are imported.
 IMPORTS = """
@@ -103,6 +105,17 @@ def cited(name, text):
     return re.search(r"(?<![\w#'-])" + re.escape(name) + r"(?![\w'-])", text) is not None
 
 
+def imported(module, names):
+    """The `use` lines of these names: more than one where they are too long for a line."""
+    head, rows = f"use {module}.{{", []
+    for name in names:
+        if rows and len(f"{head}{', '.join(rows[-1] + [name])}}}") <= WIDEST:
+            rows[-1].append(name)
+        else:
+            rows.append([name])
+    return [f"{head}{', '.join(row)}}}\n" for row in rows]
+
+
 def imports(text):
     """The `use` lines for what the text cites."""
     lines = []
@@ -113,8 +126,7 @@ def imports(text):
             here, _, there = name.partition("=")
             if cited(here, text):
                 held.append(f"{there} as {here}" if there else here)
-        if held:
-            lines.append(f"use {module}.{{{', '.join(held)}}}\n")
+        lines += imported(module, held)
     lines += [f"use {module} as {name}\n" for name, module in MODULES.items() if f"{name}." in text]
     return "".join(lines)
 
@@ -153,21 +165,55 @@ def end_of_first(line, limit):
     return best[1] if best else None
 
 
+def spread(line, room, most):
+    """A line with its longest tuple broken as `rt fmt` breaks it: what stands before the tuple's parts, the parts, and
+    what follows. None where no tuple begins within the room and has more columns than most."""
+    tuples = [(end - start, start, end) for start, end, is_tuple in groups(line)
+              if is_tuple and start < room and end < len(line)]
+    size, start, end = max(tuples, default=(0, 0, 0))
+    if size <= most:
+        return None
+    commas, depth = [], 0
+    for place in range(start + 1, end):
+        depth += (line[place] in "([{") - (line[place] in ")]}")
+        if line[place] == "," and depth == 0:
+            commas.append(place)
+    parts = [line[one + 1:other].strip() for one, other in zip([start] + commas, commas + [end])]
+    return line[:start + 1], parts, line[end:]
+
+
+def broken(line, indent, later):
+    """A line as lines no longer than they may be, where that can be had. Those after the first begin at `later`."""
+    lines = []
+    while indent + len(line) > WIDTH:
+        room, most = WIDTH - indent, WIDEST - indent
+        apart = spread(line, room, most)
+        end = None if apart else end_of_first(line, room)
+        if not apart and end is None and len(line) > most:
+            end = end_of_first(line, most)
+            apart = spread(line, room, 0) if end is None else None
+        if apart:
+            head, parts, line = apart
+            lines.append(" " * indent + head)
+            for part in parts:
+                lines += broken(part + ",", indent + 2, indent + 6)
+        elif end is None:
+            break
+        else:
+            lines.append(" " * indent + line[:end].rstrip())
+            line, indent = line[end:].lstrip(), later
+    return lines + [(" " * indent + line).rstrip()]
+
+
 def laid_out(text):
-    """The text with no line longer than it may be, where that can be had. Imports stay on a line."""
+    """The text with no line longer than it may be, where that can be had."""
     lines = []
     for line in text.split("\n"):
-        rest = line.strip()
-        indent = later = len(line) - len(line.lstrip())
-        if later == 0:
-            later = 4
-        while not rest.startswith(("use ", "--")) and indent + len(rest) > WIDTH:
-            end = end_of_first(rest, WIDTH - indent)
-            if end is None:
-                break
-            lines.append(" " * indent + rest[:end].rstrip())
-            rest, indent = rest[end:].lstrip(), later
-        lines.append((" " * indent + rest).rstrip())
+        indent = len(line) - len(line.lstrip())
+        if line.startswith(("use ", "--")):
+            lines.append(line.rstrip())
+        else:
+            lines += broken(line.strip(), indent, indent or 4)
     return "\n".join(lines) + "\n"
 
 

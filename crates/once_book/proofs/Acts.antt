@@ -12,14 +12,17 @@ use Rattle.once_core.specs.Steps.{after_fast, after_in, is_resting}
 use Rattle.once_world.specs.Record.{Entry, Ran}
 use Rattle.once_world.specs.declared.record.Ran.TheVariants.{Pending as RanPending, Value as RanValue, Error as RanError}
 use Rattle.once_world.specs.Book.{TaskState, refused_step}
-use Rattle.once_world.specs.Machine.{AtAddOne, AtCountIn, AtCountOut, AtDoorPut, AtDoorTake, AtFast, AtList, AtRun, AtStart, AtTryQuick, AtWaitLoad, Ending, Step, UnderWay, freed_entries, is_value, kept_after, next_in}
+use Rattle.once_world.specs.Machine.{AtAddOne, AtCountIn, AtCountOut, AtDoorPut, AtDoorTake, AtFast, AtList, AtRun, AtStart}
+use Rattle.once_world.specs.Machine.{AtTryQuick, AtWaitLoad, Ending, Step, UnderWay, freed_entries, is_value, kept_after, next_in}
 use Rattle.once_book.specs.Kept.{Grew, IsKept, Leaves, Sheet, hand, most, sheets}
-use Rattle.once_book.proofs.Moments.Moves.Words.{add_moves, fast_moves, full_moves, full_page, full_told, in_moves, in_page, none_moves, none_page, none_told, out_moves, quick_moves, start_moves, wait_moves}
+use Rattle.once_book.proofs.Moments.Moves.Words.{add_moves, fast_moves, full_moves, full_page, full_told, in_moves, in_page}
+use Rattle.once_book.proofs.Moments.Moves.Words.{none_moves, none_page, none_told, out_moves, quick_moves, start_moves, wait_moves}
 use Rattle.once_book.proofs.Moments.Moves.Calls.{begun_notes, copy_notes, dropped_notes, made_notes, ran_notes, unput_notes}
 use Rattle.once_book.specs.declared.act.Act.TheVariants.{Load, Quick, Fast, AddOne, CountOut, Full, Enter, NonePut, Begin as BeginPoll, BeginDrop, Ran as InitRan, Refused, Unput}
 use Rattle.once_book.specs.Own.{IsHand, number_in, task_in, told}
 use Rattle.once_book.specs.Acts.{Goes, Makes, Stays, Tells, Turns}
-use Rattle.once_book.specs.Places.{CanAdd, CanCountIn, CanCountOut, CanFast, CanLoad, CanRefuse, CanRun, CanTake, add_next, fast_next, in_next, load_next, out_next, refused_in, run_next, take_next, unnamed}
+use Rattle.once_book.specs.Places.{CanAdd, CanCountIn, CanCountOut, CanFast, CanLoad, CanRefuse, CanRun, CanTake}
+use Rattle.once_book.specs.Places.{add_next, fast_next, in_next, load_next, out_next, refused_in, run_next, take_next, unnamed}
 use Rattle.once_book.proofs.Tells.{leaves_stays, leaves_turns, moves_tell, notes_tell}
 
 module _ (seen : List Entry) (t : ℕ) (x : TaskState) where
@@ -103,7 +106,8 @@ module _ (seen : List Entry) (t : ℕ) (x : TaskState) where
 
   -- the init answers
   ran_by : (a : Polled) (s : Step ℕ ℕ) → x.step ≡ s → CanRun s
-      → Notes IsKept own (λ w. Turns own (record x { step = (run_next a s).step; kept = kept_after (unnamed a) x.kept }) (told t (kept_after (unnamed a) x.kept) (run_next a s) (Ran t (unnamed a) ∷ [])) w)
+      → Notes IsKept own (λ w. Turns own (record x { step = (run_next a s).step; kept = kept_after (unnamed a) x.kept })
+      (told t (kept_after (unnamed a) x.kept) (run_next a s) (Ran t (unnamed a) ∷ [])) w)
   ran_by Pending (UnderWay (AtRun by)) at can = notes_tell IsKept own _ _ (λ w r. leaves_turns seen t x _ _ w r.1) (ran_notes seen t x by RanPending tt at)
   ran_by Value (UnderWay (AtRun by)) at can = notes_tell IsKept own _ _ (λ w r. leaves_turns seen t x _ _ w r.1) (ran_notes seen t x by (RanValue 0) refl at)
   ran_by Error (UnderWay (AtRun by)) at can = notes_tell IsKept own _ _ (λ w r. leaves_turns seen t x _ _ w r.1) (ran_notes seen t x by (RanError 0) tt at)

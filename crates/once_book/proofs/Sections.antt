@@ -6,7 +6,8 @@ use Rattle.pagebook.specs.Pages.{Held, Moves, Notes, View}
 use Rattle.once_core.specs.Steps.{Next, after_door_again, after_door_get, after_list, after_look, next_at, next_end}
 use Rattle.once_world.specs.Record.{Entry}
 use Rattle.once_world.specs.Book.{TaskState}
-use Rattle.once_world.specs.Machine.{AtCountIn, AtCountOut, AtDoorAgain, AtDoorGet, AtDoorPut, AtDoorTake, AtLeave, AtList, AtLook, AtRelease, Ending, Step, UnderWay, claim_entries, is_claim, is_value, listed_ticket, pass_entries, release_entry, release_wakers}
+use Rattle.once_world.specs.Machine.{AtCountIn, AtCountOut, AtDoorAgain, AtDoorGet, AtDoorPut, AtDoorTake, AtLeave, AtList, AtLook, AtRelease, Ending}
+use Rattle.once_world.specs.Machine.{Step, UnderWay, claim_entries, is_claim, is_value, listed_ticket, pass_entries, release_entry, release_wakers}
 use Rattle.once_queue.specs.Listings.{next_waker}
 use Rattle.once_world.proofs.Moment.Numbers.{release_more}
 use Rattle.once_book.specs.Kept.{Grew, IsKept, Leaves, Sheet, has_passed, hands_out, locked, sheets}
@@ -16,7 +17,8 @@ use Rattle.once_book.specs.declared.act.Section.TheVariants.{Stand, Get, Put, Fo
 use Rattle.once_book.specs.Desk.{Desked, IsDesk, behind, desk_sheets, desked}
 use Rattle.once_book.specs.Own.{Did, IsHand, Own, Turned, number_in, task_in, told}
 use Rattle.once_book.specs.Places.{CanEnter, CanGet, CanRelease, CanTake, get_next, leave_next, list_next, look_next, release_next, take_next}
-use Rattle.once_book.specs.Sections.{CanNote, CanSee, HandsEach, IsBoth, Tells, desk_left, desk_listed, desk_looked, desk_put, desk_released, door_number, listed, looked, more_released, own_behind, passing, waker_at}
+use Rattle.once_book.specs.Sections.{CanNote, CanSee, HandsEach, IsBoth, Tells, desk_left, desk_listed, desk_looked, desk_put}
+use Rattle.once_book.specs.Sections.{desk_released, door_number, listed, looked, more_released, own_behind, passing, waker_at}
 use Rattle.once_book.proofs.Tells.{grew_nothing, moves_tell, notes_tell}
 
 -- a hand that is known to have both pages and a task's
@@ -43,7 +45,8 @@ module _ (seen : List Entry) (d : Desked) (t : ℕ) (x : TaskState) where
   Went e did next w = IsBoth w.1 × ((desked w.1 ≡ e) × Did known did next (own_behind w))
 
   -- what a step leaves that sets both pages and goes on
-  left : (e : Desked) (did : List Entry) (next : Next ℕ ℕ) (w : View Entry Sheet) → Leaves seen (locked d.made d.door d.head d.listings t x) (pages_after seen d.made d.door d.head d.listings t x e.made e.door e.head e.listings next) (told t x.kept next did) w
+  left : (e : Desked) (did : List Entry) (next : Next ℕ ℕ) (w : View Entry Sheet) → Leaves seen (locked d.made d.door d.head d.listings t x)
+      (pages_after seen d.made d.door d.head d.listings t x e.made e.door e.head e.listings next) (told t x.kept next did) w
       → Went e did next w
   left e did next w l =
       let y : TaskState = record x { step = next.step } in
@@ -76,7 +79,8 @@ module _ (seen : List Entry) (d : Desked) (t : ℕ) (x : TaskState) where
   -- what stands at the door is looked at
   get_by : (s : Step ℕ ℕ) → x.step ≡ s → CanGet s → Notes IsKept own (λ w. Went d [] (get_next d.door s) w)
   get_by (UnderWay AtDoorGet) at can = notes_tell IsKept own _ _ (λ w r. left d [] (after_door_get d.door) w r.1) (get_notes seen d.made d.door d.head d.listings t x at)
-  get_by (UnderWay (AtDoorAgain e)) at can = notes_tell IsKept own _ _ (λ w r. again_is d.door e w r.0 (left d [] (next_at (AtRelease 1 e)) w r.1)) (again_notes seen d.made d.door d.head d.listings t x e at)
+  get_by (UnderWay (AtDoorAgain e)) at can = notes_tell IsKept own _ _ (λ w r. again_is d.door e w r.0 (left d [] (next_at (AtRelease 1 e)) w r.1))
+      (again_notes seen d.made d.door d.head d.listings t x e at)
   get_by _ at can = absurd can
 
   -- a queue is found where one would be put
@@ -104,18 +108,25 @@ module _ (seen : List Entry) (d : Desked) (t : ℕ) (x : TaskState) where
       → Moves IsKept own 0 (λ n. n) (λ n w. Went (desk_looked (looked n k d) k d) (claim_entries (is_claim (looked n k d)) t) (look_next (looked n k d) k x.waker s) w)
   look_by k (UnderWay (AtLook q m)) at can =
       subst (λ k. Moves IsKept own 0 (λ n. n) (λ n w. Went (desk_looked (looked n k d) k d) (claim_entries (is_claim (looked n k d)) t) (after_look (looked n k d) (Some x.waker) q k) w)) can
-      (moves_tell IsKept own 0 (λ n. n) _ _ (λ n w r. left (desk_looked (looked n m d) m d) (claim_entries (is_claim (looked n m d)) t) (after_look (looked n m d) (Some x.waker) q m) w r.1) (look_moves seen d.made d.door d.head d.listings t x q m true at))
+      (moves_tell IsKept own 0 (λ n. n) _ _
+      (λ n w r. left (desk_looked (looked n m d) m d) (claim_entries (is_claim (looked n m d)) t) (after_look (looked n m d) (Some x.waker) q m) w r.1)
+      (look_moves seen d.made d.door d.head d.listings t x q m true at))
   look_by k _ at can = absurd can
 
   -- a listing
   list_by : (k : Option ℕ) (room : Bool) (s : Step ℕ ℕ) → x.step ≡ s → CanSee (ListOwn k room) s
       → Moves IsKept own 0 (λ n. n)
-      (λ n w. Went (desk_listed (listed n k room d) k (waker_at s) d) (claim_entries (is_claim (listed n k room d)) t) (list_next (listed n k room d) (listed_ticket (listed n k room d) k d.listings) s) w)
+      (λ n w. Went (desk_listed (listed n k room d) k (waker_at s) d) (claim_entries (is_claim (listed n k room d)) t)
+      (list_next (listed n k room d) (listed_ticket (listed n k room d) k d.listings) s) w)
   list_by k room (UnderWay (AtList q m v)) at can =
       subst
       (λ k. Moves IsKept own 0 (λ n. n)
-      (λ n w. Went (desk_listed (listed n k room d) k v d) (claim_entries (is_claim (listed n k room d)) t) (after_list (listed n k room d) q (listed_ticket (listed n k room d) k d.listings)) w)) can.0
-      (moves_tell IsKept own 0 (λ n. n) _ _ (λ n w r. left (desk_listed (listed n m room d) m v d) (claim_entries (is_claim (listed n m room d)) t) (after_list (listed n m room d) q (listed_ticket (listed n m room d) m d.listings)) w r.1) (list_moves seen d.made d.door d.head d.listings t x q m v room at))
+      (λ n w. Went (desk_listed (listed n k room d) k v d) (claim_entries (is_claim (listed n k room d)) t)
+      (after_list (listed n k room d) q (listed_ticket (listed n k room d) k d.listings)) w)) can.0
+      (moves_tell IsKept own 0 (λ n. n) _ _
+      (λ n w r. left (desk_listed (listed n m room d) m v d) (claim_entries (is_claim (listed n m room d)) t)
+      (after_list (listed n m room d) q (listed_ticket (listed n m room d) m d.listings)) w r.1)
+      (list_moves seen d.made d.door d.head d.listings t x q m v room at))
   list_by k room _ at can = absurd can
 
   -- who is handed out when one leaves
@@ -146,7 +157,8 @@ module _ (seen : List Entry) (d : Desked) (t : ℕ) (x : TaskState) where
 
   -- a queue is put
   pub put_by : x.step ≡ UnderWay AtDoorPut → d.door ≡ None → Moves IsKept own 1 (λ n. 1) (Tells Put own)
-  put_by at none = moves_tell IsKept own 1 (λ n. 1) _ (Tells Put own) (λ n w r. left (desk_put d) [] (next_at (AtCountIn (suc d.made))) w r) (new_moves seen d.made d.door d.head d.listings t x at none)
+  put_by at none = moves_tell IsKept own 1 (λ n. 1) _ (Tells Put own) (λ n w r. left (desk_put d) [] (next_at (AtCountIn (suc d.made))) w r)
+      (new_moves seen d.made d.door d.head d.listings t x at none)
 
   -- what is added to the word
   more_is : (r head : Bool) → release_more r head ≡ more_released r head
@@ -165,7 +177,9 @@ module _ (seen : List Entry) (d : Desked) (t : ℕ) (x : TaskState) where
       subst (λ v. Moves IsKept own 0 (λ n. (n + more_released v d.head) % 2 ^ 64) (Tell v)) can
       (subst (λ m. Moves IsKept own 0 (λ n. (n + m) % 2 ^ 64) (Tell (is_value e))) (more_is (is_value e) d.head)
       (moves_tell IsKept own 0 (λ n. (n + release_more (is_value e) d.head) % 2 ^ 64) _ (Tell (is_value e))
-      (λ n w r. let l = left (desk_released (is_value e) d) (release_entry x.kept t (release_wakers (is_value e) d.listings) ∷ []) (next_at (AtCountOut e)) w r.1 in (l.0, (l.1.0, l.1.1, λ v u. r.0 u)))
+      (λ n w r. let l = left (desk_released (is_value e) d) (release_entry x.kept t (release_wakers (is_value e) d.listings) ∷ [])
+      (next_at (AtCountOut e)) w r.1 in
+      (l.0, (l.1.0, l.1.1, λ v u. r.0 u)))
       (release_moves seen d.made d.door d.head d.listings t x q e at)))
   release_by r _ at can = absurd can
 

@@ -80,7 +80,8 @@ ended_set n put slot pages log book t seen late ends e =
     let turned : reverse log ≡ reverse rest ++ reverse ends.0 = ap reverse is ∙ reverse-append ends.0 rest in
     let set : cell Once (reverse ends.0) ≡ SetTo 0 = value_set_is_answered_answered most n put slot pages log some book ends.0 late t 0 is in
     ap (cell Once) turned
-    ∙ stays_set (reverse rest) (reverse ends.0) 0 (subst (IsRun Once most) turned (log_is_run most n put slot pages log some book)) (subst ArePlain turned (log_is_plain most n put slot pages log some book)) set
+    ∙ stays_set (reverse rest) (reverse ends.0) 0 (subst (IsRun Once most) turned (log_is_run most n put slot pages log some book))
+    (subst ArePlain turned (log_is_plain most n put slot pages log some book)) set
 
 -- so whoever saw a call end with the value knows that the slot is written
 pub ended_sure : (t : ℕ) (seen : List Entry) → EndsSet t seen → Sure IsKept seen 2 2

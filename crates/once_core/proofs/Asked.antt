@@ -1,6 +1,7 @@
 -- Where the parts ask nothing, and the side may always put, each step may be made. For those who write parts of that kind.
 use Rattle.std.specs.Prelude.{ℕ}
-use Rattle.once_core.specs.Steps.{Place, AtStart, AtTryQuick, AtDoorGet, AtDoorPut, AtCountIn, AtWaitLoad, AtLook, AtList, AtRun, AtPut, AtFast, AtAddOne, AtDoorAgain, AtRelease, AtLeave, AtCountOut, AtDoorTake}
+use Rattle.once_core.specs.Steps.{Place, AtStart, AtTryQuick, AtDoorGet, AtDoorPut, AtCountIn, AtWaitLoad, AtLook, AtList}
+use Rattle.once_core.specs.Steps.{AtRun, AtPut, AtFast, AtAddOne, AtDoorAgain, AtRelease, AtLeave, AtCountOut, AtDoorTake}
 use Rattle.once_core.specs.Steps.{Step, Resting, UnderWay, Finished}
 use Rattle.once_core.specs.Steps.{Asks, AsksAt, asks_nothing}
 

@@ -102,13 +102,15 @@ refused_falls a text h =
     (f.inside, rw f.first h.2, f.later)
 
 -- what a limit and a value fall into
-pub with_falls : (limit value : ℕ) (digits text : List ℕ) → IsWithAfter digits value text → limit_of digits ≡ Some limit → (space_of text < length text) × (limit_of (first_field text) ≡ Some limit) × IsWith value (later_fields text)
+pub with_falls : (limit value : ℕ) (digits text : List ℕ) → IsWithAfter digits value text → limit_of digits ≡ Some limit
+    → (space_of text < length text) × (limit_of (first_field text) ≡ Some limit) × IsWith value (later_fields text)
 with_falls limit value digits text h l =
     let f = falls digits h.0 text (field_of_limit digits limit l) h.1 in
     (f.inside, rw f.first l, rw f.later h.2)
 
 -- what a limit and answers fall into
-pub list_falls : (limit : ℕ) (x : Option ℕ) (xs : List (Option ℕ)) (digits text : List ℕ) → IsListAfter digits (x ∷ xs) text → limit_of digits ≡ Some limit → (space_of text < length text) × (limit_of (first_field text) ≡ Some limit) × AreAnswers (x ∷ xs) (later_fields text)
+pub list_falls : (limit : ℕ) (x : Option ℕ) (xs : List (Option ℕ)) (digits text : List ℕ) → IsListAfter digits (x ∷ xs) text → limit_of digits ≡ Some limit
+    → (space_of text < length text) × (limit_of (first_field text) ≡ Some limit) × AreAnswers (x ∷ xs) (later_fields text)
 list_falls limit x xs digits text h l =
     let f = falls digits h.0 text (field_of_limit digits limit l) h.1 in
     (f.inside, rw f.first l, rw f.later h.2)

@@ -7,7 +7,8 @@ use Rattle.once_script.specs.Answer.{IsListed, AreListed, AreAnswers}
 use Rattle.once_script.specs.Text.{IsListAfter}
 
 -- one more answer and one more field
-pub AreListed-push : (answers : List (Option ℕ)) (fields : List (List ℕ)) (answer : Option ℕ) (field : List ℕ) → AreListed answers fields → IsListed answer field → AreListed (answers ++ (answer ∷ [])) (fields ++ (field ∷ []))
+pub AreListed-push : (answers : List (Option ℕ)) (fields : List (List ℕ)) (answer : Option ℕ) (field : List ℕ) → AreListed answers fields
+    → IsListed answer field → AreListed (answers ++ (answer ∷ [])) (fields ++ (field ∷ []))
 AreListed-push [] [] answer field h l = (l, tt)
 AreListed-push [] (f ∷ fs) answer field h l = absurd h
 AreListed-push (a ∷ more) [] answer field h l = absurd h
@@ -21,7 +22,8 @@ listed_at (a ∷ more) (f ∷ fs) zero d h i = (a, h.0)
 listed_at (a ∷ more) (f ∷ fs) (suc k) d h i = listed_at more fs k d h.1 (omega arith)
 
 -- the field at a place is an answer
-pub listed_field : (answers : List (Option ℕ)) (fields : List (List ℕ)) (k : ℕ) (field : List ℕ) → AreListed answers fields → k < length fields → field ≡ get_or fields k field → (a : Option ℕ) × IsListed a field
+pub listed_field : (answers : List (Option ℕ)) (fields : List (List ℕ)) (k : ℕ) (field : List ℕ) → AreListed answers fields → k < length fields
+    → field ≡ get_or fields k field → (a : Option ℕ) × IsListed a field
 listed_field answers fields k field h i e =
     let l = listed_at answers fields k field h i in (l.0, subst (λ (f : List ℕ). IsListed l.0 f) (sym e) l.1)
 

@@ -50,7 +50,8 @@ list_limit-first text digits e [] n h l =
     let k = (field_of_limit text n (rw h l)).no_space in absurd (omega arith)
 list_limit-first text digits e (x ∷ xs) n h l = (list_falls n x xs digits text h l).1
 
-no_list : (text digits : List ℕ) → space_of text < length text → ((ys : List (Option ℕ)) → AreAnswers ys (later_fields text) → ⊥) → (xs : List (Option ℕ)) (n : ℕ) → IsListAfter digits xs text → limit_of digits ≡ Some n → ⊥
+no_list : (text digits : List ℕ) → space_of text < length text → ((ys : List (Option ℕ)) → AreAnswers ys (later_fields text) → ⊥)
+    → (xs : List (Option ℕ)) (n : ℕ) → IsListAfter digits xs text → limit_of digits ≡ Some n → ⊥
 no_list text digits e none [] n h l = let k = (field_of_limit text n (rw h l)).no_space in omega arith
 no_list text digits e none (x ∷ xs) n h l = none (x ∷ xs) (list_falls n x xs digits text h l).2
 
@@ -66,7 +67,8 @@ lazy_limit-first text e (OnceWith v) n h = absurd h
 lazy_limit-first text e (Lazy answers) n h = list_limit-first text h.0 e answers.items n h.1 h.2
 lazy_limit-first text e (LazyWith v) n h = (with_falls n v h.0 text h.1 h.2).1
 
-pub no_lazy : (text : List ℕ) → space_of text < length text → ((v : ℕ) → IsWith v (later_fields text) → ⊥) → ((ys : List (Option ℕ)) → AreAnswers ys (later_fields text) → ⊥) → (kind : Kind) (n : ℕ) → IsLazy kind n text → ⊥
+pub no_lazy : (text : List ℕ) → space_of text < length text → ((v : ℕ) → IsWith v (later_fields text) → ⊥)
+    → ((ys : List (Option ℕ)) → AreAnswers ys (later_fields text) → ⊥) → (kind : Kind) (n : ℕ) → IsLazy kind n text → ⊥
 no_lazy text e w none Once n h = h
 no_lazy text e w none (OnceWith v) n h = h
 no_lazy text e w none (Lazy answers) n h = no_list text h.0 e none answers.items n h.1 h.2

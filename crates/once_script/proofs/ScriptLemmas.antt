@@ -9,7 +9,8 @@ use Rattle.once_script.specs.Script.{texts_of, AreLines, IsStop}
 abbrev pub Continues : List (Bor (List ℕ)) → ℕ → List Line → Type 0
 Continues all k read = (later : List Line) → AreLines (texts_of (drop k all)) later → AreLines (texts_of all) (read ++ later)
 
-pub turn : (all : List (Bor (List ℕ))) (k : ℕ) (d : Bor (List ℕ)) (line : Line) (read read' : List Line) → k < length all → IsLine line (slice_index_or all k d).now → read' ≡ read ++ line ∷ [] → Continues all k read → Continues all (k + 1) read'
+pub turn : (all : List (Bor (List ℕ))) (k : ℕ) (d : Bor (List ℕ)) (line : Line) (read read' : List Line) → k < length all
+    → IsLine line (slice_index_or all k d).now → read' ≡ read ++ line ∷ [] → Continues all k read → Continues all (k + 1) read'
 turn all k d line read read' within is added go later are =
     let e : read' ++ later ≡ read ++ line ∷ later = ap (λ r. r ++ later) added ∙ append_assoc read (line ∷ []) later in
     let rest : AreLines (texts_of (drop k all)) (line ∷ later) = subst (λ t. AreLines (texts_of t) (line ∷ later)) (sym (drop_more all k d within)) (line, later, is, refl, are) in

@@ -4,7 +4,8 @@ use Rattle.std.specs.List.{cons_option}
 use Rattle.std.specs.Option.{is_some, option_flatten, option_map, option_or, unwrap_or}
 use Rattle.once_queue.specs.Numbers.{member}
 use Rattle.once_queue.specs.declared.waiters.Listing.{Listing}
-use Rattle.once_queue.specs.Listings.{above_each, call_by, call_first, find_listing, first_waker, kept_ticket, least_from, left_list, list_with, list_without, next_waker, own_listing, passes_turn, take_out, ticket_for, tickets, was_called, wakers_of}
+use Rattle.once_queue.specs.Listings.{above_each, call_by, call_first, find_listing, first_waker, kept_ticket, least_from, left_list, list_with}
+use Rattle.once_queue.specs.Listings.{list_without, next_waker, own_listing, passes_turn, take_out, ticket_for, tickets, was_called, wakers_of}
 use Rattle.once_book.specs.Named.{named, named_listing}
 
 module _ {W : Type 0} (whose : W → ℕ) where

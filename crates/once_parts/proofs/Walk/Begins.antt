@@ -67,7 +67,8 @@ pub stands_closed : {W : Type 0} (whose : W → ℕ) (x y : Sided) (w : Own) (s 
 stands_closed whose x y w s t same at is = subst (λ (z : Sided). Stands whose true z w More t) (sym same) (subst (Stands whose true x w More) (sym at) is)
 
 -- a task whose drop has no step was never polled
-never_polled : {W : Type 0} (whose : W → ℕ) (v : Own) (s : Step W ⊤) (y : Step ℕ ℕ) → is_resting s ≡ true → step_as whose (λ q. q) s ≡ step_as (λ w. w) the_queue y → in_call (step_of_drop s) ≡ false → y ≡ Resting RestStart
+never_polled : {W : Type 0} (whose : W → ℕ) (v : Own) (s : Step W ⊤) (y : Step ℕ ℕ) → is_resting s ≡ true
+    → step_as whose (λ q. q) s ≡ step_as (λ w. w) the_queue y → in_call (step_of_drop s) ≡ false → y ≡ Resting RestStart
 never_polled whose v (Resting RestStart) (Resting RestStart) rests is over = refl
 never_polled whose v (Resting RestStart) (Resting (RestWait q k)) rests is over = let no : ⊥ = cc in absurd no
 never_polled whose v (Resting RestStart) (Resting (RestRun by)) rests is over = let no : ⊥ = cc in absurd no

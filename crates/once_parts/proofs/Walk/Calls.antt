@@ -33,6 +33,7 @@ module _ {P S W : Type 0} (cell : P → Placed) (own : P → Own) (whose : W →
       went_on cell own whose state drops p q r s t u before last at end so_far (step_went at q r t u last before end so_far.stands line)
 
   -- so the next one may be made
-  pub steps_asked : (can_put : S → Type 0) → ((s : S) → (state s).has_value ≡ true → can_put s) → (from : Step W ⊤) (p : P) (s : S) (to : Step W ⊤) (p' : P) (s' : S) (told : Progress) → Stands whose drops (state s) (own p) More from
+  pub steps_asked : (can_put : S → Type 0) → ((s : S) → (state s).has_value ≡ true → can_put s)
+      → (from : Step W ⊤) (p : P) (s : S) (to : Step W ⊤) (p' : P) (s' : S) (told : Progress) → Stands whose drops (state s) (own p) More from
       → Makes (parts_tell cell own whose) side limit from p s told to p' s' → Asks (parts_ask cell own whose) can_put most to p' s'
   steps_asked can_put puts from p s to p' s' told is m = step_asked cell own whose state can_put puts drops p' s' told to (steps_went from p s to p' s' told is m).stands

@@ -12,8 +12,10 @@ use Rattle.once_core.specs.declared.step.Polled.{Polled}
 use Rattle.once_core.specs.declared.step.Polled.TheVariants.{Pending, Value, Error}
 use Rattle.once_core.specs.Steps.{AfterLook, Follows, Line, MayClose, MayRefuse, Next, SideTells, Wakes, out_of}
 use Rattle.once_world.specs.Places.{Ending, EndValue, More, Progress, Step, UnderWay}
-use Rattle.once_world.specs.Places.{Place, AtStart, AtTryQuick, AtDoorGet, AtDoorPut, AtCountIn, AtWaitLoad, AtLook, AtList, AtRun, AtPut, AtFast, AtAddOne, AtDoorAgain, AtRelease, AtLeave, AtCountOut, AtDoorTake}
-use Rattle.once_core.specs.Steps.{after_copy, after_count_in, after_count_out, after_door_again, after_door_get, after_door_put, after_fast, after_list, after_load, after_look, after_quick, after_run, after_start, is_value, next_at, next_end, release_place}
+use Rattle.once_world.specs.Places.{Place, AtStart, AtTryQuick, AtDoorGet, AtDoorPut, AtCountIn, AtWaitLoad, AtLook, AtList}
+use Rattle.once_world.specs.Places.{AtRun, AtPut, AtFast, AtAddOne, AtDoorAgain, AtRelease, AtLeave, AtCountOut, AtDoorTake}
+use Rattle.once_core.specs.Steps.{after_copy, after_count_in, after_count_out, after_door_again, after_door_get, after_door_put, after_fast}
+use Rattle.once_core.specs.Steps.{after_list, after_load, after_look, after_quick, after_run, after_start, is_value, next_at, next_end, release_place}
 use Rattle.once_world.specs.Record.{Entry, Ran}
 use Rattle.once_world.specs.declared.record.Ran.{Ran as InitAnswer}
 use Rattle.once_world.specs.declared.record.Ran.TheVariants.{Error as RanError, Value as RanValue, Pending as RanPending}
@@ -27,7 +29,8 @@ use Rattle.once_book.specs.Places.{add_next, fast_next, fill_next, get_next, in_
 use Rattle.once_parts.specs.Handed.{handed_in}
 use Rattle.once_parts.specs.Sides.{IsTold, Sided}
 use Rattle.once_parts.specs.Walks.{Fits, HasBegun, MayEnd, Stands, handed, the_queue}
-use Rattle.once_parts.proofs.Walk.Fits.{again_fits, begun_on, copy_fits, count_in_fits, fast_fits, fill_fits, get_fits, list_fits, load_fits, look_fits, may_end_on, out_fits, put_fits, quick_fits, run_fits, start_fits, take_fits}
+use Rattle.once_parts.proofs.Walk.Fits.{again_fits, begun_on, copy_fits, count_in_fits, fast_fits, fill_fits, get_fits, list_fits}
+use Rattle.once_parts.proofs.Walk.Fits.{load_fits, look_fits, may_end_on, out_fits, put_fits, quick_fits, run_fits, start_fits, take_fits}
 use Rattle.once_book.proofs.Desks.{prefix_on}
 use Rattle.once_parts.proofs.Walk.Logs.{grew_on}
 use Rattle.once_parts.specs.Parts.{parts_tell}
@@ -135,7 +138,8 @@ module _ {P S W : Type 0} (cell : P → Placed) (own : P → Own) (whose : W →
         → (state s).woke ≡ [] → MayEnd drops (state s) (own p) e → Went cell own whose state drops p s r p' s' t
     wakes e a did number same d out w more leads none m =
         let now = woken a w none in
-        went_by cell own whose state drops p p' s s' r t (next_at (AtCountOut e)) (next_at (AtCountOut e)) (next_at (AtCountOut e)) (record (own p).task { step = UnderWay (AtCountOut e) }) did (handed_in whose a)
+        went_by cell own whose state drops p p' s s' r t (next_at (AtCountOut e)) (next_at (AtCountOut e)) (next_at (AtCountOut e))
+        (record (own p).task { step = UnderWay (AtCountOut e) }) did (handed_in whose a)
         same d refl refl refl out (ap (λ (x : Sided). x.woke) now ∙ ap (λ X. X ++ handed_in whose a) (sym none)) (ap (λ (x : Sided). x.number) now ∙ number) more leads
         (refl, may_end_on drops (state s) (state s') (own p) (own p') e (ap (λ (x : Sided). x.has_error) now) (ap (λ (x : TaskState). x.kept) d.task) m)
 
@@ -200,10 +204,12 @@ module _ {P S W : Type 0} (cell : P → Placed) (own : P → Own) (whose : W →
       let ready : Bool = (flags_of n).ready in
       let new : Bool = is_zero (flags_of n) in
       let after : Did (own p) [] (after_start ready new) (own p') = subst (λ x. Did (own p) [] (load_next n x) (own p')) (at_start the_queue _ (sym is.step)) d.1 in
-      goes p p' s s' r t is.number (after_start ready new) (after_start ready new) (after_start ready new) [] d.0 after (start_as whose (λ (q : ⊤). q) ready new) (start_as (λ w. w) the_queue ready new) refl f
+      goes p p' s s' r t is.number (after_start ready new) (after_start ready new) (after_start ready new) [] d.0 after
+      (start_as whose (λ (q : ⊤). q) ready new) (start_as (λ w. w) the_queue ready new) refl f
       (λ still. start_fits W ⊤ drops (state s') (own p') ready new (begun p p' s s' r t is.number [] (after_start ready new) is.fits.1 after still))
   line_went AtTryQuick p p' s s' r r0 t is (won, d, f) =
-      goes p p' s s' r t is.number (after_quick won) (after_quick won) (after_quick won) (claim_entries won (own p).number) d.0 d.1 (quick_as whose (λ (q : ⊤). q) won) (quick_as (λ w. w) the_queue won) (claim_handed won (own p).number) f
+      goes p p' s s' r t is.number (after_quick won) (after_quick won) (after_quick won) (claim_entries won (own p).number) d.0 d.1
+      (quick_as whose (λ (q : ⊤). q) won) (quick_as (λ w. w) the_queue won) (claim_handed won (own p).number) f
       (λ still. quick_fits W ⊤ drops (state s') (own p') won (begun p p' s s' r t is.number (claim_entries won (own p).number) (after_quick won) is.fits.1 d.1 still))
   line_went AtDoorGet p p' s s' r r0 t is (q, d, f) =
       let door : Option ℕ = numbered d.1.0 (is_some q) in
@@ -219,13 +225,15 @@ module _ {P S W : Type 0} (cell : P → Placed) (own : P → Own) (whose : W →
   line_went (AtCountIn q) p p' s s' r r0 t is (c, d, f) =
       let at = at_count_in the_queue _ q (sym is.step) in
       let after : Did (own p) [] (after_count_in c at.0) (own p') = subst (λ x. Did (own p) [] (in_next c x) (own p')) at.1 d.1 in
-      goes p p' s s' r t is.number (after_count_in c tt) (after_count_in c at.0) (after_count_in c tt) [] d.0 after (count_in_as whose (λ (q : ⊤). q) c tt) (count_in_as (λ w. w) the_queue c at.0) refl f
+      goes p p' s s' r t is.number (after_count_in c tt) (after_count_in c at.0) (after_count_in c tt) [] d.0 after
+      (count_in_as whose (λ (q : ⊤). q) c tt) (count_in_as (λ w. w) the_queue c at.0) refl f
       (λ still. count_in_fits W ⊤ drops (state s') (own p') c tt (begun p p' s s' r t is.number [] (after_count_in c at.0) is.fits.1 after still))
   line_went (AtWaitLoad q k) p p' s s' r r0 t is (n, d, f) =
       let at = at_load the_queue _ q k (sym is.step) in
       let ready : Bool = (flags_of n).ready in
       let after : Did (own p) [] (after_load ready at.0 k) (own p') = subst (λ x. Did (own p) [] (load_next n x) (own p')) at.1 d.1 in
-      goes p p' s s' r t is.number (after_load ready tt k) (after_load ready at.0 k) (after_load ready tt k) [] d.0 after (load_as whose (λ (q : ⊤). q) ready tt k) (load_as (λ w. w) the_queue ready at.0 k) refl f
+      goes p p' s s' r t is.number (after_load ready tt k) (after_load ready at.0 k) (after_load ready tt k) [] d.0 after
+      (load_as whose (λ (q : ⊤). q) ready tt k) (load_as (λ w. w) the_queue ready at.0 k) refl f
       (λ still. load_fits W ⊤ drops (state s') (own p') ready tt k (begun p p' s s' r t is.number [] (after_load ready at.0 k) is.fits.1 after still))
   line_went (AtLook q k) p p' s s' r r0 t is (a, o, n, d, f) =
       let at = at_look the_queue _ q k (sym is.step) in
@@ -236,7 +244,8 @@ module _ {P S W : Type 0} (cell : P → Placed) (own : P → Own) (whose : W →
       let did : List Entry = claim_entries (is_claim (answer_as a)) (own p).number in
       let b : Next ℕ ℕ = after_list (answer_as a) at.0 (ticket_in o) in
       let after : Did (own p) did b (own p') = subst (λ x. Did (own p) did (list_next (answer_as a) (ticket_in o) x) (own p')) at.1 d.1 in
-      goes p p' s s' r t is.number (after_list a tt (ticket_in o)) b (after_list (answer_as a) tt (ticket_in o)) did d.0 after (list_as whose (λ (q : ⊤). q) a tt (ticket_in o)) (list_again a at.0 (ticket_in o))
+      goes p p' s s' r t is.number (after_list a tt (ticket_in o)) b (after_list (answer_as a) tt (ticket_in o)) did d.0 after
+      (list_as whose (λ (q : ⊤). q) a tt (ticket_in o)) (list_again a at.0 (ticket_in o))
       (claim_handed (is_claim (answer_as a)) (own p).number) f (λ still. list_fits W ⊤ drops (state s') (own p') a tt (ticket_in o) (begun p p' s s' r t is.number did b is.fits.1 after still))
   line_went (AtRun by) p p' s s' r r0 t is (a, m, ran, d, f) =
       let at = at_run the_queue _ (option_map (λ q. q) by) (sym is.step) in
@@ -252,22 +261,26 @@ module _ {P S W : Type 0} (cell : P → Placed) (own : P → Own) (whose : W →
       (run_as whose (λ (q : ⊤). q) a by) (run_as (λ w. w) the_queue a at.0 ∙ ap (after_run a) at.2) refl (woke ∙ sym (append-nil (state s).woke))
       (ap (λ (x : Sided). x.number) now ∙ told.number ∙ is.number) f.1 f.2
       (run_fits W ⊤ drops (state s') (own p') a by (begun_on drops (state s) (state s') (own p) (own p') woke after.number (ap (λ (x : TaskState). x.waker) after.task) is.fits.1)
-      (λ e. ap (λ (x : Sided). x.has_value) now ∙ told.value e) (λ e. (ap (λ (x : Sided). x.has_error) now ∙ told.error e, ap (λ (x : TaskState). x.kept) after.task ∙ error_kept a (own p).task.kept e)))
+      (λ e. ap (λ (x : Sided). x.has_value) now ∙ told.value e)
+      (λ e. (ap (λ (x : Sided). x.has_error) now ∙ told.error e, ap (λ (x : TaskState). x.kept) after.task ∙ error_kept a (own p).task.kept e)))
   line_went (AtPut by) p p' s s' r r0 t is (put, d, more, leads) =
       let at = at_value the_queue _ (option_map (λ q. q) by) (sym is.step) in
       let b : Next ℕ ℕ = next_at (release_place at.0 EndValue) in
       let after : Did (own p) [] b (own p') = subst (λ x. Did (own p) [] (fill_next x) (own p')) at.1 d.1 in
       let told = tells.put s s' put in
-      went_by cell own whose state drops p p' s s' r t (next_at (release_place by EndValue)) b (next_at (release_place (option_map (λ q. q) by) EndValue)) (record (own p).task { step = b.step }) [] [] d.0 after refl
+      went_by cell own whose state drops p p' s s' r t (next_at (release_place by EndValue)) b (next_at (release_place (option_map (λ q. q) by) EndValue))
+      (record (own p).task { step = b.step }) [] [] d.0 after refl
       (ap next_at (release_as whose (λ (q : ⊤). q) by EndValue)) (ap next_at (release_as (λ w. w) the_queue at.0 EndValue ∙ ap (λ o. release_place o EndValue) at.2)) refl
       (told.woke ∙ sym (append-nil (state s).woke)) (told.number ∙ is.number) more leads
       (fill_fits W ⊤ drops (state s') (own p') by (begun_on drops (state s) (state s') (own p) (own p') told.woke after.number (ap (λ (x : TaskState). x.waker) after.task) is.fits.1.0))
   line_went (AtFast e) p p' s s' r r0 t is (won, d, f) =
       let did : List Entry = freed_entries won (own p).number (own p).task.kept in
       let after : Did (own p) did (after_fast won (is_value e) e) (own p') = subst (λ x. Did (own p) did (fast_next won x) (own p')) (at_fast the_queue _ e (sym is.step)) d.1 in
-      goes p p' s s' r t is.number (after_fast won (is_value e) e) (after_fast won (is_value e) e) (after_fast won (is_value e) e) did d.0 after (fast_as whose (λ (q : ⊤). q) won (is_value e) e) (fast_as (λ w. w) the_queue won (is_value e) e)
+      goes p p' s s' r t is.number (after_fast won (is_value e) e) (after_fast won (is_value e) e) (after_fast won (is_value e) e) did d.0 after
+      (fast_as whose (λ (q : ⊤). q) won (is_value e) e) (fast_as (λ w. w) the_queue won (is_value e) e)
       (freed_handed won (own p).number (own p).task.kept) f
-      (λ still. fast_fits W ⊤ drops (state s') (own p') won (is_value e) e (unwoken p p' s s' r t is.number is.fits.1.0 still) (ending p p' s s' r t is.number e did (after_fast won (is_value e) e) is.fits.1.1 after still))
+      (λ still. fast_fits W ⊤ drops (state s') (own p') won (is_value e) e (unwoken p p' s s' r t is.number is.fits.1.0 still)
+      (ending p p' s s' r t is.number e did (after_fast won (is_value e) e) is.fits.1.1 after still))
   line_went (AtAddOne e) p p' s s' r r0 t is (d, f) =
       let b : Next ℕ ℕ = next_at (AtDoorAgain e) in
       let after : Did (own p) [] b (own p') = subst (λ x. Did (own p) [] (add_next x) (own p')) (at_add the_queue _ e (sym is.step)) d.1 in
@@ -278,11 +291,13 @@ module _ {P S W : Type 0} (cell : P → Placed) (own : P → Own) (whose : W →
       let after : Did (own p) [] (after_door_again door e) (own p') = subst (λ x. Did (own p) [] (get_next door x) (own p')) (at_again the_queue _ e (sym is.step)) d.1.1 in
       goes p p' s s' r t is.number (after_door_again q e) (after_door_again door e) (after_door_again (option_map (λ q. q) q) e) [] d.0 after (again_as whose (λ (q : ⊤). q) q e)
       (again_as (λ w. w) the_queue door e ∙ ap (λ o. after_door_again o e) (numbered_same q d.1.0)) refl f
-      (λ still. again_fits W ⊤ drops (state s') (own p') q e (unwoken p p' s s' r t is.number is.fits.1.0 still) (ending p p' s s' r t is.number e [] (after_door_again door e) is.fits.1.1 after still))
+      (λ still. again_fits W ⊤ drops (state s') (own p') q e (unwoken p p' s s' r t is.number is.fits.1.0 still)
+      (ending p p' s s' r t is.number e [] (after_door_again door e) is.fits.1.1 after still))
   line_went (AtRelease q e) p p' s s' r r0 t is (a, o, d, w, more, leads) =
       let at = at_release the_queue _ q e (sym is.step) in
       let did : List Entry = release_entry (own p).task.kept (own p).number (handed_in whose a) ∷ [] in
-      wakes p p' s s' r t e a did is.number d.0 (subst (λ x. Did (own p) did (release_next x) (own p')) at.1 d.1) (release_handed (own p).task.kept (own p).number (handed_in whose a)) w more leads is.fits.1.0 is.fits.1.1
+      wakes p p' s s' r t e a did is.number d.0 (subst (λ x. Did (own p) did (release_next x) (own p')) at.1 d.1)
+      (release_handed (own p).task.kept (own p).number (handed_in whose a)) w more leads is.fits.1.0 is.fits.1.1
   line_went (AtLeave q n e) p p' s s' r r0 t is (a, o, d, w, more, leads) =
       let at = at_leave the_queue _ q n e (sym is.step) in
       let did : List Entry = pass_entries (own p).number (handed_in whose a) in
@@ -290,8 +305,10 @@ module _ {P S W : Type 0} (cell : P → Placed) (own : P → Own) (whose : W →
   line_went (AtCountOut e) p p' s s' r r0 t is (n, d, f) =
       let last : Bool = is_ready_bit (flags_of n) in
       let after : Did (own p) [] (after_count_out last e) (own p') = subst (λ x. Did (own p) [] (out_next n x) (own p')) (at_count_out the_queue _ e (sym is.step)) d.1 in
-      goes p p' s s' r t is.number (after_count_out last e) (after_count_out last e) (after_count_out last e) [] d.0 after (count_out_as whose (λ (q : ⊤). q) last e) (count_out_as (λ w. w) the_queue last e) refl f
+      goes p p' s s' r t is.number (after_count_out last e) (after_count_out last e) (after_count_out last e) [] d.0 after
+      (count_out_as whose (λ (q : ⊤). q) last e) (count_out_as (λ w. w) the_queue last e) refl f
       (λ still. out_fits W ⊤ drops (state s') (own p') last e (ending p p' s s' r t is.number e [] (after_count_out last e) is.fits.1 after still))
   line_went (AtDoorTake e) p p' s s' r r0 t is (b, d, f) =
       let after : Did (own p) [] (next_end e) (own p') = subst (λ x. Did (own p) [] (take_next x) (own p')) (at_take the_queue _ e (sym is.step)) d.1 in
-      goes p p' s s' r t is.number (next_end e) (next_end e) (next_end e) [] d.0 after refl refl refl f (λ still. take_fits W ⊤ drops (state s') (own p') e (ending p p' s s' r t is.number e [] (next_end e) is.fits.1 after still))
+      goes p p' s s' r t is.number (next_end e) (next_end e) (next_end e) [] d.0 after refl refl refl f
+      (λ still. take_fits W ⊤ drops (state s') (own p') e (ending p p' s s' r t is.number e [] (next_end e) is.fits.1 after still))

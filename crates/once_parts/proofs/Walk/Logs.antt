@@ -73,8 +73,10 @@ module _ (x y : Sided) (v w : Own) where
       let es : List Entry = told v.number z.kept n did in
       let split : es ≡ reverse did ++ progress_entries n.progress v.number 0 z.kept = told_ends v.number z.kept n did in
       let names : progress_entries n.progress v.number 0 z.kept ≡ progress_entries r w.number 0 w.task.kept =
-      ap (λ p. progress_entries p v.number 0 z.kept) (sym e) ∙ ap (λ (t : ℕ). progress_entries r t 0 z.kept) (sym d.number) ∙ ap (λ (t : TaskState). progress_entries r w.number 0 t.kept) (sym d.task) in
-      let none : handed es ≡ X = ap handed split ∙ handed_on (reverse did) (progress_entries n.progress v.number 0 z.kept) ∙ ap (λ Y. handed (reverse did) ++ Y) (end_handed n.progress v.number 0 z.kept)
+      ap (λ p. progress_entries p v.number 0 z.kept) (sym e) ∙ ap (λ (t : ℕ). progress_entries r t 0 z.kept) (sym d.number)
+      ∙ ap (λ (t : TaskState). progress_entries r w.number 0 t.kept) (sym d.task) in
+      let none : handed es ≡ X = ap handed split ∙ handed_on (reverse did) (progress_entries n.progress v.number 0 z.kept)
+      ∙ ap (λ Y. handed (reverse did) ++ Y) (end_handed n.progress v.number 0 z.kept)
       ∙ append-nil (handed (reverse did)) ∙ out in
       record {
         number = d.number;

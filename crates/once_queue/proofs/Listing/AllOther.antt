@@ -1,5 +1,6 @@
 -- Listings of which each two wakers were told to be other.
-use Rattle.std.proofs.Common.{◌≡◌, ◌<◌, ◌⊎◌, ℕ, suc, Bool, true, false, ◌||◌, List, [], ◌∷◌, ◌++◌, Option, Some, None, All, IfSome, length, get_or, set, refl, inl, inr, sym, ap, subst, arith, cond, not, ◌==◌, filter}
+use Rattle.std.proofs.Common.{◌≡◌, ◌<◌, ◌⊎◌, ℕ, suc, Bool, true, false, ◌||◌, List, [], ◌∷◌, ◌++◌, Option, Some, None, All, IfSome}
+use Rattle.std.proofs.Common.{length, get_or, set, refl, inl, inr, sym, ap, subst, arith, cond, not, ◌==◌, filter}
 use mathlib.Core.Logic.{∥∥₁_map}
 use Rattle.std.specs.List.{AllPairs, position, cons_option}
 use Rattle.std.proofs.lemmas.Bool.{false≢true, cases_eq}

@@ -6,7 +6,9 @@ use Rattle.once_world.specs.Cell.{cell, is_set}
 use Rattle.once_world.specs.Tasks.{Waiting, is_under_way, status}
 use Rattle.once_world.specs.Inputs.{Drop, Go, Input, Looks, Make, Owns, Poll}
 use Rattle.once_world.specs.Log.{standing_queue}
-use Rattle.once_world.specs.Machine.{Finished, SharedState, Outcome, Resting, Step, Task, UnderWay, World, advance, world_after, step_of_poll, poll_world_by, step_of_drop, drop_world_by, drop_world, fresh_task, go_world, go_world_by, history_of, in_call, is_resting, log_of, make_world, own_world_by, owner_shared, poll_world, put_task, write_shared, world_of, step_of}
+use Rattle.once_world.specs.Machine.{Finished, SharedState, Outcome, Resting, Step, Task, UnderWay, World, advance, world_after, step_of_poll, poll_world_by}
+use Rattle.once_world.specs.Machine.{step_of_drop, drop_world_by, drop_world, fresh_task, go_world, go_world_by, history_of, in_call, is_resting, log_of}
+use Rattle.once_world.specs.Machine.{make_world, own_world_by, owner_shared, poll_world, put_task, write_shared, world_of, step_of}
 use Rattle.once_world.proofs.History.Cells.{holder_unset, none_some}
 use Rattle.once_world.proofs.Listing.Counting.{count_some}
 use Rattle.once_world.proofs.Invariant.Facts.{AtStep, IsSomeDoor, is_counted}

@@ -4,7 +4,9 @@ use Rattle.std.specs.Prelude.{not}
 use Rattle.once_world.specs.Record.{Entry, Kind}
 use Rattle.once_world.specs.Cell.{cell}
 use Rattle.once_world.specs.Inputs.{Drop, Go, Input, Looks, Make, Owns, Poll}
-use Rattle.once_world.specs.Machine.{AtAddOne, AtCountIn, AtCountOut, AtDoorAgain, AtDoorGet, AtDoorPut, AtDoorTake, AtFast, AtLeave, AtList, AtLook, AtPut, AtRelease, AtRun, AtStart, AtTryQuick, AtWaitLoad, Finished, SharedState, Place, Resting, Step, Task, UnderWay, World, world_of, step_of}
+use Rattle.once_world.specs.Machine.{AtAddOne, AtCountIn, AtCountOut, AtDoorAgain, AtDoorGet, AtDoorPut, AtDoorTake, AtFast, AtLeave, AtList, AtLook, AtPut}
+use Rattle.once_world.specs.Machine.{AtRelease, AtRun, AtStart, AtTryQuick, AtWaitLoad, Finished, SharedState, Place, Resting, Step, Task, UnderWay, World}
+use Rattle.once_world.specs.Machine.{world_of, step_of}
 use Rattle.once_world.specs.Can.{CanAdvance, CanStep, MayTake, TaskCan}
 use Rattle.once_world.proofs.History.Cells.{holder_unset}
 use Rattle.once_world.proofs.Invariant.Facts.{AtPlace, AtStep, HeadFlag, QuickFlag, is_counted, is_counted_at}

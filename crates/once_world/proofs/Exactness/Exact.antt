@@ -10,8 +10,10 @@ use Rattle.once_queue.specs.Word.{flags_of, is_ready_bit, is_zero}
 use Rattle.once_queue.specs.Ops.{ticket_in}
 use Rattle.once_queue.specs.Listings.{kept_ticket}
 use Rattle.once_core.specs.Core.{CoreState, DidAddOne, DidCountIn, DidCountOut, DidDoorGet, DidDoorPut, DidDoorTake, DidFast, DidLoad, DidQuick, put_answer, put_state}
-use Rattle.once_world.specs.Places.{AtAddOne, AtCountIn, AtCountOut, AtDoorAgain, AtDoorGet, AtDoorPut, AtDoorTake, AtFast, AtLeave, AtList, AtLook, AtPut, AtRelease, AtRun, AtStart, AtTryQuick, AtWaitLoad, Finished, Place, Progress, Resting, Step, UnderWay}
-use Rattle.once_core.specs.Steps.{Advances, AfterLook, Follows, Line, MayRefuse, PartsTell, SideTells, after_count_out, after_door_again, after_door_get, after_door_put, after_load, after_start, is_value}
+use Rattle.once_world.specs.Places.{AtAddOne, AtCountIn, AtCountOut, AtDoorAgain, AtDoorGet, AtDoorPut, AtDoorTake, AtFast, AtLeave, AtList, AtLook, AtPut}
+use Rattle.once_world.specs.Places.{AtRelease, AtRun, AtStart, AtTryQuick, AtWaitLoad, Finished, Place, Progress, Resting, Step, UnderWay}
+use Rattle.once_core.specs.Steps.{Advances, AfterLook, Follows, Line, MayRefuse, PartsTell, SideTells, after_count_out, after_door_again, after_door_get}
+use Rattle.once_core.specs.Steps.{after_door_put, after_load, after_start, is_value}
 use Rattle.once_world.specs.Machine.{EnteredLine, out_shared, fast_step, init_answer, list_step, place_lines, place_step, quick_step, step_at, step_lines, word_of, seen_at}
 use Rattle.once_world.specs.Side.{DidClose, DidCopy, DidPut, DidRun, DidWake, answers_in}
 use Rattle.once_world.proofs.Exactness.Outcomes.{IsBare, IsFresh, IsOutcome, shared_by}

@@ -23,8 +23,28 @@ use Rattle.once_world.proofs.Exactness.ExactSections.{NumberSection, at_door, en
 -- what a release leaves, by the flag that stood
 released_shared : (c : ReplaySide) (s : CoreState ℕ) (k r : Bool) (xs : List (Listing ℕ)) → s.word.quick ≡ k
     → shared_by (release_state r xs s) c ≡ record (release_flags k r (shared_by s c)) { listings = xs }
-released_shared c s true r xs e = λ i. record { count = s.word.count; quick = false; ready = r; door = s.door; head = cond (e i) s.head false; listings = xs; queues = s.made; value = c.value; answers = answers_in c }
-released_shared c s false r xs e = λ i. record { count = s.word.count; quick = sym e i; ready = r; door = s.door; head = cond (e i) s.head false; listings = xs; queues = s.made; value = c.value; answers = answers_in c }
+released_shared c s true r xs e = λ i. record {
+  count = s.word.count;
+  quick = false;
+  ready = r;
+  door = s.door;
+  head = cond (e i) s.head false;
+  listings = xs;
+  queues = s.made;
+  value = c.value;
+  answers = answers_in c;
+}
+released_shared c s false r xs e = λ i. record {
+  count = s.word.count;
+  quick = sym e i;
+  ready = r;
+  door = s.door;
+  head = cond (e i) s.head false;
+  listings = xs;
+  queues = s.made;
+  value = c.value;
+  answers = answers_in c;
+}
 
 -- one who leaves passes its turn on to one waker at most
 pass_seen : (q k : ℕ) (e : Ending) (c : ReplaySide) (n : ℕ) (w : Option ℕ)

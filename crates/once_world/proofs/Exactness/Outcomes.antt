@@ -19,7 +19,17 @@ reverse_push ls x = grind (arith, common_steps)
 
 -- what all tasks share, as the machine sees it
 abbrev pub shared_by : CoreState ℕ → ReplaySide → SharedState
-shared_by s c = record { count = s.word.count; quick = s.word.quick; ready = s.word.ready; door = s.door; head = s.head; listings = s.listings; queues = s.made; value = c.value; answers = answers_in c }
+shared_by s c = record {
+  count = s.word.count;
+  quick = s.word.quick;
+  ready = s.word.ready;
+  door = s.door;
+  head = s.head;
+  listings = s.listings;
+  queues = s.made;
+  value = c.value;
+  answers = answers_in c;
+}
 
 -- a step from here to t gave the right back by the fast release
 abbrev pub is_freed : Step ℕ ℕ → Step ℕ ℕ → Bool

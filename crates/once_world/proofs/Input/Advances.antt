@@ -8,7 +8,9 @@ use Rattle.once_world.specs.Cell.{answers_left}
 use Rattle.once_world.specs.Tasks.{last_call}
 use Rattle.once_queue.specs.Listings.{is_waker, kept_ticket, own_listing}
 use Rattle.once_world.specs.Run.{IsRun}
-use Rattle.once_world.specs.Machine.{AtAddOne, AtCountIn, AtCountOut, AtDoorAgain, AtDoorGet, AtDoorPut, AtDoorTake, AtFast, AtLeave, AtList, AtLook, AtPut, AtRelease, AtRun, AtStart, AtTryQuick, AtWaitLoad, Finished, SharedState, Place, Resting, Step, UnderWay, out_shared, init_answer, in_call, is_at_door, place_step, step_at, word_of}
+use Rattle.once_world.specs.Machine.{AtAddOne, AtCountIn, AtCountOut, AtDoorAgain, AtDoorGet, AtDoorPut, AtDoorTake, AtFast, AtLeave, AtList, AtLook, AtPut}
+use Rattle.once_world.specs.Machine.{AtRelease, AtRun, AtStart, AtTryQuick, AtWaitLoad, Finished, SharedState, Place, Resting, Step, UnderWay, out_shared}
+use Rattle.once_world.specs.Machine.{init_answer, in_call, is_at_door, place_step, step_at, word_of}
 use Rattle.once_world.proofs.History.Waiters.{QueueFits}
 use Rattle.once_world.proofs.Invariant.Facts.{AtPlace, AtStep, is_counted, is_counted_at, is_take, is_take_at, kept_of, ticket_at, ticket_of}
 use Rattle.once_world.proofs.Invariant.Fits.{SharedFits}
@@ -36,8 +38,10 @@ module _ (K : Kind) (limit t w : ℕ) (k : Answer) (c : SharedState) (h : List E
   advances_at AtDoorPut ar al at = door_put_goes K limit t w k c h run shared queue wk kk g c.door refl ar al at
   advances_at (AtCountIn q) ar al at = in_goes K limit t w k c h run shared queue wk kk (nat_lt c.count limit) c.ready q refl refl some ar at
   advances_at (AtWaitLoad q n) ar al at = load_goes K limit t w k c h run shared queue wk kk c.ready q n refl at
-  advances_at (AtLook q n) ar al at = look_goes K limit t w k c h run shared queue wk kk (is_at_door q c.door) c.ready (c.quick || c.head) (is_waker w (own_listing n c.listings)) g q n refl refl refl refl at
-  advances_at (AtList q n v) ar al at = list_goes K limit t w k c h run shared queue wk kk (is_at_door q c.door) c.ready (c.quick || c.head) (is_some (kept_ticket n c.listings) || g) q n v refl refl refl at
+  advances_at (AtLook q n) ar al at = look_goes K limit t w k c h run shared queue wk kk (is_at_door q c.door) c.ready (c.quick || c.head)
+      (is_waker w (own_listing n c.listings)) g q n refl refl refl refl at
+  advances_at (AtList q n v) ar al at = list_goes K limit t w k c h run shared queue wk kk (is_at_door q c.door) c.ready (c.quick || c.head)
+      (is_some (kept_ticket n c.listings) || g) q n v refl refl refl at
   advances_at (AtRun by) ar al at = run_goes K limit t w k c h run shared queue wk kk (init_answer (is_lazy K) c.answers a) by (next_given K c.answers (answers_left K h) a shared.answers_is) at
   advances_at (AtPut by) ar al at = put_goes K limit t w k c h run shared queue wk kk by at
   advances_at (AtFast e) ar al at = fast_goes K limit t w k c h run shared queue wk kk (is_quick_bit (word_of c)) e refl ar at

@@ -6,11 +6,13 @@ use Rattle.once_world.specs.Cell.{cell}
 use Rattle.once_world.specs.Tasks.{Dropping, Fresh, Waiting, last_call, status}
 use Rattle.once_world.specs.Called.{SomebodyCalled}
 use Rattle.once_world.specs.Run.{IsLegal, IsRun, MayBegin}
-use Rattle.once_world.specs.Machine.{AtFast, AtLeave, AtRelease, EndDropped, Finished, SharedState, Place, Rest, RestRun, RestStart, RestWait, Resting, Step, UnderWay, step_of_poll, place_of_poll, drop_entries, step_of_drop, step_of_drop_at, is_resting}
+use Rattle.once_world.specs.Machine.{AtFast, AtLeave, AtRelease, EndDropped, Finished, SharedState, Place, Rest, RestRun, RestStart, RestWait, Resting, Step}
+use Rattle.once_world.specs.Machine.{UnderWay, step_of_poll, place_of_poll, drop_entries, step_of_drop, step_of_drop_at, is_resting}
 use Rattle.once_queue.proofs.Listing.Members.{eqb_self}
 use Rattle.once_world.proofs.History.Others.{holds, keeps_both, legal_keeps}
 use Rattle.once_world.proofs.History.Waiters.{QueueFits, quiet}
-use Rattle.once_world.proofs.Invariant.Facts.{AtPlace, AtRest, AtStep, Entered, HasTicket, InPoll, InStatus, RestsOn, is_counted, is_counted_at, is_inside, is_inside_at, is_take_at, kept_of, ticket_at, ticket_of}
+use Rattle.once_world.proofs.Invariant.Facts.{AtPlace, AtRest, AtStep, Entered, HasTicket, InPoll, InStatus, RestsOn, is_counted, is_counted_at, is_inside}
+use Rattle.once_world.proofs.Invariant.Facts.{is_inside_at, is_take_at, kept_of, ticket_at, ticket_of}
 use Rattle.once_world.proofs.Invariant.Fits.{SharedFits}
 use Rattle.once_world.proofs.Invariant.Turns.{lists_stay}
 use Rattle.once_world.proofs.Invariant.Moves.{Moves}

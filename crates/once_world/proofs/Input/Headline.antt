@@ -6,7 +6,9 @@ use Rattle.once_world.specs.Cell.{cell}
 use Rattle.once_world.specs.Run.{AtEvery, IsRun}
 use Rattle.once_world.specs.Called.{SomebodyCalled}
 use Rattle.once_world.specs.Inputs.{Drop, Go, Input, Looks, Make, Owns, Poll}
-use Rattle.once_world.specs.Machine.{Finished, Outcome, Resting, Step, Task, UnderWay, World, advance, world_after, step_of_poll, poll_world_by, step_of_drop, drop_world_by, drop_world, go_world, go_world_by, history_of, in_call, is_finished, is_resting, first_world, poll_world, unfinished_after, world_of}
+use Rattle.once_world.specs.Machine.{Finished, Outcome, Resting, Step, Task, UnderWay, World, advance, world_after, step_of_poll, poll_world_by, step_of_drop}
+use Rattle.once_world.specs.Machine.{drop_world_by, drop_world, go_world, go_world_by, history_of, in_call, is_finished, is_resting, first_world, poll_world}
+use Rattle.once_world.specs.Machine.{unfinished_after, world_of}
 use Rattle.once_world.proofs.History.Others.{holds}
 use Rattle.once_world.proofs.History.Cells.{empty_not_set, same_value}
 use Rattle.once_world.proofs.Invariant.Fits.{Fits, SharedFits, TaskFits}
@@ -101,7 +103,15 @@ starting Once limit = record {
       (omega arith);
   head_door = λ e. absurd (false≢true e);
 }
-starting (OnceWith k) limit = record { ready_is = refl; held_is = refl; value_is = λ v e. same_value k v e; answers_is = refl; within = omega arith; stands = λ _ l. absurd (omega arith); head_door = λ e. absurd (false≢true e) }
+starting (OnceWith k) limit = record {
+  ready_is = refl;
+  held_is = refl;
+  value_is = λ v e. same_value k v e;
+  answers_is = refl;
+  within = omega arith;
+  stands = λ _ l. absurd (omega arith);
+  head_door = λ e. absurd (false≢true e);
+}
 starting (Lazy k) limit = record {
   ready_is = refl;
   held_is = refl;
@@ -113,7 +123,15 @@ starting (Lazy k) limit = record {
       (omega arith);
   head_door = λ e. absurd (false≢true e);
 }
-starting (LazyWith k) limit = record { ready_is = refl; held_is = refl; value_is = λ v e. same_value k v e; answers_is = refl; within = omega arith; stands = λ _ l. absurd (omega arith); head_door = λ e. absurd (false≢true e) }
+starting (LazyWith k) limit = record {
+  ready_is = refl;
+  held_is = refl;
+  value_is = λ v e. same_value k v e;
+  answers_is = refl;
+  within = omega arith;
+  stands = λ _ l. absurd (omega arith);
+  head_door = λ e. absurd (false≢true e);
+}
 
 -- nobody holds at the start
 unheld : (K : Kind) (t : ℕ) → holds t (cell K []) ≡ false

@@ -6,7 +6,8 @@ use Rattle.once_world.specs.Cell.{cell, is_set}
 use Rattle.once_world.specs.Tasks.{Waiting, is_under_way, last_call, status}
 use Rattle.once_queue.specs.Listings.{find_listing}
 use Rattle.once_world.specs.Called.{HasTurn, SomebodyCalled}
-use Rattle.once_world.specs.Machine.{AtLeave, AtList, AtLook, AtWaitLoad, EndDropped, EndError, EndFull, EndMemory, EndPending, EndValue, Ending, Finished, SharedState, Place, Rest, RestRun, RestStart, RestWait, Resting, Step, Task, UnderWay, step_of}
+use Rattle.once_world.specs.Machine.{AtLeave, AtList, AtLook, AtWaitLoad, EndDropped, EndError, EndFull, EndMemory, EndPending, EndValue, Ending, Finished}
+use Rattle.once_world.specs.Machine.{SharedState, Place, Rest, RestRun, RestStart, RestWait, Resting, Step, Task, UnderWay, step_of}
 use Rattle.once_world.proofs.History.Waiters.{CalledAt}
 use Rattle.once_world.proofs.Invariant.Facts.{AnyIn, AtPlace, AtRest, AtStep, HasTicket, IsListed, IsSomeDoor, MayLeave, RestsOn, ticket_at, ticket_of}
 use Rattle.once_world.proofs.Invariant.Fits.{StandsFor}
@@ -61,7 +62,16 @@ polls_at : (K : Kind) (u n q : ℕ) (c : SharedState) (h : List Entry) (k : Opti
     → c.door ≡ Some q → HasTicket K u c h k → Ticketed K u c h n
 polls_at K u n q c h k e a d f =
     let l = has_at K u n c h k e f in
-    record { acts = inr (record { under_way = ap is_under_way a.entered.poll.status_is; began = l.0; unclaimed = a.entered.unclaimed; unpassed = a.entered.poll.unpassed }); listed = l.1; door = (q, d) }
+    record {
+      acts = inr (record {
+        under_way = ap is_under_way a.entered.poll.status_is;
+        began = l.0;
+        unclaimed = a.entered.unclaimed;
+        unpassed = a.entered.poll.unpassed;
+      });
+      listed = l.1;
+      door = (q, d);
+    }
 
 -- who leaves has its turn until it passes it on
 leaves_turn : (K : Kind) (u : ℕ) (h : List Entry) (e : Ending) → (last_call K u h).began ≡ Waiting → MayLeave K u h e → HasTurn K u h

@@ -8,7 +8,8 @@ use Rattle.once_core.specs.Steps.{Next, after_door_get, closing_end, next_at, ne
 use Rattle.once_world.specs.Record.{Entry, Once, RanPending}
 use Rattle.once_world.specs.Cell.{cell}
 use Rattle.once_world.specs.Book.{At, Door, IsBook, Page, Queue}
-use Rattle.once_world.specs.Machine.{AtCountIn, AtDoorAgain, AtDoorGet, AtDoorPut, AtDoorTake, AtRelease, EndMemory, Ending, Place, SharedState, Task, UnderWay, again_step, outcome_of, place_step, put_shared, put_step, take_shared, word_of}
+use Rattle.once_world.specs.Machine.{AtCountIn, AtDoorAgain, AtDoorGet, AtDoorPut, AtDoorTake, AtRelease, EndMemory, Ending, Place, SharedState, Task, UnderWay}
+use Rattle.once_world.specs.Machine.{again_step, outcome_of, place_step, put_shared, put_step, take_shared, word_of}
 use Rattle.once_world.proofs.History.Cells.{holder_unset, none_some, set_free}
 use Rattle.once_world.proofs.Invariant.Kept.{releasing_holds}
 use Rattle.once_world.proofs.Place.FitsAfter.{headless}
@@ -85,7 +86,8 @@ module _ (limit n put : ℕ) (slot : Bool) (pages : List Page) (log : List Entry
 
     -- where memory is refused
     pub put_refused : x.step ≡ UnderWay AtDoorPut → Stepped limit n put slot pages log t x [] (closing_end EndMemory)
-    put_refused at = stepped_alone limit n put slot pages log t x some book pen n false AtDoorPut c [] (closing_end EndMemory) at refl book.1.within book.1.word_is book.1.put_is book.1.door_is book.1.queue_is
+    put_refused at = stepped_alone limit n put slot pages log t x some book pen n false AtDoorPut c [] (closing_end EndMemory) at
+        refl book.1.within book.1.word_is book.1.put_is book.1.door_is book.1.queue_is
 
     -- a step by which the door's page changes
     door_set : (put' made' : ℕ) (door' : Option ℕ) (p : Place ℕ ℕ) (g : Bool) (c' : SharedState) (next : Next ℕ ℕ) → x.step ≡ UnderWay p

@@ -34,10 +34,14 @@ release_more false false = 3 * 2 ^ 62
 -- the quick flag is cleared, and the value is set or not
 pub word_freed : (n : ℕ) (v head : Bool) → n < 2 ^ 64 → (flags_of n).ready ≡ false → head ≡ not (flags_of n).quick
     → flags_of ((n + release_more v head) % 2 ^ 64) ≡ record (flags_of n) { quick = false; ready = v }
-word_freed n true true m r q = same_flags (flags_of ((n + release_more true true) % 2 ^ 64)) (record (flags_of n) { quick = false; ready = true }) (omega arith) (grind (arith, nat_tests)) (grind (arith, nat_tests))
-word_freed n true false m r q = same_flags (flags_of ((n + release_more true false) % 2 ^ 64)) (record (flags_of n) { quick = false; ready = true }) (omega arith) (grind (arith, nat_tests)) (grind (arith, nat_tests))
-word_freed n false true m r q = same_flags (flags_of ((n + release_more false true) % 2 ^ 64)) (record (flags_of n) { quick = false; ready = false }) (omega arith) (grind (arith, nat_tests)) (grind (arith, nat_tests))
-word_freed n false false m r q = same_flags (flags_of ((n + release_more false false) % 2 ^ 64)) (record (flags_of n) { quick = false; ready = false }) (omega arith) (grind (arith, nat_tests)) (grind (arith, nat_tests))
+word_freed n true true m r q = same_flags (flags_of ((n + release_more true true) % 2 ^ 64)) (record (flags_of n) { quick = false; ready = true })
+    (omega arith) (grind (arith, nat_tests)) (grind (arith, nat_tests))
+word_freed n true false m r q = same_flags (flags_of ((n + release_more true false) % 2 ^ 64)) (record (flags_of n) { quick = false; ready = true })
+    (omega arith) (grind (arith, nat_tests)) (grind (arith, nat_tests))
+word_freed n false true m r q = same_flags (flags_of ((n + release_more false true) % 2 ^ 64)) (record (flags_of n) { quick = false; ready = false })
+    (omega arith) (grind (arith, nat_tests)) (grind (arith, nat_tests))
+word_freed n false false m r q = same_flags (flags_of ((n + release_more false false) % 2 ^ 64)) (record (flags_of n) { quick = false; ready = false })
+    (omega arith) (grind (arith, nat_tests)) (grind (arith, nat_tests))
 
 -- a word that is NEW gets the quick bit
 pub word_quick : (n : ℕ) → n ≡ 0 → flags_of (2 ^ 62) ≡ record (flags_of n) { quick = true }

@@ -10,7 +10,10 @@ use Rattle.once_core.specs.Steps.{Next, after_list, after_look, next_at}
 use Rattle.once_world.specs.Record.{Entry, Once, RanPending}
 use Rattle.once_world.specs.Cell.{cell}
 use Rattle.once_world.specs.Book.{At, Door, IsBook, Page, Queue}
-use Rattle.once_world.specs.Machine.{AtCountOut, AtLeave, AtList, AtLook, AtRelease, Ending, Place, SharedState, Task, UnderWay, claim_entries, head_after, is_claim, is_passing, is_value, leave_step, list_answer, list_shared, list_step, listed_list, listed_ticket, look_answer, look_shared, look_step, looked_list, outcome_of, pass_entries, place_step, seen_at, seen_by, release_entry, release_flags, release_list, release_step, release_wakers, word_of}
+use Rattle.once_world.specs.Machine.{AtCountOut, AtLeave, AtList, AtLook, AtRelease, Ending, Place, SharedState, Task, UnderWay, claim_entries, head_after}
+use Rattle.once_world.specs.Machine.{is_claim, is_passing, is_value, leave_step, list_answer, list_shared, list_step, listed_list, listed_ticket, look_answer}
+use Rattle.once_world.specs.Machine.{look_shared, look_step, looked_list, outcome_of, pass_entries, place_step, seen_at, seen_by, release_entry, release_flags}
+use Rattle.once_world.specs.Machine.{release_list, release_step, release_wakers, word_of}
 use Rattle.once_world.proofs.History.Cells.{holder_unset}
 use Rattle.once_world.proofs.Invariant.Kept.{releasing_holds}
 use Rattle.once_world.proofs.Exactness.Asked.{one_flag}
@@ -116,7 +119,8 @@ module _ (limit n put : ℕ) (slot : Bool) (pages : List Page) (log : List Entry
       let passing : Bool = passes_turn (is_free (sees (flags_of n) head)) k xs in
       let same : is_passing c k ≡ passing = ap (λ f. passes_turn (is_free (sees f c.head)) k c.listings) (sym book.1.word_is)
       ∙ ap (λ b. passes_turn (is_free (sees (flags_of n) b)) k c.listings) own_queue.0 ∙ ap (passes_turn (is_free (sees (flags_of n) head)) k) own_queue.1 in
-      queue_set n (AtLeave q k e) false (record c { listings = left_list passing k xs }) (pass_entries t (option_to_list (next_waker passing k xs))) (next_at (AtCountOut e)) head (left_list passing k xs) at
+      queue_set n (AtLeave q k e) false (record c { listings = left_list passing k xs })
+      (pass_entries t (option_to_list (next_waker passing k xs))) (next_at (AtCountOut e)) head (left_list passing k xs) at
       (ap (λ b. leave_step b c t x.kept k e) (at_door q c.door d.1)
       ∙ ap (λ b. outcome_of (record c { listings = left_list b k c.listings }) t x.kept (pass_entries t (option_to_list (next_waker b k c.listings))) (next_at (AtCountOut e))) same
       ∙ ap (λ ys. outcome_of (record c { listings = left_list passing k ys }) t x.kept (pass_entries t (option_to_list (next_waker passing k ys))) (next_at (AtCountOut e))) own_queue.1)

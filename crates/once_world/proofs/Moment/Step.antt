@@ -7,7 +7,8 @@ use Rattle.once_queue.specs.Word.{flags_of}
 use Rattle.once_core.specs.Steps.{Next}
 use Rattle.once_world.specs.Record.{Answer, Entry, Once, RanPending}
 use Rattle.once_world.specs.Book.{At, Door, IsBook, IsBookOf, IsUnnamed, Page, Queue, has_written, has_written_at, task_page}
-use Rattle.once_world.specs.Machine.{Outcome, Place, SharedState, Task, UnderWay, World, advance, first_world, go_world_by, in_call, outcome_of, place_step, progress_entries, put_task, step_at, step_of, word_of}
+use Rattle.once_world.specs.Machine.{Outcome, Place, SharedState, Task, UnderWay, World, advance, first_world, go_world_by, in_call, outcome_of, place_step}
+use Rattle.once_world.specs.Machine.{progress_entries, put_task, step_at, step_of, word_of}
 use Rattle.once_world.proofs.Invariant.Facts.{AtPlace, AtStep}
 use Rattle.once_world.proofs.Invariant.Fits.{Fits}
 use Rattle.once_world.proofs.Input.Headline.{task_fits}
@@ -101,7 +102,10 @@ module _ (limit n put : ℕ) (slot : Bool) (pages : List Page) (log : List Entry
               (subst (λ b. SlotKeeps (is_put_at p) b o.step c o.shared) (sym wrote) keeps.slot) m.is.slot_is;
           door_is = set_other pages' (suc (suc t)) 0 (At y) (λ e. zero_task t (sym e)) ∙ door ∙ ap (λ (o : Outcome). Some (Door o.shared.queues o.shared.door)) (sym oe);
           queue_is = set_other pages' (suc (suc t)) 1 (At y) (λ e. one_task t (sym e)) ∙ queue ∙ ap (λ (o : Outcome). Some (Queue o.shared.head o.shared.listings)) (sym oe);
-          tasks_are = subst (λ (o : Outcome). (u : ℕ) → slice_get (slice_set pages' (suc (suc t)) (At y)) (suc (suc u)) ≡ task_page (put_task t (record x { step = o.step; kept = o.kept }) m.w.tasks u)) (sym oe) tasks;
+          tasks_are = subst
+              (λ (o : Outcome). (u : ℕ)
+              → slice_get (slice_set pages' (suc (suc t)) (At y)) (suc (suc u)) ≡ task_page (put_task t (record x { step = o.step; kept = o.kept }) m.w.tasks u))
+              (sym oe) tasks;
           log_is = ap (λ l. l ++ m.w.history) entries ∙ grown m.w.history log es m.is.log_is;
         },
       )

@@ -7,7 +7,8 @@ use Rattle.once_queue.specs.Word.{Flags, flags_of, is_quick_bit, is_ready_bit, i
 use Rattle.once_core.specs.Steps.{after_count_out, after_fast, after_in, after_load, after_quick, after_start, next_at}
 use Rattle.once_world.specs.Record.{Claim, Entry, Once}
 use Rattle.once_world.specs.Book.{At, IsBook, Page}
-use Rattle.once_world.specs.Machine.{AtAddOne, AtCountIn, AtCountOut, AtDoorAgain, AtFast, AtStart, AtTryQuick, AtWaitLoad, Ending, SharedState, Task, UnderWay, fast_shared, fast_step, in_step, is_value, next_in, out_shared, outcome_of, quick_step, release_entry, word_of}
+use Rattle.once_world.specs.Machine.{AtAddOne, AtCountIn, AtCountOut, AtDoorAgain, AtFast, AtStart, AtTryQuick, AtWaitLoad, Ending, SharedState, Task, UnderWay}
+use Rattle.once_world.specs.Machine.{fast_shared, fast_step, in_step, is_value, next_in, out_shared, outcome_of, quick_step, release_entry, word_of}
 use Rattle.once_world.proofs.Invariant.Moves.{in_count}
 use Rattle.once_world.proofs.Moment.Numbers.{fast_within, in_within, out_within, quick_word, word_fast, word_in, word_out, word_quick, zero_word}
 use Rattle.once_world.proofs.Moment.Step.{Moment, Stepped, moment, stands, stepped_alone}
@@ -101,7 +102,8 @@ module _ (limit n put : ℕ) (slot : Bool) (pages : List Page) (log : List Entry
       let f : flags_of (2 ^ 62) ≡ word_of c = ap flags_of (sym i) ∙ book.1.word_is in
       let z : is_quick_bit (word_of c) ≡ true = ap is_quick_bit (sym f) in
       let r : c.ready ≡ false = ap (λ (f : Flags). f.ready) (sym f) in
-      stepped_alone limit n put slot pages log t x some book pen (cond (is_value e) (2 ^ 63) 0) false (AtFast e) (record c { quick = false; ready = is_value e }) (release_entry x.kept t [] ∷ []) (after_fast true (is_value e) e) at
+      stepped_alone limit n put slot pages log t x some book pen (cond (is_value e) (2 ^ 63) 0) false (AtFast e)
+      (record c { quick = false; ready = is_value e }) (release_entry x.kept t [] ∷ []) (after_fast true (is_value e) e) at
       (ap (λ b. fast_step b (is_value e) c t x.kept e) z ∙ ap (λ c'. outcome_of c' t x.kept (release_entry x.kept t [] ∷ []) (after_fast true (is_value e) e)) (fast_is (is_value e) r))
       (fast_within (is_value e)) (word_fast n (is_value e) i ∙ ap (λ (f : Flags). record f { quick = false; ready = is_value e }) book.1.word_is)
       book.1.put_is book.1.door_is book.1.queue_is

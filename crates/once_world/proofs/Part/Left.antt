@@ -1,7 +1,8 @@
 -- A call under way has a step left, and sixteen at most.
 use Rattle.std.proofs.Common.{◌≡◌, ◌≤◌, ◌<◌, ℕ, true, arith}
 use Rattle.std.proofs.lemmas.Bool.{false≢true}
-use Rattle.once_world.specs.Machine.{AtAddOne, AtCountIn, AtCountOut, AtDoorAgain, AtDoorGet, AtDoorPut, AtDoorTake, AtFast, AtLeave, AtList, AtLook, AtPut, AtRelease, AtRun, AtStart, AtTryQuick, AtWaitLoad, Finished, Place, Resting, Step, UnderWay, in_call, left_at, left_of}
+use Rattle.once_world.specs.Machine.{AtAddOne, AtCountIn, AtCountOut, AtDoorAgain, AtDoorGet, AtDoorPut, AtDoorTake, AtFast, AtLeave, AtList, AtLook, AtPut}
+use Rattle.once_world.specs.Machine.{AtRelease, AtRun, AtStart, AtTryQuick, AtWaitLoad, Finished, Place, Resting, Step, UnderWay, in_call, left_at, left_of}
 
 -- so has each place
 left_at_place : (p : Place ℕ ℕ) → (0 < left_at p) × (left_at p ≤ 16)

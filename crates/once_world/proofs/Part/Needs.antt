@@ -4,7 +4,11 @@ use Rattle.std.specs.Prelude.{nat_lt}
 use Rattle.std.proofs.lemmas.Bool.{false≢true}
 use Rattle.once_world.specs.Record.{Answer, Entry, Kind, RanError, RanPending, RanValue, is_lazy}
 use Rattle.once_world.specs.Log.{IsAtMostOne, has_entered, need_queue, take_lines}
-use Rattle.once_world.specs.Machine.{AtAddOne, AtCountIn, AtCountOut, AtDoorAgain, AtDoorGet, AtDoorPut, AtDoorTake, AtFast, AtLeave, AtList, AtLook, AtPut, AtRelease, AtRun, AtStart, AtTryQuick, AtWaitLoad, EndDropped, EndError, EndFull, EndMemory, EndPending, EndValue, Ending, Finished, SharedState, Place, Resting, Step, UnderWay, again_step, out_shared, door_step, end_entry, fast_step, init_answer, in_step, is_value, load_step, out_step, place_lines, place_step, put_lines, put_step, quick_step, run_shared, release_entry, run_step, start_step, step_at, step_lines, word_of}
+use Rattle.once_world.specs.Machine.{AtAddOne, AtCountIn, AtCountOut, AtDoorAgain, AtDoorGet, AtDoorPut, AtDoorTake, AtFast, AtLeave, AtList, AtLook, AtPut}
+use Rattle.once_world.specs.Machine.{AtRelease, AtRun, AtStart, AtTryQuick, AtWaitLoad, EndDropped, EndError, EndFull, EndMemory, EndPending, EndValue, Ending}
+use Rattle.once_world.specs.Machine.{Finished, SharedState, Place, Resting, Step, UnderWay, again_step, out_shared, door_step, end_entry, fast_step}
+use Rattle.once_world.specs.Machine.{init_answer, in_step, is_value, load_step, out_step, place_lines, place_step, put_lines, put_step, quick_step, run_shared}
+use Rattle.once_world.specs.Machine.{release_entry, run_step, start_step, step_at, step_lines, word_of}
 use Rattle.once_queue.proofs.Listing.Members.{eqb_self}
 use Rattle.once_world.proofs.Invariant.Facts.{AtPlace, AtStep, Releasing}
 use Rattle.once_world.proofs.Place.Builders.{owes_lasts}

@@ -5,7 +5,13 @@ use Rattle.std.specs.Option.{is_some, option_to_list}
 use Rattle.std.proofs.lemmas.Bool.{false≢true}
 use Rattle.once_world.specs.Record.{Answer, Entry, RanError, RanPending, RanValue}
 use Rattle.once_world.specs.Inputs.{ends_for_memory}
-use Rattle.once_world.specs.Machine.{AtAddOne, AtCountIn, AtCountOut, AtDoorAgain, AtDoorGet, AtDoorPut, AtDoorTake, AtFast, AtLeave, AtList, AtLook, AtPut, AtRelease, AtRun, AtStart, AtTryQuick, AtWaitLoad, EndDropped, EndError, EndFull, EndMemory, EndPending, EndValue, Ending, Finished, SharedState, Outcome, Place, Resting, Step, UnderWay, again_step, out_shared, door_step, take_shared, end_entry, fast_step, release_place, init_answer, release_wakers, in_call, in_step, is_at_door, is_value, is_waker, kept_ticket, leave_place, leave_step, left_at, left_of, list_step, load_step, look_step, next_waker, out_step, own_listing, pass_entries, is_passing, place_step, put_step, put_value, quick_step, run_shared, release_entry, release_step, run_step, start_step, step_at, word_of, seen_at}
+use Rattle.once_world.specs.Machine.{AtAddOne, AtCountIn, AtCountOut, AtDoorAgain, AtDoorGet, AtDoorPut, AtDoorTake, AtFast, AtLeave, AtList, AtLook, AtPut}
+use Rattle.once_world.specs.Machine.{AtRelease, AtRun, AtStart, AtTryQuick, AtWaitLoad, EndDropped, EndError, EndFull, EndMemory, EndPending, EndValue, Ending}
+use Rattle.once_world.specs.Machine.{Finished, SharedState, Outcome, Place, Resting, Step, UnderWay, again_step, out_shared, door_step, take_shared, end_entry}
+use Rattle.once_world.specs.Machine.{fast_step, release_place, init_answer, release_wakers, in_call, in_step, is_at_door, is_value, is_waker, kept_ticket}
+use Rattle.once_world.specs.Machine.{leave_place, leave_step, left_at, left_of, list_step, load_step, look_step, next_waker, out_step, own_listing}
+use Rattle.once_world.specs.Machine.{pass_entries, is_passing, place_step, put_step, put_value, quick_step, run_shared, release_entry, release_step, run_step}
+use Rattle.once_world.specs.Machine.{start_step, step_at, word_of, seen_at}
 use Rattle.once_queue.specs.Word.{is_zero, is_quick_bit, is_ready_bit}
 use Rattle.once_queue.specs.declared.word.Sees.TheVariants.{Set, Free, Taken}
 use Rattle.once_queue.specs.declared.word.Sees.{Sees}

@@ -6,7 +6,9 @@ use Rattle.once_world.specs.Record.{Answer, Begin, Entry, Kind, Look, Made, Own,
 use Rattle.once_world.specs.Tasks.{Unmade, all_gone, is_under_way, status}
 use Rattle.once_world.specs.Inputs.{AreOfStep, Drop, Go, Input, Looks, Make, Owns, Poll, begins_call, ends_for_memory, is_fitting_go}
 use Rattle.once_world.specs.Log.{owned_lines, standing_queue}
-use Rattle.once_world.specs.Machine.{SharedState, Outcome, QueueLine, Step, Task, World, advance, world_after, step_of_poll, poll_world_by, drop_entries, step_of_drop, drop_world_by, drop_world, fresh_task, go_world, go_world_by, in_call, is_resting, look_value, make_world, own_world_by, owner_got, owner_lines, poll_world, put_task, step_lines, step_of}
+use Rattle.once_world.specs.Machine.{SharedState, Outcome, QueueLine, Step, Task, World, advance, world_after, step_of_poll, poll_world_by, drop_entries}
+use Rattle.once_world.specs.Machine.{step_of_drop, drop_world_by, drop_world, fresh_task, go_world, go_world_by, in_call, is_resting, look_value, make_world}
+use Rattle.once_world.specs.Machine.{own_world_by, owner_got, owner_lines, poll_world, put_task, step_lines, step_of}
 use Rattle.once_world.proofs.Invariant.Fits.{Fits, StandsFor}
 use Rattle.once_world.proofs.Invariant.Moves.{Puts, puts}
 use Rattle.once_world.proofs.Input.Gone.{gone_is}

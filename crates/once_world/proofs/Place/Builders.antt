@@ -67,11 +67,66 @@ pub record IsLast (t : ℕ) (e : Entry) : Type 0 where
 
 -- all endings but Pending
 is_last : (t v : ℕ) (k : Answer) (e : Ending) → e ≢ EndPending → IsLast t (end_entry e t v k)
-is_last t v k EndValue n = record { cell_is = λ c. refl; gone = λ c s. refl; hands = refl; owns = refl; replaces_not = refl; left_is = λ l. refl; shut = λ K w h. refl; of = λ u. refl; call_is = λ c s k. refl; made = λ h. refl }
-is_last t v k EndError n = record { cell_is = λ c. refl; gone = λ c s. refl; hands = refl; owns = refl; replaces_not = refl; left_is = λ l. refl; shut = λ K w h. refl; of = λ u. refl; call_is = λ c s k. refl; made = λ h. refl }
-is_last t v k EndMemory n = record { cell_is = λ c. refl; gone = λ c s. refl; hands = refl; owns = refl; replaces_not = refl; left_is = λ l. refl; shut = λ K w h. refl; of = λ u. refl; call_is = λ c s k. refl; made = λ h. refl }
-is_last t v k EndFull n = record { cell_is = λ c. refl; gone = λ c s. refl; hands = refl; owns = refl; replaces_not = refl; left_is = λ l. refl; shut = λ K w h. refl; of = λ u. refl; call_is = λ c s k. refl; made = λ h. refl }
-is_last t v k EndDropped n = record { cell_is = λ c. refl; gone = λ c s. refl; hands = refl; owns = refl; replaces_not = refl; left_is = λ l. refl; shut = λ K w h. refl; of = λ u. refl; call_is = λ c s k. refl; made = λ h. refl }
+is_last t v k EndValue n = record {
+  cell_is = λ c. refl;
+  gone = λ c s. refl;
+  hands = refl;
+  owns = refl;
+  replaces_not = refl;
+  left_is = λ l. refl;
+  shut = λ K w h. refl;
+  of = λ u. refl;
+  call_is = λ c s k. refl;
+  made = λ h. refl;
+}
+is_last t v k EndError n = record {
+  cell_is = λ c. refl;
+  gone = λ c s. refl;
+  hands = refl;
+  owns = refl;
+  replaces_not = refl;
+  left_is = λ l. refl;
+  shut = λ K w h. refl;
+  of = λ u. refl;
+  call_is = λ c s k. refl;
+  made = λ h. refl;
+}
+is_last t v k EndMemory n = record {
+  cell_is = λ c. refl;
+  gone = λ c s. refl;
+  hands = refl;
+  owns = refl;
+  replaces_not = refl;
+  left_is = λ l. refl;
+  shut = λ K w h. refl;
+  of = λ u. refl;
+  call_is = λ c s k. refl;
+  made = λ h. refl;
+}
+is_last t v k EndFull n = record {
+  cell_is = λ c. refl;
+  gone = λ c s. refl;
+  hands = refl;
+  owns = refl;
+  replaces_not = refl;
+  left_is = λ l. refl;
+  shut = λ K w h. refl;
+  of = λ u. refl;
+  call_is = λ c s k. refl;
+  made = λ h. refl;
+}
+is_last t v k EndDropped n = record {
+  cell_is = λ c. refl;
+  gone = λ c s. refl;
+  hands = refl;
+  owns = refl;
+  replaces_not = refl;
+  left_is = λ l. refl;
+  shut = λ K w h. refl;
+  of = λ u. refl;
+  call_is = λ c s k. refl;
+  made = λ h. refl;
+}
 is_last t v k EndPending n = absurd (n refl)
 
 -- a call that owes an ending does not end Pending

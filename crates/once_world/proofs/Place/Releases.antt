@@ -9,7 +9,9 @@ use Rattle.once_world.specs.Tasks.{Waiting, last_call, status}
 use Rattle.once_queue.specs.declared.waiters.Listing.{Listing}
 use Rattle.once_queue.specs.Listings.{all_out, call_first, first_waker}
 use Rattle.once_world.specs.Run.{IsLegal, IsRun}
-use Rattle.once_world.specs.Machine.{AtAddOne, AtCountOut, AtDoorTake, AtFast, AtRelease, EndDropped, EndError, EndFull, EndMemory, EndPending, EndValue, Ending, Finished, SharedState, UnderWay, out_shared, take_shared, end_entry, fast_step, release_wakers, is_at_door, is_value, release_list, out_step, release_entry, release_step, release_flags, word_of}
+use Rattle.once_world.specs.Machine.{AtAddOne, AtCountOut, AtDoorTake, AtFast, AtRelease, EndDropped, EndError, EndFull, EndMemory, EndPending, EndValue}
+use Rattle.once_world.specs.Machine.{Ending, Finished, SharedState, UnderWay, out_shared, take_shared, end_entry, fast_step, release_wakers, is_at_door}
+use Rattle.once_world.specs.Machine.{is_value, release_list, out_step, release_entry, release_step, release_flags, word_of}
 use Rattle.once_queue.proofs.Listing.Members.{eqb_self}
 use Rattle.once_world.proofs.History.Others.{keeps_both, legal_keeps}
 use Rattle.once_world.proofs.History.Cells.{empty_not_set, holder_unset, same_value, set_unheld}
@@ -28,7 +30,8 @@ use Rattle.once_world.proofs.Invariant.Around.{Around}
 use Rattle.once_world.proofs.Place.Builders.{Goes, ends_so, moves_on, of_other, polls_not_waits, same_shared, stays}
 use Rattle.once_world.proofs.Place.FitsAfter.{at_door, count_fits, nobody, release_fits, take_fits}
 use Rattle.once_world.proofs.Place.Holds.{holder_shared}
-use Rattle.once_world.proofs.Place.Frees.{Cleared, IsRelease, cleared, exact, exact_out, fill_legal, fill_releases, filled_owes, fills, free_legal, free_releases, freed_owes, frees, inexact, releasing_awake}
+use Rattle.once_world.proofs.Place.Frees.{Cleared, IsRelease, cleared, exact, exact_out, fill_legal, fill_releases, filled_owes, fills, free_legal}
+use Rattle.once_world.proofs.Place.Frees.{free_releases, freed_owes, frees, inexact, releasing_awake}
 use Rattle.once_queue.specs.Word.{is_quick_bit, is_ready_bit}
 use Rattle.once_world.proofs.Place.Outcomes.{ends}
 

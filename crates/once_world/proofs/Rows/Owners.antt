@@ -1,6 +1,7 @@
 -- Rows of the owner, and of lazy cells.
 use Rattle.std.proofs.Common.{◌≡◌, true, List, [], ◌∷◌, ◌++◌, Some, None, refl, arith}
-use Rattle.once_world.specs.Record.{RanPending, RanValue, Pending, Once, OnceWith, Lazy, LazyWith, Take, Write, Parts, ReplaceValue, ReplaceAnswers, GotNone, GotValue, GotAnswers, Entry, Made, Begin, Claim, Ran, End, Look, Own}
+use Rattle.once_world.specs.Record.{RanPending, RanValue, Pending, Once, OnceWith, Lazy, LazyWith, Take, Write, Parts, ReplaceValue, ReplaceAnswers, GotNone}
+use Rattle.once_world.specs.Record.{GotValue, GotAnswers, Entry, Made, Begin, Claim, Ran, End, Look, Own}
 use Rattle.once_world.specs.Run.{IsRun}
 use Rattle.once_world.specs.Inputs.{Input, Make, Poll, Drop, Go, Looks, Owns}
 use Rattle.once_world.specs.Machine.{history_of, queue_of}

@@ -1,6 +1,7 @@
 -- Rows of passes in a lazy cell, and before calls of the owner.
 use Rattle.std.proofs.Common.{◌≡◌, List, [], ◌∷◌, ◌++◌, Some, None, refl, arith}
-use Rattle.once_world.specs.Record.{RanPending, RanValue, RanError, Pending, Value, Error, Once, Lazy, Take, Write, Parts, ReplaceAnswers, GotNone, GotValue, Entry, Made, Begin, Claim, Ran, Free, Fill, Pass, End, DropBegin, DropEnd, Own}
+use Rattle.once_world.specs.Record.{RanPending, RanValue, RanError, Pending, Value, Error, Once, Lazy, Take, Write, Parts, ReplaceAnswers, GotNone, GotValue}
+use Rattle.once_world.specs.Record.{Entry, Made, Begin, Claim, Ran, Free, Fill, Pass, End, DropBegin, DropEnd, Own}
 use Rattle.once_world.specs.Run.{IsRun}
 use Rattle.once_world.specs.Inputs.{Input, Make, Poll, Drop, Owns}
 use Rattle.once_world.specs.Machine.{history_of, queue_of}

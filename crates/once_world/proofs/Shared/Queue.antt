@@ -2,7 +2,8 @@
 use Rattle.std.proofs.Common.{◌≡◌, ℕ, Bool, true, false, ◌⊎◌, inl, inr, ⊎_elim, List, [], Option, Some, None, sym, ap, ◌∙◌}
 use Rattle.once_queue.specs.declared.waiters.Listing.{Listing}
 use Rattle.once_queue.specs.Listings.{left_list, list_without, take_out}
-use Rattle.once_world.specs.Machine.{AtLeave, AtList, AtLook, AtPut, AtRelease, AtRun, AtWaitLoad, Ending, Finished, Place, Resting, SharedState, Step, UnderWay, leave_place, place_of_poll, release_place}
+use Rattle.once_world.specs.Machine.{AtLeave, AtList, AtLook, AtPut, AtRelease, AtRun, AtWaitLoad, Ending, Finished, Place, Resting, SharedState, Step}
+use Rattle.once_world.specs.Machine.{UnderWay, leave_place, place_of_poll, release_place}
 use Rattle.once_world.proofs.History.Cells.{none_some}
 use Rattle.once_world.proofs.Invariant.Listed.{same_some}
 

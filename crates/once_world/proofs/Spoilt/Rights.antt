@@ -1,7 +1,8 @@
 -- Records with one thing wrong, about who holds and which value is set: none is a run.
 use Rattle.std.proofs.Common.{◌≡◌, ℕ, true, [], ◌∷◌, ◌++◌, Option, Some, None, refl, sym, arith}
 use Rattle.std.proofs.lemmas.Bool.{false≢true}
-use Rattle.once_world.specs.Record.{Answer, Begin, Claim, DropBegin, DropEnd, End, Fill, Free, Got, GotAnswers, GotNone, GotValue, Lazy, Look, Made, Once, OnceWith, Own, Parts, Pending, Ran, RanPending, RanValue, Take, Value}
+use Rattle.once_world.specs.Record.{Answer, Begin, Claim, DropBegin, DropEnd, End, Fill, Free, Got, GotAnswers, GotNone, GotValue, Lazy, Look, Made, Once}
+use Rattle.once_world.specs.Record.{OnceWith, Own, Parts, Pending, Ran, RanPending, RanValue, Take, Value}
 use Rattle.once_world.specs.Inputs.{Make, Poll, Drop, Go, Owns}
 use Rattle.once_world.proofs.Input.Headline.{every_run}
 use Rattle.once_world.proofs.History.Cells.{empty_not_set, held_not_empty, same_holder}

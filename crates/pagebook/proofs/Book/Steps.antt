@@ -9,7 +9,8 @@ use base.Fml.{Lft, Share, Fml, ftrue, fsep, fex, flft, fbor, finv, fnamed}
 use base.Growing.{latest}
 use types.Logic.{Logic, sem}
 use types.Growing.{latest_grows, latest_shows, latest_bounds, at_least_dup}
-use types.Kit.{‵, raw, ◌⊛◌, some, given, later, mean, ◌$◌, ◌∵◌, !, qed, by, move, keep, drop, split, split3, join, group, fsplit, fsplit3, fjoin, fjoin3, fpick, fpack, pick, learn, show, check, frame, each, assume, suffices, settle, done, use0, use1, use2, use3, updating, await, now, rewrite}
+use types.Kit.{‵, raw, ◌⊛◌, some, given, later, mean, ◌$◌, ◌∵◌, !, qed, by, move, keep, drop, split, split3, join, group, fsplit, fsplit3, fjoin, fjoin3, fpick}
+use types.Kit.{fpack, pick, learn, show, check, frame, each, assume, suffices, settle, done, use0, use1, use2, use3, updating, await, now, rewrite}
 use denote.RawPtr.{block_ptr}
 use denote.Steps.{nothing}
 use Rattle.core.specs.Sync.RawAtomic.{word, asks, always}

@@ -49,7 +49,16 @@ module _ (R : RattleType) (l : Placed) where
 pub slot_sync : (T E P R : RattleType) (g : Ghosts R.Denot E.Denot P.Denot) → IsSend T → IsSync T
     → IsSync (Slot.the_row T E P R g)
 slot_sync T E P R g s y = record {
-  shared = λ d b o κ z. ((λ νs. chain-Keyless νs κ z.0.0), ((λ _. tt), λ u. (((tt, word_pen_keyless (word_of d) u.0), ((tt, told_keyless T d u.0 u.1), tie_keyless T d z.0 b o u.1)), lent_keyless T d s y z.0 b o u.1)));
+  shared = λ d b o κ z. (
+    (λ νs. chain-Keyless νs κ z.0.0),
+    (
+      (λ _. tt),
+      λ u. (
+        ((tt, word_pen_keyless (word_of d) u.0), ((tt, told_keyless T d u.0 u.1), tie_keyless T d z.0 b o u.1)),
+        lent_keyless T d s y z.0 b o u.1,
+      ),
+    ),
+  );
 }
 
 -- a slot is sent

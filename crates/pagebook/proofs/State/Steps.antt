@@ -8,7 +8,8 @@ use base.Before.{before}
 use contract.BorrowLft.{⊑_meet, ⊑_static}
 use ghost.Rules.{Toks, span}
 use types.Logic.{Logic, sem, lfts}
-use types.Kit.{Item, mean, ‵, raw, ◌⊛◌, some, given, later, ◌$◌, ◌∵◌, !, qed, by, move, keep, drop, use1, use2, use3, split, split3, fsplit, fsplit3, fjoin, fjoin3, fpick, fpack, pick, learn, show, frame, each, assume, suffices, await, updating, now, settle, feq_i, feq_l, done}
+use types.Kit.{Item, mean, ‵, raw, ◌⊛◌, some, given, later, ◌$◌, ◌∵◌, !, qed, by, move, keep, drop, use1, use2, use3, split, split3, fsplit, fsplit3, fjoin}
+use types.Kit.{fjoin3, fpick, fpack, pick, learn, show, frame, each, assume, suffices, await, updating, now, settle, feq_i, feq_l, done}
 use types.Tokens.{res_dup}
 use types.Na.{before_dup}
 use denote.RattleType.{RattleType, RowLaws}

@@ -12,7 +12,9 @@ use Rattle.once_queue.specs.Listings.{kept_ticket, left_list, next_waker, own_li
 use Rattle.once_core.specs.Steps.{Next, after_door_get, after_list, after_look, next_at, next_end}
 use Rattle.once_world.specs.Record.{Entry}
 use Rattle.once_world.specs.Book.{At, Door, IsBook, Page, Queue, TaskState}
-use Rattle.once_world.specs.Machine.{AtCountIn, AtCountOut, AtDoorAgain, AtDoorGet, AtDoorPut, AtDoorTake, AtLeave, AtList, AtLook, AtRelease, Ending, Place, UnderWay, claim_entries, head_after, is_claim, is_value, list_answer, listed_list, listed_ticket, look_answer, looked_list, pass_entries, release_entry, release_list, release_wakers}
+use Rattle.once_world.specs.Machine.{AtCountIn, AtCountOut, AtDoorAgain, AtDoorGet, AtDoorPut, AtDoorTake, AtLeave, AtList, AtLook, AtRelease}
+use Rattle.once_world.specs.Machine.{Ending, Place, UnderWay, claim_entries, head_after, is_claim, is_value, list_answer, listed_list}
+use Rattle.once_world.specs.Machine.{listed_ticket, look_answer, looked_list, pass_entries, release_entry, release_list, release_wakers}
 use Rattle.once_world.proofs.Moment.Doors.{door_again, door_get, door_take, put_found, put_new}
 use Rattle.once_world.proofs.Moment.Numbers.{release_more}
 use Rattle.once_world.proofs.Moment.Pages.{set_other, zero_one}
@@ -69,8 +71,10 @@ module _ (seen : List Entry) (made : ℕ) (door : Option ℕ) (head : Bool) (xs 
         tt,
         only_queue most n put slot pages log (claim_entries (is_claim (looked k n)) t) (look_next q k granted n) on.0 on.1.0 (head_after (looked k n) head) (looked_list (looked k n) k xs)
             (subst
-            (λ a. Stepped most n put slot (slice_set pages 1 (Queue (head_after a head) (looked_list a k xs))) log t x (claim_entries (is_claim a) t) (after_look a (cond granted (Some x.waker) None) q k))
-            (look_is most n put slot pages log t x some book on.1.1.0 head xs on.1.0 q k at (flags_of n).ready refl) (look_load most n put slot pages log t x some book on.1.1.0 head xs on.1.0 q k granted at)),
+            (λ a. Stepped most n put slot (slice_set pages 1 (Queue (head_after a head) (looked_list a k xs))) log t x (claim_entries (is_claim a) t)
+            (after_look a (cond granted (Some x.waker) None) q k))
+            (look_is most n put slot pages log t x some book on.1.1.0 head xs on.1.0 q k at (flags_of n).ready refl)
+            (look_load most n put slot pages log t x some book on.1.1.0 head xs on.1.0 q k granted at)),
       ))
 
   -- AtList
@@ -91,7 +95,8 @@ module _ (seen : List Entry) (made : ℕ) (door : Option ℕ) (head : Bool) (xs 
       (λ n. told t x.kept (list_next q k granted n) (claim_entries (is_claim (listed k granted n)) t)) (λ n. Unit {0})
       (λ n put slot pages log book on. (
         tt,
-        only_queue most n put slot pages log (claim_entries (is_claim (listed k granted n)) t) (list_next q k granted n) on.0 on.1.0 (head_after (listed k granted n) head) (listed_list (listed k granted n) k w xs)
+        only_queue most n put slot pages log (claim_entries (is_claim (listed k granted n)) t) (list_next q k granted n) on.0 on.1.0
+            (head_after (listed k granted n) head) (listed_list (listed k granted n) k w xs)
             (list_load most n put slot pages log t x some book on.1.1.0 head xs on.1.0 q k w granted at),
       ))
 
@@ -153,7 +158,11 @@ module _ (seen : List Entry) (made : ℕ) (door : Option ℕ) (head : Bool) (xs 
       → Notes IsKept (seen, sheets (locked made door head xs t x))
       (λ v. Unit {0} × Leaves seen (locked made door head xs t x) (pages_after made door head xs (next_at (AtCountIn q))) (told t x.kept (next_at (AtCountIn q)) []) v)
   found_notes q at d = notes seen (locked made door head xs t x) (pages_after made door head xs (next_at (AtCountIn q))) (told t x.kept (next_at (AtCountIn q)) []) (Unit {0})
-      (λ n put slot pages log book on. (tt, only_own most n put slot pages log [] (next_at (AtCountIn q)) on.0 on.1.0 (put_found most n put slot pages log t x some book on.1.1.0 made door on.0 q at d)))
+      (λ n put slot pages log book on. (
+        tt,
+        only_own most n put slot pages log [] (next_at (AtCountIn q)) on.0 on.1.0
+            (put_found most n put slot pages log t x some book on.1.1.0 made door on.0 q at d),
+      ))
 
   -- AtDoorPut where none stands: a store of 1 says that a queue was put
   pub new_moves : x.step ≡ UnderWay AtDoorPut → door ≡ None

@@ -10,7 +10,8 @@ use Rattle.once_queue.proofs.Listing.Members.{eqb_self}
 use Rattle.once_core.specs.Steps.{Next, after_count_out, after_fast, after_in, after_load, after_quick, after_start, next_at, next_end}
 use Rattle.once_world.specs.Record.{Entry}
 use Rattle.once_world.specs.Book.{At, IsBook, Page, TaskState}
-use Rattle.once_world.specs.Machine.{AtAddOne, AtCountIn, AtCountOut, AtDoorAgain, AtDoorTake, AtFast, AtStart, AtTryQuick, AtWaitLoad, Ending, UnderWay, claim_entries, freed_entries, is_value, next_in}
+use Rattle.once_world.specs.Machine.{AtAddOne, AtCountIn, AtCountOut, AtDoorAgain, AtDoorTake, AtFast, AtStart, AtTryQuick}
+use Rattle.once_world.specs.Machine.{AtWaitLoad, Ending, UnderWay, claim_entries, freed_entries, is_value, next_in}
 use Rattle.once_world.proofs.Moment.Doors.{take_none}
 use Rattle.once_world.proofs.Moment.Numbers.{in_wraps, out_wraps}
 use Rattle.once_world.proofs.Moment.Step.{Stepped, told}
@@ -134,7 +135,8 @@ module _ (seen : List Entry) (t : ℕ) (x : TaskState) where
   -- the exchange, done or not
   pub fast_moves : (e : Ending) → x.step ≡ UnderWay (AtFast e)
       → Moves IsKept (seen, sheets (hand t x)) 0 (λ n. either (n == 2 ^ 62) (cond (is_value e) (2 ^ 63) 0) n)
-      (λ n v. Unit {0} × Leaves seen (hand t x) (goes_to x (after_fast (n == 2 ^ 62) (is_value e) e)) (told t x.kept (after_fast (n == 2 ^ 62) (is_value e) e) (freed_entries (n == 2 ^ 62) t x.kept)) v)
+      (λ n v. Unit {0} × Leaves seen (hand t x) (goes_to x (after_fast (n == 2 ^ 62) (is_value e) e))
+      (told t x.kept (after_fast (n == 2 ^ 62) (is_value e) e) (freed_entries (n == 2 ^ 62) t x.kept)) v)
   fast_moves e at = own_moves (λ n. either (n == 2 ^ 62) (cond (is_value e) (2 ^ 63) 0) n) (λ n. freed_entries (n == 2 ^ 62) t x.kept) (λ n. after_fast (n == 2 ^ 62) (is_value e) e) (λ n. Unit {0})
       (λ n put slot pages log book pen. (tt, fast_by e n put slot pages log book pen at (n == 2 ^ 62) refl))
 
@@ -150,7 +152,8 @@ module _ (seen : List Entry) (t : ℕ) (x : TaskState) where
   -- AtCountOut: there is one to take away
   pub out_moves : (e : Ending) → x.step ≡ UnderWay (AtCountOut e)
       → Moves IsKept (seen, sheets (hand t x)) 0 (λ n. (n + (2 ^ 64 - 1)) % 2 ^ 64)
-      (λ n v. (0 < (flags_of n).count) × Leaves seen (hand t x) (goes_to x (after_count_out (is_ready_bit (flags_of (n - 1))) e)) (told t x.kept (after_count_out (is_ready_bit (flags_of (n - 1))) e) []) v)
+      (λ n v. (0 < (flags_of n).count) × Leaves seen (hand t x) (goes_to x (after_count_out (is_ready_bit (flags_of (n - 1))) e))
+      (told t x.kept (after_count_out (is_ready_bit (flags_of (n - 1))) e) []) v)
   out_moves e at = own_moves (λ n. (n + (2 ^ 64 - 1)) % 2 ^ 64) (λ n. []) (λ n. after_count_out (is_ready_bit (flags_of (n - 1))) e) (λ n. 0 < (flags_of n).count)
       (λ n put slot pages log book pen.
       let a = count_out most n put slot pages log t x some book pen e at in

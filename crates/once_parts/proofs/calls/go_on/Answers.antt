@@ -28,7 +28,9 @@ unreachable-requires g c =
     c.in_default.not-Ended end.0 end.1
 
 pub returns-clause-stands : goal.returns-clause-stands
-returns-clause-stands g c = λ drops s. subst (λ r. Stands g.W.TaskWaker.whose drops (g.S.TaskSide.state c.loop-parts.side) (own c.loop-parts.parts) r c.loop-parts.step) c.in-Ended.is (c.loop-parts.invariant.3 drops s)
+returns-clause-stands g c = λ drops s. subst
+    (λ r. Stands g.W.TaskWaker.whose drops (g.S.TaskSide.state c.loop-parts.side) (own c.loop-parts.parts) r c.loop-parts.step)
+    c.in-Ended.is (c.loop-parts.invariant.3 drops s)
 
 pub returns-clause-walked : goal.returns-clause-walked
 returns-clause-walked g c = λ x v m. subst (λ r. Walked x v r (g.S.TaskSide.state c.loop-parts.side) (own c.loop-parts.parts)) c.in-Ended.is (c.loop-parts.invariant.2 x v m)

@@ -8,16 +8,21 @@ use Rattle.once_parts.proofs.calls.one_step.Goals as goal
 
 pub advance-requires-clause-asks : goal.advance-requires-clause-asks
 advance-requires-clause-asks g c =
-    step_asked cell_of own g.W.TaskWaker.whose g.S.TaskSide.state g.S.Side.can_put g.met.S.TaskSide.puts c.requires.stands.0 c.args.parts.now c.args.side.now c.args.told c.args.step.now c.requires.stands.1
+    step_asked cell_of own g.W.TaskWaker.whose g.S.TaskSide.state g.S.Side.can_put g.met.S.TaskSide.puts c.requires.stands.0 c.args.parts.now
+    c.args.side.now c.args.told c.args.step.now c.requires.stands.1
 
 pub returns-clause-cell : goal.returns-clause-cell
-returns-clause-cell g c = (step_went cell_of own g.W.TaskWaker.whose g.S.TaskSide.state g.S.Side.did g.met.S.TaskSide.tells MAX_WAITERS c.requires.stands.0 c.args.step.now c.args.parts.now c.advance.new.parts c.args.side.now c.advance.new.side
+returns-clause-cell g c = (step_went cell_of own g.W.TaskWaker.whose g.S.TaskSide.state g.S.Side.did g.met.S.TaskSide.tells MAX_WAITERS c.requires.stands.0
+    c.args.step.now c.args.parts.now c.advance.new.parts c.args.side.now c.advance.new.side
     c.advance.result c.args.told c.advance.new.self c.requires.stands.1 c.advance.ensures.line).cell_is
 
 pub returns-clause-walked : goal.returns-clause-walked
-returns-clause-walked g c = λ x v m. walked_on _ _ _ _ _ _ _ _ m (step_went cell_of own g.W.TaskWaker.whose g.S.TaskSide.state g.S.Side.did g.met.S.TaskSide.tells MAX_WAITERS c.requires.stands.0 c.args.step.now c.args.parts.now c.advance.new.parts
+returns-clause-walked g c = λ x v m. walked_on _ _ _ _ _ _ _ _ m
+    (step_went cell_of own g.W.TaskWaker.whose g.S.TaskSide.state g.S.Side.did g.met.S.TaskSide.tells MAX_WAITERS c.requires.stands.0
+    c.args.step.now c.args.parts.now c.advance.new.parts
     c.args.side.now c.advance.new.side c.advance.result c.args.told c.advance.new.self c.requires.stands.1 c.advance.ensures.line).walked
 
 pub returns-clause-stands : goal.returns-clause-stands
-returns-clause-stands g c = λ drops s. (step_went cell_of own g.W.TaskWaker.whose g.S.TaskSide.state g.S.Side.did g.met.S.TaskSide.tells MAX_WAITERS drops c.args.step.now c.args.parts.now c.advance.new.parts c.args.side.now c.advance.new.side
+returns-clause-stands g c = λ drops s. (step_went cell_of own g.W.TaskWaker.whose g.S.TaskSide.state g.S.Side.did g.met.S.TaskSide.tells MAX_WAITERS drops
+    c.args.step.now c.args.parts.now c.advance.new.parts c.args.side.now c.advance.new.side
     c.advance.result c.args.told c.advance.new.self s c.advance.ensures.line).stands

@@ -9,4 +9,6 @@ pub go_on-ending-requires : goal.go_on-ending-requires
 go_on-ending-requires g c = record { stands = (false, c.requires.stands) }
 
 pub returns-clause-stands : goal.returns-clause-stands
-returns-clause-stands g c = subst (λ s. Stands g.W.TaskWaker.whose false (g.S.TaskSide.state c.go_on-ending.new.side) (own c.go_on-ending.new.parts) (Ended c.go_on-ending.result) s) (sym c.of.ensures.is) (c.go_on-ending.ensures.stands false c.requires.stands)
+returns-clause-stands g c = subst
+    (λ s. Stands g.W.TaskWaker.whose false (g.S.TaskSide.state c.go_on-ending.new.side) (own c.go_on-ending.new.parts) (Ended c.go_on-ending.result) s)
+    (sym c.of.ensures.is) (c.go_on-ending.ensures.stands false c.requires.stands)

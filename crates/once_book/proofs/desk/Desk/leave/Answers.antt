@@ -31,7 +31,8 @@ returns-clause-did g c =
     let fits : IsShown whose c.deref_mut-lists.result.now d = subst (λ l. IsShown whose l d) (sym c.deref_mut-lists.ensures.value) all in
     let s = leave_fits whose c.deref_mut-lists.result.now d fits c.see-found.result c.args.ticket c.leave.new.self c.leave.result c.leave.ensures.waker c.leave.ensures.listings c.leave.ensures.head in
     let p = passing c.see-found.result c.args.ticket d in
-    let on = did_after (λ t u. pass_entries t (option_to_list (next_waker p c.args.ticket d.listings))) (λ (u : TaskState). leave_next u.step) (own_of c.args.hand.now) (own_of c.note.new.hand) (own_of c.see-found.new.hand)
+    let on = did_after (λ t u. pass_entries t (option_to_list (next_waker p c.args.ticket d.listings))) (λ (u : TaskState). leave_next u.step)
+    (own_of c.args.hand.now) (own_of c.note.new.hand) (own_of c.see-found.new.hand)
     c.note.ensures.told.1 c.see-found.ensures.told.1 in
     subst (λ ts. Did (own_of c.args.hand.now) (pass_entries (own_of c.args.hand.now).number ts) (leave_next (own_of c.args.hand.now).task.step) (own_of c.see-found.new.hand)) (sym s.1) on
 

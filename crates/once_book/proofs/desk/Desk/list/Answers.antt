@@ -100,4 +100,5 @@ returns-clause-did g c =
     let a = listed n k false d in
     let told = subst (λ (b : Bool). Did (own_of c.note.new.hand) (claim_entries (is_claim (listed n k b d)) (own_of c.note.new.hand).number)
     (list_next (listed n k b d) (listed_ticket (listed n k b d) k d.listings) s) (own_of c.see-found.new.hand)) c.if-room.false c.see-found.ensures.told.1 in
-    rw c.without_memory.ensures (list_did a _ (listed_ticket a k d.listings) c.look_own-answer.new.ticket (own_of c.args.hand.now) (own_of c.note.new.hand) (own_of c.see-found.new.hand) c.note.ensures.told.1 told f.1 f.2)
+    rw c.without_memory.ensures (list_did a _ (listed_ticket a k d.listings) c.look_own-answer.new.ticket (own_of c.args.hand.now) (own_of c.note.new.hand)
+    (own_of c.see-found.new.hand) c.note.ensures.told.1 told f.1 f.2)

@@ -2,7 +2,9 @@
 use Rattle.std.proofs.Common.{◌≡◌, ℕ, Bool, true, false, None, refl, rules, ap, subst, ◌∙◌}
 use Rattle.once_queue.specs.declared.word.TheConstants.{MAX_WAITERS}
 use Rattle.once_core.specs.declared.step.Polled.{Polled}
-use Rattle.once_core.specs.Steps.{Step, UnderWay, Place, AtStart, AtTryQuick, AtRun, AtPut, AtFast, AtDoorTake, Progress, More, Ending, EndValue, PartsTell, SideTells, Asks, AsksAt, Line, LeadsTo, Follows, MayClose, after_quick, after_run, after_fast, is_value}
+use Rattle.once_core.specs.Steps.{Step, UnderWay, Place, AtStart, AtTryQuick, AtRun, AtPut, AtFast, AtDoorTake, Progress, More}
+use Rattle.once_core.specs.Steps.{Ending, EndValue, PartsTell, SideTells, Asks, AsksAt, Line, LeadsTo, Follows, MayClose, after_quick}
+use Rattle.once_core.specs.Steps.{after_run, after_fast, is_value}
 use Rattle.once_core.specs.Chain.{Makes}
 use Rattle.once_core.specs.Chain.Makes.{none, next}
 use Rattle.once_core.proofs.step.Step.first_steps.Given.{Over}
@@ -105,7 +107,8 @@ door_take-requires g c =
     let at_put = c.in-UnderWay-Put-None.is ∙ ap UnderWay (put_there ∙ ap AtPut (rw (c.in-UnderWay-Put-None.is, put_there) at c.in-UnderWay-Put-None.field-0-0-is)) in
     let was_put = put c.in-UnderWay-Fast.ending was_run at_put c.put.ensures.line.0 c.put.ensures.line.1 (search rules) in
     let at_take = c.in-UnderWay-DoorTake.is ∙ ap UnderWay (rw c.in-UnderWay-DoorTake.is at c.in-UnderWay-DoorTake.field-0-is) in
-    asked g c.fast-told.new.parts c.put.new.side (AtDoorTake c.in-UnderWay-DoorTake.ending) _ at_take (c.requires.asks c.fast-told.result _ c.fast-told.new.parts c.put.new.side (fast _ was_put refl c.fast-told.ensures.line))
+    asked g c.fast-told.new.parts c.put.new.side (AtDoorTake c.in-UnderWay-DoorTake.ending) _ at_take
+    (c.requires.asks c.fast-told.result _ c.fast-told.new.parts c.put.new.side (fast _ was_put refl c.fast-told.ensures.line))
 
 pub returns-in_default-clause-lines : goal.returns-in_default-clause-lines
 returns-in_default-clause-lines g c limit =

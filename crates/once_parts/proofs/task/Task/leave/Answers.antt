@@ -30,7 +30,8 @@ go_on-requires g c =
     let rests = rests_at g.W.TaskWaker.whose (own c.self.inside.parts) c.self.inside.idle c.step-step.result c.self.view_is refl c.requires.live
     c.step-step.ensures.rests c.step-step.ensures.is c.self.inside.stands in
     let call = sym c.begin_drop-2.ensures.more ∙ c.if-not-begin_drop.false in
-    let begun = drop_begins g.W.TaskWaker.whose (g.S.TaskSide.state c.args.side.now) (own c.self.inside.parts) (own c.begin_drop.new.self) c.step-step.result number c.requires.none rests c.begin_drop.ensures.did
+    let begun = drop_begins g.W.TaskWaker.whose (g.S.TaskSide.state c.args.side.now) (own c.self.inside.parts)
+    (own c.begin_drop.new.self) c.step-step.result number c.requires.none rests c.begin_drop.ensures.did
     (ap in_call (sym c.begin_drop-2.ensures.step) ∙ call) in
     record { stands = (true, stands_closed g.W.TaskWaker.whose _ _ (own c.begin_drop.new.self) _ _ (g.met.S.TaskSide.tells.close _ _ c.begin_drop-2.ensures.close) c.begin_drop-2.ensures.step begun) }
 
@@ -40,7 +41,9 @@ returns-then-not-begin_drop-clause-end g c =
     c.step-step.ensures.rests c.step-step.ensures.is c.self.inside.stands in
     let over = ap in_call (sym c.begin_drop-2.ensures.step) ∙ sym c.begin_drop-2.ensures.more ∙ c.if-not-begin_drop.true in
     let grew = drop_alone g.W.TaskWaker.whose (own c.self.inside.parts) (own c.begin_drop.new.self) c.step-step.result rests over c.begin_drop.ensures.did in
-    rw (← c.self.view_is) (subst (λ (t : ℕ). Grew (DropEnd t ∷ []) (own c.self.inside.parts).log (own c.begin_drop.new.self).log) (sym c.begin_drop.ensures.did.number) (grew_last (DropEnd (own c.self.inside.parts).number) (DropBegin (own c.self.inside.parts).number ∷ []) _ _ grew))
+    rw (← c.self.view_is)
+    (subst (λ (t : ℕ). Grew (DropEnd t ∷ []) (own c.self.inside.parts).log (own c.begin_drop.new.self).log) (sym c.begin_drop.ensures.did.number)
+    (grew_last (DropEnd (own c.self.inside.parts).number) (DropBegin (own c.self.inside.parts).number ∷ []) _ _ grew))
 
 pub returns-then-not-begin_drop-clause-woke : goal.returns-then-not-begin_drop-clause-woke
 returns-then-not-begin_drop-clause-woke g c =
@@ -48,7 +51,11 @@ returns-then-not-begin_drop-clause-woke g c =
     c.step-step.ensures.rests c.step-step.ensures.is c.self.inside.stands in
     let over = ap in_call (sym c.begin_drop-2.ensures.step) ∙ sym c.begin_drop-2.ensures.more ∙ c.if-not-begin_drop.true in
     let grew = drop_alone g.W.TaskWaker.whose (own c.self.inside.parts) (own c.begin_drop.new.self) c.step-step.result rests over c.begin_drop.ensures.did in
-    rw (← c.self.view_is) (DropBegin (own c.self.inside.parts).number ∷ DropEnd (own c.self.inside.parts).number ∷ [], grew_by (DropBegin (own c.self.inside.parts).number ∷ DropEnd (own c.self.inside.parts).number ∷ []) _ _ grew, ap (λ (x : Sided). x.woke) (g.met.S.TaskSide.tells.close _ _ c.begin_drop-2.ensures.close) ∙ c.requires.none)
+    rw (← c.self.view_is) (
+      DropBegin (own c.self.inside.parts).number ∷ DropEnd (own c.self.inside.parts).number ∷ [],
+      grew_by (DropBegin (own c.self.inside.parts).number ∷ DropEnd (own c.self.inside.parts).number ∷ []) _ _ grew,
+      ap (λ (x : Sided). x.woke) (g.met.S.TaskSide.tells.close _ _ c.begin_drop-2.ensures.close) ∙ c.requires.none,
+    )
 
 pub returns : goal.returns
 returns g c =
@@ -56,13 +63,15 @@ returns g c =
     let rests = rests_at g.W.TaskWaker.whose (own c.self.inside.parts) c.self.inside.idle c.step-step.result c.self.view_is refl c.requires.live
     c.step-step.ensures.rests c.step-step.ensures.is c.self.inside.stands in
     let call = sym c.begin_drop-2.ensures.more ∙ c.if-not-begin_drop.false in
-    let begun = drop_begins g.W.TaskWaker.whose (g.S.TaskSide.state c.args.side.now) (own c.self.inside.parts) (own c.begin_drop.new.self) c.step-step.result number c.requires.none rests c.begin_drop.ensures.did
+    let begun = drop_begins g.W.TaskWaker.whose (g.S.TaskSide.state c.args.side.now) (own c.self.inside.parts)
+    (own c.begin_drop.new.self) c.step-step.result number c.requires.none rests c.begin_drop.ensures.did
     (ap in_call (sym c.begin_drop-2.ensures.step) ∙ call) in
     let closed = g.met.S.TaskSide.tells.close _ _ c.begin_drop-2.ensures.close in
     let stands = stands_closed g.W.TaskWaker.whose _ _ (own c.begin_drop.new.self) _ _ closed c.begin_drop-2.ensures.step begun in
     let seen = grew_on _ _ _ c.begin_drop.ensures.did.log in
     let walked = c.go_on.ensures.walked _ _ (walked_none _ _) in
-    let end = drop_ended g.W.TaskWaker.whose (g.S.TaskSide.state c.begin_drop-2.new.side) (g.S.TaskSide.state c.go_on.new.side) (own c.begin_drop.new.self) (own c.go_on.new.parts) _ c.go_on.result refl c.go_on.new.step walked
+    let end = drop_ended g.W.TaskWaker.whose (g.S.TaskSide.state c.begin_drop-2.new.side) (g.S.TaskSide.state c.go_on.new.side) (own c.begin_drop.new.self)
+    (own c.go_on.new.parts) _ c.go_on.result refl c.go_on.new.step walked
     (c.go_on.ensures.stands true stands) c.go_on.ensures.over in
     rw (← c.self.view_is) (record {
       cell = c.go_on.ensures.cell ∙ c.begin_drop.ensures.cell;

@@ -13,5 +13,7 @@ pub returns : goal.returns
 returns c =
     let text = c.in-Ok.text.now in
     let all = c.parse_opening.ensures.all in
-    subst (λ (t : List ℕ). IfOk c.parse_opening.result (λ read. MatchOption read ((kind : Kind) → (limit : ℕ) → ¬ IsOpening kind limit t) (λ opening. IsOpening opening.kind opening.limit t))) c.in-Ok.ensures.cases.0
-    (told (λ opening. IsOpening opening.kind opening.limit text) ((kind : Kind) → (limit : ℕ) → ¬ IsOpening kind limit text) c.parse_opening.result c.parse_opening.ensures.read (λ no kind limit is. no (all kind limit is)))
+    subst (λ (t : List ℕ). IfOk c.parse_opening.result (λ read. MatchOption read ((kind : Kind) → (limit : ℕ) → ¬ IsOpening kind limit t)
+    (λ opening. IsOpening opening.kind opening.limit t))) c.in-Ok.ensures.cases.0
+    (told (λ opening. IsOpening opening.kind opening.limit text) ((kind : Kind) → (limit : ℕ) → ¬ IsOpening kind limit text) c.parse_opening.result
+    c.parse_opening.ensures.read (λ no kind limit is. no (all kind limit is)))

@@ -9,7 +9,8 @@ use base.Before.{before}
 use contract.BorrowLft.{meet_⊑_left}
 use ghost.Rules.{Toks, span}
 use types.Logic.{Logic, sem, lfts}
-use types.Kit.{Item, mean, ‵, raw, ◌⊛◌, some, given, later, ◌$◌, ◌∵◌, !, qed, by, move, keep, drop, use0, use1, use2, use3, split, split3, join, fsplit, fsplit3, fjoin, fjoin3, fpick, fpack, pick, learn, show, frame, each, assume, suffices, await, updating, now, rewrite, done}
+use types.Kit.{Item, mean, ‵, raw, ◌⊛◌, some, given, later, ◌$◌, ◌∵◌, !, qed, by, move, keep, drop, use0, use1, use2, use3, split, split3, join, fsplit}
+use types.Kit.{fsplit3, fjoin, fjoin3, fpick, fpack, pick, learn, show, frame, each, assume, suffices, await, updating, now, rewrite, done}
 use types.Tokens.{bor_open, obor_alter, name_new, res_agree, one_token}
 use types.Na.{before-Incl}
 use denote.RattleType.{RattleType, Denots}
@@ -95,7 +96,14 @@ module _ (T E Q R : RattleType) (g : Ghosts R.Denot E.Denot Q.Denot) (L : Laws T
   Left = H.left full_share (mir.Syntax.ty_struct [] (raw_tys members)) (raw_tys members) b o
 
   lone_parts : denote.Struct.Members.Lones (rows_of members)
-  lone_parts = ((λ x vs p. mathlib.Core.Path.subst denote.Struct.Members.Lone (sym p.0) tt), ((λ x vs p. mathlib.Core.Path.subst denote.Struct.Members.Lone (sym (one (lone O.mir) vs (((option_laws T L).lawful 𝓛).typed x vs p)).1) tt), ((λ x vs p. mathlib.Core.Path.subst denote.Struct.Members.Lone (sym p.1.0) tt), tt)))
+  lone_parts = (
+    (λ x vs p. mathlib.Core.Path.subst denote.Struct.Members.Lone (sym p.0) tt),
+    (
+      (λ x vs p. mathlib.Core.Path.subst denote.Struct.Members.Lone
+          (sym (one (lone O.mir) vs (((option_laws T L).lawful 𝓛).typed x vs p)).1) tt),
+      ((λ x vs p. mathlib.Core.Path.subst denote.Struct.Members.Lone (sym p.1.0) tt), tt),
+    ),
+  )
 
   abbrev inside : List Val → S → Fml
   inside vs s = fsep (Data.own_val (tuple s) vs) (resting T d s)

@@ -6,7 +6,8 @@ use mir.MapTy.{inst_fn}
 use base.Before.{before}
 use base.Logic.{SProp, wand, emp, id⊢, via, apply∗}
 use base.Fml.{Lft, Share, Fml, ftrue, fsep, feq, flft, fhide}
-use types.Kit.{‵, raw, ◌⊛◌, some, given, later, mean, at_ret, ◌$◌, ◌∵◌, !, qed, by, move, keep, drop as let_go, split, group, fsplit, fsplit3, fjoin, fpick, fpack, pick, learn, use0, use1, use2, use3, await, rewrite, feq_i}
+use types.Kit.{‵, raw, ◌⊛◌, some, given, later, mean, at_ret, ◌$◌, ◌∵◌, !, qed, by, move, keep, drop as let_go, split, group, fsplit, fsplit3, fjoin, fpick}
+use types.Kit.{fpack, pick, learn, use0, use1, use2, use3, await, rewrite, feq_i}
 use types.Run.{stop, fld, addr, lit, of_opd, no_more, and_then, first, blocks, exec, calls, returns, enter}
 use types.ByLocal.{alloc_all, pass_all, free_all, look_at, get, through, sets, sets_last, lands_as, env}
 use types.Part.{agg}
@@ -66,7 +67,10 @@ found_spec {M} 𝓤 𝓛 𝓜 𝓡 wired T E P R L _ _ _ g d _ =
     let Sl : RattleType = Slot.the_row T' E' P' R' g in let W : RattleType = Written.the_row T' in
     let hs : Stays En.signature.params En.kept =
     (stay_dropped (RefOf (0 ∷ []) tt (plain (λ _. Sl)) (λ _. tt)) yes, (stay_dropped (RefOf (1 ∷ []) tt (plain (λ _. Me)) (λ _. tt)) yes, tt)) in
-    proved 𝓛 En hs c 𝓜 𝓡 (Goes-dropped 𝓛 6 (RefOf (0 ∷ []) tt (plain (λ _. Sl)) (λ _. tt)) yes (λ κs x f. refl), (Goes-dropped 𝓛 6 (RefOf (1 ∷ []) tt (plain (λ _. Me)) (λ _. tt)) yes (λ κs x f. refl), tt)) (#self inst) fn (code.unfolded 𝓤 H 𝓜 𝓡 wired (T, (E, (P, (R, tt)))) d)
+    proved 𝓛 En hs c 𝓜 𝓡 (
+      Goes-dropped 𝓛 6 (RefOf (0 ∷ []) tt (plain (λ _. Sl)) (λ _. tt)) yes (λ κs x f. refl),
+      (Goes-dropped 𝓛 6 (RefOf (1 ∷ []) tt (plain (λ _. Me)) (λ _. tt)) yes (λ κs x f. refl), tt),
+    ) (#self inst) fn (code.unfolded 𝓤 H 𝓜 𝓡 wired (T, (E, (P, (R, tt)))) d)
     (λ κs. (shr_vals, (shr_vals, tt))) (λ κs. (shr_Tells (named 0) κs.0 Sl, (shr_Tells (named 1) κs.1.0 Me, tt)))
     (λ κs qs bounds a gh are.
     let b : ℕ = a.0.ref_ptr.0 in let o : ℕ = a.0.ref_ptr.1 in let l₀ : Placed = a.0.now in let γ : ℕ = l₀.id in

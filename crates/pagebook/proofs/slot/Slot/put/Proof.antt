@@ -7,7 +7,8 @@ use prog.Wp.{WpFn}
 use base.Fraction.{full_share}
 use base.Logic.{SProp, ent, wand, emp, id⊢, via, apply∗}
 use base.Fml.{Lft, Share, Fml, ftrue, fsep, fex, flft, fbor, fnamed, Incl-trans}
-use types.Kit.{‵, raw, ◌⊛◌, some, given, later, mean, at_ret, ◌$◌, ◌∵◌, !, qed, by, move, keep, drop as let_go, split, split3, join, group, fsplit, fsplit3, fjoin, fjoin3, fpick, pick, learn, use0, use1, use2, use3, await, rewrite, feq_i}
+use types.Kit.{‵, raw, ◌⊛◌, some, given, later, mean, at_ret, ◌$◌, ◌∵◌, !, qed, by, move, keep, drop as let_go, split, split3, join, group, fsplit, fsplit3}
+use types.Kit.{fjoin, fjoin3, fpick, pick, learn, use0, use1, use2, use3, await, rewrite, feq_i}
 use types.Match.{live}
 use types.Run.{stop, fld, addr, lit, of_opd, no_more, and_then, first, blocks, exec, calls, returns, enter, assigns, store_raw}
 use types.ByLocal.{alloc_all, pass_all, free_all, look_at, get, through, sets, sets_last, lands_as, env}
@@ -69,9 +70,26 @@ put_spec {M} 𝓤 𝓛 𝓜 𝓡 wired T E P R X B F L _ _ _ _ _ _ g d gb db gf 
     let cp = P'.coded in let Pn : RattleType = Pens.the_row P' in
     let O : RattleType = OptionOf T' in let LO = option_laws T' (param_laws 0 T L) in
     let Sl : RattleType = Slot.the_row T' E' P' R' g in let W : RattleType = Written.the_row T' in
-    let hs : Stays En.signature.params En.kept =
-    (stay_dropped (RefOf (0 ∷ []) tt (plain (λ _. Sl)) (λ _. tt)) yes, (stay_dropped (plain (λ _. T')) no, (stay_dropped (RefOf (1 ∷ []) tt (plain (λ _. X')) (λ _. tt)) yes, (stay_ref (2 ∷ []) tt (plain (λ _. Me)), (stay_ref (3 ∷ []) tt (plain (λ _. Pn)), tt))))) in
-    proved_at 𝓛 En hs c 𝓜 𝓡 (Goes-dropped 𝓛 11 (RefOf (0 ∷ []) tt (plain (λ _. Sl)) (λ _. tt)) yes (λ κs x f. refl), (Goes-dropped 𝓛 11 (plain (λ _. T')) no (λ κs x f. refl), (Goes-dropped 𝓛 11 (RefOf (1 ∷ []) tt (plain (λ _. X')) (λ _. tt)) yes (λ κs x f. refl), (Goes-ref 𝓛 11 2 tt (plain (λ _. Me)), (Goes-ref 𝓛 11 3 tt (plain (λ _. Pn)), tt))))) (#self inst) fn (code.unfolded 𝓤 H 𝓜 𝓡 wired (T, (E, (P, (R, (X, (B, (F, tt))))))) d db df)
+    let hs : Stays En.signature.params En.kept = (
+      stay_dropped (RefOf (0 ∷ []) tt (plain (λ _. Sl)) (λ _. tt)) yes,
+      (
+        stay_dropped (plain (λ _. T')) no,
+        (
+          stay_dropped (RefOf (1 ∷ []) tt (plain (λ _. X')) (λ _. tt)) yes,
+          (stay_ref (2 ∷ []) tt (plain (λ _. Me)), (stay_ref (3 ∷ []) tt (plain (λ _. Pn)), tt)),
+        ),
+      ),
+    ) in
+    proved_at 𝓛 En hs c 𝓜 𝓡 (
+      Goes-dropped 𝓛 11 (RefOf (0 ∷ []) tt (plain (λ _. Sl)) (λ _. tt)) yes (λ κs x f. refl),
+      (
+        Goes-dropped 𝓛 11 (plain (λ _. T')) no (λ κs x f. refl),
+        (
+          Goes-dropped 𝓛 11 (RefOf (1 ∷ []) tt (plain (λ _. X')) (λ _. tt)) yes (λ κs x f. refl),
+          (Goes-ref 𝓛 11 2 tt (plain (λ _. Me)), (Goes-ref 𝓛 11 3 tt (plain (λ _. Pn)), tt)),
+        ),
+      ),
+    ) (#self inst) fn (code.unfolded 𝓤 H 𝓜 𝓡 wired (T, (E, (P, (R, (X, (B, (F, tt))))))) d db df)
     (λ y₀ are. let κs = y₀.0.0 in let qs = y₀.0.1 in let a = y₀.0.3 in
     let x : T.Denot = a.1.0 in let got₀ = one (layout T) y₀.0.4.1.0
     (((param_laws 0 T L).lawful 𝓛).typed x y₀.0.4.1.0 are.1.0) in let w₀ : Val = got₀.0 in
@@ -189,4 +207,6 @@ put_spec {M} 𝓤 𝓛 𝓜 𝓡 wired T E P R X B F L _ _ _ _ _ _ g d gb db gf 
     fjoin3 ! $ fjoin ! $ nothing ! $ fjoin ! $ nothing ! $ fjoin ! $ nothing ! $ fjoin ! $
     returns ! (look_at ! 0 refl) $ free_all ! refl $ keep ! (1 ∷ 0 ∷ 2 ∷ []) $
     by ! (ends 𝓛 En hs c y token_value (record { marker = record {}; of = γ; value = x })
-    (tt, (tt, (tt, ((record { marker = record {}; book = bk; log = w₂.0 }), ((record { marker = record {}; book = bk; held = w₂.1 }), tt))))) (tt, (tt, (tt, (tt, (tt, tt))))) (four 𝓛 (sym this, sym that) (base.Growing.prefix_trans v.0 w.0 w₂.0 so₁.0 so₂.0) (w, did, subst (λ (k : ℕ). gf.then about w k w₂) one so₂.1) (refl, refl)))))))))))))))))))))))))))))))
+    (tt, (tt, (tt, ((record { marker = record {}; book = bk; log = w₂.0 }), ((record { marker = record {}; book = bk; held = w₂.1 }), tt)))))
+    (tt, (tt, (tt, (tt, (tt, tt))))) (four 𝓛 (sym this, sym that) (base.Growing.prefix_trans v.0 w.0 w₂.0 so₁.0 so₂.0)
+    (w, did, subst (λ (k : ℕ). gf.then about w k w₂) one so₂.1) (refl, refl)))))))))))))))))))))))))))))))

@@ -67,4 +67,7 @@ append_spec 𝓤 𝓛 𝓜 𝓡 wired P _ =
     fjoin3 ! $ fjoin ! $ feq_i ! (List Val) (vptr a.0.ref_ptr.0 a.0.ref_ptr.1 ∷ [])
     (vptr a.0.ref_ptr.0 a.0.ref_ptr.1 ∷ []) refl $ move ! (0 ∷ 4 ∷ 5 ∷ []) $ fjoin3 ! $ fjoin ! $
     returns ! (look_at ! 0 refl) $ free_all ! refl $ keep ! (1 ∷ 0 ∷ 2 ∷ []) $
-    by ! (ends 𝓛 En hs c y vunit tt ((record { marker = record {}; book = me.book; held = me.held ++ other.held }), ((record { marker = record {}; book = other.book; held = [] }), tt)) (tt, (tt, tt)) (two 𝓛 (refl, refl) (refl, refl))))))))
+    by ! (ends 𝓛 En hs c y vunit tt (
+      (record { marker = record {}; book = me.book; held = me.held ++ other.held }),
+      ((record { marker = record {}; book = other.book; held = [] }), tt),
+    ) (tt, (tt, tt)) (two 𝓛 (refl, refl) (refl, refl))))))))

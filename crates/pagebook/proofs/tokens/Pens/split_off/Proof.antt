@@ -39,7 +39,8 @@ split_off_spec 𝓤 𝓛 𝓜 𝓡 wired P _ =
     let cp = P'.coded in let Pn : RattleType = Pens.the_row P' in
     let hs : Stays En.signature.params En.kept =
     (stay_ref (0 ∷ []) tt (plain (λ _. Pn)), (stay_dropped (plain (λ _. usize)) yes, tt)) in
-    proved 𝓛 En hs c 𝓜 𝓡 (Goes-ref 𝓛 2 0 tt (plain (λ _. Pn)), (Goes-dropped 𝓛 2 (plain (λ _. usize)) yes (λ κs x f. refl), tt)) (#self inst) fn (code.unfolded 𝓤 H 𝓜 𝓡 wired (P, tt))
+    proved 𝓛 En hs c 𝓜 𝓡 (Goes-ref 𝓛 2 0 tt (plain (λ _. Pn)), (Goes-dropped 𝓛 2 (plain (λ _. usize)) yes (λ κs x f. refl), tt)) (#self inst) fn
+    (code.unfolded 𝓤 H 𝓜 𝓡 wired (P, tt))
     (λ κs. (mut_vals, (uint_vals w64, tt))) (λ κs. (mut_Tells (named 0) κs.0 Pn, (uint_Tells w64, tt)))
     (λ κs qs bounds a gh are.
     let me = a.0.now in let n : ℕ = a.1.0 in let δ = me.book.pages_name in

@@ -6,7 +6,8 @@ use mir.Val.{Val, vunit, vptr}
 use mir.MapTy.{inst_fn}
 use base.Logic.{SProp}
 use base.Fml.{Fml, ftrue, fsep, flft, fhide}
-use types.Kit.{‵, raw, ◌⊛◌, some, given, later, ◌$◌, ◌∵◌, !, qed, by, move, keep, drop as let_go, split, fsplit, fsplit3, fjoin, fjoin3, pick, learn, use1, use2, await, rewrite, feq_i}
+use types.Kit.{‵, raw, ◌⊛◌, some, given, later, ◌$◌, ◌∵◌, !, qed, by, move, keep, drop as let_go, split, fsplit, fsplit3, fjoin, fjoin3, pick, learn, use1}
+use types.Kit.{use2, await, rewrite, feq_i}
 use types.Run.{unit_lit, of_opd, returns, enter}
 use types.ByLocal.{alloc_all, pass_all, free_all, look_at, sets, env}
 use contract.Monad.{fact}
@@ -49,7 +50,8 @@ learn_spec 𝓤 𝓛 𝓜 𝓡 wired E P R _ _ _ g d _ =
     let cp = P'.coded in let Pn : RattleType = Pens.the_row P' in
     let hs : Stays En.signature.params En.kept =
     (stay_ref (0 ∷ []) tt (plain (λ _. Me)), (stay_dropped (RefOf (1 ∷ []) tt (plain (λ _. Me)) (λ _. tt)) yes, tt)) in
-    proved 𝓛 En hs c 𝓜 𝓡 (Goes-ref 𝓛 5 0 tt (plain (λ _. Me)), (Goes-dropped 𝓛 5 (RefOf (1 ∷ []) tt (plain (λ _. Me)) (λ _. tt)) yes (λ κs x f. refl), tt)) (#self inst) fn (code.unfolded 𝓤 H 𝓜 𝓡 wired (E, (P, (R, tt))) d)
+    proved 𝓛 En hs c 𝓜 𝓡 (Goes-ref 𝓛 5 0 tt (plain (λ _. Me)), (Goes-dropped 𝓛 5 (RefOf (1 ∷ []) tt (plain (λ _. Me)) (λ _. tt)) yes (λ κs x f. refl), tt))
+    (#self inst) fn (code.unfolded 𝓤 H 𝓜 𝓡 wired (E, (P, (R, tt))) d)
     (λ κs. (mut_vals, (shr_vals, tt))) (λ κs. (mut_Tells (named 0) κs.0 Me, (shr_Tells (named 1) κs.1.0 Me, tt)))
     (λ κs qs bounds a gh are.
     let me = a.0.now in let other = a.1.0.now in

@@ -6,7 +6,8 @@ use mir.Val.{Val, vunit, vptr}
 use mir.MapTy.{inst_fn}
 use base.Logic.{SProp}
 use base.Fml.{Fml, ftrue, fsep, flft}
-use types.Kit.{‵, raw, ◌⊛◌, some, given, later, ◌$◌, ◌∵◌, !, qed, by, move, keep, drop as let_go, split, fsplit, fsplit3, fjoin, fjoin3, pick, learn, use2, await, rewrite, feq_i}
+use types.Kit.{‵, raw, ◌⊛◌, some, given, later, ◌$◌, ◌∵◌, !, qed, by, move, keep, drop as let_go, split, fsplit, fsplit3, fjoin, fjoin3, pick, learn, use2}
+use types.Kit.{await, rewrite, feq_i}
 use types.Run.{unit_lit, of_opd, returns, enter}
 use types.ByLocal.{alloc_all, pass_all, free_all, look_at, sets, env}
 use contract.Monad.{fact}
@@ -45,8 +46,12 @@ note_spec 𝓤 𝓛 𝓜 𝓡 wired E P R X N _ _ _ _ _ g d gn dn _ _ =
     let Wd : RattleType = Word.the_row E' P' R' g in let All : RattleType = Tuple (E' ∷ P' ∷ R' ∷ []) in
     let cp = P'.coded in let Pn : RattleType = Pens.the_row P' in
     let hs : Stays En.signature.params En.kept =
-    (stay_ref (0 ∷ []) tt (plain (λ _. Me)), (stay_ref (1 ∷ []) tt (plain (λ _. Pn)), (stay_dropped (RefOf (2 ∷ []) tt (plain (λ _. X')) (λ _. tt)) yes, tt))) in
-    proved 𝓛 En hs c 𝓜 𝓡 (Goes-ref 𝓛 8 0 tt (plain (λ _. Me)), (Goes-ref 𝓛 8 1 tt (plain (λ _. Pn)), (Goes-dropped 𝓛 8 (RefOf (2 ∷ []) tt (plain (λ _. X')) (λ _. tt)) yes (λ κs x f. refl), tt))) (#self inst) fn (code.unfolded 𝓤 H 𝓜 𝓡 wired (E, (P, (R, (X, (N, tt))))) d dn)
+    (stay_ref (0 ∷ []) tt (plain (λ _. Me)), (stay_ref (1 ∷ []) tt (plain (λ _. Pn)), (stay_dropped (RefOf (2 ∷ []) tt (plain (λ _. X')) (λ _. tt)) yes, tt)))
+    in
+    proved 𝓛 En hs c 𝓜 𝓡 (
+      Goes-ref 𝓛 8 0 tt (plain (λ _. Me)),
+      (Goes-ref 𝓛 8 1 tt (plain (λ _. Pn)), (Goes-dropped 𝓛 8 (RefOf (2 ∷ []) tt (plain (λ _. X')) (λ _. tt)) yes (λ κs x f. refl), tt)),
+    ) (#self inst) fn (code.unfolded 𝓤 H 𝓜 𝓡 wired (E, (P, (R, (X, (N, tt))))) d dn)
     (λ κs. (mut_vals, (mut_vals, (shr_vals, tt))))
     (λ κs. (mut_Tells (named 0) κs.0 Me, (mut_Tells (named 1) κs.1.0 Pn, (shr_Tells (named 2) κs.1.1.0 X', tt))))
     (λ κs qs bounds a gh are.
@@ -86,4 +91,7 @@ note_spec 𝓤 𝓛 𝓜 𝓡 wired E P R X N _ _ _ _ _ g d gn dn _ _ =
     fjoin3 ! $ fjoin ! $ feq_i ! (List Val) (vptr a.0.ref_ptr.0 a.0.ref_ptr.1 ∷ [])
     (vptr a.0.ref_ptr.0 a.0.ref_ptr.1 ∷ []) refl $ move ! (0 ∷ 4 ∷ 5 ∷ []) $ fjoin3 ! $ fjoin ! $
     returns ! (look_at ! 0 refl) $ free_all ! refl $ keep ! (1 ∷ 0 ∷ 2 ∷ []) $
-    by ! (ends 𝓛 En hs c y vunit tt ((record { marker = record {}; book = me.book; log = w.0 }), ((record { marker = record {}; book = me.book; held = w.1 }), (tt, tt))) (tt, (tt, (tt, tt))) (three 𝓛 (refl, sym same) so.0 so.1))))))))))
+    by ! (ends 𝓛 En hs c y vunit tt (
+      (record { marker = record {}; book = me.book; log = w.0 }),
+      ((record { marker = record {}; book = me.book; held = w.1 }), (tt, tt)),
+    ) (tt, (tt, (tt, tt))) (three 𝓛 (refl, sym same) so.0 so.1))))))))))

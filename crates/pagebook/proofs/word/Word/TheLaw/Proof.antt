@@ -8,7 +8,8 @@ use base.Fml.{Lft, Share, Fml, ftrue, fsep, fseps, fex, fwand, fupd, fdead, fbor
 use base.Before.{before}
 use types.Logic.{Logic, sem}
 use types.Owned.{named_past}
-use types.Kit.{mean, ‵, raw, ◌⊛◌, some, given, later, ◌$◌, ◌∵◌, !, qed, by, move, keep, drop, use0, use1, use2, split, fsplit, fsplit3, fjoin, fjoin3, fpick, fpack, pick, learn, show, assume, suffices, await, updating, now, rewrite, done}
+use types.Kit.{mean, ‵, raw, ◌⊛◌, some, given, later, ◌$◌, ◌∵◌, !, qed, by, move, keep, drop, use0, use1, use2, split, fsplit, fsplit3, fjoin, fjoin3, fpick}
+use types.Kit.{fpack, pick, learn, show, assume, suffices, await, updating, now, rewrite, done}
 use types.Tokens.{bor_open, obor_alter}
 use types.Na.{before-Incl, before_dup}
 use denote.RattleType.{RattleType}
@@ -117,8 +118,10 @@ module _ (E P R : RattleType) (g : Ghosts R.Denot E.Denot P.Denot) {M : Type 1} 
       use1 𝓛 (some (λ (n : ℕ). ‵ (part_at Data full_share (n, (record {}, tt)) b o) ⊛ ‵ (Pen n))) opened $
       pick ! (λ n. split ! $
       use1 𝓛 (‵ (parts_at full_share members zero (n, (record {}, tt)) b o) ⊛ raw Left)
-      (Struct-left 𝓛 full_share [] members
-      ((λ x vs p. mathlib.Core.Path.subst denote.Struct.Members.Lone (sym p.0) tt), ((λ x vs p. mathlib.Core.Path.subst denote.Struct.Members.Lone (sym p.1.0) tt), tt)) (n, (record {}, tt)) b o) $ split ! $ fsplit ! $
+      (Struct-left 𝓛 full_share [] members (
+        (λ x vs p. mathlib.Core.Path.subst denote.Struct.Members.Lone (sym p.0) tt),
+        ((λ x vs p. mathlib.Core.Path.subst denote.Struct.Members.Lone (sym p.1.0) tt), tt),
+      ) (n, (record {}, tt)) b o) $ split ! $ fsplit ! $
       use1 𝓛 (‵ (word b (o + 0) n)) (word_out 𝓛 b (o + 0) n) $
       rewrite ! 0 (λ (x : ℕ). ‵ (word b x n)) (add-zero o) refl $ move ! (0 ∷ 3 ∷ []) $
       fjoin ! $ fpack ! ℕ (lies d b o) n $

@@ -5,7 +5,8 @@ use mir.Val.{Val, vint, vptr}
 use mir.MapTy.{inst_fn}
 use base.Logic.{SProp, wand, via, apply∗}
 use base.Fml.{Share, Fml, ftrue, fsep, flft}
-use types.Kit.{‵, raw, ◌⊛◌, some, given, later, mean, at_ret, ◌$◌, ◌∵◌, !, qed, by, move, keep, drop as let_go, split, group, fsplit, fsplit3, fjoin, fjoin3, fpick, pick, learn, use2, use3, await, rewrite, feq_i, flt_i}
+use types.Kit.{‵, raw, ◌⊛◌, some, given, later, mean, at_ret, ◌$◌, ◌∵◌, !, qed, by, move, keep, drop as let_go, split, group, fsplit, fsplit3, fjoin, fjoin3}
+use types.Kit.{fpick, pick, learn, use2, use3, await, rewrite, feq_i, flt_i}
 use types.Run.{stop, addr, lit, of_opd, no_more, and_then, first, blocks, exec, Calls-last, returns, enter}
 use types.ByLocal.{alloc_all, pass_all, free_all, look_at, get, through, sets, lands_last, env}
 use types.Part.{agg}
@@ -50,11 +51,31 @@ fetch_add_spec 𝓤 𝓛 𝓜 𝓡 wired E P R X N _ _ _ _ _ g d gn dn _ _ =
     let ce = E'.coded in let Me : RattleType = Seen.the_row E' P' R' g in
     let Wd : RattleType = Word.the_row E' P' R' g in let All : RattleType = Tuple (E' ∷ P' ∷ R' ∷ []) in
     let cp = P'.coded in let Pn : RattleType = Pens.the_row P' in
-    let hs : Stays En.signature.params En.kept =
-    (stay_dropped (RefOf (0 ∷ []) tt (plain (λ _. Wd)) (λ _. tt)) yes, (stay_dropped (plain (λ _. u64)) yes, (stay_dropped (RefOf (1 ∷ []) tt (plain (λ _. X')) (λ _. tt)) yes, (stay_ref (2 ∷ []) tt (plain (λ _. Me)), (stay_ref (3 ∷ []) tt (plain (λ _. Pn)), tt))))) in
-    proved 𝓛 En hs c 𝓜 𝓡 (Goes-dropped 𝓛 9 (RefOf (0 ∷ []) tt (plain (λ _. Wd)) (λ _. tt)) yes (λ κs x f. refl), (Goes-dropped 𝓛 9 (plain (λ _. u64)) yes (λ κs x f. refl), (Goes-dropped 𝓛 9 (RefOf (1 ∷ []) tt (plain (λ _. X')) (λ _. tt)) yes (λ κs x f. refl), (Goes-ref 𝓛 9 2 tt (plain (λ _. Me)), (Goes-ref 𝓛 9 3 tt (plain (λ _. Pn)), tt))))) (#self inst) fn (code.unfolded 𝓤 H 𝓜 𝓡 wired (E, (P, (R, (X, (N, tt))))) d dn)
+    let hs : Stays En.signature.params En.kept = (
+      stay_dropped (RefOf (0 ∷ []) tt (plain (λ _. Wd)) (λ _. tt)) yes,
+      (
+        stay_dropped (plain (λ _. u64)) yes,
+        (
+          stay_dropped (RefOf (1 ∷ []) tt (plain (λ _. X')) (λ _. tt)) yes,
+          (stay_ref (2 ∷ []) tt (plain (λ _. Me)), (stay_ref (3 ∷ []) tt (plain (λ _. Pn)), tt)),
+        ),
+      ),
+    ) in
+    proved 𝓛 En hs c 𝓜 𝓡 (
+      Goes-dropped 𝓛 9 (RefOf (0 ∷ []) tt (plain (λ _. Wd)) (λ _. tt)) yes (λ κs x f. refl),
+      (
+        Goes-dropped 𝓛 9 (plain (λ _. u64)) yes (λ κs x f. refl),
+        (
+          Goes-dropped 𝓛 9 (RefOf (1 ∷ []) tt (plain (λ _. X')) (λ _. tt)) yes (λ κs x f. refl),
+          (Goes-ref 𝓛 9 2 tt (plain (λ _. Me)), (Goes-ref 𝓛 9 3 tt (plain (λ _. Pn)), tt)),
+        ),
+      ),
+    ) (#self inst) fn (code.unfolded 𝓤 H 𝓜 𝓡 wired (E, (P, (R, (X, (N, tt))))) d dn)
     (λ κs. (shr_vals, (uint_vals w64, (shr_vals, (mut_vals, (mut_vals, tt))))))
-    (λ κs. (shr_Tells (named 0) κs.0 Wd, (uint_Tells w64, (shr_Tells (named 1) κs.1.0 X', (mut_Tells (named 2) κs.1.1.0 Me, (mut_Tells (named 3) κs.1.1.1.0 Pn, tt)))))) (λ κs qs bounds a gh are.
+    (λ κs. (
+      shr_Tells (named 0) κs.0 Wd,
+      (uint_Tells w64, (shr_Tells (named 1) κs.1.0 X', (mut_Tells (named 2) κs.1.1.0 Me, (mut_Tells (named 3) κs.1.1.1.0 Pn, tt)))),
+    )) (λ κs qs bounds a gh are.
     let bk : Book = a.0.now.book in let key : ℕ = a.0.now.key in let seen = a.1.1.1.0.now in
     let hand = a.1.1.1.1.0.now in let v : View E.Denot P.Denot = (seen.log, hand.held) in
     let f : ℕ → ℕ = λ n. (n + a.1.0) % 2 ^ 64 in
@@ -122,4 +143,5 @@ fetch_add_spec 𝓤 𝓛 𝓜 𝓡 wired E P R X N _ _ _ _ _ g d gn dn _ _ =
     fjoin3 ! $ fjoin ! $ nothing ! $ fjoin ! $ nothing ! $ fjoin ! $ nothing ! $ fjoin ! $
     returns ! (look_at ! 0 refl) $ free_all ! refl $ keep ! (1 ∷ 0 ∷ 2 ∷ []) $
     by ! (ends 𝓛 En hs c y (vint w64 n) n
-    (tt, (tt, (tt, ((record { marker = record {}; book = bk; log = w.0 }), ((record { marker = record {}; book = bk; held = w.1 }), tt))))) (tt, (tt, (tt, (tt, (tt, tt))))) (three 𝓛 (sym this, sym that) so.0 so.1))))))))))))))))
+    (tt, (tt, (tt, ((record { marker = record {}; book = bk; log = w.0 }), ((record { marker = record {}; book = bk; held = w.1 }), tt)))))
+    (tt, (tt, (tt, (tt, (tt, tt))))) (three 𝓛 (sym this, sym that) so.0 so.1))))))))))))))))

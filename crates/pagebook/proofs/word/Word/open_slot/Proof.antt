@@ -6,7 +6,8 @@ use mir.MapTy.{inst_fn}
 use base.Stored.{gnum}
 use base.Logic.{SProp}
 use base.Fml.{Fml, ftrue, fsep, feq, flft}
-use types.Kit.{‵, raw, ◌⊛◌, some, given, later, ◌$◌, ◌∵◌, !, qed, by, move, keep, drop as let_go, split, split3, fsplit, fjoin, fpack, pick, learn, use0, use1, await, feq_i}
+use types.Kit.{‵, raw, ◌⊛◌, some, given, later, ◌$◌, ◌∵◌, !, qed, by, move, keep, drop as let_go, split, split3, fsplit, fjoin, fpack, pick, learn, use0, use1}
+use types.Kit.{await, feq_i}
 use types.Run.{no_more, and_then, returns, enter}
 use types.ByLocal.{alloc_all, pass_all, free_all, look_at, get, sets, env}
 use types.Part.{agg}
@@ -51,7 +52,10 @@ open_slot_spec 𝓤 𝓛 𝓜 𝓡 wired E P R X N _ _ _ _ _ g d gn dn _ _ =
     let cp = P'.coded in let Pn : RattleType = Pens.the_row P' in
     let hs : Stays En.signature.params En.kept =
     (stay_dropped (plain (λ _. u64)) yes, (stay_dropped (RefOf (0 ∷ []) tt (plain (λ _. X')) (λ _. tt)) yes, tt)) in
-    proved 𝓛 En hs c 𝓜 𝓡 (Goes-dropped 𝓛 6 (plain (λ _. u64)) yes (λ κs x f. refl), (Goes-dropped 𝓛 6 (RefOf (0 ∷ []) tt (plain (λ _. X')) (λ _. tt)) yes (λ κs x f. refl), tt)) (#self inst) fn (code.unfolded 𝓤 H 𝓜 𝓡 wired (E, (P, (R, (X, (N, tt))))) d dn)
+    proved 𝓛 En hs c 𝓜 𝓡 (
+      Goes-dropped 𝓛 6 (plain (λ _. u64)) yes (λ κs x f. refl),
+      (Goes-dropped 𝓛 6 (RefOf (0 ∷ []) tt (plain (λ _. X')) (λ _. tt)) yes (λ κs x f. refl), tt),
+    ) (#self inst) fn (code.unfolded 𝓤 H 𝓜 𝓡 wired (E, (P, (R, (X, (N, tt))))) d dn)
     (λ κs. (uint_vals w64, (shr_vals, tt))) (λ κs. (uint_Tells w64, (shr_Tells (named 0) κs.0 X', tt)))
     (λ κs qs bounds a gh are.
     let n0 : ℕ = a.0 in let log : List E.Denot = gn.log a.1.0.now in let ps : List P.Denot = gn.pages a.1.0.now in

@@ -6,7 +6,8 @@ use mir.MapTy.{inst_fn}
 use base.Stored.{gnum}
 use base.Logic.{SProp}
 use base.Fml.{Fml, ftrue, fsep, feq, flft}
-use types.Kit.{‵, raw, ◌⊛◌, some, given, later, ◌$◌, ◌∵◌, !, qed, by, move, keep, drop as let_go, split, split3, fsplit, fjoin, fpack, pick, learn, use0, use1, await, feq_i}
+use types.Kit.{‵, raw, ◌⊛◌, some, given, later, ◌$◌, ◌∵◌, !, qed, by, move, keep, drop as let_go, split, split3, fsplit, fjoin, fpack, pick, learn, use0, use1}
+use types.Kit.{await, feq_i}
 use types.Run.{no_more, and_then, returns, enter}
 use types.ByLocal.{alloc_all, pass_all, free_all, look_at, get, sets, env}
 use types.Part.{agg}
@@ -47,9 +48,17 @@ open_three_spec 𝓤 𝓛 𝓜 𝓡 wired E P R X N _ _ _ _ _ g d gn dn _ _ =
     let ce = E'.coded in let Me : RattleType = Seen.the_row E' P' R' g in
     let Wd : RattleType = Word.the_row E' P' R' g in let All : RattleType = Tuple (E' ∷ P' ∷ R' ∷ []) in
     let cp = P'.coded in let Pn : RattleType = Pens.the_row P' in
-    let hs : Stays En.signature.params En.kept =
-    (stay_dropped (plain (λ _. u64)) yes, (stay_dropped (plain (λ _. u64)) yes, (stay_dropped (plain (λ _. u64)) yes, (stay_dropped (RefOf (0 ∷ []) tt (plain (λ _. X')) (λ _. tt)) yes, tt)))) in
-    proved 𝓛 En hs c 𝓜 𝓡 (Goes-dropped 𝓛 6 (plain (λ _. u64)) yes (λ κs x f. refl), (Goes-dropped 𝓛 6 (plain (λ _. u64)) yes (λ κs x f. refl), (Goes-dropped 𝓛 6 (plain (λ _. u64)) yes (λ κs x f. refl), (Goes-dropped 𝓛 6 (RefOf (0 ∷ []) tt (plain (λ _. X')) (λ _. tt)) yes (λ κs x f. refl), tt)))) (#self inst) fn (code.unfolded 𝓤 H 𝓜 𝓡 wired (E, (P, (R, (X, (N, tt))))) d dn)
+    let hs : Stays En.signature.params En.kept = (
+      stay_dropped (plain (λ _. u64)) yes,
+      (stay_dropped (plain (λ _. u64)) yes, (stay_dropped (plain (λ _. u64)) yes, (stay_dropped (RefOf (0 ∷ []) tt (plain (λ _. X')) (λ _. tt)) yes, tt))),
+    ) in
+    proved 𝓛 En hs c 𝓜 𝓡 (
+      Goes-dropped 𝓛 6 (plain (λ _. u64)) yes (λ κs x f. refl),
+      (
+        Goes-dropped 𝓛 6 (plain (λ _. u64)) yes (λ κs x f. refl),
+        (Goes-dropped 𝓛 6 (plain (λ _. u64)) yes (λ κs x f. refl), (Goes-dropped 𝓛 6 (RefOf (0 ∷ []) tt (plain (λ _. X')) (λ _. tt)) yes (λ κs x f. refl), tt)),
+      ),
+    ) (#self inst) fn (code.unfolded 𝓤 H 𝓜 𝓡 wired (E, (P, (R, (X, (N, tt))))) d dn)
     (λ κs. (uint_vals w64, (uint_vals w64, (uint_vals w64, (shr_vals, tt)))))
     (λ κs. (uint_Tells w64, (uint_Tells w64, (uint_Tells w64, (shr_Tells (named 0) κs.0 X', tt)))))
     (λ κs qs bounds a gh are.
@@ -69,7 +78,10 @@ open_three_spec 𝓤 𝓛 𝓜 𝓡 wired E P R X N _ _ _ _ _ g d gn dn _ _ =
     move ! (1 ∷ []) $ fsplit ! $ move ! (1 ∷ []) $ fsplit ! $ move ! (1 ∷ []) $ fsplit ! $ move ! (1 ∷ []) $
     fsplit ! $ keep ! (5 ∷ []) $
     enter ! 𝓣.C 𝓣.Λ fn (v0 ∷ v1 ∷ v2 ∷ v3 ∷ []) Post $
-    alloc_all ! (λ l. pass_all ! refl ((tt, record { fits = are.0.1 }), ((tt, record { fits = are.1.0.1 }), ((tt, record { fits = are.1.1.0.1 }), ((tt, tt), tt)))) $ let Ev = env fn.locals l in
+    alloc_all ! (λ l. pass_all ! refl (
+      (tt, record { fits = are.0.1 }),
+      ((tt, record { fits = are.1.0.1 }), ((tt, record { fits = are.1.1.0.1 }), ((tt, tt), tt))),
+    ) $ let Ev = env fn.locals l in
     use0 𝓛 (later (some (λ (bk : Book). ‵ (pens gnum bk.words_name (dealt 0 (n0 ∷ n1 ∷ n2 ∷ []) []))
     ⊛ ‵ (seen_owns ce.code cp.code g.holds bk log)
     ⊛ ‵ (pens_own cp.code bk (dealt 0 ps []))))) (book_opens 𝓛 ce cp g.holds (n0 ∷ n1 ∷ n2 ∷ []) ps log asked) $
@@ -96,8 +108,13 @@ open_three_spec 𝓤 𝓛 𝓜 𝓡 wired E P R X N _ _ _ _ _ g d gn dn _ _ =
     sets ! (agg ! (and_then ! (get ! refl) (no_more !))) refl (tt, (tt, tt)) $
     sets ! (agg ! (and_then ! (get ! refl)
     (and_then ! (get ! refl) (and_then ! (get ! refl)
-    (and_then ! (get ! refl) (and_then ! (get ! refl) (no_more !))))))) refl
-    (tt, ((record { fits = are.0.1 }, (tt, tt)), ((record { fits = are.1.0.1 }, (tt, tt)), ((record { fits = are.1.1.0.1 }, (tt, tt)), ((tt, tt), ((tt, tt), tt)))))) $
+    (and_then ! (get ! refl) (and_then ! (get ! refl) (no_more !))))))) refl (
+      tt,
+      (
+        (record { fits = are.0.1 }, (tt, tt)),
+        ((record { fits = are.1.0.1 }, (tt, tt)), ((record { fits = are.1.1.0.1 }, (tt, tt)), ((tt, tt), ((tt, tt), tt)))),
+      ),
+    ) $
     nothing ! $ move ! (1 ∷ 0 ∷ []) $ fjoin ! $ move ! (1 ∷ 0 ∷ []) $ fjoin ! $ move ! (1 ∷ 0 ∷ []) $
     fjoin ! $ move ! (1 ∷ 0 ∷ []) $ fjoin ! $ move ! (1 ∷ 0 ∷ []) $
     fjoin ! $ let v : Val = vstruct (vcons (word_value n0)
@@ -109,7 +126,10 @@ open_three_spec 𝓤 𝓛 𝓜 𝓡 wired E P R X N _ _ _ _ _ g d gn dn _ _ =
     fjoin ! $ fpack ! (Valss Rs) (λ vss. fsep
     (feq (List Val) (v ∷ []) (vstruct (of_list
     (vss.0 ++ (vss.1.0 ++ (vss.1.1.0 ++ (vss.1.1.1.0 ++ (vss.1.1.1.1.0 ++ []))))))
-    ∷ [])) (owns Rs ((record { book = bk; key = 0 }), ((record { book = bk; key = 1 }), ((record { book = bk; key = 2 }), (s, (p, tt))))) vss)) (word_value n0 ∷ [], (word_value n1 ∷ [], (word_value n2 ∷ [], (token_value ∷ [], (token_value ∷ [], tt))))) $
+    ∷ [])) (owns Rs ((record { book = bk; key = 0 }), ((record { book = bk; key = 1 }), ((record { book = bk; key = 2 }), (s, (p, tt))))) vss))
+    (word_value n0 ∷ [], (word_value n1 ∷ [], (word_value n2 ∷ [], (token_value ∷ [], (token_value ∷ [], tt))))) $
     nothing ! $ nothing ! $ fjoin ! $ nothing ! $ fjoin ! $ nothing ! $ fjoin ! $ nothing ! $ fjoin ! $
     returns ! (look_at ! 0 refl) $ free_all ! refl $ keep ! (3 ∷ 0 ∷ 1 ∷ []) $
-    by ! (ends 𝓛 En hs c y v ((record { book = bk; key = 0 }), (record { book = bk; key = 1 }), (record { book = bk; key = 2 }), s, p) (tt, (tt, (tt, (tt, tt)))) (tt, (tt, (tt, (tt, tt)))) (three 𝓛 (refl, refl, refl, refl, refl) (refl, refl) (refl, refl)))))))
+    by ! (ends 𝓛 En hs c y v ((record { book = bk; key = 0 }), (record { book = bk; key = 1 }), (record { book = bk; key = 2 }), s, p)
+    (tt, (tt, (tt, (tt, tt)))) (tt, (tt, (tt, (tt, tt))))
+    (three 𝓛 (refl, refl, refl, refl, refl) (refl, refl) (refl, refl)))))))

@@ -23,7 +23,10 @@ returns c =
     (ap (λ s. s.granted) state) c.advance-progress.ensures.line in
     let told_by : SharedState → ℕ → Outcome = λ i t. outcome c.args.self.now.side.lazy c.args.limit i t c.args.task.now c.args.answer c.args.granted in
     let same = ap (λ s. shared_by s c.args.self.now.side) state in
-    let freed : c.if-freeing.result ≡ is_freed c.args.task.now.step c.advance-progress.new.self = elim c.if-freeing.branch [ then-freeing w ↦ freed_on _ _ _ _ _ w.result-is w.if-freeing.true w.is_adding.ensures c.is_freeing-freeing.ensures | else-freeing w ↦ freed_off _ _ _ _ w.result-is w.if-freeing.false c.is_freeing-freeing.ensures ] in
+    let freed : c.if-freeing.result ≡ is_freed c.args.task.now.step c.advance-progress.new.self = elim c.if-freeing.branch [
+      | then-freeing w ↦ freed_on _ _ _ _ _ w.result-is w.if-freeing.true w.is_adding.ensures c.is_freeing-freeing.ensures
+      | else-freeing w ↦ freed_off _ _ _ _ w.result-is w.if-freeing.false c.is_freeing-freeing.ensures
+    ] in
     record {
       shared = λ t. x.shared t ∙ ap (λ i. (told_by i t).shared) same;
       step = λ t. x.step t ∙ ap (λ i. (told_by i t).step) same;
