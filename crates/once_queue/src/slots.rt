@@ -86,16 +86,6 @@ impl<W: Drop> Slots<W> {
         self.slots.iter().filter(|slot| slot.ticket != HOLE).count()
     }
 
-    /// Whether the listings of the other are the same, in the same order, wherever the holes are.
-    pub fn has_the_same(&self, other: &Self) -> bool
-    where
-        W: PartialEq,
-    {
-        let mine = self.slots.iter().filter(|slot| slot.ticket != HOLE);
-        let others = other.slots.iter().filter(|slot| slot.ticket != HOLE);
-        mine.eq(others)
-    }
-
     /// The listing with this ticket.
     #[inline(always)]
     pub fn find(&self, ticket: u64) -> Option<&Listing<W>>

@@ -298,14 +298,6 @@ impl<W: WakerId + Drop> Lists<W> {
         self.slots.len()
     }
 
-    /// Whether the other list has the same listings in the same order. It has no clause.
-    pub fn lists_the_same(&self, other: &Self) -> bool
-    where
-        W: PartialEq,
-    {
-        self.slots.has_the_same(&other.slots)
-    }
-
     // The right where it is free, and None where some task holds it.
     #[inline(always)]
     fn claim(&mut self, ticket: &mut Option<u64>, word: u64) -> Option<Answer<W>>

@@ -15,11 +15,6 @@ pub const READY_BIT: u64 = 0x8000_0000_0000_0000;
 /// The largest number of tasks that may be counted in.
 pub const MAX_WAITERS: u64 = QINIT_BIT - 2;
 
-/// This function does nothing: its contract says which number `MAX_WAITERS` is.
-pub fn largest_limit()
-    ensures { MAX_WAITERS ≡ 2 ^ 62 - 2 }
-{}
-
 /// What a cell's word and the flag beside the list say of the right.
 #[derive(Clone, Copy, Debug, PartialEq, Eq)]
 pub enum Sees {
