@@ -1,5 +1,5 @@
 //! The listings of those who wait, in their order, each found by its ticket without a search.
-ghost use Rattle.std.specs.Prelude.{◌≡◌, ◌==◌, ◌<◌, ◌≤◌, ◌⊎◌, ◌++◌, ◌∷◌, []};
+ghost use Rattle.std.specs.Prelude.{◌≡◌, ◌==◌, ◌<◌, ◌≤◌, ◌+◌, ◌*◌, max, ◌⊎◌, ◌++◌, ◌∷◌, []};
 ghost use Rattle.std.specs.Prelude.{ℕ, true, false, if◌then◌else◌, Some, None, IsSome, IfSome};
 ghost use Rattle.std.specs.Prelude.{IfOk, IsOk, OnOk, length, vec_len, vec_capacity, HoldsAt, filter};
 ghost use Rattle.std.specs.List.{position};
@@ -18,10 +18,11 @@ const HOLE: u64 = u64::MAX;
 
 /// Listings in their order, each in a slot.
 ///
-/// A listing that is taken out leaves a hole in its slot; the holes are closed where they are half of
-/// the slots and the last one is taken. So a listing is found, taken out and put to the end without a
-/// look at the others. The least free ticket and the first listing with a waker are looked for from
-/// where they were found last.
+/// A listing that is taken out leaves a hole in its slot. If the last slot is taken when a listing is to
+/// be put there, either the holes are more than half of the slots and are closed, or there is room for
+/// twice as many slots from then on. So a listing is found, taken out and put to the end without a look
+/// at the others, and listings that come and go take no memory without end. The least free ticket and the
+/// first listing with a waker are looked for from where they were found last.
 #[derive(Drop)]
 pub struct Slots<W> {
     slots: Vec<Listing<W>>,
@@ -41,17 +42,20 @@ pub struct Slots<W> {
     ghost low: { (n : ℕ) → n < free → is_marked n used.items ≡ true },
     ghost within: { uncalled ≤ vec_len slots },
     ghost called: { (n : ℕ) → n < uncalled → HoldsAt (λ x. is_open x ≡ false) slots.items n },
+    // A slot without a listing is counted as a hole.
+    ghost counted: { vec_len slots ≤ holes + length (filter is_kept slots.items) },
 }
 
 impl<W: Drop> Slots<W> {
     ghost use Rattle.once_queue.specs.Listings.{find_listing, take_out, first_waker};
     ghost use Rattle.once_queue.specs.Listings.{call_first, new_ticket, lent_listings};
-    ghost use Rattle.once_queue.specs.Slots.{HasMark, HasSlot, listings_in};
+    ghost use Rattle.once_queue.specs.Slots.{HasMark, HasSlot, capacity_in, listings_in};
 
     /// No listing. It takes no memory.
     #[inline(always)]
     pub fn new(alloc: Global) -> Self
-        ensures { listings_in result ≡ [] }
+        ensures listings { listings_in result ≡ [] }
+        ensures memory { capacity_in result ≡ 0 }
     {
         Slots {
             slots: Vec::new(alloc),
@@ -77,6 +81,13 @@ impl<W: Drop> Slots<W> {
     {
         let kept = self.slots.iter().filter(|slot| slot.ticket != HOLE);
         kept.collect(alloc)
+    }
+
+    /// For how many listings there is memory.
+    pub fn capacity(&self) -> usize
+        ensures { result ≡ capacity_in self.now }
+    {
+        self.slots.capacity()
     }
 
     /// How many listings there are.
@@ -105,6 +116,7 @@ impl<W: Drop> Slots<W> {
         ensures none { result ≡ None → self.new ≡ self.old }
         ensures mark { IsSome result → ticket < vec_len self.new.used }
         ensures hole { IsSome result → length (listings_in self.new) < vec_len self.new.slots }
+        ensures memory { capacity_in self.new ≡ capacity_in self.old }
     {
         let place = self.place(ticket)?;
         unmark(&mut self.used, ticket);
@@ -126,6 +138,7 @@ impl<W: Drop> Slots<W> {
         ensures listings { listings_in self.new ≡ listings_in self.old }
         ensures slot { HasSlot self.old → HasSlot self.new }
         ensures room { HasMark self.old → HasMark self.new }
+        ensures memory { capacity_in self.new ≡ capacity_in self.old }
     {
         self.free = first_unmarked(&self.used, self.free);
         self.free as u64
@@ -138,11 +151,12 @@ impl<W: Drop> Slots<W> {
         requires slot { HasSlot self.old }
         requires mark { (listing.ticket < vec_len self.old.used)
             ⊎ ((listing.ticket ≡ vec_len self.old.used) × HasMark self.old) }
-        ensures { listings_in self.new ≡ listings_in self.old ++ listing ∷ [] }
+        ensures listings { listings_in self.new ≡ listings_in self.old ++ listing ∷ [] }
+        ensures memory { capacity_in self.new ≡ capacity_in self.old }
     {
         mark(&mut self.used, listing.ticket);
         note(&mut self.places, listing.ticket as usize, self.slots.len());
-        self.slots.push(listing).unwrap();
+        self.slots.push_reserved(listing);
     }
 
     /// The first listing that has a waker gives it, and stays.
@@ -150,6 +164,7 @@ impl<W: Drop> Slots<W> {
     pub fn call_first(&mut self) -> Option<W>
         ensures waker { result ≡ first_waker (listings_in self.old) }
         ensures listings { listings_in self.new ≡ call_first (listings_in self.old) }
+        ensures memory { capacity_in self.new ≡ capacity_in self.old }
     {
         self.uncalled = self.first_open();
         if self.uncalled == self.slots.len() {
@@ -165,9 +180,11 @@ impl<W: Drop> Slots<W> {
         ensures mark { OnOk result (HasMark self.new) }
         ensures succeeds { HasSlot self.old → HasMark self.old → IsOk result }
         ensures listings { listings_in self.new ≡ listings_in self.old }
+        ensures memory { capacity_in self.new
+            ≤ max (capacity_in self.old) (4 * (length (listings_in self.old) + 1)) }
     {
         self.close_many_holes();
-        self.slots.reserve(1)?;
+        reserve_one(&mut self.slots)?;
         self.used.reserve(1)?;
         // Without this memory a listing is found by a search.
         let _ = self.places.reserve(1);
@@ -181,9 +198,11 @@ impl<W: Drop> Slots<W> {
         ensures slot { HasSlot self.new }
         ensures used { self.new.used ≡ self.old.used }
         ensures listings { listings_in self.new ≡ listings_in self.old }
+        ensures memory { capacity_in self.new
+            ≤ max (capacity_in self.old) (4 * (length (listings_in self.old) + 1)) }
     {
         self.close_many_holes();
-        if self.slots.reserve(1).is_err() {
+        if reserve_one(&mut self.slots).is_err() {
             self.close_holes();
         }
     }
@@ -193,6 +212,7 @@ impl<W: Drop> Slots<W> {
     pub fn take_all(&mut self) -> Vec<Listing<W>>
         ensures all { result.items ≡ listings_in self.old }
         ensures none { listings_in self.new ≡ [] }
+        ensures memory { capacity_in self.new ≡ 0 }
     {
         self.uncalled = 0;
         self.slots.retain(|slot| slot.ticket != HOLE);
@@ -258,14 +278,16 @@ impl<W: Drop> Slots<W> {
         first
     }
 
-    // Closes the holes where the last slot is taken and half of all are holes, about.
+    // Closes the holes if the last slot is taken and more than half of all are holes.
     #[inline(always)]
     fn close_many_holes(&mut self)
         ensures room { HasSlot self.old → self.new ≡ self.old }
         ensures length { length (listings_in self.old) < vec_len self.old.slots
             → length (listings_in self.new) < vec_capacity self.new.slots }
+        ensures few { HasSlot self.new ⊎ (vec_len self.new.slots ≤ 2 * length (listings_in self.new)) }
         ensures used { self.new.used ≡ self.old.used }
         ensures listings { listings_in self.new ≡ listings_in self.old }
+        ensures memory { capacity_in self.new ≡ capacity_in self.old }
     {
         if self.slots.len() == self.slots.capacity() && self.holes > self.slots.len() / 2 {
             self.close_holes();
@@ -275,7 +297,7 @@ impl<W: Drop> Slots<W> {
     // Closes the holes: each listing goes to the next slot, in their order.
     fn close_holes(&mut self)
         ensures slots { self.new.slots.items ≡ listings_in self.old }
-        ensures capacity { vec_capacity self.new.slots ≡ vec_capacity self.old.slots }
+        ensures memory { capacity_in self.new ≡ capacity_in self.old }
         ensures used { self.new.used ≡ self.old.used }
         ensures listings { listings_in self.new ≡ listings_in self.old }
     {
@@ -284,6 +306,40 @@ impl<W: Drop> Slots<W> {
         self.slots.retain(|slot| slot.ticket != HOLE);
         note_all(&mut self.places, &self.slots);
     }
+}
+
+// Makes room for one more. If there is none, the room doubles, and is for four at first.
+#[inline(always)]
+fn reserve_one<T>(slots: &mut Vec<T>) -> Result<(), AllocError>
+    ensures items { slots.new.items ≡ slots.old.items }
+    ensures len { vec_len slots.new ≡ vec_len slots.old }
+    ensures room { OnOk result (vec_len slots.new < vec_capacity slots.new) }
+    ensures succeeds { vec_len slots.old < vec_capacity slots.old → IsOk result }
+    ensures least { vec_capacity slots.old ≤ vec_capacity slots.new }
+    ensures most { (vec_capacity slots.new ≡ vec_capacity slots.old)
+        ⊎ ((vec_len slots.old ≡ vec_capacity slots.old)
+        × (vec_capacity slots.new ≤ 2 * vec_len slots.old + 4)) }
+{
+    if slots.len() < slots.capacity() {
+        return Ok(());
+    }
+    double(slots)
+}
+
+// Apart, so that a section has no more of it than a call.
+#[cold]
+#[inline(never)]
+fn double<T>(slots: &mut Vec<T>) -> Result<(), AllocError>
+    ensures items { slots.new.items ≡ slots.old.items }
+    ensures len { vec_len slots.new ≡ vec_len slots.old }
+    ensures room { OnOk result (vec_len slots.new < vec_capacity slots.new) }
+    ensures least { vec_capacity slots.old ≤ vec_capacity slots.new }
+    ensures most { vec_capacity slots.new ≤ max (vec_capacity slots.old) (2 * vec_len slots.old + 4) }
+{
+    if slots.is_empty() {
+        return slots.reserve_exact(4);
+    }
+    slots.reserve_exact(slots.len())
 }
 
 // Notes where each ticket stands.

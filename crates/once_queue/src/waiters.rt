@@ -1,5 +1,6 @@
 //! Who waits: the flag and the list behind a queue's lock, and what a section does with them.
-ghost use Rattle.std.specs.Prelude.{◌≡◌, ◌≢◌, ◌↔◌, ◌+◌, ◌<◌, ◌⊎◌, ◌++◌, ◌∷◌, [], ℕ, true, false, if◌then◌else◌};
+ghost use Rattle.std.specs.Prelude.{◌≡◌, ◌≢◌, ◌↔◌, ◌+◌, ◌*◌, ◌<◌, ◌≤◌, max, ◌⊎◌, ◌++◌, ◌∷◌, []};
+ghost use Rattle.std.specs.Prelude.{ℕ, true, false, if◌then◌else◌};
 ghost use Rattle.std.specs.Prelude.{IsSome, IfSome, IsOk, IfOk, OnOk, OnErr, All, length, Some, None, vec_len};
 ghost use Rattle.std.specs.List.{AllPairs, HoldsAt};
 ghost use Rattle.std.specs.Option.{MatchOption, option_copied, option_flatten, option_map, is_some};
@@ -119,6 +120,9 @@ pub enum Answer<W> {
 /// the same, the waker of a new listing is compared with each. A release with the value takes time in
 /// proportion to the listings. But where two listed wakers are the same, each is compared with all
 /// before it.
+///
+/// There is memory for four listings from the first one on, and for four times as many as were ever listed
+/// at one time, at most: listings that come and go take no more.
 #[derive(Drop)]
 pub struct Lists<W: WakerId> {
     /// The flag: whether a task holds that claimed under the lock.
@@ -138,7 +142,7 @@ impl<W: WakerId + Drop> Lists<W> {
     ghost use Rattle.once_queue.specs.Listings.{next_waker, left_list, lent_listings};
     ghost use Rattle.once_queue.specs.Slots.{HasMark, HasSlot};
     ghost use Rattle.once_queue.specs.Claims.{Claims};
-    ghost use Rattle.once_queue.specs.Room.{HasSpace, listings_of, claimant};
+    ghost use Rattle.once_queue.specs.Room.{HasSpace, capacity_of, listings_of, claimant};
     ghost use Rattle.once_queue.specs.Sections.{DidLook, DidList, Releases};
 
     /// No holder, and nobody listed. It takes no memory.
@@ -146,6 +150,7 @@ impl<W: WakerId + Drop> Lists<W> {
     pub fn new(alloc: Global) -> Self
         ensures head { result.head ≡ false }
         ensures listings { listings_of result ≡ [] }
+        ensures memory { capacity_of result ≡ 0 }
     {
         Lists {
             head: false,
@@ -166,6 +171,7 @@ impl<W: WakerId + Drop> Lists<W> {
             (own_listing ticket.old (listings_of self.old)) result }
         ensures stays { sees (flags_of word) self.old.head ≡ Sees.Taken
             → claimant self.new ticket.new ≡ claimant self.old ticket.old }
+        ensures memory { capacity_of self.new ≡ capacity_of self.old }
     {
         if let Some(answer) = self.claim(ticket, word) {
             return answer;
@@ -189,6 +195,7 @@ impl<W: WakerId + Drop> Lists<W> {
             then Answer.Listed else Answer.Held) }
         ensures stays { sees (flags_of word) self.old.head ≡ Sees.Taken
             → claimant self.new ticket.new ≡ claimant self.old ticket.old }
+        ensures memory { capacity_of self.new ≡ capacity_of self.old }
     {
         if let Some(answer) = self.claim(ticket, word) {
             return answer;
@@ -218,6 +225,8 @@ impl<W: WakerId + Drop> Lists<W> {
         ensures head { sees (flags_of word) self.old.head ≡ Sees.Taken → self.new.head ≡ self.old.head }
         ensures waker { sees (flags_of word) self.old.head ≢ Sees.Taken → waker.new ≡ waker.old }
         ensures room { HasSpace self.old → result ≢ Answer.Memory }
+        ensures memory { capacity_of self.new
+            ≤ max (capacity_of self.old) (4 * (length (listings_of self.old) + 1)) }
     {
         if let Some(answer) = self.claim(ticket, word) {
             return answer;
@@ -240,6 +249,7 @@ impl<W: WakerId + Drop> Lists<W> {
         ensures listings { Releases W.tells_same W.tells_other ready
             (listings_of self.old) result (listings_of self.new) }
         ensures head { self.new.head ≡ false }
+        ensures memory { capacity_of self.new ≡ (if ready then 0 else capacity_of self.old) }
     {
         self.head = false;
         if !ready {
@@ -265,6 +275,7 @@ impl<W: WakerId + Drop> Lists<W> {
             (passes_turn (is_free (sees (flags_of word) self.old.head)) ticket (listings_of self.old))
             ticket (listings_of self.old) }
         ensures head { self.new.head ≡ self.old.head }
+        ensures memory { capacity_of self.new ≡ capacity_of self.old }
     {
         let mine = self.take_out(ticket)?;
         match Word::from_bits(word).sees(self.head) {
@@ -280,6 +291,8 @@ impl<W: WakerId + Drop> Lists<W> {
         ensures succeeds { HasSpace self.old → IsOk result }
         ensures head { self.new.head ≡ self.old.head }
         ensures listings { listings_of self.new ≡ listings_of self.old }
+        ensures memory { capacity_of self.new
+            ≤ max (capacity_of self.old) (4 * (length (listings_of self.old) + 1)) }
     {
         self.slots.reserve()
     }
@@ -289,6 +302,13 @@ impl<W: WakerId + Drop> Lists<W> {
         ensures { IfOk result (λ all. lent_listings all.items ≡ listings_of self.now) }
     {
         self.slots.listings(alloc)
+    }
+
+    /// For how many listings there is memory.
+    pub fn capacity(&self) -> usize
+        ensures { result ≡ capacity_of self.now }
+    {
+        self.slots.capacity()
     }
 
     /// How many are listed.
@@ -306,6 +326,7 @@ impl<W: WakerId + Drop> Lists<W> {
         ensures held { result ≡ None ↔ sees (flags_of word) self.old.head ≡ Sees.Taken }
         ensures stays { sees (flags_of word) self.old.head ≢ Sees.Free → self.new ≡ self.old }
         ensures ticket { sees (flags_of word) self.old.head ≢ Sees.Free → ticket.new ≡ ticket.old }
+        ensures memory { capacity_of self.new ≡ capacity_of self.old }
     {
         match Word::from_bits(word).sees(self.head) {
             Sees::Set => Some(Answer::Ready),
@@ -354,6 +375,8 @@ impl<W: WakerId + Drop> Lists<W> {
             × (listings_of self.new ≡ listings_of self.old)) }
         ensures room { HasSpace self.old → IsOk result }
         ensures head { self.new.head ≡ self.old.head }
+        ensures memory { capacity_of self.new
+            ≤ max (capacity_of self.old) (4 * (length (listings_of self.old) + 1)) }
     {
         if let Some(kept) = self.take_own(ticket) {
             self.slots.make_room();
@@ -374,6 +397,7 @@ impl<W: WakerId + Drop> Lists<W> {
             → length (listings_of self.new) < vec_len self.new.slots.slots }
         ensures none { result ≡ None → listings_of self.new ≡ listings_of self.old }
         ensures room { result ≡ None → HasSpace self.old → HasSpace self.new }
+        ensures memory { capacity_of self.new ≡ capacity_of self.old }
     {
         let mine = ticket?;
         self.take_out(mine)?;
@@ -392,6 +416,7 @@ impl<W: WakerId + Drop> Lists<W> {
         ensures mark { IsSome result → ticket < vec_len self.new.slots.used }
         ensures hole { IsSome result
             → length (listings_of self.new) < vec_len self.new.slots.slots }
+        ensures memory { capacity_of self.new ≡ capacity_of self.old }
     {
         self.slots.take_out(ticket)
     }
@@ -405,6 +430,7 @@ impl<W: WakerId + Drop> Lists<W> {
             ⊎ ((listing.ticket ≡ vec_len self.old.slots.used) × HasMark self.old.slots) }
         ensures listings { listings_of self.new ≡ listings_of self.old ++ listing ∷ [] }
         ensures head { self.new.head ≡ self.old.head }
+        ensures memory { capacity_of self.new ≡ capacity_of self.old }
     {
         self.mixed |= may_repeat(&listing, self.slots.as_slice());
         self.slots.push(listing);
@@ -416,6 +442,7 @@ impl<W: WakerId + Drop> Lists<W> {
         ensures waker { result ≡ first_waker (listings_of self.old) }
         ensures listings { listings_of self.new ≡ call_first (listings_of self.old) }
         ensures head { self.new.head ≡ self.old.head }
+        ensures memory { capacity_of self.new ≡ capacity_of self.old }
     {
         self.slots.call_first()
     }

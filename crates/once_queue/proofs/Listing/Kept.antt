@@ -57,6 +57,11 @@ module _ {W : Type 0} where
   length_by true x ys n l = omega arith
   length_by false x ys n l = omega arith
 
+  less_by : (b : Bool) (x : Listing W) (ys zs : List (Listing W)) → suc (length ys) ≡ length zs
+      → suc (length (cond b (x ∷ ys) ys)) ≡ length (cond b (x ∷ zs) zs)
+  less_by true x ys zs e = ap suc e
+  less_by false x ys zs e = e
+
 module _ {W : Type 0} (p : Listing W → Bool) where
   -- one that is kept has its ticket there
   pub kept_member : (n i : ℕ) (xs : List (Listing W)) (d : Listing W) → i < length xs → (get_or xs i d).ticket ≡ n
@@ -142,6 +147,13 @@ module _ {W : Type 0} (p : Listing W → Bool) where
   hole_length zero (x ∷ xs) z l h = let most = kept_length xs in rw h (omega arith)
   hole_length (suc i) (x ∷ xs) z l h = let less = hole_length i xs z (omega arith) h in let most = length_by (p x) x
       (filter p (set xs i z)) (length (filter p (set xs i z))) (omega arith) in omega arith
+
+  -- a hole in the place of one that is kept leaves one less
+  pub hole_less : (i : ℕ) (xs : List (Listing W)) (z d : Listing W) → i < length xs → p (get_or xs i d) ≡ true → p z ≡ false
+      → suc (length (filter p (set xs i z))) ≡ length (filter p xs)
+  hole_less i [] z d l k h = absurd (omega arith)
+  hole_less zero (x ∷ xs) z d l k h = rw (h, k) refl
+  hole_less (suc i) (x ∷ xs) z d l k h = less_by (p x) x (filter p (set xs i z)) (filter p xs) (hole_less i xs z d (omega arith) k h)
 
   -- what is kept is kept again
   again_by : (b : Bool) (x : Listing W) (ys : List (Listing W)) → p x ≡ b → filter p ys ≡ ys → filter p (cond b (x ∷ ys) ys) ≡ cond b (x ∷ ys) ys

@@ -1,5 +1,5 @@
 -- Lists of listings: which tickets they have, and what taking a listing out, adding one and calling the first leave of them.
-use Rattle.std.proofs.Common.{◌≡◌, ◌<◌, ℕ, zero, suc, Bool, true, false, cond, ◌==◌, nat_lt, List, [], ◌∷◌, ◌++◌, Option, Some, None, IfSome, length, get_or, refl, sym, ap, ◌∙◌, arith}
+use Rattle.std.proofs.Common.{◌≡◌, ◌<◌, ◌≤◌, ℕ, zero, suc, Bool, true, false, cond, ◌==◌, nat_lt, List, [], ◌∷◌, ◌++◌, Option, Some, None, IfSome, length, get_or, refl, sym, ap, ◌∙◌, arith}
 use Rattle.std.specs.List.{HoldsAt, position, position_or_len}
 use Rattle.std.specs.Option.{is_some, option_map}
 use Rattle.std.proofs.lemmas.Bool.{eqb-true}
@@ -79,6 +79,10 @@ module _ {W : Type 0} where
   pub once_take : (n : ℕ) (xs : List (Listing W)) → is_distinct (tickets xs) ≡ true → is_distinct (tickets (take_out n xs)) ≡ true
   once_take n [] e = refl
   once_take n (x ∷ xs) e = grind (arith, nat_tests, once_take n xs, member_take x.ticket n xs)
+
+  pub take_length : (n : ℕ) (xs : List (Listing W)) → length (take_out n xs) ≤ length xs
+  take_length n [] = omega arith
+  take_length n (x ∷ xs) = let ih = take_length n xs in grind arith
 
   pub tickets_push : (x : Listing W) (xs : List (Listing W)) → tickets (xs ++ x ∷ []) ≡ tickets xs ++ x.ticket ∷ []
   tickets_push x [] = refl

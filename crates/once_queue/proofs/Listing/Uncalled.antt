@@ -59,7 +59,16 @@ module _ {W : Type 0} where
   first_within i [] e = absurd (none-some i e)
   first_within i (x ∷ xs) e = (position-Some has_waker (x ∷ xs) i x e).0
 
-  -- a call changes no ticket
+  -- a call leaves as many
+  length_by : (x : Listing W) (xs : List (Listing W)) (o : Option W) → length (call_first xs) ≡ length xs → length (call_by x o xs (call_first xs)) ≡ suc (length xs)
+  length_by x xs (Some w) ih = refl
+  length_by x xs None ih = ap suc ih
+
+  pub length_call : (xs : List (Listing W)) → length (call_first xs) ≡ length xs
+  length_call [] = refl
+  length_call (x ∷ xs) = length_by x xs x.waker (length_call xs)
+
+  -- and changes no ticket
   tickets_by : (x : Listing W) (xs : List (Listing W)) (o : Option W) → tickets (call_first xs) ≡ tickets xs
       → tickets (call_by x o xs (call_first xs)) ≡ x.ticket ∷ tickets xs
   tickets_by x xs (Some w) ih = refl

@@ -2,7 +2,7 @@
 use Rattle.std.proofs.Common.{filter, sym, ◌∙◌, arith}
 use Rattle.std.proofs.lemmas.List.{get_or-set_other}
 use Rattle.once_queue.proofs.Listing.Kept.{nobody_called, one_called, kept_open}
-use Rattle.once_queue.proofs.Listing.Uncalled.{tickets_call}
+use Rattle.once_queue.proofs.Listing.Uncalled.{length_call, tickets_call}
 use Rattle.once_queue.specs.Kept.{is_kept}
 use Rattle.once_queue.proofs.slots.Slots.call_first.Goals as goal
 
@@ -25,6 +25,7 @@ invariant_of-self-2 g c =
       marks = λ n. rw (called.1, tickets_call (filter is_kept xs)) (slots.marks n);
       low = slots.low;
       within = c.first_open-self.ensures.within;
+      counted = rw (called.1, length_call (filter is_kept xs)) slots.counted;
       called = λ n l d. rw (get_or-set_other xs i n _ d (λ e. omega arith)) (c.first_open-self.ensures.before n l d);
     }
 

@@ -1,5 +1,5 @@
 -- The listings are kept, and the holes are not.
-use Rattle.std.proofs.Common.{◌≡◌, filter, rules, arith}
+use Rattle.std.proofs.Common.{◌≡◌, filter, length, ap, rules, arith}
 use Rattle.std.proofs.lemmas.Fn.{filter_same}
 use Rattle.once_queue.proofs.Listing.Kept.{kept_again}
 use Rattle.once_queue.specs.Kept.{is_kept}
@@ -15,6 +15,9 @@ invariant_of-self g c =
       marks = λ n. rw (kept, again) (slots.marks n);
       low = slots.low;
       within = omega arith;
+      counted =
+          let same : length (filter is_kept c.retain.new.self.items) ≡ length c.retain.new.self.items = rw kept (ap length again) in
+          omega arith;
       called = λ n l. absurd (omega arith);
     }
 

@@ -1,5 +1,5 @@
 -- All listings come out, and nothing is left.
-use Rattle.std.proofs.Common.{◌≡◌, [], refl, rules, ap, ◌∙◌, arith}
+use Rattle.std.proofs.Common.{◌≡◌, [], length, refl, rules, ap, ◌∙◌, arith}
 use Rattle.std.proofs.lemmas.Fn.{filter_same}
 use Rattle.once_queue.proofs.slots.Slots.take_all.Goals as goal
 
@@ -11,6 +11,7 @@ invariant_of-self g c =
       marks = λ n. rw (none, c.clear-2.ensures.items) refl;
       low = λ n l. absurd (omega arith);
       within = omega arith;
+      counted = let empty = ap length none in omega arith;
       called = λ n l. absurd (omega arith);
     }
 

@@ -3,7 +3,7 @@ use Rattle.std.proofs.Common.{◌≡◌, false, filter, set, Some, refl, sym, ap
 use Rattle.std.proofs.lemmas.Bool.{ne_eqb}
 use Rattle.once_queue.proofs.Listing.Tickets.{find_none, member_take, once_take, take_none}
 use Rattle.once_queue.proofs.Listing.Marked.{marked_within}
-use Rattle.once_queue.proofs.Listing.Kept.{fails_set, hole_length, kept_found, kept_member, kept_taken, not_false}
+use Rattle.once_queue.proofs.Listing.Kept.{fails_set, hole_length, hole_less, kept_found, kept_member, kept_taken, not_false}
 use Rattle.once_queue.specs.Kept.{is_kept, is_open}
 use Rattle.once_queue.specs.Listings.{take_out}
 use Rattle.once_queue.specs.Slots.{listings_in}
@@ -26,11 +26,13 @@ invariant_of-self g c =
     let at = p.1 z in
     let empty : is_kept z ≡ false = rw c.replace.ensures.after refl in
     let taken : filter is_kept (set xs i z) ≡ take_out n (filter is_kept xs) = kept_taken is_kept n i xs z z p.0 at (rw at (not_false _ p.2)) empty slots.once in
+    let less = hole_less is_kept i xs z z p.0 (rw at (not_false _ p.2)) empty in
     record {
       once = rw taken (once_take n (filter is_kept xs) slots.once);
       marks = λ m. rw (taken, member_take m n (filter is_kept xs), c.unmark.ensures.marks m, slots.marks m) refl;
       low = λ m l. let apart : (n == m) ≡ false = ne_eqb n m (λ e. omega arith) in rw (c.unmark.ensures.marks m, apart) (slots.low m (omega arith));
       within = slots.within;
+      counted = omega arith;
       called = fails_set is_open slots.uncalled i xs z (rw empty refl) p.0 slots.called;
     }
 

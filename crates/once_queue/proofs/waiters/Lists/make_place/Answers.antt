@@ -1,6 +1,6 @@
 -- No listing has the ticket by which to list then.
-use Rattle.std.proofs.Common.{◌≡◌, ◌∙◌, sym, arith, rules}
-use Rattle.once_queue.proofs.Listing.Tickets.{member_gone, take_none}
+use Rattle.std.proofs.Common.{◌≡◌, ◌≤◌, ◌∙◌, length, sym, arith, rules}
+use Rattle.once_queue.proofs.Listing.Tickets.{member_gone, take_length, take_none}
 use Rattle.once_queue.specs.Listings.{take_out}
 use Rattle.once_queue.specs.Room.{listings_of}
 use Rattle.once_queue.proofs.waiters.Lists.make_place.Goals as goal
@@ -23,6 +23,13 @@ invariant_of-self g c = record { apart = rw c.make_room.ensures.listings c.take_
 
 pub invariant_of-self-2 : goal.invariant_of-self-2
 invariant_of-self-2 g c = record { apart = rw c.free_ticket.ensures.listings c.reserve.new.self.apart }
+
+pub returns-in-Some-clause-memory : goal.returns-in-Some-clause-memory
+returns-in-Some-clause-memory g c =
+    let xs = listings_of c.args.self.now in
+    let taken : listings_of c.take_own.new.self ≡ take_out c.in-Some.kept xs = grind arith in
+    let fewer : length (listings_of c.take_own.new.self) ≤ length xs = rw taken (take_length c.in-Some.kept xs) in
+    omega arith
 
 pub returns-clause-ticket : goal.returns-clause-ticket
 returns-clause-ticket g c = search rules

@@ -10,6 +10,6 @@ invariant_of-self g c =
     let x = c.args.listing in
     let other = g.W.WakerId.tells_other in
     record {
-      apart = λ m. rw c.push.ensures (apart_listed other lists.mixed c.may_repeat.result (listings_in lists.slots) x m lists.apart
+      apart = λ m. rw c.push.ensures.listings (apart_listed other lists.mixed c.may_repeat.result (listings_in lists.slots) x m lists.apart
           (λ r. rw c.as_slice.ensures (other_kept other is_kept x.waker c.as_slice.result.now (c.may_repeat.ensures r))));
     }
