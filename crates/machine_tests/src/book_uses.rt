@@ -16,7 +16,8 @@ use std::test::*;
 /// How often each thread goes in and out, or tries.
 const TIMES: u32 = 500;
 
-/// What is ghost takes no bytes, and a lock whose content is of a book takes as many as any lock.
+/// What is ghost takes no bytes, and the state of a slot is ghost. A lock whose content is of a book takes as many as
+/// any lock.
 #[test]
 fn what_is_ghost_has_no_bytes(rt: HostRuntime) -> Result<(), Fail> {
     let sizes = [
@@ -25,7 +26,7 @@ fn what_is_ghost_has_no_bytes(rt: HostRuntime) -> Result<(), Fail> {
         size_of::<Pens<Page>>(),
         size_of::<Written<u64>>(),
     ];
-    let slot = size_of::<Slot<u64, Filled, Stage, OneFill>>() == size_of::<(u64, Option<u64>)>();
+    let slot = size_of::<Slot<u64, Filled, Stage, OneFill>>() == size_of::<Option<u64>>();
     let lock = size_of::<KeyedMutex<Desk>>() == size_of::<Mutex<u64>>();
     assert_eq!(rt; (sizes, slot, lock), ([8, 0, 0, 0], true, true));
     Ok(())
@@ -94,20 +95,15 @@ fn a_look_beside_a_fill_finds_nothing_or_the_value(rt: HostRuntime) -> Result<()
     Ok(())
 }
 
-/// The owner of a shelf sees the value once it is there, and takes it.
+/// The owner of a shelf takes the value once it is there.
 #[test]
 fn an_owner_has_the_value(rt: HostRuntime) -> Result<(), Fail> {
     let (shelf, filler) = Shelf::<u64>::new();
-    let nothing = shelf.shown().is_none();
     let (token, _seen) = shelf.fill(7, filler);
     let copy = token.again();
-    let shown = shelf.shown().copied();
     let value = shelf.into_value(&copy);
     let (empty, _filler) = Shelf::<u64>::new();
-    assert_eq!(rt;
-        (nothing, shown, value, empty.take()),
-        (true, Some(7), 7, None)
-    );
+    assert_eq!(rt; (value, empty.take()), (7, None));
     Ok(())
 }
 

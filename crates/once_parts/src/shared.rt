@@ -3,6 +3,9 @@
 //! Each load, store, exchange and addition here is sequentially consistent, as all atomics of the kit are:
 //! they stand in one order, on which all threads agree. A task that takes the lock receives all that was done
 //! before it was last let go.
+//!
+//! The value lies beside them, and is written and read plainly. It is written before the step that makes the
+//! word ready, and read after a step that found the word ready, or with a token that came from such a step.
 ghost use Rattle.std.specs.Prelude.{◌≡◌, ℕ, false, List, []};
 ghost use Rattle.once_queue.specs.Room.{listings_of};
 ghost use Rattle.once_core.specs.Steps.{next_at};
@@ -104,7 +107,7 @@ impl<T, W: TaskWaker + Drop> Inner<T, W> {
         self.front.again()
     }
 
-    /// Looks for the value: one load of the word. Where that is ready the value is there.
+    /// Looks for the value: one load of the word. If that is ready, the value is there.
     ///
     /// ```
     /// let mut record = cell.record();
@@ -151,7 +154,7 @@ impl<T, W: TaskWaker + Drop> Inner<T, W> {
         self.slot.value(written)
     }
 
-    /// Whether the value was put. No clause says so.
+    /// Whether a look finds the value. No clause says so.
     ///
     /// ```
     /// let is_set = match self {
@@ -160,7 +163,7 @@ impl<T, W: TaskWaker + Drop> Inner<T, W> {
     /// };
     /// ```
     pub fn is_written(&self) -> bool {
-        self.slot.witness().is_some()
+        self.look(&mut self.record()).is_some()
     }
 
     /// The value, where it was put. The record ends. No clause says so.

@@ -4,3 +4,4 @@ pub mod Prefixes
 pub mod Steps
 pub mod Opening
 pub mod Unchanged
+pub mod Untold

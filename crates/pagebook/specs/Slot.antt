@@ -1,7 +1,8 @@
 -- What a `Slot` owns and shares.
--- Its state is a word of a book: 0 while the slot is empty, 1 while one thread writes it, and 2 from then on.
+-- Its state is a word of a book, without bytes: 0 while the slot is empty, 1 while one thread writes it, and 2 from
+-- then on. So nobody reads it: the rule of the book, or a token, says what it is.
 -- Each time the slot is lent it takes a turn. One invariant, whose number is greater than the book's, then holds the
--- word and, by its phase, the right to write the value, or the value to be read.
+-- word's pen and, by its phase, the right to write the value, or the value to be read.
 use Rattle.core.specs.Prelude.{◌≡◌, ℕ, ◌+◌, ◌<◌}
 use base.Stored.{Gv, gnil, gcons, Coded, coded×, coded_ℕ, coded_via}
 use base.Fml.{Lft, GName, Fml, ftrue, ffalse, feq, fsep, fex, fobs, fauth, fres, fbor, fnamed}
@@ -15,7 +16,7 @@ use Rattle.core.specs.declared.option.Option.{Option}
 use Rattle.core.specs.declared.option.Option.TheVariants.{Some}
 use Rattle.core.specs.contracts.option.Option.{the_row as OptionOf}
 use Rattle.pagebook.specs.Pages.{Book, book_coded, Named}
-use Rattle.pagebook.specs.Owned.{known, word_pen, lies}
+use Rattle.pagebook.specs.Owned.{known, word_pen}
 
 -- which slot it is
 pub record Placed : Type 0 where
@@ -64,7 +65,7 @@ module _ (R : RattleType) where
 
   -- where the field lies, in a slot at o
   abbrev pub at : ℕ → ℕ
-  at o = o + up (align (lone (OptionOf R).mir)) 8
+  at o = o + up (align (lone (OptionOf R).mir)) 0
 
   module _ (l : Placed) where
     -- the state's number says the phase. While the slot is empty, whoever has this may begin to write
@@ -77,7 +78,7 @@ module _ (R : RattleType) where
     abbrev pub tracked : ℕ → Phase R.Denot → Fml
     tracked n s = fsep (fauth l.id (sign s)) (told n s)
 
-    -- what a slot at rest owns beside its fields
+    -- what a slot at rest owns beside its field
     abbrev pub resting : Rest R.Denot → Fml
     resting s = fsep (word_pen (word_of l) s.0) (fsep (tracked s.0 s.2) (known (Filled s.1 s.2)))
 
@@ -99,7 +100,7 @@ module _ (R : RattleType) where
       lent (full x) = shared_of (OptionOf R) (Some x) b (at o) t.0
 
       abbrev pub tied : ℕ × Phase R.Denot → Fml
-      tied s = fsep (lies (word_of l) b (o + 0) s.0) (fsep (tracked s.0 s.1) (tie s.1))
+      tied s = fsep (word_pen (word_of l) s.0) (fsep (tracked s.0 s.1) (tie s.1))
 
       abbrev pub standing : ℕ × Phase R.Denot → Fml
       standing s = fsep (tied s) (lent s.1)

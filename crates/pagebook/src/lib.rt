@@ -25,9 +25,9 @@
 //! - `Seen` is what a thread has seen of the log. It can be copied. Of two `Seen` of one book the one log is a
 //!   beginning of the other (`agrees`), and one can learn what the other knows.
 //! - `Seen::note` is a step that touches no word.
-//! - `Slot` is a place for one value, whose state is a word of the book. By the rule nothing can refuse to
-//!   put the value, and whoever has seen that it was put gets it with no test. `Written` is a token that
-//!   shows for good what it is.
+//! - `Slot` is a place for one value, whose state is a word of the book, without bytes. By the rule nothing can refuse
+//!   to put the value, and whoever has seen that it was put gets it with no test. `Written` is a token that shows for
+//!   good what it is.
 //! - `KeyedMutex` is a lock whose content is of a book, as pens are. A clause can name that book, and no type has to.
 //!
 //! # How a structure is made of it
@@ -89,8 +89,9 @@
 //! # What is proved, and what is not said
 //!
 //! Each function is safe and returns. The rule holds between any two steps of all threads, and each step ensures its
-//! `Play`. A log that was seen is a beginning of each later one. Nothing is said of progress or of time. Each step is
-//! sequentially consistent. A word cannot join a book later, and a book is never closed.
+//! `Play`. A log that was seen is a beginning of each later one. Nothing is said of progress or of time. Each step of a
+//! `Word` is sequentially consistent, and on that `Slot` leans, whose value is read plainly (the head of `slot.rt` says
+//! why it may be). A word cannot join a book later, and a book is never closed.
 //!
 //! A ghost log behind words is the idea of the kit's `logbook`, where one cell lies behind each word; here there are
 //! pages of any type, several of which change in one step. A slot that is written once and read by tokens is that of

@@ -1,6 +1,12 @@
-// A place for one value, whose state is a word of the book: 0 while it is empty, 1 while one thread writes it, and 2
-// from then on. So the rule can say when the value stands: to put it needs no refusal, and to get it no test.
-ghost use Rattle.core.specs.Prelude.{◌≡◌, ℕ, IfSome};
+// A place for one value. Its state is a word of the book: 0 while the slot is empty, 1 while one thread writes the
+// value, and 2 from then on. So the rule can say when the value is there: no put is refused, and no get needs a test.
+//
+// The state has no bytes, so its steps are steps of the proof alone, and none of them orders the write of the value
+// before a read. What orders the two is how the reader came to know that the value is there: it stepped a `Word` and
+// found a number that says so, or it got a `Seen` or a `Written` from a thread that did, over a lock, say, or at a
+// join. Neither a note nor a put elsewhere can tell it (`proofs/Book/Untold.antt`), so whoever may call `get` or
+// `value` has such an order.
+ghost use Rattle.core.specs.Prelude.{◌≡◌, ℕ};
 ghost use mathlib.Core.List.{IsPrefix};
 ghost use base.Fml.{fsep, fex};
 ghost use denote.Sharing.{said};
@@ -11,9 +17,7 @@ ghost use Rattle.pagebook.specs.Slot.{Placed, placed_coded, Rest, resting, share
 
 use crate::rule::{Play, Rule};
 use crate::tokens::{Pens, Seen};
-use std::marker::{Brand, Model, Move, Owns, PhantomData};
-use std::sync::atomic::Ordering::SeqCst;
-use std::sync::atomic::raw;
+use std::marker::{Model, Move, Owns, PhantomData};
 
 /// A word of a book that nobody has, and that is 0: a `Slot` is made of it, whose state it is then. It has no bytes.
 pub struct Blank {
@@ -42,7 +46,6 @@ impl<T> Model for Written<T> {
 /// A place for one value, which is put once and then read by all. A clause sees its `book`, its `key`, which is the
 /// place of its state among the words of the book, and its `id`, which a `Written` names.
 pub struct Slot<T, E, P, R: Rule<E, P>> {
-    state: u64,
     value: Option<T>,
     marker: PhantomData<(E, P, R)>,
 }
@@ -57,7 +60,7 @@ impl<T, E, P, R: Rule<E, P>> Owns for Slot<T, E, P, R> {
 
 impl<T, E, P, R: Rule<E, P>> Move for Slot<T, E, P, R> {
     ghost own_val = { λ l vs. fex (Rest T.row.Denot)
-        (λ s. fsep (Fields.own_val (record { state = s.0; value = s.1; marker = record {} }) vs) (resting T.row l s)) };
+        (λ s. fsep (Fields.own_val (record { value = s.1; marker = record {} }) vs) (resting T.row l s)) };
 }
 
 impl<T, E, P, R: Rule<E, P>> Slot<T, E, P, R> {
@@ -68,14 +71,14 @@ impl<T, E, P, R: Rule<E, P>> Slot<T, E, P, R> {
     {
         let Blank { marker: _ } = blank;
         Slot {
-            state: 0,
             value: None,
             marker: PhantomData,
         }
     }
 
     /// Puts the value. It is two steps of the state, each of which may change pages and the log as a step of a `Word`
-    /// does: `B` says what the first tells, by which the state is 1, and `F` the second, by which it is 2.
+    /// does: `B` says what the first tells, by which the state is 1, and `F` the second, by which it is 2. Neither of
+    /// them is in the machine code: all that runs is a plain write of the value.
     ///
     /// Asked for: `seen` and `pens` are of the slot's book; the first step keeps the rule, and by the rule finds 0,
     /// which says that nobody began to put a value; the second keeps the rule wherever the first led.
@@ -101,32 +104,22 @@ impl<T, E, P, R: Rule<E, P>> Slot<T, E, P, R> {
     {
         let slot = self as *const Slot<T, E, P, R>;
         unsafe {
-            raw::store::<Brand>(&raw const (*slot).state, 1, SeqCst);
             std::ptr::write(&raw const (*slot).value as *mut Option<T>, Some(value));
-            raw::store::<Brand>(&raw const (*slot).state, 2, SeqCst);
             Written {
                 marker: PhantomData,
             }
         }
     }
 
-    // The field, which by the rule is full.
+    // What shows the value, which by the rule is there. It does nothing.
     #[inline(always)]
-    fn found<'a>(&'a self, seen: &Seen<E, P, R>) -> (&'a Option<T>, Written<T>)
+    fn found(&self, seen: &Seen<E, P, R>) -> Written<T>
         requires book { seen.now.book ≡ self.now.book }
         requires sure { Sure R.holds seen.now.log self.now.key 2 }
-        ensures { (result.0.now ≡ Some result.1.value) × (result.1.of ≡ self.now.id) }
+        ensures { result.of ≡ self.now.id }
     {
-        let slot = self as *const Slot<T, E, P, R>;
-        unsafe {
-            // The load is the step at which the proof finds the shared value.
-            raw::load::<Brand>(&raw const (*slot).state, SeqCst);
-            (
-                &(*slot).value,
-                Written {
-                    marker: PhantomData,
-                },
-            )
+        Written {
+            marker: PhantomData,
         }
     }
 
@@ -137,35 +130,13 @@ impl<T, E, P, R: Rule<E, P>> Slot<T, E, P, R> {
         ensures { result.now ≡ Some written.now.value }
     {
         let slot = self as *const Slot<T, E, P, R>;
-        unsafe {
-            raw::load::<Brand>(&raw const (*slot).state, SeqCst);
-            &(*slot).value
-        }
-    }
-
-    /// What shows that there is a value, if there is one now. Nothing is asked for: it looks at the state.
-    #[inline(always)]
-    pub fn witness(&self) -> Option<Written<T>>
-        ensures { IfSome result (λ w. w.of ≡ self.now.id) }
-    {
-        let slot = self as *const Slot<T, E, P, R>;
-        if unsafe { raw::load::<Brand>(&raw const (*slot).state, SeqCst) } == 2 {
-            Some(Written {
-                marker: PhantomData,
-            })
-        } else {
-            None
-        }
+        unsafe { &(*slot).value }
     }
 
     /// The value, if there is one.
     #[inline(always)]
     pub fn into_inner(self) -> Option<T> {
-        let Self {
-            state: _,
-            value,
-            marker: _,
-        } = self;
+        let Self { value, marker: _ } = self;
         value
     }
 
@@ -179,11 +150,8 @@ impl<T, E, P, R: Rule<E, P>> Slot<T, E, P, R> {
         requires sure { Sure R.holds seen.now.log self.now.key 2 }
         ensures { (result.0.now ≡ result.1.value) × (result.1.of ≡ self.now.id) }
     {
-        let (value, written) = self.found(seen);
-        match value {
-            Some(value) => (value, written),
-            None => unreachable!(),
-        }
+        let written = self.found(seen);
+        (self.value(&written), written)
     }
 
     // What lies in the field, which by a token is full.
@@ -193,11 +161,7 @@ impl<T, E, P, R: Rule<E, P>> Slot<T, E, P, R> {
         ensures { result ≡ Some written.now.value }
     {
         let _ = written;
-        let Self {
-            state: _,
-            value,
-            marker: _,
-        } = self;
+        let Self { value, marker: _ } = self;
         value
     }
 

@@ -145,14 +145,6 @@ impl<T> Shelf<T> {
 }
 
 impl<T> Shelf<T> {
-    /// The value, if it is there now, for one who has seen nothing.
-    pub fn shown(&self) -> Option<&T> {
-        match self.slot.witness() {
-            Some(written) => Some(self.slot.value(&written)),
-            None => None,
-        }
-    }
-
     /// The value, for the owner of the shelf, if there is one.
     pub fn take(self) -> Option<T> {
         let Shelf { ready, slot } = self;

@@ -1,25 +1,32 @@
 -- What each step does with the ghost state of a book: it looks at words, pages and log, which fit what the thread knows, and changes them together.
 use Rattle.std.proofs.Common.{◌≡◌, ℕ, ◌<◌, List, [], ◌∷◌, ◌++◌, map, length, set, slice_get, Some, refl, arith}
-use mathlib.Core.List.{IsPrefix}
+use mathlib.Core.List.{IsPrefix, mem-cons, not-mem-nil}
+use mathlib.Core.Logic.Or
+use mathlib.Core.HLevel.{⊥_prop}
 use seplogic.Ra.Ura.{Ura}
 use base.Fraction.{full_share}
 use base.Stored.{gnum, Coded, coded_ℕ}
-use base.Logic.{SProp, ent, sep, ex, all, guard, upd, emp, id⊢, via, all_i, all_e, upd_i, upd_mono, guard_i}
+use base.Logic.{SProp, ent, sep, ex, guard, upd, id⊢, upd_i}
 use base.Fml.{Lft, Share, Fml, ftrue, fsep, fex, flft, fbor, finv, fnamed}
 use base.Growing.{latest}
+use base.Several.{Apart}
 use types.Logic.{Logic, sem}
 use types.Growing.{latest_grows, latest_shows, latest_bounds, at_least_dup}
-use types.Kit.{‵, raw, ◌⊛◌, some, given, later, mean, ◌$◌, ◌∵◌, !, qed, by, move, keep, drop, split, split3, join, group, fsplit, fsplit3, fjoin, fjoin3, fpick}
-use types.Kit.{fpack, pick, learn, show, check, frame, each, assume, suffices, settle, done, use0, use1, use2, use3, updating, await, now, rewrite}
+use types.Kit.{Item, ‵, raw, ◌⊛◌, some, given, mean, ◌$◌, ◌∵◌, !, qed, by, move, keep, drop, split, split3, group, fsplit, fsplit3, fjoin, fjoin3, fpick}
+use types.Kit.{fpack, pick, learn, show, check, frame, each, assume, suffices, settle, done, use1, use2, use3}
 use denote.RawPtr.{block_ptr}
 use denote.Steps.{nothing}
 use Rattle.core.specs.Sync.RawAtomic.{word, asks, always}
 use Rattle.core.proofs.raw_atomic.Asked.{borrowed_with, LiesWith, AgainWith}
-use Rattle.pagebook.specs.Pages.{Book, Named, Held, View, Agrees, rewritten, put, extended, dealt, Keeps, Moves, Notes}
-use Rattle.pagebook.specs.Owned.{known, page_algebra, part, unused, kept, pens, pens_own, log_order, word_pen, reached, state, inside, knows, seen_owns, lies, lying}
+use Rattle.pagebook.specs.Pages.{Book, Named, named, Held, View, Agrees, rewritten, put, extended, dealt, Keeps, Moves, Notes}
+use Rattle.pagebook.specs.Owned.{known, kept, pens_own, log_order, word_pen, reached, state, inside, seen_owns, lies, lying}
 use Rattle.pagebook.proofs.Page.Parts.{pen_tells, pen_writes}
 use Rattle.pagebook.proofs.Page.Hands.{hand_agrees, pages_turn}
 use Rattle.pagebook.proofs.Book.Codes.{prefix_of_codes, codes_joined}
+
+-- two invariants with different numbers can be open at once
+two_apart : (i j : ℕ) (P Q : Fml) → ¬ (i ≡ j) → Apart ((i, P) ∷ (j, Q) ∷ [])
+two_apart i j P Q ne = ((λ m. Or.elim ⊥_prop ((mem-cons {a = i} {b = j} {l = []}).0 m) ne (λ x. not-mem-nil x)), ((λ m. not-mem-nil m), tt))
 
 module _ {M : Type 1} {𝓤 : Ura M} (𝓛 : Logic 𝓤) where
   open 𝓛 use {H, A as At}
@@ -92,6 +99,11 @@ module _ {M : Type 1} {𝓤 : Ura M} (𝓛 : Logic 𝓤) where
         split ! $ move ! (2 ∷ 0 ∷ []) $ use2 𝓛 (‵ (Knows log)) (seen_closed log) $ frame ! $ move ! (1 ∷ 0 ∷ []) $
         by ! (seen_closed log)
 
+    -- it says that the book is there, and is not used up by that
+    seen_there : (log : List E) → ⟦ Knows log ⟧ ⊢ ⟦ There ⟧ ∗ ⟦ Knows log ⟧
+    seen_there log = qed 𝓛 (‵ (Knows log) ∷ []) ∵ use1 𝓛 (‵ There ⊛ ‵ (Had log)) (seen_opened log) $ split ! $
+        use1 𝓛 (‵ There ⊛ ‵ There) (𝓛.invs.named_dup bk.number Inside) $ split ! $ frame ! $ by ! (seen_closed log)
+
     -- it says what the log began with
     pub seen_reached : (log : List E) → ⟦ Knows log ⟧ ⊢ ⟦ Had log ⟧
     seen_reached log = qed 𝓛 (‵ (Knows log) ∷ []) ∵ use1 𝓛 (‵ There ⊛ ‵ (Had log)) (seen_opened log) $
@@ -132,7 +144,7 @@ module _ {M : Type 1} {𝓤 : Ura M} (𝓛 : Logic 𝓤) where
         use2 𝓛 (given (IsPrefix l s.1.1) (‵ (Log s.1.1) ⊛ ‵ (Had l))) (log_begins s.1.1 l) $
         learn ! (λ p. split ! $ show ! (Looks l) s $ check ! (so, p) $ keep ! (2 ∷ 3 ∷ 0 ∷ []) $ done !)))
 
-    abbrev Opening : List E → types.Kit.Item 𝓤
+    abbrev Opening : List E → Item 𝓤
     Opening l = some (λ (s : State). given (holds s.0 s.1.0 s.1.1 × IsPrefix l s.1.1)
         (‵ (Words s.0) ⊛ ‵ (Pages s.1.0) ⊛ ‵ (Log s.1.1)))
 
@@ -199,72 +211,84 @@ module _ {M : Type 1} {𝓤 : Ura M} (𝓛 : Logic 𝓤) where
           split3 ! $ suffices ! _ (upd_i 𝓤 W) $ frame ! $ show ! Noted u $
           check ! (base.Growing.prefix_trans v.0 log u.0 so.1 (go.2, refl), go.4) $ done !)))
 
-    module _ (k b o : ℕ) (κ : Lft) (q : Share) (i : ℕ) (v : View E P) (f : ℕ → ℕ) (then : ℕ → View E P → Type 0)
-        (I : Fml) (W : Type 0) (beside : ℕ → W → Fml) (also out : ℕ → Fml) (X : Pr) where
-      abbrev word_beside : Named
-      word_beside = record { book = bk; key = k }
+    module _ (k : ℕ) (v : View E P) (f : ℕ → ℕ) (then : ℕ → View E P → Type 0) where
+      abbrev w : Named
+      w = named bk k
 
-      abbrev pub next_beside : ℕ → View E P → Fml
-      next_beside n u = fsep (known (IsPrefix v.0 u.0 × then n u)) (fsep (fsep (Knows u.0) (Hand u.1)) (also n))
+      -- what a step of a word leaves, if it found n
+      abbrev pub Turned : ℕ → View E P → Pr
+      Turned n u = guard 𝓤 (IsPrefix v.0 u.0 × then n u)
+          (⟦ Inside ⟧ ∗ ⟦ word_pen w (f n) ⟧ ∗ ⟦ Knows u.0 ⟧ ∗ ⟦ Hand u.1 ⟧)
 
-      abbrev pub after_beside : ℕ → Fml
-      after_beside n = fex (View E P) (next_beside n)
+      abbrev Turning : ℕ → Item 𝓤
+      Turning n = some (λ (u : View E P). given (IsPrefix v.0 u.0 × then n u)
+          (‵ Inside ⊛ ‵ (word_pen w (f n)) ⊛ ‵ (Knows u.0) ⊛ ‵ (Hand u.1)))
 
-      abbrev pub Into : ℕ → W → Pr
-      Into n s = ⟦ beside (f n) s ⟧ ∗ ⟦ also n ⟧
-
-      -- One step of a word under an invariant I, which holds the word and more beside it. What lies beside it changes along, and gives `also`
-      pub steps_beside : bk.number < i → Moves holds v k f then → ⟦ I ⟧
-          ⊢ mean 𝓛 (some (λ (z : ℕ × W). ‵ (word b o z.0) ⊛ ‵ (word_pen word_beside z.0) ⊛ ‵ (beside z.0 z.1)))
-          → ((n : ℕ) (s : W) → ⟦ word b o n ⟧ ∗ ⟦ word_pen word_beside n ⟧ ∗ ⟦ beside n s ⟧ ⊢ ⟦ I ⟧)
-          → ((n : ℕ) (s : W) (u : View E P) → then n u → ⟦ beside n s ⟧ ∗ X ⊢ upd 𝓤 (ex 𝓤 (Into n)))
-          → ((n : ℕ) → ⟦ after_beside n ⟧ ⊢ ⟦ out n ⟧)
-          → At.named i (fbor κ I) ∗ At.lft κ q ∗ ⟦ Knows v.0 ⟧ ∗ ⟦ Hand v.1 ⟧ ∗ X
-          ⊢ asks 𝓛 (block_ptr b o) f always (λ n. fsep (flft κ q) (out n))
-      steps_beside past law apart puts along leads = let ω : ℕ = bk.words_name in
-          let Y = ‵ There ⊛ ‵ (Had v.0) ⊛ ‵ (Hand v.1) ⊛ raw X in
-          let G : Pr = ex 𝓤 (LiesWith 𝓛 κ q I b o f always out Inside) in
-          qed 𝓛 (‵ (fnamed i (fbor κ I)) ∷ ‵ (flft κ q) ∷ ‵ (Knows v.0) ∷ ‵ (Hand v.1) ∷ raw X ∷ []) ∵
-          move ! (2 ∷ []) $ use1 𝓛 (‵ There ⊛ ‵ (Had v.0)) (seen_opened v.0) $ split ! $
-          use1 𝓛 (‵ There ⊛ ‵ There) (𝓛.invs.named_dup bk.number Inside) $ split ! $ move ! (3 ∷ 0 ∷ 4 ∷ []) $
-          by ! (borrowed_with 𝓛 κ q I b o f always out i bk.number Inside (λ (x : bk.number ≡ i). omega arith)
-          (mean 𝓛 Y) (qed 𝓛 (‵ I ∷ ‵ Inside ∷ ‵ There ∷ ‵ (Had v.0) ∷ ‵ (Hand v.1) ∷ raw X ∷ []) ∵
-          suffices ! _ (upd_i 𝓤 G) $
-          use1 𝓛 (some (λ (z : ℕ × W). ‵ (word b o z.0) ⊛ ‵ (word_pen word_beside z.0) ⊛ ‵ (beside z.0 z.1))) apart $
-          pick ! (λ z. let n : ℕ = z.0 in split3 ! $ move ! (3 ∷ 5 ∷ []) $
+      -- While the book is open, the pen of a word is all that a step of the word needs: no memory has to change
+      word_turns : Moves holds v k f then → (n : ℕ) → ⟦ Inside ⟧ ∗ ⟦ Knows v.0 ⟧ ∗ ⟦ Hand v.1 ⟧ ∗ ⟦ word_pen w n ⟧
+          ⊢ upd 𝓤 (ex 𝓤 (Turned n))
+      word_turns law n = let ω : ℕ = bk.words_name in let n' : ℕ = f n in let Z : Pr = ex 𝓤 (Turned n) in
+          qed 𝓛 (‵ Inside ∷ ‵ (Knows v.0) ∷ ‵ (Hand v.1) ∷ ‵ (word_pen w n) ∷ []) ∵ move ! (1 ∷ []) $
+          use1 𝓛 (‵ There ⊛ ‵ (Had v.0)) (seen_opened v.0) $ split ! $ move ! (2 ∷ 1 ∷ []) $
           use2 𝓛 (Opening v.0) (inside_opened v.0) $
           pick ! (λ s. learn ! (λ so. split3 ! $ let ns : List ℕ = s.0 in let ps : List P = s.1.0 in
-          let log : List E = s.1.1 in move ! (0 ∷ 4 ∷ []) $
-          use2 𝓛 (given (slice_get ns k ≡ Some n) (‵ (Words ns) ⊛ ‵ (word_pen word_beside n)))
-          (pen_tells 𝓛 ω coded_ℕ ns 0 k k n (omega arith)) $ learn ! (λ at. split ! $ move ! (2 ∷ 7 ∷ []) $
+          let log : List E = s.1.1 in move ! (0 ∷ 5 ∷ []) $
+          use2 𝓛 (given (slice_get ns k ≡ Some n) (‵ (Words ns) ⊛ ‵ (word_pen w n)))
+          (pen_tells 𝓛 ω coded_ℕ ns 0 k k n (omega arith)) $ learn ! (λ at. split ! $ move ! (2 ∷ 5 ∷ []) $
           use2 𝓛 (given (Agrees v.1 ps) (‵ (Pages ps) ⊛ ‵ (Hand v.1))) (hand_agrees 𝓛 bk.pages_name cp v.1 ps) $
           learn ! (λ ag. split ! $
-          let go = law.goes ns n ps log so.0 at so.1 ag in let n' : ℕ = f n in let ms : List ℕ = set ns k n' in
-          let u : View E P = view_of v go.0 go.1 go.2 ps log in let Z : Pr = ⟦ I ⟧ ∗ ⟦ Inside ⟧ ∗ ⟦ out n ⟧ in
-          move ! (5 ∷ []) $
-          show ! (LiesWith 𝓛 κ q I b o f always out Inside) n $
-          frame ! $ each ! (λ (_ : Unit {0}). AgainWith 𝓛 κ q I b o f always out Inside n)
-          (λ _. assume ! (‵ (word b o n')) $ move ! (3 ∷ 4 ∷ []) $
-          use2 𝓛 (raw (upd 𝓤 (⟦ Words ms ⟧ ∗ ⟦ word_pen word_beside n' ⟧)))
+          let go = law.goes ns n ps log so.0 at so.1 ag in let ms : List ℕ = set ns k n' in
+          let u : View E P = view_of v go.0 go.1 go.2 ps log in move ! (2 ∷ 3 ∷ []) $
+          use2 𝓛 (raw (upd 𝓤 (⟦ Words ms ⟧ ∗ ⟦ word_pen w n' ⟧)))
           (pen_writes 𝓛 ω coded_ℕ ns 0 k k n n' (omega arith)) $
-          settle 𝓛 Z (‵ (Words ms) ⊛ ‵ (word_pen word_beside n')) $ split ! $ move ! (6 ∷ 8 ∷ []) $
-          use2 𝓛 (raw (upd 𝓤 (ex 𝓤 (Into n)))) (along n z.1 u go.4) $
-          settle 𝓛 Z (some (λ (y : W). ‵ (beside n' y) ⊛ ‵ (also n))) $
-          pick ! (λ y. split ! $ move ! (4 ∷ 3 ∷ 0 ∷ []) $
-          use3 𝓛 (‵ I) (puts n' y) $ move ! (3 ∷ 4 ∷ 2 ∷ 5 ∷ 6 ∷ []) $ group ! 5 $
+          settle 𝓛 Z (‵ (Words ms) ⊛ ‵ (word_pen w n')) $ split ! $ move ! (2 ∷ 3 ∷ 0 ∷ 4 ∷ 5 ∷ []) $ group ! 5 $
           use1 𝓛 (raw (upd 𝓤 (⟦ Inside ⟧ ∗ ⟦ Knows u.0 ⟧ ∗ ⟦ Hand u.1 ⟧))) (state_turns v (then n) ms ps log go) $
           settle 𝓛 Z (‵ Inside ⊛ ‵ (Knows u.0) ⊛ ‵ (Hand u.1)) $ split3 ! $ suffices ! _ (upd_i 𝓤 Z) $
-          move ! (3 ∷ 0 ∷ []) $ frame ! $ frame ! $
-          fjoin ! $ fjoin ! $ nothing ! $ fpack ! (IsPrefix v.0 u.0 × then n u) (λ _. ftrue)
-          (base.Growing.prefix_trans v.0 log u.0 so.1 (go.2, refl), go.4) $
-          fjoin ! $ fpack ! (View E P) (next_beside n) u $ use1 𝓛 (‵ (out n)) (leads n) $ done !)))))))))
+          show ! (Turned n) u $ check ! (base.Growing.prefix_trans v.0 log u.0 so.1 (go.2, refl), go.4) $
+          move ! (0 ∷ 3 ∷ []) $ done !))))
+
+      module _ (also : ℕ → Fml) where
+        abbrev pub next_beside : ℕ → View E P → Fml
+        next_beside n u = fsep (known (IsPrefix v.0 u.0 × then n u)) (fsep (fsep (Knows u.0) (Hand u.1)) (also n))
+
+        abbrev pub after_beside : ℕ → Fml
+        after_beside n = fex (View E P) (next_beside n)
+
+        module _ (κ : Lft) (q : Share) (i : ℕ) (I : Fml) (W : Type 0) (beside : ℕ → W → Fml) (X : Pr) where
+          abbrev Into : ℕ → W → Pr
+          Into n s = ⟦ beside (f n) s ⟧ ∗ ⟦ also n ⟧
+
+          -- One step of a word without bytes. An invariant I holds its pen, and more beside it, which changes along
+          -- and gives `also`
+          pub steps_beside : bk.number < i → Moves holds v k f then
+              → ⟦ I ⟧ ⊢ mean 𝓛 (some (λ (z : ℕ × W). ‵ (word_pen w z.0) ⊛ ‵ (beside z.0 z.1)))
+              → ((n : ℕ) (s : W) → ⟦ word_pen w n ⟧ ∗ ⟦ beside n s ⟧ ⊢ ⟦ I ⟧)
+              → ((n : ℕ) (s : W) (u : View E P) → then n u → ⟦ beside n s ⟧ ∗ X ⊢ upd 𝓤 (ex 𝓤 (Into n)))
+              → At.named i (fbor κ I) ∗ At.lft κ q ∗ ⟦ Knows v.0 ⟧ ∗ ⟦ Hand v.1 ⟧ ∗ X
+              ⊢ H.⇛ (⟦ fex ℕ after_beside ⟧ ∗ At.lft κ q)
+          steps_beside past law apart puts along = let Ps : List (ℕ × Fml) = (bk.number, Inside) ∷ [] in
+              let Q : Pr = ⟦ fex ℕ after_beside ⟧ in let R : Pr = ⟦ I ⟧ ∗ ⟦ fsep Inside ftrue ⟧ ∗ Q in
+              qed 𝓛 (‵ (fnamed i (fbor κ I)) ∷ ‵ (flft κ q) ∷ ‵ (Knows v.0) ∷ ‵ (Hand v.1) ∷ raw X ∷ []) ∵
+              move ! (2 ∷ []) $ use1 𝓛 (‵ There ⊛ ‵ (Knows v.0)) (seen_there v.0) $ split ! $
+              nothing ! $ move ! (1 ∷ 0 ∷ []) $ fjoin ! $ move ! (2 ∷ 0 ∷ []) $ fjoin ! $ move ! (0 ∷ 2 ∷ []) $
+              suffices ! _ (𝓛.invs.invs_bor_acc i κ q I Ps Q (two_apart i bk.number (fbor κ I) Inside
+              (λ (x : i ≡ bk.number). omega arith))) $ frame ! $ frame ! $ assume ! (‵ I ⊛ ‵ (fsep Inside ftrue)) $
+              split ! $ move ! (1 ∷ []) $ fsplit ! $ move ! (2 ∷ []) $
+              use1 𝓛 (some (λ (z : ℕ × W). ‵ (word_pen w z.0) ⊛ ‵ (beside z.0 z.1))) apart $
+              pick ! (λ z. let n : ℕ = z.0 in split ! $ move ! (2 ∷ 4 ∷ 5 ∷ 0 ∷ []) $ group ! 4 $
+              use1 𝓛 (raw (upd 𝓤 (ex 𝓤 (Turned n)))) (word_turns law n) $ settle 𝓛 R (Turning n) $
+              pick ! (λ u. learn ! (λ so. split ! $ move ! (1 ∷ []) $ split3 ! $ move ! (4 ∷ 6 ∷ []) $
+              use2 𝓛 (raw (upd 𝓤 (ex 𝓤 (Into n)))) (along n z.1 u so.1) $
+              settle 𝓛 R (some (λ (y : W). ‵ (beside (f n) y) ⊛ ‵ (also n))) $
+              pick ! (λ y. split ! $ suffices ! _ (upd_i 𝓤 R) $ move ! (2 ∷ 0 ∷ []) $
+              use2 𝓛 (‵ I) (puts (f n) y) $ frame ! $ move ! (3 ∷ 4 ∷ []) $ fjoin ! $ frame ! $
+              move ! (1 ∷ 2 ∷ 0 ∷ []) $ fjoin ! $ fjoin ! $
+              nothing ! $ fpack ! (IsPrefix v.0 u.0 × then n u) (λ _. ftrue) so $ fjoin ! $
+              fpack ! (View E P) (next_beside n) u $ fpack ! ℕ after_beside n $ done !))))
 
     module _ (k b o : ℕ) (κ : Lft) (q : Share) (i : ℕ) (v : View E P) (f : ℕ → ℕ) (then : ℕ → View E P → Type 0) where
-      abbrev w : Named
-      w = record { book = bk; key = k }
-
       abbrev I : Fml
-      I = lying w b o
+      I = lying (named bk k) b o
 
       abbrev pub next : ℕ → View E P → Fml
       next n u = fsep (known (IsPrefix v.0 u.0 × then n u)) (fsep (Knows u.0) (Hand u.1))
@@ -272,48 +296,33 @@ module _ {M : Type 1} {𝓤 : Ura M} (𝓛 : Logic 𝓤) where
       abbrev pub after : ℕ → Fml
       after n = fex (View E P) (next n)
 
-      abbrev nobody : ℕ → Unit {0} → Fml
-      nobody n s = ftrue
-
-      abbrev none : ℕ → Fml
-      none n = ftrue
-
-      -- a `Word` that is shared has nothing beside it
-      apart : ⟦ I ⟧ ⊢ mean 𝓛 (some (λ (z : ℕ × Unit {0}). ‵ (word b o z.0) ⊛ ‵ (word_pen w z.0) ⊛ ‵ ftrue))
-      apart = qed 𝓛 (‵ I ∷ []) ∵ fpick ! (λ n. fsplit ! $ nothing ! $ move ! (1 ∷ 2 ∷ 0 ∷ []) $
-          show ! (λ (z : ℕ × Unit {0}). ⟦ word b o z.0 ⟧ ∗ ⟦ word_pen w z.0 ⟧ ∗ ⟦ ftrue ⟧) (n, tt) $ done !)
-
-      puts : (n : ℕ) (s : Unit {0}) → ⟦ word b o n ⟧ ∗ ⟦ word_pen w n ⟧ ∗ ⟦ ftrue ⟧ ⊢ ⟦ I ⟧
-      puts n s = qed 𝓛 (‵ (word b o n) ∷ ‵ (word_pen w n) ∷ ‵ ftrue ∷ []) ∵ keep ! (0 ∷ 1 ∷ []) $
-          fjoin ! $ fpack ! ℕ (lies w b o) n $ done !
-
-      along : (n : ℕ) (s : Unit {0}) (u : View E P) → then n u → ⟦ ftrue ⟧ ∗ emp 𝓤
-          ⊢ upd 𝓤 (ex 𝓤 (λ (z : Unit {0}). ⟦ ftrue ⟧ ∗ ⟦ ftrue ⟧))
-      along n s u so = let G : Unit {0} → Pr = λ z. ⟦ ftrue ⟧ ∗ ⟦ ftrue ⟧ in
-          qed 𝓛 (‵ ftrue ∷ raw (emp 𝓤) ∷ []) ∵ suffices ! _ (upd_i 𝓤 (ex 𝓤 G)) $ keep ! (0 ∷ []) $
-          nothing ! $ show ! G tt $ done !
-
-      leads : (n : ℕ) → ⟦ after_beside k b o κ q i v f then I (Unit {0}) nobody none none (emp 𝓤) n ⟧ ⊢ ⟦ after n ⟧
-      leads n = qed 𝓛 (‵ (after_beside k b o κ q i v f then I (Unit {0}) nobody none none (emp 𝓤) n) ∷ []) ∵
-          fpick ! (λ u. fsplit ! $ move ! (1 ∷ []) $ fsplit ! $ keep ! (2 ∷ 0 ∷ []) $
-          fjoin ! $ fpack ! (View E P) (next n) u $ done !)
-
-      -- so its step is the step above
+      -- One step of a `Word`: its bytes and its pen, which an invariant holds, change at once
       steps_to : bk.number < i → Moves holds v k f then → (out : ℕ → Fml) → ((n : ℕ) → ⟦ after n ⟧ ⊢ ⟦ out n ⟧)
           → At.named i (fbor κ I) ∗ At.lft κ q ∗ ⟦ Knows v.0 ⟧ ∗ ⟦ Hand v.1 ⟧
           ⊢ asks 𝓛 (block_ptr b o) f always (λ n. fsep (flft κ q) (out n))
-      steps_to past law out gives = qed 𝓛
-          (‵ (fnamed i (fbor κ I)) ∷ ‵ (flft κ q) ∷ ‵ (Knows v.0) ∷ ‵ (Hand v.1) ∷ []) ∵
-          use0 𝓛 (raw (emp 𝓤)) (id⊢ 𝓤 (emp 𝓤)) $ move ! (1 ∷ 2 ∷ 3 ∷ 4 ∷ 0 ∷ []) $
-          by ! (steps_beside k b o κ q i v f then I (Unit {0}) nobody none out (emp 𝓤) past law apart puts along
-          (λ n. via 𝓤 ⟦ after n ⟧ (leads n) (gives n)))
+      steps_to past law out gives = let Y = ‵ (Knows v.0) ⊛ ‵ (Hand v.1) in
+          let G : Pr = ex 𝓤 (LiesWith 𝓛 κ q I b o f always out Inside) in
+          qed 𝓛 (‵ (fnamed i (fbor κ I)) ∷ ‵ (flft κ q) ∷ ‵ (Knows v.0) ∷ ‵ (Hand v.1) ∷ []) ∵ move ! (2 ∷ []) $
+          use1 𝓛 (‵ There ⊛ ‵ (Knows v.0)) (seen_there v.0) $ split ! $ move ! (2 ∷ 0 ∷ 3 ∷ []) $
+          by ! (borrowed_with 𝓛 κ q I b o f always out i bk.number Inside (λ (x : bk.number ≡ i). omega arith)
+          (mean 𝓛 Y) (qed 𝓛 (‵ I ∷ ‵ Inside ∷ ‵ (Knows v.0) ∷ ‵ (Hand v.1) ∷ []) ∵
+          fpick ! (λ n. fsplit ! $ move ! (2 ∷ 3 ∷ 4 ∷ 1 ∷ []) $ group ! 4 $
+          use1 𝓛 (raw (upd 𝓤 (ex 𝓤 (Turned k v f then n)))) (word_turns k v f then law n) $
+          settle 𝓛 G (Turning k v f then n) $
+          pick ! (λ u. learn ! (λ so. split ! $ move ! (1 ∷ []) $ split3 ! $ suffices ! _ (upd_i 𝓤 G) $
+          move ! (4 ∷ []) $ show ! (LiesWith 𝓛 κ q I b o f always out Inside) n $
+          frame ! $ each ! (λ (_ : Unit {0}). AgainWith 𝓛 κ q I b o f always out Inside n)
+          (λ _. assume ! (‵ (word b o (f n))) $ let Z : Pr = ⟦ I ⟧ ∗ ⟦ Inside ⟧ ∗ ⟦ out n ⟧ in
+          suffices ! _ (upd_i 𝓤 Z) $ move ! (0 ∷ 1 ∷ []) $ fjoin ! $ fpack ! ℕ (lies (named bk k) b o) (f n) $ frame ! $
+          move ! (2 ∷ []) $ frame ! $ fjoin ! $
+          nothing ! $ fpack ! (IsPrefix v.0 u.0 × then n u) (λ _. ftrue) so $ fjoin ! $
+          fpack ! (View E P) (next n) u $ use1 𝓛 (‵ (out n)) (gives n) $ done !))))))
 
-      -- one step of a `Word`
       pub steps : bk.number < i → Moves holds v k f then → At.named i (fbor κ I) ∗ At.lft κ q ∗ ⟦ Knows v.0 ⟧
           ∗ ⟦ Hand v.1 ⟧ ⊢ asks 𝓛 (block_ptr b o) f always (λ n. fsep (flft κ q) (after n))
       steps past law = steps_to past law after (λ n. id⊢ 𝓤 _)
 
-      -- the same where the number found is not told
+      -- the same, if the number found is not told
       pub steps_untold : bk.number < i → Moves holds v k f then → At.named i (fbor κ I) ∗ At.lft κ q ∗ ⟦ Knows v.0 ⟧
           ∗ ⟦ Hand v.1 ⟧ ⊢ asks 𝓛 (block_ptr b o) f always (λ _. fsep (flft κ q) (fex ℕ after))
       steps_untold past law = steps_to past law (λ _. fex ℕ after) (λ n. base.Logic.ex_i 𝓤 (λ (m : ℕ). ⟦ after m ⟧) n)

@@ -54,7 +54,7 @@ slot_sync T E P R g s y = record {
     (
       (λ _. tt),
       λ u. (
-        ((tt, word_pen_keyless (word_of d) u.0), ((tt, told_keyless T d u.0 u.1), tie_keyless T d z.0 b o u.1)),
+        (word_pen_keyless (word_of d) u.0, ((tt, told_keyless T d u.0 u.1), tie_keyless T d z.0 b o u.1)),
         lent_keyless T d s y z.0 b o u.1,
       ),
     ),
@@ -65,7 +65,7 @@ slot_sync T E P R g s y = record {
 pub slot_send : (T E P R : RattleType) (g : Ghosts R.Denot E.Denot P.Denot) → IsSend T
     → IsSend (Slot.the_row T E P R g)
 slot_send T E P R g s = let o : IsSend (OptionOf T) = search sendable depth 12 in record {
-  owned = λ d vs. ((λ _. tt), λ u. ((λ vss. (tt, ((tt, tt), (o.owned u.1 vss.1.0, ((λ uss. (tt, tt)), tt))))), (word_pen_keyless (word_of d) u.0, ((tt, told_keyless T d u.0 u.2), λ _. tt))));
+  owned = λ d vs. ((λ _. tt), λ u. ((λ vss. (tt, (o.owned u.1 vss.0, ((λ uss. (tt, tt)), tt)))), (word_pen_keyless (word_of d) u.0, ((tt, told_keyless T d u.0 u.2), λ _. tt))));
   leaving = λ k d w. tt;
 }
 

@@ -1,25 +1,23 @@
--- The steps of the state of a `Slot`: it begins to be written, it is full, and looks at it.
-use Rattle.std.proofs.Common.{◌∙◌, ◌≡◌, ℕ, ◌+◌, ◌<◌, List, [], ◌∷◌, ◌++◌, sym, refl, ap, subst, arith, Bool, true, false}
+-- The steps of the state of a `Slot`: the slot begins to be written, it is full, and looks at it. The state has no bytes, so no code runs for them.
+use Rattle.std.proofs.Common.{◌∙◌, ◌≡◌, ℕ, ◌<◌, List, [], ◌∷◌, ◌++◌, sym, refl, ap, subst, arith}
+use mathlib.Core.List.{not-mem-nil}
 use seplogic.Ra.Ura.{Ura}
 use base.Stored.{Gv, gnil, gnum, gcons, Coded}
-use base.Logic.{SProp, ent, sep, ex, ex_i, emp, upd, upd_i, id⊢}
-use base.Fml.{Lft, Incl, Incl-refl, GName, Share, Fml, ftrue, fsep, fex, fobs, fauth, fres, fbor, flft, finv, fnamed}
+use base.Logic.{SProp, ent, sep, ex, emp, upd, upd_i}
+use base.Fml.{Lft, Incl, Incl-refl, GName, Share, Fml, ftrue, fsep, fex, fobs, fauth, fres, fbor, flft, fnamed}
 use base.Before.{before}
 use contract.BorrowLft.{⊑_meet, ⊑_static}
 use ghost.Rules.{Toks, span}
 use types.Logic.{Logic, sem, lfts}
-use types.Kit.{Item, mean, ‵, raw, ◌⊛◌, some, given, later, ◌$◌, ◌∵◌, !, qed, by, move, keep, drop, use1, use2, use3, split, split3, fsplit, fsplit3, fjoin}
-use types.Kit.{fjoin3, fpick, fpack, pick, learn, show, frame, each, assume, suffices, await, updating, now, settle, feq_i, feq_l, done}
+use types.Kit.{Item, mean, ‵, raw, ◌⊛◌, some, given, later, ◌$◌, ◌∵◌, !, qed, by, move, keep, drop, use1, use2, use3, split, fsplit, fsplit3, fjoin}
+use types.Kit.{fjoin3, fpick, fpack, pick, learn, show, frame, assume, suffices, await, updating, now, settle, feq_i, feq_l, done}
 use types.Tokens.{res_dup}
 use types.Na.{before_dup}
 use denote.RattleType.{RattleType, RowLaws}
 use denote.Memory.{shared_of, part_at, mem}
-use denote.RawPtr.{block_ptr}
 use denote.Shares.{Shares, settles}
 use denote.Steps.{nothing}
 use denote.SharingLaws.{contraction}
-use Rattle.core.specs.Sync.RawAtomic.{word, asks, always}
-use Rattle.core.proofs.raw_atomic.Asked.{borrowed, Lies as LiesAt, Again}
 use Rattle.core.specs.declared.option.Option.TheVariants.{Some}
 use Rattle.core.specs.contracts.option.Option.{the_row as OptionOf}
 use Rattle.pagebook.specs.Pages.{Held, View, Moves}
@@ -74,9 +72,6 @@ module _ {M : Type 1} {𝓤 : Ura M} (𝓛 : Logic 𝓤) (R : RattleType) (d : P
   abbrev S : Type 0
   S = Phase R.Denot
 
-  abbrev e : ℕ
-  e = o + 0
-
   abbrev m : ℕ → Fml
   m n = word_pen (word_of d) n
 
@@ -91,40 +86,24 @@ module _ {M : Type 1} {𝓤 : Ura M} (𝓛 : Logic 𝓤) (R : RattleType) (d : P
       split ! $ nothing ! $ fpack ! (d.book.number < j) (λ _. ftrue) past $ move ! (3 ∷ 0 ∷ 1 ∷ []) $ fjoin3 ! $
       nothing ! $ fpack ! (d.book.number < j) (λ _. ftrue) past $ move ! (3 ∷ 0 ∷ 2 ∷ []) $ fjoin3 ! $ done !)
 
-  -- all that the invariant holds but the word and its pen
+  -- all that the invariant holds but the word's pen
   abbrev pub beside : ℕ → S → Fml
   beside n s = fsep (fauth γ (sign R s)) (fsep (told R d n s) (fsep (tie R d t b o s) (lent R d t b o s)))
 
   abbrev parts : Item 𝓤
-  parts = some (λ (z : ℕ × S). ‵ (word b e z.0) ⊛ ‵ (m z.0) ⊛ ‵ (beside z.0 z.1))
+  parts = some (λ (z : ℕ × S). ‵ (m z.0) ⊛ ‵ (beside z.0 z.1))
 
   -- the invariant is opened
   apart : ⟦ I ⟧ ⊢ mean 𝓛 parts
-  apart = qed 𝓛 (‵ I ∷ []) ∵ fpick ! (λ z. fsplit ! $ fsplit3 ! $ fsplit ! $ move ! (2 ∷ []) $
-      fsplit ! $ move ! (4 ∷ 5 ∷ []) $ fjoin ! $ move ! (1 ∷ 2 ∷ 0 ∷ []) $ fjoin3 ! $
-      show ! (λ (y : ℕ × S). ⟦ word b e y.0 ⟧ ∗ ⟦ m y.0 ⟧ ∗ ⟦ beside y.0 y.1 ⟧) z $ move ! (1 ∷ 2 ∷ 0 ∷ []) $ done !)
+  apart = qed 𝓛 (‵ I ∷ []) ∵ fpick ! (λ z. fsplit ! $ fsplit3 ! $ move ! (1 ∷ []) $
+      fsplit ! $ move ! (3 ∷ 4 ∷ []) $ fjoin ! $ move ! (1 ∷ 2 ∷ 0 ∷ []) $ fjoin3 ! $
+      show ! (λ (y : ℕ × S). ⟦ m y.0 ⟧ ∗ ⟦ beside y.0 y.1 ⟧) z $ move ! (1 ∷ 0 ∷ []) $ done !)
 
   -- and closed
-  put_back : (n : ℕ) (s : S) → ⟦ word b e n ⟧ ∗ ⟦ m n ⟧ ∗ ⟦ beside n s ⟧ ⊢ ⟦ I ⟧
-  put_back n s = qed 𝓛 (‵ (word b e n) ∷ ‵ (m n) ∷ ‵ (beside n s) ∷ []) ∵ fjoin ! $ move ! (1 ∷ []) $
+  put_back : (n : ℕ) (s : S) → ⟦ m n ⟧ ∗ ⟦ beside n s ⟧ ⊢ ⟦ I ⟧
+  put_back n s = qed 𝓛 (‵ (m n) ∷ ‵ (beside n s) ∷ []) ∵ move ! (1 ∷ []) $
       fsplit3 ! $ move ! (2 ∷ []) $ fsplit ! $ move ! (2 ∷ 3 ∷ []) $ fjoin ! $ move ! (3 ∷ 0 ∷ 1 ∷ []) $
-      fjoin3 ! $ fjoin ! $
-      fpack ! (ℕ × S) (standing R d t b o) (n, s) $ done !
-
-  -- a load of the state that is no step of the book
-  looks_at : (j : ℕ) (q : Share) (also : ℕ → Fml) (X : Pr)
-      → ((n : ℕ) (s : S) → ⟦ beside n s ⟧ ∗ X ⊢ ⟦ beside n s ⟧ ∗ ⟦ also n ⟧)
-      → A.named j (fbor α I) ∗ A.lft α q ∗ X ⊢ asks 𝓛 (block_ptr b e) (λ n. n) always (λ n. fsep (flft α q) (also n))
-  looks_at j q also X law = let f : ℕ → ℕ = λ n. n in let G : Pr = ex 𝓤 (LiesAt 𝓛 α q I b e f always also) in
-      qed 𝓛 (‵ (fnamed j (fbor α I)) ∷ ‵ (flft α q) ∷ raw X ∷ []) ∵
-      use1 𝓛 (‵ (finv (fbor α I))) (𝓛.invs.named_inv j (fbor α I)) $
-      by ! (borrowed 𝓛 α q I b e f always also X (qed 𝓛 (‵ I ∷ raw X ∷ []) ∵ suffices ! _ (upd_i 𝓤 G) $
-      use1 𝓛 parts apart $ pick ! (λ z. let n : ℕ = z.0 in let Z : Pr = ⟦ I ⟧ ∗ ⟦ also n ⟧ in split3 ! $
-      show ! (LiesAt 𝓛 α q I b e f always also) n $
-      frame ! $ each ! (λ (_ : Unit {0}). Again 𝓛 α q I b e f always also n) (λ _. assume ! (‵ (word b e n)) $
-      move ! (2 ∷ 3 ∷ []) $
-      use2 𝓛 (‵ (beside n z.1) ⊛ ‵ (also n)) (law n z.1) $ split ! $ move ! (2 ∷ 3 ∷ 0 ∷ []) $
-      use3 𝓛 (‵ I) (put_back n z.1) $ suffices ! _ (upd_i 𝓤 Z) $ done !))))
+      fjoin3 ! $ fjoin ! $ fpack ! (ℕ × S) (standing R d t b o) (n, s) $ done !
 
   -- what the one who writes has
   abbrev pub MayWrite : Fml
@@ -149,16 +128,6 @@ module _ {M : Type 1} {𝓤 : Ura M} (𝓛 : Logic 𝓤) (R : RattleType) (d : P
   -- the value, and a token of it
   abbrev pub Shown : R.Denot → Fml
   Shown x = fsep (written R γ x) (lent R d t b o (full x))
-
-  -- what a look at the state gives, by whether the slot is full
-  abbrev pub Peeked : ℕ → Bool → Fml
-  Peeked n true = fex R.Denot Shown
-  Peeked n false = known (¬ (n ≡ 2))
-
-  -- a look that finds 2 gives the value
-  pub peeked_two : (n : ℕ) → n ≡ 2 → (m : Bool) → ⟦ Peeked n m ⟧ ⊢ ⟦ fex R.Denot Shown ⟧
-  peeked_two n e true = id⊢ 𝓤 _
-  peeked_two n e false = qed 𝓛 (‵ (known (¬ (n ≡ 2))) ∷ []) ∵ fpick ! (λ not. absurd (not e))
 
   -- a token of a slot that nobody shares: its value lies in the field
   pub rests_full : (x : R.Denot) (s : Rest R.Denot) → ⟦ resting R d s ⟧ ∗ ⟦ written R γ x ⟧
@@ -228,7 +197,7 @@ module _ {M : Type 1} {𝓤 : Ura M} (𝓛 : Logic 𝓤) (R : RattleType) (d : P
         fjoin ! $ nothing ! $ fpack ! (n ≡ 2) (λ _. ftrue) so $ move ! (0 ∷ 3 ∷ []) $ fjoin ! $
         move ! (4 ∷ 0 ∷ 1 ∷ []) $ fjoin3 ! $ frame ! $ move ! (1 ∷ 0 ∷ []) $ fjoin ! $ done !)
 
-    -- where the state is known to be 2, a look gives the value
+    -- if the state is known to be 2, a look gives the value
     finds_two : (n : ℕ) (s : S) → n ≡ 2 → ⟦ beside n s ⟧ ∗ emp 𝓤
         ⊢ upd 𝓤 (ex 𝓤 (Into (λ y. y) (λ _. fex R.Denot Shown) n))
     finds_two n empty z = qed 𝓛 (‵ (beside n empty) ∷ raw (emp 𝓤) ∷ []) ∵ fsplit3 ! $ move ! (1 ∷ []) $
@@ -240,25 +209,6 @@ module _ {M : Type 1} {𝓤 : Ura M} (𝓛 : Logic 𝓤) (R : RattleType) (d : P
         use1 𝓛 (‵ (beside n (full x)) ⊛ ‵ (Shown x)) (shows_value n x) $ split ! $ show ! G (full x) $
         frame ! $ fpack ! R.Denot Shown x $ done !
 
-    -- a look gives the value where the slot is full
-    peeked : (n : ℕ) (s : S) → ⟦ beside n s ⟧ ∗ ⟦ ftrue ⟧ ⊢ ⟦ beside n s ⟧ ∗ ⟦ fex Bool (Peeked n) ⟧
-    peeked n empty = qed 𝓛 (‵ (beside n empty) ∷ ‵ ftrue ∷ []) ∵ keep ! (0 ∷ []) $ fsplit3 ! $ move ! (1 ∷ []) $
-        fsplit ! $ feq_l ! (λ e. feq_i ! ℕ n 0 e $ fjoin ! $ move ! (1 ∷ 0 ∷ []) $ fjoin3 ! $ frame ! $
-        nothing ! $ fpack ! (¬ (n ≡ 2)) (λ _. ftrue) (λ two. omega (arith, e, two)) $ fpack ! Bool (Peeked n) false $
-        done !)
-    peeked n writing = qed 𝓛 (‵ (beside n writing) ∷ ‵ ftrue ∷ []) ∵ keep ! (0 ∷ []) $ fsplit3 ! $ move ! (1 ∷ []) $
-        feq_l ! (λ e. feq_i ! ℕ n 1 e $ move ! (1 ∷ 0 ∷ []) $ fjoin3 ! $ frame ! $
-        nothing ! $ fpack ! (¬ (n ≡ 2)) (λ _. ftrue) (λ two. omega (arith, e, two)) $ fpack ! Bool (Peeked n) false $
-        done !)
-    peeked n (full x) = qed 𝓛 (‵ (beside n (full x)) ∷ ‵ ftrue ∷ []) ∵ keep ! (0 ∷ []) $
-        use1 𝓛 (‵ (beside n (full x)) ⊛ ‵ (Shown x)) (shows_value n x) $ split ! $ frame ! $ fpack ! R.Denot Shown x $
-        fpack ! Bool (Peeked n) true $ done !
-
-    -- a look at the state, by one who knows nothing
-    pub peeks : (j : ℕ) (q : Share) → A.named j (fbor α I) ∗ A.lft α q ∗ ⟦ ftrue ⟧
-        ⊢ asks 𝓛 (block_ptr b e) (λ n. n) always (λ n. fsep (flft α q) (fex Bool (Peeked n)))
-    peeks j q = looks_at j q (λ n. fex Bool (Peeked n)) ⟦ ftrue ⟧ peeked
-
     -- a token of a shared slot: the slot is full, and shows that value
     as_written : (x : R.Denot) (n : ℕ) (s : S) → sign R (full x) ≡ sign R s → ⟦ beside n s ⟧ ⊢ ⟦ beside n s ⟧
         ∗ ⟦ Shown x ⟧
@@ -267,14 +217,21 @@ module _ {M : Type 1} {𝓤 : Ura M} (𝓛 : Logic 𝓤) (R : RattleType) (d : P
     as_written x n (full y) e = subst (λ (u : R.Denot). ⟦ beside n (full y) ⟧ ⊢ ⟦ beside n (full y) ⟧ ∗ ⟦ Shown u ⟧)
         (sym (R.coded.inj x y (ap first_of e))) (shows_value n y)
 
-    -- a look by one who has a token
+    -- a look with a token, which is no step of the book
     pub looks_written : (j : ℕ) (q : Share) (x : R.Denot) → A.named j (fbor α I) ∗ A.lft α q ∗ ⟦ written R γ x ⟧
-        ⊢ asks 𝓛 (block_ptr b e) (λ n. n) always (λ n. fsep (flft α q) (Shown x))
-    looks_written j q x = looks_at j q (λ _. Shown x) ⟦ written R γ x ⟧ (λ n s.
-        qed 𝓛 (‵ (beside n s) ∷ ‵ (written R γ x) ∷ []) ∵ fsplit ! $ move ! (2 ∷ 0 ∷ []) $
-        use2 𝓛 (given (sign R (full x) ≡ sign R s) (‵ (written R γ x) ⊛ ‵ (fauth γ (sign R s))))
-        (𝓛.names.res_agree γ (sign R (full x)) (sign R s)) $
-        learn ! (λ e. split ! $ drop ! $ fjoin ! $ by ! (as_written x n s e)))
+        ⊢ H.⇛ (⟦ Shown x ⟧ ∗ A.lft α q)
+    looks_written j q x = let G : Pr = ⟦ I ⟧ ∗ ⟦ ftrue ⟧ ∗ ⟦ Shown x ⟧ in
+        qed 𝓛 (‵ (fnamed j (fbor α I)) ∷ ‵ (flft α q) ∷ ‵ (written R γ x) ∷ []) ∵
+        nothing ! $ move ! (1 ∷ 0 ∷ []) $ fjoin ! $
+        suffices ! _ (𝓛.invs.invs_bor_acc j α q I [] ⟦ Shown x ⟧ ((λ m. not-mem-nil m), tt)) $ frame ! $ frame ! $
+        assume ! (‵ I ⊛ ‵ ftrue) $ suffices ! _ (upd_i 𝓤 G) $ split ! $
+        use1 𝓛 parts apart $ pick ! (λ z. let g : Gv = sign R z.1 in split ! $ move ! (1 ∷ []) $ fsplit ! $
+        move ! (4 ∷ 0 ∷ []) $
+        use2 𝓛 (given (sign R (full x) ≡ g) (‵ (written R γ x) ⊛ ‵ (fauth γ g)))
+        (𝓛.names.res_agree γ (sign R (full x)) g) $
+        learn ! (λ e. split ! $ drop ! $ move ! (0 ∷ 1 ∷ []) $ fjoin ! $
+        use1 𝓛 (‵ (beside z.0 z.1) ⊛ ‵ (Shown x)) (as_written x z.0 z.1 e) $ split ! $
+        move ! (2 ∷ 0 ∷ []) $ use2 𝓛 (‵ I) (put_back z.0 z.1) $ move ! (0 ∷ 2 ∷ 1 ∷ []) $ done !))
 
   module _ {E P : Type 0} (ce : Coded E) (cp : Coded P) (holds : List ℕ → List P → List E → Type 0) (j : ℕ)
       (q : Share) (v : View E P) (past : d.book.number < j) where
@@ -285,40 +242,33 @@ module _ {M : Type 1} {𝓤 : Ura M} (𝓛 : Logic 𝓤) (R : RattleType) (d : P
     Hand h = pens_own cp.code d.book h
 
     abbrev pub begun : (ℕ → View E P → Type 0) → ℕ → Fml
-    begun then = steps.after_beside 𝓛 ce cp holds d.book d.key b e α q j v (λ _. 1) then I S beside (λ _. MayWrite)
-        (λ _. ftrue) (emp 𝓤)
+    begun then = steps.after_beside 𝓛 ce cp holds d.book d.key v (λ _. 1) then (λ _. MayWrite)
 
     -- the first step of a put
     pub begins : (then : ℕ → View E P → Type 0) → ((n : ℕ) (u : View E P) → then n u → n ≡ 0)
         → Moves holds v d.key (λ _. 1) then
         → A.named j (fbor α I) ∗ A.lft α q ∗ ⟦ Knows v.0 ⟧ ∗ ⟦ Hand v.1 ⟧ ∗ emp 𝓤
-        ⊢ asks 𝓛 (block_ptr b e) (λ _. 1) always (λ _. fsep (flft α q) (fex ℕ (begun then)))
-    begins then blank law = steps.steps_beside 𝓛 ce cp holds d.book d.key b e α q j v (λ _. 1) then I S beside
-        (λ _. MayWrite) (λ _. fex ℕ (begun then)) (emp 𝓤) past law apart put_back
-        (λ n s u so. claims n s (blank n u so))
-        (λ n. ex_i 𝓤 (λ (k : ℕ). ⟦ begun then k ⟧) n)
+        ⊢ H.⇛ (⟦ fex ℕ (begun then) ⟧ ∗ A.lft α q)
+    begins then blank law = steps.steps_beside 𝓛 ce cp holds d.book d.key v (λ _. 1) then (λ _. MayWrite) α q j I S
+        beside (emp 𝓤) past law apart put_back (λ n s u so. claims n s (blank n u so))
 
     abbrev pub ended : R.Denot → (ℕ → View E P → Type 0) → ℕ → Fml
-    ended x then = steps.after_beside 𝓛 ce cp holds d.book d.key b e α q j v (λ _. 2) then I S beside (Wrote x)
-        (λ _. ftrue) (A.obs γ gnil ∗ ⟦ ToRead x ⟧)
+    ended x then = steps.after_beside 𝓛 ce cp holds d.book d.key v (λ _. 2) then (Wrote x)
 
     -- the second step of a put
     pub ends : (x : R.Denot) (then : ℕ → View E P → Type 0) → Moves holds v d.key (λ _. 2) then
         → A.named j (fbor α I) ∗ A.lft α q ∗ ⟦ Knows v.0 ⟧ ∗ ⟦ Hand v.1 ⟧ ∗ (A.obs γ gnil ∗ ⟦ ToRead x ⟧)
-        ⊢ asks 𝓛 (block_ptr b e) (λ _. 2) always (λ _. fsep (flft α q) (fex ℕ (ended x then)))
-    ends x then law = steps.steps_beside 𝓛 ce cp holds d.book d.key b e α q j v (λ _. 2) then I S beside (Wrote x)
-        (λ _. fex ℕ (ended x then)) (A.obs γ gnil ∗ ⟦ ToRead x ⟧) past law apart put_back (λ n s u so. fills x n s)
-        (λ n. ex_i 𝓤 (λ (k : ℕ). ⟦ ended x then k ⟧) n)
+        ⊢ H.⇛ (⟦ fex ℕ (ended x then) ⟧ ∗ A.lft α q)
+    ends x then law = steps.steps_beside 𝓛 ce cp holds d.book d.key v (λ _. 2) then (Wrote x) α q j I S beside
+        (A.obs γ gnil ∗ ⟦ ToRead x ⟧) past law apart put_back (λ n s u so. fills x n s)
 
     abbrev pub seen_sure : (ℕ → View E P → Type 0) → ℕ → Fml
-    seen_sure then = steps.after_beside 𝓛 ce cp holds d.book d.key b e α q j v (λ n. n) then I S beside
-        (λ _. fex R.Denot Shown) (λ _. ftrue) (emp 𝓤)
+    seen_sure then = steps.after_beside 𝓛 ce cp holds d.book d.key v (λ n. n) then (λ _. fex R.Denot Shown)
 
-    -- a look by one who knows by the rule that the state is 2
+    -- a look of a task that knows by the rule that the state is 2
     pub looks_sure : RowLaws O → (then : ℕ → View E P → Type 0) → ((n : ℕ) (u : View E P) → then n u → n ≡ 2)
         → Moves holds v d.key (λ n. n) then
         → A.named j (fbor α I) ∗ A.lft α q ∗ ⟦ Knows v.0 ⟧ ∗ ⟦ Hand v.1 ⟧ ∗ emp 𝓤
-        ⊢ asks 𝓛 (block_ptr b e) (λ n. n) always (λ n. fsep (flft α q) (seen_sure then n))
-    looks_sure L then two law = steps.steps_beside 𝓛 ce cp holds d.book d.key b e α q j v (λ n. n) then I S beside
-        (λ _. fex R.Denot Shown) (seen_sure then) (emp 𝓤) past law apart put_back
-        (λ n s u so. finds_two L n s (two n u so)) (λ n. id⊢ 𝓤 _)
+        ⊢ H.⇛ (⟦ fex ℕ (seen_sure then) ⟧ ∗ A.lft α q)
+    looks_sure L then two law = steps.steps_beside 𝓛 ce cp holds d.book d.key v (λ n. n) then (λ _. fex R.Denot Shown)
+        α q j I S beside (emp 𝓤) past law apart put_back (λ n s u so. finds_two L n s (two n u so))

@@ -3,7 +3,7 @@ use Rattle.std.proofs.Common.{◌≡◌, ℕ, zero, ◌+◌, ◌<◌, ◌≤◌,
 use seplogic.Ra.Ura.{Ura}
 use base.Fraction.{full_share}
 use base.Share
-use base.Logic.{SProp, ent, sep, wand, emp, all, all_e, upd, upd_i, apply∗, id⊢, wand_i, snd∗}
+use base.Logic.{SProp, ent, sep, wand, emp, all, all_e, upd_i, apply∗, id⊢, wand_i, snd∗}
 use base.Fml.{Lft, GName, Share, Incl, Fml, ftrue, fsep, fseps, fex, fwand, fupd, fdead, fauth, fobs, fres, fbor, flft, fnamed, Incl-refl, Incl-trans}
 use base.Before.{before}
 use contract.BorrowLft.{meet_⊑_left}
@@ -20,7 +20,7 @@ use denote.Sharing.{ShrLaws}
 use denote.SharingLaws.{ends_shr_laws}
 use denote.Param.Laws.{Laws}
 use denote.Struct.Struct.{Struct}
-use denote.Struct.Members.{Member, row_of, rows_of, raw_tys, parts_at}
+use denote.Struct.Members.{Member, rows_of, raw_tys, parts_at}
 use denote.Struct.Tuple.{Tuple}
 use denote.Struct.Parts.{shape_of, Struct-left, left_Struct}
 use types.Owned.{named_past}
@@ -31,11 +31,9 @@ use Rattle.core.specs.declared.option.Option.TheVariants.{Some}
 use Rattle.core.specs.contracts.option.Option.{the_row as OptionOf}
 use Rattle.core.specs.contracts.marker.PhantomData as marker
 use Rattle.core.proofs.option.Option.TheLaws.{the_row_laws as option_laws}
-use Rattle.core.proofs.cell.Borrows.{flag, by_one}
-use Rattle.core.proofs.tally.Steps.{word_in, word_out}
+use Rattle.core.proofs.cell.Borrows.{by_one}
 use Rattle.pagebook.specs.declared.rule.Rule.{Ghosts}
 use Rattle.pagebook.specs.contracts.slot.Slot as C
-use Rattle.core.specs.Sync.RawAtomic.{word}
 use Rattle.pagebook.specs.Slot.{Placed, Phase, empty, writing, full, Rest, Turn, Filled, at, resting, Field, tie, lent, tied, standing, Cell, in_turn, shared_at}
 use Rattle.pagebook.proofs.State.Steps.{option_lives, turn_copied}
 use Rattle.pagebook.proofs.slot.Slot.TheLaw.Statement.{statement}
@@ -69,7 +67,7 @@ module _ (T E Q R : RattleType) (g : Ghosts R.Denot E.Denot Q.Denot) (L : Laws T
   Mark = marker.the_row (Tuple (E ∷ Q ∷ R ∷ []))
 
   abbrev members : List Member
-  members = flag ∷ record { row = O; ty = lone O.mir } ∷ record { row = Mark; ty = lone Mark.mir } ∷ []
+  members = record { row = O; ty = lone O.mir } ∷ record { row = Mark; ty = lone Mark.mir } ∷ []
 
   abbrev P : Fml
   P = part_at (C.the_written T E Q R g) full_share d b o
@@ -81,13 +79,13 @@ module _ (T E Q R : RattleType) (g : Ghosts R.Denot E.Denot Q.Denot) (L : Laws T
   S = Rest T.Denot
 
   abbrev Parts : S → Item 𝓤
-  Parts s = ‵ (word b (o + 0) s.0) ⊛ ‵ (part_at O full_share s.1 b e) ⊛ ‵ (resting T d s)
+  Parts s = ‵ (part_at O full_share s.1 b e) ⊛ ‵ (resting T d s)
 
   abbrev Joins : Pr
   Joins = all 𝓤 (λ (y : S). mean 𝓛 (Parts y) -∗ ⟦ P ⟧)
 
   abbrev tuple : S → Denots (rows_of members)
-  tuple s = (s.0, (s.1, (record {}, tt)))
+  tuple s = (s.1, (record {}, tt))
 
   abbrev Data : RattleType
   Data = Struct (shape_of [] members)
@@ -97,18 +95,15 @@ module _ (T E Q R : RattleType) (g : Ghosts R.Denot E.Denot Q.Denot) (L : Laws T
 
   lone_parts : denote.Struct.Members.Lones (rows_of members)
   lone_parts = (
-    (λ x vs p. mathlib.Core.Path.subst denote.Struct.Members.Lone (sym p.0) tt),
-    (
-      (λ x vs p. mathlib.Core.Path.subst denote.Struct.Members.Lone
-          (sym (one (lone O.mir) vs (((option_laws T L).lawful 𝓛).typed x vs p)).1) tt),
-      ((λ x vs p. mathlib.Core.Path.subst denote.Struct.Members.Lone (sym p.1.0) tt), tt),
-    ),
+    (λ x vs p. mathlib.Core.Path.subst denote.Struct.Members.Lone
+        (sym (one (lone O.mir) vs (((option_laws T L).lawful 𝓛).typed x vs p)).1) tt),
+    ((λ x vs p. mathlib.Core.Path.subst denote.Struct.Members.Lone (sym p.1.0) tt), tt),
   )
 
   abbrev inside : List Val → S → Fml
   inside vs s = fsep (Data.own_val (tuple s) vs) (resting T d s)
 
-  -- the slot where it lies is its fields, and what it owns at rest
+  -- the slot where it lies is its field, and what it owns at rest
   opened : ⟦ P ⟧ ⊢ mean 𝓛 (some (λ (s : S). ‵ (part_at Data full_share (tuple s) b o) ⊛ ‵ (resting T d s)))
   unfolding part_of
   opened = qed 𝓛 (‵ P ∷ []) ∵ fpick ! (λ vs. fsplit ! $ move ! (1 ∷ []) $ use1 𝓛 (‵ (fex S (inside vs))) (id⊢ 𝓤 _) $
@@ -124,19 +119,16 @@ module _ (T E Q R : RattleType) (g : Ghosts R.Denot E.Denot Q.Denot) (L : Laws T
       fjoin ! $
       fpack ! (List Val) (λ us. fsep (cell_at full_share Data.mir us b o) (fex S (inside us))) vs $ done !)
 
-  -- it falls into the word, the field and the rest, and comes together again with whatever these are then
+  -- it falls into the field and the rest, and comes together again with whatever these are then
   apart : ⟦ P ⟧ ⊢ mean 𝓛 (some (λ (s : S). Parts s ⊛ raw Joins))
   apart =
       qed 𝓛 (‵ P ∷ []) ∵ use1 𝓛 (some (λ (s : S). ‵ (part_at Data full_share (tuple s) b o) ⊛ ‵ (resting T d s)))
       opened $ pick ! (λ s. split ! $
       use1 𝓛 (‵ (parts_at full_share members zero (tuple s) b o) ⊛ raw Left)
-      (Struct-left 𝓛 full_share [] members lone_parts (tuple s) b o) $ split ! $ fsplit3 ! $
-      use1 𝓛 (‵ (word b (o + 0) s.0)) (word_out 𝓛 b (o + 0) s.0) $
-      show ! (λ (y : S). mean 𝓛 (Parts y ⊛ raw Joins)) s $ move ! (1 ∷ 4 ∷ []) $ join ! $ move ! (1 ∷ 0 ∷ []) $
-      join ! $ frame ! $
+      (Struct-left 𝓛 full_share [] members lone_parts (tuple s) b o) $ split ! $ fsplit ! $
+      show ! (λ (y : S). mean 𝓛 (Parts y ⊛ raw Joins)) s $ move ! (0 ∷ 3 ∷ []) $ join ! $ frame ! $
       each ! (λ (y : S). mean 𝓛 (Parts y) -∗ ⟦ P ⟧) (λ y. assume ! (Parts y) $
-      split3 ! $ use1 𝓛 (‵ (part_at (row_of flag) full_share y.0 b (o + 0))) (word_in 𝓛 b (o + 0) y.0) $
-      move ! (0 ∷ 1 ∷ 3 ∷ []) $ fjoin3 ! $
+      split ! $ move ! (0 ∷ 2 ∷ []) $ fjoin ! $
       move ! (0 ∷ 2 ∷ []) $ use2 𝓛 (‵ (part_at Data full_share (tuple y) b o))
       (left_Struct 𝓛 full_share [] members (tuple y) b o) $ by ! (closed y)))
 
@@ -172,9 +164,8 @@ module _ (T E Q R : RattleType) (g : Ghosts R.Denot E.Denot Q.Denot) (L : Laws T
         fpick ! (λ v. fsplit ! $
         move ! (4 ∷ 1 ∷ []) $ use2 𝓛 (raw (monad.fact 𝓤 (Filled T v s.1))) (field_known s.1 v) $
         heard ! (Filled T v s.1) (λ so. let y : S = (s.0, v, s.1) in
-        nothing ! $ fpack ! (Filled T v s.1) (λ _. ftrue) so $ move ! (3 ∷ 0 ∷ []) $ fjoin ! $ move ! (2 ∷ []) $
-        fsplit ! $ move ! (1 ∷ 2 ∷ []) $ fjoin ! $ keep ! (2 ∷ 0 ∷ 1 ∷ 4 ∷ []) $ join ! $ move ! (1 ∷ 0 ∷ []) $
-        join ! $ move ! (1 ∷ []) $
+        nothing ! $ fpack ! (Filled T v s.1) (λ _. ftrue) so $ move ! (3 ∷ 0 ∷ []) $ fjoin ! $ move ! (2 ∷ 0 ∷ []) $
+        fjoin ! $ keep ! (1 ∷ 0 ∷ 3 ∷ []) $ join ! $ move ! (1 ∷ []) $
         use1 𝓛 (raw (mean 𝓛 (Parts y) -∗ ⟦ P ⟧)) (all_e 𝓤 (λ (u : S). mean 𝓛 (Parts u) -∗ ⟦ P ⟧) y) $
         move ! (1 ∷ 0 ∷ []) $ by ! (apply∗ 𝓤 (mean 𝓛 (Parts y)) ⟦ P ⟧))))
 
@@ -264,10 +255,9 @@ module _ (T E Q R : RattleType) (g : Ghosts R.Denot E.Denot Q.Denot) (L : Laws T
   two_borrows : (q : Share) → A.bor κ P ∗ A.lft κ q ⊢ H.⇛ (mean 𝓛 TwoBorrows ∗ A.lft κ q)
   unfolding fseps
   two_borrows q = qed 𝓛 (‵ (fbor κ P) ∷ ‵ (flft κ q) ∷ []) ∵ updating ! $ bor_open ! tt $ move ! (1 ∷ []) $
-      use1 𝓛 (some (λ (s : S). Parts s ⊛ raw Joins)) apart $ pick ! (λ s. split ! $ split3 ! $ move ! (2 ∷ []) $
+      use1 𝓛 (some (λ (s : S). Parts s ⊛ raw Joins)) apart $ pick ! (λ s. split ! $ split ! $ move ! (1 ∷ []) $
       fsplit3 ! $
-      move ! (2 ∷ []) $ fpick ! (λ so. drop ! $ move ! (2 ∷ 0 ∷ []) $
-      fjoin ! $ name_new ! tt (O.coded.code s.1) (λ η. use1 𝓛 (‵ (tie T d (t η) b o s.2)) (tied_by η s.2 s.1 so) $
+      move ! (2 ∷ []) $ fpick ! (λ so. drop ! $ name_new ! tt (O.coded.code s.1) (λ η. use1 𝓛 (‵ (tie T d (t η) b o s.2)) (tied_by η s.2 s.1 so) $
       move ! (2 ∷ 3 ∷ 0 ∷ []) $ fjoin3 ! $ fpack ! (W η) (tied T d (t η) b o) (s.0, s.2) $ move ! (2 ∷ 1 ∷ []) $
       fjoin ! $ fpack ! O.Denot (λ v. fsep (part_at O full_share v b e) (fauth η (O.coded.code v))) s.1 $
       nothing ! $ move ! (2 ∷ 1 ∷ 0 ∷ []) $ fjoin3 ! $ let Qs : List Fml = Tied η ∷ V η ∷ [] in move ! (1 ∷ []) $

@@ -1,42 +1,37 @@
--- `found` looks at the state, which by the rule is 2.
-use Rattle.std.proofs.Common.{◌≡◌, ℕ, ◌+◌, List, [], ◌∷◌, ◌++◌, sym, refl, lit<}
+-- `found` makes a token of the value: by the rule the state is 2.
+use Rattle.std.proofs.Common.{◌≡◌, ℕ, [], ◌∷◌, refl}
 use mir.Syntax.{a_type, dcons, dnil, named}
-use mir.Val.{Val, vptr, vstruct, vcons, vnil, of_list}
+use mir.Val.{Val, vptr}
 use mir.MapTy.{inst_fn}
-use base.Before.{before}
-use base.Logic.{SProp, wand, emp, id⊢, via, apply∗}
-use base.Fml.{Lft, Share, Fml, ftrue, fsep, feq, flft, fhide}
-use types.Kit.{‵, raw, ◌⊛◌, some, given, later, mean, at_ret, ◌$◌, ◌∵◌, !, qed, by, move, keep, drop as let_go, split, group, fsplit, fsplit3, fjoin, fpick}
-use types.Kit.{fpack, pick, learn, use0, use1, use2, use3, await, rewrite, feq_i}
-use types.Run.{stop, fld, addr, lit, of_opd, no_more, and_then, first, blocks, exec, calls, returns, enter}
-use types.ByLocal.{alloc_all, pass_all, free_all, look_at, get, through, sets, sets_last, lands_as, env}
+use base.Logic.{SProp, wand, emp, id⊢, apply∗}
+use base.Fml.{Lft, Share, Fml, ftrue, fsep, fex, flft, fhide}
+use types.Kit.{‵, raw, ◌⊛◌, some, given, later, ◌$◌, ◌∵◌, !, qed, by, move, keep, drop as let_go, split, group, fsplit, fsplit3, fjoin, fpick, pick, learn}
+use types.Kit.{use0, use1, use2, use3, await, rewrite}
+use types.Run.{no_more, and_then, returns, enter}
+use types.ByLocal.{alloc_all, pass_all, free_all, look_at, get, sets, env}
 use types.Part.{agg}
 use contract.Monad.{fact, fact_i}
 use contract.Running.{tables}
 use contract.Shared.{Lends-one}
 use denote.Exit.{yes}
-use denote.RattleType.{RattleType, owns, Valss}
+use denote.RattleType.{RattleType, owns}
 use denote.Signature.{types_at, plain}
 use denote.Builtin.{RefOf}
-use denote.Ref.{ShrRef, shr_vals, shr_Tells}
-use denote.Memory.{hidden_shr, shared_of}
-use denote.RawPtr.{block_ptr}
-use denote.Opens.{hide, unhide}
+use denote.Ref.{shr_vals, shr_Tells}
+use denote.Memory.{hidden_shr}
+use denote.Opens.{unhide}
 use denote.Steps.{nothing}
 use denote.Param.{param, bounded}
 use denote.Param.Laws.{param_laws}
 use denote.Struct.Tuple.{Tuple}
 use denote.Struct.Lending.{lent_out}
 use denote.Triple.Walked.{Stays, stay_dropped, walk_of, Goes-dropped}
-use Rattle.core.proofs.atomic.Steps.{tail}
 use Rattle.core.proofs.option.Option.TheLaws.{the_row_laws as option_laws}
 use Rattle.core.specs.contracts.option.Option.{the_row as OptionOf}
-use Rattle.core.specs.declared.option.Option.TheVariants.{Some}
 use Rattle.atomic_table.proofs.Walks.{proved}
-use Rattle.atomic_table.proofs.Calls.{fm, seq_cst, found, loads}
 use Rattle.pagebook.specs.Pages.{Book, View}
 use Rattle.pagebook.specs.Owned.{seen_owns, pens_own}
-use Rattle.pagebook.specs.Slot.{Placed, Turn, at}
+use Rattle.pagebook.specs.Slot.{Placed, Turn}
 use Rattle.pagebook.proofs.Value.Made.{token_value, Token}
 use Rattle.pagebook.proofs.Value.Slots.{written_made}
 use Rattle.pagebook.proofs.Book.Unchanged.{load_keeps}
@@ -95,47 +90,24 @@ found_spec {M} 𝓤 𝓛 𝓜 𝓡 wired T E P R L _ _ _ g d _ =
     (Seen.the_heap E' P' R' g) (Seen.the_lent E' P' R' g) κs.1.0 a.1.0.now a.1.0.ref_ptr.0 a.1.0.ref_ptr.1) $
     split ! $ let_go ! $ unhide ! $ rewrite ! 0
     (λ (z : Book). ‵ (seen_owns ce.code cp.code g.holds z me.log)) same refl $ move ! (1 ∷ []) $
-    unhide ! $ fpick ! (λ u₀. let t : Turn = u₀.0 in let j : ℕ = u₀.1 in let α : Lft = t.0 in let e : ℕ = at T' o in
-    fsplit3 ! $ move ! (1 ∷ []) $ fpick ! (λ past. let_go ! $ use1 𝓛 (‵ (before κ α) ⊛ ‵ (before κ α))
-    (types.Na.before_dup 𝓛 κ α) $ split ! $
-    enter ! 𝓣.C 𝓣.Λ fn (v0 ∷ v1 ∷ []) Post $ alloc_all ! (λ l. pass_all ! refl ((tt, tt), ((tt, tt), tt)) $
-    let Ev = env fn.locals l in
-    move ! (0 ∷ 4 ∷ []) $ use2 𝓛 (later
+    unhide ! $ fpick ! (λ u₀. let t : Turn = u₀.0 in let j : ℕ = u₀.1 in let α : Lft = t.0 in
+    fsplit3 ! $ move ! (1 ∷ []) $ fpick ! (λ past. let_go ! $ enter ! 𝓣.C 𝓣.Λ fn (v0 ∷ v1 ∷ []) Post $
+    alloc_all ! (λ l. pass_all ! refl ((tt, tt), ((tt, tt), tt)) $ let Ev = env fn.locals l in
+    move ! (0 ∷ 3 ∷ []) $ use2 𝓛 (later
     (some (λ (s : Share). ‵ (flft α s) ⊛ raw (wand 𝓤 (A.lft α s) (H.⇛ (A.lft κ q)))))) (Lends-one 𝓛 𝓜 𝓡 κ α q) $
     await ! tt $ pick ! (λ s. split ! $
-    let out : ℕ → Fml = λ n. fsep (flft α s) (state.seen_sure 𝓛 T' l₀ t b o ce cp g.holds j s v past then n) in
     use0 𝓛 (raw (emp 𝓤)) (id⊢ 𝓤 (emp 𝓤)) $ use0 𝓛 (‵ (pens_own cp.code l₀.book [])) (id⊢ 𝓤 (emp 𝓤)) $
-    move ! (6 ∷ 0 ∷ 1 ∷ []) $ group ! 3 $ sets ! (addr ! (through ! refl (stop !))) refl (tt, tt) $
-    first ! $ blocks ! $ sets ! (addr ! (through ! refl (fld ! refl (stop !)))) refl (tt, tt) $
-    move ! (4 ∷ 1 ∷ 0 ∷ []) $ use3 𝓛 (raw (𝓣.C _ (vptr b (o + 0) ∷ seq_cst ∷ []) (λ u. mean 𝓛 (found out u))))
-    (via 𝓤 _ (state.looks_sure 𝓛 T' l₀ t b o ce cp g.holds j s v past LO.shr_laws then (λ n u so. so)
-    (load_keeps g.holds me.log l₀.key 2 sure))
-    (loads 𝓛 𝓜 𝓡 (code.calls-core::raw_atomic::load 𝓡.env wired) (block_ptr b (o + 0)) out)) $
-    sets ! (agg ! (and_then ! (lit ! tt) (no_more !))) refl (tt, (record { fits = lit< tt }, tt)) $
-    calls ! (fm 𝓛 𝓜 𝓡) (found out) (and_then ! (get ! refl) (and_then ! (get ! refl) (no_more !))) (λ u. await ! tt $
-    pick ! (λ n. learn ! (λ en. lands_as ! (sym en.0) refl (tt, record { fits = en.1 }) $
-    fsplit ! $ move ! (0 ∷ 2 ∷ []) $ use2 𝓛 (later (‵ (flft κ q))) (apply∗ 𝓤 (A.lft α s) (H.⇛ (A.lft κ q))) $
-    await ! tt $
-    move ! (1 ∷ []) $ fpick ! (λ w. fsplit ! $ let_go ! $ fsplit ! $ let_go ! $ fpick ! (λ x. fsplit ! $ move
-    ! (3 ∷ 1 ∷ []) $ use2 𝓛 (‵ (shared_of O (Some x) b e κ)) ((LO.shr_laws (Some x) b e).mono M 𝓤 𝓛 κ α) $
-    hide ! $ feq_i ! (List Val) (vptr b e ∷ []) (vptr b e ∷ []) refl $ fjoin ! $ move ! (1 ∷ []) $
+    move ! (5 ∷ 0 ∷ 1 ∷ []) $ group ! 3 $ move ! (3 ∷ 1 ∷ 0 ∷ []) $
+    use3 𝓛 (later (‵ (fex ℕ (state.seen_sure 𝓛 T' l₀ t b o ce cp g.holds j s v past then)) ⊛ ‵ (flft α s)))
+    (state.looks_sure 𝓛 T' l₀ t b o ce cp g.holds j s v past LO.shr_laws then (λ n u so. so)
+    (load_keeps g.holds me.log l₀.key 2 sure)) $ await ! tt $ split ! $
+    move ! (1 ∷ 2 ∷ []) $ use2 𝓛 (later (‵ (flft κ q))) (apply∗ 𝓤 (A.lft α s) (H.⇛ (A.lft κ q))) $ await ! tt $
+    move ! (1 ∷ []) $ fpick ! (λ n. fpick ! (λ w. fsplit ! $ move ! (1 ∷ []) $ fsplit ! $ move ! (1 ∷ []) $
+    fpick ! (λ x. fsplit ! $
     use1 𝓛 (‵ (W.own_val (record { marker = record {}; of = γ; value = x }) (token_value ∷ [])))
-    (written_made 𝓛 T' γ x) $
-    sets ! (addr ! (through ! refl (fld ! refl (stop !)))) refl (tt, tt) $ sets ! (agg ! (no_more !)) refl (tt, tt) $
+    (written_made 𝓛 T' γ x) $ sets ! (agg ! (no_more !)) refl (tt, tt) $
     sets ! (agg ! (and_then ! (get ! refl) (no_more !))) refl (tt, (tt, tt)) $
-    sets_last ! (agg ! (and_then ! (get ! refl) (and_then ! (get ! refl) (no_more !)))) refl
-    (tt, (tt, ((tt, tt), tt))) $
-    exec ! 𝓣.C 𝓣.Λ Ev (tail (tail fn.body)) (at_ret Ev Post) $
-    sets ! (of_opd ! (get ! refl)) refl (tt, (tt, ((tt, tt), tt))) $
-    nothing ! $ move ! (1 ∷ 0 ∷ []) $ fjoin ! $ move ! (1 ∷ 0 ∷ []) $
-    fjoin ! $ let Ref : RattleType = ShrRef (named 0) κ O in
-    let r : Ref.Denot = record { ref_ptr = (b, e); now = Some x } in
-    let z : W.Denot = (record { marker = record {}; of = γ; value = x }) in
-    let val : Val = vstruct (vcons (vptr b e) (vcons token_value vnil)) in let Rs : List RattleType = Ref ∷ W ∷ [] in
-    feq_i ! (List Val) (val ∷ []) (val ∷ []) refl $
-    fjoin ! $ fpack ! (Valss Rs) (λ vss. fsep
-    (feq (List Val) (val ∷ []) (vstruct (of_list (vss.0 ++ (vss.1.0 ++ []))) ∷ [])) (owns Rs (r, (z, tt)) vss))
-    (vptr b e ∷ [], (token_value ∷ [], tt)) $
-    move ! (1 ∷ 2 ∷ []) $ fjoin ! $ nothing ! $ nothing ! $ fjoin ! $ nothing ! $ fjoin ! $
+    move ! (4 ∷ 5 ∷ []) $ fjoin ! $ nothing ! $ nothing ! $ fjoin ! $ nothing ! $ fjoin ! $
     returns ! (look_at ! 0 refl) $ free_all ! refl $ keep ! (1 ∷ 0 ∷ 2 ∷ []) $
-    by ! (ends 𝓛 En hs c y val (r, z) (tt, (tt, tt)) (tt, (tt, tt)) (fact_i 𝓤 _ (emp 𝓤) (refl, refl)))))))))))))))
+    by ! (ends 𝓛 En hs c y token_value (record { marker = record {}; of = γ; value = x }) (tt, (tt, tt))
+    (tt, (tt, tt)) (fact_i 𝓤 _ (emp 𝓤) refl))))))))))))

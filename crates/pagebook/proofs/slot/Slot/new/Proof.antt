@@ -1,7 +1,7 @@
 -- `new` makes a word that nobody has the state of a slot.
-use Rattle.std.proofs.Common.{◌≡◌, ℕ, List, [], ◌∷◌, refl, lit<, w64}
+use Rattle.std.proofs.Common.{◌≡◌, ℕ, List, [], ◌∷◌, refl}
 use mir.Syntax.{a_type, dcons, dnil}
-use mir.Val.{Val, vint, vstruct, vcons, vnil}
+use mir.Val.{Val, vstruct, vcons, vnil}
 use mir.MapTy.{inst_fn}
 use base.Logic.{SProp, emp, id⊢}
 use base.Fml.{ftrue, fsep, fex}
@@ -19,7 +19,6 @@ use denote.Steps.{nothing, peeks}
 use denote.Laws.{Is, shows}
 use denote.Param.{param, bounded}
 use denote.Param.Laws.{param_laws}
-use denote.Builtin.{u64}
 use denote.Triple.Walked.{Stays, stay_dropped, walk_of, Goes-dropped}
 use denote.Struct.Tuple.{Tuple}
 use Rattle.atomic_table.proofs.Walks.{proved, leaves}
@@ -65,8 +64,8 @@ new_spec 𝓤 𝓛 𝓜 𝓡 wired T E P Q L LE LP LQ g d _ =
     let S : RattleType = Inside.the_row R E' P' Q' g in
     let placed : ℕ → Placed = λ γ. record { book = f.book; key = f.key; id = γ } in
     let Mark : RattleType = marker.the_row (Tuple (E' ∷ P' ∷ Q' ∷ [])) in let none : Val = live 0 vnil in
-    let v : Val = vstruct (vcons (vint w64 0) (vcons none (vcons (vstruct vnil) vnil))) in
-    let at : Rest T.Denot → S.Denot = λ s. record { state = s.0; value = s.1; marker = record {} } in
+    let v : Val = vstruct (vcons none (vcons (vstruct vnil) vnil)) in
+    let at : Rest T.Denot → S.Denot = λ s. record { value = s.1; marker = record {} } in
     let s₀ : Rest T.Denot = (0, None, empty) in
     qed 𝓛 ((raw (denote.Triple.Entry.alive 𝓛 En.signature κs qs) ⊛ ‵ (owns (types_at En.signature.params κs) a y.0.4))
     ∷ raw ((c κs a).requires gh) ∷ []) ∵ split ! $ move ! (1 ∷ []) $ fsplit ! $ fsplit ! $ keep ! (1 ∷ 3 ∷ []) $
@@ -77,12 +76,10 @@ new_spec 𝓤 𝓛 𝓜 𝓡 wired T E P Q L LE LP LQ g d _ =
     (makes_shadow 𝓛 (Mark.own_val (record {}) (vstruct vnil ∷ [])) (λ uss. (tt, tt)) (tt, (refl, tt))) $ fjoin ! $
     use0 𝓛 (‵ (O.own_val None (none ∷ []))) (none_of 𝓛 R) $
     peeks ! O (Is O) (shows 𝓛 O) None (none ∷ []) (λ is-none. fjoin ! $
-    use0 𝓛 (‵ (u64.own_val 0 (vint w64 0 ∷ [])))
-    (makes_shadow 𝓛 (u64.own_val 0 (vint w64 0 ∷ [])) (tt, tt) (refl, lit< tt)) $
-    fjoin ! $ feq_i ! (List Val) (v ∷ []) (v ∷ []) refl $ fjoin ! $
+    feq_i ! (List Val) (v ∷ []) (v ∷ []) refl $ fjoin ! $
     fpack ! (Valss (fields (Inside.the_type R E' P' Q' g)))
     (within (shape (Inside.the_type R E' P' Q' g)) ((Inside.the_type R E' P' Q' g).to (at s₀)) (v ∷ []))
-    (vint w64 0 ∷ [], (none ∷ [], (vstruct vnil ∷ [], tt))) $ use1 𝓛 (‵ (S.own_val (at s₀) (v ∷ []))) (id⊢ 𝓤 _) $
+    (none ∷ [], (vstruct vnil ∷ [], tt)) $ use1 𝓛 (‵ (S.own_val (at s₀) (v ∷ []))) (id⊢ 𝓤 _) $
     peeks ! S (Is S) (shows 𝓛 S) (at s₀) (v ∷ []) (λ is-s. let good =
     (((inside_laws R E' P' Q' g (param_laws 0 T L) (param_laws 1 E LE) (param_laws 2 P LP) (param_laws 3 Q LQ)).lawful
     𝓛).typed (at s₀) (v ∷ []) is-s) in fjoin ! $
@@ -92,7 +89,7 @@ new_spec 𝓤 𝓛 𝓜 𝓡 wired T E P Q L LE LP LQ g d _ =
     use0 𝓛 (‵ (fex fits (λ _. ftrue))) (fact_i 𝓤 fits (emp 𝓤) good) $ fjoin ! $
     sets ! (agg ! (and_then ! (lit ! tt) (no_more !))) refl ((LO.lawful 𝓛).typed None (none ∷ []) is-none).0 $
     sets ! (agg ! (no_more !)) refl (tt, tt) $
-    sets ! (agg ! (and_then ! (lit ! tt) (and_then ! (get ! refl) (and_then ! (get ! refl) (no_more !))))) refl good.0
+    sets ! (agg ! (and_then ! (get ! refl) (and_then ! (get ! refl) (no_more !)))) refl good.0
     $
     let Told : Type 0 = (f.book ≡ f.book) × (f.key ≡ f.key) in
     use0 𝓛 (raw (fact 𝓤 Told)) (fact_i 𝓤 Told (emp 𝓤) (refl, refl)) $ nothing ! $ nothing ! $ fjoin ! $

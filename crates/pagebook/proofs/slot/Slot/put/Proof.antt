@@ -1,17 +1,17 @@
--- `put` is two steps of the state and of the book, with the value written between them.
-use Rattle.std.proofs.Common.{◌≡◌, ℕ, ◌+◌, List, [], ◌∷◌, sym, refl, subst, lit<, w64}
+-- `put` writes the value, between two steps of the state and of the book.
+use Rattle.std.proofs.Common.{◌≡◌, ℕ, List, [], ◌∷◌, sym, refl, subst}
 use mir.Syntax.{a_type, dcons, dnil}
-use mir.Val.{Val, vint, vptr, vcons, vnil}
+use mir.Val.{Val, vptr, vcons, vnil}
 use mir.MapTy.{inst_fn}
 use prog.Wp.{WpFn}
 use base.Fraction.{full_share}
-use base.Logic.{SProp, ent, wand, emp, id⊢, via, apply∗}
+use base.Logic.{SProp, ent, wand, emp, id⊢, apply∗}
 use base.Fml.{Lft, Share, Fml, ftrue, fsep, fex, flft, fbor, fnamed, Incl-trans}
-use types.Kit.{‵, raw, ◌⊛◌, some, given, later, mean, at_ret, ◌$◌, ◌∵◌, !, qed, by, move, keep, drop as let_go, split, split3, join, group, fsplit, fsplit3}
-use types.Kit.{fjoin, fjoin3, fpick, pick, learn, use0, use1, use2, use3, await, rewrite, feq_i}
+use types.Kit.{‵, raw, ◌⊛◌, some, given, later, at_ret, ◌$◌, ◌∵◌, !, qed, by, move, keep, drop as let_go, split, split3, join, group, fsplit, fsplit3, fjoin}
+use types.Kit.{fjoin3, fpick, pick, learn, use0, use1, use2, use3, await, rewrite, feq_i}
 use types.Match.{live}
-use types.Run.{stop, fld, addr, lit, of_opd, no_more, and_then, first, blocks, exec, calls, returns, enter, assigns, store_raw}
-use types.ByLocal.{alloc_all, pass_all, free_all, look_at, get, through, sets, sets_last, lands_as, env}
+use types.Run.{stop, fld, addr, lit, of_opd, no_more, and_then, first, blocks, exec, returns, enter, assigns, store_raw}
+use types.ByLocal.{alloc_all, pass_all, free_all, look_at, get, through, sets, sets_last, env}
 use types.Part.{agg}
 use contract.Monad.{fact}
 use contract.Running.{tables}
@@ -23,7 +23,6 @@ use denote.Signature.{types_at, plain}
 use denote.Builtin.{RefOf}
 use denote.Memory.{lone, cell_at}
 use denote.Laws.{Is, shows}
-use denote.RawPtr.{block_ptr}
 use denote.Opens.{unhide}
 use denote.Steps.{nothing, opens, closes, heard, peeks}
 use denote.Param.{param, bounded, layout}
@@ -37,7 +36,6 @@ use Rattle.core.proofs.option.Option.TheLaws.{the_row_laws as option_laws}
 use Rattle.core.specs.contracts.option.Option.{the_row as OptionOf}
 use Rattle.core.specs.declared.option.Option.TheVariants.{Some}
 use Rattle.atomic_table.proofs.Walks.{proved_at}
-use Rattle.atomic_table.proofs.Calls.{fm, seq_cst, stored, stores}
 use Rattle.pagebook.specs.Pages.{Book, View}
 use Rattle.pagebook.specs.Owned.{seen_owns, pens_own}
 use Rattle.pagebook.specs.Slot.{Placed, Turn, at, Cell}
@@ -94,10 +92,10 @@ put_spec {M} 𝓤 𝓛 𝓜 𝓡 wired T E P R X B F L _ _ _ _ _ _ g d gb db gf 
     let x : T.Denot = a.1.0 in let got₀ = one (layout T) y₀.0.4.1.0
     (((param_laws 0 T L).lawful 𝓛).typed x y₀.0.4.1.0 are.1.0) in let w₀ : Val = got₀.0 in
     let good₀ : Good (layout T) w₀ = got₀.2 in let w₁ : Val = live 1 (vcons w₀ vnil) in
-    let b : ℕ = a.0.ref_ptr.0 in let o : ℕ = a.0.ref_ptr.1 in let l₀ : Placed = a.0.now in let bk : Book = l₀.book in
-    let γ : ℕ = l₀.id in let κ : Lft = κs.0 in let q : Share = qs.0 in let τ : Lft = κs.1.1.1.1.0 in
-    let r : Share = qs.1.1.1.1.0 in let about = a.1.1.0.now in let seen = a.1.1.1.0.now in
-    let hand = a.1.1.1.1.0.now in let v : View E.Denot P.Denot = (seen.log, hand.held) in
+    let b : ℕ = a.0.ref_ptr.0 in let o : ℕ = a.0.ref_ptr.1 in let l₀ : Placed = a.0.now in let γ : ℕ = l₀.id in
+    let κ : Lft = κs.0 in let q : Share = qs.0 in let e : ℕ = at T' o in let bk : Book = l₀.book in
+    let τ : Lft = κs.1.1.1.1.0 in let r : Share = qs.1.1.1.1.0 in let about = a.1.1.0.now in
+    let seen = a.1.1.1.0.now in let hand = a.1.1.1.1.0.now in let v : View E.Denot P.Denot = (seen.log, hand.held) in
     let then₁ : ℕ → View E.Denot P.Denot → Type 0 = λ n u. (n ≡ 0) × gb.then about v n u in
     let v0 : Val = vptr a.0.ref_ptr.0 a.0.ref_ptr.1 in let v1 : Val = w₀ in
     let v2 : Val = vptr a.1.1.0.ref_ptr.0 a.1.1.0.ref_ptr.1 in
@@ -129,7 +127,7 @@ put_spec {M} 𝓤 𝓛 𝓜 𝓡 wired T E P R X B F L _ _ _ _ _ _ g d gb db gf 
     fsplit ! $ move ! (1 ∷ []) $ fsplit ! $ move ! (6 ∷ []) $ fsplit ! $ fsplit ! $ move ! (2 ∷ []) $
     fsplit ! $ move ! (1 ∷ []) $ fsplit ! $ move ! (1 ∷ []) $ fsplit ! $ fsplit3 ! $ move ! (3 ∷ []) $
     fsplit ! $ fsplit3 ! $ keep ! (10 ∷ 8 ∷ 5 ∷ 6 ∷ 1 ∷ 2 ∷ 16 ∷ 15 ∷ 14 ∷ 13 ∷ 11 ∷ 12 ∷ []) $
-    unhide ! $ fpick ! (λ u₀. let t : Turn = u₀.0 in let j : ℕ = u₀.1 in let α : Lft = t.0 in let e : ℕ = at T' o in
+    unhide ! $ fpick ! (λ u₀. let t : Turn = u₀.0 in let j : ℕ = u₀.1 in let α : Lft = t.0 in
     fsplit3 ! $ move ! (1 ∷ []) $ fpick ! (λ past. let_go ! $ move ! (1 ∷ []) $
     use1 𝓛 (‵ (fnamed j (fbor α (Cell T' l₀ t b o))) ⊛ ‵ (fnamed j (fbor α (Cell T' l₀ t b o))))
     (𝓛.invs.named_dup j (fbor α (Cell T' l₀ t b o))) $ split ! $
@@ -144,18 +142,9 @@ put_spec {M} 𝓤 𝓛 𝓜 𝓡 wired T E P R X B F L _ _ _ _ _ _ g d gb db gf 
     opens ! tt Pn a.1.1.1.1.0.ref_ptr.0 a.1.1.1.1.0.ref_ptr.1 (λ vs4. move ! (1 ∷ []) $
     fsplit ! $ rewrite ! 7 (λ (z : Book). ‵ (seen_owns ce.code cp.code g.holds z seen.log)) this refl $
     rewrite ! 1 (λ (z : Book). ‵ (pens_own cp.code z hand.held)) that refl $
-    use0 𝓛 (raw (emp 𝓤)) (id⊢ 𝓤 (emp 𝓤)) $ move ! (8 ∷ 2 ∷ 0 ∷ []) $ group ! 3 $
-    let After : Fml = fsep (flft α s) (fex ℕ (state.begun 𝓛 T' l₀ t b o ce cp g.holds j s v past then₁)) in
-    sets ! (addr ! (through ! refl (stop !))) refl (tt, tt) $
-    first ! $ blocks ! $ sets ! (addr ! (through ! refl (fld ! refl (stop !)))) refl (tt, tt) $
-    move ! (13 ∷ 11 ∷ 0 ∷ []) $ use3 𝓛 (raw
-    (𝓣.C _ (vptr b (o + 0) ∷ vint w64 1 ∷ seq_cst ∷ []) (λ u. mean 𝓛 (stored After u))))
-    (via 𝓤 _ (state.begins 𝓛 T' l₀ t b o ce cp g.holds j s v past then₁ (λ n u so. so.0) law)
-    (stores 𝓛 𝓜 𝓡 (code.calls-core::raw_atomic::store 𝓡.env wired) (block_ptr b (o + 0)) 1 (lit< tt) After)) $
-    sets ! (agg ! (and_then ! (lit ! tt) (no_more !))) refl (tt, (record { fits = lit< tt }, tt)) $
-    calls ! (fm 𝓛 𝓜 𝓡) (stored After) (and_then ! (get ! refl)
-    (and_then ! (lit ! tt) (and_then ! (get ! refl) (no_more !)))) (λ u1. await ! tt $
-    learn ! (λ eu. lands_as ! (sym eu) refl (tt, tt) $ fsplit ! $ move ! (1 ∷ []) $
+    use0 𝓛 (raw (emp 𝓤)) (id⊢ 𝓤 (emp 𝓤)) $ move ! (8 ∷ 2 ∷ 0 ∷ []) $ group ! 3 $ move ! (13 ∷ 11 ∷ 0 ∷ []) $
+    use3 𝓛 (later (‵ (fex ℕ (state.begun 𝓛 T' l₀ t b o ce cp g.holds j s v past then₁)) ⊛ ‵ (flft α s)))
+    (state.begins 𝓛 T' l₀ t b o ce cp g.holds j s v past then₁ (λ n u so. so.0) law) $ await ! tt $ split ! $
     fpick ! (λ n₁. fpick ! (λ w. fsplit ! $ fpick ! (λ so₁. let_go ! $ fsplit ! $ fsplit ! $ move ! (2 ∷ []) $
     fsplit3 ! $
     let did : gb.then about v 0 w = subst (λ (k : ℕ). gb.then about v k w) so₁.1.0 so₁.1.1 in
@@ -167,7 +156,9 @@ put_spec {M} 𝓤 𝓛 𝓜 𝓡 wired T E P R X B F L _ _ _ _ _ _ g d gb db gf 
     peeks ! O (Is O) (shows 𝓛 O) old vs (λ is-old. let got = one (lone O.mir) vs
     ((LO.lawful 𝓛).typed old vs is-old) in
     let_go ! $ rewrite ! 0 (λ (us : List Val). ‵ (cell_at full_share O.mir us b e)) got.1 refl $
-    sets ! (addr ! (through ! refl (fld ! refl (stop !)))) refl (tt, tt) $ sets ! (of_opd ! (get ! refl)) refl good₀ $
+    sets ! (addr ! (through ! refl (stop !))) refl (tt, tt) $
+    first ! $ blocks ! $ sets ! (addr ! (through ! refl (fld ! refl (stop !)))) refl (tt, tt) $
+    sets ! (of_opd ! (get ! refl)) refl good₀ $
     sets ! (agg ! (and_then ! (lit ! tt) (and_then ! (get ! refl) (no_more !)))) refl good $
     assigns ! (of_opd ! (get ! refl)) (through ! refl (stop !)) (store_raw ! 0 refl good) $
     move ! (0 ∷ 4 ∷ 1 ∷ 2 ∷ 3 ∷ []) $ closes ! tt O (Some x) (w₁ ∷ []) b e $ move ! (2 ∷ 19 ∷ []) $
@@ -175,17 +166,9 @@ put_spec {M} 𝓤 𝓛 𝓜 𝓡 wired T E P R X B F L _ _ _ _ _ _ g d gb db gf 
     (state.read_from_now 𝓛 T' l₀ t b o O.lives (LO.shares 𝓛) ((α, s) ∷ (τ, r) ∷ [])
     (Incl-trans (meet_⊑_right α τ) (Incl-trans inc (state.option_lives T'))) (meet_⊑_left α τ) x) $ await ! tt $
     split3 ! $
-    move ! (3 ∷ 0 ∷ []) $ join ! $ move ! (3 ∷ 4 ∷ 0 ∷ []) $ group ! 3 $
-    let After₂ : Fml = fsep (flft α s) (fex ℕ (state.ended 𝓛 T' l₀ t b o ce cp g.holds j s w past x then₂)) in
-    sets ! (addr ! (through ! refl (fld ! refl (stop !)))) refl (tt, tt) $
-    move ! (14 ∷ 1 ∷ 0 ∷ []) $ use3 𝓛 (raw
-    (𝓣.C _ (vptr b (o + 0) ∷ vint w64 2 ∷ seq_cst ∷ []) (λ u. mean 𝓛 (stored After₂ u))))
-    (via 𝓤 _ (state.ends 𝓛 T' l₀ t b o ce cp g.holds j s w past x then₂ (laws w did))
-    (stores 𝓛 𝓜 𝓡 (code.calls-core::raw_atomic::store 𝓡.env wired) (block_ptr b (o + 0)) 2 (lit< tt) After₂)) $
-    sets ! (agg ! (and_then ! (lit ! tt) (no_more !))) refl (tt, (record { fits = lit< tt }, tt)) $
-    calls ! (fm 𝓛 𝓜 𝓡) (stored After₂) (and_then ! (get ! refl)
-    (and_then ! (lit ! tt) (and_then ! (get ! refl) (no_more !)))) (λ u2. await ! tt $
-    learn ! (λ eu₂. lands_as ! (sym eu₂) refl (tt, tt) $ fsplit ! $ move ! (1 ∷ []) $
+    move ! (3 ∷ 0 ∷ []) $ join ! $ move ! (3 ∷ 4 ∷ 0 ∷ []) $ group ! 3 $ move ! (14 ∷ 1 ∷ 0 ∷ []) $
+    use3 𝓛 (later (‵ (fex ℕ (state.ended 𝓛 T' l₀ t b o ce cp g.holds j s w past x then₂)) ⊛ ‵ (flft α s)))
+    (state.ends 𝓛 T' l₀ t b o ce cp g.holds j s w past x then₂ (laws w did)) $ await ! tt $ split ! $
     fpick ! (λ n₂. fpick ! (λ w₂. fsplit ! $ fpick ! (λ so₂. let_go ! $ fsplit ! $ fsplit ! $ move ! (2 ∷ []) $
     fsplit ! $ move ! (1 ∷ []) $ fpick ! (λ one. let_go ! $
     move ! (3 ∷ 15 ∷ []) $ use2 𝓛 (later (‵ (flft κ q))) (apply∗ 𝓤 (A.lft α s) (H.⇛ (A.lft κ q))) $ await ! tt $
@@ -209,4 +192,4 @@ put_spec {M} 𝓤 𝓛 𝓜 𝓡 wired T E P R X B F L _ _ _ _ _ _ g d gb db gf 
     by ! (ends 𝓛 En hs c y token_value (record { marker = record {}; of = γ; value = x })
     (tt, (tt, (tt, ((record { marker = record {}; book = bk; log = w₂.0 }), ((record { marker = record {}; book = bk; held = w₂.1 }), tt)))))
     (tt, (tt, (tt, (tt, (tt, tt))))) (four 𝓛 (sym this, sym that) (base.Growing.prefix_trans v.0 w.0 w₂.0 so₁.0 so₂.0)
-    (w, did, subst (λ (k : ℕ). gf.then about w k w₂) one so₂.1) (refl, refl)))))))))))))))))))))))))))))))
+    (w, did, subst (λ (k : ℕ). gf.then about w k w₂) one so₂.1) (refl, refl)))))))))))))))))))))))))))

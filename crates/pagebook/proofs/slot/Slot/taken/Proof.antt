@@ -1,12 +1,12 @@
 -- `taken` takes out the value that a token says is there.
-use Rattle.std.proofs.Common.{ℕ, ◌≡◌, List, [], ◌∷◌, ◌++◌, sym, refl, ap, ◌∙◌, subst, w64}
+use Rattle.std.proofs.Common.{ℕ, ◌≡◌, List, [], ◌∷◌, ◌++◌, sym, refl, ap, ◌∙◌, subst}
 use mir.Syntax.{a_type, dcons, dnil}
-use mir.Val.{Val, vint, vptr, vstruct, vcons, vnil}
+use mir.Val.{Val, vptr, vstruct, vcons, vnil}
 use mir.MapTy.{inst_fn}
 use base.Logic.{SProp, ent, sep}
 use prog.Wp.{WpFn}
 use types.Logic.{sem}
-use types.Kit.{‵, raw, ◌⊛◌, use0, use2, ◌$◌, ◌∵◌, !, qed, by, move, keep, drop, split, fsplit, fsplit3, fjoin, fpick, rewrite, feq_l}
+use types.Kit.{‵, raw, ◌⊛◌, use0, use2, ◌$◌, ◌∵◌, !, qed, by, move, keep, drop, split, fsplit, fjoin, fpick, rewrite, feq_l}
 use types.Run.{stop, fld, of_opd, returns, enter}
 use types.ByLocal.{alloc_all, pass_all, free_all, look_at, get, get_in, sets}
 use types.Part.{sub, whole}
@@ -27,7 +27,6 @@ use denote.Laws.{Is, shows}
 use denote.Memory.{lone}
 use denote.Param.{param, bounded}
 use denote.Param.Laws.{param_laws}
-use denote.Builtin.{u64}
 use denote.Triple.Walked.{Stays, stay_dropped, walk_of, Goes-dropped}
 use denote.Struct.Tuple.{Tuple}
 use Rattle.atomic_table.proofs.Walks.{proved_at, leaves}
@@ -71,23 +70,21 @@ taken_spec 𝓤 𝓛 𝓜 𝓡 wired T E P Q L LE LP LQ g d _ =
     fsplit ! $ fpick ! (λ typed. drop ! $
     fpick ! (λ s. fsplit ! $ move ! (1 ∷ 2 ∷ []) $
     use2 𝓛 (raw (fact 𝓤 (s.1 ≡ Some x))) (rests_full 𝓛 R l₀ (y₀.0.0.0, γ) 0 0 x s) $
-    heard ! (s.1 ≡ Some x) (λ told. fpick ! (λ vss. fsplit ! $ feq_l ! (λ e. fsplit3 ! $ peeks ! u64 (Is u64)
-    (shows 𝓛 u64) s.0 vss.0 (λ is-n. drop ! $
-    peeks ! O (Is O) (shows 𝓛 O) s.1 vss.1.0 (λ is-v. let got = one (lone O.mir) vss.1.0
-    ((LO.lawful 𝓛).typed s.1 vss.1.0 is-v) in let w : Val = got.0 in
+    heard ! (s.1 ≡ Some x) (λ told. fpick ! (λ vss. fsplit ! $ feq_l ! (λ e. fsplit ! $
+    peeks ! O (Is O) (shows 𝓛 O) s.1 vss.0 (λ is-v. let got = one (lone O.mir) vss.0
+    ((LO.lawful 𝓛).typed s.1 vss.0 is-v) in let w : Val = got.0 in
     rewrite ! 0 (λ (ws : List Val). ‵ (O.own_val s.1 ws)) got.1 refl $ move ! (1 ∷ []) $
-    fsplit ! $ peeks ! Mark (Is Mark) (shows 𝓛 Mark) (record {}) vss.1.1.0 (λ is-m. keep ! (2 ∷ 3 ∷ []) $
-    let v : Val = vstruct (vcons (vint w64 s.0) (vcons w (vcons (vstruct vnil) vnil))) in
-    let ev : us ≡ v ∷ [] = e ∙ ap (λ (ws : List Val). vstruct (of_list (ws ++ (vss.1.0 ++ (vss.1.1.0 ++ [])))) ∷ [])
-    is-n.0 ∙ ap (λ (ws : List Val). vstruct (of_list (vint w64 s.0 ∷ (ws ++ (vss.1.1.0 ++ [])))) ∷ []) got.1
-    ∙ ap (λ (ws : List Val). vstruct (of_list (vint w64 s.0 ∷ w ∷ (ws ++ []))) ∷ []) is-m.1.0 in
+    fsplit ! $ peeks ! Mark (Is Mark) (shows 𝓛 Mark) (record {}) vss.1.0 (λ is-m. keep ! (2 ∷ 3 ∷ []) $
+    let v : Val = vstruct (vcons w (vcons (vstruct vnil) vnil)) in
+    let ev : us ≡ v ∷ [] = e ∙ ap (λ (ws : List Val). vstruct (of_list (ws ++ (vss.1.0 ++ []))) ∷ []) got.1
+    ∙ ap (λ (ws : List Val). vstruct (of_list (w ∷ (ws ++ []))) ∷ []) is-m.1.0 in
     by ! (subst (λ (ws : List Val). ent 𝓤 (sep 𝓤 (sem 𝓛 (O.own_val s.1 (w ∷ []))) toks)
     (WpFn 𝓤 H 𝓣.C 𝓣.Λ fn (ws ++ (p ∷ [])) Post)) (sym ev) (qed 𝓛 (‵ (O.own_val s.1 (w ∷ [])) ∷ raw toks ∷ []) ∵
     enter ! 𝓣.C 𝓣.Λ fn (v ∷ p ∷ []) Post $
     alloc_all ! (λ l. pass_all ! refl ((subst fits ev typed).0, ((tt, tt), tt)) $
-    sets ! (of_opd ! (get_in ! (fld ! refl (stop !)) (sub ! 1 refl (whole !)))) refl got.2 $
+    sets ! (of_opd ! (get_in ! (fld ! refl (stop !)) (sub ! 0 refl (whole !)))) refl got.2 $
     sets ! (of_opd ! (get ! refl)) refl got.2 $
     use0 𝓛 (raw (fact 𝓤 (s.1 ≡ Some x))) (fact_i 𝓤 (s.1 ≡ Some x) (emp 𝓤) told) $
     nothing ! $ nothing ! $ fjoin ! $ nothing ! $ fjoin ! $
     returns ! (look_at ! 0 refl) $ free_all ! refl $ keep ! (3 ∷ 0 ∷ 2 ∷ 1 ∷ []) $
-    by ! (leaves 𝓛 En hs c y w s.1 (tt, (tt, tt)) (tt, (tt, tt)))))))))))))))))
+    by ! (leaves 𝓛 En hs c y w s.1 (tt, (tt, tt)) (tt, (tt, tt))))))))))))))))

@@ -1,22 +1,20 @@
--- `whole` looks at a field that a token says is full.
-use Rattle.std.proofs.Common.{◌≡◌, ℕ, ◌+◌, List, [], ◌∷◌, sym, refl, lit<}
+-- `whole` lends a field that a token says is full.
+use Rattle.std.proofs.Common.{◌≡◌, ℕ, List, [], ◌∷◌, refl}
 use mir.Syntax.{a_type, dcons, dnil, named}
 use mir.Val.{Val, vptr}
 use mir.MapTy.{inst_fn}
-use base.Logic.{SProp, wand, emp, via, apply∗}
+use base.Logic.{SProp, wand, emp, apply∗}
 use base.Fml.{Lft, Share, Fml, ftrue, fsep, flft}
 use base.Before.{before}
-use types.Kit.{mean, ‵, raw, ◌⊛◌, some, later, at_ret, ◌$◌, ◌∵◌, !, qed, by, move, keep, drop, use0, use1, use2, use3, split, join, fsplit, fsplit3, fjoin, fpick, pick, learn, await, rewrite, feq_i}
-use types.Run.{stop, fld, addr, lit, of_opd, no_more, and_then, first, blocks, exec, calls, returns, enter}
-use types.ByLocal.{alloc_all, pass_all, free_all, look_at, get, through, sets, sets_last, lands_as, env}
-use types.Part.{agg}
+use types.Kit.{‵, raw, ◌⊛◌, some, later, at_ret, ◌$◌, ◌∵◌, !, qed, by, move, keep, drop, use0, use1, use2, use3, split, join, fsplit, fsplit3, fjoin, fpick, pick, await, rewrite, feq_i}
+use types.Run.{stop, fld, addr, of_opd, first, blocks, exec, returns, enter}
+use types.ByLocal.{alloc_all, pass_all, free_all, look_at, get, through, sets, sets_last, env}
 use contract.Running.{tables}
 use contract.Monad.{fact, fact_i}
 use contract.Shared.{Lends-one}
 use denote.Exit.{yes}
 use denote.RattleType.{RattleType, owns}
 use denote.Signature.{types_at, plain}
-use denote.RawPtr.{block_ptr}
 use denote.Steps.{nothing, heard}
 use denote.Opens.{hide, unhide}
 use denote.Memory.{shared_of}
@@ -26,7 +24,6 @@ use denote.Builtin.{RefOf}
 use denote.Ref.{shr_vals, shr_Tells}
 use denote.Triple.Walked.{Stays, stay_dropped, walk_of, Goes-dropped}
 use Rattle.atomic_table.proofs.Walks.{proved, leaves}
-use Rattle.atomic_table.proofs.Calls.{fm, seq_cst, found, loads}
 use Rattle.core.proofs.atomic.Steps.{tail}
 use Rattle.core.specs.declared.option.Option.TheVariants.{Some}
 use Rattle.core.specs.contracts.option.Option.{the_row as OptionOf}
@@ -75,24 +72,17 @@ whole_spec {M} 𝓤 𝓛 𝓜 𝓡 wired T E P Q L LE LP LQ g d _ =
     move ! (0 ∷ 3 ∷ []) $ use2 𝓛 (later
     (some (λ (s : Share). ‵ (flft α s) ⊛ raw (wand 𝓤 (A.lft α s) (H.⇛ (A.lft κ q)))))) (Lends-one 𝓛 𝓜 𝓡 κ α q) $
     await ! tt $ pick ! (λ s. split ! $
-    let out : ℕ → Fml = λ n. fsep (flft α s) (steps.Shown 𝓛 R l₀ t b o x) in
     let Told : Type 0 = mathlib.Core.Path.Path O.Denot (Some x) (Some x) in
-    sets ! (addr ! (through ! refl (stop !))) refl (tt, tt) $
-    first ! $ blocks ! $ sets ! (addr ! (through ! refl (fld ! refl (stop !)))) refl (tt, tt) $
-    move ! (3 ∷ 0 ∷ 5 ∷ []) $
-    use3 𝓛 (raw (𝓣.C _ (vptr b (o + 0) ∷ seq_cst ∷ []) (λ u. mean 𝓛 (found out u))))
-    (via 𝓤 _ (steps.looks_written 𝓛 R l₀ t b o LO.shr_laws j s x)
-    (loads 𝓛 𝓜 𝓡 (code.calls-core::raw_atomic::load 𝓡.env wired) (block_ptr b (o + 0)) out)) $
-    sets ! (agg ! (and_then ! (lit ! tt) (no_more !))) refl (tt, (record { fits = lit< tt }, tt)) $
-    calls ! (fm 𝓛 𝓜 𝓡) (found out) (and_then ! (get ! refl) (and_then ! (get ! refl) (no_more !))) (λ u. await ! tt $
-    pick ! (λ n. learn ! (λ en. lands_as ! (sym en.0) refl (tt, record { fits = en.1 }) $
-    fsplit ! $ move ! (0 ∷ 2 ∷ []) $ use2 𝓛 (later (‵ (flft κ q))) (apply∗ 𝓤 (A.lft α s) (H.⇛ (A.lft κ q))) $
+    move ! (3 ∷ 0 ∷ 5 ∷ []) $ use3 𝓛 (later (‵ (steps.Shown 𝓛 R l₀ t b o x) ⊛ ‵ (flft α s)))
+    (steps.looks_written 𝓛 R l₀ t b o LO.shr_laws j s x) $ await ! tt $ split ! $
+    move ! (1 ∷ 2 ∷ []) $ use2 𝓛 (later (‵ (flft κ q))) (apply∗ 𝓤 (A.lft α s) (H.⇛ (A.lft κ q))) $
     await ! tt $ move ! (0 ∷ 3 ∷ []) $ join ! $ move ! (1 ∷ []) $ fsplit ! $ drop ! $
     move ! (2 ∷ 0 ∷ []) $ use2 𝓛 (‵ (shared_of O (Some x) b e κ)) ((LO.shr_laws (Some x) b e).mono M 𝓤 𝓛 κ α) $
     hide ! $ feq_i ! (List Val) (vptr b e ∷ []) (vptr b e ∷ []) refl $ fjoin ! $
+    sets ! (addr ! (through ! refl (stop !))) refl (tt, tt) $ first ! $ blocks ! $
     sets_last ! (addr ! (through ! refl (fld ! refl (stop !)))) refl (tt, tt) $
     exec ! 𝓣.C 𝓣.Λ Ev (tail (tail fn.body)) (at_ret Ev Post) $ sets ! (of_opd ! (get ! refl)) refl (tt, tt) $
     use0 𝓛 (raw (fact 𝓤 Told)) (fact_i 𝓤 Told (emp 𝓤) refl) $ nothing ! $ nothing ! $ fjoin ! $ nothing ! $ fjoin ! $
     returns ! (look_at ! 0 refl) $ free_all ! refl $ keep ! (3 ∷ 0 ∷ 2 ∷ 1 ∷ []) $
     by ! (leaves 𝓛 En hs c y (vptr b e) (record { ref_ptr = (b, e); now = Some x }) (tt, (tt, tt))
-    (tt, (tt, tt))))))))))))
+    (tt, (tt, tt)))))))))
