@@ -1,37 +1,36 @@
 """How tools/pagebook_walks writes a walk: a proof that goes through a function statement by statement.
 
 A walk keeps a context, a list of assertions, which its rules name by position. `Walk` keeps the context by names, and
-writes the positions, the imports of what is cited, and the lines, none longer than it may be.
+writes the positions and the imports of what is cited.
 """
 
 import os
 import re
 
+from proof_layout import WIDEST, laid_out
+
 TOP = os.path.dirname(os.path.dirname(os.path.abspath(__file__)))
 PROOFS = os.path.join(TOP, "crates", "pagebook", "proofs")
-WIDTH = 119
-# What an import may have, and a line that only a broken tuple would shorten.
-WIDEST = 160
 
 # What a walk may cite. Those names that it does cite are imported.
 IMPORTS = """
-Rattle.std.proofs.Common: ◌≡◌ ℕ ◌+◌ ◌-◌ ◌%◌ ◌^◌ ◌<◌ List [] ◌∷◌ ◌++◌ take drop sym refl ap ◌∙◌ subst arith lit< w64
+Rattle.std.proofs.Common: ◌≡◌ ℕ ◌+◌ ◌%◌ ◌^◌ List [] ◌∷◌ ◌++◌ take drop sym refl subst lit< w64
 mathlib.Core.List: IsPrefix
 mir.Syntax: a_type dcons dnil named
 mir.Val: Val vunit vint vptr vstruct vcons vnil of_list
 mir.MapTy: inst_fn
 prog.Wp: WpFn
 prog.Atomic: either
-base.Stored: gnum
+base.Stored: gnil
 base.Before: before
 base.Fraction: full_share
 base.Logic: SProp ent wand emp id⊢ via apply∗
 base.Fml: Lft Share Fml ftrue fsep fex feq flft fhide fbor fnamed Incl-trans
-types.Logic: sem
 types.Kit: ‵ raw ◌⊛◌ some given later mean at_ret ◌$◌ ◌∵◌ ! qed by move keep let_go=drop split split3 join group fsplit fsplit3 fjoin fjoin3 fpick fpack pick learn use0 use1 use2 use3 await rewrite feq_i flt_i
 types.Match: live
-types.Run: stop fld addr lit unit_lit of_opd no_more and_then first blocks exec calls Calls-last returns enter assigns store_raw
-types.ByLocal: alloc_all pass_all free_all look_at get through sets sets_last lands_last lands_as env
+types.Tokens: name_new
+types.Run: stop fld addr lit unit_lit of_opd no_more and_then first blocks exec Calls-last returns enter assigns store_raw
+types.ByLocal: alloc_all pass_all free_all look_at get through sets sets_last lands_last env
 types.Part: agg
 contract.Monad: fact fact_i
 contract.Running: tables
@@ -41,34 +40,38 @@ denote.Exit: yes no
 denote.RattleType: RattleType owns Valss
 denote.Signature: types_at plain
 denote.Builtin: RefOf u64 usize
-denote.Ref: ShrRef mut_vals mut_Tells shr_vals shr_Tells
+denote.Ref: mut_vals mut_Tells shr_vals shr_Tells
 denote.Plain: uint_vals uint_Tells
 denote.Memory: hidden_shr lone cell_at shared_of
-denote.Laws: Is shows
+denote.Laws: Is shows Typed
 denote.RawPtr: block_ptr
 denote.Opens: hide unhide
 denote.Steps: nothing opens closes heard peeks
 denote.Param: param bounded layout
 denote.Param.Laws: param_laws
+denote.Shadow: makes_shadow
+denote.Struct.Struct: within
+denote.Struct.Declared: shape fields
 denote.Struct.Tuple: Tuple
 denote.Struct.Lending: lent_out
 denote.Triple.Walked: Stays stay_dropped stay_ref walk_of Goes-dropped Goes-ref
 Rattle.core.proofs.atomic.Steps: tail
 Rattle.core.proofs.cell.Inside: Good one
-Rattle.core.proofs.option.Made: Some-of
+Rattle.core.proofs.option.Made: Some-of none_of
 Rattle.core.proofs.option.Option.TheLaws: option_laws=the_row_laws
 Rattle.core.specs.contracts.option.Option: OptionOf=the_row
-Rattle.core.specs.declared.option.Option.TheVariants: Some
+Rattle.core.specs.declared.option.Option.TheVariants: None Some
 Rattle.atomic_table.proofs.Walks: proved proved_at
-Rattle.atomic_table.proofs.Calls: fm seq_cst found finds stored has_stored loads stores swaps exchanges adds subs
+Rattle.atomic_table.proofs.Calls: fm seq_cst found finds stored has_stored loads stores swaps exchanges adds
 Rattle.pagebook.specs.Pages: Book View dealt named_at=named
-Rattle.pagebook.specs.Owned: seen_owns pens_own pens reached
-Rattle.pagebook.specs.Slot: Placed Turn at Cell
+Rattle.pagebook.specs.Owned: seen_owns pens_own blanks_own word_pen reached
+Rattle.pagebook.specs.Slot: Placed Turn at Cell Rest resting empty
 Rattle.pagebook.proofs.Page.Hands: hands_joined hand_cut
 Rattle.pagebook.proofs.Book.Steps: after notes learns seen_reached steps steps_untold
 Rattle.pagebook.proofs.Book.Opening: book_opens
-Rattle.pagebook.proofs.Value.Made: token_value word_value Token token_made word_made
-Rattle.pagebook.proofs.Value.Slots: written_made blank_made
+Rattle.pagebook.proofs.Value.Made: token_value word_value Token token_made word_made blanks_made blank_taken
+Rattle.pagebook.proofs.Value.Slots: written_made
+Rattle.pagebook.proofs.slot.Slot.TheInside.TheLaws: inside_laws=the_row_laws
 Rattle.pagebook.proofs.Book.Unchanged: load_keeps
 Rattle.pagebook.proofs.Walk.Ends: ends two three four
 """
@@ -79,11 +82,26 @@ MODULES = {
     "Seen": "Rattle.pagebook.specs.contracts.tokens.Seen",
     "Pens": "Rattle.pagebook.specs.contracts.tokens.Pens",
     "Word": "Rattle.pagebook.specs.contracts.word.Word",
-    "Blank": "Rattle.pagebook.specs.contracts.slot.Blank",
+    "Blanks": "Rattle.pagebook.specs.contracts.word.Blanks",
     "Written": "Rattle.pagebook.specs.contracts.slot.Written",
     "Slot": "Rattle.pagebook.specs.contracts.slot.Slot",
+    "Inside": "Rattle.pagebook.specs.contracts.slot.Slot.TheInside",
     "state": "Rattle.pagebook.proofs.State.Steps",
 }
+
+# The traits that a walk may have, and how code makes a token.
+RULE = [("g", "d")]
+RULE_AND_PLAY = [("g", "d"), ("gn", "dn")]
+TOKEN_MADE = ("sets ! (agg ! (no_more !)) refl (tt, tt) $"
+              " sets ! (agg ! (and_then ! (get ! refl) (no_more !))) refl (tt, (tt, tt)) $")
+
+
+def operands(count):
+    """So many operands, each taken from a local."""
+    text = "(no_more !)"
+    for _ in range(count):
+        text = f"(and_then ! (get ! refl) {text})"
+    return text
 
 
 def nested(parts, end="tt"):
@@ -102,7 +120,7 @@ def cited(name, text):
     """Whether the text has this name."""
     if "◌" in name:
         return f" {name.replace('◌', '')} " in text
-    return re.search(r"(?<![\w#'-])" + re.escape(name) + r"(?![\w'-])", text) is not None
+    return re.search(r"(?<![\w#'.-])" + re.escape(name) + r"(?![\w'-])", text) is not None
 
 
 def imported(module, names):
@@ -131,98 +149,14 @@ def imports(text):
     return "".join(lines)
 
 
-def groups(line):
-    """Where the brackets of a line open and close, and whether a tuple stands in them."""
-    opened, closed = [], []
-    for place, letter in enumerate(line):
-        if letter in "([{":
-            opened.append([place, False])
-        elif letter == "," and opened:
-            opened[-1][1] = True
-        elif letter in ")]}" and opened:
-            start, is_tuple = opened.pop()
-            closed.append((start, place, is_tuple))
-    return closed + [(start, len(line), is_tuple) for start, is_tuple in opened if is_tuple]
-
-
-def end_of_first(line, limit):
-    """Where a line that is too long is broken: outside of brackets rather than within, after a step at best, and in
-    no tuple, since `rt fmt` gives a tuple that is broken a line for each part."""
-    closed = groups(line)
-    best = None
-    for rank, pattern in enumerate([r" \$ ", r" in ", r" ∵ ", r" (?=[→⊢∗⊛×∷] )", r", ", r" (?=\()", r" "]):
-        for match in re.finditer(pattern, line):
-            place = match.start()
-            if match.end() > limit or place < limit * 0.3 or line[:place].endswith(("!", "λ")):
-                continue
-            around = [is_tuple for start, end, is_tuple in closed if start < place < end]
-            if any(around):
-                continue
-            within = len(around)
-            score = (within, rank, -place)
-            if best is None or score < best[0]:
-                best = (score, match.end())
-    return best[1] if best else None
-
-
-def spread(line, room, most):
-    """A line with its longest tuple broken as `rt fmt` breaks it: what stands before the tuple's parts, the parts, and
-    what follows. None where no tuple begins within the room and has more columns than most."""
-    tuples = [(end - start, start, end) for start, end, is_tuple in groups(line)
-              if is_tuple and start < room and end < len(line)]
-    size, start, end = max(tuples, default=(0, 0, 0))
-    if size <= most:
-        return None
-    commas, depth = [], 0
-    for place in range(start + 1, end):
-        depth += (line[place] in "([{") - (line[place] in ")]}")
-        if line[place] == "," and depth == 0:
-            commas.append(place)
-    parts = [line[one + 1:other].strip() for one, other in zip([start] + commas, commas + [end])]
-    return line[:start + 1], parts, line[end:]
-
-
-def broken(line, indent, later):
-    """A line as lines no longer than they may be, where that can be had. Those after the first begin at `later`."""
-    lines = []
-    while indent + len(line) > WIDTH:
-        room, most = WIDTH - indent, WIDEST - indent
-        apart = spread(line, room, most)
-        end = None if apart else end_of_first(line, room)
-        if not apart and end is None and len(line) > most:
-            end = end_of_first(line, most)
-            apart = spread(line, room, 0) if end is None else None
-        if apart:
-            head, parts, line = apart
-            lines.append(" " * indent + head)
-            for part in parts:
-                lines += broken(part + ",", indent + 2, indent + 6)
-        elif end is None:
-            break
-        else:
-            lines.append(" " * indent + line[:end].rstrip())
-            line, indent = line[end:].lstrip(), later
-    return lines + [(" " * indent + line).rstrip()]
-
-
-def laid_out(text):
-    """The text with no line longer than it may be, where that can be had."""
-    lines = []
-    for line in text.split("\n"):
-        indent = len(line) - len(line.lstrip())
-        if line.startswith(("use ", "--")):
-            lines.append(line.rstrip())
-        else:
-            lines += broken(line.strip(), indent, indent or 4)
-    return "\n".join(lines) + "\n"
-
-
 class Walk:
     """One proof. Its types are letters, its traits pairs of a ghost and a dictionary, and its parameters pairs of a
-    kind (`mut` and `shr` for references, `own` for a value of T, or the name of a number's type) and a row."""
+    kind (`mut` and `shr` for references, `own` for a value of T, or the name of a number's type) and a row. `laws` has
+    the types whose laws the proof names."""
 
-    def __init__(self, function, about, types, traits, params):
+    def __init__(self, function, about, types, traits, params, laws="T"):
         self.function, self.about, self.types, self.traits, self.params = function, about, types, traits, params
+        self.laws = laws
         self.context, self.body, self.open = [], [], 0
         references = [place for place, (kind, _) in enumerate(params) if kind in ("mut", "shr")]
         self.life = {place: number for number, place in enumerate(references)}
@@ -349,7 +283,7 @@ class Walk:
         """The statement's arguments, and the names of rows and clauses."""
         types = self.types
         ghosts = " ".join(f"{ghost} {law}" for ghost, law in self.traits)
-        laws = " ".join("L" if letter == "T" else "_" for letter in types)
+        laws = " ".join(("L" if letter == "T" else f"L{letter}") if letter in self.laws else "_" for letter in types)
         tuple_of = nested(types)
         dictionary = "dnil"
         for _, law in reversed(self.traits):
@@ -367,6 +301,8 @@ class Walk:
         if "R" in types:
             text += "let ce = E'.coded in let Me : RattleType = Seen.the_row E' P' R' g in"
             text += " let Wd : RattleType = Word.the_row E' P' R' g in let All : RattleType = Tuple (E' ∷ P' ∷ R' ∷ []) in "
+        if any(row == "Bl" for _, row in self.params):
+            text += "let Bl : RattleType = Blanks.the_row in "
         if "P" in types:
             text += "let cp = P'.coded in let Pn : RattleType = Pens.the_row P' in\n    "
         return text, tuple_of, " ".join(law for _, law in self.traits)
@@ -507,6 +443,17 @@ class Walk:
         self.closes(hand, ["fb", "Hd"], values[1])
         self.line()
         return values
+
+    def takes_blank(self, place, number):
+        """The pen of the first blank is taken out of a `&mut Blanks`. Returns what the blanks are then."""
+        rest = "(record { marker = record {}; book = bk; first = key + 1; numbers = drop 1 bl.numbers })"
+        self.opens(place, ["f", "pens"])
+        self.use(["pens"], "both", f"(‵ (word_pen (named_at bk key) {number}) ⊛ ‵ (blanks_own bk (key + 1)"
+                 f" (drop 1 bl.numbers))) (blank_taken 𝓛 bk key bl.numbers {number} asked)")
+        self.split("both", "pen", "pens")
+        self.closes(place, ["f", "pens"], rest)
+        self.line()
+        return rest
 
     def shared_seen(self, place):
         """What a `&` to a `Seen` says."""

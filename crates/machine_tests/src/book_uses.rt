@@ -1,7 +1,7 @@
 //! The uses of `pagebook` at work, most of them by two threads; and the sizes and the lock of `pagebook`.
 ghost use Rattle.std.specs.Prelude.{◌≡◌};
 
-use pagebook::{Key, Keyed, KeyedMutex, Pens, Seen, Slot, Word, Written};
+use pagebook::{Blanks, Key, Keyed, KeyedMutex, Pens, Seen, Slot, Word, Written};
 use pagebook_uses::first::race;
 use pagebook_uses::hall::{Arrival, Desk, HallRule, Page, visits};
 use pagebook_uses::shelf::{Filled, OneFill, Shelf, Stage, fill_and_look, two_looks};
@@ -24,11 +24,12 @@ fn what_is_ghost_has_no_bytes(rt: HostRuntime) -> Result<(), Fail> {
         size_of::<Word<Arrival, Page, HallRule>>(),
         size_of::<Seen<Arrival, Page, HallRule>>(),
         size_of::<Pens<Page>>(),
+        size_of::<Blanks>(),
         size_of::<Written<u64>>(),
     ];
     let slot = size_of::<Slot<u64, Filled, Stage, OneFill>>() == size_of::<Option<u64>>();
     let lock = size_of::<KeyedMutex<Desk>>() == size_of::<Mutex<u64>>();
-    assert_eq!(rt; (sizes, slot, lock), ([8, 0, 0, 0], true, true));
+    assert_eq!(rt; (sizes, slot, lock), ([8, 0, 0, 0, 0], true, true));
     Ok(())
 }
 

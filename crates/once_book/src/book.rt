@@ -38,8 +38,10 @@ impl Rule<Line, Leaf> for CellRule {
 }
 
 impl Opening<(), Line, Leaf> for CellRule {
-    ghost use Rattle.std.specs.Prelude.{[]};
+    ghost use Rattle.std.specs.Prelude.{[], ◌∷◌};
     ghost use Rattle.once_book.specs.Desk.{desk_pages, first_desk};
+
+    ghost words = { λ _. 0 ∷ 0 ∷ 0 ∷ [] };
 
     ghost pages = { λ _. desk_pages first_desk };
 

@@ -64,11 +64,11 @@ impl<T, W: TaskWaker + Drop> Inner<T, W> {
     /// ```
     #[inline(always)]
     pub fn new() -> Self {
-        let (word, has_put, blank, front, pens) = Word::open_two_slot::<(), CellRule>(0, 0, &());
+        let (mut blanks, front, pens) = Word::open::<(), CellRule>(&());
         Inner {
-            word,
-            has_put,
-            slot: Slot::new(blank),
+            word: Word::new(0, &mut blanks),
+            has_put: Word::new(0, &mut blanks),
+            slot: Slot::new(&mut blanks),
             front,
             desk: KeyedMutex::new(Desk::new(pens)),
         }

@@ -2,7 +2,7 @@
 --   Rows   for whoever writes a rule: what stands in a row of words or pages, and what stands there after a step
 --   Page   a page's two parts, the book's and its pen; hands of pens
 --   Book   the ghost state: a book is opened, and a step that keeps the rule changes words, pages and log together
---   Value  the values of the machine that words, tokens and a slot's tokens are
+--   Value  the values of the machine that words, blanks and tokens are
 --   State  the steps of the state of a slot: it begins to be written, it is full, and looks at it
 --   Share  what may go to other threads, and what a `&` to a token lends
 --   Walk   how a walk ends

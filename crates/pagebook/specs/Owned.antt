@@ -17,7 +17,7 @@ use base.Fml.{Lft, Share, Fml, ftrue, ffalse, fsep, fex, fbor, fnamed}
 use types.Keyed.{entry, entries_from}
 use denote.RawPtr.{Ptr, block_ptr, null_ptr}
 use Rattle.core.specs.Sync.RawAtomic.{word}
-use Rattle.pagebook.specs.Pages.{Book, Named, Held}
+use Rattle.pagebook.specs.Pages.{Book, Named, Held, dealt}
 
 -- the fact φ
 abbrev pub known : Type 0 → Fml
@@ -64,6 +64,10 @@ module _ {P : Type 0} (c : P → Gv) where
 
   abbrev pub pens_own : Book → Held P → Fml
   pens_own b h = pens b.pages_name h
+
+-- the pens of blanks, which are words of which nothing is made yet: their keys are k and those after it
+abbrev pub blanks_own : Book → ℕ → List ℕ → Fml
+blanks_own b k ns = pens gnum b.words_name (dealt k ns [])
 
 -- the log began so at some moment, and does from then on
 abbrev pub reached : {E : Type 0} → (E → Gv) → ℕ → List E → Fml

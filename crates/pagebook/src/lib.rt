@@ -19,6 +19,7 @@
 //!
 //! - `Word` is a `u64`. Threads share it, and step it: `load`, `store`, `swap`, `compare_exchange`, `fetch_add` and
 //!   `fetch_sub`.
+//! - `Word::open` makes a book. It gives `Blanks`, of which the words and slots of the book are made, in their order.
 //! - `Pens` is a hand of pens. A page whose pen is in a hand says what the hand says, until a step with this hand
 //!   changes it. Hands are put together (`append`) and cut (`split_off`), so that one step can change pages whose pens
 //!   lie in several places.
@@ -47,12 +48,22 @@
 //! pub struct Medal;                                        // what a page says: nothing
 //! pub struct OneMedal;                                     // the rule, and how a book begins
 //! impl Rule<(), Medal> for OneMedal { ghost holds = { λ ns ps log. IsGiven ns ps }; }
-//! impl Opening<(), (), Medal> for OneMedal { ghost pages = { λ x. [] }; ghost log = { λ x. [] }; }
+//! impl Opening<(), (), Medal> for OneMedal {
+//!     ghost words = { λ x. 0 ∷ [] };                       // one word, which is 0
+//!     ghost pages = { λ x. [] };
+//!     ghost log = { λ x. [] };
+//! }
 //!
 //! struct Comes;                                            // what coming tells
 //! impl Play<(), (), Medal> for Comes { ghost then = { λ x. Came }; }
 //!
 //! impl Line {
+//!     pub fn new() -> Line {
+//!         let (mut blanks, front, _) = Word::open::<(), OneMedal>(&());
+//!         let medals = Word::new(0, &mut blanks);
+//!         Line { medals, front }
+//!     }
+//!
 //!     pub fn come(&self) -> Option<Winner>                 // Winner: a hand that holds the pen of page 0
 //!         ensures { IfSome result (λ w. w.pens.book ≡ self.now.medals.book) }
 //!     {
@@ -107,7 +118,7 @@ mod word;
 
 pub use lock::KeyedMutex;
 pub use rule::{Opening, Play, Rule};
-pub use slot::{Blank, Slot, Written};
+pub use slot::{Slot, Written};
 pub use tied::{Key, Keyed, LockOf, Tied};
 pub use tokens::{Pens, Seen};
-pub use word::Word;
+pub use word::{Blanks, Word};

@@ -10,8 +10,10 @@ pub trait Rule<E, P> {
     ghost holds: { List ℕ → List P → List E → Type 0 };
 }
 
-/// What a new book begins with, by data of the caller's: its first pages, and its first log.
+/// What a new book begins with, by data of the caller's: the numbers in its words, its first pages, and its first log.
 pub trait Opening<X, E, P> {
+    ghost words: { X → List ℕ };
+
     ghost pages: { X → List P };
 
     ghost log: { X → List E };

@@ -6,29 +6,18 @@
 // found a number that says so, or it got a `Seen` or a `Written` from a thread that did, over a lock, say, or at a
 // join. Neither a note nor a put elsewhere can tell it (`proofs/Book/Untold.antt`), so whoever may call `get` or
 // `value` has such an order.
-ghost use Rattle.core.specs.Prelude.{◌≡◌, ℕ};
+ghost use Rattle.core.specs.Prelude.{◌≡◌, ℕ, ◌+◌, drop, slice_get};
 ghost use mathlib.Core.List.{IsPrefix};
 ghost use base.Fml.{fsep, fex};
 ghost use denote.Sharing.{said};
 ghost use Rattle.core.specs.declared.option.Option.TheVariants.{Some};
-ghost use Rattle.pagebook.specs.Pages.{Book, book_coded, View, Moves, Sure, named};
-ghost use Rattle.pagebook.specs.Owned.{word_pen};
+ghost use Rattle.pagebook.specs.Pages.{View, Moves, Sure};
 ghost use Rattle.pagebook.specs.Slot.{Placed, placed_coded, Rest, resting, shared, written};
 
 use crate::rule::{Play, Rule};
 use crate::tokens::{Pens, Seen};
+use crate::word::Blanks;
 use std::marker::{Model, Move, Owns, PhantomData};
-
-/// A word of a book that nobody has, and that is 0: a `Slot` is made of it, whose state it is then. It has no bytes.
-pub struct Blank {
-    pub(crate) marker: PhantomData<()>,
-    pub ghost book: { Book } by { book_coded },
-    pub ghost key: { ℕ },
-}
-
-impl Model for Blank {
-    ghost also_owns = { λ f. word_pen (named f.book f.key) 0 };
-}
 
 /// What shows that the slot whose `id` is `of` holds `value`. It has no bytes, can be copied, and stays true.
 pub struct Written<T> {
@@ -64,12 +53,16 @@ impl<T, E, P, R: Rule<E, P>> Move for Slot<T, E, P, R> {
 }
 
 impl<T, E, P, R: Rule<E, P>> Slot<T, E, P, R> {
-    /// An empty slot. Its state is the word that the blank stood for.
+    /// An empty slot, whose state is the word of the first blank.
+    ///
+    /// Asked for: that word begins with 0.
     #[inline(always)]
-    pub fn new(blank: Blank) -> Slot<T, E, P, R>
-        ensures { (result.book ≡ blank.book) × (result.key ≡ blank.key) }
+    pub fn new(blanks: &mut Blanks) -> Slot<T, E, P, R>
+        requires { slice_get blanks.old.numbers 0 ≡ Some 0 }
+        ensures slot { (result.book ≡ blanks.old.book) × (result.key ≡ blanks.old.first) }
+        ensures blanks { (blanks.new.book ≡ blanks.old.book) × (blanks.new.first ≡ blanks.old.first + 1)
+            × (blanks.new.numbers ≡ drop 1 blanks.old.numbers) }
     {
-        let Blank { marker: _ } = blank;
         Slot {
             value: None,
             marker: PhantomData,
@@ -111,6 +104,20 @@ impl<T, E, P, R: Rule<E, P>> Slot<T, E, P, R> {
         }
     }
 
+    /// The value, and what shows that it is the slot's.
+    ///
+    /// Asked for: `seen` is of the slot's book, and whoever has seen so much of the log knows by the rule
+    /// that the state is 2 (`Sure`).
+    #[inline(always)]
+    pub fn get<'a>(&'a self, seen: &Seen<E, P, R>) -> (&'a T, Written<T>)
+        requires book { seen.now.book ≡ self.now.book }
+        requires sure { Sure R.holds seen.now.log self.now.key 2 }
+        ensures { (result.0.now ≡ result.1.value) × (result.1.of ≡ self.now.id) }
+    {
+        let written = self.found(seen);
+        (self.value(&written), written)
+    }
+
     // What shows the value, which by the rule is there. It does nothing.
     #[inline(always)]
     fn found(&self, seen: &Seen<E, P, R>) -> Written<T>
@@ -120,6 +127,20 @@ impl<T, E, P, R: Rule<E, P>> Slot<T, E, P, R> {
     {
         Written {
             marker: PhantomData,
+        }
+    }
+
+    /// The value, for whoever shows that there is one. No book is needed.
+    ///
+    /// Asked for: the token is of this slot.
+    #[inline(always)]
+    pub fn value<'a>(&'a self, written: &Written<T>) -> &'a T
+        requires { written.now.of ≡ self.now.id }
+        ensures { result.now ≡ written.now.value }
+    {
+        match self.whole(written) {
+            Some(value) => value,
+            None => unreachable!(),
         }
     }
 
@@ -140,31 +161,6 @@ impl<T, E, P, R: Rule<E, P>> Slot<T, E, P, R> {
         value
     }
 
-    /// The value, and what shows that it is the slot's.
-    ///
-    /// Asked for: `seen` is of the slot's book, and whoever has seen so much of the log knows by the rule
-    /// that the state is 2 (`Sure`).
-    #[inline(always)]
-    pub fn get<'a>(&'a self, seen: &Seen<E, P, R>) -> (&'a T, Written<T>)
-        requires book { seen.now.book ≡ self.now.book }
-        requires sure { Sure R.holds seen.now.log self.now.key 2 }
-        ensures { (result.0.now ≡ result.1.value) × (result.1.of ≡ self.now.id) }
-    {
-        let written = self.found(seen);
-        (self.value(&written), written)
-    }
-
-    // What lies in the field, which by a token is full.
-    #[inline(always)]
-    fn taken(self, written: &Written<T>) -> Option<T>
-        requires { written.now.of ≡ self.id }
-        ensures { result ≡ Some written.now.value }
-    {
-        let _ = written;
-        let Self { value, marker: _ } = self;
-        value
-    }
-
     /// The value, for whoever shows that there is one.
     ///
     /// Asked for: the token is of this slot.
@@ -179,18 +175,15 @@ impl<T, E, P, R: Rule<E, P>> Slot<T, E, P, R> {
         }
     }
 
-    /// The value, for whoever shows that there is one. No book is needed.
-    ///
-    /// Asked for: the token is of this slot.
+    // What lies in the field, which by a token is full.
     #[inline(always)]
-    pub fn value<'a>(&'a self, written: &Written<T>) -> &'a T
-        requires { written.now.of ≡ self.now.id }
-        ensures { result.now ≡ written.now.value }
+    fn taken(self, written: &Written<T>) -> Option<T>
+        requires { written.now.of ≡ self.id }
+        ensures { result ≡ Some written.now.value }
     {
-        match self.whole(written) {
-            Some(value) => value,
-            None => unreachable!(),
-        }
+        let _ = written;
+        let Self { value, marker: _ } = self;
+        value
     }
 }
 
@@ -228,8 +221,6 @@ impl<T> Drop for Written<T> {
         let Self { marker: _ } = self;
     }
 }
-
-unsafe impl Send for Blank {}
 
 unsafe impl<T: Send, E, P, R: Rule<E, P>> Send for Slot<T, E, P, R> {}
 

@@ -1,16 +1,17 @@
-// A word that threads read and change in single steps, with the book behind it.
-ghost use Rattle.core.specs.Prelude.{◌≡◌, ℕ, ◌+◌, ◌-◌, ◌%◌, ◌^◌, ◌==◌, [], ◌∷◌};
+// A word that threads read and change in single steps, with the book behind it; and how a book is opened.
+ghost use Rattle.core.specs.Prelude.{◌≡◌, ℕ, ◌+◌, ◌-◌, ◌%◌, ◌^◌, ◌==◌, List, [], drop, slice_get};
 ghost use mathlib.Core.List.{IsPrefix};
 ghost use base.Fml.{fsep, fex};
+ghost use base.Stored.{coded_list, coded_ℕ};
+ghost use Rattle.core.specs.declared.option.Option.TheVariants.{Some};
 ghost use prog.Atomic.{either};
-ghost use Rattle.pagebook.specs.Pages.{Named, named_coded, Moves, dealt};
-ghost use Rattle.pagebook.specs.Owned.{word_pen, word_shares};
+ghost use Rattle.pagebook.specs.Pages.{Book, book_coded, Named, named_coded, Moves, dealt};
+ghost use Rattle.pagebook.specs.Owned.{blanks_own, word_pen, word_shares};
 
 use crate::rule::{Opening, Play, Rule};
-use crate::slot::Blank;
 use crate::tokens::{Pens, Seen};
 use atomic_table::exchange;
-use std::marker::{Brand, Move, Owns, PhantomData};
+use std::marker::{Brand, Model, Move, Owns, PhantomData};
 use std::sync::atomic::Ordering::SeqCst;
 use std::sync::atomic::raw;
 
@@ -24,6 +25,19 @@ use std::sync::atomic::raw;
 pub struct Word<E, P, R: Rule<E, P>> {
     bits: u64,
     marker: PhantomData<(E, P, R)>,
+}
+
+/// The blanks of a new book: its words of which nothing is made yet. Their keys are `first` and those after it, and
+/// `numbers` are what they begin with. `Word::new` and `Slot::new` take the first blank. It has no bytes.
+pub struct Blanks {
+    marker: PhantomData<()>,
+    pub ghost book: { Book } by { book_coded },
+    pub ghost first: { ℕ },
+    pub ghost numbers: { List ℕ } by { coded_list coded_ℕ },
+}
+
+impl Model for Blanks {
+    ghost also_owns = { λ f. blanks_own f.book f.first f.numbers };
 }
 
 impl<E, P, R: Rule<E, P>> Owns for Word<E, P, R> {
@@ -40,23 +54,24 @@ impl<E, P, R: Rule<E, P>> Move for Word<E, P, R> {
 }
 
 impl<E, P, R: Rule<E, P>> Word<E, P, R> {
-    /// A new book with this word, and the pens of its first pages, in their order. `M` says how the book begins, by
-    /// `about`.
+    /// A new book: the blanks of all its words, what was seen of the log, and the pens of the first pages, in their
+    /// order. `M` says how the book begins, by `about`.
     ///
     /// Asked for: the rule holds of how it begins.
+    ///
+    /// ```
+    /// let (mut blanks, front, _) = Word::open::<(), OneMedal>(&());
+    /// let medals = Word::new(0, &mut blanks);
+    /// ```
     #[inline(always)]
-    pub fn open<X, M: Opening<X, E, P>>(
-        bits: u64,
-        about: &X,
-    ) -> (Word<E, P, R>, Seen<E, P, R>, Pens<P>)
-        requires { R.holds (bits ∷ []) (M.pages about.now) (M.log about.now) }
-        ensures word { result.0.key ≡ 0 }
+    pub fn open<X, M: Opening<X, E, P>>(about: &X) -> (Blanks, Seen<E, P, R>, Pens<P>)
+        requires { R.holds (M.words about.now) (M.pages about.now) (M.log about.now) }
+        ensures words { (result.0.first ≡ 0) × (result.0.numbers ≡ M.words about.now) }
         ensures seen { (result.1.book ≡ result.0.book) × (result.1.log ≡ M.log about.now) }
         ensures pens { (result.2.book ≡ result.0.book) × (result.2.held ≡ dealt 0 (M.pages about.now) []) }
     {
         (
-            Word {
-                bits,
+            Blanks {
                 marker: PhantomData,
             },
             Seen {
@@ -68,138 +83,20 @@ impl<E, P, R: Rule<E, P>> Word<E, P, R> {
         )
     }
 
-    /// The same with two words.
+    /// The word of the first blank.
+    ///
+    /// Asked for: `bits` is the number with which it begins.
     #[inline(always)]
-    pub fn open_two<X, M: Opening<X, E, P>>(
-        first: u64,
-        second: u64,
-        about: &X,
-    ) -> (Word<E, P, R>, Word<E, P, R>, Seen<E, P, R>, Pens<P>)
-        requires { R.holds (first ∷ second ∷ []) (M.pages about.now) (M.log about.now) }
-        ensures words { (result.0.key ≡ 0) × (result.1.key ≡ 1) × (result.1.book ≡ result.0.book) }
-        ensures seen { (result.2.book ≡ result.0.book) × (result.2.log ≡ M.log about.now) }
-        ensures pens { (result.3.book ≡ result.0.book) × (result.3.held ≡ dealt 0 (M.pages about.now) []) }
+    pub fn new(bits: u64, blanks: &mut Blanks) -> Word<E, P, R>
+        requires { slice_get blanks.old.numbers 0 ≡ Some bits }
+        ensures word { (result.book ≡ blanks.old.book) × (result.key ≡ blanks.old.first) }
+        ensures blanks { (blanks.new.book ≡ blanks.old.book) × (blanks.new.first ≡ blanks.old.first + 1)
+            × (blanks.new.numbers ≡ drop 1 blanks.old.numbers) }
     {
-        (
-            Word {
-                bits: first,
-                marker: PhantomData,
-            },
-            Word {
-                bits: second,
-                marker: PhantomData,
-            },
-            Seen {
-                marker: PhantomData,
-            },
-            Pens {
-                marker: PhantomData,
-            },
-        )
-    }
-
-    /// The same with three words.
-    #[inline(always)]
-    pub fn open_three<X, M: Opening<X, E, P>>(
-        first: u64,
-        second: u64,
-        third: u64,
-        about: &X,
-    ) -> (
-        Word<E, P, R>,
-        Word<E, P, R>,
-        Word<E, P, R>,
-        Seen<E, P, R>,
-        Pens<P>,
-    )
-        requires { R.holds (first ∷ second ∷ third ∷ []) (M.pages about.now) (M.log about.now) }
-        ensures words { (result.0.key ≡ 0) × (result.1.key ≡ 1) × (result.2.key ≡ 2)
-            × (result.1.book ≡ result.0.book) × (result.2.book ≡ result.0.book) }
-        ensures seen { (result.3.book ≡ result.0.book) × (result.3.log ≡ (M.log about.now)) }
-        ensures pens { (result.4.book ≡ result.0.book) × (result.4.held ≡ dealt 0 (M.pages about.now) []) }
-    {
-        (
-            Word {
-                bits: first,
-                marker: PhantomData,
-            },
-            Word {
-                bits: second,
-                marker: PhantomData,
-            },
-            Word {
-                bits: third,
-                marker: PhantomData,
-            },
-            Seen {
-                marker: PhantomData,
-            },
-            Pens {
-                marker: PhantomData,
-            },
-        )
-    }
-
-    /// The same with one word, and another for a `Slot`, which is 0.
-    #[inline(always)]
-    pub fn open_slot<X, M: Opening<X, E, P>>(
-        bits: u64,
-        about: &X,
-    ) -> (Word<E, P, R>, Blank, Seen<E, P, R>, Pens<P>)
-        requires { R.holds (bits ∷ 0 ∷ []) (M.pages about.now) (M.log about.now) }
-        ensures words { (result.0.key ≡ 0) × (result.1.key ≡ 1) × (result.1.book ≡ result.0.book) }
-        ensures seen { (result.2.book ≡ result.0.book) × (result.2.log ≡ (M.log about.now)) }
-        ensures pens { (result.3.book ≡ result.0.book) × (result.3.held ≡ dealt 0 (M.pages about.now) []) }
-    {
-        (
-            Word {
-                bits,
-                marker: PhantomData,
-            },
-            Blank {
-                marker: PhantomData,
-            },
-            Seen {
-                marker: PhantomData,
-            },
-            Pens {
-                marker: PhantomData,
-            },
-        )
-    }
-
-    /// The same with two words, and another for a `Slot`, which is 0.
-    #[inline(always)]
-    pub fn open_two_slot<X, M: Opening<X, E, P>>(
-        first: u64,
-        second: u64,
-        about: &X,
-    ) -> (Word<E, P, R>, Word<E, P, R>, Blank, Seen<E, P, R>, Pens<P>)
-        requires { R.holds (first ∷ second ∷ 0 ∷ []) (M.pages about.now) (M.log about.now) }
-        ensures words { (result.0.key ≡ 0) × (result.1.key ≡ 1) × (result.2.key ≡ 2)
-            × (result.1.book ≡ result.0.book) × (result.2.book ≡ result.0.book) }
-        ensures seen { (result.3.book ≡ result.0.book) × (result.3.log ≡ (M.log about.now)) }
-        ensures pens { (result.4.book ≡ result.0.book) × (result.4.held ≡ dealt 0 (M.pages about.now) []) }
-    {
-        (
-            Word {
-                bits: first,
-                marker: PhantomData,
-            },
-            Word {
-                bits: second,
-                marker: PhantomData,
-            },
-            Blank {
-                marker: PhantomData,
-            },
-            Seen {
-                marker: PhantomData,
-            },
-            Pens {
-                marker: PhantomData,
-            },
-        )
+        Word {
+            bits,
+            marker: PhantomData,
+        }
     }
 
     /// The number in the word, which stays.
@@ -319,7 +216,14 @@ impl<E, P, R: Rule<E, P>> Word<E, P, R> {
         ensures log { IsPrefix seen.old.log seen.new.log }
         ensures then { M.then about.now (seen.old.log, pens.old.held) result (seen.new.log, pens.new.held) }
     {
-        unsafe { raw::fetch_sub::<Brand>(self as *const Self as *const u64, k, SeqCst) }
+        self.fetch_add::<X, M>(k.wrapping_neg(), about, seen, pens)
+    }
+}
+
+impl Drop for Blanks {
+    #[inline(always)]
+    fn drop(self) {
+        let Self { marker: _ } = self;
     }
 }
 
@@ -329,6 +233,8 @@ impl<E, P, R: Rule<E, P>> Drop for Word<E, P, R> {
         let Self { bits: _, marker: _ } = self;
     }
 }
+
+unsafe impl Send for Blanks {}
 
 unsafe impl<E, P, R: Rule<E, P>> Send for Word<E, P, R> {}
 

@@ -19,7 +19,9 @@ impl Rule<(), Medal> for OneMedal {
 }
 
 impl Opening<(), (), Medal> for OneMedal {
-    ghost use Rattle.std.specs.Prelude.{[]};
+    ghost use Rattle.std.specs.Prelude.{[], ◌∷◌};
+
+    ghost words = { λ x. 0 ∷ [] };
 
     ghost pages = { λ x. [] };
 
@@ -61,7 +63,8 @@ pub struct Winner {
 impl Line {
     /// A line that nobody came to.
     pub fn new() -> Line {
-        let (medals, front, _) = Word::open::<(), OneMedal>(0, &());
+        let (mut blanks, front, _) = Word::open::<(), OneMedal>(&());
+        let medals = Word::new(0, &mut blanks);
         Line { medals, front }
     }
 

@@ -37,6 +37,8 @@ impl Opening<(), Arrival, Page> for HallRule {
     ghost use Rattle.std.specs.Prelude.{[], ◌∷◌};
     ghost use Rattle.pagebook_uses.specs.declared.hall.Page.TheVariants.{AtDesk};
 
+    ghost words = { λ x. 0 ∷ [] };
+
     ghost pages = { λ x. AtDesk 0 ∷ [] };
 
     ghost log = { λ x. [] };
@@ -158,7 +160,8 @@ impl Visitor {
 impl Hall {
     /// A hall with nobody in it, and a desk that counted nobody.
     pub fn new() -> Hall {
-        let (inside, front, pens) = Word::open::<(), HallRule>(0, &());
+        let (mut blanks, front, pens) = Word::open::<(), HallRule>(&());
+        let inside = Word::new(0, &mut blanks);
         let desk = KeyedMutex::new(Desk { entered: 0, pens });
         Hall {
             inside,

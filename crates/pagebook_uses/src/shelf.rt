@@ -35,6 +35,8 @@ impl Opening<(), Filled, Stage> for OneFill {
     ghost use Rattle.std.specs.Prelude.{[], ◌∷◌};
     ghost use Rattle.pagebook_uses.specs.declared.shelf.Stage.TheVariants.{Empty};
 
+    ghost words = { λ x. 0 ∷ 0 ∷ [] };
+
     ghost pages = { λ x. Empty ∷ [] };
 
     ghost log = { λ x. [] };
@@ -98,11 +100,11 @@ impl<T> Shelf<T> {
     pub fn new() -> (Shelf<T>, Filler)
         ensures { result.1.pens.book ≡ result.0.ready.book }
     {
-        let (ready, blank, seen, pens) = Word::open_slot::<(), OneFill>(0, &());
+        let (mut blanks, seen, pens) = Word::open::<(), OneFill>(&());
         (
             Shelf {
-                ready,
-                slot: Slot::new(blank),
+                ready: Word::new(0, &mut blanks),
+                slot: Slot::new(&mut blanks),
             },
             Filler { seen, pens },
         )

@@ -22,7 +22,9 @@ impl Rule<(), Drawn> for NoneTwice {
 }
 
 impl Opening<(), (), Drawn> for NoneTwice {
-    ghost use Rattle.std.specs.Prelude.{[]};
+    ghost use Rattle.std.specs.Prelude.{[], ◌∷◌};
+
+    ghost words = { λ x. 0 ∷ [] };
 
     ghost pages = { λ x. [] };
 
@@ -93,7 +95,8 @@ impl Model for Drawer {
 impl Counter {
     /// A counter whose first number is 0.
     pub fn new() -> Counter {
-        let (next, front, _) = Word::open::<(), NoneTwice>(0, &());
+        let (mut blanks, front, _) = Word::open::<(), NoneTwice>(&());
+        let next = Word::new(0, &mut blanks);
         Counter { next, front }
     }
 

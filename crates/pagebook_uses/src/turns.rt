@@ -26,6 +26,8 @@ impl Rule<Hit, u64> for InTurn {
 impl Opening<(), Hit, u64> for InTurn {
     ghost use Rattle.std.specs.Prelude.{[], ◌∷◌};
 
+    ghost words = { λ x. 0 ∷ 0 ∷ [] };
+
     ghost pages = { λ x. 0 ∷ 0 ∷ [] };
 
     ghost log = { λ x. [] };
@@ -105,7 +107,9 @@ pub fn start() -> (Table, Pinger, Ponger)
     ensures players { (result.1.pens.book ≡ result.0.pings.book) × (result.2.pens.book ≡ result.0.pings.book) }
     ensures hits { (result.1.hits ≡ 0) × (result.2.hits ≡ 0) }
 {
-    let (pings, pongs, seen, mut pens) = Word::open_two::<(), InTurn>(0, 0, &());
+    let (mut blanks, seen, mut pens) = Word::open::<(), InTurn>(&());
+    let pings = Word::new(0, &mut blanks);
+    let pongs = Word::new(0, &mut blanks);
     let second = pens.split_off(1);
     let others = seen.again();
     (

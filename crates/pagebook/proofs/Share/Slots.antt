@@ -1,4 +1,4 @@
--- A `Slot` may go to another thread where its value may, and be shared where its value may do both. A `Written` and a `Blank` hold names alone.
+-- A `Slot` may go to another thread where its value may, and be shared where its value may do both. A `Written` holds a name alone.
 use Rattle.std.proofs.Common.{ℕ}
 use base.Fraction.{full_share}
 use base.Shift.{Keyless}
@@ -9,12 +9,10 @@ use denote.Struct.Struct
 use Rattle.core.specs.declared.option.Option.TheVariants.{Some}
 use Rattle.core.specs.contracts.option.Option.{the_row as OptionOf}
 use Rattle.core.proofs.atomic.Sent.{chain-Keyless}
-use Rattle.pagebook.specs.Pages.{named as named_at}
 use Rattle.pagebook.specs.Slot.{Placed, Phase, empty, writing, full, Turn, at, told, tie, lent, word_of}
 use Rattle.pagebook.specs.declared.rule.Rule.{Ghosts}
 use Rattle.pagebook.specs.contracts.slot.Slot as Slot
 use Rattle.pagebook.specs.contracts.slot.Written as Written
-use Rattle.pagebook.specs.contracts.slot.Blank as Blank
 use Rattle.pagebook.proofs.Share.Keyless.{word_pen_keyless}
 
 module _ (R : RattleType) (l : Placed) where
@@ -78,11 +76,3 @@ pub written_sync : (R : RattleType) → IsSync (Written.the_row R)
 written_sync R = let fields : IsSync
     (denote.Struct.Struct.Struct (denote.Struct.Owning.shape (Written.the_type R))) = search sendable depth 20 in
     record { shared = λ d b o κ. (fields.shared (tt, tt) b o κ, tt) }
-
--- a `Blank` is sent
-pub blank_send : IsSend Blank.the_row
-blank_send = record {
-  owned = λ d vs.
-      ((λ vss. (tt, ((λ uss. (tt, tt)), tt))), word_pen_keyless (named_at d.book d.key) 0);
-  leaving = λ k f vs. tt;
-}

@@ -1,25 +1,21 @@
--- The values of the machine that a `Written` and a `Blank` are, and that a slot has one value.
-use Rattle.std.proofs.Common.{◌≡◌, ℕ, List, [], ◌∷◌, ◌++◌, refl, ap, ◌∙◌}
+-- The value of the machine that a `Written` is, and that a slot has one value.
+use Rattle.std.proofs.Common.{◌≡◌, ℕ, [], ◌∷◌, refl, ap}
 use seplogic.Ra.Ura.{Ura}
 use base.Stored.{Gv, gnil, gnum, gcons}
 use base.Fml.{GName}
 use base.Logic.{ent, sep}
-use mir.Val.{Val, vstruct, vnil, of_list}
+use mir.Val.{vstruct, vnil}
 use Rattle.pagebook.proofs.Value.Made.{token_value}
 use types.Logic.{Logic, sem}
 use types.Kit.{‵, ◌$◌, ◌∵◌, !, qed, use0, done}
 use contract.Monad.{fact}
 use denote.RattleType.{RattleType}
-use denote.Laws.{Is}
 use denote.Shadow.{makes_shadow}
 use denote.Struct.Struct.{Struct}
 use denote.Struct.Owning.{shape}
 use Rattle.core.proofs.once.Turns.{one_value}
-use Rattle.pagebook.specs.Pages.{Book, named}
-use Rattle.pagebook.specs.Owned.{word_pen}
 use Rattle.pagebook.specs.Slot.{full, sign, written}
 use Rattle.pagebook.specs.contracts.slot.Written as Written
-use Rattle.pagebook.specs.contracts.slot.Blank as Blank
 
 -- whoever knows what is written has a token of it
 pub written_made : {M : Type 1} {𝓤 : Ura M} (𝓛 : Logic 𝓤) (R : RattleType) (γ : ℕ) (x : R.Denot)
@@ -29,19 +25,6 @@ written_made 𝓛 R γ x = let F = (Struct (shape (Written.the_type R))).own_val
     qed 𝓛 (‵ (written R γ x) ∷ []) ∵ use0 𝓛 (‵ F)
     (makes_shadow 𝓛 F (λ vss. (tt, ((λ uss. (tt, tt)), tt)))
     ((vstruct vnil ∷ [], tt), (refl, ((tt, (refl, tt)), tt)))) $ done !
-
--- a word's pen for 0 is a `Blank`
-pub blank_made : {M : Type 1} {𝓤 : Ura M} (𝓛 : Logic 𝓤) (b : Book) (k : ℕ)
-    → ent 𝓤 (sem 𝓛 (word_pen (named b k) 0))
-    (sem 𝓛 (Blank.the_row.own_val (record { marker = record {}; book = b; key = k }) (token_value ∷ [])))
-blank_made 𝓛 b k = let F = (Struct (shape Blank.the_type)).own_val (tt, tt) (token_value ∷ []) in
-    qed 𝓛 (‵ (word_pen (named b k) 0) ∷ []) ∵
-    use0 𝓛 (‵ F) (makes_shadow 𝓛 F (λ vss. (tt, ((λ uss. (tt, tt)), tt)))
-    ((vstruct vnil ∷ [], tt), (refl, ((tt, (refl, tt)), tt)))) $ done !
-
--- which has one value
-pub blank_told : (vs : List Val) → Is (Struct (shape Blank.the_type)) (tt, tt) vs → vs ≡ token_value ∷ []
-blank_told vs is = is.1.0 ∙ ap (λ (ws : List Val). vstruct (of_list (ws ++ [])) ∷ []) is.1.1.0.1.0
 
 -- the first of a pair, as codes have it
 abbrev pub first_of : Gv → Gv

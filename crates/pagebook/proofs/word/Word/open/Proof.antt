@@ -1,14 +1,13 @@
--- `open` makes a book of a word.
-use Rattle.std.proofs.Common.{ℕ, List, [], ◌∷◌, ◌++◌, refl, w64}
+-- `open` makes a book.
+use Rattle.std.proofs.Common.{ℕ, List, [], ◌∷◌, ◌++◌, refl}
 use mir.Syntax.{a_type, dcons, dnil, named}
-use mir.Val.{Val, vint, vptr, vstruct, vcons, vnil, of_list}
+use mir.Val.{Val, vptr, vstruct, vcons, vnil, of_list}
 use mir.MapTy.{inst_fn}
-use base.Stored.{gnum}
 use base.Logic.{SProp}
 use base.Fml.{Fml, ftrue, fsep, feq, flft}
 use types.Kit.{‵, raw, ◌⊛◌, some, given, later, ◌$◌, ◌∵◌, !, qed, by, move, keep, drop as let_go, split, split3, fsplit, fjoin, fpack, pick, learn, use0, use1}
 use types.Kit.{await, feq_i}
-use types.Run.{no_more, and_then, returns, enter}
+use types.Run.{no_more, and_then, first, returns, enter}
 use types.ByLocal.{alloc_all, pass_all, free_all, look_at, get, sets, env}
 use types.Part.{agg}
 use contract.Monad.{fact}
@@ -16,22 +15,22 @@ use contract.Running.{tables}
 use denote.Exit.{yes}
 use denote.RattleType.{RattleType, owns, Valss}
 use denote.Signature.{types_at, plain}
-use denote.Builtin.{RefOf, u64}
+use denote.Builtin.{RefOf}
 use denote.Ref.{shr_vals, shr_Tells}
-use denote.Plain.{uint_vals, uint_Tells}
 use denote.Steps.{nothing}
 use denote.Param.{param, bounded}
 use denote.Struct.Tuple.{Tuple}
 use denote.Triple.Walked.{Stays, stay_dropped, walk_of, Goes-dropped}
 use Rattle.atomic_table.proofs.Walks.{proved}
 use Rattle.pagebook.specs.Pages.{Book, dealt}
-use Rattle.pagebook.specs.Owned.{seen_owns, pens_own, pens}
+use Rattle.pagebook.specs.Owned.{seen_owns, pens_own, blanks_own}
 use Rattle.pagebook.proofs.Book.Opening.{book_opens}
-use Rattle.pagebook.proofs.Value.Made.{token_value, word_value, Token, token_made, word_made}
+use Rattle.pagebook.proofs.Value.Made.{token_value, Token, token_made, blanks_made}
 use Rattle.pagebook.proofs.Walk.Ends.{ends, three}
 use Rattle.pagebook.specs.contracts.tokens.Seen as Seen
 use Rattle.pagebook.specs.contracts.tokens.Pens as Pens
 use Rattle.pagebook.specs.contracts.word.Word as Word
+use Rattle.pagebook.specs.contracts.word.Blanks as Blanks
 use Rattle.pagebook.specs.contracts.word.Word.open.{ended, clauses}
 use Rattle.pagebook.specs.contracts.word.Word.open.Key.{name as #self}
 use Rattle.pagebook.proofs.word.Word.open.Statement.{statement}
@@ -49,16 +48,14 @@ open_spec 𝓤 𝓛 𝓜 𝓡 wired E P R X N _ _ _ _ _ g d gn dn _ _ =
     let Wd : RattleType = Word.the_row E' P' R' g in let All : RattleType = Tuple (E' ∷ P' ∷ R' ∷ []) in
     let cp = P'.coded in let Pn : RattleType = Pens.the_row P' in
     let hs : Stays En.signature.params En.kept =
-    (stay_dropped (plain (λ _. u64)) yes, (stay_dropped (RefOf (0 ∷ []) tt (plain (λ _. X')) (λ _. tt)) yes, tt)) in
-    proved 𝓛 En hs c 𝓜 𝓡 (
-      Goes-dropped 𝓛 6 (plain (λ _. u64)) yes (λ κs x f. refl),
-      (Goes-dropped 𝓛 6 (RefOf (0 ∷ []) tt (plain (λ _. X')) (λ _. tt)) yes (λ κs x f. refl), tt),
-    ) (#self inst) fn (code.unfolded 𝓤 H 𝓜 𝓡 wired (E, (P, (R, (X, (N, tt))))) d dn)
-    (λ κs. (uint_vals w64, (shr_vals, tt))) (λ κs. (uint_Tells w64, (shr_Tells (named 0) κs.0 X', tt)))
-    (λ κs qs bounds a gh are.
-    let n0 : ℕ = a.0 in let log : List E.Denot = gn.log a.1.0.now in let ps : List P.Denot = gn.pages a.1.0.now in
-    let v0 : Val = vint w64 a.0 in let v1 : Val = vptr a.1.0.ref_ptr.0 a.1.0.ref_ptr.1 in
-    let y : (walk_of 𝓛 En hs c).Ghost = ((κs, qs, bounds, a, (v0 ∷ [], (v1 ∷ [], tt))), gh) in
+    (stay_dropped (RefOf (0 ∷ []) tt (plain (λ _. X')) (λ _. tt)) yes, tt) in
+    proved 𝓛 En hs c 𝓜 𝓡 (Goes-dropped 𝓛 6 (RefOf (0 ∷ []) tt (plain (λ _. X')) (λ _. tt)) yes (λ κs x f. refl), tt)
+    (#self inst) fn (code.unfolded 𝓤 H 𝓜 𝓡 wired (E, (P, (R, (X, (N, tt))))) d dn)
+    (λ κs. (shr_vals, tt)) (λ κs. (shr_Tells (named 0) κs.0 X', tt)) (λ κs qs bounds a gh are.
+    let ns : List ℕ = gn.words a.0.now in let log : List E.Denot = gn.log a.0.now in
+    let ps : List P.Denot = gn.pages a.0.now in
+    let v0 : Val = vptr a.0.ref_ptr.0 a.0.ref_ptr.1 in
+    let y : (walk_of 𝓛 En hs c).Ghost = ((κs, qs, bounds, a, (v0 ∷ [], tt)), gh) in
     let Post : Val → SProp 𝓤 = (walk_of 𝓛 En hs c).post y in
     let toks : Fml = (fsep (flft κs.0 qs.0)
     (fsep (flft κs.1.0 qs.1.0) (fsep (flft κs.1.1.0 qs.1.1.0)
@@ -67,37 +64,33 @@ open_spec 𝓤 𝓛 𝓜 𝓡 wired E P R X N _ _ _ _ _ g d gn dn _ _ =
     qed 𝓛 ((‵ toks ⊛ ‵ (owns (types_at En.signature.params κs) a y.0.4)) ∷ raw (fact 𝓤 _) ∷ raw (fact 𝓤 _)
     ∷ raw (fact 𝓤 _) ∷ raw (fact 𝓤 _) ∷ raw (fact 𝓤 _) ∷ given _ (‵ ftrue) ∷ []) ∵ keep ! (6 ∷ 0 ∷ []) $
     learn ! (λ asked. let_go ! $ split ! $
-    move ! (1 ∷ []) $ fsplit ! $ move ! (1 ∷ []) $ fsplit ! $ keep ! (3 ∷ []) $
-    enter ! 𝓣.C 𝓣.Λ fn (v0 ∷ v1 ∷ []) Post $
-    alloc_all ! (λ l. pass_all ! refl ((tt, record { fits = are.0.1 }), ((tt, tt), tt)) $ let Ev = env fn.locals l in
-    use0 𝓛 (later (some (λ (bk : Book). ‵ (pens gnum bk.words_name (dealt 0 (n0 ∷ []) []))
-    ⊛ ‵ (seen_owns ce.code cp.code g.holds bk log)
-    ⊛ ‵ (pens_own cp.code bk (dealt 0 ps []))))) (book_opens 𝓛 ce cp g.holds (n0 ∷ []) ps log asked) $ await ! tt $
-    pick ! (λ bk. split3 ! $
-    fsplit ! $ use1 𝓛 (‵ (Wd.own_val (record { book = bk; key = 0 }) (word_value n0 ∷ [])))
-    (word_made 𝓛 E' P' R' g (record { book = bk; key = 0 }) n0 are.0.1) $
-    use0 𝓛 (‵ ((Token (All)).own_val (record {}, tt) (token_value ∷ []))) (token_made (All) 𝓛) $ move ! (0 ∷ 3 ∷ []) $
+    move ! (1 ∷ []) $ fsplit ! $ keep ! (2 ∷ []) $
+    enter ! 𝓣.C 𝓣.Λ fn (v0 ∷ []) Post $ alloc_all ! (λ l. pass_all ! refl ((tt, tt), tt) $ let Ev = env fn.locals l in
+    use0 𝓛 (later (some (λ (bk : Book). ‵ (blanks_own bk 0 ns) ⊛ ‵ (seen_owns ce.code cp.code g.holds bk log)
+    ⊛ ‵ (pens_own cp.code bk (dealt 0 ps []))))) (book_opens 𝓛 ce cp g.holds ns ps log asked) $ await ! tt $
+    pick ! (λ bk. split3 ! $ let Bl : RattleType = Blanks.the_row in
+    let w : Bl.Denot = record { marker = record {}; book = bk; first = 0; numbers = ns } in
+    use1 𝓛 (‵ (Bl.own_val w (token_value ∷ []))) (blanks_made 𝓛 bk 0 ns) $
+    use0 𝓛 (‵ ((Token (All)).own_val (record {}, tt) (token_value ∷ []))) (token_made (All) 𝓛) $ move ! (0 ∷ 2 ∷ []) $
     fjoin ! $ use0 𝓛 (‵ ((Token (P')).own_val (record {}, tt) (token_value ∷ []))) (token_made (P') 𝓛) $
-    move ! (0 ∷ 4 ∷ []) $ fjoin ! $
+    move ! (0 ∷ 3 ∷ []) $ fjoin ! $
     sets ! (agg ! (no_more !)) refl (tt, tt) $
-    sets ! (agg ! (and_then ! (get ! refl) (and_then ! (get ! refl) (no_more !)))) refl
-    (tt, (record { fits = are.0.1 }, (tt, tt))) $ sets ! (agg ! (no_more !)) refl (tt, tt) $
+    sets ! (agg ! (and_then ! (get ! refl) (no_more !))) refl (tt, (tt, tt)) $
+    sets ! (agg ! (no_more !)) refl (tt, tt) $
     sets ! (agg ! (and_then ! (get ! refl) (no_more !))) refl (tt, (tt, tt)) $
     sets ! (agg ! (no_more !)) refl (tt, tt) $
     sets ! (agg ! (and_then ! (get ! refl) (no_more !))) refl (tt, (tt, tt)) $
     sets ! (agg ! (and_then ! (get ! refl) (and_then ! (get ! refl) (and_then ! (get ! refl) (no_more !))))) refl
-    (tt, ((record { fits = are.0.1 }, (tt, tt)), ((tt, tt), ((tt, tt), tt)))) $
+    (tt, ((tt, tt), ((tt, tt), ((tt, tt), tt)))) $
     nothing ! $ move ! (1 ∷ 0 ∷ []) $ fjoin ! $ move ! (1 ∷ 0 ∷ []) $ fjoin ! $ move ! (1 ∷ 0 ∷ []) $
-    fjoin ! $ let v : Val = vstruct (vcons (word_value n0) (vcons token_value (vcons token_value vnil))) in
-    let Rs : List RattleType = Wd ∷ Me ∷ Pn ∷ [] in
+    fjoin ! $ let v : Val = vstruct (vcons token_value (vcons token_value (vcons token_value vnil))) in
+    let Rs : List RattleType = Bl ∷ Me ∷ Pn ∷ [] in
     let s : Me.Denot = record { marker = record {}; book = bk; log = log } in
     let p : Pn.Denot = record { marker = record {}; book = bk; held = dealt 0 ps [] } in
     feq_i ! (List Val) (v ∷ []) (v ∷ []) refl $
     fjoin ! $ fpack ! (Valss Rs) (λ vss. fsep
     (feq (List Val) (v ∷ []) (vstruct (of_list (vss.0 ++ (vss.1.0 ++ (vss.1.1.0 ++ [])))) ∷ []))
-    (owns Rs ((record { book = bk; key = 0 }), (s, (p, tt))) vss))
-    (word_value n0 ∷ [], (token_value ∷ [], (token_value ∷ [], tt))) $
-    nothing ! $ nothing ! $ fjoin ! $ nothing ! $ fjoin ! $
-    returns ! (look_at ! 0 refl) $ free_all ! refl $ keep ! (3 ∷ 0 ∷ 1 ∷ []) $
-    by ! (ends 𝓛 En hs c y v ((record { book = bk; key = 0 }), s, p) (tt, (tt, tt)) (tt, (tt, tt))
-    (three 𝓛 refl (refl, refl) (refl, refl)))))))
+    (owns Rs (w, (s, (p, tt))) vss)) (token_value ∷ [], (token_value ∷ [], (token_value ∷ [], tt))) $
+    nothing ! $ nothing ! $ fjoin ! $
+    returns ! (look_at ! 0 refl) $ free_all ! refl $ keep ! (2 ∷ 0 ∷ 1 ∷ []) $
+    by ! (ends 𝓛 En hs c y v (w, s, p) (tt, tt) (tt, tt) (three 𝓛 (refl, refl) (refl, refl) (refl, refl)))))))
