@@ -6,6 +6,8 @@ SLOT = ("let O : RattleType = OptionOf T' in let LO = option_laws T' (param_laws
         " let Sl : RattleType = Slot.the_row T' E' P' R' g in let W : RattleType = Written.the_row T' in\n    ")
 INTO = "sets ! (addr ! (through ! refl (stop !))) refl (tt, tt) $ first ! $ blocks ! $"
 FIELD = "sets ! (addr ! (through ! refl (fld ! refl (stop !)))) refl (tt, tt) $"
+AT_VALUE = ("sets ! (bin ! (get ! refl) (align_word !) tt) refl (tt, tt) $ sets ! (of_opd ! (get ! refl)) refl (tt, tt) $"
+            " sets_last ! (addr ! (through ! refl (stop !))) refl (tt, tt) $")
 WRITTEN = "(record { marker = record {}; of = γ; value = x })"
 IN_TURN = "𝓛 T' l₀ t b o ce cp g.holds j s"
 
@@ -135,6 +137,39 @@ def found():
     written_made(walk, "res")
     walk.say(TOKEN_MADE)
     walk.finish("token_value", WRITTEN, [None, None], ["refl"])
+    return walk
+
+
+def value():
+    walk = Walk("slot.Slot.value", "`value` lends the value that a token shows.", "TEPR", RULE,
+                [("shr", "Sl"), ("shr", "W")])
+    walk.start(SLOT_LETS + ["e : ℕ = at T' o", "p : ℕ = capped (align (lone T'.mir)) + e", "x : T.Denot = a.1.0.now.value"], ["same"], 0, [0, 1], SLOT)
+    walk.move("S1")
+    walk.say("unhide ! $")
+    walk.fsplit("S1", "fields", "written")
+    walk.drop("fields")
+    walk.say("rewrite ! 0 (λ (k : ℕ). ‵ (written T' k x)) same refl $")
+    turn(walk)
+    walk.use(["before"], "twice", "(‵ (before κ α) ⊛ ‵ (before κ α)) (types.Na.before_dup 𝓛 κ α)")
+    walk.split("twice", "before", "outlasts")
+    walk.line()
+    walk.enter()
+    borrowed(walk)
+    walk.use(["named", "lft", "written"], "both", "(later (‵ (state.Shown 𝓛 T' l₀ t b o x) ⊛ ‵ (flft α s)))"
+             " (state.looks_written 𝓛 T' l₀ t b o LO.shr_laws j s x)", "await ! tt $")
+    walk.split("both", "also", "lft")
+    given_back(walk)
+    walk.fsplit("also", "written", "shared")
+    walk.use(["outlasts", "shared"], "shared", "(‵ (shared_of O (Some x) b e κ))"
+             " ((LO.shr_laws (Some x) b e).mono M 𝓤 𝓛 κ α)")
+    walk.use(["shared"], "shared", "(‵ (shared_of T' x b p κ)) (value_in_some 𝓛 T' x b e κ)")
+    walk.say("hide ! $")
+    walk.add("equal", "feq_i ! (List Val) (vptr b p ∷ []) (vptr b p ∷ []) refl")
+    walk.fjoin("res", "equal", "shared")
+    walk.line()
+    walk.say(f"{INTO} {FIELD} {AT_VALUE} exec ! 𝓣.C 𝓣.Λ Ev (tail (tail fn.body)) (at_ret Ev Post) $"
+             " sets ! (of_opd ! (get ! refl)) refl (tt, tt) $")
+    walk.finish("(vptr b p)", "(record { ref_ptr = (b, p); now = x })", [None, None], ["refl"])
     return walk
 
 

@@ -20,6 +20,7 @@ mir.Syntax: a_type dcons dnil named
 mir.Val: Val vunit vint vptr vstruct vcons vnil of_list
 mir.MapTy: inst_fn
 prog.Wp: WpFn
+prog.Memory: align capped
 prog.Atomic: either
 base.Stored: gnil
 base.Before: before
@@ -29,7 +30,7 @@ base.Fml: Lft Share Fml ftrue fsep fex feq flft fhide fbor fnamed Incl-trans
 types.Kit: ‵ raw ◌⊛◌ some given later mean at_ret ◌$◌ ◌∵◌ ! qed by move keep let_go=drop split split3 join group fsplit fsplit3 fjoin fjoin3 fpick fpack pick learn use0 use1 use2 use3 await rewrite feq_i flt_i
 types.Match: live
 types.Tokens: name_new
-types.Run: stop fld addr lit unit_lit of_opd no_more and_then first blocks exec Calls-last returns enter assigns store_raw
+types.Run: stop fld addr bin lit align_word unit_lit of_opd no_more and_then first blocks exec Calls-last returns enter assigns store_raw
 types.ByLocal: alloc_all pass_all free_all look_at get through sets sets_last lands_last env
 types.Part: agg
 contract.Monad: fact fact_i
@@ -65,12 +66,13 @@ Rattle.atomic_table.proofs.Walks: proved proved_at
 Rattle.atomic_table.proofs.Calls: fm seq_cst found finds stored has_stored loads stores swaps exchanges adds
 Rattle.pagebook.specs.Pages: Book View dealt named_at=named
 Rattle.pagebook.specs.Owned: seen_owns pens_own blanks_own word_pen reached
-Rattle.pagebook.specs.Slot: Placed Turn at Cell Rest resting empty
+Rattle.pagebook.specs.Slot: Placed Turn at Cell Rest resting empty written
 Rattle.pagebook.proofs.Page.Hands: hands_joined hand_cut
 Rattle.pagebook.proofs.Book.Steps: after notes learns seen_reached steps steps_untold
 Rattle.pagebook.proofs.Book.Opening: book_opens
 Rattle.pagebook.proofs.Value.Made: token_value word_value Token token_made word_made blanks_made blank_taken
 Rattle.pagebook.proofs.Value.Slots: written_made
+Rattle.pagebook.proofs.Value.InSome: value_in_some
 Rattle.pagebook.proofs.slot.Slot.TheInside.TheLaws: inside_laws=the_row_laws
 Rattle.pagebook.proofs.Book.Unchanged: load_keeps
 Rattle.pagebook.proofs.Walk.Ends: ends two three four

@@ -18,6 +18,7 @@ use crate::rule::{Play, Rule};
 use crate::tokens::{Pens, Seen};
 use crate::word::Blanks;
 use std::marker::{Model, Move, Owns, PhantomData};
+use std::mem::align_of;
 
 /// What shows that the slot whose `id` is `of` holds `value`. It has no bytes, can be copied, and stays true.
 pub struct Written<T> {
@@ -138,20 +139,12 @@ impl<T, E, P, R: Rule<E, P>> Slot<T, E, P, R> {
         requires { written.now.of ≡ self.now.id }
         ensures { result.now ≡ written.now.value }
     {
-        match self.whole(written) {
-            Some(value) => value,
-            None => unreachable!(),
-        }
-    }
-
-    // The field, which by a token is full.
-    #[inline(always)]
-    fn whole<'a>(&'a self, written: &Written<T>) -> &'a Option<T>
-        requires { written.now.of ≡ self.now.id }
-        ensures { result.now ≡ Some written.now.value }
-    {
         let slot = self as *const Slot<T, E, P, R>;
-        unsafe { &(*slot).value }
+        unsafe {
+            // The value of a `Some` lies so far behind its tag. The token shows that it is one: the tag is not read.
+            let place = (&raw const (*slot).value as *const u8).add(align_of::<T>()) as *const T;
+            &*place
+        }
     }
 
     /// The value, if there is one.
