@@ -19,7 +19,6 @@ use std::marker::Model;
 
 /// The door, with the queue if one stands there, and the pens of the door's page and of the queue's. A clause
 /// sees of which book they are.
-#[derive(Drop)]
 pub struct Desk<W: TaskWaker> {
     lists: Option<Box<Lists<W>>>,
     pens: CellPens,
@@ -217,6 +216,22 @@ impl<W: TaskWaker + Drop> Desk<W> {
         let found = see(word, &mut self.pens, hand, &Section::Leave(ticket));
         lists.leave(ticket, found)
     }
+}
+
+impl<W: TaskWaker + Drop> Drop for Desk<W> {
+    // Most cells are dropped without a queue. So a queue is dropped in a call of its own, and the rest is inlined.
+    #[inline(always)]
+    fn drop(self) {
+        let Desk { lists, pens: _pens } = self;
+        if let Some(queue) = lists {
+            drop_queue(queue);
+        }
+    }
+}
+
+#[inline(never)]
+fn drop_queue<W: TaskWaker + Drop>(queue: Box<Lists<W>>) {
+    drop(queue);
 }
 
 // What a release adds to the word. The sum may wrap round.
