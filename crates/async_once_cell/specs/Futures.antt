@@ -10,19 +10,19 @@ use Rattle.async_once_cell.specs.Views.{CellView, FutureView, Owned, Shared}
 module _ {T F R O : Type 0} where
   -- its task's number
   abbrev pub task_of : Asked T F R O → ℕ
-  task_of (AskedOwned r) = 0
+  task_of (AskedOwned r init) = 0
   task_of (AskedAnswered r) = 0
   task_of (AskedShared w) = w.number
 
   -- the record that it has seen
   abbrev pub seen_of : Asked T F R O → List Entry
-  seen_of (AskedOwned r) = []
+  seen_of (AskedOwned r init) = []
   seen_of (AskedAnswered r) = []
   seen_of (AskedShared w) = w.log
 
   -- its task's cell has this book
   abbrev pub HasBook : Asked T F R O → Book → Type 0
-  HasBook (AskedOwned r) book = ⊥
+  HasBook (AskedOwned r init) book = ⊥
   HasBook (AskedAnswered r) book = ⊥
   HasBook (AskedShared w) book = book ≡ w.cell.book
 
@@ -33,7 +33,7 @@ module _ {T F R O : Type 0} where
 
   -- whether it answered, or left
   abbrev pub is_done : Asked T F R O → Bool
-  is_done (AskedOwned r) = false
+  is_done (AskedOwned r init) = false
   is_done (AskedAnswered r) = true
   is_done (AskedShared w) = w.finished
 

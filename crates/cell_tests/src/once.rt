@@ -3,6 +3,7 @@
 mod contracts;
 mod drops;
 mod inside;
+mod kept;
 mod leaving;
 mod order;
 mod owner;

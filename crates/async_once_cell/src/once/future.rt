@@ -27,8 +27,8 @@ use std::sync::Wait;
 // What a future asks.
 #[derive(Drop)]
 enum Asked<'a, T, F: Future, R: Wait + AllocGlobal> {
-    // A cell with its owner's value: the next poll answers that.
-    Owned(&'a R),
+    // A cell with its owner's value: the next poll drops the init and answers that value.
+    Owned(&'a R, F),
     // Such a cell, which the future has answered or left.
     Answered(&'a R),
     // A cell that tasks share, of which the future is one.
@@ -41,6 +41,9 @@ enum Asked<'a, T, F: Future, R: Wait + AllocGlobal> {
 /// its init, and the others are Pending until they are woken. The value wakes all of them. An error, or
 /// the drop of a future that had the right, wakes one. If that one is dropped or refused instead, and
 /// nobody holds then, it wakes the next.
+///
+/// The init is kept until the first poll, whatever the cell has. It is dropped in the poll that answers, before
+/// the task gives the right or its place back; or else with the future.
 ///
 /// A poll or a drop may wait for the locks of the cell. None of them is held while an init is polled or
 /// dropped. A poll may take memory while another task holds or is in a call.
@@ -76,7 +79,7 @@ impl<'a, T, E, F: Future, R: Wait + AllocGlobal> TryInitFuture<'a, T, E, F, R> {
             Value::Owned(_) => TryInitFuture {
                 error: PhantomData,
                 cell,
-                asked: Asked::Owned(rt),
+                asked: Asked::Owned(rt, init),
             },
             Value::Shared(inner) => TryInitFuture {
                 error: PhantomData,
@@ -96,7 +99,7 @@ impl<'a, T, E, F: Future, R: Wait + AllocGlobal> TryInitFuture<'a, T, E, F, R> {
     #[inline(always)]
     pub(super) fn rt(&self) -> &'a R {
         match &self.asked {
-            Asked::Owned(rt) | Asked::Answered(rt) => rt,
+            Asked::Owned(rt, _) | Asked::Answered(rt) => rt,
             Asked::Shared(waiting) => waiting.rt(),
         }
     }
@@ -157,7 +160,7 @@ impl<'a, T, F: Future, R: Wait + AllocGlobal> Asked<'a, T, F, R> {
         ensures { result ≡ is_done self.now }
     {
         match self {
-            Asked::Owned(_) => false,
+            Asked::Owned(_, _) => false,
             Asked::Answered(_) => true,
             Asked::Shared(waiting) => waiting.is_finished(),
         }
@@ -169,7 +172,7 @@ impl<'a, T, F: Future, R: Wait + AllocGlobal> Asked<'a, T, F, R> {
             (λ r. (r.log ≡ seen_of self.now) × HasBook self.now r.book) }
     {
         match self {
-            Asked::Owned(_) | Asked::Answered(_) => None,
+            Asked::Owned(_, _) | Asked::Answered(_) => None,
             Asked::Shared(waiting) => Some(waiting.record()),
         }
     }
@@ -180,7 +183,7 @@ impl<'a, T, F: Future, R: Wait + AllocGlobal> Asked<'a, T, F, R> {
             → IsAsked c self.new × HasLeft (view_of_future c self.old) (view_of_future c self.new) }
     {
         match self {
-            Asked::Owned(rt) => *self = Asked::Answered(*rt),
+            Asked::Owned(rt, _) => *self = Asked::Answered(*rt),
             Asked::Answered(_) => unreachable!(),
             Asked::Shared(waiting) => waiting.leave(),
         }
@@ -204,7 +207,7 @@ where
         let cell = self.cell;
         match (&mut self.asked, &cell.value) {
             (Asked::Shared(waiting), _) => waiting.poll(cx),
-            (Asked::Owned(rt), Value::Owned(value)) => {
+            (Asked::Owned(rt, _), Value::Owned(value)) => {
                 self.asked = Asked::Answered(*rt);
                 Poll::Ready(Ok(value))
             }
