@@ -1,6 +1,7 @@
 //! What a `OnceCell` does on one thread.
 
 mod contracts;
+mod crowd;
 mod drops;
 mod inside;
 mod kept;
@@ -9,6 +10,8 @@ mod order;
 mod owner;
 mod records;
 mod schedules;
+mod second_queue;
 mod shown;
 mod tokens;
 mod turns;
+mod waits;

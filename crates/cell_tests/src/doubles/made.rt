@@ -1,5 +1,6 @@
 //! Futures of cells that a schedule makes.
 
+use crate::doubles::expected::is_shown;
 use crate::doubles::poll::heard;
 use crate::doubles::stub::{Init, Stub, Tried, count};
 use async_once_cell::once::{InitFuture, TryInitFuture};
@@ -13,13 +14,12 @@ use std::cell::Cell;
 use std::fmt;
 use std::sync::Wait;
 
-/// An init that looks at its cell when it is dropped, and else does as its stub says.
+/// An init that looks at its cell when it is dropped, and else does as its stub says. It looks without memory.
 pub struct Looks<'a> {
     pub cell: &'a OnceCell<u64>,
-    pub alloc: Global,
-    /// How the cell's Debug text is to end then.
+    /// What the cell's Debug text is to be then.
     pub wanted: &'a str,
-    /// Whether it did.
+    /// Whether it was.
     pub found: &'a Cell<Option<bool>>,
     pub stub: &'a Stub<u64>,
 }
@@ -28,15 +28,12 @@ impl Drop for Looks<'_> {
     fn drop(self) {
         let Looks {
             cell,
-            alloc,
             wanted,
             found,
             stub,
         } = self;
         count(&stub.drops);
-        if let Ok(text) = format!(in alloc; "{cell:?}") {
-            found.set(Some(text.as_str().ends_with(wanted)));
-        }
+        found.set(Some(is_shown(cell, wanted)));
     }
 }
 

@@ -209,7 +209,6 @@ impl<'a, 'i: 'a, R: Wait + AllocGlobal> Scene<'a, 'i, R> {
         count(&self.inits.sure.made);
         Looks {
             cell: self.cell,
-            alloc: self.rt.alloc(),
             wanted,
             found: &self.inits.found,
             stub: &self.inits.sure,

@@ -4,9 +4,12 @@ use crate::doubles::poll::polled;
 use crate::doubles::stub::{Init, Stub};
 use async_once_cell::Lazy;
 use async_once_cell::world::Reply;
+use futures::future::{Ready, ready};
 use futures::task::Poll;
 use futures::test::MockTask;
 use machine_tests::doubles::text::shows;
+use std::alloc::AllocGlobal;
+use std::sync::Wait;
 use std::test::Fail;
 
 // What a poll of the future that came back gives, which was polled once before.
@@ -86,6 +89,45 @@ fn value_lent_for_writing(rt: HostRuntime) {
         "Lazy { value: Some(8), inner: Inner { ready: true, quick_init: false, refcount: 0, queue: false } }";
     let is_set = shows(&rt, &lazy, set);
     assert_eq!(rt; (lent, is_set, lazy.into_inner()), (Some(7), true, Some(8)));
+}
+
+// A cell whose future gave it the value 4.
+fn filled<R: Wait + AllocGlobal>(rt: &R, task: &MockTask) -> Lazy<u64, Ready<u64>> {
+    let lazy = Lazy::new(ready(4));
+    let _ = polled(task, &mut lazy.get(rt));
+    lazy
+}
+
+// What the owner of such a cell gets of it, by each of the calls.
+fn got<R: Wait + AllocGlobal>(rt: &R, task: &MockTask) -> [Option<u64>; 5] {
+    [
+        filled(rt, task).try_get_mut().copied(),
+        filled(rt, task).try_get_mut_unpin().copied(),
+        filled(rt, task).replace_and_take(Lazy::new(ready(5))),
+        filled(rt, task).into_inner(),
+        filled(rt, task).into_parts().ok(),
+    ]
+}
+
+/// A value that the cell's future gave is lent for writing and given away by each call, as any other.
+#[test]
+fn value_of_the_future(rt: HostRuntime) -> Result<(), Fail> {
+    let task = MockTask::new(&rt)?;
+    assert_eq!(rt; got(&rt, &task), [Some(4); 5]);
+    Ok(())
+}
+
+/// It may be written, and then the written one is told.
+#[test]
+fn value_of_the_future_written(rt: HostRuntime) -> Result<(), Fail> {
+    let task = MockTask::new(&rt)?;
+    let mut lazy = filled(&rt, &task);
+    if let Some(value) = lazy.try_get_mut() {
+        *value = 8;
+    }
+    let told = polled(&task, &mut lazy.get(&rt));
+    assert_eq!(rt; (told, lazy.into_inner()), (Reply::Value(8), Some(8)));
+    Ok(())
 }
 
 /// There is nothing to lend before the first poll.

@@ -5,7 +5,7 @@ use crate::doubles::stub::{Init, Stub};
 use async_once_cell::Lazy;
 use async_once_cell::once::Known;
 use async_once_cell::world::Reply;
-use futures::future::{Pending, pending};
+use futures::future::{Pending, pending, ready};
 use futures::task::Context;
 use futures::test::MockTask;
 use std::alloc::AllocGlobal;
@@ -52,5 +52,16 @@ fn pending_poll_wakes_nobody(rt: HostRuntime) -> Result<(), Fail> {
     let (task, lazy) = (MockTask::new(&rt)?, Lazy::new(pending()));
     let told = task.enter(|cx| pending_by_its_own_poll(&rt, cx, &lazy));
     assert_eq!(rt; (told, task.is_woken()), (Reply::Pending, false));
+    Ok(())
+}
+
+/// A wait with a token has the cell's future polled, and the token learns the value.
+#[test]
+fn learned_by_a_wait(rt: HostRuntime) -> Result<(), Fail> {
+    let lazy = Lazy::new(ready(4u64));
+    let mut token = lazy.token();
+    let told = lazy.get(&rt).wait_as(&mut token)?;
+    let known = Known::compare(&token, &token);
+    assert_eq!(rt; (told, known), (Ok(&4), true));
     Ok(())
 }

@@ -19,7 +19,7 @@ use std::test::Fail;
 
 /// An init that is Pending once, and then gives 4.
 #[derive(Drop)]
-struct Later {
+pub struct Later {
     was_polled: bool,
 }
 
@@ -34,7 +34,7 @@ impl Future for Later {
     }
 }
 
-const LATER: Later = Later { was_polled: false };
+pub const LATER: Later = Later { was_polled: false };
 
 /// What an init does to the other future.
 #[derive(Clone, Copy)]
@@ -46,16 +46,16 @@ enum Act {
 
 /// Another future of a cell, with a task of its own.
 #[derive(Drop)]
-struct Other<'a, 't, R: Wait + AllocGlobal> {
+pub struct Other<'a, 't, R: Wait + AllocGlobal> {
     rt: &'a R,
     task: &'t MockTask,
     future: Mutex<Option<InitFuture<'a, u64, Later, R>>>,
-    // What its last poll answered.
-    heard: Cell<Option<Reply>>,
+    /// What its last poll answered.
+    pub heard: Cell<Option<Reply>>,
 }
 
 impl<'a, 't, R: Wait + AllocGlobal> Other<'a, 't, R> {
-    fn new(cell: &'a OnceCell<u64>, rt: &'a R, task: &'t MockTask) -> Self {
+    pub fn new(cell: &'a OnceCell<u64>, rt: &'a R, task: &'t MockTask) -> Self {
         Other {
             rt,
             task,
@@ -69,8 +69,8 @@ impl<'a, 't, R: Wait + AllocGlobal> Other<'a, 't, R> {
         self.future.lock(self.rt).take()
     }
 
-    // Polls it, and answers what it did.
-    fn poll(&self) -> Option<Reply> {
+    /// Polls it, and answers what it did.
+    pub fn poll(&self) -> Option<Reply> {
         let mut future = self.take_out()?;
         let reply = polled(self.task, &mut future);
         *self.future.lock(self.rt) = Some(future);

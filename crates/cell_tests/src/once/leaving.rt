@@ -15,18 +15,17 @@ use std::sync::Wait;
 use std::test::Fail;
 
 // The value is set, and the future that leaves is counted still.
-const COUNTED: &str = "Inner { ready: true, quick_init: false, refcount: 1, queue: true } }";
+const COUNTED: &str =
+    "OnceCell { value: Some(2), inner: Inner { ready: true, quick_init: false, refcount: 1, queue: true } }";
 
 // An init that notes whether its future is counted still when it is dropped.
-fn looks<'a, R: AllocGlobal>(
-    rt: &R,
+fn looks<'a>(
     cell: &'a OnceCell<u64>,
     found: &'a Cell<Option<bool>>,
     stub: &'a Stub<u64>,
 ) -> Looks<'a> {
     Looks {
         cell,
-        alloc: rt.alloc(),
         wanted: COUNTED,
         found,
         stub,
@@ -86,7 +85,7 @@ fn left_by_a_poll<'a, R: Wait + AllocGlobal>(
 fn init_dropped_before_its_future_leaves(rt: HostRuntime) -> Result<(), Fail> {
     let (task, cell, found) = (MockTask::new(&rt)?, OnceCell::new(), Cell::new(None));
     let stub = Stub::new();
-    let looks = looks(&rt, &cell, &found, &stub);
+    let looks = looks(&cell, &found, &stub);
     let noted = task.enter(|cx| left_by_a_drop(&rt, looks, cx));
     assert_eq!(rt; noted, Some([None, Some(true)]));
     Ok(())
@@ -97,7 +96,7 @@ fn init_dropped_before_its_future_leaves(rt: HostRuntime) -> Result<(), Fail> {
 fn init_dropped_before_a_knowing_poll_leaves(rt: HostRuntime) -> Result<(), Fail> {
     let (task, cell, found) = (MockTask::new(&rt)?, OnceCell::new(), Cell::new(None));
     let stub = Stub::new();
-    let looks = looks(&rt, &cell, &found, &stub);
+    let looks = looks(&cell, &found, &stub);
     let told = task.enter(|cx| left_by_a_poll(&rt, looks, cx));
     assert_eq!(rt; told, Some((Reply::Value(2), Some(true))));
     Ok(())

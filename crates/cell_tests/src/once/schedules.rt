@@ -169,7 +169,7 @@ inits => 2 polls, 3 drops
 show => OnceCell { value: Some(2), inner: Inner { ready: true, quick_init: false, refcount: 0, queue: false } }
 
 # right_held_until_the_init_is_dropped: an init is dropped before the right is given back, when its future is dropped
-looks 0 ready: false, quick_init: true, refcount: 0, queue: false } }
+looks 0 OnceCell { value: None, inner: Inner { ready: false, quick_init: true, refcount: 0, queue: false } }
 poll 0 p => pending, wakes 0
 found => None
 drop 0
@@ -177,13 +177,13 @@ found => Some(true)
 show => OnceCell { value: None, inner: Inner { ready: false, quick_init: false, refcount: 0, queue: false } }
 
 # right_held_until_the_init_is_done: the same, when it is done
-looks 0 ready: false, quick_init: true, refcount: 0, queue: false } }
+looks 0 OnceCell { value: None, inner: Inner { ready: false, quick_init: true, refcount: 0, queue: false } }
 poll 0 v4 => v4, done
 found => Some(true)
 
 # place_held_until_the_init_is_dropped: a waiter's init is dropped before its place among those who wait is given back
-looks 0 ready: false, quick_init: true, refcount: 1, queue: true } }
-looks 1 ready: false, quick_init: true, refcount: 1, queue: true } }
+looks 0 OnceCell { value: None, inner: Inner { ready: false, quick_init: true, refcount: 1, queue: true } }
+looks 1 OnceCell { value: None, inner: Inner { ready: false, quick_init: true, refcount: 1, queue: true } }
 poll 0 p => pending, wakes 0
 poll 1 p => pending
 drop 1 => so, wakes 1
@@ -192,7 +192,7 @@ show => OnceCell { value: None, inner: Inner { ready: false, quick_init: true, r
 
 # place_held_until_the_value_is_found: the same, where it finds the value
 init 0
-looks 1 ready: true, quick_init: false, refcount: 1, queue: true } }
+looks 1 OnceCell { value: Some(4), inner: Inner { ready: true, quick_init: false, refcount: 1, queue: true } }
 poll 0 p => pending, wakes 0
 poll 1 p => pending
 poll 0 v4 => v4, done, wakes 1
@@ -291,7 +291,21 @@ show => OnceCell { value: None, inner: Inner { ready: false, quick_init: true, r
 poll 0 v4 => v4, done
 drop 0
 inits => 2 polls, 2 drops
-show => OnceCell { value: Some(4), inner: Inner { ready: true, quick_init: false, refcount: 0, queue: false } }";
+show => OnceCell { value: Some(4), inner: Inner { ready: true, quick_init: false, refcount: 0, queue: false } }
+
+# place_held_until_a_refused_init_is_dropped: who is refused a seat drops its init, and then gives its place back
+init 0
+init 1
+looks 2 OnceCell { value: None, inner: Inner { ready: false, quick_init: true, refcount: 2, queue: true } }
+poll 0 p => pending, wakes 0
+poll 1 v9 => pending
+starve
+found => None
+poll 2 v9 => memory, done
+found => Some(true)
+show => OnceCell { value: None, inner: Inner { ready: false, quick_init: true, refcount: 1, queue: true } }
+drop 2
+inits => 1 polls, 1 drops";
 
 #[test]
 fn memory_as_asked(rt: HostRuntime) -> Result<(), Fail> {

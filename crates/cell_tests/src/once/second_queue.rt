@@ -1,0 +1,94 @@
+//! Two futures that find no queue at the door. One puts its queue there while the other asks for memory for its own.
+
+use super::inside::{LATER, Other};
+use crate::doubles::poll::{polled, tasks};
+use crate::left::is_filled;
+use async_once_cell::OnceCell;
+use async_once_cell::world::Reply;
+use futures::test::MockTask;
+use machine_tests::doubles::memory::{hoard_most, hoard_rest};
+use std::alloc::{Alloc, AllocGlobal, Global};
+use std::sync::Wait;
+use std::test::Fail;
+
+// A handle by which another future is polled before it gives memory for the first time.
+#[derive(Drop)]
+struct Delayed<'o, 'a, 't, R: Wait + AllocGlobal> {
+    alloc: Global,
+    other: &'o Other<'a, 't, R>,
+}
+
+impl<R: Wait + AllocGlobal> Wait for Delayed<'_, '_, '_, R> {}
+
+impl<R: Wait + AllocGlobal> Alloc for Delayed<'_, '_, '_, R> {
+    type A = Global;
+
+    fn alloc(&self) -> Global {
+        if self.other.heard.get().is_none() {
+            self.other.poll();
+        }
+        self.alloc
+    }
+}
+
+/// What three futures of a cell answer: the holder, one whose queue comes second, and the one whose queue it finds.
+#[derive(Clone, Copy, Debug, PartialEq)]
+struct Replies {
+    waiting: [Option<Reply>; 3],
+    filled: [Option<Reply>; 3],
+}
+
+const MET: Replies = Replies {
+    waiting: [Some(Reply::Pending); 3],
+    filled: [Some(Reply::Value(4)); 3],
+};
+
+// The replies, and whether nothing is left at the cell.
+fn met_at_the_door<R: Wait + AllocGlobal>(
+    rt: &R,
+    [one, two, three]: [&MockTask; 3],
+) -> (Replies, bool) {
+    let cell = OnceCell::new();
+    let mut holder = cell.get_or_init(rt, LATER);
+    let other = Other::new(&cell, rt, three);
+    let delayed = Delayed {
+        alloc: rt.alloc(),
+        other: &other,
+    };
+    let mut second = cell.get_or_init(&delayed, LATER);
+    let waiting = [
+        Some(polled(one, &mut holder)),
+        Some(polled(two, &mut second)),
+        other.heard.get(),
+    ];
+    let filled = [
+        Some(polled(one, &mut holder)),
+        Some(polled(two, &mut second)),
+        other.poll(),
+    ];
+    (Replies { waiting, filled }, is_filled(rt, &cell))
+}
+
+// How often they meet, in how many bytes: if a queue were kept each time, that would be more.
+const TIMES: u64 = 4_100;
+
+const BYTES: usize = 131_072;
+
+/// The queue that comes second is not kept. Both wait in the first, and are told the value.
+#[test]
+fn second_queue_is_let_go(rt: HostRuntime) -> Result<(), Fail> {
+    let (one, two, three) = (
+        MockTask::new(&rt)?,
+        MockTask::new(&rt)?,
+        MockTask::new(&rt)?,
+    );
+    let (most, rest) = (hoard_most(rt.alloc())?, hoard_rest(rt.alloc(), BYTES)?);
+    let mut is_always = true;
+    for _ in 0..TIMES {
+        is_always &= met_at_the_door(&rt, [&one, &two, &three]) == (MET, true);
+    }
+    drop(rest);
+    drop(most);
+    assert!(rt; is_always);
+    Ok(())
+}
