@@ -66,15 +66,16 @@
 //!
 //! A call makes sixteen steps of [`step::Step`] at most. What all tasks did with a cell is its record. It
 //! has no bytes, and it only grows. Whatever threads do, it is a run of a cell that is empty, held by one
-//! task or set, and in this run nobody who waits is forgotten. A clause sees what a future or a token has
-//! seen of the record. After a poll the newest entry is what the poll answered. A look finds the value
-//! exactly when the cell is set at that moment. [`world::replay`] is the same machine for one caller,
-//! over plain data.
+//! task or set. Besides, at each of its beginnings somebody was called if somebody had to be, so nobody who
+//! waits is forgotten. A clause sees what a future or a token has seen of the record. After a future's own
+//! `poll` the newest entry is what it answered. A look finds the value exactly when the cell is set at that
+//! moment. [`world::replay`] is the same machine for one caller, over plain data.
 //!
-//! This says nothing of a call that does not return, of fairness, progress or time. Two things are tested
-//! and not proved: a task that is called is woken, and each value and init is dropped once. The tokens say
-//! which value was set, see [`Known`]. The definitions in `specs/` and the kit have to be trusted.
-//! `docs/PROVED.md` of the repository says what no clause says, and `docs/THREADS.md` what is proved of threads.
+//! This says nothing of a call that does not return, of fairness, progress or time. Tests alone show that
+//! the task that holds polls its init and no other task does, that a task that is called is woken, and that
+//! each value and init is dropped. The tokens say which value was set, see [`Known`]. The definitions in
+//! `specs/` and the kit have to be trusted. `docs/PROVED.md` of the repository says what no clause says, and
+//! `docs/THREADS.md` what is proved of threads.
 #![tactic(auto)]
 
 pub mod inner;

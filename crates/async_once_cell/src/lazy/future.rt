@@ -81,6 +81,7 @@ impl<'a, T, F: Future, R: Wait + AllocGlobal> LazyFuturePin<'a, T, F, R> {
 
     /// Shows that the record of a cell that tasks share is a run of the cell, and that at each of its beginnings
     /// somebody was called if somebody had to be. If the cell is set in it, it has a Fill. It does nothing else.
+    /// What the clauses say holds if it returns, see [`TryInitFuture::is_run`](crate::TryInitFuture::is_run).
     pub fn is_run(&self)
         ensures run { is_shared self.now.cell ≡ true → IsRun Once most (reverse self.now.log) }
         ensures called { is_shared self.now.cell ≡ true → AtEvery (SomebodyCalled Once) (reverse self.now.log) }
@@ -89,7 +90,8 @@ impl<'a, T, F: Future, R: Wait + AllocGlobal> LazyFuturePin<'a, T, F, R> {
         self.future.is_run();
     }
 
-    /// Tells a token of the cell what this future has seen of the record. It waits for nobody.
+    /// Tells a token of the cell what this future has seen of the record. It waits for nobody, and what its clauses
+    /// say holds if it returns, as at [`is_run`](Self::is_run).
     pub fn tell(&self, token: &mut Known<'a, T>)
         requires token_of_this_cell { token.old.cell ≡ self.now.cell }
         ensures cell { token.new.cell ≡ token.old.cell }
@@ -143,8 +145,8 @@ impl<'a, T: Drop, F: Future<Output = T>, R: Wait + AllocGlobal> LazyFuturePin<'a
 
 impl<'a, T: Drop, F: Future<Output = T>, R: Wait + AllocGlobal> LazyFuturePin<'a, T, F, R> {
     /// Polls the future on this thread until it answers, and sleeps while it has to wait. Whom it waits
-    /// for, and what `io::Error` says, is told at [`TryInitFuture::wait`](TryInitFuture::wait);
-    /// the init is that of the cell, which this thread drives on where it gets the right.
+    /// for, and what `io::Error` says, is told at [`TryInitFuture::wait`](crate::TryInitFuture::wait);
+    /// the init is that of the cell, which this thread drives on if it gets the right.
     ///
     /// ```
     /// let value = lazy.get(rt).wait()??; // &3

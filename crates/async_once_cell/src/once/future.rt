@@ -49,7 +49,8 @@ enum Asked<'a, T, F: Future, R: Wait + AllocGlobal> {
 /// dropped. A poll may take memory while another task holds or is in a call.
 ///
 /// A clause sees the future's cell, the number of its task, the cell's record as far as the task has seen it,
-/// and whether the future is finished. The record is a run of the cell.
+/// and whether the future is finished. [`TryInitFuture::is_run`] says of the record that it is a run of the cell,
+/// and that somebody was called wherever somebody had to be.
 pub struct TryInitFuture<'a, T, E, F: Future, R: Wait + AllocGlobal> {
     error: PhantomData<E>,
     cell: &'a OnceCell<T>,
@@ -121,6 +122,9 @@ impl<'a, T, E, F: Future, R: Wait + AllocGlobal> TryInitFuture<'a, T, E, F, R> {
 
     /// Shows that the record of a cell that tasks share is a run of the cell, and that at each of its beginnings
     /// somebody was called if somebody had to be. If the cell is set in it, it has a Fill. It does nothing else.
+    ///
+    /// It waits for nobody. But the kit counts each function of a type with a bound `Wait` among those that may wait,
+    /// and asks no proof that they return. So what the clauses say holds if it returns.
     pub fn is_run(&self)
         ensures run { is_shared self.now.cell ≡ true → IsRun Once most (reverse self.now.log) }
         ensures called { is_shared self.now.cell ≡ true → AtEvery (SomebodyCalled Once) (reverse self.now.log) }
@@ -131,7 +135,8 @@ impl<'a, T, E, F: Future, R: Wait + AllocGlobal> TryInitFuture<'a, T, E, F, R> {
         }
     }
 
-    /// Tells a token of the cell what this future has seen of the record. It waits for nobody.
+    /// Tells a token of the cell what this future has seen of the record. It waits for nobody, and what its clauses
+    /// say holds if it returns, as at [`is_run`](Self::is_run).
     pub fn tell(&self, token: &mut Known<'a, T>)
         requires token_of_this_cell { token.old.cell ≡ self.now.cell }
         ensures cell { token.new.cell ≡ token.old.cell }
@@ -292,7 +297,8 @@ where
     }
 }
 
-/// Polled when it is finished, it asks for another poll and changes nothing.
+/// As [`TryInitFuture::poll`], and no clause of the cells says so. Polled when it is finished, it asks for another
+/// poll and changes nothing.
 impl<'a, T: Drop, E: Drop, F, R: Wait + AllocGlobal> Future for TryInitFuture<'a, T, E, F, R>
 where
     F: Future<Output: TryOutput<Ok = T, Error = E>>,

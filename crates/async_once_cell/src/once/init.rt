@@ -73,6 +73,7 @@ impl<'a, T, F: Future, R: Wait + AllocGlobal> InitFuture<'a, T, F, R> {
 
     /// Shows that the record of a cell that tasks share is a run of the cell, and that at each of its beginnings
     /// somebody was called if somebody had to be. If the cell is set in it, it has a Fill. It does nothing else.
+    /// What the clauses say holds if it returns, see [`TryInitFuture::is_run`].
     pub fn is_run(&self)
         ensures run { is_shared self.now.cell ≡ true → IsRun Once most (reverse self.now.log) }
         ensures called { is_shared self.now.cell ≡ true → AtEvery (SomebodyCalled Once) (reverse self.now.log) }
@@ -81,7 +82,8 @@ impl<'a, T, F: Future, R: Wait + AllocGlobal> InitFuture<'a, T, F, R> {
         self.future.is_run();
     }
 
-    /// Tells a token of the cell what this future has seen of the record. It waits for nobody.
+    /// Tells a token of the cell what this future has seen of the record. It waits for nobody, and what its clauses
+    /// say holds if it returns, as at [`is_run`](Self::is_run).
     ///
     /// ```
     /// let Poll::Ready(Ok(first)) = future.poll(cx) else {
