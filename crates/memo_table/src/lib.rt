@@ -1,6 +1,8 @@
 //! A table with one fetch a key, and two threads that ask it for its values.
 #![tactic(auto)]
 
+ghost use Rattle.std.specs.Prelude.{◌≡◌, OnOk, OnErr};
+
 pub mod ask;
 pub mod fault;
 pub mod fetch;
@@ -11,7 +13,7 @@ use fault::Fault;
 use memo::Memo;
 use std::alloc::AllocGlobal;
 use std::io;
-use std::io::Write;
+use std::io::{Eprint, Write};
 use std::random::RandomSource;
 use std::sync::Wait;
 use std::sync::atomic::{AtomicU64, Ordering};
@@ -42,6 +44,20 @@ where
     let answers = ask_twice(rt, memo, &fetches, turns)?;
     print_answers(output, &answers, fetches.load(Ordering::SeqCst))?;
     Ok(())
+}
+
+/// The status that a run ends with: 0, or 1 if it gave up. Then a line on standard error says why.
+pub fn status<E: Eprint>(errors: &E, ended: Result<(), Fault>) -> u8
+    ensures done { OnOk ended (result ≡ 0) }
+    ensures gave_up { OnErr ended (result ≡ 1) }
+{
+    match ended {
+        Ok(()) => 0,
+        Err(fault) => {
+            let _ = errors.eprintln(fault);
+            1
+        }
+    }
 }
 
 /// Writes a line for each answer, and one for the fetches.

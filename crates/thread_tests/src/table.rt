@@ -1,27 +1,26 @@
 //! What the contracts of `memo_table` do not say of its table, and its whole runs.
 ghost use Rattle.std.specs.Prelude.{◌*◌, ◌^◌, ◌<◌};
 
+mod errors;
+mod runs;
+mod watched;
+
 use async_once_cell::OnceCell;
-use async_once_cell::once::{Known, Refused};
-use futures::future::pending;
+use async_once_cell::once::{InitFuture, Known, Refused};
+use futures::future::{Pending, pending};
 use futures::test::MockTask;
 use machine_tests::doubles::memory::hoard;
-use machine_tests::doubles::target::Target;
 use memo_table::ask::{Answer, KEYS, agreed, answer_within, ask};
 use memo_table::fault::Fault;
 use memo_table::fetch::Fetch;
 use memo_table::memo::Memo;
-use memo_table::{run, show};
 use std::alloc::{AllocError, AllocGlobal, Global};
-use std::io::{self, ErrorKind};
 use std::random::RandomSource;
 use std::sync::Wait;
 use std::sync::atomic::{AtomicU64, Ordering};
 use std::test::Fail;
-use std::thread::Threads;
 use std::time::Clock;
-
-const TEXT: &str = "1 10\n2 20\n3 30\nfetches 3\n";
+use watched::Watched;
 
 fn table(alloc: Global, keys: &[u64]) -> Result<Memo<u64>, AllocError> {
     let mut given = Vec::new(alloc);
@@ -134,7 +133,24 @@ fn tokens_of_a_key(rt: HostRuntime) -> Result<(), Fail> {
     Ok(())
 }
 
-// What a fetch of a key answers within so many turns; None where it gives up.
+// Whether no table of these keys is made while all memory is taken.
+fn is_refused(alloc: Global, keys: Vec<u64>) -> Result<bool, AllocError> {
+    let held = hoard(alloc)?;
+    let is_refused = Memo::<u64>::new(alloc, keys).is_err();
+    drop(held);
+    Ok(is_refused)
+}
+
+/// If all memory is refused, no table is made.
+#[test]
+fn a_table_is_refused(rt: HostRuntime) -> Result<(), Fail> {
+    let keys = vec![in rt.alloc(); 1, 2, 3]?;
+    let is_refused = is_refused(rt.alloc(), keys)?;
+    assert!(rt; is_refused);
+    Ok(())
+}
+
+// What a fetch of a key answers within so many turns; None if it gives up.
 fn within<R: Wait + RandomSource + AllocGlobal + Clock>(
     rt: &R,
     cell: &OnceCell<u64>,
@@ -148,27 +164,77 @@ fn within<R: Wait + RandomSource + AllocGlobal + Clock>(
     }
 }
 
-// What a fetch answers while another task holds the cell, which is pending.
-fn within_a_hold<R: Wait + RandomSource + AllocGlobal + Clock>(
-    rt: &R,
-    cell: &OnceCell<u64>,
-    fetch: Fetch<'_>,
-) -> Result<bool, Fault> {
-    let task = MockTask::new(rt)?;
-    let mut holder = cell.get_or_init(rt, pending());
-    let holds = task.poll(&mut holder).is_pending();
-    let answer = within(rt, cell, fetch, 3)?;
-    Ok(holds && answer.is_none())
+// A future by which a task holds the cell of a key for good; None if the cell is not free.
+fn holder<'a, R: Wait + AllocGlobal>(
+    rt: &'a R,
+    memo: &'a Memo<u64>,
+    key: u64,
+    task: &MockTask,
+) -> Option<InitFuture<'a, u64, Pending<u64>, R>> {
+    let mut holder = memo.cell(key)?.get_or_init(rt, pending());
+    if task.poll(&mut holder).is_ready() {
+        return None;
+    }
+    Some(holder)
 }
 
-/// A future that is Pending at each turn gives up, and leaves the cell to the next.
+// Whether a fetch by this handle gives up after so many turns, while another task holds the cell of its key.
+fn gives_up_beside_a_holder<R: Wait + RandomSource + AllocGlobal + Clock>(
+    rt: &R,
+    by: &Watched<'_, R>,
+    memo: &Memo<u64>,
+    fetch: Fetch<'_>,
+    turns: u64,
+) -> Result<bool, Fault> {
+    let (task, cell) = (MockTask::new(rt)?, memo.cell(1).ok_or(Fault::NoKey(1))?);
+    let holder = holder(rt, memo, 1, &task).ok_or(Fault::NoKey(1))?;
+    let answer = within(by, cell, fetch, turns)?;
+    drop(holder);
+    Ok(answer.is_none())
+}
+
+/// A future that is Pending at each of its turns gives up, and leaves the cell to the next.
 #[test]
 fn turns_are_used_up(rt: HostRuntime) -> Result<(), Fail> {
-    let (cell, fetches) = (OnceCell::new(), AtomicU64::new(0));
-    let gives_up = within_a_hold(&rt, &cell, Fetch::new(1, &fetches))?;
-    let next = within(&rt, &cell, Fetch::new(2, &fetches), 1)?;
-    let seen = (gives_up, next, fetches.load(Ordering::SeqCst));
-    assert_eq!(rt; seen, (true, Some(20), 1));
+    let (memo, fetches) = (table(rt.alloc(), &KEYS)?, AtomicU64::new(0));
+    for turns in [0, 1, 3, 40] {
+        let (by, fetch) = (Watched::new(&rt), Fetch::new(1, &fetches));
+        let gives_up = gives_up_beside_a_holder(&rt, &by, &memo, fetch, turns)?;
+        assert!(rt; gives_up, "within {turns} turns");
+    }
+    let told = value_told(&rt, &memo, &fetches, 1);
+    assert_eq!(rt; (told, fetches.load(Ordering::SeqCst)), (Some(10), 1));
+    Ok(())
+}
+
+// How a fetch ends that has no memory from the request on that comes after so many. A task holds the cell meanwhile.
+fn end_without_memory<R: Wait + RandomSource + AllocGlobal + Clock>(
+    rt: &R,
+    before: u64,
+) -> Result<&'static str, Fault> {
+    let (task, memo) = (MockTask::new(rt)?, table(rt.alloc(), &KEYS)?);
+    let holder = holder(rt, &memo, 1, &task).ok_or(Fault::NoKey(1))?;
+    let (by, fetches) = (Watched::starving(rt, before), AtomicU64::new(0));
+    let answer = ask(&by, &memo, &fetches, 1, 1);
+    drop(holder);
+    Ok(match (answer, by.has_starved()) {
+        (Err(Fault::Refused(Refused::Memory)), true) => "refused",
+        (Err(Fault::Io(_)), true) => "no task",
+        (Err(Fault::Turns), false) => "all turns",
+        _ => "otherwise",
+    })
+}
+
+/// A poll that is refused memory is told as refused, and not as one that had too few turns.
+#[test]
+fn a_refused_poll_is_told(rt: HostRuntime) -> Result<(), Fail> {
+    let mut was_refused = false;
+    for before in 0..20 {
+        let end = end_without_memory(&rt, before)?;
+        assert!(rt; end != "otherwise", "after {before} requests");
+        was_refused |= end == "refused";
+    }
+    assert!(rt; was_refused);
     Ok(())
 }
 
@@ -191,147 +257,6 @@ fn answers_that_differ(rt: HostRuntime) -> Result<(), Fail> {
     ] {
         let ended = agreement(rt.alloc(), 10, value)?;
         assert_eq!(rt; ended.as_str(), wanted);
-    }
-    Ok(())
-}
-
-// Whether a table is refused, whether a run is refused memory, and how many bytes the run prints.
-fn refused<R: Threads + Wait + RandomSource + AllocGlobal + Clock + Sync>(
-    rt: &R,
-    keys: Vec<u64>,
-) -> (bool, bool, usize) {
-    let has_table = Memo::<u64>::new(rt.alloc(), keys).is_ok();
-    let mut printed = Vec::new(rt.alloc());
-    let answer = run(rt, &mut printed);
-    (
-        !has_table,
-        matches!(answer, Err(Fault::Memory(_))),
-        printed.len(),
-    )
-}
-
-fn without_memory<R: Threads + Wait + RandomSource + AllocGlobal + Clock + Sync>(
-    rt: &R,
-) -> Result<(bool, bool, usize), AllocError> {
-    let keys = vec![in rt.alloc(); 1, 2, 3]?;
-    let held = hoard(rt.alloc())?;
-    let seen = refused(rt, keys);
-    drop(held);
-    Ok(seen)
-}
-
-/// Where all memory is refused, no table is made, and a run prints nothing.
-#[test]
-fn refused_memory_prints_nothing(rt: HostRuntime) -> Result<(), Fail> {
-    assert_eq!(rt; without_memory(&rt)?, (true, true, 0));
-    Ok(())
-}
-
-// Whether a beginning went out, whether it was cut, whether the run gave up, and whether a write failed.
-fn written<R: Threads + Wait + RandomSource + AllocGlobal + Clock + Sync>(
-    rt: &R,
-    fails_at: u64,
-) -> (bool, bool, bool, bool) {
-    let mut target = Target::new(rt.alloc(), usize::MAX, fails_at, false);
-    let gave_up = run(rt, &mut target).is_err();
-    let (printed, failed) = (target.text(), target.has_failed());
-    let is_beginning = TEXT.as_bytes().starts_with(printed);
-    (is_beginning, printed.len() < TEXT.len(), gave_up, failed)
-}
-
-/// Where a write fails, a beginning has gone out, and the run gives up.
-#[test]
-fn a_failed_write_leaves_a_beginning(rt: HostRuntime) {
-    for fails_at in 0..=8 {
-        let (is_beginning, is_cut, gave_up, failed) = written(&rt, fails_at);
-        assert_eq!(rt;
-            (is_beginning, is_cut, gave_up),
-            (true, failed, failed),
-            "at write {fails_at}"
-        );
-    }
-}
-
-// What a run printed where the flush alone fails, and whether it gave up for that.
-fn unflushed<R: Threads + Wait + RandomSource + AllocGlobal + Clock + Sync>(
-    rt: &R,
-) -> (bool, bool) {
-    let mut target = Target::new(rt.alloc(), usize::MAX, 0, true);
-    let ended = run(rt, &mut target);
-    let is_told = matches!(ended, Err(Fault::Io(error)) if error.kind() == ErrorKind::StorageFull);
-    (target.text() == TEXT.as_bytes(), is_told)
-}
-
-/// Where the flush alone fails all was written, and the run gives up.
-#[test]
-fn a_failed_flush_is_told(rt: HostRuntime) {
-    assert_eq!(rt; unflushed(&rt), (true, true));
-}
-
-// Whether no thread could be started where all memory is taken, and how much was printed.
-fn without_threads<R: Threads + Wait + RandomSource + AllocGlobal + Clock + Sync>(
-    rt: &R,
-    memo: &Memo<u64>,
-) -> Result<(bool, usize), AllocError> {
-    let mut printed = Vec::new(rt.alloc());
-    let held = hoard(rt.alloc())?;
-    let ended = show(rt, memo, 1, &mut printed);
-    drop(held);
-    Ok((matches!(ended, Err(Fault::Thread)), printed.len()))
-}
-
-/// Where a thread does not start, nothing is printed.
-#[test]
-fn a_refused_thread_prints_nothing(rt: HostRuntime) -> Result<(), Fail> {
-    let memo = table(rt.alloc(), &KEYS)?;
-    assert_eq!(rt; without_threads(&rt, &memo)?, (true, 0));
-    Ok(())
-}
-
-// Whether the turns of two threads were used up while another task held one of the cells, and how much
-// was printed.
-fn beside_a_holder<R: Threads + Wait + RandomSource + AllocGlobal + Clock + Sync>(
-    rt: &R,
-    memo: &Memo<u64>,
-) -> Result<(bool, usize), Fault> {
-    let (task, cell) = (MockTask::new(rt)?, memo.cell(2).ok_or(Fault::NoKey(2))?);
-    let mut holder = cell.get_or_init(rt, pending());
-    let holds = task.poll(&mut holder).is_pending();
-    let mut printed = Vec::new(rt.alloc());
-    let ended = show(rt, memo, 3, &mut printed);
-    Ok((holds && matches!(ended, Err(Fault::Turns)), printed.len()))
-}
-
-/// Where the turns are used up, nothing is printed.
-#[test]
-fn turns_used_up_print_nothing(rt: HostRuntime) -> Result<(), Fail> {
-    let memo = table(rt.alloc(), &KEYS)?;
-    assert_eq!(rt; beside_a_holder(&rt, &memo).ok(), Some((true, 0)));
-    Ok(())
-}
-
-fn faults() -> [(Fault, &'static str); 5] {
-    [
-        (Fault::Turns, "a cell has no value after all turns"),
-        (
-            Fault::Refused(Refused::Memory),
-            "a poll was refused: out of memory",
-        ),
-        (Fault::Thread, "a thread could not be started"),
-        (Fault::Memory(AllocError), "out of memory"),
-        (
-            Fault::Io(io::Error::other("no such output")),
-            "no such output",
-        ),
-    ]
-}
-
-/// A fault says why a run gave up.
-#[test]
-fn faults_say_why(rt: HostRuntime) -> Result<(), Fail> {
-    for (fault, wanted) in faults() {
-        let said = format!(in rt.alloc(); "{fault}")?;
-        assert_eq!(rt; said.as_str(), wanted);
     }
     Ok(())
 }

@@ -1,5 +1,5 @@
 //! What such cells are for: what a Rust programmer writes with `async`, the examples of doc comments, settings that
-//! are read once, a connection, a graph of values, a pool of tasks, tables, and settings that threads load anew.
+//! are read once, a connection, a graph of values, a pool of tasks, a table, and settings that threads load anew.
 #![tactic(auto)]
 
 mod ask;

@@ -1,4 +1,4 @@
-//! Tables whose values are fetched when they are first asked for.
+//! A table whose values are fetched when they are first asked for.
 
 use crate::fault::Fault;
 use memo_table::ask::{TURNS, ask};
@@ -8,10 +8,9 @@ use std::io::Write;
 use std::random::RandomSource;
 use std::sync::Wait;
 use std::sync::atomic::{AtomicU64, Ordering};
-use std::thread::Threads;
 use std::time::Clock;
 
-// The keys of the table that one thread asks.
+// The keys of the table.
 const KEYS: [u64; 3] = [5, 6, 7];
 
 // What is asked for. The value of one key is never asked for, and so not fetched.
@@ -32,15 +31,12 @@ where
     Ok(())
 }
 
-/// Asks a table for values, and prints what was told, and how many were fetched. Then it has two threads ask
-/// another table, and prints the same of that.
+/// Asks a table for values, and prints what was told, and how many were fetched.
 pub fn show<R, O>(rt: &R, output: &mut O) -> Result<(), Fault>
 where
-    R: Threads + Wait + RandomSource + AllocGlobal + Clock + Sync,
+    R: Wait + RandomSource + AllocGlobal + Clock,
     O: Write,
 {
     let keys = Vec::from_array(rt.alloc(), KEYS)?;
-    show_told(rt, output, &Memo::new(rt.alloc(), keys)?)?;
-    memo_table::run(rt, output)?;
-    Ok(())
+    show_told(rt, output, &Memo::new(rt.alloc(), keys)?)
 }
