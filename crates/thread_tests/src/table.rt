@@ -193,14 +193,15 @@ fn gives_up_beside_a_holder<R: Wait + RandomSource + AllocGlobal + Clock>(
     Ok(answer.is_none())
 }
 
-/// A future that is Pending at each of its turns gives up, and leaves the cell to the next.
+/// A future that is Pending at each of its turns makes a pause after each, and then gives up. It has just the turns
+/// that its caller gives it, and leaves the cell to the next.
 #[test]
 fn turns_are_used_up(rt: HostRuntime) -> Result<(), Fail> {
     let (memo, fetches) = (table(rt.alloc(), &KEYS)?, AtomicU64::new(0));
     for turns in [0, 1, 3, 40] {
         let (by, fetch) = (Watched::new(&rt), Fetch::new(1, &fetches));
         let gives_up = gives_up_beside_a_holder(&rt, &by, &memo, fetch, turns)?;
-        assert!(rt; gives_up, "within {turns} turns");
+        assert_eq!(rt; (gives_up, by.pauses()), (true, turns));
     }
     let told = value_told(&rt, &memo, &fetches, 1);
     assert_eq!(rt; (told, fetches.load(Ordering::SeqCst)), (Some(10), 1));

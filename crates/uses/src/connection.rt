@@ -1,5 +1,5 @@
 //! A connection that is tried again after an error, until it is there.
-ghost use Rattle.std.specs.Prelude.{◌≡◌, Some, IfOk};
+ghost use Rattle.std.specs.Prelude.{◌≡◌, Some, Err, IfErr, IfOk};
 
 use crate::fault::Fault;
 use async_once_cell::OnceCell;
@@ -47,6 +47,21 @@ impl Future for Dial<'_> {
     }
 }
 
+/// Whether the other side did not answer. A poll that was refused is no try, and is told as such.
+fn is_down(tried: Result<&Connection, InitError<Down>>) -> Result<bool, Fault>
+    ensures memory { IfErr tried (λ error. error ≡ InitError.Memory
+        → result ≡ Err (Fault.Refused Refused.Memory)) }
+    ensures full { IfErr tried (λ error. error ≡ InitError.Full
+        → result ≡ Err (Fault.Refused Refused.Full)) }
+{
+    match tried {
+        Ok(_) => Ok(false),
+        Err(InitError::Init(Down)) => Ok(true),
+        Err(InitError::Memory) => Err(Fault::Refused(Refused::Memory)),
+        Err(InitError::Full) => Err(Fault::Refused(Refused::Full)),
+    }
+}
+
 /// The connection, after at most so many tries. It is the one that the token knows, for good.
 fn connect<'a, R>(
     rt: &'a R,
@@ -62,11 +77,8 @@ where
     ensures value { IfOk result (λ connection. token.new.value ≡ Some connection) }
 {
     for _ in 0..most {
-        match cell.get_or_try_init(rt, Dial { server }).wait()? {
-            Ok(_) => break,
-            Err(InitError::Init(Down)) => {}
-            Err(InitError::Memory) => return Err(Fault::Refused(Refused::Memory)),
-            Err(InitError::Full) => return Err(Fault::Refused(Refused::Full)),
+        if !is_down(cell.get_or_try_init(rt, Dial { server }).wait()?)? {
+            break;
         }
     }
     cell.get_as(token).copied().ok_or(Fault::Tries(most))

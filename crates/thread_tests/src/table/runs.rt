@@ -104,6 +104,17 @@ fn turns_used_up_print_nothing(rt: HostRuntime) -> Result<(), Fail> {
     Ok(())
 }
 
+/// Each of the two threads has as many turns as the caller says, and makes a pause after each.
+#[test]
+fn a_run_has_its_callers_turns(rt: HostRuntime) -> Result<(), Fail> {
+    for (turns, pauses) in [(0, 0), (1, 2), (3, 6)] {
+        let by = Watched::new(&rt);
+        let told = run_beside(&rt, &by, 1, turns)?.told(rt.alloc());
+        assert_eq!(rt; (told.status, by.pauses()), (1, pauses), "of {turns}");
+    }
+    Ok(())
+}
+
 // A run that has no memory from the request on that comes after so many, and whether there was such a request.
 fn run_starving<R: Threads + Wait + RandomSource + AllocGlobal + Clock + Sync>(
     rt: &R,

@@ -1,4 +1,4 @@
-//! A handle that may have no memory from some request on.
+//! A handle that counts pauses, and may have no memory from some request on.
 
 use machine_tests::doubles::memory::hoard;
 use std::alloc::{Alloc, AllocGlobal, Global};
@@ -9,11 +9,12 @@ use std::sync::{OnceLock, Wait};
 use std::thread::Threads;
 use std::time::{Clock, Duration};
 
-/// A handle that passes all on to another. From one request for its allocator on, it holds all memory there is
-/// until it is dropped.
+/// A handle that passes all on to another. It counts the pauses of a millisecond that are made by it. From one
+/// request for its allocator on, it holds all memory there is until it is dropped.
 #[derive(Drop)]
 pub struct Watched<'r, R> {
     rt: &'r R,
+    pauses: AtomicU64,
     requests: AtomicU64,
     // How many requests come before that one.
     before: u64,
@@ -30,10 +31,16 @@ impl<'r, R> Watched<'r, R> {
     pub fn starving(rt: &'r R, before: u64) -> Self {
         Watched {
             rt,
+            pauses: AtomicU64::new(0),
             requests: AtomicU64::new(0),
             before,
             held: OnceLock::new(),
         }
+    }
+
+    /// How many pauses of a millisecond were made.
+    pub fn pauses(&self) -> u64 {
+        self.pauses.load(Ordering::SeqCst)
     }
 
     /// Whether it came to hold all memory.
@@ -62,6 +69,9 @@ impl<R: Clock> Clock for Watched<'_, R> {
     }
 
     fn sleep(&self, duration: Duration) {
+        if duration == Duration::from_millis(1) {
+            self.pauses.fetch_add(1, Ordering::SeqCst);
+        }
         self.rt.sleep(duration)
     }
 }
