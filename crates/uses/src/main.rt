@@ -1,13 +1,18 @@
 //! What such cells are for: what a Rust programmer writes with `async`, the examples of doc comments, settings that
-//! are read once, a connection, a graph of values, a pool of tasks, a table, and settings that threads load anew.
+//! are read once, a connection, a graph of values, a pool of tasks, a table, settings that threads load anew, a cell
+//! that threads own together, many threads, tasks that give up, and a value whose type has a fact.
 #![tactic(auto)]
 
 mod ask;
+mod by_type;
 mod connection;
 mod examples;
 mod fault;
 mod from_rust;
+mod giving_up;
 mod graph;
+mod many_threads;
+mod owned_together;
 mod pool;
 mod reload;
 mod settings;
@@ -27,7 +32,8 @@ use std::time::Clock;
 
 fn run<R, O>(rt: &R, output: &mut O) -> Result<(), Fault>
 where
-    R: Print + Files + Threads + Wait + RandomSource + AllocGlobal + Clock + Sync,
+    R: Print + Files + Threads + Wait + RandomSource + AllocGlobal + Clock,
+    R: Copy + Send + Sync + 'static,
     O: Write,
 {
     from_rust::show(rt)?;
@@ -37,7 +43,11 @@ where
     graph::show(rt, output)?;
     pool::show(rt, output)?;
     table::show(rt, output)?;
-    reload::show(rt, output)
+    reload::show(rt, output)?;
+    owned_together::show(rt, output)?;
+    many_threads::show(rt, output)?;
+    giving_up::show(rt, output)?;
+    by_type::show(rt, output)
 }
 
 fn main(rt: HostRuntime) -> ExitCode {

@@ -1,0 +1,55 @@
+//! A value whose type has a fact, so that whoever reads the cell knows it.
+ghost use Rattle.std.specs.Prelude.{◌≡◌, ◌*◌, ◌^◌, ◌<◌, IfOk, IfSome};
+
+use crate::fault::Fault;
+use async_once_cell::OnceCell;
+use futures::future::ready;
+use std::alloc::AllocGlobal;
+use std::io::Write;
+use std::random::RandomSource;
+use std::sync::Wait;
+
+/// What was fetched for a key: ten times the key. A `Fetched` with any other value is not proved.
+#[derive(Drop)]
+struct Fetched {
+    key: u64,
+    value: u64,
+    ghost ten_times: { value ≡ key * 10 },
+}
+
+/// A key and its value, if the cell is filled. Whoever filled it, the value is ten times the key.
+fn look(cell: &OnceCell<Fetched>) -> Option<(u64, u64)>
+    ensures { IfSome result (λ seen. seen.1 ≡ seen.0 * 10) }
+{
+    let fetched = cell.get()?;
+    Some((fetched.key, fetched.value))
+}
+
+/// A key and its value: those that are there, or those of this key.
+fn told<R>(rt: &R, cell: &OnceCell<Fetched>, key: u64) -> Result<(u64, u64), Fault>
+where
+    R: Wait + RandomSource + AllocGlobal,
+    requires { key * 10 < 2 ^ 64 }
+    ensures { IfOk result (λ told. told.1 ≡ told.0 * 10) }
+{
+    let value = key * 10;
+    let fetched = cell.get_or_init(rt, ready(Fetched { key, value })).wait()??;
+    Ok((fetched.key, fetched.value))
+}
+
+/// Looks at a cell and asks it, and prints what was seen and told.
+pub fn show<R, O>(rt: &R, output: &mut O) -> Result<(), Fault>
+where
+    R: Wait + RandomSource + AllocGlobal,
+    O: Write,
+{
+    let cell = OnceCell::new();
+    let before = look(&cell);
+    let (first, second) = (told(rt, &cell, 7)?, told(rt, &cell, 8)?);
+    let after = look(&cell);
+    writeln!(
+        output,
+        "ten times the key: {before:?} {first:?} {second:?} {after:?}"
+    )?;
+    Ok(())
+}

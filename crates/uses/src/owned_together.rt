@@ -1,0 +1,48 @@
+//! A cell that two threads own together.
+
+use crate::fault::Fault;
+use async_once_cell::OnceCell;
+use futures::future::ready;
+use std::alloc::{AllocError, AllocGlobal};
+use std::io::Write;
+use std::random::RandomSource;
+use std::sync::{Arc, Wait};
+use std::thread::{self, Threads};
+
+/// The value of the cell, which the first call makes.
+fn value<R>(rt: &R, cell: &OnceCell<u64>) -> Result<u64, Fault>
+where
+    R: Wait + RandomSource + AllocGlobal,
+{
+    Ok(*cell.get_or_init(rt, ready(7)).wait()??)
+}
+
+/// What this thread and a new one are told of a cell that both own.
+fn told_to_both<R>(rt: R) -> Result<[Result<u64, Fault>; 2], AllocError>
+where
+    R: Threads + Wait + RandomSource + AllocGlobal + Copy + Send + 'static,
+{
+    let cell = Arc::new(rt.alloc(), OnceCell::new())?;
+    let theirs = Arc::try_clone(&cell)?;
+    let there = thread::spawn(&rt, move || value(&rt, &theirs))?;
+    let here = value(&rt, &cell);
+    Ok([here, there.join(&rt)])
+}
+
+// Prints what both were told.
+fn show_told<O: Write>(
+    output: &mut O,
+    [here, there]: [Result<u64, Fault>; 2],
+) -> Result<(), Fault> {
+    writeln!(output, "two owners were told {} and {}", here?, there?)?;
+    Ok(())
+}
+
+/// Has two threads that own a cell ask it, and prints what they were told.
+pub fn show<R, O>(rt: &R, output: &mut O) -> Result<(), Fault>
+where
+    R: Threads + Wait + RandomSource + AllocGlobal + Copy + Send + 'static,
+    O: Write,
+{
+    show_told(output, told_to_both(*rt)?)
+}
