@@ -3,6 +3,11 @@
 //! `parse` reads the text, `play` replays its lines by `once_world`, and `print` writes the record.
 #![tactic(auto)]
 
+ghost use Rattle.std.specs.Prelude.{◌≡◌, ◌⊎◌};
+ghost use Rattle.std.specs.Process.{exit_status};
+ghost use Rattle.once_script.specs.Fault.{status_of};
+ghost use Rattle.once_script.specs.declared.fault.Fault.{Fault};
+
 pub mod fault;
 pub mod parse;
 pub mod play;
@@ -12,9 +17,33 @@ use crate::fault::Fault;
 use crate::parse::{Script, parse_script};
 use crate::play::replay_lines;
 use crate::print::print_record;
-use std::alloc::Global;
+use std::alloc::{AllocGlobal, Global};
 use std::io;
 use std::io::{BufReader, Read, Write};
+use std::process::ExitCode;
+
+/// Runs the program `once_replay`: replays the script that the input has, and prints its record to standard output. If
+/// that fails, one line on standard error says why, and the status is that of the fault.
+///
+/// ```
+/// fn main(rt: HostRuntime) -> ExitCode {
+///     replay(&rt, rt.reader())
+/// }
+/// ```
+pub fn replay<R, I>(rt: &R, input: I) -> ExitCode
+where
+    R: Print + Eprint + AllocGlobal,
+    I: Read + Drop,
+    ensures { (exit_status result ≡ 0) ⊎ ((fault : Fault) × (exit_status result ≡ status_of fault)) }
+{
+    match run(rt.alloc(), input, io::writer(rt)) {
+        Ok(()) => ExitCode::from(0u8),
+        Err(fault) => {
+            let _ = rt.eprintln(fault);
+            ExitCode::from(fault.status())
+        }
+    }
+}
 
 /// Reads the input to its end, replays what it says, and prints the record.
 ///
@@ -22,8 +51,8 @@ use std::io::{BufReader, Read, Write};
 /// of the record.
 ///
 /// ```
-/// match run(rt.alloc(), rt.reader(), io::writer(&rt)) {
-///     Ok(()) => ExitCode::SUCCESS,
+/// match run(rt.alloc(), input, io::writer(rt)) {
+///     Ok(()) => ExitCode::from(0u8),
 ///     Err(fault) => {
 ///         let _ = rt.eprintln(fault);
 ///         ExitCode::from(fault.status())

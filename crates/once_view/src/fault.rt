@@ -1,4 +1,7 @@
 //! Why a script is not shown.
+ghost use Rattle.std.specs.Prelude.{◌≡◌};
+ghost use Rattle.once_view.specs.declared.fault.Fault.TheVariants.{Io, Memory};
+
 use std::alloc::{AllocError, AllocFailed};
 use std::error::Error;
 use std::{fmt, io};
@@ -24,8 +27,22 @@ impl fmt::Display for Expected {
 #[derive(Debug, Drop)]
 pub struct UnreadableLine {
     pub number: u64,
+    /// The line, or its first characters.
     pub text: String,
+    /// How many characters the line has.
+    pub length: usize,
     pub expected: Expected,
+}
+
+impl fmt::Display for UnreadableLine {
+    fn fmt<W: fmt::Write>(&self, f: &mut fmt::Formatter<W>) -> fmt::Result {
+        write!(f, "line {} can't be read: {:?}", self.number, self.text)?;
+        let told = self.text.chars().count();
+        if told < self.length {
+            write!(f, " (cut after {told} of {} characters)", self.length)?;
+        }
+        write!(f, "; expected: {}", self.expected)
+    }
 }
 
 /// Why a script is not shown.
@@ -43,6 +60,8 @@ pub enum Fault {
     BeyondTheEnd { from: u64, end: u64 },
     /// None of the lines that are to be shown says anything.
     NothingSaid { from: u64, to: u64 },
+    /// Whoever reads the output closed it before all was written.
+    ClosedPipe,
     /// A read or a write failed.
     Io,
     /// Memory was refused.
@@ -50,11 +69,16 @@ pub enum Fault {
 }
 
 impl Fault {
-    /// The status that the process ends with, as that of `once_replay`.
-    pub fn status(&self) -> u8 {
+    /// The status that the process ends with, as that of `once_replay`. Of a closed pipe it is the one that a shell
+    /// tells of a process that the signal of such a pipe ended.
+    pub fn status(&self) -> u8
+        ensures io { self.now ≡ Io → result ≡ 3 }
+        ensures memory { self.now ≡ Memory → result ≡ 4 }
+    {
         match self {
             Fault::Io => 3,
             Fault::Memory => 4,
+            Fault::ClosedPipe => 141,
             _ => 2,
         }
     }
@@ -67,16 +91,7 @@ impl fmt::Display for Fault {
                 "no line says which cell it is; expected: `once LIMIT` or `lazy LIMIT`",
             ),
             Fault::NotText(number) => write!(f, "line {number} is not UTF-8"),
-            Fault::Unreadable(
-                UnreadableLine {
-                    number,
-                    text,
-                    expected,
-                },
-            ) => write!(
-                f,
-                "line {number} can't be read: {text:?}; expected: {expected}"
-            ),
+            Fault::Unreadable(line) => write!(f, "{line}"),
             Fault::FromAfterTo { from, to } => write!(f, "--from {from} is after --to {to}"),
             Fault::BeyondTheEnd { from, end } => write!(
                 f,
@@ -85,6 +100,7 @@ impl fmt::Display for Fault {
             Fault::NothingSaid { from, to } => {
                 write!(f, "no line from {from} to {to} says anything")
             }
+            Fault::ClosedPipe => f.write_str("the output was closed"),
             Fault::Io => f.write_str("input or output failed"),
             Fault::Memory => f.write_str("out of memory"),
         }
@@ -94,12 +110,16 @@ impl fmt::Display for Fault {
 impl Error for Fault {}
 
 impl From<AllocError> for Fault {
+    ghost from_gives = { λ _ fault. fault ≡ Memory };
+
     fn from(_error: AllocError) -> Fault {
         Fault::Memory
     }
 }
 
 impl<T: Drop> From<AllocFailed<T>> for Fault {
+    ghost from_gives = { λ _ fault. fault ≡ Memory };
+
     fn from(_error: AllocFailed<T>) -> Fault {
         Fault::Memory
     }
@@ -107,10 +127,10 @@ impl<T: Drop> From<AllocFailed<T>> for Fault {
 
 impl From<io::Error> for Fault {
     fn from(error: io::Error) -> Fault {
-        if error.kind() == io::ErrorKind::OutOfMemory {
-            Fault::Memory
-        } else {
-            Fault::Io
+        match error.kind() {
+            io::ErrorKind::OutOfMemory => Fault::Memory,
+            io::ErrorKind::BrokenPipe => Fault::ClosedPipe,
+            _ => Fault::Io,
         }
     }
 }

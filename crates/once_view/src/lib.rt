@@ -4,6 +4,7 @@
 pub mod fault;
 pub mod picture;
 pub mod play;
+pub mod program;
 pub mod range;
 pub mod reading;
 pub mod table;
@@ -35,7 +36,7 @@ pub fn show<O: Write + Drop>(
     show_lines(alloc, format, LineRange::all(), text, output)
 }
 
-/// The same, where these lines alone are shown. All of them are read and played.
+/// Does the same, and shows these lines alone. All lines are read and played.
 pub fn show_lines<O: Write + Drop>(
     alloc: Global,
     format: Format,

@@ -3,6 +3,9 @@ use crate::fault::{Expected, Fault, UnreadableLine};
 use once_script::parse::{Line, Opening, parse_line, parse_opening};
 use std::alloc::{AllocError, Global};
 
+/// How many characters of a line that can't be read are told at most.
+const MOST_TOLD: usize = 80;
+
 /// A script that was read.
 #[derive(Drop)]
 pub struct Script<'a> {
@@ -94,9 +97,14 @@ fn decode(line: RawLine<'_>) -> Result<TextLine<'_>, Fault> {
 }
 
 fn unreadable(alloc: Global, line: TextLine<'_>, expected: Expected) -> Result<Fault, AllocError> {
+    let mut text = String::new(alloc);
+    for character in line.text.chars().take(MOST_TOLD) {
+        text.push(character)?;
+    }
     Ok(Fault::Unreadable(UnreadableLine {
         number: line.number,
-        text: String::from_str(alloc, line.text)?,
+        text,
+        length: line.text.chars().count(),
         expected,
     }))
 }

@@ -9,7 +9,7 @@ use once_view::range::LineRange;
 use once_view::reading::read_script;
 use once_view::{Format, show, show_lines};
 use once_world::world::{Entry, Input, Kind, Ran, World};
-use std::alloc::{AllocError, Global};
+use std::alloc::{AllocError, AllocFailed, Global};
 use std::io;
 use std::test::Fail;
 
@@ -183,6 +183,28 @@ fn a_line_that_cannot_be_read_is_told(rt: HostRuntime) -> Result<(), Fail> {
     Ok(())
 }
 
+/// Of a long line the first eighty characters are told, whichever they are, and how many there are.
+#[test]
+fn a_long_line_is_cut(rt: HostRuntime) -> Result<(), Fail> {
+    let alloc = rt.alloc();
+    for (letter, many, cut) in [
+        ("x", 80, ""),
+        ("x", 81, " (cut after 80 of 81 characters)"),
+        ("\u{e9}", 3000, " (cut after 80 of 3000 characters)"),
+        ("x", 3_000_000, " (cut after 80 of 3000000 characters)"),
+    ] {
+        let line = letter.repeat(alloc, many)?;
+        let text = format!(in alloc; "once 8\n{line}\nlook\n")?;
+        let Err(fault) = shown(alloc, Format::Picture, text.as_bytes()) else {
+            panic!(rt; "shown");
+        };
+        let (told, first) = (format!(in alloc; "{fault}")?, letter.repeat(alloc, 80)?);
+        let begin = format!(in alloc; "line 2 can't be read: \"{first}\"{cut}; expected: `make`")?;
+        assert!(rt; told.starts_with(begin.as_str()), "{many}");
+    }
+    Ok(())
+}
+
 /// The status that the process ends with: each fault has its own kind.
 #[test]
 fn each_fault_has_its_status(rt: HostRuntime) {
@@ -193,15 +215,31 @@ fn each_fault_has_its_status(rt: HostRuntime) {
         Fault::BeyondTheEnd { from: 2, end: 1 }.status(),
         Fault::NothingSaid { from: 2, to: 2 }.status(),
     ];
-    let refused = Fault::from(io::Error::from(io::ErrorKind::OutOfMemory)).status();
-    let failed = Fault::from(io::Error::other("a full disk")).status();
+    let closed = io::Error::from(io::ErrorKind::BrokenPipe);
+    let failed = io::Error::other("a full disk");
     assert_eq!(rt;
         (
             unread,
-            [failed, Fault::Io.status()],
-            [refused, Fault::Memory.status()]
+            [Fault::from(failed).status(), Fault::Io.status()],
+            [Fault::from(closed).status(), Fault::ClosedPipe.status()]
         ),
-        ([2; 5], [3; 2], [4; 2])
+        ([2; 5], [3; 2], [141; 2])
+    );
+}
+
+/// Memory that is refused, to whomever, is told as such.
+#[test]
+fn refused_memory_has_its_status(rt: HostRuntime) {
+    let refused = io::Error::from(io::ErrorKind::OutOfMemory);
+    let push = AllocFailed { value: 7u64 };
+    assert_eq!(rt;
+        [
+            Fault::from(AllocError).status(),
+            Fault::from(push).status(),
+            Fault::from(refused).status(),
+            Fault::Memory.status()
+        ],
+        [4; 4]
     );
 }
 
@@ -260,36 +298,46 @@ fn large(alloc: Global, tasks: u64, looks: usize) -> Result<String, AllocError> 
     Ok(text)
 }
 
-// What a picture of so many tasks and looks says that it leaves out; and whether it has what looks found, the
-// other names, and what the poll answered.
-const LEFT_OUT: [(u64, usize, &str, [bool; 3]); 8] = [
-    (2, 115, "<text x='8'", [true, true, true]),
+// Pictures by their number of tasks and of looks: what each says that it leaves out; and whether it has what looks
+// found, the other names, what the poll answered, what lines say, and the name of a short hold.
+const LEFT_OUT: [(u64, usize, &str, [bool; 5]); 8] = [
+    (2, 115, "<text x='8'", [true, true, true, true, true]),
     (
         2,
         116,
-        "many lines: what polls answer, looks find and the owner calls, and nine",
-        [false, true, false],
+        "many lines: what lines say, polls answer, looks find and the owner calls, the names of short",
+        [false, true, false, false, false],
     ),
-    (20, 3, "<text x='8'", [true, true, true]),
-    (21, 3, "many tasks: what polls answer.", [true, true, false]),
-    (50, 3, "many tasks: what polls answer.", [true, true, false]),
+    (20, 3, "<text x='8'", [true, true, true, true, true]),
+    (
+        21,
+        3,
+        "many tasks: what polls answer.",
+        [true, true, false, true, true],
+    ),
+    (
+        50,
+        3,
+        "many tasks: what polls answer.",
+        [true, true, false, true, true],
+    ),
     (
         51,
         3,
         "many tasks: what polls answer, and every other name.",
-        [true, false, false],
+        [true, false, false, true, true],
     ),
     (
         51,
         66,
         "many tasks: what polls answer, and every other name.",
-        [true, false, false],
+        [true, false, false, true, true],
     ),
     (
         51,
         67,
-        "many lines and tasks: what polls answer, looks find and the owner calls, nine",
-        [false, false, false],
+        "many lines and tasks: what lines say, polls answer, looks find and the owner calls, the names",
+        [false, false, false, false, false],
     ),
 ];
 
@@ -304,6 +352,8 @@ fn a_picture_says_what_it_leaves_out(rt: HostRuntime) -> Result<(), Fail> {
             picture.contains(">none<"),
             picture.contains(">task 1<"),
             picture.contains(">e1<"),
+            picture.contains(">poll 0 5<"),
+            picture.contains("y='36'>held by 0<"),
         ];
         let leaves_out = picture.contains("Left out");
         assert!(rt;
@@ -327,7 +377,7 @@ const ARROWS: [(&str, &str); 5] = [
          poll 3 7\nrun 3 p\npoll 3 9\npoll 2 5\nrun 2 e1",
         " 132V148L",
     ),
-    // Of two who wait with one waker the one that was listed first.
+    // Of two tasks that wait with one waker, to the one that was listed first.
     (
         "once 8\nmake 1\nmake 2\nmake 3\npoll 1 5\nrun 1 p\npoll 3 7\nrun 3 p\npoll 2 7\nrun 2 p\npoll 1 5\nrun 1 e1",
         " 100V148L",
@@ -356,7 +406,7 @@ fn an_arrow_goes_to_the_called_task(rt: HostRuntime) {
 }
 
 // Scripts, a word that has no room in their pictures, and one that has.
-const WORDS: [(&str, &str, &str); 4] = [
+const WORDS: [(&str, &str, &str); 6] = [
     (
         "once 8 with 18446744073709551615\nlook",
         ">set:",
@@ -369,10 +419,23 @@ const WORDS: [(&str, &str, &str); 4] = [
     ),
     (
         "once 8\nmake 18446744073709551615\npoll 18446744073709551615 1\nrun 18446744073709551615 p",
-        ">held by",
-        ">task 18446744073709551615<",
+        "y='52'>held by",
+        "y='36'>held by 18446744073709551615<",
     ),
-    ("lazy 8\nparts\nreplace", ">replace<", ">parts<"),
+    ("lazy 8\nparts\nreplace", "y='36'>replace<", "y='36'>parts<"),
+    // An answer at the right edge.
+    (
+        "once 8\nlook\nlook\nlook\nlook\nlook\nlook\nlook\nlook\nlook\nlook\nlook\nlook\nlook\nlook\nlook\nlook\n\
+         make 1\npoll 1 5\nrun 1 v18446744073709551615",
+        "'>v18446744073709551615<",
+        ">poll 1 5<",
+    ),
+    // A line of more than 24 letters.
+    (
+        "once 8\nmake 1\npoll 1 9876543210987654321\nrun 1 v12345678901234567890",
+        "poll 1 9876543210987654321",
+        ">poll 1 98765432109876543..<",
+    ),
 ];
 
 #[test]
@@ -388,7 +451,20 @@ fn a_word_without_room_is_left_out(rt: HostRuntime) {
     }
 }
 
-/// A write that fails ends the showing, in both formats, and so does a flush.
+/// The first column begins to the right of the longest name, in letters of six pixels.
+#[test]
+fn a_long_name_has_room(rt: HostRuntime) {
+    let text = b"once 8\nmake 18446744073709551615\nmake 1\n".as_slice();
+    let Ok(picture) = shown(rt.alloc(), Format::Picture, text) else {
+        panic!(rt; "no picture");
+    };
+    let column = picture.split_once("class='grid' d='M");
+    let begin = column.and_then(|(_, rest)| rest.split_once(' '));
+    let begin = begin.and_then(|(x, _)| x.parse::<u64>().ok());
+    assert!(rt; begin.is_some_and(|x| x >= 8 + 25 * 6), "{begin:?}");
+}
+
+/// A write to a closed pipe ends the showing, in both formats, and so does a flush that fails.
 #[test]
 fn a_failed_write_ends_the_showing(rt: HostRuntime) -> Result<(), Fail> {
     let text = large(rt.alloc(), 60, 200)?;
@@ -396,7 +472,7 @@ fn a_failed_write_ends_the_showing(rt: HostRuntime) -> Result<(), Fail> {
         for fails_at in 1..4 {
             let target = Target::new(rt.alloc(), usize::MAX, fails_at, false);
             let ended = show(rt.alloc(), format, text.as_bytes(), target);
-            assert!(rt; matches!(&ended, Err(Fault::Io)), "{fails_at}");
+            assert!(rt; matches!(&ended, Err(Fault::ClosedPipe)), "{fails_at}");
         }
         let target = Target::new(rt.alloc(), usize::MAX, 0, true);
         let ended = show(rt.alloc(), format, text.as_bytes(), target);

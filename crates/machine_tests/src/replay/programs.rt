@@ -1,0 +1,301 @@
+//! The programs `once_replay` and `once_show`: with which status they end, and what stands on which stream.
+use super::host::{Given, Host};
+use once_script::replay;
+use once_view::program::show_script;
+use std::alloc::{AllocError, AllocGlobal, Global};
+use std::fs::Files;
+use std::io::ErrorKind;
+use std::process::ExitCode;
+use std::test::Fail;
+
+/// What is given to a program, and what may fail.
+#[derive(Clone, Copy)]
+struct Run<'a> {
+    words: &'a [&'a str],
+    input: &'a str,
+    /// How the first read of standard input fails.
+    read: Option<ErrorKind>,
+    /// How each write to standard output fails.
+    write: Option<ErrorKind>,
+}
+
+/// A run in which nothing fails.
+fn plain<'a>(words: &'a [&'a str], input: &'a str) -> Run<'a> {
+    Run {
+        words,
+        input,
+        read: None,
+        write: None,
+    }
+}
+
+/// The status of a program, and what it leaves on its two streams.
+#[derive(Debug, Drop, PartialEq)]
+struct Left {
+    status: ExitCode,
+    printed: String,
+    said: String,
+}
+
+fn replayed(alloc: Global, run: Run<'_>) -> Left {
+    let host = Host::new(alloc, run.words, run.write);
+    let input = Given {
+        text: run.input.as_bytes(),
+        failure: run.read,
+    };
+    let status = replay(&host, input);
+    let (printed, said) = host.into_texts();
+    Left {
+        status,
+        printed,
+        said,
+    }
+}
+
+fn shown<F: Files + AllocGlobal>(files: &F, run: Run<'_>) -> Left {
+    let host = Host::new(files.alloc(), run.words, run.write);
+    let input = Given {
+        text: run.input.as_bytes(),
+        failure: run.read,
+    };
+    let status = show_script(&host, files, input);
+    let (printed, said) = host.into_texts();
+    Left {
+        status,
+        printed,
+        said,
+    }
+}
+
+fn ended(alloc: Global, status: u8, printed: &str, said: &str) -> Result<Left, AllocError> {
+    Ok(Left {
+        status: ExitCode::from(status),
+        printed: String::from_str(alloc, printed)?,
+        said: String::from_str(alloc, said)?,
+    })
+}
+
+const LOOK: &str = "once 8\nlook\n";
+
+// The words for a picture, for the help, and one that is unknown.
+const NONE: &[&str] = &[];
+
+const SVG: &[&str] = &["--svg"];
+
+const HELP: &[&str] = &["--help"];
+
+const UNKNOWN: &[&str] = &["--table"];
+
+// Runs of once_replay: its input, how a read and a write fail, the status, and the two streams.
+const REPLAYS: [(&str, Option<ErrorKind>, Option<ErrorKind>, u8, &str, &str); 9] = [
+    (LOOK, None, None, 0, "look none\nqueue none\n", ""),
+    (
+        "once 8\nmake 1\npoll 1\n",
+        None,
+        None,
+        2,
+        "",
+        "once_replay: line 3 is unreadable\n",
+    ),
+    ("", None, None, 2, "", "once_replay: line 1 is unreadable\n"),
+    (
+        LOOK,
+        Some(ErrorKind::ConnectionReset),
+        None,
+        3,
+        "",
+        "once_replay: input or output failed\n",
+    ),
+    (
+        LOOK,
+        Some(ErrorKind::OutOfMemory),
+        None,
+        4,
+        "",
+        "once_replay: out of memory\n",
+    ),
+    (
+        LOOK,
+        None,
+        Some(ErrorKind::StorageFull),
+        3,
+        "",
+        "once_replay: input or output failed\n",
+    ),
+    (
+        LOOK,
+        None,
+        Some(ErrorKind::BrokenPipe),
+        3,
+        "",
+        "once_replay: input or output failed\n",
+    ),
+    (
+        LOOK,
+        None,
+        Some(ErrorKind::OutOfMemory),
+        4,
+        "",
+        "once_replay: out of memory\n",
+    ),
+    (
+        "once 8\nx\n",
+        None,
+        Some(ErrorKind::StorageFull),
+        2,
+        "",
+        "once_replay: line 2 is unreadable\n",
+    ),
+];
+
+#[test]
+fn once_replay_ends_with_the_status_of_its_fault(rt: HostRuntime) -> Result<(), Fail> {
+    for (input, read, write, status, printed, said) in &REPLAYS {
+        let run = Run {
+            words: UNKNOWN,
+            input: *input,
+            read: *read,
+            write: *write,
+        };
+        let wanted = ended(rt.alloc(), *status, printed, said)?;
+        assert_eq!(rt; replayed(rt.alloc(), run), wanted);
+    }
+    Ok(())
+}
+
+const TABLE: &str = "line  script  count  quick  ready  door  flag  listed  record\n\
+    1     once 8  0      -      -      -     -     -\n\
+    2     look    0      -      -      -     -     -       look none\n";
+
+const FIRST: &str = "line  script  count  quick  ready  door  flag  listed  record\n\
+    1     once 8  0      -      -      -     -     -\n";
+
+const LAST: &str = "line  script  count  quick  ready  door  flag  listed  record\n\
+    2     look    0      -      -      -     -     -       look none\n";
+
+// Words of once_show, and the table of the script on standard input.
+const TABLES: [(&[&str], &str); 6] = [
+    (&[], TABLE),
+    (&["-"], TABLE),
+    (&["--from", "1", "--to", "2"], TABLE),
+    (&["--to", "1"], FIRST),
+    (&["--from", "2", "-"], LAST),
+    (&["--from", "2", "--to", "2"], LAST),
+];
+
+#[test]
+fn once_show_shows_the_lines_of_its_input(rt: HostRuntime) -> Result<(), Fail> {
+    for (words, table) in &TABLES {
+        let wanted = ended(rt.alloc(), 0, table, "")?;
+        assert_eq!(rt; shown(&rt, plain(*words, LOOK)), wanted);
+    }
+    Ok(())
+}
+
+// Runs of once_show that fail: its words, its input, the status, and what is said.
+const REFUSED: [(&[&str], &str, u8, &str); 5] = [
+    (
+        &["--svg"],
+        "once 8\nlook 1\n",
+        2,
+        "once_show: line 2 can't be read: \"look 1\"; expected: `look` alone\n",
+    ),
+    (
+        &["--from", "9", "--to", "3"],
+        LOOK,
+        2,
+        "once_show: --from 9 is after --to 3\n",
+    ),
+    (
+        &["--from", "3"],
+        LOOK,
+        2,
+        "once_show: --from 3 is beyond the end: line 2 is the last that says something\n",
+    ),
+    (
+        &["-"],
+        "",
+        2,
+        "once_show: no line says which cell it is; expected: `once LIMIT` or `lazy LIMIT`\n",
+    ),
+    (
+        &["no_such_file"],
+        LOOK,
+        3,
+        "once_show: no_such_file: No such file or directory (os error 2)\n",
+    ),
+];
+
+#[test]
+fn once_show_says_why_it_shows_nothing(rt: HostRuntime) -> Result<(), Fail> {
+    for (words, input, status, said) in &REFUSED {
+        let wanted = ended(rt.alloc(), *status, "", said)?;
+        assert_eq!(rt; shown(&rt, plain(*words, *input)), wanted);
+    }
+    Ok(())
+}
+
+// How a read of standard input fails, the status of once_show, and what is said.
+const READS: [(ErrorKind, u8, &str); 2] = [
+    (
+        ErrorKind::ConnectionReset,
+        3,
+        "once_show: standard input: connection reset\n",
+    ),
+    (
+        ErrorKind::OutOfMemory,
+        4,
+        "once_show: standard input: out of memory\n",
+    ),
+];
+
+#[test]
+fn once_show_tells_a_failed_read(rt: HostRuntime) -> Result<(), Fail> {
+    for (kind, status, said) in &READS {
+        let run = Run {
+            read: Some(*kind),
+            ..plain(SVG, LOOK)
+        };
+        let wanted = ended(rt.alloc(), *status, "", said)?;
+        assert_eq!(rt; shown(&rt, run), wanted);
+    }
+    Ok(())
+}
+
+// How a write to standard output fails, the status of once_show, and what is said. A closed pipe is no fault.
+const WRITES: [(ErrorKind, u8, &str); 3] = [
+    (
+        ErrorKind::StorageFull,
+        3,
+        "once_show: input or output failed\n",
+    ),
+    (ErrorKind::OutOfMemory, 4, "once_show: out of memory\n"),
+    (ErrorKind::BrokenPipe, 141, ""),
+];
+
+/// A table, a picture and the help fail so.
+#[test]
+fn once_show_tells_a_failed_write_but_no_closed_pipe(rt: HostRuntime) -> Result<(), Fail> {
+    for (kind, status, said) in &WRITES {
+        for words in [NONE, SVG, HELP] {
+            let run = Run {
+                write: Some(*kind),
+                ..plain(words, LOOK)
+            };
+            let wanted = ended(rt.alloc(), *status, "", said)?;
+            assert_eq!(rt; shown(&rt, run), wanted);
+        }
+    }
+    Ok(())
+}
+
+/// The help is printed, and a word that is unknown is told.
+#[test]
+fn once_show_tells_how_it_is_called(rt: HostRuntime) {
+    let help = shown(&rt, plain(HELP, ""));
+    assert!(rt; help.status == ExitCode::SUCCESS && help.printed.contains("--svg"));
+    assert_eq!(rt; help.said.as_str(), "");
+    let unknown = shown(&rt, plain(UNKNOWN, ""));
+    assert!(rt; unknown.status == ExitCode::from(2) && unknown.said.contains("--table"));
+    assert_eq!(rt; unknown.printed.as_str(), "");
+}
