@@ -1,11 +1,9 @@
-//! The machine under test: each layer below the cells by its public calls alone, the uses of `pagebook`, shared parts
-//! beside plain ones, and what a replay prints of whole schedules.
+//! The machine under test, in what no clause says of it: memory, wakers, sizes, locks, and what is printed.
 //!
-//! `book_uses` runs the uses of `pagebook`. `layers`, `ways` and `counting` show that each call can succeed, and what
-//! it does. `parts` has the parts of a cell alone, by hand and by whole calls of tasks. `lockstep` plays schedules
-//! over `side_by_side`, which makes one step over shared and over plain parts, and compares the two. `random` does the
-//! same to the list of those who wait and to a plain one. `replay` has scripts with their records. `doubles` is for the
-//! tests of cells too.
+//! `book_uses` runs the uses of `pagebook`. `layers` and `counting` call the layers one by one.
+//! `fills` has what the list of those who wait takes of memory.
+//! `parts` has the parts of a cell alone, by hand and by whole calls of tasks, and `scenes` step by step. `replay` has
+//! scripts with their records. `doubles` is for the tests of cells too.
 #![tactic(auto)]
 
 #[cfg(test)]
@@ -20,14 +18,8 @@ mod fills;
 #[cfg(test)]
 mod layers;
 #[cfg(test)]
-mod lockstep;
-#[cfg(test)]
 mod parts;
-#[cfg(test)]
-mod random;
 #[cfg(test)]
 mod replay;
 #[cfg(test)]
-mod side_by_side;
-#[cfg(test)]
-mod ways;
+mod scenes;

@@ -1,10 +1,9 @@
 //! Schedules as text: the lines of scripts, each with what it leads to.
 //!
 //! A text holds many schedules, with an empty line between two. The first line of a schedule is
-//! `# NAME: WHAT IT IS ABOUT`, and other lines that begin with `#` are comments. Each other line is a line of a
-//! script (docs/SCRIPTS.md). After `=>` stands what it adds to the record, with a comma between two entries; a line
-//! that adds nothing needs no `=>`. The last line begins with `=>`, since no line of the script leads to it: it has
-//! the queue, with which the record ends.
+//! `# NAME: WHAT IT IS ABOUT`, and each other line is a line of a script (docs/SCRIPTS.md). After `=>` stands what it
+//! adds to the record, with a comma between two entries; a line that adds nothing needs no `=>`. The last line begins
+//! with `=>`, since no line of the script leads to it: it has the queue, with which the record ends.
 //!
 //! `A to B * ` before one of the lines makes the schedule stand for several: with A such lines, and so on, to B.
 
@@ -12,17 +11,12 @@ use std::alloc::{AllocError, Global};
 use std::fmt;
 use std::test::Fail;
 
-// How a comment begins that says why a schedule can't be played over shared parts.
-const NOT_SHARED: &str = "# not over shared parts: ";
-
 /// A schedule of a text.
 #[derive(Drop)]
 pub struct Schedule<'a> {
     name: &'a str,
     // How many such lines there are, where it is one of several.
     times: Option<usize>,
-    /// Whether it can be played over shared parts.
-    pub is_shared: bool,
     pub lines: Vec<Line<'a>>,
 }
 
@@ -114,12 +108,8 @@ fn read<'a>(
     text: &'a str,
     times: Option<usize>,
 ) -> Result<Schedule<'a>, AllocError> {
-    let (mut lines, mut is_shared) = (Vec::new(alloc), true);
+    let mut lines = Vec::new(alloc);
     for line in text.lines() {
-        if line.starts_with('#') {
-            is_shared &= !line.starts_with(NOT_SHARED);
-            continue;
-        }
         let (count, line) = match repeated(line) {
             Some((_, _, line)) => (times.unwrap_or(1), line),
             None => (1, line),
@@ -128,12 +118,7 @@ fn read<'a>(
             lines.push(Line::read(line))?;
         }
     }
-    Ok(Schedule {
-        name,
-        times,
-        is_shared,
-        lines,
-    })
+    Ok(Schedule { name, times, lines })
 }
 
 impl Schedule<'_> {

@@ -65,7 +65,6 @@ run 3 e9 => claim 3, ran 3 e9, free 3 [7], end 3 e9
 => queue 1
 
 # called_waiter_refused: a task is refused memory, is called before it leaves, and calls the next
-# not over shared parts: a waker that changes
 once 8
 make 1 => made 1
 make 2 => made 2
@@ -148,7 +147,6 @@ run 2 p => pass 2 [9], dropend 2
 => queue 1
 
 # refused_and_not_called: a task that was not called is refused memory, and calls nobody: the failure calls the next
-# not over shared parts: a waker that changes
 once 8
 make 1 => made 1
 make 2 => made 2

@@ -18,7 +18,6 @@ go 2 p
 => queue 1
 
 # dropped_holder_nothing_restarted: the holder of a lazy cell is dropped, and the next goes on with the same init
-# not over shared parts: a lazy cell
 lazy 8 p v9
 make 1 => made 1
 poll 1 7 => begin 1 7

@@ -35,7 +35,6 @@ run 1 v4 => ran 1 v4, fill 1 4 [7 8], end 1 v4
 => queue 1
 
 # first_poll_finishes: the init of a lazy cell gives a value in its first poll
-# not over shared parts: a lazy cell
 lazy 8 v4
 make 1 => made 1
 poll 1 7 => begin 1 7
@@ -62,7 +61,6 @@ run 3 v6 => claim 3, ran 3 v6, fill 3 6 [], end 3 v6
 => queue none
 
 # largest_value: a cell is made with the largest value
-# not over shared parts: a new cell that is set
 once 8 with 18446744073709551615
 look => look v18446744073709551615
 => queue none
@@ -145,7 +143,6 @@ run 2 e9 => end 2 v4
 => queue none
 
 # second_queue: after the owner took the cell a second queue is put, with the next number
-# not over shared parts: a call of the owner
 once 8
 make 1 => made 1
 make 2 => made 2

@@ -3,7 +3,6 @@
 /// Worked schedules, in the form of `crate::doubles::schedule`.
 pub const REFUSALS: &str = "\
 # door_asks_memory_first: a task is refused memory for a queue, though another put one meanwhile
-# not over shared parts: memory that is refused to a queue
 once 8
 make 1 => made 1
 make 2 => made 2
@@ -26,7 +25,6 @@ once 4611686018427387902
 => queue none
 
 # late_queue_at_limit: the count is at its limit: the task that finds no room sees that the value is set
-# not over shared parts: a small limit
 once 1
 make 1 => made 1
 make 2 => made 2
@@ -46,7 +44,6 @@ run 2 p => end 2 v4
 => queue none
 
 # limit_of_the_count: as many tasks wait as may: one more finds the place full
-# not over shared parts: a small limit
 once 1
 make 1 => made 1
 make 2 => made 2
@@ -60,7 +57,6 @@ run 3 p => end 3 full
 => queue 1
 
 # listed_by_another_and_no_memory: no memory for a listing, though another task is listed with the same waker
-# not over shared parts: memory that is refused to a listing
 once 8
 make 1 => made 1
 make 2 => made 2
@@ -81,7 +77,6 @@ run 2 p => end 2 memory
 => queue 1
 
 # queue_refused: no memory for a queue
-# not over shared parts: memory that is refused to a queue
 once 8
 make 1 => made 1
 make 2 => made 2
@@ -95,7 +90,6 @@ run 2 p
 => queue none
 
 # refused_before_counting_in: a task that is refused memory is not counted in, and the fill finds nobody
-# not over shared parts: memory that is refused to a queue
 once 8
 make 1 => made 1
 make 2 => made 2
@@ -108,7 +102,6 @@ run 1 v4 => ran 1 v4, fill 1 4 [], end 1 v4
 => queue none
 
 # refused_then_set: a refused task leaves after the value was set: it calls nobody, and takes the queue out
-# not over shared parts: a waker that changes
 once 8
 make 1 => made 1
 make 2 => made 2
@@ -125,7 +118,6 @@ run 2 p => end 2 memory
 => queue none
 
 # release_beyond_the_limit: the holder needs a place in the count for its release, and takes it at the limit too
-# not over shared parts: a small limit
 once 1
 make 1 => made 1
 make 2 => made 2
@@ -143,7 +135,6 @@ run 2 v6 => claim 2, ran 2 v6, fill 2 6 [], end 2 v6
 => queue none
 
 # relisted_without_memory: no memory is needed to list another waker of a task that is listed
-# not over shared parts: a waker that changes
 once 8
 make 1 => made 1
 make 2 => made 2

@@ -6,12 +6,12 @@
 //! or None; the notes of its side since the line before; and where its task then stands. `show` tells the word, and
 //! whether a queue stands at the door. What a line without `=>` comes to is not told.
 
+use super::walker::{Cell, Walker};
 use crate::doubles::schedule::{Schedule, schedules_in};
-use crate::side_by_side::walker::{Cell, Walker};
-use crate::side_by_side::whole::{Call, ERROR, PENDING, VALUE, carry_on};
+use once_core::step::{Ending, Polled, Progress};
 use once_script::parse::{Line, RUN_STEPS, parse_line};
 use once_world::world::{Input, Ran};
-use std::alloc::{AllocError, AllocGlobal};
+use std::alloc::{AllocError, AllocGlobal, Global};
 use std::collections::BTreeMap;
 use std::sync::Wait;
 use std::test::Fail;
@@ -56,8 +56,8 @@ impl<'a, 'r, R: Wait + AllocGlobal> Scene<'a, 'r, R> {
     fn play(&mut self, line: &Line) -> Result<Option<String>, AllocError> {
         match line {
             Line::Single(Input::Make(t)) => self.make(*t),
-            Line::Single(Input::Poll(t, _)) => self.begin(*t, PENDING),
-            Line::Single(Input::Drop(t)) => self.begin(*t, Call::Drop),
+            Line::Single(Input::Poll(t, _)) => self.begin(*t, false),
+            Line::Single(Input::Drop(t)) => self.begin(*t, true),
             Line::Single(Input::Go(t, answer, is_granted)) => self.go(*t, *answer, *is_granted, 1),
             Line::Run(t, answer, is_granted) => self.go(*t, *answer, *is_granted, RUN_STEPS),
             Line::Single(Input::Look | Input::Own(_)) => Ok(None),
@@ -70,17 +70,22 @@ impl<'a, 'r, R: Wait + AllocGlobal> Scene<'a, 'r, R> {
         Ok(Some(String::new(self.rt.alloc())))
     }
 
-    // Begins a call of a task that rests.
-    fn begin(&mut self, t: u64, call: Call) -> Result<Option<String>, AllocError> {
-        if let Some(task) = self.tasks.get_mut(&t) {
-            if task.step().is_resting() {
-                return told(self.rt, task, call, true, 0);
+    // Begins a poll or a drop of a task that rests.
+    fn begin(&mut self, t: u64, is_drop: bool) -> Result<Option<String>, AllocError> {
+        if let Some(task) = self.tasks.get_mut(&t)
+            && task.step().is_resting()
+        {
+            if is_drop {
+                task.begin_drop();
+            } else {
+                task.poll();
             }
+            return told(self.rt.alloc(), task, None);
         }
         Ok(None)
     }
 
-    // Makes steps of the last call of a task. Where it is over they do nothing.
+    // Makes steps of the last call of a task. If that is over they do nothing.
     fn go(
         &mut self,
         t: u64,
@@ -88,34 +93,51 @@ impl<'a, 'r, R: Wait + AllocGlobal> Scene<'a, 'r, R> {
         is_granted: bool,
         steps: u64,
     ) -> Result<Option<String>, AllocError> {
-        if let Some(task) = self.tasks.get_mut(&t) {
-            if !task.step().is_resting() {
-                return told(self.rt, task, called(answer), is_granted, steps);
-            }
+        if let Some(task) = self.tasks.get_mut(&t)
+            && !task.step().is_resting()
+        {
+            let ending = go_on(task, polled(answer), is_granted, steps);
+            return told(self.rt.alloc(), task, ending);
         }
         Ok(None)
     }
 }
 
-// Carries a call on, and tells of it.
-fn told<R: Wait + AllocGlobal>(
-    rt: &R,
-    task: &mut Walker<'_, '_, R>,
-    call: Call,
-    is_granted: bool,
-    steps: u64,
-) -> Result<Option<String>, AllocError> {
-    let told = carry_on(rt, task, call, is_granted, steps)?;
-    Ok(Some(format!(in rt.alloc(); "{told} {}", stage(task))?))
+// What a step sees of an init's answer.
+fn polled(answer: Ran) -> Polled {
+    match answer {
+        Ran::Pending => Polled::Pending,
+        Ran::Value(_) => Polled::Value,
+        Ran::Error(_) => Polled::Error,
+    }
 }
 
-// The poll whose init answers so.
-fn called(answer: Ran) -> Call {
-    match answer {
-        Ran::Pending => PENDING,
-        Ran::Value(_) => VALUE,
-        Ran::Error(_) => ERROR,
+// Makes so many steps of the call that is under way: how it ended, or None if it goes on.
+fn go_on<R: Wait + AllocGlobal>(
+    task: &mut Walker<'_, '_, R>,
+    answer: Polled,
+    is_granted: bool,
+    steps: u64,
+) -> Option<Ending> {
+    for _ in 0..steps {
+        if let Progress::Ended(ending) = task.go(answer, is_granted)? {
+            return Some(ending);
+        }
     }
+    None
+}
+
+// How the last step ended the call, what the side noted, and where the task stands. None says that a note was lost.
+fn told<R>(
+    alloc: Global,
+    task: &mut Walker<'_, '_, R>,
+    ending: Option<Ending>,
+) -> Result<Option<String>, AllocError> {
+    let Some(notes) = task.take_notes() else {
+        return Ok(None);
+    };
+    let stage = stage(task);
+    Ok(Some(format!(in alloc; "{ending:?} {notes:?} {stage}")?))
 }
 
 fn stage<R>(task: &Walker<'_, '_, R>) -> &'static str {

@@ -7,7 +7,7 @@ use Rattle.once_world.specs.Places.{Finished, RestRun, RestStart, RestWait, Rest
 use Rattle.once_parts.specs.Shares.{own}
 use Rattle.once_parts.specs.Sides.{Sided}
 use Rattle.once_parts.proofs.Walk.Begins.{drop_begins, stands_closed}
-use Rattle.machine_tests.proofs.side_by_side.walker.Walker.begin_drop.Goals as goal
+use Rattle.machine_tests.proofs.scenes.walker.Walker.begin_drop.Goals as goal
 
 -- a task whose drop has begun rests no more
 never_rests : {W : Type 0} (s : Step W ⊤) → is_resting (step_of_drop s) ≡ true → ⊥

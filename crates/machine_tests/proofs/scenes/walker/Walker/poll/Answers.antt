@@ -6,7 +6,7 @@ use Rattle.once_parts.specs.Shares.{own}
 use Rattle.once_parts.specs.Sides.{Sided}
 use Rattle.once_parts.specs.Walks.{Stands}
 use Rattle.once_parts.proofs.Walk.Begins.{poll_begins}
-use Rattle.machine_tests.proofs.side_by_side.walker.Walker.poll.Goals as goal
+use Rattle.machine_tests.proofs.scenes.walker.Walker.poll.Goals as goal
 
 pub invariant_of-self : goal.invariant_of-self
 invariant_of-self g c =

@@ -2,7 +2,6 @@
 ghost use Rattle.std.specs.Prelude.{◌≡◌, ℕ, [], refl};
 ghost use Rattle.std.proofs.Common.{rules};
 
-use super::notes::{Note, Notes};
 use crate::bell::{Bell, named};
 use once_book::Mark;
 use once_core::step::{Polled, Side};
@@ -10,13 +9,31 @@ use once_parts::TaskSide;
 use once_queue::waiters::Out;
 use std::alloc::Global;
 use std::marker::Model;
+use std::mem;
 use std::snapshot::Snapshot;
+
+/// One call of a side, with what it was answered or given. A waker stands in it by the number of its task.
+#[derive(Debug, Drop)]
+pub enum Note {
+    Ran(Polled),
+    Closed,
+    Put,
+    Copied(Option<u64>),
+    Woke(Out<u64>),
+}
 
 /// The side of a task over shared parts, which notes each of its calls. A clause sees what is told of it.
 #[derive(Drop)]
 pub struct Noting {
     mark: Mark,
-    notes: Notes,
+    // The number of its task, which its waker has too.
+    task: u64,
+    // What the init answers, and whether memory for a copy of the waker is given.
+    answer: Polled,
+    is_granted: bool,
+    notes: Vec<Note>,
+    // A note was lost, since the memory for it was refused.
+    is_short: bool,
     // What the init gave.
     has_value: bool,
     has_error: bool,
@@ -45,7 +62,11 @@ impl Noting {
     {
         Noting {
             mark,
-            notes: Notes::new(alloc, task),
+            task,
+            answer: Polled::Pending,
+            is_granted: true,
+            notes: Vec::new(alloc),
+            is_short: false,
             has_value: false,
             has_error: false,
             woke: Snapshot::of(&Out::One(None)),
@@ -63,14 +84,23 @@ impl Noting {
     pub fn answers(&mut self, answer: Polled, is_granted: bool)
         ensures { self.new ≡ self.old }
     {
-        self.notes.answers(answer, is_granted);
+        self.answer = answer;
+        self.is_granted = is_granted;
     }
 
     /// What was noted since this was last asked; `None` says that a note was lost.
     pub fn take(&mut self) -> Option<Vec<Note>>
         ensures { self.new ≡ self.old }
     {
-        self.notes.take()
+        let rest = Vec::new(*self.notes.allocator());
+        let notes = mem::replace(&mut self.notes, rest);
+        if self.is_short { None } else { Some(notes) }
+    }
+
+    fn note(&mut self, note: Note)
+        ensures { self.new ≡ self.old }
+    {
+        self.is_short |= self.notes.push(note).is_err();
     }
 }
 
@@ -88,26 +118,30 @@ impl Side<Bell> for Noting {
     ghost stays_on = { λ a b c p q. Prim.search rules };
 
     fn run(&mut self) -> Polled {
-        let answer = self.notes.run();
-        match answer {
+        self.note(Note::Ran(self.answer));
+        match self.answer {
             Polled::Pending => {}
             Polled::Value => self.has_value = true,
             Polled::Error => self.has_error = true,
         }
-        answer
+        self.answer
     }
 
     fn close(&mut self) {
-        self.notes.close();
+        self.note(Note::Closed);
     }
 
     fn put(&mut self) {
-        self.notes.put();
+        self.note(Note::Put);
     }
 
     fn copy(&mut self) -> Option<Bell> {
-        let task = self.notes.copy()?;
-        Some(Bell::new(task, &self.mark))
+        if !self.is_granted {
+            self.note(Note::Copied(None));
+            return None;
+        }
+        self.note(Note::Copied(Some(self.task)));
+        Some(Bell::new(self.task, &self.mark))
     }
 
     fn wake(&mut self, out: Out<Bell>)
@@ -115,9 +149,9 @@ impl Side<Bell> for Noting {
         ensures stays { self.new.number ≡ self.old.number }
     {
         self.woke = Snapshot::of(&out);
-        match named(self.notes.alloc(), &out) {
-            Ok(tasks) => self.notes.wake(tasks),
-            Err(_) => self.notes.lose(),
+        match named(*self.notes.allocator(), &out) {
+            Ok(tasks) => self.note(Note::Woke(tasks)),
+            Err(_) => self.is_short = true,
         }
     }
 }

@@ -5,8 +5,7 @@ ghost use Rattle.once_parts.specs.Shares.{own};
 ghost use Rattle.once_parts.specs.Walks.{StandsOn};
 ghost use Rattle.machine_tests.specs.Goes.{Goes, Goes-prop};
 
-use super::notes::Note;
-use super::noting::Noting;
+use super::noting::{Note, Noting};
 use crate::bell::Bell;
 use once_core::step::{Polled, Progress, Step};
 use once_parts::{Inner, Shared, one_step};

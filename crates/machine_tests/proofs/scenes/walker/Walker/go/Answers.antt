@@ -3,7 +3,7 @@ use Rattle.std.proofs.Common.{◌≡◌, true, arith, sym, subst}
 use Rattle.once_core.specs.Steps.{in_call}
 use Rattle.once_parts.specs.Shares.{own}
 use Rattle.once_parts.specs.Walks.{Stands}
-use Rattle.machine_tests.proofs.side_by_side.walker.Walker.go.Goals as goal
+use Rattle.machine_tests.proofs.scenes.walker.Walker.go.Goals as goal
 
 pub invariant_of-self : goal.invariant_of-self
 invariant_of-self g c =
