@@ -1,7 +1,7 @@
 //! The machine under test, in what no clause says of it: memory, wakers, sizes, locks, and what is printed.
 //!
 //! `book_uses` runs the uses of `pagebook`. `layers` and `counting` call the layers one by one.
-//! `fills` has what the list of those who wait takes of memory.
+//! `fills` and `room` have what the list of those who wait takes of memory.
 //! `parts` has the parts of a cell alone, by hand and by whole calls of tasks, and `scenes` step by step. `replay` has
 //! scripts with their records. `doubles` is for the tests of cells too.
 #![tactic(auto)]
@@ -21,5 +21,7 @@ mod layers;
 mod parts;
 #[cfg(test)]
 mod replay;
+#[cfg(test)]
+mod room;
 #[cfg(test)]
 mod scenes;
