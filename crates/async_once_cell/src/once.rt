@@ -160,16 +160,15 @@ impl<T> OnceCell<T> {
     /// As [`OnceCell::get_or_init`], with an init that may fail. An error goes to its own caller
     /// alone, and leaves the cell empty.
     ///
-    /// Here `Dial` is one try to connect, which may fail with the error `Down`:
+    /// Here `Dial` is one try to connect, which may fail with the error `Down`, and `tried` is what
+    /// `cell.get_or_try_init(rt, Dial { server }).wait()?` answers. Whether the other side is down:
     ///
     /// ```
-    /// for _ in 0..most {
-    ///     match cell.get_or_try_init(rt, Dial { server }).wait()? {
-    ///         Ok(_) => break,
-    ///         Err(InitError::Init(Down)) => {} // the next turn brings an init of its own
-    ///         Err(InitError::Memory) => return Err(Fault::Refused(Refused::Memory)),
-    ///         Err(InitError::Full) => return Err(Fault::Refused(Refused::Full)),
-    ///     }
+    /// match tried {
+    ///     Ok(_) => Ok(false),
+    ///     Err(InitError::Init(Down)) => Ok(true), // the next try brings an init of its own
+    ///     Err(InitError::Memory) => Err(Fault::Refused(Refused::Memory)),
+    ///     Err(InitError::Full) => Err(Fault::Refused(Refused::Full)),
     /// }
     /// ```
     #[inline(always)]
