@@ -2,6 +2,7 @@
 #![tactic(auto)]
 
 pub mod fault;
+mod listed;
 pub mod picture;
 pub mod play;
 pub mod program;

@@ -1,7 +1,8 @@
 //! A script as a picture: a lane for each task, and a band for the cell.
+use crate::listed::Listed;
 use crate::play::{Moment, Watcher, play};
 use crate::range::LineRange;
-use crate::reading::Script;
+use crate::reading::{Script, TextLine};
 use once_script::print::call_word;
 use once_world::world::{Call, Entry, Kind, Reply};
 use std::alloc::{AllocError, Global};
@@ -28,10 +29,12 @@ pub fn write_picture<O: Write>(
     output: &mut O,
 ) -> io::Result<()> {
     let title = script.first.text;
+    let lines = lines_in(alloc, &script, range)?;
     let mut picture = Picture {
         alloc,
         range,
-        numbers: Vec::new(alloc),
+        columns: 0,
+        listed: Listed::new(alloc),
         lanes: Lanes::new(alloc),
         cell: first_state(&script.opening.kind),
         cell_from: 0,
@@ -39,8 +42,26 @@ pub fn write_picture<O: Write>(
     };
     play(alloc, script, &mut picture)?;
     picture.close()?;
-    let drawing = Drawing::new(alloc, title, &picture.numbers, &picture.lanes)?;
+    let drawing = Drawing::new(alloc, title, &lines, &picture.lanes)?;
     drawing.write(&picture.shapes, output)
+}
+
+/// The lines of a script that are shown.
+fn lines_in<'a>(
+    alloc: Global,
+    script: &Script<'a>,
+    range: LineRange,
+) -> Result<Vec<TextLine<'a>>, AllocError> {
+    let mut lines = Vec::new(alloc);
+    if range.has(script.first.number) {
+        lines.push(script.first)?;
+    }
+    for line in &script.lines {
+        if range.has(line.source.number) {
+            lines.push(line.source)?;
+        }
+    }
+    Ok(lines)
 }
 
 fn first_state(kind: &Kind) -> CellState {
@@ -55,8 +76,10 @@ fn first_state(kind: &Kind) -> CellState {
 struct Picture {
     alloc: Global,
     range: LineRange,
-    /// The number of each column's line.
-    numbers: Vec<u64>,
+    /// How many columns there are.
+    columns: u64,
+    /// Who is listed.
+    listed: Listed,
     lanes: Lanes,
     cell: CellState,
     /// When the cell came to its state.
@@ -75,27 +98,22 @@ impl Watcher for Picture {
         } else {
             self.pass(moment)?;
         }
-        if moment.may_change() {
-            self.lanes
-                .note_listed(self.alloc, moment.task, moment.world)?;
-        }
-        Ok(())
+        self.listed.settle(moment)
     }
 }
 
 impl Picture {
     /// A new column for the line.
     fn draw(&mut self, moment: Moment<'_>) -> Result<(), AllocError> {
-        if self.numbers.is_empty() {
+        if self.columns == 0 {
             self.lanes.forget_gone()?;
         }
-        let column = self.numbers.len() as u64;
-        self.numbers.push(moment.source.number)?;
-        let first = column.saturating_mul(TICKS).saturating_add(1);
+        let first = self.columns.saturating_mul(TICKS).saturating_add(1);
         let last = first.saturating_add(TICKS).saturating_sub(2);
+        self.columns = self.columns.saturating_add(1);
         let mut at = first;
         for entry in moment.added {
-            self.add(at, entry)?;
+            self.take(at, entry)?;
             at = at.saturating_add(1).min(last);
         }
         Ok(())
@@ -104,10 +122,15 @@ impl Picture {
     /// A line before those that are shown: all happens at the left edge, and only what lasts is drawn.
     fn pass(&mut self, moment: Moment<'_>) -> Result<(), AllocError> {
         for entry in moment.added {
-            self.add(0, entry)?;
+            self.take(0, entry)?;
         }
         self.shapes.clear();
         Ok(())
+    }
+
+    fn take(&mut self, at: u64, entry: &Entry) -> Result<(), AllocError> {
+        self.add(at, entry)?;
+        self.listed.take(entry)
     }
 
     fn add(&mut self, at: u64, entry: &Entry) -> Result<(), AllocError> {
@@ -123,11 +146,15 @@ impl Picture {
                 let (lane, answer) = (self.lanes.number_of(*task), *answer);
                 self.push(Shape::InitPoll { lane, at, answer })
             }
-            Entry::Free(task, wakers) => self.release(*task, at, CellState::Empty, wakers),
-            Entry::Fill(task, value, wakers) => {
-                self.release(*task, at, CellState::Set(*value), wakers)
+            Entry::Free(task, _) => {
+                self.release(*task, at, CellState::Empty)?;
+                self.wake(*task, at, entry)
             }
-            Entry::Pass(task, wakers) => self.wake(*task, at, wakers),
+            Entry::Fill(task, value, _) => {
+                self.release(*task, at, CellState::Set(*value))?;
+                self.wake(*task, at, entry)
+            }
+            Entry::Pass(task, _) => self.wake(*task, at, entry),
             Entry::End(task, reply) => self.end(*task, at, *reply),
             Entry::DropEnd(task) => self.end_drop(*task, at),
             Entry::Look(value) => self.push(Shape::Look { at, value: *value }),
@@ -159,27 +186,19 @@ impl Picture {
         }
     }
 
-    fn release(
-        &mut self,
-        task: u64,
-        at: u64,
-        state: CellState,
-        wakers: &[u64],
-    ) -> Result<(), AllocError> {
+    fn release(&mut self, task: u64, at: u64, state: CellState) -> Result<(), AllocError> {
         if let Some(held) = self.lanes.release(task, at) {
             self.push(Shape::Hold(held))?;
         }
-        self.change(at, state)?;
-        self.wake(task, at, wakers)
+        self.change(at, state)
     }
 
-    /// An arrow to each task that is called.
-    fn wake(&mut self, task: u64, at: u64, wakers: &[u64]) -> Result<(), AllocError> {
+    /// An arrow to each task that the entry calls.
+    fn wake(&mut self, task: u64, at: u64, entry: &Entry) -> Result<(), AllocError> {
         let caller = self.lanes.number_of(task);
-        for waker in wakers {
-            if let Some(called) = self.lanes.called_by(caller, *waker) {
-                self.push(Shape::Wake { at, caller, called })?;
-            }
+        for task in &self.listed.called_by(self.alloc, entry)? {
+            let called = self.lanes.number_of(*task);
+            self.push(Shape::Wake { at, caller, called })?;
         }
         Ok(())
     }
@@ -223,7 +242,7 @@ impl Picture {
 
     /// Ends all that is still open with the last column.
     fn close(&mut self) -> Result<(), AllocError> {
-        let at = (self.numbers.len() as u64).saturating_mul(TICKS);
+        let at = self.columns.saturating_mul(TICKS);
         self.change(at, self.cell)?;
         for lane in self.lanes.as_slice() {
             for shape in lane.open_shapes(at) {

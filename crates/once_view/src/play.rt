@@ -1,4 +1,4 @@
-//! A script, played line by line before one who watches.
+//! Plays a script line by line, and shows a watcher each line with what it did.
 ghost use Rattle.std.specs.Prelude.{OnOk};
 ghost use Rattle.once_world.specs.Reached.{IsReached};
 
@@ -73,13 +73,13 @@ impl Moment<'_> {
     }
 }
 
-/// One who watches a script being played.
+/// What is shown a script while it is played.
 pub trait Watcher {
     /// Sees the cell after a line, the first one included.
     fn see(&mut self, moment: Moment<'_>) -> Result<(), AllocError>;
 }
 
-/// Plays a script before one who watches.
+/// Plays a script, and shows the watcher each of its lines.
 pub fn play<V: Watcher>(
     alloc: Global,
     script: Script<'_>,

@@ -1,4 +1,5 @@
 //! A script as a table: a row for each line, with what it added to the record and what stands after it.
+use crate::listed::Listed;
 use crate::play::{Moment, Watcher, play};
 use crate::range::LineRange;
 use crate::reading::Script;
@@ -18,9 +19,8 @@ use part::{Row, Task, Writing};
 
 /// Plays a script, and writes a table of these lines.
 ///
-/// Where many tasks live in these lines it is broken into parts of some lines. A part has the columns of the
-/// tasks that its lines name. It says how many other tasks there are: where they stand none of its lines
-/// changes.
+/// If many tasks live in these lines, the table comes in parts. A part has some of the lines, and a column for each
+/// task that they name. It also says how many other tasks there are; none of its lines changes where those stand.
 pub fn write_table<O: Write>(
     alloc: Global,
     script: Script<'_>,
@@ -33,7 +33,8 @@ pub fn write_table<O: Write>(
         tasks: Vec::new(alloc),
         places: BTreeMap::new(alloc),
         rows: Vec::new(alloc),
-        listed: String::new(alloc),
+        listed: Listed::new(alloc),
+        listed_cell: String::new(alloc),
     };
     play(alloc, script, &mut table)?;
     let Table { tasks, rows, .. } = table;
@@ -51,11 +52,17 @@ struct Table {
     places: BTreeMap<u64, usize>,
     rows: Vec<Row>,
     /// Who is listed after the last line.
-    listed: String,
+    listed: Listed,
+    /// The same as it is shown.
+    listed_cell: String,
 }
 
 impl Watcher for Table {
     fn see(&mut self, moment: Moment<'_>) -> Result<(), AllocError> {
+        for entry in moment.added {
+            self.listed.take(entry)?;
+        }
+        self.listed.settle(moment)?;
         if !self.range.has(moment.source.number) {
             return Ok(());
         }
@@ -66,7 +73,7 @@ impl Watcher for Table {
             self.add_made(moment.added)?;
         }
         if is_first || moment.may_change() {
-            self.listed = listed_cell(self.alloc, moment.world.core())?;
+            self.listed_cell = listed_cell(self.alloc, &self.listed)?;
         }
         let row = self.row(moment)?;
         self.rows.push(row)?;
@@ -107,7 +114,7 @@ impl Table {
 
     fn row(&self, moment: Moment<'_>) -> Result<Row, AllocError> {
         let (number, text) = (moment.source.number, moment.source.text);
-        let (core, listed) = (CoreCells(moment.world.core()), &self.listed);
+        let (core, listed) = (CoreCells(moment.world.core()), &self.listed_cell);
         Ok(Row {
             shared: format!(in self.alloc; "{number}\t{text}\t{core}\t{listed}")?,
             named: self.named(moment),

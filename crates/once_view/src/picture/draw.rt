@@ -3,12 +3,13 @@ use super::TICKS;
 use super::lanes::{Lane, Lanes};
 use super::legend::write_legend;
 use super::shape::{CellState, LAYERS, Shape, Span};
+use crate::reading::TextLine;
 use once_world::world::{Ran, Reply};
 use std::alloc::{AllocError, Global};
-use std::io;
 use std::io::Write;
+use std::{fmt, io};
 
-/// The left margin, where the names of tasks need no more.
+/// The left margin, if the names of the tasks need no more.
 const LEAST_LEFT: u64 = 70;
 
 /// The top of the cell's band.
@@ -22,6 +23,12 @@ const BAND_BOTTOM: u64 = BAND + BAND_HEIGHT;
 
 /// The top of the first lane.
 const LANES: u64 = 76;
+
+/// How many letters of the title are written at most. The least width has room for them.
+const MOST_TITLE: usize = 100;
+
+/// How many letters of a line are written below its number at most.
+const MOST_LETTERS: usize = 24;
 
 /// The least width, which the legend needs.
 const LEAST_WIDTH: u64 = 780;
@@ -46,8 +53,8 @@ const STYLE: &str = "text{font:11px sans-serif;fill:#222}
 #[derive(Clone, Copy)]
 pub struct Drawing<'a> {
     alloc: Global,
-    title: &'a str,
-    numbers: &'a [u64],
+    title: Beginning<'a>,
+    lines: &'a [TextLine<'a>],
     lanes: &'a [Lane],
     /// Where the first column begins.
     left: u64,
@@ -55,25 +62,27 @@ pub struct Drawing<'a> {
     column: u64,
     /// An eighth of the height of a lane.
     unit: u64,
+    /// The height of the words of lines, below their numbers.
+    below: u64,
 }
 
 impl<'a> Drawing<'a> {
     pub fn new(
         alloc: Global,
         title: &'a str,
-        numbers: &'a [u64],
+        lines: &'a [TextLine<'a>],
         lanes: &'a Lanes,
     ) -> Result<Self, AllocError> {
         let lanes = lanes.as_slice();
         let last = lanes.iter().map(|lane| lane.task).max().unwrap_or(0);
         let name = format!(in alloc; "task {last}")?;
-        Ok(Drawing {
+        let mut drawing = Drawing {
             alloc,
-            title,
-            numbers,
+            title: Beginning(title, MOST_TITLE),
+            lines,
             lanes,
-            left: room_of(&name).saturating_add(8).max(LEAST_LEFT),
-            column: match numbers.len() {
+            left: room_of(name.len()).saturating_add(8).max(LEAST_LEFT),
+            column: match lines.len() {
                 0..=40 => 40,
                 41..=120 => 24,
                 _ => 8,
@@ -83,13 +92,20 @@ impl<'a> Drawing<'a> {
                 21..=50 => 2,
                 _ => 1,
             },
-        })
+            below: 0,
+        };
+        if drawing.has_words() {
+            let lengths = lines.iter().map(|line| words_of(*line).len());
+            drawing.below = room_of(lengths.max().unwrap_or(0));
+        }
+        Ok(drawing)
     }
 
     /// Writes the whole picture.
     pub fn write<O: Write>(&self, shapes: &[Shape], output: &mut O) -> io::Result<()> {
         self.write_head(output)?;
         self.write_axis(output)?;
+        self.write_words_of_lines(output)?;
         self.write_lanes(output)?;
         for layer in 0..LAYERS {
             for shape in shapes {
@@ -98,9 +114,9 @@ impl<'a> Drawing<'a> {
                 }
             }
         }
-        self.write_owner_words(shapes, output)?;
+        self.write_words_above(shapes, output)?;
         self.write_look_words(shapes, output)?;
-        write_legend(self.bottom().saturating_add(24), output)?;
+        write_legend(self.foot().saturating_add(24), output)?;
         self.write_left_out(output)?;
         writeln!(output, "</svg>")
     }
@@ -121,22 +137,32 @@ impl<'a> Drawing<'a> {
         all.saturating_mul(self.unit).saturating_add(LANES)
     }
 
-    fn right(&self) -> u64 {
-        self.x((self.numbers.len() as u64).saturating_mul(TICKS))
+    /// The time at which the last column ends.
+    fn end(&self) -> u64 {
+        (self.lines.len() as u64).saturating_mul(TICKS)
     }
 
+    fn right(&self) -> u64 {
+        self.x(self.end())
+    }
+
+    /// The bottom of the last lane.
     fn bottom(&self) -> u64 {
         self.y(self.lanes.len() as u64, 0)
     }
 
+    /// The bottom of all that is above the legend, but for the numbers of lines.
+    fn foot(&self) -> u64 {
+        self.bottom().saturating_add(self.below)
+    }
+
     fn width(&self) -> u64 {
-        let title = room_of(self.title).saturating_add(8);
-        self.right().saturating_add(30).max(LEAST_WIDTH).max(title)
+        self.right().saturating_add(30).max(LEAST_WIDTH)
     }
 
     fn write_head<O: Write>(&self, output: &mut O) -> io::Result<()> {
         let width = self.width();
-        let height = self.bottom().saturating_add(106);
+        let height = self.foot().saturating_add(106);
         writeln!(
             output,
             "<svg xmlns='http://www.w3.org/2000/svg' width='{width}' height='{height}' viewBox='0 0 {width} {height}'>"
@@ -146,7 +172,7 @@ impl<'a> Drawing<'a> {
             output,
             "<rect width='{width}' height='{height}' fill='#fff'/>"
         )?;
-        write_text(output, 8, 18, self.title)?;
+        writeln!(output, "<text x='8' y='18'>{}</text>", self.title)?;
         write_text(output, 8, 52, "the cell")
     }
 
@@ -155,9 +181,9 @@ impl<'a> Drawing<'a> {
         let (top, bottom) = (LANES, self.bottom());
         let words = bottom.saturating_add(14);
         write_text(output, 8, words, "line")?;
-        for (column, number) in self.numbers.iter().enumerate() {
+        for (column, line) in self.lines.iter().enumerate() {
             if self.has_words() || column % 10 == 0 {
-                let x = self.x((column as u64).saturating_mul(TICKS));
+                let (x, number) = (self.x((column as u64).saturating_mul(TICKS)), line.number);
                 writeln!(
                     output,
                     "<path class='grid' d='M{x} {top}V{bottom}'/><text x='{x}' y='{words}'>{number}</text>"
@@ -167,9 +193,30 @@ impl<'a> Drawing<'a> {
         Ok(())
     }
 
+    /// What each line says, below its number. The words run downwards, since most lines are wider than a column. If
+    /// there are many columns, they are narrower than a line of text is high, so the words are left out.
+    fn write_words_of_lines<O: Write>(&self, output: &mut O) -> io::Result<()> {
+        if !self.has_words() {
+            return Ok(());
+        }
+        let y = self.bottom().saturating_add(20);
+        write_text(output, 8, y.saturating_add(10), "script")?;
+        for (column, line) in self.lines.iter().enumerate() {
+            let x = self
+                .x((column as u64).saturating_mul(TICKS))
+                .saturating_add(2);
+            writeln!(
+                output,
+                "<text transform='translate({x} {y}) rotate(90)'>{}</text>",
+                words_of(*line)
+            )?;
+        }
+        Ok(())
+    }
+
     /// The name of each task, and a line from its making to its end.
     fn write_lanes<O: Write>(&self, output: &mut O) -> io::Result<()> {
-        let end = (self.numbers.len() as u64).saturating_mul(TICKS);
+        let end = self.end();
         for (place, lane) in self.lanes.iter().enumerate() {
             let place = place as u64;
             let (from, to) = (self.x(lane.made), self.x(lane.gone.unwrap_or(end)));
@@ -254,7 +301,7 @@ impl<'a> Drawing<'a> {
             Reply::Memory => String::from_str(self.alloc, "memory")?,
             Reply::Full => String::from_str(self.alloc, "full")?,
         };
-        if x.saturating_add(room_of(&word)) > self.width() {
+        if x.saturating_add(room_of(word.len())) > self.width() {
             return Ok(());
         }
         write_text(output, x, y, &word)
@@ -302,7 +349,7 @@ impl<'a> Drawing<'a> {
         };
         write_box(output, class, (x, BAND), (width, BAND_HEIGHT))?;
         let word = format!(in self.alloc; "{state}")?;
-        if room_of(&word) > width {
+        if room_of(word.len()) > width {
             return Ok(());
         }
         let (x, y) = (x.saturating_add(4), BAND.saturating_add(12));
@@ -325,12 +372,22 @@ impl<'a> Drawing<'a> {
         )
     }
 
-    /// The owner's calls, above the band.
-    fn write_owner_words<O: Write>(&self, shapes: &[Shape], output: &mut O) -> io::Result<()> {
-        let mut free = 0u64;
+    /// Above the band: the owner's calls, and the holders whose names have no room in the band.
+    fn write_words_above<O: Write>(&self, shapes: &[Shape], output: &mut O) -> io::Result<()> {
+        let (y, mut free) = (BAND - 4, 0u64);
         for shape in shapes {
-            if let Shape::Owner { at, word } = shape {
-                free = self.write_word(output, *at, BAND - 4, word, free)?;
+            match shape {
+                Shape::Owner { at, word } => {
+                    let x = self.x(*at).saturating_add(6);
+                    free = self.write_word(output, (x, y), word, free)?;
+                }
+                Shape::Cell { from, to, state } if matches!(state, CellState::Held(_)) => {
+                    let (x, word) = (self.x(*from), format!(in self.alloc; "{state}")?);
+                    if room_of(word.len()) > self.x(*to).saturating_sub(x) {
+                        free = self.write_word(output, (x, y), &word, free)?;
+                    }
+                }
+                _ => {}
             }
         }
         Ok(())
@@ -345,24 +402,22 @@ impl<'a> Drawing<'a> {
                     Some(value) => format!(in self.alloc; "v{value}")?,
                     None => String::from_str(self.alloc, "none")?,
                 };
-                free = self.write_word(output, *at, BAND_BOTTOM + 11, &word, free)?;
+                let x = self.x(*at).saturating_add(6);
+                free = self.write_word(output, (x, BAND_BOTTOM + 11), &word, free)?;
             }
         }
         Ok(())
     }
 
-    /// A word beside the mark at this time, if there is room: the row of words is free from `free` on. Gives
-    /// from where on it is free then.
+    /// Writes a word into a row, which is free from `free` on, if there is room. Answers from where on it is free then.
     fn write_word<O: Write>(
         &self,
         output: &mut O,
-        at: u64,
-        y: u64,
+        (x, y): (u64, u64),
         word: &str,
         free: u64,
     ) -> io::Result<u64> {
-        let x = self.x(at).saturating_add(6);
-        let end = x.saturating_add(room_of(word));
+        let end = x.saturating_add(room_of(word.len()));
         if !self.has_words() || x < free || end > self.width() {
             return Ok(free);
         }
@@ -372,26 +427,55 @@ impl<'a> Drawing<'a> {
 
     /// Says what a large picture leaves out.
     fn write_left_out<O: Write>(&self, output: &mut O) -> io::Result<()> {
-        let y = self.bottom().saturating_add(96);
+        let y = self.foot().saturating_add(96);
         let text = match (self.has_words(), self.unit) {
             (true, 4) => return Ok(()),
             (true, 2) => "Left out, since there are many tasks: what polls answer.",
             (true, _) =>
                 "Left out, since there are many tasks: what polls answer, and every other name.",
             (false, 1) =>
-                "Left out, since there are many lines and tasks: what polls answer, looks find and the owner calls, \
-                nine of ten numbers of lines, and every other name.",
+                "Left out, since there are many lines and tasks: what lines say, polls answer, looks find and the \
+                owner calls, the names of short holds, nine of ten numbers of lines, and every other name.",
             (false, _) =>
-                "Left out, since there are many lines: what polls answer, looks find and the owner calls, \
-                and nine of ten numbers of lines.",
+                "Left out, since there are many lines: what lines say, polls answer, looks find and the owner calls, \
+                the names of short holds, and nine of ten numbers of lines.",
         };
         write_text(output, 8, y, text)
     }
 }
 
-/// The room that a word needs at most.
-fn room_of(word: &str) -> u64 {
-    (word.len() as u64).saturating_mul(7).saturating_add(8)
+/// The most room that a word with this many letters needs.
+fn room_of(letters: usize) -> u64 {
+    (letters as u64).saturating_mul(7).saturating_add(8)
+}
+
+/// A text of letters, digits and blanks, and how many of them are written at most. Two dots stand for the rest.
+#[derive(Clone, Copy)]
+struct Beginning<'a>(&'a str, usize);
+
+impl Beginning<'_> {
+    /// How many letters are written, with the dots.
+    fn len(self) -> usize {
+        if self.0.len() > self.1 {
+            self.1.saturating_add(2)
+        } else {
+            self.0.len()
+        }
+    }
+}
+
+impl fmt::Display for Beginning<'_> {
+    fn fmt<W: fmt::Write>(&self, f: &mut fmt::Formatter<W>) -> fmt::Result {
+        match self.0.get(..self.1) {
+            Some(begin) if begin.len() < self.0.len() => write!(f, "{begin}.."),
+            _ => f.write_str(self.0),
+        }
+    }
+}
+
+/// What is written of a line below its number.
+fn words_of<'a>(line: TextLine<'a>) -> Beginning<'a> {
+    Beginning(line.text, MOST_LETTERS)
 }
 
 /// Writes a text that needs no escapes.

@@ -1,7 +1,5 @@
-//! The lanes of the tasks, what is open in each, and whose tasks are listed.
+//! The lanes of the tasks, and what is open in each.
 use super::shape::{Shape, Span};
-use once_core::step::{Place, Rest, Step};
-use once_world::world::World;
 use std::alloc::{AllocError, Global};
 use std::collections::BTreeMap;
 
@@ -18,8 +16,6 @@ pub struct Lane {
     is_drop: bool,
     waits: Option<u64>,
     holds: Option<u64>,
-    /// The ticket of the task's listing, if it has one.
-    ticket: Option<u64>,
 }
 
 impl Lane {
@@ -46,21 +42,12 @@ impl Lane {
     }
 }
 
-/// A listing that was not called.
-#[derive(Clone, Copy)]
-struct Listed {
-    ticket: u64,
-    waker: u64,
-}
-
 /// The lanes, in the order in which their tasks were made.
 #[derive(Drop)]
 pub struct Lanes {
     lanes: Vec<Lane>,
     /// The number of each task's lane.
     numbers: BTreeMap<u64, usize>,
-    /// Who was listed after the last line and not called, the oldest listing first.
-    listed: Vec<Listed>,
 }
 
 impl Lanes {
@@ -68,7 +55,6 @@ impl Lanes {
         Lanes {
             lanes: Vec::new(alloc),
             numbers: BTreeMap::new(alloc),
-            listed: Vec::new(alloc),
         }
     }
 
@@ -88,7 +74,6 @@ impl Lanes {
             is_drop: false,
             waits: None,
             holds: None,
-            ticket: None,
         })?;
         Ok(())
     }
@@ -109,52 +94,11 @@ impl Lanes {
         self.numbers.get(&task).map_or(0, |number| *number as u64)
     }
 
-    /// Notes the listing of the task that a line names, and who is listed after the line.
-    pub fn note_listed(
-        &mut self,
-        alloc: Global,
-        task: Option<u64>,
-        world: &World,
-    ) -> Result<(), AllocError> {
-        if let Some(task) = task {
-            let ticket = world.step_of(task).and_then(ticket_of);
-            if let Some(lane) = self.lane(task) {
-                lane.ticket = ticket;
-            }
-        }
-        self.listed.clear();
-        for listing in &world.core().lists.listings(alloc)? {
-            if let Some(waker) = listing.waker {
-                let ticket = listing.ticket;
-                self.listed.push(Listed { ticket, waker })?;
-            }
-        }
-        Ok(())
-    }
-
-    /// The lane of the task that a task of another lane calls by this waker. Whom a line calls was listed
-    /// before the line, and of the same waker the oldest listing is called.
-    pub fn called_by(&self, caller: u64, waker: u64) -> Option<u64> {
-        self.listed
-            .iter()
-            .filter(|listed| listed.waker == waker)
-            .filter_map(|listed| self.lane_with(listed.ticket))
-            .find(|lane| *lane != caller)
-    }
-
-    /// The lane whose task has this ticket.
-    fn lane_with(&self, ticket: u64) -> Option<u64> {
-        self.lanes
-            .iter()
-            .find(|lane| lane.ticket == Some(ticket))
-            .map(|lane| lane.number)
-    }
-
     fn lane(&mut self, task: u64) -> Option<&mut Lane> {
         self.lanes.get_mut(*self.numbers.get(&task)?)
     }
 
-    /// A poll begins, or a drop. Gives how long the task had waited, if it had.
+    /// A poll begins, or a drop. Answers how long the task had waited, if it had.
     pub fn begin(&mut self, task: u64, at: u64, is_drop: bool) -> Option<Span> {
         let lane = self.lane(task)?;
         lane.call = Some(at);
@@ -186,7 +130,7 @@ impl Lanes {
         }
     }
 
-    /// The task gives the right back. Gives how long it had it.
+    /// The task gives the right back. Answers how long it had it.
     pub fn release(&mut self, task: u64, at: u64) -> Option<Span> {
         let lane = self.lane(task)?;
         let held = lane.holds.take()?;
@@ -198,17 +142,5 @@ impl Lanes {
         if let Some(lane) = self.lane(task) {
             lane.gone = Some(at);
         }
-    }
-}
-
-/// The ticket of a task's listing, if it has one.
-fn ticket_of(step: &Step<u64, u64>) -> Option<u64> {
-    match step {
-        Step::Resting(Rest::Wait(_, ticket)) => *ticket,
-        Step::UnderWay(
-            Place::WaitLoad(_, ticket) | Place::Look(_, ticket) | Place::List(_, ticket, _),
-        ) => *ticket,
-        Step::UnderWay(Place::Leave(_, ticket, _)) => Some(*ticket),
-        _ => None,
     }
 }

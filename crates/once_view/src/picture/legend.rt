@@ -24,13 +24,13 @@ const LEGEND: &str = "<rect class='poll' x='8' y='2' width='24' height='16'/>
 <rect class='error' x='196' y='28' width='8' height='8'/>
 <text x='218' y='36'>an error</text>
 <path class='wake' d='M320 26V38L317 32H323L320 38Z'/>
-<text x='338' y='36'>calls who waits</text>
+<text x='338' y='36'>calls a waiter</text>
 <path class='look' d='M460 26L456 38H464Z'/>
 <text x='478' y='36'>a look, and what it found</text>
 <path class='look' d='M670 38L666 26H674Z'/>
 <text x='688' y='36'>the owner calls</text>
-<text x='8' y='56'>Where the polls of a task end, it stands what the last one answered. \
-A word for which there is no room is left out.</text>";
+<text x='8' y='56'>At the end of a task's last poll stands its answer. \
+Each line of the script stands below its number. A word without room is left out.</text>";
 
 /// Writes the legend, below this height.
 pub fn write_legend<O: Write>(top: u64, output: &mut O) -> io::Result<()> {

@@ -1,4 +1,5 @@
 //! The cells of a row.
+use crate::listed::Listed;
 use once_core::plain::Core;
 use once_core::step::{Place, Rest, Step};
 use once_script::print::EntryLine;
@@ -9,7 +10,7 @@ use std::fmt;
 /// How many listings a cell shows at most.
 const MOST_LISTINGS: usize = 20;
 
-/// The cells of a row that say what all tasks share, but for who is listed.
+/// The cells of a row that say what all tasks share, except for the list.
 #[derive(Clone, Copy)]
 pub struct CoreCells<'a>(pub &'a Core<u64>);
 
@@ -25,7 +26,7 @@ impl fmt::Display for CoreCells<'_> {
     }
 }
 
-/// A flag: its word where it stands.
+/// A flag, which is shown by its word if it is set.
 #[derive(Clone, Copy)]
 struct Mark(bool, &'static str);
 
@@ -48,15 +49,15 @@ impl fmt::Display for Door {
     }
 }
 
-/// Who is listed: the ticket of each, and its waker, or that it was called. Of more than so many those are
-/// counted that were listed last.
-pub fn listed_cell(alloc: Global, core: &Core<u64>) -> Result<String, AllocError> {
-    let listings = core.lists.listings(alloc)?;
+/// Who is listed: the ticket of each listing with its waker, or with the word that it was called. A long list is cut,
+/// and the cell says how many more there are.
+pub fn listed_cell(alloc: Global, listed: &Listed) -> Result<String, AllocError> {
+    let listings = listed.listings();
     let mut cell = String::new(alloc);
     if listings.is_empty() {
         cell.push_str("-")?;
     }
-    for (index, listing) in listings.iter().take(MOST_LISTINGS).enumerate() {
+    for (index, listing) in listings.values().take(MOST_LISTINGS).enumerate() {
         let gap = if index == 0 { "" } else { " " };
         match listing.waker {
             Some(waker) => write!(cell, "{gap}{}:{waker}", listing.ticket)?,

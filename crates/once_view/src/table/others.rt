@@ -1,4 +1,4 @@
-//! How many tasks stand where, of those that a part of a table has no columns for.
+//! The tasks for which a part of a table has no columns: how many are new, wait, hold, and so on.
 use super::cells::Stand;
 use std::fmt;
 

@@ -52,7 +52,7 @@ impl Part {
     }
 }
 
-/// The parts of these rows: one, where so few tasks live. Else each has the columns of the tasks that its
+/// The parts of these rows: a single one, if there are few tasks. Else each has the columns of the tasks that its
 /// rows name, and as many rows as those allow.
 fn parts_of(alloc: Global, tasks: usize, rows: &[Row]) -> Result<Vec<Part>, AllocError> {
     let mut parts = Vec::new(alloc);
@@ -87,7 +87,7 @@ pub struct Writing {
     alloc: Global,
     /// The tasks, in the order in which they were made, as they stand before the next row.
     tasks: Vec<Task>,
-    /// How many of all tasks stand where.
+    /// How many tasks there are in each state.
     all: Others,
 }
 
