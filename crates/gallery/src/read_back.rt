@@ -1,11 +1,12 @@
 //! Reads pictures and tables of scripts at random back, and compares them with what the world says at each
 //! line.
 //!
-//! It knows nothing of how `once_view` draws: it finds columns, lanes and kinds by the labels and the legend
-//! of the picture itself. Each line of standard input is the first seed and how many scripts there are, as
-//! `1 100`. For each line one is printed: the same numbers, and how much was compared. At a picture or a
-//! table that differs the program says of which seed and how, and ends with the status 1. The same seed
-//! always gives the same script.
+//! Of a picture it reads who holds and who waits, polls and drops, who calls whom, and the band of the cell. Of a
+//! table it reads all. Nothing is shared with `once_view` but the words of docs/SCRIPTS.md and the classes of shapes.
+//!
+//! Each line of standard input is the first seed and how many scripts there are, as `1 100`. For each line one is
+//! printed: the same numbers, and how much was compared. At a picture or a table that differs the program says of
+//! which seed and how, and ends with the status 1. The same seed always gives the same script.
 
 use fault::Fault;
 use once_view::range::LineRange;
@@ -18,11 +19,10 @@ use tally::Tally;
 
 mod chance;
 mod fault;
-mod page;
 mod picture;
 mod schedule;
+mod shapes;
 mod story;
-mod svg;
 mod table;
 mod tally;
 mod words;

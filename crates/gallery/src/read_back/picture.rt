@@ -1,20 +1,19 @@
-//! A picture that is read back.
-mod arrows;
-mod shapes;
-mod words;
-
+//! A picture that is read back: who holds and who waits, which polls and drops are under way, who calls whom, and what
+//! the cell is.
+//!
+//! Other marks and words, and the legend, are read of no picture at random. Stored pictures are compared whole.
 use super::fault::Fault;
-use super::page::{Page, Shape, Word, length, most_room};
-use super::story::Story;
+use super::shapes::{Shape, shapes_of};
+use super::story::{Arrow, Bar, BarKind, Line, Story};
 use super::table::Window;
 use std::alloc::{AllocError, Global};
 
-/// What a picture was found to have.
+/// How much a picture was found to have.
 #[derive(Clone, Copy)]
 pub struct Found {
-    pub shapes: u64,
+    pub bars: u64,
     pub arrows: u64,
-    pub words: u64,
+    pub names: u64,
 }
 
 /// Where something is, by columns: before the first, in one, or at the right edge.
@@ -25,71 +24,68 @@ enum Place {
     Edge,
 }
 
-/// A shape in a lane or outside, of this kind, from one place to another.
+/// A bar in a lane, from one place to another.
 #[derive(Clone, Copy, PartialEq, Eq)]
-struct Placed<'a> {
-    lane: Option<usize>,
-    kind: &'a str,
+struct Placed {
+    lane: usize,
+    kind: BarKind,
     from: Place,
     to: Place,
+}
+
+/// An arrow in a column, from one lane to another.
+#[derive(Clone, Copy)]
+struct Drawn {
+    column: usize,
+    caller: usize,
+    called: usize,
 }
 
 /// A picture, and what the world says of its lines.
 #[derive(Drop)]
 struct Reading<'a> {
     alloc: Global,
-    page: Page<'a>,
+    shapes: Vec<Shape<'a>>,
     story: &'a Story,
     window: Window,
     /// The places of the tasks that have a lane.
     lanes: Vec<usize>,
+    /// How high the middle of each lane is.
+    heights: Vec<i64>,
     left: i64,
     right: i64,
-    /// How many columns there are.
-    columns: usize,
     found: Found,
 }
 
 /// Compares a picture with what the world says of these lines.
 pub fn compare(alloc: Global, svg: &str, story: &Story, window: Window) -> Result<Found, Fault> {
-    let mut reading = read(alloc, svg, story, window)?;
-    reading.compare()?;
-    Ok(reading.found)
-}
-
-/// A picture that is to be compared with what the world says of these lines.
-fn read<'a>(
-    alloc: Global,
-    svg: &'a str,
-    story: &'a Story,
-    window: Window,
-) -> Result<Reading<'a>, Fault> {
-    let lanes = lanes_of(alloc, story, window)?;
-    let page = Page::read(alloc, svg)?;
-    let (left, right) = band_of(&page);
-    Ok(Reading {
+    let shapes = shapes_of(alloc, svg)?;
+    let lives = shapes.iter().filter(|shape| shape.class == "life");
+    let heights: Vec<i64> = lives.map(|life| life.number(1)).collect(alloc)?;
+    let band = shapes.iter().filter(|shape| is_of_cell(shape));
+    let left = band.map(|shape| shape.number(0)).min().unwrap_or(0);
+    let band = shapes.iter().filter(|shape| is_of_cell(shape));
+    let right = band.map(|shape| shape.right()).max().unwrap_or(0);
+    let mut reading = Reading {
         alloc,
-        left,
-        right,
-        page,
         story,
         window,
-        lanes,
-        columns: window.last.saturating_sub(window.first).saturating_add(1),
+        lanes: lanes_of(alloc, story, window)?,
+        heights,
+        left,
+        right,
+        shapes,
         found: Found {
-            shapes: 0,
+            bars: 0,
             arrows: 0,
-            words: 0,
+            names: 0,
         },
-    })
-}
-
-/// From where to where the row of the cell lies.
-fn band_of(page: &Page<'_>) -> (i64, i64) {
-    let is_band = |shape: &&Shape<'_>| is_cell(shape.meaning);
-    let lefts = page.shapes.iter().filter(is_band).map(|it| it.left);
-    let rights = page.shapes.iter().filter(is_band).map(|it| it.right);
-    (lefts.min().unwrap_or(0), rights.max().unwrap_or(0))
+    };
+    reading.compare_bars()?;
+    reading.compare_arrows()?;
+    reading.compare_band()?;
+    reading.compare_names()?;
+    Ok(reading.found)
 }
 
 /// The tasks that are there at some of these lines.
@@ -103,50 +99,66 @@ fn lanes_of(alloc: Global, story: &Story, window: Window) -> Result<Vec<usize>, 
     Ok(lanes)
 }
 
-/// Whether a shape says what the cell is.
-fn is_cell(meaning: &str) -> bool {
-    matches!(meaning, "cell empty" | "cell held" | "value set")
+/// Whether a shape is a part of the cell's band.
+fn is_of_cell(shape: &Shape<'_>) -> bool {
+    matches!(shape.class, "empty" | "held" | "set")
 }
 
-impl<'a> Reading<'a> {
-    fn compare(&mut self) -> Result<(), Fault> {
-        self.compare_labels()?;
-        self.compare_band()?;
-        self.compare_shapes()?;
-        self.compare_arrows()?;
-        self.compare_answers()?;
-        self.compare_words("a look, and what it found")?;
-        self.compare_words("the owner calls")?;
-        self.compare_edges()
+/// What a bar of this class shows.
+fn kind_of(class: &str) -> Option<BarKind> {
+    match class {
+        "poll" => Some(BarKind::Poll),
+        "drop" => Some(BarKind::Drop),
+        "wait" => Some(BarKind::Wait),
+        "hold" => Some(BarKind::Hold),
+        _ => None,
+    }
+}
+
+/// So many, as a length.
+fn length(many: usize) -> i64 {
+    i64::try_from(many).unwrap_or(i64::MAX)
+}
+
+/// Takes out what stands at this place.
+fn take_at<T: Drop>(all: &mut Vec<T>, place: usize) {
+    if place < all.len() {
+        drop(all.swap_remove(place));
+    }
+}
+
+impl Reading<'_> {
+    /// The line of a column.
+    fn line(&self, column: usize) -> Option<&Line> {
+        let place = self.window.first.saturating_add(column);
+        self.story.lines.get(place)
     }
 
     fn differs<T>(&self, what: &str, column: usize) -> Result<T, Fault> {
-        let line = self
-            .story
-            .lines
-            .get(self.window.first.saturating_add(column));
-        let number = line.map_or(0, |line| line.number);
+        let number = self.line(column).map_or(0, |line| line.number);
         Err(Fault::Differs(format!(in self.alloc; "picture, line {number}: {what}")?))
+    }
+
+    /// How many columns there are.
+    fn columns(&self) -> usize {
+        let before = self.window.last.saturating_sub(self.window.first);
+        before.saturating_add(1)
     }
 
     /// Where a column begins.
     fn begin(&self, column: usize) -> i64 {
-        let wide = self
-            .right
-            .saturating_sub(self.left)
-            .saturating_mul(length(column));
-        self.left
-            .saturating_add(wide.checked_div(length(self.columns)).unwrap_or(0))
+        let all = self.right.saturating_sub(self.left);
+        let wide = all.saturating_mul(length(column));
+        let before = wide.checked_div(length(self.columns())).unwrap_or(0);
+        self.left.saturating_add(before)
     }
 
     /// The column that a place from left to right lies in.
     fn column(&self, x: i64) -> usize {
-        let from_left = x
-            .saturating_sub(self.left)
-            .max(0)
-            .saturating_mul(length(self.columns));
-        let wide = self.right.saturating_sub(self.left);
-        usize::try_from(from_left.checked_div(wide).unwrap_or(0)).unwrap_or(0)
+        let before = x.saturating_sub(self.left).max(0);
+        let all = self.right.saturating_sub(self.left);
+        let columns = before.saturating_mul(length(self.columns()));
+        usize::try_from(columns.checked_div(all).unwrap_or(0)).unwrap_or(0)
     }
 
     fn place(&self, x: i64) -> Place {
@@ -170,166 +182,200 @@ impl<'a> Reading<'a> {
         }
     }
 
-    fn says(&self, what: &str) -> bool {
-        self.page.left_out.contains(what)
-    }
-
     /// The lane of a task.
     fn lane(&self, place: usize) -> Option<usize> {
         self.lanes.iter().position(|it| *it == place)
     }
+
+    /// The lane whose middle is next to this height.
+    fn lane_at(&self, y: i64) -> usize {
+        let (mut best, mut least) = (0usize, i64::MAX);
+        for (lane, height) in self.heights.iter().enumerate() {
+            let away = height.saturating_sub(y).saturating_abs();
+            if away < least {
+                best = lane;
+                least = away;
+            }
+        }
+        best
+    }
 }
 
-/// The title, the numbers below and the names at the left.
+/// The bars of the lanes.
 impl Reading<'_> {
-    fn compare_labels(&mut self) -> Result<(), Fault> {
-        if self
-            .story
-            .lines
-            .first()
-            .is_none_or(|line| line.text.as_str() != self.page.title)
-        {
-            return self.differs("the title is not the first line", 0);
-        }
-        if self.page.lives.len() != self.lanes.len() {
+    /// All bars are drawn, each in its lane and from column to column, and no others.
+    fn compare_bars(&mut self) -> Result<(), Fault> {
+        if self.heights.len() != self.lanes.len() {
             return self.differs("another number of lanes", 0);
         }
-        let are_all = !self.says("nine of ten numbers");
-        for column in 0..self.columns {
-            if are_all || column % 10 == 0 {
-                self.compare_number(column)?;
-                self.found.words = self.found.words.saturating_add(1);
+        let (story, mut drawn) = (self.story, self.drawn_bars()?);
+        for bar in &story.bars {
+            if let Some(wanted) = self.wanted(bar) {
+                self.take_bar(&mut drawn, wanted)?;
             }
         }
-        for lane in 0..self.lanes.len() {
-            if !self.says("every other name") || lane % 2 == 0 {
-                self.compare_name(lane)?;
-                self.found.words = self.found.words.saturating_add(1);
+        match drawn.first() {
+            Some(bar) => self.bar_differs(*bar, "drawn, and not so"),
+            None => Ok(()),
+        }
+    }
+
+    fn bar_differs(&self, bar: Placed, how: &str) -> Result<(), Fault> {
+        let column = match bar.from {
+            Place::Column(column) => column,
+            Place::Before | Place::Edge => 0,
+        };
+        let text = format!(in self.alloc; "{how}: {:?}", bar.kind)?;
+        self.differs(text.as_str(), column)
+    }
+
+    fn drawn_bars(&self) -> Result<Vec<Placed>, AllocError> {
+        let mut drawn = Vec::new(self.alloc);
+        for shape in &self.shapes {
+            if let Some(kind) = kind_of(shape.class) {
+                drawn.push(Placed {
+                    lane: self.lane_at(shape.middle()),
+                    kind,
+                    from: self.place(shape.number(0)),
+                    to: self.place(shape.right()),
+                })?;
             }
-            self.compare_life(lane)?;
         }
-        Ok(())
+        Ok(drawn)
     }
 
-    fn compare_number(&self, column: usize) -> Result<(), Fault> {
-        let line = self
-            .story
-            .lines
-            .get(self.window.first.saturating_add(column));
-        let number = format!(in self.alloc; "{}", line.map_or(0, |line| line.number))?;
-        let (x, axis) = (self.begin(column), self.page.axis);
-        let is_number = |word: &&Word<'_>| word.y == axis
-            && word.x == x
-            && word.text == number.as_str();
-        if self.page.words.iter().filter(is_number).count() != 1 {
-            return self.differs("its number does not stand below its column", column);
+    /// How a bar has to be drawn, if its time and that of the picture meet.
+    fn wanted(&self, bar: &Bar) -> Option<Placed> {
+        if bar.from > self.window.last || bar.to.is_some_and(|to| to < self.window.first) {
+            return None;
         }
-        Ok(())
+        Some(Placed {
+            lane: self.lane(bar.lane)?,
+            kind: bar.kind,
+            from: self.place_of(bar.from),
+            to: bar.to.map_or(Place::Edge, |to| self.place_of(to)),
+        })
     }
 
-    /// A name stands beside its line of life, and ends before the first column begins.
-    fn compare_name(&self, lane: usize) -> Result<(), Fault> {
-        let place = self.lanes.get(lane).copied().unwrap_or(0);
-        let number = self.story.tasks.get(place).map_or(0, |task| task.number);
-        let name = format!(in self.alloc; "task {number}")?;
-        let named = self
-            .page
-            .words
-            .iter()
-            .find(|word| word.text == name.as_str());
-        let Some(word) = named else {
-            return self.differs("a task has no name", 0);
+    fn take_bar(&mut self, drawn: &mut Vec<Placed>, wanted: Placed) -> Result<(), Fault> {
+        let Some(place) = drawn.iter().position(|bar| *bar == wanted) else {
+            return self.bar_differs(wanted, "not drawn so");
         };
-        if self.page.lane_at(word.y.saturating_sub(4)) != lane || word.least_end() > self.left {
-            return self.differs("a name is not beside its lane", 0);
+        take_at(drawn, place);
+        self.found.bars = self.found.bars.saturating_add(1);
+        Ok(())
+    }
+}
+
+/// The arrows.
+impl Reading<'_> {
+    /// For each waker that was handed out there is an arrow, from the task that did it to one that had that waker.
+    fn compare_arrows(&mut self) -> Result<(), Fault> {
+        let (story, mut drawn) = (self.story, self.drawn_arrows()?);
+        for arrow in &story.arrows {
+            if self.window.has(arrow.line) {
+                self.take_arrow(&mut drawn, arrow)?;
+            }
         }
+        match drawn.first() {
+            Some(arrow) => self.differs("an arrow to a task that is not called", arrow.column),
+            None => Ok(()),
+        }
+    }
+
+    fn take_arrow(&mut self, drawn: &mut Vec<Drawn>, arrow: &Arrow) -> Result<(), Fault> {
+        let column = arrow.line.saturating_sub(self.window.first);
+        let caller = self.lane(arrow.caller);
+        let is_so = |it: &Drawn| {
+            let called = self.lanes.get(it.called);
+            it.column == column
+                && Some(it.caller) == caller
+                && called.is_some_and(|called| arrow.called.contains(called))
+        };
+        let Some(place) = drawn.iter().position(is_so) else {
+            return self.differs("no arrow to a task that is called", column);
+        };
+        take_at(drawn, place);
+        self.found.arrows = self.found.arrows.saturating_add(1);
         Ok(())
     }
 
-    fn compare_life(&self, lane: usize) -> Result<(), Fault> {
-        let place = self.lanes.get(lane).copied().unwrap_or(0);
-        let (Some(task), Some(life)) = (self.story.tasks.get(place), self.page.lives.get(lane))
-        else {
-            return self.differs("a task has no line of life", 0);
-        };
-        let from = self.place_of(task.made);
-        let to = task.gone.map_or(Place::Edge, |gone| self.place_of(gone));
-        if (self.place(life.from), self.place(life.to)) != (from, to) {
-            return self.differs("a life begins or ends elsewhere", 0);
+    /// The arrows. Each goes from a tail to a tip, and then to both corners of its head.
+    fn drawn_arrows(&self) -> Result<Vec<Drawn>, Fault> {
+        let mut drawn = Vec::new(self.alloc);
+        for shape in self.shapes.iter().filter(|shape| shape.class == "wake") {
+            let (column, tail) = (self.column(shape.number(0)), shape.number(1));
+            let (tip, corner) = (shape.number(2), shape.number(4));
+            if (tail < tip) != (corner < tip) {
+                return self.differs("the head of an arrow points elsewhere", column);
+            }
+            drawn.push(Drawn {
+                column,
+                caller: self.lane_at(tail),
+                called: self.lane_at(tip),
+            })?;
         }
-        Ok(())
+        Ok(drawn)
     }
 }
 
 /// The band of the cell.
 impl Reading<'_> {
-    /// At the end of each column the band says what the cell is after the line, and each word in it is true.
+    /// At the end of each column the band says what the cell is after the line.
     fn compare_band(&self) -> Result<(), Fault> {
-        for column in 0..self.columns {
-            let at = self.begin(column.saturating_add(1)).saturating_sub(1);
-            let line = self
-                .story
-                .lines
-                .get(self.window.first.saturating_add(column));
-            let Some(line) = line else {
-                return self.differs("no line", column);
+        for column in 0..self.columns() {
+            let x = self.begin(column.saturating_add(1)).saturating_sub(1);
+            let is_there = |shape: &&Shape<'_>| is_of_cell(shape)
+                && shape.number(0) <= x
+                && x < shape.right();
+            let class = self.shapes.iter().find(is_there).map(|shape| shape.class);
+            let wanted = match self.cell(column).split_once(' ') {
+                None => "empty",
+                Some(("held", _)) => "held",
+                Some(_) => "set",
             };
-            let cell = line.cell.as_str();
-            let Some(shape) = self.band_at(at) else {
-                return self.differs("the cell's band has a hole", column);
-            };
-            let meaning = match cell.split_once(' ') {
-                None => "cell empty",
-                Some(("held", _)) => "cell held",
-                Some(_) => "value set",
-            };
-            if shape.meaning != meaning {
+            if class != Some(wanted) {
                 return self.differs("the cell's band is of another kind", column);
-            }
-            self.compare_band_word(column, shape.left, shape.right, cell)?;
-        }
-        self.compare_band_words()
-    }
-
-    fn band_at(&self, x: i64) -> Option<&Shape<'_>> {
-        let is_there = |shape: &&Shape<'_>| is_cell(shape.meaning)
-            && shape.left <= x
-            && x < shape.right;
-        self.page.shapes.iter().find(is_there)
-    }
-
-    fn compare_band_word(
-        &self,
-        column: usize,
-        left: i64,
-        right: i64,
-        cell: &str,
-    ) -> Result<(), Fault> {
-        let height = self.page.cell;
-        let is_there = |word: &&Word<'_>| word.y == height && left <= word.x && word.x < right;
-        match self.page.words.iter().find(is_there) {
-            Some(word) if word.text == cell && word.least_end() <= right => Ok(()),
-            None if most_room(cell) > right.saturating_sub(left) => Ok(()),
-            _ => self.differs("the cell's band has another word", column),
-        }
-    }
-
-    /// No word of the band stands outside of it, and each is one of a shape of its kind.
-    fn compare_band_words(&self) -> Result<(), Fault> {
-        let height = self.page.cell;
-        for word in self.page.words.iter().filter(|word| word.y == height) {
-            let wanted = match word.text.split_once(' ') {
-                None => "cell empty",
-                Some(("held", _)) => "cell held",
-                Some(_) => "value set",
-            };
-            if self
-                .band_at(word.x)
-                .is_none_or(|shape| shape.meaning != wanted)
-            {
-                return self.differs("a word of the cell's band is not true", self.column(word.x));
             }
         }
         Ok(())
+    }
+
+    /// What the cell is after the line of a column.
+    fn cell(&self, column: usize) -> &str {
+        self.line(column).map_or("", |line| line.cell.as_str())
+    }
+
+    /// Each name of a holder, and each value, stands at the column of a line that makes it true.
+    fn compare_names(&mut self) -> Result<(), Fault> {
+        for index in 0..self.shapes.len() {
+            let Some(shape) = self.shapes.get(index) else {
+                continue;
+            };
+            let (text, column) = (shape.text, self.column(shape.number(0)));
+            if !text.starts_with("held by ") && !text.starts_with("set: ") {
+                continue;
+            }
+            if text != self.cell(column) && !self.is_claimed(column, text)? {
+                return self.differs("a name of the cell's state is not true", column);
+            }
+            self.found.names = self.found.names.saturating_add(1);
+        }
+        Ok(())
+    }
+
+    /// Whether a task claims in the line of this column, or held before the first, and has this name as a holder.
+    fn is_claimed(&self, column: usize, name: &str) -> Result<bool, AllocError> {
+        let line = self.window.first.saturating_add(column);
+        for bar in &self.story.bars {
+            let is_carried = column == 0 && bar.from < line && bar.to.is_none_or(|to| to >= line);
+            if bar.kind == BarKind::Hold && (bar.from == line || is_carried) {
+                let number = self.story.tasks.get(bar.lane).map_or(0, |task| task.number);
+                if format!(in self.alloc; "held by {number}")?.as_str() == name {
+                    return Ok(true);
+                }
+            }
+        }
+        Ok(false)
     }
 }

@@ -153,7 +153,7 @@ impl Schedule {
         self.chance.draw(70).saturating_add(least)
     }
 
-    /// Writes a line, and perhaps some before it that say nothing. Gives its number.
+    /// Writes a line, and perhaps some before it that say nothing. Answers its number.
     fn write(&mut self, text: &str) -> Result<u64, AllocError> {
         for silent in &["# nothing", ""] {
             if self.chance.happens(20) {
@@ -231,7 +231,7 @@ impl Schedule {
         Ok(Said { text, input, times })
     }
 
-    /// A task that was not made is made, or where all are to go the owner calls.
+    /// A task that was not made is made; but if all are to go, the owner calls.
     fn absent(&mut self, world: &World, task: u64) -> Result<Said, AllocError> {
         if self.is_ending {
             return self.ended(world, task);

@@ -3,10 +3,9 @@ ghost use Rattle.std.specs.Prelude.{OnOk};
 ghost use Rattle.once_world.specs.Reached.{IsReached};
 
 use super::fault::Fault;
-use super::words::{
-    AnswerWord, Answers, FoundWord, RecordLine, ReplyWord, owner_word, stand_word, ticket_of,
-};
-use once_world::world::{Call, Entry, Input, Ran, Reply, World};
+use super::words::{AnswerWord, Answers, stand_word, ticket_of};
+use once_script::print::{EntryLine, call_word};
+use once_world::world::{Call, Entry, Input, World};
 use std::alloc::{AllocError, Global};
 
 /// How many listings a table shows at most.
@@ -27,7 +26,7 @@ pub struct Line {
     pub text: String,
     /// The count, the two flags, the queue, its flag and who is listed.
     pub shared: Vec<String>,
-    /// Where each task stands that was made by then.
+    /// Where each task stands, of those that were made by then.
     pub stands: Vec<&'static str>,
     /// What the line added to the record, or why it was passed over.
     pub record: String,
@@ -43,29 +42,27 @@ pub struct Task {
     pub number: u64,
     pub made: usize,
     pub gone: Option<usize>,
-    /// What its last poll answered, if that was not Pending.
-    pub reply: String,
-    call: Option<(&'static str, usize)>,
+    call: Option<(BarKind, usize)>,
     waits: Option<usize>,
     holds: Option<usize>,
+}
+
+/// What may last.
+#[derive(Clone, Copy, Debug, PartialEq, Eq)]
+pub enum BarKind {
+    Poll,
+    Drop,
+    Wait,
+    Hold,
 }
 
 /// Something that lasted, from one line to another or to the end.
 #[derive(Clone, Copy)]
 pub struct Bar {
     pub lane: usize,
-    pub kind: &'static str,
+    pub kind: BarKind,
     pub from: usize,
     pub to: Option<usize>,
-}
-
-/// Something that happened at a line, in a lane or to the cell.
-#[derive(Drop)]
-pub struct Mark {
-    pub lane: Option<usize>,
-    pub kind: &'static str,
-    pub line: usize,
-    pub word: String,
 }
 
 /// A task called one of these others at a line.
@@ -91,7 +88,6 @@ pub struct Story {
     pub tasks: Vec<Task>,
     pub lines: Vec<Line>,
     pub bars: Vec<Bar>,
-    pub marks: Vec<Mark>,
     pub arrows: Vec<Arrow>,
     holder: Option<u64>,
     value: u64,
@@ -106,7 +102,6 @@ impl Story {
             tasks: Vec::new(alloc),
             lines: Vec::new(alloc),
             bars: Vec::new(alloc),
-            marks: Vec::new(alloc),
             arrows: Vec::new(alloc),
             holder: None,
             value: value.unwrap_or(0),
@@ -212,7 +207,7 @@ impl Story {
             if !record.is_empty() {
                 record.push_str("; ")?;
             }
-            write!(record, "{}", RecordLine(entry))?;
+            write!(record, "{}", EntryLine(entry))?;
         }
         Ok(record)
     }
@@ -300,7 +295,7 @@ impl Story {
     }
 
     fn owner_reason(&self, world: &World, call: &Call) -> Result<Option<String>, AllocError> {
-        let (alloc, word) = (self.alloc, owner_word(call));
+        let (alloc, word) = (self.alloc, call_word(call));
         let is_of_lazy = word == "parts" || word == "replace";
         if self.is_lazy && word == "take" {
             return Ok(Some(format!(in alloc; "a lazy cell has no call `{word}`")?));
@@ -327,13 +322,12 @@ impl Story {
     ) -> Result<(), AllocError> {
         match entry {
             Entry::Made(task) => self.make(*task),
-            Entry::Begin(task, _) => self.begin(*task, "a poll"),
-            Entry::DropBegin(task) => self.begin(*task, "a drop"),
+            Entry::Begin(task, _) => self.begin(*task, BarKind::Poll),
+            Entry::DropBegin(task) => self.begin(*task, BarKind::Drop),
             Entry::Claim(task) => {
                 self.claim(*task);
                 Ok(())
             }
-            Entry::Ran(task, answer) => self.run(*task, *answer),
             Entry::Free(task, wakers) | Entry::Pass(task, wakers) => {
                 self.call(*task, wakers, before, after)
             }
@@ -341,16 +335,14 @@ impl Story {
                 self.value = *value;
                 self.call(*task, wakers, before, after)
             }
-            Entry::End(task, reply) => self.end(world, *task, *reply),
+            Entry::End(task, _) => self.end(world, *task),
             Entry::DropEnd(task) => self.leave(*task),
-            Entry::Look(found) => self.look(*found),
-            Entry::Own(call, _) => self.own(call),
+            Entry::Own(Call::Write(value) | Call::ReplaceValue(value), _) => {
+                self.value = *value;
+                Ok(())
+            }
+            Entry::Ran(_, _) | Entry::Look(_) | Entry::Own(_, _) => Ok(()),
         }
-    }
-
-    fn look(&mut self, found: Option<u64>) -> Result<(), AllocError> {
-        let word = format!(in self.alloc; "{}", FoundWord(found))?;
-        self.mark(None, "a look, and what it found", word)
     }
 
     /// The place of the line that is being played.
@@ -363,7 +355,6 @@ impl Story {
             number,
             made: self.lines.len(),
             gone: None,
-            reply: String::new(self.alloc),
             call: None,
             waits: None,
             holds: None,
@@ -375,29 +366,8 @@ impl Story {
         self.tasks.iter_mut().find(|task| task.number == number)
     }
 
-    fn mark(
-        &mut self,
-        lane: Option<usize>,
-        kind: &'static str,
-        word: String,
-    ) -> Result<(), AllocError> {
-        let line = self.now();
-        self.marks.push(Mark {
-            lane,
-            kind,
-            line,
-            word,
-        })?;
-        Ok(())
-    }
-
     /// Something of this kind ended that began at this line, if it began.
-    fn close(
-        &mut self,
-        number: u64,
-        kind: &'static str,
-        from: Option<usize>,
-    ) -> Result<(), AllocError> {
+    fn close(&mut self, number: u64, kind: BarKind, from: Option<usize>) -> Result<(), AllocError> {
         if let (Some(lane), Some(from)) = (self.place(number), from) {
             let to = Some(self.now());
             self.bars.push(Bar {
@@ -410,14 +380,14 @@ impl Story {
         Ok(())
     }
 
-    fn begin(&mut self, number: u64, kind: &'static str) -> Result<(), AllocError> {
+    fn begin(&mut self, number: u64, kind: BarKind) -> Result<(), AllocError> {
         let now = self.now();
         let Some(task) = self.task(number) else {
             return Ok(());
         };
         task.call = Some((kind, now));
         let waited = task.waits.take();
-        self.close(number, "waits", waited)
+        self.close(number, BarKind::Wait, waited)
     }
 
     fn claim(&mut self, number: u64) {
@@ -426,17 +396,6 @@ impl Story {
         if let Some(task) = self.task(number) {
             task.holds = Some(now);
         }
-    }
-
-    fn run(&mut self, number: u64, answer: Ran) -> Result<(), AllocError> {
-        let kind = match answer {
-            Ran::Pending => "init: Pending",
-            Ran::Value(_) => "a value",
-            Ran::Error(_) => "an error",
-        };
-        let word = format!(in self.alloc; "{}", AnswerWord(answer))?;
-        let lane = self.place(number);
-        self.mark(lane, kind, word)
     }
 
     /// The task gives the right back, if it had it.
@@ -448,7 +407,7 @@ impl Story {
         if held.is_some() {
             self.holder = None;
         }
-        self.close(number, "holds the right", held)
+        self.close(number, BarKind::Hold, held)
     }
 
     /// The task gives the right back, if it had it, and hands out wakers. Whom each calls was listed with it
@@ -493,19 +452,15 @@ impl Story {
         }
     }
 
-    fn end(&mut self, world: &World, number: u64, reply: Reply) -> Result<(), AllocError> {
+    fn end(&mut self, world: &World, number: u64) -> Result<(), AllocError> {
         self.close_call(number)?;
         let (now, stand) = (self.now(), stand_word(world.step_of(number)));
-        let word = format!(in self.alloc; "{}", ReplyWord(reply))?;
         let Some(task) = self.task(number) else {
             return Ok(());
         };
         match stand {
             "waits" => task.waits = Some(now),
-            "gone" => {
-                task.gone = Some(now);
-                task.reply = word;
-            }
+            "gone" => task.gone = Some(now),
             _ => {}
         }
         Ok(())
@@ -520,22 +475,14 @@ impl Story {
         Ok(())
     }
 
-    fn own(&mut self, call: &Call) -> Result<(), AllocError> {
-        if let Call::Write(value) | Call::ReplaceValue(value) = call {
-            self.value = *value;
-        }
-        let word = String::from_str(self.alloc, owner_word(call))?;
-        self.mark(None, "the owner calls", word)
-    }
-
     /// What is still open at the end.
     pub fn close_all(&mut self) -> Result<(), AllocError> {
         for (lane, task) in self.tasks.iter().enumerate() {
             for (kind, from) in &[
-                ("waits", task.waits),
-                ("holds the right", task.holds),
+                (BarKind::Wait, task.waits),
+                (BarKind::Hold, task.holds),
                 task.call
-                    .map_or(("a poll", None), |(kind, from)| (kind, Some(from))),
+                    .map_or((BarKind::Poll, None), |(kind, from)| (kind, Some(from))),
             ] {
                 if let (kind, Some(from)) = (*kind, *from) {
                     self.bars.push(Bar {

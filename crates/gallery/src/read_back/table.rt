@@ -39,7 +39,7 @@ struct Reading<'a> {
     cells: u64,
 }
 
-/// Compares a table with what the world says of these lines. Gives how many cells were compared.
+/// Compares a table with what the world says of these lines. Answers how many cells were compared.
 pub fn compare(alloc: Global, table: &str, story: &Story, window: Window) -> Result<u64, Fault> {
     let mut reading = Reading {
         alloc,

@@ -10,9 +10,9 @@ pub struct Tally {
     scripts: u64,
     lines: u64,
     cells: u64,
-    shapes: u64,
+    bars: u64,
     arrows: u64,
-    words: u64,
+    names: u64,
     /// Where tasks were seen to stand.
     stands: Vec<&'static str>,
 }
@@ -23,9 +23,9 @@ impl Tally {
             scripts: 0,
             lines: 0,
             cells: 0,
-            shapes: 0,
+            bars: 0,
             arrows: 0,
-            words: 0,
+            names: 0,
             stands: Vec::new(alloc),
         }
     }
@@ -47,9 +47,9 @@ impl Tally {
     /// Adds what was compared in a table and a picture.
     pub fn add(&mut self, cells: u64, found: Found) {
         self.cells = self.cells.saturating_add(cells);
-        self.shapes = self.shapes.saturating_add(found.shapes);
+        self.bars = self.bars.saturating_add(found.bars);
         self.arrows = self.arrows.saturating_add(found.arrows);
-        self.words = self.words.saturating_add(found.words);
+        self.names = self.names.saturating_add(found.names);
     }
 }
 
@@ -68,8 +68,8 @@ impl fmt::Display for Tally {
         )?;
         write!(
             f,
-            ", {} shapes, {} arrows, {} words",
-            self.shapes, self.arrows, self.words
+            ", {} bars, {} arrows, {} names",
+            self.bars, self.arrows, self.names
         )?;
         write!(f, "; words for steps {steps} of 17, others {rests} of 4")
     }

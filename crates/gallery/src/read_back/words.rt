@@ -1,6 +1,6 @@
-//! The words of a table and of a record, as docs/SCRIPTS.md has them.
+//! The words of a table and of a script, as docs/SCRIPTS.md has them.
 use once_core::step::{Place, Rest, Step};
-use once_world::world::{Call, Entry, Got, Ran, Reply};
+use once_world::world::Ran;
 use std::fmt;
 
 /// Where a task stands.
@@ -63,35 +63,6 @@ impl fmt::Display for AnswerWord {
     }
 }
 
-/// What a poll answers.
-#[derive(Clone, Copy)]
-pub struct ReplyWord(pub Reply);
-
-impl fmt::Display for ReplyWord {
-    fn fmt<W: fmt::Write>(&self, f: &mut fmt::Formatter<W>) -> fmt::Result {
-        match self.0 {
-            Reply::Pending => f.write_str("p"),
-            Reply::Value(value) => write!(f, "v{value}"),
-            Reply::Error(error) => write!(f, "e{error}"),
-            Reply::Memory => f.write_str("memory"),
-            Reply::Full => f.write_str("full"),
-        }
-    }
-}
-
-/// What a look found.
-#[derive(Clone, Copy)]
-pub struct FoundWord(pub Option<u64>);
-
-impl fmt::Display for FoundWord {
-    fn fmt<W: fmt::Write>(&self, f: &mut fmt::Formatter<W>) -> fmt::Result {
-        match self.0 {
-            Some(value) => write!(f, "v{value}"),
-            None => f.write_str("none"),
-        }
-    }
-}
-
 /// Answers of an init, one after the other.
 #[derive(Clone, Copy)]
 pub struct Answers<'a>(pub &'a [Option<u64>]);
@@ -107,68 +78,5 @@ impl fmt::Display for Answers<'_> {
             gap = " ";
         }
         Ok(())
-    }
-}
-
-/// The name of a call of the owner.
-pub fn owner_word(call: &Call) -> &'static str {
-    match call {
-        Call::Take => "take",
-        Call::Write(_) => "write",
-        Call::Parts => "parts",
-        Call::ReplaceValue(_) | Call::ReplaceAnswers(_) => "replace",
-    }
-}
-
-/// What the owner was given.
-#[derive(Clone, Copy)]
-struct GotWord<'a>(&'a Got);
-
-impl fmt::Display for GotWord<'_> {
-    fn fmt<W: fmt::Write>(&self, f: &mut fmt::Formatter<W>) -> fmt::Result {
-        match self.0 {
-            Got::None => f.write_str("none"),
-            Got::Value(value) => write!(f, "v{value}"),
-            Got::Answers(answers) => write!(f, "[{}]", Answers(answers)),
-        }
-    }
-}
-
-/// Wakers that were handed out.
-#[derive(Clone, Copy)]
-struct Wakers<'a>(&'a [u64]);
-
-impl fmt::Display for Wakers<'_> {
-    fn fmt<W: fmt::Write>(&self, f: &mut fmt::Formatter<W>) -> fmt::Result {
-        let mut gap = "";
-        f.write_str("[")?;
-        for waker in self.0 {
-            write!(f, "{gap}{waker}")?;
-            gap = " ";
-        }
-        f.write_str("]")
-    }
-}
-
-/// The line of an entry in a record.
-#[derive(Clone, Copy)]
-pub struct RecordLine<'a>(pub &'a Entry);
-
-impl fmt::Display for RecordLine<'_> {
-    fn fmt<W: fmt::Write>(&self, f: &mut fmt::Formatter<W>) -> fmt::Result {
-        match self.0 {
-            Entry::Made(task) => write!(f, "made {task}"),
-            Entry::Begin(task, waker) => write!(f, "begin {task} {waker}"),
-            Entry::Claim(task) => write!(f, "claim {task}"),
-            Entry::Ran(task, answer) => write!(f, "ran {task} {}", AnswerWord(*answer)),
-            Entry::Free(task, wakers) => write!(f, "free {task} {}", Wakers(wakers)),
-            Entry::Fill(task, value, wakers) => write!(f, "fill {task} {value} {}", Wakers(wakers)),
-            Entry::Pass(task, wakers) => write!(f, "pass {task} {}", Wakers(wakers)),
-            Entry::End(task, reply) => write!(f, "end {task} {}", ReplyWord(*reply)),
-            Entry::DropBegin(task) => write!(f, "dropbegin {task}"),
-            Entry::DropEnd(task) => write!(f, "dropend {task}"),
-            Entry::Look(found) => write!(f, "look {}", FoundWord(*found)),
-            Entry::Own(call, got) => write!(f, "own {} {}", owner_word(call), GotWord(got)),
-        }
     }
 }
