@@ -11,7 +11,7 @@ ghost use Rattle.once_world.specs.Wakers.{IsDue, IsOpen, times_opened, times_han
 ghost use Rattle.once_world.specs.Refusals.{Since, OtherActs};
 ghost use Rattle.once_world.specs.Crowd.{AreWaiting};
 ghost use Rattle.once_world.specs.Freed.{HasFreed};
-ghost use Rattle.once_world.specs.Run.{IsRun};
+ghost use Rattle.once_world.specs.Run.{AtEvery, IsRun, NobodyForgotten};
 
 /// At most one task holds the right, whether it rests or is in a call. Who claims the right finds the
 /// cell empty, and an init is polled by the task that holds.
@@ -74,6 +74,13 @@ pub fn refusals_need_others()
         → IsRun kind limit (End t Memory ∷ h) → Since t (OtherActs kind t) h }
     ensures full { (kind : Kind) (limit t : ℕ) (h : List Entry) → IsRun kind limit (End t Full ∷ h)
         → (Since t (OtherActs kind t) h → ⊥) → Since t (AreWaiting kind limit t) h }
+{}
+
+/// While the value is set nobody who waits is forgotten: the waker of each task that waits then was handed
+/// out since its last poll ended.
+pub fn set_value_calls_all()
+    ensures { (kind : Kind) (limit : ℕ) (h : List Entry) → IsRun kind limit h
+        → AtEvery (NobodyForgotten kind) h }
 {}
 
 /// A release without a value hands out one waker at most, and not those of all who wait. Where some

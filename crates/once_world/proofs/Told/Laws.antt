@@ -8,12 +8,13 @@ use Rattle.once_world.specs.Wakers.{IsDue, IsOpen, times_handed, times_opened}
 use Rattle.once_world.specs.Refusals.{OtherActs, Since}
 use Rattle.once_world.specs.Crowd.{AreWaiting}
 use Rattle.once_world.specs.Freed.{HasFreed}
-use Rattle.once_world.specs.Run.{IsRun}
+use Rattle.once_world.specs.Run.{AtEvery, IsRun, NobodyForgotten}
 use Rattle.once_world.specs.Book.{IsBook, Page}
 use Rattle.once_world.proofs.History.Cells.{same_holder}
 use Rattle.once_world.proofs.Law.Crowded.{full_waits, memory_met, value_set}
 use Rattle.once_world.proofs.Law.First.{set_first}
 use Rattle.once_world.proofs.Law.Freed.{error_empties}
+use Rattle.once_world.proofs.Law.Nobody.{nobody_forgotten}
 use Rattle.once_world.proofs.Law.Passed.{at_most_one, one_called, passed_once, passed_refused, passed_to_one, passed_unclaimed, passer_gone}
 use Rattle.once_world.proofs.Law.Rights.{dropped_holder, holding_holds, one_holder, own_error, runner_holds, value_lasts}
 use Rattle.once_world.proofs.Law.Wakes.{handed_within}
@@ -84,6 +85,10 @@ module _ (limit n put : ℕ) (slot : Bool) (pages : List Page) (log : List Entry
   pub set_value_is_answered_first : (t : ℕ) (r : Reply) → log ≡ seen ++ End t r ∷ late → (last_call Once t h).began ≡ Fresh
       → (last_call Once t h).set_then ≡ true → ((last_call Once t h).ran ≡ None) × ((v : ℕ) × (cell Once h ≡ SetTo v) × (r ≡ Value v))
   set_value_is_answered_first t r is = set_first Once limit t r h (next_run (End t r) is)
+
+  -- while the value is set nobody who waits is forgotten
+  pub set_value_calls_all : log ≡ seen ++ late → AtEvery (NobodyForgotten Once) h
+  set_value_calls_all is = nobody_forgotten Once limit h (seen_run is)
 
   -- who wants memory met another
   pub refusals_need_others_memory : (t : ℕ) → log ≡ seen ++ End t Memory ∷ late → Since t (OtherActs Once t) h

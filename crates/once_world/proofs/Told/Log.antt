@@ -1,12 +1,11 @@
--- The log is a run of the cell, and what is promised of a run holds of it.
+-- The log is a run of the cell, at every moment somebody was called if somebody had to be, and what follows of these.
 use Rattle.std.proofs.Common.{◌<◌, ℕ, Bool, List, reverse, subst}
 use Rattle.once_world.specs.Record.{Entry, Once}
-use Rattle.once_world.specs.Run.{AtEvery, IsRun, NobodyForgotten}
+use Rattle.once_world.specs.Run.{AtEvery, IsRun}
 use Rattle.once_world.specs.Called.{SomebodyCalled, WaiterCalled}
 use Rattle.once_world.specs.Values.{IsOneValue}
 use Rattle.once_world.specs.Book.{IsBook, Page}
 use Rattle.once_world.proofs.Law.Called.{waiter_called}
-use Rattle.once_world.proofs.Law.Nobody.{nobody_forgotten}
 use Rattle.once_world.proofs.Law.Values.{one_value}
 use Rattle.once_world.proofs.Shared.Reached.{fits_of, unowned_of}
 use Rattle.once_world.proofs.Shared.Worlds.{ArePlain}
@@ -23,10 +22,6 @@ module _ (limit n put : ℕ) (slot : Bool) (pages : List Page) (log : List Entry
   -- where besides no call is under way, some task that waits was called
   pub some_waiter_called : AtEvery (WaiterCalled Once) (reverse log)
   some_waiter_called = waiter_called Once (reverse log) somebody_called
-
-  -- nobody is forgotten
-  pub none_forgotten : AtEvery (NobodyForgotten Once) (reverse log)
-  none_forgotten = nobody_forgotten Once limit (reverse log) log_is_run
 
   -- polls that end with a value answer the one value that is set
   pub is_one_value : IsOneValue Once (reverse log)
