@@ -1,8 +1,8 @@
--- The record of every list of inputs is a run.
-use Rattle.std.proofs.Common.{◌≡◌, ◌<◌, ℕ, Bool, true, false, ◌==◌, List, [], ◌∷◌, Option, Some, None, refl, arith}
+-- The record of every list of inputs is a run, and at every moment somebody was called if somebody had to be.
+use Rattle.std.proofs.Common.{◌≡◌, ◌<◌, ℕ, Bool, true, false, ◌==◌, List, [], ◌∷◌, Option, Some, None, refl, sym, arith}
 use Rattle.std.proofs.lemmas.Bool.{false≢true}
 use Rattle.once_world.specs.Record.{Answer, Kind, Lazy, LazyWith, Once, OnceWith, has_call, is_lazy}
-use Rattle.once_world.specs.Cell.{cell}
+use Rattle.once_world.specs.Cell.{Cell, Empty, Held, SetTo, cell}
 use Rattle.once_world.specs.Run.{AtEvery, IsRun}
 use Rattle.once_world.specs.Called.{SomebodyCalled}
 use Rattle.once_world.specs.Inputs.{Drop, Go, Input, Looks, Make, Owns, Poll}
@@ -10,7 +10,7 @@ use Rattle.once_world.specs.Machine.{Finished, Outcome, Resting, Step, Task, Und
 use Rattle.once_world.specs.Machine.{drop_world_by, drop_world, go_world, go_world_by, history_of, in_call, is_finished, is_resting, first_world, poll_world}
 use Rattle.once_world.specs.Machine.{unfinished_after, world_of}
 use Rattle.once_world.proofs.History.Others.{holds}
-use Rattle.once_world.proofs.History.Cells.{empty_not_set, same_value}
+use Rattle.once_world.proofs.History.Cells.{empty_not_set, is_held, same_value}
 use Rattle.once_world.proofs.Invariant.Fits.{Fits, SharedFits, TaskFits}
 use Rattle.once_world.proofs.Invariant.Listed.{none_not_some}
 use Rattle.once_world.proofs.Place.Relisted.{no_listing}
@@ -90,55 +90,36 @@ gone_fits : (K : Kind) (limit : ℕ) (w : World) (t : ℕ) (a : Answer) (g : Boo
 gone_fits K limit w t a g some f None is = f
 gone_fits K limit w t a g some f (Some x) is = goes_fits K limit w t a g x some f is (in_call x.step) refl
 
--- how what is shared starts
-starting : (K : Kind) (limit : ℕ) → SharedFits K limit (first_world K).shared []
-starting Once limit = record {
-  ready_is = refl;
-  held_is = refl;
-  value_is = λ v e. absurd
-      (empty_not_set v e);
-  answers_is = refl;
-  within = omega arith;
-  stands = λ _ l. absurd
-      (omega arith);
-  head_door = λ e. absurd (false≢true e);
-}
-starting (OnceWith k) limit = record {
-  ready_is = refl;
-  held_is = refl;
-  value_is = λ v e. same_value k v e;
-  answers_is = refl;
-  within = omega arith;
-  stands = λ _ l. absurd (omega arith);
-  head_door = λ e. absurd (false≢true e);
-}
-starting (Lazy k) limit = record {
-  ready_is = refl;
-  held_is = refl;
-  value_is = λ v e. absurd
-      (empty_not_set v e);
-  answers_is = refl;
-  within = omega arith;
-  stands = λ _ l. absurd
-      (omega arith);
-  head_door = λ e. absurd (false≢true e);
-}
-starting (LazyWith k) limit = record {
-  ready_is = refl;
-  held_is = refl;
-  value_is = λ v e. same_value k v e;
-  answers_is = refl;
-  within = omega arith;
-  stands = λ _ l. absurd (omega arith);
-  head_door = λ e. absurd (false≢true e);
-}
+-- only a cell that is made with a value has one at the start
+value_at_start : (K : Kind) (v : ℕ) → cell K [] ≡ SetTo v → (first_world K).shared.value ≡ v
+value_at_start Once v e = absurd (empty_not_set v e)
+value_at_start (OnceWith k) v e = same_value k v e
+value_at_start (Lazy l) v e = absurd (empty_not_set v e)
+value_at_start (LazyWith k) v e = same_value k v e
 
 -- nobody holds at the start
-unheld : (K : Kind) (t : ℕ) → holds t (cell K []) ≡ false
-unheld Once t = refl
-unheld (OnceWith v) t = refl
-unheld (Lazy l) t = refl
-unheld (LazyWith v) t = refl
+none_held : (K : Kind) → is_held (cell K []) ≡ false
+none_held Once = refl
+none_held (OnceWith v) = refl
+none_held (Lazy l) = refl
+none_held (LazyWith v) = refl
+
+unheld_by : (t : ℕ) (c : Cell) → is_held c ≡ false → holds t c ≡ false
+unheld_by t Empty e = refl
+unheld_by t (SetTo v) e = refl
+unheld_by t (Held u) e = absurd (false≢true (sym e))
+
+-- how what is shared starts
+starting : (K : Kind) (limit : ℕ) → SharedFits K limit (first_world K).shared []
+starting K limit = record {
+  ready_is = refl;
+  held_is = none_held K;
+  value_is = value_at_start K;
+  answers_is = refl;
+  within = omega arith;
+  stands = λ _ l. absurd (omega arith);
+  head_door = λ e. absurd (false≢true e);
+}
 
 -- all holds at the start
 pub opening_fits : (K : Kind) (limit : ℕ) → Fits K limit (first_world K)
@@ -146,7 +127,7 @@ opening_fits K limit = record {
   run = tt;
   shared = starting K limit;
   queue = record { counts = λ w. omega arith; called = λ e u s. grind arith };
-  tasks = λ t. (record { status_is = refl; holds_is = unheld K t }, refl, refl);
+  tasks = λ t. (record { status_is = refl; holds_is = unheld_by t (cell K []) (none_held K) }, refl, refl);
   count_is = refl;
   unfinished_is = refl;
   made_once = refl;

@@ -2,7 +2,7 @@
 use Rattle.std.proofs.Common.{◌≡◌, ◌≢◌, ◌≤◌, ◌+◌, ℕ, Bool, true, false, cond, ◌==◌, ◌⊎◌, inl, inr, List, [], ◌∷◌, ◌++◌, Option, Some, None, refl, sym, ap, ◌∙◌, arith}
 use Rattle.std.proofs.lemmas.Bool.{false≢true, ne_eqb, eqb-true}
 use Rattle.once_queue.specs.Numbers.{bit}
-use Rattle.once_world.specs.Record.{Answer, Claim, End, Entry, Kind, Pending, RanError, RanValue, Value, handed_by, is_of, is_own, is_replacing, made_in}
+use Rattle.once_world.specs.Record.{Answer, Claim, DropEnd, End, Entry, Error, Full, Kind, Memory, Pending, RanError, RanValue, Reply, Value, handed_by, is_of, is_own, is_replacing, made_in}
 use Rattle.once_world.specs.Cell.{Cell, Empty, Held, SetTo, answers_after, answers_left, cell, cell_after}
 use Rattle.once_world.specs.Tasks.{Gone, LastCall, Polling, Status, Waiting, last_call, last_call_after, status, status_after}
 use Rattle.once_queue.specs.Listings.{find_listing}
@@ -65,68 +65,45 @@ pub record IsLast (t : ℕ) (e : Entry) : Type 0 where
   pub call_is : (c : Cell) (s : Status) (k : LastCall) → last_call_after e c s k ≡ k
   pub made : (h : List Entry) → made_in (e ∷ h) ≡ made_in h
 
+-- an end that is not Pending
+ended_last : (t : ℕ) (r : Reply) → ((c : Cell) (s : Status) → status_after (End t r) c s ≡ Gone)
+    → ((K : Kind) (w : ℕ) (h : List Entry) → opens K w (End t r) h ≡ false)
+    → ((c : Cell) (s : Status) (k : LastCall) → last_call_after (End t r) c s k ≡ k) → IsLast t (End t r)
+ended_last t r gone shut call = record {
+  cell_is = λ c. refl;
+  gone = gone;
+  hands = refl;
+  owns = refl;
+  replaces_not = refl;
+  left_is = λ l. refl;
+  shut = shut;
+  of = λ u. refl;
+  call_is = call;
+  made = λ h. refl;
+}
+
+-- the end of a drop
+dropped_last : (t : ℕ) → IsLast t (DropEnd t)
+dropped_last t = record {
+  cell_is = λ c. refl;
+  gone = λ c s. refl;
+  hands = refl;
+  owns = refl;
+  replaces_not = refl;
+  left_is = λ l. refl;
+  shut = λ K w h. refl;
+  of = λ u. refl;
+  call_is = λ c s k. refl;
+  made = λ h. refl;
+}
+
 -- all endings but Pending
 is_last : (t v : ℕ) (k : Answer) (e : Ending) → e ≢ EndPending → IsLast t (end_entry e t v k)
-is_last t v k EndValue n = record {
-  cell_is = λ c. refl;
-  gone = λ c s. refl;
-  hands = refl;
-  owns = refl;
-  replaces_not = refl;
-  left_is = λ l. refl;
-  shut = λ K w h. refl;
-  of = λ u. refl;
-  call_is = λ c s k. refl;
-  made = λ h. refl;
-}
-is_last t v k EndError n = record {
-  cell_is = λ c. refl;
-  gone = λ c s. refl;
-  hands = refl;
-  owns = refl;
-  replaces_not = refl;
-  left_is = λ l. refl;
-  shut = λ K w h. refl;
-  of = λ u. refl;
-  call_is = λ c s k. refl;
-  made = λ h. refl;
-}
-is_last t v k EndMemory n = record {
-  cell_is = λ c. refl;
-  gone = λ c s. refl;
-  hands = refl;
-  owns = refl;
-  replaces_not = refl;
-  left_is = λ l. refl;
-  shut = λ K w h. refl;
-  of = λ u. refl;
-  call_is = λ c s k. refl;
-  made = λ h. refl;
-}
-is_last t v k EndFull n = record {
-  cell_is = λ c. refl;
-  gone = λ c s. refl;
-  hands = refl;
-  owns = refl;
-  replaces_not = refl;
-  left_is = λ l. refl;
-  shut = λ K w h. refl;
-  of = λ u. refl;
-  call_is = λ c s k. refl;
-  made = λ h. refl;
-}
-is_last t v k EndDropped n = record {
-  cell_is = λ c. refl;
-  gone = λ c s. refl;
-  hands = refl;
-  owns = refl;
-  replaces_not = refl;
-  left_is = λ l. refl;
-  shut = λ K w h. refl;
-  of = λ u. refl;
-  call_is = λ c s k. refl;
-  made = λ h. refl;
-}
+is_last t v k EndValue n = ended_last t (Value v) (λ c s. refl) (λ K w h. refl) (λ c s k. refl)
+is_last t v k EndError n = ended_last t (Error (error_in k)) (λ c s. refl) (λ K w h. refl) (λ c s k. refl)
+is_last t v k EndMemory n = ended_last t Memory (λ c s. refl) (λ K w h. refl) (λ c s k. refl)
+is_last t v k EndFull n = ended_last t Full (λ c s. refl) (λ K w h. refl) (λ c s k. refl)
+is_last t v k EndDropped n = dropped_last t
 is_last t v k EndPending n = absurd (n refl)
 
 -- a call that owes an ending does not end Pending
