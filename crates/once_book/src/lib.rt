@@ -4,7 +4,8 @@
 //! pages are what the machine of `once_world` keeps, and whose log is the record of that machine. A [`Hand`]
 //! has what one task holds of the book: each of its calls makes one step of the word, and turns the page as
 //! the machine's table of places says. A [`Desk`] is what lies under the cell's one lock, and does the same
-//! for a section. So the record which a task has seen is a run of the cell.
+//! for a section. So the record which a task has seen is a run of the cell, and at each of its beginnings
+//! somebody was called if somebody had to be. The second does not follow from the first.
 //!
 //! Begin with `book`, which ties the rule to the words, and with `act`, which has a name for each move.
 #![tactic(auto)]

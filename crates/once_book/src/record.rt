@@ -10,7 +10,7 @@ ghost use Rattle.once_book.specs.Record.{EndsSet, IsSet, WasFilled};
 use crate::book::Record;
 
 /// Shows that what was seen of a record is a run of the cell, that at each of its beginnings somebody was
-/// called where somebody had to be, and that a Fill stands in it where the cell is set. It does nothing.
+/// called if somebody had to be, and that a Fill stands in it if the cell is set. It does nothing.
 #[inline(always)]
 pub fn is_run(seen: &Record)
     ensures run { IsRun Once most (reverse seen.now.log) }

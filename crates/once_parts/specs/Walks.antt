@@ -20,7 +20,7 @@ abbrev pub handed : List Entry → List ℕ
 handed [] = []
 handed (e ∷ es) = handed_by e ++ handed es
 
--- the log grew by these entries, in this order; others may have added theirs before, between and after them
+-- the log grew by these entries, in this order; before, between and after them others may stand, of any task
 abbrev pub GrewBy : List Entry → List Entry → List Entry → Type 0
 GrewBy [] old new = IsPrefix old new
 GrewBy (e ∷ es) old new = (before : List Entry) × IsPrefix old before × GrewBy es (before ++ e ∷ []) new
@@ -76,7 +76,7 @@ pub record Stands {W : Type 0} (whose : W → ℕ) (drops : Bool) (x : Sided) (v
 pub record Walked (x : Sided) (v : Own) (r : Progress) (y : Sided) (w : Own) : Type 0 where
   pub number : w.number ≡ v.number  -- it is the same task
   pub ends : Grew (progress_entries r w.number 0 w.task.kept) v.log w.log  -- an end is the newest entry
-  -- those who were handed to the side are those whom the entries of the steps name
+  -- some of the entries that came name just those who were handed to the side
   pub made : (es : List Entry) × GrewBy es v.log w.log × (y.woke ≡ x.woke ++ handed es)
 
 -- the task rests, and the code's step stands for the page's

@@ -123,8 +123,9 @@ impl<'a, 'r, T, W: TaskWaker + Drop, R> Task<'a, 'r, T, W, R> {
 impl<'a, 'r, T, W: TaskWaker + Drop, R: Wait + AllocGlobal> Task<'a, 'r, T, W, R> {
     /// A whole poll. It may wait for the cell's lock, and for whatever the side waits for.
     ///
-    /// The record grew, and its newest entry is the end of this poll with what is answered here. The wakers that
-    /// were handed to the side are those of the tasks that the entries of this poll name, in their order.
+    /// The record grew, and its newest entry is the end of this poll with what is answered here. Some of the
+    /// entries that came meanwhile name just those whose wakers were handed to the side, in that order. It is
+    /// not said that these are all entries of this poll: whom the others name may not have been handed to it.
     ///
     /// ```
     /// self.side.begin();
@@ -161,7 +162,8 @@ impl<'a, 'r, T, W: TaskWaker + Drop, R: Wait + AllocGlobal> Task<'a, 'r, T, W, R
         }
     }
 
-    /// A whole drop of a task that is not finished. It may wait as [`poll`](Self::poll).
+    /// A whole drop of a task that is not finished. It may wait as [`poll`](Self::poll), and as much is said of
+    /// the wakers that were handed to the side.
     ///
     /// ```
     /// self.side.begin();
