@@ -230,7 +230,7 @@ fn end_without_memory<R: Wait + RandomSource + AllocGlobal + Clock>(
 #[test]
 fn a_refused_poll_is_told(rt: HostRuntime) -> Result<(), Fail> {
     let mut was_refused = false;
-    for before in 0..20 {
+    for before in 0..10 {
         let end = end_without_memory(&rt, before)?;
         assert!(rt; end != "otherwise", "after {before} requests");
         was_refused |= end == "refused";

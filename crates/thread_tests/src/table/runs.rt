@@ -145,7 +145,7 @@ fn a_run_without_memory_prints_all_or_nothing(rt: HostRuntime) -> Result<(), Fai
 /// If a cell is held meanwhile, nothing is printed at all.
 #[test]
 fn a_run_that_waits_without_memory_prints_nothing(rt: HostRuntime) -> Result<(), Fail> {
-    for before in 0..25 {
+    for before in 0..19 {
         let by = Watched::starving(&rt, before);
         let ended = run_beside(&rt, &by, 1, 2)?;
         drop(by);
