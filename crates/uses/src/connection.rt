@@ -49,9 +49,9 @@ impl Future for Dial<'_> {
 
 /// Whether the other side did not answer. A poll that was refused is no try, and is told as such.
 fn is_down(tried: Result<&Connection, InitError<Down>>) -> Result<bool, Fault>
-    ensures memory { IfErr tried (λ error. error ≡ InitError.Memory
+    ensures memory { IfErr tried.entry (λ error. error ≡ InitError.Memory
         → result ≡ Err (Fault.Refused Refused.Memory)) }
-    ensures full { IfErr tried (λ error. error ≡ InitError.Full
+    ensures full { IfErr tried.entry (λ error. error ≡ InitError.Full
         → result ≡ Err (Fault.Refused Refused.Full)) }
 {
     match tried {
