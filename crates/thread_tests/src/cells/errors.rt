@@ -1,4 +1,5 @@
 //! Inits that fail while another waits, which then fills the cell at once.
+ghost use Rattle.std.specs.Prelude.{◌≡◌, false};
 
 use crate::doubles::meeting::meet;
 use async_once_cell::once::TryInitFuture;
@@ -72,6 +73,7 @@ where
 fn waited<R>(future: TryInitFuture<'_, u64, u64, FailsLate<'_>, R>) -> Option<Reply>
 where
     R: Wait + AllocGlobal + RandomSource,
+    requires { future.finished ≡ false }
 {
     Some(heard(Poll::Ready(future.wait().ok()?)))
 }
@@ -83,6 +85,7 @@ fn waited_on<R>(
 ) -> Option<Reply>
 where
     R: Wait + AllocGlobal,
+    requires { future.finished ≡ false }
 {
     Some(heard(Poll::Ready(future.wait_on(parker).ok()?)))
 }
