@@ -65,31 +65,24 @@ fn made_and_taken_apart(rt: HostRuntime) {
     assert_eq!(rt; (is_empty, apart), (true, [None, Some(5), Some(7)]));
 }
 
-// A cell that a future filled with the value 4, and a queue in it which a forgotten future left.
-fn beside_a_queue<R: Wait + AllocGlobal>(rt: &R, task: &MockTask) -> OnceCell<u64> {
-    let (stub, cell) = (Stub::new(), OnceCell::new());
-    let mut holder = cell.get_or_init(rt, stub.init());
-    let mut waiter = cell.get_or_init(rt, stub.init());
-    let _ = task.poll(&mut holder);
-    let _ = task.poll(&mut waiter);
-    stub.answer.set(Some(4));
-    let _ = task.poll(&mut holder);
-    drop(holder);
-    forget(waiter);
-    cell
-}
-
-/// A value may be written, and is given away, while a queue stands.
+/// A value may be written while a queue stands, which a forgotten future left.
 #[test]
 fn written_beside_a_queue(rt: HostRuntime) -> Result<(), Fail> {
-    let task = MockTask::new(&rt)?;
-    let has_queue = shows(&rt, &beside_a_queue(&rt, &task), LEFT);
-    let values = [
-        beside_a_queue(&rt, &task).get_mut().copied(),
-        beside_a_queue(&rt, &task).take(),
-        beside_a_queue(&rt, &task).into_inner(),
-    ];
-    assert_eq!(rt; (has_queue, values), (true, [Some(4); 3]));
+    let (task, stub, mut cell) = (MockTask::new(&rt)?, Stub::new(), OnceCell::new());
+    let mut holder = cell.get_or_init(&rt, stub.init());
+    let mut waiter = cell.get_or_init(&rt, stub.init());
+    let held = task.poll(&mut holder).is_pending();
+    let waited = task.poll(&mut waiter).is_pending();
+    stub.answer.set(Some(4));
+    let filled = task.poll(&mut holder).is_ready();
+    drop(holder);
+    forget(waiter);
+    let has_queue = shows(&rt, &cell, LEFT);
+    let lent = cell.get_mut().copied();
+    assert_eq!(rt;
+        (held && waited && filled, has_queue, lent),
+        (true, true, Some(4))
+    );
     Ok(())
 }
 
