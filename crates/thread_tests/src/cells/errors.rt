@@ -1,16 +1,19 @@
 //! Inits that fail while another waits, which then fills the cell at once.
+ghost use Rattle.std.specs.Prelude.{◌≡◌, false};
 
 use crate::doubles::meeting::meet;
-use async_once_cell::OnceCell;
 use async_once_cell::once::TryInitFuture;
 use async_once_cell::world::Reply;
+use async_once_cell::{OnceCell, Parker};
 use cell_tests::doubles::poll::heard;
 use cell_tests::left::is_filled;
 use futures::Future;
 use futures::future::ready;
 use futures::task::{Context, Poll};
 use futures::test::MockTask;
-use std::alloc::{AllocError, AllocGlobal};
+use std::alloc::AllocGlobal;
+use std::io;
+use std::random::RandomSource;
 use std::sync::Wait;
 use std::sync::atomic::{AtomicU64, Ordering};
 use std::test::Fail;
@@ -55,20 +58,52 @@ fn meet_in_init(arrived: &AtomicU64, all: u64) {
     }
 }
 
-// Polls a future of a cell by this task.
-fn polled<R>(task: &MockTask, future: &mut TryInitFuture<'_, u64, u64, FailsLate<'_>, R>) -> Reply
+// What a future of a cell answers that is polled by this task.
+fn polled<R>(
+    task: &MockTask,
+    mut future: TryInitFuture<'_, u64, u64, FailsLate<'_>, R>,
+) -> Option<Reply>
 where
     R: Wait + AllocGlobal,
 {
-    task.enter(|cx| heard(Future::poll(future, cx)))
+    Some(task.enter(|cx| heard(Future::poll(&mut future, cx))))
 }
 
-// Brings an init that fails to each cell: how many times it was told that error.
-fn fails<R: Wait + AllocGlobal>(rt: &R, task: &MockTask, cells: &[Failing]) -> u64 {
+// What a thread answers that waits for one.
+fn waited<R>(future: TryInitFuture<'_, u64, u64, FailsLate<'_>, R>) -> Option<Reply>
+where
+    R: Wait + AllocGlobal + RandomSource,
+    requires { future.finished ≡ false }
+{
+    Some(heard(Poll::Ready(future.wait().ok()?)))
+}
+
+// The same by a parker that it keeps.
+fn waited_on<R>(
+    parker: &mut Parker,
+    future: TryInitFuture<'_, u64, u64, FailsLate<'_>, R>,
+) -> Option<Reply>
+where
+    R: Wait + AllocGlobal,
+    requires { future.finished ≡ false }
+{
+    Some(heard(Poll::Ready(future.wait_on(parker).ok()?)))
+}
+
+// Brings an init that fails to each cell, and asks in each way in turn: how many times it was told that error.
+fn fails<R>(rt: &R, task: &MockTask, parker: &mut Parker, cells: &[Failing]) -> u64
+where
+    R: Wait + AllocGlobal + RandomSource,
+{
     let mut told = 0u64;
-    for Failing { cell, arrived } in cells {
-        let mut future = cell.get_or_try_init(rt, FailsLate { arrived });
-        if polled(task, &mut future) == Reply::Error(9) {
+    for (number, Failing { cell, arrived }) in cells.iter().enumerate() {
+        let future = cell.get_or_try_init(rt, FailsLate { arrived });
+        let reply = match number % 3 {
+            0 => polled(task, future),
+            1 => waited(future),
+            _ => waited_on(parker, future),
+        };
+        if reply == Some(Reply::Error(9)) {
             told = told.saturating_add(1);
         }
     }
@@ -92,11 +127,11 @@ fn fills<R: Wait + AllocGlobal>(rt: &R, task: &MockTask, cells: &[Failing]) {
 }
 
 // How many times the error was told, and whether all cells are filled then.
-fn told<R>(rt: &R, (first, second): (&MockTask, &MockTask)) -> Result<(u64, bool), AllocError>
+fn told<R>(rt: &R, (first, second): (&MockTask, &MockTask)) -> io::Result<(u64, bool)>
 where
-    R: Wait + AllocGlobal + Threads + Sync,
+    R: Wait + AllocGlobal + RandomSource + Threads + Sync,
 {
-    let mut cells = Vec::new(rt.alloc());
+    let (mut parker, mut cells) = (Parker::new(rt)?, Vec::new(rt.alloc()));
     for _ in 0..CELLS {
         cells.push(Failing {
             cell: OnceCell::new(),
@@ -105,14 +140,14 @@ where
     }
     let (told, ()) = thread::join(
         rt,
-        || fails(rt, first, &cells),
+        || fails(rt, first, &mut parker, &cells),
         || fills(rt, second, &cells),
     );
     let are_filled = cells.iter().all(|it| is_filled(rt, &it.cell));
     Ok((told, are_filled))
 }
 
-/// Who brought an init that failed is told its error, also where another fills the cell meanwhile.
+/// Who brought an init that failed is told its error in whatever way it asks, also if another fills the cell meanwhile.
 #[test]
 fn own_error_beside_a_value(rt: HostRuntime) -> Result<(), Fail> {
     let (first, second) = (MockTask::new(&rt)?, MockTask::new(&rt)?);
