@@ -1,5 +1,5 @@
 -- How a clause sees a future, by what it is made of.
-use Rattle.std.specs.Prelude.{◌≡◌, ℕ, ⊤, Bool, true, false, List, []}
+use Rattle.std.specs.Prelude.{◌≡◌, ℕ, ⊤, Bool, true, false, List, [], Option, Some, None}
 use Rattle.pagebook.specs.Pages.{Book}
 use Rattle.once_world.specs.Record.{Entry}
 use Rattle.async_once_cell.specs.declared.once.future.Asked.{Asked}
@@ -7,43 +7,49 @@ use Rattle.async_once_cell.specs.declared.once.future.Asked.TheVariants.{Owned a
 use Rattle.async_once_cell.specs.declared.once.future.Asked.TheVariants.{Shared as AskedShared}
 use Rattle.async_once_cell.specs.Views.{CellView, FutureView, Owned, Shared}
 
-module _ {T F R O : Type 0} where
+module _ {T I R : Type 0} where
   -- its task's number
-  abbrev pub task_of : Asked T F R O → ℕ
+  abbrev pub task_of : Asked T I R → ℕ
   task_of (AskedOwned r init) = 0
   task_of (AskedAnswered r) = 0
   task_of (AskedShared w) = w.number
 
+  -- its init
+  abbrev pub init_of : Asked T I R → Option I
+  init_of (AskedOwned r init) = Some init
+  init_of (AskedAnswered r) = None
+  init_of (AskedShared w) = w.init
+
   -- the record that it has seen
-  abbrev pub seen_of : Asked T F R O → List Entry
+  abbrev pub seen_of : Asked T I R → List Entry
   seen_of (AskedOwned r init) = []
   seen_of (AskedAnswered r) = []
   seen_of (AskedShared w) = w.log
 
   -- its task's cell has this book
-  abbrev pub HasBook : Asked T F R O → Book → Type 0
+  abbrev pub HasBook : Asked T I R → Book → Type 0
   HasBook (AskedOwned r init) book = ⊥
   HasBook (AskedAnswered r) book = ⊥
   HasBook (AskedShared w) book = book ≡ w.cell.book
 
   -- its cell has its owner's value
-  abbrev pub is_of_owned : Asked T F R O → Bool
+  abbrev pub is_of_owned : Asked T I R → Bool
   is_of_owned (AskedShared w) = false
   is_of_owned _ = true
 
   -- whether it answered, or left
-  abbrev pub is_done : Asked T F R O → Bool
+  abbrev pub is_done : Asked T I R → Bool
   is_done (AskedOwned r init) = false
   is_done (AskedAnswered r) = true
   is_done (AskedShared w) = w.finished
 
   -- it is of this cell
-  abbrev pub IsAsked : CellView T → Asked T F R O → Type 0
+  abbrev pub IsAsked : CellView T → Asked T I R → Type 0
   IsAsked (Owned x) (AskedShared w) = ⊥
   IsAsked (Owned x) _ = ⊤
   IsAsked (Shared s) (AskedShared w) = w.cell ≡ s
   IsAsked (Shared s) _ = ⊥
 
   -- what a clause sees of a future of this cell
-  abbrev pub view_of_future : CellView T → Asked T F R O → FutureView T
-  view_of_future c a = record { cell = c; task = task_of a; log = seen_of a; finished = is_done a }
+  abbrev pub view_of_future : CellView T → Asked T I R → FutureView T I
+  view_of_future c a = record { cell = c; init = init_of a; task = task_of a; log = seen_of a; finished = is_done a }

@@ -1,11 +1,11 @@
 pub mod Refused
-pub mod Seats
+pub mod Listed
 pub mod Views
 pub mod Stays
 pub mod Tokens
 pub mod Polls
 pub mod Futures
-pub mod Sure
+pub mod Inits
 pub mod Record
 -- the definitions of the machine
 pub use Rattle.once_queue.specs.Numbers

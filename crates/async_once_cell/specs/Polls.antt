@@ -1,5 +1,5 @@
 -- What a poll of a cell's future answers and leaves, in the record too.
-use Rattle.std.specs.Prelude.{◌≡◌, ⊤, Bool, true, false, List, [], ◌∷◌, Option, Some, None, Result, Ok, Err}
+use Rattle.std.specs.Prelude.{◌≡◌, ℕ, ⊤, Bool, true, false, List, [], ◌∷◌, Option, Some, None, Result, Ok, Err}
 use Rattle.std.specs.Borrow.{Bor}
 use Rattle.futures.specs.declared.task.Poll.{Poll}
 use Rattle.futures.specs.declared.task.Poll.TheVariants.{Ready, Pending}
@@ -9,10 +9,10 @@ use Rattle.async_once_cell.specs.declared.once.refused.InitError.{InitError}
 use Rattle.async_once_cell.specs.declared.once.refused.InitError.TheVariants.{Init, Memory, Full}
 use Rattle.async_once_cell.specs.declared.once.refused.Refused.{Refused}
 use Rattle.async_once_cell.specs.declared.once.refused.Refused.TheVariants.{Memory as NoMemory, Full as TooMany}
-use Rattle.once_world.specs.Record.{Entry}
+use Rattle.once_world.specs.Record.{Begin, DropBegin, DropEnd, Entry, Made}
 use Rattle.once_world.specs.Places.{EndDropped, EndError, EndFull, EndMemory, EndPending, EndValue, Ending}
 use Rattle.once_book.specs.Kept.{Grew}
-use Rattle.once_parts.specs.Walks.{end_of}
+use Rattle.once_parts.specs.Walks.{IsOneCall, Spans, end_of}
 use Rattle.async_once_cell.specs.Tokens.{Agrees, IsSetIn}
 use Rattle.async_once_cell.specs.Views.{CellView, FutureView, Owned, Shared}
 
@@ -33,13 +33,6 @@ module _ {A : Type 0} where
   ending_by ending (Ready (Ok x)) = EndValue
   ending_by ending (Ready (Err x)) = ending x
 
-  -- the same where the init may fail, and where it cannot
-  abbrev pub ending_in : {E : Type 0} → Poll (Result A (InitError E)) → Ending
-  ending_in r = ending_by ending_of_error r
-
-  abbrev pub sure_ending : Poll (Result A Refused) → Ending
-  sure_ending r = ending_by ending_of_refusal r
-
 -- all but Pending are the end of the task
 abbrev pub is_over : Ending → Bool
 is_over EndPending = false
@@ -48,37 +41,70 @@ is_over _ = true
 -- the record grew, and its newest entry is the end of this call of the task.
 -- A cell that has its owner's value has no record
 abbrev pub Ends : {T : Type 0} → CellView T → Entry → List Entry → List Entry → Type 0
-Ends (Owned x) e old new = new ≡ old
+Ends (Owned x) e old new = new ≡ []
 Ends (Shared s) e old new = Grew (e ∷ []) old new
 
+-- this poll of the task t began after all that was seen before, and this entry, with which it ended, is the newest
+abbrev pub SpansIn : {T : Type 0} → CellView T → ℕ → Entry → List Entry → List Entry → Type 0
+SpansIn (Owned x) t e old new = ⊤
+SpansIn (Shared s) t e old new = Spans t e old new
+
+-- in its own entries since then the task t made one call, which began and ended so
+abbrev pub CallIn : {T : Type 0} → CellView T → ℕ → Entry → Entry → List Entry → List Entry → Type 0
+CallIn (Owned x) t begin end old new = ⊤
+CallIn (Shared s) t begin end old new = IsOneCall t begin end old new
+
+-- the task t was made in this record, which is that of a cell that tasks share
+abbrev pub MadeIn : {T : Type 0} → CellView T → ℕ → List Entry → Type 0
+MadeIn (Owned x) t log = ⊤
+MadeIn (Shared s) t log = (seen : List Entry) × Grew (Made t ∷ []) seen log
+
 -- what a poll did to its future and to the context, by how it ended
-pub record DidPoll {T : Type 0} (old new : FutureView T) (before after : Context) (e : Ending) : Type 0 where
+pub record DidPoll {T I : Type 0} (old new : FutureView T I) (before after : Context) (e : Ending) : Type 0 where
   pub cell : new.cell ≡ old.cell  -- the cell is the same
   pub task : new.task ≡ old.task  -- the task is the same
   -- the newest entry of the record is the end of this call, with what was answered
   pub ends : Ends old.cell (end_of old.task e) old.log new.log
+  -- the call began after all that was seen before
+  pub spans : SpansIn old.cell old.task (end_of old.task e) old.log new.log
+  -- the task's own entries since then are those of this call
+  pub call : CallIn old.cell old.task (Begin old.task old.task) (end_of old.task e) old.log new.log
   pub set : e ≡ EndValue → IsSetIn new.cell new.log  -- where it answered the value, the cell is set in the record
   pub finished : new.finished ≡ is_over e  -- the future is finished exactly where the poll answered
   pub armed : e ≡ EndPending → IsArmed after  -- else it has registered its task somewhere, or asked for another poll
   pub kept : Keeps before after  -- the context keeps what it had
 
 -- the future left its cell as by a drop
-pub record HasLeft {T : Type 0} (old new : FutureView T) : Type 0 where
+pub record HasLeft {T I : Type 0} (old new : FutureView T I) : Type 0 where
   pub cell : new.cell ≡ old.cell  -- the cell is the same
   pub task : new.task ≡ old.task  -- the task is the same
   pub gone : Ends old.cell (end_of old.task EndDropped) old.log new.log  -- the newest entry is the end of the drop
+  -- the task's own entries since then are those of the drop
+  pub call : CallIn old.cell old.task (DropBegin old.task) (DropEnd old.task) old.log new.log
   pub finished : new.finished ≡ true  -- the future is finished
 
 -- a poll with a token that knew nothing is a poll, and with one that knew a value the future leaves
-abbrev pub PollsAs : {T : Type 0} → Option T → FutureView T → FutureView T → Context → Context → Ending → Type 0
+abbrev pub PollsAs : {T I : Type 0} → Option T → FutureView T I → FutureView T I → Context → Context → Ending → Type 0
 PollsAs None old new before after e = DidPoll old new before after e
 PollsAs (Some x) old new before after e = HasLeft old new × Keeps before after
 
 -- of a cell that has its owner's value a poll answers that value
+abbrev pub AnswersBy : {T A E : Type 0} → (A → T) → CellView T → Poll (Result A E) → Type 0
+AnswersBy value (Owned x) (Ready (Ok a)) = value a ≡ x
+AnswersBy value (Owned x) _ = ⊥
+AnswersBy value (Shared s) r = ⊤
+
+-- the answer is a value
+abbrev pub IsValue : {A E : Type 0} → Poll (Result A E) → Type 0
+IsValue (Ready (Ok x)) = ⊤
+IsValue _ = ⊥
+
 abbrev pub Answers : {T E : Type 0} → CellView T → Poll (Result (Bor T) E) → Type 0
-Answers (Owned x) (Ready (Ok v)) = v.now ≡ x
-Answers (Owned x) _ = ⊥
-Answers (Shared s) r = ⊤
+Answers c r = AnswersBy (λ (v : Bor _). v.now) c r
+
+-- the future is new: in the record of a cell that tasks share its newest entry made its task
+abbrev pub IsMade : {T I : Type 0} → FutureView T I → Type 0
+IsMade f = MadeIn f.cell f.task f.log
 
 -- what a token knew before a poll and knows after it: where a value was answered, that, which is the known one if
 -- there was one; else nothing, as before
@@ -90,3 +116,8 @@ Polls old new _ = (old ≡ None) × (new ≡ None)
 abbrev pub Waits : {T E X : Type 0} → Option T → Option T → Result (Result (Bor T) E) X → Type 0
 Waits old new (Ok answer) = Polls old new (Ready answer)
 Waits old new (Err x) = (old ≡ None) × (new ≡ None)
+
+-- the answer of a wait is a value
+abbrev pub IsValueAtOnce : {A E X : Type 0} → Result (Result A E) X → Type 0
+IsValueAtOnce (Ok (Ok x)) = ⊤
+IsValueAtOnce _ = ⊥

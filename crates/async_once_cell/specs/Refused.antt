@@ -1,5 +1,5 @@
 -- What the refusals and errors of a poll print, and which other errors a refusal becomes.
-use Rattle.std.specs.Prelude.{ℕ, List, Option, Some, codes}
+use Rattle.std.specs.Prelude.{ℕ, List, Option, Some, None, codes, Result, Ok, Err}
 use Rattle.std.specs.declared.io.ErrorKind.{ErrorKind}
 use Rattle.std.specs.declared.io.ErrorKind.TheVariants.{OutOfMemory, Other}
 use Rattle.async_once_cell.specs.declared.once.refused.Refused.{Refused}
@@ -27,3 +27,14 @@ kind_of Full = Other
 abbrev pub error_of : {E : Type 0} → Refused → InitError E
 error_of Memory = NoMemory
 error_of Full = TooMany
+
+-- the error of the init, or else the refusal
+abbrev pub own_error : {E : Type 0} → InitError E → Result E Refused
+own_error (Init e) = Ok e
+own_error NoMemory = Err Memory
+own_error TooMany = Err Full
+
+-- what the init gave, where its own error is told
+abbrev pub given_error : {T E : Type 0} → InitError E → Option (Result T E)
+given_error (Init e) = Some (Err e)
+given_error _ = None

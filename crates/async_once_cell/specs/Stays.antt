@@ -1,33 +1,47 @@
 -- What a polling task's side tells, and what each of its calls keeps.
--- The context's poll goes on, and a side that says that its init armed it is right.
-use Rattle.std.specs.Prelude.{◌≡◌, true, false}
+-- The context's poll goes on, a side that says that its task is to be called is right, and an error is the init's own.
+use Rattle.std.specs.Prelude.{◌≡◌, true, false, IfSome}
 use Rattle.std.specs.Option.{is_some}
 use Rattle.futures.specs.Task.{IsArmed, Keeps}
 use Rattle.once_book.specs.Named.{named_out}
 use Rattle.once_parts.specs.Sides.{Sided}
 use Rattle.async_once_cell.specs.declared.waiting.Polling.{Polling}
 use Rattle.async_once_cell.specs.declared.waiting.Leaving.{Leaving}
-use Rattle.async_once_cell.specs.Seats.{whose}
+use Rattle.async_once_cell.specs.Inits.{FailsNoOther, MayFail}
+use Rattle.async_once_cell.specs.Listed.{whose}
 
-module _ {T E H R : Type 0} where
-  -- its task, whether it has a value or an error, and who was handed to it
-  abbrev pub told : Polling T E H R → Sided
+module _ {T E H : Type 0} where
+  -- its task, whether it has its init, a value or an error, and who was handed to it
+  abbrev pub told : Polling T E H → Sided
   told s = record {
     number = s.mark;
+    has_init = is_some s.init;
     has_value = is_some s.value;
     has_error = is_some s.error;
     woke = named_out whose s.woke.value;
   }
 
-  -- a side that says that its init armed the task is right
-  abbrev pub Tied : Polling T E H R → Type 0
-  Tied s = s.is_armed ≡ true → IsArmed s.cx.now
+-- by the errors with which an init may fail, and by which error a side has
+module _ {T E H X : Type 0} (may_fail : H → X → Type 0) (error_of : E → X) where
+  -- a side that says that its task is to be called is right, its init fails with no other error than when the poll
+  -- began, and the error that is there is one of these
+  abbrev pub Tied : Polling T E H → Type 0
+  Tied s = (s.is_armed ≡ true → IsArmed s.cx.now) × FailsNoOther may_fail s.first.value s.init
+      × IfSome s.error (λ e. MayFail may_fail s.first.value (error_of e))
 
-  -- from one moment of a side to a later one: the context is the same, what was armed stays so,
-  -- and the side is as right as before
-  abbrev pub Stays : Polling T E H R → Polling T E H R → Type 0
-  Stays a b = (b.cx.ghost_name ≡ a.cx.ghost_name) × Keeps a.cx.now b.cx.now × (Tied a → Tied b)
+  -- from one moment of a side to a later one: the context is the same, what was armed stays so, the poll began with the
+  -- same init, and the side is as right as before
+  abbrev pub Stays : Polling T E H → Polling T E H → Type 0
+  Stays a b =
+      (b.cx.ghost_name ≡ a.cx.ghost_name) × Keeps a.cx.now b.cx.now × (b.first.value ≡ a.first.value)
+      × (Tied a → Tied b)
 
 -- what a leaving task's side tells: it has nothing that the init gave
 abbrev pub leaving : {T R : Type 0} → Leaving T R → Sided
-leaving s = record { number = s.mark; has_value = s.has_value; has_error = false; woke = named_out whose s.woke.value }
+leaving s = record {
+  number = s.mark;
+  has_init = false;
+  has_value = false;
+  has_error = false;
+  woke = named_out whose s.woke.value;
+}

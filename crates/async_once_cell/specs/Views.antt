@@ -1,5 +1,5 @@
 -- What a clause sees of a cell, of a token and of a future, and how they are made.
-use Rattle.std.specs.Prelude.{◌≡◌, ℕ, ⊤, Bool, true, false, List, [], Option, Some, None, IfSome}
+use Rattle.std.specs.Prelude.{◌≡◌, ℕ, ⊤, Bool, true, false, List, [], Option, Some, None, IfSome, IsSomeAnd}
 use Rattle.std.specs.Option.{is_some}
 use Rattle.pagebook.specs.Pages.{Book}
 use Rattle.pagebook.specs.Slot.{Placed}
@@ -23,11 +23,30 @@ pub record TokenView (T : Type 0) : Type 0 where
   pub log : List Entry  -- the record as far as it was seen, the oldest entry first
 
 -- what a clause sees of a future
-pub record FutureView (T : Type 0) : Type 0 where
+pub record FutureView (T I : Type 0) : Type 0 where
   pub cell : CellView T  -- its cell
+  pub init : Option I  -- its init, if it is there still
   pub task : ℕ  -- its task's number
   pub log : List Entry  -- the record as far as it was seen; a cell that has its owner's value has none
   pub finished : Bool  -- whether it is finished
+
+-- what a clause sees of a task with its init
+pub record WaitingView (I : Type 0) : Type 0 where
+  pub cell : Placed  -- its cell
+  pub number : ℕ  -- its number
+  pub log : List Entry  -- the record as far as it has seen it
+  pub finished : Bool  -- whether it is finished
+  pub init : Option I  -- its init, if it is there still
+
+-- what a clause sees of what was told of a cell
+pub record ToldView (T : Type 0) : Type 0 where
+  pub cell : CellView T  -- the cell
+  pub value : T  -- its value
+
+-- the cell has this value: its owner put it there, or this shows that a task did
+abbrev pub Shows : {T : Type 0} → CellView T → T → Option (Written T) → Type 0
+Shows (Owned x) v w = v ≡ x
+Shows (Shared s) v w = IsSomeAnd w (λ y. (y.of ≡ s.id) × (y.value ≡ v))
 
 -- tasks share the cell, and no owner put a value there
 abbrev pub is_shared : {T : Type 0} → CellView T → Bool
@@ -68,3 +87,18 @@ IsOf (Shared s) (SeenShared r w) = (r.book ≡ s.book) × IfSome w (λ y. y.of �
 abbrev pub IsBookOf : {T : Type 0} → CellView T → Book → Type 0
 IsBookOf (Owned x) book = ⊥
 IsBookOf (Shared s) book = book ≡ s.book
+
+-- this shows the value that tasks put into the cell
+abbrev pub IsWritten : {T : Type 0} → CellView T → Written T → Type 0
+IsWritten (Owned x) w = ⊥
+IsWritten (Shared s) w = w.of ≡ s.id
+
+-- where the owner had put a value there, it is this one
+abbrev pub OwnsStill : {T : Type 0} → CellView T → T → Type 0
+OwnsStill (Owned x) y = y ≡ x
+OwnsStill (Shared s) y = ⊤
+
+-- a value of the owner stays, and a cell that tasks share still is the same
+abbrev pub Settled : {T : Type 0} → Value T → Value T → Type 0
+Settled old (OwnedValue x) = OwnsStill (view_of old) x
+Settled old (SharedValue inner) = old ≡ SharedValue inner

@@ -2,15 +2,16 @@
 ghost use Rattle.std.specs.Prelude.{◌≡◌, IsSome, None, false, true};
 ghost use Rattle.std.specs.Result.{result_ok};
 ghost use Rattle.std.specs.Option.{is_some};
+ghost use Rattle.async_once_cell.specs.Polls.{IsMade};
 ghost use Rattle.async_once_cell.specs.Tokens.{Gives, IsSetIn, Learns, Lends, Looks};
 ghost use Rattle.async_once_cell.specs.Views.{Owned, is_shared};
 
 mod future;
 
-use crate::once::{Known, OnceCell};
-use crate::pollable::Pollable;
+use crate::once::{Known, OnceCell, Told};
 pub use future::{LazyFuturePin, LazyFutureUnpin};
 use futures::Future;
+use once_book::Pollable;
 use std::alloc::AllocGlobal;
 use std::marker::Model;
 use std::sync::{Mutex, Wait};
@@ -84,6 +85,7 @@ impl<T, F: Future<Output = T>> Lazy<T, F> {
     pub fn get<'a, R: Wait + AllocGlobal>(&'a self, rt: &'a R) -> LazyFuturePin<'a, T, F, R>
         ensures cell { result.cell ≡ self.now }
         ensures live { result.finished ≡ false }
+        ensures made { IsMade result }
     {
         LazyFuturePin::new(&self.cell, rt, &self.future)
     }
@@ -92,6 +94,7 @@ impl<T, F: Future<Output = T>> Lazy<T, F> {
     pub fn get_unpin<'a, R: Wait + AllocGlobal>(&'a self, rt: &'a R) -> LazyFutureUnpin<'a, T, F, R>
         ensures cell { result.cell ≡ self.now }
         ensures live { result.finished ≡ false }
+        ensures made { IsMade result }
     {
         self.get(rt)
     }
@@ -103,6 +106,7 @@ impl<T, F: Future<Output = T>> Lazy<T, F> {
     ) -> LazyFutureUnpin<'a, T, F, R>
         ensures cell { result.cell ≡ self.now }
         ensures live { result.finished ≡ false }
+        ensures made { IsMade result }
     {
         self.get(rt)
     }
@@ -135,8 +139,8 @@ impl<T, F: Future> Lazy<T, F> {
         self.cell.get()
     }
 
-    /// The value for writing, where it is set. It waits for nobody. No clause says what it lends, or what the cell is
-    /// after it.
+    /// The value for writing, if it is set. It waits for nobody. No clause says what it lends, or what the cell is
+    /// after it: [`Lazy::own_as`] makes the value the owner's, with clauses.
     ///
     /// ```
     /// let mut lazy: Lazy<u64, Ready<u64>> = Lazy::with_value(7);
@@ -199,6 +203,36 @@ impl<T, F: Future> Lazy<T, F> {
         ensures replaced { self.new ≡ replacement }
     {
         mem::replace(self, replacement).into_inner()
+    }
+
+    /// As [`Lazy::into_inner`], for a caller that was told the value.
+    pub fn into_inner_as(self, told: &Told<T>) -> T
+        requires { told.now.cell ≡ self }
+        ensures { result ≡ told.now.value }
+    {
+        let Lazy { cell, future } = self;
+        drop(future);
+        cell.into_inner_as(told)
+    }
+
+    /// As [`Lazy::replace_and_take`], for a caller that was told the value.
+    pub fn replace_and_take_as(&mut self, replacement: Self, told: &Told<T>) -> T
+        requires { told.now.cell ≡ self.old }
+        ensures taken { result ≡ told.now.value }
+        ensures replaced { self.new ≡ replacement }
+    {
+        mem::replace(self, replacement).into_inner_as(told)
+    }
+
+    /// Makes the value the owner's, for a caller that was told it. From then on the clauses of all calls say which
+    /// value that is.
+    pub fn own_as(&mut self, told: &Told<T>)
+    where
+        T: Drop,
+        requires { told.now.cell ≡ self.old }
+        ensures { self.new ≡ Owned told.now.value }
+    {
+        self.cell.own_as(told);
     }
 
     /// A token that knows nothing yet. See [`Known`]. It takes no memory, and waits for nobody.

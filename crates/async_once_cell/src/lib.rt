@@ -43,7 +43,8 @@
 //! value is set, it counts out and answers the value. If nobody holds, it raises the flag and has the
 //! right. Else it lets the lock go, copies its waker, takes the lock again and looks again. If another
 //! task still holds, it lists the copy at the end. Now its poll is Pending: the task waits. At its next
-//! poll it does the same again.
+//! poll it looks again. If it is listed still, its waker there becomes that of this poll. Else it is
+//! listed anew.
 //!
 //! **The release.** A holder whose init gave a value puts it into the cell, and takes the lock. It gives
 //! the right back, sets the ready bit, and takes all listings out. Their wakers are handed out, and are
@@ -67,26 +68,33 @@
 //! A call makes sixteen steps of [`step::Step`] at most. What all tasks did with a cell is its record. It
 //! has no bytes, and it only grows. Whatever threads do, it is a run of a cell that is empty, held by one
 //! task or set. Besides, at each of its beginnings somebody was called if somebody had to be, so nobody who
-//! waits is forgotten. A clause sees what a future or a token has seen of the record. After a future's own
-//! `poll` the newest entry is what it answered. A look finds the value exactly when the cell is set at that
-//! moment. [`world::replay`] is the same machine for one caller, over plain data.
+//! waits is forgotten. A clause sees what a future or a token has seen of the record. After a poll the newest
+//! entry is what it answered. A look finds the value exactly when the cell is set at that moment.
+//! [`world::replay`] is the same machine for one caller, over plain data.
 //!
-//! This says nothing of a call that does not return, of fairness, progress or time. Tests alone show that
-//! the task that holds polls its init and no other task does, that a task that is called is woken, and that
-//! each value and init is dropped. The tokens say which value was set, see [`Known`]. The definitions in
-//! `specs/` and the kit have to be trusted. `docs/PROVED.md` of the repository says what no clause says, and
+//! Only a task that holds polls an init, and the record has each such poll and no other. In the record a call of a
+//! future is one call of its task: it begins after all that the future had seen, and what it did stands between.
+//!
+//! This says nothing of a call that does not return, of fairness, progress or time. Tests alone show that the
+//! init which is polled is the task's own, or the future of its lazy cell, that a task that is called is woken,
+//! and that each value and init is dropped. The tokens say which value was set, see [`Known`]. The definitions
+//! in `specs/` and the kit have to be trusted. `docs/PROVED.md` of the repository says what no clause says, and
 //! `docs/THREADS.md` what is proved of threads.
 #![tactic(auto)]
 
+mod init;
 pub mod inner;
 pub mod lazy;
 pub mod once;
-mod pollable;
 pub mod queue;
-mod seat;
 mod waiting;
+mod waker;
 
+pub use init::{Failed, Init};
 pub use lazy::{Lazy, LazyFuturePin, LazyFutureUnpin};
-pub use once::{InitError, InitFuture, Known, OnceCell, Parker, Refused, TryInitFuture};
+pub use once::{
+    Failure, Gives, InitError, InitFuture, Initializing, Known, OnceCell, Parker, Refused, Told,
+    TryInitFuture,
+};
 pub use once_core::step;
 pub use once_world::{laws, world};

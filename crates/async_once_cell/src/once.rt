@@ -1,29 +1,30 @@
 //! A cell that is filled once, by the init of one of the calls that ask for its value.
-ghost use Rattle.std.specs.Prelude.{◌≡◌, IsSome, None, true, false};
+ghost use Rattle.std.specs.Prelude.{◌≡◌, IsSome, None, Some, true, false};
 ghost use Rattle.std.specs.Option.{is_some};
 ghost use Rattle.async_once_cell.specs.Views.{CellView, Owned, is_shared};
-ghost use Rattle.async_once_cell.specs.Tokens.{Gives, IsSetIn, Learns, Lends, Looks};
+ghost use Rattle.async_once_cell.specs.Polls.{IsMade};
+ghost use Rattle.async_once_cell.specs.Tokens.{Gives, IsSetIn, Learns, Lends, LendsMut, Looks};
 
 mod future;
-mod init;
 mod known;
 mod parker;
 mod refused;
+mod told;
 mod value;
 mod waits;
 
-pub use future::TryInitFuture;
+pub use future::{InitFuture, Initializing, TryInitFuture};
 use futures::Future;
-pub use init::InitFuture;
 pub use known::Known;
+use once_book::Pollable;
 use once_parts::Inner;
 pub use parker::Parker;
-pub(crate) use refused::PollError;
-pub use refused::{InitError, Refused};
+pub use refused::{Failure, Gives, InitError, Refused};
 use std::alloc::AllocGlobal;
 use std::marker::Model;
 use std::sync::Wait;
 use std::{fmt, mem};
+pub use told::Told;
 use value::Value;
 
 /// A cell that is empty or has one value, and is filled by a future.
@@ -43,8 +44,7 @@ use value::Value;
 /// asks for it to write it. Any other cell has a record of all that tasks do with it. Each of its futures
 /// and tokens has seen a beginning of the record, see [`TryInitFuture`] and [`Known`].
 ///
-/// Memory is taken only where tasks meet: for the queue of those who wait, and for the seat of each and
-/// its place in the queue.
+/// Memory is taken only when tasks meet: for the queue of those who wait, and for the place of each in it.
 ///
 /// An init may borrow whatever outlives its future. One that asks its own cell for the value waits
 /// there like any other task, and may give its own value all the same. A cell may be sent to another
@@ -64,6 +64,9 @@ impl<T> Model for OnceCell<T> {
 }
 
 impl<T> OnceCell<T> {
+    ghost use Rattle.std.specs.Borrow.{LendsIf, sem};
+    ghost use Rattle.async_once_cell.specs.contracts.once.OnceCell.{the_row};
+
     /// An empty cell, with a new record. It takes no memory. The clause says that tasks share it; none says
     /// that it is empty.
     #[inline(always)]
@@ -99,8 +102,9 @@ impl<T> OnceCell<T> {
         }
     }
 
-    /// The value for writing, where it is set. A value that tasks set becomes the owner's, and its record
-    /// ends. It waits for nobody. No clause says what it lends, or what the cell is after it.
+    /// The value for writing, if it is set. A value that tasks set becomes the owner's, and its record ends. It waits
+    /// for nobody. A value that the owner put there is lent, and what is written to what is lent is what the cell has
+    /// afterwards. Which value tasks set is told by [`OnceCell::own_as`].
     ///
     /// ```
     /// let mut cell = OnceCell::new_with(5u64);
@@ -110,7 +114,10 @@ impl<T> OnceCell<T> {
     /// }
     /// let taken = cell.take(); // Some(6), and the cell is empty
     /// ```
-    pub fn get_mut(&mut self) -> Option<&mut T> {
+    pub fn get_mut(&mut self) -> Option<&mut T>
+        ensures* writes_back { sem 𝓛 (LendsIf (the_row T.row) T.row self.entry result Owned self.old) }
+        ensures value { LendsMut self.old result }
+    {
         self.value.get_mut()
     }
 
@@ -153,8 +160,10 @@ impl<T> OnceCell<T> {
         requires { F.can_poll init }
         ensures cell { result.cell ≡ self.now }
         ensures live { result.finished ≡ false }
+        ensures made { IsMade result }
+        ensures init { result.init ≡ Some init }
     {
-        InitFuture::new(self, rt, init)
+        Initializing::new(self, rt, Pollable::new(init))
     }
 
     /// As [`OnceCell::get_or_init`], with an init that may fail. An error goes to its own caller
@@ -166,9 +175,10 @@ impl<T> OnceCell<T> {
     /// ```
     /// match tried {
     ///     Ok(_) => Ok(false),
-    ///     Err(InitError::Init(Down)) => Ok(true), // the next try brings an init of its own
-    ///     Err(InitError::Memory) => Err(Fault::Refused(Refused::Memory)),
-    ///     Err(InitError::Full) => Err(Fault::Refused(Refused::Full)),
+    ///     Err(error) => match error.own() {
+    ///         Ok(Down) => Ok(true), // the next try brings an init of its own
+    ///         Err(refused) => Err(Fault::Refused(refused)),
+    ///     },
     /// }
     /// ```
     #[inline(always)]
@@ -183,8 +193,10 @@ impl<T> OnceCell<T> {
         requires { F.can_poll init }
         ensures cell { result.cell ≡ self.now }
         ensures live { result.finished ≡ false }
+        ensures made { IsMade result }
+        ensures init { result.init ≡ Some init }
     {
-        TryInitFuture::new(self, rt, init)
+        Initializing::new(self, rt, Pollable::new(init))
     }
 
     /// A token that knows nothing yet. See [`Known`]. It takes no memory, and waits for nobody.

@@ -1,60 +1,69 @@
 //! A task of a cell that brings an init, and is called where it waits.
-ghost use Rattle.std.specs.Prelude.{◌≡◌, ◌∷◌, [], IsSome, List, None, true, false, ⊤};
+ghost use Rattle.std.specs.Prelude.{◌≡◌, ◌≢◌, ◌∷◌, [], List, true, false, ⊤};
+ghost use Rattle.std.specs.Prelude.{IfErr, IfOk, IsSome, IsSomeAnd, None, Some};
+ghost use Rattle.std.specs.Option.{is_some};
 ghost use Rattle.once_queue.specs.declared.waiters.Out.{Out};
+ghost use mathlib.Core.List.{IsPrefix};
+ghost use Rattle.futures.specs.Poll.{IfReady};
 ghost use Rattle.futures.specs.Task.{IsArmed, Keeps};
 ghost use Rattle.once_core.specs.declared.step.Ending.{Ending};
-ghost use Rattle.once_world.specs.Record.{DropEnd, Entry, Made};
-ghost use Rattle.once_book.specs.Kept.{Grew};
+ghost use Rattle.once_world.specs.Record.{Begin, DropBegin, DropEnd, Entry, Made};
+ghost use Rattle.once_book.specs.Kept.{Grew, entries_of};
 ghost use Rattle.once_book.specs.Record.{EndsSet, IsSet};
-ghost use Rattle.once_parts.specs.Walks.{end_of};
-ghost use Rattle.async_once_cell.specs.Polls.{ending_by, is_over};
+ghost use Rattle.once_parts.specs.Walks.{IsOneCall, Spans, end_of};
+ghost use Rattle.async_once_cell.specs.Inits.{FailsNoOther, TellsOwn};
+ghost use Rattle.async_once_cell.specs.Polls.{IsValue, ending_by, is_over};
 
-use crate::once::{InitError, PollError};
-use crate::pollable::Pollable;
-use crate::seat::{Seat, Seated, call_all};
-use futures::Future;
-use futures::future::TryOutput;
+use crate::init::{Failed, Init};
+use crate::once::{Failure, Refused};
+use crate::waker::{ListedWaker, Renewal};
 use futures::task::{Context, Poll};
 use once_book::record::is_set_where_answered;
-use once_book::{Mark, Record};
+use once_book::{Hand, Mark, Record};
 use once_core::step::{Ending, Polled, Side};
 use once_parts::{Inner, Task, TaskSide};
 use once_queue::waiters::Out;
+use pagebook::Written;
 use std::alloc::AllocGlobal;
 use std::marker::{Model, PhantomData};
 use std::snapshot::Snapshot;
 use std::sync::Wait;
 
-/// A task of a cell with its init. A clause sees the task.
+/// A task of a cell with its init. A clause sees both.
 #[derive(Drop)]
-pub(crate) struct Waiting<'a, T, F: Future, R: Wait + AllocGlobal> {
-    task: Task<'a, 'a, T, Seated, R>,
-    init: Option<Pollable<F>>,
-    // Made when the task waits for the first time.
-    seat: Option<Seat>,
+pub(crate) struct Waiting<'a, T, I: Drop, R: Wait + AllocGlobal> {
+    task: Task<'a, 'a, T, ListedWaker, R>,
+    init: Option<I>,
+    // The init is there until the task is finished.
+    ghost has_init: { task.finished ≡ false → is_some init ≡ true },
 }
 
-impl<'a, T, F: Future, R: Wait + AllocGlobal> Model for Waiting<'a, T, F, R> {
-    ghost use Rattle.once_parts.specs.Tasks.{TaskView};
+impl<'a, T, I: Drop, R: Wait + AllocGlobal> Model for Waiting<'a, T, I, R> {
+    ghost use Rattle.async_once_cell.specs.Views.{WaitingView};
 
-    ghost Value = { TaskView };
+    ghost Value = { WaitingView I };
 
-    ghost view = { λ f. f.task };
+    ghost view = { λ f. record {
+      cell = f.task.cell;
+      number = f.task.number;
+      log = f.task.log;
+      finished = f.task.finished;
+      init = f.init;
+    } };
 }
 
-impl<'a, T, F: Future, R: Wait + AllocGlobal> Waiting<'a, T, F, R> {
+impl<'a, T, I: Drop, R: Wait + AllocGlobal> Waiting<'a, T, I, R> {
     /// A new task.
     #[inline(always)]
-    pub(crate) fn new(inner: &'a Inner<T, Seated>, rt: &'a R, init: F) -> Self
-        requires { F.can_poll init }
+    pub(crate) fn new(inner: &'a Inner<T, ListedWaker>, rt: &'a R, init: I) -> Self
         ensures cell { result.cell ≡ inner.now.slot }
         ensures live { result.finished ≡ false }
+        ensures init { result.init ≡ Some init }
         ensures made { (seen : List Entry) × Grew (Made result.number ∷ []) seen result.log }
     {
         Waiting {
             task: Task::new(inner, rt),
-            init: Some(Pollable::new(init)),
-            seat: None,
+            init: Some(init),
         }
     }
 
@@ -80,16 +89,44 @@ impl<'a, T, F: Future, R: Wait + AllocGlobal> Waiting<'a, T, F, R> {
         self.task.record()
     }
 
+    /// The task learns what a record of its cell has.
+    #[inline(always)]
+    pub(crate) fn learn(&mut self, seen: &Record)
+        requires book { seen.now.book ≡ self.old.cell.book }
+        ensures cell { self.new.cell ≡ self.old.cell }
+        ensures number { self.new.number ≡ self.old.number }
+        ensures finished { self.new.finished ≡ self.old.finished }
+        ensures init { self.new.init ≡ self.old.init }
+        ensures log { IsPrefix self.old.log self.new.log × IsPrefix seen.now.log self.new.log }
+        ensures mine { entries_of self.old.number self.new.log ≡ entries_of self.old.number self.old.log }
+        ensures own_set { IsSet self.old.log → IsSet self.new.log }
+        ensures other_set { IsSet seen.now.log → IsSet self.new.log }
+    {
+        self.task.learn(seen);
+    }
+
+    /// Shows that two tasks of a cell have two numbers.
+    #[inline(always)]
+    pub(crate) fn are_two<J: Drop>(a: &mut Self, b: &mut Waiting<'a, T, J, R>)
+        requires book { b.old.cell.book ≡ a.old.cell.book }
+        ensures cell { a.new.cell ≡ a.old.cell }
+        ensures number { a.new.number ≡ a.old.number }
+        ensures finished { a.new.finished ≡ a.old.finished }
+        ensures init { a.new.init ≡ a.old.init }
+        ensures log { IsPrefix a.old.log a.new.log }
+        ensures set { IsSet a.old.log → IsSet a.new.log }
+        ensures other { b.new ≡ b.old }
+        ensures two { a.new.number ≢ b.new.number }
+    {
+        Task::are_two(&mut a.task, &mut b.task);
+    }
+
     /// Drops the init, and then the task leaves: for a future that is dropped.
     #[inline(always)]
     pub(crate) fn discard(self)
         requires live { self.finished ≡ false }
     {
-        let Waiting {
-            task,
-            init,
-            seat: _seat,
-        } = self;
+        let Waiting { task, init } = self;
         drop(init);
         leave_unfinished(task);
     }
@@ -101,6 +138,8 @@ impl<'a, T, F: Future, R: Wait + AllocGlobal> Waiting<'a, T, F, R> {
         ensures cell { self.new.cell ≡ self.old.cell }
         ensures number { self.new.number ≡ self.old.number }
         ensures gone { Grew (DropEnd self.new.number ∷ []) self.old.log self.new.log }
+        ensures call { IsOneCall self.new.number (DropBegin self.new.number) (DropEnd self.new.number)
+            self.old.log self.new.log }
         ensures finished { self.new.finished ≡ true }
     {
         drop(self.init.take());
@@ -111,35 +150,44 @@ impl<'a, T, F: Future, R: Wait + AllocGlobal> Waiting<'a, T, F, R> {
 
 // A task that is not finished, and whose init is gone, leaves.
 #[inline(never)]
-fn leave_unfinished<T, R: Wait + AllocGlobal>(mut task: Task<'_, '_, T, Seated, R>)
+fn leave_unfinished<T, R: Wait + AllocGlobal>(mut task: Task<'_, '_, T, ListedWaker, R>)
     requires live { task.finished ≡ false }
 {
     let mut side = Leaving::<T, R>::new(task.rt(), task.mark());
     task.leave(&mut side);
 }
 
-impl<'a, T: Drop, E: Drop, F, R: Wait + AllocGlobal> Waiting<'a, T, F, R>
-where
-    F: Future<Output: TryOutput<Ok = T, Error = E>>,
-{
+impl<'a, T: Drop, I: Drop, R: Wait + AllocGlobal> Waiting<'a, T, I, R> {
     /// Polls the task once.
     #[inline(always)]
-    pub(crate) fn poll<X: PollError<E>>(&mut self, cx: &mut Context<'_>) -> Poll<Result<&'a T, X>>
+    pub(crate) fn poll<X: Failure>(
+        &mut self,
+        cx: &mut Context<'_>,
+    ) -> Poll<Result<(&'a T, Written<T>), X>>
+    where
+        I: Init<T, X>,
         requires live { self.old.finished ≡ false }
         ensures cell { self.new.cell ≡ self.old.cell }
         ensures number { self.new.number ≡ self.old.number }
         ensures end { Grew (end_of self.new.number (ending_by X.ending result) ∷ []) self.old.log self.new.log }
+        ensures call { IsOneCall self.new.number (Begin self.new.number self.new.number)
+            (end_of self.new.number (ending_by X.ending result)) self.old.log self.new.log }
+        ensures spans { Spans self.new.number (end_of self.new.number (ending_by X.ending result))
+            self.old.log self.new.log }
+        ensures late { IsSet self.old.log → IsValue result }
         ensures set { ending_by X.ending result ≡ Ending.Value → IsSet self.new.log }
         ensures finished { self.new.finished ≡ is_over (ending_by X.ending result) }
         ensures armed { ending_by X.ending result ≡ Ending.Pending → IsArmed cx.new }
         ensures kept { Keeps cx.old cx.new }
+        ensures value { IfReady result (λ a. IfOk a (λ r. (r.0.now ≡ r.1.value) × (r.1.of ≡ self.new.cell.id))) }
+        ensures own { IfReady result (TellsOwn I.may_fail X.ending self.old.init) }
+        ensures same { FailsNoOther I.may_fail self.old.init self.new.init }
     {
         let mut side = Polling {
-            rt: self.task.rt(),
+            first: Snapshot::of(&self.init),
             mark: self.task.mark(),
             cx,
-            init: &mut self.init,
-            seat: &mut self.seat,
+            init: self.init.take(),
             value: None,
             error: None,
             is_armed: false,
@@ -147,121 +195,127 @@ where
         };
         let ending = self.task.poll(&mut side);
         let Polling {
-            rt: _,
+            first: _first,
             mark: _mark,
             cx,
-            init: _,
-            seat: _,
+            init,
             value: _value,
             error,
             is_armed,
             woke: _woke,
         } = side;
+        self.init = init;
         if ending == Ending::Pending && !is_armed {
-            self.sit(cx);
+            self.renew(cx);
+            return Poll::Pending;
         }
         self.answer(ending, error)
     }
 
     // The answer of a poll that ended in this way. `error` is what its init gave, if it gave an error.
     #[inline(always)]
-    fn answer<X: PollError<E>>(&self, ending: Ending, error: Option<E>) -> Poll<Result<&'a T, X>>
+    fn answer<X: Failure>(
+        &self,
+        ending: Ending,
+        error: Option<Failed<X>>,
+    ) -> Poll<Result<(&'a T, Written<T>), X>>
         requires value { ending ≡ Ending.Value → EndsSet self.now.number self.now.log }
         requires error { ending ≡ Ending.Error → IsSome error }
         requires not_dropped { ending ≡ Ending.Dropped → ⊥ }
         ensures ending { ending_by X.ending result ≡ ending }
+        ensures is_value { ending ≡ Ending.Value → IsValue result }
         ensures set { ending ≡ Ending.Value → IsSet self.now.log }
+        ensures value { IfReady result (λ a. IfOk a (λ r. (r.0.now ≡ r.1.value) × (r.1.of ≡ self.now.cell.id))) }
+        ensures own { IfReady result (λ a. IfErr a
+            (λ x. X.ending x ≡ Ending.Error → IsSomeAnd error (λ e. e.error ≡ x))) }
     {
         match ending {
             Ending::Pending => Poll::Pending,
             Ending::Value => {
                 is_set_where_answered(&self.task.record());
-                let (value, _) = self.task.value();
-                Poll::Ready(Ok(value))
+                Poll::Ready(Ok(self.task.value()))
             }
-            Ending::Error => Poll::Ready(Err(X::of(InitError::Init(error.unwrap())))),
-            Ending::Memory => Poll::Ready(Err(X::of(InitError::Memory))),
-            Ending::Full => Poll::Ready(Err(X::of(InitError::Full))),
+            Ending::Error => Poll::Ready(Err(error.unwrap().into_inner())),
+            Ending::Memory => Poll::Ready(Err(X::refused(Refused::Memory))),
+            Ending::Full => Poll::Ready(Err(X::refused(Refused::Full))),
             Ending::Dropped => unreachable!(),
         }
     }
 
-    // Ends a poll that is Pending, where the init did not see to it that the task is called. The seat does, and without
-    // a seat the task is to be polled again.
+    // Ends a poll that is Pending, if neither the init nor a new listing saw to it that the task is called. If an
+    // earlier poll listed the task, its waker there becomes that of this poll. If the task was called since, it is to
+    // be polled again.
     #[inline(always)]
-    fn sit(&self, cx: &mut Context<'_>)
+    fn renew(&mut self, cx: &mut Context<'_>)
+        ensures task { self.new ≡ self.old }
         ensures armed { IsArmed cx.new }
         ensures kept { Keeps cx.old cx.new }
     {
-        let _: Poll<()> = match &self.seat {
-            Some(seat) => seat.sit(self.task.rt(), cx),
-            None => cx.yield_now(),
-        };
+        let mut renewal = Renewal { cx };
+        let is_listed = self.task.renew(&mut renewal);
+        let Renewal { cx } = renewal;
+        if !is_listed {
+            let _: Poll<()> = cx.yield_now();
+        }
     }
 }
 
 // What a poll brings.
-struct Polling<'r, 'c, 'd, 'i, 's, T, E, H, R> {
-    rt: &'r R,
+struct Polling<'c, 'd, T, E, H> {
+    // The init as the poll began.
+    first: Snapshot<Option<H>>,
     mark: Mark,
     cx: &'c mut Context<'d>,
-    init: &'i mut Option<H>,
-    seat: &'s mut Option<Seat>,
+    init: Option<H>,
     value: Option<T>,
     error: Option<E>,
-    // The init was Pending, and saw to it that the task is called.
+    // The init was Pending, and saw to it that the task is called; or the task was listed with its waker.
     is_armed: bool,
     // Whom the cell handed out in this poll.
-    woke: Snapshot<Out<Seated>>,
+    woke: Snapshot<Out<ListedWaker>>,
 }
 
-impl<T: Drop, E: Drop, F, R: Wait + AllocGlobal> Side<Seated>
-    for Polling<'_, '_, '_, '_, '_, T, E, Pollable<F>, R>
-where
-    F: Future<Output: TryOutput<Ok = T, Error = E>>,
-{
+impl<T: Drop, X: Failure, I: Init<T, X>> Side<ListedWaker> for Polling<'_, '_, T, Failed<X>, I> {
     ghost use Rattle.std.specs.Prelude.{true};
     ghost use Rattle.std.proofs.Common.{rules};
-    ghost use Rattle.once_parts.specs.Sides.{HasWoken, sided_tells};
+    ghost use Rattle.std.specs.Prelude.{IsSomeAnd};
+    ghost use Rattle.once_parts.specs.Sides.{HasCopied, HasWoken, sided_tells};
     ghost use Rattle.async_once_cell.specs.Stays.{Stays, told};
-    ghost use Rattle.async_once_cell.specs.Seats.{whose};
+    ghost use Rattle.async_once_cell.specs.Listed.{WakesTask, whose};
 
     type Value = T;
 
+    type Right = Hand;
+
     ghost did = { sided_tells whose told };
+
+    ghost can_run = { λ s. (told s).has_init ≡ true };
 
     ghost can_put = { λ s. (told s).has_value ≡ true };
 
-    ghost stays = { Stays };
+    ghost stays = { Stays I.may_fail (λ e. e.error) };
 
     #[inline(always)]
-    fn run(&mut self) -> Polled {
-        let Some(pollable) = self.init.take() else {
-            return Polled::Pending;
-        };
-        let mut init = pollable.into_inner();
-        match init.poll(self.cx) {
+    fn run(&mut self, right: &mut Hand) -> Polled {
+        match I::poll_init(&mut self.init, self.cx, right) {
             Poll::Pending => {
-                *self.init = Some(Pollable::new(init));
                 self.is_armed = true;
                 Polled::Pending
             }
-            Poll::Ready(output) => match output.into_result() {
-                Ok(value) => {
-                    self.value = Some(value);
-                    Polled::Value
-                }
-                Err(error) => {
-                    self.error = Some(error);
-                    Polled::Error
-                }
-            },
+            Poll::Ready(Ok(value)) => {
+                self.value = Some(value);
+                Polled::Value
+            }
+            Poll::Ready(Err(failed)) => {
+                self.error = Some(failed);
+                Polled::Error
+            }
         }
     }
 
     #[inline(always)]
     fn close(&mut self) {
-        *self.init = None;
+        self.init = None;
     }
 
     #[inline(always)]
@@ -270,24 +324,22 @@ where
     }
 
     #[inline(always)]
-    fn copy(&mut self) -> Option<Seated> {
-        if let Some(seat) = self.seat.as_ref() {
-            return seat.share_anew(self.rt, &self.mark);
-        }
-        // Nobody can have called a new seat, so its first share is made without its lock.
-        let seat = Seat::new(self.rt.alloc()).ok()?;
-        let share = seat.share(&self.mark);
-        *self.seat = Some(seat);
-        share
+    fn copy(&mut self) -> Option<ListedWaker>
+        ensures did { HasCopied whose (told self.old) result (told self.new) }
+        ensures stays { Stays I.may_fail (λ e. e.error) self.old self.new }
+        ensures wakes { IsSomeAnd result (λ s. WakesTask s self.new.cx.now) }
+    {
+        self.is_armed = true;
+        Some(ListedWaker::new(&self.mark, self.cx))
     }
 
     #[inline(always)]
-    fn wake(&mut self, out: Out<Seated>)
+    fn wake(&mut self, out: Out<ListedWaker>)
         ensures did { HasWoken whose (told self.old) out (told self.new) }
-        ensures stays { Stays self.old self.new }
+        ensures stays { Stays I.may_fail (λ e. e.error) self.old self.new }
     {
         self.woke = Snapshot::of(&out);
-        call_all(self.rt, out);
+        drop(out);
     }
 
     ghost stays_same = { λ a. Prim.search rules };
@@ -295,18 +347,17 @@ where
     ghost stays_on = { λ a b c p q. Prim.search rules };
 }
 
-impl<T: Drop, E: Drop, F, R: Wait + AllocGlobal> TaskSide<Seated>
-    for Polling<'_, '_, '_, '_, '_, T, E, Pollable<F>, R>
-where
-    F: Future<Output: TryOutput<Ok = T, Error = E>>,
-{
+impl<T: Drop, X: Failure, I: Init<T, X>> TaskSide<ListedWaker>
+    for Polling<'_, '_, T, Failed<X>, I> {
     ghost use Rattle.async_once_cell.specs.Stays.{told};
     ghost use Rattle.once_parts.proofs.Sides.{sided_told};
-    ghost use Rattle.async_once_cell.specs.Seats.{whose};
+    ghost use Rattle.async_once_cell.specs.Listed.{whose};
 
     ghost state = { told };
 
     ghost tells = { sided_told whose told };
+
+    ghost runs = { λ s h. h };
 
     ghost puts = { λ s h. h };
 }
@@ -317,45 +368,43 @@ where
 struct Leaving<'r, T, R> {
     rt: &'r R,
     mark: Mark,
-    woke: Snapshot<Out<Seated>>,
-    // Always false: a drop brings no value.
-    has_value: bool,
+    woke: Snapshot<Out<ListedWaker>>,
     value: PhantomData<T>,
 }
 
-impl<'r, T, R: Wait + AllocGlobal> Leaving<'r, T, R> {
+impl<'r, T, R> Leaving<'r, T, R> {
     #[inline(always)]
     fn new(rt: &'r R, mark: Mark) -> Self
         ensures number { result.mark ≡ mark }
         ensures none { result.woke.value ≡ Out.One None }
-        ensures empty { result.has_value ≡ false }
     {
         Leaving {
             rt,
             mark,
             woke: Snapshot::of(&Out::One(None)),
-            has_value: false,
             value: PhantomData,
         }
     }
 }
 
-impl<T, R: Wait + AllocGlobal> Side<Seated> for Leaving<'_, T, R> {
-    ghost use Rattle.std.specs.Prelude.{◌≡◌, true, ⊤};
+impl<T, R: Wait> Side<ListedWaker> for Leaving<'_, T, R> {
+    ghost use Rattle.std.specs.Prelude.{⊤};
     ghost use Rattle.once_parts.specs.Sides.{HasWoken, sided_tells};
     ghost use Rattle.async_once_cell.specs.Stays.{leaving};
-    ghost use Rattle.async_once_cell.specs.Seats.{whose};
+    ghost use Rattle.async_once_cell.specs.Listed.{whose};
 
     type Value = T;
 
-    ghost did = { sided_tells whose leaving };
+    type Right = Hand;
 
-    ghost can_put = { λ s. s.has_value ≡ true };
+    ghost did = { sided_tells whose leaving };
 
     ghost stays = { λ _ _. ⊤ };
 
-    fn run(&mut self) -> Polled {
-        Polled::Pending
+    // Nobody calls this: a task that leaves has no init. A poll that is none could not be written down.
+    fn run(&mut self, _right: &mut Hand) -> Polled {
+        for _ in self.rt.forever() {}
+        unreachable!()
     }
 
     fn close(&mut self) {}
@@ -366,16 +415,16 @@ impl<T, R: Wait + AllocGlobal> Side<Seated> for Leaving<'_, T, R> {
         unreachable!()
     }
 
-    fn copy(&mut self) -> Option<Seated> {
+    fn copy(&mut self) -> Option<ListedWaker> {
         None
     }
 
-    fn wake(&mut self, out: Out<Seated>)
+    fn wake(&mut self, out: Out<ListedWaker>)
         ensures did { HasWoken whose (leaving self.old) out (leaving self.new) }
         ensures stays { ⊤ }
     {
         self.woke = Snapshot::of(&out);
-        call_all(self.rt, out);
+        drop(out);
     }
 
     ghost stays_same = { λ _. tt };
@@ -383,14 +432,16 @@ impl<T, R: Wait + AllocGlobal> Side<Seated> for Leaving<'_, T, R> {
     ghost stays_on = { λ _ _ _ _ _. tt };
 }
 
-impl<T, R: Wait + AllocGlobal> TaskSide<Seated> for Leaving<'_, T, R> {
+impl<T, R: Wait> TaskSide<ListedWaker> for Leaving<'_, T, R> {
     ghost use Rattle.async_once_cell.specs.Stays.{leaving};
     ghost use Rattle.once_parts.proofs.Sides.{sided_told};
-    ghost use Rattle.async_once_cell.specs.Seats.{whose};
+    ghost use Rattle.async_once_cell.specs.Listed.{whose};
 
     ghost state = { leaving };
 
     ghost tells = { sided_told whose leaving };
 
-    ghost puts = { λ s h. h };
+    ghost runs = { λ s h. tt };
+
+    ghost puts = { λ s h. tt };
 }

@@ -58,13 +58,15 @@ impl Side<u64> for Counting {
 
     type Value = ();
 
+    type Right = ();
+
     ghost stays = { λ _ _. ⊤ };
 
     ghost stays_same = { λ a. Prim.search rules };
 
     ghost stays_on = { λ a b c p q. Prim.search rules };
 
-    fn run(&mut self) -> Polled {
+    fn run(&mut self, _right: &mut ()) -> Polled {
         self.answer
     }
 

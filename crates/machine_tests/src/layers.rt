@@ -3,7 +3,7 @@
 use crate::counting::{Counting, Listed, all_called};
 use once_core::parts::{Counted, Parts, QueueLine};
 use once_core::plain::Core;
-use once_core::step::{Ending, Polled, Progress, Step};
+use once_core::step::{Ending, Polled, Progress, Side, Step};
 use once_queue::waiters::{Answer, Lists, Op, Out};
 use once_queue::word::{NEW, QINIT_BIT, READY_BIT};
 use std::alloc::Global;
@@ -152,6 +152,8 @@ impl Parts<u64> for Alone {
 
     type Value = ();
 
+    type Right = ();
+
     fn load(&mut self) -> u64 {
         NEW
     }
@@ -192,7 +194,9 @@ impl Parts<u64> for Alone {
 
     fn refuse(&mut self) {}
 
-    fn ran(&mut self, _answer: Polled) {}
+    fn run<S: Side<u64, Right = ()>>(&mut self, side: &mut S) -> Polled {
+        side.run(&mut ())
+    }
 
     fn put(&mut self, _value: ()) {}
 }

@@ -2,8 +2,8 @@
 //!
 //! `book_uses` runs the uses of `pagebook`. `layers` and `counting` call the layers one by one.
 //! `fills` and `room` have what the list of those who wait takes of memory.
-//! `parts` has the parts of a cell alone, by hand and by whole calls of tasks, and `scenes` step by step. `replay` has
-//! scripts with their records. `doubles` is for the tests of cells too.
+//! `parts` has the parts of a cell alone, by hand and by whole calls of tasks, and `scenes` step by step. `poller`
+//! polls the inits of their tasks. `replay` has scripts with their records. `doubles` is for the tests of cells too.
 #![tactic(auto)]
 
 #[cfg(test)]
@@ -19,6 +19,8 @@ mod fills;
 mod layers;
 #[cfg(test)]
 mod parts;
+#[cfg(test)]
+mod poller;
 #[cfg(test)]
 mod replay;
 #[cfg(test)]

@@ -8,13 +8,14 @@ use Rattle.once_queue.specs.Word.{flags_of}
 use Rattle.once_core.specs.declared.parts.Counted.TheVariants.{In}
 use Rattle.once_core.specs.declared.step.Polled.{Polled}
 use Rattle.once_core.specs.declared.step.Polled.TheVariants.{Pending, Value, Error}
-use Rattle.once_core.specs.Steps.{after_fast, after_in, is_resting}
-use Rattle.once_world.specs.Record.{Entry, Ran}
+use Rattle.once_queue.specs.Word.{is_ready_bit, is_zero}
+use Rattle.once_core.specs.Steps.{after_count_out, after_fast, after_in, after_load, after_quick, after_run, after_start, closing_end, is_resting, next_at, next_end, step_of_drop}
+use Rattle.once_world.specs.Record.{Begin, Entry, Ran}
 use Rattle.once_world.specs.declared.record.Ran.TheVariants.{Pending as RanPending, Value as RanValue, Error as RanError}
 use Rattle.once_world.specs.Book.{TaskState, refused_step}
 use Rattle.once_world.specs.Machine.{AtAddOne, AtCountIn, AtCountOut, AtDoorPut, AtDoorTake, AtFast, AtList, AtRun, AtStart}
-use Rattle.once_world.specs.Machine.{AtTryQuick, AtWaitLoad, Ending, Step, UnderWay, freed_entries, is_value, kept_after, next_in}
-use Rattle.once_book.specs.Kept.{Grew, IsKept, Leaves, Sheet, hand, most, sheets}
+use Rattle.once_world.specs.Machine.{AtDoorAgain, AtTryQuick, AtWaitLoad, EndMemory, Ending, Step, UnderWay, claim_entries, freed_entries, is_value, kept_after, next_in}
+use Rattle.once_book.specs.Kept.{Adds, Grew, IsKept, Leaves, Sheet, hand, most, sheets}
 use Rattle.once_book.proofs.Moments.Moves.Words.{add_moves, fast_moves, full_moves, full_page, full_told, in_moves, in_page}
 use Rattle.once_book.proofs.Moments.Moves.Words.{none_moves, none_page, none_told, out_moves, quick_moves, start_moves, wait_moves}
 use Rattle.once_book.proofs.Moments.Moves.Calls.{begun_notes, copy_notes, dropped_notes, made_notes, ran_notes, unput_notes}
@@ -23,34 +24,36 @@ use Rattle.once_book.specs.Own.{IsHand, number_in, task_in, told}
 use Rattle.once_book.specs.Acts.{Goes, Makes, Stays, Tells, Turns}
 use Rattle.once_book.specs.Places.{CanAdd, CanCountIn, CanCountOut, CanFast, CanLoad, CanRefuse, CanRun, CanTake}
 use Rattle.once_book.specs.Places.{add_next, fast_next, in_next, load_next, out_next, refused_in, run_next, take_next, unnamed}
+use Rattle.once_book.proofs.Moments.Mine.{claim_of, drop_of, freed_of, one_of, told_of}
+use Rattle.once_queue.proofs.Listing.Members.{eqb_self}
 use Rattle.once_book.proofs.Tells.{leaves_stays, leaves_turns, moves_tell, notes_tell}
 
 module _ (seen : List Entry) (t : ℕ) (x : TaskState) where
   -- the view of t
   abbrev own : View Entry Sheet
-  own = (seen, sheets (hand t x))
+  own = (seen, sheets seen (hand t x))
 
   -- a load
   load_by : (s : Step ℕ ℕ) → x.step ≡ s → CanLoad s → Moves IsKept own 0 (λ n. n) (λ n w. Goes own [] (load_next n s) w)
-  load_by (UnderWay AtStart) at can = moves_tell IsKept own 0 (λ n. n) _ _ (λ n w r. leaves_turns seen t x _ _ w r.1) (start_moves seen t x at)
-  load_by (UnderWay (AtWaitLoad q k)) at can = moves_tell IsKept own 0 (λ n. n) _ _ (λ n w r. leaves_turns seen t x _ _ w r.1) (wait_moves seen t x q k at)
+  load_by (UnderWay AtStart) at can = moves_tell IsKept own 0 (λ n. n) _ _ (λ n w r. leaves_turns seen t x _ _ w (told_of t x.kept (after_start (flags_of n).ready (is_zero (flags_of n))) [] tt) r.1) (start_moves seen t x at)
+  load_by (UnderWay (AtWaitLoad q k)) at can = moves_tell IsKept own 0 (λ n. n) _ _ (λ n w r. leaves_turns seen t x _ _ w (told_of t x.kept (after_load (flags_of n).ready q k) [] tt) r.1) (wait_moves seen t x q k at)
   load_by _ at can = absurd can
 
   -- the quick claim
   quick_own : x.step ≡ UnderWay AtTryQuick → Moves IsKept own 0 (λ n. either (n == 0) (2 ^ 62) n) (Tells Quick own)
-  quick_own at = moves_tell IsKept own 0 (λ n. either (n == 0) (2 ^ 62) n) _ _ (λ n w r. leaves_turns seen t x _ _ w r.1) (quick_moves seen t x at)
+  quick_own at = moves_tell IsKept own 0 (λ n. either (n == 0) (2 ^ 62) n) _ _ (λ n w r. leaves_turns seen t x _ _ w (told_of t x.kept (after_quick (n == 0)) (claim_entries (n == 0) t) (claim_of t (n == 0))) r.1) (quick_moves seen t x at)
 
   -- the fast release, by the value of its ending
   fast_as : (r : Bool) (s : Step ℕ ℕ) → x.step ≡ s → CanFast r s
       → Moves IsKept own 0 (λ n. either (n == 2 ^ 62) (cond r (2 ^ 63) 0) n) (λ n w. Goes own (freed_entries (n == 2 ^ 62) t x.kept) (fast_next (n == 2 ^ 62) s) w)
   fast_as r (UnderWay (AtFast e)) at can =
       subst (λ v. Moves IsKept own 0 (λ n. either (n == 2 ^ 62) (cond v (2 ^ 63) 0) n) (λ n w. Goes own (freed_entries (n == 2 ^ 62) t x.kept) (after_fast (n == 2 ^ 62) (is_value e) e) w)) can
-      (moves_tell IsKept own 0 (λ n. either (n == 2 ^ 62) (cond (is_value e) (2 ^ 63) 0) n) _ _ (λ n w r. leaves_turns seen t x _ _ w r.1) (fast_moves seen t x e at))
+      (moves_tell IsKept own 0 (λ n. either (n == 2 ^ 62) (cond (is_value e) (2 ^ 63) 0) n) _ _ (λ n w r. leaves_turns seen t x _ _ w (told_of t x.kept (after_fast (n == 2 ^ 62) (is_value e) e) (freed_entries (n == 2 ^ 62) t x.kept) (freed_of t (n == 2 ^ 62) x.kept)) r.1) (fast_moves seen t x e at))
   fast_as r _ at can = absurd can
 
   -- the addition
   add_by : (s : Step ℕ ℕ) → x.step ≡ s → CanAdd s → Moves IsKept own 0 (λ n. (n + 1) % 2 ^ 64) (λ n w. Goes own [] (add_next s) w)
-  add_by (UnderWay (AtAddOne e)) at can = moves_tell IsKept own 0 (λ n. (n + 1) % 2 ^ 64) _ _ (λ n w r. leaves_turns seen t x _ _ w r.1) (add_moves seen t x e at)
+  add_by (UnderWay (AtAddOne e)) at can = moves_tell IsKept own 0 (λ n. (n + 1) % 2 ^ 64) _ _ (λ n w r. leaves_turns seen t x _ _ w (told_of t x.kept (next_at (AtDoorAgain e)) [] tt) r.1) (add_moves seen t x e at)
   add_by _ at can = absurd can
 
   -- who counts itself out was counted
@@ -60,15 +63,15 @@ module _ (seen : List Entry) (t : ℕ) (x : TaskState) where
   -- the subtraction
   out_by : (s : Step ℕ ℕ) → x.step ≡ s → CanCountOut s → Moves IsKept own 0 (λ n. (n + (2 ^ 64 - 1)) % 2 ^ 64) (λ n w. (0 < n) × Goes own [] (out_next (n - 1) s) w)
   out_by (UnderWay (AtCountOut e)) at can =
-      moves_tell IsKept own 0 (λ n. (n + (2 ^ 64 - 1)) % 2 ^ 64) _ _ (λ n w r. (counted n r.0, leaves_turns seen t x _ _ w r.1)) (out_moves seen t x e at)
+      moves_tell IsKept own 0 (λ n. (n + (2 ^ 64 - 1)) % 2 ^ 64) _ _ (λ n w r. (counted n r.0, leaves_turns seen t x _ _ w (told_of t x.kept (after_count_out (is_ready_bit (flags_of (n - 1))) e) [] tt) r.1)) (out_moves seen t x e at)
   out_by _ at can = absurd can
 
   -- a load before an exchange, by whether there is room, and whether the value is set
   full_tells : (q n : ℕ) (b r : Bool) (w : View Entry Sheet) → (flags_of n).ready ≡ r → Leaves seen (hand t x) (full_page seen t x q n b) (full_told seen t x q n b) w
       → cond b (Stays own w) (Goes own [] (in_next (refused_in r) (UnderWay (AtCountIn q))) w)
   full_tells q n true r w e l = leaves_stays seen t x w l
-  full_tells q n false true w e l = subst (λ b. Goes own [] (next_in false b q) w) e (leaves_turns seen t x _ _ w l)
-  full_tells q n false false w e l = subst (λ b. Goes own [] (next_in false b q) w) e (leaves_turns seen t x _ _ w l)
+  full_tells q n false true w e l = subst (λ b. Goes own [] (next_in false b q) w) e (leaves_turns seen t x _ _ w (told_of t x.kept (next_in false (flags_of n).ready q) [] tt) l)
+  full_tells q n false false w e l = subst (λ b. Goes own [] (next_in false b q) w) e (leaves_turns seen t x _ _ w (told_of t x.kept (next_in false (flags_of n).ready q) [] tt) l)
 
   -- that load
   full_by : (s : Step ℕ ℕ) → x.step ≡ s → CanCountIn s
@@ -84,7 +87,10 @@ module _ (seen : List Entry) (t : ℕ) (x : TaskState) where
   -- an exchange, by whether it was done
   enter_tells : (q m : ℕ) (b : Bool) (w : View Entry Sheet) → Leaves seen (hand t x) (in_page seen t x q m b) [] w
       → cond b (Goes own [] (in_next (In m) (UnderWay (AtCountIn q))) w) (Stays own w)
-  enter_tells q m true w l = leaves_turns seen t x _ _ w (l.0, subst (λ es. Grew es seen w.0) (sym (in_told (flags_of m).ready q)) l.1)
+  enter_tells q m true w l =
+      let none = sym (in_told (flags_of m).ready q) in
+      leaves_turns seen t x _ _ w (told_of t x.kept (after_in (flags_of m).ready q) [] tt)
+      (l.0, subst (λ es. Grew es seen w.0) none l.1, subst (λ es. Adds seen (hand t x) es w.0) none l.2)
   enter_tells q m false w l = leaves_stays seen t x w l
 
   -- that exchange
@@ -96,7 +102,7 @@ module _ (seen : List Entry) (t : ℕ) (x : TaskState) where
   -- the load of the word that says whether a queue was ever put
   none_tells : (e : Ending) (b : Bool) (w : View Entry Sheet) → Leaves seen (hand t x) (none_page seen t x e b) (none_told seen t x e b) w
       → cond b (Goes own [] (take_next (UnderWay (AtDoorTake e))) w) (Stays own w)
-  none_tells e true w l = leaves_turns seen t x _ _ w l
+  none_tells e true w l = leaves_turns seen t x _ _ w (told_of t x.kept (next_end e) [] tt) l
   none_tells e false w l = leaves_stays seen t x w l
 
   -- by the place
@@ -108,26 +114,26 @@ module _ (seen : List Entry) (t : ℕ) (x : TaskState) where
   ran_by : (a : Polled) (s : Step ℕ ℕ) → x.step ≡ s → CanRun s
       → Notes IsKept own (λ w. Turns own (record x { step = (run_next a s).step; kept = kept_after (unnamed a) x.kept })
       (told t (kept_after (unnamed a) x.kept) (run_next a s) (Ran t (unnamed a) ∷ [])) w)
-  ran_by Pending (UnderWay (AtRun by)) at can = notes_tell IsKept own _ _ (λ w r. leaves_turns seen t x _ _ w r.1) (ran_notes seen t x by RanPending tt at)
-  ran_by Value (UnderWay (AtRun by)) at can = notes_tell IsKept own _ _ (λ w r. leaves_turns seen t x _ _ w r.1) (ran_notes seen t x by (RanValue 0) refl at)
-  ran_by Error (UnderWay (AtRun by)) at can = notes_tell IsKept own _ _ (λ w r. leaves_turns seen t x _ _ w r.1) (ran_notes seen t x by (RanError 0) tt at)
+  ran_by Pending (UnderWay (AtRun by)) at can = notes_tell IsKept own _ _ (λ w r. leaves_turns seen t x _ _ w (told_of t (kept_after RanPending x.kept) (after_run Pending by) (Ran t RanPending ∷ []) (one_of t (Ran t RanPending) (eqb_self t))) r.1) (ran_notes seen t x by RanPending tt at)
+  ran_by Value (UnderWay (AtRun by)) at can = notes_tell IsKept own _ _ (λ w r. leaves_turns seen t x _ _ w (told_of t (kept_after (RanValue 0) x.kept) (after_run Value by) (Ran t (RanValue 0) ∷ []) (one_of t (Ran t (RanValue 0)) (eqb_self t))) r.1) (ran_notes seen t x by (RanValue 0) refl at)
+  ran_by Error (UnderWay (AtRun by)) at can = notes_tell IsKept own _ _ (λ w r. leaves_turns seen t x _ _ w (told_of t (kept_after (RanError 0) x.kept) (after_run Error by) (Ran t (RanError 0) ∷ []) (one_of t (Ran t (RanError 0)) (eqb_self t))) r.1) (ran_notes seen t x by (RanError 0) tt at)
   ran_by a _ at can = absurd can
 
   -- the copy is refused
   refused_by : (s : Step ℕ ℕ) → x.step ≡ s → CanRefuse s → Notes IsKept own (λ w. Turns own (record x { step = refused_step s }) [] w)
-  refused_by (UnderWay (AtList q k v)) at can = notes_tell IsKept own _ _ (λ w r. leaves_turns seen t x _ _ w r.1) (copy_notes seen t x q v k at)
+  refused_by (UnderWay (AtList q k v)) at can = notes_tell IsKept own _ _ (λ w r. leaves_turns seen t x _ _ w tt r.1) (copy_notes seen t x q v k at)
   refused_by _ at can = absurd can
 
 -- what is shown for a task's hand holds of each hand that is one
-module _ (seen : List Entry) (h : Held Sheet) (is : IsHand h) where
+module _ (seen : List Entry) (h : Held Sheet) (is : IsHand seen h) where
   -- of a move
   of_hand : (k : ℕ) (f : ℕ → ℕ) (then : View Entry Sheet → ℕ → View Entry Sheet → Type 0)
-      → Moves IsKept (seen, sheets (hand (number_in h) (task_in h))) k f (then (seen, sheets (hand (number_in h) (task_in h)))) → Moves IsKept (seen, h) k f (then (seen, h))
+      → Moves IsKept (seen, sheets seen (hand (number_in h) (task_in h))) k f (then (seen, sheets seen (hand (number_in h) (task_in h)))) → Moves IsKept (seen, h) k f (then (seen, h))
   of_hand k f then m = subst (λ g. Moves IsKept (seen, g) k f (then (seen, g))) (sym is) m
 
   -- and of a note
   of_noting : (then : View Entry Sheet → View Entry Sheet → Type 0)
-      → Notes IsKept (seen, sheets (hand (number_in h) (task_in h))) (then (seen, sheets (hand (number_in h) (task_in h)))) → Notes IsKept (seen, h) (then (seen, h))
+      → Notes IsKept (seen, sheets seen (hand (number_in h) (task_in h))) (then (seen, sheets seen (hand (number_in h) (task_in h)))) → Notes IsKept (seen, h) (then (seen, h))
   of_noting then m = subst (λ g. Notes IsKept (seen, g) (then (seen, g))) (sym is) m
 
   pub load_keeps : CanLoad (task_in h).step → Moves IsKept (seen, h) 0 (λ n. n) (Tells Load (seen, h))
@@ -156,11 +162,11 @@ module _ (seen : List Entry) (h : Held Sheet) (is : IsHand h) where
 
   pub begin_keeps : is_resting (task_in h).step ≡ true → Notes IsKept (seen, h) (Tells BeginPoll (seen, h) 0)
   begin_keeps r = of_noting (λ v. Tells BeginPoll v 0)
-      (notes_tell IsKept _ _ _ (λ w l. leaves_turns seen (number_in h) (task_in h) _ _ w l.1) (begun_notes seen (number_in h) (task_in h) r))
+      (notes_tell IsKept _ _ _ (λ w l. leaves_turns seen (number_in h) (task_in h) _ _ w (one_of (number_in h) (Begin (number_in h) (number_in h)) (eqb_self (number_in h))) l.1) (begun_notes seen (number_in h) (task_in h) r))
 
   pub drop_keeps : is_resting (task_in h).step ≡ true → Notes IsKept (seen, h) (Tells BeginDrop (seen, h) 0)
   drop_keeps r = of_noting (λ v. Tells BeginDrop v 0)
-      (notes_tell IsKept _ _ _ (λ w l. leaves_turns seen (number_in h) (task_in h) _ _ w l.1) (dropped_notes seen (number_in h) (task_in h) r))
+      (notes_tell IsKept _ _ _ (λ w l. leaves_turns seen (number_in h) (task_in h) _ _ w (drop_of (number_in h) (step_of_drop (task_in h).step)) l.1) (dropped_notes seen (number_in h) (task_in h) r))
 
   pub ran_keeps : (a : Polled) → CanRun (task_in h).step → Notes IsKept (seen, h) (Tells (InitRan a) (seen, h) 0)
   ran_keeps a can = of_noting (λ v. Tells (InitRan a) v 0) (ran_by seen (number_in h) (task_in h) a (task_in h).step refl can)
@@ -171,7 +177,7 @@ module _ (seen : List Entry) (h : Held Sheet) (is : IsHand h) where
   -- where memory for a queue is refused
   pub unput_keeps : (task_in h).step ≡ UnderWay AtDoorPut → Notes IsKept (seen, h) (Tells Unput (seen, h) 0)
   unput_keeps at = of_noting (λ v. Tells Unput v 0)
-      (notes_tell IsKept _ _ _ (λ w l. leaves_turns seen (number_in h) (task_in h) _ _ w l.1) (unput_notes seen (number_in h) (task_in h) at))
+      (notes_tell IsKept _ _ _ (λ w l. leaves_turns seen (number_in h) (task_in h) _ _ w (told_of (number_in h) (task_in h).kept (closing_end EndMemory) [] tt) l.1) (unput_notes seen (number_in h) (task_in h) at))
 
 -- a task is made
 pub make_keeps : (seen : List Entry) → Notes IsKept (seen, []) (Makes (seen, []))

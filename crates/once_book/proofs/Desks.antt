@@ -1,7 +1,7 @@
 -- What lies under the lock fits its pages after each section, and the section's answer is that of the page.
 use Rattle.std.proofs.Common.{◌≡◌, ◌⊎◌, ℕ, Bool, true, false, cond, List, ◌++◌, append_assoc, Option, Some, None, refl, sym, ap, ◌∙◌, subst}
 use Rattle.std.specs.Prelude.{IsSomeAnd}
-use Rattle.std.specs.Option.{is_some, option_flatten, option_to_list}
+use Rattle.std.specs.Option.{is_some, option_flatten, option_map, option_to_list}
 use mathlib.Core.List.{IsPrefix}
 use Rattle.once_queue.specs.Numbers.{is_distinct}
 use Rattle.once_queue.specs.declared.word.Sees.{Sees}
@@ -10,26 +10,26 @@ use Rattle.once_queue.specs.declared.waiters.Lists.{Lists}
 use Rattle.once_queue.specs.declared.waiters.Answer.{Answer}
 use Rattle.once_queue.specs.declared.waiters.Answer.TheVariants.{Claimed, Listed, Held, Memory}
 use Rattle.once_queue.specs.declared.waiters.Out.{Out}
-use Rattle.once_queue.specs.Listings.{kept_ticket, left_list, next_waker, own_listing, passes_turn, tickets}
+use Rattle.once_queue.specs.Listings.{find_listing, kept_ticket, left_list, next_waker, own_listing, passes_turn, tickets}
 use Rattle.once_queue.specs.Claims.{Claims}
 use Rattle.once_queue.specs.Room.{listings_of, claimant}
-use Rattle.once_queue.specs.Sections.{DidList, Releases}
+use Rattle.once_queue.specs.Sections.{DidList, Releases, Renewed}
 use Rattle.once_core.specs.Steps.{Next}
 use Rattle.once_world.specs.Record.{Entry}
 use Rattle.once_world.specs.Book.{TaskState}
 use Rattle.once_world.specs.Machine.{AtList, AtLook, Step, UnderWay, claim_entries, is_claim, listed_ticket, release_list, release_wakers}
-use Rattle.once_book.specs.Kept.{Grew}
-use Rattle.once_book.specs.Named.{as_memory, named, named_one, named_out, ticket_left}
+use Rattle.once_book.specs.Kept.{Grew, entries_of}
+use Rattle.once_book.specs.Named.{HasRenewed, KeepsOwner, as_memory, named, named_one, named_out, ticket_left}
 use Rattle.once_book.specs.Steps.{answer_as}
 use Rattle.once_book.proofs.Moments.Looks.{look_shown}
 use Rattle.once_book.proofs.Moments.Lists.{list_shown, refusal_shown}
-use Rattle.once_book.proofs.Moments.Named.{tickets_named}
+use Rattle.once_book.proofs.Moments.Named.{find_named, named_renewed, tickets_named}
 use Rattle.once_queue.proofs.Listing.Once.{tickets_once}
 use Rattle.once_book.proofs.Moments.Releases.{left_out, left_shown, released_list, released_out}
 use Rattle.once_book.specs.Desk.{Desked, IsShown}
 use Rattle.once_book.specs.Own.{Did, Own, Stayed, told}
 use Rattle.once_book.specs.Places.{CanList, list_next, look_next}
-use Rattle.once_book.specs.Sections.{HandsEach, desk_left, desk_listed, desk_looked, desk_released, listed, looked, passing, waker_at}
+use Rattle.once_book.specs.Sections.{HandsEach, IsOwnListing, desk_left, desk_listed, desk_looked, desk_released, listed, looked, passing, waker_at}
 
 -- a beginning of a beginning
 pub prefix_on : (a b c : List Entry) → IsPrefix a b → IsPrefix b c → IsPrefix a c
@@ -41,6 +41,8 @@ did_after D N x y z s d = record {
   number = d.number ∙ s.number;
   task = d.task ∙ ap (λ (t : TaskState). record t { step = (N t).step }) s.task;
   log = subst (λ (e : ℕ × TaskState). Grew (told e.0 e.1.kept (N e.1) (D e.0 e.1)) x.log z.log) (λ i. (s.number i, s.task i)) (d.log.0, prefix_on x.log y.log d.log.0 s.log d.log.1, d.log.2);
+  mine = subst (λ (e : ℕ × TaskState). entries_of e.0 z.log ≡ entries_of e.0 x.log ++ told e.0 e.1.kept (N e.1) (D e.0 e.1)) (λ i. (s.number i, s.task i))
+      (d.mine ∙ ap (λ l. l ++ told y.number y.task.kept (N y.task) (D y.number y.task)) (ap (λ t. entries_of t y.log) s.number ∙ s.mine ∙ ap (λ t. entries_of t x.log) (sym s.number)));
 }
 
 -- after a claim it does not matter which ticket is left
@@ -129,6 +131,24 @@ module _ {W : Type 0} {g : _} (whose : W → ℕ) (l : Lists W g) (d : Desked) (
       (λ (e : Desked). IsShown whose l' (desk_listed (listed n k false e) k v e) × (answer_as (as_memory result) ≡ listed n k false e)
       × (k' ≡ ticket_left (listed n k false e) (listed_ticket (listed n k false e) k e.listings)))
       shown_is ((fits.0, s.flag, s.listings), s.answer, s.ticket)
+
+  -- after a waker was renewed, or none was
+  pub renew_fits : {N : Type 0} (renewed : N → W → N → W → Type 0) → KeepsOwner whose renewed → (n : ℕ) (s t : N) (l' : Lists W g) (b : Bool)
+      → (b ≡ true → Renewed renewed n (listings_of l) s (listings_of l') t) → (b ≡ false → listings_of l' ≡ listings_of l) → l'.head ≡ l.head → IsShown whose l' d
+  renew_fits renewed keeps n s t l' true r same flag =
+      let e = r refl in
+      (fits.0, flag ∙ fits.1, ap (named whose) e.4 ∙ named_renewed whose n e.0 e.1 (listings_of l) e.2 (keeps s e.0 t e.1 e.3) ∙ fits.2)
+  renew_fits renewed keeps n s t l' false r same flag = (fits.0, flag ∙ fits.1, ap (named whose) (same refl) ∙ fits.2)
+
+  -- it was the waker of the task whose listing it is
+  pub renew_own : {N : Type 0} (renewed : N → W → N → W → Type 0) (n m : ℕ) (s t : N) (l' : Lists W g) → IsOwnListing n m d.listings
+      → Renewed renewed n (listings_of l) s (listings_of l') t → HasRenewed whose renewed m s t
+  renew_own renewed n m s t l' own r = (
+    r.0,
+    r.1,
+    own (whose r.0) (ap (find_listing n) (sym fits.2) ∙ find_named whose n (listings_of l) ∙ ap (option_map (option_map whose)) r.2),
+    r.3,
+  )
 
   -- after a release
   pub release_fits : (same other : W → W → Type 0) → ((a b : W) → same a b → ⊥) → (r : Bool) (l' : Lists W g) (out : Out W)

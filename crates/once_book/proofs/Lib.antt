@@ -7,6 +7,8 @@
 --   Desks     what lies under the lock fits its pages after each section: `did` of `Desk`
 --   Values    a new book, and how the value is put and looked for: `put` of `Hand`; `Inner` of once_parts cites it
 --   Seen      what holds of the whole log holds of what was seen of it: `is_run`, `stays_set`, `is_set_where_answered`
+--   TwoTasks  a task has seen all of its own entries, and two tasks of one cell have two pages: `learn`, `are_two`
+--   Once      a task polls its init once at most in each call: `polls_once`
 --
 -- The other folders are named after files and functions of src. `Answers` has the proofs of goals that are left open
 -- there, and `Invariants` what a loop keeps. Where an answer has one tactic, it is there only so that an edit that
@@ -18,3 +20,5 @@ pub mod Sections
 pub mod Desks
 pub mod Values
 pub mod Seen
+pub mod TwoTasks
+pub mod Once

@@ -5,6 +5,7 @@ pub mod Named
 pub mod Looks
 pub mod Lists
 pub mod Releases
+pub mod Mine
 pub mod Forms
 pub mod Facts
 pub mod Moves

@@ -1,21 +1,23 @@
 -- A new book, the moments at which the value is put and looked for, and what shows that it is there.
-use Rattle.std.proofs.Common.{◌≡◌, ℕ, Bool, true, false, inl, List, [], ◌∷◌, ◌++◌, append_assoc, Some, reverse, slice_get, refl, sym, ap, ◌∙◌, subst}
+use Rattle.std.proofs.Common.{◌≡◌, ℕ, zero, suc, Bool, true, false, inl, List, [], ◌∷◌, ◌++◌, append_assoc, Some, None, reverse, slice_get, refl, sym, ap, ◌∙◌, subst}
 use Rattle.std.proofs.lemmas.List.{reverse-append}
 use Rattle.pagebook.specs.Pages.{Held, Moves, Sure, View}
 use Rattle.once_queue.specs.Word.{flags_of}
 use Rattle.once_world.specs.Record.{End, Entry, Once, Own as OwnersCall, is_own}
 use Rattle.once_world.specs.declared.record.Reply.TheVariants.{Value}
-use Rattle.once_world.specs.Book.{IsBook, Page, TaskState}
+use Rattle.once_world.specs.Book.{Door, IsBook, Page, Queue, TaskState}
 use Rattle.once_world.specs.Cell.{SetTo, cell, is_set}
 use Rattle.once_world.specs.Run.{IsRun}
-use Rattle.once_world.specs.Machine.{AtPut, Step, UnderWay}
+use Rattle.once_world.specs.Machine.{AtPut, EndValue, Step, UnderWay}
 use Rattle.once_world.proofs.Moment.Step.{opens}
 use Rattle.once_world.proofs.Law.Rights.{value_lasts}
 use Rattle.once_world.proofs.Shared.Worlds.{ArePlain, IsPlain}
 use Rattle.once_world.proofs.Told.Laws.{value_set_is_answered_answered}
 use Rattle.once_world.proofs.Told.Log.{log_is_plain, log_is_run}
 use Rattle.once_world.proofs.Told.Value.{ready_is_set, ready_written}
-use Rattle.once_book.specs.Kept.{IsKept, IsState, Sheet, hand, most, pages_in, sheets}
+use Rattle.once_book.specs.Kept.{IsKept, IsState, Sheet, entries_on, hand, most, pages_in, sheet, sheets}
+use Rattle.once_book.proofs.Moments.Mine.{told_of}
+use Rattle.once_core.specs.Steps.{next_at, release_place}
 use Rattle.once_book.proofs.Moments.Moves.Words.{some}
 use Rattle.once_book.proofs.Moments.Moves.Calls.{looked_moves}
 use Rattle.once_book.proofs.Moments.Moves.Slots.{put_value_moves, state_at, write_moves, writing_hand, written_state}
@@ -26,9 +28,24 @@ use Rattle.once_book.specs.Places.{CanFill, fill_next}
 use Rattle.once_book.specs.Record.{EndsSet, Looks}
 use Rattle.once_book.proofs.Tells.{leaves_turns, moves_tell}
 
+-- a page of a new cell has no entries
+opens_entries : (k : ℕ) (s : Sheet) → slice_get (desk_pages first_desk) k ≡ Some s → s.entries ≡ entries_on k []
+opens_entries zero s e = let same : sheet [] (Door 0 None) ≡ s = cc in ap (λ (s : Sheet). s.entries) (sym same)
+opens_entries (suc zero) s e = let same : sheet [] (Queue false []) ≡ s = cc in ap (λ (s : Sheet). s.entries) (sym same)
+opens_entries (suc (suc k)) s e = let no : ⊥ = cc in absurd no
+
 -- a new cell
 pub opens_kept : IsKept (0 ∷ 0 ∷ 0 ∷ []) (desk_pages first_desk) []
-opens_kept = record { word = 0; has_put = 0; state = 0; slot = false; words_are = refl; book = opens most; state_is = inl (refl, refl) }
+opens_kept = record {
+  word = 0;
+  has_put = 0;
+  state = 0;
+  slot = false;
+  words_are = refl;
+  book = opens most;
+  state_is = inl (refl, refl);
+  entries_are = opens_entries;
+}
 
 -- a look for the value
 pub look_keeps : (seen : List Entry) → Moves IsKept (seen, []) 0 (λ n. n) (λ n w. Looks (seen, []) n w)
@@ -37,17 +54,17 @@ look_keeps seen = moves_tell IsKept (seen, []) 0 (λ n. n) _ _
 
 module _ (seen : List Entry) (t : ℕ) (x : TaskState) where
   -- the task begins to write the value
-  write_by : (s : Step ℕ ℕ) → x.step ≡ s → CanFill s → Moves IsKept (seen, sheets (hand t x)) 2 (λ _. 1) (λ n w. (n ≡ 0) × Writes (seen, sheets (hand t x)) w)
-  write_by (UnderWay (AtPut by)) at can = moves_tell IsKept _ 2 (λ _. 1) _ _ (λ n w r. (r.0, (r.1, r.2))) (write_moves seen t x by at)
+  write_by : (s : Step ℕ ℕ) → x.step ≡ s → CanFill s → Moves IsKept (seen, sheets seen (hand t x)) 2 (λ _. 1) (λ n w. (n ≡ 0) × Writes (seen, sheets seen (hand t x)) w)
+  write_by (UnderWay (AtPut by)) at can = moves_tell IsKept _ 2 (λ _. 1) _ _ (λ n w r. (r.0, (r.1, r.2, r.3))) (write_moves seen t x by at)
   write_by _ at can = absurd can
 
   -- and has written it
-  put_by : (s : Step ℕ ℕ) → x.step ≡ s → CanFill s → Moves IsKept (seen, writing_hand t x) 2 (λ _. 2) (λ n w. Goes (seen, writing_hand t x) [] (fill_next s) w)
-  put_by (UnderWay (AtPut by)) at can = moves_tell IsKept _ 2 (λ _. 2) _ _ (λ n w r. leaves_turns seen t x _ _ w r) (put_value_moves seen t x by at)
+  put_by : (s : Step ℕ ℕ) → x.step ≡ s → CanFill s → Moves IsKept (seen, writing_hand seen t x) 2 (λ _. 2) (λ n w. Goes (seen, writing_hand seen t x) [] (fill_next s) w)
+  put_by (UnderWay (AtPut by)) at can = moves_tell IsKept _ 2 (λ _. 2) _ _ (λ n w r. leaves_turns seen t x _ _ w (told_of t x.kept (next_at (release_place by EndValue)) [] tt) r) (put_value_moves seen t x by at)
   put_by _ at can = absurd can
 
 -- the same of any hand that is a task's
-pub write_keeps : (seen : List Entry) (h : Held Sheet) → IsHand h → CanFill (task_in h).step → Moves IsKept (seen, h) 2 (λ _. 1) (λ n w. (n ≡ 0) × Writes (seen, h) w)
+pub write_keeps : (seen : List Entry) (h : Held Sheet) → IsHand seen h → CanFill (task_in h).step → Moves IsKept (seen, h) 2 (λ _. 1) (λ n w. (n ≡ 0) × Writes (seen, h) w)
 write_keeps seen h is can = subst (λ g. Moves IsKept (seen, g) 2 (λ _. 1) (λ n w. (n ≡ 0) × Writes (seen, g) w)) (sym is) (write_by seen (number_in h) (task_in h) (task_in h).step refl can)
 
 -- after it began to write

@@ -7,7 +7,7 @@ use Rattle.once_core.specs.Steps.{Next, after_quick, step_of_drop}
 use Rattle.once_world.specs.Record.{Begin, Entry, Made, Ran}
 use Rattle.once_world.specs.Book.{TaskState, refused_step}
 use Rattle.once_world.specs.Machine.{claim_entries, drop_entries, fresh_task, freed_entries}
-use Rattle.once_book.specs.Kept.{Grew, Sheet, hand, most, sheets, writing_sheet}
+use Rattle.once_book.specs.Kept.{Grew, Sheet, entries_of, hand, most, sheets, writing_sheet}
 use Rattle.once_book.specs.declared.act.Act.{Act}
 use Rattle.once_book.specs.declared.act.Act.TheVariants.{Load, Quick, Fast, AddOne, CountOut, Full, Enter, NonePut}
 use Rattle.once_book.specs.declared.act.Act.TheVariants.{Begin as BeginPoll, BeginDrop, Ran as InitRan, Refused, Unput}
@@ -18,7 +18,7 @@ use Rattle.once_book.specs.Places.{refused_in, task_begun, task_dropping, task_r
 
 -- the hand is the task's still, whose page has turned so
 abbrev pub Turns : View Entry Sheet → TaskState → List Entry → View Entry Sheet → Type 0
-Turns v y es w = IsHand w.1 × Turned (own_in v) y es (own_in w)
+Turns v y es w = IsHand w.0 w.1 × Turned (own_in v) y es (own_in w)
 
 -- the task did this, and goes on so
 abbrev pub Goes : View Entry Sheet → List Entry → Next ℕ ℕ → View Entry Sheet → Type 0
@@ -27,7 +27,7 @@ Goes v did next w =
 
 -- the task did nothing
 abbrev pub Stays : View Entry Sheet → View Entry Sheet → Type 0
-Stays v w = IsHand w.1 × Stayed (own_in v) (own_in w)
+Stays v w = IsHand w.0 w.1 × Stayed (own_in v) (own_in w)
 
 -- each moment
 abbrev pub Tells : Act → View Entry Sheet → ℕ → View Entry Sheet → Type 0
@@ -57,11 +57,12 @@ Tells Unput v n w = Goes v [] (put_next None) w
 
 -- a task is made, by a hand that has no page
 abbrev pub Makes : View Entry Sheet → View Entry Sheet → Type 0
-Makes v w = (t : ℕ) × (w.1 ≡ sheets (hand t fresh_task)) × Grew (Made t ∷ []) v.0 w.0
+Makes v w = (t : ℕ) × (w.1 ≡ sheets w.0 (hand t fresh_task)) × Grew (Made t ∷ []) v.0 w.0
 
 -- the slot is empty still, and the task begins to write it
 abbrev pub Writes : View Entry Sheet → View Entry Sheet → Type 0
-Writes v w = (w.1 ≡ (suc (suc (number_in v.1)), writing_sheet (task_in v.1)) ∷ []) × Grew [] v.0 w.0
+Writes v w = (w.1 ≡ (suc (suc (number_in v.1)), writing_sheet (entries_of (number_in v.1) w.0) (task_in v.1)) ∷ [])
+    × Grew [] v.0 w.0 × (entries_of (number_in v.1) w.0 ≡ entries_of (number_in v.1) v.0)
 
 -- the value is put
 abbrev pub Puts : View Entry Sheet → View Entry Sheet → Type 0

@@ -23,11 +23,11 @@ first_desk = record { made = 0; door = None; head = false; listings = [] }
 
 -- a new book has these two pages
 abbrev pub desk_pages : Desked → List Sheet
-desk_pages d = sheet (Door d.made d.door) ∷ sheet (Queue d.head d.listings) ∷ []
+desk_pages d = sheet [] (Door d.made d.door) ∷ sheet [] (Queue d.head d.listings) ∷ []
 
 -- the hand with both
 abbrev pub desk_sheets : Desked → Held Sheet
-desk_sheets d = sheets ((0, Door d.made d.door) ∷ (1, Queue d.head d.listings) ∷ [])
+desk_sheets d = sheets [] ((0, Door d.made d.door) ∷ (1, Queue d.head d.listings) ∷ [])
 
 -- what is read off a door's page
 abbrev pub made_on : Page → ℕ

@@ -7,4 +7,6 @@ pub mod Acts
 pub mod Desk
 pub mod Sections
 pub mod Hands
+pub mod Inits
 pub mod Record
+pub mod TwoTasks

@@ -1,6 +1,6 @@
 -- What a list of those who wait shows on the queue's page: the same listings.
 -- Each waker is told by the number of the task whose it is.
-use Rattle.std.specs.Prelude.{ℕ, List, [], ◌∷◌, map, Option, None}
+use Rattle.std.specs.Prelude.{◌≡◌, ℕ, List, [], ◌∷◌, map, Option, None}
 use Rattle.std.specs.Option.{option_map, option_to_list}
 use Rattle.once_queue.specs.declared.waiters.Listing.{Listing}
 use Rattle.once_queue.specs.declared.waiters.Answer.{Answer}
@@ -27,6 +27,15 @@ module _ {W : Type 0} (whose : W → ℕ) where
   abbrev pub named_out : Out W → List ℕ
   named_out (One o) = named_one o
   named_out (All X) = map whose (wakers_of X.items)
+
+module _ {W N : Type 0} (whose : W → ℕ) (renewed : N → W → N → W → Type 0) where
+  -- a waker that is renewed stays the same task's
+  abbrev pub KeepsOwner : Type 0
+  KeepsOwner = (s : N) (v : W) (t : N) (w : W) → renewed s v t w → whose w ≡ whose v
+
+  -- a waker of this task was renewed
+  abbrev pub HasRenewed : ℕ → N → N → Type 0
+  HasRenewed n s t = (v w : W) × (whose v ≡ n) × renewed s v t w
 
 -- who looks in place of listing itself, since memory was refused, could not list itself where it finds a holder
 abbrev pub as_memory : {W : Type 0} → Answer W → Answer W

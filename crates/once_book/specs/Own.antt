@@ -7,7 +7,7 @@ use Rattle.once_world.specs.Record.{Entry}
 use Rattle.once_world.specs.declared.record.Ran.{Ran as Answer}
 use Rattle.once_world.specs.Book.{At, Page, TaskState}
 use Rattle.once_world.specs.Machine.{fresh_task, progress_entries}
-use Rattle.once_book.specs.Kept.{Grew, Sheet, hand, sheets}
+use Rattle.once_book.specs.Kept.{Grew, Sheet, entries_of, hand, sheets}
 
 -- what a task knows of itself and of the log
 pub record Own : Type 0 where
@@ -30,9 +30,9 @@ abbrev pub task_in : Held Sheet → TaskState
 task_in [] = fresh_task
 task_in (e ∷ h) = task_on e.1.page
 
--- a hand has one page, which is a task's
-abbrev pub IsHand : Held Sheet → Type 0
-IsHand h = h ≡ sheets (hand (number_in h) (task_in h))
+-- a hand has one page, which is a task's, and the log has been seen so far that it has all of the task's entries
+abbrev pub IsHand : List Entry → Held Sheet → Type 0
+IsHand log h = h ≡ sheets log (hand (number_in h) (task_in h))
 
 -- what a task knows that has this view of the book
 abbrev pub own_in : View Entry Sheet → Own
@@ -52,6 +52,8 @@ pub record Turned (v : Own) (y : TaskState) (es : List Entry) (w : Own) : Type 0
   pub number : w.number ≡ v.number  -- it is the same task
   pub task : w.task ≡ y  -- y stands on its page now
   pub log : Grew es v.log w.log  -- the log grew, and its newest entries are these
+  -- they are the task's, and it added no others
+  pub mine : entries_of v.number w.log ≡ entries_of v.number v.log ++ es
 
 -- the task did this, and goes on as the table of places says
 abbrev pub Did : Own → List Entry → Next ℕ ℕ → Own → Type 0
@@ -62,3 +64,4 @@ pub record Stayed (v w : Own) : Type 0 where
   pub number : w.number ≡ v.number  -- it is the same task
   pub task : w.task ≡ v.task  -- the same stands on its page
   pub log : IsPrefix v.log w.log  -- others may have added to the log
+  pub mine : entries_of v.number w.log ≡ entries_of v.number v.log  -- and the task did not

@@ -16,7 +16,7 @@ use Rattle.once_world.specs.declared.record.Ran.TheVariants.{Error as RanError}
 use Rattle.once_world.specs.Book.{TaskState}
 use Rattle.once_world.specs.Machine.{AtStart, AtDoorGet, AtCountIn, AtWaitLoad, AtLook, AtList, AtRun, AtPut}
 use Rattle.once_world.specs.Machine.{AtFast, AtAddOne, AtDoorAgain, AtRelease, AtLeave, AtCountOut, AtDoorTake}
-use Rattle.once_world.specs.Machine.{EndValue, Step, UnderWay, is_value, kept_after}
+use Rattle.once_world.specs.Machine.{EndValue, RestWait, Resting, Step, UnderWay, is_value, kept_after}
 
 -- at another place nothing of this is done, and it is left open where that would lead
 abbrev pub nowhere : Next ℕ ℕ
@@ -146,6 +146,11 @@ release_next _ = nowhere
 abbrev pub CanLeave : ℕ → Step ℕ ℕ → Type 0
 CanLeave n (UnderWay (AtLeave q m e)) = m ≡ n
 CanLeave n _ = ⊥
+
+-- a waiter at rest has this ticket
+abbrev pub CanRest : ℕ → Step ℕ ℕ → Type 0
+CanRest n (Resting (RestWait q (Some k))) = k ≡ n
+CanRest n _ = ⊥
 
 -- to the counting out
 abbrev pub leave_next : Step ℕ ℕ → Next ℕ ℕ

@@ -1,9 +1,9 @@
 -- What is known of a record, as far as it was seen.
-use Rattle.std.specs.Prelude.{◌≡◌, ℕ, Bool, true, if◌then◌else◌, List, [], ◌∷◌, ◌++◌, Some, None, reverse}
+use Rattle.std.specs.Prelude.{◌≡◌, ℕ, Bool, true, false, if◌then◌else◌, List, [], ◌∷◌, ◌++◌, Some, None, reverse}
 use mathlib.Core.List.{IsPrefix}
 use Rattle.pagebook.specs.Pages.{View}
 use Rattle.once_queue.specs.Word.{flags_of}
-use Rattle.once_world.specs.Record.{End, Entry, Fill, Look, Once}
+use Rattle.once_world.specs.Record.{Begin, DropBegin, End, Entry, Fill, Look, Once, Ran}
 use Rattle.once_world.specs.declared.record.Reply.TheVariants.{Value}
 use Rattle.once_world.specs.Cell.{cell, is_set}
 use Rattle.once_book.specs.Kept.{Sheet}
@@ -20,6 +20,15 @@ IsSet log = is_set (cell Once (reverse log)) ≡ true
 -- its newest entry is the end of a call of t that answered the value
 abbrev pub EndsSet : ℕ → List Entry → Type 0
 EndsSet t log = (before : List Entry) × (log ≡ before ++ End t (Value 0) ∷ [])
+
+-- of the entries of one task: it polled its init once at most since each beginning of a call.
+-- The first says whether it did since the last beginning before these
+abbrev pub AreOnce : Bool → List Entry → Type 0
+AreOnce ran [] = Unit {0}
+AreOnce ran (Begin t w ∷ es) = AreOnce false es
+AreOnce ran (DropBegin t ∷ es) = AreOnce false es
+AreOnce ran (Ran t a ∷ es) = (ran ≡ false) × AreOnce true es
+AreOnce ran (_ ∷ es) = AreOnce ran es
 
 -- a look that came after all that was seen, and found the value exactly where the cell was set then
 abbrev pub Looked : Bool → List Entry → List Entry → Type 0

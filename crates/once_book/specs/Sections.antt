@@ -6,7 +6,8 @@ use Rattle.once_queue.specs.Numbers.{is_distinct}
 use Rattle.once_queue.specs.Word.{flags_of, sees, is_free}
 use Rattle.once_queue.specs.declared.waiters.Listing.{Listing}
 use Rattle.once_queue.specs.declared.waiters.Answer.{Answer as SectionAnswer}
-use Rattle.once_queue.specs.Listings.{kept_ticket, left_list, next_waker, own_listing, passes_turn, tickets, wakers_of}
+use Rattle.once_queue.specs.Listings.{find_listing, kept_ticket, left_list, next_waker}
+use Rattle.once_queue.specs.Listings.{own_listing, passes_turn, tickets, wakers_of}
 use Rattle.once_core.specs.Steps.{next_at}
 use Rattle.once_world.specs.Record.{Entry}
 use Rattle.once_world.specs.UnderLock.{head_after, is_claim, list_answer, listed_list, listed_ticket}
@@ -16,10 +17,10 @@ use Rattle.once_world.specs.Machine.{claim_entries, pass_entries, release_entry,
 use Rattle.once_book.specs.Kept.{Sheet, has_passed, hands_out, locked, sheets}
 use Rattle.once_book.specs.declared.act.Section.{Section}
 use Rattle.once_book.specs.declared.act.Section.TheVariants.{Stand, Get, Put, Found, Take}
-use Rattle.once_book.specs.declared.act.Section.TheVariants.{Look, List as ListOwn, Release, Leave}
+use Rattle.once_book.specs.declared.act.Section.TheVariants.{Look, List as ListOwn, Release, Leave, Rest}
 use Rattle.once_book.specs.Desk.{Desked, behind, desked}
 use Rattle.once_book.specs.Own.{Did, Own, Stayed, number_in, own_in, task_in}
-use Rattle.once_book.specs.Places.{CanEnter, CanGet, CanLeave, CanList, CanLook, CanTake}
+use Rattle.once_book.specs.Places.{CanEnter, CanGet, CanLeave, CanList, CanLook, CanRest, CanTake}
 use Rattle.once_book.specs.Places.{get_next, leave_next, list_next, look_next, release_next, take_next}
 
 -- what the task knows whose page lies behind the two under the lock
@@ -27,9 +28,9 @@ abbrev pub own_behind : View Entry Sheet → Own
 own_behind v = own_in (v.0, behind v.1)
 
 -- a hand has both pages, and that of a task behind them
-abbrev pub IsBoth : Held Sheet → Type 0
-IsBoth h =
-    h ≡ sheets (locked (desked h).made (desked h).door (desked h).head (desked h).listings
+abbrev pub IsBoth : List Entry → Held Sheet → Type 0
+IsBoth log h =
+    h ≡ sheets log (locked (desked h).made (desked h).door (desked h).head (desked h).listings
     (number_in (behind h)) (task_in (behind h)))
 
 -- a queue is put
@@ -85,6 +86,10 @@ more_released false false = 3 * 2 ^ 62
 abbrev pub HandsEach : Bool → List (Listing ℕ) → Type 0
 HandsEach r xs = r ≡ true → is_distinct (tickets xs) ≡ true → release_wakers true xs ≡ wakers_of xs
 
+-- the listing with the ticket has the waker of this task, where it was not called
+abbrev pub IsOwnListing : ℕ → ℕ → List (Listing ℕ) → Type 0
+IsOwnListing k t xs = (v : ℕ) → find_listing k xs ≡ Some (Some v) → v ≡ t
+
 -- each moment, by the number found in the word: of the two pages and of what the task knew, before it and after it
 abbrev pub Moment : Section → ℕ → Desked → Own → Desked → Own → Type 0
 Moment Stand n d x e y = (e ≡ d) × Stayed x y × ((q : ℕ) × (d.door ≡ Some q))
@@ -105,10 +110,11 @@ Moment (Leave k) n d x e y = (e ≡ desk_left (passing n k d) k d)
     × Did x (pass_entries x.number (option_to_list (next_waker (passing n k d) k d.listings)))
     (leave_next x.task.step) y
     × (has_passed y.number y.log ≡ hands_out (option_to_list (next_waker (passing n k d) k d.listings)))
+Moment (Rest k) n d x e y = (e ≡ d) × Stayed x y × IsOwnListing k x.number d.listings
 
 -- the same by the view: the hand has both pages and the task's still
 abbrev pub Tells : Section → View Entry Sheet → ℕ → View Entry Sheet → Type 0
-Tells s v n w = IsBoth w.1 × Moment s n (desked v.1) (own_behind v) (desked w.1) (own_behind w)
+Tells s v n w = IsBoth w.0 w.1 × Moment s n (desked v.1) (own_behind v) (desked w.1) (own_behind w)
 
 -- what may be done that no word marks, by the two pages and by where the task stands
 abbrev pub CanNote : Section → Desked → Step ℕ ℕ → Type 0
@@ -116,6 +122,7 @@ CanNote Stand d s = CanEnter s
 CanNote Get d s = CanGet s
 CanNote Found d s = (s ≡ UnderWay AtDoorPut) × (is_some d.door ≡ true)
 CanNote Take d s = CanTake s
+CanNote (Rest k) d s = CanRest k s
 CanNote _ d s = ⊥
 
 -- what may be done by a load of the word

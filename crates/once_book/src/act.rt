@@ -97,6 +97,8 @@ pub(crate) enum Section {
     Release(bool),
     /// Takes the listing with this ticket out.
     Leave(u64),
+    /// Is at rest, and comes to its listing, which has this ticket.
+    Rest(u64),
 }
 
 impl Play<Section, Line, Leaf> for Section {

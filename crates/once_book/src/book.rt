@@ -25,7 +25,7 @@ impl Model for Leaf {
 
     ghost Value = { Sheet };
 
-    ghost view = { λ _. sheet (Queue false []) };
+    ghost view = { λ _. sheet [] (Queue false []) };
 }
 
 /// The rule of a cell's book: between any two steps it is the book of a world that tasks can reach.

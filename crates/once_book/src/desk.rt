@@ -12,7 +12,7 @@ use crate::book::{CellPens, CellWord};
 use crate::hand::Hand;
 use crate::mark::TaskWaker;
 use crate::under_lock::{note, put, release, see};
-use once_queue::waiters::{Answer, Lists, Out, WakerId};
+use once_queue::waiters::{Answer, Lists, Out, Renews, WakerId};
 use once_queue::word::{QINIT_BIT, READY_BIT};
 use pagebook::Keyed;
 use std::marker::Model;
@@ -44,11 +44,11 @@ impl<W: TaskWaker + Drop> Desk<W> {
     ghost use Rattle.once_world.specs.Machine.{AtCountIn, AtDoorPut, UnderWay};
     ghost use Rattle.once_world.specs.Machine.{claim_entries, is_claim, pass_entries, release_entry};
     ghost use Rattle.once_book.specs.Kept.{has_passed, hands_out};
-    ghost use Rattle.once_book.specs.Named.{named_one, named_out};
+    ghost use Rattle.once_book.specs.Named.{HasRenewed, KeepsOwner, named_one, named_out};
     ghost use Rattle.once_book.specs.Steps.{answer_as};
     ghost use Rattle.once_book.specs.Desk.{desk_sheets, first_desk};
     ghost use Rattle.once_book.specs.Own.{Did, IsWord};
-    ghost use Rattle.once_book.specs.Places.{CanGet, CanTake, CanLook, CanList, CanRelease, CanLeave};
+    ghost use Rattle.once_book.specs.Places.{CanGet, CanTake, CanLook, CanList, CanRelease, CanLeave, CanRest};
     ghost use Rattle.once_book.specs.Places.{get_next, take_next, look_next, list_next, release_next, leave_next};
     ghost use Rattle.once_book.specs.Places.{numbered};
     ghost use Rattle.once_book.specs.Hands.{own_of};
@@ -122,14 +122,19 @@ impl<W: TaskWaker + Drop> Desk<W> {
 
     /// Claims the right where it is free, else says whether the own listing is there and was not called.
     #[inline(always)]
-    pub fn look(&mut self, word: &CellWord, hand: &mut Hand, ticket: &mut Option<u64>) -> Answer<W>
+    pub fn look(
+        &mut self,
+        word: &CellWord,
+        hand: &mut Hand,
+        ticket: &mut Option<u64>,
+    ) -> (Answer<W>, Option<W>)
         requires word { IsWord word.now hand.old.seen.book 0 }
         requires book { self.old ≡ hand.old.seen.book }
         requires can { CanLook ticket.old (own_of hand.old).task.step }
         ensures desk { self.new ≡ self.old }
         ensures book { hand.new.seen.book ≡ hand.old.seen.book }
-        ensures did { Did (own_of hand.old) (claim_entries (is_claim (answer_as result)) (own_of hand.old).number)
-            (look_next (answer_as result) ticket.new (own_of hand.old).task.waker (own_of hand.old).task.step)
+        ensures did { Did (own_of hand.old) (claim_entries (is_claim (answer_as result.0)) (own_of hand.old).number)
+            (look_next (answer_as result.0) ticket.new (own_of hand.old).task.waker (own_of hand.old).task.step)
             (own_of hand.new) }
     {
         note(&mut self.pens, hand, &Section::Stand);
@@ -149,14 +154,14 @@ impl<W: TaskWaker + Drop> Desk<W> {
         hand: &mut Hand,
         ticket: &mut Option<u64>,
         waker: &mut Option<W>,
-    ) -> Answer<W>
+    ) -> (Answer<W>, Option<W>)
         requires word { IsWord word.now hand.old.seen.book 0 }
         requires book { self.old ≡ hand.old.seen.book }
         requires can { IsSomeAnd waker.old (λ w. CanList ticket.old (W.whose w) (own_of hand.old).task.step) }
         ensures desk { self.new ≡ self.old }
         ensures book { hand.new.seen.book ≡ hand.old.seen.book }
-        ensures did { Did (own_of hand.old) (claim_entries (is_claim (answer_as result)) (own_of hand.old).number)
-            (list_next (answer_as result) ticket.new (own_of hand.old).task.step) (own_of hand.new) }
+        ensures did { Did (own_of hand.old) (claim_entries (is_claim (answer_as result.0)) (own_of hand.old).number)
+            (list_next (answer_as result.0) ticket.new (own_of hand.old).task.step) (own_of hand.new) }
     {
         note(&mut self.pens, hand, &Section::Stand);
         let Some(queue) = &mut self.lists else {
@@ -166,10 +171,34 @@ impl<W: TaskWaker + Drop> Desk<W> {
         let room = has_room(lists, *ticket);
         let found = see(word, &mut self.pens, hand, &Section::List(*ticket, room));
         if room {
-            return lists.list(ticket, waker, found);
+            return lists.list_own(ticket, waker, found);
         }
-        let answer = lists.look_own(ticket, found);
-        without_memory(answer)
+        let (answer, spent) = lists.look_own(ticket, found);
+        (without_memory(answer), spent)
+    }
+
+    /// Lets the waker of the listing of a task at rest be renewed. The answer says whether there is one. No page
+    /// changes, since the waker is the task's and stays so.
+    #[inline(always)]
+    pub fn renew<N: Renews<W>>(&mut self, hand: &mut Hand, ticket: u64, by: &mut N) -> bool
+        requires owner { KeepsOwner W.whose N.renewed }
+        requires book { self.old ≡ hand.old.seen.book }
+        requires can { CanRest ticket (own_of hand.old).task.step }
+        ensures desk { self.new ≡ self.old }
+        ensures book { hand.new.seen.book ≡ hand.old.seen.book }
+        ensures hand { own_of hand.new ≡ own_of hand.old }
+        ensures renewed { result ≡ true → HasRenewed W.whose N.renewed (own_of hand.old).number by.old by.new }
+        ensures not { result ≡ false → by.new ≡ by.old }
+    {
+        let seen = hand.seen.again();
+        note(&mut self.pens, hand, &Section::Rest(ticket));
+        // What the task knows of the record stays as it was at the end of its call.
+        hand.seen = seen;
+        let Some(queue) = &mut self.lists else {
+            return false;
+        };
+        let lists = &mut **queue;
+        lists.renew(ticket, by)
     }
 
     /// Gives the right back: with the value set, and calls all; or without, and calls one.
@@ -197,16 +226,16 @@ impl<W: TaskWaker + Drop> Desk<W> {
     /// Takes the listing with this ticket out. Where it was called and nobody holds, calls the next.
     // With this one inlined too, a section is so large that the kit inlines none.
     #[inline(never)]
-    pub fn leave(&mut self, word: &CellWord, hand: &mut Hand, ticket: u64) -> Option<W>
+    pub fn leave(&mut self, word: &CellWord, hand: &mut Hand, ticket: u64) -> (Option<W>, Option<W>)
         requires word { IsWord word.now hand.old.seen.book 0 }
         requires book { self.old ≡ hand.old.seen.book }
         requires can { CanLeave ticket (own_of hand.old).task.step }
         ensures desk { self.new ≡ self.old }
         ensures book { hand.new.seen.book ≡ hand.old.seen.book }
-        ensures did { Did (own_of hand.old) (pass_entries (own_of hand.old).number (named_one W.whose result))
+        ensures did { Did (own_of hand.old) (pass_entries (own_of hand.old).number (named_one W.whose result.0))
             (leave_next (own_of hand.old).task.step) (own_of hand.new) }
         ensures passed { has_passed (own_of hand.new).number (own_of hand.new).log
-            ≡ hands_out (named_one W.whose result) }
+            ≡ hands_out (named_one W.whose result.0) }
     {
         note(&mut self.pens, hand, &Section::Stand);
         let Some(queue) = &mut self.lists else {
@@ -214,7 +243,7 @@ impl<W: TaskWaker + Drop> Desk<W> {
         };
         let lists = &mut **queue;
         let found = see(word, &mut self.pens, hand, &Section::Leave(ticket));
-        lists.leave(ticket, found)
+        lists.leave_own(ticket, found)
     }
 }
 

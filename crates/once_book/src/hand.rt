@@ -3,39 +3,42 @@ ghost use Rattle.std.specs.Prelude.{◌≡◌, ◌^◌, if◌then◌else◌};
 ghost use Rattle.once_book.specs.Own.{IsHand};
 
 use crate::act::{Act, Makes, Puts, Writes};
+use crate::apart::{are_two, has_learned};
 use crate::book::{CellPens, CellSlot, CellWord, Record};
+use crate::mark::Mark;
+use crate::record::stays_set;
 use once_core::parts::Counted;
-use once_core::step::Polled;
+use once_core::step::{Polled, RunRight};
 use once_queue::word::{MAX_WAITERS, NEW, QINIT_BIT, READY_BIT};
 use pagebook::Written;
 
 /// What a task has of its cell's book. It has no bytes.
 #[derive(Drop)]
 pub struct Hand {
-    /// What the task has seen of the log.
-    pub seen: Record,
-    /// The pen of its page.
-    pub pens: CellPens,
+    // What the task has seen of the log.
+    pub(crate) seen: Record,
+    // The pen of its page. Whoever has it may turn the page, so nobody outside of this crate has.
+    pub(crate) pens: CellPens,
     pub ghost book_is: { pens.book ≡ seen.book },
-    pub ghost is_hand: { IsHand pens.held },
+    pub ghost is_hand: { IsHand seen.log pens.held },
 }
 
 impl Hand {
     ghost use Rattle.std.specs.Prelude.{◌==◌, ◌-◌, ◌^◌, None, true, false, if◌then◌else◌, [], ◌∷◌, reverse};
     ghost use Rattle.std.specs.Option.{MatchOption};
     ghost use Rattle.once_core.specs.Steps.{after_quick, is_resting, step_of_drop};
-    ghost use Rattle.once_world.specs.Record.{Begin, Made, Ran};
+    ghost use Rattle.once_world.specs.Record.{Begin, Made};
     ghost use Rattle.once_world.specs.Book.{refused_step};
     ghost use Rattle.once_world.specs.Machine.{AtDoorPut, AtTryQuick, UnderWay, fresh_task};
     ghost use Rattle.once_world.specs.Machine.{claim_entries, drop_entries, freed_entries};
     ghost use Rattle.once_book.specs.Kept.{Grew};
-    ghost use Rattle.once_book.specs.Own.{Did, IsWord, Stayed, Turned, told};
+    ghost use Rattle.once_book.specs.Own.{Did, IsWord, Stayed, Turned};
     ghost use Rattle.once_book.specs.Places.{CanLoad, CanFast, CanAdd, CanCountIn, CanCountOut, CanTake};
-    ghost use Rattle.once_book.specs.Places.{CanRun, CanFill, CanRefuse};
+    ghost use Rattle.once_book.specs.Places.{CanFill, CanRefuse};
     ghost use Rattle.once_book.specs.Places.{load_next, fast_next, add_next, in_next, out_next};
-    ghost use Rattle.once_book.specs.Places.{put_next, take_next, run_next, fill_next};
-    ghost use Rattle.once_book.specs.Places.{task_begun, task_dropping, task_run, unnamed};
-    ghost use Rattle.once_book.specs.Hands.{own_of};
+    ghost use Rattle.once_book.specs.Places.{put_next, take_next, fill_next};
+    ghost use Rattle.once_book.specs.Places.{task_begun, task_dropping};
+    ghost use Rattle.once_book.specs.Hands.{HasRight, HasRun, own_of};
 
     /// A new task's, by what was seen of the log before.
     #[inline(always)]
@@ -189,15 +192,27 @@ impl Hand {
         self.seen.note::<Act, Act>(&mut self.pens, &Act::BeginDrop);
     }
 
-    /// The init answered so.
+    /// What the task has seen of the log.
     #[inline(always)]
-    pub fn ran(&mut self, answer: Polled)
-        requires can { CanRun (own_of self.old).task.step }
-        ensures book { self.new.seen.book ≡ self.old.seen.book }
-        ensures did { Turned (own_of self.old) (task_run answer (own_of self.old).task)
-            (told (own_of self.old).number (task_run answer (own_of self.old).task).kept
-            (run_next answer (own_of self.old).task.step)
-            (Ran (own_of self.old).number (unnamed answer) ∷ [])) (own_of self.new) }
+    pub fn seen(&self) -> &Record
+        ensures { result.now ≡ self.now.seen }
+    {
+        &self.seen
+    }
+
+    /// The number of the task.
+    #[inline(always)]
+    pub fn mark(&self) -> Mark
+        ensures { result ≡ (own_of self.now).number }
+    {
+        Mark::of(&self.pens)
+    }
+
+    // The init was polled, and answered so. Who polls it says this: see `pollable`.
+    #[inline(always)]
+    pub(crate) fn ran(&mut self, answer: Polled)
+        requires right { HasRight self.old }
+        ensures ran { HasRun self.old answer self.new }
     {
         self.seen
             .note::<Act, Act>(&mut self.pens, &Act::Ran(answer));
@@ -235,6 +250,62 @@ impl Hand {
     {
         slot.put::<(), Writes, Puts>(value, &(), &mut self.seen, &mut self.pens)
     }
+}
+
+impl Hand {
+    ghost use Rattle.std.specs.Prelude.{◌≢◌};
+    ghost use mathlib.Core.List.{IsPrefix};
+    ghost use Rattle.once_book.specs.Hands.{own_of};
+    ghost use Rattle.once_book.specs.Kept.{entries_of};
+    ghost use Rattle.once_book.specs.Record.{IsSet};
+
+    /// The task learns what a record of its cell has.
+    #[inline(always)]
+    pub fn learn(&mut self, seen: &Record)
+        requires book { seen.now.book ≡ self.old.seen.book }
+        ensures book { self.new.seen.book ≡ self.old.seen.book }
+        ensures number { (own_of self.new).number ≡ (own_of self.old).number }
+        ensures task { (own_of self.new).task ≡ (own_of self.old).task }
+        ensures log { IsPrefix (own_of self.old).log (own_of self.new).log
+            × IsPrefix seen.now.log (own_of self.new).log }
+        ensures mine { entries_of (own_of self.old).number (own_of self.new).log
+            ≡ entries_of (own_of self.old).number (own_of self.old).log }
+        ensures own_set { IsSet (own_of self.old).log → IsSet (own_of self.new).log }
+        ensures other_set { IsSet seen.now.log → IsSet (own_of self.new).log }
+    {
+        let before = self.seen.again();
+        self.seen.learn(seen);
+        has_learned(&mut self.seen, &mut self.pens);
+        stays_set(&before, &self.seen);
+        stays_set(seen, &self.seen);
+    }
+
+    /// Shows that two hands of one book are of two tasks. It does nothing, but that the first may learn more of the
+    /// record.
+    #[inline(always)]
+    pub fn are_two(a: &mut Hand, b: &mut Hand)
+        requires book { b.old.seen.book ≡ a.old.seen.book }
+        ensures book { (a.new.seen.book ≡ a.old.seen.book) × (b.new.seen.book ≡ b.old.seen.book) }
+        ensures number { (own_of a.new).number ≡ (own_of a.old).number }
+        ensures task { (own_of a.new).task ≡ (own_of a.old).task }
+        ensures log { IsPrefix (own_of a.old).log (own_of a.new).log }
+        ensures set { IsSet (own_of a.old).log → IsSet (own_of a.new).log }
+        ensures other { own_of b.new ≡ own_of b.old }
+        ensures two { (own_of a.new).number ≢ (own_of b.new).number }
+    {
+        let before = a.seen.again();
+        are_two(&mut a.seen, &mut a.pens, &mut b.pens);
+        stays_set(&before, &a.seen);
+    }
+}
+
+/// A hand shows the right where its task stands at the place where it polls its init.
+impl RunRight for Hand {
+    ghost use Rattle.once_book.specs.Hands.{HasRight, HasRun};
+
+    ghost can = { HasRight };
+
+    ghost ran = { HasRun };
 }
 
 // The word that a fast release leaves.

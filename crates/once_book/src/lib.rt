@@ -11,10 +11,12 @@
 #![tactic(auto)]
 
 pub mod act;
+mod apart;
 pub mod book;
 pub mod desk;
 pub mod hand;
 pub mod mark;
+pub mod pollable;
 pub mod record;
 mod under_lock;
 
@@ -22,3 +24,4 @@ pub use book::{CellRule, Leaf, Line, Record};
 pub use desk::Desk;
 pub use hand::Hand;
 pub use mark::{Mark, TaskWaker};
+pub use pollable::{Pollable, Splits, poll_init};

@@ -5,8 +5,8 @@ use Rattle.once_core.specs.Steps.{AtRun, AtPut, AtFast, AtAddOne, AtDoorAgain, A
 use Rattle.once_core.specs.Steps.{Step, Resting, UnderWay, Finished}
 use Rattle.once_core.specs.Steps.{Asks, AsksAt, asks_nothing}
 
-module _ {P S W Q : Type 0} (can_put : S → Type 0) (puts : (s : S) → can_put s) (limit : ℕ) (p : P) (s : S) where
-  asked_at : (at : Place W Q) → AsksAt asks_nothing can_put limit at p s
+module _ {P S W Q : Type 0} (can_run can_put : S → Type 0) (runs : (s : S) → can_run s) (puts : (s : S) → can_put s) (limit : ℕ) (p : P) (s : S) where
+  asked_at : (at : Place W Q) → AsksAt asks_nothing can_run can_put limit at p s
   asked_at AtStart = tt
   asked_at AtTryQuick = tt
   asked_at AtDoorGet = tt
@@ -15,7 +15,7 @@ module _ {P S W Q : Type 0} (can_put : S → Type 0) (puts : (s : S) → can_put
   asked_at (AtWaitLoad q k) = tt
   asked_at (AtLook q k) = tt
   asked_at (AtList q k w) = tt
-  asked_at (AtRun by) = λ a. tt
+  asked_at (AtRun by) = (tt, runs s)
   asked_at (AtPut by) = (tt, puts s)
   asked_at (AtFast e) = tt
   asked_at (AtAddOne e) = tt
@@ -25,7 +25,7 @@ module _ {P S W Q : Type 0} (can_put : S → Type 0) (puts : (s : S) → can_put
   asked_at (AtCountOut e) = tt
   asked_at (AtDoorTake e) = tt
 
-  pub asked : (at : Step W Q) → Asks asks_nothing can_put limit at p s
+  pub asked : (at : Step W Q) → Asks asks_nothing can_run can_put limit at p s
   asked (UnderWay at) = asked_at at
   asked (Resting r) = tt
   asked Finished = tt

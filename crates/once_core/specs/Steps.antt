@@ -303,7 +303,7 @@ pub record PartsAsk (P W Q : Type 0) : Type 1 where
   pub door_take : P → Type 0
   pub section : P → Q → Op W → Type 0
   pub refuse : P → Type 0
-  pub ran : P → Polled → Type 0
+  pub ran : P → Type 0
   pub put : P → Type 0
 
 -- nothing is asked
@@ -320,11 +320,11 @@ asks_nothing = record {
   door_take = λ _. Unit {0};
   section = λ _ _ _. Unit {0};
   refuse = λ _. Unit {0};
-  ran = λ _ _. Unit {0};
+  ran = λ _. Unit {0};
   put = λ _. Unit {0};
 }
 
-module _ {P S W Q : Type 0} (parts : PartsAsk P W Q) (can_put : S → Type 0) (limit : ℕ) where
+module _ {P S W Q : Type 0} (parts : PartsAsk P W Q) (can_run can_put : S → Type 0) (limit : ℕ) where
   -- what the calls of a place ask of the parts and of the side
   abbrev pub AsksAt : Place W Q → P → S → Type 0
   AsksAt AtStart p s = parts.load p
@@ -335,7 +335,7 @@ module _ {P S W Q : Type 0} (parts : PartsAsk P W Q) (can_put : S → Type 0) (l
   AsksAt (AtWaitLoad q k) p s = parts.load p
   AsksAt (AtLook q k) p s = parts.section p q (LookOp k)
   AsksAt (AtList q k w) p s = parts.section p q (ListOp k (Some w))
-  AsksAt (AtRun by) p s = (a : Polled) → parts.ran p a
+  AsksAt (AtRun by) p s = parts.ran p × can_run s
   AsksAt (AtPut by) p s = parts.put p × can_put s
   AsksAt (AtFast e) p s = parts.fast p (is_value e)
   AsksAt (AtAddOne e) p s = parts.add_one p

@@ -1,7 +1,7 @@
 //! What a step touches of all that the tasks of a cell share.
 ghost use Rattle.std.specs.Prelude.{◌≡◌, ◌≤◌, ◌-◌, ◌^◌, true};
 
-use crate::step::Polled;
+use crate::step::{Polled, RunRight, Side};
 pub use once_queue::log::QueueLine;
 use once_queue::waiters::{Answer, Op};
 
@@ -17,7 +17,7 @@ pub enum Counted {
 }
 
 /// The word, the door and the queue of a cell, and the place of its value. Each call is one step, but for
-/// [`refuse`](Self::refuse) and [`ran`](Self::ran), which tell the parts what the side answered in a step.
+/// [`refuse`](Self::refuse), which tells the parts what the side answered in a step.
 /// `can` has for each call what it asks, and `did` what it answers and leaves; where one is left out, it says
 /// nothing of any call.
 pub trait Parts<W> {
@@ -26,6 +26,9 @@ pub trait Parts<W> {
 
     /// What an init gives, where the parts keep it.
     type Value;
+
+    /// What shows that a task has the right to run its init.
+    type Right: RunRight;
 
     ghost use Rattle.once_core.specs.Steps.{PartsAsk, PartsTell, asks_nothing, tells_nothing, wants_copy};
     ghost use Rattle.once_queue.specs.Ops.{HasWaker};
@@ -96,10 +99,13 @@ pub trait Parts<W> {
         requires { can.refuse self.old }
         ensures { did.refuse self.old self.new };
 
-    /// Is told what the init answered, before it is dropped.
-    fn ran(&mut self, answer: Polled)
-        requires { can.ran self.old answer }
-        ensures { did.ran self.old answer self.new };
+    /// Has the side poll its init, with what shows that the task has the right.
+    fn run<S: Side<W, Right = Self::Right>>(&mut self, side: &mut S) -> Polled
+        requires can { can.ran self.old }
+        requires init { S.can_run side.old }
+        ensures did { did.ran self.old result self.new }
+        ensures ran { S.did.run side.old result side.new }
+        ensures stays { S.stays side.old side.new };
 
     /// Sets the value that the init gave.
     fn put(&mut self, value: Self::Value)

@@ -5,7 +5,7 @@ ghost use Rattle.std.specs.Prelude.{◌≡◌, ◌<◌, ◌≤◌, ◌+◌, ◌-
 ghost use Rattle.std.specs.Prelude.{Some, None, Option, OnOk, IsSome, IsTrue, ◌↔◌, not, vec_len, vec_capacity};
 
 use crate::parts::{Counted, Parts, QueueLine};
-use crate::step::Polled;
+use crate::step::{Polled, Side};
 use once_queue::waiters::{Answer, Lists, Op, Out, WakerId};
 use once_queue::word::Word;
 use std::alloc::{AllocError, Global};
@@ -199,6 +199,9 @@ impl<W: WakerId + Drop> Parts<W> for Core<W> {
     // The side of a task keeps the value.
     type Value = ();
 
+    // One caller steps all tasks, so nothing shows the right.
+    type Right = ();
+
     ghost can = { record asks_nothing {
       add_one = λ s. s.word.count < 2 ^ 62 - 1;
       count_out = λ s. 0 < s.word.count;
@@ -294,7 +297,9 @@ impl<W: WakerId + Drop> Parts<W> for Core<W> {
 
     fn refuse(&mut self) {}
 
-    fn ran(&mut self, _answer: Polled) {}
+    fn run<S: Side<W, Right = ()>>(&mut self, side: &mut S) -> Polled {
+        side.run(&mut ())
+    }
 
     fn put(&mut self, _value: ()) {}
 }

@@ -57,6 +57,24 @@ pub enum Progress {
     Ended(Ending),
 }
 
+/// What shows that whoever has it has the right to run its init, and what takes down how the init answered.
+pub trait RunRight {
+    // The init may be run.
+    ghost can: { Self → Type 0 };
+
+    // The init was polled, and its answer was taken down.
+    ghost ran: { Self → Polled → Self → Type 0 };
+}
+
+/// The right of a task that one caller steps: nothing has to be shown or taken down.
+impl RunRight for () {
+    ghost use Rattle.std.specs.Prelude.{⊤};
+
+    ghost can = { λ _. ⊤ };
+
+    ghost ran = { λ _ _ _. ⊤ };
+}
+
 /// What a call brings of its own: its init, the value or error that this gave, and its waker. `did` has for each
 /// call what it answers and leaves; where it is left out, it says nothing of any call. All of these calls keep
 /// `stays`.
@@ -64,11 +82,17 @@ pub trait Side<W> {
     /// What the init gives, where the parts keep it.
     type Value;
 
+    /// What shows that the task has the right.
+    type Right: RunRight;
+
     ghost use Rattle.std.specs.Prelude.{⊤};
     ghost use Rattle.once_core.specs.Steps.{SideTells, side_tells_nothing};
 
     // What each call answers and leaves.
     ghost did: { SideTells Self W } = { side_tells_nothing };
+
+    // What `run` asks.
+    ghost can_run: { Self → Type 0 } = { λ _. ⊤ };
 
     // What `put` asks.
     ghost can_put: { Self → Type 0 } = { λ _. ⊤ };
@@ -76,9 +100,11 @@ pub trait Side<W> {
     // What each call keeps, from the side before it to the side after.
     ghost stays: { Self → Self → Type 0 };
 
-    /// Polls the init once, and keeps a value or an error that it gave. Where the init was dropped
-    /// before, the answer is Pending.
-    fn run(&mut self) -> Polled
+    /// Polls the init once, with what shows the right, and keeps a value or an error that it gave.
+    fn run(&mut self, right: &mut Self::Right) -> Polled
+        requires init { can_run self.old }
+        requires right { Self.Right.can right.old }
+        ensures ran { Self.Right.ran right.old result right.new }
         ensures did { did.run self.old result self.new }
         ensures stays { stays self.old self.new };
 
@@ -246,7 +272,7 @@ impl<W: Drop, Q: Drop> Step<W, Q> {
     // A queue is taken out first. A place that keeps none is only looked at. A holder's place stays: its queue
     // alone is taken out of it.
     #[inline(always)]
-    pub fn advance<P: Parts<W, Queue = Q>, S: Side<W, Value = P::Value>>(
+    pub fn advance<P: Parts<W, Queue = Q>, S: Side<W, Value = P::Value, Right = P::Right>>(
         &mut self,
         parts: &mut P,
         side: &mut S,
@@ -254,7 +280,7 @@ impl<W: Drop, Q: Drop> Step<W, Q> {
     ) -> Progress
         requires call { in_call self.old ≡ true }
         requires limit { limit ≤ 2 ^ 62 - 2 }
-        requires asks { Asks P.can S.can_put limit self.old parts.old side.old }
+        requires asks { Asks P.can S.can_run S.can_put limit self.old parts.old side.old }
         ensures lower { left_of self.new < left_of self.old }
         ensures line { Advances P.did S.did limit self.old parts.old side.old result self.new parts.new side.new }
         ensures stays { S.stays side.old side.new }
@@ -412,20 +438,18 @@ impl<W: Drop, Q: Drop> Step<W, Q> {
     }
 
     #[inline(always)]
-    fn run<P: Parts<W, Queue = Q>, S: Side<W>>(
+    fn run<P: Parts<W, Queue = Q>, S: Side<W, Right = P::Right>>(
         &mut self,
         by: Option<Q>,
         parts: &mut P,
         side: &mut S,
     ) -> Progress
-        requires { (a : Polled) → P.can.ran parts.old a }
+        requires { P.can.ran parts.old × S.can_run side.old }
         ensures line { (a : Polled) × (m : S) × S.did.run side.old a m × P.did.ran parts.old a parts.new
             × Follows S.did.close (after_run a by) m side.new result self.new }
         ensures stays { S.stays side.old side.new }
     {
-        let answer = side.run();
-        parts.ran(answer);
-        match answer {
+        match parts.run(side) {
             Polled::Pending => self.rest(Rest::Run(by)),
             Polled::Value => {
                 side.close();

@@ -3,6 +3,7 @@
 --   Sides     what the calls of a side tell, by what is told of the side; those who write sides cite it
 --   Idles     what a task is at between two calls, and the step that stands for it
 --   Walk      a whole call, step by step along the table: `end` and `woke` of `Task::poll` and `Task::leave`
+--   Late      a poll that began where the cell was set ended with the value: `set` of `Task::poll`
 --
 -- The other folders are named after files and functions of src. `Answers` has the proofs of goals that are left open
 -- there, and `Invariants` what a loop keeps. Where an answer has one tactic, it is there only so that an edit that
@@ -11,3 +12,4 @@ pub mod Refusals
 pub mod Sides
 pub mod Idles
 pub mod Walk
+pub mod Late

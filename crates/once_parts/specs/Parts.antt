@@ -30,7 +30,7 @@ module _ {P W : Type 0} (cell : P → Placed) (own : P → Own) (whose : W → �
     door_take = λ s. CanTake (own s).task.step;
     section = λ s q op. CanSection whose op (own s).task.step;
     refuse = λ s. CanRefuse (own s).task.step;
-    ran = λ s a. CanRun (own s).task.step;
+    ran = λ s. CanRun (own s).task.step;
     put = λ s. CanFill (own s).task.step;
   }
 

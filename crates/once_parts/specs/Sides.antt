@@ -1,7 +1,7 @@
--- What is told of a task's own side: whether its init gave something, and who was handed to it.
-use Rattle.std.specs.Prelude.{◌≡◌, ℕ, Bool, true, List, [], Option, IfSome}
+-- What is told of a task's own side: whether its init is there and gave something, and who was handed to it.
+use Rattle.std.specs.Prelude.{◌≡◌, ℕ, Bool, true, false, List, [], Option, IfSome}
 use Rattle.once_core.specs.declared.step.Polled.{Polled}
-use Rattle.once_core.specs.declared.step.Polled.TheVariants.{Value, Error}
+use Rattle.once_core.specs.declared.step.Polled.TheVariants.{Pending, Value, Error}
 use Rattle.once_queue.specs.declared.waiters.Out.{Out}
 use Rattle.once_core.specs.Steps.{SideTells}
 use Rattle.once_book.specs.Named.{named_out}
@@ -9,6 +9,7 @@ use Rattle.once_book.specs.Named.{named_out}
 -- a side
 pub record Sided : Type 0 where
   pub number : ℕ  -- the number of its task
+  pub has_init : Bool  -- whether its init is there
   pub has_value : Bool  -- whether it has a value that the init gave
   pub has_error : Bool  -- whether it has an error that the init gave
   pub woke : List ℕ  -- the tasks whose wakers were handed to it in this call
@@ -17,8 +18,13 @@ pub record Sided : Type 0 where
 pub record HasRun (x : Sided) (a : Polled) (y : Sided) : Type 0 where
   pub number : y.number ≡ x.number  -- the task is the same
   pub woke : y.woke ≡ x.woke  -- nobody was handed out
+  pub init : a ≡ Pending → y.has_init ≡ x.has_init  -- an init that is pending stays there
   pub value : a ≡ Value → y.has_value ≡ true  -- the value that the init gave is there
   pub error : a ≡ Error → y.has_error ≡ true  -- the error that the init gave is there
+
+-- the init was dropped
+abbrev pub HasClosed : Sided → Sided → Type 0
+HasClosed x y = y ≡ record x { has_init = false }
 
 -- the value was given away
 pub record HasPut (x y : Sided) : Type 0 where
@@ -40,7 +46,7 @@ module _ {S W : Type 0} (whose : W → ℕ) (state : S → Sided) where
   abbrev pub sided_tells : SideTells S W
   sided_tells = record {
     run = λ s a t. HasRun (state s) a (state t);
-    close = λ s t. state t ≡ state s;
+    close = λ s t. HasClosed (state s) (state t);
     put = λ s t. HasPut (state s) (state t);
     copy = λ s c t. HasCopied whose (state s) c (state t);
     wake = λ s out t. HasWoken whose (state s) out (state t);
@@ -49,7 +55,7 @@ module _ {S W : Type 0} (whose : W → ℕ) (state : S → Sided) where
   -- a side tells this of each of its calls
   pub record IsTold (side : SideTells S W) : Type 0 where
     pub run : (s : S) (a : Polled) (t : S) → side.run s a t → HasRun (state s) a (state t)
-    pub close : (s t : S) → side.close s t → state t ≡ state s
+    pub close : (s t : S) → side.close s t → HasClosed (state s) (state t)
     pub put : (s t : S) → side.put s t → HasPut (state s) (state t)
     pub copy : (s : S) (c : Option W) (t : S) → side.copy s c t → HasCopied whose (state s) c (state t)
     pub wake : (s : S) (out : Out W) (t : S) → side.wake s out t → HasWoken whose (state s) out (state t)

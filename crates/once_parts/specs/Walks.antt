@@ -6,11 +6,11 @@ use Rattle.once_world.specs.Places.{Progress, More, Ended, Step, Resting, UnderW
 use Rattle.once_world.specs.Places.{Place, AtPut, AtFast, AtAddOne, AtDoorAgain, AtRelease, AtLeave}
 use Rattle.once_world.specs.Places.{AtCountOut, AtDoorTake}
 use Rattle.once_core.specs.Steps.{is_resting}
-use Rattle.once_world.specs.Record.{DropEnd, End, Entry, handed_by}
+use Rattle.once_world.specs.Record.{Begin, Claim, DropEnd, End, Entry, Fill, Free, Pass, Ran, handed_by}
 use Rattle.once_world.specs.declared.record.Ran.TheVariants.{Error as RanError}
 use Rattle.once_world.specs.declared.record.Reply.TheVariants.{Error, Full, Memory, Pending, Value}
 use Rattle.once_world.specs.Machine.{progress_entries}
-use Rattle.once_book.specs.Kept.{Grew}
+use Rattle.once_book.specs.Kept.{Grew, entries_of}
 use Rattle.once_book.specs.Steps.{StandsForStep}
 use Rattle.once_book.specs.Own.{Own}
 use Rattle.once_parts.specs.Sides.{Sided}
@@ -20,10 +20,36 @@ abbrev pub handed : List Entry → List ℕ
 handed [] = []
 handed (e ∷ es) = handed_by e ++ handed es
 
--- the log grew by these entries, in this order; before, between and after them others may stand, of any task
-abbrev pub GrewBy : List Entry → List Entry → List Entry → Type 0
-GrewBy [] old new = IsPrefix old new
-GrewBy (e ∷ es) old new = (before : List Entry) × IsPrefix old before × GrewBy es (before ++ e ∷ []) new
+-- a task does this in a call, between its beginning and its end
+abbrev pub is_mid : Entry → Bool
+is_mid (Claim t) = true
+is_mid (Ran t a) = true
+is_mid (Free t X) = true
+is_mid (Fill t v X) = true
+is_mid (Pass t X) = true
+is_mid _ = false
+
+-- each of these entries is of that kind
+abbrev pub AreMid : List Entry → Type 0
+AreMid [] = Unit {0}
+AreMid (e ∷ es) = (is_mid e ≡ true) × AreMid es
+
+-- the task t made one call, which began and ended so: those are its own entries since then, and between them these
+pub record IsCall (t : ℕ) (begin end : Entry) (mid old new : List Entry) : Type 0 where
+  pub own : entries_of t new ≡ entries_of t old ++ (begin ∷ (mid ++ end ∷ []))
+  pub between : AreMid mid
+
+-- the same, where it is not said what it did between
+pub record IsOneCall (t : ℕ) (begin end : Entry) (old new : List Entry) : Type 0 where
+  pub mid : List Entry  -- what it did between
+  pub is : IsCall t begin end mid old new  -- its own entries since then
+
+-- a poll of t began after all that was seen before, and this entry, with which it ends, is the newest
+pub record Spans (t : ℕ) (e : Entry) (old new : List Entry) : Type 0 where
+  pub before : List Entry  -- what stood in the record as it began
+  pub since : List Entry  -- what came between
+  pub after : IsPrefix old before
+  pub is : new ≡ before ++ Begin t t ∷ (since ++ e ∷ [])
 
 -- how a call may end: a drop as dropped, and a poll with an error that its own init gave, or otherwise
 abbrev pub MayEnd : Bool → Sided → Own → Ending → Type 0
@@ -38,6 +64,10 @@ MayEnd false x v e = Unit {0}
 abbrev pub HasBegun : Bool → Sided → Own → Type 0
 HasBegun drops x v = (drops ≡ false) × (x.woke ≡ []) × (v.task.waker ≡ v.number)
 
+-- the same, and the init is there still
+abbrev pub GoesOn : Bool → Sided → Own → Type 0
+GoesOn drops x v = HasBegun drops x v × (x.has_init ≡ true)
+
 module _ {W Q : Type 0} (drops : Bool) (x : Sided) (v : Own) where
   -- what holds at each place of a call, by whether it is a drop
   abbrev pub FitsAt : Place W Q → Type 0
@@ -49,12 +79,12 @@ module _ {W Q : Type 0} (drops : Bool) (x : Sided) (v : Own) where
   FitsAt (AtLeave q n e) = (x.woke ≡ []) × MayEnd drops x v e
   FitsAt (AtCountOut e) = MayEnd drops x v e
   FitsAt (AtDoorTake e) = MayEnd drops x v e
-  FitsAt _ = HasBegun drops x v
+  FitsAt _ = GoesOn drops x v
 
   -- the same of a step, and of what was told of the call
   abbrev pub Fits : Progress → Step W Q → Type 0
   Fits r (UnderWay p) = (r ≡ More) × FitsAt p
-  Fits r (Resting rest) = (r ≡ Ended EndPending) × HasBegun drops x v
+  Fits r (Resting rest) = (r ≡ Ended EndPending) × GoesOn drops x v
   Fits r Finished = (e : Ending) × (r ≡ Ended e) × MayEnd drops x v e
 
 -- there is one queue, so the code keeps nothing of it where the page has its number
@@ -76,8 +106,10 @@ pub record Stands {W : Type 0} (whose : W → ℕ) (drops : Bool) (x : Sided) (v
 pub record Walked (x : Sided) (v : Own) (r : Progress) (y : Sided) (w : Own) : Type 0 where
   pub number : w.number ≡ v.number  -- it is the same task
   pub ends : Grew (progress_entries r w.number 0 w.task.kept) v.log w.log  -- an end is the newest entry
-  -- some of the entries that came name just those who were handed to the side
-  pub made : (es : List Entry) × GrewBy es v.log w.log × (y.woke ≡ x.woke ++ handed es)
+  -- those who were handed to the side are those whom the entries of the steps name
+  pub made : (mid : List Entry) × AreMid mid
+      × (entries_of v.number w.log ≡ entries_of v.number v.log ++ (mid ++ progress_entries r w.number 0 w.task.kept))
+      × (y.woke ≡ x.woke ++ handed mid)
 
 -- the task rests, and the code's step stands for the page's
 abbrev pub Rests : {W : Type 0} → (W → ℕ) → Own → Step W ⊤ → Type 0

@@ -10,6 +10,7 @@ ghost use Rattle.once_parts.specs.Idle.{step_of};
 use crate::idle::Idle;
 use crate::shared::Shared;
 use crate::side::TaskSide;
+use once_book::hand::Hand;
 use once_book::mark::TaskWaker;
 use once_core::step::{Ending, Progress, Step};
 use once_queue::word::MAX_WAITERS;
@@ -18,12 +19,12 @@ use std::sync::Wait;
 
 /// Makes the steps that are left of a poll, keeps where the next call begins, and answers how the poll ended.
 #[inline(never)]
-pub(crate) fn steps_left<T, W: TaskWaker + Drop, R: Wait + AllocGlobal, S: TaskSide<W, Value = T>>(
-    parts: &mut Shared<'_, '_, T, W, R>,
-    idle: &mut Idle,
-    step: Step<W, ()>,
-    side: &mut S,
-) -> Ending
+pub(crate) fn steps_left<
+    T,
+    W: TaskWaker + Drop,
+    R: Wait + AllocGlobal,
+    S: TaskSide<W, Value = T, Right = Hand>,
+>(parts: &mut Shared<'_, '_, T, W, R>, idle: &mut Idle, step: Step<W, ()>, side: &mut S) -> Ending
     requires stands { Stands W.whose false (S.state side.old) (own parts.old) Progress.More step }
     ensures cell { cell_of parts.new ≡ cell_of parts.old }
     ensures walked { (x : Sided) → (v : Own) → Walked x v Progress.More (S.state side.old) (own parts.old)
@@ -47,7 +48,12 @@ pub(crate) fn steps_left<T, W: TaskWaker + Drop, R: Wait + AllocGlobal, S: TaskS
 /// }
 /// ```
 #[inline(always)]
-pub fn one_step<T, W: TaskWaker + Drop, R: Wait + AllocGlobal, S: TaskSide<W, Value = T>>(
+pub fn one_step<
+    T,
+    W: TaskWaker + Drop,
+    R: Wait + AllocGlobal,
+    S: TaskSide<W, Value = T, Right = Hand>,
+>(
     parts: &mut Shared<'_, '_, T, W, R>,
     step: &mut Step<W, ()>,
     side: &mut S,
@@ -70,7 +76,12 @@ pub fn one_step<T, W: TaskWaker + Drop, R: Wait + AllocGlobal, S: TaskSide<W, Va
 /// Makes the steps that are left of the call, and answers how it ended. There are at most sixteen. `told` is what
 /// the last step so far told.
 #[inline(always)]
-pub(crate) fn go_on<T, W: TaskWaker + Drop, R: Wait + AllocGlobal, S: TaskSide<W, Value = T>>(
+pub(crate) fn go_on<
+    T,
+    W: TaskWaker + Drop,
+    R: Wait + AllocGlobal,
+    S: TaskSide<W, Value = T, Right = Hand>,
+>(
     parts: &mut Shared<'_, '_, T, W, R>,
     step: &mut Step<W, ()>,
     side: &mut S,

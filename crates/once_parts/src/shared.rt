@@ -6,14 +6,17 @@
 //!
 //! The value lies beside them, and is written and read plainly. It is written before the step that makes the
 //! word ready, and read after a step that found the word ready, or with a token that came from such a step.
-ghost use Rattle.std.specs.Prelude.{◌≡◌, ℕ, false, List, []};
+ghost use Rattle.std.specs.Prelude.{◌≡◌, ◌≢◌, ℕ, false, true, List, []};
+ghost use mathlib.Core.List.{IsPrefix};
 ghost use Rattle.once_queue.specs.Room.{listings_of};
 ghost use Rattle.once_core.specs.Steps.{next_at};
 ghost use Rattle.once_world.specs.Machine.{AtCountIn, AtDoorPut, UnderWay};
+ghost use Rattle.once_book.specs.Named.{HasRenewed, KeepsOwner};
 ghost use Rattle.once_book.specs.Own.{Did, IsWord};
-ghost use Rattle.once_book.specs.Places.{CanGet, CanTake, get_next, numbered, take_next};
+ghost use Rattle.once_book.specs.Places.{CanGet, CanRest, CanTake, get_next, numbered, take_next};
 ghost use Rattle.once_parts.specs.Handed.{CanSection, DidSection};
 ghost use Rattle.once_book.specs.Hands.{own_of};
+ghost use Rattle.once_book.specs.Record.{IsSet};
 
 use once_book::act::Looks;
 use once_book::book::{CellRule, CellSlot, CellWord, Record};
@@ -21,8 +24,8 @@ use once_book::desk::Desk;
 use once_book::hand::Hand;
 use once_book::mark::{Mark, TaskWaker};
 use once_core::parts::{Counted, Parts};
-use once_core::step::Polled;
-use once_queue::waiters::{Answer, Lists, Op};
+use once_core::step::{Polled, Side};
+use once_queue::waiters::{Answer, Lists, Op, Renews};
 use once_queue::word::Word as Flags;
 use pagebook::{Key, KeyedMutex, Slot, Word, Written};
 use std::alloc::AllocGlobal;
@@ -154,16 +157,19 @@ impl<T, W: TaskWaker + Drop> Inner<T, W> {
         self.slot.value(written)
     }
 
-    /// Whether a look finds the value. No clause says so.
+    /// What shows the value, if a look finds it.
     ///
     /// ```
-    /// let is_set = match self {
-    ///     Value::Owned(_) => false,
-    ///     Value::Shared(inner) => inner.is_written(),
-    /// };
+    /// match self {
+    ///     Value::Owned(_) => None,
+    ///     Value::Shared(inner) => inner.witness(),
+    /// }
     /// ```
-    pub fn is_written(&self) -> bool {
-        self.look(&mut self.record()).is_some()
+    pub fn witness(&self) -> Option<Written<T>>
+        ensures { IfSome result (λ w. w.of ≡ self.now.slot.id) }
+    {
+        let (_, written) = self.look(&mut self.record())?;
+        Some(written)
     }
 
     /// The value, where it was put. The record ends. No clause says so.
@@ -183,6 +189,21 @@ impl<T, W: TaskWaker + Drop> Inner<T, W> {
             desk: _desk,
         } = self;
         slot.into_inner()
+    }
+
+    /// The value, for a caller that has what shows it. The record ends.
+    pub fn into_value(self, written: &Written<T>) -> T
+        requires { written.now.of ≡ self.slot.id }
+        ensures { result ≡ written.now.value }
+    {
+        let Inner {
+            word: _word,
+            has_put: _has_put,
+            slot,
+            front: _front,
+            desk: _desk,
+        } = self;
+        slot.into_value(written)
     }
 
     /// Whether a queue stands at the door. `None` says that the lock could not be had at once. It waits for
@@ -229,6 +250,7 @@ impl<'a, 'r, T, W: TaskWaker, R> Shared<'a, 'r, T, W, R> {
     ghost use Rattle.once_book.specs.Own.{Turned};
     ghost use Rattle.once_book.specs.Places.{task_begun, task_dropping};
     ghost use Rattle.once_book.specs.Record.{EndsSet};
+    ghost use Rattle.once_book.specs.Kept.{entries_of};
     ghost use Rattle.once_parts.specs.Shares.{cell_of, own};
 
     /// Begins a poll.
@@ -275,7 +297,7 @@ impl<'a, 'r, T, W: TaskWaker, R> Shared<'a, 'r, T, W, R> {
         ensures value { (result.0.now ≡ result.1.value) × (result.1.of ≡ (cell_of self.now).id) }
     {
         let inner = self.inner;
-        inner.slot.get(&self.hand.seen)
+        inner.slot.get(self.hand.seen())
     }
 
     /// The handle that the task was made with.
@@ -287,13 +309,46 @@ impl<'a, 'r, T, W: TaskWaker, R> Shared<'a, 'r, T, W, R> {
     /// The number of this task, for its wakers.
     ///
     /// ```
-    /// let side = Noting::new(rt.alloc(), task, parts.mark());
+    /// let side = Noting::new(rt, task, parts.mark())?;
     /// ```
     #[inline(always)]
     pub fn mark(&self) -> Mark
         ensures { result ≡ (own self.now).number }
     {
-        Mark::of(&self.hand.pens)
+        self.hand.mark()
+    }
+
+    /// The task learns what a record of its cell has. Its next call comes after that.
+    #[inline(always)]
+    pub fn learn(&mut self, seen: &Record)
+        requires book { seen.now.book ≡ (cell_of self.old).book }
+        ensures cell { cell_of self.new ≡ cell_of self.old }
+        ensures number { (own self.new).number ≡ (own self.old).number }
+        ensures task { (own self.new).task ≡ (own self.old).task }
+        ensures log { IsPrefix (own self.old).log (own self.new).log × IsPrefix seen.now.log (own self.new).log }
+        ensures mine { entries_of (own self.old).number (own self.new).log
+            ≡ entries_of (own self.old).number (own self.old).log }
+        ensures own_set { IsSet (own self.old).log → IsSet (own self.new).log }
+        ensures other_set { IsSet seen.now.log → IsSet (own self.new).log }
+    {
+        self.hand.learn(seen);
+    }
+
+    /// Shows that two tasks of a cell have two numbers. It does nothing, but that the first may learn more of the
+    /// record.
+    #[inline(always)]
+    pub fn are_two(a: &mut Self, b: &mut Self)
+        requires book { (cell_of b.old).book ≡ (cell_of a.old).book }
+        ensures cell { cell_of a.new ≡ cell_of a.old }
+        ensures number { (own a.new).number ≡ (own a.old).number }
+        ensures task { (own a.new).task ≡ (own a.old).task }
+        ensures log { IsPrefix (own a.old).log (own a.new).log }
+        ensures set { IsSet (own a.old).log → IsSet (own a.new).log }
+        ensures other_cell { cell_of b.new ≡ cell_of b.old }
+        ensures other { own b.new ≡ own b.old }
+        ensures two { (own a.new).number ≢ (own b.new).number }
+    {
+        Hand::are_two(&mut a.hand, &mut b.hand);
     }
 
     /// The record as far as this task has seen it.
@@ -301,7 +356,24 @@ impl<'a, 'r, T, W: TaskWaker, R> Shared<'a, 'r, T, W, R> {
     pub fn record(&self) -> Record
         ensures { (result.book ≡ (cell_of self.now).book) × (result.log ≡ (own self.now).log) }
     {
-        self.hand.seen.again()
+        self.hand.seen().again()
+    }
+}
+
+impl<T, W: TaskWaker + Drop, R: Wait> Shared<'_, '_, T, W, R> {
+    ghost use Rattle.once_parts.specs.Shares.{cell_of, own};
+
+    /// Lets the waker of the task's listing be renewed, under the lock. The answer says whether there is one.
+    #[inline(always)]
+    pub fn renew<N: Renews<W>>(&mut self, ticket: u64, by: &mut N) -> bool
+        requires owner { KeepsOwner W.whose N.renewed }
+        requires can { CanRest ticket (own self.old).task.step }
+        ensures cell { cell_of self.new ≡ cell_of self.old }
+        ensures task { own self.new ≡ own self.old }
+        ensures renewed { result ≡ true → HasRenewed W.whose N.renewed (own self.old).number by.old by.new }
+        ensures not { result ≡ false → by.new ≡ by.old }
+    {
+        renewed::<Brand, T, W, R, N>(self.rt, self.inner, &mut self.hand, ticket, by)
     }
 }
 
@@ -313,6 +385,8 @@ impl<T, W: TaskWaker + Drop, R: Wait + AllocGlobal> Parts<W> for Shared<'_, '_, 
     type Queue = ();
 
     type Value = T;
+
+    type Right = Hand;
 
     ghost can = { parts_ask cell_of own W.whose };
 
@@ -385,7 +459,8 @@ impl<T, W: TaskWaker + Drop, R: Wait + AllocGlobal> Parts<W> for Shared<'_, '_, 
 
     #[inline(always)]
     fn section(&mut self, _queue: &(), op: &mut Op<W>) -> Answer<W> {
-        entered::<Brand, T, W, R>(self.rt, self.inner, &mut self.hand, op)
+        let (answer, _spent) = entered::<Brand, T, W, R>(self.rt, self.inner, &mut self.hand, op);
+        answer
     }
 
     #[inline(always)]
@@ -394,8 +469,8 @@ impl<T, W: TaskWaker + Drop, R: Wait + AllocGlobal> Parts<W> for Shared<'_, '_, 
     }
 
     #[inline(always)]
-    fn ran(&mut self, answer: Polled) {
-        self.hand.ran(answer);
+    fn run<S: Side<W, Right = Hand>>(&mut self, side: &mut S) -> Polled {
+        side.run(&mut self.hand)
     }
 
     // Nothing can refuse it.
@@ -460,26 +535,53 @@ fn taken<J: Key, T, W: TaskWaker + Drop, R: Wait>(
     inner.desk.lock::<J, R>(rt).value.take(hand)
 }
 
-// A section, under the lock.
+// Whether the waker of this listing was renewed, under the lock.
+#[inline(always)]
+fn renewed<J: Key, T, W: TaskWaker + Drop, R: Wait, N: Renews<W>>(
+    rt: &R,
+    inner: &Inner<T, W>,
+    hand: &mut Hand,
+    ticket: u64,
+    by: &mut N,
+) -> bool
+    requires key { inner.now.desk ≡ J.key }
+    requires book { hand.old.seen.book ≡ J.key }
+    requires owner { KeepsOwner W.whose N.renewed }
+    requires can { CanRest ticket (own_of hand.old).task.step }
+    ensures book { hand.new.seen.book ≡ hand.old.seen.book }
+    ensures hand { own_of hand.new ≡ own_of hand.old }
+    ensures renewed { result ≡ true → HasRenewed W.whose N.renewed (own_of hand.old).number by.old by.new }
+    ensures not { result ≡ false → by.new ≡ by.old }
+{
+    inner.desk.lock::<J, R>(rt).value.renew(hand, ticket, by)
+}
+
+// A section, under the lock, and the waker that it took out of the list and hands to nobody.
 #[inline(always)]
 fn entered<J: Key, T, W: TaskWaker + Drop, R: Wait>(
     rt: &R,
     inner: &Inner<T, W>,
     hand: &mut Hand,
     op: &mut Op<W>,
-) -> Answer<W>
+) -> (Answer<W>, Option<W>)
     requires key { inner.now.desk ≡ J.key }
     requires book { hand.old.seen.book ≡ J.key }
     requires can { CanSection W.whose op.old (own_of hand.old).task.step }
     ensures book { hand.new.seen.book ≡ hand.old.seen.book }
-    ensures did { DidSection W.whose op.old result op.new (own_of hand.old) (own_of hand.new) }
+    ensures did { DidSection W.whose op.old result.0 op.new (own_of hand.old) (own_of hand.new) }
 {
     let mut tied = inner.desk.lock::<J, R>(rt);
     match op {
         Op::Look(ticket) => tied.value.look(&inner.word, hand, ticket),
         Op::List(ticket, waker) => tied.value.list(&inner.word, hand, ticket, waker),
-        Op::Release(ready) => Answer::Released(tied.value.release(&inner.word, hand, *ready)),
-        Op::Leave(ticket) => Answer::Left(tied.value.leave(&inner.word, hand, *ticket)),
+        Op::Release(ready) => {
+            let out = tied.value.release(&inner.word, hand, *ready);
+            (Answer::Released(out), None)
+        }
+        Op::Leave(ticket) => {
+            let (next, own) = tied.value.leave(&inner.word, hand, *ticket);
+            (Answer::Left(next), own)
+        }
     }
 }
 

@@ -5,13 +5,17 @@ ghost use Rattle.once_parts.specs.Sides.{IsTold, Sided};
 use once_book::mark::TaskWaker;
 use once_core::step::Side;
 
-/// A side that says which task it is of, whether its init gave something, and who was handed to it in this call.
+/// A side that says which task it is of, whether its init is there and gave something, and who was handed to it in
+/// this call.
 pub trait TaskSide<W: TaskWaker>: Side<W> {
     // What is told of it.
     ghost state: { Self → Sided };
 
     // What each of its calls makes of that.
     ghost tells: { IsTold W.whose state Self.did };
+
+    // An init that is there may be run.
+    ghost runs: { (s : Self) → (state s).has_init ≡ true → Self.can_run s };
 
     // A value that is there may be put.
     ghost puts: { (s : Self) → (state s).has_value ≡ true → Self.can_put s };

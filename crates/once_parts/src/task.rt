@@ -1,19 +1,24 @@
 //! A task of a cell, with its whole polls and drops.
-ghost use Rattle.std.specs.Prelude.{◌≡◌, ◌↔◌, true, false, List, [], ◌∷◌};
-ghost use Rattle.once_world.specs.Record.{Entry, Made};
-ghost use Rattle.once_book.specs.Kept.{Grew};
-ghost use Rattle.once_book.specs.Record.{EndsSet};
+ghost use Rattle.std.specs.Prelude.{◌≡◌, ◌≢◌, ◌↔◌, ℕ, true, false, List, [], ◌∷◌};
+ghost use mathlib.Core.List.{IsPrefix};
+ghost use Rattle.once_world.specs.Record.{Begin, DropBegin, DropEnd, Entry, Made};
+ghost use Rattle.once_book.specs.Kept.{Grew, entries_of};
+ghost use Rattle.once_book.specs.Named.{HasRenewed, KeepsOwner};
+ghost use Rattle.once_book.specs.Record.{EndsSet, IsSet};
+ghost use Rattle.once_core.specs.declared.step.Ending.{Ending};
 ghost use Rattle.once_parts.specs.Shares.{cell_of, own};
 ghost use Rattle.once_parts.specs.Idle.{is_over, step_of};
-ghost use Rattle.once_parts.specs.Walks.{GrewBy, StandsOn, end_of, handed};
+ghost use Rattle.once_parts.specs.Walks.{IsCall, Spans, StandsOn, end_of, handed};
 
 use crate::calls::{go_on, steps_left};
 use crate::idle::Idle;
 use crate::shared::{Inner, Shared};
 use crate::side::TaskSide;
 use once_book::book::Record;
+use once_book::hand::Hand;
 use once_book::mark::{Mark, TaskWaker};
 use once_core::step::{Ending, Progress, Step};
+use once_queue::waiters::Renews;
 use pagebook::Written;
 use std::alloc::AllocGlobal;
 use std::marker::Model;
@@ -51,7 +56,7 @@ impl<'a, 'r, T, W: TaskWaker + Drop, R> Task<'a, 'r, T, W, R> {
     ///
     /// ```
     /// let task = Task::new(cell, rt);
-    /// let side = TestSide::new(name, task.mark(), answer);
+    /// let side = TestSide::new(rt, name, task.mark(), answer)?;
     /// ```
     #[inline(always)]
     pub fn new(inner: &'a Inner<T, W>, rt: &'r R) -> Self
@@ -102,13 +107,44 @@ impl<'a, 'r, T, W: TaskWaker + Drop, R> Task<'a, 'r, T, W, R> {
     /// The number of this task, for its wakers.
     ///
     /// ```
-    /// let side = TestSide::new(name, task.mark(), answer);
+    /// let side = TestSide::new(rt, name, task.mark(), answer)?;
     /// ```
     #[inline(always)]
     pub fn mark(&self) -> Mark
         ensures { result ≡ self.now.number }
     {
         self.parts.mark()
+    }
+
+    /// The task learns what a record of its cell has. Its next call comes after that.
+    #[inline(always)]
+    pub fn learn(&mut self, seen: &Record)
+        requires book { seen.now.book ≡ self.old.cell.book }
+        ensures cell { self.new.cell ≡ self.old.cell }
+        ensures number { self.new.number ≡ self.old.number }
+        ensures finished { self.new.finished ≡ self.old.finished }
+        ensures log { IsPrefix self.old.log self.new.log × IsPrefix seen.now.log self.new.log }
+        ensures mine { entries_of self.old.number self.new.log ≡ entries_of self.old.number self.old.log }
+        ensures own_set { IsSet self.old.log → IsSet self.new.log }
+        ensures other_set { IsSet seen.now.log → IsSet self.new.log }
+    {
+        self.parts.learn(seen);
+    }
+
+    /// Shows that two tasks of a cell have two numbers. It does nothing, but that the first may learn more of the
+    /// record.
+    #[inline(always)]
+    pub fn are_two(a: &mut Self, b: &mut Self)
+        requires book { b.old.cell.book ≡ a.old.cell.book }
+        ensures cell { a.new.cell ≡ a.old.cell }
+        ensures number { a.new.number ≡ a.old.number }
+        ensures finished { a.new.finished ≡ a.old.finished }
+        ensures log { IsPrefix a.old.log a.new.log }
+        ensures set { IsSet a.old.log → IsSet a.new.log }
+        ensures other { b.new ≡ b.old }
+        ensures two { a.new.number ≢ b.new.number }
+    {
+        Shared::are_two(&mut a.parts, &mut b.parts);
     }
 
     /// The record as far as this task has seen it.
@@ -123,23 +159,56 @@ impl<'a, 'r, T, W: TaskWaker + Drop, R> Task<'a, 'r, T, W, R> {
 impl<'a, 'r, T, W: TaskWaker + Drop, R: Wait + AllocGlobal> Task<'a, 'r, T, W, R> {
     /// A whole poll. It may wait for the cell's lock, and for whatever the side waits for.
     ///
-    /// The record grew, and its newest entry is the end of this poll with what is answered here. Some of the
-    /// entries that came meanwhile name just those whose wakers were handed to the side, in that order. It is
-    /// not said that these are all entries of this poll: whom the others name may not have been handed to it.
+    /// The record grew, and its newest entry is the end of this poll with what is answered here. The task's own entries
+    /// since the poll before are the beginning of this poll, what it did, and that end. The wakers that were handed to
+    /// the side are those of the tasks that these entries name, in their order.
+    ///
+    /// The poll began after all that the task had seen before. So if the cell was set in that, it answers the value.
     ///
     /// ```
     /// self.side.begin();
     /// self.task.poll(&mut self.side)
     /// ```
     #[inline(always)]
-    pub fn poll<S: TaskSide<W, Value = T>>(&mut self, side: &mut S) -> Ending
+    pub fn poll<S: TaskSide<W, Value = T, Right = Hand>>(&mut self, side: &mut S) -> Ending
         requires live { self.old.finished ≡ false }
         requires number { (S.state side.old).number ≡ self.old.number }
         requires none { (S.state side.old).woke ≡ [] }
+        requires init { (S.state side.old).has_init ≡ true }
         ensures cell { self.new.cell ≡ self.old.cell }
         ensures number { self.new.number ≡ self.old.number }
+        ensures init { result ≡ Ending.Pending → (S.state side.new).has_init ≡ true }
         ensures end { Grew (end_of self.new.number result ∷ []) self.old.log self.new.log }
-        ensures woke { (es : List Entry) × GrewBy es self.old.log self.new.log × ((S.state side.new).woke ≡ handed es) }
+        ensures spans { Spans self.new.number (end_of self.new.number result) self.old.log self.new.log }
+        ensures call { (mid : List Entry)
+            × IsCall self.new.number (Begin self.new.number self.new.number) (end_of self.new.number result) mid
+            self.old.log self.new.log × ((S.state side.new).woke ≡ handed mid) }
+        ensures set { IsSet self.old.log → result ≡ Ending.Value }
+        ensures error { result ≡ Ending.Error → (S.state side.new).has_error ≡ true }
+        ensures finished { (result ≡ Ending.Pending) ↔ (self.new.finished ≡ false) }
+        ensures not_dropped { result ≡ Ending.Dropped → ⊥ }
+        ensures stays { S.stays side.old side.new }
+    {
+        let ending = self.poll_steps(side);
+        answered_where_set(&self.record());
+        ending
+    }
+
+    // Begins the poll, and makes its steps.
+    #[inline(always)]
+    fn poll_steps<S: TaskSide<W, Value = T, Right = Hand>>(&mut self, side: &mut S) -> Ending
+        requires live { self.old.finished ≡ false }
+        requires number { (S.state side.old).number ≡ self.old.number }
+        requires none { (S.state side.old).woke ≡ [] }
+        requires init { (S.state side.old).has_init ≡ true }
+        ensures cell { self.new.cell ≡ self.old.cell }
+        ensures number { self.new.number ≡ self.old.number }
+        ensures init { result ≡ Ending.Pending → (S.state side.new).has_init ≡ true }
+        ensures end { Grew (end_of self.new.number result ∷ []) self.old.log self.new.log }
+        ensures spans { Spans self.new.number (end_of self.new.number result) self.old.log self.new.log }
+        ensures call { (mid : List Entry)
+            × IsCall self.new.number (Begin self.new.number self.new.number) (end_of self.new.number result) mid
+            self.old.log self.new.log × ((S.state side.new).woke ≡ handed mid) }
         ensures error { result ≡ Ending.Error → (S.state side.new).has_error ≡ true }
         ensures finished { (result ≡ Ending.Pending) ↔ (self.new.finished ≡ false) }
         ensures not_dropped { result ≡ Ending.Dropped → ⊥ }
@@ -162,6 +231,26 @@ impl<'a, 'r, T, W: TaskWaker + Drop, R: Wait + AllocGlobal> Task<'a, 'r, T, W, R
         }
     }
 
+    /// Lets the waker of the task's listing be renewed: for a task whose last call ended Pending. The answer says
+    /// whether there is one. There is none if the task is not listed, or was called.
+    ///
+    /// ```
+    /// let mut renewal = Renewal { cx };
+    /// let is_listed = self.task.renew(&mut renewal);
+    /// ```
+    #[inline(never)]
+    pub fn renew<N: Renews<W>>(&mut self, by: &mut N) -> bool
+        requires owner { KeepsOwner W.whose N.renewed }
+        ensures task { self.new ≡ self.old }
+        ensures renewed { result ≡ true → HasRenewed W.whose N.renewed self.old.number by.old by.new }
+        ensures not { result ≡ false → by.new ≡ by.old }
+    {
+        let Idle::Listed(ticket) = self.idle else {
+            return false;
+        };
+        self.parts.renew(ticket, by)
+    }
+
     /// A whole drop of a task that is not finished. It may wait as [`poll`](Self::poll), and as much is said of
     /// the wakers that were handed to the side.
     ///
@@ -169,14 +258,16 @@ impl<'a, 'r, T, W: TaskWaker + Drop, R: Wait + AllocGlobal> Task<'a, 'r, T, W, R
     /// self.side.begin();
     /// self.task.leave(&mut self.side);
     /// ```
-    pub fn leave<S: TaskSide<W, Value = T>>(&mut self, side: &mut S)
+    pub fn leave<S: TaskSide<W, Value = T, Right = Hand>>(&mut self, side: &mut S)
         requires live { self.old.finished ≡ false }
         requires number { (S.state side.old).number ≡ self.old.number }
         requires none { (S.state side.old).woke ≡ [] }
         ensures cell { self.new.cell ≡ self.old.cell }
         ensures number { self.new.number ≡ self.old.number }
         ensures end { Grew (end_of self.new.number Ending.Dropped ∷ []) self.old.log self.new.log }
-        ensures woke { (es : List Entry) × GrewBy es self.old.log self.new.log × ((S.state side.new).woke ≡ handed es) }
+        ensures call { (mid : List Entry)
+            × IsCall self.new.number (DropBegin self.new.number) (DropEnd self.new.number) mid self.old.log self.new.log
+            × ((S.state side.new).woke ≡ handed mid) }
         ensures finished { self.new.finished ≡ true }
         ensures stays { S.stays side.old side.new }
     {
@@ -189,4 +280,13 @@ impl<'a, 'r, T, W: TaskWaker + Drop, R: Wait + AllocGlobal> Task<'a, 'r, T, W, R
         }
         go_on(&mut self.parts, &mut step, side, Progress::More);
     }
+}
+
+// Shows that a poll that began after the cell was set answered the value. It does nothing.
+#[inline(always)]
+fn answered_where_set(seen: &Record)
+    ensures { (t : ℕ) (e : Ending) (old : List Entry) → IsSet old → Spans t (end_of t e) old seen.now.log
+        → (e ≡ Ending.Dropped → ⊥) → e ≡ Ending.Value }
+{
+    seen.again().learn(seen);
 }

@@ -4,6 +4,7 @@ use Rattle.once_queue.specs.declared.waiters.Listing.{Listing}
 use Rattle.once_queue.specs.declared.waiters.Answer.{Answer}
 use Rattle.once_queue.specs.declared.word.Sees.{Sees}
 use Rattle.once_queue.specs.declared.word.Sees.TheVariants.{Set, Free, Taken}
+use Rattle.std.specs.Option.{option_flatten}
 use Rattle.once_queue.specs.Listings.{list_without}
 
 -- what a task that asks for the right can change
@@ -22,3 +23,8 @@ module _ {W : Type 0} where
   Claims Set s answer t = (answer ≡ Answer.Ready) × (t ≡ s)
   Claims Free s answer t = (answer ≡ Answer.Claimed) × (t ≡ claimed s)
   Claims Taken s answer t = Unit {0}
+
+  -- the waker that a claim takes out of the list, by what is seen and by the own listing: one that nobody called
+  abbrev pub spent_by : Sees → Option (Option W) → Option W
+  spent_by Free o = option_flatten o
+  spent_by _ o = None

@@ -53,6 +53,12 @@ module _ {W : Type 0} where
   call_first [] = []
   call_first (x ∷ xs) = call_by x x.waker xs (call_first xs)
 
+  -- the list with another waker in the listing of the ticket
+  abbrev pub with_waker : ℕ → W → List (Listing W) → List (Listing W)
+  with_waker n w [] = []
+  with_waker n w (x ∷ xs) =
+      if x.ticket == n then record { ticket = x.ticket; waker = Some w } ∷ xs else x ∷ with_waker n w xs
+
   -- the wakers, in the order of their listings
   abbrev pub wakers_of : List (Listing W) → List W
   wakers_of [] = []

@@ -6,7 +6,8 @@ use Rattle.std.specs.declared.vec.Vec.{Vec}
 use Rattle.std.specs.declared.alloc.Global.{Global}
 use Rattle.once_queue.specs.declared.waiters.Answer.{Answer}
 use Rattle.once_queue.specs.declared.waiters.Out.{Out}
-use Rattle.once_queue.specs.Listings.{Listing, kept_ticket, ticket_for, list_with, first_waker, call_first}
+use Rattle.once_queue.specs.Listings.{Listing, find_listing, kept_ticket, ticket_for}
+use Rattle.once_queue.specs.Listings.{list_with, first_waker, call_first, with_waker}
 
 module _ {W : Type 0} (same : W → W → Type 0) where
   -- some waker of the list was told to be the same
@@ -38,6 +39,11 @@ module _ {W : Type 0} where
       × (xs' ≡ list_with (ticket_for ticket xs) w xs))
       ⊎ ((answer ≡ Answer.Memory) × (kept_ticket ticket xs ≡ None) × (ticket' ≡ ticket) × (waker' ≡ Some w)
       × (xs' ≡ xs))
+
+module _ {W N : Type 0} (renewed : N → W → N → W → Type 0) where
+  -- the listing with the ticket had a waker, and has the one that was left in its place
+  abbrev pub Renewed : ℕ → List (Listing W) → N → List (Listing W) → N → Type 0
+  Renewed n xs s xs' t = (v w : W) × (find_listing n xs ≡ Some (Some v)) × renewed s v t w × (xs' ≡ with_waker n w xs)
 
 module _ {W : Type 0} (same other : W → W → Type 0) where
   -- the waker that leaves a listing, by those of the listings before: none where it was called, or where an earlier

@@ -9,7 +9,7 @@ ghost use Rattle.once_queue.specs.Marks.{is_marked};
 ghost use Rattle.once_queue.specs.Listings.{tickets};
 ghost use Rattle.once_queue.specs.Kept.{hole, is_kept, is_open};
 
-use crate::waiters::Listing;
+use crate::waiters::{Listing, Renews};
 use std::alloc::{AllocError, Global};
 use std::mem;
 
@@ -50,6 +50,7 @@ impl<W: Drop> Slots<W> {
     ghost use Rattle.once_queue.specs.Listings.{find_listing, take_out, first_waker};
     ghost use Rattle.once_queue.specs.Listings.{call_first, new_ticket, lent_listings};
     ghost use Rattle.once_queue.specs.Slots.{HasMark, HasSlot, capacity_in, listings_in};
+    ghost use Rattle.once_queue.specs.Sections.{Renewed};
 
     /// No listing. It takes no memory.
     #[inline(always)]
@@ -127,6 +128,27 @@ impl<W: Drop> Slots<W> {
             waker: None,
         };
         Some(mem::replace(&mut self.slots[place], hole))
+    }
+
+    /// Lets the waker of the listing with this ticket be renewed, if it has one.
+    #[inline(always)]
+    pub fn renew<N: Renews<W>>(&mut self, ticket: u64, by: &mut N) -> bool
+        ensures renewed { result ≡ true
+            → Renewed N.renewed ticket (listings_in self.old) by.old (listings_in self.new) by.new }
+        ensures not { result ≡ false → (listings_in self.new ≡ listings_in self.old) × (by.new ≡ by.old) }
+        ensures memory { capacity_in self.new ≡ capacity_in self.old }
+    {
+        let Some(place) = self.place(ticket) else {
+            return false;
+        };
+        if !has_waker(&self.slots[place]) {
+            return false;
+        }
+        let Some(waker) = &mut self.slots[place].waker else {
+            unreachable!()
+        };
+        by.renew(waker);
+        true
     }
 
     /// The least ticket that no listing has.

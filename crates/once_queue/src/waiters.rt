@@ -45,6 +45,16 @@ impl WakerId for u64 {
     }
 }
 
+/// Puts the task's waker of today in the place of one that is listed.
+pub trait Renews<W> {
+    // What a call leaves: who renews and the listed waker, as they were, and both after it.
+    ghost renewed: { Self → W → Self → W → Type 0 };
+
+    /// Renews the waker.
+    fn renew(&mut self, listed: &mut W)
+        ensures { renewed self.old listed.old self.new listed.new };
+}
+
 /// A place in the list of those who wait. One that has no waker any more was called.
 #[derive(Debug, Drop, PartialEq, Eq)]
 pub struct Listing<W> {
@@ -141,9 +151,9 @@ impl<W: WakerId + Drop> Lists<W> {
     ghost use Rattle.once_queue.specs.Listings.{first_waker, call_first, kept_ticket, ticket_for, passes_turn};
     ghost use Rattle.once_queue.specs.Listings.{next_waker, left_list, lent_listings};
     ghost use Rattle.once_queue.specs.Slots.{HasMark, HasSlot};
-    ghost use Rattle.once_queue.specs.Claims.{Claims};
+    ghost use Rattle.once_queue.specs.Claims.{Claims, spent_by};
     ghost use Rattle.once_queue.specs.Room.{HasSpace, capacity_of, listings_of, claimant};
-    ghost use Rattle.once_queue.specs.Sections.{DidLook, DidList, Releases};
+    ghost use Rattle.once_queue.specs.Sections.{DidLook, DidList, Releases, Renewed};
 
     /// No holder, and nobody listed. It takes no memory.
     #[inline(always)]
@@ -173,7 +183,7 @@ impl<W: WakerId + Drop> Lists<W> {
             → claimant self.new ticket.new ≡ claimant self.old ticket.old }
         ensures memory { capacity_of self.new ≡ capacity_of self.old }
     {
-        if let Some(answer) = self.claim(ticket, word) {
+        if let Some((answer, _)) = self.claim(ticket, word) {
             return answer;
         }
         match (waker, self.own(*ticket)) {
@@ -184,25 +194,27 @@ impl<W: WakerId + Drop> Lists<W> {
 
     /// Claims the right where the word and the flag leave it free, as [`look`](Self::look). Else says
     /// whether the own listing is there and was not called. It compares no wakers: it is for a caller
-    /// whose tickets stand for one waker each.
+    /// whose tickets stand for one waker each. Beside the answer stands the waker that a claim took out of the list.
     #[inline(always)]
-    pub fn look_own(&mut self, ticket: &mut Option<u64>, word: u64) -> Answer<W>
+    pub fn look_own(&mut self, ticket: &mut Option<u64>, word: u64) -> (Answer<W>, Option<W>)
         ensures claims { Claims (sees (flags_of word) self.old.head)
-            (claimant self.old ticket.old) result (claimant self.new ticket.new) }
+            (claimant self.old ticket.old) result.0 (claimant self.new ticket.new) }
+        ensures spent { result.1
+            ≡ spent_by (sees (flags_of word) self.old.head) (own_listing ticket.old (listings_of self.old)) }
         ensures held { sees (flags_of word) self.old.head ≡ Sees.Taken
-            → result
+            → result.0
             ≡ (if is_some (option_flatten (own_listing ticket.old (listings_of self.old)))
             then Answer.Listed else Answer.Held) }
         ensures stays { sees (flags_of word) self.old.head ≡ Sees.Taken
             → claimant self.new ticket.new ≡ claimant self.old ticket.old }
         ensures memory { capacity_of self.new ≡ capacity_of self.old }
     {
-        if let Some(answer) = self.claim(ticket, word) {
-            return answer;
+        if let Some(claimed) = self.claim(ticket, word) {
+            return claimed;
         }
         match self.own(*ticket) {
-            Some(_) => Answer::Listed,
-            None => Answer::Held,
+            Some(_) => (Answer::Listed, None),
+            None => (Answer::Held, None),
         }
     }
 
@@ -228,18 +240,45 @@ impl<W: WakerId + Drop> Lists<W> {
         ensures memory { capacity_of self.new
             ≤ max (capacity_of self.old) (4 * (length (listings_of self.old) + 1)) }
     {
-        if let Some(answer) = self.claim(ticket, word) {
-            return answer;
+        let (answer, _) = self.list_own(ticket, waker, word);
+        answer
+    }
+
+    /// As [`list`](Self::list). Beside the answer stands the waker that a claim took out of the list.
+    #[inline(always)]
+    pub fn list_own(
+        &mut self,
+        ticket: &mut Option<u64>,
+        waker: &mut Option<W>,
+        word: u64,
+    ) -> (Answer<W>, Option<W>)
+        requires { IsSome waker.old }
+        ensures claims { Claims (sees (flags_of word) self.old.head)
+            (claimant self.old ticket.old) result.0 (claimant self.new ticket.new) }
+        ensures spent { result.1
+            ≡ spent_by (sees (flags_of word) self.old.head) (own_listing ticket.old (listings_of self.old)) }
+        ensures held { sees (flags_of word) self.old.head ≡ Sees.Taken
+            → IfSome waker.old
+            (λ w. DidList ticket.old w (listings_of self.old)
+            result.0 ticket.new waker.new (listings_of self.new)) }
+        ensures head { sees (flags_of word) self.old.head ≡ Sees.Taken → self.new.head ≡ self.old.head }
+        ensures waker { sees (flags_of word) self.old.head ≢ Sees.Taken → waker.new ≡ waker.old }
+        ensures room { HasSpace self.old → result.0 ≢ Answer.Memory }
+        ensures memory { capacity_of self.new
+            ≤ max (capacity_of self.old) (4 * (length (listings_of self.old) + 1)) }
+    {
+        if let Some(claimed) = self.claim(ticket, word) {
+            return claimed;
         }
         let Ok(mine) = self.make_place(*ticket) else {
-            return Answer::Memory;
+            return (Answer::Memory, None);
         };
         *ticket = Some(mine);
         self.push(Listing {
             ticket: mine,
             waker: waker.take(),
         });
-        Answer::Listed
+        (Answer::Listed, None)
     }
 
     /// Lowers the flag. With the value set all listings leave; without it the first that was not
@@ -277,10 +316,31 @@ impl<W: WakerId + Drop> Lists<W> {
         ensures head { self.new.head ≡ self.old.head }
         ensures memory { capacity_of self.new ≡ capacity_of self.old }
     {
-        let mine = self.take_out(ticket)?;
+        let (next, _) = self.leave_own(ticket, word);
+        next
+    }
+
+    /// As [`leave`](Self::leave). Beside the waker that is called stands the one that the own listing had.
+    #[inline(always)]
+    pub fn leave_own(&mut self, ticket: u64, word: u64) -> (Option<W>, Option<W>)
+        ensures waker { result.0
+            ≡ next_waker
+            (passes_turn (is_free (sees (flags_of word) self.old.head)) ticket (listings_of self.old))
+            ticket (listings_of self.old) }
+        ensures own { result.1 ≡ option_flatten (find_listing ticket (listings_of self.old)) }
+        ensures listings { listings_of self.new
+            ≡ left_list
+            (passes_turn (is_free (sees (flags_of word) self.old.head)) ticket (listings_of self.old))
+            ticket (listings_of self.old) }
+        ensures head { self.new.head ≡ self.old.head }
+        ensures memory { capacity_of self.new ≡ capacity_of self.old }
+    {
+        let Some(Listing { ticket: _, waker }) = self.take_out(ticket) else {
+            return (None, None);
+        };
         match Word::from_bits(word).sees(self.head) {
-            Sees::Free if mine.waker.is_none() => self.call_first(),
-            _ => None,
+            Sees::Free if waker.is_none() => (self.call_first(), None),
+            _ => (None, waker),
         }
     }
 
@@ -318,27 +378,42 @@ impl<W: WakerId + Drop> Lists<W> {
         self.slots.len()
     }
 
-    // The right where it is free, and None where some task holds it.
+    // The right where it is free, and None where some task holds it. Beside the answer stands the waker that the
+    // own listing had, which is let go with the lock free.
     #[inline(always)]
-    fn claim(&mut self, ticket: &mut Option<u64>, word: u64) -> Option<Answer<W>>
-        ensures claims { IfSome result (λ answer. Claims (sees (flags_of word) self.old.head)
-            (claimant self.old ticket.old) answer (claimant self.new ticket.new)) }
+    fn claim(&mut self, ticket: &mut Option<u64>, word: u64) -> Option<(Answer<W>, Option<W>)>
+        ensures claims { IfSome result (λ r. Claims (sees (flags_of word) self.old.head)
+            (claimant self.old ticket.old) r.0 (claimant self.new ticket.new)) }
+        ensures spent { IfSome result (λ r. r.1
+            ≡ spent_by (sees (flags_of word) self.old.head) (own_listing ticket.old (listings_of self.old))) }
         ensures held { result ≡ None ↔ sees (flags_of word) self.old.head ≡ Sees.Taken }
         ensures stays { sees (flags_of word) self.old.head ≢ Sees.Free → self.new ≡ self.old }
         ensures ticket { sees (flags_of word) self.old.head ≢ Sees.Free → ticket.new ≡ ticket.old }
         ensures memory { capacity_of self.new ≡ capacity_of self.old }
     {
         match Word::from_bits(word).sees(self.head) {
-            Sees::Set => Some(Answer::Ready),
+            Sees::Set => Some((Answer::Ready, None)),
             Sees::Taken => None,
             Sees::Free => {
-                if let Some(mine) = ticket.take() {
-                    drop(self.take_out(mine));
-                }
+                let spent = self.spend(ticket);
                 self.head = true;
-                Some(Answer::Claimed)
+                Some((Answer::Claimed, spent))
             }
         }
+    }
+
+    // Gives the ticket up, and takes its listing out: the waker there.
+    #[inline(always)]
+    fn spend(&mut self, ticket: &mut Option<u64>) -> Option<W>
+        ensures spent { result ≡ option_flatten (own_listing ticket.old (listings_of self.old)) }
+        ensures listings { listings_of self.new ≡ list_without ticket.old (listings_of self.old) }
+        ensures ticket { ticket.new ≡ None }
+        ensures head { self.new.head ≡ self.old.head }
+        ensures memory { capacity_of self.new ≡ capacity_of self.old }
+    {
+        let mine = ticket.take()?;
+        let Listing { ticket: _, waker } = self.take_out(mine)?;
+        waker
     }
 
     /// Whether the own ticket has a listing.
@@ -350,6 +425,21 @@ impl<W: WakerId + Drop> Lists<W> {
             Some(ticket) => self.slots.find(ticket).is_some(),
             None => false,
         }
+    }
+
+    /// Lets the waker of the listing with this ticket be renewed. The answer says whether there is one: it is
+    /// not where the listing was called.
+    #[inline(always)]
+    pub fn renew<N: Renews<W>>(&mut self, ticket: u64, by: &mut N) -> bool
+        ensures renewed { result ≡ true
+            → Renewed N.renewed ticket (listings_of self.old) by.old (listings_of self.new) by.new }
+        ensures not { result ≡ false → (listings_of self.new ≡ listings_of self.old) × (by.new ≡ by.old) }
+        ensures head { self.new.head ≡ self.old.head }
+        ensures memory { capacity_of self.new ≡ capacity_of self.old }
+    {
+        // Where wakers may be the same, nobody has compared the new one.
+        self.mixed |= !W::are_all_other();
+        self.slots.renew(ticket, by)
     }
 
     // The waker of the own listing.

@@ -5,7 +5,7 @@ pub mod Nobody
 pub mod Called
 pub mod Rights
 pub mod Freed
-pub mod First
+pub mod Answered
 pub mod Crowded
 pub mod Values
 pub mod Wakes

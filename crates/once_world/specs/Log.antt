@@ -4,7 +4,7 @@ use Rattle.std.specs.Prelude.{List, [], ◌∷◌, ◌++◌, Option, Some, None}
 use Rattle.std.specs.Option.{is_none}
 use Rattle.once_queue.specs.declared.log.QueueLine.{QueueLine}
 use Rattle.once_queue.specs.declared.log.QueueLine.TheVariants.{Put, Entered, Taken}
-use Rattle.once_world.specs.Record.{Answer, Pending, Kind, Entry, Free, Fill, Pass, End, replaces}
+use Rattle.once_world.specs.Record.{Pending, Kind, Entry, Free, Fill, Pass, End, replaces}
 use Rattle.once_world.specs.Cell.{cell, is_set}
 use Rattle.once_world.specs.Tasks.{Waiting, status, is_under_way, last_call}
 use Rattle.once_world.specs.Inputs.{Input, Go, Owns, Part, entries_of, fits_owner, Always}

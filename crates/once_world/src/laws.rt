@@ -6,7 +6,7 @@ ghost use Rattle.std.specs.Prelude.{◌≡◌, ◌≢◌, ◌≤◌, ◌⊎◌, 
 ghost use Rattle.once_world.specs.Record.{Answer, RanError, Kind, Reply, Value, Error, Memory, Full};
 ghost use Rattle.once_world.specs.Record.{Entry, Claim, Ran, Free, Pass, End, DropEnd, is_own};
 ghost use Rattle.once_world.specs.Cell.{Empty, Held, SetTo, cell, answers_left};
-ghost use Rattle.once_world.specs.Tasks.{Fresh, Dropping, Holding, Gone, status, is_under_way, last_call};
+ghost use Rattle.once_world.specs.Tasks.{Dropping, Holding, Gone, status, is_under_way, last_call};
 ghost use Rattle.once_world.specs.Wakers.{IsDue, IsOpen, times_opened, times_handed};
 ghost use Rattle.once_world.specs.Refusals.{Since, OtherActs};
 ghost use Rattle.once_world.specs.Crowd.{AreWaiting};
@@ -59,11 +59,10 @@ pub fn dropped_holder_frees()
         × ((cell kind (e ∷ h) ≡ Held t) ⊎ (cell kind (e ∷ h) ≡ Empty)) }
 {}
 
-/// A task that is first polled after the value is set answers it, and does not poll its init.
-pub fn set_value_is_answered_first()
+/// A poll that begins when the value is set answers it, and does not poll its init.
+pub fn set_value_is_answered_at_once()
     ensures { (kind : Kind) (limit t : ℕ) (r : Reply) (h : List Entry)
-        → IsRun kind limit (End t r ∷ h) → (last_call kind t h).began ≡ Fresh
-        → (last_call kind t h).set_then ≡ true
+        → IsRun kind limit (End t r ∷ h) → (last_call kind t h).set_then ≡ true
         → ((last_call kind t h).ran ≡ None) × ((v : ℕ) × (cell kind h ≡ SetTo v) × (r ≡ Value v)) }
 {}
 

@@ -3,5 +3,5 @@
 -- It carries the clauses of `told_alone` and `one_is_called` in src/told.rt, with `is_run` of async_once_cell.
 --
 -- The other folders are named after files and functions of src. `Answers` has the proofs of goals that are left open
--- there. Where an answer has one tactic, it is there only so that an edit that breaks its clause is refused at once.
+-- there.
 mod Runs

@@ -1,9 +1,10 @@
 //! A connection that is tried again after an error, until it is there.
 ghost use Rattle.std.specs.Prelude.{◌≡◌, Some, Err, IfErr, IfOk};
+ghost use Rattle.async_once_cell.specs.Refused.{own_error};
 
 use crate::fault::Fault;
 use async_once_cell::OnceCell;
-use async_once_cell::once::{InitError, Known, Refused};
+use async_once_cell::once::{InitError, Known};
 use futures::Future;
 use futures::task::{Context, Poll};
 use std::alloc::AllocGlobal;
@@ -49,16 +50,14 @@ impl Future for Dial<'_> {
 
 /// Whether the other side did not answer. A poll that was refused is no try, and is told as such.
 fn is_down(tried: Result<&Connection, InitError<Down>>) -> Result<bool, Fault>
-    ensures memory { IfErr tried.entry (λ error. error ≡ InitError.Memory
-        → result ≡ Err (Fault.Refused Refused.Memory)) }
-    ensures full { IfErr tried.entry (λ error. error ≡ InitError.Full
-        → result ≡ Err (Fault.Refused Refused.Full)) }
+    ensures { IfErr tried.entry (λ error. IfErr (own_error error) (λ refused. result ≡ Err (Fault.Refused refused))) }
 {
     match tried {
         Ok(_) => Ok(false),
-        Err(InitError::Init(Down)) => Ok(true),
-        Err(InitError::Memory) => Err(Fault::Refused(Refused::Memory)),
-        Err(InitError::Full) => Err(Fault::Refused(Refused::Full)),
+        Err(error) => match error.own() {
+            Ok(Down) => Ok(true),
+            Err(refused) => Err(Fault::Refused(refused)),
+        },
     }
 }
 

@@ -1,18 +1,22 @@
 //! What such cells are for: what a Rust programmer writes with `async`, the examples of doc comments, settings that
 //! are read once, a connection, a graph of values, a pool of tasks, a table, settings that threads load anew, a cell
-//! that threads own together, many threads, tasks that give up, and a value whose type has a fact.
+//! that threads own together, many threads, tasks that give up, and a value whose type has a fact. Besides, what a
+//! caller can say of order, whose error it is told, and what the owner of a cell gets.
 #![tactic(auto)]
 
 mod ask;
 mod by_type;
 mod connection;
+mod errors;
 mod examples;
 mod fault;
 mod from_rust;
 mod giving_up;
 mod graph;
 mod many_threads;
+mod order;
 mod owned_together;
+mod owner;
 mod pool;
 mod reload;
 mod settings;
@@ -47,7 +51,10 @@ where
     owned_together::show(rt, output)?;
     many_threads::show(rt, output)?;
     giving_up::show(rt, output)?;
-    by_type::show(rt, output)
+    by_type::show(rt, output)?;
+    order::show(rt, output)?;
+    errors::show(rt, output)?;
+    owner::show(rt, output)
 }
 
 fn main(rt: HostRuntime) -> ExitCode {

@@ -4,7 +4,7 @@ ghost use Rattle.std.specs.Prelude.{◌≡◌, Some, IfOk};
 use crate::fault::Fault;
 use crate::told::{told_alone, told_before};
 use async_once_cell::OnceCell;
-use async_once_cell::once::{InitError, Known, Refused};
+use async_once_cell::once::Known;
 use futures::Future;
 use futures::task::{Context, Poll};
 use std::alloc::{AllocError, AllocGlobal, Global};
@@ -74,9 +74,10 @@ where
 {
     match cell.get_or_try_init(rt, load).wait_as(token)? {
         Ok(value) => Ok(*value),
-        Err(InitError::Init(error)) => Err(Fault::NotLoaded(error)),
-        Err(InitError::Memory) => Err(Fault::Refused(Refused::Memory)),
-        Err(InitError::Full) => Err(Fault::Refused(Refused::Full)),
+        Err(error) => match error.own() {
+            Ok(own) => Err(Fault::NotLoaded(own)),
+            Err(refused) => Err(Fault::Refused(refused)),
+        },
     }
 }
 

@@ -1,5 +1,5 @@
 //! What those who asked one cell can say of each other, by what they have seen of its record.
-ghost use Rattle.std.specs.Prelude.{◌≡◌, ℕ, true, List, ◌∷◌, ◌++◌, Some, reverse};
+ghost use Rattle.std.specs.Prelude.{◌≡◌, ◌≢◌, ℕ, true, List, ◌∷◌, ◌++◌, Some, reverse};
 ghost use mathlib.Core.List.{IsPrefix};
 ghost use Rattle.async_once_cell.specs.Record.{End, Entry, Error, Once, RanError};
 ghost use Rattle.async_once_cell.specs.Called.{SomebodyCalled};
@@ -7,8 +7,11 @@ ghost use Rattle.async_once_cell.specs.Tasks.{last_call};
 ghost use Rattle.async_once_cell.specs.Tokens.{IsSetIn};
 ghost use Rattle.async_once_cell.specs.Views.{is_shared};
 
-use async_once_cell::Known;
 use async_once_cell::laws::error_is_ones_own;
+use async_once_cell::{InitFuture, Known, OnceCell};
+use futures::future::{Ready, ready};
+use std::alloc::AllocGlobal;
+use std::sync::Wait;
 
 /// Who was told that there is no value was told so before it was set. It does nothing.
 pub fn told_before<'a, T>(without: &Known<'a, T>, with: &Known<'a, T>)
@@ -37,4 +40,24 @@ pub fn one_is_called<T>(token: &Known<'_, T>)
     ensures { is_shared token.now.cell ≡ true → SomebodyCalled Once (reverse token.now.log) }
 {
     token.is_run();
+}
+
+/// Two futures of a cell that tasks share are two tasks, so that what the record says of one it does not say of the
+/// other.
+pub fn two_tasks<'a, R>(
+    rt: &'a R,
+    cell: &'a OnceCell<u64>,
+) -> (
+    InitFuture<'a, u64, Ready<u64>, R>,
+    InitFuture<'a, u64, Ready<u64>, R>,
+)
+where
+    R: Wait + AllocGlobal,
+    requires { is_shared cell.now ≡ true }
+    ensures { result.0.task ≢ result.1.task }
+{
+    let mut one = cell.get_or_init(rt, ready(1));
+    let mut other = cell.get_or_init(rt, ready(2));
+    InitFuture::are_two(&mut one, &mut other);
+    (one, other)
 }

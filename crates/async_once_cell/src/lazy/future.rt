@@ -1,19 +1,25 @@
 //! The future of a cell that owns its init.
-ghost use Rattle.std.specs.Prelude.{◌≡◌, false, true, reverse};
-ghost use Rattle.once_world.specs.Record.{Once};
-ghost use Rattle.once_world.specs.Run.{AtEvery, IsRun};
-ghost use Rattle.once_world.specs.Called.{SomebodyCalled};
-ghost use Rattle.once_book.specs.Kept.{most};
-ghost use Rattle.once_book.specs.Record.{IsSet, WasFilled};
+ghost use Rattle.std.specs.Prelude.{◌≡◌, ◌≢◌, ⊤, IsSome, None, Result, false, true, reverse};
+ghost use Rattle.std.specs.Borrow.{Bor};
+ghost use Rattle.futures.specs.Poll.{IfReady, OnPending};
+ghost use Rattle.futures.specs.Task.{Covers, Keeps};
+ghost use mathlib.Core.List.{IsPrefix};
+ghost use Rattle.async_once_cell.specs.Polls.{Answers, DidPoll, IsMade, IsValue, IsValueAtOnce, Polls, PollsAs};
+ghost use Rattle.async_once_cell.specs.Polls.{SpansIn, Waits, ending_by, ending_of_refusal};
 ghost use Rattle.async_once_cell.specs.Tokens.{IsSetIn};
 ghost use Rattle.async_once_cell.specs.Views.{is_shared};
-ghost use mathlib.Core.List.{IsPrefix};
-ghost use Rattle.async_once_cell.specs.Polls.{Answers, DidPoll, Polls, PollsAs, Waits, sure_ending};
+ghost use Rattle.once_book.specs.Kept.{entries_of, most};
+ghost use Rattle.once_book.specs.Record.{IsSet, WasFilled};
+ghost use Rattle.once_parts.specs.Walks.{end_of};
+ghost use Rattle.once_world.specs.Called.{SomebodyCalled};
+ghost use Rattle.once_world.specs.Record.{Once};
+ghost use Rattle.once_world.specs.Run.{AtEvery, IsRun, NobodyForgotten};
 
-use crate::once::{InitFuture, Known, OnceCell, Parker, Refused};
-use crate::pollable::Pollable;
+use crate::init::{Failed, Init};
+use crate::once::{Failure, Initializing, Known, OnceCell, Parker, Refused};
 use futures::Future;
 use futures::task::{Context, Poll};
+use once_book::{Hand, Pollable};
 use std::alloc::AllocGlobal;
 use std::marker::Model;
 use std::random::RandomSource;
@@ -26,12 +32,12 @@ use std::{fmt, io};
 /// cell's future; the others are Pending until they are woken. To drop one of these leaves the
 /// cell's future as it is, and another task drives it on.
 ///
-/// What a poll or a drop may wait for is said at [`TryInitFuture`](crate::TryInitFuture). Besides,
-/// a poll may wait for the lock in which the cell keeps its future. Nobody has that lock while the
+/// It has the calls of [`Initializing`], where their examples are. What a poll or a drop may wait for is said there
+/// too. Besides, a poll may wait for the lock in which the cell keeps its future. Nobody has that lock while the
 /// future is polled.
 #[derive(Drop)]
 pub struct LazyFuturePin<'a, T, F: Future, R: Wait + AllocGlobal> {
-    future: InitFuture<'a, T, Driven<'a, F, R>, R>,
+    inner: Initializing<'a, T, Refused, Driven<'a, F, R>, R>,
 }
 
 /// Future of [`Lazy::get_unpin`](crate::Lazy::get_unpin) and of
@@ -39,59 +45,52 @@ pub struct LazyFuturePin<'a, T, F: Future, R: Wait + AllocGlobal> {
 /// polls, so it is the same type.
 pub type LazyFutureUnpin<'a, T, F, R> = LazyFuturePin<'a, T, F, R>;
 
+/// A clause sees of it what it sees of an [`Initializing`].
 impl<'a, T, F: Future, R: Wait + AllocGlobal> Model for LazyFuturePin<'a, T, F, R> {
     ghost use Rattle.async_once_cell.specs.Views.{FutureView};
+    ghost use Rattle.async_once_cell.specs.declared.lazy.future.Driven.{Driven};
 
-    ghost Value = { FutureView T };
+    ghost Value = { FutureView T (Driven F R F.Output) };
 
-    ghost view = { λ f. f.future };
+    ghost view = { λ f. f.inner };
 }
 
 impl<'a, T, F: Future, R: Wait + AllocGlobal> LazyFuturePin<'a, T, F, R> {
     #[inline(always)]
-    pub(crate) fn new(
+    pub(super) fn new(
         cell: &'a OnceCell<T>,
         rt: &'a R,
         future: &'a Mutex<Option<Pollable<F>>>,
     ) -> Self
         ensures cell { result.cell ≡ cell.now }
         ensures live { result.finished ≡ false }
+        ensures made { IsMade result }
     {
         LazyFuturePin {
-            future: InitFuture::new(cell, rt, Driven { rt, future }),
+            inner: Initializing::new(cell, rt, Driven { rt, future }),
         }
     }
 
-    #[inline(always)]
-    pub(crate) fn into_future(self) -> InitFuture<'a, T, Driven<'a, F, R>, R>
-        ensures { result ≡ self.entry }
-    {
-        let LazyFuturePin { future } = self;
-        future
-    }
-
-    /// Whether the future answered a value or a refusal. After that neither `poll` nor `poll_as` may be called; the
-    /// `poll` of the trait may, and asks for another poll.
+    /// As [`Initializing::is_finished`].
     #[inline(always)]
     pub fn is_finished(&self) -> bool
         ensures { result ≡ self.now.finished }
     {
-        self.future.is_finished()
+        self.inner.is_finished()
     }
 
-    /// Shows that the record of a cell that tasks share is a run of the cell, and that at each of its beginnings
-    /// somebody was called if somebody had to be. If the cell is set in it, it has a Fill. It does nothing else.
-    /// What the clauses say holds if it returns, see [`TryInitFuture::is_run`](crate::TryInitFuture::is_run).
+    /// As [`Initializing::is_run`].
     pub fn is_run(&self)
         ensures run { is_shared self.now.cell ≡ true → IsRun Once most (reverse self.now.log) }
         ensures called { is_shared self.now.cell ≡ true → AtEvery (SomebodyCalled Once) (reverse self.now.log) }
         ensures filled { is_shared self.now.cell ≡ true → IsSet self.now.log → WasFilled self.now.log }
+        ensures nobody_forgotten { is_shared self.now.cell ≡ true
+            → AtEvery (NobodyForgotten Once) (reverse self.now.log) }
     {
-        self.future.is_run();
+        self.inner.is_run();
     }
 
-    /// Tells a token of the cell what this future has seen of the record. It waits for nobody, and what its clauses
-    /// say holds if it returns, as at [`is_run`](Self::is_run).
+    /// As [`Initializing::tell`].
     pub fn tell(&self, token: &mut Known<'a, T>)
         requires token_of_this_cell { token.old.cell ≡ self.now.cell }
         ensures cell { token.new.cell ≡ token.old.cell }
@@ -100,7 +99,140 @@ impl<'a, T, F: Future, R: Wait + AllocGlobal> LazyFuturePin<'a, T, F, R> {
         ensures other { IsPrefix self.now.log token.new.log }
         ensures set { IsSetIn self.now.cell self.now.log → IsSetIn token.new.cell token.new.log }
     {
-        self.future.tell(token);
+        self.inner.tell(token);
+    }
+
+    /// As [`Initializing::learn`].
+    #[inline(always)]
+    pub fn learn(&mut self, token: &Known<'a, T>)
+        requires token_of_this_cell { token.now.cell ≡ self.old.cell }
+        ensures cell { self.new.cell ≡ self.old.cell }
+        ensures task { self.new.task ≡ self.old.task }
+        ensures finished { self.new.finished ≡ self.old.finished }
+        ensures own { IsPrefix self.old.log self.new.log }
+        ensures other { IsPrefix token.now.log self.new.log }
+        ensures mine { entries_of self.old.task self.new.log ≡ entries_of self.old.task self.old.log }
+        ensures own_set { IsSetIn self.old.cell self.old.log → IsSetIn self.new.cell self.new.log }
+        ensures other_set { IsSetIn token.now.cell token.now.log → IsSetIn self.new.cell self.new.log }
+    {
+        self.inner.learn(token);
+    }
+
+    /// As [`Initializing::are_two`].
+    #[inline(always)]
+    pub fn are_two(a: &mut Self, b: &mut Self)
+        requires one_cell { b.old.cell ≡ a.old.cell }
+        ensures cell { a.new.cell ≡ a.old.cell }
+        ensures task { a.new.task ≡ a.old.task }
+        ensures finished { a.new.finished ≡ a.old.finished }
+        ensures log { IsPrefix a.old.log a.new.log }
+        ensures set { IsSetIn a.old.cell a.old.log → IsSetIn a.new.cell a.new.log }
+        ensures other { b.new ≡ b.old }
+        ensures two { is_shared a.old.cell ≡ true → a.new.task ≢ b.new.task }
+    {
+        Initializing::are_two(&mut a.inner, &mut b.inner);
+    }
+}
+
+impl<'a, T: Drop, F: Future<Output = T>, R: Wait + AllocGlobal> LazyFuturePin<'a, T, F, R> {
+    /// As [`Initializing::poll`]. The cell's future has no error of its own to tell.
+    #[inline(always)]
+    pub fn poll(&mut self, cx: &mut Context<'_>) -> Poll<Result<&'a T, Refused>>
+        requires unfinished { self.old.finished ≡ false }
+        ensures call { DidPoll self.old self.new cx.old cx.new (ending_by ending_of_refusal result) }
+        ensures value { Answers self.old.cell result }
+        ensures late { IsSetIn self.old.cell self.old.log → IsValue result }
+    {
+        self.inner.poll(cx)
+    }
+
+    /// As [`Initializing::poll_as`].
+    pub fn poll_as(
+        &mut self,
+        cx: &mut Context<'_>,
+        token: &mut Known<'a, T>,
+    ) -> Poll<Result<&'a T, Refused>>
+        requires unfinished { self.old.finished ≡ false }
+        requires token_of_this_cell { token.old.cell ≡ self.old.cell }
+        ensures call { PollsAs token.old.value self.old self.new cx.old cx.new
+            (ending_by ending_of_refusal result) }
+        ensures cell { token.new.cell ≡ token.old.cell }
+        ensures value { Polls token.old.value token.new.value result }
+        ensures log { IsPrefix token.old.log token.new.log }
+        ensures spans { token.old.value ≡ None
+            → SpansIn self.old.cell self.old.task (end_of self.old.task (ending_by ending_of_refusal result))
+            token.old.log self.new.log }
+        ensures late { IsSetIn token.old.cell token.old.log → IsValue result }
+    {
+        self.inner.poll_as(cx, token)
+    }
+
+    /// As [`Initializing::wait`].
+    pub fn wait(self) -> io::Result<Result<&'a T, Refused>>
+    where
+        R: RandomSource,
+        requires unfinished { self.finished ≡ false }
+    {
+        self.inner.wait()
+    }
+
+    /// As [`Initializing::wait_as`].
+    pub fn wait_as(self, token: &mut Known<'a, T>) -> io::Result<Result<&'a T, Refused>>
+    where
+        R: RandomSource,
+        requires unfinished { self.finished ≡ false }
+        requires token_of_this_cell { token.old.cell ≡ self.cell }
+        ensures cell { token.new.cell ≡ token.old.cell }
+        ensures value { Waits token.old.value token.new.value result }
+        ensures log { IsPrefix token.old.log token.new.log }
+        ensures late { IsSetIn token.old.cell token.old.log → IsValueAtOnce result }
+    {
+        self.inner.wait_as(token)
+    }
+
+    /// As [`Initializing::wait_on`].
+    pub fn wait_on(self, parker: &mut Parker) -> io::Result<Result<&'a T, Refused>>
+        requires unfinished { self.finished ≡ false }
+    {
+        self.inner.wait_on(parker)
+    }
+
+    /// As [`Initializing::wait_as_on`].
+    pub fn wait_as_on(
+        self,
+        token: &mut Known<'a, T>,
+        parker: &mut Parker,
+    ) -> io::Result<Result<&'a T, Refused>>
+        requires unfinished { self.finished ≡ false }
+        requires token_of_this_cell { token.old.cell ≡ self.cell }
+        ensures cell { token.new.cell ≡ token.old.cell }
+        ensures value { Waits token.old.value token.new.value result }
+        ensures log { IsPrefix token.old.log token.new.log }
+        ensures late { IsSetIn token.old.cell token.old.log → IsValueAtOnce result }
+    {
+        self.inner.wait_as_on(token, parker)
+    }
+}
+
+/// Polled when it is finished, it asks for another poll and changes nothing.
+impl<'a, T: Drop, F: Future<Output = T>, R: Wait + AllocGlobal> Future
+    for LazyFuturePin<'a, T, F, R> {
+    type Output = Result<&'a T, Refused>;
+
+    #[inline(always)]
+    fn poll(&mut self, cx: &mut Context<'_>) -> Poll<Result<&'a T, Refused>>
+        ensures value { IfReady result (λ _. ⊤) }
+        ensures again { OnPending result ⊤ }
+        ensures same { OnPending result ((x : Result (Bor T) Refused) → ⊤ → ⊤) }
+        ensures registered { OnPending result (Covers cx.new (λ _. ⊥)) }
+        ensures kept { Keeps cx.old cx.new }
+        ensures call { self.old.finished ≡ false
+            → DidPoll self.old self.new cx.old cx.new (ending_by ending_of_refusal result) }
+        ensures answers { self.old.finished ≡ false → Answers self.old.cell result }
+        ensures late { self.old.finished ≡ false → IsSetIn self.old.cell self.old.log → IsValue result }
+        ensures over { self.old.finished ≡ true → (result ≡ Poll.Pending) × (self.new ≡ self.old) }
+    {
+        <Initializing<'a, T, Refused, Driven<'a, F, R>, R> as Future>::poll(&mut self.inner, cx)
     }
 }
 
@@ -112,109 +244,6 @@ impl<T, F: Future, R: Wait + AllocGlobal> fmt::Debug for LazyFuturePin<'_, T, F,
     }
 }
 
-impl<'a, T: Drop, F: Future<Output = T>, R: Wait + AllocGlobal> LazyFuturePin<'a, T, F, R> {
-    /// Polls the future once. It is Pending, or it answers the value that is set or a refusal, and the future is
-    /// finished then.
-    /// [`InitFuture::poll`] and [`InitFuture::poll_as`] have examples.
-    #[inline(always)]
-    pub fn poll(&mut self, cx: &mut Context<'_>) -> Poll<Result<&'a T, Refused>>
-        requires unfinished { self.old.finished ≡ false }
-        ensures call { DidPoll self.old self.new cx.old cx.new (sure_ending result) }
-        ensures value { Answers self.old.cell result }
-    {
-        self.future.poll(cx)
-    }
-
-    /// As [`poll`](Self::poll), and the token learns the value that is answered. A token that knows
-    /// a value gets that value; the future leaves its cell as by a drop, and is finished.
-    pub fn poll_as(
-        &mut self,
-        cx: &mut Context<'_>,
-        token: &mut Known<'a, T>,
-    ) -> Poll<Result<&'a T, Refused>>
-        requires unfinished { self.old.finished ≡ false }
-        requires token_of_this_cell { token.old.cell ≡ self.old.cell }
-        ensures call { PollsAs token.old.value self.old self.new cx.old cx.new (sure_ending result) }
-        ensures cell { token.new.cell ≡ token.old.cell }
-        ensures value { Polls token.old.value token.new.value result }
-        ensures log { IsPrefix token.old.log token.new.log }
-    {
-        self.future.poll_as(cx, token)
-    }
-}
-
-impl<'a, T: Drop, F: Future<Output = T>, R: Wait + AllocGlobal> LazyFuturePin<'a, T, F, R> {
-    /// Polls the future on this thread until it answers, and sleeps while it has to wait. Whom it waits
-    /// for, and what `io::Error` says, is told at [`TryInitFuture::wait`](crate::TryInitFuture::wait);
-    /// the init is that of the cell, which this thread drives on if it gets the right.
-    ///
-    /// ```
-    /// let value = lazy.get(rt).wait()??; // &3
-    /// ```
-    pub fn wait(self) -> io::Result<Result<&'a T, Refused>>
-    where
-        R: RandomSource,
-        requires unfinished { self.finished ≡ false }
-    {
-        self.into_future().wait()
-    }
-
-    /// As [`wait`](Self::wait), and the token learns the value that is answered. A token that knows
-    /// a value gets that value at once.
-    ///
-    /// ```
-    /// Ok(lazy.get(rt).wait_as(token)??)
-    /// ```
-    pub fn wait_as(self, token: &mut Known<'a, T>) -> io::Result<Result<&'a T, Refused>>
-    where
-        R: RandomSource,
-        requires unfinished { self.finished ≡ false }
-        requires token_of_this_cell { token.old.cell ≡ self.cell }
-        ensures cell { token.new.cell ≡ token.old.cell }
-        ensures value { Waits token.old.value token.new.value result }
-        ensures log { IsPrefix token.old.log token.new.log }
-    {
-        self.into_future().wait_as(token)
-    }
-
-    /// As [`wait`](Self::wait), by a parker that the caller keeps. `io::Error` says that there was no
-    /// memory to wait.
-    pub fn wait_on(self, parker: &mut Parker) -> io::Result<Result<&'a T, Refused>>
-        requires unfinished { self.finished ≡ false }
-    {
-        self.into_future().wait_on(parker)
-    }
-
-    /// As [`wait_as`](Self::wait_as), by a parker that the caller keeps.
-    pub fn wait_as_on(
-        self,
-        token: &mut Known<'a, T>,
-        parker: &mut Parker,
-    ) -> io::Result<Result<&'a T, Refused>>
-        requires unfinished { self.finished ≡ false }
-        requires token_of_this_cell { token.old.cell ≡ self.cell }
-        ensures cell { token.new.cell ≡ token.old.cell }
-        ensures value { Waits token.old.value token.new.value result }
-        ensures log { IsPrefix token.old.log token.new.log }
-    {
-        self.into_future().wait_as_on(token, parker)
-    }
-}
-
-/// Polled when it is finished, it asks for another poll and changes nothing.
-impl<'a, T: Drop, F: Future<Output = T>, R: Wait + AllocGlobal> Future
-    for LazyFuturePin<'a, T, F, R> {
-    type Output = Result<&'a T, Refused>;
-
-    #[inline(always)]
-    fn poll(&mut self, cx: &mut Context<'_>) -> Poll<Result<&'a T, Refused>> {
-        if self.is_finished() {
-            return cx.yield_now();
-        }
-        InitFuture::poll(&mut self.future, cx)
-    }
-}
-
 // The future of a cell, as whoever holds the right drives it on. To drop this leaves it as it is.
 #[derive(Drop)]
 pub(crate) struct Driven<'a, F: Future, R> {
@@ -223,35 +252,43 @@ pub(crate) struct Driven<'a, F: Future, R> {
 }
 
 impl<F: Future, R: Wait> Driven<'_, F, R> {
+    // Only the task that has the right takes the future out, and it puts it back before it gives the right back. So it
+    // is there at the first look. No clause says so, and hence a look that missed it would look again.
     #[inline(always)]
-    fn take_out(&self) -> Option<Pollable<F>> {
-        self.future.lock(self.rt).take()
+    fn take_out(&self) -> Option<Pollable<F>>
+        ensures { IsSome result }
+    {
+        for _ in self.rt.forever() {
+            let future = self.future.lock(self.rt).take();
+            if future.is_some() {
+                return future;
+            }
+        }
+        unreachable!()
     }
 
     #[inline(always)]
-    fn put_back(&self, future: Pollable<F>) {
-        *self.future.lock(self.rt) = Some(future);
+    fn put_back(&self, future: Option<Pollable<F>>) {
+        *self.future.lock(self.rt) = future;
     }
 }
 
-impl<F: Future, R: Wait> Future for Driven<'_, F, R> {
-    type Output = F::Output;
+impl<T, F: Future<Output = T>, R: Wait> Init<T, Refused> for Driven<'_, F, R> {
+    // The future cannot fail.
+    ghost may_fail = { λ _ _. ⊥ };
 
     // The future is polled with the lock free. When it gave its value it is dropped, before the
     // value is set.
     #[inline(always)]
-    fn poll(&mut self, cx: &mut Context<'_>) -> Poll<F::Output> {
-        // Only the task that holds polls this, so the future is there. No clause says so.
-        let Some(pollable) = self.take_out() else {
-            return cx.yield_now();
-        };
-        let mut future = pollable.into_inner();
-        match future.poll(cx) {
-            Poll::Ready(value) => Poll::Ready(value),
-            Poll::Pending => {
-                self.put_back(Pollable::new(future));
-                Poll::Pending
-            }
-        }
+    fn poll_init(
+        init: &mut Option<Self>,
+        cx: &mut Context<'_>,
+        right: &mut Hand,
+    ) -> Poll<Result<T, Failed<Refused>>> {
+        let Some(driven) = init else { unreachable!() };
+        let mut future = driven.take_out();
+        let polled = <Pollable<F> as Init<T, Refused>>::poll_init(&mut future, cx, right);
+        driven.put_back(future);
+        polled
     }
 }

@@ -1,24 +1,32 @@
-//! The future of an init that may fail. All other futures of the cells are made of it.
-ghost use Rattle.std.specs.Prelude.{◌≡◌, [], false, true, MatchOption, Some, reverse};
+//! The future of a cell. Three names stand for it, by what its init gives and what it answers.
+ghost use Rattle.std.specs.Prelude.{◌≡◌, ◌≢◌, None, IfOk, ℕ, ⊤, [], false, true, MatchOption, Result, Some, reverse};
+ghost use Rattle.std.specs.Borrow.{Bor};
+ghost use Rattle.futures.specs.Poll.{IfReady, OnPending};
+ghost use Rattle.futures.specs.Task.{Covers, Keeps};
 ghost use mathlib.Core.List.{IsPrefix};
-ghost use Rattle.async_once_cell.specs.Futures.{HasBook, IsAsked, is_of_owned, view_of_future, is_done, seen_of};
-ghost use Rattle.async_once_cell.specs.Polls.{Answers, DidPoll, HasLeft, Polls, PollsAs, ending_by, ending_in};
-ghost use Rattle.async_once_cell.specs.Tokens.{Agrees, IsSetIn};
-ghost use Rattle.async_once_cell.specs.Views.{CellView, is_shared};
+ghost use Rattle.async_once_cell.specs.Futures.{HasBook, IsAsked, init_of, is_of_owned, view_of_future};
+ghost use Rattle.async_once_cell.specs.Futures.{is_done, task_of, seen_of};
+ghost use Rattle.async_once_cell.specs.Inits.{FailsNoOther, TellsOwn};
+ghost use Rattle.async_once_cell.specs.Polls.{Answers, AnswersBy, DidPoll, HasLeft, IsMade, IsValue};
+ghost use Rattle.async_once_cell.specs.Polls.{Polls, PollsAs, SpansIn, ending_by};
+ghost use Rattle.async_once_cell.specs.Tokens.{IsSetIn};
+ghost use Rattle.async_once_cell.specs.Views.{CellView, IsOf, is_shared, known_of, log_of};
 ghost use Rattle.once_world.specs.Record.{Once};
-ghost use Rattle.once_world.specs.Run.{AtEvery, IsRun};
+ghost use Rattle.once_world.specs.Run.{AtEvery, IsRun, NobodyForgotten};
 ghost use Rattle.once_world.specs.Called.{SomebodyCalled};
-ghost use Rattle.once_book.specs.Kept.{most};
+ghost use Rattle.once_book.specs.Kept.{entries_of, most};
+ghost use Rattle.once_parts.specs.Walks.{end_of};
 ghost use Rattle.once_book.specs.Record.{IsSet, WasFilled};
 
+use super::known::Seen;
 use super::value::Value;
-use super::{InitError, Known, OnceCell, PollError};
+use super::{Failure, InitError, Known, OnceCell, Refused};
+use crate::init::Init;
 use crate::waiting::Waiting;
 use futures::Future;
-use futures::future::TryOutput;
 use futures::task::{Context, Poll};
-use once_book::Record;
 use once_book::record::is_run;
+use once_book::{Pollable, Record};
 use std::alloc::AllocGlobal;
 use std::fmt;
 use std::marker::{Model, PhantomData};
@@ -26,16 +34,22 @@ use std::sync::Wait;
 
 // What a future asks.
 #[derive(Drop)]
-enum Asked<'a, T, F: Future, R: Wait + AllocGlobal> {
+enum Asked<'a, T, I: Drop, R: Wait + AllocGlobal> {
     // A cell with its owner's value: the next poll drops the init and answers that value.
-    Owned(&'a R, F),
+    Owned(&'a R, I),
     // Such a cell, which the future has answered or left.
     Answered(&'a R),
     // A cell that tasks share, of which the future is one.
-    Shared(Waiting<'a, T, F, R>),
+    Shared(Waiting<'a, T, I, R>),
 }
 
-/// Future of [`OnceCell::get_or_try_init`].
+/// Future of [`OnceCell::get_or_init`]. Its init gives the value.
+pub type InitFuture<'a, T, F, R> = Initializing<'a, T, Refused, Pollable<F>, R>;
+
+/// Future of [`OnceCell::get_or_try_init`]. Its init gives the value or an error.
+pub type TryInitFuture<'a, T, E, F, R> = Initializing<'a, T, InitError<E>, Pollable<F>, R>;
+
+/// Future of a cell. `X` says why there is no value: [`Refused`], or an [`InitError`] where the init may fail.
 ///
 /// A poll answers the value that is set. While the cell is empty, the task that gets the right polls
 /// its init, and the others are Pending until they are woken. The value wakes all of them. An error, or
@@ -49,41 +63,42 @@ enum Asked<'a, T, F: Future, R: Wait + AllocGlobal> {
 /// dropped. A poll may take memory while another task holds or is in a call.
 ///
 /// A clause sees the future's cell, the number of its task, the cell's record as far as the task has seen it,
-/// and whether the future is finished. [`TryInitFuture::is_run`] says of the record that it is a run of the cell,
+/// and whether the future is finished. [`Initializing::is_run`] says of the record that it is a run of the cell,
 /// and that somebody was called wherever somebody had to be.
-pub struct TryInitFuture<'a, T, E, F: Future, R: Wait + AllocGlobal> {
-    error: PhantomData<E>,
+pub struct Initializing<'a, T, X, I: Drop, R: Wait + AllocGlobal> {
+    failure: PhantomData<X>,
     cell: &'a OnceCell<T>,
-    asked: Asked<'a, T, F, R>,
+    asked: Asked<'a, T, I, R>,
 }
 
-impl<'a, T, E, F: Future, R: Wait + AllocGlobal> Model for TryInitFuture<'a, T, E, F, R> {
+impl<'a, T, X, I: Drop, R: Wait + AllocGlobal> Model for Initializing<'a, T, X, I, R> {
     ghost use Rattle.async_once_cell.specs.Futures.{IsAsked, view_of_future};
     ghost use Rattle.async_once_cell.specs.Views.{FutureView};
 
-    ghost Value = { FutureView T };
+    ghost Value = { FutureView T I };
 
     ghost view = { λ f. view_of_future f.cell.now f.asked };
 
     ghost invariant = { λ f. IsAsked f.cell.now f.asked };
 }
 
-impl<'a, T, E, F: Future, R: Wait + AllocGlobal> TryInitFuture<'a, T, E, F, R> {
+impl<'a, T, X, I: Drop, R: Wait + AllocGlobal> Initializing<'a, T, X, I, R> {
     #[inline(always)]
-    pub(super) fn new(cell: &'a OnceCell<T>, rt: &'a R, init: F) -> Self
-        requires { F.can_poll init }
+    pub(crate) fn new(cell: &'a OnceCell<T>, rt: &'a R, init: I) -> Self
         ensures cell { result.cell ≡ cell.now }
         ensures live { result.finished ≡ false }
+        ensures made { IsMade result }
+        ensures init { result.init ≡ Some init }
     {
         // Each arm makes a whole future, so that the compiler writes its fields once.
         match &cell.value {
-            Value::Owned(_) => TryInitFuture {
-                error: PhantomData,
+            Value::Owned(_) => Initializing {
+                failure: PhantomData,
                 cell,
                 asked: Asked::Owned(rt, init),
             },
-            Value::Shared(inner) => TryInitFuture {
-                error: PhantomData,
+            Value::Shared(inner) => Initializing {
+                failure: PhantomData,
                 cell,
                 asked: Asked::Shared(Waiting::new(inner, rt, init)),
             },
@@ -121,7 +136,8 @@ impl<'a, T, E, F: Future, R: Wait + AllocGlobal> TryInitFuture<'a, T, E, F, R> {
     }
 
     /// Shows that the record of a cell that tasks share is a run of the cell, and that at each of its beginnings
-    /// somebody was called if somebody had to be. If the cell is set in it, it has a Fill. It does nothing else.
+    /// somebody was called if somebody had to be. If the cell is set in it, it has a Fill, and nobody who waits is
+    /// forgotten. It does nothing else.
     ///
     /// It waits for nobody. But the kit counts each function of a type with a bound `Wait` among those that may wait,
     /// and asks no proof that they return. So what the clauses say holds if it returns.
@@ -129,6 +145,8 @@ impl<'a, T, E, F: Future, R: Wait + AllocGlobal> TryInitFuture<'a, T, E, F, R> {
         ensures run { is_shared self.now.cell ≡ true → IsRun Once most (reverse self.now.log) }
         ensures called { is_shared self.now.cell ≡ true → AtEvery (SomebodyCalled Once) (reverse self.now.log) }
         ensures filled { is_shared self.now.cell ≡ true → IsSet self.now.log → WasFilled self.now.log }
+        ensures nobody_forgotten { is_shared self.now.cell ≡ true
+            → AtEvery (NobodyForgotten Once) (reverse self.now.log) }
     {
         if let Some(record) = self.asked.record() {
             is_run(&record);
@@ -137,6 +155,14 @@ impl<'a, T, E, F: Future, R: Wait + AllocGlobal> TryInitFuture<'a, T, E, F, R> {
 
     /// Tells a token of the cell what this future has seen of the record. It waits for nobody, and what its clauses
     /// say holds if it returns, as at [`is_run`](Self::is_run).
+    ///
+    /// ```
+    /// let Poll::Ready(Ok(first)) = future.poll(cx) else {
+    ///     return None;
+    /// };
+    /// future.tell(token);
+    /// let second = cell.get_as(token).unwrap(); // never None: the token has seen that the cell is set
+    /// ```
     pub fn tell(&self, token: &mut Known<'a, T>)
         requires token_of_this_cell { token.old.cell ≡ self.now.cell }
         ensures cell { token.new.cell ≡ token.old.cell }
@@ -150,6 +176,50 @@ impl<'a, T, E, F: Future, R: Wait + AllocGlobal> TryInitFuture<'a, T, E, F, R> {
         }
     }
 
+    /// The future takes over what a token of its cell has seen of the record: its next poll comes after that. It waits
+    /// for nobody.
+    ///
+    /// Here the token has seen that the cell is set:
+    ///
+    /// ```
+    /// future.learn(token);
+    /// future.poll(cx) // a value, which is proved
+    /// ```
+    #[inline(always)]
+    pub fn learn(&mut self, token: &Known<'a, T>)
+        requires token_of_this_cell { token.now.cell ≡ self.old.cell }
+        ensures cell { self.new.cell ≡ self.old.cell }
+        ensures task { self.new.task ≡ self.old.task }
+        ensures finished { self.new.finished ≡ self.old.finished }
+        ensures init { self.new.init ≡ self.old.init }
+        ensures own { IsPrefix self.old.log self.new.log }
+        ensures other { IsPrefix token.now.log self.new.log }
+        ensures mine { entries_of self.old.task self.new.log ≡ entries_of self.old.task self.old.log }
+        ensures own_set { IsSetIn self.old.cell self.old.log → IsSetIn self.new.cell self.new.log }
+        ensures other_set { IsSetIn token.now.cell token.now.log → IsSetIn self.new.cell self.new.log }
+    {
+        self.asked.learn(token.seen());
+    }
+
+    /// Shows that two futures of one cell are two tasks of it. It does nothing, but that the first may learn more of
+    /// the record. A cell that has its owner's value has no tasks.
+    #[inline(always)]
+    pub fn are_two<Y, J: Drop>(a: &mut Self, b: &mut Initializing<'a, T, Y, J, R>)
+        requires one_cell { b.old.cell ≡ a.old.cell }
+        ensures cell { a.new.cell ≡ a.old.cell }
+        ensures task { a.new.task ≡ a.old.task }
+        ensures finished { a.new.finished ≡ a.old.finished }
+        ensures init { a.new.init ≡ a.old.init }
+        ensures log { IsPrefix a.old.log a.new.log }
+        ensures set { IsSetIn a.old.cell a.old.log → IsSetIn a.new.cell a.new.log }
+        ensures other { b.new ≡ b.old }
+        ensures two { is_shared a.old.cell ≡ true → a.new.task ≢ b.new.task }
+    {
+        if let (Asked::Shared(one), Asked::Shared(other)) = (&mut a.asked, &mut b.asked) {
+            Waiting::are_two(one, other);
+        }
+    }
+
     // As by a drop: the init is dropped, and then the task gives the right back, or leaves those who wait.
     pub(super) fn leave(&mut self)
         requires live { self.old.finished ≡ false }
@@ -159,7 +229,7 @@ impl<'a, T, E, F: Future, R: Wait + AllocGlobal> TryInitFuture<'a, T, E, F, R> {
     }
 }
 
-impl<'a, T, F: Future, R: Wait + AllocGlobal> Asked<'a, T, F, R> {
+impl<'a, T, I: Drop, R: Wait + AllocGlobal> Asked<'a, T, I, R> {
     #[inline(always)]
     fn is_finished(&self) -> bool
         ensures { result ≡ is_done self.now }
@@ -182,6 +252,27 @@ impl<'a, T, F: Future, R: Wait + AllocGlobal> Asked<'a, T, F, R> {
         }
     }
 
+    #[inline(always)]
+    fn learn(&mut self, seen: &Seen<T>)
+        requires of { (c : CellView T) × IsAsked c self.old × IsOf c seen.now }
+        ensures of { (c : CellView T) → IsAsked c self.old → IsAsked c self.new }
+        ensures task { task_of self.new ≡ task_of self.old }
+        ensures finished { is_done self.new ≡ is_done self.old }
+        ensures init { init_of self.new ≡ init_of self.old }
+        ensures own { IsPrefix (seen_of self.old) (seen_of self.new) }
+        ensures other { IsPrefix (log_of seen.now) (seen_of self.new) }
+        ensures mine { entries_of (task_of self.old) (seen_of self.new)
+            ≡ entries_of (task_of self.old) (seen_of self.old) }
+        ensures own_set { IsSet (seen_of self.old) → IsSet (seen_of self.new) }
+        ensures other_set { IsSet (log_of seen.now) → IsSet (seen_of self.new) }
+    {
+        match (self, seen) {
+            (Asked::Shared(waiting), Seen::Shared(record, _)) => waiting.learn(record),
+            (Asked::Owned(_, _) | Asked::Answered(_), Seen::Owned(_)) => {}
+            _ => unreachable!(),
+        }
+    }
+
     fn leave(&mut self)
         requires live { is_done self.old ≡ false }
         ensures left { (c : CellView T) → IsAsked c self.old
@@ -195,29 +286,57 @@ impl<'a, T, F: Future, R: Wait + AllocGlobal> Asked<'a, T, F, R> {
     }
 }
 
-impl<'a, T: Drop, E: Drop, F, R: Wait + AllocGlobal> TryInitFuture<'a, T, E, F, R>
-where
-    F: Future<Output: TryOutput<Ok = T, Error = E>>,
-{
-    // Polls once, and tells the caller's own kind of error where there is no value.
+impl<'a, T: Drop, X: Failure, I: Init<T, X>, R: Wait + AllocGlobal> Initializing<'a, T, X, I, R> {
+    // Polls once, and tells with the value what a token learns by it.
     #[inline(always)]
-    pub(super) fn poll_into<X: PollError<E>>(
-        &mut self,
-        cx: &mut Context<'_>,
-    ) -> Poll<Result<&'a T, X>>
+    fn poll_found(&mut self, cx: &mut Context<'_>) -> Poll<Result<(&'a T, Seen<T>), X>>
         requires live { self.old.finished ≡ false }
         ensures did { DidPoll self.old self.new cx.old cx.new (ending_by X.ending result) }
-        ensures value { Answers self.old.cell result }
+        ensures value { AnswersBy (λ r. r.0.now) self.old.cell result }
+        ensures late { IsSetIn self.old.cell self.old.log → IsValue result }
+        ensures own { IfReady result (TellsOwn I.may_fail X.ending self.old.init) }
+        ensures same { FailsNoOther I.may_fail self.old.init self.new.init }
+        ensures found { IfReady result (λ a. IfOk a (λ r.
+            IsOf self.old.cell r.1 × (known_of self.old.cell r.1 ≡ Some r.0.now))) }
     {
         let cell = self.cell;
         match (&mut self.asked, &cell.value) {
-            (Asked::Shared(waiting), _) => waiting.poll(cx),
+            (Asked::Shared(waiting), _) => match waiting.poll(cx) {
+                Poll::Pending => Poll::Pending,
+                Poll::Ready(Err(failure)) => Poll::Ready(Err(failure)),
+                Poll::Ready(Ok((value, written))) => {
+                    Poll::Ready(Ok((value, Seen::Shared(waiting.record(), Some(written)))))
+                }
+            },
             (Asked::Owned(rt, _), Value::Owned(value)) => {
                 self.asked = Asked::Answered(*rt);
-                Poll::Ready(Ok(value))
+                Poll::Ready(Ok((value, Seen::Owned(true))))
             }
             _ => unreachable!(),
         }
+    }
+
+    // The same, after all that the token has seen.
+    #[inline(always)]
+    fn poll_after(
+        &mut self,
+        cx: &mut Context<'_>,
+        token: &Known<'a, T>,
+    ) -> Poll<Result<(&'a T, Seen<T>), X>>
+        requires live { self.old.finished ≡ false }
+        requires token_of_this_cell { token.now.cell ≡ self.old.cell }
+        ensures did { DidPoll self.old self.new cx.old cx.new (ending_by X.ending result) }
+        ensures value { AnswersBy (λ r. r.0.now) self.old.cell result }
+        ensures spans { SpansIn self.old.cell self.old.task (end_of self.old.task (ending_by X.ending result))
+            token.now.log self.new.log }
+        ensures late { IsSetIn token.now.cell token.now.log → IsValue result }
+        ensures own { IfReady result (TellsOwn I.may_fail X.ending self.old.init) }
+        ensures same { FailsNoOther I.may_fail self.old.init self.new.init }
+        ensures found { IfReady result (λ a. IfOk a (λ r.
+            IsOf self.old.cell r.1 × (known_of self.old.cell r.1 ≡ Some r.0.now))) }
+    {
+        self.learn(token);
+        self.poll_found(cx)
     }
 
     /// Polls the future once.
@@ -238,12 +357,27 @@ where
     /// }
     /// ```
     #[inline(always)]
-    pub fn poll(&mut self, cx: &mut Context<'_>) -> Poll<Result<&'a T, InitError<E>>>
+    pub fn poll(&mut self, cx: &mut Context<'_>) -> Poll<Result<&'a T, X>>
         requires unfinished { self.old.finished ≡ false }
-        ensures call { DidPoll self.old self.new cx.old cx.new (ending_in result) }
+        ensures call { DidPoll self.old self.new cx.old cx.new (ending_by X.ending result) }
         ensures value { Answers self.old.cell result }
+        ensures late { IsSetIn self.old.cell self.old.log → IsValue result }
+        ensures own { IfReady result (TellsOwn I.may_fail X.ending self.old.init) }
+        ensures same { FailsNoOther I.may_fail self.old.init self.new.init }
     {
-        self.poll_into(cx)
+        let cell = self.cell;
+        match (&mut self.asked, &cell.value) {
+            (Asked::Shared(waiting), _) => match waiting.poll(cx) {
+                Poll::Pending => Poll::Pending,
+                Poll::Ready(Err(failure)) => Poll::Ready(Err(failure)),
+                Poll::Ready(Ok((value, _))) => Poll::Ready(Ok(value)),
+            },
+            (Asked::Owned(rt, _), Value::Owned(value)) => {
+                self.asked = Asked::Answered(*rt);
+                Poll::Ready(Ok(value))
+            }
+            _ => unreachable!(),
+        }
     }
 
     /// As [`poll`](Self::poll), and the token learns the value that is answered. A token that knows
@@ -266,68 +400,79 @@ where
         &mut self,
         cx: &mut Context<'_>,
         token: &mut Known<'a, T>,
-    ) -> Poll<Result<&'a T, InitError<E>>>
+    ) -> Poll<Result<&'a T, X>>
         requires unfinished { self.old.finished ≡ false }
         requires token_of_this_cell { token.old.cell ≡ self.old.cell }
-        ensures call { PollsAs token.old.value self.old self.new cx.old cx.new (ending_in result) }
+        ensures call { PollsAs token.old.value self.old self.new cx.old cx.new (ending_by X.ending result) }
         ensures cell { token.new.cell ≡ token.old.cell }
         ensures value { Polls token.old.value token.new.value result }
         ensures log { IsPrefix token.old.log token.new.log }
+        ensures spans { token.old.value ≡ None
+            → SpansIn self.old.cell self.old.task (end_of self.old.task (ending_by X.ending result))
+            token.old.log self.new.log }
+        ensures late { IsSetIn token.old.cell token.old.log → IsValue result }
+        ensures own { IfReady result (TellsOwn I.may_fail X.ending self.old.init) }
+        ensures same { result ≡ Poll.Pending → FailsNoOther I.may_fail self.old.init self.new.init }
     {
         if token.knows_value() {
             self.leave();
             return Poll::Ready(Ok(token.learn(self.cell).unwrap()));
         }
-        match self.poll(cx) {
-            Poll::Ready(Ok(_)) => Poll::Ready(Ok(self.teach(token))),
-            polled => polled,
+        match self.poll_after(cx, token) {
+            Poll::Pending => Poll::Pending,
+            Poll::Ready(Err(failure)) => Poll::Ready(Err(failure)),
+            Poll::Ready(Ok((value, found))) => {
+                token.learn_found(&found);
+                Poll::Ready(Ok(value))
+            }
         }
-    }
-
-    // The value of the cell, which the future has seen set. The token is told that, and learns the value.
-    fn teach(&self, token: &mut Known<'a, T>) -> &'a T
-        requires token_of_this_cell { token.old.cell ≡ self.now.cell }
-        requires set { IsSetIn self.now.cell self.now.log }
-        ensures cell { token.new.cell ≡ token.old.cell }
-        ensures value { (token.new.value ≡ Some result.now) × Agrees token.old.value result.now }
-        ensures log { IsPrefix token.old.log token.new.log }
-    {
-        self.tell(token);
-        token.learn(self.cell).unwrap()
     }
 }
 
-/// As [`TryInitFuture::poll`], and no clause of the cells says so. Polled when it is finished, it asks for another
-/// poll and changes nothing.
-impl<'a, T: Drop, E: Drop, F, R: Wait + AllocGlobal> Future for TryInitFuture<'a, T, E, F, R>
-where
-    F: Future<Output: TryOutput<Ok = T, Error = E>>,
-{
-    type Output = Result<&'a T, InitError<E>>;
+/// Polled when it is finished, it asks for another poll and changes nothing.
+impl<'a, T: Drop, X: Failure, I: Init<T, X>, R: Wait + AllocGlobal> Future
+    for Initializing<'a, T, X, I, R> {
+    ghost use Rattle.async_once_cell.specs.Inits.{TellsOwn};
+
+    type Output = Result<&'a T, X>;
+
+    // An error that it tells of its init is one that the init may give.
+    ghost gives = { λ f r. TellsOwn I.may_fail X.ending f.init r };
 
     #[inline(always)]
-    fn poll(&mut self, cx: &mut Context<'_>) -> Poll<Result<&'a T, InitError<E>>> {
+    fn poll(&mut self, cx: &mut Context<'_>) -> Poll<Result<&'a T, X>>
+        ensures value { IfReady result (TellsOwn I.may_fail X.ending self.old.init) }
+        ensures again { OnPending result ⊤ }
+        ensures same { OnPending result ((x : Result (Bor T) X) → TellsOwn I.may_fail X.ending self.new.init x
+            → TellsOwn I.may_fail X.ending self.old.init x) }
+        ensures registered { OnPending result (Covers cx.new (λ _. ⊥)) }
+        ensures kept { Keeps cx.old cx.new }
+        ensures call { self.old.finished ≡ false → DidPoll self.old self.new cx.old cx.new (ending_by X.ending result) }
+        ensures answers { self.old.finished ≡ false → Answers self.old.cell result }
+        ensures late { self.old.finished ≡ false → IsSetIn self.old.cell self.old.log → IsValue result }
+        ensures over { self.old.finished ≡ true → (result ≡ Poll.Pending) × (self.new ≡ self.old) }
+    {
         if self.is_finished() {
             return cx.yield_now();
         }
-        TryInitFuture::poll_into(self, cx)
+        Initializing::poll(self, cx)
     }
 }
 
 /// Whether the future is finished.
-impl<T, E, F: Future, R: Wait + AllocGlobal> fmt::Debug for TryInitFuture<'_, T, E, F, R> {
+impl<T, X, I: Drop, R: Wait + AllocGlobal> fmt::Debug for Initializing<'_, T, X, I, R> {
     fn fmt<W: fmt::Write>(&self, f: &mut fmt::Formatter<W>) -> fmt::Result {
         let finished = self.is_finished();
-        write!(f, "TryInitFuture {{ finished: {finished} }}")
+        write!(f, "Initializing {{ finished: {finished} }}")
     }
 }
 
 /// The init is dropped first. Then the task gives the right back, or leaves those who wait.
-impl<T, E, F: Future, R: Wait + AllocGlobal> Drop for TryInitFuture<'_, T, E, F, R> {
+impl<T, X, I: Drop, R: Wait + AllocGlobal> Drop for Initializing<'_, T, X, I, R> {
     #[inline(always)]
     fn drop(self) {
-        let TryInitFuture {
-            error: _,
+        let Initializing {
+            failure: _,
             cell: _,
             asked,
         } = self;

@@ -1,13 +1,13 @@
 //! Tokens: what their holder has learned of one cell.
-ghost use Rattle.std.specs.Prelude.{◌≡◌, ◌↔◌, ◌⊎◌, IsSome, IsTrue, None, Some, true, reverse};
+ghost use Rattle.std.specs.Prelude.{◌≡◌, ◌↔◌, ◌⊎◌, IsSome, IsTrue, MatchOption, None, Some, true, reverse};
 ghost use Rattle.std.specs.Option.{is_some, option_or};
 ghost use mathlib.Core.List.{IsPrefix};
 ghost use Rattle.once_world.specs.Record.{Once};
-ghost use Rattle.once_world.specs.Run.{AtEvery, IsRun};
+ghost use Rattle.once_world.specs.Run.{AtEvery, IsRun, NobodyForgotten};
 ghost use Rattle.once_world.specs.Called.{SomebodyCalled};
 ghost use Rattle.once_book.specs.Kept.{most};
 ghost use Rattle.once_book.specs.Record.{IsSet, WasFilled};
-ghost use Rattle.async_once_cell.specs.Views.{CellView, IsBookOf, IsOf, is_shared, known_of, log_of};
+ghost use Rattle.async_once_cell.specs.Views.{CellView, IsBookOf, IsOf, Shows, is_shared, known_of, log_of};
 ghost use Rattle.async_once_cell.specs.Tokens.{IsSetIn, Learns, Lends, Looks};
 
 use super::OnceCell;
@@ -21,7 +21,7 @@ use std::sync::OnceToken;
 
 // What a token saw of its cell.
 #[derive(Drop)]
-enum Seen<T> {
+pub(super) enum Seen<T> {
     // Of a cell that has its owner's value: whether the token knows it.
     Owned(bool),
     // Of a cell that tasks share: the record as far as it was seen, and what shows the value.
@@ -90,6 +90,21 @@ impl<'a, T> Known<'a, T> {
         }
     }
 
+    // The cell, its value where the token knows it, and what shows it.
+    pub(super) fn shown(&self) -> Option<(&'a OnceCell<T>, &'a T, Option<Written<T>>)>
+        ensures { MatchOption result (self.now.value ≡ None)
+            (λ r. (r.0.now ≡ self.now.cell) × (self.now.value ≡ Some r.1.now) × Shows r.0.now r.1.now r.2) }
+    {
+        let cell = self.cell;
+        match (&cell.value, &self.seen) {
+            (Value::Owned(value), Seen::Owned(true)) => Some((cell, value, None)),
+            (Value::Shared(inner), Seen::Shared(_, Some(written))) => {
+                Some((cell, inner.value(written), Some(written.again())))
+            }
+            _ => None,
+        }
+    }
+
     // The value, where the token knows it.
     fn known(&self) -> Option<&T> {
         let cell = self.cell;
@@ -110,6 +125,27 @@ impl<'a, T> Known<'a, T> {
         ensures set { IsSet seen.now.log → IsSet self.new.log }
     {
         self.seen.learn_record(seen);
+    }
+
+    // What it has seen.
+    #[inline(always)]
+    pub(super) fn seen(&self) -> &Seen<T>
+        ensures of { IsOf self.now.cell result.now }
+        ensures log { log_of result.now ≡ self.now.log }
+    {
+        &self.seen
+    }
+
+    // Learns a value, and the record in which it was found.
+    #[inline(always)]
+    pub(super) fn learn_found(&mut self, found: &Seen<T>)
+        requires of { IsOf self.old.cell found.now }
+        ensures cell { self.new.cell ≡ self.old.cell }
+        ensures value { self.new.value ≡ option_or self.old.value (known_of self.old.cell found.now) }
+        ensures own { IsPrefix self.old.log self.new.log }
+        ensures other { IsPrefix (log_of found.now) self.new.log }
+    {
+        self.seen.learn_from(found);
     }
 
     /// Takes over what another token of the cell has seen: its record, and its value where this one knows
@@ -133,7 +169,7 @@ impl<'a, T> Known<'a, T> {
 
     /// It does nothing. Its contract is about the record of a cell that tasks share. The record is a run of
     /// the cell, and at each of its beginnings somebody was called if somebody had to be. If the cell is set
-    /// in it, it has a Fill.
+    /// in it, it has a Fill, and nobody who waits is forgotten.
     ///
     /// ```
     /// token.is_run();
@@ -143,6 +179,8 @@ impl<'a, T> Known<'a, T> {
         ensures run { is_shared self.now.cell ≡ true → IsRun Once most (reverse self.now.log) }
         ensures called { is_shared self.now.cell ≡ true → AtEvery (SomebodyCalled Once) (reverse self.now.log) }
         ensures filled { is_shared self.now.cell ≡ true → IsSet self.now.log → WasFilled self.now.log }
+        ensures nobody_forgotten { is_shared self.now.cell ≡ true
+            → AtEvery (NobodyForgotten Once) (reverse self.now.log) }
     {
         if let Seen::Shared(record, _) = &self.seen {
             is_run(record);

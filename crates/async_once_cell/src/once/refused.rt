@@ -1,9 +1,9 @@
 //! Why a poll ended without a value.
-ghost use Rattle.std.specs.Prelude.{◌≡◌, Some};
+ghost use Rattle.std.specs.Prelude.{◌≡◌, Option, Some, None, IfErr};
 ghost use Rattle.once_core.specs.declared.step.Ending.{Ending};
-ghost use Rattle.async_once_cell.specs.Polls.{ending_of_error, ending_of_refusal};
+ghost use Rattle.async_once_cell.specs.Polls.{ending_of_refusal};
+ghost use Rattle.async_once_cell.specs.Refused.{own_error};
 
-use std::convert::Infallible;
 use std::error::Error;
 use std::io::ErrorKind;
 use std::{fmt, io};
@@ -23,7 +23,7 @@ use std::{fmt, io};
 /// ```
 #[derive(Clone, Copy, Debug, PartialEq, Eq)]
 pub enum Refused {
-    /// Memory was refused: for the queue of those who wait, for the task's seat, or for its place in the queue.
+    /// Memory was refused: for the queue of those who wait, or for the task's place in it.
     Memory,
     /// As many tasks are counted in as may be, 2^62 - 2. Counted are those that wait, those in a call that came to
     /// the queue, and a holder that claimed there.
@@ -45,16 +45,8 @@ impl fmt::Display for Refused {
 
 impl Error for Refused {}
 
-/// Why a poll ended without a value: the caller's own init failed, or the poll was refused.
-///
-/// ```
-/// match cell.get_or_try_init(rt, load).wait_as(token)? {
-///     Ok(value) => Ok(*value),
-///     Err(InitError::Init(error)) => Err(Fault::NotLoaded(error)), // the caller's own load failed
-///     Err(InitError::Memory) => Err(Fault::Refused(Refused::Memory)),
-///     Err(InitError::Full) => Err(Fault::Refused(Refused::Full)),
-/// }
-/// ```
+/// Why a poll ended without a value: the caller's own init failed, or the poll was refused. [`InitError::own`] tells
+/// the two apart.
 #[derive(Clone, Copy, Debug, Drop, PartialEq, Eq)]
 pub enum InitError<E> {
     /// The caller's init answered this error. The right was given back, and another caller may fill
@@ -64,6 +56,29 @@ pub enum InitError<E> {
     Memory,
     /// As [`Refused::Full`].
     Full,
+}
+
+impl<E> InitError<E> {
+    /// The error of the caller's init, or else the refusal.
+    ///
+    /// ```
+    /// match cell.get_or_try_init(rt, load).wait_as(token)? {
+    ///     Ok(value) => Ok(*value),
+    ///     Err(error) => match error.own() {
+    ///         Ok(own) => Err(Fault::NotLoaded(own)), // the caller's own load failed
+    ///         Err(refused) => Err(Fault::Refused(refused)),
+    ///     },
+    /// }
+    /// ```
+    pub fn own(self) -> Result<E, Refused>
+        ensures { result ≡ own_error self }
+    {
+        match self {
+            InitError::Init(error) => Ok(error),
+            InitError::Memory => Err(Refused::Memory),
+            InitError::Full => Err(Refused::Full),
+        }
+    }
 }
 
 impl<E: fmt::Display> fmt::Display for InitError<E> {
@@ -111,41 +126,72 @@ impl<E> From<Refused> for InitError<E> {
     }
 }
 
-/// An error that tells how a poll ended without a value, where the init's own error is an `E`.
-pub(crate) trait PollError<E> {
+/// Why a poll ended without a value, as a future tells it: [`Refused`], or an [`InitError`] where the init may fail.
+pub trait Failure: Drop {
     // How the poll ended.
     ghost ending: { Self → Ending };
 
-    fn of(error: InitError<E>) -> Self
-        ensures { Self.ending result ≡ ending_of_error error };
+    /// The poll was refused.
+    fn refused(refused: Refused) -> Self
+        ensures { ending result ≡ ending_of_refusal refused };
 }
 
-impl<E> PollError<E> for InitError<E> {
-    ghost use Rattle.async_once_cell.specs.Polls.{ending_of_error};
-
-    ghost ending = { ending_of_error };
-
-    #[inline(always)]
-    fn of(error: InitError<E>) -> Self
-        ensures { ending_of_error result ≡ ending_of_error error }
-    {
-        error
-    }
-}
-
-impl PollError<Infallible> for Refused {
+impl Failure for Refused {
     ghost use Rattle.async_once_cell.specs.Polls.{ending_of_refusal};
 
     ghost ending = { ending_of_refusal };
 
     #[inline(always)]
-    fn of(error: InitError<Infallible>) -> Self
-        ensures { ending_of_refusal result ≡ ending_of_error error }
+    fn refused(refused: Refused) -> Self
+        ensures { ending_of_refusal result ≡ ending_of_refusal refused }
     {
-        match error {
-            InitError::Init(never) => match never {},
-            InitError::Memory => Refused::Memory,
-            InitError::Full => Refused::Full,
+        refused
+    }
+}
+
+impl<E: Drop> Failure for InitError<E> {
+    ghost use Rattle.async_once_cell.specs.Polls.{ending_of_error};
+
+    ghost ending = { ending_of_error };
+
+    #[inline(always)]
+    fn refused(refused: Refused) -> Self
+        ensures { ending_of_error result ≡ ending_of_refusal refused }
+    {
+        InitError::from(refused)
+    }
+}
+
+/// What an init gives: the value, or a result with the value or an error.
+pub trait Gives<T, X: Failure> {
+    // What the init gave, where a poll tells this error of its own init.
+    ghost given_as: { X → Option Self };
+
+    /// The value, or the error as a future tells it.
+    fn given(self) -> Result<T, X>
+        ensures error { IfErr result (λ x. X.ending x ≡ Ending.Error) }
+        ensures own { IfErr result (λ x. given_as x ≡ Some self) };
+}
+
+impl<T> Gives<T, Refused> for T {
+    ghost given_as = { λ _. None };
+
+    #[inline(always)]
+    fn given(self) -> Result<T, Refused> {
+        Ok(self)
+    }
+}
+
+impl<T, E: Drop> Gives<T, InitError<E>> for Result<T, E> {
+    ghost use Rattle.async_once_cell.specs.Refused.{given_error};
+
+    ghost given_as = { given_error };
+
+    #[inline(always)]
+    fn given(self) -> Result<T, InitError<E>> {
+        match self {
+            Ok(value) => Ok(value),
+            Err(error) => Err(InitError::Init(error)),
         }
     }
 }

@@ -123,6 +123,6 @@ fn value_dropped_once_where_memory_is_refused(rt: HostRuntime) -> Result<(), Fai
         are_so &= made_after(&rt, &tasks, &mut rations)? == (true, [0, 1]);
     }
     drop(held);
-    assert_eq!(rt; (are_so, rations.requests().len() >= 5), (true, true));
+    assert_eq!(rt; (are_so, rations.requests().len() >= 4), (true, true));
     Ok(())
 }

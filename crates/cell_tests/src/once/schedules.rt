@@ -209,14 +209,14 @@ show => OnceCell { value: Some(6), inner: Inner { ready: true, quick_init: false
 
 # futures_shown: a future says whether it is finished
 try 0
-future 0 => TryInitFuture { finished: false }
+future 0 => Initializing { finished: false }
 poll 0 e1 => e1, done
-future 0 => TryInitFuture { finished: true }
+future 0 => Initializing { finished: true }
 drop 0
 init 1
-future 1 => InitFuture { finished: false }
+future 1 => Initializing { finished: false }
 poll 1 v4 => v4, done
-future 1 => InitFuture { finished: true }
+future 1 => Initializing { finished: true }
 
 # filled_twice: a cell whose value was taken is filled again as a new one is
 init 0
@@ -293,18 +293,18 @@ drop 0
 inits => 2 polls, 2 drops
 show => OnceCell { value: Some(4), inner: Inner { ready: true, quick_init: false, refcount: 0, queue: false } }
 
-# place_held_until_a_refused_init_is_dropped: who is refused a seat drops its init, and then gives its place back
+# place_held_until_a_refused_init_is_dropped: who is refused a listing drops its init, and then gives its place back
 init 0
-init 1
-looks 2 OnceCell { value: None, inner: Inner { ready: false, quick_init: true, refcount: 2, queue: true } }
+1..9 * init n
+looks 9 OnceCell { value: None, inner: Inner { ready: false, quick_init: true, refcount: 9, queue: true } }
 poll 0 p => pending, wakes 0
-poll 1 v9 => pending
+1..9 * poll n v9 => pending
 starve
 found => None
-poll 2 v9 => memory, done
+poll 9 v9 => memory, done, wakes 9
 found => Some(true)
-show => OnceCell { value: None, inner: Inner { ready: false, quick_init: true, refcount: 1, queue: true } }
-drop 2
+show => OnceCell { value: None, inner: Inner { ready: false, quick_init: true, refcount: 8, queue: true } }
+drop 9
 inits => 1 polls, 1 drops";
 
 #[test]

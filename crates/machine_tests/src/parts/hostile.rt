@@ -1,18 +1,21 @@
 // Sides that use another task of their cell in the middle of a step of their own.
-ghost use Rattle.std.specs.Prelude.{◌≡◌, [], refl, false};
+ghost use Rattle.std.specs.Prelude.{◌≡◌, [], IfOk, refl, false, true};
 ghost use Rattle.std.proofs.Common.{rules};
 
 use super::side::{Called, NOBODY, Seen, TestSide};
 use super::walks::{Caller, Cell, ERROR, MEMORY, PENDING, TWO, VALUE};
 use crate::bell::Bell;
 use crate::doubles::text::shows;
-use once_book::Mark;
+use once_book::{Hand, Mark};
 use once_core::step::{Ending, Polled, Side};
 use once_parts::{Task, TaskSide};
 use once_queue::waiters::Out;
 use std::alloc::AllocGlobal;
+use std::io;
 use std::marker::Model;
+use std::random::RandomSource;
 use std::sync::Wait;
+use std::test::Fail;
 
 // The task with this name alone is called.
 const NINE: Called = [Some(9), None, None];
@@ -33,7 +36,7 @@ enum Act {
 /// where it calls others. A clause sees what is told of it.
 #[derive(Drop)]
 struct Meddling<'a, 'r, R> {
-    side: TestSide,
+    side: TestSide<'r, R>,
     other: Caller<'a, 'r, R>,
     at_run: Act,
     at_copy: Act,
@@ -52,18 +55,25 @@ impl<'a, 'r, R> Model for Meddling<'a, 'r, R> {
 
 impl<'a, 'r, R: Wait + AllocGlobal> Meddling<'a, 'r, R> {
     // The side of the task with this mark, whose init answers so. It leaves the other task alone.
-    fn new(name: u64, mark: Mark, answer: Polled, other: Caller<'a, 'r, R>) -> Self
-        ensures number { result.number ≡ mark }
-        ensures none { result.woke ≡ [] }
+    fn new(
+        rt: &'r R,
+        name: u64,
+        mark: Mark,
+        answer: Polled,
+        other: Caller<'a, 'r, R>,
+    ) -> io::Result<Self>
+    where
+        R: RandomSource,
+        ensures { IfOk result (λ m. (m.number ≡ mark) × (m.has_init ≡ true) × (m.woke ≡ [])) }
     {
-        Meddling {
-            side: TestSide::new(name, mark, answer),
+        Ok(Meddling {
+            side: TestSide::new(rt, name, mark, answer)?,
             other,
             at_run: Act::Nothing,
             at_copy: Act::Nothing,
             at_wake: Act::Nothing,
             heard: None,
-        }
+        })
     }
 
     // Another call is to begin, in which nobody was called yet.
@@ -75,7 +85,7 @@ impl<'a, 'r, R: Wait + AllocGlobal> Meddling<'a, 'r, R> {
 
     // Its init answers this from now on.
     fn answers(&mut self, answer: Polled)
-        ensures { self.new ≡ self.old }
+        ensures { self.new ≡ record self.old { has_init = true } }
     {
         self.side.answers(answer);
     }
@@ -136,7 +146,11 @@ impl<R: Wait + AllocGlobal> Side<Bell> for Meddling<'_, '_, R> {
 
     type Value = u64;
 
+    type Right = Hand;
+
     ghost did = { sided_tells (λ b. b.mark.value) (λ s. s) };
+
+    ghost can_run = { λ s. s.has_init ≡ true };
 
     ghost can_put = { λ s. s.has_value ≡ true };
 
@@ -146,9 +160,9 @@ impl<R: Wait + AllocGlobal> Side<Bell> for Meddling<'_, '_, R> {
 
     ghost stays_on = { λ a b c p q. Prim.search rules };
 
-    fn run(&mut self) -> Polled {
+    fn run(&mut self, right: &mut Hand) -> Polled {
         self.obey(self.at_run);
-        self.side.run()
+        self.side.run(right)
     }
 
     fn close(&mut self) {
@@ -180,6 +194,8 @@ impl<R: Wait + AllocGlobal> TaskSide<Bell> for Meddling<'_, '_, R> {
 
     ghost tells = { sided_told (λ b. b.mark.value) (λ s. s) };
 
+    ghost runs = { λ s h. h };
+
     ghost puts = { λ s h. h };
 }
 
@@ -189,16 +205,26 @@ struct Meddler<'a, 'r, R> {
     task: Task<'a, 'r, u64, Bell, R>,
     side: Meddling<'a, 'r, R>,
     ghost same: { side.number ≡ task.number },
+    // The init is there until the task is finished.
+    ghost has_init: { task.finished ≡ false → side.has_init ≡ true },
 }
 
 impl<'a, 'r, R: Wait + AllocGlobal> Meddler<'a, 'r, R> {
     // A new task of this name, whose init answers so.
-    fn new(cell: &'a Cell, rt: &'r R, name: u64, answer: Polled, other: Caller<'a, 'r, R>) -> Self
-        ensures { result.task.finished ≡ false }
+    fn new(
+        cell: &'a Cell,
+        rt: &'r R,
+        name: u64,
+        answer: Polled,
+        other: Caller<'a, 'r, R>,
+    ) -> io::Result<Self>
+    where
+        R: RandomSource,
+        ensures { IfOk result (λ m. m.task.finished ≡ false) }
     {
         let task = Task::new(cell, rt);
-        let side = Meddling::new(name, task.mark(), answer, other);
-        Meddler { task, side }
+        let side = Meddling::new(rt, name, task.mark(), answer, other)?;
+        Ok(Meddler { task, side })
     }
 
     // A poll. None says that the task was finished before.
@@ -220,11 +246,11 @@ impl<'a, 'r, R: Wait + AllocGlobal> Meddler<'a, 'r, R> {
 
 // While a waiter's bell is copied, another task is polled, which waits too. It is listed first.
 #[test]
-fn a_copy_that_polls(rt: HostRuntime) {
+fn a_copy_that_polls(rt: HostRuntime) -> Result<(), Fail> {
     let cell = Cell::new();
-    let mut holder = Caller::new(&cell, &rt, 5, Polled::Pending);
-    let other = Caller::new(&cell, &rt, 8, Polled::Error);
-    let mut waiter = Meddler::new(&cell, &rt, 7, Polled::Error, other);
+    let mut holder = Caller::new(&cell, &rt, 5, Polled::Pending)?;
+    let other = Caller::new(&cell, &rt, 8, Polled::Error)?;
+    let mut waiter = Meddler::new(&cell, &rt, 7, Polled::Error, other)?;
     waiter.side.polls();
     let pending = [holder.polled(), waiter.polled(), waiter.side.heard()];
     holder.answers(Polled::Value);
@@ -236,15 +262,16 @@ fn a_copy_that_polls(rt: HostRuntime) {
     assert_eq!(rt; seen, ([Some(8), Some(7), None], [2, 1]));
     assert_eq!(rt; heard, VALUE);
     assert!(rt; shows(&rt, &cell, FILLED));
+    Ok(())
 }
 
 // An init polls another task, which waits. The holder gives its value and calls who waits, and the other
 // is polled inside that call.
 #[test]
-fn an_init_and_a_wake_that_poll(rt: HostRuntime) {
+fn an_init_and_a_wake_that_poll(rt: HostRuntime) -> Result<(), Fail> {
     let cell = Cell::new();
-    let other = Caller::new(&cell, &rt, 9, Polled::Error);
-    let mut holder = Meddler::new(&cell, &rt, 7, Polled::Pending, other);
+    let other = Caller::new(&cell, &rt, 9, Polled::Error)?;
+    let mut holder = Meddler::new(&cell, &rt, 7, Polled::Pending, other)?;
     holder.side.polls();
     let pending = [holder.polled(), holder.side.heard()];
     holder.side.answers(Polled::Value);
@@ -254,64 +281,68 @@ fn an_init_and_a_wake_that_poll(rt: HostRuntime) {
     assert_eq!(rt; called, [NINE, NOBODY]);
     assert_eq!(rt; heard, VALUE);
     assert!(rt; shows(&rt, &cell, FILLED));
+    Ok(())
 }
 
 // The same where the init fails: the right is free when the other is called, and it takes the right.
 #[test]
-fn a_wake_that_takes_the_right(rt: HostRuntime) {
+fn a_wake_that_takes_the_right(rt: HostRuntime) -> Result<(), Fail> {
     let cell = Cell::new();
-    let other = Caller::new(&cell, &rt, 9, Polled::Error);
-    let mut holder = Meddler::new(&cell, &rt, 7, Polled::Error, other);
+    let other = Caller::new(&cell, &rt, 9, Polled::Error)?;
+    let mut holder = Meddler::new(&cell, &rt, 7, Polled::Error, other)?;
     holder.side.polls();
     let failed = holder.polled();
     let (_, closes, heard) = holder.into_seen();
     assert_eq!(rt; (failed, heard), (ERROR, ERROR));
     assert_eq!(rt; closes, [1, 1]);
     assert!(rt; shows(&rt, &cell, FREE));
+    Ok(())
 }
 
 // A waiter that was called is dropped, and the one to whom it passes its turn on is polled inside that
 // call: it takes the right, and fails.
 #[test]
-fn a_turn_taken_while_it_is_passed_on(rt: HostRuntime) {
+fn a_turn_taken_while_it_is_passed_on(rt: HostRuntime) -> Result<(), Fail> {
     let cell = Cell::new();
-    let mut holder = Caller::new(&cell, &rt, 5, Polled::Pending);
-    let mut waiter = Caller::new(&cell, &rt, 7, Polled::Error);
-    let mut other = Caller::new(&cell, &rt, 9, Polled::Error);
+    let mut holder = Caller::new(&cell, &rt, 5, Polled::Pending)?;
+    let mut waiter = Caller::new(&cell, &rt, 7, Polled::Error)?;
+    let mut other = Caller::new(&cell, &rt, 9, Polled::Error)?;
     let pending = [holder.polled(), waiter.polled(), other.polled()];
     holder.leave();
     let seen = holder.into_seen();
-    let passed_on = left_beside(waiter, other);
+    let passed_on = left_beside(&rt, waiter, other)?;
     assert_eq!(rt; pending, [PENDING; 3]);
     assert_eq!(rt; seen, ([Some(7), None, None], [1, 1]));
     assert_eq!(rt; passed_on, (NINE, ERROR));
     assert!(rt; shows(&rt, &cell, FREE));
+    Ok(())
 }
 
 // A task is dropped, and its side polls the other wherever it can: whom the side called, and how the other's
 // poll ended.
-fn left_beside<'a, 'r, R: Wait + AllocGlobal>(
+fn left_beside<'a, 'r, R: Wait + AllocGlobal + RandomSource>(
+    rt: &'r R,
     mut waiter: Caller<'a, 'r, R>,
     other: Caller<'a, 'r, R>,
-) -> (Called, Option<Ending>) {
-    let mut side = Meddling::new(7, waiter.task.mark(), Polled::Error, other);
+) -> io::Result<(Called, Option<Ending>)> {
+    let mut side = Meddling::new(rt, 7, waiter.task.mark(), Polled::Error, other)?;
     side.polls();
     if !waiter.task.is_finished() {
         waiter.task.leave(&mut side);
     }
     let [called, _] = side.called();
-    (called, side.heard())
+    Ok((called, side.heard()))
 }
 
 // A waiter was called, and another task took the right. The waiter is polled again, and while its bell is
 // copied the other leaves: it calls the next. The copy is refused, so the waiter calls the one after that.
 #[test]
-fn a_called_waiter_that_is_refused(rt: HostRuntime) {
+fn a_called_waiter_that_is_refused(rt: HostRuntime) -> Result<(), Fail> {
     let cell = Cell::new();
-    let mut holder = Caller::new(&cell, &rt, 1, Polled::Pending);
-    let other = Caller::new(&cell, &rt, 5, Polled::Pending);
-    let mut waiter = Meddler::new(&cell, &rt, 2, Polled::Value, other);
-    let mut behind = Behind::new(&cell, &rt);
+    let mut holder = Caller::new(&cell, &rt, 1, Polled::Pending)?;
+    let other = Caller::new(&cell, &rt, 5, Polled::Pending)?;
+    let mut waiter = Meddler::new(&cell, &rt, 2, Polled::Value, other)?;
+    let mut behind = Behind::new(&cell, &rt)?;
     let pending = (holder.polled(), waiter.polled(), behind.polled());
     holder.leave();
     let seen = holder.into_seen();
@@ -328,6 +359,7 @@ fn a_called_waiter_that_is_refused(rt: HostRuntime) {
     assert_eq!(rt; called, [[Some(4), None, None], [Some(3), None, None]]);
     assert_eq!(rt; (filled, third), ([VALUE; 2], (NOBODY, [1, 1])));
     assert!(rt; shows(&rt, &cell, FILLED));
+    Ok(())
 }
 
 /// Two tasks, with the names 3 and 4, whose inits give a value.
@@ -338,11 +370,14 @@ struct Behind<'a, 'r, R> {
 }
 
 impl<'a, 'r, R: Wait + AllocGlobal> Behind<'a, 'r, R> {
-    fn new(cell: &'a Cell, rt: &'r R) -> Self {
-        Behind {
-            third: Caller::new(cell, rt, 3, Polled::Value),
-            fourth: Caller::new(cell, rt, 4, Polled::Value),
-        }
+    fn new(cell: &'a Cell, rt: &'r R) -> io::Result<Self>
+    where
+        R: RandomSource,
+    {
+        Ok(Behind {
+            third: Caller::new(cell, rt, 3, Polled::Value)?,
+            fourth: Caller::new(cell, rt, 4, Polled::Value)?,
+        })
     }
 
     // A poll of each, in their order.

@@ -1,14 +1,19 @@
 //! A side whose init answers as it is told to, and whose bells are looked at when they are called.
-ghost use Rattle.std.specs.Prelude.{◌≡◌, ℕ, [], refl};
+ghost use Rattle.std.specs.Prelude.{◌≡◌, ℕ, [], IfOk, refl, true};
 ghost use Rattle.std.proofs.Common.{rules};
 
 use crate::bell::{Bell, task_of};
-use once_book::Mark;
+use crate::poller::{Poller, Scripted, init_that_answers};
+use once_book::{Hand, Mark, Pollable};
 use once_core::step::{Polled, Side};
 use once_parts::TaskSide;
 use once_queue::waiters::Out;
+use std::alloc::AllocGlobal;
+use std::io;
 use std::marker::Model;
+use std::random::RandomSource;
 use std::snapshot::Snapshot;
+use std::sync::Wait;
 
 /// The names of the first three whose bells are called, in their order.
 pub type Called = [Option<u64>; 3];
@@ -21,11 +26,12 @@ pub type Seen = (Called, [u64; 2]);
 
 /// The side of a task. A clause sees what is told of it.
 #[derive(Drop)]
-pub struct TestSide {
+pub struct TestSide<'r, R> {
     name: u64,
     mark: Mark,
-    // What the init answers. The value that it gives is the task's name.
-    answer: Polled,
+    poller: Poller<'r, R>,
+    // The value that it gives is the task's name.
+    init: Option<Pollable<Scripted>>,
     // Whether memory for a copy of the bell is given.
     granted: bool,
     /// What the init gave.
@@ -39,7 +45,7 @@ pub struct TestSide {
     pub closes: u64,
 }
 
-impl Model for TestSide {
+impl<'r, R> Model for TestSide<'r, R> {
     ghost use Rattle.std.specs.Option.{is_some};
     ghost use Rattle.once_book.specs.Named.{named_out};
     ghost use Rattle.once_parts.specs.Sides.{Sided};
@@ -48,22 +54,23 @@ impl Model for TestSide {
 
     ghost view = { λ s. record {
       number = s.mark;
+      has_init = is_some s.init;
       has_value = is_some s.value;
       has_error = s.error;
       woke = named_out (λ b. b.mark.value) s.woke.value;
     } };
 }
 
-impl TestSide {
+impl<'r, R: AllocGlobal + RandomSource> TestSide<'r, R> {
     /// The side of the task with this mark, whose init answers so. The value that it gives is the name.
-    pub fn new(name: u64, mark: Mark, answer: Polled) -> TestSide
-        ensures number { result.number ≡ mark }
-        ensures none { result.woke ≡ [] }
+    pub fn new(rt: &'r R, name: u64, mark: Mark, answer: Polled) -> io::Result<Self>
+        ensures { IfOk result (λ s. (s.number ≡ mark) × (s.has_init ≡ true) × (s.woke ≡ [])) }
     {
-        TestSide {
+        Ok(TestSide {
             name,
             mark,
-            answer,
+            poller: Poller::new(rt)?,
+            init: Some(init_that_answers(answer)),
             granted: true,
             value: None,
             error: false,
@@ -71,14 +78,16 @@ impl TestSide {
             called: NOBODY,
             polls: 0,
             closes: 0,
-        }
+        })
     }
+}
 
-    /// The init answers this from now on.
+impl<R> TestSide<'_, R> {
+    /// The init is one that answers this, from now on.
     pub fn answers(&mut self, answer: Polled)
-        ensures { self.new ≡ self.old }
+        ensures { self.new ≡ record self.old { has_init = true } }
     {
-        self.answer = answer;
+        self.init = Some(init_that_answers(answer));
     }
 
     /// No memory is given for a copy of the bell.
@@ -102,13 +111,17 @@ impl TestSide {
     }
 }
 
-impl Side<Bell> for TestSide {
+impl<R: Wait> Side<Bell> for TestSide<'_, R> {
     ghost use Rattle.std.specs.Prelude.{true};
     ghost use Rattle.once_parts.specs.Sides.{HasWoken, sided_tells};
 
     type Value = u64;
 
+    type Right = Hand;
+
     ghost did = { sided_tells (λ b. b.mark.value) (λ s. s) };
+
+    ghost can_run = { λ s. s.has_init ≡ true };
 
     ghost can_put = { λ s. s.has_value ≡ true };
 
@@ -118,17 +131,19 @@ impl Side<Bell> for TestSide {
 
     ghost stays_on = { λ a b c p q. Prim.search rules };
 
-    fn run(&mut self) -> Polled {
+    fn run(&mut self, right: &mut Hand) -> Polled {
         self.polls = self.polls.saturating_add(1);
-        match self.answer {
+        let polled = self.poller.poll(&mut self.init, right);
+        match polled {
             Polled::Pending => {}
             Polled::Value => self.value = Some(self.name),
             Polled::Error => self.error = true,
         }
-        self.answer
+        polled
     }
 
     fn close(&mut self) {
+        self.init = None;
         self.closes = self.closes.saturating_add(1);
     }
 
@@ -155,12 +170,14 @@ impl Side<Bell> for TestSide {
     }
 }
 
-impl TaskSide<Bell> for TestSide {
+impl<R: Wait> TaskSide<Bell> for TestSide<'_, R> {
     ghost use Rattle.once_parts.proofs.Sides.{sided_told};
 
     ghost state = { λ s. s };
 
     ghost tells = { sided_told (λ b. b.mark.value) (λ s. s) };
+
+    ghost runs = { λ s h. h };
 
     ghost puts = { λ s h. h };
 }

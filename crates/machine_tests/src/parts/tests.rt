@@ -1,4 +1,5 @@
 // What tasks do to a cell, one call after the other, and what the parts take of memory.
+use super::side::TestSide;
 use crate::bell::Bell;
 use once_book::Mark;
 use once_core::parts::{Counted, Parts};
@@ -7,17 +8,20 @@ use once_parts::{Inner, Shared};
 use once_queue::waiters::{Answer, Op};
 use once_queue::word::{MAX_WAITERS, QINIT_BIT};
 use std::mem::size_of;
+use std::test::Fail;
 
 #[test]
-fn one_task_fills_a_cell(rt: HostRuntime) {
+fn one_task_fills_a_cell(rt: HostRuntime) -> Result<(), Fail> {
     let cell = Inner::<u64, Bell>::new();
     let mut task = cell.task(&rt);
+    let mut side = TestSide::new(&rt, 7, task.mark(), Polled::Value)?;
     task.begin();
     let word = task.load();
     assert_eq!(rt; word, 0);
     let won = task.quick();
     assert!(rt; won);
-    task.ran(Polled::Value);
+    let polled = task.run(&mut side);
+    assert_eq!(rt; polled, Polled::Value);
     task.put(7);
     let released = task.fast(true);
     assert!(rt; released);
@@ -26,6 +30,7 @@ fn one_task_fills_a_cell(rt: HostRuntime) {
     assert_eq!(rt; *value, 7);
     let mut record = cell.record();
     assert!(rt; cell.look(&mut record).is_some());
+    Ok(())
 }
 
 #[test]

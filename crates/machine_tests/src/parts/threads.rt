@@ -4,9 +4,10 @@ ghost use Rattle.std.specs.Prelude.{◌≡◌, ◌<◌, ◌^◌};
 use super::walks::{Caller, Cell};
 use once_core::step::{Ending, Polled};
 use std::alloc::{AllocError, AllocGlobal, Global};
+use std::random::RandomSource;
 use std::sync::Wait;
 use std::test::Fail;
-use std::thread;
+use std::{io, thread};
 
 const CELLS: u64 = 300;
 
@@ -26,8 +27,13 @@ fn cells(alloc: Global) -> Result<Vec<Cell>, AllocError> {
 }
 
 // What a new task gets of the cell. Its init is Pending so many times, and then gives this value.
-fn visit<R: Wait + AllocGlobal>(rt: &R, cell: &Cell, pending: u64, value: u64) -> Option<Got> {
-    let mut caller = Caller::new(cell, rt, value, Polled::Pending);
+fn visit<R: Wait + AllocGlobal + RandomSource>(
+    rt: &R,
+    cell: &Cell,
+    pending: u64,
+    value: u64,
+) -> io::Result<Option<Got>> {
+    let mut caller = Caller::new(cell, rt, value, Polled::Pending)?;
     for _ in rt.forever() {
         if caller.side.polls >= pending {
             caller.answers(Polled::Value);
@@ -35,27 +41,27 @@ fn visit<R: Wait + AllocGlobal>(rt: &R, cell: &Cell, pending: u64, value: u64) -
         match caller.poll() {
             Ending::Pending => thread::yield_now(),
             Ending::Value => {
-                return Some(Got {
+                return Ok(Some(Got {
                     value: caller.value(),
                     polls: caller.side.polls,
-                });
+                }));
             }
-            _ => return None,
+            _ => return Ok(None),
         }
     }
-    None
+    Ok(None)
 }
 
 // What a thread gets of each cell, up to the first that it gets nothing of.
-fn visits<R: Wait + AllocGlobal>(
+fn visits<R: Wait + AllocGlobal + RandomSource>(
     rt: &R,
     cells: &[Cell],
     thread: u64,
-) -> Result<Vec<Got>, AllocError> {
+) -> io::Result<Vec<Got>> {
     let mut all = Vec::new(rt.alloc());
     for (number, cell) in (0u64..).zip(cells) {
         let value = number.wrapping_mul(10).wrapping_add(thread);
-        let Some(got) = visit(rt, cell, value % 4, value) else {
+        let Some(got) = visit(rt, cell, value % 4, value)? else {
             break;
         };
         all.push(got)?;

@@ -1,5 +1,5 @@
 // Whole calls of tasks, by the values, the bells and the inits that they lead to.
-ghost use Rattle.std.specs.Prelude.{◌≡◌, ◌↔◌, false};
+ghost use Rattle.std.specs.Prelude.{◌≡◌, ◌↔◌, IfOk, false, true};
 ghost use Rattle.once_book.specs.Record.{EndsSet};
 
 use super::side::{Called, NOBODY, Seen, TestSide};
@@ -8,7 +8,9 @@ use crate::doubles::memory::hoard;
 use once_core::step::{Ending, Polled, Step};
 use once_parts::{Inner, Task};
 use std::alloc::{AllocError, AllocGlobal, Global};
+use std::io;
 use std::mem::size_of;
+use std::random::RandomSource;
 use std::sync::Wait;
 use std::test::Fail;
 
@@ -32,18 +34,22 @@ const THREE: Called = [Some(3), None, None];
 #[derive(Drop)]
 pub struct Caller<'a, 'r, R> {
     pub task: Task<'a, 'r, u64, Bell, R>,
-    pub side: TestSide,
+    pub side: TestSide<'r, R>,
     pub ghost same: { side.number ≡ task.number },
+    // The init is there until the task is finished.
+    pub ghost has_init: { task.finished ≡ false → side.has_init ≡ true },
 }
 
 impl<'a, 'r, R: Wait + AllocGlobal> Caller<'a, 'r, R> {
     // A new task of this name, whose init answers so. Where that gives a value, it gives the name.
-    pub fn new(cell: &'a Cell, rt: &'r R, name: u64, answer: Polled) -> Self
-        ensures { result.task.finished ≡ false }
+    pub fn new(cell: &'a Cell, rt: &'r R, name: u64, answer: Polled) -> io::Result<Self>
+    where
+        R: RandomSource,
+        ensures { IfOk result (λ c. c.task.finished ≡ false) }
     {
         let task = Task::new(cell, rt);
-        let side = TestSide::new(name, task.mark(), answer);
-        Caller { task, side }
+        let side = TestSide::new(rt, name, task.mark(), answer)?;
+        Ok(Caller { task, side })
     }
 
     // Its init answers this from now on.
@@ -116,12 +122,15 @@ struct Three<'a, 'r, R> {
 }
 
 impl<'a, 'r, R: Wait + AllocGlobal> Three<'a, 'r, R> {
-    fn new(cell: &'a Cell, rt: &'r R) -> Self {
-        Three {
-            holder: Caller::new(cell, rt, 1, Polled::Pending),
-            second: Caller::new(cell, rt, 2, Polled::Value),
-            third: Caller::new(cell, rt, 3, Polled::Value),
-        }
+    fn new(cell: &'a Cell, rt: &'r R) -> io::Result<Self>
+    where
+        R: RandomSource,
+    {
+        Ok(Three {
+            holder: Caller::new(cell, rt, 1, Polled::Pending)?,
+            second: Caller::new(cell, rt, 2, Polled::Value)?,
+            third: Caller::new(cell, rt, 3, Polled::Value)?,
+        })
     }
 
     // A poll of each, in their order.
@@ -153,33 +162,35 @@ impl<'a, 'r, R: Wait + AllocGlobal> Three<'a, 'r, R> {
 }
 
 #[test]
-fn one_task_fills_a_cell(rt: HostRuntime) {
+fn one_task_fills_a_cell(rt: HostRuntime) -> Result<(), Fail> {
     let cell = Cell::new();
-    let mut one = Caller::new(&cell, &rt, 7, Polled::Value);
+    let mut one = Caller::new(&cell, &rt, 7, Polled::Value)?;
     let value = one.gets();
     let is_finished = one.task.is_finished();
     let seen = one.into_seen();
     assert_eq!(rt; (value, is_finished), (Some(7), true));
     assert_eq!(rt; seen, (NOBODY, [1, 1]));
+    Ok(())
 }
 
 #[test]
-fn who_waits_gets_the_value(rt: HostRuntime) {
+fn who_waits_gets_the_value(rt: HostRuntime) -> Result<(), Fail> {
     let cell = Cell::new();
-    let mut holder = Caller::new(&cell, &rt, 7, Polled::Pending);
-    let mut waiter = Caller::new(&cell, &rt, 8, Polled::Value);
+    let mut holder = Caller::new(&cell, &rt, 7, Polled::Pending)?;
+    let mut waiter = Caller::new(&cell, &rt, 8, Polled::Value)?;
     let pending = [holder.polled(), waiter.polled()];
     holder.answers(Polled::Value);
     let (filled, value) = (holder.polled(), waiter.gets());
     let seen = [holder.into_seen(), waiter.into_seen()];
     assert_eq!(rt; (pending, filled, value), ([PENDING; 2], VALUE, Some(7)));
     assert_eq!(rt; seen, [([Some(8), None, None], [2, 1]), (NOBODY, [0, 1])]);
+    Ok(())
 }
 
 #[test]
-fn an_error_calls_one_who_waits(rt: HostRuntime) {
+fn an_error_calls_one_who_waits(rt: HostRuntime) -> Result<(), Fail> {
     let cell = Cell::new();
-    let mut tasks = Three::new(&cell, &rt);
+    let mut tasks = Three::new(&cell, &rt)?;
     let pending = tasks.polled();
     tasks.holder.answers(Polled::Error);
     let (ended, errors) = (tasks.polled(), tasks.errors());
@@ -187,13 +198,14 @@ fn an_error_calls_one_who_waits(rt: HostRuntime) {
     assert_eq!(rt; (pending, ended), ([PENDING; 3], [ERROR, VALUE, VALUE]));
     assert_eq!(rt; errors, [true, false, false]);
     assert_eq!(rt; seen, [(TWO, [2, 1]), (THREE, [1, 1]), (NOBODY, [0, 1])]);
+    Ok(())
 }
 
 #[test]
-fn a_holder_that_is_dropped_calls_one(rt: HostRuntime) {
+fn a_holder_that_is_dropped_calls_one(rt: HostRuntime) -> Result<(), Fail> {
     let cell = Cell::new();
-    let mut holder = Caller::new(&cell, &rt, 1, Polled::Pending);
-    let mut waiter = Caller::new(&cell, &rt, 2, Polled::Value);
+    let mut holder = Caller::new(&cell, &rt, 1, Polled::Pending)?;
+    let mut waiter = Caller::new(&cell, &rt, 2, Polled::Value)?;
     let pending = [holder.polled(), waiter.polled()];
     holder.leave();
     let is_finished = holder.task.is_finished();
@@ -201,12 +213,13 @@ fn a_holder_that_is_dropped_calls_one(rt: HostRuntime) {
     let seen = [holder.into_seen(), waiter.into_seen()];
     assert_eq!(rt; (pending, is_finished, filled), ([PENDING; 2], true, VALUE));
     assert_eq!(rt; seen, [(TWO, [1, 1]), (NOBODY, [1, 1])]);
+    Ok(())
 }
 
 #[test]
-fn one_who_was_called_and_leaves_calls_the_next(rt: HostRuntime) {
+fn one_who_was_called_and_leaves_calls_the_next(rt: HostRuntime) -> Result<(), Fail> {
     let cell = Cell::new();
-    let mut tasks = Three::new(&cell, &rt);
+    let mut tasks = Three::new(&cell, &rt)?;
     let pending = tasks.polled();
     tasks.holder.leave();
     tasks.second.leave();
@@ -214,12 +227,13 @@ fn one_who_was_called_and_leaves_calls_the_next(rt: HostRuntime) {
     let seen = tasks.into_seen();
     assert_eq!(rt; (pending, filled), ([PENDING; 3], VALUE));
     assert_eq!(rt; seen, [(TWO, [1, 1]), (THREE, [0, 1]), (NOBODY, [1, 1])]);
+    Ok(())
 }
 
 #[test]
-fn one_who_was_not_called_leaves_and_calls_nobody(rt: HostRuntime) {
+fn one_who_was_not_called_leaves_and_calls_nobody(rt: HostRuntime) -> Result<(), Fail> {
     let cell = Cell::new();
-    let mut tasks = Three::new(&cell, &rt);
+    let mut tasks = Three::new(&cell, &rt)?;
     let pending = tasks.polled();
     tasks.second.leave();
     tasks.holder.answers(Polled::Value);
@@ -227,13 +241,14 @@ fn one_who_was_not_called_leaves_and_calls_nobody(rt: HostRuntime) {
     let seen = tasks.into_seen();
     assert_eq!(rt; (pending, filled), ([PENDING; 3], VALUE));
     assert_eq!(rt; seen, [(THREE, [2, 1]), (NOBODY, [0, 1]), (NOBODY, [0, 0])]);
+    Ok(())
 }
 
 #[test]
-fn a_copy_that_is_refused_ends_with_memory(rt: HostRuntime) {
+fn a_copy_that_is_refused_ends_with_memory(rt: HostRuntime) -> Result<(), Fail> {
     let cell = Cell::new();
-    let mut holder = Caller::new(&cell, &rt, 1, Polled::Pending);
-    let mut waiter = Caller::new(&cell, &rt, 2, Polled::Value);
+    let mut holder = Caller::new(&cell, &rt, 1, Polled::Pending)?;
+    let mut waiter = Caller::new(&cell, &rt, 2, Polled::Value)?;
     waiter.side.refuse_copies();
     let endings = [holder.polled(), waiter.polled()];
     let is_finished = waiter.task.is_finished();
@@ -245,13 +260,14 @@ fn a_copy_that_is_refused_ends_with_memory(rt: HostRuntime) {
         ([PENDING, MEMORY], true, VALUE)
     );
     assert_eq!(rt; seen, [(NOBODY, [2, 1]), (NOBODY, [0, 1])]);
+    Ok(())
 }
 
 #[test]
 fn a_queue_that_is_refused_ends_with_memory(rt: HostRuntime) -> Result<(), Fail> {
     let cell = Cell::new();
-    let mut holder = Caller::new(&cell, &rt, 1, Polled::Pending);
-    let mut waiter = Caller::new(&cell, &rt, 2, Polled::Value);
+    let mut holder = Caller::new(&cell, &rt, 1, Polled::Pending)?;
+    let mut waiter = Caller::new(&cell, &rt, 2, Polled::Value)?;
     let pending = holder.polled();
     let refused = without_memory(rt.alloc(), &mut waiter);
     holder.answers(Polled::Value);
@@ -274,15 +290,16 @@ fn without_memory<R: Wait + AllocGlobal>(
 }
 
 #[test]
-fn a_task_that_was_never_polled_is_dropped(rt: HostRuntime) {
+fn a_task_that_was_never_polled_is_dropped(rt: HostRuntime) -> Result<(), Fail> {
     let cell = Cell::new();
-    let mut first = Caller::new(&cell, &rt, 1, Polled::Value);
-    let mut second = Caller::new(&cell, &rt, 2, Polled::Value);
+    let mut first = Caller::new(&cell, &rt, 1, Polled::Value)?;
+    let mut second = Caller::new(&cell, &rt, 2, Polled::Value)?;
     first.leave();
     let filled = second.polled();
     let seen = [first.into_seen(), second.into_seen()];
     assert_eq!(rt; filled, VALUE);
     assert_eq!(rt; seen, [(NOBODY, [0, 1]), (NOBODY, [1, 1])]);
+    Ok(())
 }
 
 // The bytes are two references, to the cell and to the runtime, and where the next call begins. The book has none.

@@ -1,16 +1,19 @@
 //! A side over shared parts that notes each of its calls.
-ghost use Rattle.std.specs.Prelude.{◌≡◌, ℕ, [], refl};
+ghost use Rattle.std.specs.Prelude.{◌≡◌, ℕ, [], IfOk, refl, true};
 ghost use Rattle.std.proofs.Common.{rules};
 
 use crate::bell::{Bell, named};
-use once_book::Mark;
+use crate::poller::{Poller, Scripted, init_that_answers};
+use once_book::{Hand, Mark, Pollable};
 use once_core::step::{Polled, Side};
 use once_parts::TaskSide;
 use once_queue::waiters::Out;
-use std::alloc::Global;
+use std::alloc::AllocGlobal;
 use std::marker::Model;
-use std::mem;
+use std::random::RandomSource;
 use std::snapshot::Snapshot;
+use std::sync::Wait;
+use std::{io, mem};
 
 /// One call of a side, with what it was answered or given. A waker stands in it by the number of its task.
 #[derive(Debug, Drop)]
@@ -24,12 +27,13 @@ pub enum Note {
 
 /// The side of a task over shared parts, which notes each of its calls. A clause sees what is told of it.
 #[derive(Drop)]
-pub struct Noting {
+pub struct Noting<'r, R> {
     mark: Mark,
     // The number of its task, which its waker has too.
     task: u64,
-    // What the init answers, and whether memory for a copy of the waker is given.
-    answer: Polled,
+    poller: Poller<'r, R>,
+    init: Option<Pollable<Scripted>>,
+    // Whether memory for a copy of the waker is given.
     is_granted: bool,
     notes: Vec<Note>,
     // A note was lost, since the memory for it was refused.
@@ -41,7 +45,8 @@ pub struct Noting {
     woke: Snapshot<Out<Bell>>,
 }
 
-impl Model for Noting {
+impl<'r, R> Model for Noting<'r, R> {
+    ghost use Rattle.std.specs.Option.{is_some};
     ghost use Rattle.once_book.specs.Named.{named_out};
     ghost use Rattle.once_parts.specs.Sides.{Sided};
 
@@ -49,30 +54,34 @@ impl Model for Noting {
 
     ghost view = { λ s. record {
       number = s.mark;
+      has_init = is_some s.init;
       has_value = s.has_value;
       has_error = s.has_error;
       woke = named_out (λ b. b.mark.value) s.woke.value;
     } };
 }
 
-impl Noting {
+impl<'r, R: AllocGlobal + RandomSource> Noting<'r, R> {
     /// The side of this task, which has this mark, and whose init is pending.
-    pub fn new(alloc: Global, task: u64, mark: Mark) -> Noting
-        ensures { result.number ≡ mark }
+    pub fn new(rt: &'r R, task: u64, mark: Mark) -> io::Result<Self>
+        ensures { IfOk result (λ s. (s.number ≡ mark) × (s.has_init ≡ true)) }
     {
-        Noting {
+        Ok(Noting {
             mark,
             task,
-            answer: Polled::Pending,
+            poller: Poller::new(rt)?,
+            init: Some(init_that_answers(Polled::Pending)),
             is_granted: true,
-            notes: Vec::new(alloc),
+            notes: Vec::new(rt.alloc()),
             is_short: false,
             has_value: false,
             has_error: false,
             woke: Snapshot::of(&Out::One(None)),
-        }
+        })
     }
+}
 
+impl<R> Noting<'_, R> {
     /// Another call is to begin, in which nobody was called yet.
     pub fn begin(&mut self)
         ensures { self.new ≡ record self.old { woke = [] } }
@@ -80,11 +89,14 @@ impl Noting {
         self.woke = Snapshot::of(&Out::One(None));
     }
 
-    /// From now on the init answers this, and memory for a copy of the waker is given or not.
+    /// The init is one that answers this, from now on, if it was not dropped. Memory for a copy of the waker is given
+    /// or not.
     pub fn answers(&mut self, answer: Polled, is_granted: bool)
         ensures { self.new ≡ self.old }
     {
-        self.answer = answer;
+        if self.init.is_some() {
+            self.init = Some(init_that_answers(answer));
+        }
         self.is_granted = is_granted;
     }
 
@@ -104,12 +116,17 @@ impl Noting {
     }
 }
 
-impl Side<Bell> for Noting {
+impl<R: Wait> Side<Bell> for Noting<'_, R> {
+    ghost use Rattle.std.specs.Prelude.{true};
     ghost use Rattle.once_parts.specs.Sides.{HasWoken, sided_tells};
 
     type Value = ();
 
+    type Right = Hand;
+
     ghost did = { sided_tells (λ b. b.mark.value) (λ s. s) };
+
+    ghost can_run = { λ s. s.has_init ≡ true };
 
     ghost stays = { λ s t. t.number ≡ s.number };
 
@@ -117,17 +134,19 @@ impl Side<Bell> for Noting {
 
     ghost stays_on = { λ a b c p q. Prim.search rules };
 
-    fn run(&mut self) -> Polled {
-        self.note(Note::Ran(self.answer));
-        match self.answer {
+    fn run(&mut self, right: &mut Hand) -> Polled {
+        let polled = self.poller.poll(&mut self.init, right);
+        self.note(Note::Ran(polled));
+        match polled {
             Polled::Pending => {}
             Polled::Value => self.has_value = true,
             Polled::Error => self.has_error = true,
         }
-        self.answer
+        polled
     }
 
     fn close(&mut self) {
+        self.init = None;
         self.note(Note::Closed);
     }
 
@@ -156,12 +175,14 @@ impl Side<Bell> for Noting {
     }
 }
 
-impl TaskSide<Bell> for Noting {
+impl<R: Wait> TaskSide<Bell> for Noting<'_, R> {
     ghost use Rattle.once_parts.proofs.Sides.{sided_told};
 
     ghost state = { λ s. s };
 
     ghost tells = { sided_told (λ b. b.mark.value) (λ s. s) };
+
+    ghost runs = { λ s h. h };
 
     ghost puts = { λ s h. tt };
 }

@@ -11,8 +11,10 @@ use crate::doubles::schedule::{Schedule, schedules_in};
 use once_core::step::{Ending, Polled, Progress};
 use once_script::parse::{Line, RUN_STEPS, parse_line};
 use once_world::world::{Input, Ran};
-use std::alloc::{AllocError, AllocGlobal, Global};
+use std::alloc::{AllocGlobal, Global};
 use std::collections::BTreeMap;
+use std::io;
+use std::random::RandomSource;
 use std::sync::Wait;
 use std::test::Fail;
 
@@ -24,7 +26,7 @@ struct Scene<'a, 'r, R> {
     tasks: BTreeMap<u64, Walker<'a, 'r, R>>,
 }
 
-impl<'a, 'r, R: Wait + AllocGlobal> Scene<'a, 'r, R> {
+impl<'a, 'r, R: Wait + AllocGlobal + RandomSource> Scene<'a, 'r, R> {
     // This cell, which nobody has used.
     fn new(cell: &'a Cell, rt: &'r R) -> Self {
         Scene {
@@ -35,7 +37,7 @@ impl<'a, 'r, R: Wait + AllocGlobal> Scene<'a, 'r, R> {
     }
 
     // What a line of the scene comes to.
-    fn tell(&mut self, order: &str) -> Result<Option<String>, AllocError> {
+    fn tell(&mut self, order: &str) -> io::Result<Option<String>> {
         let (alloc, cell) = (self.rt.alloc(), self.cell);
         if order == "show" {
             return Ok(Some(format!(in alloc; "{cell:?}")?));
@@ -53,7 +55,7 @@ impl<'a, 'r, R: Wait + AllocGlobal> Scene<'a, 'r, R> {
         Ok(told)
     }
 
-    fn play(&mut self, line: &Line) -> Result<Option<String>, AllocError> {
+    fn play(&mut self, line: &Line) -> io::Result<Option<String>> {
         match line {
             Line::Single(Input::Make(t)) => self.make(*t),
             Line::Single(Input::Poll(t, _)) => self.begin(*t, false),
@@ -64,14 +66,14 @@ impl<'a, 'r, R: Wait + AllocGlobal> Scene<'a, 'r, R> {
         }
     }
 
-    fn make(&mut self, t: u64) -> Result<Option<String>, AllocError> {
-        let task = Walker::new(self.cell, self.rt, t);
+    fn make(&mut self, t: u64) -> io::Result<Option<String>> {
+        let task = Walker::new(self.cell, self.rt, t)?;
         self.tasks.insert(t, task)?;
         Ok(Some(String::new(self.rt.alloc())))
     }
 
     // Begins a poll or a drop of a task that rests.
-    fn begin(&mut self, t: u64, is_drop: bool) -> Result<Option<String>, AllocError> {
+    fn begin(&mut self, t: u64, is_drop: bool) -> io::Result<Option<String>> {
         if let Some(task) = self.tasks.get_mut(&t)
             && task.step().is_resting()
         {
@@ -92,7 +94,7 @@ impl<'a, 'r, R: Wait + AllocGlobal> Scene<'a, 'r, R> {
         answer: Ran,
         is_granted: bool,
         steps: u64,
-    ) -> Result<Option<String>, AllocError> {
+    ) -> io::Result<Option<String>> {
         if let Some(task) = self.tasks.get_mut(&t)
             && !task.step().is_resting()
         {
@@ -128,11 +130,11 @@ fn go_on<R: Wait + AllocGlobal>(
 }
 
 // How the last step ended the call, what the side noted, and where the task stands. None says that a note was lost.
-fn told<R>(
+fn told<R: Wait>(
     alloc: Global,
     task: &mut Walker<'_, '_, R>,
     ending: Option<Ending>,
-) -> Result<Option<String>, AllocError> {
+) -> io::Result<Option<String>> {
     let Some(notes) = task.take_notes() else {
         return Ok(None);
     };
@@ -140,7 +142,7 @@ fn told<R>(
     Ok(Some(format!(in alloc; "{ending:?} {notes:?} {stage}")?))
 }
 
-fn stage<R>(task: &Walker<'_, '_, R>) -> &'static str {
+fn stage<R: Wait>(task: &Walker<'_, '_, R>) -> &'static str {
     let step = task.step();
     if step.is_resting() {
         "rests"
@@ -152,7 +154,10 @@ fn stage<R>(task: &Walker<'_, '_, R>) -> &'static str {
 }
 
 // What the lines of a scene come to.
-fn came<R: Wait + AllocGlobal>(rt: &R, schedule: &Schedule<'_>) -> Result<Vec<String>, Fail> {
+fn came<R: Wait + AllocGlobal + RandomSource>(
+    rt: &R,
+    schedule: &Schedule<'_>,
+) -> Result<Vec<String>, Fail> {
     let alloc = rt.alloc();
     let cell = Cell::new();
     let mut scene = Scene::new(&cell, rt);
@@ -169,7 +174,7 @@ fn came<R: Wait + AllocGlobal>(rt: &R, schedule: &Schedule<'_>) -> Result<Vec<St
 }
 
 /// Plays each scene of a text, and compares what its lines come to with what stands beside them.
-pub fn play<R: Wait + AllocGlobal>(rt: &R, text: &str) -> Result<(), Fail> {
+pub fn play<R: Wait + AllocGlobal + RandomSource>(rt: &R, text: &str) -> Result<(), Fail> {
     for schedule in &schedules_in(rt.alloc(), text)? {
         let came = came(rt, schedule)?;
         schedule.check(rt.alloc(), &came)?;

@@ -10,6 +10,8 @@ use crate::bell::Bell;
 use once_core::step::{Polled, Progress, Step};
 use once_parts::{Inner, Shared, one_step};
 use std::alloc::AllocGlobal;
+use std::io;
+use std::random::RandomSource;
 use std::sync::Wait;
 
 /// What the tasks of a cell share, which has the value `()`.
@@ -20,7 +22,7 @@ pub type Cell = Inner<(), Bell>;
 pub struct Walker<'a, 'r, R> {
     parts: Shared<'a, 'r, (), Bell, R>,
     step: Step<Bell, ()>,
-    side: Noting,
+    side: Noting<'r, R>,
     // What the last step told, and whether the call under way is a drop.
     told: Progress,
     is_drop: bool,
@@ -28,25 +30,27 @@ pub struct Walker<'a, 'r, R> {
     // A call that is under way has come so far, and where the next one begins the task stands as its page says.
     ghost goes: { Goes side (own parts) (λ b. b.mark.value) is_drop told step } by { Goes-prop side (own parts)
         (λ b. b.mark.value) is_drop told step },
+    // Its init is there when a call begins.
+    ghost has_init: { is_resting step ≡ true → side.has_init ≡ true },
     ghost rests: { is_resting step ≡ true → StandsOn (λ b. b.mark.value) (own parts) step },
 }
 
-impl<'a, 'r, R: AllocGlobal> Walker<'a, 'r, R> {
+impl<'a, 'r, R: AllocGlobal + RandomSource> Walker<'a, 'r, R> {
     /// A new task of the cell, with this number.
-    pub fn new(cell: &'a Cell, rt: &'r R, task: u64) -> Self {
+    pub fn new(cell: &'a Cell, rt: &'r R, task: u64) -> io::Result<Self> {
         let parts = cell.task(rt);
-        let side = Noting::new(rt.alloc(), task, parts.mark());
-        Walker {
+        let side = Noting::new(rt, task, parts.mark())?;
+        Ok(Walker {
             parts,
             step: Step::new(),
             side,
             told: Progress::More,
             is_drop: false,
-        }
+        })
     }
 }
 
-impl<R> Walker<'_, '_, R> {
+impl<R: Wait> Walker<'_, '_, R> {
     /// Where the task stands.
     pub fn step(&self) -> &Step<Bell, ()> {
         &self.step

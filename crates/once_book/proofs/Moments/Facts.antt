@@ -1,9 +1,10 @@
 -- What a task knows of the door, of the queue and of the word by where it stands.
-use Rattle.std.proofs.Common.{◌≡◌, ◌<◌, ℕ, suc, Bool, true, false, cond, ◌||◌, List, [], ◌∷◌, ◌++◌, Option, Some, None, slice_get, refl, sym, ap, ◌∙◌, arith}
+use Rattle.std.proofs.Common.{◌≡◌, ◌<◌, ℕ, suc, Bool, true, false, cond, ◌||◌, List, [], ◌∷◌, ◌++◌, Option, Some, None, slice_get, ◌⊎◌, inl, inr, ⊎_elim, refl, sym, ap, ◌∙◌, subst, arith}
 use Rattle.std.specs.Option.{is_some, option_flatten}
+use Rattle.std.proofs.lemmas.Option.{none-some, same_Some}
 use Rattle.once_queue.specs.Word.{Flags, flags_of, sees}
 use Rattle.once_queue.specs.declared.waiters.Listing.{Listing}
-use Rattle.once_queue.specs.Listings.{is_waker, own_listing}
+use Rattle.once_queue.specs.Listings.{find_listing, is_waker, own_listing}
 use Rattle.once_world.specs.Record.{Entry, Once}
 use Rattle.once_world.specs.Cell.{cell}
 use Rattle.once_core.specs.Steps.{next_at}
@@ -11,13 +12,15 @@ use Rattle.once_world.specs.Tasks.{LastCall, last_call}
 use Rattle.once_queue.proofs.Listing.Members.{eqb_self}
 use Rattle.once_book.specs.Kept.{has_passed, hands_out}
 use Rattle.once_world.specs.Book.{At, Door, IsBook, Page, Queue, TaskState}
-use Rattle.once_world.specs.Machine.{AtCountOut, AtDoorTake, AtLeave, AtList, AtLook, AtRelease, EndDropped, EndMemory, Ending, Place, SharedState, UnderWay, look_answer, pass_entries}
+use Rattle.once_world.specs.Machine.{AtCountOut, AtDoorTake, AtLeave, AtList, AtLook, AtRelease, EndDropped, EndMemory, Ending, Place, RestWait, Resting, SharedState, UnderWay, look_answer, pass_entries}
 use Rattle.once_world.proofs.History.Cells.{holder_unset, none_some, set_free}
-use Rattle.once_world.proofs.Invariant.Facts.{AtPlace, MayLeave}
+use Rattle.once_world.proofs.Input.Headline.{task_fits}
+use Rattle.once_world.proofs.Invariant.Facts.{AtPlace, AtStep, MayLeave}
 use Rattle.once_world.proofs.Invariant.Kept.{releasing_holds}
 use Rattle.once_world.proofs.Moment.Pages.{door_of, queue_of}
 use Rattle.once_world.proofs.Moment.Step.{Moment, grown, moment, stands, told}
-use Rattle.once_world.proofs.Told.Wakers.{look_own}
+use Rattle.once_world.proofs.Told.Wakers.{look_own, own_wakers}
+use Rattle.once_book.specs.Sections.{IsOwnListing}
 
 -- the queue that a section at this place is about
 abbrev pub queue_at : Place ℕ ℕ → Option ℕ
@@ -49,6 +52,15 @@ leaves_unpassed t h _ l = absurd l
 passed_after : (t : ℕ) (h : List Entry) (X : List ℕ) → (last_call Once t h).passed ≡ false → (last_call Once t (pass_entries t X ++ h)).passed ≡ hands_out X
 passed_after t h [] u = u
 passed_after t h (y ∷ X) u = let p : LastCall = last_call Once t h in ap (λ b. (cond b (record p { passed = true }) p).passed) (eqb_self t)
+
+-- whose the waker is that is found, by whether the value is set
+own_found : (b : Bool) (t k v l : ℕ) (xs : List (Listing ℕ)) → (b ≡ true → xs ≡ [])
+    → (b ≡ false → (find_listing k xs ≡ Some (Some l)) ⊎ (find_listing k xs ≡ Some None)) → l ≡ t
+    → find_listing k xs ≡ Some (Some v) → v ≡ t
+own_found true t k v l xs empty is own found = absurd (none-some (Some v) (subst (λ ys. find_listing k ys ≡ Some (Some v)) (empty refl) found))
+own_found false t k v l xs empty is own found = ⊎_elim
+    (λ e. same_Some v l (same_Some (Some v) (Some l) (sym found ∙ e)) ∙ own)
+    (λ e. absurd (none-some v (same_Some None (Some v) (sym e ∙ found)))) (is refl)
 
 module _ (limit n put : ℕ) (slot : Bool) (pages : List Page) (log : List Entry) (t : ℕ) (x : TaskState) (some : 0 < limit)
     (book : IsBook limit n put slot pages log) (pen : slice_get pages (suc (suc t)) ≡ Some (At x)) where
@@ -86,6 +98,15 @@ module _ (limit n put : ℕ) (slot : Bool) (pages : List Page) (log : List Entry
         let r : c.ready ≡ true = (stands limit n put slot pages log t x some book pen (AtDoorTake e) at).1 in
         let free : c.head ≡ false = no_head c.quick c.head (sym (set_free (cell Once m.w.history) (sym m.fits.shared.ready_is ∙ r)) ∙ m.fits.shared.held_is) in
         (sym own.0 ∙ free, sym own.1 ∙ m.unowned.queue.set_empty r)
+
+    -- a task at rest: its listing has its waker where it was not called
+    pub own_at : (q k : ℕ) → x.step ≡ Resting (RestWait q (Some k)) → IsOwnListing k t xs
+    own_at q k at v found =
+        let own = queue_of c.head head c.listings xs (sym book.1.queue_is ∙ queue) in
+        let a = subst (λ s. AtStep Once limit t c m.w.history s) at (task_fits Once limit t m.w x m.fits m.found).step in
+        let listed : (last_call Once t m.w.history).listed ≡ t = (own_wakers limit t m.w.history m.fits.run m.unowned.plain).waits a.0.0.status_is in
+        own_found c.ready t k v (last_call Once t m.w.history).listed c.listings m.unowned.queue.set_empty
+        (λ r. ⊎_elim inl (λ e. inr e.0) (a.0.2.1 r)) listed (ap (find_listing k) own.1 ∙ found)
 
     -- a look need not compare wakers: its own listing has its waker where it was not called
     pub look_is : (q : ℕ) (k : Option ℕ) → x.step ≡ UnderWay (AtLook q k) → (r : Bool) → (flags_of n).ready ≡ r

@@ -1,11 +1,12 @@
 -- Each word of a list of those who wait says of the named list what it says of the list itself.
-use Rattle.std.proofs.Common.{◌≡◌, ℕ, Bool, true, false, cond, ◌==◌, List, [], ◌∷◌, ◌++◌, map, Option, Some, None, refl, ap, ◌∙◌}
+use Rattle.std.proofs.Common.{◌≡◌, ℕ, Bool, true, false, cond, ◌==◌, List, [], ◌∷◌, ◌++◌, map, Option, Some, None, refl, sym, ap, ◌∙◌}
 use Rattle.std.specs.List.{cons_option}
 use Rattle.std.specs.Option.{is_some, option_flatten, option_map, option_or, unwrap_or}
+use Rattle.std.proofs.lemmas.Option.{same_Some}
 use Rattle.once_queue.specs.Numbers.{member}
 use Rattle.once_queue.specs.declared.waiters.Listing.{Listing}
 use Rattle.once_queue.specs.Listings.{above_each, call_by, call_first, find_listing, first_waker, kept_ticket, least_from, left_list, list_with}
-use Rattle.once_queue.specs.Listings.{list_without, next_waker, own_listing, passes_turn, take_out, ticket_for, tickets, was_called, wakers_of}
+use Rattle.once_queue.specs.Listings.{list_without, next_waker, own_listing, passes_turn, take_out, ticket_for, tickets, was_called, wakers_of, with_waker}
 use Rattle.once_book.specs.Named.{named, named_listing}
 
 module _ {W : Type 0} (whose : W → ℕ) where
@@ -30,9 +31,24 @@ module _ {W : Type 0} (whose : W → ℕ) where
   found_by false o f g e = e
 
   -- the listing of a ticket
-  find_named : (n : ℕ) (xs : List (Listing W)) → find_listing n (named whose xs) ≡ option_map (option_map whose) (find_listing n xs)
+  pub find_named : (n : ℕ) (xs : List (Listing W)) → find_listing n (named whose xs) ≡ option_map (option_map whose) (find_listing n xs)
   find_named n [] = refl
   find_named n (x ∷ xs) = found_by (x.ticket == n) x.waker (find_listing n xs) (find_listing n (named whose xs)) (find_named n xs)
+
+  -- a waker that was renewed and stayed the same task's
+  renewed_by : (b : Bool) (v w : W) (x : Listing W) (xs ys : List (Listing W)) (f : Option (Option W))
+      → cond b (Some x.waker) f ≡ Some (Some v) → whose w ≡ whose v → (f ≡ Some (Some v) → named whose ys ≡ named whose xs)
+      → named whose (cond b (record { ticket = x.ticket; waker = Some w } ∷ xs) (x ∷ ys)) ≡ named whose (x ∷ xs)
+  renewed_by true v w x xs ys f is own rest =
+      ap (λ (o : Option ℕ). record { ticket = x.ticket; waker = o } ∷ named whose xs)
+      (ap Some own ∙ ap (option_map whose) (sym (same_Some x.waker (Some v) is)))
+  renewed_by false v w x xs ys f is own rest = ap (λ (ns : List (Listing ℕ)). named_listing whose x ∷ ns) (rest is)
+
+  pub named_renewed : (n : ℕ) (v w : W) (xs : List (Listing W)) → find_listing n xs ≡ Some (Some v) → whose w ≡ whose v
+      → named whose (with_waker n w xs) ≡ named whose xs
+  named_renewed n v w [] is own = refl
+  named_renewed n v w (x ∷ xs) is own =
+      renewed_by (x.ticket == n) v w x xs (with_waker n w xs) (find_listing n xs) is own (λ e. named_renewed n v w xs e own)
 
   -- the own listing
   own_named : (k : Option ℕ) (xs : List (Listing W)) → own_listing k (named whose xs) ≡ option_map (option_map whose) (own_listing k xs)

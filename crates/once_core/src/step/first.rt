@@ -15,7 +15,7 @@ impl<W: Drop, Q: Drop> Step<W, Q> {
     /// the init, the value, the fast release. `More` says that another task was met or that the init
     /// failed: [`advance`](Self::advance) goes on from there.
     #[inline(always)]
-    pub fn first_steps<P: Parts<W, Queue = Q>, S: Side<W, Value = P::Value>>(
+    pub fn first_steps<P: Parts<W, Queue = Q>, S: Side<W, Value = P::Value, Right = P::Right>>(
         &mut self,
         parts: &mut P,
         side: &mut S,
@@ -23,7 +23,7 @@ impl<W: Drop, Q: Drop> Step<W, Q> {
         requires new { self.old ≡ Step.Resting Rest.Start }
         requires asks { (told : Progress) → (at : Step W Q) → (p : P) → (s : S)
             → Makes P.did S.did MAX_WAITERS (step_of_poll self.old) parts.old side.old told at p s
-            → Asks P.can S.can_put MAX_WAITERS at p s }
+            → Asks P.can S.can_run S.can_put MAX_WAITERS at p s }
         ensures over { (e : Ending) → result ≡ Progress.Ended e → in_call self.new ≡ false }
         ensures lines { (limit : ℕ)
             → Makes P.did S.did limit (step_of_poll self.old) parts.old side.old result self.new parts.new side.new }

@@ -16,10 +16,11 @@ use Rattle.once_parts.specs.Sides.{Sided}
 use Rattle.once_parts.specs.Walks.{FitsAt, Stands, StandsOn, the_queue}
 use Rattle.once_parts.specs.Parts.{parts_ask}
 
-module _ {P S W : Type 0} (cell : P → Placed) (own : P → Own) (whose : W → ℕ) (state : S → Sided) (can_put : S → Type 0) (puts : (s : S) → (state s).has_value ≡ true → can_put s)
+module _ {P S W : Type 0} (cell : P → Placed) (own : P → Own) (whose : W → ℕ) (state : S → Sided)
+    (can_run can_put : S → Type 0) (runs : (s : S) → (state s).has_init ≡ true → can_run s) (puts : (s : S) → (state s).has_value ≡ true → can_put s)
     (drops : Bool) (p : P) (s : S) where
   -- at a place
-  asked_at : (at : Place W ⊤) → StandsOn whose (own p) (UnderWay at) → FitsAt drops (state s) (own p) at → AsksAt (parts_ask cell own whose) can_put most at p s
+  asked_at : (at : Place W ⊤) → StandsOn whose (own p) (UnderWay at) → FitsAt drops (state s) (own p) at → AsksAt (parts_ask cell own whose) can_run can_put most at p s
   asked_at AtStart is f = subst CanLoad (sym (at_start the_queue _ (sym is))) tt
   asked_at AtTryQuick is f = at_quick the_queue _ (sym is)
   asked_at AtDoorGet is f = subst CanGet (sym (at_get the_queue _ (sym is))) tt
@@ -28,7 +29,7 @@ module _ {P S W : Type 0} (cell : P → Placed) (own : P → Own) (whose : W →
   asked_at (AtWaitLoad q k) is f = let at = at_load the_queue _ q k (sym is) in subst CanLoad (sym at.1) tt
   asked_at (AtLook q k) is f = let at = at_look the_queue _ q k (sym is) in subst (CanLook k) (sym at.1) refl
   asked_at (AtList q k w) is f = let at = at_list the_queue _ q k (whose w) (sym is) in subst (CanList k (whose w)) (sym at.1) (refl, refl)
-  asked_at (AtRun by) is f = let at = at_run the_queue _ _ (sym is) in λ a. subst CanRun (sym at.1) tt
+  asked_at (AtRun by) is f = let at = at_run the_queue _ _ (sym is) in (subst CanRun (sym at.1) tt, runs s f.1)
   asked_at (AtPut by) is f = let at = at_value the_queue _ _ (sym is) in (subst CanFill (sym at.1) tt, puts s f.1)
   asked_at (AtFast e) is f = subst (CanFast (is_value e)) (sym (at_fast the_queue _ e (sym is))) refl
   asked_at (AtAddOne e) is f = subst CanAdd (sym (at_add the_queue _ e (sym is))) tt
@@ -39,7 +40,7 @@ module _ {P S W : Type 0} (cell : P → Placed) (own : P → Own) (whose : W →
   asked_at (AtDoorTake e) is f = subst CanTake (sym (at_take the_queue _ e (sym is))) tt
 
   -- of a step
-  pub step_asked : (r : Progress) (at : Step W ⊤) → Stands whose drops (state s) (own p) r at → Asks (parts_ask cell own whose) can_put most at p s
+  pub step_asked : (r : Progress) (at : Step W ⊤) → Stands whose drops (state s) (own p) r at → Asks (parts_ask cell own whose) can_run can_put most at p s
   step_asked r (UnderWay at) is = asked_at at is.step is.fits.1
   step_asked r (Resting rest) is = tt
   step_asked r Finished is = tt

@@ -4,23 +4,23 @@ use Rattle.std.specs.Prelude.{⊤}
 use Rattle.std.proofs.lemmas.Bool.{false≢true}
 use mathlib.Core.List.{IsPrefix}
 use Rattle.once_core.specs.Steps.{in_call, is_resting, step_of_drop, step_of_poll}
-use Rattle.once_world.specs.Places.{EndDropped, Finished, More, RestRun, RestStart, RestWait, Resting, Step, UnderWay}
+use Rattle.once_world.specs.Places.{EndDropped, Finished, More, Rest, RestRun, RestStart, RestWait, Resting, Step, UnderWay}
 use Rattle.once_world.specs.Record.{Begin, DropBegin, DropEnd, Entry}
 use Rattle.once_world.specs.Book.{TaskState}
 use Rattle.once_world.specs.Machine.{drop_entries}
-use Rattle.once_book.specs.Kept.{Grew}
+use Rattle.once_book.specs.Kept.{Grew, entries_of}
 use Rattle.once_book.specs.Steps.{step_as}
 use Rattle.once_book.proofs.Moments.Steps.{drop_as, poll_as}
 use Rattle.once_book.specs.Own.{Own, Turned}
 use Rattle.once_book.specs.Places.{task_begun, task_dropping}
-use Rattle.once_parts.specs.Sides.{Sided}
-use Rattle.once_parts.specs.Walks.{Fits, HasBegun, Rests, Stands, the_queue}
+use Rattle.once_parts.specs.Sides.{HasClosed, Sided}
+use Rattle.once_parts.specs.Walks.{Fits, GoesOn, IsCall, Rests, Stands, the_queue}
 use Rattle.once_book.proofs.Desks.{prefix_on}
 use Rattle.once_parts.proofs.Walk.Fits.{leave_fits, release_fits}
 
 module _ {W : Type 0} (whose : W → ℕ) (x : Sided) (v w : Own) (s : Step W ⊤) (number : x.number ≡ v.number) (none : x.woke ≡ []) where
   -- a poll fits where it begins
-  poll_fits : (s : Step W ⊤) → is_resting s ≡ true → HasBegun false x w → Fits false x w More (step_of_poll s)
+  poll_fits : (s : Step W ⊤) → is_resting s ≡ true → GoesOn false x w → Fits false x w More (step_of_poll s)
   poll_fits (Resting RestStart) rests b = (refl, b)
   poll_fits (Resting (RestWait q k)) rests b = (refl, b)
   poll_fits (Resting (RestRun by)) rests b = (refl, b)
@@ -28,11 +28,11 @@ module _ {W : Type 0} (whose : W → ℕ) (x : Sided) (v w : Own) (s : Step W �
   poll_fits Finished rests b = absurd (false≢true rests)
 
   -- a task that rests begins a poll
-  pub poll_begins : Rests whose v s → Turned v (task_begun v.number v.task) (Begin v.number v.number ∷ []) w → Stands whose false x w More (step_of_poll s)
-  poll_begins is d = record {
+  pub poll_begins : x.has_init ≡ true → Rests whose v s → Turned v (task_begun v.number v.task) (Begin v.number v.number ∷ []) w → Stands whose false x w More (step_of_poll s)
+  poll_begins init is d = record {
     step = poll_as whose (λ (q : ⊤). q) s ∙ ap step_of_poll is.1 ∙ sym (poll_as (λ w. w) the_queue v.task.step) ∙ ap (λ (y : TaskState). step_as (λ w. w) the_queue y.step) (sym d.task);
     number = number ∙ sym d.number;
-    fits = poll_fits s is.0 (refl, none, ap (λ (y : TaskState). y.waker) d.task ∙ sym d.number);
+    fits = poll_fits s is.0 ((refl, none, ap (λ (y : TaskState). y.waker) d.task ∙ sym d.number), init);
   }
 
   -- a drop fits where it begins, if it has steps to make
@@ -62,9 +62,11 @@ rests_as f g Finished = refl
 pub rests_there : {W : Type 0} (whose : W → ℕ) (s : Step W ⊤) (y : Step ℕ ℕ) → is_resting s ≡ true → step_as whose (λ q. q) s ≡ step_as (λ w. w) the_queue y → is_resting y ≡ true
 rests_there whose s y rests same = sym (rests_as (λ w. w) the_queue y) ∙ sym (ap is_resting same) ∙ rests_as whose (λ q. q) s ∙ rests
 
--- it stands so too after the init was dropped
-pub stands_closed : {W : Type 0} (whose : W → ℕ) (x y : Sided) (w : Own) (s t : Step W ⊤) → y ≡ x → t ≡ s → Stands whose true x w More s → Stands whose true y w More t
-stands_closed whose x y w s t same at is = subst (λ (z : Sided). Stands whose true z w More t) (sym same) (subst (Stands whose true x w More) (sym at) is)
+-- a drop begins so after the init was dropped
+pub stands_closed : {W : Type 0} (whose : W → ℕ) (x y : Sided) (v w : Own) (s t : Step W ⊤) → HasClosed x y → t ≡ step_of_drop s → x.number ≡ v.number → x.woke ≡ [] → Rests whose v s
+    → Turned v (task_dropping v.task) (reverse (drop_entries v.number (step_of_drop v.task.step))) w → in_call (step_of_drop s) ≡ true → Stands whose true y w More t
+stands_closed whose x y v w s t closed at number none rests did call = subst (Stands whose true y w More) (sym at)
+    (drop_begins whose y v w s (ap (λ (x : Sided). x.number) closed ∙ number) (ap (λ (x : Sided). x.woke) closed ∙ none) rests did call)
 
 -- a task whose drop has no step was never polled
 never_polled : {W : Type 0} (whose : W → ℕ) (v : Own) (s : Step W ⊤) (y : Step ℕ ℕ) → is_resting s ≡ true
@@ -91,5 +93,34 @@ grew_from es a b c p g = (g.0, prefix_on a b g.0 p g.1, g.2)
 
 -- its drop begins and ends at once
 pub drop_alone : {W : Type 0} (whose : W → ℕ) (v w : Own) (s : Step W ⊤) → Rests whose v s → in_call (step_of_drop s) ≡ false
-    → Turned v (task_dropping v.task) (reverse (drop_entries v.number (step_of_drop v.task.step))) w → Grew (DropBegin v.number ∷ DropEnd v.number ∷ []) v.log w.log
-drop_alone whose v w s rests over d = subst (λ y. Grew (reverse (drop_entries v.number (step_of_drop y))) v.log w.log) (never_polled whose v s v.task.step rests.0 rests.1 over) d.log
+    → Turned v (task_dropping v.task) (reverse (drop_entries v.number (step_of_drop v.task.step))) w
+    → Grew (DropBegin v.number ∷ DropEnd v.number ∷ []) v.log w.log × IsCall v.number (DropBegin v.number) (DropEnd v.number) [] v.log w.log
+drop_alone whose v w s rests over d =
+    let never = never_polled whose v s v.task.step rests.0 rests.1 over in (
+      subst (λ y. Grew (reverse (drop_entries v.number (step_of_drop y))) v.log w.log) never d.log,
+      record { own = subst (λ y. entries_of v.number w.log ≡ entries_of v.number v.log ++ reverse (drop_entries v.number (step_of_drop y))) never d.mine; between = tt },
+    )
+
+-- a step that stands for one of a new task is such a step
+starts : {W : Type 0} (whose : W → ℕ) (r : Rest ⊤) → step_as {W = W} whose (λ q. q) (Resting r) ≡ step_as (λ w. w) the_queue (Resting RestStart) → in_call (step_of_drop {W = W} (Resting r)) ≡ false
+starts whose RestStart is = refl
+starts whose (RestWait q k) is = let no : ⊥ = cc in absurd no
+starts whose (RestRun by) is = let no : ⊥ = cc in absurd no
+
+-- a drop that has steps to make adds its beginning at first
+begins_alone : {W : Type 0} (whose : W → ℕ) (t : ℕ) (s : Step W ⊤) (y : Step ℕ ℕ) → is_resting s ≡ true
+    → step_as whose (λ q. q) s ≡ step_as (λ w. w) the_queue y → in_call (step_of_drop s) ≡ true → reverse (drop_entries t (step_of_drop y)) ≡ DropBegin t ∷ []
+begins_alone whose t (Resting r) (Resting RestStart) rests is call = absurd (false≢true (sym (starts whose r is) ∙ call))
+begins_alone whose t (Resting r) (Resting (RestWait q None)) rests is call = refl
+begins_alone whose t (Resting r) (Resting (RestWait q (Some n))) rests is call = refl
+begins_alone whose t (Resting r) (Resting (RestRun None)) rests is call = refl
+begins_alone whose t (Resting r) (Resting (RestRun (Some q))) rests is call = refl
+begins_alone whose t (Resting r) (UnderWay p) rests is call = let no : ⊥ = cc in absurd no
+begins_alone whose t (Resting r) Finished rests is call = let no : ⊥ = cc in absurd no
+begins_alone whose t (UnderWay p) y rests is call = absurd (false≢true rests)
+begins_alone whose t Finished y rests is call = absurd (false≢true rests)
+
+-- the beginning of such a drop, by the task's own entries
+pub drop_opens : {W : Type 0} (whose : W → ℕ) (v w : Own) (s : Step W ⊤) → Rests whose v s → in_call (step_of_drop s) ≡ true
+    → Turned v (task_dropping v.task) (reverse (drop_entries v.number (step_of_drop v.task.step))) w → entries_of v.number w.log ≡ entries_of v.number v.log ++ DropBegin v.number ∷ []
+drop_opens whose v w s rests call d = d.mine ∙ ap (λ l. entries_of v.number v.log ++ l) (begins_alone whose v.number s v.task.step rests.0 rests.1 call)

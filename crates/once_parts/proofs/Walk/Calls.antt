@@ -24,16 +24,23 @@ module _ {P S W : Type 0} (cell : P → Placed) (own : P → Own) (whose : W →
   step_went (Resting rest) p p' s s' r r0 t is line = absurd line
   step_went Finished p p' s s' r r0 t is line = absurd line
 
+  -- a call that makes a step goes on
+  pub goes_more : (at : Step W ⊤) (p p' : P) (s s' : S) (r r0 : Progress) (t : Step W ⊤) → Stands whose drops (state s) (own p) r0 at
+      → Advances (parts_tell cell own whose) side limit at p s r t p' s' → r0 ≡ More
+  goes_more (UnderWay at) p p' s s' r r0 t is line = is.fits.0
+  goes_more (Resting rest) p p' s s' r r0 t is line = absurd line
+  goes_more Finished p p' s s' r r0 t is line = absurd line
+
   -- any number of them, from where the call began
   pub steps_went : (from : Step W ⊤) (p : P) (s : S) (to : Step W ⊤) (p' : P) (s' : S) (told : Progress) → Stands whose drops (state s) (own p) More from
       → Makes (parts_tell cell own whose) side limit from p s told to p' s' → Went cell own whose state drops p s told p' s' to
   steps_went from p s to p' s' told is none = record { cell_is = refl; walked = walked_none (state s) (own p); stands = is }
   steps_went from p s to p' s' told is (next before at q t last end r u m line) =
       let so_far = steps_went from p s at q t before is m in
-      went_on cell own whose state drops p q r s t u before last at end so_far (step_went at q r t u last before end so_far.stands line)
+      went_on cell own whose state drops p q r s t u before last at end (goes_more at q r t u last before end so_far.stands line) so_far (step_went at q r t u last before end so_far.stands line)
 
   -- so the next one may be made
-  pub steps_asked : (can_put : S → Type 0) → ((s : S) → (state s).has_value ≡ true → can_put s)
+  pub steps_asked : (can_run can_put : S → Type 0) → ((s : S) → (state s).has_init ≡ true → can_run s) → ((s : S) → (state s).has_value ≡ true → can_put s)
       → (from : Step W ⊤) (p : P) (s : S) (to : Step W ⊤) (p' : P) (s' : S) (told : Progress) → Stands whose drops (state s) (own p) More from
-      → Makes (parts_tell cell own whose) side limit from p s told to p' s' → Asks (parts_ask cell own whose) can_put most to p' s'
-  steps_asked can_put puts from p s to p' s' told is m = step_asked cell own whose state can_put puts drops p' s' told to (steps_went from p s to p' s' told is m).stands
+      → Makes (parts_tell cell own whose) side limit from p s told to p' s' → Asks (parts_ask cell own whose) can_run can_put most to p' s'
+  steps_asked can_run can_put runs puts from p s to p' s' told is m = step_asked cell own whose state can_run can_put runs puts drops p' s' told to (steps_went from p s to p' s' told is m).stands

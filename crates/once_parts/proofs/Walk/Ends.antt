@@ -54,7 +54,9 @@ module _ {W : Type 0} (whose : W → ℕ) (x y : Sided) (v w : Own) (r : Progres
   -- a poll that ended so
   pub record PollEnded (s : Step W ⊤) : Type 0 where
     pub end : Grew (end_of w.number e ∷ []) v.log w.log
+    pub entry : end_entry e w.number 0 w.task.kept ≡ end_of w.number e
     pub error : e ≡ EndError → y.has_error ≡ true
+    pub init : e ≡ EndPending → y.has_init ≡ true
     pub pending : e ≡ EndPending → Rests whose w s
     pub finished : (e ≡ EndPending → ⊥) → s ≡ Finished
     pub poll : e ≡ EndDropped → ⊥
@@ -68,9 +70,12 @@ module _ {W : Type 0} (whose : W → ℕ) (x y : Sided) (v w : Own) (r : Progres
   poll_ended (UnderWay p) m is over = absurd (false≢true (sym over))
   poll_ended (Resting rest) m is over =
       let pends : e ≡ EndPending = same_end r e EndPending told is.fits.0 in
+      let entry = ap (λ d. end_entry d w.number 0 w.task.kept) pends ∙ ap (end_of w.number) (sym pends) in
       record {
-        end = end_is m (ap (λ d. end_entry d w.number 0 w.task.kept) pends ∙ ap (end_of w.number) (sym pends));
+        end = end_is m entry;
+        entry = entry;
         error = λ err. let no : EndPending ≡ EndError = sym pends ∙ err in let never : ⊥ = cc in absurd never;
+        init = λ p. is.fits.1.1;
         pending = λ p. (refl, is.step);
         finished = λ no. absurd (no pends);
         poll = λ d. let no : EndPending ≡ EndDropped = sym pends ∙ d in cc;
@@ -80,17 +85,21 @@ module _ {W : Type 0} (whose : W → ℕ) (x y : Sided) (v w : Own) (r : Progres
       let may : MayEnd false y w e = subst (MayEnd false y w) same is.fits.2 in
       record {
         end = end_is m (entry_is false y w e may);
+        entry = entry_is false y w e may;
         error = error_given y w e may;
+        init = λ p. absurd (subst (MayEnd false y w) p may);
         pending = λ p. absurd (subst (MayEnd false y w) p may);
         finished = λ no. refl;
         poll = λ d. subst (MayEnd false y w) d may;
       }
 
   -- a drop ends so
-  pub drop_ended : (s : Step W ⊤) → Walked x v r y w → Stands whose true y w r s → in_call s ≡ false → Grew (end_of w.number EndDropped ∷ []) v.log w.log
+  pub drop_ended : (s : Step W ⊤) → Walked x v r y w → Stands whose true y w r s → in_call s ≡ false
+      → Grew (end_of w.number EndDropped ∷ []) v.log w.log × (end_entry e w.number 0 w.task.kept ≡ end_of w.number EndDropped)
   drop_ended (UnderWay p) m is over = absurd (false≢true (sym over))
-  drop_ended (Resting rest) m is over = absurd (false≢true (sym is.fits.1.0))
+  drop_ended (Resting rest) m is over = absurd (false≢true (sym is.fits.1.0.0))
   drop_ended Finished m is over =
       let same : is.fits.0 ≡ e = same_end r is.fits.0 e is.fits.1 told in
       let may : MayEnd true y w e = subst (MayEnd true y w) same is.fits.2 in
-      subst (λ d. Grew (end_of w.number d ∷ []) v.log w.log) (only_dropped y w e may) (end_is m (entry_is true y w e may))
+      let is = only_dropped y w e may in
+      (subst (λ d. Grew (end_of w.number d ∷ []) v.log w.log) is (end_is m (entry_is true y w e may)), entry_is true y w e may ∙ ap (end_of w.number) is)

@@ -50,6 +50,10 @@ module _ (W Q : Type 0) (drops : Bool) (x : Sided) (v : Own) where
   abbrev pub FitsNext : Next W Q → Type 0
   FitsNext n = Fits drops x v n.progress n.step
 
+  -- where the call goes on without a close, the init is there
+  abbrev pub HasInit : Next W Q → Type 0
+  HasInit n = n.closes ≡ false → x.has_init ≡ true
+
   -- where the right is given back
   pub release_fits : (by : Option Q) (e : Ending) → x.woke ≡ [] → MayEnd drops x v e → FitsAt drops x v (release_place {W = W} by e)
   release_fits None e none m = (none, m)
@@ -60,64 +64,64 @@ module _ (W Q : Type 0) (drops : Bool) (x : Sided) (v : Own) where
   leave_fits q None e none m = m
   leave_fits q (Some n) e none m = (none, m)
 
-  pub start_fits : (ready new : Bool) → HasBegun drops x v → FitsNext (after_start ready new)
-  start_fits true new b = (EndValue, refl, ends_value drops x v b)
-  start_fits false true b = (refl, b)
-  start_fits false false b = (refl, b)
+  pub start_fits : (ready new : Bool) → HasBegun drops x v → HasInit (after_start ready new) → FitsNext (after_start ready new)
+  start_fits true new b i = (EndValue, refl, ends_value drops x v b)
+  start_fits false true b i = (refl, (b, i refl))
+  start_fits false false b i = (refl, (b, i refl))
 
-  pub quick_fits : (won : Bool) → HasBegun drops x v → FitsNext (after_quick won)
-  quick_fits true b = (refl, b)
-  quick_fits false b = (refl, b)
+  pub quick_fits : (won : Bool) → HasBegun drops x v → HasInit (after_quick won) → FitsNext (after_quick won)
+  quick_fits true b i = (refl, (b, i refl))
+  quick_fits false b i = (refl, (b, i refl))
 
-  pub get_fits : (door : Option Q) → HasBegun drops x v → FitsNext (after_door_get door)
-  get_fits (Some q) b = (refl, b)
-  get_fits None b = (refl, b)
+  pub get_fits : (door : Option Q) → HasBegun drops x v → HasInit (after_door_get door) → FitsNext (after_door_get door)
+  get_fits (Some q) b i = (refl, (b, i refl))
+  get_fits None b i = (refl, (b, i refl))
 
-  pub put_fits : (door : Option Q) → HasBegun drops x v → FitsNext (after_door_put door)
-  put_fits (Some q) b = (refl, b)
-  put_fits None b = (EndMemory, refl, ends_memory drops x v b)
+  pub put_fits : (door : Option Q) → HasBegun drops x v → HasInit (after_door_put door) → FitsNext (after_door_put door)
+  put_fits (Some q) b i = (refl, (b, i refl))
+  put_fits None b i = (EndMemory, refl, ends_memory drops x v b)
 
-  in_fits : (ready : Bool) (q : Q) → HasBegun drops x v → FitsNext (after_in ready q)
-  in_fits true q b = (refl, ends_value drops x v b)
-  in_fits false q b = (refl, b)
+  in_fits : (ready : Bool) (q : Q) → HasBegun drops x v → HasInit (after_in ready q) → FitsNext (after_in ready q)
+  in_fits true q b i = (refl, ends_value drops x v b)
+  in_fits false q b i = (refl, (b, i refl))
 
-  pub count_in_fits : (c : Counted) (q : Q) → HasBegun drops x v → FitsNext (after_count_in c q)
-  count_in_fits (In n) q b = in_fits (flags_of n).ready q b
-  count_in_fits Full q b = (EndFull, refl, ends_full drops x v b)
-  count_in_fits SeenReady q b = (EndValue, refl, ends_value drops x v b)
+  pub count_in_fits : (c : Counted) (q : Q) → HasBegun drops x v → HasInit (after_count_in c q) → FitsNext (after_count_in c q)
+  count_in_fits (In n) q b i = in_fits (flags_of n).ready q b i
+  count_in_fits Full q b i = (EndFull, refl, ends_full drops x v b)
+  count_in_fits SeenReady q b i = (EndValue, refl, ends_value drops x v b)
 
-  pub load_fits : (ready : Bool) (q : Q) (k : Option ℕ) → HasBegun drops x v → FitsNext (after_load ready q k)
-  load_fits true q k b = (refl, ends_value drops x v b)
-  load_fits false q k b = (refl, b)
+  pub load_fits : (ready : Bool) (q : Q) (k : Option ℕ) → HasBegun drops x v → HasInit (after_load ready q k) → FitsNext (after_load ready q k)
+  load_fits true q k b i = (refl, ends_value drops x v b)
+  load_fits false q k b i = (refl, (b, i refl))
 
-  pub copy_fits : (w : Option W) (q : Q) (k : Option ℕ) → HasBegun drops x v → FitsNext (after_copy w q k)
-  copy_fits (Some w) q k b = (refl, b)
-  copy_fits None q k b = (refl, leave_fits q k EndMemory b.1 (ends_memory drops x v b))
+  pub copy_fits : (w : Option W) (q : Q) (k : Option ℕ) → HasBegun drops x v → HasInit (after_copy w q k) → FitsNext (after_copy w q k)
+  copy_fits (Some w) q k b i = (refl, (b, i refl))
+  copy_fits None q k b i = (refl, leave_fits q k EndMemory b.1 (ends_memory drops x v b))
 
-  pub look_fits : (a : Answer W) (w : Option W) (q : Q) (k : Option ℕ) → HasBegun drops x v → FitsNext (after_look a w q k)
-  look_fits Ready w q k b = (refl, ends_value drops x v b)
-  look_fits Claimed w q k b = (refl, b)
-  look_fits Listed w q k b = (refl, b)
-  look_fits Held w q k b = copy_fits w q k b
-  look_fits Memory w q k b = copy_fits w q k b
-  look_fits Gone w q k b = copy_fits w q k b
-  look_fits (Released out) w q k b = copy_fits w q k b
-  look_fits (Left o) w q k b = copy_fits w q k b
+  pub look_fits : (a : Answer W) (w : Option W) (q : Q) (k : Option ℕ) → HasBegun drops x v → HasInit (after_look a w q k) → FitsNext (after_look a w q k)
+  look_fits Ready w q k b i = (refl, ends_value drops x v b)
+  look_fits Claimed w q k b i = (refl, (b, i refl))
+  look_fits Listed w q k b i = (refl, (b, i refl))
+  look_fits Held w q k b i = copy_fits w q k b i
+  look_fits Memory w q k b i = copy_fits w q k b i
+  look_fits Gone w q k b i = copy_fits w q k b i
+  look_fits (Released out) w q k b i = copy_fits w q k b i
+  look_fits (Left o) w q k b i = copy_fits w q k b i
 
-  pub list_fits : (a : Answer W) (q : Q) (k : Option ℕ) → HasBegun drops x v → FitsNext (after_list a q k)
-  list_fits Ready q k b = (refl, ends_value drops x v b)
-  list_fits Claimed q k b = (refl, b)
-  list_fits Listed q k b = (refl, b)
-  list_fits Held q k b = (refl, b)
-  list_fits Memory q k b = (refl, leave_fits q k EndMemory b.1 (ends_memory drops x v b))
-  list_fits Gone q k b = (refl, b)
-  list_fits (Released out) q k b = (refl, b)
-  list_fits (Left o) q k b = (refl, b)
+  pub list_fits : (a : Answer W) (q : Q) (k : Option ℕ) → HasBegun drops x v → HasInit (after_list a q k) → FitsNext (after_list a q k)
+  list_fits Ready q k b i = (refl, ends_value drops x v b)
+  list_fits Claimed q k b i = (refl, (b, i refl))
+  list_fits Listed q k b i = (refl, (b, i refl))
+  list_fits Held q k b i = (refl, (b, i refl))
+  list_fits Memory q k b i = (refl, leave_fits q k EndMemory b.1 (ends_memory drops x v b))
+  list_fits Gone q k b i = (refl, (b, i refl))
+  list_fits (Released out) q k b i = (refl, (b, i refl))
+  list_fits (Left o) q k b i = (refl, (b, i refl))
 
-  pub run_fits : (a : Polled) (by : Option Q) → HasBegun drops x v → (a ≡ Value → x.has_value ≡ true) → (a ≡ Error → (x.has_error ≡ true) × (v.task.kept ≡ RanError 0)) → FitsNext (after_run a by)
-  run_fits Pending by b value error = (refl, b)
-  run_fits Value by b value error = (refl, (b, value refl))
-  run_fits Error by b value error = let gave = error refl in (refl, release_fits by EndError b.1 (ends_error drops x v b gave.0 gave.1))
+  pub run_fits : (a : Polled) (by : Option Q) → HasBegun drops x v → HasInit (after_run a by) → (a ≡ Value → x.has_value ≡ true) → (a ≡ Error → (x.has_error ≡ true) × (v.task.kept ≡ RanError 0)) → FitsNext (after_run a by)
+  run_fits Pending by b i value error = (refl, (b, i refl))
+  run_fits Value by b i value error = (refl, (b, value refl))
+  run_fits Error by b i value error = let gave = error refl in (refl, release_fits by EndError b.1 (ends_error drops x v b gave.0 gave.1))
 
   pub fill_fits : (by : Option Q) → HasBegun drops x v → FitsNext (next_at (release_place by EndValue))
   fill_fits by b = (refl, release_fits by EndValue b.1 (ends_value drops x v b))

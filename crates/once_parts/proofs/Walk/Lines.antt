@@ -28,13 +28,15 @@ use Rattle.once_book.specs.Own.{Did, Own, Turned, told}
 use Rattle.once_book.specs.Places.{add_next, fast_next, fill_next, get_next, in_next, leave_next, list_next, load_next, look_next, numbered, out_next, release_next, run_next, take_next, unnamed}
 use Rattle.once_parts.specs.Handed.{handed_in}
 use Rattle.once_parts.specs.Sides.{IsTold, Sided}
-use Rattle.once_parts.specs.Walks.{Fits, HasBegun, MayEnd, Stands, handed, the_queue}
+use Rattle.once_book.specs.Kept.{entries_of}
+use Rattle.once_parts.specs.Walks.{AreMid, Fits, GoesOn, HasBegun, MayEnd, Stands, handed, the_queue}
 use Rattle.once_parts.proofs.Walk.Fits.{again_fits, begun_on, copy_fits, count_in_fits, fast_fits, fill_fits, get_fits, list_fits}
 use Rattle.once_parts.proofs.Walk.Fits.{load_fits, look_fits, may_end_on, out_fits, put_fits, quick_fits, run_fits, start_fits, take_fits}
 use Rattle.once_book.proofs.Desks.{prefix_on}
 use Rattle.once_parts.proofs.Walk.Logs.{grew_on}
 use Rattle.once_parts.specs.Parts.{parts_tell}
 use Rattle.once_parts.proofs.Walk.Parts.{Went, quiet, went_by}
+use Rattle.std.proofs.lemmas.Bool.{false≢true}
 
 -- a queue that is there
 numbered_same : (q : Option ⊤) (n : ℕ) → option_map the_queue (numbered n (is_some q)) ≡ option_map (λ (u : ⊤). u) q
@@ -64,6 +66,24 @@ pass_handed : (t : ℕ) (X : List ℕ) → handed (reverse (pass_entries t X)) �
 pass_handed t [] = refl
 pass_handed t (x ∷ X) = append-nil (x ∷ X)
 
+-- what a task does besides its beginning and its end
+claim_mid : (b : Bool) (t : ℕ) → AreMid (reverse (claim_entries b t))
+claim_mid true t = (refl, tt)
+claim_mid false t = tt
+
+release_mid : (k : InitAnswer) (t : ℕ) (X : List ℕ) → AreMid (reverse (release_entry k t X ∷ []))
+release_mid RanPending t X = (refl, tt)
+release_mid (RanValue v) t X = (refl, tt)
+release_mid (RanError e) t X = (refl, tt)
+
+freed_mid : (won : Bool) (t : ℕ) (k : InitAnswer) → AreMid (reverse (freed_entries won t k))
+freed_mid true t k = release_mid k t []
+freed_mid false t k = tt
+
+pass_mid : (t : ℕ) (X : List ℕ) → AreMid (reverse (pass_entries t X))
+pass_mid t [] = tt
+pass_mid t (x ∷ X) = (refl, tt)
+
 -- what the init gave, where it gave an error
 error_kept : (a : Polled) (k : InitAnswer) → a ≡ Error → kept_after (unnamed a) k ≡ RanError 0
 error_kept Pending k e = let no : ⊥ = cc in absurd no
@@ -92,33 +112,77 @@ list_again Gone q k = list_as (λ w. w) the_queue Gone q k
 list_again (Released out) q k = list_as (λ w. w) the_queue Gone q k
 list_again (Left o) q k = list_as (λ w. w) the_queue Gone q k
 
+-- an init whose poll drops nothing is pending
+run_closes : (W : Type 0) (a : Polled) (by : Option ⊤) → (after_run {W = W} a by).closes ≡ false → a ≡ Pending
+run_closes W Pending by e = refl
+run_closes W Value by e = absurd (false≢true (sym e))
+run_closes W Error by e = absurd (false≢true (sym e))
+
+-- a side is as it was, but that its init may have been dropped
+record Still (closes : Bool) (x y : Sided) : Type 0 where
+  pub number : y.number ≡ x.number
+  pub init : closes ≡ false → y.has_init ≡ x.has_init
+  pub value : y.has_value ≡ x.has_value
+  pub error : y.has_error ≡ x.has_error
+  pub woke : y.woke ≡ x.woke
+
+-- after a call that left it as it was
+still_after : (b : Bool) (x y z : Sided) → y ≡ x → Still b y z → Still b x z
+still_after b x y z same c = record {
+  number = c.number ∙ ap (λ (x : Sided). x.number) same;
+  init = λ e. c.init e ∙ ap (λ (x : Sided). x.has_init) same;
+  value = c.value ∙ ap (λ (x : Sided). x.has_value) same;
+  error = c.error ∙ ap (λ (x : Sided). x.has_error) same;
+  woke = c.woke ∙ ap (λ (x : Sided). x.woke) same;
+}
+
 module _ {P S W : Type 0} (cell : P → Placed) (own : P → Own) (whose : W → ℕ) (state : S → Sided) (side : SideTells S W) (tells : IsTold whose state side) (limit : ℕ) (drops : Bool) where
   -- an init that is dropped or not
-  closed : (b : Bool) (s s' : S) → MayClose side.close b s s' → state s' ≡ state s
-  closed true s s' c = tells.close s s' c
-  closed false s s' c = ap state c
+  closed : (b : Bool) (s s' : S) → MayClose side.close b s s' → Still b (state s) (state s')
+  closed true s s' c =
+      let is = tells.close s s' c in
+      record {
+        number = ap (λ (x : Sided). x.number) is;
+        init = λ e. absurd (false≢true (sym e));
+        value = ap (λ (x : Sided). x.has_value) is;
+        error = ap (λ (x : Sided). x.has_error) is;
+        woke = ap (λ (x : Sided). x.woke) is;
+      }
+  closed false s s' c =
+      let is = ap state c in
+      record {
+        number = ap (λ (x : Sided). x.number) is;
+        init = λ e. ap (λ (x : Sided). x.has_init) is;
+        value = ap (λ (x : Sided). x.has_value) is;
+        error = ap (λ (x : Sided). x.has_error) is;
+        woke = ap (λ (x : Sided). x.woke) is;
+      }
 
   module _ (p p' : P) (s s' : S) (r : Progress) (t : Step W ⊤) (number : (state s).number ≡ (own p).number) where
     -- a line at which nobody is handed out, and the side's init may be dropped: a is the code's next, b the page's
     goes : (a : Next W ⊤) (b : Next ℕ ℕ) (c : Next ℕ ⊤) (did : List Entry) → cell p' ≡ cell p → Did (own p) did b (own p')
-        → next_as whose (λ q. q) a ≡ c → next_as (λ w. w) the_queue b ≡ c → handed (reverse did) ≡ []
-        → Follows side.close a s s' r t → (state s' ≡ state s → Fits drops (state s') (own p') a.progress a.step) → Went cell own whose state drops p s r p' s' t
-    goes a b c did same d left right out f fits =
+        → next_as whose (λ q. q) a ≡ c → next_as (λ w. w) the_queue b ≡ c → AreMid (reverse did) → handed (reverse did) ≡ []
+        → Follows side.close a s s' r t → (Still a.closes (state s) (state s') → Fits drops (state s') (own p') a.progress a.step) → Went cell own whose state drops p s r p' s' t
+    goes a b c did same d left right mid out f fits =
         let still = closed a.closes s s' f.0 in
-        went_by cell own whose state drops p p' s s' r t a b c (record (own p).task { step = b.step }) did [] same d refl left right out
-        (quiet (state s) (state s') still) (ap (λ (x : Sided). x.number) still ∙ number) f.1 f.2 (fits still)
+        went_by cell own whose state drops p p' s s' r t a b c (record (own p).task { step = b.step }) did [] same d refl left right mid out
+        (quiet (state s) (state s') still.woke) (still.number ∙ number) f.1 f.2 (fits still)
 
     -- where a poll has begun
-    begun : (did : List Entry) (b : Next ℕ ℕ) → HasBegun drops (state s) (own p) → Did (own p) did b (own p') → state s' ≡ state s → HasBegun drops (state s') (own p')
-    begun did b h d still = begun_on drops (state s) (state s') (own p) (own p') (ap (λ (x : Sided). x.woke) still) d.number (ap (λ (x : TaskState). x.waker) d.task) h
+    begun : (did : List Entry) (b : Next ℕ ℕ) → GoesOn drops (state s) (own p) → Did (own p) did b (own p') → {closes : Bool} → Still closes (state s) (state s') → HasBegun drops (state s') (own p')
+    begun did b h d still = begun_on drops (state s) (state s') (own p) (own p') still.woke d.number (ap (λ (x : TaskState). x.waker) d.task) h.0
+
+    -- and its init is there where it was not dropped
+    inits : GoesOn drops (state s) (own p) → {closes : Bool} → Still closes (state s) (state s') → closes ≡ false → (state s').has_init ≡ true
+    inits h still e = still.init e ∙ h.1
 
     -- where it is known how the call may end
-    ending : (e : Ending) (did : List Entry) (b : Next ℕ ℕ) → MayEnd drops (state s) (own p) e → Did (own p) did b (own p') → state s' ≡ state s → MayEnd drops (state s') (own p') e
-    ending e did b m d still = may_end_on drops (state s) (state s') (own p) (own p') e (ap (λ (x : Sided). x.has_error) still) (ap (λ (x : TaskState). x.kept) d.task) m
+    ending : (e : Ending) (did : List Entry) (b : Next ℕ ℕ) → MayEnd drops (state s) (own p) e → Did (own p) did b (own p') → {closes : Bool} → Still closes (state s) (state s') → MayEnd drops (state s') (own p') e
+    ending e did b m d still = may_end_on drops (state s) (state s') (own p) (own p') e still.error (ap (λ (x : TaskState). x.kept) d.task) m
 
     -- and nobody was handed out yet
-    unwoken : (state s).woke ≡ [] → state s' ≡ state s → (state s').woke ≡ []
-    unwoken none still = ap (λ (x : Sided). x.woke) still ∙ none
+    unwoken : (state s).woke ≡ [] → {closes : Bool} → Still closes (state s) (state s') → (state s').woke ≡ []
+    unwoken none still = still.woke ∙ none
 
   module _ (p p' : P) (s s' : S) (r : Progress) (t : Step W ⊤) where
     -- who was handed out is called
@@ -134,44 +198,45 @@ module _ {P S W : Type 0} (cell : P → Placed) (own : P → Own) (whose : W →
 
     -- a section that hands these out, after which the task counts itself out
     wakes : (e : Ending) (a : Answer W) (did : List Entry) → (state s).number ≡ (own p).number → cell p' ≡ cell p → Did (own p) did (next_at (AtCountOut e)) (own p')
-        → handed (reverse did) ≡ handed_in whose a → Wakes side.wake (out_of a) s s' → r ≡ More → t ≡ UnderWay (AtCountOut e)
+        → AreMid (reverse did) → handed (reverse did) ≡ handed_in whose a → Wakes side.wake (out_of a) s s' → r ≡ More → t ≡ UnderWay (AtCountOut e)
         → (state s).woke ≡ [] → MayEnd drops (state s) (own p) e → Went cell own whose state drops p s r p' s' t
-    wakes e a did number same d out w more leads none m =
+    wakes e a did number same d mid out w more leads none m =
         let now = woken a w none in
         went_by cell own whose state drops p p' s s' r t (next_at (AtCountOut e)) (next_at (AtCountOut e)) (next_at (AtCountOut e))
         (record (own p).task { step = UnderWay (AtCountOut e) }) did (handed_in whose a)
-        same d refl refl refl out (ap (λ (x : Sided). x.woke) now ∙ ap (λ X. X ++ handed_in whose a) (sym none)) (ap (λ (x : Sided). x.number) now ∙ number) more leads
+        same d refl refl refl mid out (ap (λ (x : Sided). x.woke) now ∙ ap (λ X. X ++ handed_in whose a) (sym none)) (ap (λ (x : Sided). x.number) now ∙ number) more leads
         (refl, may_end_on drops (state s) (state s') (own p) (own p') e (ap (λ (x : Sided). x.has_error) now) (ap (λ (x : TaskState). x.kept) d.task) m)
 
   -- after a look, which left this ticket, of a task that stood at the queue q of its page
-  module _ (p n p' : P) (s s' : S) (r : Progress) (t : Step W ⊤) (number : (state s).number ≡ (own p).number) (b : HasBegun drops (state s) (own p)) (q : ℕ) (k : Option ℕ) where
+  module _ (p n p' : P) (s s' : S) (r : Progress) (t : Step W ⊤) (number : (state s).number ≡ (own p).number) (b : GoesOn drops (state s) (own p)) (q : ℕ) (k : Option ℕ) where
     -- where it found a holder: the copy is made, or its refusal is told
     copied : (c : Option W) (m : S) → cell n ≡ cell p → Did (own p) [] (after_copy (Some (own p).task.waker) q k) (own n)
         → side.copy s c m → MayRefuse (parts_tell cell own whose).refuse c n p' → Follows side.close (after_copy c tt k) m s' r t → Went cell own whose state drops p s r p' s' t
     copied (Some w) m same d copy is f =
         let told = tells.copy s (Some w) m copy in
-        let now = closed false m s' f.0 ∙ told.0 in
+        let now = still_after false (state s) (state m) (state s') told.0 (closed false m s' f.0) in
         let v : ℕ = (own p).task.waker in
         let after : Did (own p) [] (after_copy (Some v) q k) (own p') = subst (λ o. Did (own p) [] (after_copy (Some v) q k) (own o)) (sym is) d in
-        let mine : whose w ≡ v = told.1 ∙ number ∙ sym b.2 in
+        let mine : whose w ≡ v = told.1 ∙ number ∙ sym b.0.2 in
         went_by cell own whose state drops p p' s s' r t (after_copy (Some w) tt k) (after_copy (Some v) q k) (after_copy (Some v) tt k)
         (record (own p).task { step = (after_copy (Some v) q k).step }) [] [] (ap cell is ∙ same) after refl
         (copy_as whose (λ (q : ⊤). q) (Some w) tt k ∙ ap (λ v. after_copy (Some v) tt k) mine) (copy_as (λ w. w) the_queue (Some v) q k)
-        refl (quiet (state s) (state s') now) (ap (λ (x : Sided). x.number) now ∙ number) f.1 f.2
-        (copy_fits W ⊤ drops (state s') (own p') (Some w) tt k (begun p p' s s' r t number [] (after_copy (Some v) q k) b after now))
+        tt refl (quiet (state s) (state s') now.woke) (now.number ∙ number) f.1 f.2
+        (copy_fits W ⊤ drops (state s') (own p') (Some w) tt k (begun p p' s s' r t number [] (after_copy (Some v) q k) b after now) (inits p p' s s' r t number b now))
     copied None m same d copy refused f =
         let told = tells.copy s None m copy in
-        let now = closed true m s' f.0 ∙ told.0 in
+        let now = still_after true (state s) (state m) (state s') told.0 (closed true m s' f.0) in
         let left : Next ℕ ℕ = after_copy None q k in
         let after : Did (own p) [] left (own p') = record {
           number = refused.1.number ∙ d.number;
           task = refused.1.task ∙ ap (λ (x : TaskState). record x { step = refused_step x.step }) d.task;
           log = (refused.1.log.0, prefix_on (own p).log (own n).log refused.1.log.0 (grew_on [] (own p).log (own n).log d.log) refused.1.log.1, refused.1.log.2);
+          mine = subst (λ (m : ℕ). entries_of m (own p').log ≡ entries_of m (own n).log) d.number (refused.1.mine ∙ append-nil (entries_of (own n).number (own n).log)) ∙ d.mine;
         } in
         went_by cell own whose state drops p p' s s' r t (after_copy None tt k) left (after_copy None tt k) (record (own p).task { step = left.step }) [] [] (refused.0 ∙ same) after refl
         (copy_as whose (λ (q : ⊤). q) None tt k) (copy_as (λ w. w) the_queue None q k)
-        refl (quiet (state s) (state s') now) (ap (λ (x : Sided). x.number) now ∙ number) f.1 f.2
-        (copy_fits W ⊤ drops (state s') (own p') None tt k (begun p p' s s' r t number [] left b after now))
+        tt refl (quiet (state s) (state s') now.woke) (now.number ∙ number) f.1 f.2
+        (copy_fits W ⊤ drops (state s') (own p') None tt k (begun p p' s s' r t number [] left b after now) (inits p p' s s' r t number b now))
 
     -- where it did not: a is its answer, which copies nothing
     seen : (a : Answer W) → cell n ≡ cell p → Did (own p) (claim_entries (is_claim (answer_as a)) (own p).number) (after_look (answer_as a) (Some (own p).task.waker) q k) (own n)
@@ -182,8 +247,8 @@ module _ {P S W : Type 0} (cell : P → Placed) (own : P → Own) (whose : W →
         let did : List Entry = claim_entries (is_claim (answer_as a)) (own p).number in
         let after : Did (own p) did (after_look (answer_as a) (Some v) q k) (own p') = subst (λ o. Did (own p) did (after_look (answer_as a) (Some v) q k) (own o)) (sym is) d in
         goes p p' s s' r t number (after_look a None tt k) (after_look (answer_as a) (Some v) q k) (after_look (answer_as a) (Some v) tt k) did (ap cell is ∙ same) after
-        (look_as whose (λ (q : ⊤). q) a None tt k ∙ alike) (look_again a v q k) (claim_handed (is_claim (answer_as a)) (own p).number) f
-        (λ still. look_fits W ⊤ drops (state s') (own p') a None tt k (begun p p' s s' r t number did (after_look (answer_as a) (Some v) q k) b after still))
+        (look_as whose (λ (q : ⊤). q) a None tt k ∙ alike) (look_again a v q k) (claim_mid (is_claim (answer_as a)) (own p).number) (claim_handed (is_claim (answer_as a)) (own p).number) f
+        (λ still. look_fits W ⊤ drops (state s') (own p') a None tt k (begun p p' s s' r t number did (after_look (answer_as a) (Some v) q k) b after still) (inits p p' s s' r t number b still))
 
     -- by its answer
     looked : (a : Answer W) → cell n ≡ cell p → Did (own p) (claim_entries (is_claim (answer_as a)) (own p).number) (after_look (answer_as a) (Some (own p).task.waker) q k) (own n)
@@ -205,36 +270,36 @@ module _ {P S W : Type 0} (cell : P → Placed) (own : P → Own) (whose : W →
       let new : Bool = is_zero (flags_of n) in
       let after : Did (own p) [] (after_start ready new) (own p') = subst (λ x. Did (own p) [] (load_next n x) (own p')) (at_start the_queue _ (sym is.step)) d.1 in
       goes p p' s s' r t is.number (after_start ready new) (after_start ready new) (after_start ready new) [] d.0 after
-      (start_as whose (λ (q : ⊤). q) ready new) (start_as (λ w. w) the_queue ready new) refl f
-      (λ still. start_fits W ⊤ drops (state s') (own p') ready new (begun p p' s s' r t is.number [] (after_start ready new) is.fits.1 after still))
+      (start_as whose (λ (q : ⊤). q) ready new) (start_as (λ w. w) the_queue ready new) tt refl f
+      (λ still. start_fits W ⊤ drops (state s') (own p') ready new (begun p p' s s' r t is.number [] (after_start ready new) is.fits.1 after still) (inits p p' s s' r t is.number is.fits.1 still))
   line_went AtTryQuick p p' s s' r r0 t is (won, d, f) =
       goes p p' s s' r t is.number (after_quick won) (after_quick won) (after_quick won) (claim_entries won (own p).number) d.0 d.1
-      (quick_as whose (λ (q : ⊤). q) won) (quick_as (λ w. w) the_queue won) (claim_handed won (own p).number) f
-      (λ still. quick_fits W ⊤ drops (state s') (own p') won (begun p p' s s' r t is.number (claim_entries won (own p).number) (after_quick won) is.fits.1 d.1 still))
+      (quick_as whose (λ (q : ⊤). q) won) (quick_as (λ w. w) the_queue won) (claim_mid won (own p).number) (claim_handed won (own p).number) f
+      (λ still. quick_fits W ⊤ drops (state s') (own p') won (begun p p' s s' r t is.number (claim_entries won (own p).number) (after_quick won) is.fits.1 d.1 still) (inits p p' s s' r t is.number is.fits.1 still))
   line_went AtDoorGet p p' s s' r r0 t is (q, d, f) =
       let door : Option ℕ = numbered d.1.0 (is_some q) in
       let after : Did (own p) [] (after_door_get door) (own p') = subst (λ x. Did (own p) [] (get_next door x) (own p')) (at_get the_queue _ (sym is.step)) d.1.1 in
       goes p p' s s' r t is.number (after_door_get q) (after_door_get door) (after_door_get (option_map (λ q. q) q)) [] d.0 after (get_as whose (λ (q : ⊤). q) q)
-      (get_as (λ w. w) the_queue door ∙ ap after_door_get (numbered_same q d.1.0)) refl f
-      (λ still. get_fits W ⊤ drops (state s') (own p') q (begun p p' s s' r t is.number [] (after_door_get door) is.fits.1 after still))
+      (get_as (λ w. w) the_queue door ∙ ap after_door_get (numbered_same q d.1.0)) tt refl f
+      (λ still. get_fits W ⊤ drops (state s') (own p') q (begun p p' s s' r t is.number [] (after_door_get door) is.fits.1 after still) (inits p p' s s' r t is.number is.fits.1 still))
   line_went AtDoorPut p p' s s' r r0 t is (q, d, f) =
       let door : Option ℕ = numbered d.1.0 (is_some q) in
       goes p p' s s' r t is.number (after_door_put q) (after_door_put door) (after_door_put (option_map (λ q. q) q)) [] d.0 d.1.1 (put_as whose (λ (q : ⊤). q) q)
-      (put_as (λ w. w) the_queue door ∙ ap after_door_put (numbered_same q d.1.0)) refl f
-      (λ still. put_fits W ⊤ drops (state s') (own p') q (begun p p' s s' r t is.number [] (after_door_put door) is.fits.1 d.1.1 still))
+      (put_as (λ w. w) the_queue door ∙ ap after_door_put (numbered_same q d.1.0)) tt refl f
+      (λ still. put_fits W ⊤ drops (state s') (own p') q (begun p p' s s' r t is.number [] (after_door_put door) is.fits.1 d.1.1 still) (inits p p' s s' r t is.number is.fits.1 still))
   line_went (AtCountIn q) p p' s s' r r0 t is (c, d, f) =
       let at = at_count_in the_queue _ q (sym is.step) in
       let after : Did (own p) [] (after_count_in c at.0) (own p') = subst (λ x. Did (own p) [] (in_next c x) (own p')) at.1 d.1 in
       goes p p' s s' r t is.number (after_count_in c tt) (after_count_in c at.0) (after_count_in c tt) [] d.0 after
-      (count_in_as whose (λ (q : ⊤). q) c tt) (count_in_as (λ w. w) the_queue c at.0) refl f
-      (λ still. count_in_fits W ⊤ drops (state s') (own p') c tt (begun p p' s s' r t is.number [] (after_count_in c at.0) is.fits.1 after still))
+      (count_in_as whose (λ (q : ⊤). q) c tt) (count_in_as (λ w. w) the_queue c at.0) tt refl f
+      (λ still. count_in_fits W ⊤ drops (state s') (own p') c tt (begun p p' s s' r t is.number [] (after_count_in c at.0) is.fits.1 after still) (inits p p' s s' r t is.number is.fits.1 still))
   line_went (AtWaitLoad q k) p p' s s' r r0 t is (n, d, f) =
       let at = at_load the_queue _ q k (sym is.step) in
       let ready : Bool = (flags_of n).ready in
       let after : Did (own p) [] (after_load ready at.0 k) (own p') = subst (λ x. Did (own p) [] (load_next n x) (own p')) at.1 d.1 in
       goes p p' s s' r t is.number (after_load ready tt k) (after_load ready at.0 k) (after_load ready tt k) [] d.0 after
-      (load_as whose (λ (q : ⊤). q) ready tt k) (load_as (λ w. w) the_queue ready at.0 k) refl f
-      (λ still. load_fits W ⊤ drops (state s') (own p') ready tt k (begun p p' s s' r t is.number [] (after_load ready at.0 k) is.fits.1 after still))
+      (load_as whose (λ (q : ⊤). q) ready tt k) (load_as (λ w. w) the_queue ready at.0 k) tt refl f
+      (λ still. load_fits W ⊤ drops (state s') (own p') ready tt k (begun p p' s s' r t is.number [] (after_load ready at.0 k) is.fits.1 after still) (inits p p' s s' r t is.number is.fits.1 still))
   line_went (AtLook q k) p p' s s' r r0 t is (a, o, n, d, f) =
       let at = at_look the_queue _ q k (sym is.step) in
       let did : List Entry = claim_entries (is_claim (answer_as a)) (own p).number in
@@ -246,7 +311,7 @@ module _ {P S W : Type 0} (cell : P → Placed) (own : P → Own) (whose : W →
       let after : Did (own p) did b (own p') = subst (λ x. Did (own p) did (list_next (answer_as a) (ticket_in o) x) (own p')) at.1 d.1 in
       goes p p' s s' r t is.number (after_list a tt (ticket_in o)) b (after_list (answer_as a) tt (ticket_in o)) did d.0 after
       (list_as whose (λ (q : ⊤). q) a tt (ticket_in o)) (list_again a at.0 (ticket_in o))
-      (claim_handed (is_claim (answer_as a)) (own p).number) f (λ still. list_fits W ⊤ drops (state s') (own p') a tt (ticket_in o) (begun p p' s s' r t is.number did b is.fits.1 after still))
+      (claim_mid (is_claim (answer_as a)) (own p).number) (claim_handed (is_claim (answer_as a)) (own p).number) f (λ still. list_fits W ⊤ drops (state s') (own p') a tt (ticket_in o) (begun p p' s s' r t is.number did b is.fits.1 after still) (inits p p' s s' r t is.number is.fits.1 still))
   line_went (AtRun by) p p' s s' r r0 t is (a, m, ran, d, f) =
       let at = at_run the_queue _ (option_map (λ q. q) by) (sym is.step) in
       let n : ℕ = (own p).number in
@@ -255,14 +320,15 @@ module _ {P S W : Type 0} (cell : P → Placed) (own : P → Own) (whose : W →
       let after : Turned (own p) z (told n k (after_run a at.0) (Ran n (unnamed a) ∷ [])) (own p') =
       subst (λ x. Turned (own p) (record (own p).task { step = (run_next a x).step; kept = k }) (told n k (run_next a x) (Ran n (unnamed a) ∷ [])) (own p')) at.1 d.1 in
       let told = tells.run s a m ran in
-      let now : state s' ≡ state m = closed (after_run {W = W} a by).closes m s' f.0 in
-      let woke : (state s').woke ≡ (state s).woke = ap (λ (x : Sided). x.woke) now ∙ told.woke in
+      let now : Still (after_run {W = W} a by).closes (state m) (state s') = closed (after_run {W = W} a by).closes m s' f.0 in
+      let woke : (state s').woke ≡ (state s).woke = now.woke ∙ told.woke in
       went_by cell own whose state drops p p' s s' r t (after_run a by) (after_run a at.0) (after_run a (option_map (λ q. q) by)) z (Ran n (unnamed a) ∷ []) [] d.0 after refl
-      (run_as whose (λ (q : ⊤). q) a by) (run_as (λ w. w) the_queue a at.0 ∙ ap (after_run a) at.2) refl (woke ∙ sym (append-nil (state s).woke))
-      (ap (λ (x : Sided). x.number) now ∙ told.number ∙ is.number) f.1 f.2
-      (run_fits W ⊤ drops (state s') (own p') a by (begun_on drops (state s) (state s') (own p) (own p') woke after.number (ap (λ (x : TaskState). x.waker) after.task) is.fits.1)
-      (λ e. ap (λ (x : Sided). x.has_value) now ∙ told.value e)
-      (λ e. (ap (λ (x : Sided). x.has_error) now ∙ told.error e, ap (λ (x : TaskState). x.kept) after.task ∙ error_kept a (own p).task.kept e)))
+      (run_as whose (λ (q : ⊤). q) a by) (run_as (λ w. w) the_queue a at.0 ∙ ap (after_run a) at.2) (refl, tt) refl (woke ∙ sym (append-nil (state s).woke))
+      (now.number ∙ told.number ∙ is.number) f.1 f.2
+      (run_fits W ⊤ drops (state s') (own p') a by (begun_on drops (state s) (state s') (own p) (own p') woke after.number (ap (λ (x : TaskState). x.waker) after.task) is.fits.1.0)
+      (λ e. now.init e ∙ told.init (run_closes W a by e) ∙ is.fits.1.1)
+      (λ e. now.value ∙ told.value e)
+      (λ e. (now.error ∙ told.error e, ap (λ (x : TaskState). x.kept) after.task ∙ error_kept a (own p).task.kept e)))
   line_went (AtPut by) p p' s s' r r0 t is (put, d, more, leads) =
       let at = at_value the_queue _ (option_map (λ q. q) by) (sym is.step) in
       let b : Next ℕ ℕ = next_at (release_place at.0 EndValue) in
@@ -270,7 +336,7 @@ module _ {P S W : Type 0} (cell : P → Placed) (own : P → Own) (whose : W →
       let told = tells.put s s' put in
       went_by cell own whose state drops p p' s s' r t (next_at (release_place by EndValue)) b (next_at (release_place (option_map (λ q. q) by) EndValue))
       (record (own p).task { step = b.step }) [] [] d.0 after refl
-      (ap next_at (release_as whose (λ (q : ⊤). q) by EndValue)) (ap next_at (release_as (λ w. w) the_queue at.0 EndValue ∙ ap (λ o. release_place o EndValue) at.2)) refl
+      (ap next_at (release_as whose (λ (q : ⊤). q) by EndValue)) (ap next_at (release_as (λ w. w) the_queue at.0 EndValue ∙ ap (λ o. release_place o EndValue) at.2)) tt refl
       (told.woke ∙ sym (append-nil (state s).woke)) (told.number ∙ is.number) more leads
       (fill_fits W ⊤ drops (state s') (own p') by (begun_on drops (state s) (state s') (own p) (own p') told.woke after.number (ap (λ (x : TaskState). x.waker) after.task) is.fits.1.0))
   line_went (AtFast e) p p' s s' r r0 t is (won, d, f) =
@@ -278,37 +344,37 @@ module _ {P S W : Type 0} (cell : P → Placed) (own : P → Own) (whose : W →
       let after : Did (own p) did (after_fast won (is_value e) e) (own p') = subst (λ x. Did (own p) did (fast_next won x) (own p')) (at_fast the_queue _ e (sym is.step)) d.1 in
       goes p p' s s' r t is.number (after_fast won (is_value e) e) (after_fast won (is_value e) e) (after_fast won (is_value e) e) did d.0 after
       (fast_as whose (λ (q : ⊤). q) won (is_value e) e) (fast_as (λ w. w) the_queue won (is_value e) e)
-      (freed_handed won (own p).number (own p).task.kept) f
+      (freed_mid won (own p).number (own p).task.kept) (freed_handed won (own p).number (own p).task.kept) f
       (λ still. fast_fits W ⊤ drops (state s') (own p') won (is_value e) e (unwoken p p' s s' r t is.number is.fits.1.0 still)
       (ending p p' s s' r t is.number e did (after_fast won (is_value e) e) is.fits.1.1 after still))
   line_went (AtAddOne e) p p' s s' r r0 t is (d, f) =
       let b : Next ℕ ℕ = next_at (AtDoorAgain e) in
       let after : Did (own p) [] b (own p') = subst (λ x. Did (own p) [] (add_next x) (own p')) (at_add the_queue _ e (sym is.step)) d.1 in
-      goes p p' s s' r t is.number (next_at (AtDoorAgain e)) b (next_at (AtDoorAgain e)) [] d.0 after refl refl refl f
+      goes p p' s s' r t is.number (next_at (AtDoorAgain e)) b (next_at (AtDoorAgain e)) [] d.0 after refl refl tt refl f
       (λ still. (refl, (unwoken p p' s s' r t is.number is.fits.1.0 still, ending p p' s s' r t is.number e [] b is.fits.1.1 after still)))
   line_went (AtDoorAgain e) p p' s s' r r0 t is (q, d, f) =
       let door : Option ℕ = numbered d.1.0 (is_some q) in
       let after : Did (own p) [] (after_door_again door e) (own p') = subst (λ x. Did (own p) [] (get_next door x) (own p')) (at_again the_queue _ e (sym is.step)) d.1.1 in
       goes p p' s s' r t is.number (after_door_again q e) (after_door_again door e) (after_door_again (option_map (λ q. q) q) e) [] d.0 after (again_as whose (λ (q : ⊤). q) q e)
-      (again_as (λ w. w) the_queue door e ∙ ap (λ o. after_door_again o e) (numbered_same q d.1.0)) refl f
+      (again_as (λ w. w) the_queue door e ∙ ap (λ o. after_door_again o e) (numbered_same q d.1.0)) tt refl f
       (λ still. again_fits W ⊤ drops (state s') (own p') q e (unwoken p p' s s' r t is.number is.fits.1.0 still)
       (ending p p' s s' r t is.number e [] (after_door_again door e) is.fits.1.1 after still))
   line_went (AtRelease q e) p p' s s' r r0 t is (a, o, d, w, more, leads) =
       let at = at_release the_queue _ q e (sym is.step) in
       let did : List Entry = release_entry (own p).task.kept (own p).number (handed_in whose a) ∷ [] in
       wakes p p' s s' r t e a did is.number d.0 (subst (λ x. Did (own p) did (release_next x) (own p')) at.1 d.1)
-      (release_handed (own p).task.kept (own p).number (handed_in whose a)) w more leads is.fits.1.0 is.fits.1.1
+      (release_mid (own p).task.kept (own p).number (handed_in whose a)) (release_handed (own p).task.kept (own p).number (handed_in whose a)) w more leads is.fits.1.0 is.fits.1.1
   line_went (AtLeave q n e) p p' s s' r r0 t is (a, o, d, w, more, leads) =
       let at = at_leave the_queue _ q n e (sym is.step) in
       let did : List Entry = pass_entries (own p).number (handed_in whose a) in
-      wakes p p' s s' r t e a did is.number d.0 (subst (λ x. Did (own p) did (leave_next x) (own p')) at.1 d.1.0) (pass_handed (own p).number (handed_in whose a)) w more leads is.fits.1.0 is.fits.1.1
+      wakes p p' s s' r t e a did is.number d.0 (subst (λ x. Did (own p) did (leave_next x) (own p')) at.1 d.1.0) (pass_mid (own p).number (handed_in whose a)) (pass_handed (own p).number (handed_in whose a)) w more leads is.fits.1.0 is.fits.1.1
   line_went (AtCountOut e) p p' s s' r r0 t is (n, d, f) =
       let last : Bool = is_ready_bit (flags_of n) in
       let after : Did (own p) [] (after_count_out last e) (own p') = subst (λ x. Did (own p) [] (out_next n x) (own p')) (at_count_out the_queue _ e (sym is.step)) d.1 in
       goes p p' s s' r t is.number (after_count_out last e) (after_count_out last e) (after_count_out last e) [] d.0 after
-      (count_out_as whose (λ (q : ⊤). q) last e) (count_out_as (λ w. w) the_queue last e) refl f
+      (count_out_as whose (λ (q : ⊤). q) last e) (count_out_as (λ w. w) the_queue last e) tt refl f
       (λ still. out_fits W ⊤ drops (state s') (own p') last e (ending p p' s s' r t is.number e [] (after_count_out last e) is.fits.1 after still))
   line_went (AtDoorTake e) p p' s s' r r0 t is (b, d, f) =
       let after : Did (own p) [] (next_end e) (own p') = subst (λ x. Did (own p) [] (take_next x) (own p')) (at_take the_queue _ e (sym is.step)) d.1 in
-      goes p p' s s' r t is.number (next_end e) (next_end e) (next_end e) [] d.0 after refl refl refl f
+      goes p p' s s' r t is.number (next_end e) (next_end e) (next_end e) [] d.0 after refl refl tt refl f
       (λ still. take_fits W ⊤ drops (state s') (own p') e (ending p p' s s' r t is.number e [] (next_end e) is.fits.1 after still))

@@ -1,5 +1,5 @@
 -- What a whole poll of a task leaves.
-use Rattle.std.proofs.Common.{◌≡◌, ℕ, false, true, List, [], ◌∷◌, ◌++◌, refl, sym, ap, ◌∙◌, subst}
+use Rattle.std.proofs.Common.{◌≡◌, ℕ, false, true, List, [], ◌∷◌, ◌++◌, append_assoc, refl, sym, ap, ◌∙◌, subst}
 use Rattle.std.specs.Prelude.{◌↔◌, ⊤}
 use Rattle.std.proofs.lemmas.Bool.{false≢true}
 use Rattle.pagebook.specs.Slot.{Placed}
@@ -9,17 +9,18 @@ use Rattle.once_world.specs.Places.{EndDropped, EndError, EndFull, EndMemory, En
 use Rattle.once_world.specs.Record.{Begin, Entry}
 use Rattle.once_parts.specs.declared.idle.Idle.{Idle}
 use Rattle.once_parts.specs.Idle.{is_over, step_of}
-use Rattle.once_book.specs.Kept.{Grew}
+use Rattle.once_book.specs.Kept.{Grew, entries_of}
 use Rattle.once_book.specs.Own.{Own, Turned}
 use Rattle.once_book.specs.Places.{task_begun}
 use Rattle.once_parts.specs.Parts.{parts_tell}
 use Rattle.once_parts.specs.Sides.{IsTold, Sided}
-use Rattle.once_parts.specs.Walks.{GrewBy, Stands, StandsOn, Walked, end_of, handed}
+use Rattle.once_parts.specs.Walks.{IsCall, Spans, Stands, StandsOn, Walked, end_of, handed}
 use Rattle.once_parts.proofs.Idles.{live, not_in_call, over, rests}
 use Rattle.once_parts.proofs.Walk.Begins.{grew_from, poll_begins}
 use Rattle.once_parts.proofs.Walk.Calls.{steps_went}
 use Rattle.once_parts.proofs.Walk.Ends.{poll_ended}
-use Rattle.once_parts.proofs.Walk.Logs.{by_before, grew_on}
+use Rattle.once_world.specs.Machine.{progress_entries}
+use Rattle.once_parts.proofs.Walk.Logs.{called, grew_on}
 
 -- a task that is not finished after a poll was told Pending
 told_pending : {W : Type 0} (e : Ending) (i : Idle) → ((e ≡ EndPending → ⊥) → step_of {W = W} i ≡ Finished) → is_over i ≡ false → e ≡ EndPending
@@ -31,18 +32,30 @@ told_pending EndFull i ends live = absurd (false≢true (sym live ∙ over _ i (
 told_pending EndDropped i ends live = absurd (false≢true (sym live ∙ over _ i (ends (λ p. let no : EndDropped ≡ EndPending = p in cc))))
 
 -- a poll of a task that is not finished begins where the task rests
-pub begins_at : {W : Type 0} (whose : W → ℕ) (x : Sided) (v w : Own) (i : Idle) (s : Step W ⊤) → x.number ≡ v.number → x.woke ≡ [] → is_over i ≡ false → StandsOn whose v (step_of i)
+pub begins_at : {W : Type 0} (whose : W → ℕ) (x : Sided) (v w : Own) (i : Idle) (s : Step W ⊤) → x.number ≡ v.number → x.woke ≡ [] → x.has_init ≡ true → is_over i ≡ false → StandsOn whose v (step_of i)
     → Turned v (task_begun v.number v.task) (Begin v.number v.number ∷ []) w → step_of_poll (step_of i) ≡ s → Stands whose false x w More s
-begins_at whose x v w i s number none live stands begun at =
-    subst (Stands whose false x w More) at (poll_begins whose x v w (step_of i) number none (rests _ i live, stands) begun)
+begins_at whose x v w i s number none init live stands begun at =
+    subst (Stands whose false x w More) at (poll_begins whose x v w (step_of i) number none init (rests _ i live, stands) begun)
+
+-- a poll began, and its end is the newest entry
+spans_of : (t : ℕ) (e : Entry) (u v w : List Entry) → Grew (Begin t t ∷ []) u v → Grew (e ∷ []) v w → Spans t e u w
+spans_of t e u v w began ended = record {
+  before = began.0;
+  since = ended.1.0;
+  after = began.1;
+  is = ended.2 ∙ ap (λ l. l ++ e ∷ []) (sym ended.1.1 ∙ ap (λ l. l ++ ended.1.0) began.2)
+      ∙ append_assoc (began.0 ++ Begin t t ∷ []) ended.1.0 (e ∷ []) ∙ append_assoc began.0 (Begin t t ∷ []) (ended.1.0 ++ e ∷ []);
+}
 
 module _ {W : Type 0} (whose : W → ℕ) (x y : Sided) (u v w : Own) (e : Ending) (i : Idle) where
   -- a poll ended so, and the task is at this
   pub record Polled : Type 0 where
     pub number : w.number ≡ u.number
     pub end : Grew (end_of w.number e ∷ []) u.log w.log
-    pub woke : (es : List Entry) × GrewBy es u.log w.log × (y.woke ≡ handed es)
+    pub spans : Spans w.number (end_of w.number e) u.log w.log
+    pub call : (mid : List Entry) × IsCall w.number (Begin w.number w.number) (end_of w.number e) mid u.log w.log × (y.woke ≡ handed mid)
     pub error : e ≡ EndError → y.has_error ≡ true
+    pub init : e ≡ EndPending → y.has_init ≡ true
     pub finished : (e ≡ EndPending) ↔ (is_over i ≡ false)
     pub poll : e ≡ EndDropped → ⊥
     pub stands : StandsOn whose w (step_of i)
@@ -55,8 +68,18 @@ module _ {W : Type 0} (whose : W → ℕ) (x y : Sided) (u v w : Own) (e : Endin
       record {
         number = walked.number ∙ begun.number;
         end = grew_from _ _ _ _ seen ended.end;
-        woke = (walked.made.0, by_before walked.made.0 _ _ _ seen walked.made.1, walked.made.2 ∙ ap (λ X. X ++ handed walked.made.0) none);
+        spans = spans_of w.number (end_of w.number e) u.log v.log w.log
+            (subst (λ (t : ℕ). Grew (Begin t t ∷ []) u.log v.log) (sym (walked.number ∙ begun.number)) begun.log) ended.end;
+        call = (
+          walked.made.0,
+          called w.number (Ended e) 0 w.task.kept (end_of w.number e) (Begin w.number w.number) walked.made.0 u.log v.log w.log (ap (λ (l : Entry). l ∷ []) ended.entry)
+              (subst (λ (t : ℕ). entries_of t v.log ≡ entries_of t u.log ++ Begin t t ∷ []) (sym begun.number ∙ sym walked.number) begun.mine)
+              walked.made.1
+              (subst (λ (t : ℕ). entries_of t w.log ≡ entries_of t v.log ++ (walked.made.0 ++ progress_entries (Ended e) w.number 0 w.task.kept)) (sym walked.number) walked.made.2),
+          walked.made.3 ∙ ap (λ X. X ++ handed walked.made.0) none,
+        );
         error = ended.error;
+        init = ended.init;
         finished = (λ p. live _ i (ended.pending p).0, told_pending e i ended.finished);
         poll = ended.poll;
         stands = stands.step;

@@ -81,6 +81,19 @@ module _ {W : Type 0} (other : W → W → Type 0) where
   apart_listed false true xs y e apart new = absurd (false≢true (sym e))
   apart_listed true repeats xs y e apart new = absurd (false≢true (sym e))
 
+  -- where each two are other, those of all listings are
+  each_apart : (o p : Option W) → ((a b : W) → other a b) → IfSome p (λ w. IfSome o (λ v. other v w))
+  each_apart (Some v) (Some w) all = all v w
+  each_apart None (Some w) all = tt
+  each_apart o None all = tt
+
+  -- so where the list counts as mixed unless they are
+  pub apart_renewed : (mixed all : Bool) (xs : List (Listing W)) → (mixed || not all) ≡ false → (all ≡ true → (a b : W) → other a b)
+      → ∥ AllPairs (AreApart other) xs ∥₁
+  apart_renewed false true xs e each = ∣ (λ j k d l lk. each_apart (get_or xs j d).waker (get_or xs k d).waker (each refl)) ∣₁
+  apart_renewed false false xs e each = absurd (false≢true (sym e))
+  apart_renewed true all xs e each = absurd (false≢true (sym e))
+
 module _ {W : Type 0} (same other : W → W → Type 0) where
   -- the wakers that were seen are other than each of the list
   abbrev AreNew : List W → List (Listing W) → Type 0

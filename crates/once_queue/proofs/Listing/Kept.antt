@@ -9,7 +9,7 @@ use Rattle.std.proofs.lemmas.List.{get_or-set_other, get_or-set_same, get_or_app
 use Rattle.std.proofs.lemmas.List.Elements.{filter-append}
 use Rattle.once_queue.proofs.Listing.Tickets.{take_none}
 use Rattle.once_queue.specs.Numbers.{is_distinct, member}
-use Rattle.once_queue.specs.Listings.{Listing, call_by, call_first, find_listing, first_waker, take_out, tickets}
+use Rattle.once_queue.specs.Listings.{Listing, call_by, call_first, find_listing, first_waker, take_out, tickets, with_waker}
 
 module _ {W : Type 0} where
   member_by : (b : Bool) (n : ℕ) (x : Listing W) (ys : List (Listing W)) → member n (tickets ys) ≡ true → member n (tickets (cond b (x ∷ ys) ys)) ≡ true
@@ -39,6 +39,15 @@ module _ {W : Type 0} where
       let distinct : is_distinct (tickets ys) ≡ true = grind arith in
       rw other (rest distinct)
   found_by false n x ys w m once rest = rest once
+
+  renewed_by : (b : Bool) (n : ℕ) (w : W) (x : Listing W) (ys zs : List (Listing W)) → member n (tickets ys) ≡ true
+      → is_distinct (tickets (cond b (x ∷ ys) ys)) ≡ true → (is_distinct (tickets ys) ≡ true → zs ≡ with_waker n w ys)
+      → cond b (x ∷ zs) zs ≡ with_waker n w (cond b (x ∷ ys) ys)
+  renewed_by true n w x ys zs m once rest =
+      let other : (x.ticket == n) ≡ false = grind (arith, nat_tests) in
+      let distinct : is_distinct (tickets ys) ≡ true = grind arith in
+      rw other (ap (λ (vs : List (Listing W)). x ∷ vs) (rest distinct))
+  renewed_by false n w x ys zs m once rest = rest once
 
   -- the first listing with a waker
   calls_by : (x : Listing W) (o : Option W) (ys : List (Listing W)) → is_some o ≡ true
@@ -98,6 +107,18 @@ module _ {W : Type 0} (p : Listing W → Bool) where
   kept_found n zero (x ∷ xs) d l e k once = rw k (grind (arith, nat_tests))
   kept_found n (suc i) (x ∷ xs) d l e k once =
       found_by (p x) n x (filter p xs) (get_or xs i d).waker (kept_member n i xs d (omega arith) e k) once (kept_found n i xs d (omega arith) e k)
+
+  -- a listing has another waker
+  pub kept_renewed : (n i : ℕ) (w : W) (xs : List (Listing W)) (z d : Listing W) → i < length xs → (get_or xs i d).ticket ≡ n
+      → p (get_or xs i d) ≡ true → p z ≡ true → z ≡ record { ticket = (get_or xs i d).ticket; waker = Some w }
+      → is_distinct (tickets (filter p xs)) ≡ true
+      → filter p (set xs i z) ≡ with_waker n w (filter p xs)
+  kept_renewed n i w [] z d l e k h is once = absurd (omega arith)
+  kept_renewed n zero w (x ∷ xs) z d l e k h is once =
+      let same : (x.ticket == n) ≡ true = grind (arith, nat_tests) in
+      rw (h, k, same) (ap (λ (y : Listing W). y ∷ filter p xs) is)
+  kept_renewed n (suc i) w (x ∷ xs) z d l e k h is once =
+      renewed_by (p x) n w x (filter p xs) (filter p (set xs i z)) (kept_member n i xs d (omega arith) e k) once (kept_renewed n i w xs z d (omega arith) e k h is)
 
   pub kept_pushed : (x : Listing W) (xs : List (Listing W)) → p x ≡ true → filter p (xs ++ x ∷ []) ≡ filter p xs ++ x ∷ []
   kept_pushed x xs k = filter-append p xs (x ∷ []) ∙ rw k refl

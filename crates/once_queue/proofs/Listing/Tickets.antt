@@ -7,7 +7,7 @@ use Rattle.std.proofs.lemmas.Bool.Decides.{nat_tests}
 use Rattle.std.proofs.lemmas.List.Quantifiers.{position-Some}
 use Rattle.once_queue.proofs.Listing.Members.{eqb_self, is_distinct-push}
 use Rattle.once_queue.specs.Numbers.{is_distinct, member}
-use Rattle.once_queue.specs.Listings.{Listing, find_listing, kept_ticket, own_listing, take_out, tickets}
+use Rattle.once_queue.specs.Listings.{Listing, find_listing, kept_ticket, own_listing, take_out, tickets, with_waker}
 
 kept_listed : (b : Bool) (n : ℕ) → b ≡ is_some (cond b (Some n) None)
 kept_listed true n = refl
@@ -98,6 +98,26 @@ module _ {W : Type 0} where
 
   pub member_gone : (n : ℕ) (xs : List (Listing W)) → member n (tickets (take_out n xs)) ≡ false
   member_gone n xs = rw (member_take n n xs, eqb_self n) refl
+
+  -- another waker changes no ticket
+  renewed_by : (b : Bool) (w : W) (x : Listing W) (xs ys : List (Listing W)) → tickets ys ≡ tickets xs
+      → tickets (cond b (record { ticket = x.ticket; waker = Some w } ∷ xs) (x ∷ ys)) ≡ x.ticket ∷ tickets xs
+  renewed_by true w x xs ys e = refl
+  renewed_by false w x xs ys e = ap (λ (ns : List ℕ). x.ticket ∷ ns) e
+
+  pub tickets_renewed : (n : ℕ) (w : W) (xs : List (Listing W)) → tickets (with_waker n w xs) ≡ tickets xs
+  tickets_renewed n w [] = refl
+  tickets_renewed n w (x ∷ xs) = renewed_by (x.ticket == n) w x xs (with_waker n w xs) (tickets_renewed n w xs)
+
+  -- and leaves as many
+  length_by : (b : Bool) (w : W) (x : Listing W) (xs ys : List (Listing W)) → length ys ≡ length xs
+      → length (cond b (record { ticket = x.ticket; waker = Some w } ∷ xs) (x ∷ ys)) ≡ suc (length xs)
+  length_by true w x xs ys e = refl
+  length_by false w x xs ys e = ap suc e
+
+  pub length_renewed : (n : ℕ) (w : W) (xs : List (Listing W)) → length (with_waker n w xs) ≡ length xs
+  length_renewed n w [] = refl
+  length_renewed n w (x ∷ xs) = length_by (x.ticket == n) w x xs (with_waker n w xs) (length_renewed n w xs)
 
   -- a place that a search found
   pub placed_by : (n h : ℕ) (xs : List (Listing W)) (o : Option ℕ) → o ≡ position (λ x. x.ticket == n) xs

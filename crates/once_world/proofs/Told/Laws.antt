@@ -3,7 +3,7 @@ use Rattle.std.proofs.Common.{◌≡◌, ◌≢◌, ◌≤◌, ◌<◌, ◌⊎�
 use Rattle.std.proofs.lemmas.List.{reverse-append, append_assoc}
 use Rattle.once_world.specs.Record.{Answer, Claim, DropEnd, End, Entry, Error, Free, Full, Memory, Once, Pass, Ran, RanError, Reply, Value, is_own}
 use Rattle.once_world.specs.Cell.{Empty, Held, SetTo, answers_left, cell}
-use Rattle.once_world.specs.Tasks.{Dropping, Fresh, Gone, Holding, is_under_way, last_call, status}
+use Rattle.once_world.specs.Tasks.{Dropping, Gone, Holding, is_under_way, last_call, status}
 use Rattle.once_world.specs.Wakers.{IsDue, IsOpen, times_handed, times_opened}
 use Rattle.once_world.specs.Refusals.{OtherActs, Since}
 use Rattle.once_world.specs.Crowd.{AreWaiting}
@@ -12,7 +12,7 @@ use Rattle.once_world.specs.Run.{AtEvery, IsRun, NobodyForgotten}
 use Rattle.once_world.specs.Book.{IsBook, Page}
 use Rattle.once_world.proofs.History.Cells.{same_holder}
 use Rattle.once_world.proofs.Law.Crowded.{full_waits, memory_met, value_set}
-use Rattle.once_world.proofs.Law.First.{set_first}
+use Rattle.once_world.proofs.Law.Answered.{set_answered}
 use Rattle.once_world.proofs.Law.Freed.{error_empties}
 use Rattle.once_world.proofs.Law.Nobody.{nobody_forgotten}
 use Rattle.once_world.proofs.Law.Passed.{at_most_one, one_called, passed_once, passed_refused, passed_to_one, passed_unclaimed, passer_gone}
@@ -81,10 +81,10 @@ module _ (limit n put : ℕ) (slot : Bool) (pages : List Page) (log : List Entry
       → (answers_left Once (e ∷ h) ≡ answers_left Once h) × ((cell Once (e ∷ h) ≡ Held t) ⊎ (cell Once (e ∷ h) ≡ Empty))
   dropped_holder_frees_during t e is = dropped_holder Once limit t e h (next_run e is)
 
-  -- a task that is first polled after the value is set answers it, and does not poll its init
-  pub set_value_is_answered_first : (t : ℕ) (r : Reply) → log ≡ seen ++ End t r ∷ late → (last_call Once t h).began ≡ Fresh
+  -- a poll that begins when the value is set answers it, and does not poll its init
+  pub set_value_is_answered_at_once : (t : ℕ) (r : Reply) → log ≡ seen ++ End t r ∷ late
       → (last_call Once t h).set_then ≡ true → ((last_call Once t h).ran ≡ None) × ((v : ℕ) × (cell Once h ≡ SetTo v) × (r ≡ Value v))
-  set_value_is_answered_first t r is = set_first Once limit t r h (next_run (End t r) is)
+  set_value_is_answered_at_once t r is = set_answered Once limit t r h (next_run (End t r) is)
 
   -- while the value is set nobody who waits is forgotten
   pub set_value_calls_all : log ≡ seen ++ late → AtEvery (NobodyForgotten Once) h

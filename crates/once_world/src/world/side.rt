@@ -50,11 +50,13 @@ impl Side<u64> for ReplaySide {
     // The side keeps the value.
     type Value = ();
 
+    type Right = ();
+
     ghost did = { record { run = DidRun; close = DidClose; put = DidPut; copy = DidCopy; wake = DidWake } };
 
     ghost stays = { Stays };
 
-    fn run(&mut self) -> Polled {
+    fn run(&mut self, _right: &mut ()) -> Polled {
         let answer = self.next_answer();
         self.ran = Some(answer);
         match answer {

@@ -6,7 +6,7 @@ use async_once_cell::once::{InitError, InitFuture, TryInitFuture};
 use async_once_cell::world::{Input, Kind, World};
 use async_once_cell::{Lazy, OnceCell};
 use futures::Future;
-use futures::future::{Ready, TryOutput, ok, pending, ready};
+use futures::future::{Ready, ok, pending, ready};
 use futures::task::{Context, Poll};
 use futures::test::MockTask;
 use std::alloc::{AllocError, AllocGlobal, Global};
@@ -60,7 +60,7 @@ where
 /// What one poll gives: the value, the error of the own init, or 0.
 fn polled_once<F, R>(future: &mut TryInitFuture<'_, u64, u64, F, R>, cx: &mut Context<'_>) -> u64
 where
-    F: Future<Output: TryOutput<Ok = u64, Error = u64>>,
+    F: Future<Output = Result<u64, u64>>,
     R: Wait + AllocGlobal,
     requires { future.old.finished ≡ false }
 {

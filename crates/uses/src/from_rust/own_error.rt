@@ -24,10 +24,9 @@ pub enum Fault {
 /// What `?` makes of the error of an init, or of a refusal.
 impl From<InitError<Down>> for Fault {
     fn from(error: InitError<Down>) -> Self {
-        match error {
-            InitError::Init(Down(number)) => Fault::Down(number),
-            InitError::Memory => Fault::Refused(Refused::Memory),
-            InitError::Full => Fault::Refused(Refused::Full),
+        match error.own() {
+            Ok(Down(number)) => Fault::Down(number),
+            Err(refused) => Fault::Refused(refused),
         }
     }
 }

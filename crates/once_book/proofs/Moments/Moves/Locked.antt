@@ -13,7 +13,7 @@ use Rattle.once_core.specs.Steps.{Next, after_door_get, after_list, after_look, 
 use Rattle.once_world.specs.Record.{Entry}
 use Rattle.once_world.specs.Book.{At, Door, IsBook, Page, Queue, TaskState}
 use Rattle.once_world.specs.Machine.{AtCountIn, AtCountOut, AtDoorAgain, AtDoorGet, AtDoorPut, AtDoorTake, AtLeave, AtList, AtLook, AtRelease}
-use Rattle.once_world.specs.Machine.{Ending, Place, UnderWay, claim_entries, head_after, is_claim, is_value, list_answer, listed_list}
+use Rattle.once_world.specs.Machine.{Ending, Place, RestWait, Resting, UnderWay, claim_entries, head_after, is_claim, is_value, list_answer, listed_list}
 use Rattle.once_world.specs.Machine.{listed_ticket, look_answer, looked_list, pass_entries, release_entry, release_list, release_wakers}
 use Rattle.once_world.proofs.Moment.Doors.{door_again, door_get, door_take, put_found, put_new}
 use Rattle.once_world.proofs.Moment.Numbers.{release_more}
@@ -22,14 +22,20 @@ use Rattle.once_world.proofs.Moment.Sections.{leave_load, list_load, look_load, 
 use Rattle.once_world.proofs.Moment.Step.{Stepped, told}
 use Rattle.once_book.specs.Kept.{IsKept, Leaves, has_passed, hands_out, locked, most, sheets}
 use Rattle.once_book.proofs.Moments.Forms.{moves, notes, put_moves, telling_moves}
+use Rattle.once_book.proofs.Moments.Mine.{AreOf, OnlyOf, claim_of, only_locked, pass_of, release_of, told_of}
 use Rattle.once_world.proofs.Told.Listings.{fill_hands_all}
-use Rattle.once_book.proofs.Moments.Facts.{bare_at, door_at, look_is, passed_at, queue_at, unset_at}
+use Rattle.once_book.proofs.Moments.Facts.{bare_at, door_at, look_is, own_at, passed_at, queue_at, unset_at}
+use Rattle.once_book.specs.Sections.{IsOwnListing}
 use Rattle.once_book.proofs.Moments.Moves.Words.{set_same, some}
 
 module _ (seen : List Entry) (made : ℕ) (door : Option ℕ) (head : Bool) (xs : List (Listing ℕ)) (t : ℕ) (x : TaskState) where
   -- the three pages after a step: the door's, the queue's and that of x at the step to which the table leads
   abbrev pub pages_after : ℕ → Option ℕ → Bool → List (Listing ℕ) → Next ℕ ℕ → List Page
   pages_after m d b ys next = Door m d ∷ Queue b ys ∷ At (record x { step = next.step }) ∷ []
+
+  -- what the task did is its own
+  only : (did : List Entry) (next : Next ℕ ℕ) → AreOf t did → OnlyOf (locked made door head xs t x) (told t x.kept next did)
+  only did next a = only_locked made door head xs t x (told t x.kept next did) (told_of t x.kept next did a)
 
   module _ (limit n put : ℕ) (slot : Bool) (pages : List Page) (log : List Entry) (did : List Entry) (next : Next ℕ ℕ)
       (at_door : slice_get pages 0 ≡ Some (Door made door)) (at_queue : slice_get pages 1 ≡ Some (Queue head xs)) where
@@ -61,12 +67,13 @@ module _ (seen : List Entry) (made : ℕ) (door : Option ℕ) (head : Bool) (xs 
 
   -- a load, with the lock
   pub look_moves : (q : ℕ) (k : Option ℕ) (granted : Bool) → x.step ≡ UnderWay (AtLook q k)
-      → Moves IsKept (seen, sheets (locked made door head xs t x)) 0 (λ n. n)
+      → Moves IsKept (seen, sheets seen (locked made door head xs t x)) 0 (λ n. n)
       (λ n v. Unit {0} × Leaves seen (locked made door head xs t x) (pages_after made door (head_after (looked k n) head) (looked_list (looked k n) k xs) (look_next q k granted n))
       (told t x.kept (look_next q k granted n) (claim_entries (is_claim (looked k n)) t)) v)
   look_moves q k granted at = moves seen (locked made door head xs t x) (λ n. n)
       (λ n. pages_after made door (head_after (looked k n) head) (looked_list (looked k n) k xs) (look_next q k granted n))
       (λ n. told t x.kept (look_next q k granted n) (claim_entries (is_claim (looked k n)) t)) (λ n. Unit {0})
+      (λ n. only (claim_entries (is_claim (looked k n)) t) (look_next q k granted n) (claim_of t (is_claim (looked k n))))
       (λ n put slot pages log book on. (
         tt,
         only_queue most n put slot pages log (claim_entries (is_claim (looked k n)) t) (look_next q k granted n) on.0 on.1.0 (head_after (looked k n) head) (looked_list (looked k n) k xs)
@@ -87,12 +94,13 @@ module _ (seen : List Entry) (made : ℕ) (door : Option ℕ) (head : Bool) (xs 
 
   -- a load, with the lock
   pub list_moves : (q : ℕ) (k : Option ℕ) (w : ℕ) (granted : Bool) → x.step ≡ UnderWay (AtList q k w)
-      → Moves IsKept (seen, sheets (locked made door head xs t x)) 0 (λ n. n)
+      → Moves IsKept (seen, sheets seen (locked made door head xs t x)) 0 (λ n. n)
       (λ n v. Unit {0} × Leaves seen (locked made door head xs t x) (pages_after made door (head_after (listed k granted n) head) (listed_list (listed k granted n) k w xs) (list_next q k granted n))
       (told t x.kept (list_next q k granted n) (claim_entries (is_claim (listed k granted n)) t)) v)
   list_moves q k w granted at = moves seen (locked made door head xs t x) (λ n. n)
       (λ n. pages_after made door (head_after (listed k granted n) head) (listed_list (listed k granted n) k w xs) (list_next q k granted n))
       (λ n. told t x.kept (list_next q k granted n) (claim_entries (is_claim (listed k granted n)) t)) (λ n. Unit {0})
+      (λ n. only (claim_entries (is_claim (listed k granted n)) t) (list_next q k granted n) (claim_of t (is_claim (listed k granted n))))
       (λ n put slot pages log book on. (
         tt,
         only_queue most n put slot pages log (claim_entries (is_claim (listed k granted n)) t) (list_next q k granted n) on.0 on.1.0
@@ -102,7 +110,7 @@ module _ (seen : List Entry) (made : ℕ) (door : Option ℕ) (head : Bool) (xs 
 
   -- AtRelease: with the value it hands out each waker that is listed
   pub release_moves : (q : ℕ) (e : Ending) → x.step ≡ UnderWay (AtRelease q e)
-      → Moves IsKept (seen, sheets (locked made door head xs t x)) 0 (λ n. (n + release_more (is_value e) head) % 2 ^ 64)
+      → Moves IsKept (seen, sheets seen (locked made door head xs t x)) 0 (λ n. (n + release_more (is_value e) head) % 2 ^ 64)
       (λ n v. (is_distinct (tickets xs) ≡ true → release_wakers true xs ≡ wakers_of xs)
       × Leaves seen (locked made door head xs t x) (pages_after made door false (release_list (is_value e) xs) (next_at (AtCountOut e)))
       (told t x.kept (next_at (AtCountOut e)) (release_entry x.kept t (release_wakers (is_value e) xs) ∷ [])) v)
@@ -111,6 +119,7 @@ module _ (seen : List Entry) (made : ℕ) (door : Option ℕ) (head : Bool) (xs 
       moves seen (locked made door head xs t x) (λ n. (n + release_more (is_value e) head) % 2 ^ 64)
       (λ n. pages_after made door false (release_list (is_value e) xs) (next_at (AtCountOut e))) (λ n. told t x.kept (next_at (AtCountOut e)) did)
       (λ n. is_distinct (tickets xs) ≡ true → release_wakers true xs ≡ wakers_of xs)
+      (λ n. only did (next_at (AtCountOut e)) (release_of t x.kept (release_wakers (is_value e) xs)))
       (λ n put slot pages log book on. (
         fill_hands_all most n put slot pages log some book head xs on.1.0 (unset_at most n put slot pages log t x some book on.1.1.0 q e at),
         only_queue most ((n + release_more (is_value e) head) % 2 ^ 64) put slot pages log did (next_at (AtCountOut e)) on.0 on.1.0 false (release_list (is_value e) xs)
@@ -123,7 +132,7 @@ module _ (seen : List Entry) (made : ℕ) (door : Option ℕ) (head : Bool) (xs 
 
   -- a load, with the lock
   pub leave_moves : (q k : ℕ) (e : Ending) → x.step ≡ UnderWay (AtLeave q k e)
-      → Moves IsKept (seen, sheets (locked made door head xs t x)) 0 (λ n. n)
+      → Moves IsKept (seen, sheets seen (locked made door head xs t x)) 0 (λ n. n)
       (λ n v. (has_passed t v.0 ≡ hands_out (option_to_list (next_waker (passing k n) k xs)))
       × Leaves seen (locked made door head xs t x) (pages_after made door head (left_list (passing k n) k xs) (next_at (AtCountOut e)))
       (told t x.kept (next_at (AtCountOut e)) (pass_entries t (option_to_list (next_waker (passing k n) k xs)))) v)
@@ -131,6 +140,7 @@ module _ (seen : List Entry) (made : ℕ) (door : Option ℕ) (head : Bool) (xs 
       (λ n. pages_after made door head (left_list (passing k n) k xs) (next_at (AtCountOut e)))
       (λ n. told t x.kept (next_at (AtCountOut e)) (pass_entries t (option_to_list (next_waker (passing k n) k xs))))
       (λ n log. has_passed t log ≡ hands_out (option_to_list (next_waker (passing k n) k xs)))
+      (λ n. only (pass_entries t (option_to_list (next_waker (passing k n) k xs))) (next_at (AtCountOut e)) (pass_of t (option_to_list (next_waker (passing k n) k xs))))
       (λ n put slot pages log book on. (
         passed_at most n put slot pages log t x some book on.1.1.0 q k e at (option_to_list (next_waker (passing k n) k xs)),
         only_queue most n put slot pages log (pass_entries t (option_to_list (next_waker (passing k n) k xs))) (next_at (AtCountOut e)) on.0 on.1.0 head (left_list (passing k n) k xs)
@@ -139,25 +149,25 @@ module _ (seen : List Entry) (made : ℕ) (door : Option ℕ) (head : Bool) (xs 
 
   -- AtDoorGet
   pub get_notes : x.step ≡ UnderWay AtDoorGet
-      → Notes IsKept (seen, sheets (locked made door head xs t x))
+      → Notes IsKept (seen, sheets seen (locked made door head xs t x))
       (λ v. Unit {0} × Leaves seen (locked made door head xs t x) (pages_after made door head xs (after_door_get door)) (told t x.kept (after_door_get door) []) v)
-  get_notes at = notes seen (locked made door head xs t x) (pages_after made door head xs (after_door_get door)) (told t x.kept (after_door_get door) []) (Unit {0})
+  get_notes at = notes seen (locked made door head xs t x) (pages_after made door head xs (after_door_get door)) (told t x.kept (after_door_get door) []) (Unit {0}) (only [] (after_door_get door) tt)
       (λ n put slot pages log book on. (tt, only_own most n put slot pages log [] (after_door_get door) on.0 on.1.0 (door_get most n put slot pages log t x some book on.1.1.0 made door on.0 at)))
 
   -- AtDoorAgain: the first queue stands at the door
   pub again_notes : (e : Ending) → x.step ≡ UnderWay (AtDoorAgain e)
-      → Notes IsKept (seen, sheets (locked made door head xs t x))
+      → Notes IsKept (seen, sheets seen (locked made door head xs t x))
       (λ v. (door ≡ Some 1) × Leaves seen (locked made door head xs t x) (pages_after made door head xs (next_at (AtRelease 1 e))) (told t x.kept (next_at (AtRelease 1 e)) []) v)
-  again_notes e at = notes seen (locked made door head xs t x) (pages_after made door head xs (next_at (AtRelease 1 e))) (told t x.kept (next_at (AtRelease 1 e)) []) (door ≡ Some 1)
+  again_notes e at = notes seen (locked made door head xs t x) (pages_after made door head xs (next_at (AtRelease 1 e))) (told t x.kept (next_at (AtRelease 1 e)) []) (door ≡ Some 1) (only [] (next_at (AtRelease 1 e)) tt)
       (λ n put slot pages log book on.
       let a = door_again most n put slot pages log t x some book on.1.1.0 made door on.0 e at in
       (a.0, only_own most n put slot pages log [] (next_at (AtRelease 1 e)) on.0 on.1.0 a.1))
 
   -- AtDoorPut where a queue stands already
   pub found_notes : (q : ℕ) → x.step ≡ UnderWay AtDoorPut → door ≡ Some q
-      → Notes IsKept (seen, sheets (locked made door head xs t x))
+      → Notes IsKept (seen, sheets seen (locked made door head xs t x))
       (λ v. Unit {0} × Leaves seen (locked made door head xs t x) (pages_after made door head xs (next_at (AtCountIn q))) (told t x.kept (next_at (AtCountIn q)) []) v)
-  found_notes q at d = notes seen (locked made door head xs t x) (pages_after made door head xs (next_at (AtCountIn q))) (told t x.kept (next_at (AtCountIn q)) []) (Unit {0})
+  found_notes q at d = notes seen (locked made door head xs t x) (pages_after made door head xs (next_at (AtCountIn q))) (told t x.kept (next_at (AtCountIn q)) []) (Unit {0}) (only [] (next_at (AtCountIn q)) tt)
       (λ n put slot pages log book on. (
         tt,
         only_own most n put slot pages log [] (next_at (AtCountIn q)) on.0 on.1.0
@@ -166,18 +176,19 @@ module _ (seen : List Entry) (made : ℕ) (door : Option ℕ) (head : Bool) (xs 
 
   -- AtDoorPut where none stands: a store of 1 says that a queue was put
   pub new_moves : x.step ≡ UnderWay AtDoorPut → door ≡ None
-      → Moves IsKept (seen, sheets (locked made door head xs t x)) 1 (λ k. 1)
+      → Moves IsKept (seen, sheets seen (locked made door head xs t x)) 1 (λ k. 1)
       (λ k v. Leaves seen (locked made door head xs t x) (pages_after (suc made) (Some (suc made)) head xs (next_at (AtCountIn (suc made)))) (told t x.kept (next_at (AtCountIn (suc made))) []) v)
   new_moves at d = put_moves seen (locked made door head xs t x) (λ k. 1)
       (λ k. pages_after (suc made) (Some (suc made)) head xs (next_at (AtCountIn (suc made)))) (λ k. told t x.kept (next_at (AtCountIn (suc made))) [])
+      (λ k. only [] (next_at (AtCountIn (suc made))) tt)
       (λ n put slot pages log book on. only_door most n 1 slot pages log [] (next_at (AtCountIn (suc made))) on.0 on.1.0 (suc made) (Some (suc made))
       (put_new most n put slot pages log t x some book on.1.1.0 made door on.0 at d))
 
   -- AtDoorTake: nobody holds under the lock, and nobody is listed
   pub take_notes : (e : Ending) → x.step ≡ UnderWay (AtDoorTake e)
-      → Notes IsKept (seen, sheets (locked made door head xs t x))
+      → Notes IsKept (seen, sheets seen (locked made door head xs t x))
       (λ v. ((head ≡ false) × (xs ≡ [])) × Leaves seen (locked made door head xs t x) (pages_after made None head xs (next_end e)) (told t x.kept (next_end e) []) v)
-  take_notes e at = notes seen (locked made door head xs t x) (pages_after made None head xs (next_end e)) (told t x.kept (next_end e) []) ((head ≡ false) × (xs ≡ []))
+  take_notes e at = notes seen (locked made door head xs t x) (pages_after made None head xs (next_end e)) (told t x.kept (next_end e) []) ((head ≡ false) × (xs ≡ [])) (only [] (next_end e) tt)
       (λ n put slot pages log book on. (
         bare_at most n put slot pages log t x some book on.1.1.0 head xs on.1.0 e at,
         only_door most n put slot pages log [] (next_end e) on.0 on.1.0 made None (door_take most n put slot pages log t x some book on.1.1.0 made door on.0 e at),
@@ -185,9 +196,18 @@ module _ (seen : List Entry) (made : ℕ) (door : Option ℕ) (head : Bool) (xs 
 
   -- where a section is begun, its queue stands at the door; the machine makes no step
   pub stand_notes : (q : ℕ) (p : Place ℕ ℕ) → queue_at p ≡ Some q → x.step ≡ UnderWay p
-      → Notes IsKept (seen, sheets (locked made door head xs t x)) (λ v. (door ≡ Some q) × Leaves seen (locked made door head xs t x) [] [] v)
-  stand_notes q p inside at = notes seen (locked made door head xs t x) [] [] (door ≡ Some q)
+      → Notes IsKept (seen, sheets seen (locked made door head xs t x)) (λ v. (door ≡ Some q) × Leaves seen (locked made door head xs t x) [] [] v)
+  stand_notes q p inside at = notes seen (locked made door head xs t x) [] [] (door ≡ Some q) (only_locked made door head xs t x [] tt)
       (λ n put slot pages log book on. (
         door_at most n put slot pages log t x some book on.1.1.0 made door on.0 q p inside at,
+        subst (IsBook most n put slot pages) (sym (append-nil log)) book,
+      ))
+
+  -- a task at rest comes to its listing, which is its own; the machine makes no step
+  pub rest_notes : (q k : ℕ) → x.step ≡ Resting (RestWait q (Some k))
+      → Notes IsKept (seen, sheets seen (locked made door head xs t x)) (λ v. IsOwnListing k t xs × Leaves seen (locked made door head xs t x) [] [] v)
+  rest_notes q k at = notes seen (locked made door head xs t x) [] [] (IsOwnListing k t xs) (only_locked made door head xs t x [] tt)
+      (λ n put slot pages log book on. (
+        own_at most n put slot pages log t x some book on.1.1.0 head xs on.1.0 q k at,
         subst (IsBook most n put slot pages) (sym (append-nil log)) book,
       ))

@@ -18,6 +18,7 @@ use Rattle.once_world.proofs.Moment.Step.{Stepped, told}
 use Rattle.once_world.proofs.Moment.Words.{add_one, count_full, count_in, count_out, fast_lost, fast_won, quick_lost, quick_won, start_load, wait_load}
 use Rattle.once_book.specs.Kept.{IsKept, Leaves, hand, most, sheets}
 use Rattle.once_book.proofs.Moments.Forms.{moves, put_moves}
+use Rattle.once_book.proofs.Moments.Mine.{AreOf, claim_of, freed_of, only_hand, told_of}
 
 -- some task may be counted
 pub some : 0 < most
@@ -39,18 +40,19 @@ goes_to x next = At (record x { step = next.step }) ∷ []
 
 module _ (seen : List Entry) (t : ℕ) (x : TaskState) where
   -- a step of t alone
-  own_moves : (f : ℕ → ℕ) (did : ℕ → List Entry) (next : ℕ → Next ℕ ℕ) (P : ℕ → Type 0)
+  own_moves : (f : ℕ → ℕ) (did : ℕ → List Entry) (next : ℕ → Next ℕ ℕ) (P : ℕ → Type 0) → ((n : ℕ) → AreOf t (did n))
       → ((n put : ℕ) (slot : Bool) (pages : List Page) (log : List Entry) → IsBook most n put slot pages log → slice_get pages (suc (suc t)) ≡ Some (At x)
       → P n × Stepped most (f n) put slot pages log t x (did n) (next n))
-      → Moves IsKept (seen, sheets (hand t x)) 0 f (λ n v. P n × Leaves seen (hand t x) (goes_to x (next n)) (told t x.kept (next n) (did n)) v)
-  own_moves f did next P goes = moves seen (hand t x) f (λ n. goes_to x (next n)) (λ n. told t x.kept (next n) (did n)) P
+      → Moves IsKept (seen, sheets seen (hand t x)) 0 f (λ n v. P n × Leaves seen (hand t x) (goes_to x (next n)) (told t x.kept (next n) (did n)) v)
+  own_moves f did next P of goes = moves seen (hand t x) f (λ n. goes_to x (next n)) (λ n. told t x.kept (next n) (did n)) P
+      (λ n. only_hand t x (told t x.kept (next n) (did n)) (told_of t x.kept (next n) (did n) (of n)))
       (λ n put slot pages log book on. goes n put slot pages log book on.0)
 
   -- AtStart
   pub start_moves : x.step ≡ UnderWay AtStart
-      → Moves IsKept (seen, sheets (hand t x)) 0 (λ n. n)
+      → Moves IsKept (seen, sheets seen (hand t x)) 0 (λ n. n)
       (λ n v. Unit {0} × Leaves seen (hand t x) (goes_to x (after_start (flags_of n).ready (is_zero (flags_of n)))) (told t x.kept (after_start (flags_of n).ready (is_zero (flags_of n))) []) v)
-  start_moves at = own_moves (λ n. n) (λ n. []) (λ n. after_start (flags_of n).ready (is_zero (flags_of n))) (λ n. Unit {0})
+  start_moves at = own_moves (λ n. n) (λ n. []) (λ n. after_start (flags_of n).ready (is_zero (flags_of n))) (λ n. Unit {0}) (λ n. tt)
       (λ n put slot pages log book pen. (tt, start_load most n put slot pages log t x some book pen at))
 
   -- AtTryQuick, by whether the word was NEW
@@ -61,16 +63,16 @@ module _ (seen : List Entry) (t : ℕ) (x : TaskState) where
 
   -- the exchange, done or not
   pub quick_moves : x.step ≡ UnderWay AtTryQuick
-      → Moves IsKept (seen, sheets (hand t x)) 0 (λ n. either (n == 0) (2 ^ 62) n)
+      → Moves IsKept (seen, sheets seen (hand t x)) 0 (λ n. either (n == 0) (2 ^ 62) n)
       (λ n v. Unit {0} × Leaves seen (hand t x) (goes_to x (after_quick (n == 0))) (told t x.kept (after_quick (n == 0)) (claim_entries (n == 0) t)) v)
-  quick_moves at = own_moves (λ n. either (n == 0) (2 ^ 62) n) (λ n. claim_entries (n == 0) t) (λ n. after_quick (n == 0)) (λ n. Unit {0})
+  quick_moves at = own_moves (λ n. either (n == 0) (2 ^ 62) n) (λ n. claim_entries (n == 0) t) (λ n. after_quick (n == 0)) (λ n. Unit {0}) (λ n. claim_of t (n == 0))
       (λ n put slot pages log book pen. (tt, quick_by n put slot pages log book pen at (n == 0) refl))
 
   -- AtWaitLoad
   pub wait_moves : (q : ℕ) (k : Option ℕ) → x.step ≡ UnderWay (AtWaitLoad q k)
-      → Moves IsKept (seen, sheets (hand t x)) 0 (λ n. n)
+      → Moves IsKept (seen, sheets seen (hand t x)) 0 (λ n. n)
       (λ n v. Unit {0} × Leaves seen (hand t x) (goes_to x (after_load (flags_of n).ready q k)) (told t x.kept (after_load (flags_of n).ready q k) []) v)
-  wait_moves q k at = own_moves (λ n. n) (λ n. []) (λ n. after_load (flags_of n).ready q k) (λ n. Unit {0})
+  wait_moves q k at = own_moves (λ n. n) (λ n. []) (λ n. after_load (flags_of n).ready q k) (λ n. Unit {0}) (λ n. tt)
       (λ n put slot pages log book pen. (tt, wait_load most n put slot pages log t x some book pen q k at))
 
   -- AtCountIn: the page after a load that finds as many counted as may be, and the page as it was after another
@@ -83,6 +85,11 @@ module _ (seen : List Entry) (t : ℕ) (x : TaskState) where
   full_told q n true = []
   full_told q n false = told t x.kept (next_in false (flags_of n).ready q) []
 
+  -- all of it is of t
+  full_of : (q n : ℕ) (b : Bool) → AreOf t (full_told q n b)
+  full_of q n true = tt
+  full_of q n false = told_of t x.kept (next_in false (flags_of n).ready q) [] tt
+
   -- by whether there is room
   full_by : (q n put : ℕ) (slot : Bool) (pages : List Page) (log : List Entry) → IsBook most n put slot pages log → slice_get pages (suc (suc t)) ≡ Some (At x)
       → x.step ≡ UnderWay (AtCountIn q) → (b : Bool) → nat_lt (flags_of n).count most ≡ b
@@ -93,9 +100,10 @@ module _ (seen : List Entry) (t : ℕ) (x : TaskState) where
 
   -- the load before the exchange
   pub full_moves : (q : ℕ) → x.step ≡ UnderWay (AtCountIn q)
-      → Moves IsKept (seen, sheets (hand t x)) 0 (λ n. n)
+      → Moves IsKept (seen, sheets seen (hand t x)) 0 (λ n. n)
       (λ n v. Unit {0} × Leaves seen (hand t x) (full_page q n (nat_lt (flags_of n).count most)) (full_told q n (nat_lt (flags_of n).count most)) v)
   full_moves q at = moves seen (hand t x) (λ n. n) (λ n. full_page q n (nat_lt (flags_of n).count most)) (λ n. full_told q n (nat_lt (flags_of n).count most)) (λ n. Unit {0})
+      (λ n. only_hand t x (full_told q n (nat_lt (flags_of n).count most)) (full_of q n (nat_lt (flags_of n).count most)))
       (λ n put slot pages log book on. (tt, full_by q n put slot pages log book on.0 at (nat_lt (flags_of n).count most) refl))
 
   -- AtCountIn: the page after the exchange, by whether it was done
@@ -121,8 +129,8 @@ module _ (seen : List Entry) (t : ℕ) (x : TaskState) where
 
   -- the exchange, done or not
   pub in_moves : (q old : ℕ) → x.step ≡ UnderWay (AtCountIn q) → (flags_of old).count < most
-      → Moves IsKept (seen, sheets (hand t x)) 0 (λ n. either (n == old) (old + 1) n) (λ n v. Unit {0} × Leaves seen (hand t x) (in_page q old (n == old)) [] v)
-  in_moves q old at l = moves seen (hand t x) (λ n. either (n == old) (old + 1) n) (λ n. in_page q old (n == old)) (λ n. []) (λ n. Unit {0})
+      → Moves IsKept (seen, sheets seen (hand t x)) 0 (λ n. either (n == old) (old + 1) n) (λ n v. Unit {0} × Leaves seen (hand t x) (in_page q old (n == old)) [] v)
+  in_moves q old at l = moves seen (hand t x) (λ n. either (n == old) (old + 1) n) (λ n. in_page q old (n == old)) (λ n. []) (λ n. Unit {0}) (λ n. only_hand t x [] tt)
       (λ n put slot pages log book on. (tt, in_by q old n put slot pages log book on.0 at l (n == old) refl))
 
   -- AtFast, by whether the word was the quick bit
@@ -134,27 +142,27 @@ module _ (seen : List Entry) (t : ℕ) (x : TaskState) where
 
   -- the exchange, done or not
   pub fast_moves : (e : Ending) → x.step ≡ UnderWay (AtFast e)
-      → Moves IsKept (seen, sheets (hand t x)) 0 (λ n. either (n == 2 ^ 62) (cond (is_value e) (2 ^ 63) 0) n)
+      → Moves IsKept (seen, sheets seen (hand t x)) 0 (λ n. either (n == 2 ^ 62) (cond (is_value e) (2 ^ 63) 0) n)
       (λ n v. Unit {0} × Leaves seen (hand t x) (goes_to x (after_fast (n == 2 ^ 62) (is_value e) e))
       (told t x.kept (after_fast (n == 2 ^ 62) (is_value e) e) (freed_entries (n == 2 ^ 62) t x.kept)) v)
-  fast_moves e at = own_moves (λ n. either (n == 2 ^ 62) (cond (is_value e) (2 ^ 63) 0) n) (λ n. freed_entries (n == 2 ^ 62) t x.kept) (λ n. after_fast (n == 2 ^ 62) (is_value e) e) (λ n. Unit {0})
+  fast_moves e at = own_moves (λ n. either (n == 2 ^ 62) (cond (is_value e) (2 ^ 63) 0) n) (λ n. freed_entries (n == 2 ^ 62) t x.kept) (λ n. after_fast (n == 2 ^ 62) (is_value e) e) (λ n. Unit {0}) (λ n. freed_of t (n == 2 ^ 62) x.kept)
       (λ n put slot pages log book pen. (tt, fast_by e n put slot pages log book pen at (n == 2 ^ 62) refl))
 
   -- AtAddOne: there is a free place
   pub add_moves : (e : Ending) → x.step ≡ UnderWay (AtAddOne e)
-      → Moves IsKept (seen, sheets (hand t x)) 0 (λ n. (n + 1) % 2 ^ 64)
+      → Moves IsKept (seen, sheets seen (hand t x)) 0 (λ n. (n + 1) % 2 ^ 64)
       (λ n v. ((flags_of n).count < 2 ^ 62 - 1) × Leaves seen (hand t x) (goes_to x (next_at (AtDoorAgain e))) (told t x.kept (next_at (AtDoorAgain e)) []) v)
-  add_moves e at = own_moves (λ n. (n + 1) % 2 ^ 64) (λ n. []) (λ n. next_at (AtDoorAgain e)) (λ n. (flags_of n).count < 2 ^ 62 - 1)
+  add_moves e at = own_moves (λ n. (n + 1) % 2 ^ 64) (λ n. []) (λ n. next_at (AtDoorAgain e)) (λ n. (flags_of n).count < 2 ^ 62 - 1) (λ n. tt)
       (λ n put slot pages log book pen.
       let a = add_one most n put slot pages log t x some book pen e at (omega arith) in
       (a.0, subst (λ m. Stepped most m put slot pages log t x [] (next_at (AtDoorAgain e))) (sym (in_wraps n book.1.within a.0)) a.1))
 
   -- AtCountOut: there is one to take away
   pub out_moves : (e : Ending) → x.step ≡ UnderWay (AtCountOut e)
-      → Moves IsKept (seen, sheets (hand t x)) 0 (λ n. (n + (2 ^ 64 - 1)) % 2 ^ 64)
+      → Moves IsKept (seen, sheets seen (hand t x)) 0 (λ n. (n + (2 ^ 64 - 1)) % 2 ^ 64)
       (λ n v. (0 < (flags_of n).count) × Leaves seen (hand t x) (goes_to x (after_count_out (is_ready_bit (flags_of (n - 1))) e))
       (told t x.kept (after_count_out (is_ready_bit (flags_of (n - 1))) e) []) v)
-  out_moves e at = own_moves (λ n. (n + (2 ^ 64 - 1)) % 2 ^ 64) (λ n. []) (λ n. after_count_out (is_ready_bit (flags_of (n - 1))) e) (λ n. 0 < (flags_of n).count)
+  out_moves e at = own_moves (λ n. (n + (2 ^ 64 - 1)) % 2 ^ 64) (λ n. []) (λ n. after_count_out (is_ready_bit (flags_of (n - 1))) e) (λ n. 0 < (flags_of n).count) (λ n. tt)
       (λ n put slot pages log book pen.
       let a = count_out most n put slot pages log t x some book pen e at in
       (a.0, subst (λ m. Stepped most m put slot pages log t x [] (after_count_out (is_ready_bit (flags_of (n - 1))) e)) (sym (out_wraps n book.1.within a.0)) a.1))
@@ -169,6 +177,11 @@ module _ (seen : List Entry) (t : ℕ) (x : TaskState) where
   none_told e true = told t x.kept (next_end e) []
   none_told e false = []
 
+  -- all of it is of t
+  none_of_t : (e : Ending) (b : Bool) → AreOf t (none_told e b)
+  none_of_t e true = told_of t x.kept (next_end e) [] tt
+  none_of_t e false = tt
+
   -- by whether a queue was ever put
   none_by : (e : Ending) (n k : ℕ) (slot : Bool) (pages : List Page) (log : List Entry) → IsBook most n k slot pages log → slice_get pages (suc (suc t)) ≡ Some (At x)
       → x.step ≡ UnderWay (AtDoorTake e) → (b : Bool) → (k == 0) ≡ b
@@ -179,6 +192,6 @@ module _ (seen : List Entry) (t : ℕ) (x : TaskState) where
 
   -- the load of the word that says so
   pub none_moves : (e : Ending) → x.step ≡ UnderWay (AtDoorTake e)
-      → Moves IsKept (seen, sheets (hand t x)) 1 (λ k. k) (λ k v. Leaves seen (hand t x) (none_page e (k == 0)) (none_told e (k == 0)) v)
-  none_moves e at = put_moves seen (hand t x) (λ k. k) (λ k. none_page e (k == 0)) (λ k. none_told e (k == 0))
+      → Moves IsKept (seen, sheets seen (hand t x)) 1 (λ k. k) (λ k v. Leaves seen (hand t x) (none_page e (k == 0)) (none_told e (k == 0)) v)
+  none_moves e at = put_moves seen (hand t x) (λ k. k) (λ k. none_page e (k == 0)) (λ k. none_told e (k == 0)) (λ k. only_hand t x (none_told e (k == 0)) (none_of_t e (k == 0)))
       (λ n k slot pages log book on. none_by e n k slot pages log book on.0 at (k == 0) refl)

@@ -3,12 +3,12 @@ use Rattle.once_queue.specs.declared.word.TheConstants.{MAX_WAITERS}
 use Rattle.once_parts.specs.Shares.{cell_of, own}
 use Rattle.once_parts.proofs.Walk.Logs.{walked_on}
 use Rattle.once_parts.proofs.Walk.Asked.{step_asked}
-use Rattle.once_parts.proofs.Walk.Calls.{step_went}
+use Rattle.once_parts.proofs.Walk.Calls.{goes_more, step_went}
 use Rattle.once_parts.proofs.calls.one_step.Goals as goal
 
 pub advance-requires-clause-asks : goal.advance-requires-clause-asks
 advance-requires-clause-asks g c =
-    step_asked cell_of own g.W.TaskWaker.whose g.S.TaskSide.state g.S.Side.can_put g.met.S.TaskSide.puts c.requires.stands.0 c.args.parts.now
+    step_asked cell_of own g.W.TaskWaker.whose g.S.TaskSide.state g.S.Side.can_run g.S.Side.can_put g.met.S.TaskSide.runs g.met.S.TaskSide.puts c.requires.stands.0 c.args.parts.now
     c.args.side.now c.args.told c.args.step.now c.requires.stands.1
 
 pub returns-clause-cell : goal.returns-clause-cell
@@ -17,7 +17,10 @@ returns-clause-cell g c = (step_went cell_of own g.W.TaskWaker.whose g.S.TaskSid
     c.advance.result c.args.told c.advance.new.self c.requires.stands.1 c.advance.ensures.line).cell_is
 
 pub returns-clause-walked : goal.returns-clause-walked
-returns-clause-walked g c = λ x v m. walked_on _ _ _ _ _ _ _ _ m
+returns-clause-walked g c = λ x v m. walked_on _ _ _ _ _ _ _ _
+    (goes_more cell_of own g.W.TaskWaker.whose g.S.TaskSide.state g.S.Side.did g.met.S.TaskSide.tells MAX_WAITERS c.requires.stands.0
+    c.args.step.now c.args.parts.now c.advance.new.parts
+    c.args.side.now c.advance.new.side c.advance.result c.args.told c.advance.new.self c.requires.stands.1 c.advance.ensures.line) m
     (step_went cell_of own g.W.TaskWaker.whose g.S.TaskSide.state g.S.Side.did g.met.S.TaskSide.tells MAX_WAITERS c.requires.stands.0
     c.args.step.now c.args.parts.now c.advance.new.parts
     c.args.side.now c.advance.new.side c.advance.result c.args.told c.advance.new.self c.requires.stands.1 c.advance.ensures.line).walked

@@ -29,11 +29,11 @@ invariant_of-self g c =
     let s = (own_of c.note.new.hand).task.step in
     let waker : waker_at s ≡ whose one.0 = ap (λ (t : TaskState). waker_at t.step) c.note.ensures.told.1.task ∙ waker_is k (whose one.0) (own_of c.args.hand.now).task.step one.2 in
     let n = c.see-found.result in
-    let e = c.list.ensures in
-    let f = list_fits whose l d room n k c.list.new.ticket one.0 c.list.new.waker c.list.new.self c.list.result (⊎_elim inl (λ s. inr (e.room s)) (r.room c.if-room.true))
-    e.claims (λ t. subst (λ o. IfSome o (λ w. DidList k w (listings_of l) c.list.result c.list.new.ticket c.list.new.waker (listings_of c.list.new.self))) one.1 (e.held t)) e.head in
+    let e = c.list_own.ensures in
+    let f = list_fits whose l d room n k c.list_own.new.ticket one.0 c.list_own.new.waker c.list_own.new.self c.list_own.result.0 (⊎_elim inl (λ s. inr (e.room s)) (r.room c.if-room.true))
+    e.claims (λ t. subst (λ o. IfSome o (λ w. DidList k w (listings_of l) c.list_own.result.0 c.list_own.new.ticket c.list_own.new.waker (listings_of c.list_own.new.self))) one.1 (e.held t)) e.head in
     let same = c.see-found.ensures.told.0 ∙ ap (λ v. desk_listed (listed n k c.has_room-room.result d) k v d) waker ∙ ap (λ b. desk_listed (listed n k b d) k (whose one.0) d) c.if-room.true in
-    (c.see-found.ensures.desk, subst (IsShown whose c.list.new.self) (sym same) f.0)
+    (c.see-found.ensures.desk, subst (IsShown whose c.list_own.new.self) (sym same) f.0)
 
 pub returns-then-room-clause-did : goal.returns-then-room-clause-did
 returns-then-room-clause-did g c =
@@ -50,13 +50,13 @@ returns-then-room-clause-did g c =
     let s = (own_of c.note.new.hand).task.step in
     let waker : waker_at s ≡ whose one.0 = ap (λ (t : TaskState). waker_at t.step) c.note.ensures.told.1.task ∙ waker_is k (whose one.0) (own_of c.args.hand.now).task.step one.2 in
     let n = c.see-found.result in
-    let e = c.list.ensures in
-    let f = list_fits whose l d room n k c.list.new.ticket one.0 c.list.new.waker c.list.new.self c.list.result (⊎_elim inl (λ s. inr (e.room s)) (r.room c.if-room.true))
-    e.claims (λ t. subst (λ o. IfSome o (λ w. DidList k w (listings_of l) c.list.result c.list.new.ticket c.list.new.waker (listings_of c.list.new.self))) one.1 (e.held t)) e.head in
+    let e = c.list_own.ensures in
+    let f = list_fits whose l d room n k c.list_own.new.ticket one.0 c.list_own.new.waker c.list_own.new.self c.list_own.result.0 (⊎_elim inl (λ s. inr (e.room s)) (r.room c.if-room.true))
+    e.claims (λ t. subst (λ o. IfSome o (λ w. DidList k w (listings_of l) c.list_own.result.0 c.list_own.new.ticket c.list_own.new.waker (listings_of c.list_own.new.self))) one.1 (e.held t)) e.head in
     let a = listed n k true d in
     let told = subst (λ (b : Bool). Did (own_of c.note.new.hand) (claim_entries (is_claim (listed n k b d)) (own_of c.note.new.hand).number)
     (list_next (listed n k b d) (listed_ticket (listed n k b d) k d.listings) s) (own_of c.see-found.new.hand)) c.if-room.true c.see-found.ensures.told.1 in
-    (list_did a _ (listed_ticket a k d.listings) c.list.new.ticket (own_of c.args.hand.now) (own_of c.note.new.hand) (own_of c.see-found.new.hand) c.note.ensures.told.1 told f.1 f.2)
+    (list_did a _ (listed_ticket a k d.listings) c.list_own.new.ticket (own_of c.args.hand.now) (own_of c.note.new.hand) (own_of c.see-found.new.hand) c.note.ensures.told.1 told f.1 f.2)
 
 pub invariant_of-self-2 : goal.invariant_of-self-2
 invariant_of-self-2 g c =
@@ -75,7 +75,7 @@ invariant_of-self-2 g c =
     let n = c.see-found.result in
     let e = c.look_own-answer.ensures in
     let gone : is_some (kept_ticket k (listings_of l)) ≡ false = ap (λ xs. is_some (kept_ticket k xs)) r.listings ∙ r.none c.if-room.false in
-    let f = refusal_fits whose l d room n k c.look_own-answer.new.ticket (whose one.0) c.look_own-answer.new.self c.look_own-answer.result gone e.claims e.held e.stays in
+    let f = refusal_fits whose l d room n k c.look_own-answer.new.ticket (whose one.0) c.look_own-answer.new.self c.look_own-answer.result.0 gone e.claims e.held e.stays in
     let same = c.see-found.ensures.told.0 ∙ ap (λ v. desk_listed (listed n k c.has_room-room.result d) k v d) waker ∙ ap (λ b. desk_listed (listed n k b d) k (whose one.0) d) c.if-room.false in
     (c.see-found.ensures.desk, subst (IsShown whose c.look_own-answer.new.self) (sym same) f.0)
 
@@ -96,7 +96,7 @@ returns-clause-did g c =
     let n = c.see-found.result in
     let e = c.look_own-answer.ensures in
     let gone : is_some (kept_ticket k (listings_of l)) ≡ false = ap (λ xs. is_some (kept_ticket k xs)) r.listings ∙ r.none c.if-room.false in
-    let f = refusal_fits whose l d room n k c.look_own-answer.new.ticket (whose one.0) c.look_own-answer.new.self c.look_own-answer.result gone e.claims e.held e.stays in
+    let f = refusal_fits whose l d room n k c.look_own-answer.new.ticket (whose one.0) c.look_own-answer.new.self c.look_own-answer.result.0 gone e.claims e.held e.stays in
     let a = listed n k false d in
     let told = subst (λ (b : Bool). Did (own_of c.note.new.hand) (claim_entries (is_claim (listed n k b d)) (own_of c.note.new.hand).number)
     (list_next (listed n k b d) (listed_ticket (listed n k b d) k d.listings) s) (own_of c.see-found.new.hand)) c.if-room.false c.see-found.ensures.told.1 in

@@ -43,8 +43,8 @@ put e m at_place d done filled = step (AtPut None) m at_place (d, done, refl, rw
 
 -- what is asked at the place of a step
 asked : (g : Over) (p : g.row.P.Denot) (s : g.row.S.Denot) (place : Place g.row.W.Denot g.row.Q.Denot) (at : Step g.row.W.Denot g.row.Q.Denot)
-    → at ≡ UnderWay place → Asks g.P.Parts.can g.S.Side.can_put MAX_WAITERS at p s → AsksAt g.P.Parts.can g.S.Side.can_put MAX_WAITERS place p s
-asked g p s place at is a = subst (λ at. Asks g.P.Parts.can g.S.Side.can_put MAX_WAITERS at p s) is a
+    → at ≡ UnderWay place → Asks g.P.Parts.can g.S.Side.can_run g.S.Side.can_put MAX_WAITERS at p s → AsksAt g.P.Parts.can g.S.Side.can_run g.S.Side.can_put MAX_WAITERS place p s
+asked g p s place at is a = subst (λ at. Asks g.P.Parts.can g.S.Side.can_run g.S.Side.can_put MAX_WAITERS at p s) is a
 
 pub start-told-requires : goal.start-told-requires
 start-told-requires g c = asked g _ _ AtStart _ (rw c.requires.new refl) (c.requires.asks More _ _ _ none)

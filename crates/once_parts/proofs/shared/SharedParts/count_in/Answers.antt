@@ -1,8 +1,19 @@
 -- A task that was not counted in for another's sake stands where it stood, now as before.
-use Rattle.std.proofs.Common.{rules, [], ◌∙◌}
+use Rattle.std.proofs.Common.{◌≡◌, ℕ, rules, [], ◌∙◌, subst}
+use Rattle.once_book.specs.Kept.{entries_of}
+use Rattle.once_book.specs.Own.{Own, Stayed}
 use Rattle.once_book.specs.Places.{in_next}
 use Rattle.once_book.proofs.Desks.{did_after, prefix_on}
 use Rattle.once_parts.proofs.shared.SharedParts.count_in.Goals as goal
+
+-- who stood still twice
+stayed_on : (x y z : Own) → Stayed x y → Stayed y z → Stayed x z
+stayed_on x y z s t = record {
+  number = t.number ∙ s.number;
+  task = t.task ∙ s.task;
+  log = prefix_on x.log y.log z.log s.log t.log;
+  mine = subst (λ (n : ℕ). entries_of n z.log ≡ entries_of n y.log) s.number t.mine ∙ s.mine;
+}
 
 pub loop-preserved : goal.loop-preserved
 loop-preserved g c =
@@ -11,11 +22,7 @@ loop-preserved g c =
       search rules,
       search rules,
       search rules,
-      record {
-        number = after.number ∙ before.number;
-        task = after.task ∙ before.task;
-        log = prefix_on _ _ _ before.log after.log;
-      },
+      stayed_on _ _ _ before after,
     )
 
 pub returns-in-Some-try_count_in : goal.returns-in-Some-try_count_in

@@ -2,18 +2,19 @@
 use Rattle.std.specs.Prelude.{⊤}
 use Rattle.std.proofs.Common.{◌≡◌, ℕ, true, false, refl, sym, ap, ◌∙◌, ◌∷◌, [], ◌++◌, subst}
 use Rattle.once_core.specs.Steps.{in_call, is_resting}
-use Rattle.once_world.specs.Places.{Step}
+use Rattle.once_world.specs.Places.{Ended, Step}
 use Rattle.once_book.specs.Own.{Own}
 use Rattle.once_parts.specs.declared.idle.Idle.{Idle}
 use Rattle.once_parts.specs.Idle.{is_over, step_of}
-use Rattle.once_world.specs.Record.{DropBegin, DropEnd}
-use Rattle.once_book.specs.Kept.{Grew}
+use Rattle.once_world.specs.Record.{DropBegin, DropEnd, Entry}
+use Rattle.once_book.specs.Kept.{Grew, entries_of}
 use Rattle.once_parts.specs.Shares.{own}
 use Rattle.once_parts.specs.Sides.{Sided}
-use Rattle.once_parts.specs.Walks.{Rests, StandsOn, handed}
+use Rattle.once_parts.specs.Walks.{IsCall, Rests, StandsOn, handed}
 use Rattle.once_parts.specs.Tasks.{TaskView}
-use Rattle.once_parts.proofs.Walk.Logs.{by_before, grew_by, grew_on, walked_none}
-use Rattle.once_parts.proofs.Walk.Begins.{drop_alone, drop_begins, grew_from, grew_last, stands_closed}
+use Rattle.once_parts.proofs.Walk.Logs.{called, grew_on, walked_none}
+use Rattle.once_world.specs.Machine.{progress_entries}
+use Rattle.once_parts.proofs.Walk.Begins.{drop_alone, drop_opens, grew_from, grew_last, stands_closed}
 use Rattle.once_parts.proofs.Walk.Ends.{drop_ended}
 use Rattle.once_parts.proofs.task.Task.leave.Goals as goal
 
@@ -30,30 +31,34 @@ go_on-requires g c =
     let rests = rests_at g.W.TaskWaker.whose (own c.self.inside.parts) c.self.inside.idle c.step-step.result c.self.view_is refl c.requires.live
     c.step-step.ensures.rests c.step-step.ensures.is c.self.inside.stands in
     let call = sym c.begin_drop-2.ensures.more ∙ c.if-not-begin_drop.false in
-    let begun = drop_begins g.W.TaskWaker.whose (g.S.TaskSide.state c.args.side.now) (own c.self.inside.parts)
-    (own c.begin_drop.new.self) c.step-step.result number c.requires.none rests c.begin_drop.ensures.did
-    (ap in_call (sym c.begin_drop-2.ensures.step) ∙ call) in
-    record { stands = (true, stands_closed g.W.TaskWaker.whose _ _ (own c.begin_drop.new.self) _ _ (g.met.S.TaskSide.tells.close _ _ c.begin_drop-2.ensures.close) c.begin_drop-2.ensures.step begun) }
+    record {
+      stands = (
+        true,
+        stands_closed g.W.TaskWaker.whose (g.S.TaskSide.state c.args.side.now) (g.S.TaskSide.state c.begin_drop-2.new.side) (own c.self.inside.parts) (own c.begin_drop.new.self) c.step-step.result _
+            (g.met.S.TaskSide.tells.close _ _ c.begin_drop-2.ensures.close) c.begin_drop-2.ensures.step number c.requires.none rests c.begin_drop.ensures.did
+            (ap in_call (sym c.begin_drop-2.ensures.step) ∙ call),
+      );
+    }
 
 pub returns-then-not-begin_drop-clause-end : goal.returns-then-not-begin_drop-clause-end
 returns-then-not-begin_drop-clause-end g c =
     let rests = rests_at g.W.TaskWaker.whose (own c.self.inside.parts) c.self.inside.idle c.step-step.result c.self.view_is refl c.requires.live
     c.step-step.ensures.rests c.step-step.ensures.is c.self.inside.stands in
     let over = ap in_call (sym c.begin_drop-2.ensures.step) ∙ sym c.begin_drop-2.ensures.more ∙ c.if-not-begin_drop.true in
-    let grew = drop_alone g.W.TaskWaker.whose (own c.self.inside.parts) (own c.begin_drop.new.self) c.step-step.result rests over c.begin_drop.ensures.did in
+    let grew = (drop_alone g.W.TaskWaker.whose (own c.self.inside.parts) (own c.begin_drop.new.self) c.step-step.result rests over c.begin_drop.ensures.did).0 in
     rw (← c.self.view_is)
     (subst (λ (t : ℕ). Grew (DropEnd t ∷ []) (own c.self.inside.parts).log (own c.begin_drop.new.self).log) (sym c.begin_drop.ensures.did.number)
     (grew_last (DropEnd (own c.self.inside.parts).number) (DropBegin (own c.self.inside.parts).number ∷ []) _ _ grew))
 
-pub returns-then-not-begin_drop-clause-woke : goal.returns-then-not-begin_drop-clause-woke
-returns-then-not-begin_drop-clause-woke g c =
+pub returns-then-not-begin_drop-clause-call : goal.returns-then-not-begin_drop-clause-call
+returns-then-not-begin_drop-clause-call g c =
     let rests = rests_at g.W.TaskWaker.whose (own c.self.inside.parts) c.self.inside.idle c.step-step.result c.self.view_is refl c.requires.live
     c.step-step.ensures.rests c.step-step.ensures.is c.self.inside.stands in
     let over = ap in_call (sym c.begin_drop-2.ensures.step) ∙ sym c.begin_drop-2.ensures.more ∙ c.if-not-begin_drop.true in
-    let grew = drop_alone g.W.TaskWaker.whose (own c.self.inside.parts) (own c.begin_drop.new.self) c.step-step.result rests over c.begin_drop.ensures.did in
+    let call = (drop_alone g.W.TaskWaker.whose (own c.self.inside.parts) (own c.begin_drop.new.self) c.step-step.result rests over c.begin_drop.ensures.did).1 in
     rw (← c.self.view_is) (
-      DropBegin (own c.self.inside.parts).number ∷ DropEnd (own c.self.inside.parts).number ∷ [],
-      grew_by (DropBegin (own c.self.inside.parts).number ∷ DropEnd (own c.self.inside.parts).number ∷ []) _ _ grew,
+      [],
+      subst (λ (t : ℕ). IsCall t (DropBegin t) (DropEnd t) [] (own c.self.inside.parts).log (own c.begin_drop.new.self).log) (sym c.begin_drop.ensures.did.number) call,
       ap (λ (x : Sided). x.woke) (g.met.S.TaskSide.tells.close _ _ c.begin_drop-2.ensures.close) ∙ c.requires.none,
     )
 
@@ -63,21 +68,32 @@ returns g c =
     let rests = rests_at g.W.TaskWaker.whose (own c.self.inside.parts) c.self.inside.idle c.step-step.result c.self.view_is refl c.requires.live
     c.step-step.ensures.rests c.step-step.ensures.is c.self.inside.stands in
     let call = sym c.begin_drop-2.ensures.more ∙ c.if-not-begin_drop.false in
-    let begun = drop_begins g.W.TaskWaker.whose (g.S.TaskSide.state c.args.side.now) (own c.self.inside.parts)
-    (own c.begin_drop.new.self) c.step-step.result number c.requires.none rests c.begin_drop.ensures.did
-    (ap in_call (sym c.begin_drop-2.ensures.step) ∙ call) in
     let closed = g.met.S.TaskSide.tells.close _ _ c.begin_drop-2.ensures.close in
-    let stands = stands_closed g.W.TaskWaker.whose _ _ (own c.begin_drop.new.self) _ _ closed c.begin_drop-2.ensures.step begun in
+    let stands = stands_closed g.W.TaskWaker.whose (g.S.TaskSide.state c.args.side.now) (g.S.TaskSide.state c.begin_drop-2.new.side) (own c.self.inside.parts) (own c.begin_drop.new.self) c.step-step.result _ closed c.begin_drop-2.ensures.step
+    number c.requires.none rests c.begin_drop.ensures.did (ap in_call (sym c.begin_drop-2.ensures.step) ∙ call) in
     let seen = grew_on _ _ _ c.begin_drop.ensures.did.log in
     let walked = c.go_on.ensures.walked _ _ (walked_none _ _) in
+    let last : Own = own c.go_on.new.parts in
+    let opens = drop_opens g.W.TaskWaker.whose (own c.self.inside.parts) (own c.begin_drop.new.self) c.step-step.result rests (ap in_call (sym c.begin_drop-2.ensures.step) ∙ call)
+    c.begin_drop.ensures.did in
     let end = drop_ended g.W.TaskWaker.whose (g.S.TaskSide.state c.begin_drop-2.new.side) (g.S.TaskSide.state c.go_on.new.side) (own c.begin_drop.new.self)
     (own c.go_on.new.parts) _ c.go_on.result refl c.go_on.new.step walked
     (c.go_on.ensures.stands true stands) c.go_on.ensures.over in
     rw (← c.self.view_is) (record {
       cell = c.go_on.ensures.cell ∙ c.begin_drop.ensures.cell;
       number = walked.number ∙ c.begin_drop.ensures.did.number;
-      end = grew_from _ _ _ _ seen end;
-      woke = (walked.made.0, by_before walked.made.0 _ _ _ seen walked.made.1, walked.made.2 ∙ ap (λ X. X ++ handed walked.made.0) (ap (λ (x : Sided). x.woke) closed ∙ c.requires.none));
+      end = grew_from _ _ _ _ seen end.0;
+      call = (
+        walked.made.0,
+        called last.number (Ended c.go_on.result) 0 last.task.kept (DropEnd last.number) (DropBegin last.number) walked.made.0 (own c.self.inside.parts).log
+            (own c.begin_drop.new.self).log last.log (ap (λ (l : Entry). l ∷ []) end.1)
+            (subst (λ (t : ℕ). entries_of t (own c.begin_drop.new.self).log ≡ entries_of t (own c.self.inside.parts).log ++ DropBegin t ∷ [])
+            (sym c.begin_drop.ensures.did.number ∙ sym walked.number) opens)
+            walked.made.1
+            (subst (λ (t : ℕ). entries_of t last.log ≡ entries_of t (own c.begin_drop.new.self).log ++ (walked.made.0 ++ progress_entries (Ended c.go_on.result) last.number 0 last.task.kept))
+            (sym walked.number) walked.made.2),
+        walked.made.3 ∙ ap (λ X. X ++ handed walked.made.0) (ap (λ (x : Sided). x.woke) closed ∙ c.requires.none),
+      );
       finished = refl;
       stays = g.met.S.Side.stays_on _ _ _ c.begin_drop-2.ensures.stays c.go_on.ensures.stays;
     })

@@ -4,6 +4,3 @@ use Rattle.once_queue.proofs.waiters.Lists.claim.Goals as goal
 
 pub returns-in-Taken-clause-held : goal.returns-in-Taken-clause-held
 returns-in-Taken-clause-held g c = search rules
-
-pub returns-after-take-clause-claims : goal.returns-after-take-clause-claims
-returns-after-take-clause-claims g c = search rules

@@ -4,6 +4,3 @@ use Rattle.once_queue.proofs.waiters.Lists.leave.Goals as goal
 
 pub returns-clause-waker : goal.returns-clause-waker
 returns-clause-waker g c = search rules
-
-pub returns-in-Free-clause-waker : goal.returns-in-Free-clause-waker
-returns-in-Free-clause-waker g c = search rules

@@ -6,7 +6,7 @@ use Rattle.once_core.specs.Steps.{in_call, is_resting, step_of_drop}
 use Rattle.once_world.specs.Places.{Finished, RestRun, RestStart, RestWait, Resting, Step, UnderWay}
 use Rattle.once_parts.specs.Shares.{own}
 use Rattle.once_parts.specs.Sides.{Sided}
-use Rattle.once_parts.proofs.Walk.Begins.{drop_begins, stands_closed}
+use Rattle.once_parts.proofs.Walk.Begins.{stands_closed}
 use Rattle.machine_tests.proofs.scenes.walker.Walker.begin_drop.Goals as goal
 
 -- a task whose drop has begun rests no more
@@ -27,9 +27,9 @@ invariant_of-self g c =
     record {
       same = ap (λ (x : Sided). x.number) c.begin_drop-2.ensures.close ∙ number ∙ sym c.begin_drop.ensures.did.number;
       goes = λ h.
-          let begun = drop_begins (λ b. b.mark.value) c.begin.new.self (own task.parts) (own c.begin_drop.new.self) task.step number
-          (ap (λ (x : Sided). x.woke) c.begin.ensures) (rests, task.rests rests) c.begin_drop.ensures.did (ap in_call (sym c.begin_drop-2.ensures.step) ∙ h) in
-          stands_closed (λ b. b.mark.value) c.begin.new.self c.begin_drop-2.new.side (own c.begin_drop.new.self)
-          (step_of_drop task.step) c.begin_drop-2.new.self c.begin_drop-2.ensures.close c.begin_drop-2.ensures.step begun;
+          stands_closed (λ b. b.mark.value) c.begin.new.self c.begin_drop-2.new.side (own task.parts) (own c.begin_drop.new.self) task.step c.begin_drop-2.new.self
+          c.begin_drop-2.ensures.close c.begin_drop-2.ensures.step number (ap (λ (x : Sided). x.woke) c.begin.ensures) (rests, task.rests rests)
+          c.begin_drop.ensures.did (ap in_call (sym c.begin_drop-2.ensures.step) ∙ h);
       rests = λ h. absurd (never_rests task.step (ap is_resting (sym c.begin_drop-2.ensures.step) ∙ h));
+      has_init = λ h. absurd (never_rests task.step (ap is_resting (sym c.begin_drop-2.ensures.step) ∙ h));
     }

@@ -1,0 +1,56 @@
+-- A poll that came after what was learned came after what was seen before that.
+use Rattle.std.proofs.Common.{◌≡◌, ℕ, List, [], ◌∷◌, ◌++◌, ap, ◌∙◌, subst}
+use mathlib.Core.List.{IsPrefix}
+use Rattle.futures.specs.declared.task.context.Context.{Context}
+use Rattle.once_world.specs.Record.{Begin, Entry}
+use Rattle.once_book.specs.Kept.{entries_of}
+use Rattle.once_world.specs.Places.{Ending}
+use Rattle.once_parts.specs.Walks.{end_of}
+use Rattle.once_book.proofs.Desks.{prefix_on}
+use Rattle.async_once_cell.specs.Polls.{CallIn, DidPoll, Ends, SpansIn}
+use Rattle.async_once_cell.specs.Views.{CellView, FutureView, Owned, Shared}
+
+module _ {T : Type 0} where
+  -- an end is the newest entry since longer ago
+  ends_later : (c : CellView T) (e : Entry) (old mid new : List Entry) → IsPrefix old mid → Ends c e mid new → Ends c e old new
+  ends_later (Owned x) e old mid new p g = g
+  ends_later (Shared s) e old mid new p g = (g.0, prefix_on old mid g.0 p g.1, g.2)
+
+  -- and the call began since then
+  spans_later : (c : CellView T) (t : ℕ) (e : Entry) (old mid new : List Entry) → IsPrefix old mid → SpansIn c t e mid new → SpansIn c t e old new
+  spans_later (Owned x) t e old mid new p g = g
+  spans_later (Shared s) t e old mid new p g = record { before = g.before; since = g.since; after = prefix_on old mid g.before p g.after; is = g.is }
+
+  -- a call is the same since longer ago, if the task made no entry meanwhile
+  call_later : (c : CellView T) (t : ℕ) (b e : Entry) (old mid new : List Entry) → entries_of t mid ≡ entries_of t old → CallIn c t b e mid new → CallIn c t b e old new
+  call_later (Owned x) t b e old mid new m g = g
+  call_later (Shared s) t b e old mid new m g = record {
+    mid = g.mid;
+    is = record { own = g.is.own ∙ ap (λ l. l ++ (b ∷ (g.mid ++ e ∷ []))) m; between = g.is.between };
+  }
+
+  -- a future's poll, since all that it learned
+  pub spans_after : {F : Type 0} (old mid new : FutureView T F) (before after : Context) (e : Ending) (seen : List Entry) → mid.cell ≡ old.cell → mid.task ≡ old.task → IsPrefix seen mid.log
+      → DidPoll mid new before after e → SpansIn old.cell old.task (end_of old.task e) seen new.log
+  spans_after old mid new before after e seen cell task grown did =
+      spans_later old.cell old.task (end_of old.task e) seen mid.log new.log grown
+      (subst (λ (c : CellView T). SpansIn c old.task (end_of old.task e) mid.log new.log) cell
+      (subst (λ (t : ℕ). SpansIn mid.cell t (end_of t e) mid.log new.log) task did.spans))
+
+  -- the same of a future's poll
+  pub did_later : {F : Type 0} (old mid new : FutureView T F) (before after : Context) (e : Ending) → mid.cell ≡ old.cell → mid.task ≡ old.task → IsPrefix old.log mid.log
+      → entries_of old.task mid.log ≡ entries_of old.task old.log → DidPoll mid new before after e → DidPoll old new before after e
+  did_later old mid new before after e cell task grown mine did = record {
+    cell = did.cell ∙ cell;
+    task = did.task ∙ task;
+    ends = ends_later old.cell (end_of old.task e) old.log mid.log new.log grown
+        (subst (λ (c : CellView T). Ends c (end_of old.task e) mid.log new.log) cell (subst (λ (t : ℕ). Ends mid.cell (end_of t e) mid.log new.log) task did.ends));
+    spans = spans_after old mid new before after e old.log cell task grown did;
+    call = call_later old.cell old.task (Begin old.task old.task) (end_of old.task e) old.log mid.log new.log mine
+        (subst (λ (c : CellView T). CallIn c old.task (Begin old.task old.task) (end_of old.task e) mid.log new.log) cell
+        (subst (λ (t : ℕ). CallIn mid.cell t (Begin t t) (end_of t e) mid.log new.log) task did.call));
+    set = did.set;
+    finished = did.finished;
+    armed = did.armed;
+    kept = did.kept;
+  }

@@ -1,0 +1,6 @@
+-- An init that may give no other output than before fails with no other error.
+use Rattle.async_once_cell.proofs.Inits.{fails_on}
+use Rattle.async_once_cell.proofs.init.PollableInit.poll_init.Goals as goal
+
+pub returns-clause-same : goal.returns-clause-same
+returns-clause-same g c = fails_on g.F.Future.gives g.F.Output.Gives.given_as _ _ c.poll_init.ensures.same

@@ -1,0 +1,23 @@
+-- With which errors the init of a future may fail.
+use Rattle.std.specs.Prelude.{⊤, Option, IfErr, IsSomeAnd, Result, ◌≡◌}
+use Rattle.once_world.specs.Places.{EndError, Ending}
+use Rattle.async_once_cell.specs.declared.once.refused.InitError.{InitError}
+use Rattle.async_once_cell.specs.declared.once.refused.InitError.TheVariants.{Init}
+
+module _ {I X : Type 0} (may_fail : I → X → Type 0) where
+  -- the init is there, and may fail with this error
+  abbrev pub MayFail : Option I → X → Type 0
+  MayFail init x = IsSomeAnd init (λ i. may_fail i x)
+
+  -- what is left of an init fails with no error with which it could not fail before
+  abbrev pub FailsNoOther : Option I → Option I → Type 0
+  FailsNoOther old new = (x : X) → MayFail new x → MayFail old x
+
+  -- an error that is told of an init is one with which this init may fail
+  abbrev pub TellsOwn : (X → Ending) → {A : Type 0} → Option I → Result A X → Type 0
+  TellsOwn ending init r = IfErr r (λ x. ending x ≡ EndError → MayFail init x)
+
+-- what holds of the error that a poll tells of its init
+abbrev pub IfInit : {E : Type 0} → InitError E → (E → Type 0) → Type 0
+IfInit (Init e) P = P e
+IfInit _ P = ⊤

@@ -1,0 +1,102 @@
+//! The waker of a waiting task, as it lies in the list of the cell.
+ghost use Rattle.std.specs.Prelude.{◌≡◌};
+ghost use Rattle.futures.specs.Task.{IsArmed, Keeps};
+ghost use Rattle.async_once_cell.specs.Listed.{WakesTask, whose};
+
+use boxcar::tag::{Names, Tag};
+use futures::task::{Context, Poll, Source, Waker};
+use once_book::{Mark, TaskWaker};
+use once_queue::waiters::{Renews, WakerId};
+
+/// The waker of a task, with the number of the task. Two of these are never compared, since a task is listed once.
+///
+/// It wakes its task when it is let go. So a task whose waker is handed out is called when the answer is dropped, and
+/// no waker that is listed can be lost.
+#[derive(Drop)]
+pub struct ListedWaker {
+    // None where no waker could be made. Then the task asked for another poll.
+    waker: Option<Waker>,
+    // The task's number. It has no bytes.
+    tag: Tag,
+}
+
+// How a task's number is read off its mark.
+struct Number;
+
+impl Names<Mark> for Number {
+    ghost use Rattle.std.specs.Prelude.{◌∷◌, []};
+
+    ghost numbers = { λ mark. mark ∷ [] };
+}
+
+impl WakerId for ListedWaker {
+    ghost use Rattle.std.specs.Prelude.{⊤};
+
+    ghost tells_same = { λ _ _. ⊥ };
+
+    ghost tells_other = { λ _ _. ⊤ };
+
+    #[inline(always)]
+    fn are_all_other() -> bool {
+        true
+    }
+
+    #[inline(always)]
+    fn same(&self, _other: &ListedWaker) -> bool {
+        false
+    }
+}
+
+impl TaskWaker for ListedWaker {
+    ghost use Rattle.async_once_cell.specs.Listed.{number_on};
+
+    ghost whose = { λ s. number_on s.tag.numbers };
+
+    ghost apart = { λ a b e. e };
+}
+
+impl ListedWaker {
+    /// The waker of the task that is polled here, to be listed under this number.
+    #[inline(never)]
+    pub fn new(mark: &Mark, cx: &mut Context<'_>) -> ListedWaker
+        ensures whose { whose result ≡ mark.now }
+        ensures wakes { WakesTask result cx.new }
+        ensures armed { IsArmed cx.new }
+        ensures kept { Keeps cx.old cx.new }
+    {
+        let mut listed = ListedWaker {
+            waker: None,
+            tag: Tag::of::<Mark, Number>(mark),
+        };
+        listed.register(cx);
+        listed
+    }
+
+    // Puts the waker of the task that is polled here in the place of the one that was there. Another task's is woken.
+    #[inline(always)]
+    fn register(&mut self, cx: &mut Context<'_>)
+        ensures whose { whose self.new ≡ whose self.old }
+        ensures wakes { WakesTask self.new cx.new }
+        ensures armed { IsArmed cx.new }
+        ensures kept { Keeps cx.old cx.new }
+    {
+        let _: Poll<()> = cx.register(&Source::new(), &mut self.waker);
+    }
+}
+
+/// The context of a poll that is Pending, whose task is listed since an earlier one.
+pub struct Renewal<'c, 'd> {
+    /// The context.
+    pub cx: &'c mut Context<'d>,
+}
+
+impl Renews<ListedWaker> for Renewal<'_, '_> {
+    ghost use Rattle.async_once_cell.specs.Listed.{IsRenewed};
+
+    ghost renewed = { IsRenewed };
+
+    #[inline(always)]
+    fn renew(&mut self, listed: &mut ListedWaker) {
+        listed.register(self.cx);
+    }
+}

@@ -1,0 +1,54 @@
+//! Whose error a caller is told: one with which its own init may fail.
+ghost use Rattle.std.specs.Prelude.{◌≡◌, Err, IfErr, IfOk};
+ghost use Rattle.async_once_cell.specs.Inits.{IfInit};
+
+use crate::fault::Fault;
+use async_once_cell::{InitError, OnceCell};
+use futures::Future;
+use futures::executor::block_on;
+use futures::future::err;
+use std::alloc::AllocGlobal;
+use std::io::{self, Write};
+use std::random::RandomSource;
+use std::sync::Wait;
+
+/// If a wait tells the error of an init, it is an error that the caller's own init may give.
+fn own_error_by_wait<'a, F, R>(
+    rt: &'a R,
+    cell: &'a OnceCell<u64>,
+    init: F,
+) -> io::Result<Result<&'a u64, InitError<u64>>>
+where
+    F: Future<Output = Result<u64, u64>>,
+    R: Wait + RandomSource + AllocGlobal,
+    requires { F.can_poll init }
+    ensures { IfOk result (λ told. IfErr told (λ error. IfInit error (λ e. F.gives init (Err e)))) }
+{
+    cell.get_or_try_init(rt, init).wait()
+}
+
+/// If this tells the error of an init, it is 7, since this init gives no other. The kit's `block_on` knows nothing of
+/// cells.
+fn own_error_by_block_on<'a, R>(
+    rt: &'a R,
+    cell: &'a OnceCell<u64>,
+) -> io::Result<Result<&'a u64, InitError<u64>>>
+where
+    R: Wait + RandomSource + AllocGlobal,
+    ensures { IfOk result (λ told. IfErr told (λ error. IfInit error (λ e. e ≡ 7))) }
+{
+    block_on(rt, cell.get_or_try_init(rt, err::<u64, u64>(7)))
+}
+
+/// Has two inits fail on one cell, and prints what each caller was told.
+pub fn show<R, O>(rt: &R, output: &mut O) -> Result<(), Fault>
+where
+    R: Wait + RandomSource + AllocGlobal,
+    O: Write,
+{
+    let cell = OnceCell::new();
+    let first = own_error_by_wait(rt, &cell, err::<u64, u64>(6))?;
+    let second = own_error_by_block_on(rt, &cell)?;
+    writeln!(output, "inits that fail: {first:?} {second:?}")?;
+    Ok(())
+}
