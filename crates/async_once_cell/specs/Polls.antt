@@ -69,8 +69,8 @@ pub record DidPoll {T I : Type 0} (old new : FutureView T I) (before after : Con
   pub spans : SpansIn old.cell old.task (end_of old.task e) old.log new.log
   -- the task's own entries since then are those of this call
   pub call : CallIn old.cell old.task (Begin old.task old.task) (end_of old.task e) old.log new.log
-  pub set : e ≡ EndValue → IsSetIn new.cell new.log  -- where it answered the value, the cell is set in the record
-  pub finished : new.finished ≡ is_over e  -- the future is finished exactly where the poll answered
+  pub set : e ≡ EndValue → IsSetIn new.cell new.log  -- if it answered the value, the cell is set in the record
+  pub finished : new.finished ≡ is_over e  -- the future is finished exactly if the poll answered
   pub armed : e ≡ EndPending → IsArmed after  -- else it has registered its task somewhere, or asked for another poll
   pub kept : Keeps before after  -- the context keeps what it had
 
@@ -106,7 +106,7 @@ Answers c r = AnswersBy (λ (v : Bor _). v.now) c r
 abbrev pub IsMade : {T I : Type 0} → FutureView T I → Type 0
 IsMade f = MadeIn f.cell f.task f.log
 
--- what a token knew before a poll and knows after it: where a value was answered, that, which is the known one if
+-- what a token knew before a poll and knows after it: if a value was answered, that, which is the known one if
 -- there was one; else nothing, as before
 abbrev pub Polls : {T E : Type 0} → Option T → Option T → Poll (Result (Bor T) E) → Type 0
 Polls old new (Ready (Ok x)) = (new ≡ Some x.now) × Agrees old x.now

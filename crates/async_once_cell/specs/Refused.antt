@@ -34,7 +34,7 @@ own_error (Init e) = Ok e
 own_error NoMemory = Err Memory
 own_error TooMany = Err Full
 
--- what the init gave, where its own error is told
+-- what the init gave, if its own error is told
 abbrev pub given_error : {T E : Type 0} → InitError E → Option (Result T E)
 given_error (Init e) = Some (Err e)
 given_error _ = None

@@ -76,7 +76,7 @@ abbrev pub log_of : {T : Type 0} → Seen T → List Entry
 log_of (SeenOwned b) = []
 log_of (SeenShared r w) = r.log
 
--- what a token saw is of its cell; where it knows a value, the cell of its record is set
+-- what a token saw is of its cell; if it knows a value, the cell of its record is set
 abbrev pub IsOf : {T : Type 0} → CellView T → Seen T → Type 0
 IsOf (Owned x) (SeenOwned b) = ⊤
 IsOf (Owned x) (SeenShared r w) = ⊥
@@ -93,7 +93,7 @@ abbrev pub IsWritten : {T : Type 0} → CellView T → Written T → Type 0
 IsWritten (Owned x) w = ⊥
 IsWritten (Shared s) w = w.of ≡ s.id
 
--- where the owner had put a value there, it is this one
+-- if the owner had put a value there, it is this one
 abbrev pub OwnsStill : {T : Type 0} → CellView T → T → Type 0
 OwnsStill (Owned x) y = y ≡ x
 OwnsStill (Shared s) y = ⊤

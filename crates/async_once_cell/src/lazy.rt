@@ -22,7 +22,7 @@ use std::{fmt, mem};
 /// The task that holds the right drives that future on. The future is never restarted, even if the task
 /// that drives it is dropped. Once it has given its value it is dropped, and then the value is set.
 ///
-/// A cell may be sent to another thread where `T: Send` and `F: Send`, and shared between threads where
+/// A cell may be sent to another thread if `T: Send` and `F: Send`, and shared between threads if
 /// besides `T: Sync`.
 ///
 /// ```
@@ -123,7 +123,7 @@ impl<T, F: Future> Lazy<T, F> {
         }
     }
 
-    /// The value, where it is set. It polls nothing, and waits for nobody. Of a cell that tasks share no clause says
+    /// The value, if it is set. It polls nothing, and waits for nobody. Of a cell that tasks share no clause says
     /// what it answers: [`Lazy::try_get_as`] has such clauses.
     ///
     /// With the cell that stands at [`Lazy::get`]:
@@ -155,7 +155,7 @@ impl<T, F: Future> Lazy<T, F> {
         self.cell.get_mut()
     }
 
-    /// The value, where it was set. Else the future is dropped, and the answer is None, even if one poll
+    /// The value, if it was set. Else the future is dropped, and the answer is None, even if one poll
     /// of the future would give the value. A queue that futures left goes as well. It waits for nobody.
     pub fn into_inner(self) -> Option<T>
         ensures { Gives self result }
@@ -163,7 +163,7 @@ impl<T, F: Future> Lazy<T, F> {
         self.into_parts().ok()
     }
 
-    /// The value, where it was set; else the future in the state that it is in. `Err(None)` would say
+    /// The value, if it was set; else the future in the state that it is in. `Err(None)` would say
     /// that there is neither; no schedule of calls is known to lead there. A queue that futures left
     /// goes as well. It waits for nobody.
     ///

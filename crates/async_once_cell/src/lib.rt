@@ -53,7 +53,7 @@
 //! stays in the list. Its task has the turn.
 //!
 //! **The fast release.** A quick holder is not counted. It first tries to exchange the quick bit for the
-//! ready bit, or for 0 where it has no value. If that is done, nobody is counted, and there is nobody to
+//! ready bit, or for 0 if it has no value. If that is done, nobody is counted, and there is nobody to
 //! call. Else it counts in, finds the queue at the door, and releases as above.
 //!
 //! **Leaving.** A waiter that is dropped or refused memory takes its listing out. If it was called and

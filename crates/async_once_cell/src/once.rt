@@ -48,7 +48,7 @@ use value::Value;
 ///
 /// An init may borrow whatever outlives its future. One that asks its own cell for the value waits
 /// there like any other task, and may give its own value all the same. A cell may be sent to another
-/// thread where `T: Send`, and shared between threads where `T: Send + Sync`.
+/// thread if `T: Send`, and shared between threads if `T: Send + Sync`.
 #[derive(Drop)]
 pub struct OnceCell<T> {
     pub(crate) value: Value<T>,
@@ -87,7 +87,7 @@ impl<T> OnceCell<T> {
         }
     }
 
-    /// The value, where it is set; None where the cell is empty or being filled. It waits for
+    /// The value, if it is set; None if the cell is empty or being filled. It waits for
     /// nobody. Of a cell that tasks share no clause says what it answers: [`OnceCell::get_as`] has such clauses.
     #[inline(always)]
     pub fn get(&self) -> Option<&T>
@@ -121,7 +121,7 @@ impl<T> OnceCell<T> {
         self.value.get_mut()
     }
 
-    /// The value, where it was set. The cell is then as a new one: empty, with a new record. A queue that
+    /// The value, if it was set. The cell is then as a new one: empty, with a new record. A queue that
     /// futures left there goes as well. It waits for nobody.
     pub fn take(&mut self) -> Option<T>
         ensures taken { Gives self.old result }
@@ -130,7 +130,7 @@ impl<T> OnceCell<T> {
         mem::replace(self, OnceCell::new()).into_inner()
     }
 
-    /// The value, where it was set. All else of the cell goes with it, its record and a queue that futures left there
+    /// The value, if it was set. All else of the cell goes with it, its record and a queue that futures left there
     /// too. It waits for nobody.
     pub fn into_inner(self) -> Option<T>
         ensures { Gives self result }

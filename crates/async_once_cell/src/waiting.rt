@@ -1,4 +1,4 @@
-//! A task of a cell that brings an init, and is called where it waits.
+//! A task of a cell that brings an init, and is called while it waits.
 ghost use Rattle.std.specs.Prelude.{◌≡◌, ◌≢◌, ◌∷◌, [], List, true, false, ⊤};
 ghost use Rattle.std.specs.Prelude.{IfErr, IfOk, IsSome, IsSomeAnd, None, Some};
 ghost use Rattle.std.specs.Option.{is_some};

@@ -14,7 +14,7 @@ use once_queue::waiters::{Renews, WakerId};
 /// no waker that is listed can be lost.
 #[derive(Drop)]
 pub struct ListedWaker {
-    // None where no waker could be made. Then the task asked for another poll.
+    // None if no waker could be made. Then the task asked for another poll.
     waker: Option<Waker>,
     // The task's number. It has no bytes.
     tag: Tag,

@@ -1,7 +1,5 @@
 //! One step of a call at a time, over any parts and any side.
 ghost use Rattle.once_core.specs.Steps.{Wakes, out_of};
-ghost use Rattle.once_core.specs.Chain.{Makes};
-ghost use Rattle.once_queue.specs.declared.word.TheConstants.{MAX_WAITERS};
 ghost use Rattle.std.specs.Prelude.{◌≡◌, ◌<◌, ◌≤◌, ◌-◌, ◌^◌, ◌↔◌, IsTrue, ℕ, Bool, true, false, Option, Some, None};
 ghost use Rattle.once_queue.specs.declared.waiters.Answer.{Answer};
 ghost use Rattle.once_queue.specs.declared.waiters.Op.{Op};

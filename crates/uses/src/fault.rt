@@ -1,7 +1,7 @@
 //! Why the program gives up.
 
 use crate::from_rust;
-use async_once_cell::once::{InitError, Refused};
+use async_once_cell::once::Refused;
 use std::alloc::AllocError;
 use std::io;
 use thiserror::Error;

@@ -7,7 +7,7 @@ use async_once_cell::OnceCell;
 use async_once_cell::once::{InitFuture, Known};
 use futures::Future;
 use futures::executor::LocalPool;
-use futures::future::{Ready, ready};
+use futures::future::Ready;
 use futures::task::{Context, Poll};
 use std::alloc::{AllocError, AllocGlobal};
 use std::cell::Cell;

@@ -16,7 +16,7 @@ ghost use Rattle.once_world.specs.Record.{Once};
 ghost use Rattle.once_world.specs.Run.{AtEvery, IsRun, NobodyForgotten};
 
 use crate::init::{Failed, Init};
-use crate::once::{Failure, Initializing, Known, OnceCell, Parker, Refused};
+use crate::once::{Initializing, Known, OnceCell, Parker, Refused};
 use futures::Future;
 use futures::task::{Context, Poll};
 use once_book::{Hand, Pollable};

@@ -1,5 +1,5 @@
 //! The future of a cell. Three names stand for it, by what its init gives and what it answers.
-ghost use Rattle.std.specs.Prelude.{◌≡◌, ◌≢◌, None, IfOk, ℕ, ⊤, [], false, true, MatchOption, Result, Some, reverse};
+ghost use Rattle.std.specs.Prelude.{◌≡◌, ◌≢◌, None, IfOk, ⊤, [], false, true, MatchOption, Result, Some, reverse};
 ghost use Rattle.std.specs.Borrow.{Bor};
 ghost use Rattle.futures.specs.Poll.{IfReady, OnPending};
 ghost use Rattle.futures.specs.Task.{Covers, Keeps};
@@ -49,7 +49,7 @@ pub type InitFuture<'a, T, F, R> = Initializing<'a, T, Refused, Pollable<F>, R>;
 /// Future of [`OnceCell::get_or_try_init`]. Its init gives the value or an error.
 pub type TryInitFuture<'a, T, E, F, R> = Initializing<'a, T, InitError<E>, Pollable<F>, R>;
 
-/// Future of a cell. `X` says why there is no value: [`Refused`], or an [`InitError`] where the init may fail.
+/// Future of a cell. `X` says why there is no value: [`Refused`], or an [`InitError`] if the init may fail.
 ///
 /// A poll answers the value that is set. While the cell is empty, the task that gets the right polls
 /// its init, and the others are Pending until they are woken. The value wakes all of them. An error, or
@@ -342,7 +342,7 @@ impl<'a, T: Drop, X: Failure, I: Init<T, X>, R: Wait + AllocGlobal> Initializing
     /// Polls the future once.
     ///
     /// It answers the value that is set, the error that its own init gave, or a refusal: `Memory`
-    /// where memory to wait was refused, `Full` where as many tasks are counted in as may be. After any of
+    /// if memory to wait was refused, `Full` if as many tasks are counted in as may be. After any of
     /// these it is finished. After an error or a refusal the cell is as if the future had been dropped.
     ///
     /// A poll that is Pending has registered its task somewhere, or asked for another poll. The newest entry of the

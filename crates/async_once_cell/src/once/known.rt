@@ -68,7 +68,7 @@ impl<'a, T> Known<'a, T> {
         }
     }
 
-    // The value of the cell, where the token knows it or the cell shows it.
+    // The value of the cell, if the token knows it or the cell shows it.
     pub(super) fn learn(&mut self, cell: &'a OnceCell<T>) -> Option<&'a T>
         requires token_of_this_cell { self.old.cell ≡ cell.now }
         ensures cell { self.new.cell ≡ self.old.cell }
@@ -90,7 +90,7 @@ impl<'a, T> Known<'a, T> {
         }
     }
 
-    // The cell, its value where the token knows it, and what shows it.
+    // The cell, its value if the token knows it, and what shows it.
     pub(super) fn shown(&self) -> Option<(&'a OnceCell<T>, &'a T, Option<Written<T>>)>
         ensures { MatchOption result (self.now.value ≡ None)
             (λ r. (r.0.now ≡ self.now.cell) × (self.now.value ≡ Some r.1.now) × Shows r.0.now r.1.now r.2) }
@@ -105,7 +105,7 @@ impl<'a, T> Known<'a, T> {
         }
     }
 
-    // The value, where the token knows it.
+    // The value, if the token knows it.
     fn known(&self) -> Option<&T> {
         let cell = self.cell;
         match (&cell.value, &self.seen) {
@@ -148,7 +148,7 @@ impl<'a, T> Known<'a, T> {
         self.seen.learn_from(found);
     }
 
-    /// Takes over what another token of the cell has seen: its record, and its value where this one knows
+    /// Takes over what another token of the cell has seen: its record, and its value if this one knows
     /// none. It waits for nobody.
     ///
     /// Here `other` knows the value, and so `token` does then:
@@ -270,7 +270,7 @@ impl<T> Seen<T> {
     }
 }
 
-// Adds to a record what another one of its cell has. Where the cell is set in one of the two, it is set in what
+// Adds to a record what another one of its cell has. If the cell is set in one of the two, it is set in what
 // comes of them.
 fn take_over(own: &mut Record, seen: &Record)
     requires book { seen.now.book ≡ own.old.book }
@@ -287,7 +287,7 @@ fn take_over(own: &mut Record, seen: &Record)
 }
 
 impl<T> OnceCell<T> {
-    // The value, where this shows it or the cell does.
+    // The value, if this shows it or the cell does.
     fn look(&self, seen: &mut Seen<T>) -> Option<&T>
         requires { IsOf self.now seen.old }
         ensures of { IsOf self.now seen.new }
@@ -319,7 +319,7 @@ impl<T> OnceCell<T> {
     }
 }
 
-/// `Known(Some(V))` where the token knows the value, and `Known(None)` where it knows nothing.
+/// `Known(Some(V))` if the token knows the value, and `Known(None)` if it knows nothing.
 impl<T: fmt::Debug> fmt::Debug for Known<'_, T> {
     fn fmt<W: fmt::Write>(&self, f: &mut fmt::Formatter<W>) -> fmt::Result {
         let Some(value) = self.known() else {

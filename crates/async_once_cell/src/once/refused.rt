@@ -97,7 +97,7 @@ impl<E: fmt::Display> fmt::Display for InitError<E> {
 
 impl<E: fmt::Debug + fmt::Display + Drop> Error for InitError<E> {}
 
-/// Lets `future.wait()??` stand where the error is an `io::Error`. Its kind is `OutOfMemory` for
+/// Lets `future.wait()??` stand in a function whose error is an `io::Error`. Its kind is `OutOfMemory` for
 /// [`Refused::Memory`], and `Other` for [`Refused::Full`].
 impl From<Refused> for io::Error {
     ghost use Rattle.std.specs.IoError.{error_kind};
@@ -126,7 +126,7 @@ impl<E> From<Refused> for InitError<E> {
     }
 }
 
-/// Why a poll ended without a value, as a future tells it: [`Refused`], or an [`InitError`] where the init may fail.
+/// Why a poll ended without a value, as a future tells it: [`Refused`], or an [`InitError`] if the init may fail.
 pub trait Failure: Drop {
     // How the poll ended.
     ghost ending: { Self → Ending };
@@ -164,7 +164,7 @@ impl<E: Drop> Failure for InitError<E> {
 
 /// What an init gives: the value, or a result with the value or an error.
 pub trait Gives<T, X: Failure> {
-    // What the init gave, where a poll tells this error of its own init.
+    // What the init gave, if a poll tells this error of its own init.
     ghost given_as: { X → Option Self };
 
     /// The value, or the error as a future tells it.

@@ -15,8 +15,8 @@ use std::sync::Wait;
 
 impl<'a, T: Drop, X: Failure, I: Init<T, X>, R: Wait + AllocGlobal> Initializing<'a, T, X, I, R> {
     /// Polls the future on this thread until it answers. The thread sleeps while it has to wait: for its
-    /// own init, or for the task that holds. So the call never returns if neither is driven on, as where this
-    /// thread itself keeps another future of the cell, which holds.
+    /// own init, or for the task that holds. So the call never returns if neither is driven on, for example
+    /// because this thread itself keeps another future of the cell, which holds.
     ///
     /// The answer is that of the last poll. `io::Error` says that the thread could not be made ready to
     /// wait, since memory or random bytes were refused. Then the future was dropped, as it is after an

@@ -18,7 +18,7 @@ use denote.Memory.{lone}
 use mathlib.Core.Bool.{Bool}
 use Prim.Native.Nat.{◌+◌}
 use mathlib.Core.List.{[]}
-use base.Fml.{fex, fsep, fat, fbor, ftrue}
+use base.Fml.{fex, fsep, fat, fbor}
 use denote.Sharing.{beside, some, ends, always, nothing, one}
 use base.Fml.{fleft}
 use mir.Raw.{raw, raws}

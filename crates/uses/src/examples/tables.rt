@@ -1,5 +1,5 @@
 //! A table of values that are fetched once.
-ghost use Rattle.std.specs.Prelude.{◌≡◌, IsSome};
+ghost use Rattle.std.specs.Prelude.{IsSome};
 ghost use Rattle.memo_table.specs.Memo.{cell_of};
 
 use super::print;

@@ -1,5 +1,5 @@
 -- The law speaks of the newest entry of a run, and what a run began with is one.
-use Rattle.std.proofs.Common.{◌≡◌, List, subst}
+use Rattle.std.proofs.Common.{subst}
 use Rattle.async_once_cell.specs.Record.{Once}
 use Rattle.async_once_cell.specs.Run.{IsRun}
 use Rattle.async_once_cell.specs.Kept.{most}

@@ -1,7 +1,5 @@
 -- Were it the other way round, the cell would be set in what was seen before it was set.
-use Rattle.std.proofs.Common.{◌≡◌, ◌⊎◌, inl, inr}
-use mathlib.Core.List.{IsPrefix}
-use Rattle.async_once_cell.specs.Record.{Entry}
+use Rattle.std.proofs.Common.{◌⊎◌, inl, inr}
 use Rattle.uses.proofs.told.told_before.Goals as goal
 
 -- of two, the one that can be
