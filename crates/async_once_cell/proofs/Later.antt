@@ -1,6 +1,6 @@
 -- A poll that came after what was learned came after what was seen before that.
-use Rattle.std.proofs.Common.{◌≡◌, ℕ, List, [], ◌∷◌, ◌++◌, ap, ◌∙◌, subst}
-use mathlib.Core.List.{IsPrefix}
+use Rattle.std.proofs.Common.{◌≡◌, ℕ, List, [], ◌∷◌, ◌++◌, ap, ◌∙◌, refl, subst}
+use mathlib.Core.List.{IsPrefix, cons-ne-nil}
 use Rattle.futures.specs.declared.task.context.Context.{Context}
 use Rattle.once_world.specs.Record.{Begin, Entry}
 use Rattle.once_book.specs.Kept.{entries_of}
@@ -10,10 +10,15 @@ use Rattle.once_book.proofs.Desks.{prefix_on}
 use Rattle.async_once_cell.specs.Polls.{CallIn, DidPoll, Ends, SpansIn}
 use Rattle.async_once_cell.specs.Views.{CellView, FutureView, Owned, Shared}
 
+-- what begins nothing is nothing
+nil_before : (old rest : List Entry) → old ++ rest ≡ [] → old ≡ []
+nil_before [] rest none = refl
+nil_before (e ∷ old) rest none = absurd (cons-ne-nil e (old ++ rest) none)
+
 module _ {T : Type 0} where
   -- an end is the newest entry since longer ago
   ends_later : (c : CellView T) (e : Entry) (old mid new : List Entry) → IsPrefix old mid → Ends c e mid new → Ends c e old new
-  ends_later (Owned x) e old mid new p g = g
+  ends_later (Owned x) e old mid new p g = (nil_before old p.0 (p.1 ∙ g.0), g.1)
   ends_later (Shared s) e old mid new p g = (g.0, prefix_on old mid g.0 p g.1, g.2)
 
   -- and the call began since then

@@ -41,7 +41,7 @@ is_over _ = true
 -- the record grew, and its newest entry is the end of this call of the task.
 -- A cell that has its owner's value has no record
 abbrev pub Ends : {T : Type 0} → CellView T → Entry → List Entry → List Entry → Type 0
-Ends (Owned x) e old new = new ≡ []
+Ends (Owned x) e old new = (old ≡ []) × (new ≡ [])
 Ends (Shared s) e old new = Grew (e ∷ []) old new
 
 -- this poll of the task t began after all that was seen before, and this entry, with which it ended, is the newest

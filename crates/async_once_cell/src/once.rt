@@ -42,7 +42,7 @@ use value::Value;
 ///
 /// The contracts say that a cell made with a value lends that value and gives it back, until its owner
 /// asks for it to write it. Any other cell has a record of all that tasks do with it. Each of its futures
-/// and tokens has seen a beginning of the record, see [`TryInitFuture`] and [`Known`].
+/// and tokens has seen a beginning of the record, see [`Initializing`] and [`Known`].
 ///
 /// Memory is taken only when tasks meet: for the queue of those who wait, and for the place of each in it.
 ///
@@ -141,7 +141,7 @@ impl<T> OnceCell<T> {
 
     /// A future of the value: the one that is set, or the one that `init` gives.
     ///
-    /// Nothing happens before the first poll, see [`InitFuture`].
+    /// Nothing happens before the first poll, see [`Initializing`].
     ///
     /// ```
     /// let (cell, task) = (OnceCell::new(), MockTask::new(rt)?);

@@ -1,5 +1,5 @@
 -- A hand is right whatever its task learns, and no hand has two pens of one page, so two hands of one book are of two tasks.
-use Rattle.std.proofs.Common.{◌≡◌, ℕ, suc, Some, List, [], ◌∷◌, ◌++◌, take, drop, slice_get, refl, sym, ap, ◌∙◌, subst}
+use Rattle.std.proofs.Common.{◌≡◌, ℕ, suc, Some, List, [], ◌∷◌, ◌++◌, slice_get, refl, sym, ap, ◌∙◌, subst}
 use Rattle.std.proofs.lemmas.List.{append-nil}
 use Rattle.pagebook.specs.Pages.{Held, Notes}
 use Rattle.once_world.specs.Record.{Entry}
@@ -60,11 +60,3 @@ pub apart_notes : (one other seen : List Entry) (h k : Held Sheet) → IsHand on
 apart_notes one other seen h k is its =
     subst (λ (g : Held Sheet). Notes IsKept (seen, g) (AreTwo (seen, g))) (λ i. sym is i ++ sym its i)
     (two_notes one other seen (number_in h) (number_in k) (task_in h) (task_in k))
-
--- the first of both
-pub first_is : (log : List Entry) (h k : Held Sheet) → IsHand log h → take 1 (h ++ k) ≡ h
-first_is log h k is = subst (λ (g : Held Sheet). take 1 (g ++ k) ≡ g) (sym is) refl
-
--- and the other
-pub other_is : (log : List Entry) (h k : Held Sheet) → IsHand log h → drop 1 (h ++ k) ≡ k
-other_is log h k is = subst (λ (g : Held Sheet). drop 1 (g ++ k) ≡ k) (sym is) refl

@@ -6,7 +6,7 @@ use Rattle.once_queue.specs.Word.{flags_of}
 use Rattle.once_world.specs.Record.{Begin, DropBegin, End, Entry, Fill, Look, Once, Ran}
 use Rattle.once_world.specs.declared.record.Reply.TheVariants.{Value}
 use Rattle.once_world.specs.Cell.{cell, is_set}
-use Rattle.once_book.specs.Kept.{Sheet}
+use Rattle.once_book.specs.Kept.{Sheet, entries_of}
 
 -- a Fill stands in it: the value was set
 abbrev pub WasFilled : List Entry → Type 0
@@ -29,6 +29,10 @@ AreOnce ran (Begin t w ∷ es) = AreOnce false es
 AreOnce ran (DropBegin t ∷ es) = AreOnce false es
 AreOnce ran (Ran t a ∷ es) = (ran ≡ false) × AreOnce true es
 AreOnce ran (_ ∷ es) = AreOnce ran es
+
+-- each task polled its init once at most in each of its calls
+abbrev pub PollsOnce : List Entry → Type 0
+PollsOnce log = (t : ℕ) → AreOnce false (entries_of t log)
 
 -- a look that came after all that was seen, and found the value exactly where the cell was set then
 abbrev pub Looked : Bool → List Entry → List Entry → Type 0

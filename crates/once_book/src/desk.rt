@@ -120,7 +120,8 @@ impl<W: TaskWaker + Drop> Desk<W> {
         self.lists.take()
     }
 
-    /// Claims the right where it is free, else says whether the own listing is there and was not called.
+    /// Claims the right if it is free, else says whether the own listing is there and was not called. Beside the answer
+    /// stands the waker that a claim took out of the list.
     #[inline(always)]
     pub fn look(
         &mut self,
@@ -146,7 +147,8 @@ impl<W: TaskWaker + Drop> Desk<W> {
         lists.look_own(ticket, found)
     }
 
-    /// Claims the right where it is free, else lists this waker, which is the task's.
+    /// Claims the right if it is free, else lists this waker, which is the task's. Beside the answer stands the waker
+    /// that a claim took out of the list.
     #[inline(always)]
     pub fn list(
         &mut self,
@@ -223,7 +225,8 @@ impl<W: TaskWaker + Drop> Desk<W> {
         lists.release(ready)
     }
 
-    /// Takes the listing with this ticket out. Where it was called and nobody holds, calls the next.
+    /// Takes the listing with this ticket out. If it was called and nobody holds, calls the next. Beside the waker that
+    /// is called stands the one that the own listing had.
     // With this one inlined too, a section is so large that the kit inlines none.
     #[inline(never)]
     pub fn leave(&mut self, word: &CellWord, hand: &mut Hand, ticket: u64) -> (Option<W>, Option<W>)

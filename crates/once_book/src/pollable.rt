@@ -1,4 +1,4 @@
-//! An init in a box that only a task with the right can open to poll it.
+//! An init in a box. Code over any type of init can poll it there alone, by a task that has the right.
 ghost use Rattle.std.specs.Prelude.{◌≡◌, IfErr, IsSome, Option, Some};
 ghost use Rattle.futures.specs.Poll.{IfReady, OnPending};
 ghost use Rattle.futures.specs.Task.{IsArmed, Keeps};

@@ -1,11 +1,11 @@
 //! What is known of a record that was seen.
-ghost use Rattle.std.specs.Prelude.{ℕ, false, reverse};
+ghost use Rattle.std.specs.Prelude.{ℕ, reverse};
 ghost use mathlib.Core.List.{IsPrefix};
 ghost use Rattle.once_world.specs.Record.{Once};
 ghost use Rattle.once_world.specs.Run.{AtEvery, IsRun};
 ghost use Rattle.once_world.specs.Called.{SomebodyCalled};
-ghost use Rattle.once_book.specs.Kept.{entries_of, most};
-ghost use Rattle.once_book.specs.Record.{AreOnce, EndsSet, IsSet, WasFilled};
+ghost use Rattle.once_book.specs.Kept.{most};
+ghost use Rattle.once_book.specs.Record.{EndsSet, IsSet, PollsOnce, WasFilled};
 
 use crate::book::Record;
 
@@ -23,7 +23,7 @@ pub fn is_run(seen: &Record)
 /// Shows that in what was seen of a record each task polls its init once at most in each call. It does nothing.
 #[inline(always)]
 pub fn polls_once(seen: &Record)
-    ensures { (t : ℕ) → AreOnce false (entries_of t seen.now.log) }
+    ensures { PollsOnce seen.now.log }
 {
     seen.again().learn(seen);
 }

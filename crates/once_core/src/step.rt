@@ -21,7 +21,7 @@ use std::mem;
 /// What one poll of an init answered. The side keeps the value or the error.
 #[derive(Clone, Copy, Debug, PartialEq, Eq)]
 pub enum Polled {
-    /// There is no answer yet: the init is Pending, or it was dropped before.
+    /// There is no answer yet: the init is Pending.
     Pending,
     /// The init gave a value.
     Value,

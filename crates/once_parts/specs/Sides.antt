@@ -14,7 +14,7 @@ pub record Sided : Type 0 where
   pub has_error : Bool  -- whether it has an error that the init gave
   pub woke : List ℕ  -- the tasks whose wakers were handed to it in this call
 
--- the side told of a poll of its init: a value or an error that it told is there. Of Pending nothing is said
+-- the side told of a poll of its init: a value or an error that it told is there
 pub record HasRun (x : Sided) (a : Polled) (y : Sided) : Type 0 where
   pub number : y.number ≡ x.number  -- the task is the same
   pub woke : y.woke ≡ x.woke  -- nobody was handed out

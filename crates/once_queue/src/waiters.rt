@@ -128,7 +128,7 @@ pub enum Answer<W> {
 /// No ticket stands in the list twice. On average over many calls, a look, a listing, a leave and a
 /// release without the value take the same time however many are listed. But where two wakers may be
 /// the same, the waker of a new listing is compared with each. A release with the value takes time in
-/// proportion to the listings. But where two listed wakers are the same, each is compared with all
+/// proportion to the listings. But if two listed wakers may be the same, each is compared with all
 /// before it.
 ///
 /// There is memory for four listings from the first one on, and for four times as many as were ever listed
@@ -138,8 +138,8 @@ pub struct Lists<W: WakerId> {
     /// The flag: whether a task holds that claimed under the lock.
     pub head: bool,
     slots: Slots<W>,
-    // Whether some waker was told to be the same as one listed before it, since the value was last
-    // released.
+    // Whether, since the value was last released, some waker was told to be the same as one listed before it, or was
+    // renewed, and so compared with none.
     mixed: bool,
     // Else each two wakers were told to be other.
     ghost apart: { mixed ≡ false → ∥ AllPairs (AreApart W.tells_other) (listings_in slots) ∥₁ },
@@ -427,8 +427,8 @@ impl<W: WakerId + Drop> Lists<W> {
         }
     }
 
-    /// Lets the waker of the listing with this ticket be renewed. The answer says whether there is one: it is
-    /// not where the listing was called.
+    /// Lets the waker of the listing with this ticket be renewed. The answer says whether there is one: there is none
+    /// if the listing was called.
     #[inline(always)]
     pub fn renew<N: Renews<W>>(&mut self, ticket: u64, by: &mut N) -> bool
         ensures renewed { result ≡ true
@@ -437,7 +437,7 @@ impl<W: WakerId + Drop> Lists<W> {
         ensures head { self.new.head ≡ self.old.head }
         ensures memory { capacity_of self.new ≡ capacity_of self.old }
     {
-        // Where wakers may be the same, nobody has compared the new one.
+        // If wakers may be the same, nobody has compared the new one.
         self.mixed |= !W::are_all_other();
         self.slots.renew(ticket, by)
     }

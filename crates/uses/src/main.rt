@@ -1,7 +1,7 @@
 //! What such cells are for: what a Rust programmer writes with `async`, the examples of doc comments, settings that
 //! are read once, a connection, a graph of values, a pool of tasks, a table, settings that threads load anew, a cell
 //! that threads own together, many threads, tasks that give up, and a value whose type has a fact. Besides, what a
-//! caller can say of order, whose error it is told, and what the owner of a cell gets.
+//! caller can say of order, whose error it is told, and what the owner of a cell gets, also of a lazy one.
 #![tactic(auto)]
 
 mod ask;
@@ -13,6 +13,7 @@ mod fault;
 mod from_rust;
 mod giving_up;
 mod graph;
+mod lazy;
 mod many_threads;
 mod order;
 mod owned_together;
@@ -54,7 +55,8 @@ where
     by_type::show(rt, output)?;
     order::show(rt, output)?;
     errors::show(rt, output)?;
-    owner::show(rt, output)
+    owner::show(rt, output)?;
+    lazy::show(rt, output)
 }
 
 fn main(rt: HostRuntime) -> ExitCode {

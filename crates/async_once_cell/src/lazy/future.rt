@@ -9,7 +9,7 @@ ghost use Rattle.async_once_cell.specs.Polls.{SpansIn, Waits, ending_by, ending_
 ghost use Rattle.async_once_cell.specs.Tokens.{IsSetIn};
 ghost use Rattle.async_once_cell.specs.Views.{is_shared};
 ghost use Rattle.once_book.specs.Kept.{entries_of, most};
-ghost use Rattle.once_book.specs.Record.{IsSet, WasFilled};
+ghost use Rattle.once_book.specs.Record.{IsSet, PollsOnce, WasFilled};
 ghost use Rattle.once_parts.specs.Walks.{end_of};
 ghost use Rattle.once_world.specs.Called.{SomebodyCalled};
 ghost use Rattle.once_world.specs.Record.{Once};
@@ -32,8 +32,8 @@ use std::{fmt, io};
 /// cell's future; the others are Pending until they are woken. To drop one of these leaves the
 /// cell's future as it is, and another task drives it on.
 ///
-/// It has the calls of [`Initializing`], where their examples are. What a poll or a drop may wait for is said there
-/// too. Besides, a poll may wait for the lock in which the cell keeps its future. Nobody has that lock while the
+/// It has the calls of [`Initializing`], where most of them have an example. What a poll or a drop may wait for is said
+/// there too. Besides, a poll may wait for the lock in which the cell keeps its future. Nobody has that lock while the
 /// future is polled.
 #[derive(Drop)]
 pub struct LazyFuturePin<'a, T, F: Future, R: Wait + AllocGlobal> {
@@ -86,6 +86,7 @@ impl<'a, T, F: Future, R: Wait + AllocGlobal> LazyFuturePin<'a, T, F, R> {
         ensures filled { is_shared self.now.cell ≡ true → IsSet self.now.log → WasFilled self.now.log }
         ensures nobody_forgotten { is_shared self.now.cell ≡ true
             → AtEvery (NobodyForgotten Once) (reverse self.now.log) }
+        ensures once { is_shared self.now.cell ≡ true → PollsOnce self.now.log }
     {
         self.inner.is_run();
     }
@@ -163,6 +164,7 @@ impl<'a, T: Drop, F: Future<Output = T>, R: Wait + AllocGlobal> LazyFuturePin<'a
             → SpansIn self.old.cell self.old.task (end_of self.old.task (ending_by ending_of_refusal result))
             token.old.log self.new.log }
         ensures late { IsSetIn token.old.cell token.old.log → IsValue result }
+        ensures future_late { IsSetIn self.old.cell self.old.log → IsValue result }
     {
         self.inner.poll_as(cx, token)
     }

@@ -16,7 +16,7 @@ ghost use Rattle.once_world.specs.Run.{AtEvery, IsRun, NobodyForgotten};
 ghost use Rattle.once_world.specs.Called.{SomebodyCalled};
 ghost use Rattle.once_book.specs.Kept.{entries_of, most};
 ghost use Rattle.once_parts.specs.Walks.{end_of};
-ghost use Rattle.once_book.specs.Record.{IsSet, WasFilled};
+ghost use Rattle.once_book.specs.Record.{IsSet, PollsOnce, WasFilled};
 
 use super::known::Seen;
 use super::value::Value;
@@ -25,7 +25,7 @@ use crate::init::Init;
 use crate::waiting::Waiting;
 use futures::Future;
 use futures::task::{Context, Poll};
-use once_book::record::is_run;
+use once_book::record::{is_run, polls_once};
 use once_book::{Pollable, Record};
 use std::alloc::AllocGlobal;
 use std::fmt;
@@ -62,9 +62,9 @@ pub type TryInitFuture<'a, T, E, F, R> = Initializing<'a, T, InitError<E>, Polla
 /// A poll or a drop may wait for the locks of the cell. None of them is held while an init is polled or
 /// dropped. A poll may take memory while another task holds or is in a call.
 ///
-/// A clause sees the future's cell, the number of its task, the cell's record as far as the task has seen it,
-/// and whether the future is finished. [`Initializing::is_run`] says of the record that it is a run of the cell,
-/// and that somebody was called wherever somebody had to be.
+/// A clause sees the future's cell, its init if that is there still, the number of its task, the cell's record as far
+/// as the task has seen it, and whether the future is finished. [`Initializing::is_run`] says of the record that it is
+/// a run of the cell, and that somebody was called wherever somebody had to be.
 pub struct Initializing<'a, T, X, I: Drop, R: Wait + AllocGlobal> {
     failure: PhantomData<X>,
     cell: &'a OnceCell<T>,
@@ -137,7 +137,7 @@ impl<'a, T, X, I: Drop, R: Wait + AllocGlobal> Initializing<'a, T, X, I, R> {
 
     /// Shows that the record of a cell that tasks share is a run of the cell, and that at each of its beginnings
     /// somebody was called if somebody had to be. If the cell is set in it, it has a Fill, and nobody who waits is
-    /// forgotten. It does nothing else.
+    /// forgotten. Each task polls its init once at most in each of its calls. It does nothing else.
     ///
     /// It waits for nobody. But the kit counts each function of a type with a bound `Wait` among those that may wait,
     /// and asks no proof that they return. So what the clauses say holds if it returns.
@@ -147,9 +147,11 @@ impl<'a, T, X, I: Drop, R: Wait + AllocGlobal> Initializing<'a, T, X, I, R> {
         ensures filled { is_shared self.now.cell ≡ true → IsSet self.now.log → WasFilled self.now.log }
         ensures nobody_forgotten { is_shared self.now.cell ≡ true
             → AtEvery (NobodyForgotten Once) (reverse self.now.log) }
+        ensures once { is_shared self.now.cell ≡ true → PollsOnce self.now.log }
     {
         if let Some(record) = self.asked.record() {
             is_run(&record);
+            polls_once(&record);
         }
     }
 
@@ -330,6 +332,7 @@ impl<'a, T: Drop, X: Failure, I: Init<T, X>, R: Wait + AllocGlobal> Initializing
         ensures spans { SpansIn self.old.cell self.old.task (end_of self.old.task (ending_by X.ending result))
             token.now.log self.new.log }
         ensures late { IsSetIn token.now.cell token.now.log → IsValue result }
+        ensures future_late { IsSetIn self.old.cell self.old.log → IsValue result }
         ensures own { IfReady result (TellsOwn I.may_fail X.ending self.old.init) }
         ensures same { FailsNoOther I.may_fail self.old.init self.new.init }
         ensures found { IfReady result (λ a. IfOk a (λ r.
@@ -411,6 +414,7 @@ impl<'a, T: Drop, X: Failure, I: Init<T, X>, R: Wait + AllocGlobal> Initializing
             → SpansIn self.old.cell self.old.task (end_of self.old.task (ending_by X.ending result))
             token.old.log self.new.log }
         ensures late { IsSetIn token.old.cell token.old.log → IsValue result }
+        ensures future_late { IsSetIn self.old.cell self.old.log → IsValue result }
         ensures own { IfReady result (TellsOwn I.may_fail X.ending self.old.init) }
         ensures same { result ≡ Poll.Pending → FailsNoOther I.may_fail self.old.init self.new.init }
     {

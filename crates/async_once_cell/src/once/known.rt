@@ -6,14 +6,14 @@ ghost use Rattle.once_world.specs.Record.{Once};
 ghost use Rattle.once_world.specs.Run.{AtEvery, IsRun, NobodyForgotten};
 ghost use Rattle.once_world.specs.Called.{SomebodyCalled};
 ghost use Rattle.once_book.specs.Kept.{most};
-ghost use Rattle.once_book.specs.Record.{IsSet, WasFilled};
+ghost use Rattle.once_book.specs.Record.{IsSet, PollsOnce, WasFilled};
 ghost use Rattle.async_once_cell.specs.Views.{CellView, IsBookOf, IsOf, Shows, is_shared, known_of, log_of};
 ghost use Rattle.async_once_cell.specs.Tokens.{IsSetIn, Learns, Lends, Looks};
 
 use super::OnceCell;
 use super::value::Value;
 use once_book::Record;
-use once_book::record::{is_run, stays_set};
+use once_book::record::{is_run, polls_once, stays_set};
 use pagebook::Written;
 use std::fmt;
 use std::marker::Model;
@@ -169,7 +169,8 @@ impl<'a, T> Known<'a, T> {
 
     /// It does nothing. Its contract is about the record of a cell that tasks share. The record is a run of
     /// the cell, and at each of its beginnings somebody was called if somebody had to be. If the cell is set
-    /// in it, it has a Fill, and nobody who waits is forgotten.
+    /// in it, it has a Fill, and nobody who waits is forgotten. Each task polls its init once at most in each of its
+    /// calls.
     ///
     /// ```
     /// token.is_run();
@@ -181,9 +182,11 @@ impl<'a, T> Known<'a, T> {
         ensures filled { is_shared self.now.cell ≡ true → IsSet self.now.log → WasFilled self.now.log }
         ensures nobody_forgotten { is_shared self.now.cell ≡ true
             → AtEvery (NobodyForgotten Once) (reverse self.now.log) }
+        ensures once { is_shared self.now.cell ≡ true → PollsOnce self.now.log }
     {
         if let Seen::Shared(record, _) = &self.seen {
             is_run(record);
+            polls_once(record);
         }
     }
 

@@ -97,11 +97,6 @@ module _ (seen log : List Entry) where
   state_stays k slot ys h ss a (inr (inl s)) = inr (inl s)
   state_stays k slot ys h ss a (inr (inr s)) = inr (inr (s.0, s.1, s.2, s.3, s.4, s.5, writer_stays ys h ss (suc (suc s.2)) s.5 s.3 a s.6, s.7))
 
--- a hand lacks a page where its sheets do
-apart_sheets : (seen : List Entry) (h : Held Page) (k : ℕ) → Apart k (sheets seen h) → Apart k h
-apart_sheets seen [] k a = tt
-apart_sheets seen (e ∷ h) k a = (a.0, apart_sheets seen h k a.1)
-
 module _ (seen log es : List Entry) where
   -- what the task of this page added is told by the log now and by what was seen
   abbrev longer : List Entry

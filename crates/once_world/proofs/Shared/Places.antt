@@ -10,7 +10,7 @@ use Rattle.once_world.specs.Cell.{cell}
 use Rattle.once_world.specs.Book.{IsUnnamed, has_written, has_written_at}
 use Rattle.once_world.specs.Machine.{AtAddOne, AtCountIn, AtCountOut, AtDoorAgain, AtDoorGet, AtDoorPut, AtDoorTake, AtFast, AtLeave, AtList, AtLook, AtPut}
 use Rattle.once_world.specs.Machine.{AtRelease, AtRun, AtStart, AtTryQuick, AtWaitLoad, EndError, EndMemory, EndValue, Ending, Outcome, Place, SharedState}
-use Rattle.once_world.specs.Machine.{again_step, door_step, fast_step, in_step, is_at_door, is_passing, is_value, kept_after, leave_place, leave_step}
+use Rattle.once_world.specs.Machine.{again_step, door_step, fast_step, in_step, is_at_door, is_passing, is_value, leave_place, leave_step}
 use Rattle.once_world.specs.Machine.{list_step, load_step, look_step, out_shared, out_step, place_step, put_step, put_value, seen_by, quick_step, release_flags}
 use Rattle.once_world.specs.Machine.{release_list, release_place, release_step, run_shared, run_step, start_step, take_shared, word_of}
 use Rattle.once_world.proofs.History.Cells.{holder_unset, none_some}
@@ -36,12 +36,6 @@ unnamed_put : (k : Answer) (v : ℕ) → IsUnnamed k → v ≡ 0 → put_value k
 unnamed_put RanPending v n z = z
 unnamed_put (RanValue u) v n z = n
 unnamed_put (RanError e) v n z = z
-
--- nor has what is kept once the init answered
-unnamed_after : (a k : Answer) → IsUnnamed a → IsUnnamed k → IsUnnamed (kept_after a k)
-unnamed_after RanPending k m n = n
-unnamed_after (RanValue v) k m n = m
-unnamed_after (RanError e) k m n = tt
 
 -- who leaves did not write the slot
 pub leave_unwritten : (q : ℕ) (n : Option ℕ) (e : Ending) → has_written_at (leave_place q n e) ≡ false
