@@ -166,7 +166,7 @@ impl Parts<u64> for Alone {
         true
     }
 
-    fn count_in(&mut self, _limit: u64) -> Counted {
+    fn count_in(&mut self) -> Counted {
         Counted::Full
     }
 
@@ -216,7 +216,7 @@ fn poll(step: &mut Step<u64, u64>, side: &mut Counting) -> Steps {
         if step.left() == 0 {
             break;
         }
-        let progress = step.advance(&mut Alone, side, 8);
+        let progress = step.advance(&mut Alone, side);
         *place = Some((progress, step.left()));
     }
     steps
@@ -362,7 +362,7 @@ fn a_core_is_claimed_and_has_a_queue_put(rt: HostRuntime) {
 // Two claims, and a queue is put without memory and with it: the word before, the claims, what stood
 // at the door before and after, and the queues.
 fn claimed_twice(alloc: Global) -> (u64, [bool; 2], [Option<u64>; 2], [Option<u64>; 2]) {
-    let mut core = Core::new(alloc, false);
+    let mut core = Core::new(alloc, false, 8);
     let word = core.load();
     let claims = [core.quick(), core.quick()];
     let found = core.door_get();
@@ -372,7 +372,7 @@ fn claimed_twice(alloc: Global) -> (u64, [bool; 2], [Option<u64>; 2], [Option<u6
 
 #[test]
 fn a_core_is_looked_at(rt: HostRuntime) {
-    let mut core = Core::new(rt.alloc(), false);
+    let mut core = Core::new(rt.alloc(), false, 8);
     let won = core.quick();
     let queue = put(&mut core, true);
     core.set_waker(7);
@@ -391,9 +391,9 @@ fn a_core_counts_beyond_the_limit_and_out(rt: HostRuntime) {
 
 // A claim, two who count in, a fast release, one more who counts in, and two who count out.
 fn counted(alloc: Global) -> (bool, [Counted; 2], bool, [Option<u64>; 3]) {
-    let mut core = Core::new(alloc, false);
+    let mut core = Core::new(alloc, false, 1);
     let won = core.quick();
-    let counts = [core.count_in(1), core.count_in(1)];
+    let counts = [core.count_in(), core.count_in()];
     let is_freed = core.fast(true);
     let words = [
         add_one(&mut core),
@@ -443,7 +443,7 @@ fn released(
     (u64, Option<bool>, Option<u64>),
     Log,
 ) {
-    let mut core = Core::new(alloc, false);
+    let mut core = Core::new(alloc, false, 8);
     let begun = begin(&mut core);
     let called = release_all(&mut core);
     let left = (core.load(), take(&mut core), core.door_get());
@@ -467,7 +467,7 @@ fn a_core_calls_one_who_leaves(rt: HostRuntime) {
 // A failure, and the one whom it calls leaves: how it began, whether it called the waker 7, whether
 // the other called nobody, and how many are listed then.
 fn left(alloc: Global) -> (Begun, bool, bool, usize) {
-    let mut core = Core::new(alloc, false);
+    let mut core = Core::new(alloc, false, 8);
     let begun = begin(&mut core);
     let is_called = release(&mut core, 1, false) == Some(Answer::Released(Out::One(Some(7))));
     let is_left = leave(&mut core, 1) == Some(Answer::Left(None));
@@ -484,7 +484,7 @@ fn a_core_is_reset(rt: HostRuntime) {
 
 // A queue is put, and the core is reset: the queue, the word and the door then, and the log.
 fn reset(alloc: Global) -> (Option<u64>, Option<(u64, Option<u64>)>, Log) {
-    let mut core = Core::new(alloc, false);
+    let mut core = Core::new(alloc, false, 8);
     let queue = put(&mut core, true);
     let left = reset_to_ready(&mut core);
     (queue, left, log(core))

@@ -5,16 +5,15 @@ use Rattle.std.proofs.lemmas.Bool.Decides.{nat_tests}
 use prog.Atomic.{either}
 use Rattle.pagebook.specs.Pages.{Held, Moves, Notes, View}
 use Rattle.once_queue.specs.Word.{flags_of}
-use Rattle.once_core.specs.declared.parts.Counted.TheVariants.{In}
 use Rattle.once_core.specs.declared.step.Polled.{Polled}
 use Rattle.once_core.specs.declared.step.Polled.TheVariants.{Pending, Value, Error}
 use Rattle.once_queue.specs.Word.{is_ready_bit, is_zero}
-use Rattle.once_core.specs.Steps.{after_count_out, after_fast, after_in, after_load, after_quick, after_run, after_start, closing_end, is_resting, next_at, next_end, step_of_drop}
+use Rattle.once_core.specs.Steps.{after_count_out, after_fast, after_count_in, after_load, after_quick, after_run, after_start, closing_end, is_resting, next_at, next_end, step_of_drop}
 use Rattle.once_world.specs.Record.{Begin, Entry, Ran}
 use Rattle.once_world.specs.declared.record.Ran.TheVariants.{Pending as RanPending, Value as RanValue, Error as RanError}
 use Rattle.once_world.specs.Book.{TaskState, refused_step}
 use Rattle.once_world.specs.Machine.{AtAddOne, AtCountIn, AtCountOut, AtDoorPut, AtDoorTake, AtFast, AtList, AtRun, AtStart}
-use Rattle.once_world.specs.Machine.{AtDoorAgain, AtTryQuick, AtWaitLoad, EndMemory, Ending, Step, UnderWay, claim_entries, freed_entries, is_value, kept_after, next_in}
+use Rattle.once_world.specs.Machine.{AtDoorAgain, AtTryQuick, AtWaitLoad, EndMemory, Ending, Step, UnderWay, claim_entries, freed_entries, is_value, kept_after}
 use Rattle.once_book.specs.Kept.{Adds, Grew, IsKept, Leaves, Sheet, hand, most, sheets}
 use Rattle.once_book.proofs.Moments.Moves.Words.{add_moves, fast_moves, full_moves, full_page, full_told, in_moves, in_page}
 use Rattle.once_book.proofs.Moments.Moves.Words.{none_moves, none_page, none_told, out_moves, quick_moves, start_moves, wait_moves}
@@ -23,7 +22,7 @@ use Rattle.once_book.specs.declared.act.Act.TheVariants.{Load, Quick, Fast, AddO
 use Rattle.once_book.specs.Own.{IsHand, number_in, task_in, told}
 use Rattle.once_book.specs.Acts.{Goes, Makes, Stays, Tells, Turns}
 use Rattle.once_book.specs.Places.{CanAdd, CanCountIn, CanCountOut, CanFast, CanLoad, CanRefuse, CanRun, CanTake}
-use Rattle.once_book.specs.Places.{add_next, fast_next, in_next, load_next, out_next, refused_in, run_next, take_next, unnamed}
+use Rattle.once_book.specs.Places.{add_next, fast_next, in_next, load_next, out_next, run_next, take_next, unnamed}
 use Rattle.once_book.proofs.Moments.Mine.{claim_of, drop_of, freed_of, one_of, told_of}
 use Rattle.once_queue.proofs.Listing.Members.{eqb_self}
 use Rattle.once_book.proofs.Tells.{leaves_stays, leaves_turns, moves_tell, notes_tell}
@@ -34,7 +33,7 @@ module _ (seen : List Entry) (t : ℕ) (x : TaskState) where
   own = (seen, sheets seen (hand t x))
 
   -- a load
-  load_by : (s : Step ℕ ℕ) → x.step ≡ s → CanLoad s → Moves IsKept own 0 (λ n. n) (λ n w. Goes own [] (load_next n s) w)
+  load_by : (s : Step ℕ ℕ) → x.step ≡ s → CanLoad s → Moves IsKept own 0 (λ n. n) (λ n w. Goes own [] (load_next (flags_of n) s) w)
   load_by (UnderWay AtStart) at can = moves_tell IsKept own 0 (λ n. n) _ _ (λ n w r. leaves_turns seen t x _ _ w (told_of t x.kept (after_start (flags_of n).ready (is_zero (flags_of n))) [] tt) r.1) (start_moves seen t x at)
   load_by (UnderWay (AtWaitLoad q k)) at can = moves_tell IsKept own 0 (λ n. n) _ _ (λ n w r. leaves_turns seen t x _ _ w (told_of t x.kept (after_load (flags_of n).ready q k) [] tt) r.1) (wait_moves seen t x q k at)
   load_by _ at can = absurd can
@@ -61,41 +60,40 @@ module _ (seen : List Entry) (t : ℕ) (x : TaskState) where
   counted n l = omega (arith, l)
 
   -- the subtraction
-  out_by : (s : Step ℕ ℕ) → x.step ≡ s → CanCountOut s → Moves IsKept own 0 (λ n. (n + (2 ^ 64 - 1)) % 2 ^ 64) (λ n w. (0 < n) × Goes own [] (out_next (n - 1) s) w)
+  out_by : (s : Step ℕ ℕ) → x.step ≡ s → CanCountOut s → Moves IsKept own 0 (λ n. (n + (2 ^ 64 - 1)) % 2 ^ 64) (λ n w. (0 < n) × Goes own [] (out_next (flags_of (n - 1)) s) w)
   out_by (UnderWay (AtCountOut e)) at can =
       moves_tell IsKept own 0 (λ n. (n + (2 ^ 64 - 1)) % 2 ^ 64) _ _ (λ n w r. (counted n r.0, leaves_turns seen t x _ _ w (told_of t x.kept (after_count_out (is_ready_bit (flags_of (n - 1))) e) [] tt) r.1)) (out_moves seen t x e at)
   out_by _ at can = absurd can
 
   -- a load before an exchange, by whether there is room, and whether the value is set
   full_tells : (q n : ℕ) (b r : Bool) (w : View Entry Sheet) → (flags_of n).ready ≡ r → Leaves seen (hand t x) (full_page seen t x q n b) (full_told seen t x q n b) w
-      → cond b (Stays own w) (Goes own [] (in_next (refused_in r) (UnderWay (AtCountIn q))) w)
+      → cond b (Stays own w) (Goes own [] (in_next false r (UnderWay (AtCountIn q))) w)
   full_tells q n true r w e l = leaves_stays seen t x w l
-  full_tells q n false true w e l = subst (λ b. Goes own [] (next_in false b q) w) e (leaves_turns seen t x _ _ w (told_of t x.kept (next_in false (flags_of n).ready q) [] tt) l)
-  full_tells q n false false w e l = subst (λ b. Goes own [] (next_in false b q) w) e (leaves_turns seen t x _ _ w (told_of t x.kept (next_in false (flags_of n).ready q) [] tt) l)
+  full_tells q n false r w e l = subst (λ b. Goes own [] (after_count_in false b q) w) e (leaves_turns seen t x _ _ w (told_of t x.kept (after_count_in false (flags_of n).ready q) [] tt) l)
 
   -- that load
   full_by : (s : Step ℕ ℕ) → x.step ≡ s → CanCountIn s
-      → Moves IsKept own 0 (λ n. n) (λ n w. cond (nat_lt (flags_of n).count most) (Stays own w) (Goes own [] (in_next (refused_in (flags_of n).ready) s) w))
+      → Moves IsKept own 0 (λ n. n) (λ n w. cond (nat_lt (flags_of n).count most) (Stays own w) (Goes own [] (in_next false (flags_of n).ready s) w))
   full_by (UnderWay (AtCountIn q)) at can = moves_tell IsKept own 0 (λ n. n) _ _ (λ n w r. full_tells q n (nat_lt (flags_of n).count most) (flags_of n).ready w refl r.1) (full_moves seen t x q at)
   full_by _ at can = absurd can
 
   -- who counts itself in records nothing
-  in_told : (r : Bool) (q : ℕ) → told t x.kept (after_in r q) [] ≡ []
+  in_told : (r : Bool) (q : ℕ) → told t x.kept (after_count_in true r q) [] ≡ []
   in_told true q = refl
   in_told false q = refl
 
   -- an exchange, by whether it was done
   enter_tells : (q m : ℕ) (b : Bool) (w : View Entry Sheet) → Leaves seen (hand t x) (in_page seen t x q m b) [] w
-      → cond b (Goes own [] (in_next (In m) (UnderWay (AtCountIn q))) w) (Stays own w)
+      → cond b (Goes own [] (in_next true (flags_of m).ready (UnderWay (AtCountIn q))) w) (Stays own w)
   enter_tells q m true w l =
       let none = sym (in_told (flags_of m).ready q) in
-      leaves_turns seen t x _ _ w (told_of t x.kept (after_in (flags_of m).ready q) [] tt)
+      leaves_turns seen t x _ _ w (told_of t x.kept (after_count_in true (flags_of m).ready q) [] tt)
       (l.0, subst (λ es. Grew es seen w.0) none l.1, subst (λ es. Adds seen (hand t x) es w.0) none l.2)
   enter_tells q m false w l = leaves_stays seen t x w l
 
   -- that exchange
   enter_by : (m : ℕ) (s : Step ℕ ℕ) → x.step ≡ s → CanCountIn s → (flags_of m).count < most
-      → Moves IsKept own 0 (λ n. either (n == m) (m + 1) n) (λ n w. cond (n == m) (Goes own [] (in_next (In m) s) w) (Stays own w))
+      → Moves IsKept own 0 (λ n. either (n == m) (m + 1) n) (λ n w. cond (n == m) (Goes own [] (in_next true (flags_of m).ready s) w) (Stays own w))
   enter_by m (UnderWay (AtCountIn q)) at can l = moves_tell IsKept own 0 (λ n. either (n == m) (m + 1) n) _ _ (λ n w r. enter_tells q m (n == m) w r.1) (in_moves seen t x q m at l)
   enter_by m _ at can l = absurd can
 
@@ -187,4 +185,4 @@ make_keeps seen = made_notes seen
 pub room_stays : (n : ℕ) (v w : View Entry Sheet) → (flags_of n).count < most → Tells Full v n w → Stays v w
 room_stays n v w l told =
     let room : nat_lt (flags_of n).count most ≡ true = grind (arith, nat_tests, l) in
-    subst (λ b. cond b (Stays v w) (Goes v [] (in_next (refused_in (flags_of n).ready) (task_in v.1).step) w)) room told
+    subst (λ b. cond b (Stays v w) (Goes v [] (in_next false (flags_of n).ready (task_in v.1).step) w)) room told

@@ -1,8 +1,7 @@
 -- What each moment of a task alone tells of it: of the number found in the word, from one view of the book to the next.
-use Rattle.std.specs.Prelude.{◌≡◌, ℕ, suc, ◌-◌, ◌<◌, ◌^◌, ◌==◌, cond, nat_lt, List, [], ◌∷◌, reverse, None}
+use Rattle.std.specs.Prelude.{◌≡◌, ℕ, suc, ◌-◌, ◌<◌, ◌^◌, ◌==◌, true, false, cond, nat_lt, List, [], ◌∷◌, reverse, None}
 use Rattle.pagebook.specs.Pages.{View}
 use Rattle.once_queue.specs.Word.{flags_of}
-use Rattle.once_core.specs.declared.parts.Counted.TheVariants.{In}
 use Rattle.once_core.specs.Steps.{Next, after_quick, step_of_drop}
 use Rattle.once_world.specs.Record.{Begin, Entry, Made, Ran}
 use Rattle.once_world.specs.Book.{TaskState, refused_step}
@@ -14,7 +13,7 @@ use Rattle.once_book.specs.declared.act.Act.TheVariants.{Begin as BeginPoll, Beg
 use Rattle.once_book.specs.Own.{IsHand, Stayed, Turned, number_in, own_in, task_in, told}
 use Rattle.once_book.specs.Places.{load_next, fast_next, add_next, out_next, in_next}
 use Rattle.once_book.specs.Places.{put_next, take_next, run_next, fill_next}
-use Rattle.once_book.specs.Places.{refused_in, task_begun, task_dropping, task_run, unnamed}
+use Rattle.once_book.specs.Places.{task_begun, task_dropping, task_run, unnamed}
 
 -- the hand is the task's still, whose page has turned so
 abbrev pub Turns : View Entry Sheet → TaskState → List Entry → View Entry Sheet → Type 0
@@ -31,17 +30,17 @@ Stays v w = IsHand w.0 w.1 × Stayed (own_in v) (own_in w)
 
 -- each moment
 abbrev pub Tells : Act → View Entry Sheet → ℕ → View Entry Sheet → Type 0
-Tells Load v n w = Goes v [] (load_next n (task_in v.1).step) w
+Tells Load v n w = Goes v [] (load_next (flags_of n) (task_in v.1).step) w
 Tells Quick v n w = Goes v (claim_entries (n == 0) (number_in v.1)) (after_quick (n == 0)) w
 Tells Fast v n w =
     Goes v (freed_entries (n == 2 ^ 62) (number_in v.1) (task_in v.1).kept)
     (fast_next (n == 2 ^ 62) (task_in v.1).step) w
 Tells AddOne v n w = Goes v [] (add_next (task_in v.1).step) w
-Tells CountOut v n w = (0 < n) × Goes v [] (out_next (n - 1) (task_in v.1).step) w
+Tells CountOut v n w = (0 < n) × Goes v [] (out_next (flags_of (n - 1)) (task_in v.1).step) w
 Tells Full v n w =
     cond (nat_lt (flags_of n).count most) (Stays v w)
-    (Goes v [] (in_next (refused_in (flags_of n).ready) (task_in v.1).step) w)
-Tells (Enter m) v n w = cond (n == m) (Goes v [] (in_next (In m) (task_in v.1).step) w) (Stays v w)
+    (Goes v [] (in_next false (flags_of n).ready (task_in v.1).step) w)
+Tells (Enter m) v n w = cond (n == m) (Goes v [] (in_next true (flags_of m).ready (task_in v.1).step) w) (Stays v w)
 Tells NonePut v n w = cond (n == 0) (Goes v [] (take_next (task_in v.1).step) w) (Stays v w)
 Tells BeginPoll v n w =
     Turns v (task_begun (number_in v.1) (task_in v.1)) (Begin (number_in v.1) (number_in v.1) ∷ []) w

@@ -1,9 +1,7 @@
 -- The table of places, by what a thread does there: at which places a task may do it, and where the table leads then.
 use Rattle.std.specs.Prelude.{◌≡◌, ℕ, Bool, true, false, Option, Some, None}
-use Rattle.once_queue.specs.Word.{flags_of, is_zero, is_ready_bit}
+use Rattle.once_queue.specs.Word.{Flags, is_zero, is_ready_bit}
 use Rattle.once_queue.specs.declared.waiters.Answer.{Answer as SectionAnswer}
-use Rattle.once_core.specs.declared.parts.Counted.{Counted}
-use Rattle.once_core.specs.declared.parts.Counted.TheVariants.{Full, SeenReady}
 use Rattle.once_core.specs.declared.step.Polled.{Polled}
 use Rattle.once_core.specs.declared.step.Polled.TheVariants.{Pending, Value, Error}
 use Rattle.once_core.specs.Steps.{Next, next_at, next_end, release_place, step_of_drop, step_of_poll}
@@ -29,9 +27,9 @@ CanLoad (UnderWay (AtWaitLoad q k)) = Unit {0}
 CanLoad _ = ⊥
 
 -- by the word
-abbrev pub load_next : ℕ → Step ℕ ℕ → Next ℕ ℕ
-load_next n (UnderWay (AtWaitLoad q k)) = after_load (flags_of n).ready q k
-load_next n _ = after_start (flags_of n).ready (is_zero (flags_of n))
+abbrev pub load_next : Flags → Step ℕ ℕ → Next ℕ ℕ
+load_next w (UnderWay (AtWaitLoad q k)) = after_load w.ready q k
+load_next w _ = after_start w.ready (is_zero w)
 
 -- the fast release, with the value or without
 abbrev pub CanFast : Bool → Step ℕ ℕ → Type 0
@@ -59,24 +57,19 @@ CanCountOut (UnderWay (AtCountOut e)) = Unit {0}
 CanCountOut _ = ⊥
 
 -- by the word after it
-abbrev pub out_next : ℕ → Step ℕ ℕ → Next ℕ ℕ
-out_next n (UnderWay (AtCountOut e)) = after_count_out (is_ready_bit (flags_of n)) e
-out_next n _ = nowhere
+abbrev pub out_next : Flags → Step ℕ ℕ → Next ℕ ℕ
+out_next w (UnderWay (AtCountOut e)) = after_count_out (is_ready_bit w) e
+out_next w _ = nowhere
 
 -- a task counts itself in
 abbrev pub CanCountIn : Step ℕ ℕ → Type 0
 CanCountIn (UnderWay (AtCountIn q)) = Unit {0}
 CanCountIn _ = ⊥
 
--- by the answer
-abbrev pub in_next : Counted → Step ℕ ℕ → Next ℕ ℕ
-in_next c (UnderWay (AtCountIn q)) = after_count_in c q
-in_next c _ = nowhere
-
--- the answer where as many are counted as may be, by whether the value is set
-abbrev pub refused_in : Bool → Counted
-refused_in true = SeenReady
-refused_in false = Full
+-- by whether it was counted, and whether the value is set
+abbrev pub in_next : Bool → Bool → Step ℕ ℕ → Next ℕ ℕ
+in_next is_in ready (UnderWay (AtCountIn q)) = after_count_in is_in ready q
+in_next is_in ready _ = nowhere
 
 -- the door is looked at by a first poll, and by a holder that counted itself in
 abbrev pub CanGet : Step ℕ ℕ → Type 0

@@ -26,7 +26,9 @@ pub struct Hand {
 impl Hand {
     ghost use Rattle.std.specs.Prelude.{◌==◌, ◌-◌, ◌^◌, None, true, false, if◌then◌else◌, [], ◌∷◌, reverse};
     ghost use Rattle.std.specs.Option.{MatchOption};
+    ghost use Rattle.once_queue.specs.Word.{flags_of};
     ghost use Rattle.once_core.specs.Steps.{after_quick, is_resting, step_of_drop};
+    ghost use Rattle.once_core.specs.Table.{is_in, finds_ready};
     ghost use Rattle.once_world.specs.Record.{Begin, Made};
     ghost use Rattle.once_world.specs.Book.{refused_step};
     ghost use Rattle.once_world.specs.Machine.{AtDoorPut, AtTryQuick, UnderWay, fresh_task};
@@ -59,7 +61,7 @@ impl Hand {
         requires word { IsWord word.now self.old.seen.book 0 }
         requires can { CanLoad (own_of self.old).task.step }
         ensures book { self.new.seen.book ≡ self.old.seen.book }
-        ensures did { Did (own_of self.old) [] (load_next result (own_of self.old).task.step) (own_of self.new) }
+        ensures did { Did (own_of self.old) [] (load_next (flags_of result) (own_of self.old).task.step) (own_of self.new) }
     {
         word.load::<Act, Act>(&Act::Load, &mut self.seen, &mut self.pens)
     }
@@ -120,7 +122,7 @@ impl Hand {
         requires word { IsWord word.now self.old.seen.book 0 }
         requires can { CanCountOut (own_of self.old).task.step }
         ensures book { self.new.seen.book ≡ self.old.seen.book }
-        ensures did { Did (own_of self.old) [] (out_next result (own_of self.old).task.step) (own_of self.new) }
+        ensures did { Did (own_of self.old) [] (out_next (flags_of result) (own_of self.old).task.step) (own_of self.new) }
     {
         let found = word.fetch_sub::<Act, Act>(1, &Act::CountOut, &mut self.seen, &mut self.pens);
         found - 1
@@ -134,7 +136,7 @@ impl Hand {
         requires can { CanCountIn (own_of self.old).task.step }
         ensures book { self.new.seen.book ≡ self.old.seen.book }
         ensures did { MatchOption result (Stayed (own_of self.old) (own_of self.new))
-            (λ c. Did (own_of self.old) [] (in_next c (own_of self.old).task.step) (own_of self.new)) }
+            (λ c. Did (own_of self.old) [] (in_next (is_in c) (finds_ready c) (own_of self.old).task.step) (own_of self.new)) }
     {
         let before = word.load::<Act, Act>(&Act::Full, &mut self.seen, &mut self.pens);
         if before % QINIT_BIT >= MAX_WAITERS {

@@ -1,12 +1,13 @@
 -- The parts of a cell as plain data, and what each of their calls asks, answers and leaves.
-use Rattle.std.specs.Prelude.{◌≡◌, ◌≢◌, ℕ, suc, ◌<◌, ◌≤◌, ◌-◌, ◌⊎◌, ◌||◌, Bool, true, false}
+use Rattle.std.specs.Prelude.{◌≡◌, ◌≢◌, ℕ, suc, ◌<◌, ◌≤◌, ◌-◌, ◌^◌, ◌⊎◌, ◌||◌, Bool, true, false}
 use Rattle.std.specs.Prelude.{if◌then◌else◌, not, List, [], ◌∷◌, ◌++◌, Option, Some, None, vec_len, vec_capacity}
 use Rattle.std.specs.Option.{is_some}
 use Rattle.once_core.specs.declared.plain.Core.{Core}
 use Rattle.once_queue.specs.declared.log.QueueLine.{QueueLine}
 use Rattle.once_queue.specs.declared.log.QueueLine.TheVariants.{Put, Entered, Taken}
-use Rattle.once_core.specs.declared.parts.Counted.{Counted}
-use Rattle.once_core.specs.declared.parts.Counted.TheVariants.{In, Full, SeenReady}
+use Rattle.once_core.specs.Table.{Call, AddOne, CountOut, DoorPut, DoorTake, Section}
+use Rattle.once_core.specs.Table.{Told, Loaded, TriedQuick, TriedFast, CountedIn, Added, CountedOut}
+use Rattle.once_core.specs.Table.{Got, PutQueue, Taken as TakenOut, Was, Refused, Ran, PutValue}
 use Rattle.once_queue.specs.declared.waiters.Op.{Op}
 use Rattle.once_queue.specs.declared.waiters.Op.TheVariants.{Look, List as ListOp, Release, Leave}
 use Rattle.once_queue.specs.declared.waiters.Answer.{Answer}
@@ -14,7 +15,7 @@ use Rattle.once_queue.specs.declared.waiters.Answer.TheVariants.{Ready, Claimed,
 use Rattle.once_queue.specs.Ops.{ticket_in, without_ticket}
 use Rattle.once_queue.specs.Room.{HasSpace, listings_of}
 use Rattle.once_queue.specs.declared.word.Sees.{Sees}
-use Rattle.once_queue.specs.Word.{Flags, flags_of, flags_alone, is_zero, is_quick_bit, sees, is_free}
+use Rattle.once_queue.specs.Word.{Flags, flags_alone, is_zero, is_quick_bit, sees, is_free}
 use Rattle.once_queue.specs.declared.waiters.Listing.{Listing}
 use Rattle.once_queue.specs.Listings.{own_listing, kept_ticket, ticket_for, list_with}
 use Rattle.once_queue.specs.Listings.{list_without, passes_turn, next_waker, left_list}
@@ -29,6 +30,7 @@ pub record CoreState (W : Type 0) : Type 0 where
   pub made : ℕ  -- how many queues were made
   pub granted : Bool  -- whether memory is given
   pub current : Option W  -- the current waker
+  pub limit : ℕ  -- how many tasks may be counted in
   pub log : List QueueLine  -- the queue log, the oldest line first
 
 -- all that a core holds
@@ -41,6 +43,7 @@ state_of c = record {
   made = c.made;
   granted = c.granted;
   current = c.current;
+  limit = c.limit;
   log = c.log.items;
 }
 
@@ -55,39 +58,9 @@ put_answer true (Some q) n = Some q
 put_answer true None n = Some (suc n)
 
 module _ {W : Type 0} where
-  -- a load answers the word
-  abbrev pub DidLoad : CoreState W → ℕ → CoreState W → Type 0
-  DidLoad s w t = (flags_of w ≡ s.word) × (t ≡ s)
-
-  -- a quick claim is won where the word is NEW, and sets the quick bit
-  abbrev pub DidQuick : CoreState W → Bool → CoreState W → Type 0
-  DidQuick s won t = (won ≡ is_zero s.word) × (t ≡ record s { word = if won then flags_alone true false else s.word })
-
-  -- a fast release is done where the word is exactly the quick bit; it gives the right back, and tells whether the
-  -- value is set
-  abbrev pub DidFast : CoreState W → Bool → Bool → CoreState W → Type 0
-  DidFast s ready won t =
-      (won ≡ is_quick_bit s.word) × (t ≡ record s { word = if won then flags_alone false ready else s.word })
-
-  -- below the limit the count grows; at it the word tells whether the value is set
-  abbrev pub DidCountIn : CoreState W → ℕ → Counted → CoreState W → Type 0
-  DidCountIn s limit (In w) t =
-      (s.word.count < limit) × (flags_of w ≡ s.word)
-      × (t ≡ record s { word = record s.word { count = suc s.word.count } })
-  DidCountIn s limit SeenReady t = (limit ≤ s.word.count) × (s.word.ready ≡ true) × (t ≡ s)
-  DidCountIn s limit Full t = (limit ≤ s.word.count) × (s.word.ready ≡ false) × (t ≡ s)
-
-  -- one more is counted, whatever the limit
-  abbrev pub DidAddOne : CoreState W → CoreState W → Type 0
-  DidAddOne s t = t ≡ record s { word = record s.word { count = suc s.word.count } }
-
-  -- one less is counted; the answer is the word after
-  abbrev pub DidCountOut : CoreState W → ℕ → CoreState W → Type 0
-  DidCountOut s w t = (flags_of w ≡ t.word) × (t ≡ record s { word = record s.word { count = s.word.count - 1 } })
-
-  -- what stands at the door
-  abbrev pub DidDoorGet : CoreState W → Option ℕ → CoreState W → Type 0
-  DidDoorGet s q t = (q ≡ s.door) × (t ≡ s)
+  -- one more is counted
+  abbrev pub counted_state : CoreState W → CoreState W
+  counted_state s = record s { word = record s.word { count = suc s.word.count } }
 
   -- a new queue is put where memory is given and none stands
   abbrev pub put_state : Bool → Option ℕ → CoreState W → CoreState W
@@ -100,10 +73,6 @@ module _ {W : Type 0} where
   }
   put_state _ _ s = s
 
-  -- what stands at the door after the put, if there was memory
-  abbrev pub DidDoorPut : CoreState W → Option ℕ → CoreState W → Type 0
-  DidDoorPut s q t = (q ≡ put_answer s.granted s.door s.made) × (t ≡ put_state s.granted s.door s)
-
   -- the queue at the door is taken out, with its flag and all who are listed; where none stands all is as it was
   abbrev pub take_by : Option ℕ → CoreState W → CoreState W
   take_by (Some q) s = record s { door = None; head = false; listings = []; log = s.log ++ Taken q ∷ [] }
@@ -112,10 +81,6 @@ module _ {W : Type 0} where
   -- the queue at the door is taken out
   abbrev pub take_state : CoreState W → CoreState W
   take_state s = take_by s.door s
-
-  -- whether a queue was taken out
-  abbrev pub DidDoorTake : CoreState W → Bool → CoreState W → Type 0
-  DidDoorTake s stood t = (stood ≡ is_some s.door) × (t ≡ take_state s)
 
   -- a release on the queue at the door asks that the value is not set, and that either the quick bit is set or the
   -- flag beside the list is raised, and not both
@@ -177,3 +142,42 @@ module _ {W : Type 0} (same other : W → W → Type 0) where
   pub record DidSection (s : CoreState W) (q : ℕ) (op : Op W) (a : Answer W) (o : Op W) (t : CoreState W) : Type 0 where
     pub here : s.door ≡ Some q → AtDoor (record s { log = s.log ++ Entered q ∷ [] }) op a o t
     pub gone : s.door ≢ Some q → (a ≡ Gone) × (t ≡ record s { log = s.log ++ Entered q ∷ [] }) × (o ≡ op)
+
+  -- what each call tells and leaves, by the state before and the state after
+  abbrev pub DidCall : CoreState W → Told W ℕ → CoreState W → Type 0
+  -- the word
+  DidCall s (Loaded w) t = (w ≡ s.word) × (t ≡ s)
+  -- a quick claim is won if the word is NEW, and sets the quick bit
+  DidCall s (TriedQuick won) t =
+      (won ≡ is_zero s.word) × (t ≡ record s { word = if won then flags_alone true false else s.word })
+  -- a fast release is done if the word is exactly the quick bit; it gives the right back, with the value set or not
+  DidCall s (TriedFast fills won) t =
+      (won ≡ is_quick_bit s.word) × (t ≡ record s { word = if won then flags_alone false fills else s.word })
+  -- below the limit the count grows; at it nothing changes
+  DidCall s (CountedIn true ready) t = (s.word.count < s.limit) × (ready ≡ s.word.ready) × (t ≡ counted_state s)
+  DidCall s (CountedIn false ready) t = (s.limit ≤ s.word.count) × (ready ≡ s.word.ready) × (t ≡ s)
+  -- one more is counted, whatever the limit
+  DidCall s Added t = t ≡ counted_state s
+  -- one less is counted; the answer is the word after
+  DidCall s (CountedOut w) t = (w ≡ t.word) × (t ≡ record s { word = record s.word { count = s.word.count - 1 } })
+  -- what stands at the door
+  DidCall s (Got q) t = (q ≡ s.door) × (t ≡ s)
+  -- what stands at the door after the put, if there was memory
+  DidCall s (PutQueue q) t = (q ≡ put_answer s.granted s.door s.made) × (t ≡ put_state s.granted s.door s)
+  -- whether a queue was taken out
+  DidCall s (TakenOut stood) t = (stood ≡ is_some s.door) × (t ≡ take_state s)
+  -- a section
+  DidCall s (Was q op a o) t = DidSection s q op a o t
+  -- of the other calls a core knows nothing
+  DidCall s Refused t = t ≡ s
+  DidCall s (Ran a) t = t ≡ s
+  DidCall s PutValue t = t ≡ s
+
+-- what each call asks: who counts out is counted, and where a line of the log is written there is room for it
+abbrev pub CanCall : {W : Type 0} {g : _} → Core W g → Call W ℕ → Type 0
+CanCall s AddOne = s.word.count < 2 ^ 62 - 1
+CanCall s CountOut = 0 < s.word.count
+CanCall s DoorPut = HasRoom s
+CanCall s DoorTake = HasRoom s
+CanCall s (Section q op) = HasRoom s × CanSection (state_of s) q op
+CanCall s _ = Unit {0}

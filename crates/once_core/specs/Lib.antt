@@ -1,3 +1,4 @@
 pub mod Core
 pub mod Steps
+pub mod Table
 pub mod Chain

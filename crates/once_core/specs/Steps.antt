@@ -1,10 +1,6 @@
--- The table of places: what one step does, by what the calls of the parts and of the side tell.
+-- The places of a call, where a task stands, and what may follow at each place. Which call a place makes stands in
+-- Table.
 use Rattle.std.specs.Prelude.{◌≡◌, ℕ, Bool, true, false, Option, Some, None}
-use Rattle.once_core.specs.declared.parts.Counted.{Counted}
-use Rattle.once_core.specs.declared.parts.Counted.TheVariants.{In, Full as CountFull, SeenReady}
-use Rattle.once_queue.specs.declared.waiters.Op.{Op}
-use Rattle.once_queue.specs.declared.waiters.Op.TheVariants.{Look as LookOp, List as ListOp}
-use Rattle.once_queue.specs.declared.waiters.Op.TheVariants.{Release as ReleaseOp, Leave as LeaveOp}
 use Rattle.once_queue.specs.declared.waiters.Answer.{Answer as SectionAnswer}
 use Rattle.once_queue.specs.declared.waiters.Answer.TheVariants.{Ready, Claimed, Listed}
 use Rattle.once_queue.specs.declared.waiters.Answer.TheVariants.{Memory as NoMemory, Released, Left}
@@ -35,8 +31,6 @@ pub use Rattle.once_core.specs.declared.step.place.Place.TheVariants.{Leave as A
 pub use Rattle.once_core.specs.declared.step.place.Place.TheVariants.{DoorTake as AtDoorTake}
 pub use Rattle.once_core.specs.declared.step.Step.{Step}
 pub use Rattle.once_core.specs.declared.step.Step.TheVariants.{Resting, UnderWay, Finished}
-use Rattle.once_queue.specs.Ops.{ticket_in}
-use Rattle.once_queue.specs.Word.{flags_of, is_zero, is_ready_bit}
 
 -- whether the call ends with the value: only then does its release set the ready bit
 abbrev pub is_value : Ending → Bool
@@ -184,16 +178,12 @@ module _ {W Q : Type 0} where
   after_door_put (Some q) = next_at (AtCountIn q)
   after_door_put None = closing_end EndMemory
 
-  -- the word of a counted task says that the value is set, or not
-  abbrev pub after_in : Bool → Q → Next W Q
-  after_in true q = closing_at (AtCountOut EndValue)
-  after_in false q = next_at (AtWaitLoad q None)
-
-  -- after counting in
-  abbrev pub after_count_in : Counted → Q → Next W Q
-  after_count_in (In w) q = after_in (flags_of w).ready q
-  after_count_in CountFull q = closing_end EndFull
-  after_count_in SeenReady q = closing_end EndValue
+  -- after counting in: whether the task was counted, and whether the value is set
+  abbrev pub after_count_in : Bool → Bool → Q → Next W Q
+  after_count_in true true q = closing_at (AtCountOut EndValue)
+  after_count_in true false q = next_at (AtWaitLoad q None)
+  after_count_in false true q = closing_end EndValue
+  after_count_in false false q = closing_end EndFull
 
   -- after a waiter's load: whether the word is ready
   abbrev pub after_load : Bool → Q → Option ℕ → Next W Q
@@ -241,11 +231,6 @@ module _ {W Q : Type 0} where
   after_count_out true e = next_at (AtDoorTake e)
   after_count_out false e = next_end e
 
-module _ {W Q : Type 0} where
-  -- what follows happened, without a close
-  abbrev pub LeadsTo : Next W Q → Progress → Step W Q → Type 0
-  LeadsTo n r t = (r ≡ n.progress) × (t ≡ n.step)
-
 module _ {S : Type 0} (close : S → S → Type 0) where
   -- the init is closed or not; else the side is the same
   abbrev pub MayClose : Bool → S → S → Type 0
@@ -256,28 +241,6 @@ module _ {S W Q : Type 0} (close : S → S → Type 0) where
   -- what follows happened
   abbrev pub Follows : Next W Q → S → S → Progress → Step W Q → Type 0
   Follows n s s' r t = MayClose close n.closes s s' × (r ≡ n.progress) × (t ≡ n.step)
-
--- after a look, whether the waker is to be copied: another task holds, and it is not listed
-abbrev pub wants_copy : {W : Type 0} → Op W → SectionAnswer W → Bool
-wants_copy (LookOp k) Ready = false
-wants_copy (LookOp k) Claimed = false
-wants_copy (LookOp k) Listed = false
-wants_copy (LookOp k) a = true
-wants_copy op a = false
-
--- the parts are told of a copy that was refused
-abbrev pub MayRefuse : {P W : Type 0} → (P → P → Type 0) → Option W → P → P → Type 0
-MayRefuse refuse None p p' = refuse p p'
-MayRefuse refuse (Some w) p p' = p' ≡ p
-
-module _ {P S W Q : Type 0} (refuse : P → P → Type 0) (close : S → S → Type 0) (copy : S → Option W → S → Type 0) where
-  -- after a look, with the ticket that it left: where another task holds and the waker is not listed, it is copied
-  abbrev pub AfterLook : SectionAnswer W → Q → Option ℕ → P → S → Progress → Step W Q → P → S → Type 0
-  AfterLook Ready q k p s r t p' s' = (p' ≡ p) × Follows close (after_look Ready None q k) s s' r t
-  AfterLook Claimed q k p s r t p' s' = (p' ≡ p) × Follows close (after_look Claimed None q k) s s' r t
-  AfterLook Listed q k p s r t p' s' = (p' ≡ p) × Follows close (after_look Listed None q k) s s' r t
-  AfterLook a q k p s r t p' s' =
-      (c : Option W) × (m : S) × copy s c m × MayRefuse refuse c p p' × Follows close (after_look a c q k) m s' r t
 
 -- what the section of a release, or of one who leaves, hands out; any other answer hands nothing out
 abbrev pub out_of : {W : Type 0} → SectionAnswer W → Option (Out W)
@@ -290,101 +253,7 @@ abbrev pub Wakes : {S W : Type 0} → (S → Out W → S → Type 0) → Option 
 Wakes wake (Some out) s s' = wake s out s'
 Wakes wake None s s' = s' ≡ s
 
--- what the calls of the parts ask: the parts before, and what is given
-pub record PartsAsk (P W Q : Type 0) : Type 1 where
-  pub load : P → Type 0
-  pub quick : P → Type 0
-  pub fast : P → Bool → Type 0
-  pub count_in : P → ℕ → Type 0
-  pub add_one : P → Type 0
-  pub count_out : P → Type 0
-  pub door_get : P → Type 0
-  pub door_put : P → Type 0
-  pub door_take : P → Type 0
-  pub section : P → Q → Op W → Type 0
-  pub refuse : P → Type 0
-  pub ran : P → Type 0
-  pub put : P → Type 0
-
--- nothing is asked
-abbrev pub asks_nothing : {P W Q : Type 0} → PartsAsk P W Q
-asks_nothing = record {
-  load = λ _. Unit {0};
-  quick = λ _. Unit {0};
-  fast = λ _ _. Unit {0};
-  count_in = λ _ _. Unit {0};
-  add_one = λ _. Unit {0};
-  count_out = λ _. Unit {0};
-  door_get = λ _. Unit {0};
-  door_put = λ _. Unit {0};
-  door_take = λ _. Unit {0};
-  section = λ _ _ _. Unit {0};
-  refuse = λ _. Unit {0};
-  ran = λ _. Unit {0};
-  put = λ _. Unit {0};
-}
-
-module _ {P S W Q : Type 0} (parts : PartsAsk P W Q) (can_run can_put : S → Type 0) (limit : ℕ) where
-  -- what the calls of a place ask of the parts and of the side
-  abbrev pub AsksAt : Place W Q → P → S → Type 0
-  AsksAt AtStart p s = parts.load p
-  AsksAt AtTryQuick p s = parts.quick p
-  AsksAt AtDoorGet p s = parts.door_get p
-  AsksAt AtDoorPut p s = parts.door_put p
-  AsksAt (AtCountIn q) p s = parts.count_in p limit
-  AsksAt (AtWaitLoad q k) p s = parts.load p
-  AsksAt (AtLook q k) p s = parts.section p q (LookOp k)
-  AsksAt (AtList q k w) p s = parts.section p q (ListOp k (Some w))
-  AsksAt (AtRun by) p s = parts.ran p × can_run s
-  AsksAt (AtPut by) p s = parts.put p × can_put s
-  AsksAt (AtFast e) p s = parts.fast p (is_value e)
-  AsksAt (AtAddOne e) p s = parts.add_one p
-  AsksAt (AtDoorAgain e) p s = parts.door_get p
-  AsksAt (AtRelease q e) p s = parts.section p q (ReleaseOp (is_value e))
-  AsksAt (AtLeave q n e) p s = parts.section p q (LeaveOp n)
-  AsksAt (AtCountOut e) p s = parts.count_out p
-  AsksAt (AtDoorTake e) p s = parts.door_take p
-
-  -- the same of a step: one that is not under way asks nothing
-  abbrev pub Asks : Step W Q → P → S → Type 0
-  Asks (UnderWay at) p s = AsksAt at p s
-  Asks _ p s = Unit {0}
-
--- what the calls of the parts tell: the parts before, what was given and answered, and the parts after
-pub record PartsTell (P W Q : Type 0) : Type 1 where
-  pub load : P → ℕ → P → Type 0
-  pub quick : P → Bool → P → Type 0
-  pub fast : P → Bool → Bool → P → Type 0
-  pub count_in : P → ℕ → Counted → P → Type 0
-  pub add_one : P → P → Type 0
-  pub count_out : P → ℕ → P → Type 0
-  pub door_get : P → Option Q → P → Type 0
-  pub door_put : P → Option Q → P → Type 0
-  pub door_take : P → Bool → P → Type 0
-  pub section : P → Q → Op W → SectionAnswer W → Op W → P → Type 0
-  pub refuse : P → P → Type 0
-  pub ran : P → Polled → P → Type 0
-  pub put : P → P → Type 0
-
--- nothing is told
-abbrev pub tells_nothing : {P W Q : Type 0} → PartsTell P W Q
-tells_nothing = record {
-  load = λ _ _ _. Unit {0};
-  quick = λ _ _ _. Unit {0};
-  fast = λ _ _ _ _. Unit {0};
-  count_in = λ _ _ _ _. Unit {0};
-  add_one = λ _ _. Unit {0};
-  count_out = λ _ _ _. Unit {0};
-  door_get = λ _ _ _. Unit {0};
-  door_put = λ _ _ _. Unit {0};
-  door_take = λ _ _ _. Unit {0};
-  section = λ _ _ _ _ _ _. Unit {0};
-  refuse = λ _ _. Unit {0};
-  ran = λ _ _ _. Unit {0};
-  put = λ _ _. Unit {0};
-}
-
--- the same for the calls of the side
+-- what the calls of a side tell: the side before, what was given and answered, and the side after
 pub record SideTells (S W : Type 0) : Type 1 where
   pub run : S → Polled → S → Type 0
   pub close : S → S → Type 0
@@ -401,51 +270,3 @@ side_tells_nothing = record {
   copy = λ _ _ _. Unit {0};
   wake = λ _ _ _. Unit {0};
 }
-
-module _ {P S W Q : Type 0} (parts : PartsTell P W Q) (side : SideTells S W) where
-  -- one line of the table: the limit, the place, parts and side before, the progress, and the step, parts and side
-  -- after
-  abbrev pub Line : ℕ → Place W Q → P → S → Progress → Step W Q → P → S → Type 0
-  Line limit AtStart p s r t p' s' =
-      (w : ℕ) × parts.load p w p'
-      × Follows side.close (after_start (flags_of w).ready (is_zero (flags_of w))) s s' r t
-  Line limit AtTryQuick p s r t p' s' = (b : Bool) × parts.quick p b p' × Follows side.close (after_quick b) s s' r t
-  Line limit AtDoorGet p s r t p' s' =
-      (q : Option Q) × parts.door_get p q p' × Follows side.close (after_door_get q) s s' r t
-  Line limit AtDoorPut p s r t p' s' =
-      (q : Option Q) × parts.door_put p q p' × Follows side.close (after_door_put q) s s' r t
-  Line limit (AtCountIn q) p s r t p' s' =
-      (c : Counted) × parts.count_in p limit c p' × Follows side.close (after_count_in c q) s s' r t
-  Line limit (AtWaitLoad q k) p s r t p' s' =
-      (w : ℕ) × parts.load p w p' × Follows side.close (after_load (flags_of w).ready q k) s s' r t
-  Line limit (AtLook q k) p s r t p' s' =
-      (a : SectionAnswer W) × (o : Op W) × (n : P) × parts.section p q (LookOp k) a o n
-      × AfterLook parts.refuse side.close side.copy a q (ticket_in o) n s r t p' s'
-  Line limit (AtList q k w) p s r t p' s' =
-      (a : SectionAnswer W) × (o : Op W) × parts.section p q (ListOp k (Some w)) a o p'
-      × Follows side.close (after_list a q (ticket_in o)) s s' r t
-  Line limit (AtRun by) p s r t p' s' =
-      (a : Polled) × (m : S) × side.run s a m × parts.ran p a p' × Follows side.close (after_run a by) m s' r t
-  Line limit (AtPut by) p s r t p' s' =
-      side.put s s' × parts.put p p' × (r ≡ More) × (t ≡ UnderWay (release_place by EndValue))
-  Line limit (AtFast e) p s r t p' s' =
-      (b : Bool) × parts.fast p (is_value e) b p' × Follows side.close (after_fast b (is_value e) e) s s' r t
-  Line limit (AtAddOne e) p s r t p' s' = parts.add_one p p' × Follows side.close (next_at (AtDoorAgain e)) s s' r t
-  Line limit (AtDoorAgain e) p s r t p' s' =
-      (q : Option Q) × parts.door_get p q p' × Follows side.close (after_door_again q e) s s' r t
-  Line limit (AtRelease q e) p s r t p' s' =
-      (a : SectionAnswer W) × (o : Op W) × parts.section p q (ReleaseOp (is_value e)) a o p'
-      × Wakes side.wake (out_of a) s s' × (r ≡ More) × (t ≡ UnderWay (AtCountOut e))
-  Line limit (AtLeave q n e) p s r t p' s' =
-      (a : SectionAnswer W) × (o : Op W) × parts.section p q (LeaveOp n) a o p'
-      × Wakes side.wake (out_of a) s s' × (r ≡ More) × (t ≡ UnderWay (AtCountOut e))
-  Line limit (AtCountOut e) p s r t p' s' =
-      (w : ℕ) × parts.count_out p w p'
-      × Follows side.close (after_count_out (is_ready_bit (flags_of w)) e) s s' r t
-  Line limit (AtDoorTake e) p s r t p' s' =
-      (b : Bool) × parts.door_take p b p' × Follows side.close (next_end e) s s' r t
-
-  -- one step of a call under way is its line of the table
-  abbrev pub Advances : ℕ → Step W Q → P → S → Progress → Step W Q → P → S → Type 0
-  Advances limit (UnderWay at) p s r t p' s' = Line limit at p s r t p' s'
-  Advances limit _ p s r t p' s' = ⊥

@@ -25,8 +25,11 @@ pub struct Core<W: WakerId> {
     pub granted: bool,
     /// The waker that a look compares with the listed one. [`Core::set_waker`] sets it.
     pub current: Option<W>,
+    /// How many tasks may be counted in.
+    pub limit: u64,
     /// The queue log, the oldest line first.
     pub log: Vec<QueueLine>,
+    ghost within: { limit ≤ 2 ^ 62 - 2 },
     ghost counted: { made ≤ vec_len log },
     // Where no queue stands at the door, nobody holds by its flag and nobody is listed.
     ghost bare: { door ≡ None → (lists.head ≡ false) × (listings_of lists ≡ []) },
@@ -40,8 +43,10 @@ impl<W: WakerId + Drop> Core<W> {
     ghost use Rattle.once_queue.specs.Room.{HasSpace};
     ghost use Rattle.once_queue.specs.Sections.{Releases};
 
-    /// A core that nobody used, made with a value or not. It takes no memory.
-    pub fn new(alloc: Global, ready: bool) -> Self
+    /// A core that nobody used, made with a value or not, in which at most `limit` tasks may be counted in. It
+    /// takes no memory.
+    pub fn new(alloc: Global, ready: bool, limit: u64) -> Self
+        requires { limit ≤ 2 ^ 62 - 2 }
         ensures { state_of result
             ≡ record {
               word = flags_alone false ready;
@@ -51,6 +56,7 @@ impl<W: WakerId + Drop> Core<W> {
               made = 0;
               granted = true;
               current = None;
+              limit = limit;
               log = [];
             } }
     {
@@ -61,6 +67,7 @@ impl<W: WakerId + Drop> Core<W> {
             made: 0,
             granted: true,
             current: None,
+            limit,
             log: Vec::new(alloc),
         }
     }
@@ -190,9 +197,7 @@ impl<W: WakerId + Drop> Core<W> {
 }
 
 impl<W: WakerId + Drop> Parts<W> for Core<W> {
-    ghost use Rattle.once_core.specs.Steps.{asks_nothing};
-    ghost use Rattle.once_core.specs.Core.{state_of, HasRoom, CanSection, DidLoad, DidQuick, DidFast, DidCountIn};
-    ghost use Rattle.once_core.specs.Core.{DidAddOne, DidCountOut, DidDoorGet, DidDoorPut, DidDoorTake, DidSection};
+    ghost use Rattle.once_core.specs.Core.{state_of, CanCall, DidCall};
 
     type Queue = u64;
 
@@ -202,29 +207,9 @@ impl<W: WakerId + Drop> Parts<W> for Core<W> {
     // One caller steps all tasks, so nothing shows the right.
     type Right = ();
 
-    ghost can = { record asks_nothing {
-      add_one = λ s. s.word.count < 2 ^ 62 - 1;
-      count_out = λ s. 0 < s.word.count;
-      door_put = λ s. HasRoom s;
-      door_take = λ s. HasRoom s;
-      section = λ s q op. HasRoom s × CanSection (state_of s) q op;
-    } };
+    ghost can = { λ s c. CanCall s c };
 
-    ghost did = { record {
-      load = λ s w t. DidLoad (state_of s) w (state_of t);
-      quick = λ s won t. DidQuick (state_of s) won (state_of t);
-      fast = λ s ready won t. DidFast (state_of s) ready won (state_of t);
-      count_in = λ s limit c t. DidCountIn (state_of s) limit c (state_of t);
-      add_one = λ s t. DidAddOne (state_of s) (state_of t);
-      count_out = λ s w t. DidCountOut (state_of s) w (state_of t);
-      door_get = λ s q t. DidDoorGet (state_of s) q (state_of t);
-      door_put = λ s q t. DidDoorPut (state_of s) q (state_of t);
-      door_take = λ s stood t. DidDoorTake (state_of s) stood (state_of t);
-      section = λ s q op a o t. DidSection W.tells_same W.tells_other (state_of s) q op a o (state_of t);
-      refuse = λ s t. t ≡ s;
-      ran = λ s answer t. t ≡ s;
-      put = λ s t. t ≡ s;
-    } };
+    ghost did = { λ s e t. DidCall W.tells_same W.tells_other (state_of s) e (state_of t) };
 
     fn load(&mut self) -> u64 {
         self.word.bits()
@@ -238,8 +223,8 @@ impl<W: WakerId + Drop> Parts<W> for Core<W> {
         self.word.fast(ready)
     }
 
-    fn count_in(&mut self, limit: u64) -> Counted {
-        if self.word.count() < limit {
+    fn count_in(&mut self) -> Counted {
+        if self.word.count() < self.limit {
             let before = self.word.bits();
             self.word.count_in();
             Counted::In(before)

@@ -1,10 +1,6 @@
 //! One step of a call at a time, over any parts and any side.
-ghost use Rattle.once_core.specs.Steps.{Wakes, out_of};
-ghost use Rattle.std.specs.Prelude.{◌≡◌, ◌<◌, ◌≤◌, ◌-◌, ◌^◌, ◌↔◌, IsTrue, ℕ, Bool, true, false, Option, Some, None};
-ghost use Rattle.once_queue.specs.declared.waiters.Answer.{Answer};
-ghost use Rattle.once_queue.specs.declared.waiters.Op.{Op};
+ghost use Rattle.std.specs.Prelude.{◌≡◌, ◌<◌, ◌≤◌, ◌↔◌, IsTrue, true, false};
 ghost use Rattle.once_core.specs.declared.step.Polled.{Polled};
-ghost use Rattle.once_core.specs.declared.step.Ending.{Ending};
 
 mod first;
 mod handed;
@@ -146,12 +142,9 @@ pub enum Step<W, Q> {
 }
 
 impl<W: Drop, Q: Drop> Step<W, Q> {
-    ghost use Rattle.once_queue.specs.Word.{flags_of, is_zero, is_ready_bit};
     ghost use Rattle.once_core.specs.Steps.{left_of, is_resting, in_call, is_running, is_leaving};
-    ghost use Rattle.once_core.specs.Steps.{is_freeing, is_adding, is_value, step_of_poll, step_of_drop};
-    ghost use Rattle.once_core.specs.Steps.{release_place, next_at, Asks, Advances, LeadsTo};
-    ghost use Rattle.once_core.specs.Steps.{Follows, after_start, after_quick, after_door_get, after_door_put};
-    ghost use Rattle.once_core.specs.Steps.{after_run, after_fast, after_door_again, after_count_out};
+    ghost use Rattle.once_core.specs.Steps.{is_freeing, is_adding, step_of_poll, step_of_drop};
+    ghost use Rattle.once_core.specs.Table.{Line, Advances, AsksAt, Asks};
 
     /// A task that was not polled yet.
     #[inline(always)]
@@ -274,19 +267,17 @@ impl<W: Drop, Q: Drop> Step<W, Q> {
         &mut self,
         parts: &mut P,
         side: &mut S,
-        limit: u64,
     ) -> Progress
         requires call { in_call self.old ≡ true }
-        requires limit { limit ≤ 2 ^ 62 - 2 }
-        requires asks { Asks P.can S.can_run S.can_put limit self.old parts.old side.old }
+        requires asks { Asks P.can S.can_run S.can_put self.old parts.old side.old }
         ensures lower { left_of self.new < left_of self.old }
-        ensures line { Advances P.did S.did limit self.old parts.old side.old result self.new parts.new side.new }
+        ensures line { Advances P.did S.did self.old parts.old side.old result self.new parts.new side.new }
         ensures stays { S.stays side.old side.new }
     {
         match *self {
             Step::UnderWay(Place::Start) => self.start(parts, side),
-            Step::UnderWay(Place::TryQuick) => self.try_quick(parts),
-            Step::UnderWay(Place::DoorGet) => self.door_get(parts),
+            Step::UnderWay(Place::TryQuick) => self.try_quick(parts, side),
+            Step::UnderWay(Place::DoorGet) => self.door_get(parts, side),
             Step::UnderWay(Place::DoorPut) => self.door_put(parts, side),
             Step::UnderWay(Place::Run(ref mut by)) => {
                 let by = by.take();
@@ -296,19 +287,13 @@ impl<W: Drop, Q: Drop> Step<W, Q> {
                 let by = by.take();
                 self.put(by, parts, side)
             }
-            Step::UnderWay(Place::Fast(ending)) => self.fast(ending, parts),
-            Step::UnderWay(Place::AddOne(ending)) => {
-                parts.add_one();
-                self.on(Place::DoorAgain(ending))
-            }
-            Step::UnderWay(Place::DoorAgain(ending)) => self.door_again(ending, parts),
-            Step::UnderWay(Place::CountOut(ending)) => self.count_out(ending, parts),
-            Step::UnderWay(Place::DoorTake(ending)) => {
-                parts.door_take();
-                self.end(ending)
-            }
+            Step::UnderWay(Place::Fast(ending)) => self.fast(ending, parts, side),
+            Step::UnderWay(Place::AddOne(ending)) => self.add_one(ending, parts, side),
+            Step::UnderWay(Place::DoorAgain(ending)) => self.door_again(ending, parts, side),
+            Step::UnderWay(Place::CountOut(ending)) => self.count_out(ending, parts, side),
+            Step::UnderWay(Place::DoorTake(ending)) => self.door_take(ending, parts, side),
             _ => match self.take_place() {
-                Place::CountIn(queue) => self.count_in(queue, parts, side, limit),
+                Place::CountIn(queue) => self.count_in(queue, parts, side),
                 Place::WaitLoad(queue, ticket) => self.wait_load(queue, ticket, parts, side),
                 Place::Look(queue, ticket) => self.look(queue, ticket, parts, side),
                 Place::List(queue, ticket, waker) => self.list(queue, ticket, waker, parts, side),
@@ -374,11 +359,13 @@ impl<W: Drop, Q: Drop> Step<W, Q> {
     }
 
     #[inline(always)]
-    fn start<P: Parts<W, Queue = Q>, S: Side<W>>(&mut self, parts: &mut P, side: &mut S) -> Progress
-        requires { P.can.load parts.old }
-        ensures line { (w : ℕ) × P.did.load parts.old w parts.new
-            × Follows S.did.close (after_start (flags_of w).ready (is_zero (flags_of w)))
-            side.old side.new result self.new }
+    fn start<P: Parts<W, Queue = Q>, S: Side<W>>(
+        &mut self,
+        parts: &mut P,
+        side: &mut S,
+    ) -> Progress
+        requires { AsksAt P.can S.can_run S.can_put Place.Start parts.old side.old }
+        ensures line { Line P.did S.did Place.Start parts.old side.old result self.new parts.new side.new }
         ensures stays { S.stays side.old side.new }
     {
         let word = Word::from_bits(parts.load());
@@ -393,9 +380,14 @@ impl<W: Drop, Q: Drop> Step<W, Q> {
     }
 
     #[inline(always)]
-    fn try_quick<P: Parts<W, Queue = Q>>(&mut self, parts: &mut P) -> Progress
-        requires { P.can.quick parts.old }
-        ensures line { (b : Bool) × P.did.quick parts.old b parts.new × LeadsTo (after_quick b) result self.new }
+    fn try_quick<P: Parts<W, Queue = Q>, S: Side<W>>(
+        &mut self,
+        parts: &mut P,
+        side: &mut S,
+    ) -> Progress
+        requires { AsksAt P.can S.can_run S.can_put Place.TryQuick parts.old side.old }
+        ensures line { Line P.did S.did Place.TryQuick parts.old side.old result self.new parts.new side.new }
+        ensures stays { S.stays side.old side.new }
     {
         if parts.quick() {
             return self.on(Place::Run(None));
@@ -404,10 +396,14 @@ impl<W: Drop, Q: Drop> Step<W, Q> {
     }
 
     #[inline(always)]
-    fn door_get<P: Parts<W, Queue = Q>>(&mut self, parts: &mut P) -> Progress
-        requires { P.can.door_get parts.old }
-        ensures line { (q : Option Q) × P.did.door_get parts.old q parts.new
-            × LeadsTo (after_door_get q) result self.new }
+    fn door_get<P: Parts<W, Queue = Q>, S: Side<W>>(
+        &mut self,
+        parts: &mut P,
+        side: &mut S,
+    ) -> Progress
+        requires { AsksAt P.can S.can_run S.can_put Place.DoorGet parts.old side.old }
+        ensures line { Line P.did S.did Place.DoorGet parts.old side.old result self.new parts.new side.new }
+        ensures stays { S.stays side.old side.new }
     {
         match parts.door_get() {
             Some(queue) => self.on(Place::CountIn(queue)),
@@ -421,9 +417,8 @@ impl<W: Drop, Q: Drop> Step<W, Q> {
         parts: &mut P,
         side: &mut S,
     ) -> Progress
-        requires { P.can.door_put parts.old }
-        ensures line { (q : Option Q) × P.did.door_put parts.old q parts.new
-            × Follows S.did.close (after_door_put q) side.old side.new result self.new }
+        requires { AsksAt P.can S.can_run S.can_put Place.DoorPut parts.old side.old }
+        ensures line { Line P.did S.did Place.DoorPut parts.old side.old result self.new parts.new side.new }
         ensures stays { S.stays side.old side.new }
     {
         match parts.door_put() {
@@ -442,9 +437,8 @@ impl<W: Drop, Q: Drop> Step<W, Q> {
         parts: &mut P,
         side: &mut S,
     ) -> Progress
-        requires { P.can.ran parts.old × S.can_run side.old }
-        ensures line { (a : Polled) × (m : S) × S.did.run side.old a m × P.did.ran parts.old a parts.new
-            × Follows S.did.close (after_run a by) m side.new result self.new }
+        requires { AsksAt P.can S.can_run S.can_put (Place.Run by) parts.old side.old }
+        ensures line { Line P.did S.did (Place.Run by) parts.old side.old result self.new parts.new side.new }
         ensures stays { S.stays side.old side.new }
     {
         match parts.run(side) {
@@ -467,10 +461,8 @@ impl<W: Drop, Q: Drop> Step<W, Q> {
         parts: &mut P,
         side: &mut S,
     ) -> Progress
-        requires parts { P.can.put parts.old }
-        requires side { S.can_put side.old }
-        ensures line { S.did.put side.old side.new × P.did.put parts.old parts.new
-            × LeadsTo (next_at (release_place by Ending.Value)) result self.new }
+        requires { AsksAt P.can S.can_run S.can_put (Place.Put by) parts.old side.old }
+        ensures line { Line P.did S.did (Place.Put by) parts.old side.old result self.new parts.new side.new }
         ensures stays { S.stays side.old side.new }
     {
         parts.put(side.put());
@@ -478,10 +470,15 @@ impl<W: Drop, Q: Drop> Step<W, Q> {
     }
 
     #[inline(always)]
-    fn fast<P: Parts<W, Queue = Q>>(&mut self, ending: Ending, parts: &mut P) -> Progress
-        requires { P.can.fast parts.old (is_value ending) }
-        ensures line { (b : Bool) × P.did.fast parts.old (is_value ending) b parts.new
-            × LeadsTo (after_fast b (is_value ending) ending) result self.new }
+    fn fast<P: Parts<W, Queue = Q>, S: Side<W>>(
+        &mut self,
+        ending: Ending,
+        parts: &mut P,
+        side: &mut S,
+    ) -> Progress
+        requires { AsksAt P.can S.can_run S.can_put (Place.Fast ending) parts.old side.old }
+        ensures line { Line P.did S.did (Place.Fast ending) parts.old side.old result self.new parts.new side.new }
+        ensures stays { S.stays side.old side.new }
     {
         let filled = ending.is_value();
         if !parts.fast(filled) {
@@ -494,10 +491,30 @@ impl<W: Drop, Q: Drop> Step<W, Q> {
     }
 
     #[inline(always)]
-    fn door_again<P: Parts<W, Queue = Q>>(&mut self, ending: Ending, parts: &mut P) -> Progress
-        requires { P.can.door_get parts.old }
-        ensures line { (q : Option Q) × P.did.door_get parts.old q parts.new
-            × LeadsTo (after_door_again q ending) result self.new }
+    fn add_one<P: Parts<W, Queue = Q>, S: Side<W>>(
+        &mut self,
+        ending: Ending,
+        parts: &mut P,
+        side: &mut S,
+    ) -> Progress
+        requires { AsksAt P.can S.can_run S.can_put (Place.AddOne ending) parts.old side.old }
+        ensures line { Line P.did S.did (Place.AddOne ending) parts.old side.old result self.new parts.new side.new }
+        ensures stays { S.stays side.old side.new }
+    {
+        parts.add_one();
+        self.on(Place::DoorAgain(ending))
+    }
+
+    #[inline(always)]
+    fn door_again<P: Parts<W, Queue = Q>, S: Side<W>>(
+        &mut self,
+        ending: Ending,
+        parts: &mut P,
+        side: &mut S,
+    ) -> Progress
+        requires { AsksAt P.can S.can_run S.can_put (Place.DoorAgain ending) parts.old side.old }
+        ensures line { Line P.did S.did (Place.DoorAgain ending) parts.old side.old result self.new parts.new side.new }
+        ensures stays { S.stays side.old side.new }
     {
         match parts.door_get() {
             Some(queue) => self.on(Place::Release(queue, ending)),
@@ -513,12 +530,8 @@ impl<W: Drop, Q: Drop> Step<W, Q> {
         parts: &mut P,
         side: &mut S,
     ) -> Progress
-        requires { P.can.section parts.old queue (Op.Release (is_value ending)) }
-        ensures section { (a : Answer W) × (o : Op W)
-            × P.did.section parts.old queue (Op.Release (is_value ending)) a o parts.new
-            × Wakes S.did.wake (out_of a) side.old side.new }
-        ensures more { result ≡ Progress.More }
-        ensures step { self.new ≡ Step.UnderWay (Place.CountOut ending) }
+        requires { AsksAt P.can S.can_run S.can_put (Place.Release queue ending) parts.old side.old }
+        ensures line { Line P.did S.did (Place.Release queue ending) parts.old side.old result self.new parts.new side.new }
         ensures stays { S.stays side.old side.new }
     {
         let answer = parts.section(&queue, &mut Op::Release(ending.is_value()));
@@ -527,14 +540,34 @@ impl<W: Drop, Q: Drop> Step<W, Q> {
     }
 
     #[inline(always)]
-    fn count_out<P: Parts<W, Queue = Q>>(&mut self, ending: Ending, parts: &mut P) -> Progress
-        requires { P.can.count_out parts.old }
-        ensures line { (w : ℕ) × P.did.count_out parts.old w parts.new
-            × LeadsTo (after_count_out (is_ready_bit (flags_of w)) ending) result self.new }
+    fn count_out<P: Parts<W, Queue = Q>, S: Side<W>>(
+        &mut self,
+        ending: Ending,
+        parts: &mut P,
+        side: &mut S,
+    ) -> Progress
+        requires { AsksAt P.can S.can_run S.can_put (Place.CountOut ending) parts.old side.old }
+        ensures line { Line P.did S.did (Place.CountOut ending) parts.old side.old result self.new parts.new side.new }
+        ensures stays { S.stays side.old side.new }
     {
         if Word::from_bits(parts.count_out()).is_ready_alone() {
             return self.on(Place::DoorTake(ending));
         }
+        self.end(ending)
+    }
+
+    #[inline(always)]
+    fn door_take<P: Parts<W, Queue = Q>, S: Side<W>>(
+        &mut self,
+        ending: Ending,
+        parts: &mut P,
+        side: &mut S,
+    ) -> Progress
+        requires { AsksAt P.can S.can_run S.can_put (Place.DoorTake ending) parts.old side.old }
+        ensures line { Line P.did S.did (Place.DoorTake ending) parts.old side.old result self.new parts.new side.new }
+        ensures stays { S.stays side.old side.new }
+    {
+        parts.door_take();
         self.end(ending)
     }
 }

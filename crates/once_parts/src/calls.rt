@@ -13,7 +13,6 @@ use crate::side::TaskSide;
 use once_book::hand::Hand;
 use once_book::mark::TaskWaker;
 use once_core::step::{Ending, Progress, Step};
-use once_queue::word::MAX_WAITERS;
 use std::alloc::AllocGlobal;
 use std::sync::Wait;
 
@@ -70,7 +69,7 @@ pub fn one_step<
     ensures stays { S.stays side.old side.new }
 {
     let _ = told;
-    step.advance(parts, side, MAX_WAITERS)
+    step.advance(parts, side)
 }
 
 /// Makes the steps that are left of the call, and answers how it ended. There are at most sixteen. `told` is what

@@ -379,7 +379,7 @@ impl<T, W: TaskWaker + Drop, R: Wait> Shared<'_, '_, T, W, R> {
 
 /// Each call is one moment of the cell's book. There is one queue, which lies with the door, so a waiter keeps none.
 impl<T, W: TaskWaker + Drop, R: Wait + AllocGlobal> Parts<W> for Shared<'_, '_, T, W, R> {
-    ghost use Rattle.once_parts.specs.Parts.{parts_ask, parts_tell};
+    ghost use Rattle.once_parts.specs.Parts.{parts_can, parts_did};
     ghost use Rattle.once_parts.specs.Shares.{cell_of, own};
 
     type Queue = ();
@@ -388,9 +388,9 @@ impl<T, W: TaskWaker + Drop, R: Wait + AllocGlobal> Parts<W> for Shared<'_, '_, 
 
     type Right = Hand;
 
-    ghost can = { parts_ask cell_of own W.whose };
+    ghost can = { parts_can cell_of own W.whose };
 
-    ghost did = { parts_tell cell_of own W.whose };
+    ghost did = { parts_did cell_of own W.whose };
 
     #[inline(always)]
     fn load(&mut self) -> u64 {
@@ -409,7 +409,7 @@ impl<T, W: TaskWaker + Drop, R: Wait + AllocGlobal> Parts<W> for Shared<'_, '_, 
 
     // It is tried again while others change the word between the load and the exchange.
     #[inline(always)]
-    fn count_in(&mut self, _limit: u64) -> Counted {
+    fn count_in(&mut self) -> Counted {
         for _ in self.rt.forever() {
             if let Some(counted) = self.hand.try_count_in(&self.inner.word) {
                 return counted;

@@ -14,10 +14,9 @@ pub use Rattle.once_core.specs.Steps.{place_of_poll, step_of_poll, release_place
 pub use Rattle.once_core.specs.Steps.{leave_place, step_of_drop_at, step_of_drop}
 use Rattle.once_core.specs.Steps.{Next, next_at, next_end}
 use Rattle.once_core.specs.Steps.{after_start, after_quick, after_door_get, after_door_put}
-use Rattle.once_core.specs.Steps.{after_in, after_count_in, after_load}
+use Rattle.once_core.specs.Steps.{after_count_in, after_load}
 use Rattle.once_core.specs.Steps.{after_look, after_list, after_run, after_fast, after_door_again, after_count_out}
 use Rattle.once_core.specs.Core.{put_answer}
-use Rattle.once_core.specs.declared.parts.Counted.TheVariants.{Full as CountFull, SeenReady}
 use Rattle.once_core.specs.declared.step.Polled.{Polled}
 use Rattle.once_core.specs.declared.step.Polled.TheVariants.{Pending as PolledPending, Value as PolledValue}
 use Rattle.once_core.specs.declared.step.Polled.TheVariants.{Error as PolledError}
@@ -164,14 +163,8 @@ in_shared true c = record c { count = suc c.count }
 in_shared false c = c
 
 -- below the limit, ready
-abbrev pub next_in : Bool → Bool → ℕ → Next ℕ ℕ
-next_in true ready q = after_in ready q
-next_in false true q = after_count_in SeenReady q
-next_in false false q = after_count_in CountFull q
-
--- below the limit, ready
 abbrev pub in_step : Bool → Bool → SharedState → ℕ → Answer → ℕ → Outcome
-in_step below ready c t k q = outcome_of (in_shared below c) t k [] (next_in below ready q)
+in_step below ready c t k q = outcome_of (in_shared below c) t k [] (after_count_in below ready q)
 
 -- ready
 abbrev pub load_step : Bool → SharedState → ℕ → Answer → ℕ → Option ℕ → Outcome

@@ -154,7 +154,7 @@ lazy_in w = w.shared.side.lazy
 
 -- the limit of a replay under way
 abbrev pub limit_in : World → ℕ
-limit_in w = w.limit
+limit_in w = w.shared.core.limit
 
 -- the record of a replay, the newest entry first
 abbrev pub record_entries : GivenRecord → List Entry

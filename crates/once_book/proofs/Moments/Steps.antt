@@ -3,15 +3,12 @@ use Rattle.std.proofs.Common.{◌≡◌, ℕ, Bool, true, false, Option, Some, N
 use Rattle.std.specs.Option.{option_map}
 use Rattle.once_queue.specs.declared.waiters.Answer.{Answer}
 use Rattle.once_queue.specs.declared.waiters.Answer.TheVariants.{Ready, Claimed, Listed, Held, Memory, Gone, Released, Left}
-use Rattle.once_core.specs.declared.parts.Counted.{Counted}
-use Rattle.once_core.specs.declared.parts.Counted.TheVariants.{In, Full, SeenReady}
 use Rattle.once_core.specs.declared.step.Polled.{Polled}
 use Rattle.once_core.specs.declared.step.Polled.TheVariants.{Pending, Value, Error}
-use Rattle.once_queue.specs.Word.{flags_of}
 use Rattle.once_core.specs.Steps.{Next}
 use Rattle.once_world.specs.Machine.{EndMemory, EndError, EndDropped, Ending, RestRun, RestStart, RestWait, Resting, Step, UnderWay, Finished}
 use Rattle.once_core.specs.Steps.{after_copy, after_count_in, after_count_out, after_door_again, after_door_get}
-use Rattle.once_core.specs.Steps.{after_door_put, after_fast, after_in, after_list, after_load, after_look, after_quick}
+use Rattle.once_core.specs.Steps.{after_door_put, after_fast, after_list, after_load, after_look, after_quick}
 use Rattle.once_core.specs.Steps.{after_run, after_start, closing_at, leave_place, release_place, step_of_drop, step_of_poll}
 use Rattle.once_book.specs.Steps.{StandsForStep, answer_as, next_as, place_as, step_as}
 
@@ -63,16 +60,12 @@ module _ {W V Q P : Type 0} (f : W → V) (g : Q → P) where
   put_as (Some q) = refl
   put_as None = refl
 
-  -- a counted task
-  in_as : (ready : Bool) (q : Q) → next_as f g (after_in ready q) ≡ after_in ready (g q)
-  in_as true q = refl
-  in_as false q = refl
-
   -- AtCountIn
-  pub count_in_as : (c : Counted) (q : Q) → next_as f g (after_count_in c q) ≡ after_count_in c (g q)
-  count_in_as (In n) q = in_as (flags_of n).ready q
-  count_in_as Full q = refl
-  count_in_as SeenReady q = refl
+  pub count_in_as : (is_in ready : Bool) (q : Q) → next_as f g (after_count_in is_in ready q) ≡ after_count_in is_in ready (g q)
+  count_in_as true true q = refl
+  count_in_as true false q = refl
+  count_in_as false true q = refl
+  count_in_as false false q = refl
 
   -- AtWaitLoad
   pub load_as : (ready : Bool) (q : Q) (k : Option ℕ) → next_as f g (after_load ready q k) ≡ after_load ready (g q) k

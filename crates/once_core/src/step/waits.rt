@@ -1,8 +1,5 @@
 //! The places of a task that waits.
-ghost use Rattle.once_core.specs.Steps.{Wakes, out_of};
-ghost use Rattle.std.specs.Prelude.{◌≡◌, ◌≤◌, ◌-◌, ◌^◌, ℕ, Option, Some};
-ghost use Rattle.once_queue.specs.declared.waiters.Answer.{Answer};
-ghost use Rattle.once_queue.specs.declared.waiters.Op.{Op};
+ghost use Rattle.std.specs.Prelude.{Option};
 
 use super::handed::wake;
 use super::place::{Place, Rest};
@@ -12,11 +9,8 @@ use once_queue::waiters::{Answer, Op};
 use once_queue::word::Word;
 
 impl<W: Drop, Q: Drop> Step<W, Q> {
-    ghost use Rattle.once_core.specs.declared.parts.Counted.{Counted};
-    ghost use Rattle.once_queue.specs.Word.{flags_of};
-    ghost use Rattle.once_queue.specs.Ops.{ticket_in};
-    ghost use Rattle.once_core.specs.Steps.{Follows, AfterLook, MayRefuse};
-    ghost use Rattle.once_core.specs.Steps.{after_count_in, after_load, after_copy, after_list};
+    ghost use Rattle.once_core.specs.Steps.{Follows, after_copy};
+    ghost use Rattle.once_core.specs.Table.{Line, AsksAt, MayRefuse, Refuse, Refused};
 
     #[inline(always)]
     pub(super) fn count_in<P: Parts<W, Queue = Q>, S: Side<W>>(
@@ -24,15 +18,12 @@ impl<W: Drop, Q: Drop> Step<W, Q> {
         queue: Q,
         parts: &mut P,
         side: &mut S,
-        limit: u64,
     ) -> Progress
-        requires limit { limit ≤ 2 ^ 62 - 2 }
-        requires can { P.can.count_in parts.old limit }
-        ensures line { (c : Counted) × P.did.count_in parts.old limit c parts.new
-            × Follows S.did.close (after_count_in c queue) side.old side.new result self.new }
+        requires { AsksAt P.can S.can_run S.can_put (Place.CountIn queue) parts.old side.old }
+        ensures line { Line P.did S.did (Place.CountIn queue) parts.old side.old result self.new parts.new side.new }
         ensures stays { S.stays side.old side.new }
     {
-        match parts.count_in(limit) {
+        match parts.count_in() {
             Counted::In(word) if Word::from_bits(word).is_ready() => {
                 side.close();
                 self.on(Place::CountOut(Ending::Value))
@@ -57,9 +48,8 @@ impl<W: Drop, Q: Drop> Step<W, Q> {
         parts: &mut P,
         side: &mut S,
     ) -> Progress
-        requires { P.can.load parts.old }
-        ensures line { (w : ℕ) × P.did.load parts.old w parts.new
-            × Follows S.did.close (after_load (flags_of w).ready queue ticket) side.old side.new result self.new }
+        requires { AsksAt P.can S.can_run S.can_put (Place.WaitLoad queue ticket) parts.old side.old }
+        ensures line { Line P.did S.did (Place.WaitLoad queue ticket) parts.old side.old result self.new parts.new side.new }
         ensures stays { S.stays side.old side.new }
     {
         if Word::from_bits(parts.load()).is_ready() {
@@ -77,10 +67,8 @@ impl<W: Drop, Q: Drop> Step<W, Q> {
         parts: &mut P,
         side: &mut S,
     ) -> Progress
-        requires { P.can.section parts.old queue (Op.Look ticket) }
-        ensures line { (a : Answer W) × (o : Op W) × (n : P) × P.did.section parts.old queue (Op.Look ticket) a o n
-            × AfterLook P.did.refuse S.did.close S.did.copy a queue (ticket_in o)
-            n side.old result self.new parts.new side.new }
+        requires { AsksAt P.can S.can_run S.can_put (Place.Look queue ticket) parts.old side.old }
+        ensures line { Line P.did S.did (Place.Look queue ticket) parts.old side.old result self.new parts.new side.new }
         ensures stays { S.stays side.old side.new }
     {
         let mut op = Op::Look(ticket);
@@ -104,9 +92,9 @@ impl<W: Drop, Q: Drop> Step<W, Q> {
         parts: &mut P,
         side: &mut S,
     ) -> Progress
-        requires { P.can.refuse parts.old }
+        requires { P.can parts.old Refuse }
         ensures line { (c : Option W) × (m : S) × S.did.copy side.old c m
-            × MayRefuse P.did.refuse c parts.old parts.new
+            × MayRefuse (λ p t. P.did p Refused t) c parts.old parts.new
             × Follows S.did.close (after_copy c queue ticket) m side.new result self.new }
         ensures stays { S.stays side.old side.new }
     {
@@ -129,10 +117,8 @@ impl<W: Drop, Q: Drop> Step<W, Q> {
         parts: &mut P,
         side: &mut S,
     ) -> Progress
-        requires { P.can.section parts.old queue (Op.List ticket (Some waker)) }
-        ensures line { (a : Answer W) × (o : Op W)
-            × P.did.section parts.old queue (Op.List ticket (Some waker)) a o parts.new
-            × Follows S.did.close (after_list a queue (ticket_in o)) side.old side.new result self.new }
+        requires { AsksAt P.can S.can_run S.can_put (Place.List queue ticket waker) parts.old side.old }
+        ensures line { Line P.did S.did (Place.List queue ticket waker) parts.old side.old result self.new parts.new side.new }
         ensures stays { S.stays side.old side.new }
     {
         let mut op = Op::List(ticket, Some(waker));
@@ -159,11 +145,8 @@ impl<W: Drop, Q: Drop> Step<W, Q> {
         parts: &mut P,
         side: &mut S,
     ) -> Progress
-        requires { P.can.section parts.old queue (Op.Leave ticket) }
-        ensures section { (a : Answer W) × (o : Op W) × P.did.section parts.old queue (Op.Leave ticket) a o parts.new
-            × Wakes S.did.wake (out_of a) side.old side.new }
-        ensures more { result ≡ Progress.More }
-        ensures step { self.new ≡ Step.UnderWay (Place.CountOut ending) }
+        requires { AsksAt P.can S.can_run S.can_put (Place.Leave queue ticket ending) parts.old side.old }
+        ensures line { Line P.did S.did (Place.Leave queue ticket ending) parts.old side.old result self.new parts.new side.new }
         ensures stays { S.stays side.old side.new }
     {
         let answer = parts.section(&queue, &mut Op::Leave(ticket));

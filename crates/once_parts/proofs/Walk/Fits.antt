@@ -2,14 +2,11 @@
 use Rattle.std.proofs.Common.{◌≡◌, ℕ, Bool, true, false, [], Option, Some, None, refl, sym, ◌∙◌, subst}
 use Rattle.once_queue.specs.declared.waiters.Answer.{Answer}
 use Rattle.once_queue.specs.declared.waiters.Answer.TheVariants.{Ready, Claimed, Listed, Held, Memory, Gone, Released, Left}
-use Rattle.once_core.specs.declared.parts.Counted.{Counted}
-use Rattle.once_core.specs.declared.parts.Counted.TheVariants.{In, Full, SeenReady}
 use Rattle.once_core.specs.declared.step.Polled.{Polled}
 use Rattle.once_core.specs.declared.step.Polled.TheVariants.{Pending, Value, Error}
-use Rattle.once_queue.specs.Word.{flags_of}
 use Rattle.once_core.specs.Steps.{Next}
 use Rattle.once_world.specs.Places.{Ending, EndPending, EndValue, EndError, EndMemory, EndFull, EndDropped}
-use Rattle.once_core.specs.Steps.{after_copy, after_count_in, after_count_out, after_door_again, after_door_get, after_door_put, after_fast, after_in}
+use Rattle.once_core.specs.Steps.{after_copy, after_count_in, after_count_out, after_door_again, after_door_get, after_door_put, after_fast}
 use Rattle.once_core.specs.Steps.{after_list, after_load, after_look, after_quick, after_run, after_start, leave_place, next_at, next_end, release_place}
 use Rattle.once_world.specs.declared.record.Ran.TheVariants.{Error as RanError}
 use Rattle.once_book.specs.Own.{Own}
@@ -81,14 +78,11 @@ module _ (W Q : Type 0) (drops : Bool) (x : Sided) (v : Own) where
   put_fits (Some q) b i = (refl, (b, i refl))
   put_fits None b i = (EndMemory, refl, ends_memory drops x v b)
 
-  in_fits : (ready : Bool) (q : Q) → HasBegun drops x v → HasInit (after_in ready q) → FitsNext (after_in ready q)
-  in_fits true q b i = (refl, ends_value drops x v b)
-  in_fits false q b i = (refl, (b, i refl))
-
-  pub count_in_fits : (c : Counted) (q : Q) → HasBegun drops x v → HasInit (after_count_in c q) → FitsNext (after_count_in c q)
-  count_in_fits (In n) q b i = in_fits (flags_of n).ready q b i
-  count_in_fits Full q b i = (EndFull, refl, ends_full drops x v b)
-  count_in_fits SeenReady q b i = (EndValue, refl, ends_value drops x v b)
+  pub count_in_fits : (is_in ready : Bool) (q : Q) → HasBegun drops x v → HasInit (after_count_in is_in ready q) → FitsNext (after_count_in is_in ready q)
+  count_in_fits true true q b i = (refl, ends_value drops x v b)
+  count_in_fits true false q b i = (refl, (b, i refl))
+  count_in_fits false true q b i = (EndValue, refl, ends_value drops x v b)
+  count_in_fits false false q b i = (EndFull, refl, ends_full drops x v b)
 
   pub load_fits : (ready : Bool) (q : Q) (k : Option ℕ) → HasBegun drops x v → HasInit (after_load ready q k) → FitsNext (after_load ready q k)
   load_fits true q k b i = (refl, ends_value drops x v b)

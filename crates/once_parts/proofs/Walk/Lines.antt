@@ -4,13 +4,16 @@ use Rattle.std.specs.Prelude.{⊤}
 use Rattle.std.proofs.lemmas.List.{append-nil}
 use Rattle.std.specs.Option.{is_some, option_map}
 use Rattle.pagebook.specs.Slot.{Placed}
-use Rattle.once_queue.specs.Word.{flags_of, is_ready_bit, is_zero}
+use Rattle.once_queue.specs.Word.{is_ready_bit, is_zero}
 use Rattle.once_queue.specs.Ops.{ticket_in}
+use Rattle.once_queue.specs.declared.waiters.Op.{Op}
+use Rattle.once_queue.specs.declared.waiters.Op.TheVariants.{Look}
 use Rattle.once_queue.specs.declared.waiters.Answer.{Answer}
 use Rattle.once_queue.specs.declared.waiters.Answer.TheVariants.{Ready, Claimed, Listed, Held, Memory, Gone, Released, Left}
 use Rattle.once_core.specs.declared.step.Polled.{Polled}
 use Rattle.once_core.specs.declared.step.Polled.TheVariants.{Pending, Value, Error}
-use Rattle.once_core.specs.Steps.{AfterLook, Follows, Line, MayClose, MayRefuse, Next, SideTells, Wakes, out_of}
+use Rattle.once_core.specs.Steps.{Follows, MayClose, Next, SideTells, Wakes, out_of}
+use Rattle.once_core.specs.Table.{Line, Looked, MayRefuse, Refused, Was, wants_copy}
 use Rattle.once_world.specs.Places.{Ending, EndValue, More, Progress, Step, UnderWay}
 use Rattle.once_world.specs.Places.{Place, AtStart, AtTryQuick, AtDoorGet, AtDoorPut, AtCountIn, AtWaitLoad, AtLook, AtList}
 use Rattle.once_world.specs.Places.{AtRun, AtPut, AtFast, AtAddOne, AtDoorAgain, AtRelease, AtLeave, AtCountOut, AtDoorTake}
@@ -34,7 +37,7 @@ use Rattle.once_parts.proofs.Walk.Fits.{again_fits, begun_on, copy_fits, count_i
 use Rattle.once_parts.proofs.Walk.Fits.{load_fits, look_fits, may_end_on, out_fits, put_fits, quick_fits, run_fits, start_fits, take_fits}
 use Rattle.once_book.proofs.Desks.{prefix_on}
 use Rattle.once_parts.proofs.Walk.Logs.{grew_on}
-use Rattle.once_parts.specs.Parts.{parts_tell}
+use Rattle.once_parts.specs.Parts.{parts_did}
 use Rattle.once_parts.proofs.Walk.Parts.{Went, quiet, went_by}
 use Rattle.std.proofs.lemmas.Bool.{false≢true}
 
@@ -136,7 +139,7 @@ still_after b x y z same c = record {
   woke = c.woke ∙ ap (λ (x : Sided). x.woke) same;
 }
 
-module _ {P S W : Type 0} (cell : P → Placed) (own : P → Own) (whose : W → ℕ) (state : S → Sided) (side : SideTells S W) (tells : IsTold whose state side) (limit : ℕ) (drops : Bool) where
+module _ {P S W : Type 0} (cell : P → Placed) (own : P → Own) (whose : W → ℕ) (state : S → Sided) (side : SideTells S W) (tells : IsTold whose state side) (drops : Bool) where
   -- an init that is dropped or not
   closed : (b : Bool) (s s' : S) → MayClose side.close b s s' → Still b (state s) (state s')
   closed true s s' c =
@@ -211,7 +214,7 @@ module _ {P S W : Type 0} (cell : P → Placed) (own : P → Own) (whose : W →
   module _ (p n p' : P) (s s' : S) (r : Progress) (t : Step W ⊤) (number : (state s).number ≡ (own p).number) (b : GoesOn drops (state s) (own p)) (q : ℕ) (k : Option ℕ) where
     -- where it found a holder: the copy is made, or its refusal is told
     copied : (c : Option W) (m : S) → cell n ≡ cell p → Did (own p) [] (after_copy (Some (own p).task.waker) q k) (own n)
-        → side.copy s c m → MayRefuse (parts_tell cell own whose).refuse c n p' → Follows side.close (after_copy c tt k) m s' r t → Went cell own whose state drops p s r p' s' t
+        → side.copy s c m → MayRefuse (λ p t. parts_did cell own whose p Refused t) c n p' → Follows side.close (after_copy c tt k) m s' r t → Went cell own whose state drops p s r p' s' t
     copied (Some w) m same d copy is f =
         let told = tells.copy s (Some w) m copy in
         let now = still_after false (state s) (state m) (state s') told.0 (closed false m s' f.0) in
@@ -250,52 +253,53 @@ module _ {P S W : Type 0} (cell : P → Placed) (own : P → Own) (whose : W →
         (look_as whose (λ (q : ⊤). q) a None tt k ∙ alike) (look_again a v q k) (claim_mid (is_claim (answer_as a)) (own p).number) (claim_handed (is_claim (answer_as a)) (own p).number) f
         (λ still. look_fits W ⊤ drops (state s') (own p') a None tt k (begun p p' s s' r t number did (after_look (answer_as a) (Some v) q k) b after still) (inits p p' s s' r t number b still))
 
-    -- by its answer
-    looked : (a : Answer W) → cell n ≡ cell p → Did (own p) (claim_entries (is_claim (answer_as a)) (own p).number) (after_look (answer_as a) (Some (own p).task.waker) q k) (own n)
-        → AfterLook (parts_tell cell own whose).refuse side.close side.copy a tt k n s r t p' s' → Went cell own whose state drops p s r p' s' t
-    looked Ready same d f = seen Ready same d refl f.0 f.1
-    looked Claimed same d f = seen Claimed same d refl f.0 f.1
-    looked Listed same d f = seen Listed same d refl f.0 f.1
-    looked Held same d (c, m, copy, may, f) = copied c m same d copy may f
-    looked Memory same d (c, m, copy, may, f) = copied c m same d copy may f
-    looked Gone same d (c, m, copy, may, f) = copied c m same d copy may f
-    looked (Released out) same d (c, m, copy, may, f) = copied c m same d copy may f
-    looked (Left o) same d (c, m, copy, may, f) = copied c m same d copy may f
+  -- after a look, by its answer
+  looked : (p n p' : P) (s s' : S) (r : Progress) (t : Step W ⊤) → (state s).number ≡ (own p).number → GoesOn drops (state s) (own p) → (q : ℕ) (k : Option ℕ) (o : Op W) (a : Answer W)
+      → cell n ≡ cell p → Did (own p) (claim_entries (is_claim (answer_as a)) (own p).number) (after_look (answer_as a) (Some (own p).task.waker) q (ticket_in o)) (own n)
+      → Looked (parts_did cell own whose) side (wants_copy (Look k) a) (AtLook tt k) (Was tt (Look k) a o) n s r t p' s' → Went cell own whose state drops p s r p' s' t
+  looked p n p' s s' r t number b q k o Ready same d f = seen p n p' s s' r t number b q (ticket_in o) Ready same d refl f.0 f.1
+  looked p n p' s s' r t number b q k o Claimed same d f = seen p n p' s s' r t number b q (ticket_in o) Claimed same d refl f.0 f.1
+  looked p n p' s s' r t number b q k o Listed same d f = seen p n p' s s' r t number b q (ticket_in o) Listed same d refl f.0 f.1
+  looked p n p' s s' r t number b q k o Held same d (c, m, copy, may, f) = copied p n p' s s' r t number b q (ticket_in o) c m same d copy may f
+  looked p n p' s s' r t number b q k o Memory same d (c, m, copy, may, f) = copied p n p' s s' r t number b q (ticket_in o) c m same d copy may f
+  looked p n p' s s' r t number b q k o Gone same d (c, m, copy, may, f) = copied p n p' s s' r t number b q (ticket_in o) c m same d copy may f
+  looked p n p' s s' r t number b q k o (Released out) same d (c, m, copy, may, f) = copied p n p' s s' r t number b q (ticket_in o) c m same d copy may f
+  looked p n p' s s' r t number b q k o (Left v) same d (c, m, copy, may, f) = copied p n p' s s' r t number b q (ticket_in o) c m same d copy may f
 
   -- each line
   pub line_went : (at : Place W ⊤) (p p' : P) (s s' : S) (r r0 : Progress) (t : Step W ⊤) → Stands whose drops (state s) (own p) r0 (UnderWay at)
-      → Line (parts_tell cell own whose) side limit at p s r t p' s' → Went cell own whose state drops p s r p' s' t
-  line_went AtStart p p' s s' r r0 t is (n, d, f) =
-      let ready : Bool = (flags_of n).ready in
-      let new : Bool = is_zero (flags_of n) in
+      → Line (parts_did cell own whose) side at p s r t p' s' → Went cell own whose state drops p s r p' s' t
+  line_went AtStart p p' s s' r r0 t is (n, (d, f)) =
+      let ready : Bool = n.ready in
+      let new : Bool = is_zero n in
       let after : Did (own p) [] (after_start ready new) (own p') = subst (λ x. Did (own p) [] (load_next n x) (own p')) (at_start the_queue _ (sym is.step)) d.1 in
       goes p p' s s' r t is.number (after_start ready new) (after_start ready new) (after_start ready new) [] d.0 after
       (start_as whose (λ (q : ⊤). q) ready new) (start_as (λ w. w) the_queue ready new) tt refl f
       (λ still. start_fits W ⊤ drops (state s') (own p') ready new (begun p p' s s' r t is.number [] (after_start ready new) is.fits.1 after still) (inits p p' s s' r t is.number is.fits.1 still))
-  line_went AtTryQuick p p' s s' r r0 t is (won, d, f) =
+  line_went AtTryQuick p p' s s' r r0 t is (won, (d, f)) =
       goes p p' s s' r t is.number (after_quick won) (after_quick won) (after_quick won) (claim_entries won (own p).number) d.0 d.1
       (quick_as whose (λ (q : ⊤). q) won) (quick_as (λ w. w) the_queue won) (claim_mid won (own p).number) (claim_handed won (own p).number) f
       (λ still. quick_fits W ⊤ drops (state s') (own p') won (begun p p' s s' r t is.number (claim_entries won (own p).number) (after_quick won) is.fits.1 d.1 still) (inits p p' s s' r t is.number is.fits.1 still))
-  line_went AtDoorGet p p' s s' r r0 t is (q, d, f) =
+  line_went AtDoorGet p p' s s' r r0 t is (q, (d, f)) =
       let door : Option ℕ = numbered d.1.0 (is_some q) in
       let after : Did (own p) [] (after_door_get door) (own p') = subst (λ x. Did (own p) [] (get_next door x) (own p')) (at_get the_queue _ (sym is.step)) d.1.1 in
       goes p p' s s' r t is.number (after_door_get q) (after_door_get door) (after_door_get (option_map (λ q. q) q)) [] d.0 after (get_as whose (λ (q : ⊤). q) q)
       (get_as (λ w. w) the_queue door ∙ ap after_door_get (numbered_same q d.1.0)) tt refl f
       (λ still. get_fits W ⊤ drops (state s') (own p') q (begun p p' s s' r t is.number [] (after_door_get door) is.fits.1 after still) (inits p p' s s' r t is.number is.fits.1 still))
-  line_went AtDoorPut p p' s s' r r0 t is (q, d, f) =
+  line_went AtDoorPut p p' s s' r r0 t is (q, (d, f)) =
       let door : Option ℕ = numbered d.1.0 (is_some q) in
       goes p p' s s' r t is.number (after_door_put q) (after_door_put door) (after_door_put (option_map (λ q. q) q)) [] d.0 d.1.1 (put_as whose (λ (q : ⊤). q) q)
       (put_as (λ w. w) the_queue door ∙ ap after_door_put (numbered_same q d.1.0)) tt refl f
       (λ still. put_fits W ⊤ drops (state s') (own p') q (begun p p' s s' r t is.number [] (after_door_put door) is.fits.1 d.1.1 still) (inits p p' s s' r t is.number is.fits.1 still))
-  line_went (AtCountIn q) p p' s s' r r0 t is (c, d, f) =
+  line_went (AtCountIn q) p p' s s' r r0 t is (b, c, (d, f)) =
       let at = at_count_in the_queue _ q (sym is.step) in
-      let after : Did (own p) [] (after_count_in c at.0) (own p') = subst (λ x. Did (own p) [] (in_next c x) (own p')) at.1 d.1 in
-      goes p p' s s' r t is.number (after_count_in c tt) (after_count_in c at.0) (after_count_in c tt) [] d.0 after
-      (count_in_as whose (λ (q : ⊤). q) c tt) (count_in_as (λ w. w) the_queue c at.0) tt refl f
-      (λ still. count_in_fits W ⊤ drops (state s') (own p') c tt (begun p p' s s' r t is.number [] (after_count_in c at.0) is.fits.1 after still) (inits p p' s s' r t is.number is.fits.1 still))
-  line_went (AtWaitLoad q k) p p' s s' r r0 t is (n, d, f) =
+      let after : Did (own p) [] (after_count_in b c at.0) (own p') = subst (λ x. Did (own p) [] (in_next b c x) (own p')) at.1 d.1 in
+      goes p p' s s' r t is.number (after_count_in b c tt) (after_count_in b c at.0) (after_count_in b c tt) [] d.0 after
+      (count_in_as whose (λ (q : ⊤). q) b c tt) (count_in_as (λ w. w) the_queue b c at.0) tt refl f
+      (λ still. count_in_fits W ⊤ drops (state s') (own p') b c tt (begun p p' s s' r t is.number [] (after_count_in b c at.0) is.fits.1 after still) (inits p p' s s' r t is.number is.fits.1 still))
+  line_went (AtWaitLoad q k) p p' s s' r r0 t is (n, (d, f)) =
       let at = at_load the_queue _ q k (sym is.step) in
-      let ready : Bool = (flags_of n).ready in
+      let ready : Bool = n.ready in
       let after : Did (own p) [] (after_load ready at.0 k) (own p') = subst (λ x. Did (own p) [] (load_next n x) (own p')) at.1 d.1 in
       goes p p' s s' r t is.number (after_load ready tt k) (after_load ready at.0 k) (after_load ready tt k) [] d.0 after
       (load_as whose (λ (q : ⊤). q) ready tt k) (load_as (λ w. w) the_queue ready at.0 k) tt refl f
@@ -303,8 +307,8 @@ module _ {P S W : Type 0} (cell : P → Placed) (own : P → Own) (whose : W →
   line_went (AtLook q k) p p' s s' r r0 t is (a, o, n, d, f) =
       let at = at_look the_queue _ q k (sym is.step) in
       let did : List Entry = claim_entries (is_claim (answer_as a)) (own p).number in
-      looked p n p' s s' r t is.number is.fits.1 at.0 (ticket_in o) a d.0 (subst (λ x. Did (own p) did (look_next (answer_as a) (ticket_in o) (own p).task.waker x) (own n)) at.1 d.1) f
-  line_went (AtList q k w) p p' s s' r r0 t is (a, o, d, f) =
+      looked p n p' s s' r t is.number is.fits.1 at.0 k o a d.0 (subst (λ x. Did (own p) did (look_next (answer_as a) (ticket_in o) (own p).task.waker x) (own n)) at.1 d.1) f
+  line_went (AtList q k w) p p' s s' r r0 t is (a, o, (d, f)) =
       let at = at_list the_queue _ q k (whose w) (sym is.step) in
       let did : List Entry = claim_entries (is_claim (answer_as a)) (own p).number in
       let b : Next ℕ ℕ = after_list (answer_as a) at.0 (ticket_in o) in
@@ -312,7 +316,7 @@ module _ {P S W : Type 0} (cell : P → Placed) (own : P → Own) (whose : W →
       goes p p' s s' r t is.number (after_list a tt (ticket_in o)) b (after_list (answer_as a) tt (ticket_in o)) did d.0 after
       (list_as whose (λ (q : ⊤). q) a tt (ticket_in o)) (list_again a at.0 (ticket_in o))
       (claim_mid (is_claim (answer_as a)) (own p).number) (claim_handed (is_claim (answer_as a)) (own p).number) f (λ still. list_fits W ⊤ drops (state s') (own p') a tt (ticket_in o) (begun p p' s s' r t is.number did b is.fits.1 after still) (inits p p' s s' r t is.number is.fits.1 still))
-  line_went (AtRun by) p p' s s' r r0 t is (a, m, ran, d, f) =
+  line_went (AtRun by) p p' s s' r r0 t is (a, (d, ((m, ran, close), more, leads))) =
       let at = at_run the_queue _ (option_map (λ q. q) by) (sym is.step) in
       let n : ℕ = (own p).number in
       let k : InitAnswer = kept_after (unnamed a) (own p).task.kept in
@@ -320,16 +324,16 @@ module _ {P S W : Type 0} (cell : P → Placed) (own : P → Own) (whose : W →
       let after : Turned (own p) z (told n k (after_run a at.0) (Ran n (unnamed a) ∷ [])) (own p') =
       subst (λ x. Turned (own p) (record (own p).task { step = (run_next a x).step; kept = k }) (told n k (run_next a x) (Ran n (unnamed a) ∷ [])) (own p')) at.1 d.1 in
       let told = tells.run s a m ran in
-      let now : Still (after_run {W = W} a by).closes (state m) (state s') = closed (after_run {W = W} a by).closes m s' f.0 in
+      let now : Still (after_run {W = W} a by).closes (state m) (state s') = closed (after_run {W = W} a by).closes m s' close in
       let woke : (state s').woke ≡ (state s).woke = now.woke ∙ told.woke in
       went_by cell own whose state drops p p' s s' r t (after_run a by) (after_run a at.0) (after_run a (option_map (λ q. q) by)) z (Ran n (unnamed a) ∷ []) [] d.0 after refl
       (run_as whose (λ (q : ⊤). q) a by) (run_as (λ w. w) the_queue a at.0 ∙ ap (after_run a) at.2) (refl, tt) refl (woke ∙ sym (append-nil (state s).woke))
-      (now.number ∙ told.number ∙ is.number) f.1 f.2
+      (now.number ∙ told.number ∙ is.number) more leads
       (run_fits W ⊤ drops (state s') (own p') a by (begun_on drops (state s) (state s') (own p) (own p') woke after.number (ap (λ (x : TaskState). x.waker) after.task) is.fits.1.0)
       (λ e. now.init e ∙ told.init (run_closes W a by e) ∙ is.fits.1.1)
       (λ e. now.value ∙ told.value e)
       (λ e. (now.error ∙ told.error e, ap (λ (x : TaskState). x.kept) after.task ∙ error_kept a (own p).task.kept e)))
-  line_went (AtPut by) p p' s s' r r0 t is (put, d, more, leads) =
+  line_went (AtPut by) p p' s s' r r0 t is (d, (put, more, leads)) =
       let at = at_value the_queue _ (option_map (λ q. q) by) (sym is.step) in
       let b : Next ℕ ℕ = next_at (release_place at.0 EndValue) in
       let after : Did (own p) [] b (own p') = subst (λ x. Did (own p) [] (fill_next x) (own p')) at.1 d.1 in
@@ -339,7 +343,7 @@ module _ {P S W : Type 0} (cell : P → Placed) (own : P → Own) (whose : W →
       (ap next_at (release_as whose (λ (q : ⊤). q) by EndValue)) (ap next_at (release_as (λ w. w) the_queue at.0 EndValue ∙ ap (λ o. release_place o EndValue) at.2)) tt refl
       (told.woke ∙ sym (append-nil (state s).woke)) (told.number ∙ is.number) more leads
       (fill_fits W ⊤ drops (state s') (own p') by (begun_on drops (state s) (state s') (own p) (own p') told.woke after.number (ap (λ (x : TaskState). x.waker) after.task) is.fits.1.0))
-  line_went (AtFast e) p p' s s' r r0 t is (won, d, f) =
+  line_went (AtFast e) p p' s s' r r0 t is (won, (d, f)) =
       let did : List Entry = freed_entries won (own p).number (own p).task.kept in
       let after : Did (own p) did (after_fast won (is_value e) e) (own p') = subst (λ x. Did (own p) did (fast_next won x) (own p')) (at_fast the_queue _ e (sym is.step)) d.1 in
       goes p p' s s' r t is.number (after_fast won (is_value e) e) (after_fast won (is_value e) e) (after_fast won (is_value e) e) did d.0 after
@@ -352,29 +356,29 @@ module _ {P S W : Type 0} (cell : P → Placed) (own : P → Own) (whose : W →
       let after : Did (own p) [] b (own p') = subst (λ x. Did (own p) [] (add_next x) (own p')) (at_add the_queue _ e (sym is.step)) d.1 in
       goes p p' s s' r t is.number (next_at (AtDoorAgain e)) b (next_at (AtDoorAgain e)) [] d.0 after refl refl tt refl f
       (λ still. (refl, (unwoken p p' s s' r t is.number is.fits.1.0 still, ending p p' s s' r t is.number e [] b is.fits.1.1 after still)))
-  line_went (AtDoorAgain e) p p' s s' r r0 t is (q, d, f) =
+  line_went (AtDoorAgain e) p p' s s' r r0 t is (q, (d, f)) =
       let door : Option ℕ = numbered d.1.0 (is_some q) in
       let after : Did (own p) [] (after_door_again door e) (own p') = subst (λ x. Did (own p) [] (get_next door x) (own p')) (at_again the_queue _ e (sym is.step)) d.1.1 in
       goes p p' s s' r t is.number (after_door_again q e) (after_door_again door e) (after_door_again (option_map (λ q. q) q) e) [] d.0 after (again_as whose (λ (q : ⊤). q) q e)
       (again_as (λ w. w) the_queue door e ∙ ap (λ o. after_door_again o e) (numbered_same q d.1.0)) tt refl f
       (λ still. again_fits W ⊤ drops (state s') (own p') q e (unwoken p p' s s' r t is.number is.fits.1.0 still)
       (ending p p' s s' r t is.number e [] (after_door_again door e) is.fits.1.1 after still))
-  line_went (AtRelease q e) p p' s s' r r0 t is (a, o, d, w, more, leads) =
+  line_went (AtRelease q e) p p' s s' r r0 t is (a, o, (d, (w, more, leads))) =
       let at = at_release the_queue _ q e (sym is.step) in
       let did : List Entry = release_entry (own p).task.kept (own p).number (handed_in whose a) ∷ [] in
       wakes p p' s s' r t e a did is.number d.0 (subst (λ x. Did (own p) did (release_next x) (own p')) at.1 d.1)
       (release_mid (own p).task.kept (own p).number (handed_in whose a)) (release_handed (own p).task.kept (own p).number (handed_in whose a)) w more leads is.fits.1.0 is.fits.1.1
-  line_went (AtLeave q n e) p p' s s' r r0 t is (a, o, d, w, more, leads) =
+  line_went (AtLeave q n e) p p' s s' r r0 t is (a, o, (d, (w, more, leads))) =
       let at = at_leave the_queue _ q n e (sym is.step) in
       let did : List Entry = pass_entries (own p).number (handed_in whose a) in
       wakes p p' s s' r t e a did is.number d.0 (subst (λ x. Did (own p) did (leave_next x) (own p')) at.1 d.1.0) (pass_mid (own p).number (handed_in whose a)) (pass_handed (own p).number (handed_in whose a)) w more leads is.fits.1.0 is.fits.1.1
-  line_went (AtCountOut e) p p' s s' r r0 t is (n, d, f) =
-      let last : Bool = is_ready_bit (flags_of n) in
+  line_went (AtCountOut e) p p' s s' r r0 t is (n, (d, f)) =
+      let last : Bool = is_ready_bit n in
       let after : Did (own p) [] (after_count_out last e) (own p') = subst (λ x. Did (own p) [] (out_next n x) (own p')) (at_count_out the_queue _ e (sym is.step)) d.1 in
       goes p p' s s' r t is.number (after_count_out last e) (after_count_out last e) (after_count_out last e) [] d.0 after
       (count_out_as whose (λ (q : ⊤). q) last e) (count_out_as (λ w. w) the_queue last e) tt refl f
       (λ still. out_fits W ⊤ drops (state s') (own p') last e (ending p p' s s' r t is.number e [] (after_count_out last e) is.fits.1 after still))
-  line_went (AtDoorTake e) p p' s s' r r0 t is (b, d, f) =
+  line_went (AtDoorTake e) p p' s s' r r0 t is (b, (d, f)) =
       let after : Did (own p) [] (next_end e) (own p') = subst (λ x. Did (own p) [] (take_next x) (own p')) (at_take the_queue _ e (sym is.step)) d.1 in
       goes p p' s s' r t is.number (next_end e) (next_end e) (next_end e) [] d.0 after refl refl tt refl f
       (λ still. take_fits W ⊤ drops (state s') (own p') e (ending p p' s s' r t is.number e [] (next_end e) is.fits.1 after still))

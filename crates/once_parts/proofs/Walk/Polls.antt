@@ -12,7 +12,7 @@ use Rattle.once_parts.specs.Idle.{is_over, step_of}
 use Rattle.once_book.specs.Kept.{Grew, entries_of}
 use Rattle.once_book.specs.Own.{Own, Turned}
 use Rattle.once_book.specs.Places.{task_begun}
-use Rattle.once_parts.specs.Parts.{parts_tell}
+use Rattle.once_parts.specs.Parts.{parts_did}
 use Rattle.once_parts.specs.Sides.{IsTold, Sided}
 use Rattle.once_parts.specs.Walks.{IsCall, Spans, Stands, StandsOn, Walked, end_of, handed}
 use Rattle.once_parts.proofs.Idles.{live, not_in_call, over, rests}
@@ -86,13 +86,13 @@ module _ {W : Type 0} (whose : W → ℕ) (x y : Sided) (u v w : Own) (e : Endin
       }
 
 -- a poll that ended in its first steps: how it ended, and that its parts are of the same cell
-pub polled_at_once : {P S W : Type 0} (cell : P → Placed) (own : P → Own) (whose : W → ℕ) (state : S → Sided) (side : SideTells S W) → IsTold whose state side → (limit : ℕ)
-    (u : Own) (p : P) (s : S) (from to : Step W ⊤) (p' : P) (s' : S) (told : Progress) (e : Ending) (i : Idle)
+pub polled_at_once : {P S W : Type 0} (cell : P → Placed) (own : P → Own) (whose : W → ℕ) (state : S → Sided) (side : SideTells S W) → IsTold whose state side
+    → (u : Own) (p : P) (s : S) (from to : Step W ⊤) (p' : P) (s' : S) (told : Progress) (e : Ending) (i : Idle)
     → (state s).woke ≡ [] → Turned u (task_begun u.number u.task) (Begin u.number u.number ∷ []) (own p) → Stands whose false (state s) (own p) More from
-    → Makes (parts_tell cell own whose) side limit from p s told to p' s' → told ≡ Ended e → step_of i ≡ to
+    → Makes (parts_did cell own whose) side from p s told to p' s' → told ≡ Ended e → step_of i ≡ to
     → (cell p' ≡ cell p) × Polled whose (state s) (state s') u (own p) (own p') e i
-polled_at_once cell own whose state side tells limit u p s from to p' s' told e i none begun stands made is at =
-    let went = steps_went cell own whose state side tells limit false from p s to p' s' told stands made in
+polled_at_once cell own whose state side tells u p s from to p' s' told e i none begun stands made is at =
+    let went = steps_went cell own whose state side tells false from p s to p' s' told stands made in
     let walked = subst (λ r. Walked (state s) (own p) r (state s') (own p')) is went.walked in
     let there = subst (λ r. Stands whose false (state s') (own p') r to) is went.stands in
     let kept = subst (Stands whose false (state s') (own p') (Ended e)) (sym at) there in

@@ -4,7 +4,7 @@ use Rattle.std.proofs.lemmas.Bool.Decides.{nat_tests}
 use Rattle.once_core.specs.declared.step.Polled.{Polled}
 use Rattle.once_world.specs.declared.world.side.ReplaySide.{ReplaySide}
 use Rattle.once_queue.specs.Word.{flags_alone, is_quick_bit}
-use Rattle.once_core.specs.Core.{CoreState, DidAddOne, take_by, take_state}
+use Rattle.once_core.specs.Core.{CoreState, counted_state, take_by, take_state}
 use Rattle.once_world.specs.Places.{AtAddOne, AtCountOut, AtDoorAgain, AtDoorTake, AtFast, AtPut, AtRun, EndValue, Ending, More, Progress, Step, UnderWay}
 use Rattle.once_core.specs.Steps.{Follows, after_count_out, after_door_again, after_fast, after_run, release_place, is_running, next_at, next_end}
 use Rattle.once_world.specs.Record.{Answer, RanError, RanPending, RanValue}
@@ -77,6 +77,7 @@ module _ (c : ReplaySide) (f : IsFresh c) (s : CoreState ℕ) (c' : ReplaySide) 
             (ran_by (after_run {W = ℕ} (polled_of x) by).progress n c.value (kept_after x c.kept) x
             (claim_entries (is_running (after_run {W = ℕ} (polled_of x) by).step) n) (run_idle x by n));
         log = ap (λ y. reverse y.log) same;
+        limit = ap (λ y. y.limit) same;
         lazy_is = r.lazy;
       }
 
@@ -88,6 +89,7 @@ module _ (c : ReplaySide) (f : IsFresh c) (s : CoreState ℕ) (c' : ReplaySide) 
     kept = λ n. ap (λ x. x.kept) d;
     told = λ n. rw (more, step, d, f.ran, f.handed) (back_idle by EndValue n);
     log = ap (λ y. reverse y.log) same;
+    limit = ap (λ y. y.limit) same;
     lazy_is = ap (λ x. x.lazy) d;
   }
 
@@ -118,21 +120,21 @@ module _ (c : ReplaySide) (f : IsFresh c) (s : CoreState ℕ) (c' : ReplaySide) 
       → IsOutcome (UnderWay (AtFast e)) (λ n. fast_step won fills (shared_by s c) n c.kept e) [] s c s' c' p t
   fast_exact e won fills z s' same x =
       follows_by (UnderWay (AtFast e)) s c f s' c' p t [] (fast_shared won fills (shared_by s c))
-      (λ n. freed_entries won n c.kept) (after_fast won fills e) (ap (λ y. reverse y.log) same)
+      (λ n. freed_entries won n c.kept) (after_fast won fills e) (ap (λ y. reverse y.log) same) (ap (λ y. y.limit) same)
       (fast_left won fills z s' same) x (λ n. fast_seen e won fills n c.kept)
 
-  pub add_exact : (e : Ending) (s' : CoreState ℕ) → DidAddOne s s' → Follows DidClose (next_at (AtDoorAgain e)) c c' p t
+  pub add_exact : (e : Ending) (s' : CoreState ℕ) → s' ≡ counted_state s → Follows DidClose (next_at (AtDoorAgain e)) c c' p t
       → IsOutcome (UnderWay (AtAddOne e)) (λ n. outcome_of (record (shared_by s c) { count = suc s.word.count }) n c.kept [] (next_at (AtDoorAgain e))) [] s c s' c' p t
   add_exact e s' same x =
       follows_by (UnderWay (AtAddOne e)) s c f s' c' p t [] (record (shared_by s c) { count = suc s.word.count })
-      (λ n. []) (next_at (AtDoorAgain e)) (ap (λ y. reverse y.log) same) (ap (λ y. shared_by y c) same) x
+      (λ n. []) (next_at (AtDoorAgain e)) (ap (λ y. reverse y.log) same) (ap (λ y. y.limit) same) (ap (λ y. shared_by y c) same) x
       (λ n. refl)
 
   pub again_exact : (e : Ending) (q : Option ℕ) (s' : CoreState ℕ) → s' ≡ s → Follows DidClose (after_door_again q e) c c' p t
       → IsOutcome (UnderWay (AtDoorAgain e)) (λ n. again_step q (shared_by s c) n c.kept e) [] s c s' c' p t
   again_exact e q s' same x =
       follows_by (UnderWay (AtDoorAgain e)) s c f s' c' p t [] (shared_by s c) (λ n. []) (after_door_again q e)
-      (ap (λ y. reverse y.log) same) (ap (λ y. shared_by y c) same) x (again_idle q e)
+      (ap (λ y. reverse y.log) same) (ap (λ y. y.limit) same) (ap (λ y. shared_by y c) same) x (again_idle q e)
 
   pub out_exact : (e : Ending) (last : Bool) (s' : CoreState ℕ)
       → s' ≡ record s { word = record s.word { count = s.word.count - 1 } }
@@ -140,7 +142,7 @@ module _ (c : ReplaySide) (f : IsFresh c) (s : CoreState ℕ) (c' : ReplaySide) 
       → IsOutcome (UnderWay (AtCountOut e)) (λ n. out_step last (out_shared (shared_by s c)) n c.kept e) [] s c s' c' p t
   out_exact e last s' same x =
       follows_by (UnderWay (AtCountOut e)) s c f s' c' p t [] (out_shared (shared_by s c)) (λ n. [])
-      (after_count_out last e) (ap (λ y. reverse y.log) same) (ap (λ y. shared_by y c) same) x (out_idle last e)
+      (after_count_out last e) (ap (λ y. reverse y.log) same) (ap (λ y. y.limit) same) (ap (λ y. shared_by y c) same) x (out_idle last e)
 
   -- the queue at the door is taken out, and where none stands nothing is left to clear
   take_left : (d : Option ℕ) (s' : CoreState ℕ) → s.door ≡ d → IsBare s → s' ≡ take_by d s → shared_by s' c ≡ take_shared (shared_by s c)
@@ -154,8 +156,12 @@ module _ (c : ReplaySide) (f : IsFresh c) (s : CoreState ℕ) (c' : ReplaySide) 
   taken_log (Some q) s' same = ap (λ y. reverse y.log) same ∙ reverse_push s.log (TakenLine q)
   taken_log None s' same = ap (λ y. reverse y.log) same
 
+  taken_limit : (d : Option ℕ) (s' : CoreState ℕ) → s' ≡ take_by d s → s'.limit ≡ s.limit
+  taken_limit (Some q) s' same = ap (λ y. y.limit) same
+  taken_limit None s' same = ap (λ y. y.limit) same
+
   pub take_exact : (e : Ending) (s' : CoreState ℕ) → IsBare s → s' ≡ take_state s → Follows DidClose (next_end e) c c' p t
       → IsOutcome (UnderWay (AtDoorTake e)) (λ n. outcome_of (take_shared (shared_by s c)) n c.kept [] (next_end e)) (take_lines s.door) s c s' c' p t
   take_exact e s' bare same x =
       follows_by (UnderWay (AtDoorTake e)) s c f s' c' p t (take_lines s.door) (take_shared (shared_by s c))
-      (λ n. []) (next_end e) (taken_log s.door s' same) (take_left s.door s' refl bare same) x (λ n. refl)
+      (λ n. []) (next_end e) (taken_log s.door s' same) (taken_limit s.door s' same) (take_left s.door s' refl bare same) x (λ n. refl)

@@ -65,7 +65,7 @@ module _ (c : ReplaySide) (f : IsFresh c) (s : CoreState ℕ) (c' : ReplaySide) 
       wakes_by (UnderWay (AtRelease q e)) s c f s' c' p t (EnteredLine q ∷ []) out e
       (left (release_list (is_value e) s.listings)) (λ n. release_entry c.kept n
       (release_wakers (is_value e) s.listings) ∷ [])
-      (entered_log q s s' (ap (λ y. y.log) same)) wake more step
+      (entered_log q s s' (ap (λ y. y.log) same)) (ap (λ y. y.limit) same) wake more step
       (ap (λ y. shared_by y c) same ∙ released_shared c s s.word.quick (is_value e) s'.listings refl ∙ ap left rest)
       (λ n. ap (λ X. release_entry c.kept n X ∷ []) all)
 
@@ -83,7 +83,7 @@ module _ (c : ReplaySide) (f : IsFresh c) (s : CoreState ℕ) (c' : ReplaySide) 
   release_by false a d x wake =
       let z = x.gone (not_at_door q s.door d) in
       follows_by (UnderWay (AtRelease q e)) s c f s' c' p t (EnteredLine q ∷ []) (shared_by s c) (λ n. []) (next_at (AtCountOut e))
-      (entered_log q s s' (ap (λ y. y.log) z.1)) (ap (λ y. shared_by y c) z.1) (subst (λ b. Wakes DidWake (out_of b) c c') z.0 wake, more, step) (λ n. refl)
+      (entered_log q s s' (ap (λ y. y.log) z.1)) (ap (λ y. y.limit) z.1) (ap (λ y. shared_by y c) z.1) (subst (λ b. Wakes DidWake (out_of b) c c') z.0 wake, more, step) (λ n. refl)
 
   -- a release is the machine's
   pub release_exact : (a : SectionAnswer ℕ) → NumberSection s q (ReleaseOp (is_value e)) a o s' → Wakes DidWake (out_of a) c c'
@@ -97,7 +97,7 @@ module _ (c : ReplaySide) (f : IsFresh c) (s : CoreState ℕ) (c' : ReplaySide) 
       wakes_by (UnderWay (AtLeave q k e)) s c f s' c' p t (EnteredLine q ∷ []) (One w) e
       (record (shared_by s c) { listings = left_list (is_passing (shared_by s c) k) k s.listings })
       (λ n. pass_entries n (option_to_list (next_waker (is_passing (shared_by s c) k) k s.listings)))
-      (entered_log q s s' (ap (λ y. y.log) same)) wake more step (ap (λ y. shared_by y c) same) (λ n. pass_seen q k e c n w ∙ ap (λ x. pass_entries n (option_to_list x)) next)
+      (entered_log q s s' (ap (λ y. y.log) same)) (ap (λ y. y.limit) same) wake more step (ap (λ y. shared_by y c) same) (λ n. pass_seen q k e c n w ∙ ap (λ x. pass_entries n (option_to_list x)) next)
 
   -- one who leaves, by where its queue is
   leave_by : (k : ℕ) (at : Bool) (a : SectionAnswer ℕ) → is_at_door q s.door ≡ at → NumberSection s q (LeaveOp k) a o s' → Wakes DidWake (out_of a) c c'
@@ -113,7 +113,7 @@ module _ (c : ReplaySide) (f : IsFresh c) (s : CoreState ℕ) (c' : ReplaySide) 
   leave_by k false a d x wake =
       let z = x.gone (not_at_door q s.door d) in
       follows_by (UnderWay (AtLeave q k e)) s c f s' c' p t (EnteredLine q ∷ []) (shared_by s c) (λ n. []) (next_at (AtCountOut e))
-      (entered_log q s s' (ap (λ y. y.log) z.1)) (ap (λ y. shared_by y c) z.1) (subst (λ b. Wakes DidWake (out_of b) c c') z.0 wake, more, step) (λ n. refl)
+      (entered_log q s s' (ap (λ y. y.log) z.1)) (ap (λ y. y.limit) z.1) (ap (λ y. shared_by y c) z.1) (subst (λ b. Wakes DidWake (out_of b) c c') z.0 wake, more, step) (λ n. refl)
 
   -- leaving is the machine's
   pub leave_exact : (k : ℕ) (a : SectionAnswer ℕ) → NumberSection s q (LeaveOp k) a o s' → Wakes DidWake (out_of a) c c'

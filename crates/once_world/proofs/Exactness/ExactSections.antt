@@ -120,6 +120,7 @@ module _ (c : ReplaySide) (f : IsFresh c) (s : CoreState ℕ) (c' : ReplaySide) 
   record LookFinds (b : SectionAnswer ℕ) : Type 0 where
     shared : shared_by s' c ≡ look_shared b (shared_by s c) k
     log : s'.log ≡ (entered q s).log
+    limit : s'.limit ≡ s.limit
     after : LookedAt b q k c c' p t
 
   -- a look, by what it finds
@@ -128,21 +129,21 @@ module _ (c : ReplaySide) (f : IsFresh c) (s : CoreState ℕ) (c' : ReplaySide) 
       → NumberSection s q (LookOp k) a o s' → Looks a o → LookFinds (look_answer (seen_by at (sees_by ready taken)) is)
   look_by true true taken is d r h m w x y =
       let z = (x.here (at_door q s.door d)).set (rw r refl) in
-      record { shared = ap (λ y. shared_by y c) z.1; log = ap (λ y. y.log) z.1; after = looks_as Ready (LookOp k) z.0 z.2 y }
+      record { shared = ap (λ y. shared_by y c) z.1; log = ap (λ y. y.log) z.1; limit = ap (λ y. y.limit) z.1; after = looks_as Ready (LookOp k) z.0 z.2 y }
   look_by true false false is d r h m w x y =
       let z = (x.here (at_door q s.door d)).free (rw (r, h) refl) in
-      record { shared = ap (λ y. shared_by y c) z.1; log = ap (λ y. y.log) z.1; after = looks_as Claimed (LookOp None) z.0 z.2 y }
+      record { shared = ap (λ y. shared_by y c) z.1; log = ap (λ y. y.log) z.1; limit = ap (λ y. y.limit) z.1; after = looks_as Claimed (LookOp None) z.0 z.2 y }
   look_by true false true true d r h m w x y =
       let z = (x.here (at_door q s.door d)).taken (rw (r, h) refl) in
       let is = looked_as c.waker (own_listing k s.listings) a (subst (λ v. DidLook (λ x y. x ≡ y) (λ x y. x ≢ y) v (own_listing k s.listings) a) w z.0) in
-      record { shared = ap (λ y. shared_by y c) z.1; log = ap (λ y. y.log) z.1; after = looks_as Listed (LookOp k) (is ∙ ap (λ b. cond b Listed Held) m) z.2 y }
+      record { shared = ap (λ y. shared_by y c) z.1; log = ap (λ y. y.log) z.1; limit = ap (λ y. y.limit) z.1; after = looks_as Listed (LookOp k) (is ∙ ap (λ b. cond b Listed Held) m) z.2 y }
   look_by true false true false d r h m w x y =
       let z = (x.here (at_door q s.door d)).taken (rw (r, h) refl) in
       let is = looked_as c.waker (own_listing k s.listings) a (subst (λ v. DidLook (λ x y. x ≡ y) (λ x y. x ≢ y) v (own_listing k s.listings) a) w z.0) in
-      record { shared = ap (λ y. shared_by y c) z.1; log = ap (λ y. y.log) z.1; after = looks_as Held (LookOp k) (is ∙ ap (λ b. cond b Listed Held) m) z.2 y }
+      record { shared = ap (λ y. shared_by y c) z.1; log = ap (λ y. y.log) z.1; limit = ap (λ y. y.limit) z.1; after = looks_as Held (LookOp k) (is ∙ ap (λ b. cond b Listed Held) m) z.2 y }
   look_by false ready taken is d r h m w x y =
       let z = x.gone (not_at_door q s.door d) in
-      record { shared = ap (λ y. shared_by y c) z.1; log = ap (λ y. y.log) z.1; after = looks_as Gone (LookOp k) z.0 z.2 y }
+      record { shared = ap (λ y. shared_by y c) z.1; log = ap (λ y. y.log) z.1; limit = ap (λ y. y.limit) z.1; after = looks_as Gone (LookOp k) z.0 z.2 y }
 
   -- a look is the machine's
   pub look_exact : s.current ≡ Some c.waker → NumberSection s q (LookOp k) a o s' → Looks a o
@@ -153,7 +154,7 @@ module _ (c : ReplaySide) (f : IsFresh c) (s : CoreState ℕ) (c' : ReplaySide) 
       let b = look_answer (seen_at q (shared_by s c)) (is_waker c.waker (own_listing k s.listings)) in
       let z : LookFinds b = look_by (is_at_door q s.door) s.word.ready (s.word.quick || s.head) (is_waker c.waker (own_listing k s.listings)) refl refl refl refl w x y in
       follows_by (UnderWay (AtLook q k)) s c f s' c' p t (EnteredLine q ∷ []) (look_shared b (shared_by s c) k)
-      (λ n. claim_entries (is_claim b) n) (after_look b copy q k) (entered_log q s s' z.log) z.shared
+      (λ n. claim_entries (is_claim b) n) (after_look b copy q k) (entered_log q s s' z.log) z.limit z.shared
       (look_follows b z.after) (look_claims b copy q k)
 
   -- what follows the listing
@@ -168,6 +169,7 @@ module _ (c : ReplaySide) (f : IsFresh c) (s : CoreState ℕ) (c' : ReplaySide) 
   record ListFinds (w : ℕ) (b : SectionAnswer ℕ) : Type 0 where
     shared : shared_by s' c ≡ list_shared b (shared_by s c) k w
     log : s'.log ≡ (entered q s).log
+    limit : s'.limit ≡ s.limit
     after : Follows DidClose (after_list b q (listed_ticket b k (shared_by s c).listings)) c c' p t
 
   -- a listing that finds the holder
@@ -175,8 +177,8 @@ module _ (c : ReplaySide) (f : IsFresh c) (s : CoreState ℕ) (c' : ReplaySide) 
       → FindsHolder (λ x y. x ≡ y) (λ x y. x ≢ y) (entered q s) (ListOp k (Some w)) a o s' → Lists a o
       → ListFinds w (list_answer (Some Taken) room)
   list_holder w true m (inl d) x = absurd (false≢true (sym (ap (λ b. is_some b || s.granted) d.1 ∙ d.2) ∙ m))
-  list_holder w false m (inl d) x = record { shared = ap (λ y. shared_by y c) d.3; log = ap (λ y. y.log) d.3; after = lists_as NoMemory (ListOp k (Some w)) d.0 d.4 x }
-  list_holder w true m (inr d) x = record { shared = ap (λ y. shared_by y c) d.2; log = ap (λ y. y.log) d.2; after = lists_as Listed (ListOp (Some (ticket_for k s.listings)) None) d.0 d.3 x }
+  list_holder w false m (inl d) x = record { shared = ap (λ y. shared_by y c) d.3; log = ap (λ y. y.log) d.3; limit = ap (λ y. y.limit) d.3; after = lists_as NoMemory (ListOp k (Some w)) d.0 d.4 x }
+  list_holder w true m (inr d) x = record { shared = ap (λ y. shared_by y c) d.2; log = ap (λ y. y.log) d.2; limit = ap (λ y. y.limit) d.2; after = lists_as Listed (ListOp (Some (ticket_for k s.listings)) None) d.0 d.3 x }
   list_holder w false m (inr d) x = absurd (false≢true (sym m ∙ d.1))
 
   -- a listing of the waker w, by what it finds
@@ -185,14 +187,14 @@ module _ (c : ReplaySide) (f : IsFresh c) (s : CoreState ℕ) (c' : ReplaySide) 
       → NumberSection s q (ListOp k (Some w)) a o s' → Lists a o → ListFinds w (list_answer (seen_by at (sees_by ready taken)) room)
   list_by w true true taken room d r h m x y =
       let z = (x.here (at_door q s.door d)).set (rw r refl) in
-      record { shared = ap (λ y. shared_by y c) z.1; log = ap (λ y. y.log) z.1; after = lists_as Ready (ListOp k (Some w)) z.0 z.2 y }
+      record { shared = ap (λ y. shared_by y c) z.1; log = ap (λ y. y.log) z.1; limit = ap (λ y. y.limit) z.1; after = lists_as Ready (ListOp k (Some w)) z.0 z.2 y }
   list_by w true false false room d r h m x y =
       let z = (x.here (at_door q s.door d)).free (rw (r, h) refl) in
-      record { shared = ap (λ y. shared_by y c) z.1; log = ap (λ y. y.log) z.1; after = lists_as Claimed (ListOp None (Some w)) z.0 z.2 y }
+      record { shared = ap (λ y. shared_by y c) z.1; log = ap (λ y. y.log) z.1; limit = ap (λ y. y.limit) z.1; after = lists_as Claimed (ListOp None (Some w)) z.0 z.2 y }
   list_by w true false true room d r h m x y = list_holder w room m ((x.here (at_door q s.door d)).taken (rw (r, h) refl)) y
   list_by w false ready taken room d r h m x y =
       let z = x.gone (not_at_door q s.door d) in
-      record { shared = ap (λ y. shared_by y c) z.1; log = ap (λ y. y.log) z.1; after = lists_as Gone (ListOp k (Some w)) z.0 z.2 y }
+      record { shared = ap (λ y. shared_by y c) z.1; log = ap (λ y. y.log) z.1; limit = ap (λ y. y.limit) z.1; after = lists_as Gone (ListOp k (Some w)) z.0 z.2 y }
 
   -- a listing is the machine's
   pub list_exact : (w : ℕ) → NumberSection s q (ListOp k (Some w)) a o s' → Lists a o
@@ -204,5 +206,5 @@ module _ (c : ReplaySide) (f : IsFresh c) (s : CoreState ℕ) (c' : ReplaySide) 
       let m = listed_ticket b k (shared_by s c).listings in
       let z : ListFinds w b = list_by w (is_at_door q s.door) s.word.ready (s.word.quick || s.head) (is_some (kept_ticket k s.listings) || s.granted) refl refl refl refl x y in
       follows_by (UnderWay (AtList q k w)) s c f s' c' p t (EnteredLine q ∷ []) (list_shared b (shared_by s c) k w)
-      (λ n. claim_entries (is_claim b) n) (after_list b q m) (entered_log q s s' z.log) z.shared z.after
+      (λ n. claim_entries (is_claim b) n) (after_list b q m) (entered_log q s s' z.log) z.limit z.shared z.after
       (list_claims b q m)

@@ -1,18 +1,17 @@
 -- The steps of a poll that has not claimed are exactly the machine's.
-use Rattle.std.proofs.Common.{◌≡◌, ◌≤◌, ℕ, suc, Bool, true, false, cond, [], ◌∷◌, ◌++◌, Option, Some, None, refl, sym, ap, ◌∙◌, subst, arith, reverse}
+use Rattle.std.proofs.Common.{◌≡◌, ℕ, suc, Bool, true, false, cond, [], ◌∷◌, ◌++◌, Option, Some, None, refl, sym, ap, ◌∙◌, subst, arith, reverse}
 use Rattle.std.specs.Prelude.{nat_lt}
 use Rattle.std.proofs.lemmas.Bool.Decides.{nat_tests}
-use Rattle.once_core.specs.declared.parts.Counted.{Counted}
-use Rattle.once_core.specs.declared.parts.Counted.TheVariants.{In, Full as CountFull, SeenReady}
 use Rattle.once_world.specs.declared.world.side.ReplaySide.{ReplaySide}
 use Rattle.once_queue.specs.Word.{Flags, flags_alone, is_zero}
-use Rattle.once_core.specs.Core.{CoreState, DidCountIn, put_answer, put_state}
+use Rattle.once_core.specs.Core.{CoreState, put_answer, put_state}
+use Rattle.once_core.specs.Table.{CountedIn}
 use Rattle.once_world.specs.Places.{AtCountIn, AtDoorGet, AtDoorPut, AtStart, AtTryQuick, AtWaitLoad, Progress, Step, UnderWay}
-use Rattle.once_core.specs.Steps.{Follows, Next, after_count_in, after_door_get, after_door_put, after_in, after_load, after_quick, after_start, is_running}
+use Rattle.once_core.specs.Steps.{Follows, Next, after_door_get, after_door_put, after_count_in, after_load, after_quick, after_start, is_running}
 use Rattle.once_world.specs.Record.{Claim}
-use Rattle.once_world.specs.Machine.{PutLine, claim_entries, in_shared, door_step, in_step, load_step, next_in, put_lines, put_step, put_shared, quick_step, start_step}
+use Rattle.once_world.specs.Machine.{PutLine, claim_entries, in_shared, door_step, in_step, load_step, put_lines, put_step, put_shared, quick_step, start_step}
 use Rattle.once_world.specs.Side.{DidClose, answers_in}
-use Rattle.once_world.proofs.Exactness.Outcomes.{IsFresh, IsOutcome, follows_by, shared_by, reverse_push}
+use Rattle.once_world.proofs.Exactness.Outcomes.{IsFresh, IsOutcome, NumberCall, follows_by, shared_by, reverse_push}
 
 -- what the word NEW says
 zero_ready : (f : Flags) → is_zero f ≡ true → f.ready ≡ false
@@ -38,7 +37,7 @@ put_idle : (q : Option ℕ) → IsIdle (after_door_put q)
 put_idle (Some q) n = refl
 put_idle None n = refl
 
-in_idle : (below ready : Bool) (q : ℕ) → IsIdle (next_in below ready q)
+in_idle : (below ready : Bool) (q : ℕ) → IsIdle (after_count_in below ready q)
 in_idle true true q n = refl
 in_idle true false q n = refl
 in_idle false true q n = refl
@@ -53,7 +52,7 @@ module _ (c : ReplaySide) (f : IsFresh c) (s : CoreState ℕ) (c' : ReplaySide) 
       → IsOutcome (UnderWay AtStart) (λ n. start_step ready new (shared_by s c) n c.kept) [] s c s' c' p t
   start_exact ready new same x =
       follows_by (UnderWay AtStart) s c f s' c' p t [] (shared_by s c) (λ n. []) (after_start ready new)
-      (ap (λ y. reverse y.log) same) (ap (λ y. shared_by y c) same) x (start_idle ready new)
+      (ap (λ y. reverse y.log) same) (ap (λ y. y.limit) same) (ap (λ y. shared_by y c) same) x (start_idle ready new)
 
   -- the word was NEW, and is the quick bit now
   quick_left : s.word.count ≡ 0 → s.word.ready ≡ false → s' ≡ record s { word = flags_alone true false } → shared_by s' c ≡ record (shared_by s c) { quick = true }
@@ -66,20 +65,25 @@ module _ (c : ReplaySide) (f : IsFresh c) (s : CoreState ℕ) (c' : ReplaySide) 
       → IsOutcome (UnderWay AtTryQuick) (λ n. quick_step won (shared_by s c) n c.kept) [] s c s' c' p t
   quick_exact true z same x =
       follows_by (UnderWay AtTryQuick) s c f s' c' p t [] (record (shared_by s c) { quick = true })
-      (λ n. Claim n ∷ []) (after_quick true) (ap (λ y. reverse y.log) same)
+      (λ n. Claim n ∷ []) (after_quick true) (ap (λ y. reverse y.log) same) (ap (λ y. y.limit) same)
       (quick_left (zero_count s.word z) (zero_ready s.word z) same) x (λ n. refl)
   quick_exact false z same x =
       follows_by (UnderWay AtTryQuick) s c f s' c' p t [] (shared_by s c) (λ n. []) (after_quick false)
-      (ap (λ y. reverse y.log) same) (ap (λ y. shared_by y c) same) x (λ n. refl)
+      (ap (λ y. reverse y.log) same) (ap (λ y. y.limit) same) (ap (λ y. shared_by y c) same) x (λ n. refl)
 
   pub door_exact : (q : Option ℕ) → s' ≡ s → Follows DidClose (after_door_get q) c c' p t
       → IsOutcome (UnderWay AtDoorGet) (λ n. door_step q (shared_by s c) n c.kept) [] s c s' c' p t
-  door_exact q same x = follows_by (UnderWay AtDoorGet) s c f s' c' p t [] (shared_by s c) (λ n. []) (after_door_get q) (ap (λ y. reverse y.log) same) (ap (λ y. shared_by y c) same) x (door_idle q)
+  door_exact q same x = follows_by (UnderWay AtDoorGet) s c f s' c' p t [] (shared_by s c) (λ n. []) (after_door_get q) (ap (λ y. reverse y.log) same) (ap (λ y. y.limit) same) (ap (λ y. shared_by y c) same) x (door_idle q)
 
   put_log : (g : Bool) (d : Option ℕ) → s' ≡ put_state g d s → reverse s'.log ≡ put_lines g d s.made ++ reverse s.log
   put_log false d same = ap (λ y. reverse y.log) same
   put_log true (Some q) same = ap (λ y. reverse y.log) same
   put_log true None same = ap (λ y. reverse y.log) same ∙ reverse_push s.log (PutLine (suc s.made))
+
+  put_limit : (g : Bool) (d : Option ℕ) → s' ≡ put_state g d s → s'.limit ≡ s.limit
+  put_limit false d same = ap (λ y. y.limit) same
+  put_limit true (Some q) same = ap (λ y. y.limit) same
+  put_limit true None same = ap (λ y. y.limit) same
 
   put_left : (g : Bool) (d : Option ℕ) → s' ≡ put_state g d s → shared_by s' c ≡ put_shared g d (shared_by s c)
   put_left false d same = ap (λ y. shared_by y c) same
@@ -90,34 +94,27 @@ module _ (c : ReplaySide) (f : IsFresh c) (s : CoreState ℕ) (c' : ReplaySide) 
       → IsOutcome (UnderWay AtDoorPut) (λ n. put_step g d (shared_by s c) n c.kept) (put_lines g d s.made) s c s' c' p t
   door_put_exact g d same x =
       follows_by (UnderWay AtDoorPut) s c f s' c' p t (put_lines g d s.made) (put_shared g d (shared_by s c))
-      (λ n. []) (after_door_put (put_answer g d s.made)) (put_log g d same) (put_left g d same) x
+      (λ n. []) (after_door_put (put_answer g d s.made)) (put_log g d same) (put_limit g d same) (put_left g d same) x
       (put_idle (put_answer g d s.made))
 
-  in_by : (below ready : Bool) (q : ℕ) → reverse s'.log ≡ reverse s.log
-      → shared_by s' c ≡ in_shared below (shared_by s c) → Follows DidClose (next_in below ready q) c c' p t
+  in_by : (below ready : Bool) (q : ℕ) → reverse s'.log ≡ reverse s.log → s'.limit ≡ s.limit
+      → shared_by s' c ≡ in_shared below (shared_by s c) → Follows DidClose (after_count_in below ready q) c c' p t
       → IsOutcome (UnderWay (AtCountIn q)) (λ n. in_step below ready (shared_by s c) n c.kept q) [] s c s' c' p t
-  in_by below ready q log is x = follows_by (UnderWay (AtCountIn q)) s c f s' c' p t [] (in_shared below (shared_by s c)) (λ n. []) (next_in below ready q) log is x (in_idle below ready q)
+  in_by below ready q log limit is x = follows_by (UnderWay (AtCountIn q)) s c f s' c' p t [] (in_shared below (shared_by s c)) (λ n. []) (after_count_in below ready q) log limit is x (in_idle below ready q)
 
-  -- at the limit, by what the word says
-  in_above : (limit q : ℕ) (b : Bool) → limit ≤ s.word.count → s.word.ready ≡ b → s' ≡ s → Follows DidClose (next_in false b q) c c' p t
-      → IsOutcome (UnderWay (AtCountIn q)) (λ n. in_step (nat_lt s.word.count limit) s.word.ready (shared_by s c) n c.kept q) [] s c s' c' p t
-  in_above limit q b above ready same x =
-      let at_limit : nat_lt s.word.count limit ≡ false = grind (arith, nat_tests, above) in
-      rw at_limit (subst (λ r. IsOutcome (UnderWay (AtCountIn q))
-      (λ n. in_step false r (shared_by s c) n c.kept q) [] s c s' c' p t) (sym ready)
-      (in_by false b q (ap (λ y. reverse y.log) same) (ap (λ y. shared_by y c) same) x))
-
-  pub in_exact : (limit q : ℕ) (n : Counted) → DidCountIn s limit n s' → Follows DidClose (after_count_in n q) c c' p t
-      → IsOutcome (UnderWay (AtCountIn q)) (λ n. in_step (nat_lt s.word.count limit) s.word.ready (shared_by s c) n c.kept q) [] s c s' c' p t
-  in_exact limit q (In w) d x =
-      let below : nat_lt s.word.count limit ≡ true = grind (arith, nat_tests, d.0) in
-      let y : Follows DidClose (after_in s.word.ready q) c c' p t = subst (λ z. Follows DidClose (after_in z.ready q) c c' p t) d.1 x in
-      rw below (in_by true s.word.ready q (ap (λ y. reverse y.log) d.2) (ap (λ y. shared_by y c) d.2) y)
-  in_exact limit q SeenReady d x = in_above limit q true d.0 d.1 d.2 x
-  in_exact limit q CountFull d x = in_above limit q false d.0 d.1 d.2 x
+  pub in_exact : (q : ℕ) (b r : Bool) → NumberCall s (CountedIn b r) s' → Follows DidClose (after_count_in b r q) c c' p t
+      → IsOutcome (UnderWay (AtCountIn q)) (λ n. in_step (nat_lt s.word.count s.limit) s.word.ready (shared_by s c) n c.kept q) [] s c s' c' p t
+  in_exact q true r d x =
+      let below : nat_lt s.word.count s.limit ≡ true = grind (arith, nat_tests, d.0) in
+      let y = subst (λ r. Follows DidClose (after_count_in true r q) c c' p t) d.1 x in
+      rw below (in_by true s.word.ready q (ap (λ y. reverse y.log) d.2) (ap (λ y. y.limit) d.2) (ap (λ y. shared_by y c) d.2) y)
+  in_exact q false r d x =
+      let at_limit : nat_lt s.word.count s.limit ≡ false = grind (arith, nat_tests, d.0) in
+      let y = subst (λ r. Follows DidClose (after_count_in false r q) c c' p t) d.1 x in
+      rw at_limit (in_by false s.word.ready q (ap (λ y. reverse y.log) d.2) (ap (λ y. y.limit) d.2) (ap (λ y. shared_by y c) d.2) y)
 
   pub load_exact : (ready : Bool) (q : ℕ) (k : Option ℕ) → s' ≡ s → Follows DidClose (after_load ready q k) c c' p t
       → IsOutcome (UnderWay (AtWaitLoad q k)) (λ n. load_step ready (shared_by s c) n c.kept q k) [] s c s' c' p t
   load_exact ready q k same x =
       follows_by (UnderWay (AtWaitLoad q k)) s c f s' c' p t [] (shared_by s c) (λ n. []) (after_load ready q k)
-      (ap (λ y. reverse y.log) same) (ap (λ y. shared_by y c) same) x (load_idle ready q k)
+      (ap (λ y. reverse y.log) same) (ap (λ y. y.limit) same) (ap (λ y. shared_by y c) same) x (load_idle ready q k)

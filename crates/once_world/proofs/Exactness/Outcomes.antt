@@ -1,11 +1,12 @@
 -- What a step left and was seen to do, against what the machine says.
-use Rattle.std.proofs.Common.{◌≡◌, ℕ, Bool, true, false, List, [], ◌∷◌, ◌++◌, None, Some, ap, ◌∙◌, arith, reverse}
+use Rattle.std.proofs.Common.{◌≡◌, ◌≢◌, ℕ, Bool, true, false, List, [], ◌∷◌, ◌++◌, None, Some, ap, ◌∙◌, arith, reverse}
 use Rattle.std.specs.Prelude.{not, ◌&&◌}
 use Rattle.std.proofs.lemmas.Grind.{common_steps}
 use Rattle.once_queue.specs.declared.log.QueueLine.{QueueLine}
 use Rattle.once_queue.specs.declared.waiters.Out.{Out}
 use Rattle.once_world.specs.declared.world.side.ReplaySide.{ReplaySide}
-use Rattle.once_core.specs.Core.{CoreState}
+use Rattle.once_core.specs.Core.{CoreState, DidCall}
+use Rattle.once_core.specs.Table.{Told}
 use Rattle.once_world.specs.Places.{AtCountOut, Ended, Ending, More, Progress, Step, UnderWay}
 use Rattle.once_core.specs.Steps.{Follows, MayClose, Next, is_adding, is_freeing, is_leaving, is_running, next_at}
 use Rattle.once_world.specs.Record.{Answer, Entry, Ran}
@@ -16,6 +17,10 @@ use Rattle.once_world.specs.Shown.{claim_entries, freed_entries, handed_entries,
 -- the newest line stands first in the log
 pub reverse_push : (ls : List QueueLine) (x : QueueLine) → reverse (ls ++ x ∷ []) ≡ (x ∷ []) ++ reverse ls
 reverse_push ls x = grind (arith, common_steps)
+
+-- what a call tells and leaves, where wakers are numbers
+abbrev pub NumberCall : CoreState ℕ → Told ℕ ℕ → CoreState ℕ → Type 0
+NumberCall = DidCall (λ a b. a ≡ b) (λ a b. a ≢ b)
 
 -- what all tasks share, as the machine sees it
 abbrev pub shared_by : CoreState ℕ → ReplaySide → SharedState
@@ -48,6 +53,7 @@ pub record IsOutcome (from : Step ℕ ℕ) (o : ℕ → Outcome) (lines : List Q
   pub kept : (n : ℕ) → c'.kept ≡ (o n).kept
   pub told : (n : ℕ) → seen_entries from n c' p t ≡ (o n).entries
   pub log : reverse s'.log ≡ lines ++ reverse s.log
+  pub limit : s'.limit ≡ s.limit
   pub lazy_is : c'.lazy ≡ c.lazy
 
 -- where no queue stands at the door, nobody holds by its flag and nobody is listed
@@ -82,11 +88,11 @@ ran_by More n v k x C s = ap (λ l. Ran n x ∷ l) s
 pub follows_by : (from : Step ℕ ℕ) (s : CoreState ℕ) (c : ReplaySide) (f : IsFresh c) (s' : CoreState ℕ)
     (c' : ReplaySide) (p : Progress) (t : Step ℕ ℕ) (lines : List QueueLine) (d : SharedState) (did : ℕ → List Entry)
     (next : Next ℕ ℕ)
-    → reverse s'.log ≡ lines ++ reverse s.log → shared_by s' c ≡ d → Follows DidClose next c c' p t
+    → reverse s'.log ≡ lines ++ reverse s.log → s'.limit ≡ s.limit → shared_by s' c ≡ d → Follows DidClose next c c' p t
     → ((n : ℕ) → freed_entries (is_freed from next.step) n c.kept
     ++ claim_entries (is_running next.step) n ≡ did n)
     → IsOutcome from (λ n. outcome_of d n c.kept (did n) next) lines s c s' c' p t
-follows_by from s c f s' c' p t lines d did next log is x seen =
+follows_by from s c f s' c' p t lines d did next log limit is x seen =
     let same = unclosed c c' next.closes x.0 in
     record {
       shared = λ n. rw same is;
@@ -96,6 +102,7 @@ follows_by from s c f s' c' p t lines d did next log is x seen =
           (is_freed from next.step) n c.value c.kept (claim_entries (is_running next.step) n) (did n) (seen n)
           ∙ ap (λ v. progress_entries next.progress n v c.kept ++ did n) (ap (λ y. y.value) is));
       log = log;
+      limit = limit;
       lazy_is = ap (λ y. y.lazy) same;
     }
 
@@ -103,14 +110,15 @@ follows_by from s c f s' c' p t lines d did next log is x seen =
 pub wakes_by : (from : Step ℕ ℕ) (s : CoreState ℕ) (c : ReplaySide) (f : IsFresh c) (s' : CoreState ℕ)
     (c' : ReplaySide) (p : Progress) (t : Step ℕ ℕ) (lines : List QueueLine) (out : Out ℕ) (e : Ending)
     (d : SharedState) (told : ℕ → List Entry)
-    → reverse s'.log ≡ lines ++ reverse s.log → DidWake c out c' → p ≡ More → t ≡ UnderWay (AtCountOut e)
+    → reverse s'.log ≡ lines ++ reverse s.log → s'.limit ≡ s.limit → DidWake c out c' → p ≡ More → t ≡ UnderWay (AtCountOut e)
     → shared_by s' c ≡ d → ((n : ℕ) → seen_entries from n (record c { ran = None; handed = Some out }) More (UnderWay (AtCountOut e)) ≡ told n)
     → IsOutcome from (λ n. outcome_of d n c.kept (told n) (next_at (AtCountOut e))) lines s c s' c' p t
-wakes_by from s c f s' c' p t lines out e d told log wake more step is handed = record {
+wakes_by from s c f s' c' p t lines out e d told log limit wake more step is handed = record {
   shared = λ n. rw wake is;
   step = λ n. step;
   kept = λ n. ap (λ x. x.kept) wake;
   told = λ n. rw (more, step, wake, f.ran) (handed n);
   log = log;
+  limit = limit;
   lazy_is = ap (λ x. x.lazy) wake;
 }

@@ -4,11 +4,11 @@ use Rattle.std.specs.Prelude.{nat_lt}
 use Rattle.std.proofs.lemmas.Bool.{ne_eqb}
 use Rattle.std.proofs.lemmas.Bool.Decides.{nat_tests}
 use Rattle.once_queue.specs.Word.{Flags, flags_of, is_quick_bit, is_ready_bit, is_zero}
-use Rattle.once_core.specs.Steps.{after_count_out, after_fast, after_in, after_load, after_quick, after_start, next_at}
+use Rattle.once_core.specs.Steps.{after_count_out, after_fast, after_count_in, after_load, after_quick, after_start, next_at}
 use Rattle.once_world.specs.Record.{Claim, Entry, Once}
 use Rattle.once_world.specs.Book.{At, IsBook, Page}
 use Rattle.once_world.specs.Machine.{AtAddOne, AtCountIn, AtCountOut, AtDoorAgain, AtFast, AtStart, AtTryQuick, AtWaitLoad, Ending, SharedState, Task, UnderWay}
-use Rattle.once_world.specs.Machine.{fast_shared, fast_step, in_step, is_value, next_in, out_shared, outcome_of, quick_step, release_entry, word_of}
+use Rattle.once_world.specs.Machine.{fast_shared, fast_step, in_step, is_value, out_shared, outcome_of, quick_step, release_entry, word_of}
 use Rattle.once_world.proofs.Invariant.Moves.{in_count}
 use Rattle.once_world.proofs.Moment.Numbers.{fast_within, in_within, out_within, quick_word, word_fast, word_in, word_out, word_quick, zero_word}
 use Rattle.once_world.proofs.Moment.Step.{Moment, Stepped, moment, stands, stepped_alone}
@@ -53,22 +53,22 @@ module _ (limit n put : ℕ) (slot : Bool) (pages : List Page) (log : List Entry
 
   -- AtCountIn: the exchange that counts t in
   pub count_in : (q : ℕ) → x.step ≡ UnderWay (AtCountIn q) → limit ≤ 2 ^ 62 - 2 → (flags_of n).count < limit
-      → Stepped limit (n + 1) put slot pages log t x [] (after_in (flags_of n).ready q)
+      → Stepped limit (n + 1) put slot pages log t x [] (after_count_in true (flags_of n).ready q)
   count_in q at within l =
       let e = count_is in
       let below : nat_lt c.count limit ≡ true = grind (arith, nat_tests) in
-      stepped_alone limit n put slot pages log t x some book pen (n + 1) false (AtCountIn q) (record c { count = suc c.count }) [] (after_in (flags_of n).ready q) at
-      (ap (λ b. in_step b c.ready c t x.kept q) below ∙ ap (λ b. outcome_of (record c { count = suc c.count }) t x.kept [] (after_in b q)) (sym ready_is))
+      stepped_alone limit n put slot pages log t x some book pen (n + 1) false (AtCountIn q) (record c { count = suc c.count }) [] (after_count_in true (flags_of n).ready q) at
+      (ap (λ b. in_step b c.ready c t x.kept q) below ∙ ap (λ b. outcome_of (record c { count = suc c.count }) t x.kept [] (after_count_in true b q)) (sym ready_is))
       (in_within n book.1.within (omega arith)) (word_in n (omega arith) ∙ ap (λ (f : Flags). record f { count = suc f.count }) book.1.word_is)
       book.1.put_is book.1.door_is book.1.queue_is
 
   -- the load after which t does not count itself in, as many being counted as may be
-  pub count_full : (q : ℕ) → x.step ≡ UnderWay (AtCountIn q) → limit ≤ (flags_of n).count → Stepped limit n put slot pages log t x [] (next_in false (flags_of n).ready q)
+  pub count_full : (q : ℕ) → x.step ≡ UnderWay (AtCountIn q) → limit ≤ (flags_of n).count → Stepped limit n put slot pages log t x [] (after_count_in false (flags_of n).ready q)
   count_full q at l =
       let e = count_is in
       let above : nat_lt c.count limit ≡ false = grind (arith, nat_tests) in
-      stepped_alone limit n put slot pages log t x some book pen n false (AtCountIn q) c [] (next_in false (flags_of n).ready q) at
-      (ap (λ b. in_step b c.ready c t x.kept q) above ∙ ap (λ b. outcome_of c t x.kept [] (next_in false b q)) (sym ready_is))
+      stepped_alone limit n put slot pages log t x some book pen n false (AtCountIn q) c [] (after_count_in false (flags_of n).ready q) at
+      (ap (λ b. in_step b c.ready c t x.kept q) above ∙ ap (λ b. outcome_of c t x.kept [] (after_count_in false b q)) (sym ready_is))
       book.1.within book.1.word_is book.1.put_is book.1.door_is book.1.queue_is
 
   -- AtWaitLoad: the load

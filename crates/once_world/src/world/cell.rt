@@ -49,11 +49,13 @@ impl ReplayCell {
     ghost use Rattle.once_world.specs.Machine.{owner_shared, owner_got, owner_lines, advance as outcome};
     ghost use Rattle.once_world.specs.Shown.{kind_of, call_of, got_of, shared_of, log_in, step_entries};
 
-    /// A cell of this kind that nobody used. It takes no memory.
-    pub fn new(alloc: Global, kind: Kind) -> Self
+    /// A cell of this kind that nobody used, in which at most `limit` tasks may be counted in. It takes no memory.
+    pub fn new(alloc: Global, kind: Kind, limit: u64) -> Self
+        requires { limit ≤ 2 ^ 62 - 2 }
         ensures shared { shared_of result ≡ (first_world (kind_of kind)).shared }
         ensures log { log_in result ≡ [] }
         ensures lazy { result.side.lazy ≡ is_lazy (kind_of kind) }
+        ensures limit { result.core.limit ≡ limit }
     {
         let lazy = matches!(&kind, Kind::Lazy(_) | Kind::LazyWith(_));
         let (value, answers) = match kind {
@@ -66,7 +68,7 @@ impl ReplayCell {
             Kind::LazyWith(v) => (Some(v), Vec::new(alloc)),
         };
         ReplayCell {
-            core: Core::new(alloc, value.is_some()),
+            core: Core::new(alloc, value.is_some(), limit),
             side: ReplaySide {
                 lazy,
                 answers,
@@ -98,33 +100,34 @@ impl ReplayCell {
         ensures shared { shared_of self.new ≡ shared_of self.old }
         ensures log { log_in self.new ≡ log_in self.old }
         ensures side { self.new.side ≡ self.old.side }
+        ensures limit { self.new.core.limit ≡ self.old.core.limit }
     {
         self.core.reserve()
     }
 
     /// Makes one step of a task with a call under way. If the step polls the init, the init gives
     /// `answer`; that of a lazy cell gives its own. `granted` says whether the step is given memory.
-    pub fn advance(&mut self, task: &mut Task, answer: Ran, granted: bool, limit: u64) -> StepSeen
+    pub fn advance(&mut self, task: &mut Task, answer: Ran, granted: bool) -> StepSeen
         requires call { in_call task.old.step ≡ true }
-        requires limit { limit ≤ 2 ^ 62 - 2 }
         requires room { HasRoom self.old.core }
-        requires can { CanAdvance limit (shared_of self.old) task.old.step }
+        requires can { CanAdvance self.old.core.limit (shared_of self.old) task.old.step }
         ensures shared { (t : ℕ) → shared_of self.new
-            ≡ (outcome self.old.side.lazy limit
+            ≡ (outcome self.old.side.lazy self.old.core.limit
             (shared_of self.old) t task.old answer granted).shared }
         ensures step { (t : ℕ) → task.new.step
-            ≡ (outcome self.old.side.lazy limit
+            ≡ (outcome self.old.side.lazy self.old.core.limit
             (shared_of self.old) t task.old answer granted).step }
         ensures kept { (t : ℕ) → task.new.kept
-            ≡ (outcome self.old.side.lazy limit
+            ≡ (outcome self.old.side.lazy self.old.core.limit
             (shared_of self.old) t task.old answer granted).kept }
         ensures waker { task.new.waker ≡ task.old.waker }
         ensures seen { (t : ℕ) → step_entries t result task.new.kept self.new.side.value
-            ≡ (outcome self.old.side.lazy limit
+            ≡ (outcome self.old.side.lazy self.old.core.limit
             (shared_of self.old) t task.old answer granted).entries }
         ensures log { log_in self.new ≡ step_lines granted (shared_of self.old) task.old.step
             ++ log_in self.old }
         ensures lazy { self.new.side.lazy ≡ self.old.side.lazy }
+        ensures limit { self.new.core.limit ≡ self.old.core.limit }
     {
         self.side.ran = None;
         self.side.handed = None;
@@ -136,7 +139,7 @@ impl ReplayCell {
         self.core.grant(granted);
         let freeing = task.step.is_freeing();
         let leaving = task.step.is_leaving();
-        let progress = task.step.advance(&mut self.core, &mut self.side, limit);
+        let progress = task.step.advance(&mut self.core, &mut self.side);
         task.kept = self.side.kept;
         StepSeen {
             claimed: task.step.is_running(),
@@ -169,6 +172,7 @@ impl ReplayCell {
         ensures log { OnOk result (log_in self.new
             ≡ owner_lines (replaces (call_of call.now)) (shared_of self.old) ++ log_in self.old) }
         ensures lazy { self.new.side.lazy ≡ self.old.side.lazy }
+        ensures limit { self.new.core.limit ≡ self.old.core.limit }
     {
         self.core.reserve()?;
         let value = self.look();
@@ -216,6 +220,7 @@ impl ReplayCell {
             ≡ reset_shared (shared_of self.old) value (shared_of self.old).answers }
         ensures log { log_in self.new ≡ take_lines self.old.core.door ++ log_in self.old }
         ensures lazy { self.new.side.lazy ≡ self.old.side.lazy }
+        ensures limit { self.new.core.limit ≡ self.old.core.limit }
     {
         self.core.reset(value.is_some());
         if let Some(v) = value {

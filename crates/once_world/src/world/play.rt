@@ -29,7 +29,6 @@ use std::collections::BTreeMap;
 /// ```
 #[derive(Drop)]
 pub struct World {
-    limit: u64,
     shared: ReplayCell,
     tasks: BTreeMap<u64, Task>,
     /// How many tasks are not finished.
@@ -59,8 +58,7 @@ impl World {
         ensures reached { IsReached result }
     {
         World {
-            limit,
-            shared: ReplayCell::new(alloc, kind),
+            shared: ReplayCell::new(alloc, kind, limit),
             tasks: BTreeMap::new(alloc),
             unfinished: 0,
             entries: Vec::new(alloc),
@@ -142,13 +140,12 @@ impl World {
 
     // Takes one input, which the machine may take.
     fn apply(&mut self, input: &Input) -> Result<(), AllocError>
-        requires limit { self.old.limit ≤ 2 ^ 62 - 2 }
-        requires may { MayTake self.old.limit (world_in self.old) (input_of input.now) }
+        requires may { MayTake self.old.shared.core.limit (world_in self.old) (input_of input.now) }
         ensures world { (kind : RecordedKind) → is_lazy kind ≡ self.old.shared.side.lazy
             → OnOk result (world_in self.new
-            ≡ world_after kind self.old.limit (world_in self.old) (input_of input.now)) }
+            ≡ world_after kind self.old.shared.core.limit (world_in self.old) (input_of input.now)) }
         ensures lazy { self.new.shared.side.lazy ≡ self.old.shared.side.lazy }
-        ensures limit { self.new.limit ≡ self.old.limit }
+        ensures limit { self.new.shared.core.limit ≡ self.old.shared.core.limit }
     {
         match input {
             Input::Make(t) => self.make(*t),
@@ -168,7 +165,7 @@ impl World {
         ensures world { OnOk result (world_in self.new
             ≡ make_world (world_in self.old) t ((world_in self.old).tasks t)) }
         ensures shared { self.new.shared ≡ self.old.shared }
-        ensures limit { self.new.limit ≡ self.old.limit }
+        ensures limit { self.new.shared.core.limit ≡ self.old.shared.core.limit }
     {
         if self.tasks.contains_key(&t) {
             return Ok(());
@@ -191,7 +188,7 @@ impl World {
         ensures world { OnOk result (world_in self.new
             ≡ poll_world (world_in self.old) t waker ((world_in self.old).tasks t)) }
         ensures shared { self.new.shared ≡ self.old.shared }
-        ensures limit { self.new.limit ≡ self.old.limit }
+        ensures limit { self.new.shared.core.limit ≡ self.old.shared.core.limit }
     {
         let Some(task) = self.tasks.get_mut(&t) else {
             return Ok(());
@@ -209,7 +206,7 @@ impl World {
         ensures world { OnOk result (world_in self.new
             ≡ drop_world (world_in self.old) t ((world_in self.old).tasks t)) }
         ensures lazy { self.new.shared.side.lazy ≡ self.old.shared.side.lazy }
-        ensures limit { self.new.limit ≡ self.old.limit }
+        ensures limit { self.new.shared.core.limit ≡ self.old.shared.core.limit }
     {
         let Some(task) = self.tasks.get_mut(&t) else {
             return Ok(());
@@ -227,14 +224,13 @@ impl World {
     }
 
     fn go(&mut self, t: u64, answer: Ran, granted: bool) -> Result<(), AllocError>
-        requires limit { self.old.limit ≤ 2 ^ 62 - 2 }
-        requires can { TaskCan self.old.limit (shared_of self.old.shared)
+        requires can { TaskCan self.old.shared.core.limit (shared_of self.old.shared)
             ((world_in self.old).tasks t) }
         ensures world { OnOk result (world_in self.new
-            ≡ go_world self.old.shared.side.lazy self.old.limit (world_in self.old) t answer granted
+            ≡ go_world self.old.shared.side.lazy self.old.shared.core.limit (world_in self.old) t answer granted
             ((world_in self.old).tasks t)) }
         ensures lazy { self.new.shared.side.lazy ≡ self.old.shared.side.lazy }
-        ensures limit { self.new.limit ≡ self.old.limit }
+        ensures limit { self.new.shared.core.limit ≡ self.old.shared.core.limit }
     {
         let Some(task) = self.tasks.get_mut(&t) else {
             return Ok(());
@@ -243,7 +239,7 @@ impl World {
             return Ok(());
         }
         self.shared.reserve()?;
-        let seen = self.shared.advance(task, answer, granted, self.limit);
+        let seen = self.shared.advance(task, answer, granted);
         self.unfinished = still_unfinished(&task.step, self.unfinished);
         let kept = task.kept;
         record_step(&mut self.entries, t, seen, kept, self.shared.side.value)
@@ -255,7 +251,7 @@ impl World {
             ≡ own_world_by (self.old.unfinished == 0) (owner_has kind (call_of call.now))
             (world_in self.old) (call_of call.now)) }
         ensures lazy { self.new.shared.side.lazy ≡ self.old.shared.side.lazy }
-        ensures limit { self.new.limit ≡ self.old.limit }
+        ensures limit { self.new.shared.core.limit ≡ self.old.shared.core.limit }
     {
         if self.unfinished != 0 || !self.shared.has_call(call) {
             return Ok(());

@@ -7,11 +7,11 @@ use prog.Atomic.{either}
 use Rattle.pagebook.specs.Pages.{Moves, put as put_on}
 use Rattle.once_queue.specs.Word.{flags_of, is_ready_bit, is_zero}
 use Rattle.once_queue.proofs.Listing.Members.{eqb_self}
-use Rattle.once_core.specs.Steps.{Next, after_count_out, after_fast, after_in, after_load, after_quick, after_start, next_at, next_end}
+use Rattle.once_core.specs.Steps.{Next, after_count_out, after_fast, after_count_in, after_load, after_quick, after_start, next_at, next_end}
 use Rattle.once_world.specs.Record.{Entry}
 use Rattle.once_world.specs.Book.{At, IsBook, Page, TaskState}
 use Rattle.once_world.specs.Machine.{AtAddOne, AtCountIn, AtCountOut, AtDoorAgain, AtDoorTake, AtFast, AtStart, AtTryQuick}
-use Rattle.once_world.specs.Machine.{AtWaitLoad, Ending, UnderWay, claim_entries, freed_entries, is_value, next_in}
+use Rattle.once_world.specs.Machine.{AtWaitLoad, Ending, UnderWay, claim_entries, freed_entries, is_value}
 use Rattle.once_world.proofs.Moment.Doors.{take_none}
 use Rattle.once_world.proofs.Moment.Numbers.{in_wraps, out_wraps}
 use Rattle.once_world.proofs.Moment.Step.{Stepped, told}
@@ -78,17 +78,17 @@ module _ (seen : List Entry) (t : ℕ) (x : TaskState) where
   -- AtCountIn: the page after a load that finds as many counted as may be, and the page as it was after another
   abbrev pub full_page : ℕ → ℕ → Bool → List Page
   full_page q n true = At x ∷ []
-  full_page q n false = goes_to x (next_in false (flags_of n).ready q)
+  full_page q n false = goes_to x (after_count_in false (flags_of n).ready q)
 
   -- what that load records
   abbrev pub full_told : ℕ → ℕ → Bool → List Entry
   full_told q n true = []
-  full_told q n false = told t x.kept (next_in false (flags_of n).ready q) []
+  full_told q n false = told t x.kept (after_count_in false (flags_of n).ready q) []
 
   -- all of it is of t
   full_of : (q n : ℕ) (b : Bool) → AreOf t (full_told q n b)
   full_of q n true = tt
-  full_of q n false = told_of t x.kept (next_in false (flags_of n).ready q) [] tt
+  full_of q n false = told_of t x.kept (after_count_in false (flags_of n).ready q) [] tt
 
   -- by whether there is room
   full_by : (q n put : ℕ) (slot : Bool) (pages : List Page) (log : List Entry) → IsBook most n put slot pages log → slice_get pages (suc (suc t)) ≡ Some (At x)
@@ -108,11 +108,11 @@ module _ (seen : List Entry) (t : ℕ) (x : TaskState) where
 
   -- AtCountIn: the page after the exchange, by whether it was done
   abbrev pub in_page : ℕ → ℕ → Bool → List Page
-  in_page q old true = goes_to x (after_in (flags_of old).ready q)
+  in_page q old true = goes_to x (after_count_in true (flags_of old).ready q)
   in_page q old false = At x ∷ []
 
   -- who counts itself in records nothing
-  in_told : (r : Bool) (q : ℕ) → told t x.kept (after_in r q) [] ≡ []
+  in_told : (r : Bool) (q : ℕ) → told t x.kept (after_count_in true r q) [] ≡ []
   in_told true q = refl
   in_told false q = refl
 
@@ -122,7 +122,7 @@ module _ (seen : List Entry) (t : ℕ) (x : TaskState) where
       → IsBook most (either b (old + 1) n) put slot (put_on (in_page q old b) (hand t x) pages) (log ++ [])
   in_by q old n put slot pages log book pen at l true e =
       let b : IsBook most old put slot pages log = subst (λ w. IsBook most w put slot pages log) (eqb-true n old e) book in
-      subst (λ es. IsBook most (old + 1) put slot (slice_set pages (suc (suc t)) (At (record x { step = (after_in (flags_of old).ready q).step }))) (log ++ es)) (in_told (flags_of old).ready q)
+      subst (λ es. IsBook most (old + 1) put slot (slice_set pages (suc (suc t)) (At (record x { step = (after_count_in true (flags_of old).ready q).step }))) (log ++ es)) (in_told (flags_of old).ready q)
       (count_in most old put slot pages log t x some b pen q at (omega arith) l)
   in_by q old n put slot pages log book pen at l false e =
       subst (λ ps. IsBook most n put slot ps (log ++ [])) (sym (set_same pages (suc (suc t)) (At x) pen)) (subst (IsBook most n put slot pages) (sym (append-nil log)) book)

@@ -1,5 +1,4 @@
 -- The step is a line of the table. So the task stands after it too.
-use Rattle.once_queue.specs.declared.word.TheConstants.{MAX_WAITERS}
 use Rattle.once_parts.specs.Shares.{cell_of, own}
 use Rattle.once_parts.proofs.Walk.Logs.{walked_on}
 use Rattle.once_parts.proofs.Walk.Asked.{step_asked}
@@ -12,20 +11,20 @@ advance-requires-clause-asks g c =
     c.args.side.now c.args.told c.args.step.now c.requires.stands.1
 
 pub returns-clause-cell : goal.returns-clause-cell
-returns-clause-cell g c = (step_went cell_of own g.W.TaskWaker.whose g.S.TaskSide.state g.S.Side.did g.met.S.TaskSide.tells MAX_WAITERS c.requires.stands.0
+returns-clause-cell g c = (step_went cell_of own g.W.TaskWaker.whose g.S.TaskSide.state g.S.Side.did g.met.S.TaskSide.tells c.requires.stands.0
     c.args.step.now c.args.parts.now c.advance.new.parts c.args.side.now c.advance.new.side
     c.advance.result c.args.told c.advance.new.self c.requires.stands.1 c.advance.ensures.line).cell_is
 
 pub returns-clause-walked : goal.returns-clause-walked
 returns-clause-walked g c = λ x v m. walked_on _ _ _ _ _ _ _ _
-    (goes_more cell_of own g.W.TaskWaker.whose g.S.TaskSide.state g.S.Side.did g.met.S.TaskSide.tells MAX_WAITERS c.requires.stands.0
+    (goes_more cell_of own g.W.TaskWaker.whose g.S.TaskSide.state g.S.Side.did g.met.S.TaskSide.tells c.requires.stands.0
     c.args.step.now c.args.parts.now c.advance.new.parts
     c.args.side.now c.advance.new.side c.advance.result c.args.told c.advance.new.self c.requires.stands.1 c.advance.ensures.line) m
-    (step_went cell_of own g.W.TaskWaker.whose g.S.TaskSide.state g.S.Side.did g.met.S.TaskSide.tells MAX_WAITERS c.requires.stands.0
+    (step_went cell_of own g.W.TaskWaker.whose g.S.TaskSide.state g.S.Side.did g.met.S.TaskSide.tells c.requires.stands.0
     c.args.step.now c.args.parts.now c.advance.new.parts
     c.args.side.now c.advance.new.side c.advance.result c.args.told c.advance.new.self c.requires.stands.1 c.advance.ensures.line).walked
 
 pub returns-clause-stands : goal.returns-clause-stands
-returns-clause-stands g c = λ drops s. (step_went cell_of own g.W.TaskWaker.whose g.S.TaskSide.state g.S.Side.did g.met.S.TaskSide.tells MAX_WAITERS drops
+returns-clause-stands g c = λ drops s. (step_went cell_of own g.W.TaskWaker.whose g.S.TaskSide.state g.S.Side.did g.met.S.TaskSide.tells drops
     c.args.step.now c.args.parts.now c.advance.new.parts c.args.side.now c.advance.new.side
     c.advance.result c.args.told c.advance.new.self s c.advance.ensures.line).stands

@@ -1,7 +1,6 @@
 -- The poll begins, its steps are made, and so it ends.
 use Rattle.std.proofs.Common.{◌≡◌, ℕ, true, false, [], ◌∷◌, rules, refl, sym, ap, subst, ◌∙◌}
 use Rattle.std.specs.Prelude.{⊤}
-use Rattle.once_queue.specs.declared.word.TheConstants.{MAX_WAITERS}
 use Rattle.once_core.specs.Steps.{step_of_poll}
 use Rattle.once_world.specs.Places.{More, RestStart, Resting, Step}
 use Rattle.once_world.specs.Record.{Begin}
@@ -69,7 +68,7 @@ first_steps-requires-clause-asks g c = λ told at p s m.
     let stands = first_begins g.W.TaskWaker.whose (g.S.TaskSide.state c.args.side.now) (own c.self.inside.parts) (own c.begin.new.self) c.self.inside.idle
     c.new-first.result c.self.view_is refl refl c.requires.live c.requires.number c.requires.none c.requires.init c.self.inside.stands c.begin.ensures.did new
     c.new-first.ensures in
-    steps_asked cell_of own g.W.TaskWaker.whose g.S.TaskSide.state g.S.Side.did g.met.S.TaskSide.tells MAX_WAITERS false
+    steps_asked cell_of own g.W.TaskWaker.whose g.S.TaskSide.state g.S.Side.did g.met.S.TaskSide.tells false
     g.S.Side.can_run g.S.Side.can_put g.met.S.TaskSide.runs g.met.S.TaskSide.puts (step_of_poll c.new-first.result)
     c.begin.new.self c.args.side.now at p s told stands m
 
@@ -79,10 +78,10 @@ returns-in-Ended g c =
     let stands = first_begins g.W.TaskWaker.whose (g.S.TaskSide.state c.args.side.now) (own c.self.inside.parts) (own c.begin.new.self) c.self.inside.idle
     c.new-first.result c.self.view_is refl refl c.requires.live c.requires.number c.requires.none c.requires.init c.self.inside.stands c.begin.ensures.did new
     c.new-first.ensures in
-    let p = polled_at_once cell_of own g.W.TaskWaker.whose g.S.TaskSide.state g.S.Side.did g.met.S.TaskSide.tells MAX_WAITERS
+    let p = polled_at_once cell_of own g.W.TaskWaker.whose g.S.TaskSide.state g.S.Side.did g.met.S.TaskSide.tells
     (own c.self.inside.parts) c.begin.new.self c.args.side.now (step_of_poll c.new-first.result) c.first_steps.new.self c.first_steps.new.parts c.first_steps.new.side
     c.first_steps.result c.in-Ended.ending c.of-self-inside.result
-    c.requires.none c.begin.ensures.did stands (c.first_steps.ensures.lines MAX_WAITERS) c.in-Ended.is c.of-self-inside.ensures.is in
+    c.requires.none c.begin.ensures.did stands c.first_steps.ensures.lines c.in-Ended.is c.of-self-inside.ensures.is in
     rw (← c.self.view_is) (record {
       cell = p.0 ∙ c.begin.ensures.cell;
       number = p.1.number;
@@ -102,10 +101,10 @@ invariant_of-self-inside-in-Ended g c =
     let stands = first_begins g.W.TaskWaker.whose (g.S.TaskSide.state c.args.side.now) (own c.self.inside.parts) (own c.begin.new.self) c.self.inside.idle
     c.new-first.result c.self.view_is refl refl c.requires.live c.requires.number c.requires.none c.requires.init c.self.inside.stands c.begin.ensures.did new
     c.new-first.ensures in
-    let p = polled_at_once cell_of own g.W.TaskWaker.whose g.S.TaskSide.state g.S.Side.did g.met.S.TaskSide.tells MAX_WAITERS
+    let p = polled_at_once cell_of own g.W.TaskWaker.whose g.S.TaskSide.state g.S.Side.did g.met.S.TaskSide.tells
     (own c.self.inside.parts) c.begin.new.self c.args.side.now (step_of_poll c.new-first.result) c.first_steps.new.self c.first_steps.new.parts c.first_steps.new.side
     c.first_steps.result c.in-Ended.ending c.of-self-inside.result
-    c.requires.none c.begin.ensures.did stands (c.first_steps.ensures.lines MAX_WAITERS) c.in-Ended.is c.of-self-inside.ensures.is in
+    c.requires.none c.begin.ensures.did stands c.first_steps.ensures.lines c.in-Ended.is c.of-self-inside.ensures.is in
     (λ l. p.1.stands, tt)
 
 pub steps_left-requires-in-More : goal.steps_left-requires-in-More
@@ -114,9 +113,9 @@ steps_left-requires-in-More g c =
     let stands = first_begins g.W.TaskWaker.whose (g.S.TaskSide.state c.args.side.now) (own c.self.inside.parts) (own c.begin.new.self) c.self.inside.idle
     c.new-first.result c.self.view_is refl refl c.requires.live c.requires.number c.requires.none c.requires.init c.self.inside.stands c.begin.ensures.did new
     c.new-first.ensures in
-    let went = steps_went cell_of own g.W.TaskWaker.whose g.S.TaskSide.state g.S.Side.did g.met.S.TaskSide.tells MAX_WAITERS false
+    let went = steps_went cell_of own g.W.TaskWaker.whose g.S.TaskSide.state g.S.Side.did g.met.S.TaskSide.tells false
     (step_of_poll c.new-first.result) c.begin.new.self c.args.side.now c.first_steps.new.self c.first_steps.new.parts c.first_steps.new.side
-    c.first_steps.result stands (c.first_steps.ensures.lines MAX_WAITERS) in
+    c.first_steps.result stands c.first_steps.ensures.lines in
     record {
       stands = subst (λ r. Stands g.W.TaskWaker.whose false (g.S.TaskSide.state c.first_steps.new.side) (own c.first_steps.new.parts) r c.first_steps.new.self)
           c.in-More.is went.stands;
@@ -128,9 +127,9 @@ returns-in-More g c =
     let stands = first_begins g.W.TaskWaker.whose (g.S.TaskSide.state c.args.side.now) (own c.self.inside.parts) (own c.begin.new.self) c.self.inside.idle
     c.new-first.result c.self.view_is refl refl c.requires.live c.requires.number c.requires.none c.requires.init c.self.inside.stands c.begin.ensures.did new
     c.new-first.ensures in
-    let went = steps_went cell_of own g.W.TaskWaker.whose g.S.TaskSide.state g.S.Side.did g.met.S.TaskSide.tells MAX_WAITERS false
+    let went = steps_went cell_of own g.W.TaskWaker.whose g.S.TaskSide.state g.S.Side.did g.met.S.TaskSide.tells false
     (step_of_poll c.new-first.result) c.begin.new.self c.args.side.now c.first_steps.new.self c.first_steps.new.parts c.first_steps.new.side
-    c.first_steps.result stands (c.first_steps.ensures.lines MAX_WAITERS) in
+    c.first_steps.result stands c.first_steps.ensures.lines in
     let walked = subst (λ r. Walked (g.S.TaskSide.state c.args.side.now) (own c.begin.new.self) r
     (g.S.TaskSide.state c.first_steps.new.side) (own c.first_steps.new.parts)) c.in-More.is went.walked in
     let p = polled g.W.TaskWaker.whose (g.S.TaskSide.state c.args.side.now) (g.S.TaskSide.state c.steps_left-in-More.new.side) (own c.self.inside.parts) (own c.begin.new.self)

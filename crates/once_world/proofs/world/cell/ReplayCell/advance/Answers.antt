@@ -2,7 +2,7 @@
 use Rattle.std.proofs.Common.{◌≡◌, ℕ, Bool, true, false, refl, sym, ap, ◌∙◌, ◌++◌, reverse}
 use Rattle.std.specs.Prelude.{not, ◌&&◌}
 use Rattle.once_core.specs.Core.{CoreState, state_of}
-use Rattle.once_world.specs.Machine.{SharedState, Outcome, advance as outcome, step_lines}
+use Rattle.once_world.specs.Machine.{Outcome, advance as outcome, step_lines}
 use Rattle.once_world.proofs.Exactness.Outcomes.{shared_by, is_freed}
 use Rattle.once_world.proofs.Exactness.Exact.{advance_exact}
 use Rattle.once_world.proofs.world.cell.ReplayCell.advance.Goals as goal
@@ -18,21 +18,21 @@ pub returns : goal.returns
 returns c =
     let granted_to : CoreState ℕ → CoreState ℕ = λ s. record s { granted = c.args.granted } in
     let state = c.grant.ensures.state ∙ ap granted_to c.set_waker.ensures.state in
-    let x = advance_exact (λ p. state_of p) c.args.limit _ _ _ _ _ _ _
+    let x = advance_exact (λ p. state_of p) _ _ _ _ _ _ _
     (record { ran = refl; handed = refl }) c.grant.new.self.bare (ap (λ s. s.current) state)
     (ap (λ s. s.granted) state) c.advance-progress.ensures.line in
-    let told_by : SharedState → ℕ → Outcome = λ i t. outcome c.args.self.now.side.lazy c.args.limit i t c.args.task.now c.args.answer c.args.granted in
-    let same = ap (λ s. shared_by s c.args.self.now.side) state in
+    let told_by : CoreState ℕ → ℕ → Outcome = λ s t. outcome c.args.self.now.side.lazy s.limit (shared_by s c.args.self.now.side) t c.args.task.now c.args.answer c.args.granted in
     let freed : c.if-freeing.result ≡ is_freed c.args.task.now.step c.advance-progress.new.self = elim c.if-freeing.branch [
       | then-freeing w ↦ freed_on _ _ _ _ _ w.result-is w.if-freeing.true w.is_adding.ensures c.is_freeing-freeing.ensures
       | else-freeing w ↦ freed_off _ _ _ _ w.result-is w.if-freeing.false c.is_freeing-freeing.ensures
     ] in
     record {
-      shared = λ t. x.shared t ∙ ap (λ i. (told_by i t).shared) same;
-      step = λ t. x.step t ∙ ap (λ i. (told_by i t).step) same;
-      kept = λ t. x.kept t ∙ ap (λ i. (told_by i t).kept) same;
+      shared = λ t. x.shared t ∙ ap (λ s. (told_by s t).shared) state;
+      step = λ t. x.step t ∙ ap (λ s. (told_by s t).step) state;
+      kept = λ t. x.kept t ∙ ap (λ s. (told_by s t).kept) state;
       waker = refl;
-      seen = λ t. rw (c.is_running.ensures, c.is_leaving-leaving.ensures, c.take.ensures.value, c.take-2.ensures.value, freed) (x.told t ∙ ap (λ i. (told_by i t).entries) same);
+      seen = λ t. rw (c.is_running.ensures, c.is_leaving-leaving.ensures, c.take.ensures.value, c.take-2.ensures.value, freed) (x.told t ∙ ap (λ s. (told_by s t).entries) state);
       log = x.log ∙ ap (λ s. step_lines c.args.granted (shared_by s c.args.self.now.side) c.args.task.now.step ++ reverse s.log) state;
       lazy = x.lazy_is;
+      limit = x.limit ∙ ap (λ s. s.limit) state;
     }

@@ -6,13 +6,10 @@ use Rattle.once_world.specs.Shown.{input_of, world_in}
 use Rattle.once_world.proofs.Exactness.Asked.{may_take}
 use Rattle.once_world.proofs.world.play.World.take.Goals as goal
 
-pub apply-requires-clause-limit : goal.apply-requires-clause-limit
-apply-requires-clause-limit c = rw (c.requires.reached.3.bound) c.requires.reached.3.within
-
-pub apply-requires-clause-may : goal.apply-requires-clause-may
-apply-requires-clause-may c =
+pub apply-requires : goal.apply-requires
+apply-requires c =
     let r = c.requires.reached in
-    rw (r.3.bound, r.3.world) (may_take r.0 r.1 r.2 (input_of c.args.input.now) r.3.some)
+    record { may = rw (r.3.bound, r.3.world) (may_take r.0 r.1 r.2 (input_of c.args.input.now) r.3.some) }
 
 pub returns-clause-after : goal.returns-clause-after
 returns-clause-after c = λ kind limit inputs a.
