@@ -6,7 +6,7 @@ use once_core::parts::{Counted, Parts};
 use once_core::step::Polled;
 use once_parts::{Inner, Shared};
 use once_queue::waiters::{Answer, Op};
-use once_queue::word::{MAX_WAITERS, QINIT_BIT};
+use once_queue::word::QINIT_BIT;
 use std::mem::size_of;
 use std::test::Fail;
 
@@ -50,7 +50,7 @@ fn who_finds_a_holder_waits(rt: HostRuntime) {
     assert!(rt; there.is_none());
     let put = waiter.door_put();
     assert!(rt; put.is_some());
-    let counted = waiter.count_in(MAX_WAITERS);
+    let counted = waiter.count_in();
     assert_eq!(rt; counted, Counted::In(QINIT_BIT));
     let word = waiter.load();
     assert_eq!(rt; word, QINIT_BIT + 1);
