@@ -1,4 +1,5 @@
 -- The order in which to read the proofs. Each module stands on those above it; only Listing.Apart stands on Invariant.
+--   Steps      one step of the machine at each place, by what it finds there
 --   Listing    lists of numbers and of listings: what calls, fills and sections hand out
 --   History    what one more entry changes, and the listings against the history
 --   Invariant  what stands for each task at each place, and what a step owes so that all of it stays
@@ -17,6 +18,7 @@
 -- The other folders are named after files and functions of src. `Answers` has the proofs of goals that are left open
 -- there, and `Invariants` what a loop keeps. Where an answer has one tactic, it is there only so that an edit that
 -- breaks its clause is refused at once.
+pub mod Steps
 pub mod Listing
 pub mod History
 pub mod Invariant

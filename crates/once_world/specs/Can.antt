@@ -1,15 +1,21 @@
 -- What an input of a replay asks of the world. It holds in every world that the machine reaches.
 use Rattle.std.specs.Prelude.{◌≡◌, ◌≤◌, ◌<◌, ℕ, false, not, length, Option, Some, None}
 use Rattle.once_world.specs.Inputs.{Input, Go, Make}
-use Rattle.once_world.specs.Machine.{Task, Step, UnderWay, Place, AtAddOne, AtRelease, AtCountOut, SharedState, World}
+use Rattle.once_queue.specs.declared.waiters.Op.TheVariants.{Release}
+use Rattle.once_core.specs.Table.{Call, AddOne, CountOut, Section, call_at}
+use Rattle.once_world.specs.Machine.{Task, Step, UnderWay, Place, SharedState, World}
 
--- what the call of a place asks of what is shared: a free place in the count, a counted task,
--- or, on the queue at the door, a holder that may release
+-- what a call asks of what is shared: a free place in the count, a counted task, or, on the queue at the door, a holder
+-- that may release
+abbrev pub StateCan : ℕ → SharedState → Call ℕ ℕ → Type 0
+StateCan limit c AddOne = c.count ≤ limit
+StateCan limit c (Section q (Release fills)) = c.door ≡ Some q → (c.ready ≡ false) × (c.head ≡ not c.quick)
+StateCan limit c CountOut = 0 < c.count
+StateCan limit c _ = Unit {0}
+
+-- the same by the place
 abbrev pub CanStep : ℕ → SharedState → Place ℕ ℕ → Type 0
-CanStep limit c (AtAddOne e) = c.count ≤ limit
-CanStep limit c (AtRelease q e) = c.door ≡ Some q → (c.ready ≡ false) × (c.head ≡ not c.quick)
-CanStep limit c (AtCountOut e) = 0 < c.count
-CanStep limit c p = Unit {0}
+CanStep limit c p = StateCan limit c (call_at p)
 
 -- the same of a step: nothing where no call is under way
 abbrev pub CanAdvance : ℕ → SharedState → Step ℕ ℕ → Type 0

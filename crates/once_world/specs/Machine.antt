@@ -12,20 +12,24 @@ use Rattle.once_world.specs.Places.{Progress, More, Ended}
 pub use Rattle.once_core.specs.Steps.{is_value, left_at, left_of, is_resting, in_call, is_leaving, is_finished}
 pub use Rattle.once_core.specs.Steps.{place_of_poll, step_of_poll, release_place}
 pub use Rattle.once_core.specs.Steps.{leave_place, step_of_drop_at, step_of_drop}
-use Rattle.once_core.specs.Steps.{Next, next_at, next_end}
-use Rattle.once_core.specs.Steps.{after_start, after_quick, after_door_get, after_door_put}
-use Rattle.once_core.specs.Steps.{after_count_in, after_load}
-use Rattle.once_core.specs.Steps.{after_look, after_list, after_run, after_fast, after_door_again, after_count_out}
+use Rattle.once_core.specs.Steps.{Next}
+use Rattle.once_core.specs.Table.{Call, Load, Quick, Fast, CountIn, AddOne, CountOut, DoorGet, DoorPut, DoorTake}
+use Rattle.once_core.specs.Table.{Section, Refuse, Run, Put, after, call_at}
+use Rattle.once_core.specs.Table.{Told, Loaded, TriedQuick, TriedFast, CountedIn, Added, CountedOut, Got as Found, PutQueue}
+use Rattle.once_core.specs.Table.{Taken as TakenOut, Was, Refused, Ran as Polls, PutValue}
 use Rattle.once_core.specs.Core.{put_answer}
 use Rattle.once_core.specs.declared.step.Polled.{Polled}
 use Rattle.once_core.specs.declared.step.Polled.TheVariants.{Pending as PolledPending, Value as PolledValue}
 use Rattle.once_core.specs.declared.step.Polled.TheVariants.{Error as PolledError}
+use Rattle.once_queue.specs.declared.waiters.Op.TheVariants.{Look as LookOp, List as ListOp}
+use Rattle.once_queue.specs.declared.waiters.Op.TheVariants.{Release as ReleaseOp, Leave as LeaveOp}
 use Rattle.once_queue.specs.declared.waiters.Answer.{Answer as SectionAnswer}
+use Rattle.once_queue.specs.declared.waiters.Answer.TheVariants.{Left, Gone}
 use Rattle.once_queue.specs.declared.word.Sees.{Sees}
-use Rattle.once_queue.specs.Word.{Flags, is_zero, is_quick_bit, is_ready_bit, sees, is_free}
+use Rattle.once_queue.specs.Word.{Flags, is_zero, is_quick_bit, sees, is_free}
 pub use Rattle.once_world.specs.UnderLock.{seen_by}
 pub use Rattle.once_world.specs.UnderLock.{look_answer, list_answer, is_claim, head_after}
-pub use Rattle.once_world.specs.UnderLock.{looked_list, listed_list, listed_ticket}
+pub use Rattle.once_world.specs.UnderLock.{looked_list, looked_ticket, listed_list, listed_ticket, waker_left}
 pub use Rattle.once_world.specs.declared.world.cell.Task.{Task}
 pub use Rattle.once_queue.specs.declared.log.QueueLine.{QueueLine}
 pub use Rattle.once_queue.specs.declared.log.QueueLine.TheVariants.{Put as PutLine, Entered as EnteredLine}
@@ -130,45 +134,20 @@ outcome_of c t k did n = record {
   entries = progress_entries n.progress t c.value k ++ did;
 }
 
--- ready, NEW
-abbrev pub start_step : Bool → Bool → SharedState → ℕ → Answer → Outcome
-start_step ready new c t k = outcome_of c t k [] (after_start ready new)
-
 -- what a quick claim leaves, by whether the word was NEW
 abbrev pub quick_shared : Bool → SharedState → SharedState
 quick_shared true c = record c { quick = true }
 quick_shared false c = c
 
--- whether the claim was won
-abbrev pub quick_step : Bool → SharedState → ℕ → Answer → Outcome
-quick_step won c t k = outcome_of (quick_shared won c) t k (claim_entries won t) (after_quick won)
-
--- what stands at the door
-abbrev pub door_step : Option ℕ → SharedState → ℕ → Answer → Outcome
-door_step door c t k = outcome_of c t k [] (after_door_get door)
-
--- a queue is put where memory is given and none stands
-abbrev pub put_shared : Bool → Option ℕ → SharedState → SharedState
-put_shared true None c = record c { door = Some (suc c.queues); head = false; listings = []; queues = suc c.queues }
+-- what a put of the queue leaves, by what stood at the door: one is put where none stands
+abbrev pub put_shared : Option ℕ → Option ℕ → SharedState → SharedState
+put_shared (Some q) None c = record c { door = Some q; head = false; listings = []; queues = suc c.queues }
 put_shared _ _ c = c
-
--- granted, door
-abbrev pub put_step : Bool → Option ℕ → SharedState → ℕ → Answer → Outcome
-put_step granted door c t k =
-    outcome_of (put_shared granted door c) t k [] (after_door_put (put_answer granted door c.queues))
 
 -- what counting in leaves, by whether the count is below the limit
 abbrev pub in_shared : Bool → SharedState → SharedState
 in_shared true c = record c { count = suc c.count }
 in_shared false c = c
-
--- below the limit, ready
-abbrev pub in_step : Bool → Bool → SharedState → ℕ → Answer → ℕ → Outcome
-in_step below ready c t k q = outcome_of (in_shared below c) t k [] (after_count_in below ready q)
-
--- ready
-abbrev pub load_step : Bool → SharedState → ℕ → Answer → ℕ → Option ℕ → Outcome
-load_step ready c t k q n = outcome_of c t k [] (after_load ready q n)
 
 -- what a call finds of the queue q
 abbrev pub seen_at : ℕ → SharedState → Option Sees
@@ -178,22 +157,9 @@ seen_at q c = seen_by (is_at_door q c.door) (sees_of c)
 abbrev pub look_shared : SectionAnswer ℕ → SharedState → Option ℕ → SharedState
 look_shared a c n = record c { head = head_after a c.head; listings = looked_list a n c.listings }
 
--- what a look finds of its queue, whether its own listing has its waker, and whether memory is given
-abbrev pub look_step : Option Sees → Bool → Bool → SharedState → ℕ → ℕ → Answer → ℕ → Option ℕ → Outcome
-look_step seen listed granted c t w k q n =
-    let a = look_answer seen listed in
-    outcome_of (look_shared a c n) t k (claim_entries (is_claim a) t)
-    (after_look a (if granted then Some w else None) q n)
-
 -- what a call to list oneself leaves, by its answer
 abbrev pub list_shared : SectionAnswer ℕ → SharedState → Option ℕ → ℕ → SharedState
 list_shared a c n w = record c { head = head_after a c.head; listings = listed_list a n w c.listings }
-
--- what a listing finds of its queue, and whether there is room
-abbrev pub list_step : Option Sees → Bool → SharedState → ℕ → ℕ → Answer → ℕ → Option ℕ → Outcome
-list_step seen room c t w k q n =
-    let a = list_answer seen room in
-    outcome_of (list_shared a c n w) t k (claim_entries (is_claim a) t) (after_list a q (listed_ticket a n c.listings))
 
 -- the answer of the init: of a lazy one the next, of another what the input says
 abbrev pub init_answer : Bool → List (Option ℕ) → Answer → Answer
@@ -211,10 +177,6 @@ abbrev pub kept_after : Answer → Answer → Answer
 kept_after RanPending old = old
 kept_after a old = a
 
--- a poll of the init, by its answer
-abbrev pub run_step : Answer → SharedState → ℕ → Answer → Option ℕ → Outcome
-run_step a c t k by = outcome_of c t (kept_after a k) (Ran t a ∷ []) (after_run (polled_of a) by)
-
 -- a poll of the init takes the first answer of a lazy one off
 abbrev pub run_shared : SharedState → SharedState
 run_shared c = record c { answers = rest_of c.answers }
@@ -224,14 +186,6 @@ abbrev pub fast_shared : Bool → Bool → SharedState → SharedState
 fast_shared true true c = record c { quick = false; ready = true }
 fast_shared true false c = record c { quick = false }
 fast_shared false fills c = c
-
--- whether the release was done, and whether the value is set
-abbrev pub fast_step : Bool → Bool → SharedState → ℕ → Answer → Ending → Outcome
-fast_step won fills c t k e = outcome_of (fast_shared won fills c) t k (freed_entries won t k) (after_fast won fills e)
-
--- what stands at the door
-abbrev pub again_step : Option ℕ → SharedState → ℕ → Answer → Ending → Outcome
-again_step door c t k e = outcome_of c t k [] (after_door_again door e)
 
 -- what a release leaves, by whether the quick flag stood, with the value set or not
 abbrev pub release_flags : Bool → Bool → SharedState → SharedState
@@ -248,63 +202,114 @@ abbrev pub release_wakers : Bool → List (Listing ℕ) → List ℕ
 release_wakers true xs = all_out xs []
 release_wakers false xs = option_to_list (first_waker xs)
 
--- at the door
-abbrev pub release_step : Bool → SharedState → ℕ → Answer → Ending → Outcome
-release_step true c t k e =
-    let freed = record (release_flags c.quick (is_value e) c) { listings = release_list (is_value e) c.listings } in
-    let wakers = release_wakers (is_value e) c.listings in
-    outcome_of freed t k (release_entry k t wakers ∷ []) (next_at (AtCountOut e))
-release_step false c t k e = outcome_of c t k [] (next_at (AtCountOut e))
-
 -- who leaves with this ticket passes its turn on
 abbrev pub is_passing : SharedState → ℕ → Bool
 is_passing c n = passes_turn (is_free (sees_of c)) n c.listings
 
--- at the door
-abbrev pub leave_step : Bool → SharedState → ℕ → Answer → ℕ → Ending → Outcome
-leave_step true c t k n e =
-    let passing = is_passing c n in
-    outcome_of (record c { listings = left_list passing n c.listings }) t k
-    (pass_entries t (option_to_list (next_waker passing n c.listings))) (next_at (AtCountOut e))
-leave_step false c t k n e = outcome_of c t k [] (next_at (AtCountOut e))
+-- what a release leaves, with the value set or not, by its answer
+abbrev pub release_shared : SectionAnswer ℕ → Bool → SharedState → SharedState
+release_shared Gone fills c = c
+release_shared _ fills c = record (release_flags c.quick fills c) { listings = release_list fills c.listings }
+
+-- what one who leaves with this ticket leaves, by its answer
+abbrev pub leave_shared : SectionAnswer ℕ → ℕ → SharedState → SharedState
+leave_shared Gone n c = c
+leave_shared _ n c = record c { listings = left_list (is_passing c n) n c.listings }
 
 -- one less is counted
 abbrev pub out_shared : SharedState → SharedState
 out_shared c = record c { count = c.count - 1 }
 
--- the word after is exactly the ready bit
-abbrev pub out_step : Bool → SharedState → ℕ → Answer → Ending → Outcome
-out_step last c t k e = outcome_of c t k [] (after_count_out last e)
-
 -- no queue stands at the door
 abbrev pub take_shared : SharedState → SharedState
 take_shared c = record c { door = None; head = false; listings = [] }
 
--- one step at a place: of the task t with the waker w and what its init gave so far, the init answering a, memory
--- being given or not
+-- what a step is given, besides what all tasks share
+pub record StepInput : Type 0 where
+  pub limit : ℕ  -- how many tasks may be counted in
+  pub waker : ℕ  -- the task's waker
+  pub init : Answer  -- what its init answers
+  pub granted : Bool  -- whether memory is given
+
+-- what a release, and one who leaves, are answered of the queue q. Whom they hand out stands apart, in `hands`
+abbrev pub out_answer : ℕ → SharedState → SectionAnswer ℕ
+out_answer q c = if is_at_door q c.door then Left None else Gone
+
+-- what each call tells
+abbrev pub answer : StepInput → SharedState → Call ℕ ℕ → Told ℕ ℕ
+answer i c Load = Loaded (word_of c)
+answer i c Quick = TriedQuick (is_zero (word_of c))
+answer i c (Fast fills) = TriedFast fills (is_quick_bit (word_of c))
+answer i c CountIn = CountedIn (nat_lt c.count i.limit) c.ready
+answer i c AddOne = Added
+answer i c CountOut = CountedOut (word_of (out_shared c))
+answer i c DoorGet = Found c.door
+answer i c DoorPut = PutQueue (put_answer i.granted c.door c.queues)
+answer i c DoorTake = TakenOut (is_some c.door)
+answer i c (Section q (LookOp n)) =
+    let a = look_answer (seen_at q c) (is_waker i.waker (own_listing n c.listings)) in
+    Was q (LookOp n) a (LookOp (looked_ticket a n))
+answer i c (Section q (ListOp n w)) =
+    let a = list_answer (seen_at q c) (is_some (kept_ticket n c.listings) || i.granted) in
+    Was q (ListOp n w) a (ListOp (listed_ticket a n c.listings) (waker_left a w))
+answer i c (Section q (ReleaseOp fills)) = Was q (ReleaseOp fills) (out_answer q c) (ReleaseOp fills)
+answer i c (Section q (LeaveOp n)) = Was q (LeaveOp n) (out_answer q c) (LeaveOp n)
+answer i c Refuse = Refused
+answer i c Run = Polls (polled_of i.init)
+answer i c Put = PutValue
+
+-- what a call leaves that told this, of a task whose init gave k
+abbrev pub left_by : Told ℕ ℕ → Answer → SharedState → SharedState
+left_by (TriedQuick won) k c = quick_shared won c
+left_by (TriedFast fills won) k c = fast_shared won fills c
+left_by (CountedIn is_in ready) k c = in_shared is_in c
+left_by Added k c = record c { count = suc c.count }
+left_by (CountedOut w) k c = out_shared c
+left_by (PutQueue q) k c = put_shared q c.door c
+left_by (TakenOut stood) k c = take_shared c
+left_by (Was q (LookOp n) a o) k c = look_shared a c n
+left_by (Was q (ListOp n (Some w)) a o) k c = list_shared a c n w
+left_by (Was q (ReleaseOp fills) a o) k c = release_shared a fills c
+left_by (Was q (LeaveOp n) a o) k c = leave_shared a n c
+left_by (Polls a) k c = run_shared c
+left_by PutValue k c = record c { value = put_value k c.value }
+left_by _ k c = c
+
+-- whom it hands out
+abbrev pub hands : Told ℕ ℕ → SharedState → List ℕ
+hands (Was q (ReleaseOp fills) a o) c = release_wakers fills c.listings
+hands (Was q (LeaveOp n) a o) c = option_to_list (next_waker (is_passing c n) n c.listings)
+hands _ c = []
+
+-- nothing is recorded of a section whose queue is gone
+abbrev pub unless_gone : SectionAnswer ℕ → List Entry → List Entry
+unless_gone Gone es = []
+unless_gone _ es = es
+
+-- what is recorded of the task t, whose init gave k and answers given, where X are handed out
+abbrev pub records : Told ℕ ℕ → Answer → ℕ → Answer → List ℕ → List Entry
+records (TriedQuick won) given t k X = claim_entries won t
+records (TriedFast fills won) given t k X = freed_entries won t k
+records (Was q (LookOp n) a o) given t k X = claim_entries (is_claim a) t
+records (Was q (ListOp n w) a o) given t k X = claim_entries (is_claim a) t
+records (Was q (ReleaseOp fills) a o) given t k X = unless_gone a (release_entry k t X ∷ [])
+records (Was q (LeaveOp n) a o) given t k X = unless_gone a (pass_entries t X)
+records (Polls a) given t k X = Ran t given ∷ []
+records _ given t k X = []
+
+-- what its init gave, after the call
+abbrev pub keeps : Told ℕ ℕ → Answer → Answer → Answer
+keeps (Polls a) given k = kept_after given k
+keeps _ given k = k
+
+-- one step at a place, as the table of places has it: of the task t with the waker w and what its init gave so far, the
+-- init answering a, memory being given or not
 abbrev pub place_step : Bool → ℕ → SharedState → ℕ → ℕ → Answer → Answer → Bool → Place ℕ ℕ → Outcome
-place_step lazy limit c t w k a granted AtStart = start_step c.ready (is_zero (word_of c)) c t k
-place_step lazy limit c t w k a granted AtTryQuick = quick_step (is_zero (word_of c)) c t k
-place_step lazy limit c t w k a granted AtDoorGet = door_step c.door c t k
-place_step lazy limit c t w k a granted AtDoorPut = put_step granted c.door c t k
-place_step lazy limit c t w k a granted (AtCountIn q) = in_step (nat_lt c.count limit) c.ready c t k q
-place_step lazy limit c t w k a granted (AtWaitLoad q n) = load_step c.ready c t k q n
-place_step lazy limit c t w k a granted (AtLook q n) =
-    look_step (seen_at q c) (is_waker w (own_listing n c.listings)) granted c t w k q n
-place_step lazy limit c t w k a granted (AtList q n v) =
-    list_step (seen_at q c) (is_some (kept_ticket n c.listings) || granted) c t v k q n
-place_step lazy limit c t w k a granted (AtRun by) = run_step (init_answer lazy c.answers a) (run_shared c) t k by
-place_step lazy limit c t w k a granted (AtPut by) =
-    outcome_of (record c { value = put_value k c.value }) t k [] (next_at (release_place by EndValue))
-place_step lazy limit c t w k a granted (AtFast e) = fast_step (is_quick_bit (word_of c)) (is_value e) c t k e
-place_step lazy limit c t w k a granted (AtAddOne e) =
-    outcome_of (record c { count = suc c.count }) t k [] (next_at (AtDoorAgain e))
-place_step lazy limit c t w k a granted (AtDoorAgain e) = again_step c.door c t k e
-place_step lazy limit c t w k a granted (AtRelease q e) = release_step (is_at_door q c.door) c t k e
-place_step lazy limit c t w k a granted (AtLeave q n e) = leave_step (is_at_door q c.door) c t k n e
-place_step lazy limit c t w k a granted (AtCountOut e) =
-    out_step (is_ready_bit (word_of (out_shared c))) (out_shared c) t k e
-place_step lazy limit c t w k a granted (AtDoorTake e) = outcome_of (take_shared c) t k [] (next_end e)
+place_step lazy limit c t w k a granted p =
+    let given = init_answer lazy c.answers a in
+    let e = answer (record { limit = limit; waker = w; init = given; granted = granted }) c (call_at p) in
+    outcome_of (left_by e k c) t (keeps e given k) (records e given t k (hands e c))
+    (after (if granted then Some w else None) p e)
 
 -- one step of a call that is under way; nothing else makes one
 abbrev pub step_at : Bool → ℕ → SharedState → ℕ → ℕ → Answer → Answer → Bool → Step ℕ ℕ → Outcome
@@ -320,15 +325,16 @@ abbrev pub put_lines : Bool → Option ℕ → ℕ → List QueueLine
 put_lines true None n = PutLine (suc n) ∷ []
 put_lines _ _ n = []
 
+-- what a call logs
+abbrev pub call_lines : Bool → SharedState → Call ℕ ℕ → List QueueLine
+call_lines granted c DoorPut = put_lines granted c.door c.queues
+call_lines granted c (Section q op) = EnteredLine q ∷ []
+call_lines granted c DoorTake = take_lines c.door
+call_lines granted c _ = []
+
 -- what one step logs
 abbrev pub place_lines : Bool → SharedState → Place ℕ ℕ → List QueueLine
-place_lines granted c AtDoorPut = put_lines granted c.door c.queues
-place_lines granted c (AtLook q n) = EnteredLine q ∷ []
-place_lines granted c (AtList q n v) = EnteredLine q ∷ []
-place_lines granted c (AtRelease q e) = EnteredLine q ∷ []
-place_lines granted c (AtLeave q n e) = EnteredLine q ∷ []
-place_lines granted c (AtDoorTake e) = take_lines c.door
-place_lines granted c _ = []
+place_lines granted c p = call_lines granted c (call_at p)
 
 -- what one step of a call logs
 abbrev pub step_lines : Bool → SharedState → Step ℕ ℕ → List QueueLine

@@ -50,7 +50,18 @@ listed_list Claimed n w xs = list_without n xs
 listed_list Listed n w xs = list_with (ticket_for n xs) w xs
 listed_list _ n w xs = xs
 
--- the ticket of a task after it listed itself
+-- the ticket that is left: a claim gives it up
+abbrev pub looked_ticket : SectionAnswer ℕ → Option ℕ → Option ℕ
+looked_ticket Claimed n = None
+looked_ticket _ n = n
+
+-- the same after a call to list oneself
 abbrev pub listed_ticket : SectionAnswer ℕ → Option ℕ → List (Listing ℕ) → Option ℕ
+listed_ticket Claimed n xs = None
 listed_ticket Listed n xs = Some (ticket_for n xs)
 listed_ticket _ n xs = n
+
+-- the waker that is left of such a call: one that was listed is gone
+abbrev pub waker_left : {W : Type 0} → SectionAnswer ℕ → Option W → Option W
+waker_left Listed w = None
+waker_left _ w = w

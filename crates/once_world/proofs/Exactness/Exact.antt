@@ -16,7 +16,8 @@ use Rattle.once_world.specs.Places.{AtRelease, AtRun, AtStart, AtTryQuick, AtWai
 use Rattle.once_core.specs.Table.{Advances, Line, Looked, MayRefuse, Told, Was, wants_copy}
 use Rattle.once_core.specs.Steps.{Follows, SideTells, after_count_out, after_door_again, after_door_get}
 use Rattle.once_core.specs.Steps.{after_door_put, after_load, after_start, is_value}
-use Rattle.once_world.specs.Machine.{EnteredLine, out_shared, fast_step, init_answer, list_step, place_lines, place_step, quick_step, step_at, step_lines, word_of, seen_at}
+use Rattle.once_world.specs.Machine.{EnteredLine, out_shared, init_answer, place_lines, place_step, step_at, step_lines, word_of, seen_at}
+use Rattle.once_world.proofs.Steps.{fast_step, list_step, quick_step}
 use Rattle.once_world.specs.Side.{DidClose, DidCopy, DidPut, DidRun, DidWake, answers_in}
 use Rattle.once_world.proofs.Exactness.Outcomes.{IsBare, IsFresh, IsOutcome, NumberCall, shared_by}
 use Rattle.once_world.proofs.Exactness.ExactWaits.{door_exact, door_put_exact, in_exact, load_exact, quick_exact, start_exact}

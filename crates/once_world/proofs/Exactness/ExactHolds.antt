@@ -10,8 +10,9 @@ use Rattle.once_core.specs.Steps.{Follows, after_count_out, after_door_again, af
 use Rattle.once_world.specs.Record.{Answer, RanError, RanPending, RanValue}
 use Rattle.once_world.specs.Cell.{rest_of}
 use Rattle.once_world.specs.Log.{take_lines}
-use Rattle.once_world.specs.Machine.{TakenLine, again_step, claim_entries, out_shared, take_shared, fast_step, outcome_of, fast_shared, freed_entries}
-use Rattle.once_world.specs.Machine.{kept_after, out_step, polled_of, put_value, run_shared, run_step}
+use Rattle.once_world.specs.Machine.{TakenLine, claim_entries, out_shared, take_shared, outcome_of, fast_shared, freed_entries}
+use Rattle.once_world.specs.Machine.{kept_after, polled_of, put_value, run_shared}
+use Rattle.once_world.proofs.Steps.{again_step, fast_step, out_step, run_step}
 use Rattle.once_world.specs.Side.{DidClose, DidPut, DidRun, answers_in, next_of}
 use Rattle.once_world.proofs.Exactness.Outcomes.{IsBare, IsFresh, IsOutcome, follows_by, shared_by, is_freed, ran_by, reverse_push, unclosed}
 use Rattle.once_world.proofs.Exactness.ExactWaits.{IsIdle}

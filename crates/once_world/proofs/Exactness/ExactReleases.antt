@@ -14,7 +14,8 @@ use Rattle.once_queue.specs.Sections.{Releases}
 use Rattle.once_core.specs.Core.{CoreState, leave_state, release_state}
 use Rattle.once_world.specs.Places.{AtCountOut, AtLeave, AtRelease, Ending, More, Progress, Step, UnderWay}
 use Rattle.once_core.specs.Steps.{Wakes, is_value, next_at, out_of}
-use Rattle.once_world.specs.Machine.{EnteredLine, SharedState, release_wakers, is_at_door, release_list, leave_step, pass_entries, is_passing, release_entry, release_step, release_flags}
+use Rattle.once_world.specs.Machine.{EnteredLine, SharedState, release_wakers, is_at_door, release_list, pass_entries, is_passing, release_entry, release_flags}
+use Rattle.once_world.proofs.Steps.{leave_step, release_step}
 use Rattle.once_world.specs.Side.{DidWake, answers_in}
 use Rattle.once_world.proofs.Listing.Handed.{released_list, released_wakers}
 use Rattle.once_world.proofs.Exactness.Outcomes.{IsFresh, IsOutcome, follows_by, shared_by, seen_entries, wakes_by}

@@ -14,7 +14,8 @@ use Rattle.once_core.specs.Core.{CoreState, DidSection, FindsHolder}
 use Rattle.once_world.specs.Places.{AtList, AtLook, Progress, Step, UnderWay}
 use Rattle.once_queue.specs.Ops.{ticket_in}
 use Rattle.once_core.specs.Steps.{Follows, after_copy, after_list, after_look, is_running}
-use Rattle.once_world.specs.Machine.{EnteredLine, claim_entries, is_claim, is_at_door, list_answer, list_shared, list_step, listed_ticket, look_answer, look_shared, look_step, seen_by, seen_at}
+use Rattle.once_world.specs.Machine.{EnteredLine, claim_entries, is_claim, is_at_door, list_answer, list_shared, listed_ticket, look_answer, look_shared, outcome_of, seen_by, seen_at}
+use Rattle.once_world.proofs.Steps.{list_step, look_same, look_step}
 use Rattle.once_world.specs.Side.{DidClose, DidCopy}
 use Rattle.once_queue.proofs.Listing.Members.{eqb_self}
 use Rattle.once_queue.specs.Word.{sees_by}
@@ -153,9 +154,11 @@ module _ (c : ReplaySide) (f : IsFresh c) (s : CoreState ℕ) (c' : ReplaySide) 
   look_exact w x y =
       let b = look_answer (seen_at q (shared_by s c)) (is_waker c.waker (own_listing k s.listings)) in
       let z : LookFinds b = look_by (is_at_door q s.door) s.word.ready (s.word.quick || s.head) (is_waker c.waker (own_listing k s.listings)) refl refl refl refl w x y in
-      follows_by (UnderWay (AtLook q k)) s c f s' c' p t (EnteredLine q ∷ []) (look_shared b (shared_by s c) k)
+      subst (λ next. IsOutcome (UnderWay (AtLook q k)) (λ n. outcome_of (look_shared b (shared_by s c) k) n c.kept (claim_entries (is_claim b) n) next) (EnteredLine q ∷ []) s c s' c' p t)
+      (sym (look_same b copy q k))
+      (follows_by (UnderWay (AtLook q k)) s c f s' c' p t (EnteredLine q ∷ []) (look_shared b (shared_by s c) k)
       (λ n. claim_entries (is_claim b) n) (after_look b copy q k) (entered_log q s s' z.log) z.limit z.shared
-      (look_follows b z.after) (look_claims b copy q k)
+      (look_follows b z.after) (look_claims b copy q k))
 
   -- what follows the listing
   abbrev Lists : SectionAnswer ℕ → Op ℕ → Type 0

@@ -9,7 +9,8 @@ use Rattle.once_core.specs.Table.{CountedIn}
 use Rattle.once_world.specs.Places.{AtCountIn, AtDoorGet, AtDoorPut, AtStart, AtTryQuick, AtWaitLoad, Progress, Step, UnderWay}
 use Rattle.once_core.specs.Steps.{Follows, Next, after_door_get, after_door_put, after_count_in, after_load, after_quick, after_start, is_running}
 use Rattle.once_world.specs.Record.{Claim}
-use Rattle.once_world.specs.Machine.{PutLine, claim_entries, in_shared, door_step, in_step, load_step, put_lines, put_step, put_shared, quick_step, start_step}
+use Rattle.once_world.specs.Machine.{PutLine, claim_entries, in_shared, put_lines, put_shared}
+use Rattle.once_world.proofs.Steps.{door_step, in_step, load_step, put_step, quick_step, start_step}
 use Rattle.once_world.specs.Side.{DidClose, answers_in}
 use Rattle.once_world.proofs.Exactness.Outcomes.{IsFresh, IsOutcome, NumberCall, follows_by, shared_by, reverse_push}
 
@@ -85,7 +86,7 @@ module _ (c : ReplaySide) (f : IsFresh c) (s : CoreState ℕ) (c' : ReplaySide) 
   put_limit true (Some q) same = ap (λ y. y.limit) same
   put_limit true None same = ap (λ y. y.limit) same
 
-  put_left : (g : Bool) (d : Option ℕ) → s' ≡ put_state g d s → shared_by s' c ≡ put_shared g d (shared_by s c)
+  put_left : (g : Bool) (d : Option ℕ) → s' ≡ put_state g d s → shared_by s' c ≡ put_shared (put_answer g d s.made) d (shared_by s c)
   put_left false d same = ap (λ y. shared_by y c) same
   put_left true (Some q) same = ap (λ y. shared_by y c) same
   put_left true None same = ap (λ y. shared_by y c) same
@@ -93,7 +94,7 @@ module _ (c : ReplaySide) (f : IsFresh c) (s : CoreState ℕ) (c' : ReplaySide) 
   pub door_put_exact : (g : Bool) (d : Option ℕ) → s' ≡ put_state g d s → Follows DidClose (after_door_put (put_answer g d s.made)) c c' p t
       → IsOutcome (UnderWay AtDoorPut) (λ n. put_step g d (shared_by s c) n c.kept) (put_lines g d s.made) s c s' c' p t
   door_put_exact g d same x =
-      follows_by (UnderWay AtDoorPut) s c f s' c' p t (put_lines g d s.made) (put_shared g d (shared_by s c))
+      follows_by (UnderWay AtDoorPut) s c f s' c' p t (put_lines g d s.made) (put_shared (put_answer g d s.made) d (shared_by s c))
       (λ n. []) (after_door_put (put_answer g d s.made)) (put_log g d same) (put_limit g d same) (put_left g d same) x
       (put_idle (put_answer g d s.made))
 

@@ -9,7 +9,8 @@ use Rattle.once_world.specs.Record.{Entry, Once, RanPending}
 use Rattle.once_world.specs.Cell.{cell}
 use Rattle.once_world.specs.Book.{At, Door, IsBook, Page, Queue}
 use Rattle.once_world.specs.Machine.{AtCountIn, AtDoorAgain, AtDoorGet, AtDoorPut, AtDoorTake, AtRelease, EndMemory, Ending, Place, SharedState, Task, UnderWay}
-use Rattle.once_world.specs.Machine.{again_step, outcome_of, place_step, put_shared, put_step, take_shared, word_of}
+use Rattle.once_world.specs.Machine.{outcome_of, place_step, put_shared, take_shared, word_of}
+use Rattle.once_world.proofs.Steps.{again_step, put_step}
 use Rattle.once_world.proofs.History.Cells.{holder_unset, none_some, set_free}
 use Rattle.once_world.proofs.Invariant.Kept.{releasing_holds}
 use Rattle.once_world.proofs.Place.FitsAfter.{headless}
@@ -105,8 +106,8 @@ module _ (limit n put : ℕ) (slot : Bool) (pages : List Page) (log : List Entry
         → Stepped limit n 1 slot (slice_set pages 0 (Door (suc made) (Some (suc made)))) log t x [] (next_at (AtCountIn (suc made)))
     put_new at e =
         let d : c.door ≡ None = own_door.1 ∙ e in
-        door_set 1 (suc made) (Some (suc made)) AtDoorPut true (put_shared true None c) (next_at (AtCountIn (suc made))) at
-        (ap (λ d. put_step true d c t x.kept) d ∙ ap (λ q. outcome_of (put_shared true None c) t x.kept [] (next_at (AtCountIn (suc q)))) own_door.0)
+        door_set 1 (suc made) (Some (suc made)) AtDoorPut true (put_shared (Some (suc c.queues)) None c) (next_at (AtCountIn (suc made))) at
+        (ap (λ d. put_step true d c t x.kept) d ∙ ap (λ q. outcome_of (put_shared (Some (suc c.queues)) None c) t x.kept [] (next_at (AtCountIn (suc q)))) own_door.0)
         book.1.word_is (some_put c.queues) (ap suc own_door.0) (ap (λ q. Some (suc q)) own_door.0)
         (sym (headless Once limit c m.w.history m.fits.shared d)) (sym (m.unowned.queue.bare d))
 

@@ -11,9 +11,10 @@ use Rattle.once_world.specs.Record.{Entry, Once, RanPending}
 use Rattle.once_world.specs.Cell.{cell}
 use Rattle.once_world.specs.Book.{At, Door, IsBook, Page, Queue}
 use Rattle.once_world.specs.Machine.{AtCountOut, AtLeave, AtList, AtLook, AtRelease, Ending, Place, SharedState, Task, UnderWay, claim_entries, head_after}
-use Rattle.once_world.specs.Machine.{is_claim, is_passing, is_value, leave_step, list_answer, list_shared, list_step, listed_list, listed_ticket, look_answer}
-use Rattle.once_world.specs.Machine.{look_shared, look_step, looked_list, outcome_of, pass_entries, place_step, seen_at, seen_by, release_entry, release_flags}
-use Rattle.once_world.specs.Machine.{release_list, release_step, release_wakers, word_of}
+use Rattle.once_world.specs.Machine.{is_claim, is_passing, is_value, list_answer, list_shared, listed_list, listed_ticket, look_answer}
+use Rattle.once_world.specs.Machine.{look_shared, looked_list, outcome_of, pass_entries, place_step, seen_at, seen_by, release_entry, release_flags}
+use Rattle.once_world.specs.Machine.{release_list, release_wakers, word_of}
+use Rattle.once_world.proofs.Steps.{leave_step, list_step, look_same, look_step, release_step}
 use Rattle.once_world.proofs.History.Cells.{holder_unset}
 use Rattle.once_world.proofs.Invariant.Kept.{releasing_holds}
 use Rattle.once_world.proofs.Exactness.Asked.{one_flag}
@@ -73,7 +74,8 @@ module _ (limit n put : ℕ) (slot : Bool) (pages : List Page) (log : List Entry
       let a : SectionAnswer ℕ = look_answer (Some (sees (flags_of n) head)) (is_waker x.waker (own_listing k xs)) in
       queue_set n (AtLook q k) granted (look_shared a c k) (claim_entries (is_claim a) t) (after_look a (cond granted (Some x.waker) None) q k) (head_after a head) (looked_list a k xs) at
       (ap (λ s. look_step s (is_waker x.waker (own_listing k c.listings)) granted c t x.waker x.kept q k) (seen_is q d.1)
-      ∙ ap (λ ys. look_step (Some (sees (flags_of n) head)) (is_waker x.waker (own_listing k ys)) granted c t x.waker x.kept q k) own_queue.1)
+      ∙ ap (λ ys. look_step (Some (sees (flags_of n) head)) (is_waker x.waker (own_listing k ys)) granted c t x.waker x.kept q k) own_queue.1
+      ∙ ap (outcome_of (look_shared a c k) t x.kept (claim_entries (is_claim a) t)) (look_same a (cond granted (Some x.waker) None) q k))
       book.1.within book.1.word_is refl refl (ap (head_after a) own_queue.0) (ap (looked_list a k) own_queue.1)
 
   -- AtList: the load

@@ -8,7 +8,8 @@ use Rattle.once_core.specs.Steps.{after_count_out, after_fast, after_count_in, a
 use Rattle.once_world.specs.Record.{Claim, Entry, Once}
 use Rattle.once_world.specs.Book.{At, IsBook, Page}
 use Rattle.once_world.specs.Machine.{AtAddOne, AtCountIn, AtCountOut, AtDoorAgain, AtFast, AtStart, AtTryQuick, AtWaitLoad, Ending, SharedState, Task, UnderWay}
-use Rattle.once_world.specs.Machine.{fast_shared, fast_step, in_step, is_value, out_shared, outcome_of, quick_step, release_entry, word_of}
+use Rattle.once_world.specs.Machine.{fast_shared, is_value, out_shared, outcome_of, release_entry, word_of}
+use Rattle.once_world.proofs.Steps.{fast_step, in_step, quick_step}
 use Rattle.once_world.proofs.Invariant.Moves.{in_count}
 use Rattle.once_world.proofs.Moment.Numbers.{fast_within, in_within, out_within, quick_word, word_fast, word_in, word_out, word_quick, zero_word}
 use Rattle.once_world.proofs.Moment.Step.{Moment, Stepped, moment, stands, stepped_alone}

@@ -6,9 +6,10 @@ use Rattle.once_world.specs.Record.{Answer, Entry, Kind, RanError, RanPending, R
 use Rattle.once_world.specs.Log.{IsAtMostOne, has_entered, need_queue, take_lines}
 use Rattle.once_world.specs.Machine.{AtAddOne, AtCountIn, AtCountOut, AtDoorAgain, AtDoorGet, AtDoorPut, AtDoorTake, AtFast, AtLeave, AtList, AtLook, AtPut}
 use Rattle.once_world.specs.Machine.{AtRelease, AtRun, AtStart, AtTryQuick, AtWaitLoad, EndDropped, EndError, EndFull, EndMemory, EndPending, EndValue, Ending}
-use Rattle.once_world.specs.Machine.{Finished, SharedState, Place, Resting, Step, UnderWay, again_step, out_shared, door_step, end_entry, fast_step}
-use Rattle.once_world.specs.Machine.{init_answer, in_step, is_value, load_step, out_step, place_lines, place_step, put_lines, put_step, quick_step, run_shared}
-use Rattle.once_world.specs.Machine.{release_entry, run_step, start_step, step_at, step_lines, word_of}
+use Rattle.once_world.specs.Machine.{Finished, SharedState, Place, Resting, Step, UnderWay, out_shared, end_entry}
+use Rattle.once_world.specs.Machine.{init_answer, is_value, place_lines, place_step, put_lines, run_shared}
+use Rattle.once_world.specs.Machine.{release_entry, step_at, step_lines, word_of}
+use Rattle.once_world.proofs.Steps.{again_step, door_step, fast_step, in_step, load_step, out_step, put_step, quick_step, run_step, start_step}
 use Rattle.once_queue.proofs.Listing.Members.{eqb_self}
 use Rattle.once_world.proofs.Invariant.Facts.{AtPlace, AtStep, Releasing}
 use Rattle.once_world.proofs.Place.Builders.{owes_lasts}

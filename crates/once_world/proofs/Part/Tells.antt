@@ -7,11 +7,12 @@ use Rattle.once_world.specs.Record.{Answer, Entry, RanError, RanPending, RanValu
 use Rattle.once_world.specs.Inputs.{ends_for_memory}
 use Rattle.once_world.specs.Machine.{AtAddOne, AtCountIn, AtCountOut, AtDoorAgain, AtDoorGet, AtDoorPut, AtDoorTake, AtFast, AtLeave, AtList, AtLook, AtPut}
 use Rattle.once_world.specs.Machine.{AtRelease, AtRun, AtStart, AtTryQuick, AtWaitLoad, EndDropped, EndError, EndFull, EndMemory, EndPending, EndValue, Ending}
-use Rattle.once_world.specs.Machine.{Finished, SharedState, Outcome, Place, Resting, Step, UnderWay, again_step, out_shared, door_step, take_shared, end_entry}
-use Rattle.once_world.specs.Machine.{fast_step, release_place, init_answer, release_wakers, in_call, in_step, is_at_door, is_value, is_waker, kept_ticket}
-use Rattle.once_world.specs.Machine.{leave_place, leave_step, left_at, left_of, list_step, load_step, look_step, next_waker, out_step, own_listing}
-use Rattle.once_world.specs.Machine.{pass_entries, is_passing, place_step, put_step, put_value, quick_step, run_shared, release_entry, release_step, run_step}
-use Rattle.once_world.specs.Machine.{start_step, step_at, word_of, seen_at}
+use Rattle.once_world.specs.Machine.{Finished, SharedState, Outcome, Place, Resting, Step, UnderWay, out_shared, take_shared, end_entry}
+use Rattle.once_world.specs.Machine.{release_place, init_answer, release_wakers, in_call, is_at_door, is_value, is_waker, kept_ticket}
+use Rattle.once_world.specs.Machine.{leave_place, left_at, left_of, next_waker, own_listing}
+use Rattle.once_world.specs.Machine.{pass_entries, is_passing, place_step, put_value, run_shared, release_entry}
+use Rattle.once_world.specs.Machine.{step_at, word_of, seen_at}
+use Rattle.once_world.proofs.Steps.{again_step, door_step, fast_step, in_step, leave_step, list_step, load_step, look_step, out_step, put_step, quick_step, release_step, run_step, start_step}
 use Rattle.once_queue.specs.Word.{is_zero, is_quick_bit, is_ready_bit}
 use Rattle.once_queue.specs.declared.word.Sees.TheVariants.{Set, Free, Taken}
 use Rattle.once_queue.specs.declared.word.Sees.{Sees}

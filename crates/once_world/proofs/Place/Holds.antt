@@ -7,7 +7,8 @@ use Rattle.once_world.specs.Tasks.{Holding, Polling, Status, Waiting, last_call,
 use Rattle.once_world.specs.Wakers.{opens}
 use Rattle.once_world.specs.Run.{IsLegal, IsRun}
 use Rattle.once_world.specs.Machine.{AtAddOne, AtDoorAgain, AtFast, AtPut, AtRelease, AtRun, EndDropped, EndError, EndFull, EndMemory, EndPending, EndValue}
-use Rattle.once_world.specs.Machine.{Ending, SharedState, Place, UnderWay, again_step, release_place, init_answer, put_value, run_shared, run_step}
+use Rattle.once_world.specs.Machine.{Ending, SharedState, Place, UnderWay, release_place, init_answer, put_value, run_shared}
+use Rattle.once_world.proofs.Steps.{again_step, run_step}
 use Rattle.once_queue.proofs.Listing.Members.{eqb_self}
 use Rattle.once_world.proofs.History.Others.{holds, keeps_both, legal_keeps}
 use Rattle.once_world.proofs.History.Cells.{held_by, held_not_empty, holder_unset, no_other, none_some}

@@ -11,7 +11,8 @@ use Rattle.once_queue.specs.Word.{is_free, sees_by}
 use Rattle.once_queue.specs.Listings.{call_first, find_listing, first_waker, left_list, next_waker, take_out, was_called}
 use Rattle.once_world.specs.Run.{IsLegal, IsRun, MayPass}
 use Rattle.once_world.specs.Machine.{AtCountOut, AtLeave, EndDropped, EndError, EndFull, EndMemory, EndPending, EndValue, Ending, SharedState, UnderWay}
-use Rattle.once_world.specs.Machine.{is_at_door, leave_step, pass_entries, is_passing}
+use Rattle.once_world.specs.Machine.{is_at_door, pass_entries, is_passing}
+use Rattle.once_world.proofs.Steps.{leave_step}
 use Rattle.once_queue.proofs.Listing.Members.{eqb_self}
 use Rattle.once_world.proofs.History.Others.{legal_keeps}
 use Rattle.once_world.proofs.History.Cells.{empty_cell, is_held}

@@ -10,8 +10,9 @@ use Rattle.once_queue.specs.declared.waiters.Listing.{Listing}
 use Rattle.once_queue.specs.Listings.{all_out, call_first, first_waker}
 use Rattle.once_world.specs.Run.{IsLegal, IsRun}
 use Rattle.once_world.specs.Machine.{AtAddOne, AtCountOut, AtDoorTake, AtFast, AtRelease, EndDropped, EndError, EndFull, EndMemory, EndPending, EndValue}
-use Rattle.once_world.specs.Machine.{Ending, Finished, SharedState, UnderWay, out_shared, take_shared, end_entry, fast_step, release_wakers, is_at_door}
-use Rattle.once_world.specs.Machine.{is_value, release_list, out_step, release_entry, release_step, release_flags, word_of}
+use Rattle.once_world.specs.Machine.{Ending, Finished, SharedState, UnderWay, out_shared, take_shared, end_entry, release_wakers, is_at_door}
+use Rattle.once_world.specs.Machine.{is_value, release_list, release_entry, release_flags, word_of}
+use Rattle.once_world.proofs.Steps.{fast_step, out_step, release_step}
 use Rattle.once_queue.proofs.Listing.Members.{eqb_self}
 use Rattle.once_world.proofs.History.Others.{keeps_both, legal_keeps}
 use Rattle.once_world.proofs.History.Cells.{empty_not_set, holder_unset, same_value, set_unheld}

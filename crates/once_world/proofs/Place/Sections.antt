@@ -8,7 +8,8 @@ use Rattle.once_queue.specs.Listings.{find_listing, is_waker, list_with, own_lis
 use Rattle.once_queue.specs.Word.{sees_by}
 use Rattle.once_world.specs.Refusals.{AtSome, MemoryFrom, OtherActs, OtherHolds, is_begin_of, moments_since}
 use Rattle.once_world.specs.Run.{IsRun}
-use Rattle.once_world.specs.Machine.{AtCountOut, AtLeave, AtList, AtLook, AtWaitLoad, EndMemory, EndValue, SharedState, Place, is_at_door, leave_place, list_step, load_step, look_step, seen_by}
+use Rattle.once_world.specs.Machine.{AtCountOut, AtLeave, AtList, AtLook, AtWaitLoad, EndMemory, EndValue, SharedState, Place, is_at_door, leave_place, seen_by}
+use Rattle.once_world.proofs.Steps.{list_step, load_step, look_step}
 use Rattle.once_world.proofs.History.Others.{Met, MetHolder, since_now_holder}
 use Rattle.once_world.proofs.History.Cells.{empty_cell}
 use Rattle.once_world.proofs.History.Waiters.{QueueFits}

@@ -9,7 +9,8 @@ use Rattle.once_world.specs.Tasks.{Fresh, Polling, last_call, status}
 use Rattle.once_world.specs.Refusals.{IsCrowded, OtherHolds, Since, crowd}
 use Rattle.once_world.specs.Run.{IsLegal, IsRun}
 use Rattle.once_world.specs.Machine.{AtCountIn, AtCountOut, AtDoorGet, AtDoorPut, AtStart, AtTryQuick, AtWaitLoad, EndFull, EndMemory, EndPending, EndValue}
-use Rattle.once_world.specs.Machine.{SharedState, door_step, in_step, put_step, quick_step, start_step, word_of}
+use Rattle.once_world.specs.Machine.{SharedState, word_of}
+use Rattle.once_world.proofs.Steps.{door_step, in_step, put_step, quick_step, start_step}
 use Rattle.once_queue.proofs.Listing.Members.{eqb_self}
 use Rattle.once_world.proofs.History.Others.{Met, SomeoneWaits, holds, since_now}
 use Rattle.once_world.proofs.History.Cells.{empty_cell, holder_of, is_held, value_of_set}
