@@ -18,6 +18,7 @@ pub use Rattle.once_queue.specs.Ops
 pub use Rattle.once_queue.specs.Sections
 pub use Rattle.once_core.specs.Core
 pub use Rattle.once_core.specs.Steps
+pub use Rattle.once_core.specs.Table
 pub use Rattle.once_core.specs.Chain
 pub use Rattle.once_world.specs.Places
 pub use Rattle.once_world.specs.Cell

@@ -8,7 +8,8 @@ use Rattle.once_queue.specs.Word.{flags_of}
 use Rattle.once_core.specs.declared.step.Polled.{Polled}
 use Rattle.once_core.specs.declared.step.Polled.TheVariants.{Pending, Value, Error}
 use Rattle.once_queue.specs.Word.{is_ready_bit, is_zero}
-use Rattle.once_core.specs.Steps.{after_count_out, after_fast, after_count_in, after_load, after_quick, after_run, after_start, closing_end, is_resting, next_at, next_end, step_of_drop}
+use Rattle.once_core.specs.Steps.{is_resting, step_of_drop}
+use Rattle.once_core.specs.Table.{after_count_out, after_fast, after_count_in, after_load, after_quick, after_run, after_start, closing_end, next_at, next_end}
 use Rattle.once_world.specs.Record.{Begin, Entry, Ran}
 use Rattle.once_world.specs.declared.record.Ran.TheVariants.{Pending as RanPending, Value as RanValue, Error as RanError}
 use Rattle.once_world.specs.Book.{TaskState, refused_step}

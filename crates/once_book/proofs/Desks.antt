@@ -14,7 +14,7 @@ use Rattle.once_queue.specs.Listings.{find_listing, kept_ticket, left_list, next
 use Rattle.once_queue.specs.Claims.{Claims}
 use Rattle.once_queue.specs.Room.{listings_of, claimant}
 use Rattle.once_queue.specs.Sections.{DidList, Releases, Renewed}
-use Rattle.once_core.specs.Steps.{Next}
+use Rattle.once_core.specs.Table.{Next}
 use Rattle.once_world.specs.Record.{Entry}
 use Rattle.once_world.specs.Book.{TaskState}
 use Rattle.once_world.specs.Machine.{AtList, AtLook, Step, UnderWay, claim_entries, is_claim, listed_ticket, release_list, release_wakers}

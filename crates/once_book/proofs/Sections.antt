@@ -3,7 +3,7 @@ use Rattle.std.proofs.Common.{◌≡◌, ◌+◌, ◌%◌, ◌^◌, ℕ, suc, Bo
 use Rattle.std.specs.Option.{is_some, option_to_list}
 use Rattle.std.proofs.lemmas.Bool.{false≢true}
 use Rattle.pagebook.specs.Pages.{Held, Moves, Notes, View}
-use Rattle.once_core.specs.Steps.{Next, after_door_again, after_door_get, after_list, after_look, next_at, next_end}
+use Rattle.once_core.specs.Table.{Next, after_door_again, after_door_get, after_list, after_look, next_at, next_end}
 use Rattle.once_world.specs.Record.{Entry}
 use Rattle.once_world.specs.Book.{TaskState}
 use Rattle.once_world.specs.Machine.{AtCountIn, AtCountOut, AtDoorAgain, AtDoorGet, AtDoorPut, AtDoorTake, AtLeave, AtList, AtLook, AtRelease, Ending}

@@ -17,7 +17,8 @@ use Rattle.once_world.proofs.Told.Log.{log_is_plain, log_is_run}
 use Rattle.once_world.proofs.Told.Value.{ready_is_set, ready_written}
 use Rattle.once_book.specs.Kept.{IsKept, IsState, Sheet, entries_on, hand, most, pages_in, sheet, sheets}
 use Rattle.once_book.proofs.Moments.Mine.{told_of}
-use Rattle.once_core.specs.Steps.{next_at, release_place}
+use Rattle.once_core.specs.Steps.{release_place}
+use Rattle.once_core.specs.Table.{next_at}
 use Rattle.once_book.proofs.Moments.Moves.Words.{some}
 use Rattle.once_book.proofs.Moments.Moves.Calls.{looked_moves}
 use Rattle.once_book.proofs.Moments.Moves.Slots.{put_value_moves, state_at, write_moves, writing_hand, written_state}

@@ -2,7 +2,8 @@
 use Rattle.std.specs.Prelude.{◌≡◌, ℕ, suc, ◌-◌, ◌<◌, ◌^◌, ◌==◌, true, false, cond, nat_lt, List, [], ◌∷◌, reverse, None}
 use Rattle.pagebook.specs.Pages.{View}
 use Rattle.once_queue.specs.Word.{flags_of}
-use Rattle.once_core.specs.Steps.{Next, after_quick, step_of_drop}
+use Rattle.once_core.specs.Steps.{step_of_drop}
+use Rattle.once_core.specs.Table.{Next, after_quick}
 use Rattle.once_world.specs.Record.{Begin, Entry, Made, Ran}
 use Rattle.once_world.specs.Book.{TaskState, refused_step}
 use Rattle.once_world.specs.Machine.{claim_entries, drop_entries, fresh_task, freed_entries}

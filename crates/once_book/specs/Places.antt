@@ -4,10 +4,11 @@ use Rattle.once_queue.specs.Word.{Flags, is_zero, is_ready_bit}
 use Rattle.once_queue.specs.declared.waiters.Answer.{Answer as SectionAnswer}
 use Rattle.once_core.specs.declared.step.Polled.{Polled}
 use Rattle.once_core.specs.declared.step.Polled.TheVariants.{Pending, Value, Error}
-use Rattle.once_core.specs.Steps.{Next, next_at, next_end, release_place, step_of_drop, step_of_poll}
-use Rattle.once_core.specs.Steps.{after_start, after_door_get, after_door_put, after_count_in}
-use Rattle.once_core.specs.Steps.{after_load, after_look, after_list}
-use Rattle.once_core.specs.Steps.{after_run, after_fast, after_door_again, after_count_out}
+use Rattle.once_core.specs.Steps.{release_place, step_of_drop, step_of_poll}
+use Rattle.once_core.specs.Table.{Next, next_at, next_end}
+use Rattle.once_core.specs.Table.{after_start, after_door_get, after_door_put, after_count_in}
+use Rattle.once_core.specs.Table.{after_load, after_look, after_list}
+use Rattle.once_core.specs.Table.{after_run, after_fast, after_door_again, after_count_out}
 use Rattle.once_world.specs.declared.record.Ran.{Ran as Answer}
 use Rattle.once_world.specs.declared.record.Ran.TheVariants.{Pending as RanPending, Value as RanValue}
 use Rattle.once_world.specs.declared.record.Ran.TheVariants.{Error as RanError}

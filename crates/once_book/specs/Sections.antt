@@ -8,7 +8,7 @@ use Rattle.once_queue.specs.declared.waiters.Listing.{Listing}
 use Rattle.once_queue.specs.declared.waiters.Answer.{Answer as SectionAnswer}
 use Rattle.once_queue.specs.Listings.{find_listing, kept_ticket, left_list, next_waker}
 use Rattle.once_queue.specs.Listings.{own_listing, passes_turn, tickets, wakers_of}
-use Rattle.once_core.specs.Steps.{next_at}
+use Rattle.once_core.specs.Table.{next_at}
 use Rattle.once_world.specs.Record.{Entry}
 use Rattle.once_world.specs.UnderLock.{head_after, is_claim, list_answer, listed_list, listed_ticket}
 use Rattle.once_world.specs.UnderLock.{look_answer, looked_list}

@@ -4,7 +4,7 @@ use Rattle.std.specs.Prelude.{◌≡◌, ℕ}
 use Rattle.std.specs.Option.{option_map}
 use Rattle.once_queue.specs.declared.waiters.Answer.{Answer}
 use Rattle.once_queue.specs.declared.waiters.Answer.TheVariants.{Ready, Claimed, Listed, Held, Memory, Gone}
-use Rattle.once_core.specs.Steps.{Next}
+use Rattle.once_core.specs.Table.{Next}
 use Rattle.once_world.specs.Machine.{Rest, RestStart, RestWait, RestRun, Step, Resting, UnderWay, Finished}
 use Rattle.once_world.specs.Machine.{Place, AtStart, AtTryQuick, AtDoorGet, AtDoorPut, AtCountIn}
 use Rattle.once_world.specs.Machine.{AtWaitLoad, AtLook, AtList, AtRun}

@@ -40,7 +40,7 @@ impl<W: TaskWaker> Keyed for Desk<W> {
 }
 
 impl<W: TaskWaker + Drop> Desk<W> {
-    ghost use Rattle.once_core.specs.Steps.{next_at};
+    ghost use Rattle.once_core.specs.Table.{next_at};
     ghost use Rattle.once_world.specs.Machine.{AtCountIn, AtDoorPut, UnderWay};
     ghost use Rattle.once_world.specs.Machine.{claim_entries, is_claim, pass_entries, release_entry};
     ghost use Rattle.once_book.specs.Kept.{has_passed, hands_out};

@@ -27,7 +27,8 @@ impl Hand {
     ghost use Rattle.std.specs.Prelude.{◌==◌, ◌-◌, ◌^◌, None, true, false, if◌then◌else◌, [], ◌∷◌, reverse};
     ghost use Rattle.std.specs.Option.{MatchOption};
     ghost use Rattle.once_queue.specs.Word.{flags_of};
-    ghost use Rattle.once_core.specs.Steps.{after_quick, is_resting, step_of_drop};
+    ghost use Rattle.once_core.specs.Steps.{is_resting, step_of_drop};
+    ghost use Rattle.once_core.specs.Table.{after_quick};
     ghost use Rattle.once_core.specs.Table.{is_in, finds_ready};
     ghost use Rattle.once_world.specs.Record.{Begin, Made};
     ghost use Rattle.once_world.specs.Book.{refused_step};

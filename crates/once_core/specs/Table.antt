@@ -1,22 +1,22 @@
 -- The table of places: the call that each place makes, what that call may tell, and how the task's own call goes on.
-use Rattle.std.specs.Prelude.{◌≡◌, Bool, true, false, Option, Some, None}
+use Rattle.std.specs.Prelude.{◌≡◌, ℕ, Bool, true, false, Option, Some, None}
 use Rattle.once_core.specs.declared.parts.Counted.{Counted}
 use Rattle.once_core.specs.declared.parts.Counted.TheVariants.{In, Full, SeenReady}
 use Rattle.once_queue.specs.declared.waiters.Op.{Op}
 use Rattle.once_queue.specs.declared.waiters.Op.TheVariants.{Look as LookOp, List as ListOp}
 use Rattle.once_queue.specs.declared.waiters.Op.TheVariants.{Release as ReleaseOp, Leave as LeaveOp}
 use Rattle.once_queue.specs.declared.waiters.Answer.{Answer as SectionAnswer}
-use Rattle.once_queue.specs.declared.waiters.Answer.TheVariants.{Ready, Claimed, Listed}
+use Rattle.once_queue.specs.declared.waiters.Answer.TheVariants.{Ready, Claimed, Listed, Memory as NoMemory}
 use Rattle.once_queue.specs.Ops.{ticket_in}
 use Rattle.once_queue.specs.Word.{Flags, flags_of, is_zero, is_ready_bit}
 use Rattle.once_core.specs.declared.step.Polled.{Polled}
-use Rattle.once_core.specs.Steps.{EndValue, EndMemory, Progress, Step, UnderWay, is_value}
+use Rattle.once_core.specs.declared.step.Polled.TheVariants.{Pending as PolledPending, Value as PolledValue}
+use Rattle.once_core.specs.declared.step.Polled.TheVariants.{Error as PolledError}
+use Rattle.once_core.specs.Steps.{Ending, EndPending, EndValue, EndError, EndMemory, EndFull, is_value}
+use Rattle.once_core.specs.Steps.{Progress, More, Ended, Step, Resting, UnderWay, Finished, Rest, RestWait, RestRun}
 use Rattle.once_core.specs.Steps.{Place, AtStart, AtTryQuick, AtDoorGet, AtDoorPut, AtCountIn, AtWaitLoad, AtLook, AtList}
 use Rattle.once_core.specs.Steps.{AtRun, AtPut, AtFast, AtAddOne, AtDoorAgain, AtRelease, AtLeave, AtCountOut, AtDoorTake}
-use Rattle.once_core.specs.Steps.{Next, next_at, next_end, closing_at, leave_place, release_place}
-use Rattle.once_core.specs.Steps.{after_start, after_quick, after_door_get, after_door_put, after_count_in, after_load}
-use Rattle.once_core.specs.Steps.{after_look, after_list, after_run, after_fast, after_door_again, after_count_out}
-use Rattle.once_core.specs.Steps.{MayClose, SideTells, Wakes, out_of}
+use Rattle.once_core.specs.Steps.{MayClose, SideTells, Wakes, leave_place, out_of, release_place}
 
 -- a call of the parts
 pub data Call (W Q : Type 0) : Type 0 where
@@ -107,7 +107,58 @@ finds_ready SeenReady = true
 abbrev pub counted : {W Q : Type 0} → Counted → Told W Q
 counted c = CountedIn (is_in c) (finds_ready c)
 
+-- what follows a call
+pub record Next (W Q : Type 0) : Type 0 where
+  pub closes : Bool  -- whether the init is closed
+  pub progress : Progress
+  pub step : Step W Q
+
 module _ {W Q : Type 0} where
+  -- the call goes on at the place
+  abbrev pub next_at : Place W Q → Next W Q
+  next_at p = record { closes = false; progress = More; step = UnderWay p }
+
+  -- the same, after the init was closed
+  abbrev pub closing_at : Place W Q → Next W Q
+  closing_at p = record { closes = true; progress = More; step = UnderWay p }
+
+  -- the call ends, and the task is finished
+  abbrev pub next_end : Ending → Next W Q
+  next_end e = record { closes = false; progress = Ended e; step = Finished }
+
+  -- the same, after the init was closed
+  abbrev pub closing_end : Ending → Next W Q
+  closing_end e = record { closes = true; progress = Ended e; step = Finished }
+
+  -- the poll ends Pending
+  abbrev pub next_rest : Rest Q → Next W Q
+  next_rest r = record { closes = false; progress = Ended EndPending; step = Resting r }
+
+  -- how many steps a call at this place may still take
+  abbrev pub left_at : Place W Q → ℕ
+  left_at AtStart = 16
+  left_at AtTryQuick = 15
+  left_at AtDoorGet = 14
+  left_at AtDoorPut = 13
+  left_at (AtCountIn q) = 12
+  left_at (AtWaitLoad q k) = 11
+  left_at (AtLook q k) = 10
+  left_at (AtList q k w) = 9
+  left_at (AtRun by) = 8
+  left_at (AtPut by) = 7
+  left_at (AtFast e) = 6
+  left_at (AtAddOne e) = 5
+  left_at (AtDoorAgain e) = 4
+  left_at (AtRelease q e) = 3
+  left_at (AtLeave q n e) = 3
+  left_at (AtCountOut e) = 2
+  left_at (AtDoorTake e) = 1
+
+  -- how many steps the call may still take; 0 where none is under way
+  abbrev pub left_of : Step W Q → ℕ
+  left_of (UnderWay p) = left_at p
+  left_of _ = 0
+
   -- the call of a place
   abbrev pub call_at : Place W Q → Call W Q
   call_at AtStart = Load
@@ -127,6 +178,80 @@ module _ {W Q : Type 0} where
   call_at (AtLeave q n e) = Section q (LeaveOp n)
   call_at (AtCountOut e) = CountOut
   call_at (AtDoorTake e) = DoorTake
+
+  -- after the first load: whether the word is ready, and whether it is NEW
+  abbrev pub after_start : Bool → Bool → Next W Q
+  after_start true _ = closing_end EndValue
+  after_start false true = next_at AtTryQuick
+  after_start false false = next_at AtDoorGet
+
+  -- after a quick claim, by whether it was won
+  abbrev pub after_quick : Bool → Next W Q
+  after_quick true = next_at (AtRun None)
+  after_quick false = next_at AtDoorGet
+
+  -- after the look at the door
+  abbrev pub after_door_get : Option Q → Next W Q
+  after_door_get (Some q) = next_at (AtCountIn q)
+  after_door_get None = next_at AtDoorPut
+
+  -- after a queue was put or found; None where memory was refused
+  abbrev pub after_door_put : Option Q → Next W Q
+  after_door_put (Some q) = next_at (AtCountIn q)
+  after_door_put None = closing_end EndMemory
+
+  -- after counting in: whether the task was counted, and whether the value is set
+  abbrev pub after_count_in : Bool → Bool → Q → Next W Q
+  after_count_in true true q = closing_at (AtCountOut EndValue)
+  after_count_in true false q = next_at (AtWaitLoad q None)
+  after_count_in false true q = closing_end EndValue
+  after_count_in false false q = closing_end EndFull
+
+  -- after a waiter's load: whether the word is ready
+  abbrev pub after_load : Bool → Q → Option ℕ → Next W Q
+  after_load true q k = closing_at (AtCountOut EndValue)
+  after_load false q k = next_at (AtLook q k)
+
+  -- after the copy of the waker; None where memory was refused
+  abbrev pub after_copy : Option W → Q → Option ℕ → Next W Q
+  after_copy (Some w) q k = next_at (AtList q k w)
+  after_copy None q k = closing_at (leave_place q k EndMemory)
+
+  -- after a look with this ticket, where the waker that was copied is this
+  abbrev pub after_look : SectionAnswer W → Option W → Q → Option ℕ → Next W Q
+  after_look Ready w q k = closing_at (AtCountOut EndValue)
+  after_look Claimed w q k = next_at (AtRun (Some q))
+  after_look Listed w q k = next_rest (RestWait q k)
+  after_look _ w q k = after_copy w q k
+
+  -- after a List, with the ticket that the section left
+  abbrev pub after_list : SectionAnswer W → Q → Option ℕ → Next W Q
+  after_list Ready q k = closing_at (AtCountOut EndValue)
+  after_list Claimed q k = next_at (AtRun (Some q))
+  after_list NoMemory q k = closing_at (leave_place q k EndMemory)
+  after_list _ q k = next_rest (RestWait q k)
+
+  -- after the init was polled
+  abbrev pub after_run : Polled → Option Q → Next W Q
+  after_run PolledPending by = next_rest (RestRun by)
+  after_run PolledValue by = closing_at (AtPut by)
+  after_run PolledError by = closing_at (release_place by EndError)
+
+  -- after a fast release: whether it was done, and whether it sets the value
+  abbrev pub after_fast : Bool → Bool → Ending → Next W Q
+  after_fast true true e = next_at (AtDoorTake e)
+  after_fast true false e = next_end e
+  after_fast false fills e = next_at (AtAddOne e)
+
+  -- after a holder looked for the queue of those who are counted
+  abbrev pub after_door_again : Option Q → Ending → Next W Q
+  after_door_again (Some q) e = next_at (AtRelease q e)
+  after_door_again None e = next_at (AtCountOut e)
+
+  -- after counting out: whether the word is exactly the ready bit
+  abbrev pub after_count_out : Bool → Ending → Next W Q
+  after_count_out true e = next_at (AtDoorTake e)
+  after_count_out false e = next_end e
 
   -- what follows at a place, if this was told. A look that finds a holder has the waker copied; c is the copy, or None
   -- if memory was refused. If what was told is of no call of the place, the task stays there
@@ -150,6 +275,11 @@ module _ {W Q : Type 0} where
   after c (AtCountOut e) (CountedOut w) = after_count_out (is_ready_bit w) e
   after c (AtDoorTake e) (Taken stood) = next_end e
   after c p _ = next_at p
+
+module _ {S W Q : Type 0} (close : S → S → Type 0) where
+  -- what follows happened
+  abbrev pub Follows : Next W Q → S → S → Progress → Step W Q → Type 0
+  Follows n s s' r t = MayClose close n.closes s s' × (r ≡ n.progress) × (t ≡ n.step)
 
 module _ {S W Q : Type 0} (side : SideTells S W) where
   -- what the side did in a step that was told this, by whether its init is closed in what follows

@@ -142,7 +142,8 @@ pub enum Step<W, Q> {
 }
 
 impl<W: Drop, Q: Drop> Step<W, Q> {
-    ghost use Rattle.once_core.specs.Steps.{left_of, is_resting, in_call, is_running, is_leaving};
+    ghost use Rattle.once_core.specs.Steps.{is_resting, in_call, is_running, is_leaving};
+    ghost use Rattle.once_core.specs.Table.{left_of};
     ghost use Rattle.once_core.specs.Steps.{is_freeing, is_adding, step_of_poll, step_of_drop};
     ghost use Rattle.once_core.specs.Table.{Line, Advances, AsksAt, Asks};
 

@@ -2,7 +2,7 @@
 use Rattle.std.specs.Prelude.{◌≡◌, ℕ, ⊤, [], ◌∷◌}
 use Rattle.std.specs.Option.{is_some}
 use Rattle.pagebook.specs.Slot.{Placed}
-use Rattle.once_core.specs.Steps.{after_quick}
+use Rattle.once_core.specs.Table.{after_quick}
 use Rattle.once_core.specs.Table.{Call, Load, Quick, Fast, CountIn, AddOne, CountOut, DoorGet, DoorPut, DoorTake}
 use Rattle.once_core.specs.Table.{Section, Refuse, Run, Put}
 use Rattle.once_core.specs.Table.{Told, Loaded, TriedQuick, TriedFast, CountedIn, Added, CountedOut, Got, PutQueue}

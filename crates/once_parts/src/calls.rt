@@ -1,6 +1,7 @@
 //! The steps of a task's call: one after the other, until the call ends.
 ghost use Rattle.std.specs.Prelude.{◌≡◌, ◌<◌, Bool, true, false};
-ghost use Rattle.once_core.specs.Steps.{in_call, left_of};
+ghost use Rattle.once_core.specs.Steps.{in_call};
+ghost use Rattle.once_core.specs.Table.{left_of};
 ghost use Rattle.once_parts.specs.Shares.{cell_of, own};
 ghost use Rattle.once_book.specs.Own.{Own};
 ghost use Rattle.once_parts.specs.Sides.{Sided};

@@ -9,7 +9,7 @@
 ghost use Rattle.std.specs.Prelude.{◌≡◌, ◌≢◌, ℕ, false, true, List, []};
 ghost use mathlib.Core.List.{IsPrefix};
 ghost use Rattle.once_queue.specs.Room.{listings_of};
-ghost use Rattle.once_core.specs.Steps.{next_at};
+ghost use Rattle.once_core.specs.Table.{next_at};
 ghost use Rattle.once_world.specs.Machine.{AtCountIn, AtDoorPut, UnderWay};
 ghost use Rattle.once_book.specs.Named.{HasRenewed, KeepsOwner};
 ghost use Rattle.once_book.specs.Own.{Did, IsWord};

@@ -7,8 +7,8 @@ use Rattle.once_queue.specs.declared.word.Sees.{Sees}
 use Rattle.once_queue.specs.declared.waiters.Answer.{Answer as SectionAnswer}
 use Rattle.once_queue.specs.declared.waiters.Answer.TheVariants.{Ready, Claimed, Listed, Held, Memory as NoMemory, Released, Left, Gone}
 use Rattle.once_core.specs.Core.{put_answer}
-use Rattle.once_core.specs.Steps.{after_start, after_quick, after_door_get, after_door_put, after_count_in, after_load}
-use Rattle.once_core.specs.Steps.{after_look, after_list, after_run, after_fast, after_door_again, after_count_out, next_at}
+use Rattle.once_core.specs.Table.{after_start, after_quick, after_door_get, after_door_put, after_count_in, after_load}
+use Rattle.once_core.specs.Table.{after_look, after_list, after_run, after_fast, after_door_again, after_count_out, next_at}
 use Rattle.once_world.specs.Record.{Answer, Ran}
 use Rattle.once_world.specs.Machine.{AtCountOut, Ending, Outcome, SharedState, claim_entries, fast_shared, freed_entries, in_shared, is_claim, is_passing, is_value}
 use Rattle.once_world.specs.Machine.{kept_after, leave_shared, list_answer, list_shared, listed_ticket, look_answer, look_shared, looked_ticket, next_waker, outcome_of}

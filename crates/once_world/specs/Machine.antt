@@ -9,10 +9,11 @@ pub use Rattle.once_world.specs.Places.{AtCountIn, AtWaitLoad, AtLook, AtList, A
 pub use Rattle.once_world.specs.Places.{AtPut, AtFast, AtAddOne, AtDoorAgain}
 pub use Rattle.once_world.specs.Places.{AtRelease, AtLeave, AtCountOut, AtDoorTake}
 use Rattle.once_world.specs.Places.{Progress, More, Ended}
-pub use Rattle.once_core.specs.Steps.{is_value, left_at, left_of, is_resting, in_call, is_leaving, is_finished}
+pub use Rattle.once_core.specs.Steps.{is_value, is_resting, in_call, is_leaving, is_finished}
+pub use Rattle.once_core.specs.Table.{left_at, left_of}
 pub use Rattle.once_core.specs.Steps.{place_of_poll, step_of_poll, release_place}
 pub use Rattle.once_core.specs.Steps.{leave_place, step_of_drop_at, step_of_drop}
-use Rattle.once_core.specs.Steps.{Next}
+use Rattle.once_core.specs.Table.{Next}
 use Rattle.once_core.specs.Table.{Call, Load, Quick, Fast, CountIn, AddOne, CountOut, DoorGet, DoorPut, DoorTake}
 use Rattle.once_core.specs.Table.{Section, Refuse, Run, Put, after, call_at}
 use Rattle.once_core.specs.Table.{Told, Loaded, TriedQuick, TriedFast, CountedIn, Added, CountedOut, Got as Found, PutQueue}

@@ -7,7 +7,7 @@ use Rattle.once_queue.specs.declared.waiters.Listing.{Listing}
 use Rattle.once_queue.specs.Listings.{find_listing, is_waker, own_listing}
 use Rattle.once_world.specs.Record.{Entry, Once}
 use Rattle.once_world.specs.Cell.{cell}
-use Rattle.once_core.specs.Steps.{next_at}
+use Rattle.once_core.specs.Table.{next_at}
 use Rattle.once_world.specs.Tasks.{LastCall, last_call}
 use Rattle.once_queue.proofs.Listing.Members.{eqb_self}
 use Rattle.once_book.specs.Kept.{has_passed, hands_out}

@@ -5,7 +5,7 @@ use Rattle.std.proofs.lemmas.List.{reverse-append}
 use Rattle.pagebook.specs.Pages.{Apart, Held}
 use Rattle.once_queue.specs.declared.waiters.Listing.{Listing}
 use Rattle.once_queue.proofs.Listing.Members.{eqb_self}
-use Rattle.once_core.specs.Steps.{Next}
+use Rattle.once_core.specs.Table.{Next}
 use Rattle.once_world.specs.Places.{Progress, More, Ended, EndPending, EndValue, EndError, EndMemory, EndFull, EndDropped}
 use Rattle.once_world.specs.Record.{Entry, Made, Begin, Claim, Ran, Free, Fill, Pass, End, DropBegin, DropEnd, Look, Own, is_of}
 use Rattle.once_world.specs.declared.record.Ran.{Ran as Answer}

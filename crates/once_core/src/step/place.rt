@@ -65,7 +65,8 @@ pub enum Place<W, Q> {
 }
 
 impl<W, Q> Place<W, Q> {
-    ghost use Rattle.once_core.specs.Steps.{left_at, release_place};
+    ghost use Rattle.once_core.specs.Steps.{release_place};
+    ghost use Rattle.once_core.specs.Table.{left_at};
 
     // How many steps a call here may still take.
     #[inline(always)]

@@ -9,7 +9,7 @@ use once_queue::waiters::{Answer, Op};
 use once_queue::word::Word;
 
 impl<W: Drop, Q: Drop> Step<W, Q> {
-    ghost use Rattle.once_core.specs.Steps.{Follows, after_copy};
+    ghost use Rattle.once_core.specs.Table.{Follows, after_copy};
     ghost use Rattle.once_core.specs.Table.{Line, AsksAt, MayRefuse, Refuse, Refused};
 
     #[inline(always)]

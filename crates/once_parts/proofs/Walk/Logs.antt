@@ -2,7 +2,7 @@
 use Rattle.std.proofs.Common.{◌≡◌, ℕ, List, [], ◌∷◌, ◌++◌, append_assoc, reverse, refl, sym, ap, ◌∙◌}
 use Rattle.std.proofs.lemmas.List.{append-nil, reverse-append}
 use mathlib.Core.List.{IsPrefix}
-use Rattle.once_core.specs.Steps.{Next}
+use Rattle.once_core.specs.Table.{Next}
 use Rattle.once_world.specs.Places.{Progress, More, Ended}
 use Rattle.once_world.specs.Record.{Entry, handed_by}
 use Rattle.once_world.specs.declared.record.Ran.{Ran as Answer}

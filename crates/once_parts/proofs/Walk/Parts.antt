@@ -3,7 +3,7 @@ use Rattle.std.proofs.Common.{◌≡◌, ℕ, Bool, List, reverse, [], ◌++◌,
 use Rattle.std.specs.Prelude.{⊤}
 use Rattle.std.proofs.lemmas.List.{append-nil}
 use Rattle.pagebook.specs.Slot.{Placed}
-use Rattle.once_core.specs.Steps.{Next}
+use Rattle.once_core.specs.Table.{Next}
 use Rattle.once_world.specs.Places.{More, Progress, Step}
 use Rattle.once_world.specs.Record.{Entry}
 use Rattle.once_world.specs.Book.{TaskState}

@@ -6,7 +6,8 @@ use Rattle.once_world.specs.declared.world.side.ReplaySide.{ReplaySide}
 use Rattle.once_queue.specs.Word.{flags_alone, is_quick_bit}
 use Rattle.once_core.specs.Core.{CoreState, counted_state, take_by, take_state}
 use Rattle.once_world.specs.Places.{AtAddOne, AtCountOut, AtDoorAgain, AtDoorTake, AtFast, AtPut, AtRun, EndValue, Ending, More, Progress, Step, UnderWay}
-use Rattle.once_core.specs.Steps.{Follows, after_count_out, after_door_again, after_fast, after_run, release_place, is_running, next_at, next_end}
+use Rattle.once_core.specs.Steps.{release_place, is_running}
+use Rattle.once_core.specs.Table.{Follows, after_count_out, after_door_again, after_fast, after_run, next_at, next_end}
 use Rattle.once_world.specs.Record.{Answer, RanError, RanPending, RanValue}
 use Rattle.once_world.specs.Cell.{rest_of}
 use Rattle.once_world.specs.Log.{take_lines}

@@ -13,7 +13,8 @@ use Rattle.once_queue.specs.Listings.{left_list, next_waker}
 use Rattle.once_queue.specs.Sections.{Releases}
 use Rattle.once_core.specs.Core.{CoreState, leave_state, release_state}
 use Rattle.once_world.specs.Places.{AtCountOut, AtLeave, AtRelease, Ending, More, Progress, Step, UnderWay}
-use Rattle.once_core.specs.Steps.{Wakes, is_value, next_at, out_of}
+use Rattle.once_core.specs.Steps.{Wakes, is_value, out_of}
+use Rattle.once_core.specs.Table.{next_at}
 use Rattle.once_world.specs.Machine.{EnteredLine, SharedState, release_wakers, is_at_door, release_list, pass_entries, is_passing, release_entry, release_flags}
 use Rattle.once_world.proofs.Steps.{leave_step, release_step}
 use Rattle.once_world.specs.Side.{DidWake, answers_in}

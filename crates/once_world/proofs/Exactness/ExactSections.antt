@@ -13,7 +13,8 @@ use Rattle.once_queue.specs.Sections.{DidLook}
 use Rattle.once_core.specs.Core.{CoreState, DidSection, FindsHolder}
 use Rattle.once_world.specs.Places.{AtList, AtLook, Progress, Step, UnderWay}
 use Rattle.once_queue.specs.Ops.{ticket_in}
-use Rattle.once_core.specs.Steps.{Follows, after_copy, after_list, after_look, is_running}
+use Rattle.once_core.specs.Steps.{is_running}
+use Rattle.once_core.specs.Table.{Follows, after_copy, after_list, after_look}
 use Rattle.once_world.specs.Machine.{EnteredLine, claim_entries, is_claim, is_at_door, list_answer, list_shared, listed_ticket, look_answer, look_shared, outcome_of, seen_by, seen_at}
 use Rattle.once_world.proofs.Steps.{list_step, look_same, look_step}
 use Rattle.once_world.specs.Side.{DidClose, DidCopy}

@@ -3,7 +3,8 @@ use Rattle.std.proofs.Common.{◌≡◌, ◌<◌, ℕ, suc, Bool, true, false, c
 use Rattle.std.proofs.lemmas.List.{append-nil}
 use Rattle.std.proofs.lemmas.Bool.{false≢true}
 use Rattle.once_queue.specs.Word.{Flags, flags_of}
-use Rattle.once_core.specs.Steps.{after_run, next_at, release_place, step_of_drop, step_of_poll}
+use Rattle.once_core.specs.Steps.{release_place, step_of_drop, step_of_poll}
+use Rattle.once_core.specs.Table.{after_run, next_at}
 use Rattle.once_world.specs.Record.{Answer, Begin, Entry, Look, Made, Ran}
 use Rattle.once_world.specs.Inputs.{Drop, Looks, Make, Poll}
 use Rattle.once_world.specs.Book.{At, IsBook, IsUnnamed, Page, TasksReach, has_written, refused_step}

@@ -4,7 +4,7 @@ use Rattle.std.specs.Prelude.{nat_lt, ◌||◌}
 use Rattle.std.proofs.lemmas.Bool.Decides.{nat_tests}
 use Rattle.once_queue.specs.Numbers.{bit}
 use Rattle.once_queue.specs.Word.{Flags, flags_of}
-use Rattle.once_core.specs.Steps.{Next, after_door_get, closing_end, next_at, next_end}
+use Rattle.once_core.specs.Table.{Next, after_door_get, closing_end, next_at, next_end}
 use Rattle.once_world.specs.Record.{Entry, Once, RanPending}
 use Rattle.once_world.specs.Cell.{cell}
 use Rattle.once_world.specs.Book.{At, Door, IsBook, Page, Queue}

@@ -6,7 +6,7 @@ use Rattle.once_queue.specs.Word.{Flags, flags_of, sees, sees_by, is_free}
 use Rattle.once_queue.specs.declared.waiters.Listing.{Listing}
 use Rattle.once_queue.specs.declared.waiters.Answer.{Answer as SectionAnswer}
 use Rattle.once_queue.specs.Listings.{is_waker, kept_ticket, left_list, next_waker, own_listing, passes_turn}
-use Rattle.once_core.specs.Steps.{Next, after_list, after_look, next_at}
+use Rattle.once_core.specs.Table.{Next, after_list, after_look, next_at}
 use Rattle.once_world.specs.Record.{Entry, Once, RanPending}
 use Rattle.once_world.specs.Cell.{cell}
 use Rattle.once_world.specs.Book.{At, Door, IsBook, Page, Queue}

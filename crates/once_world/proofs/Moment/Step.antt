@@ -4,7 +4,7 @@ use Rattle.std.specs.Prelude.{nat_lt, ◌||◌}
 use Rattle.std.proofs.lemmas.List.{reverse-append, reverse-reverse}
 use Rattle.once_queue.specs.Numbers.{bit}
 use Rattle.once_queue.specs.Word.{flags_of}
-use Rattle.once_core.specs.Steps.{Next}
+use Rattle.once_core.specs.Table.{Next}
 use Rattle.once_world.specs.Record.{Answer, Entry, Once, RanPending}
 use Rattle.once_world.specs.Book.{At, Door, IsBook, IsBookOf, IsUnnamed, Page, Queue, has_written, has_written_at, task_page}
 use Rattle.once_world.specs.Machine.{Outcome, Place, SharedState, Task, UnderWay, World, advance, first_world, go_world_by, in_call, outcome_of, place_step}

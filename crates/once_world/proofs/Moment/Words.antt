@@ -4,7 +4,7 @@ use Rattle.std.specs.Prelude.{nat_lt}
 use Rattle.std.proofs.lemmas.Bool.{ne_eqb}
 use Rattle.std.proofs.lemmas.Bool.Decides.{nat_tests}
 use Rattle.once_queue.specs.Word.{Flags, flags_of, is_quick_bit, is_ready_bit, is_zero}
-use Rattle.once_core.specs.Steps.{after_count_out, after_fast, after_count_in, after_load, after_quick, after_start, next_at}
+use Rattle.once_core.specs.Table.{after_count_out, after_fast, after_count_in, after_load, after_quick, after_start, next_at}
 use Rattle.once_world.specs.Record.{Claim, Entry, Once}
 use Rattle.once_world.specs.Book.{At, IsBook, Page}
 use Rattle.once_world.specs.Machine.{AtAddOne, AtCountIn, AtCountOut, AtDoorAgain, AtFast, AtStart, AtTryQuick, AtWaitLoad, Ending, SharedState, Task, UnderWay}

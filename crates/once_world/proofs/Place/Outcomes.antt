@@ -1,6 +1,6 @@
 -- The kinds of outcome: a call goes on, ends, waits, claims; and what a claim and a listing leave of what is shared.
 use Rattle.std.specs.Prelude.{ℕ, true, [], ◌∷◌, Option}
-use Rattle.once_core.specs.Steps.{next_at, next_rest, next_end}
+use Rattle.once_core.specs.Table.{next_at, next_rest, next_end}
 use Rattle.once_world.specs.Record.{Answer, Claim}
 use Rattle.once_world.specs.Machine.{AtRun, Ending, SharedState, Outcome, Place, RestWait, list_with, list_without, outcome_of}
 

@@ -3,7 +3,7 @@ use Rattle.std.proofs.Common.{◌≡◌, ◌⊎◌, ◌-◌, ℕ, zero, suc, pre
 use Rattle.std.proofs.lemmas.List.{map-append, append-nil}
 use Rattle.pagebook.specs.Pages.{Held, Moves, Notes}
 use Rattle.once_queue.specs.Word.{flags_of}
-use Rattle.once_core.specs.Steps.{after_run, closing_end}
+use Rattle.once_core.specs.Table.{after_run, closing_end}
 use Rattle.once_world.specs.Record.{Begin, Entry, Look, Made, Once, Ran}
 use Rattle.once_world.specs.declared.record.Ran.{Ran as Answer}
 use Rattle.once_world.specs.Cell.{cell, is_set}

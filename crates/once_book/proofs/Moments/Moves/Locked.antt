@@ -9,7 +9,7 @@ use Rattle.once_queue.specs.Word.{flags_of, sees, is_free}
 use Rattle.once_queue.specs.declared.waiters.Listing.{Listing}
 use Rattle.once_queue.specs.declared.waiters.Answer.{Answer as SectionAnswer}
 use Rattle.once_queue.specs.Listings.{kept_ticket, left_list, next_waker, own_listing, passes_turn, tickets, wakers_of}
-use Rattle.once_core.specs.Steps.{Next, after_door_get, after_list, after_look, next_at, next_end}
+use Rattle.once_core.specs.Table.{Next, after_door_get, after_list, after_look, next_at, next_end}
 use Rattle.once_world.specs.Record.{Entry}
 use Rattle.once_world.specs.Book.{At, Door, IsBook, Page, Queue, TaskState}
 use Rattle.once_world.specs.Machine.{AtCountIn, AtCountOut, AtDoorAgain, AtDoorGet, AtDoorPut, AtDoorTake, AtLeave, AtList, AtLook, AtRelease}

@@ -5,7 +5,8 @@ use Rattle.std.proofs.lemmas.List.{append-nil, append_assoc}
 use mathlib.Core.List.{IsPrefix}
 use Rattle.pagebook.specs.Pages.{Held, Moves, Sure}
 use Rattle.once_queue.specs.Word.{flags_of}
-use Rattle.once_core.specs.Steps.{next_at, release_place}
+use Rattle.once_core.specs.Steps.{release_place}
+use Rattle.once_core.specs.Table.{next_at}
 use Rattle.once_world.specs.Record.{Entry, Fill}
 use Rattle.once_world.specs.Book.{At, IsBook, Page, TaskState}
 use Rattle.once_world.specs.Machine.{AtPut, EndValue, UnderWay}

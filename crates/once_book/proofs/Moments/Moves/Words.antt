@@ -7,7 +7,7 @@ use prog.Atomic.{either}
 use Rattle.pagebook.specs.Pages.{Moves, put as put_on}
 use Rattle.once_queue.specs.Word.{flags_of, is_ready_bit, is_zero}
 use Rattle.once_queue.proofs.Listing.Members.{eqb_self}
-use Rattle.once_core.specs.Steps.{Next, after_count_out, after_fast, after_count_in, after_load, after_quick, after_start, next_at, next_end}
+use Rattle.once_core.specs.Table.{Next, after_count_out, after_fast, after_count_in, after_load, after_quick, after_start, next_at, next_end}
 use Rattle.once_world.specs.Record.{Entry}
 use Rattle.once_world.specs.Book.{At, IsBook, Page, TaskState}
 use Rattle.once_world.specs.Machine.{AtAddOne, AtCountIn, AtCountOut, AtDoorAgain, AtDoorTake, AtFast, AtStart, AtTryQuick}
