@@ -62,7 +62,8 @@ impl Hand {
         requires word { IsWord word.now self.old.seen.book 0 }
         requires can { CanLoad (own_of self.old).task.step }
         ensures book { self.new.seen.book ≡ self.old.seen.book }
-        ensures did { Did (own_of self.old) [] (load_next (flags_of result) (own_of self.old).task.step) (own_of self.new) }
+        ensures did { Did (own_of self.old) [] (load_next (flags_of result) (own_of self.old).task.step)
+            (own_of self.new) }
     {
         word.load::<Act, Act>(&Act::Load, &mut self.seen, &mut self.pens)
     }
@@ -123,7 +124,8 @@ impl Hand {
         requires word { IsWord word.now self.old.seen.book 0 }
         requires can { CanCountOut (own_of self.old).task.step }
         ensures book { self.new.seen.book ≡ self.old.seen.book }
-        ensures did { Did (own_of self.old) [] (out_next (flags_of result) (own_of self.old).task.step) (own_of self.new) }
+        ensures did { Did (own_of self.old) [] (out_next (flags_of result) (own_of self.old).task.step)
+            (own_of self.new) }
     {
         let found = word.fetch_sub::<Act, Act>(1, &Act::CountOut, &mut self.seen, &mut self.pens);
         found - 1
@@ -137,7 +139,8 @@ impl Hand {
         requires can { CanCountIn (own_of self.old).task.step }
         ensures book { self.new.seen.book ≡ self.old.seen.book }
         ensures did { MatchOption result (Stayed (own_of self.old) (own_of self.new))
-            (λ c. Did (own_of self.old) [] (in_next (is_in c) (finds_ready c) (own_of self.old).task.step) (own_of self.new)) }
+            (λ c. Did (own_of self.old) [] (in_next (is_in c) (finds_ready c) (own_of self.old).task.step)
+            (own_of self.new)) }
     {
         let before = word.load::<Act, Act>(&Act::Full, &mut self.seen, &mut self.pens);
         if before % QINIT_BIT >= MAX_WAITERS {

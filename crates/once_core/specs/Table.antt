@@ -14,8 +14,9 @@ use Rattle.once_core.specs.declared.step.Polled.TheVariants.{Pending as PolledPe
 use Rattle.once_core.specs.declared.step.Polled.TheVariants.{Error as PolledError}
 use Rattle.once_core.specs.Steps.{Ending, EndPending, EndValue, EndError, EndMemory, EndFull, is_value}
 use Rattle.once_core.specs.Steps.{Progress, More, Ended, Step, Resting, UnderWay, Finished, Rest, RestWait, RestRun}
-use Rattle.once_core.specs.Steps.{Place, AtStart, AtTryQuick, AtDoorGet, AtDoorPut, AtCountIn, AtWaitLoad, AtLook, AtList}
-use Rattle.once_core.specs.Steps.{AtRun, AtPut, AtFast, AtAddOne, AtDoorAgain, AtRelease, AtLeave, AtCountOut, AtDoorTake}
+use Rattle.once_core.specs.Steps.{Place, AtStart, AtTryQuick, AtDoorGet, AtDoorPut, AtCountIn, AtWaitLoad, AtLook}
+use Rattle.once_core.specs.Steps.{AtList, AtRun, AtPut, AtFast, AtAddOne, AtDoorAgain, AtRelease, AtLeave}
+use Rattle.once_core.specs.Steps.{AtCountOut, AtDoorTake}
 use Rattle.once_core.specs.Steps.{MayClose, SideTells, Wakes, leave_place, out_of, release_place}
 
 -- a call of the parts

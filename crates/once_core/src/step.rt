@@ -532,7 +532,8 @@ impl<W: Drop, Q: Drop> Step<W, Q> {
         side: &mut S,
     ) -> Progress
         requires { AsksAt P.can S.can_run S.can_put (Place.Release queue ending) parts.old side.old }
-        ensures line { Line P.did S.did (Place.Release queue ending) parts.old side.old result self.new parts.new side.new }
+        ensures line { Line P.did S.did (Place.Release queue ending) parts.old side.old
+            result self.new parts.new side.new }
         ensures stays { S.stays side.old side.new }
     {
         let answer = parts.section(&queue, &mut Op::Release(ending.is_value()));

@@ -16,8 +16,8 @@ pub use Rattle.once_core.specs.Steps.{leave_place, step_of_drop_at, step_of_drop
 use Rattle.once_core.specs.Table.{Next}
 use Rattle.once_core.specs.Table.{Call, Load, Quick, Fast, CountIn, AddOne, CountOut, DoorGet, DoorPut, DoorTake}
 use Rattle.once_core.specs.Table.{Section, Refuse, Run, Put, after, call_at}
-use Rattle.once_core.specs.Table.{Told, Loaded, TriedQuick, TriedFast, CountedIn, Added, CountedOut, Got as Found, PutQueue}
-use Rattle.once_core.specs.Table.{Taken as TakenOut, Was, Refused, Ran as Polls, PutValue}
+use Rattle.once_core.specs.Table.{Told, Loaded, TriedQuick, TriedFast, CountedIn, Added, CountedOut}
+use Rattle.once_core.specs.Table.{Got as Found, PutQueue, Taken as TakenOut, Was, Refused, Ran as Polls, PutValue}
 use Rattle.once_core.specs.Core.{put_answer}
 use Rattle.once_core.specs.declared.step.Polled.{Polled}
 use Rattle.once_core.specs.declared.step.Polled.TheVariants.{Pending as PolledPending, Value as PolledValue}

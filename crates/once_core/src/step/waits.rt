@@ -49,7 +49,8 @@ impl<W: Drop, Q: Drop> Step<W, Q> {
         side: &mut S,
     ) -> Progress
         requires { AsksAt P.can S.can_run S.can_put (Place.WaitLoad queue ticket) parts.old side.old }
-        ensures line { Line P.did S.did (Place.WaitLoad queue ticket) parts.old side.old result self.new parts.new side.new }
+        ensures line { Line P.did S.did (Place.WaitLoad queue ticket) parts.old side.old
+            result self.new parts.new side.new }
         ensures stays { S.stays side.old side.new }
     {
         if Word::from_bits(parts.load()).is_ready() {
@@ -68,7 +69,8 @@ impl<W: Drop, Q: Drop> Step<W, Q> {
         side: &mut S,
     ) -> Progress
         requires { AsksAt P.can S.can_run S.can_put (Place.Look queue ticket) parts.old side.old }
-        ensures line { Line P.did S.did (Place.Look queue ticket) parts.old side.old result self.new parts.new side.new }
+        ensures line { Line P.did S.did (Place.Look queue ticket) parts.old side.old
+            result self.new parts.new side.new }
         ensures stays { S.stays side.old side.new }
     {
         let mut op = Op::Look(ticket);
@@ -118,7 +120,8 @@ impl<W: Drop, Q: Drop> Step<W, Q> {
         side: &mut S,
     ) -> Progress
         requires { AsksAt P.can S.can_run S.can_put (Place.List queue ticket waker) parts.old side.old }
-        ensures line { Line P.did S.did (Place.List queue ticket waker) parts.old side.old result self.new parts.new side.new }
+        ensures line { Line P.did S.did (Place.List queue ticket waker) parts.old side.old
+            result self.new parts.new side.new }
         ensures stays { S.stays side.old side.new }
     {
         let mut op = Op::List(ticket, Some(waker));
@@ -146,7 +149,8 @@ impl<W: Drop, Q: Drop> Step<W, Q> {
         side: &mut S,
     ) -> Progress
         requires { AsksAt P.can S.can_run S.can_put (Place.Leave queue ticket ending) parts.old side.old }
-        ensures line { Line P.did S.did (Place.Leave queue ticket ending) parts.old side.old result self.new parts.new side.new }
+        ensures line { Line P.did S.did (Place.Leave queue ticket ending) parts.old side.old
+            result self.new parts.new side.new }
         ensures stays { S.stays side.old side.new }
     {
         let answer = parts.section(&queue, &mut Op::Leave(ticket));
