@@ -3,10 +3,10 @@ use Rattle.std.proofs.Common.{◌≡◌, ℕ, List, [], ◌∷◌, ◌++◌, ap,
 use mathlib.Core.List.{IsPrefix, cons-ne-nil}
 use Rattle.futures.specs.declared.task.context.Context.{Context}
 use Rattle.once_world.specs.Record.{Begin, Entry}
-use Rattle.once_book.specs.Kept.{entries_of}
+use Rattle.once_parts.specs.Kept.{entries_of}
 use Rattle.once_world.specs.Places.{Ending}
 use Rattle.once_parts.specs.Walks.{end_of}
-use Rattle.once_book.proofs.Desks.{prefix_on}
+use Rattle.once_parts.proofs.Desks.{prefix_on}
 use Rattle.async_once_cell.specs.Polls.{CallIn, DidPoll, Ends, SpansIn}
 use Rattle.async_once_cell.specs.Views.{CellView, FutureView, Owned, Shared}
 

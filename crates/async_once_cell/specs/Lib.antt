@@ -39,7 +39,7 @@ pub use Rattle.once_world.specs.Side
 pub use Rattle.once_world.specs.Shown
 pub use Rattle.once_world.specs.Reached
 -- the largest count, which the record of a cell is told by
-pub use Rattle.once_book.specs.Kept
+pub use Rattle.once_parts.specs.Kept
 -- the types that users name
 pub use Rattle.once_queue.specs.declared.log
 pub use Rattle.once_queue.specs.declared.word.Sees

@@ -11,7 +11,7 @@ use Rattle.async_once_cell.specs.declared.once.refused.Refused.{Refused}
 use Rattle.async_once_cell.specs.declared.once.refused.Refused.TheVariants.{Memory as NoMemory, Full as TooMany}
 use Rattle.once_world.specs.Record.{Begin, DropBegin, DropEnd, Entry, Made}
 use Rattle.once_world.specs.Places.{EndDropped, EndError, EndFull, EndMemory, EndPending, EndValue, Ending}
-use Rattle.once_book.specs.Kept.{Grew}
+use Rattle.once_parts.specs.Kept.{Grew}
 use Rattle.once_parts.specs.Walks.{IsOneCall, Spans, end_of}
 use Rattle.async_once_cell.specs.Tokens.{Agrees, IsSetIn}
 use Rattle.async_once_cell.specs.Views.{CellView, FutureView, Owned, Shared}

@@ -3,7 +3,7 @@
 use Rattle.std.specs.Prelude.{◌≡◌, true, false, IfSome}
 use Rattle.std.specs.Option.{is_some}
 use Rattle.futures.specs.Task.{IsArmed, Keeps}
-use Rattle.once_book.specs.Named.{named_out}
+use Rattle.once_parts.specs.Named.{named_out}
 use Rattle.once_parts.specs.Sides.{Sided}
 use Rattle.async_once_cell.specs.declared.waiting.Polling.{Polling}
 use Rattle.async_once_cell.specs.declared.waiting.Leaving.{Leaving}

@@ -5,7 +5,7 @@ use Rattle.pagebook.specs.Pages.{Book}
 use Rattle.pagebook.specs.Slot.{Placed}
 use Rattle.pagebook.specs.declared.slot.Written.{Written}
 use Rattle.once_world.specs.Record.{Entry}
-use Rattle.once_book.specs.Record.{IsSet}
+use Rattle.once_parts.specs.Record.{IsSet}
 use Rattle.async_once_cell.specs.declared.once.value.Value.{Value}
 use Rattle.async_once_cell.specs.declared.once.value.Value.TheVariants.{Owned as OwnedValue, Shared as SharedValue}
 use Rattle.async_once_cell.specs.declared.once.known.Seen.{Seen}

@@ -2,15 +2,15 @@
 ghost use Rattle.std.specs.Prelude.{◌≡◌, IfErr, IsSome};
 ghost use Rattle.futures.specs.Poll.{IfReady, OnPending};
 ghost use Rattle.futures.specs.Task.{IsArmed, Keeps};
-ghost use Rattle.once_book.specs.Hands.{HasRight, HasRun};
-ghost use Rattle.once_book.specs.Inits.{polled_in};
+ghost use Rattle.once_parts.specs.Hands.{HasRight, HasRun};
+ghost use Rattle.once_parts.specs.Inits.{polled_in};
 ghost use Rattle.once_core.specs.declared.step.Ending.{Ending};
 ghost use Rattle.async_once_cell.specs.Inits.{FailsNoOther, MayFail};
 
 use crate::once::{Failure, Gives};
 use futures::Future;
 use futures::task::{Context, Poll};
-use once_book::{Hand, Pollable, Splits, poll_init};
+use once_parts::{Hand, Pollable, Splits, poll_init};
 use once_core::step::Ending;
 
 /// What a task polls while it has the right. `T` is its value, and `X` says why there is none.

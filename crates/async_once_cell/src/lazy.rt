@@ -11,7 +11,7 @@ mod future;
 use crate::once::{Known, OnceCell, Told};
 pub use future::{LazyFuturePin, LazyFutureUnpin};
 use futures::Future;
-use once_book::Pollable;
+use once_parts::Pollable;
 use std::alloc::AllocGlobal;
 use std::marker::Model;
 use std::sync::{Mutex, Wait};

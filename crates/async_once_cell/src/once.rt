@@ -16,7 +16,7 @@ mod waits;
 pub use future::{InitFuture, Initializing, TryInitFuture};
 use futures::Future;
 pub use known::Known;
-use once_book::Pollable;
+use once_parts::Pollable;
 use once_parts::Inner;
 pub use parker::Parker;
 pub use refused::{Failure, Gives, InitError, Refused};

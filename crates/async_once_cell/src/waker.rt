@@ -5,7 +5,7 @@ ghost use Rattle.async_once_cell.specs.Listed.{WakesTask, whose};
 
 use boxcar::tag::{Names, Tag};
 use futures::task::{Context, Poll, Source, Waker};
-use once_book::{Mark, TaskWaker};
+use once_parts::{Mark, TaskWaker};
 use once_queue::waiters::{Renews, WakerId};
 
 /// The waker of a task, with the number of the task. Two of these are never compared, since a task is listed once.

@@ -9,7 +9,7 @@ use Rattle.once_world.specs.Places.{Finished, Place, Progress, Resting, Step, Un
 use Rattle.once_world.specs.Places.{AtAddOne, AtCountIn, AtCountOut, AtDoorAgain, AtDoorGet}
 use Rattle.once_world.specs.Places.{AtDoorPut, AtDoorTake, AtFast}
 use Rattle.once_world.specs.Places.{AtLeave, AtList, AtLook, AtPut, AtRelease, AtRun, AtStart, AtTryQuick, AtWaitLoad}
-use Rattle.once_book.specs.Own.{Own}
+use Rattle.once_parts.specs.Own.{Own}
 use Rattle.once_parts.specs.Sides.{Sided}
 use Rattle.once_parts.specs.Walks.{FitsAt, MayEnd, Stands}
 

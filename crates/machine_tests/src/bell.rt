@@ -1,7 +1,7 @@
 //! The waker of a task under test.
 ghost use Rattle.std.specs.Prelude.{◌≡◌};
 
-use once_book::{Mark, TaskWaker};
+use once_parts::{Mark, TaskWaker};
 use once_queue::waiters::{Listing, Out, WakerId};
 use std::alloc::{AllocError, Global};
 use std::snapshot::Snapshot;

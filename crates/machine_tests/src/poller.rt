@@ -1,10 +1,10 @@
 //! Where the sides under test poll their inits.
 ghost use Rattle.std.specs.Prelude.{◌≡◌, IsSome};
-ghost use Rattle.once_book.specs.Hands.{HasRight, HasRun};
+ghost use Rattle.once_parts.specs.Hands.{HasRight, HasRun};
 
 use futures::Future;
 use futures::task::{Context, Doorbell, Poll, Queue};
-use once_book::{Hand, Pollable, Splits, poll_init};
+use once_parts::{Hand, Pollable, Splits, poll_init};
 use once_core::step::Polled;
 use std::alloc::AllocGlobal;
 use std::io;

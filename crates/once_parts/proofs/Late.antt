@@ -13,12 +13,12 @@ use Rattle.once_world.proofs.Law.Answered.{set_answered}
 use Rattle.once_world.proofs.Shared.Worlds.{ArePlain}
 use Rattle.once_world.proofs.Told.Log.{log_is_plain}
 use Rattle.once_world.proofs.Told.Value.{set_to}
-use Rattle.once_book.specs.Kept.{IsKept, Sheet, most, pages_in}
-use Rattle.once_book.specs.Record.{IsSet}
-use Rattle.once_book.proofs.Desks.{prefix_on}
-use Rattle.once_book.proofs.Moments.Moves.Words.{some}
-use Rattle.once_book.proofs.Seen.{seen_run, seen_set}
-use Rattle.once_book.proofs.Values.{stays_set}
+use Rattle.once_parts.specs.Kept.{IsKept, Sheet, most, pages_in}
+use Rattle.once_parts.specs.Record.{IsSet}
+use Rattle.once_parts.proofs.Desks.{prefix_on}
+use Rattle.once_parts.proofs.Moments.Moves.Words.{some}
+use Rattle.once_parts.proofs.Seen.{seen_run, seen_set}
+use Rattle.once_parts.proofs.Values.{stays_set}
 use Rattle.once_parts.specs.Walks.{Spans, end_of}
 
 -- the last call of t began when the cell was set, and the cell is set still

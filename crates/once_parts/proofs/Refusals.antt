@@ -8,9 +8,9 @@ use Rattle.once_queue.specs.declared.waiters.Op.TheVariants.{Look, List as ListO
 use Rattle.once_core.specs.Table.{wants_copy}
 use Rattle.once_world.specs.Book.{TaskState}
 use Rattle.once_world.specs.Machine.{AtLook, Step, UnderWay}
-use Rattle.once_book.specs.Steps.{answer_as}
-use Rattle.once_book.specs.Own.{Own}
-use Rattle.once_book.specs.Places.{CanLook, CanRefuse, look_next}
+use Rattle.once_parts.specs.Steps.{answer_as}
+use Rattle.once_parts.specs.Own.{Own}
+use Rattle.once_parts.specs.Places.{CanLook, CanRefuse, look_next}
 use Rattle.once_parts.specs.Handed.{CanSection, DidSection}
 
 module _ {W : Type 0} where

@@ -7,12 +7,12 @@ use Rattle.once_queue.specs.declared.waiters.Answer.TheVariants.{Released, Left}
 use Rattle.once_queue.specs.declared.waiters.Op.{Op}
 use Rattle.once_queue.specs.declared.waiters.Op.TheVariants.{Look, List as ListOwn, Release, Leave}
 use Rattle.once_world.specs.Machine.{Step, claim_entries, is_claim, pass_entries, release_entry}
-use Rattle.once_book.specs.Kept.{has_passed, hands_out}
-use Rattle.once_book.specs.Named.{named_one, named_out}
-use Rattle.once_book.specs.Steps.{answer_as}
-use Rattle.once_book.specs.Own.{Did, Own}
-use Rattle.once_book.specs.Places.{CanLeave, CanList, CanLook, CanRelease}
-use Rattle.once_book.specs.Places.{leave_next, list_next, look_next, release_next}
+use Rattle.once_parts.specs.Kept.{has_passed, hands_out}
+use Rattle.once_parts.specs.Named.{named_one, named_out}
+use Rattle.once_parts.specs.Steps.{answer_as}
+use Rattle.once_parts.specs.Own.{Did, Own}
+use Rattle.once_parts.specs.Places.{CanLeave, CanList, CanLook, CanRelease}
+use Rattle.once_parts.specs.Places.{leave_next, list_next, look_next, release_next}
 
 module _ {W : Type 0} (whose : W → ℕ) where
   -- the tasks whose wakers an answer hands out

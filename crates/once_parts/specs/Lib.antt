@@ -1,3 +1,15 @@
+pub mod Steps
+pub mod Named
+pub mod Kept
+pub mod Own
+pub mod Places
+pub mod Acts
+pub mod Desk
+pub mod Sections
+pub mod Hands
+pub mod Inits
+pub mod Record
+pub mod TwoTasks
 pub mod Handed
 pub mod Shares
 pub mod Parts

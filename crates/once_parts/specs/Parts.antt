@@ -10,12 +10,12 @@ use Rattle.once_core.specs.Table.{Taken, Was, Refused, Ran as Polled, PutValue}
 use Rattle.once_world.specs.Record.{Ran}
 use Rattle.once_world.specs.Book.{refused_step}
 use Rattle.once_world.specs.Machine.{AtDoorPut, AtTryQuick, Step, UnderWay, claim_entries, freed_entries}
-use Rattle.once_book.specs.Own.{Did, Own, Turned, told}
-use Rattle.once_book.specs.Places.{CanLoad, CanFast, CanAdd, CanCountOut, CanCountIn}
-use Rattle.once_book.specs.Places.{CanGet, CanTake, CanRun, CanFill, CanRefuse}
-use Rattle.once_book.specs.Places.{load_next, fast_next, add_next, out_next, in_next}
-use Rattle.once_book.specs.Places.{get_next, put_next, take_next, run_next, fill_next}
-use Rattle.once_book.specs.Places.{numbered, task_run, unnamed}
+use Rattle.once_parts.specs.Own.{Did, Own, Turned, told}
+use Rattle.once_parts.specs.Places.{CanLoad, CanFast, CanAdd, CanCountOut, CanCountIn}
+use Rattle.once_parts.specs.Places.{CanGet, CanTake, CanRun, CanFill, CanRefuse}
+use Rattle.once_parts.specs.Places.{load_next, fast_next, add_next, out_next, in_next}
+use Rattle.once_parts.specs.Places.{get_next, put_next, take_next, run_next, fill_next}
+use Rattle.once_parts.specs.Places.{numbered, task_run, unnamed}
 use Rattle.once_parts.specs.Handed.{CanSection, DidSection}
 
 module _ {W : Type 0} (whose : W → ℕ) where

@@ -1,8 +1,8 @@
 -- What a contract sees of a task that shares a cell.
 use Rattle.pagebook.specs.Slot.{Placed}
 use Rattle.once_parts.specs.declared.shared.Shared.{Shared}
-use Rattle.once_book.specs.Hands.{own_of}
-use Rattle.once_book.specs.Own.{Own}
+use Rattle.once_parts.specs.Hands.{own_of}
+use Rattle.once_parts.specs.Own.{Own}
 
 -- its cell: the book, and the name of the slot
 abbrev pub cell_of : {T W R : Type 0} {g : _} {h : _} → Shared T W R g h → Placed

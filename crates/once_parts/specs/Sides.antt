@@ -4,7 +4,7 @@ use Rattle.once_core.specs.declared.step.Polled.{Polled}
 use Rattle.once_core.specs.declared.step.Polled.TheVariants.{Pending, Value, Error}
 use Rattle.once_queue.specs.declared.waiters.Out.{Out}
 use Rattle.once_core.specs.Steps.{SideTells}
-use Rattle.once_book.specs.Named.{named_out}
+use Rattle.once_parts.specs.Named.{named_out}
 
 -- a side
 pub record Sided : Type 0 where

@@ -10,9 +10,9 @@ use Rattle.once_world.specs.Record.{Begin, Claim, DropEnd, End, Entry, Fill, Fre
 use Rattle.once_world.specs.declared.record.Ran.TheVariants.{Error as RanError}
 use Rattle.once_world.specs.declared.record.Reply.TheVariants.{Error, Full, Memory, Pending, Value}
 use Rattle.once_world.specs.Machine.{progress_entries}
-use Rattle.once_book.specs.Kept.{Grew, entries_of}
-use Rattle.once_book.specs.Steps.{StandsForStep}
-use Rattle.once_book.specs.Own.{Own}
+use Rattle.once_parts.specs.Kept.{Grew, entries_of}
+use Rattle.once_parts.specs.Steps.{StandsForStep}
+use Rattle.once_parts.specs.Own.{Own}
 use Rattle.once_parts.specs.Sides.{Sided}
 
 -- the tasks whose wakers these entries hand out, in their order

@@ -1,17 +1,39 @@
 //! The parts of a cell as threads share them, and whole calls of its tasks.
 //!
-//! [`Inner`] is what the tasks of a cell share: its words, its slot and its lock, with what `once_book` keeps of
-//! them. [`Shared`] is that as one task uses it: each call is one moment of the machine of `once_world`. A
-//! [`Task`] makes whole polls and drops of such steps.
+//! A cell's word, its door and its queue change by steps of threads. Behind them stands a ghost book, whose
+//! pages are what the machine of `once_world` keeps, and whose log is the record of that machine. A [`Hand`]
+//! has what one task holds of the book: each of its calls makes one step of the word, and turns the page as
+//! the machine's table of places says. A [`Desk`] is what lies under the cell's one lock, and does the same
+//! for a section. So the record which a task has seen is a run of the cell, and at each of its beginnings
+//! somebody was called if somebody had to be. The second does not follow from the first.
+//!
+//! [`Inner`] is what the tasks of a cell share: its words, its slot and its lock. [`Shared`] is that as one task
+//! uses it: each call is one moment of the machine. A [`Task`] makes whole polls and drops of such steps.
+//!
+//! Begin with `book`, which ties the rule to the words, and with `act`, which has a name for each move.
 #![tactic(auto)]
 
+pub mod act;
+mod apart;
+pub mod book;
 pub mod calls;
+pub mod desk;
+pub mod hand;
 mod idle;
+pub mod mark;
+pub mod pollable;
+pub mod record;
 pub mod shared;
 pub mod side;
 pub mod task;
+mod under_lock;
 
+pub use book::{CellRule, Leaf, Line, Record};
 pub use calls::one_step;
+pub use desk::Desk;
+pub use hand::Hand;
+pub use mark::{Mark, TaskWaker};
+pub use pollable::{Pollable, Splits, poll_init};
 pub use shared::{Inner, Shared};
 pub use side::TaskSide;
 pub use task::Task;

@@ -11,18 +11,18 @@ ghost use mathlib.Core.List.{IsPrefix};
 ghost use Rattle.once_queue.specs.Room.{listings_of};
 ghost use Rattle.once_core.specs.Table.{next_at};
 ghost use Rattle.once_world.specs.Machine.{AtCountIn, AtDoorPut, UnderWay};
-ghost use Rattle.once_book.specs.Named.{HasRenewed, KeepsOwner};
-ghost use Rattle.once_book.specs.Own.{Did, IsWord};
-ghost use Rattle.once_book.specs.Places.{CanGet, CanRest, CanTake, get_next, numbered, take_next};
+ghost use Rattle.once_parts.specs.Named.{HasRenewed, KeepsOwner};
+ghost use Rattle.once_parts.specs.Own.{Did, IsWord};
+ghost use Rattle.once_parts.specs.Places.{CanGet, CanRest, CanTake, get_next, numbered, take_next};
 ghost use Rattle.once_parts.specs.Handed.{CanSection, DidSection};
-ghost use Rattle.once_book.specs.Hands.{own_of};
-ghost use Rattle.once_book.specs.Record.{IsSet};
+ghost use Rattle.once_parts.specs.Hands.{own_of};
+ghost use Rattle.once_parts.specs.Record.{IsSet};
 
-use once_book::act::Looks;
-use once_book::book::{CellRule, CellSlot, CellWord, Record};
-use once_book::desk::Desk;
-use once_book::hand::Hand;
-use once_book::mark::{Mark, TaskWaker};
+use crate::act::Looks;
+use crate::book::{CellRule, CellSlot, CellWord, Record};
+use crate::desk::Desk;
+use crate::hand::Hand;
+use crate::mark::{Mark, TaskWaker};
 use once_core::parts::{Counted, Parts};
 use once_core::step::{Polled, Side};
 use once_queue::waiters::{Answer, Lists, Op, Renews};
@@ -55,8 +55,8 @@ impl<T, W: TaskWaker + Drop> Inner<T, W> {
     ghost use Rattle.once_queue.specs.Word.{flags_of};
     ghost use Rattle.once_world.specs.Record.{Entry, Made};
     ghost use Rattle.once_world.specs.Machine.{fresh_task};
-    ghost use Rattle.once_book.specs.Kept.{Grew};
-    ghost use Rattle.once_book.specs.Record.{Looked, WasFilled};
+    ghost use Rattle.once_parts.specs.Kept.{Grew};
+    ghost use Rattle.once_parts.specs.Record.{Looked, WasFilled};
     ghost use Rattle.once_parts.specs.Shares.{cell_of, own};
 
     /// A new cell. It takes no memory. No clause says that it is empty.
@@ -247,10 +247,10 @@ impl<'a, 'r, T, W: TaskWaker, R> Shared<'a, 'r, T, W, R> {
     ghost use Rattle.once_core.specs.Steps.{is_resting, step_of_drop};
     ghost use Rattle.once_world.specs.Record.{Begin};
     ghost use Rattle.once_world.specs.Machine.{drop_entries};
-    ghost use Rattle.once_book.specs.Own.{Turned};
-    ghost use Rattle.once_book.specs.Places.{task_begun, task_dropping};
-    ghost use Rattle.once_book.specs.Record.{EndsSet};
-    ghost use Rattle.once_book.specs.Kept.{entries_of};
+    ghost use Rattle.once_parts.specs.Own.{Turned};
+    ghost use Rattle.once_parts.specs.Places.{task_begun, task_dropping};
+    ghost use Rattle.once_parts.specs.Record.{EndsSet};
+    ghost use Rattle.once_parts.specs.Kept.{entries_of};
     ghost use Rattle.once_parts.specs.Shares.{cell_of, own};
 
     /// Begins a poll.

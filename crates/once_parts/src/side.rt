@@ -2,7 +2,7 @@
 ghost use Rattle.std.specs.Prelude.{◌≡◌, true};
 ghost use Rattle.once_parts.specs.Sides.{IsTold, Sided};
 
-use once_book::mark::TaskWaker;
+use crate::mark::TaskWaker;
 use once_core::step::Side;
 
 /// A side that says which task it is of, whether its init is there and gave something, and who was handed to it in

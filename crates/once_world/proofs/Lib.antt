@@ -12,8 +12,8 @@
 --   Rows       worked schedules, computed over the definitions. No clause stands on them
 --   Spoilt     records and logs with one thing wrong are none. No clause stands on them
 --   Shared     what holds of every world to which tasks lead that share a cell
---   Moment     one lemma a moment: the book before one step of one task, and after it. once_book moves its book so
---   Told       what the book of a cell tells at every moment: `is_run` of once_book stands on it
+--   Moment     one lemma a moment: the book before one step of one task, and after it. once_parts moves its book so
+--   Told       what the book of a cell tells at every moment: `is_run` of once_parts stands on it
 --
 -- The other folders are named after files and functions of src. `Answers` has the proofs of goals that are left open
 -- there, and `Invariants` what a loop keeps. Where an answer has one tactic, it is there only so that an edit that

@@ -14,9 +14,9 @@ ghost use Rattle.async_once_cell.specs.Views.{CellView, IsOf, is_shared, known_o
 ghost use Rattle.once_world.specs.Record.{Once};
 ghost use Rattle.once_world.specs.Run.{AtEvery, IsRun, NobodyForgotten};
 ghost use Rattle.once_world.specs.Called.{SomebodyCalled};
-ghost use Rattle.once_book.specs.Kept.{entries_of, most};
+ghost use Rattle.once_parts.specs.Kept.{entries_of, most};
 ghost use Rattle.once_parts.specs.Walks.{end_of};
-ghost use Rattle.once_book.specs.Record.{IsSet, PollsOnce, WasFilled};
+ghost use Rattle.once_parts.specs.Record.{IsSet, PollsOnce, WasFilled};
 
 use super::known::Seen;
 use super::value::Value;
@@ -25,8 +25,8 @@ use crate::init::Init;
 use crate::waiting::Waiting;
 use futures::Future;
 use futures::task::{Context, Poll};
-use once_book::record::{is_run, polls_once};
-use once_book::{Pollable, Record};
+use once_parts::record::{is_run, polls_once};
+use once_parts::{Pollable, Record};
 use std::alloc::AllocGlobal;
 use std::fmt;
 use std::marker::{Model, PhantomData};

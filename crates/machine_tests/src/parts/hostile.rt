@@ -6,7 +6,7 @@ use super::side::{Called, NOBODY, Seen, TestSide};
 use super::walks::{Caller, Cell, ERROR, MEMORY, PENDING, TWO, VALUE};
 use crate::bell::Bell;
 use crate::doubles::text::shows;
-use once_book::{Hand, Mark};
+use once_parts::{Hand, Mark};
 use once_core::step::{Ending, Polled, Side};
 use once_parts::{Task, TaskSide};
 use once_queue::waiters::Out;

@@ -1,7 +1,7 @@
 // What tasks do to a cell, one call after the other, and what the parts take of memory.
 use super::side::TestSide;
 use crate::bell::Bell;
-use once_book::Mark;
+use once_parts::Mark;
 use once_core::parts::{Counted, Parts};
 use once_core::step::Polled;
 use once_parts::{Inner, Shared};

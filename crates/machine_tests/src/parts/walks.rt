@@ -1,6 +1,6 @@
 // Whole calls of tasks, by the values, the bells and the inits that they lead to.
 ghost use Rattle.std.specs.Prelude.{◌≡◌, ◌↔◌, IfOk, false, true};
-ghost use Rattle.once_book.specs.Record.{EndsSet};
+ghost use Rattle.once_parts.specs.Record.{EndsSet};
 
 use super::side::{Called, NOBODY, Seen, TestSide};
 use crate::bell::Bell;

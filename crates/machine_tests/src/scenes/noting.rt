@@ -4,7 +4,7 @@ ghost use Rattle.std.proofs.Common.{rules};
 
 use crate::bell::{Bell, named};
 use crate::poller::{Poller, Scripted, init_that_answers};
-use once_book::{Hand, Mark, Pollable};
+use once_parts::{Hand, Mark, Pollable};
 use once_core::step::{Polled, Side};
 use once_parts::TaskSide;
 use once_queue::waiters::Out;
@@ -47,7 +47,7 @@ pub struct Noting<'r, R> {
 
 impl<'r, R> Model for Noting<'r, R> {
     ghost use Rattle.std.specs.Option.{is_some};
-    ghost use Rattle.once_book.specs.Named.{named_out};
+    ghost use Rattle.once_parts.specs.Named.{named_out};
     ghost use Rattle.once_parts.specs.Sides.{Sided};
 
     ghost Value = { Sided };

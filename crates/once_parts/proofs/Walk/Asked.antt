@@ -7,10 +7,10 @@ use Rattle.once_world.specs.Places.{Progress, Step, Resting, UnderWay, Finished}
 use Rattle.once_core.specs.Steps.{is_value}
 use Rattle.once_world.specs.Places.{Place, AtStart, AtTryQuick, AtDoorGet, AtDoorPut, AtCountIn, AtWaitLoad, AtLook, AtList}
 use Rattle.once_world.specs.Places.{AtRun, AtPut, AtFast, AtAddOne, AtDoorAgain, AtRelease, AtLeave, AtCountOut, AtDoorTake}
-use Rattle.once_book.proofs.Moments.Places.{at_add, at_again, at_count_in, at_count_out, at_fast, at_get, at_leave, at_list}
-use Rattle.once_book.proofs.Moments.Places.{at_load, at_look, at_put, at_quick, at_release, at_run, at_start, at_take, at_value}
-use Rattle.once_book.specs.Own.{Own}
-use Rattle.once_book.specs.Places.{CanAdd, CanCountIn, CanCountOut, CanFast, CanFill, CanGet, CanLeave, CanList, CanLoad, CanLook, CanRelease, CanRun, CanTake}
+use Rattle.once_parts.proofs.Moments.Places.{at_add, at_again, at_count_in, at_count_out, at_fast, at_get, at_leave, at_list}
+use Rattle.once_parts.proofs.Moments.Places.{at_load, at_look, at_put, at_quick, at_release, at_run, at_start, at_take, at_value}
+use Rattle.once_parts.specs.Own.{Own}
+use Rattle.once_parts.specs.Places.{CanAdd, CanCountIn, CanCountOut, CanFast, CanFill, CanGet, CanLeave, CanList, CanLoad, CanLook, CanRelease, CanRun, CanTake}
 use Rattle.once_parts.specs.Sides.{Sided}
 use Rattle.once_parts.specs.Walks.{FitsAt, Stands, StandsOn, the_queue}
 use Rattle.once_parts.specs.Parts.{parts_can}

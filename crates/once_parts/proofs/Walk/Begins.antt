@@ -8,14 +8,14 @@ use Rattle.once_world.specs.Places.{EndDropped, Finished, More, Rest, RestRun, R
 use Rattle.once_world.specs.Record.{Begin, DropBegin, DropEnd, Entry}
 use Rattle.once_world.specs.Book.{TaskState}
 use Rattle.once_world.specs.Machine.{drop_entries}
-use Rattle.once_book.specs.Kept.{Grew, entries_of}
-use Rattle.once_book.specs.Steps.{step_as}
-use Rattle.once_book.proofs.Moments.Steps.{drop_as, poll_as}
-use Rattle.once_book.specs.Own.{Own, Turned}
-use Rattle.once_book.specs.Places.{task_begun, task_dropping}
+use Rattle.once_parts.specs.Kept.{Grew, entries_of}
+use Rattle.once_parts.specs.Steps.{step_as}
+use Rattle.once_parts.proofs.Moments.Steps.{drop_as, poll_as}
+use Rattle.once_parts.specs.Own.{Own, Turned}
+use Rattle.once_parts.specs.Places.{task_begun, task_dropping}
 use Rattle.once_parts.specs.Sides.{HasClosed, Sided}
 use Rattle.once_parts.specs.Walks.{Fits, GoesOn, IsCall, Rests, Stands, the_queue}
-use Rattle.once_book.proofs.Desks.{prefix_on}
+use Rattle.once_parts.proofs.Desks.{prefix_on}
 use Rattle.once_parts.proofs.Walk.Fits.{leave_fits, release_fits}
 
 module _ {W : Type 0} (whose : W → ℕ) (x : Sided) (v w : Own) (s : Step W ⊤) (number : x.number ≡ v.number) (none : x.woke ≡ []) where

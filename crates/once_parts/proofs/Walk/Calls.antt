@@ -7,7 +7,7 @@ use Rattle.once_core.specs.Table.{Advances, Asks}
 use Rattle.once_world.specs.Places.{Finished, More, Progress, Resting, Step, UnderWay}
 use Rattle.once_core.specs.Chain.{Makes}
 use Rattle.once_core.specs.Chain.Makes.{none, next}
-use Rattle.once_book.specs.Own.{Own}
+use Rattle.once_parts.specs.Own.{Own}
 use Rattle.once_parts.specs.Walks.{Stands}
 use Rattle.once_parts.proofs.Walk.Logs.{walked_none}
 use Rattle.once_parts.specs.Parts.{parts_can, parts_did}

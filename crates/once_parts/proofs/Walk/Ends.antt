@@ -7,8 +7,8 @@ use Rattle.once_world.specs.Places.{EndDropped, EndError, EndFull, EndMemory, En
 use Rattle.once_world.specs.Record.{Entry}
 use Rattle.once_world.specs.declared.record.Ran.{Ran as Answer}
 use Rattle.once_world.specs.Machine.{end_entry, progress_entries}
-use Rattle.once_book.specs.Kept.{Grew}
-use Rattle.once_book.specs.Own.{Own}
+use Rattle.once_parts.specs.Kept.{Grew}
+use Rattle.once_parts.specs.Own.{Own}
 use Rattle.once_parts.specs.Sides.{Sided}
 use Rattle.once_parts.specs.Walks.{Fits, MayEnd, Rests, Stands, Walked, end_of}
 

@@ -10,7 +10,7 @@ use Rattle.once_core.specs.Table.{after_copy, after_count_in, after_count_out, a
 use Rattle.once_core.specs.Steps.{leave_place, release_place}
 use Rattle.once_core.specs.Table.{after_list, after_load, after_look, after_quick, after_run, after_start, next_at, next_end}
 use Rattle.once_world.specs.declared.record.Ran.TheVariants.{Error as RanError}
-use Rattle.once_book.specs.Own.{Own}
+use Rattle.once_parts.specs.Own.{Own}
 use Rattle.once_parts.specs.Sides.{Sided}
 use Rattle.once_parts.specs.Walks.{Fits, FitsAt, HasBegun, MayEnd}
 

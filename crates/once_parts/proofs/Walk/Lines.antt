@@ -26,18 +26,18 @@ use Rattle.once_world.specs.declared.record.Ran.{Ran as InitAnswer}
 use Rattle.once_world.specs.declared.record.Ran.TheVariants.{Error as RanError, Value as RanValue, Pending as RanPending}
 use Rattle.once_world.specs.Book.{TaskState, refused_step}
 use Rattle.once_world.specs.Machine.{claim_entries, freed_entries, is_claim, pass_entries, release_entry, kept_after}
-use Rattle.once_book.specs.Steps.{answer_as, next_as}
-use Rattle.once_book.proofs.Moments.Places.{at_add, at_again, at_count_in, at_count_out, at_fast, at_get, at_leave, at_list, at_load, at_look, at_release, at_run, at_start, at_take, at_value}
-use Rattle.once_book.proofs.Moments.Steps.{again_as, copy_as, count_in_as, count_out_as, fast_as, get_as, list_as, load_as, look_as, put_as, quick_as, release_as, run_as, start_as}
-use Rattle.once_book.specs.Own.{Did, Own, Turned, told}
-use Rattle.once_book.specs.Places.{add_next, fast_next, fill_next, get_next, in_next, leave_next, list_next, load_next, look_next, numbered, out_next, release_next, run_next, take_next, unnamed}
+use Rattle.once_parts.specs.Steps.{answer_as, next_as}
+use Rattle.once_parts.proofs.Moments.Places.{at_add, at_again, at_count_in, at_count_out, at_fast, at_get, at_leave, at_list, at_load, at_look, at_release, at_run, at_start, at_take, at_value}
+use Rattle.once_parts.proofs.Moments.Steps.{again_as, copy_as, count_in_as, count_out_as, fast_as, get_as, list_as, load_as, look_as, put_as, quick_as, release_as, run_as, start_as}
+use Rattle.once_parts.specs.Own.{Did, Own, Turned, told}
+use Rattle.once_parts.specs.Places.{add_next, fast_next, fill_next, get_next, in_next, leave_next, list_next, load_next, look_next, numbered, out_next, release_next, run_next, take_next, unnamed}
 use Rattle.once_parts.specs.Handed.{handed_in}
 use Rattle.once_parts.specs.Sides.{IsTold, Sided}
-use Rattle.once_book.specs.Kept.{entries_of}
+use Rattle.once_parts.specs.Kept.{entries_of}
 use Rattle.once_parts.specs.Walks.{AreMid, Fits, GoesOn, HasBegun, MayEnd, Stands, handed, the_queue}
 use Rattle.once_parts.proofs.Walk.Fits.{again_fits, begun_on, copy_fits, count_in_fits, fast_fits, fill_fits, get_fits, list_fits}
 use Rattle.once_parts.proofs.Walk.Fits.{load_fits, look_fits, may_end_on, out_fits, put_fits, quick_fits, run_fits, start_fits, take_fits}
-use Rattle.once_book.proofs.Desks.{prefix_on}
+use Rattle.once_parts.proofs.Desks.{prefix_on}
 use Rattle.once_parts.proofs.Walk.Logs.{grew_on}
 use Rattle.once_parts.specs.Parts.{parts_did}
 use Rattle.once_parts.proofs.Walk.Parts.{Went, quiet, went_by}

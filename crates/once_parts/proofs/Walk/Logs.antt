@@ -8,11 +8,11 @@ use Rattle.once_world.specs.Record.{Entry, handed_by}
 use Rattle.once_world.specs.declared.record.Ran.{Ran as Answer}
 use Rattle.once_world.specs.Book.{TaskState}
 use Rattle.once_world.specs.Machine.{progress_entries}
-use Rattle.once_book.specs.Kept.{Grew, entries_of}
-use Rattle.once_book.specs.Own.{Own, Turned, told}
+use Rattle.once_parts.specs.Kept.{Grew, entries_of}
+use Rattle.once_parts.specs.Own.{Own, Turned, told}
 use Rattle.once_parts.specs.Sides.{Sided}
 use Rattle.once_parts.specs.Walks.{AreMid, IsCall, Walked, handed}
-use Rattle.once_book.proofs.Desks.{prefix_on}
+use Rattle.once_parts.proofs.Desks.{prefix_on}
 
 -- a log is a beginning of itself
 pub here : (log : List Entry) → IsPrefix log log

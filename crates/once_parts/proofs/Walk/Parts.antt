@@ -7,9 +7,9 @@ use Rattle.once_core.specs.Table.{Next}
 use Rattle.once_world.specs.Places.{More, Progress, Step}
 use Rattle.once_world.specs.Record.{Entry}
 use Rattle.once_world.specs.Book.{TaskState}
-use Rattle.once_book.specs.Steps.{next_as, step_as}
-use Rattle.once_book.proofs.Moments.Steps.{stands_after}
-use Rattle.once_book.specs.Own.{Own, Turned, told}
+use Rattle.once_parts.specs.Steps.{next_as, step_as}
+use Rattle.once_parts.proofs.Moments.Steps.{stands_after}
+use Rattle.once_parts.specs.Own.{Own, Turned, told}
 use Rattle.once_parts.specs.Sides.{Sided}
 use Rattle.once_parts.specs.Walks.{AreMid, Fits, Stands, StandsOn, Walked, handed, the_queue}
 use Rattle.once_parts.proofs.Walk.Logs.{walked_by, walked_on}

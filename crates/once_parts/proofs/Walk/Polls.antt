@@ -9,9 +9,9 @@ use Rattle.once_world.specs.Places.{EndDropped, EndError, EndFull, EndMemory, En
 use Rattle.once_world.specs.Record.{Begin, Entry}
 use Rattle.once_parts.specs.declared.idle.Idle.{Idle}
 use Rattle.once_parts.specs.Idle.{is_over, step_of}
-use Rattle.once_book.specs.Kept.{Grew, entries_of}
-use Rattle.once_book.specs.Own.{Own, Turned}
-use Rattle.once_book.specs.Places.{task_begun}
+use Rattle.once_parts.specs.Kept.{Grew, entries_of}
+use Rattle.once_parts.specs.Own.{Own, Turned}
+use Rattle.once_parts.specs.Places.{task_begun}
 use Rattle.once_parts.specs.Parts.{parts_did}
 use Rattle.once_parts.specs.Sides.{IsTold, Sided}
 use Rattle.once_parts.specs.Walks.{IsCall, Spans, Stands, StandsOn, Walked, end_of, handed}

@@ -3,7 +3,7 @@ use Rattle.std.proofs.Common.{◌≡◌, ℕ, List, [], ◌∷◌, Option, sym, 
 use Rattle.std.proofs.lemmas.Bool.{false≢true}
 use Rattle.once_core.specs.declared.step.Ending.{Ending}
 use Rattle.once_world.specs.Record.{Entry}
-use Rattle.once_book.specs.Kept.{Grew}
+use Rattle.once_parts.specs.Kept.{Grew}
 use Rattle.once_parts.specs.Walks.{end_of}
 use Rattle.async_once_cell.specs.Polls.{ending_by}
 use Rattle.async_once_cell.specs.Inits.{MayFail}

@@ -1,5 +1,5 @@
 -- A look keeps the rule of the book.
-use Rattle.once_book.proofs.Values.{look_keeps}
+use Rattle.once_parts.proofs.Values.{look_keeps}
 use Rattle.once_parts.proofs.shared.Inner.load.Goals as goal
 
 pub load-requires-clause-moves : goal.load-requires-clause-moves

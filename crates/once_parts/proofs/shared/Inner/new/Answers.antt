@@ -1,4 +1,4 @@
-use Rattle.once_book.proofs.Values.{opens_kept}
+use Rattle.once_parts.proofs.Values.{opens_kept}
 use Rattle.once_parts.proofs.shared.Inner.new.Goals as goal
 
 pub open-blanks-requires : goal.open-blanks-requires

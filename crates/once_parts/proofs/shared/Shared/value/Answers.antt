@@ -1,4 +1,4 @@
-use Rattle.once_book.proofs.Values.{ended_sure}
+use Rattle.once_parts.proofs.Values.{ended_sure}
 use Rattle.once_parts.proofs.shared.Shared.value.Goals as goal
 
 pub get-requires-clause-sure : goal.get-requires-clause-sure

@@ -1,10 +1,10 @@
 -- A task that was not counted in for another's sake stands where it stood, now as before.
 use Rattle.std.proofs.Common.{◌≡◌, ℕ, rules, [], ◌∙◌, subst}
 use Rattle.once_core.specs.Table.{finds_ready, is_in}
-use Rattle.once_book.specs.Kept.{entries_of}
-use Rattle.once_book.specs.Own.{Own, Stayed}
-use Rattle.once_book.specs.Places.{in_next}
-use Rattle.once_book.proofs.Desks.{did_after, prefix_on}
+use Rattle.once_parts.specs.Kept.{entries_of}
+use Rattle.once_parts.specs.Own.{Own, Stayed}
+use Rattle.once_parts.specs.Places.{in_next}
+use Rattle.once_parts.proofs.Desks.{did_after, prefix_on}
 use Rattle.once_parts.proofs.shared.SharedParts.count_in.Goals as goal
 
 -- who stood still twice

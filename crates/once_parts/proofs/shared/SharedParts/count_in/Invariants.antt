@@ -1,5 +1,5 @@
 use Rattle.std.proofs.Common.{◌≡◌}
-use Rattle.once_book.specs.Own.{Stayed}
+use Rattle.once_parts.specs.Own.{Stayed}
 use Rattle.once_parts.specs.Shares.{cell_of, own}
 use Rattle.once_parts.proofs.shared.SharedParts.count_in.Given as goal
 

@@ -1,7 +1,7 @@
 -- A task that found no queue left it where it was, so what it takes under the lock is all of its step.
 use Rattle.std.proofs.Common.{rules, []}
-use Rattle.once_book.specs.Places.{take_next}
-use Rattle.once_book.proofs.Desks.{did_after}
+use Rattle.once_parts.specs.Places.{take_next}
+use Rattle.once_parts.proofs.Desks.{did_after}
 use Rattle.once_parts.proofs.shared.SharedParts.door_take.Goals as goal
 
 pub returns : goal.returns

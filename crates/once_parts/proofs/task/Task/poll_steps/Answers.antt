@@ -4,8 +4,8 @@ use Rattle.std.specs.Prelude.{⊤}
 use Rattle.once_core.specs.Steps.{step_of_poll}
 use Rattle.once_world.specs.Places.{More, RestStart, Resting, Step}
 use Rattle.once_world.specs.Record.{Begin}
-use Rattle.once_book.specs.Own.{Own, Turned}
-use Rattle.once_book.specs.Places.{task_begun}
+use Rattle.once_parts.specs.Own.{Own, Turned}
+use Rattle.once_parts.specs.Places.{task_begun}
 use Rattle.once_parts.specs.declared.idle.Idle.{Idle}
 use Rattle.once_parts.specs.Idle.{is_over, step_of}
 use Rattle.once_parts.specs.Sides.{Sided}

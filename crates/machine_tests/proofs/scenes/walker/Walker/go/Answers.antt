@@ -2,7 +2,7 @@
 use Rattle.std.proofs.Common.{◌≡◌, Bool, true, arith, sym, subst}
 use Rattle.std.specs.Prelude.{⊤}
 use Rattle.std.proofs.lemmas.Bool.{false≢true}
-use Rattle.once_book.specs.Own.{Own}
+use Rattle.once_parts.specs.Own.{Own}
 use Rattle.once_core.specs.Steps.{in_call, is_resting}
 use Rattle.once_world.specs.Places.{Finished, Progress, Resting, Step, UnderWay}
 use Rattle.once_parts.specs.Shares.{own}

@@ -1,0 +1,189 @@
+-- Each moment of a task alone keeps the rule of the book, and tells what it is to tell.
+use Rattle.std.proofs.Common.{◌≡◌, ◌<◌, ◌+◌, ◌-◌, ◌%◌, ◌^◌, ◌==◌, ℕ, Bool, true, false, cond, List, [], ◌∷◌, refl, sym, subst, arith}
+use Rattle.std.specs.Prelude.{nat_lt}
+use Rattle.std.proofs.lemmas.Bool.Decides.{nat_tests}
+use prog.Atomic.{either}
+use Rattle.pagebook.specs.Pages.{Held, Moves, Notes, View}
+use Rattle.once_queue.specs.Word.{flags_of}
+use Rattle.once_core.specs.declared.step.Polled.{Polled}
+use Rattle.once_core.specs.declared.step.Polled.TheVariants.{Pending, Value, Error}
+use Rattle.once_queue.specs.Word.{is_ready_bit, is_zero}
+use Rattle.once_core.specs.Steps.{is_resting, step_of_drop}
+use Rattle.once_core.specs.Table.{after_count_out, after_fast, after_count_in, after_load, after_quick, after_run, after_start, closing_end, next_at, next_end}
+use Rattle.once_world.specs.Record.{Begin, Entry, Ran}
+use Rattle.once_world.specs.declared.record.Ran.TheVariants.{Pending as RanPending, Value as RanValue, Error as RanError}
+use Rattle.once_world.specs.Book.{TaskState, refused_step}
+use Rattle.once_world.specs.Machine.{AtAddOne, AtCountIn, AtCountOut, AtDoorPut, AtDoorTake, AtFast, AtList, AtRun, AtStart}
+use Rattle.once_world.specs.Machine.{AtDoorAgain, AtTryQuick, AtWaitLoad, EndMemory, Ending, Step, UnderWay, claim_entries, freed_entries, is_value, kept_after}
+use Rattle.once_parts.specs.Kept.{Adds, Grew, IsKept, Leaves, Sheet, hand, most, sheets}
+use Rattle.once_parts.proofs.Moments.Moves.Words.{add_moves, fast_moves, full_moves, full_page, full_told, in_moves, in_page}
+use Rattle.once_parts.proofs.Moments.Moves.Words.{none_moves, none_page, none_told, out_moves, quick_moves, start_moves, wait_moves}
+use Rattle.once_parts.proofs.Moments.Moves.Calls.{begun_notes, copy_notes, dropped_notes, made_notes, ran_notes, unput_notes}
+use Rattle.once_parts.specs.declared.act.Act.TheVariants.{Load, Quick, Fast, AddOne, CountOut, Full, Enter, NonePut, Begin as BeginPoll, BeginDrop, Ran as InitRan, Refused, Unput}
+use Rattle.once_parts.specs.Own.{IsHand, number_in, task_in, told}
+use Rattle.once_parts.specs.Acts.{Goes, Makes, Stays, Tells, Turns}
+use Rattle.once_parts.specs.Places.{CanAdd, CanCountIn, CanCountOut, CanFast, CanLoad, CanRefuse, CanRun, CanTake}
+use Rattle.once_parts.specs.Places.{add_next, fast_next, in_next, load_next, out_next, run_next, take_next, unnamed}
+use Rattle.once_parts.proofs.Moments.Mine.{claim_of, drop_of, freed_of, one_of, told_of}
+use Rattle.once_queue.proofs.Listing.Members.{eqb_self}
+use Rattle.once_parts.proofs.Tells.{leaves_stays, leaves_turns, moves_tell, notes_tell}
+
+module _ (seen : List Entry) (t : ℕ) (x : TaskState) where
+  -- the view of t
+  abbrev own : View Entry Sheet
+  own = (seen, sheets seen (hand t x))
+
+  -- a load
+  load_by : (s : Step ℕ ℕ) → x.step ≡ s → CanLoad s → Moves IsKept own 0 (λ n. n) (λ n w. Goes own [] (load_next (flags_of n) s) w)
+  load_by (UnderWay AtStart) at can = moves_tell IsKept own 0 (λ n. n) _ _ (λ n w r. leaves_turns seen t x _ _ w (told_of t x.kept (after_start (flags_of n).ready (is_zero (flags_of n))) [] tt) r.1) (start_moves seen t x at)
+  load_by (UnderWay (AtWaitLoad q k)) at can = moves_tell IsKept own 0 (λ n. n) _ _ (λ n w r. leaves_turns seen t x _ _ w (told_of t x.kept (after_load (flags_of n).ready q k) [] tt) r.1) (wait_moves seen t x q k at)
+  load_by _ at can = absurd can
+
+  -- the quick claim
+  quick_own : x.step ≡ UnderWay AtTryQuick → Moves IsKept own 0 (λ n. either (n == 0) (2 ^ 62) n) (Tells Quick own)
+  quick_own at = moves_tell IsKept own 0 (λ n. either (n == 0) (2 ^ 62) n) _ _ (λ n w r. leaves_turns seen t x _ _ w (told_of t x.kept (after_quick (n == 0)) (claim_entries (n == 0) t) (claim_of t (n == 0))) r.1) (quick_moves seen t x at)
+
+  -- the fast release, by the value of its ending
+  fast_as : (r : Bool) (s : Step ℕ ℕ) → x.step ≡ s → CanFast r s
+      → Moves IsKept own 0 (λ n. either (n == 2 ^ 62) (cond r (2 ^ 63) 0) n) (λ n w. Goes own (freed_entries (n == 2 ^ 62) t x.kept) (fast_next (n == 2 ^ 62) s) w)
+  fast_as r (UnderWay (AtFast e)) at can =
+      subst (λ v. Moves IsKept own 0 (λ n. either (n == 2 ^ 62) (cond v (2 ^ 63) 0) n) (λ n w. Goes own (freed_entries (n == 2 ^ 62) t x.kept) (after_fast (n == 2 ^ 62) (is_value e) e) w)) can
+      (moves_tell IsKept own 0 (λ n. either (n == 2 ^ 62) (cond (is_value e) (2 ^ 63) 0) n) _ _ (λ n w r. leaves_turns seen t x _ _ w (told_of t x.kept (after_fast (n == 2 ^ 62) (is_value e) e) (freed_entries (n == 2 ^ 62) t x.kept) (freed_of t (n == 2 ^ 62) x.kept)) r.1) (fast_moves seen t x e at))
+  fast_as r _ at can = absurd can
+
+  -- the addition
+  add_by : (s : Step ℕ ℕ) → x.step ≡ s → CanAdd s → Moves IsKept own 0 (λ n. (n + 1) % 2 ^ 64) (λ n w. Goes own [] (add_next s) w)
+  add_by (UnderWay (AtAddOne e)) at can = moves_tell IsKept own 0 (λ n. (n + 1) % 2 ^ 64) _ _ (λ n w r. leaves_turns seen t x _ _ w (told_of t x.kept (next_at (AtDoorAgain e)) [] tt) r.1) (add_moves seen t x e at)
+  add_by _ at can = absurd can
+
+  -- who counts itself out was counted
+  counted : (n : ℕ) → 0 < (flags_of n).count → 0 < n
+  counted n l = omega (arith, l)
+
+  -- the subtraction
+  out_by : (s : Step ℕ ℕ) → x.step ≡ s → CanCountOut s → Moves IsKept own 0 (λ n. (n + (2 ^ 64 - 1)) % 2 ^ 64) (λ n w. (0 < n) × Goes own [] (out_next (flags_of (n - 1)) s) w)
+  out_by (UnderWay (AtCountOut e)) at can =
+      moves_tell IsKept own 0 (λ n. (n + (2 ^ 64 - 1)) % 2 ^ 64) _ _ (λ n w r. (counted n r.0, leaves_turns seen t x _ _ w (told_of t x.kept (after_count_out (is_ready_bit (flags_of (n - 1))) e) [] tt) r.1)) (out_moves seen t x e at)
+  out_by _ at can = absurd can
+
+  -- a load before an exchange, by whether there is room, and whether the value is set
+  full_tells : (q n : ℕ) (b r : Bool) (w : View Entry Sheet) → (flags_of n).ready ≡ r → Leaves seen (hand t x) (full_page seen t x q n b) (full_told seen t x q n b) w
+      → cond b (Stays own w) (Goes own [] (in_next false r (UnderWay (AtCountIn q))) w)
+  full_tells q n true r w e l = leaves_stays seen t x w l
+  full_tells q n false r w e l = subst (λ b. Goes own [] (after_count_in false b q) w) e (leaves_turns seen t x _ _ w (told_of t x.kept (after_count_in false (flags_of n).ready q) [] tt) l)
+
+  -- that load
+  full_by : (s : Step ℕ ℕ) → x.step ≡ s → CanCountIn s
+      → Moves IsKept own 0 (λ n. n) (λ n w. cond (nat_lt (flags_of n).count most) (Stays own w) (Goes own [] (in_next false (flags_of n).ready s) w))
+  full_by (UnderWay (AtCountIn q)) at can = moves_tell IsKept own 0 (λ n. n) _ _ (λ n w r. full_tells q n (nat_lt (flags_of n).count most) (flags_of n).ready w refl r.1) (full_moves seen t x q at)
+  full_by _ at can = absurd can
+
+  -- who counts itself in records nothing
+  in_told : (r : Bool) (q : ℕ) → told t x.kept (after_count_in true r q) [] ≡ []
+  in_told true q = refl
+  in_told false q = refl
+
+  -- an exchange, by whether it was done
+  enter_tells : (q m : ℕ) (b : Bool) (w : View Entry Sheet) → Leaves seen (hand t x) (in_page seen t x q m b) [] w
+      → cond b (Goes own [] (in_next true (flags_of m).ready (UnderWay (AtCountIn q))) w) (Stays own w)
+  enter_tells q m true w l =
+      let none = sym (in_told (flags_of m).ready q) in
+      leaves_turns seen t x _ _ w (told_of t x.kept (after_count_in true (flags_of m).ready q) [] tt)
+      (l.0, subst (λ es. Grew es seen w.0) none l.1, subst (λ es. Adds seen (hand t x) es w.0) none l.2)
+  enter_tells q m false w l = leaves_stays seen t x w l
+
+  -- that exchange
+  enter_by : (m : ℕ) (s : Step ℕ ℕ) → x.step ≡ s → CanCountIn s → (flags_of m).count < most
+      → Moves IsKept own 0 (λ n. either (n == m) (m + 1) n) (λ n w. cond (n == m) (Goes own [] (in_next true (flags_of m).ready s) w) (Stays own w))
+  enter_by m (UnderWay (AtCountIn q)) at can l = moves_tell IsKept own 0 (λ n. either (n == m) (m + 1) n) _ _ (λ n w r. enter_tells q m (n == m) w r.1) (in_moves seen t x q m at l)
+  enter_by m _ at can l = absurd can
+
+  -- the load of the word that says whether a queue was ever put
+  none_tells : (e : Ending) (b : Bool) (w : View Entry Sheet) → Leaves seen (hand t x) (none_page seen t x e b) (none_told seen t x e b) w
+      → cond b (Goes own [] (take_next (UnderWay (AtDoorTake e))) w) (Stays own w)
+  none_tells e true w l = leaves_turns seen t x _ _ w (told_of t x.kept (next_end e) [] tt) l
+  none_tells e false w l = leaves_stays seen t x w l
+
+  -- by the place
+  none_by : (s : Step ℕ ℕ) → x.step ≡ s → CanTake s → Moves IsKept own 1 (λ n. n) (λ n w. cond (n == 0) (Goes own [] (take_next s) w) (Stays own w))
+  none_by (UnderWay (AtDoorTake e)) at can = moves_tell IsKept own 1 (λ n. n) _ _ (λ n w r. none_tells e (n == 0) w r) (none_moves seen t x e at)
+  none_by _ at can = absurd can
+
+  -- the init answers
+  ran_by : (a : Polled) (s : Step ℕ ℕ) → x.step ≡ s → CanRun s
+      → Notes IsKept own (λ w. Turns own (record x { step = (run_next a s).step; kept = kept_after (unnamed a) x.kept })
+      (told t (kept_after (unnamed a) x.kept) (run_next a s) (Ran t (unnamed a) ∷ [])) w)
+  ran_by Pending (UnderWay (AtRun by)) at can = notes_tell IsKept own _ _ (λ w r. leaves_turns seen t x _ _ w (told_of t (kept_after RanPending x.kept) (after_run Pending by) (Ran t RanPending ∷ []) (one_of t (Ran t RanPending) (eqb_self t))) r.1) (ran_notes seen t x by RanPending tt at)
+  ran_by Value (UnderWay (AtRun by)) at can = notes_tell IsKept own _ _ (λ w r. leaves_turns seen t x _ _ w (told_of t (kept_after (RanValue 0) x.kept) (after_run Value by) (Ran t (RanValue 0) ∷ []) (one_of t (Ran t (RanValue 0)) (eqb_self t))) r.1) (ran_notes seen t x by (RanValue 0) refl at)
+  ran_by Error (UnderWay (AtRun by)) at can = notes_tell IsKept own _ _ (λ w r. leaves_turns seen t x _ _ w (told_of t (kept_after (RanError 0) x.kept) (after_run Error by) (Ran t (RanError 0) ∷ []) (one_of t (Ran t (RanError 0)) (eqb_self t))) r.1) (ran_notes seen t x by (RanError 0) tt at)
+  ran_by a _ at can = absurd can
+
+  -- the copy is refused
+  refused_by : (s : Step ℕ ℕ) → x.step ≡ s → CanRefuse s → Notes IsKept own (λ w. Turns own (record x { step = refused_step s }) [] w)
+  refused_by (UnderWay (AtList q k v)) at can = notes_tell IsKept own _ _ (λ w r. leaves_turns seen t x _ _ w tt r.1) (copy_notes seen t x q v k at)
+  refused_by _ at can = absurd can
+
+-- what is shown for a task's hand holds of each hand that is one
+module _ (seen : List Entry) (h : Held Sheet) (is : IsHand seen h) where
+  -- of a move
+  of_hand : (k : ℕ) (f : ℕ → ℕ) (then : View Entry Sheet → ℕ → View Entry Sheet → Type 0)
+      → Moves IsKept (seen, sheets seen (hand (number_in h) (task_in h))) k f (then (seen, sheets seen (hand (number_in h) (task_in h)))) → Moves IsKept (seen, h) k f (then (seen, h))
+  of_hand k f then m = subst (λ g. Moves IsKept (seen, g) k f (then (seen, g))) (sym is) m
+
+  -- and of a note
+  of_noting : (then : View Entry Sheet → View Entry Sheet → Type 0)
+      → Notes IsKept (seen, sheets seen (hand (number_in h) (task_in h))) (then (seen, sheets seen (hand (number_in h) (task_in h)))) → Notes IsKept (seen, h) (then (seen, h))
+  of_noting then m = subst (λ g. Notes IsKept (seen, g) (then (seen, g))) (sym is) m
+
+  pub load_keeps : CanLoad (task_in h).step → Moves IsKept (seen, h) 0 (λ n. n) (Tells Load (seen, h))
+  load_keeps can = of_hand 0 (λ n. n) (Tells Load) (load_by seen (number_in h) (task_in h) (task_in h).step refl can)
+
+  pub quick_keeps : (task_in h).step ≡ UnderWay AtTryQuick → Moves IsKept (seen, h) 0 (λ n. either (n == 0) (2 ^ 62) n) (Tells Quick (seen, h))
+  quick_keeps at = of_hand 0 (λ n. either (n == 0) (2 ^ 62) n) (Tells Quick) (quick_own seen (number_in h) (task_in h) at)
+
+  pub fast_keeps : (r : Bool) → CanFast r (task_in h).step → Moves IsKept (seen, h) 0 (λ n. either (n == 2 ^ 62) (cond r (2 ^ 63) 0) n) (Tells Fast (seen, h))
+  fast_keeps r can = of_hand 0 (λ n. either (n == 2 ^ 62) (cond r (2 ^ 63) 0) n) (Tells Fast) (fast_as seen (number_in h) (task_in h) r (task_in h).step refl can)
+
+  pub add_keeps : CanAdd (task_in h).step → Moves IsKept (seen, h) 0 (λ n. (n + 1) % 2 ^ 64) (Tells AddOne (seen, h))
+  add_keeps can = of_hand 0 (λ n. (n + 1) % 2 ^ 64) (Tells AddOne) (add_by seen (number_in h) (task_in h) (task_in h).step refl can)
+
+  pub out_keeps : CanCountOut (task_in h).step → Moves IsKept (seen, h) 0 (λ n. (n + (2 ^ 64 - 1)) % 2 ^ 64) (Tells CountOut (seen, h))
+  out_keeps can = of_hand 0 (λ n. (n + (2 ^ 64 - 1)) % 2 ^ 64) (Tells CountOut) (out_by seen (number_in h) (task_in h) (task_in h).step refl can)
+
+  pub full_keeps : CanCountIn (task_in h).step → Moves IsKept (seen, h) 0 (λ n. n) (Tells Full (seen, h))
+  full_keeps can = of_hand 0 (λ n. n) (Tells Full) (full_by seen (number_in h) (task_in h) (task_in h).step refl can)
+
+  pub enter_keeps : (m : ℕ) → CanCountIn (task_in h).step → (flags_of m).count < most → Moves IsKept (seen, h) 0 (λ n. either (n == m) (m + 1) n) (Tells (Enter m) (seen, h))
+  enter_keeps m can l = of_hand 0 (λ n. either (n == m) (m + 1) n) (Tells (Enter m)) (enter_by seen (number_in h) (task_in h) m (task_in h).step refl can l)
+
+  pub none_keeps : CanTake (task_in h).step → Moves IsKept (seen, h) 1 (λ n. n) (Tells NonePut (seen, h))
+  none_keeps can = of_hand 1 (λ n. n) (Tells NonePut) (none_by seen (number_in h) (task_in h) (task_in h).step refl can)
+
+  pub begin_keeps : is_resting (task_in h).step ≡ true → Notes IsKept (seen, h) (Tells BeginPoll (seen, h) 0)
+  begin_keeps r = of_noting (λ v. Tells BeginPoll v 0)
+      (notes_tell IsKept _ _ _ (λ w l. leaves_turns seen (number_in h) (task_in h) _ _ w (one_of (number_in h) (Begin (number_in h) (number_in h)) (eqb_self (number_in h))) l.1) (begun_notes seen (number_in h) (task_in h) r))
+
+  pub drop_keeps : is_resting (task_in h).step ≡ true → Notes IsKept (seen, h) (Tells BeginDrop (seen, h) 0)
+  drop_keeps r = of_noting (λ v. Tells BeginDrop v 0)
+      (notes_tell IsKept _ _ _ (λ w l. leaves_turns seen (number_in h) (task_in h) _ _ w (drop_of (number_in h) (step_of_drop (task_in h).step)) l.1) (dropped_notes seen (number_in h) (task_in h) r))
+
+  pub ran_keeps : (a : Polled) → CanRun (task_in h).step → Notes IsKept (seen, h) (Tells (InitRan a) (seen, h) 0)
+  ran_keeps a can = of_noting (λ v. Tells (InitRan a) v 0) (ran_by seen (number_in h) (task_in h) a (task_in h).step refl can)
+
+  pub refused_keeps : CanRefuse (task_in h).step → Notes IsKept (seen, h) (Tells Refused (seen, h) 0)
+  refused_keeps can = of_noting (λ v. Tells Refused v 0) (refused_by seen (number_in h) (task_in h) (task_in h).step refl can)
+
+  -- where memory for a queue is refused
+  pub unput_keeps : (task_in h).step ≡ UnderWay AtDoorPut → Notes IsKept (seen, h) (Tells Unput (seen, h) 0)
+  unput_keeps at = of_noting (λ v. Tells Unput v 0)
+      (notes_tell IsKept _ _ _ (λ w l. leaves_turns seen (number_in h) (task_in h) _ _ w (told_of (number_in h) (task_in h).kept (closing_end EndMemory) [] tt) l.1) (unput_notes seen (number_in h) (task_in h) at))
+
+-- a task is made
+pub make_keeps : (seen : List Entry) → Notes IsKept (seen, []) (Makes (seen, []))
+make_keeps seen = made_notes seen
+
+-- where there was room, the load before the exchange changed nothing
+pub room_stays : (n : ℕ) (v w : View Entry Sheet) → (flags_of n).count < most → Tells Full v n w → Stays v w
+room_stays n v w l told =
+    let room : nat_lt (flags_of n).count most ≡ true = grind (arith, nat_tests, l) in
+    subst (λ b. cond b (Stays v w) (Goes v [] (in_next false (flags_of n).ready (task_in v.1).step) w)) room told

@@ -1,0 +1,238 @@
+-- From what a step makes of the machine's pages to a move of the book, for any hand.
+use Rattle.std.proofs.Common.{◌≡◌, ◌≢◌, ℕ, zero, suc, Bool, inl, inr, ⊎_elim, List, [], ◌∷◌, ◌++◌, Option, Some, slice_get, slice_set, refl, sym, ap, ◌∙◌, subst}
+use Rattle.std.proofs.lemmas.Bool.{cases_eq, false≢true}
+use Rattle.std.proofs.lemmas.List.{append-nil}
+use Rattle.pagebook.specs.Pages.{Agrees, Apart, Held, Moves, Notes, put, rewritten}
+use Rattle.once_world.specs.Record.{Entry}
+use Rattle.once_world.specs.Book.{IsBook, Page, TaskState}
+use Rattle.once_world.proofs.Moment.Pages.{set_here, set_other}
+use Rattle.once_parts.specs.Kept.{Adds, IsKept, IsState, Leaves, Sheet, entries_on, most, pages_in, sheet, sheets, writing_sheet}
+use Rattle.once_parts.proofs.Moments.Mine.{OnlyOf, on_append}
+
+-- the pages of a hand stand in the list
+abbrev pub AreOn : Held Page → List Page → Type 0
+AreOn [] ps = Unit {0}
+AreOn (e ∷ h) ps = (slice_get ps e.0 ≡ Some e.1) × AreOn h ps
+
+-- the page on a sheet
+page_at : (ss : List Sheet) (k : ℕ) (es : List Entry) (p : Page) → slice_get ss k ≡ Some (sheet es p) → slice_get (pages_in ss) k ≡ Some p
+page_at [] k es p e = let no : ⊥ = cc in absurd no
+page_at (s ∷ ss) zero es p e = let same : s ≡ sheet es p = cc in ap (λ (s : Sheet). Some s.page) same
+page_at (s ∷ ss) (suc k) es p e = page_at ss k es p e
+
+-- a hand that agrees with the book
+pub are_on : (seen : List Entry) (h : Held Page) (ss : List Sheet) → Agrees (sheets seen h) ss → AreOn h (pages_in ss)
+are_on seen [] ss a = tt
+are_on seen (e ∷ h) ss a = (page_at ss e.0 (entries_on e.0 seen) e.1 a.0, are_on seen h ss a.1.1)
+
+-- one sheet is set
+page_set : (ss : List Sheet) (k : ℕ) (es : List Entry) (p : Page) → pages_in (slice_set ss k (sheet es p)) ≡ slice_set (pages_in ss) k p
+page_set [] k es p = refl
+page_set (s ∷ ss) zero es p = refl
+page_set (s ∷ ss) (suc k) es p = ap (λ (xs : List Page). s.page ∷ xs) (page_set ss k es p)
+
+-- a page that is set to what it is
+set_still : (ps : List Page) (k : ℕ) (p : Page) → slice_get ps k ≡ Some p → slice_set ps k p ≡ ps
+set_still [] k p e = refl
+set_still (q ∷ ps) zero p e = let same : q ≡ p = cc in ap (λ z. z ∷ ps) (sym same)
+set_still (q ∷ ps) (suc k) p e = ap (λ zs. q ∷ zs) (set_still ps k p e)
+
+-- the sheets of a hand whose first pages are set to these, where the log is this
+abbrev sheets_set : List Entry → List Page → Held Page → List Sheet
+sheets_set log ys [] = []
+sheets_set log [] (e ∷ h) = sheet (entries_on e.0 log) e.1 ∷ sheets_set log [] h
+sheets_set log (y ∷ ys) (e ∷ h) = sheet (entries_on e.0 log) y ∷ sheets_set log ys h
+
+-- a hand agrees with the book where another page was set
+agrees_set : (es : Held Sheet) (k : ℕ) (y : Sheet) (ss : List Sheet) → Apart k es → Agrees es ss → Agrees es (slice_set ss k y)
+agrees_set [] k y ss a b = tt
+agrees_set (e ∷ es) k y ss a b = (set_other ss k e.0 y a.0 ∙ b.0, (b.1.0, agrees_set es k y ss a.1 b.1.1))
+
+module _ (seen log : List Entry) where
+  -- all sheets of a hand are set
+  put_pages : (ys : List Page) (h : Held Page) (ss : List Sheet) → Agrees (sheets seen h) ss → pages_in (put (sheets_set log ys h) (sheets seen h) ss) ≡ put ys h (pages_in ss)
+  put_pages [] [] ss a = refl
+  put_pages (y ∷ ys) [] ss a = refl
+  put_pages [] (e ∷ h) ss a =
+      let s : Sheet = sheet (entries_on e.0 log) e.1 in
+      put_pages [] h (slice_set ss e.0 s) (agrees_set (sheets seen h) e.0 s ss a.1.0 a.1.1)
+      ∙ page_set ss e.0 (entries_on e.0 log) e.1 ∙ set_still (pages_in ss) e.0 e.1 (page_at ss e.0 (entries_on e.0 seen) e.1 a.0)
+  put_pages (y ∷ ys) (e ∷ h) ss a =
+      let s : Sheet = sheet (entries_on e.0 log) y in
+      put_pages ys h (slice_set ss e.0 s) (agrees_set (sheets seen h) e.0 s ss a.1.0 a.1.1)
+      ∙ ap (put ys h) (page_set ss e.0 (entries_on e.0 log) y)
+
+  -- the hand afterwards
+  hand_after : (ys : List Page) (h : Held Page) → rewritten (sheets_set log ys h) (sheets seen h) ≡ sheets log (rewritten ys h)
+  hand_after [] [] = refl
+  hand_after (y ∷ ys) [] = refl
+  hand_after [] (e ∷ h) = ap (λ (xs : Held Sheet). (e.0, sheet (entries_on e.0 log) e.1) ∷ xs) (hand_after [] h)
+  hand_after (y ∷ ys) (e ∷ h) = ap (λ (xs : Held Sheet). (e.0, sheet (entries_on e.0 log) y) ∷ xs) (hand_after ys h)
+
+-- a page that does not write is not that of the one who writes
+apart_at : (ss : List Sheet) (i j : ℕ) (es fs : List Entry) (p : Page) (x : TaskState) → slice_get ss i ≡ Some (sheet es p) → slice_get ss j ≡ Some (writing_sheet fs x) → i ≢ j
+apart_at ss i j es fs p x a b e =
+    let same : ◌≡◌ {A = Option Sheet} (Some (sheet es p)) (Some (writing_sheet fs x)) = sym a ∙ ap (slice_get ss) e ∙ b in
+    let no : sheet es p ≡ writing_sheet fs x = cc in
+    false≢true (ap (λ (s : Sheet). s.writing) no)
+
+module _ (seen log : List Entry) where
+  -- who writes goes on writing while others change their pages
+  writer_stays : (ys : List Page) (h : Held Page) (ss : List Sheet) (j : ℕ) (fs : List Entry) (x : TaskState) → Agrees (sheets seen h) ss → slice_get ss j ≡ Some (writing_sheet fs x)
+      → slice_get (put (sheets_set log ys h) (sheets seen h) ss) j ≡ Some (writing_sheet fs x)
+  writer_stays [] [] ss j fs x a w = w
+  writer_stays (y ∷ ys) [] ss j fs x a w = w
+  writer_stays [] (e ∷ h) ss j fs x a w =
+      let s : Sheet = sheet (entries_on e.0 log) e.1 in
+      writer_stays [] h (slice_set ss e.0 s) j fs x (agrees_set (sheets seen h) e.0 s ss a.1.0 a.1.1)
+      (set_other ss e.0 j s (apart_at ss e.0 j (entries_on e.0 seen) fs e.1 x a.0 w) ∙ w)
+  writer_stays (y ∷ ys) (e ∷ h) ss j fs x a w =
+      let s : Sheet = sheet (entries_on e.0 log) y in
+      writer_stays ys h (slice_set ss e.0 s) j fs x (agrees_set (sheets seen h) e.0 s ss a.1.0 a.1.1)
+      (set_other ss e.0 j s (apart_at ss e.0 j (entries_on e.0 seen) fs e.1 x a.0 w) ∙ w)
+
+  -- so the state of the slot stays
+  state_stays : (k : ℕ) (slot : Bool) (ys : List Page) (h : Held Page) (ss : List Sheet) → Agrees (sheets seen h) ss → IsState k slot ss → IsState k slot (put (sheets_set log ys h) (sheets seen h) ss)
+  state_stays k slot ys h ss a (inl s) = inl s
+  state_stays k slot ys h ss a (inr (inl s)) = inr (inl s)
+  state_stays k slot ys h ss a (inr (inr s)) = inr (inr (s.0, s.1, s.2, s.3, s.4, s.5, writer_stays ys h ss (suc (suc s.2)) s.5 s.3 a s.6, s.7))
+
+module _ (seen log es : List Entry) where
+  -- what the task of this page added is told by the log now and by what was seen
+  abbrev longer : List Entry
+  longer = log ++ es
+
+  -- all pages but those of the hand have their entries
+  abbrev Others : Held Page → List Sheet → Type 0
+  Others h ss = (k : ℕ) (s : Sheet) → slice_get ss k ≡ Some s → Apart k h → s.entries ≡ entries_on k longer
+
+  -- one more has them once its page is set
+  other_set : (h : Held Page) (ss : List Sheet) (e : ℕ × Page) (y : Page) → slice_get ss e.0 ≡ Some (sheet (entries_on e.0 seen) e.1) → Others (e ∷ h) ss
+      → Others h (slice_set ss e.0 (sheet (entries_on e.0 longer) y))
+  other_set h ss e y there o k s at apart = ⊎_elim
+      (λ same.
+      let now : ◌≡◌ {A = Option Sheet} (Some (sheet (entries_on e.0 longer) y)) (Some s) =
+      sym (set_here ss e.0 (sheet (entries_on e.0 seen) e.1) (sheet (entries_on e.0 longer) y) there) ∙ ap (slice_get (slice_set ss e.0 (sheet (entries_on e.0 longer) y))) same ∙ at in
+      let is : sheet (entries_on e.0 longer) y ≡ s = cc in
+      ap (λ (s : Sheet). s.entries) (sym is) ∙ ap (λ j. entries_on j longer) same)
+      (λ n. o k s (sym (set_other ss e.0 k (sheet (entries_on e.0 longer) y) n) ∙ at) ((λ i. n (sym i)), apart))
+      (cases_eq e.0 k)
+
+  -- so all have them once all pages of the hand are set
+  all_set : (ys : List Page) (h : Held Page) (ss : List Sheet) → Agrees (sheets seen h) ss → Others h ss
+      → Others [] (put (sheets_set longer ys h) (sheets seen h) ss)
+  all_set [] [] ss a o = o
+  all_set (y ∷ ys) [] ss a o = o
+  all_set [] (e ∷ h) ss a o =
+      let s : Sheet = sheet (entries_on e.0 longer) e.1 in
+      all_set [] h (slice_set ss e.0 s) (agrees_set (sheets seen h) e.0 s ss a.1.0 a.1.1) (other_set h ss e e.1 a.0 o)
+  all_set (y ∷ ys) (e ∷ h) ss a o =
+      let s : Sheet = sheet (entries_on e.0 longer) y in
+      all_set ys h (slice_set ss e.0 s) (agrees_set (sheets seen h) e.0 s ss a.1.0 a.1.1) (other_set h ss e y a.0 o)
+
+  -- after a step that adds entries of the hand's tasks alone, each page has its entries
+  pub entries_put : (ys : List Page) (h : Held Page) (ss : List Sheet) → OnlyOf h es → Agrees (sheets seen h) ss → ((k : ℕ) (s : Sheet) → slice_get ss k ≡ Some s → s.entries ≡ entries_on k log)
+      → (k : ℕ) (s : Sheet) → slice_get (put (sheets_set longer ys h) (sheets seen h) ss) k ≡ Some s → s.entries ≡ entries_on k longer
+  entries_put ys h ss only a are k s at = all_set ys h ss a
+      (λ k s at apart. are k s at ∙ sym (append-nil (entries_on k log)) ∙ ap (λ l. entries_on k log ++ l) (sym (only k apart)) ∙ sym (on_append k log es)) k s at tt
+
+  -- what the hand's tasks added
+  pub adds : (h : Held Page) (ss : List Sheet) → Agrees (sheets seen h) ss → ((k : ℕ) (s : Sheet) → slice_get ss k ≡ Some s → s.entries ≡ entries_on k log) → Adds seen h es longer
+  adds [] ss a are = tt
+  adds (e ∷ h) ss a are = (
+    on_append e.0 log es ∙ ap (λ l. l ++ entries_on e.0 es) (sym (are e.0 (sheet (entries_on e.0 seen) e.1) a.0)),
+    adds h ss a.1.1 are,
+  )
+
+-- the words of the book
+word_at : (w put k n : ℕ) (ns : List ℕ) → ns ≡ w ∷ put ∷ k ∷ [] → slice_get ns 0 ≡ Some n → w ≡ n
+word_at w put k n ns e at = let same : ◌≡◌ {A = Option ℕ} (Some w) (Some n) = ap (λ xs. slice_get xs 0) (sym e) ∙ at in cc
+
+-- and the one that says whether a queue was put
+put_at : (w put k n : ℕ) (ns : List ℕ) → ns ≡ w ∷ put ∷ k ∷ [] → slice_get ns 1 ≡ Some n → put ≡ n
+put_at w put k n ns e at = let same : ◌≡◌ {A = Option ℕ} (Some put) (Some n) = ap (λ xs. slice_get xs 1) (sym e) ∙ at in cc
+
+module _ (seen : List Entry) (h : Held Page) where
+  -- a step of the cell's word, and what it tells of the log after it
+  pub telling_moves : (f : ℕ → ℕ) (ys : ℕ → List Page) (es : ℕ → List Entry) (P : ℕ → List Entry → Type 0) → ((n : ℕ) → OnlyOf h (es n))
+      → ((n has_put : ℕ) (slot : Bool) (pages : List Page) (log : List Entry) → IsBook most n has_put slot pages log → AreOn h pages
+      → P n (log ++ es n) × IsBook most (f n) has_put slot (put (ys n) h pages) (log ++ es n))
+      → Moves IsKept (seen, sheets seen h) 0 f (λ n v. P n v.0 × Leaves seen h (ys n) (es n) v)
+  telling_moves f ys es P only goes = record {
+    goes = λ ns n ss log k at pre a.
+        let same : k.word ≡ n = word_at k.word k.has_put k.state n ns k.words_are at in
+        let r = goes n k.has_put k.slot (pages_in ss) log (subst (λ w. IsBook most w k.has_put k.slot (pages_in ss) log) same k.book) (are_on seen h ss a) in (
+          sheets_set (log ++ es n) (ys n) h,
+          [],
+          es n,
+          record {
+            word = f n;
+            has_put = k.has_put;
+            state = k.state;
+            slot = k.slot;
+            words_are = ap (λ xs. slice_set xs 0 (f n)) k.words_are;
+            book = subst (λ ps. IsBook most (f n) k.has_put k.slot ps (log ++ es n)) (sym (put_pages seen (log ++ es n) (ys n) h ss a)) r.1;
+            state_is = state_stays seen (log ++ es n) k.state k.slot (ys n) h ss a k.state_is;
+            entries_are = entries_put seen log (es n) (ys n) h ss (only n) a k.entries_are;
+          },
+          (r.0, (hand_after seen (log ++ es n) (ys n) h, (log, pre, refl), adds seen log (es n) h ss a k.entries_are)),
+        );
+  }
+
+  -- the same with what it tells of the number found
+  pub moves : (f : ℕ → ℕ) (ys : ℕ → List Page) (es : ℕ → List Entry) (P : ℕ → Type 0) → ((n : ℕ) → OnlyOf h (es n))
+      → ((n has_put : ℕ) (slot : Bool) (pages : List Page) (log : List Entry) → IsBook most n has_put slot pages log → AreOn h pages
+      → P n × IsBook most (f n) has_put slot (put (ys n) h pages) (log ++ es n))
+      → Moves IsKept (seen, sheets seen h) 0 f (λ n v. P n × Leaves seen h (ys n) (es n) v)
+  moves f ys es P only goes = telling_moves f ys es (λ n log. P n) only goes
+
+  -- a step of the word that says whether a queue was ever put
+  pub put_moves : (f : ℕ → ℕ) (ys : ℕ → List Page) (es : ℕ → List Entry) → ((n : ℕ) → OnlyOf h (es n))
+      → ((n has_put : ℕ) (slot : Bool) (pages : List Page) (log : List Entry) → IsBook most n has_put slot pages log → AreOn h pages
+      → IsBook most n (f has_put) slot (put (ys has_put) h pages) (log ++ es has_put))
+      → Moves IsKept (seen, sheets seen h) 1 f (λ k v. Leaves seen h (ys k) (es k) v)
+  put_moves f ys es only goes = record {
+    goes = λ ns n ss log k at pre a.
+        let same : k.has_put ≡ n = put_at k.word k.has_put k.state n ns k.words_are at in
+        let r = goes k.word n k.slot (pages_in ss) log (subst (λ p. IsBook most k.word p k.slot (pages_in ss) log) same k.book) (are_on seen h ss a) in (
+          sheets_set (log ++ es n) (ys n) h,
+          [],
+          es n,
+          record {
+            word = k.word;
+            has_put = f n;
+            state = k.state;
+            slot = k.slot;
+            words_are = ap (λ xs. slice_set xs 1 (f n)) k.words_are;
+            book = subst (λ ps. IsBook most k.word (f n) k.slot ps (log ++ es n)) (sym (put_pages seen (log ++ es n) (ys n) h ss a)) r;
+            state_is = state_stays seen (log ++ es n) k.state k.slot (ys n) h ss a k.state_is;
+            entries_are = entries_put seen log (es n) (ys n) h ss (only n) a k.entries_are;
+          },
+          (hand_after seen (log ++ es n) (ys n) h, (log, pre, refl), adds seen log (es n) h ss a k.entries_are),
+        );
+  }
+
+  -- a note, which touches no word
+  pub notes : (ys : List Page) (es : List Entry) (P : Type 0) → OnlyOf h es
+      → ((n has_put : ℕ) (slot : Bool) (pages : List Page) (log : List Entry) → IsBook most n has_put slot pages log → AreOn h pages
+      → P × IsBook most n has_put slot (put ys h pages) (log ++ es))
+      → Notes IsKept (seen, sheets seen h) (λ v. P × Leaves seen h ys es v)
+  notes ys es P only goes = record {
+    goes = λ ns ss log k pre a.
+        let r = goes k.word k.has_put k.slot (pages_in ss) log k.book (are_on seen h ss a) in (
+          sheets_set (log ++ es) ys h,
+          [],
+          es,
+          record {
+            word = k.word;
+            has_put = k.has_put;
+            state = k.state;
+            slot = k.slot;
+            words_are = k.words_are;
+            book = subst (λ ps. IsBook most k.word k.has_put k.slot ps (log ++ es)) (sym (put_pages seen (log ++ es) ys h ss a)) r.1;
+            state_is = state_stays seen (log ++ es) k.state k.slot ys h ss a k.state_is;
+            entries_are = entries_put seen log es ys h ss only a k.entries_are;
+          },
+          (r.0, (hand_after seen (log ++ es) ys h, (log, pre, refl), adds seen log es h ss a k.entries_are)),
+        );
+  }

@@ -1,0 +1,69 @@
+-- What each moment of a task alone tells of it: of the number found in the word, from one view of the book to the next.
+use Rattle.std.specs.Prelude.{◌≡◌, ℕ, suc, ◌-◌, ◌<◌, ◌^◌, ◌==◌, true, false, cond, nat_lt, List, [], ◌∷◌, reverse, None}
+use Rattle.pagebook.specs.Pages.{View}
+use Rattle.once_queue.specs.Word.{flags_of}
+use Rattle.once_core.specs.Steps.{step_of_drop}
+use Rattle.once_core.specs.Table.{Next, after_quick}
+use Rattle.once_world.specs.Record.{Begin, Entry, Made, Ran}
+use Rattle.once_world.specs.Book.{TaskState, refused_step}
+use Rattle.once_world.specs.Machine.{claim_entries, drop_entries, fresh_task, freed_entries}
+use Rattle.once_parts.specs.Kept.{Grew, Sheet, entries_of, hand, most, sheets, writing_sheet}
+use Rattle.once_parts.specs.declared.act.Act.{Act}
+use Rattle.once_parts.specs.declared.act.Act.TheVariants.{Load, Quick, Fast, AddOne, CountOut, Full, Enter, NonePut}
+use Rattle.once_parts.specs.declared.act.Act.TheVariants.{Begin as BeginPoll, BeginDrop, Ran as InitRan, Refused, Unput}
+use Rattle.once_parts.specs.Own.{IsHand, Stayed, Turned, number_in, own_in, task_in, told}
+use Rattle.once_parts.specs.Places.{load_next, fast_next, add_next, out_next, in_next}
+use Rattle.once_parts.specs.Places.{put_next, take_next, run_next, fill_next}
+use Rattle.once_parts.specs.Places.{task_begun, task_dropping, task_run, unnamed}
+
+-- the hand is the task's still, whose page has turned so
+abbrev pub Turns : View Entry Sheet → TaskState → List Entry → View Entry Sheet → Type 0
+Turns v y es w = IsHand w.0 w.1 × Turned (own_in v) y es (own_in w)
+
+-- the task did this, and goes on so
+abbrev pub Goes : View Entry Sheet → List Entry → Next ℕ ℕ → View Entry Sheet → Type 0
+Goes v did next w =
+    Turns v (record (task_in v.1) { step = next.step }) (told (number_in v.1) (task_in v.1).kept next did) w
+
+-- the task did nothing
+abbrev pub Stays : View Entry Sheet → View Entry Sheet → Type 0
+Stays v w = IsHand w.0 w.1 × Stayed (own_in v) (own_in w)
+
+-- each moment
+abbrev pub Tells : Act → View Entry Sheet → ℕ → View Entry Sheet → Type 0
+Tells Load v n w = Goes v [] (load_next (flags_of n) (task_in v.1).step) w
+Tells Quick v n w = Goes v (claim_entries (n == 0) (number_in v.1)) (after_quick (n == 0)) w
+Tells Fast v n w =
+    Goes v (freed_entries (n == 2 ^ 62) (number_in v.1) (task_in v.1).kept)
+    (fast_next (n == 2 ^ 62) (task_in v.1).step) w
+Tells AddOne v n w = Goes v [] (add_next (task_in v.1).step) w
+Tells CountOut v n w = (0 < n) × Goes v [] (out_next (flags_of (n - 1)) (task_in v.1).step) w
+Tells Full v n w =
+    cond (nat_lt (flags_of n).count most) (Stays v w)
+    (Goes v [] (in_next false (flags_of n).ready (task_in v.1).step) w)
+Tells (Enter m) v n w = cond (n == m) (Goes v [] (in_next true (flags_of m).ready (task_in v.1).step) w) (Stays v w)
+Tells NonePut v n w = cond (n == 0) (Goes v [] (take_next (task_in v.1).step) w) (Stays v w)
+Tells BeginPoll v n w =
+    Turns v (task_begun (number_in v.1) (task_in v.1)) (Begin (number_in v.1) (number_in v.1) ∷ []) w
+Tells BeginDrop v n w =
+    Turns v (task_dropping (task_in v.1))
+    (reverse (drop_entries (number_in v.1) (step_of_drop (task_in v.1).step))) w
+Tells (InitRan a) v n w =
+    Turns v (task_run a (task_in v.1))
+    (told (number_in v.1) (task_run a (task_in v.1)).kept (run_next a (task_in v.1).step)
+    (Ran (number_in v.1) (unnamed a) ∷ [])) w
+Tells Refused v n w = Turns v (record (task_in v.1) { step = refused_step (task_in v.1).step }) [] w
+Tells Unput v n w = Goes v [] (put_next None) w
+
+-- a task is made, by a hand that has no page
+abbrev pub Makes : View Entry Sheet → View Entry Sheet → Type 0
+Makes v w = (t : ℕ) × (w.1 ≡ sheets w.0 (hand t fresh_task)) × Grew (Made t ∷ []) v.0 w.0
+
+-- the slot is empty still, and the task begins to write it
+abbrev pub Writes : View Entry Sheet → View Entry Sheet → Type 0
+Writes v w = (w.1 ≡ (suc (suc (number_in v.1)), writing_sheet (entries_of (number_in v.1) w.0) (task_in v.1)) ∷ [])
+    × Grew [] v.0 w.0 × (entries_of (number_in v.1) w.0 ≡ entries_of (number_in v.1) v.0)
+
+-- the value is put
+abbrev pub Puts : View Entry Sheet → View Entry Sheet → Type 0
+Puts v w = Goes v [] (fill_next (task_in v.1).step) w

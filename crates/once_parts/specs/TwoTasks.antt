@@ -1,0 +1,18 @@
+-- What a task knows by its hand, where it learns of others, and where two hands are of one book.
+use Rattle.std.specs.Prelude.{◌≡◌, ◌≢◌, List, drop, take}
+use Rattle.pagebook.specs.Pages.{Held, View}
+use Rattle.once_world.specs.Record.{Entry}
+use Rattle.once_parts.specs.Kept.{Sheet}
+use Rattle.once_parts.specs.Own.{IsHand, number_in}
+
+-- a hand is a task's, by some log that was seen
+abbrev pub IsSomeHand : Held Sheet → Type 0
+IsSomeHand h = (log : List Entry) × IsHand log h
+
+-- the page stays as it is, and the log as it is seen now has no entry of the task that was not seen before
+abbrev pub HasLearned : View Entry Sheet → View Entry Sheet → Type 0
+HasLearned v w = (w.1 ≡ v.1) × IsHand w.0 w.1
+
+-- the pages stay as they are, the first two are of two tasks, and the log has no entry of the first that was not seen
+abbrev pub AreTwo : View Entry Sheet → View Entry Sheet → Type 0
+AreTwo v w = (w.1 ≡ v.1) × (number_in v.1 ≢ number_in (drop 1 v.1)) × IsHand w.0 (take 1 w.1)

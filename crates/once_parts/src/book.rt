@@ -1,0 +1,61 @@
+//! The book of a cell. What a line of its log and a page say are types of a specification, so the two types
+//! here are for clauses alone: nobody makes a value of them.
+use pagebook::{Opening, Pens, Rule, Seen, Slot, Word};
+use std::marker::Model;
+
+/// A line of the log: an entry of the record.
+pub struct Line;
+
+impl Model for Line {
+    ghost use Rattle.std.specs.Prelude.{None};
+    ghost use Rattle.once_world.specs.Record.{Entry, Look};
+
+    ghost Value = { Entry };
+
+    ghost view = { λ _. Look None };
+}
+
+/// A page: what the door, the queue or a task has of the machine's world.
+pub struct Leaf;
+
+impl Model for Leaf {
+    ghost use Rattle.std.specs.Prelude.{false, []};
+    ghost use Rattle.once_world.specs.Book.{Queue};
+    ghost use Rattle.once_parts.specs.Kept.{Sheet, sheet};
+
+    ghost Value = { Sheet };
+
+    ghost view = { λ _. sheet [] (Queue false []) };
+}
+
+/// The rule of a cell's book: between any two steps it is the book of a world that tasks can reach.
+pub struct CellRule;
+
+impl Rule<Line, Leaf> for CellRule {
+    ghost use Rattle.once_parts.specs.Kept.{IsKept};
+
+    ghost holds = { λ ns ss log. IsKept ns ss log };
+}
+
+impl Opening<(), Line, Leaf> for CellRule {
+    ghost use Rattle.std.specs.Prelude.{[], ◌∷◌};
+    ghost use Rattle.once_parts.specs.Desk.{desk_pages, first_desk};
+
+    ghost words = { λ _. 0 ∷ 0 ∷ 0 ∷ [] };
+
+    ghost pages = { λ _. desk_pages first_desk };
+
+    ghost log = { λ _. [] };
+}
+
+/// A word of a cell.
+pub type CellWord = Word<Line, Leaf, CellRule>;
+
+/// Where the value of a cell lies.
+pub type CellSlot<T> = Slot<T, Line, Leaf, CellRule>;
+
+/// What was seen of a cell's log, which is the record of the machine. A clause sees its `book` and its `log`.
+pub type Record = Seen<Line, Leaf, CellRule>;
+
+/// Pens of a cell's pages.
+pub type CellPens = Pens<Leaf>;

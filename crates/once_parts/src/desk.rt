@@ -1,0 +1,303 @@
+//! What lies under the one lock of a cell.
+ghost use Rattle.std.specs.Prelude.{◌≡◌, ◌*◌, ◌⊎◌, ℕ, true, false, List, [], ◌∷◌, Option, Some, None};
+ghost use Rattle.std.specs.Option.{is_some};
+ghost use Rattle.pagebook.specs.Pages.{Book};
+ghost use Rattle.once_queue.specs.Listings.{kept_ticket};
+ghost use Rattle.once_queue.specs.Room.{HasSpace, listings_of};
+ghost use Rattle.once_parts.specs.Named.{as_memory};
+ghost use Rattle.once_parts.specs.Sections.{more_released};
+
+use crate::act::Section;
+use crate::book::{CellPens, CellWord};
+use crate::hand::Hand;
+use crate::mark::TaskWaker;
+use crate::under_lock::{note, put, release, see};
+use once_queue::waiters::{Answer, Lists, Out, Renews, WakerId};
+use once_queue::word::{QINIT_BIT, READY_BIT};
+use pagebook::Keyed;
+use std::marker::Model;
+
+/// The door, with the queue if one stands there, and the pens of the door's page and of the queue's. A clause
+/// sees of which book they are.
+pub struct Desk<W: TaskWaker> {
+    lists: Option<Box<Lists<W>>>,
+    pens: CellPens,
+}
+
+impl<W: TaskWaker> Model for Desk<W> {
+    ghost use Rattle.pagebook.specs.Pages.{Book};
+    ghost use Rattle.once_parts.specs.Desk.{IsDesk, IsDesked, desked};
+
+    ghost Value = { Book };
+
+    ghost view = { λ d. d.pens.book };
+
+    ghost invariant = { λ d. IsDesk d.pens.held × IsDesked W.whose d.lists (desked d.pens.held) };
+}
+
+impl<W: TaskWaker> Keyed for Desk<W> {
+    ghost key_of = { λ d. d };
+}
+
+impl<W: TaskWaker + Drop> Desk<W> {
+    ghost use Rattle.once_core.specs.Table.{next_at};
+    ghost use Rattle.once_world.specs.Machine.{AtCountIn, AtDoorPut, UnderWay};
+    ghost use Rattle.once_world.specs.Machine.{claim_entries, is_claim, pass_entries, release_entry};
+    ghost use Rattle.once_parts.specs.Kept.{has_passed, hands_out};
+    ghost use Rattle.once_parts.specs.Named.{HasRenewed, KeepsOwner, named_one, named_out};
+    ghost use Rattle.once_parts.specs.Steps.{answer_as};
+    ghost use Rattle.once_parts.specs.Desk.{desk_sheets, first_desk};
+    ghost use Rattle.once_parts.specs.Own.{Did, IsWord};
+    ghost use Rattle.once_parts.specs.Places.{CanGet, CanTake, CanLook, CanList, CanRelease, CanLeave, CanRest};
+    ghost use Rattle.once_parts.specs.Places.{get_next, take_next, look_next, list_next, release_next, leave_next};
+    ghost use Rattle.once_parts.specs.Places.{numbered};
+    ghost use Rattle.once_parts.specs.Hands.{own_of};
+    ghost use Rattle.std.specs.Prelude.{IsSomeAnd};
+
+    /// No queue, and the first two pages of a new book.
+    #[inline(always)]
+    pub fn new(pens: CellPens) -> Self
+        requires { pens.held ≡ desk_sheets first_desk }
+        ensures { result ≡ pens.book }
+    {
+        Desk { lists: None, pens }
+    }
+
+    /// Whether a queue stands at the door, for Debug.
+    pub fn has_queue(&self) -> bool {
+        self.lists.is_some()
+    }
+
+    /// Whether a queue stands at the door.
+    #[inline(always)]
+    pub fn get(&mut self, hand: &mut Hand) -> bool
+        requires book { self.old ≡ hand.old.seen.book }
+        requires can { CanGet (own_of hand.old).task.step }
+        ensures desk { self.new ≡ self.old }
+        ensures book { hand.new.seen.book ≡ hand.old.seen.book }
+        ensures did { (q : ℕ)
+            × Did (own_of hand.old) [] (get_next (numbered q result) (own_of hand.old).task.step) (own_of hand.new) }
+    {
+        note(&mut self.pens, hand, &Section::Get);
+        self.lists.is_some()
+    }
+
+    /// Puts this queue to the door, where none stands. Else it comes back.
+    #[inline(always)]
+    pub fn put(
+        &mut self,
+        has_put: &CellWord,
+        hand: &mut Hand,
+        queue: Box<Lists<W>>,
+    ) -> Option<Box<Lists<W>>>
+        requires word { IsWord has_put.now hand.old.seen.book 1 }
+        requires book { self.old ≡ hand.old.seen.book }
+        requires queue { (queue.value.head ≡ false) × (listings_of queue.value ≡ []) }
+        requires can { (own_of hand.old).task.step ≡ UnderWay AtDoorPut }
+        ensures desk { self.new ≡ self.old }
+        ensures book { hand.new.seen.book ≡ hand.old.seen.book }
+        ensures did { (q : ℕ) × Did (own_of hand.old) [] (next_at (AtCountIn q)) (own_of hand.new) }
+    {
+        if self.lists.is_some() {
+            note(&mut self.pens, hand, &Section::Found);
+            return Some(queue);
+        }
+        put(has_put, &mut self.pens, hand);
+        self.lists = Some(queue);
+        None
+    }
+
+    /// Takes the queue out of the door.
+    #[inline(always)]
+    pub fn take(&mut self, hand: &mut Hand) -> Option<Box<Lists<W>>>
+        requires book { self.old ≡ hand.old.seen.book }
+        requires can { CanTake (own_of hand.old).task.step }
+        ensures desk { self.new ≡ self.old }
+        ensures book { hand.new.seen.book ≡ hand.old.seen.book }
+        ensures did { Did (own_of hand.old) [] (take_next (own_of hand.old).task.step) (own_of hand.new) }
+    {
+        note(&mut self.pens, hand, &Section::Take);
+        self.lists.take()
+    }
+
+    /// Claims the right if it is free, else says whether the own listing is there and was not called. Beside the answer
+    /// stands the waker that a claim took out of the list.
+    #[inline(always)]
+    pub fn look(
+        &mut self,
+        word: &CellWord,
+        hand: &mut Hand,
+        ticket: &mut Option<u64>,
+    ) -> (Answer<W>, Option<W>)
+        requires word { IsWord word.now hand.old.seen.book 0 }
+        requires book { self.old ≡ hand.old.seen.book }
+        requires can { CanLook ticket.old (own_of hand.old).task.step }
+        ensures desk { self.new ≡ self.old }
+        ensures book { hand.new.seen.book ≡ hand.old.seen.book }
+        ensures did { Did (own_of hand.old) (claim_entries (is_claim (answer_as result.0)) (own_of hand.old).number)
+            (look_next (answer_as result.0) ticket.new (own_of hand.old).task.waker (own_of hand.old).task.step)
+            (own_of hand.new) }
+    {
+        note(&mut self.pens, hand, &Section::Stand);
+        let Some(queue) = &mut self.lists else {
+            unreachable!()
+        };
+        let lists = &mut **queue;
+        let found = see(word, &mut self.pens, hand, &Section::Look(*ticket));
+        lists.look_own(ticket, found)
+    }
+
+    /// Claims the right if it is free, else lists this waker, which is the task's. Beside the answer stands the waker
+    /// that a claim took out of the list.
+    #[inline(always)]
+    pub fn list(
+        &mut self,
+        word: &CellWord,
+        hand: &mut Hand,
+        ticket: &mut Option<u64>,
+        waker: &mut Option<W>,
+    ) -> (Answer<W>, Option<W>)
+        requires word { IsWord word.now hand.old.seen.book 0 }
+        requires book { self.old ≡ hand.old.seen.book }
+        requires can { IsSomeAnd waker.old (λ w. CanList ticket.old (W.whose w) (own_of hand.old).task.step) }
+        ensures desk { self.new ≡ self.old }
+        ensures book { hand.new.seen.book ≡ hand.old.seen.book }
+        ensures did { Did (own_of hand.old) (claim_entries (is_claim (answer_as result.0)) (own_of hand.old).number)
+            (list_next (answer_as result.0) ticket.new (own_of hand.old).task.step) (own_of hand.new) }
+    {
+        note(&mut self.pens, hand, &Section::Stand);
+        let Some(queue) = &mut self.lists else {
+            unreachable!()
+        };
+        let lists = &mut **queue;
+        let room = has_room(lists, *ticket);
+        let found = see(word, &mut self.pens, hand, &Section::List(*ticket, room));
+        if room {
+            return lists.list_own(ticket, waker, found);
+        }
+        let (answer, spent) = lists.look_own(ticket, found);
+        (without_memory(answer), spent)
+    }
+
+    /// Lets the waker of the listing of a task at rest be renewed. The answer says whether there is one. No page
+    /// changes, since the waker is the task's and stays so.
+    #[inline(always)]
+    pub fn renew<N: Renews<W>>(&mut self, hand: &mut Hand, ticket: u64, by: &mut N) -> bool
+        requires owner { KeepsOwner W.whose N.renewed }
+        requires book { self.old ≡ hand.old.seen.book }
+        requires can { CanRest ticket (own_of hand.old).task.step }
+        ensures desk { self.new ≡ self.old }
+        ensures book { hand.new.seen.book ≡ hand.old.seen.book }
+        ensures hand { own_of hand.new ≡ own_of hand.old }
+        ensures renewed { result ≡ true → HasRenewed W.whose N.renewed (own_of hand.old).number by.old by.new }
+        ensures not { result ≡ false → by.new ≡ by.old }
+    {
+        let seen = hand.seen.again();
+        note(&mut self.pens, hand, &Section::Rest(ticket));
+        // What the task knows of the record stays as it was at the end of its call.
+        hand.seen = seen;
+        let Some(queue) = &mut self.lists else {
+            return false;
+        };
+        let lists = &mut **queue;
+        lists.renew(ticket, by)
+    }
+
+    /// Gives the right back: with the value set, and calls all; or without, and calls one.
+    #[inline(always)]
+    pub fn release(&mut self, word: &CellWord, hand: &mut Hand, ready: bool) -> Out<W>
+        requires word { IsWord word.now hand.old.seen.book 0 }
+        requires book { self.old ≡ hand.old.seen.book }
+        requires can { CanRelease ready (own_of hand.old).task.step }
+        ensures desk { self.new ≡ self.old }
+        ensures book { hand.new.seen.book ≡ hand.old.seen.book }
+        ensures did { Did (own_of hand.old)
+            (release_entry (own_of hand.old).task.kept (own_of hand.old).number (named_out W.whose result) ∷ [])
+            (release_next (own_of hand.old).task.step) (own_of hand.new) }
+    {
+        note(&mut self.pens, hand, &Section::Stand);
+        let Some(queue) = &mut self.lists else {
+            unreachable!()
+        };
+        let lists = &mut **queue;
+        let more = given_back(ready, lists.head);
+        release(word, &mut self.pens, hand, ready, more);
+        lists.release(ready)
+    }
+
+    /// Takes the listing with this ticket out. If it was called and nobody holds, calls the next. Beside the waker that
+    /// is called stands the one that the own listing had.
+    // With this one inlined too, a section is so large that the kit inlines none.
+    #[inline(never)]
+    pub fn leave(&mut self, word: &CellWord, hand: &mut Hand, ticket: u64) -> (Option<W>, Option<W>)
+        requires word { IsWord word.now hand.old.seen.book 0 }
+        requires book { self.old ≡ hand.old.seen.book }
+        requires can { CanLeave ticket (own_of hand.old).task.step }
+        ensures desk { self.new ≡ self.old }
+        ensures book { hand.new.seen.book ≡ hand.old.seen.book }
+        ensures did { Did (own_of hand.old) (pass_entries (own_of hand.old).number (named_one W.whose result.0))
+            (leave_next (own_of hand.old).task.step) (own_of hand.new) }
+        ensures passed { has_passed (own_of hand.new).number (own_of hand.new).log
+            ≡ hands_out (named_one W.whose result.0) }
+    {
+        note(&mut self.pens, hand, &Section::Stand);
+        let Some(queue) = &mut self.lists else {
+            unreachable!()
+        };
+        let lists = &mut **queue;
+        let found = see(word, &mut self.pens, hand, &Section::Leave(ticket));
+        lists.leave_own(ticket, found)
+    }
+}
+
+impl<W: TaskWaker + Drop> Drop for Desk<W> {
+    // Most cells are dropped without a queue. So a queue is dropped in a call of its own, and the rest is inlined.
+    #[inline(always)]
+    fn drop(self) {
+        let Desk { lists, pens: _pens } = self;
+        if let Some(queue) = lists {
+            drop_queue(queue);
+        }
+    }
+}
+
+#[inline(never)]
+fn drop_queue<W: TaskWaker + Drop>(queue: Box<Lists<W>>) {
+    drop(queue);
+}
+
+// What a release adds to the word. The sum may wrap round.
+#[inline(always)]
+fn given_back(ready: bool, head: bool) -> u64
+    ensures { result ≡ more_released ready head }
+{
+    match (ready, head) {
+        (true, true) => READY_BIT,
+        (true, false) => QINIT_BIT,
+        (false, true) => 0,
+        (false, false) => READY_BIT + QINIT_BIT,
+    }
+}
+
+// Whether a waker can be listed: the own listing is there, or there is room for one more, which is made where
+// it can be.
+#[inline(always)]
+fn has_room<W: WakerId + Drop>(lists: &mut Lists<W>, ticket: Option<u64>) -> bool
+    ensures room { result ≡ true → (is_some (kept_ticket ticket (listings_of lists.new)) ≡ true) ⊎ HasSpace lists.new }
+    ensures none { result ≡ false → is_some (kept_ticket ticket (listings_of lists.old)) ≡ false }
+    ensures head { lists.new.head ≡ lists.old.head }
+    ensures listings { listings_of lists.new ≡ listings_of lists.old }
+{
+    lists.is_listed(ticket) || lists.reserve().is_ok()
+}
+
+// What a `List` answers where there was no room, by what a look answers.
+#[inline(always)]
+fn without_memory<W: Drop>(answer: Answer<W>) -> Answer<W>
+    ensures { result ≡ as_memory answer }
+{
+    match answer {
+        Answer::Held => Answer::Memory,
+        other => other,
+    }
+}

@@ -1,0 +1,323 @@
+//! A task's pen, with what the task has seen of the log, and the moments that the task makes by itself.
+ghost use Rattle.std.specs.Prelude.{◌≡◌, ◌^◌, if◌then◌else◌};
+ghost use Rattle.once_parts.specs.Own.{IsHand};
+
+use crate::act::{Act, Makes, Puts, Writes};
+use crate::apart::{are_two, has_learned};
+use crate::book::{CellPens, CellSlot, CellWord, Record};
+use crate::mark::Mark;
+use crate::record::stays_set;
+use once_core::parts::Counted;
+use once_core::step::{Polled, RunRight};
+use once_queue::word::{MAX_WAITERS, NEW, QINIT_BIT, READY_BIT};
+use pagebook::Written;
+
+/// What a task has of its cell's book. It has no bytes.
+#[derive(Drop)]
+pub struct Hand {
+    // What the task has seen of the log.
+    pub(crate) seen: Record,
+    // The pen of its page. Whoever has it may turn the page, so nobody outside of this crate has.
+    pub(crate) pens: CellPens,
+    pub ghost book_is: { pens.book ≡ seen.book },
+    pub ghost is_hand: { IsHand seen.log pens.held },
+}
+
+impl Hand {
+    ghost use Rattle.std.specs.Prelude.{◌==◌, ◌-◌, ◌^◌, None, true, false, if◌then◌else◌, [], ◌∷◌, reverse};
+    ghost use Rattle.std.specs.Option.{MatchOption};
+    ghost use Rattle.once_queue.specs.Word.{flags_of};
+    ghost use Rattle.once_core.specs.Steps.{is_resting, step_of_drop};
+    ghost use Rattle.once_core.specs.Table.{after_quick};
+    ghost use Rattle.once_core.specs.Table.{is_in, finds_ready};
+    ghost use Rattle.once_world.specs.Record.{Begin, Made};
+    ghost use Rattle.once_world.specs.Book.{refused_step};
+    ghost use Rattle.once_world.specs.Machine.{AtDoorPut, AtTryQuick, UnderWay, fresh_task};
+    ghost use Rattle.once_world.specs.Machine.{claim_entries, drop_entries, freed_entries};
+    ghost use Rattle.once_parts.specs.Kept.{Grew};
+    ghost use Rattle.once_parts.specs.Own.{Did, IsWord, Stayed, Turned};
+    ghost use Rattle.once_parts.specs.Places.{CanLoad, CanFast, CanAdd, CanCountIn, CanCountOut, CanTake};
+    ghost use Rattle.once_parts.specs.Places.{CanFill, CanRefuse};
+    ghost use Rattle.once_parts.specs.Places.{load_next, fast_next, add_next, in_next, out_next};
+    ghost use Rattle.once_parts.specs.Places.{put_next, take_next, fill_next};
+    ghost use Rattle.once_parts.specs.Places.{task_begun, task_dropping};
+    ghost use Rattle.once_parts.specs.Hands.{HasRight, HasRun, own_of};
+
+    /// A new task's, by what was seen of the log before.
+    #[inline(always)]
+    pub fn new(front: &Record) -> Hand
+        ensures book { result.seen.book ≡ front.now.book }
+        ensures task { (own_of result).task ≡ fresh_task }
+        ensures log { Grew (Made (own_of result).number ∷ []) front.now.log (own_of result).log }
+    {
+        let mut seen = front.again();
+        let mut pens = seen.no_pens();
+        seen.note::<(), Makes>(&mut pens, &());
+        Hand { seen, pens }
+    }
+
+    /// The word.
+    #[inline(always)]
+    pub fn load(&mut self, word: &CellWord) -> u64
+        requires word { IsWord word.now self.old.seen.book 0 }
+        requires can { CanLoad (own_of self.old).task.step }
+        ensures book { self.new.seen.book ≡ self.old.seen.book }
+        ensures did { Did (own_of self.old) [] (load_next (flags_of result) (own_of self.old).task.step)
+            (own_of self.new) }
+    {
+        word.load::<Act, Act>(&Act::Load, &mut self.seen, &mut self.pens)
+    }
+
+    /// Exchanges `NEW` for the quick bit, and says whether it did.
+    #[inline(always)]
+    pub fn quick(&mut self, word: &CellWord) -> bool
+        requires word { IsWord word.now self.old.seen.book 0 }
+        requires can { (own_of self.old).task.step ≡ UnderWay AtTryQuick }
+        ensures book { self.new.seen.book ≡ self.old.seen.book }
+        ensures did { Did (own_of self.old) (claim_entries result (own_of self.old).number) (after_quick result)
+            (own_of self.new) }
+    {
+        let found = word.compare_exchange::<Act, Act>(
+            NEW,
+            QINIT_BIT,
+            &Act::Quick,
+            &mut self.seen,
+            &mut self.pens,
+        );
+        found == NEW
+    }
+
+    /// Exchanges the quick bit for the ready bit, or for `NEW`, and says whether it did.
+    #[inline(always)]
+    pub fn fast(&mut self, word: &CellWord, ready: bool) -> bool
+        requires word { IsWord word.now self.old.seen.book 0 }
+        requires can { CanFast ready (own_of self.old).task.step }
+        ensures book { self.new.seen.book ≡ self.old.seen.book }
+        ensures did { Did (own_of self.old) (freed_entries result (own_of self.old).number (own_of self.old).task.kept)
+            (fast_next result (own_of self.old).task.step) (own_of self.new) }
+    {
+        let to = freed(ready);
+        let found = word.compare_exchange::<Act, Act>(
+            QINIT_BIT,
+            to,
+            &Act::Fast,
+            &mut self.seen,
+            &mut self.pens,
+        );
+        found == QINIT_BIT
+    }
+
+    /// Counts in a quick holder that gives the right back.
+    #[inline(always)]
+    pub fn add_one(&mut self, word: &CellWord)
+        requires word { IsWord word.now self.old.seen.book 0 }
+        requires can { CanAdd (own_of self.old).task.step }
+        ensures book { self.new.seen.book ≡ self.old.seen.book }
+        ensures did { Did (own_of self.old) [] (add_next (own_of self.old).task.step) (own_of self.new) }
+    {
+        word.fetch_add::<Act, Act>(1, &Act::AddOne, &mut self.seen, &mut self.pens);
+    }
+
+    /// Counts the task out, and answers the word after it.
+    #[inline(always)]
+    pub fn count_out(&mut self, word: &CellWord) -> u64
+        requires word { IsWord word.now self.old.seen.book 0 }
+        requires can { CanCountOut (own_of self.old).task.step }
+        ensures book { self.new.seen.book ≡ self.old.seen.book }
+        ensures did { Did (own_of self.old) [] (out_next (flags_of result) (own_of self.old).task.step)
+            (own_of self.new) }
+    {
+        let found = word.fetch_sub::<Act, Act>(1, &Act::CountOut, &mut self.seen, &mut self.pens);
+        found - 1
+    }
+
+    /// Counts the task in, or answers that as many are counted as may be. `None` says that another task
+    /// changed the word between the load and the exchange: then nothing was done.
+    #[inline(always)]
+    pub fn try_count_in(&mut self, word: &CellWord) -> Option<Counted>
+        requires word { IsWord word.now self.old.seen.book 0 }
+        requires can { CanCountIn (own_of self.old).task.step }
+        ensures book { self.new.seen.book ≡ self.old.seen.book }
+        ensures did { MatchOption result (Stayed (own_of self.old) (own_of self.new))
+            (λ c. Did (own_of self.old) [] (in_next (is_in c) (finds_ready c) (own_of self.old).task.step)
+            (own_of self.new)) }
+    {
+        let before = word.load::<Act, Act>(&Act::Full, &mut self.seen, &mut self.pens);
+        if before % QINIT_BIT >= MAX_WAITERS {
+            if before >= READY_BIT {
+                return Some(Counted::SeenReady);
+            }
+            return Some(Counted::Full);
+        }
+        let found = word.compare_exchange::<Act, Act>(
+            before,
+            before + 1,
+            &Act::Enter(before),
+            &mut self.seen,
+            &mut self.pens,
+        );
+        if found == before {
+            return Some(Counted::In(before));
+        }
+        None
+    }
+
+    /// Sees whether no queue was ever put: then there is none to take, and that was the step.
+    #[inline(always)]
+    pub fn finds_none_put(&mut self, has_put: &CellWord) -> bool
+        requires word { IsWord has_put.now self.old.seen.book 1 }
+        requires can { CanTake (own_of self.old).task.step }
+        ensures book { self.new.seen.book ≡ self.old.seen.book }
+        ensures none { result ≡ true
+            → Did (own_of self.old) [] (take_next (own_of self.old).task.step) (own_of self.new) }
+        ensures some { result ≡ false → Stayed (own_of self.old) (own_of self.new) }
+    {
+        has_put.load::<Act, Act>(&Act::NonePut, &mut self.seen, &mut self.pens) == 0
+    }
+
+    /// Begins a poll.
+    #[inline(always)]
+    pub fn begin(&mut self)
+        requires can { is_resting (own_of self.old).task.step ≡ true }
+        ensures book { self.new.seen.book ≡ self.old.seen.book }
+        ensures did { Turned (own_of self.old) (task_begun (own_of self.old).number (own_of self.old).task)
+            (Begin (own_of self.old).number (own_of self.old).number ∷ []) (own_of self.new) }
+    {
+        self.seen.note::<Act, Act>(&mut self.pens, &Act::Begin);
+    }
+
+    /// Begins a drop.
+    #[inline(always)]
+    pub fn begin_drop(&mut self)
+        requires can { is_resting (own_of self.old).task.step ≡ true }
+        ensures book { self.new.seen.book ≡ self.old.seen.book }
+        ensures did { Turned (own_of self.old) (task_dropping (own_of self.old).task)
+            (reverse (drop_entries (own_of self.old).number (step_of_drop (own_of self.old).task.step)))
+            (own_of self.new) }
+    {
+        self.seen.note::<Act, Act>(&mut self.pens, &Act::BeginDrop);
+    }
+
+    /// What the task has seen of the log.
+    #[inline(always)]
+    pub fn seen(&self) -> &Record
+        ensures { result.now ≡ self.now.seen }
+    {
+        &self.seen
+    }
+
+    /// The number of the task.
+    #[inline(always)]
+    pub fn mark(&self) -> Mark
+        ensures { result ≡ (own_of self.now).number }
+    {
+        Mark::of(&self.pens)
+    }
+
+    // The init was polled, and answered so. Who polls it says this: see `pollable`.
+    #[inline(always)]
+    pub(crate) fn ran(&mut self, answer: Polled)
+        requires right { HasRight self.old }
+        ensures ran { HasRun self.old answer self.new }
+    {
+        self.seen
+            .note::<Act, Act>(&mut self.pens, &Act::Ran(answer));
+    }
+
+    /// The copy of the waker was refused, after a look that found a holder.
+    #[inline(always)]
+    pub fn refused(&mut self)
+        requires can { CanRefuse (own_of self.old).task.step }
+        ensures book { self.new.seen.book ≡ self.old.seen.book }
+        ensures did { Turned (own_of self.old)
+            (record (own_of self.old).task { step = refused_step (own_of self.old).task.step }) [] (own_of self.new) }
+    {
+        self.seen.note::<Act, Act>(&mut self.pens, &Act::Refused);
+    }
+
+    /// Memory for a queue was refused.
+    #[inline(always)]
+    pub fn unput(&mut self)
+        requires can { (own_of self.old).task.step ≡ UnderWay AtDoorPut }
+        ensures book { self.new.seen.book ≡ self.old.seen.book }
+        ensures did { Did (own_of self.old) [] (put_next None) (own_of self.new) }
+    {
+        self.seen.note::<Act, Act>(&mut self.pens, &Act::Unput);
+    }
+
+    /// Puts the value that the init gave. Nothing can refuse it.
+    #[inline(always)]
+    pub fn put<T>(&mut self, slot: &CellSlot<T>, value: T) -> Written<T>
+        requires slot { (slot.now.book ≡ self.old.seen.book) × (slot.now.key ≡ 2) }
+        requires can { CanFill (own_of self.old).task.step }
+        ensures book { self.new.seen.book ≡ self.old.seen.book }
+        ensures did { Did (own_of self.old) [] (fill_next (own_of self.old).task.step) (own_of self.new) }
+        ensures written { (result.of ≡ slot.now.id) × (result.value ≡ value) }
+    {
+        slot.put::<(), Writes, Puts>(value, &(), &mut self.seen, &mut self.pens)
+    }
+}
+
+impl Hand {
+    ghost use Rattle.std.specs.Prelude.{◌≢◌};
+    ghost use mathlib.Core.List.{IsPrefix};
+    ghost use Rattle.once_parts.specs.Hands.{own_of};
+    ghost use Rattle.once_parts.specs.Kept.{entries_of};
+    ghost use Rattle.once_parts.specs.Record.{IsSet};
+
+    /// The task learns what a record of its cell has.
+    #[inline(always)]
+    pub fn learn(&mut self, seen: &Record)
+        requires book { seen.now.book ≡ self.old.seen.book }
+        ensures book { self.new.seen.book ≡ self.old.seen.book }
+        ensures number { (own_of self.new).number ≡ (own_of self.old).number }
+        ensures task { (own_of self.new).task ≡ (own_of self.old).task }
+        ensures log { IsPrefix (own_of self.old).log (own_of self.new).log
+            × IsPrefix seen.now.log (own_of self.new).log }
+        ensures mine { entries_of (own_of self.old).number (own_of self.new).log
+            ≡ entries_of (own_of self.old).number (own_of self.old).log }
+        ensures own_set { IsSet (own_of self.old).log → IsSet (own_of self.new).log }
+        ensures other_set { IsSet seen.now.log → IsSet (own_of self.new).log }
+    {
+        let before = self.seen.again();
+        self.seen.learn(seen);
+        has_learned(&mut self.seen, &mut self.pens);
+        stays_set(&before, &self.seen);
+        stays_set(seen, &self.seen);
+    }
+
+    /// Shows that two hands of one book are of two tasks. It does nothing, but that the first may learn more of the
+    /// record.
+    #[inline(always)]
+    pub fn are_two(a: &mut Hand, b: &mut Hand)
+        requires book { b.old.seen.book ≡ a.old.seen.book }
+        ensures book { (a.new.seen.book ≡ a.old.seen.book) × (b.new.seen.book ≡ b.old.seen.book) }
+        ensures number { (own_of a.new).number ≡ (own_of a.old).number }
+        ensures task { (own_of a.new).task ≡ (own_of a.old).task }
+        ensures log { IsPrefix (own_of a.old).log (own_of a.new).log }
+        ensures set { IsSet (own_of a.old).log → IsSet (own_of a.new).log }
+        ensures other { own_of b.new ≡ own_of b.old }
+        ensures two { (own_of a.new).number ≢ (own_of b.new).number }
+    {
+        let before = a.seen.again();
+        are_two(&mut a.seen, &mut a.pens, &mut b.pens);
+        stays_set(&before, &a.seen);
+    }
+}
+
+/// A hand shows the right where its task stands at the place where it polls its init.
+impl RunRight for Hand {
+    ghost use Rattle.once_parts.specs.Hands.{HasRight, HasRun};
+
+    ghost can = { HasRight };
+
+    ghost ran = { HasRun };
+}
+
+// The word that a fast release leaves.
+#[inline(always)]
+fn freed(ready: bool) -> u64
+    ensures { result ≡ (if ready then 2 ^ 63 else 0) }
+{
+    if ready { READY_BIT } else { NEW }
+}
