@@ -1,5 +1,5 @@
 -- Each moment of a task alone keeps the rule of the book, and tells what it is to tell.
-use Rattle.std.proofs.Common.{◌≡◌, ◌<◌, ◌+◌, ◌-◌, ◌%◌, ◌^◌, ◌==◌, ℕ, Bool, true, false, cond, List, [], ◌∷◌, refl, sym, subst, arith}
+use Rattle.std.proofs.Common.{◌≡◌, ◌<◌, ◌+◌, ◌==◌, ℕ, Bool, true, false, cond, List, [], ◌∷◌, Some, refl, sym, subst, arith}
 use Rattle.std.specs.Prelude.{nat_lt}
 use Rattle.std.proofs.lemmas.Bool.Decides.{nat_tests}
 use prog.Atomic.{either}
@@ -7,24 +7,22 @@ use Rattle.pagebook.specs.Pages.{Held, Moves, Notes, View}
 use Rattle.once_queue.specs.Word.{flags_of}
 use Rattle.once_core.specs.declared.step.Polled.{Polled}
 use Rattle.once_core.specs.declared.step.Polled.TheVariants.{Pending, Value, Error}
-use Rattle.once_queue.specs.Word.{is_ready_bit, is_zero}
 use Rattle.once_core.specs.Steps.{is_resting, step_of_drop}
-use Rattle.once_core.specs.Table.{after_count_out, after_fast, after_count_in, after_load, after_quick, after_run, after_start, closing_end, next_at, next_end}
+use Rattle.once_core.specs.Table.{Call, Load, Quick, Fast, AddOne, CountOut, Told, after, after_count_in, after_run, call_at, closing_end, next_end}
 use Rattle.once_world.specs.Record.{Begin, Entry, Ran}
 use Rattle.once_world.specs.declared.record.Ran.TheVariants.{Pending as RanPending, Value as RanValue, Error as RanError}
 use Rattle.once_world.specs.Book.{TaskState, refused_step}
-use Rattle.once_world.specs.Machine.{AtAddOne, AtCountIn, AtCountOut, AtDoorPut, AtDoorTake, AtFast, AtList, AtRun, AtStart}
-use Rattle.once_world.specs.Machine.{AtDoorAgain, AtTryQuick, AtWaitLoad, EndMemory, Ending, Step, UnderWay, claim_entries, freed_entries, is_value, kept_after}
+use Rattle.once_world.specs.Machine.{AtCountIn, AtDoorPut, AtDoorTake, AtList, AtRun, EndMemory, Ending, Place, Step, UnderWay, keeps, kept_after, records}
+use Rattle.once_world.specs.Words.{IsFound, IsWordCall, found, word_after}
 use Rattle.once_parts.specs.Kept.{Adds, Grew, IsKept, Leaves, Sheet, hand, most, sheets}
-use Rattle.once_parts.proofs.Moments.Moves.Words.{add_moves, fast_moves, full_moves, full_page, full_told, in_moves, in_page}
-use Rattle.once_parts.proofs.Moments.Moves.Words.{none_moves, none_page, none_told, out_moves, quick_moves, start_moves, wait_moves}
+use Rattle.once_parts.proofs.Moments.Moves.Words.{full_moves, full_page, full_told, in_moves, in_page, none_moves, none_page, none_told, word_moves, word_of_t}
 use Rattle.once_parts.proofs.Moments.Moves.Calls.{begun_notes, copy_notes, dropped_notes, made_notes, ran_notes, unput_notes}
-use Rattle.once_parts.specs.declared.act.Act.TheVariants.{Load, Quick, Fast, AddOne, CountOut, Full, Enter, NonePut, Begin as BeginPoll, BeginDrop, Ran as InitRan, Refused, Unput}
-use Rattle.once_parts.specs.Own.{IsHand, number_in, task_in, told}
+use Rattle.once_parts.specs.declared.act.Act.TheVariants.{Full, Enter, NonePut, Begin as BeginPoll, BeginDrop, Ran as InitRan, Refused, Unput}
+use Rattle.once_parts.specs.Own.{IsHand, Turned, number_in, own_in, task_in, told}
+use Rattle.once_parts.specs.Page.{Went, WordTells, call_in, given_in, next_of}
 use Rattle.once_parts.specs.Acts.{Goes, Makes, Stays, Tells, Turns}
-use Rattle.once_parts.specs.Places.{CanAdd, CanCountIn, CanCountOut, CanFast, CanLoad, CanRefuse, CanRun, CanTake}
-use Rattle.once_parts.specs.Places.{add_next, fast_next, in_next, load_next, out_next, run_next, take_next, unnamed}
-use Rattle.once_parts.proofs.Moments.Mine.{claim_of, drop_of, freed_of, one_of, told_of}
+use Rattle.once_parts.specs.Places.{CanCountIn, CanRefuse, CanRun, CanTake, in_next, run_next, take_next, unnamed}
+use Rattle.once_parts.proofs.Moments.Mine.{drop_of, one_of, told_of}
 use Rattle.once_queue.proofs.Listing.Members.{eqb_self}
 use Rattle.once_parts.proofs.Tells.{leaves_stays, leaves_turns, moves_tell, notes_tell}
 
@@ -33,38 +31,31 @@ module _ (seen : List Entry) (t : ℕ) (x : TaskState) where
   abbrev own : View Entry Sheet
   own = (seen, sheets seen (hand t x))
 
-  -- a load
-  load_by : (s : Step ℕ ℕ) → x.step ≡ s → CanLoad s → Moves IsKept own 0 (λ n. n) (λ n w. Goes own [] (load_next (flags_of n) s) w)
-  load_by (UnderWay AtStart) at can = moves_tell IsKept own 0 (λ n. n) _ _ (λ n w r. leaves_turns seen t x _ _ w (told_of t x.kept (after_start (flags_of n).ready (is_zero (flags_of n))) [] tt) r.1) (start_moves seen t x at)
-  load_by (UnderWay (AtWaitLoad q k)) at can = moves_tell IsKept own 0 (λ n. n) _ _ (λ n w r. leaves_turns seen t x _ _ w (told_of t x.kept (after_load (flags_of n).ready q k) [] tt) r.1) (wait_moves seen t x q k at)
-  load_by _ at can = absurd can
+  -- the page went on from the step s
+  abbrev WentAt : Step ℕ ℕ → Told ℕ ℕ → View Entry Sheet → Type 0
+  WentAt s e w =
+      Turned (own_in own) (record x { step = (next_of s x.waker e).step; kept = keeps e (given_in e) x.kept })
+      (told t (keeps e (given_in e) x.kept) (next_of s x.waker e) (records e (given_in e) t x.kept [])) (own_in w)
 
-  -- the quick claim
-  quick_own : x.step ≡ UnderWay AtTryQuick → Moves IsKept own 0 (λ n. either (n == 0) (2 ^ 62) n) (Tells Quick own)
-  quick_own at = moves_tell IsKept own 0 (λ n. either (n == 0) (2 ^ 62) n) _ _ (λ n w r. leaves_turns seen t x _ _ w (told_of t x.kept (after_quick (n == 0)) (claim_entries (n == 0) t) (claim_of t (n == 0))) r.1) (quick_moves seen t x at)
+  -- what is found is no answer of an init
+  found_quiet : (c : Call ℕ ℕ) (n : ℕ) (p : Place ℕ ℕ) (w : View Entry Sheet) → IsWordCall c
+      → Turned (own_in own) (record x { step = (after (Some x.waker) p (found c n)).step }) (told t x.kept (after (Some x.waker) p (found c n)) (records (found c n) RanPending t x.kept [])) (own_in w)
+      → WentAt (UnderWay p) (found c n) w
+  found_quiet Load n p w i d = d
+  found_quiet Quick n p w i d = d
+  found_quiet (Fast fills) n p w i d = d
+  found_quiet AddOne n p w i d = d
+  found_quiet CountOut n p w i d = d
+  found_quiet _ n p w i d = absurd i
 
-  -- the fast release, by the value of its ending
-  fast_as : (r : Bool) (s : Step ℕ ℕ) → x.step ≡ s → CanFast r s
-      → Moves IsKept own 0 (λ n. either (n == 2 ^ 62) (cond r (2 ^ 63) 0) n) (λ n w. Goes own (freed_entries (n == 2 ^ 62) t x.kept) (fast_next (n == 2 ^ 62) s) w)
-  fast_as r (UnderWay (AtFast e)) at can =
-      subst (λ v. Moves IsKept own 0 (λ n. either (n == 2 ^ 62) (cond v (2 ^ 63) 0) n) (λ n w. Goes own (freed_entries (n == 2 ^ 62) t x.kept) (after_fast (n == 2 ^ 62) (is_value e) e) w)) can
-      (moves_tell IsKept own 0 (λ n. either (n == 2 ^ 62) (cond (is_value e) (2 ^ 63) 0) n) _ _ (λ n w r. leaves_turns seen t x _ _ w (told_of t x.kept (after_fast (n == 2 ^ 62) (is_value e) e) (freed_entries (n == 2 ^ 62) t x.kept) (freed_of t (n == 2 ^ 62) x.kept)) r.1) (fast_moves seen t x e at))
-  fast_as r _ at can = absurd can
-
-  -- the addition
-  add_by : (s : Step ℕ ℕ) → x.step ≡ s → CanAdd s → Moves IsKept own 0 (λ n. (n + 1) % 2 ^ 64) (λ n w. Goes own [] (add_next s) w)
-  add_by (UnderWay (AtAddOne e)) at can = moves_tell IsKept own 0 (λ n. (n + 1) % 2 ^ 64) _ _ (λ n w r. leaves_turns seen t x _ _ w (told_of t x.kept (next_at (AtDoorAgain e)) [] tt) r.1) (add_moves seen t x e at)
-  add_by _ at can = absurd can
-
-  -- who counts itself out was counted
-  counted : (n : ℕ) → 0 < (flags_of n).count → 0 < n
-  counted n l = omega (arith, l)
-
-  -- the subtraction
-  out_by : (s : Step ℕ ℕ) → x.step ≡ s → CanCountOut s → Moves IsKept own 0 (λ n. (n + (2 ^ 64 - 1)) % 2 ^ 64) (λ n w. (0 < n) × Goes own [] (out_next (flags_of (n - 1)) s) w)
-  out_by (UnderWay (AtCountOut e)) at can =
-      moves_tell IsKept own 0 (λ n. (n + (2 ^ 64 - 1)) % 2 ^ 64) _ _ (λ n w r. (counted n r.0, leaves_turns seen t x _ _ w (told_of t x.kept (after_count_out (is_ready_bit (flags_of (n - 1))) e) [] tt) r.1)) (out_moves seen t x e at)
-  out_by _ at can = absurd can
+  -- a step of the word, by the step at which the task stands
+  word_by : (s : Step ℕ ℕ) → x.step ≡ s → IsWordCall (call_in s)
+      → Moves IsKept own 0 (word_after (call_in s)) (λ n w. IsHand w.0 w.1 × IsFound (call_in s) n × WentAt s (found (call_in s) n) w)
+  word_by (UnderWay p) at is = moves_tell IsKept own 0 (word_after (call_at p)) _ _
+      (λ n w r. let l = leaves_turns seen t x _ _ w (told_of t x.kept (after (Some x.waker) p (found (call_at p) n)) (records (found (call_at p) n) RanPending t x.kept []) (word_of_t seen t x (call_at p) n)) r.1 in
+      (l.0, r.0, found_quiet (call_at p) n p w is l.1))
+      (word_moves seen t x p at is)
+  word_by _ at is = absurd is
 
   -- a load before an exchange, by whether there is room, and whether the value is set
   full_tells : (q n : ℕ) (b r : Bool) (w : View Entry Sheet) → (flags_of n).ready ≡ r → Leaves seen (hand t x) (full_page seen t x q n b) (full_told seen t x q n b) w
@@ -135,20 +126,9 @@ module _ (seen : List Entry) (h : Held Sheet) (is : IsHand seen h) where
       → Notes IsKept (seen, sheets seen (hand (number_in h) (task_in h))) (then (seen, sheets seen (hand (number_in h) (task_in h)))) → Notes IsKept (seen, h) (then (seen, h))
   of_noting then m = subst (λ g. Notes IsKept (seen, g) (then (seen, g))) (sym is) m
 
-  pub load_keeps : CanLoad (task_in h).step → Moves IsKept (seen, h) 0 (λ n. n) (Tells Load (seen, h))
-  load_keeps can = of_hand 0 (λ n. n) (Tells Load) (load_by seen (number_in h) (task_in h) (task_in h).step refl can)
-
-  pub quick_keeps : (task_in h).step ≡ UnderWay AtTryQuick → Moves IsKept (seen, h) 0 (λ n. either (n == 0) (2 ^ 62) n) (Tells Quick (seen, h))
-  quick_keeps at = of_hand 0 (λ n. either (n == 0) (2 ^ 62) n) (Tells Quick) (quick_own seen (number_in h) (task_in h) at)
-
-  pub fast_keeps : (r : Bool) → CanFast r (task_in h).step → Moves IsKept (seen, h) 0 (λ n. either (n == 2 ^ 62) (cond r (2 ^ 63) 0) n) (Tells Fast (seen, h))
-  fast_keeps r can = of_hand 0 (λ n. either (n == 2 ^ 62) (cond r (2 ^ 63) 0) n) (Tells Fast) (fast_as seen (number_in h) (task_in h) r (task_in h).step refl can)
-
-  pub add_keeps : CanAdd (task_in h).step → Moves IsKept (seen, h) 0 (λ n. (n + 1) % 2 ^ 64) (Tells AddOne (seen, h))
-  add_keeps can = of_hand 0 (λ n. (n + 1) % 2 ^ 64) (Tells AddOne) (add_by seen (number_in h) (task_in h) (task_in h).step refl can)
-
-  pub out_keeps : CanCountOut (task_in h).step → Moves IsKept (seen, h) 0 (λ n. (n + (2 ^ 64 - 1)) % 2 ^ 64) (Tells CountOut (seen, h))
-  out_keeps can = of_hand 0 (λ n. (n + (2 ^ 64 - 1)) % 2 ^ 64) (Tells CountOut) (out_by seen (number_in h) (task_in h) (task_in h).step refl can)
+  pub word_keeps : (c : Call ℕ ℕ) → IsWordCall c → call_in (task_in h).step ≡ c → Moves IsKept (seen, h) 0 (word_after c) (WordTells (seen, h))
+  word_keeps c w at = subst (λ c. Moves IsKept (seen, h) 0 (word_after c) (WordTells (seen, h))) at
+      (of_hand 0 (word_after (call_in (task_in h).step)) WordTells (word_by seen (number_in h) (task_in h) (task_in h).step refl (subst IsWordCall (sym at) w)))
 
   pub full_keeps : CanCountIn (task_in h).step → Moves IsKept (seen, h) 0 (λ n. n) (Tells Full (seen, h))
   full_keeps can = of_hand 0 (λ n. n) (Tells Full) (full_by seen (number_in h) (task_in h) (task_in h).step refl can)
@@ -187,3 +167,7 @@ pub room_stays : (n : ℕ) (v w : View Entry Sheet) → (flags_of n).count < mos
 room_stays n v w l told =
     let room : nat_lt (flags_of n).count most ≡ true = grind (arith, nat_tests, l) in
     subst (λ b. cond b (Stays v w) (Goes v [] (in_next false (flags_of n).ready (task_in v.1).step) w)) room told
+
+-- and is told this
+pub word_told : (v w : View Entry Sheet) (c : Call ℕ ℕ) (n : ℕ) → call_in (task_in v.1).step ≡ c → WordTells v n w → Went (own_in v) (found c n) [] (own_in w)
+word_told v w c n at told = subst (λ c. Went (own_in v) (found c n) [] (own_in w)) at told.2

@@ -1,18 +1,18 @@
 -- What each moment of a task alone tells of it: of the number found in the word, from one view of the book to the next.
-use Rattle.std.specs.Prelude.{◌≡◌, ℕ, suc, ◌-◌, ◌<◌, ◌^◌, ◌==◌, true, false, cond, nat_lt, List, [], ◌∷◌, reverse, None}
+use Rattle.std.specs.Prelude.{◌≡◌, ℕ, suc, ◌==◌, true, false, cond, nat_lt, List, [], ◌∷◌, reverse, None}
 use Rattle.pagebook.specs.Pages.{View}
 use Rattle.once_queue.specs.Word.{flags_of}
 use Rattle.once_core.specs.Steps.{step_of_drop}
-use Rattle.once_core.specs.Table.{Next, after_quick}
+use Rattle.once_core.specs.Table.{Next}
 use Rattle.once_world.specs.Record.{Begin, Entry, Made, Ran}
 use Rattle.once_world.specs.Book.{TaskState, refused_step}
-use Rattle.once_world.specs.Machine.{claim_entries, drop_entries, fresh_task, freed_entries}
+use Rattle.once_world.specs.Machine.{drop_entries, fresh_task}
 use Rattle.once_parts.specs.Kept.{Grew, Sheet, entries_of, hand, most, sheets, writing_sheet}
 use Rattle.once_parts.specs.declared.act.Act.{Act}
-use Rattle.once_parts.specs.declared.act.Act.TheVariants.{Load, Quick, Fast, AddOne, CountOut, Full, Enter, NonePut}
+use Rattle.once_parts.specs.declared.act.Act.TheVariants.{Full, Enter, NonePut}
 use Rattle.once_parts.specs.declared.act.Act.TheVariants.{Begin as BeginPoll, BeginDrop, Ran as InitRan, Refused, Unput}
 use Rattle.once_parts.specs.Own.{IsHand, Stayed, Turned, number_in, own_in, task_in, told}
-use Rattle.once_parts.specs.Places.{load_next, fast_next, add_next, out_next, in_next}
+use Rattle.once_parts.specs.Places.{in_next}
 use Rattle.once_parts.specs.Places.{put_next, take_next, run_next, fill_next}
 use Rattle.once_parts.specs.Places.{task_begun, task_dropping, task_run, unnamed}
 
@@ -31,13 +31,6 @@ Stays v w = IsHand w.0 w.1 × Stayed (own_in v) (own_in w)
 
 -- each moment
 abbrev pub Tells : Act → View Entry Sheet → ℕ → View Entry Sheet → Type 0
-Tells Load v n w = Goes v [] (load_next (flags_of n) (task_in v.1).step) w
-Tells Quick v n w = Goes v (claim_entries (n == 0) (number_in v.1)) (after_quick (n == 0)) w
-Tells Fast v n w =
-    Goes v (freed_entries (n == 2 ^ 62) (number_in v.1) (task_in v.1).kept)
-    (fast_next (n == 2 ^ 62) (task_in v.1).step) w
-Tells AddOne v n w = Goes v [] (add_next (task_in v.1).step) w
-Tells CountOut v n w = (0 < n) × Goes v [] (out_next (flags_of (n - 1)) (task_in v.1).step) w
 Tells Full v n w =
     cond (nat_lt (flags_of n).count most) (Stays v w)
     (Goes v [] (in_next false (flags_of n).ready (task_in v.1).step) w)

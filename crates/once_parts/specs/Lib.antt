@@ -3,6 +3,7 @@ pub mod Named
 pub mod Kept
 pub mod Own
 pub mod Places
+pub mod Page
 pub mod Acts
 pub mod Desk
 pub mod Sections

@@ -2,18 +2,18 @@
 use Rattle.std.specs.Prelude.{◌≡◌, ℕ, ⊤, [], ◌∷◌}
 use Rattle.std.specs.Option.{is_some}
 use Rattle.pagebook.specs.Slot.{Placed}
-use Rattle.once_core.specs.Table.{after_quick}
 use Rattle.once_core.specs.Table.{Call, Load, Quick, Fast, CountIn, AddOne, CountOut, DoorGet, DoorPut, DoorTake}
 use Rattle.once_core.specs.Table.{Section, Refuse, Run, Put}
 use Rattle.once_core.specs.Table.{Told, Loaded, TriedQuick, TriedFast, CountedIn, Added, CountedOut, Got, PutQueue}
 use Rattle.once_core.specs.Table.{Taken, Was, Refused, Ran as Polled, PutValue}
 use Rattle.once_world.specs.Record.{Ran}
 use Rattle.once_world.specs.Book.{refused_step}
-use Rattle.once_world.specs.Machine.{AtDoorPut, AtTryQuick, Step, UnderWay, claim_entries, freed_entries}
+use Rattle.once_world.specs.Machine.{AtDoorPut, Step, UnderWay}
 use Rattle.once_parts.specs.Own.{Did, Own, Turned, told}
-use Rattle.once_parts.specs.Places.{CanLoad, CanFast, CanAdd, CanCountOut, CanCountIn}
+use Rattle.once_parts.specs.Page.{Went, call_in}
+use Rattle.once_parts.specs.Places.{CanCountIn}
 use Rattle.once_parts.specs.Places.{CanGet, CanTake, CanRun, CanFill, CanRefuse}
-use Rattle.once_parts.specs.Places.{load_next, fast_next, add_next, out_next, in_next}
+use Rattle.once_parts.specs.Places.{in_next}
 use Rattle.once_parts.specs.Places.{get_next, put_next, take_next, run_next, fill_next}
 use Rattle.once_parts.specs.Places.{numbered, task_run, unnamed}
 use Rattle.once_parts.specs.Handed.{CanSection, DidSection}
@@ -21,12 +21,12 @@ use Rattle.once_parts.specs.Handed.{CanSection, DidSection}
 module _ {W : Type 0} (whose : W → ℕ) where
   -- what each call asks: the task stands where it is made
   abbrev pub CanCall : Step ℕ ℕ → Call W ⊤ → Type 0
-  CanCall s Load = CanLoad s
-  CanCall s Quick = s ≡ UnderWay AtTryQuick
-  CanCall s (Fast fills) = CanFast fills s
+  CanCall s Load = call_in s ≡ Load
+  CanCall s Quick = call_in s ≡ Quick
+  CanCall s (Fast fills) = call_in s ≡ Fast fills
   CanCall s CountIn = CanCountIn s
-  CanCall s AddOne = CanAdd s
-  CanCall s CountOut = CanCountOut s
+  CanCall s AddOne = call_in s ≡ AddOne
+  CanCall s CountOut = call_in s ≡ CountOut
   CanCall s DoorGet = CanGet s
   CanCall s DoorPut = s ≡ UnderWay AtDoorPut
   CanCall s DoorTake = CanTake s
@@ -37,12 +37,12 @@ module _ {W : Type 0} (whose : W → ℕ) where
 
   -- what each call tells
   abbrev pub DidCall : Own → Told W ⊤ → Own → Type 0
-  DidCall v (Loaded word) w = Did v [] (load_next word v.task.step) w
-  DidCall v (TriedQuick won) w = Did v (claim_entries won v.number) (after_quick won) w
-  DidCall v (TriedFast fills won) w = Did v (freed_entries won v.number v.task.kept) (fast_next won v.task.step) w
+  DidCall v (Loaded word) w = Went v (Loaded word) [] w
+  DidCall v (TriedQuick won) w = Went v (TriedQuick won) [] w
+  DidCall v (TriedFast fills won) w = Went v (TriedFast fills won) [] w
   DidCall v (CountedIn is_in ready) w = Did v [] (in_next is_in ready v.task.step) w
-  DidCall v Added w = Did v [] (add_next v.task.step) w
-  DidCall v (CountedOut word) w = Did v [] (out_next word v.task.step) w
+  DidCall v Added w = Went v Added [] w
+  DidCall v (CountedOut word) w = Went v (CountedOut word) [] w
   DidCall v (Got q) w = (n : ℕ) × Did v [] (get_next (numbered n (is_some q)) v.task.step) w
   DidCall v (PutQueue q) w = (n : ℕ) × Did v [] (put_next (numbered n (is_some q))) w
   DidCall v (Taken stood) w = Did v [] (take_next v.task.step) w

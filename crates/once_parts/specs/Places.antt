@@ -1,66 +1,24 @@
 -- The table of places, by what a thread does there: at which places a task may do it, and where the table leads then.
 use Rattle.std.specs.Prelude.{◌≡◌, ℕ, Bool, true, false, Option, Some, None}
-use Rattle.once_queue.specs.Word.{Flags, is_zero, is_ready_bit}
 use Rattle.once_queue.specs.declared.waiters.Answer.{Answer as SectionAnswer}
 use Rattle.once_core.specs.declared.step.Polled.{Polled}
 use Rattle.once_core.specs.declared.step.Polled.TheVariants.{Pending, Value, Error}
 use Rattle.once_core.specs.Steps.{release_place, step_of_drop, step_of_poll}
 use Rattle.once_core.specs.Table.{Next, next_at, next_end}
-use Rattle.once_core.specs.Table.{after_start, after_door_get, after_door_put, after_count_in}
-use Rattle.once_core.specs.Table.{after_load, after_look, after_list}
-use Rattle.once_core.specs.Table.{after_run, after_fast, after_door_again, after_count_out}
+use Rattle.once_core.specs.Table.{after_door_get, after_door_put, after_count_in}
+use Rattle.once_core.specs.Table.{after_look, after_list}
+use Rattle.once_core.specs.Table.{after_run, after_door_again}
 use Rattle.once_world.specs.declared.record.Ran.{Ran as Answer}
 use Rattle.once_world.specs.declared.record.Ran.TheVariants.{Pending as RanPending, Value as RanValue}
 use Rattle.once_world.specs.declared.record.Ran.TheVariants.{Error as RanError}
 use Rattle.once_world.specs.Book.{TaskState}
-use Rattle.once_world.specs.Machine.{AtStart, AtDoorGet, AtCountIn, AtWaitLoad, AtLook, AtList, AtRun, AtPut}
-use Rattle.once_world.specs.Machine.{AtFast, AtAddOne, AtDoorAgain, AtRelease, AtLeave, AtCountOut, AtDoorTake}
+use Rattle.once_world.specs.Machine.{AtStart, AtDoorGet, AtCountIn, AtLook, AtList, AtRun, AtPut}
+use Rattle.once_world.specs.Machine.{AtDoorAgain, AtRelease, AtLeave, AtCountOut, AtDoorTake}
 use Rattle.once_world.specs.Machine.{EndValue, RestWait, Resting, Step, UnderWay, is_value, kept_after}
 
 -- at another place nothing of this is done, and it is left open where that would lead
 abbrev pub nowhere : Next ℕ ℕ
 nowhere = next_at AtStart
-
--- the word is loaded at the start of a first poll, and by a task that is counted
-abbrev pub CanLoad : Step ℕ ℕ → Type 0
-CanLoad (UnderWay AtStart) = Unit {0}
-CanLoad (UnderWay (AtWaitLoad q k)) = Unit {0}
-CanLoad _ = ⊥
-
--- by the word
-abbrev pub load_next : Flags → Step ℕ ℕ → Next ℕ ℕ
-load_next w (UnderWay (AtWaitLoad q k)) = after_load w.ready q k
-load_next w _ = after_start w.ready (is_zero w)
-
--- the fast release, with the value or without
-abbrev pub CanFast : Bool → Step ℕ ℕ → Type 0
-CanFast r (UnderWay (AtFast e)) = is_value e ≡ r
-CanFast r _ = ⊥
-
--- by whether it was done
-abbrev pub fast_next : Bool → Step ℕ ℕ → Next ℕ ℕ
-fast_next won (UnderWay (AtFast e)) = after_fast won (is_value e) e
-fast_next won _ = nowhere
-
--- a holder whose fast release was not done counts itself in
-abbrev pub CanAdd : Step ℕ ℕ → Type 0
-CanAdd (UnderWay (AtAddOne e)) = Unit {0}
-CanAdd _ = ⊥
-
--- to the door
-abbrev pub add_next : Step ℕ ℕ → Next ℕ ℕ
-add_next (UnderWay (AtAddOne e)) = next_at (AtDoorAgain e)
-add_next _ = nowhere
-
--- a task counts itself out
-abbrev pub CanCountOut : Step ℕ ℕ → Type 0
-CanCountOut (UnderWay (AtCountOut e)) = Unit {0}
-CanCountOut _ = ⊥
-
--- by the word after it
-abbrev pub out_next : Flags → Step ℕ ℕ → Next ℕ ℕ
-out_next w (UnderWay (AtCountOut e)) = after_count_out (is_ready_bit w) e
-out_next w _ = nowhere
 
 -- a task counts itself in
 abbrev pub CanCountIn : Step ℕ ℕ → Type 0

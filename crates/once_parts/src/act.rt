@@ -3,19 +3,9 @@ use crate::book::{Leaf, Line};
 use once_core::step::Polled;
 use pagebook::Play;
 
-/// What a task does by itself.
+/// What a task does by itself, but for a step of the word that is the call of its place.
 #[derive(Drop)]
 pub enum Act {
-    /// Loads the word.
-    Load,
-    /// Exchanges `NEW` for the quick bit.
-    Quick,
-    /// Exchanges the quick bit for the ready bit, or for `NEW`.
-    Fast,
-    /// Counts itself in, to give the right back.
-    AddOne,
-    /// Counts itself out.
-    CountOut,
     /// Loads the word, to count itself in: it may find as many counted as may be.
     Full,
     /// Counts itself in, where the word is still this one.
@@ -38,6 +28,15 @@ impl Play<Act, Line, Leaf> for Act {
     ghost use Rattle.once_parts.specs.Acts.{Tells};
 
     ghost then = { Tells };
+}
+
+/// A step of the word by a task alone, which is the call of its place.
+pub(crate) struct ByTable;
+
+impl Play<(), Line, Leaf> for ByTable {
+    ghost use Rattle.once_parts.specs.Page.{WordTells};
+
+    ghost then = { λ _. WordTells };
 }
 
 /// A task is made.

@@ -1,5 +1,5 @@
 //! A task's pen, with what the task has seen of the log, and the moments that the task makes by itself.
-ghost use Rattle.std.specs.Prelude.{◌≡◌, ◌^◌, if◌then◌else◌};
+ghost use Rattle.std.specs.Prelude.{◌≡◌};
 ghost use Rattle.once_parts.specs.Own.{IsHand};
 
 use crate::act::{Act, Makes, Puts, Writes};
@@ -9,7 +9,7 @@ use crate::mark::Mark;
 use crate::record::stays_set;
 use once_core::parts::Counted;
 use once_core::step::{Polled, RunRight};
-use once_queue::word::{MAX_WAITERS, NEW, QINIT_BIT, READY_BIT};
+use once_queue::word::{MAX_WAITERS, QINIT_BIT, READY_BIT};
 use pagebook::Written;
 
 /// What a task has of its cell's book. It has no bytes.
@@ -24,22 +24,17 @@ pub struct Hand {
 }
 
 impl Hand {
-    ghost use Rattle.std.specs.Prelude.{◌==◌, ◌-◌, ◌^◌, None, true, false, if◌then◌else◌, [], ◌∷◌, reverse};
+    ghost use Rattle.std.specs.Prelude.{None, true, false, [], ◌∷◌, reverse};
     ghost use Rattle.std.specs.Option.{MatchOption};
-    ghost use Rattle.once_queue.specs.Word.{flags_of};
     ghost use Rattle.once_core.specs.Steps.{is_resting, step_of_drop};
-    ghost use Rattle.once_core.specs.Table.{after_quick};
     ghost use Rattle.once_core.specs.Table.{is_in, finds_ready};
     ghost use Rattle.once_world.specs.Record.{Begin, Made};
     ghost use Rattle.once_world.specs.Book.{refused_step};
-    ghost use Rattle.once_world.specs.Machine.{AtDoorPut, AtTryQuick, UnderWay, fresh_task};
-    ghost use Rattle.once_world.specs.Machine.{claim_entries, drop_entries, freed_entries};
+    ghost use Rattle.once_world.specs.Machine.{AtDoorPut, UnderWay, drop_entries, fresh_task};
     ghost use Rattle.once_parts.specs.Kept.{Grew};
     ghost use Rattle.once_parts.specs.Own.{Did, IsWord, Stayed, Turned};
-    ghost use Rattle.once_parts.specs.Places.{CanLoad, CanFast, CanAdd, CanCountIn, CanCountOut, CanTake};
-    ghost use Rattle.once_parts.specs.Places.{CanFill, CanRefuse};
-    ghost use Rattle.once_parts.specs.Places.{load_next, fast_next, add_next, in_next, out_next};
-    ghost use Rattle.once_parts.specs.Places.{put_next, take_next, fill_next};
+    ghost use Rattle.once_parts.specs.Places.{CanCountIn, CanTake, CanFill, CanRefuse};
+    ghost use Rattle.once_parts.specs.Places.{in_next, put_next, take_next, fill_next};
     ghost use Rattle.once_parts.specs.Places.{task_begun, task_dropping};
     ghost use Rattle.once_parts.specs.Hands.{HasRight, HasRun, own_of};
 
@@ -54,81 +49,6 @@ impl Hand {
         let mut pens = seen.no_pens();
         seen.note::<(), Makes>(&mut pens, &());
         Hand { seen, pens }
-    }
-
-    /// The word.
-    #[inline(always)]
-    pub fn load(&mut self, word: &CellWord) -> u64
-        requires word { IsWord word.now self.old.seen.book 0 }
-        requires can { CanLoad (own_of self.old).task.step }
-        ensures book { self.new.seen.book ≡ self.old.seen.book }
-        ensures did { Did (own_of self.old) [] (load_next (flags_of result) (own_of self.old).task.step)
-            (own_of self.new) }
-    {
-        word.load::<Act, Act>(&Act::Load, &mut self.seen, &mut self.pens)
-    }
-
-    /// Exchanges `NEW` for the quick bit, and says whether it did.
-    #[inline(always)]
-    pub fn quick(&mut self, word: &CellWord) -> bool
-        requires word { IsWord word.now self.old.seen.book 0 }
-        requires can { (own_of self.old).task.step ≡ UnderWay AtTryQuick }
-        ensures book { self.new.seen.book ≡ self.old.seen.book }
-        ensures did { Did (own_of self.old) (claim_entries result (own_of self.old).number) (after_quick result)
-            (own_of self.new) }
-    {
-        let found = word.compare_exchange::<Act, Act>(
-            NEW,
-            QINIT_BIT,
-            &Act::Quick,
-            &mut self.seen,
-            &mut self.pens,
-        );
-        found == NEW
-    }
-
-    /// Exchanges the quick bit for the ready bit, or for `NEW`, and says whether it did.
-    #[inline(always)]
-    pub fn fast(&mut self, word: &CellWord, ready: bool) -> bool
-        requires word { IsWord word.now self.old.seen.book 0 }
-        requires can { CanFast ready (own_of self.old).task.step }
-        ensures book { self.new.seen.book ≡ self.old.seen.book }
-        ensures did { Did (own_of self.old) (freed_entries result (own_of self.old).number (own_of self.old).task.kept)
-            (fast_next result (own_of self.old).task.step) (own_of self.new) }
-    {
-        let to = freed(ready);
-        let found = word.compare_exchange::<Act, Act>(
-            QINIT_BIT,
-            to,
-            &Act::Fast,
-            &mut self.seen,
-            &mut self.pens,
-        );
-        found == QINIT_BIT
-    }
-
-    /// Counts in a quick holder that gives the right back.
-    #[inline(always)]
-    pub fn add_one(&mut self, word: &CellWord)
-        requires word { IsWord word.now self.old.seen.book 0 }
-        requires can { CanAdd (own_of self.old).task.step }
-        ensures book { self.new.seen.book ≡ self.old.seen.book }
-        ensures did { Did (own_of self.old) [] (add_next (own_of self.old).task.step) (own_of self.new) }
-    {
-        word.fetch_add::<Act, Act>(1, &Act::AddOne, &mut self.seen, &mut self.pens);
-    }
-
-    /// Counts the task out, and answers the word after it.
-    #[inline(always)]
-    pub fn count_out(&mut self, word: &CellWord) -> u64
-        requires word { IsWord word.now self.old.seen.book 0 }
-        requires can { CanCountOut (own_of self.old).task.step }
-        ensures book { self.new.seen.book ≡ self.old.seen.book }
-        ensures did { Did (own_of self.old) [] (out_next (flags_of result) (own_of self.old).task.step)
-            (own_of self.new) }
-    {
-        let found = word.fetch_sub::<Act, Act>(1, &Act::CountOut, &mut self.seen, &mut self.pens);
-        found - 1
     }
 
     /// Counts the task in, or answers that as many are counted as may be. `None` says that another task
@@ -312,12 +232,4 @@ impl RunRight for Hand {
     ghost can = { HasRight };
 
     ghost ran = { HasRun };
-}
-
-// The word that a fast release leaves.
-#[inline(always)]
-fn freed(ready: bool) -> u64
-    ensures { result ≡ (if ready then 2 ^ 63 else 0) }
-{
-    if ready { READY_BIT } else { NEW }
 }

@@ -10,13 +10,14 @@ ghost use Rattle.once_parts.specs.Shares.{cell_of, own};
 ghost use Rattle.once_parts.specs.Idle.{is_over, step_of};
 ghost use Rattle.once_parts.specs.Walks.{IsCall, Spans, StandsOn, end_of, handed};
 
-use crate::calls::{go_on, steps_left};
-use crate::idle::Idle;
-use crate::shared::{Inner, Shared};
-use crate::side::TaskSide;
 use crate::book::Record;
+use crate::calls::{go_on, steps_left};
 use crate::hand::Hand;
+use crate::idle::Idle;
+use crate::inner::Inner;
 use crate::mark::{Mark, TaskWaker};
+use crate::shared::Shared;
+use crate::side::TaskSide;
 use once_core::step::{Ending, Progress, Step};
 use once_queue::waiters::Renews;
 use pagebook::Written;

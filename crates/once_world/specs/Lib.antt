@@ -14,6 +14,7 @@ pub mod Log
 pub mod UnderLock
 pub mod Machine
 pub mod Book
+pub mod Words
 pub mod Can
 pub mod Side
 pub mod Shown

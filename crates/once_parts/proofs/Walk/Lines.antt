@@ -14,6 +14,7 @@ use Rattle.once_core.specs.declared.step.Polled.{Polled}
 use Rattle.once_core.specs.declared.step.Polled.TheVariants.{Pending, Value, Error}
 use Rattle.once_core.specs.Steps.{MayClose, SideTells, Wakes, out_of}
 use Rattle.once_core.specs.Table.{Follows, Next}
+use Rattle.once_core.specs.Table.{Added, CountedOut, Loaded, TriedFast, TriedQuick}
 use Rattle.once_core.specs.Table.{Line, Looked, MayRefuse, Refused, Was, wants_copy}
 use Rattle.once_world.specs.Places.{Ending, EndValue, More, Progress, Step, UnderWay}
 use Rattle.once_world.specs.Places.{Place, AtStart, AtTryQuick, AtDoorGet, AtDoorPut, AtCountIn, AtWaitLoad, AtLook, AtList}
@@ -27,10 +28,11 @@ use Rattle.once_world.specs.declared.record.Ran.TheVariants.{Error as RanError, 
 use Rattle.once_world.specs.Book.{TaskState, refused_step}
 use Rattle.once_world.specs.Machine.{claim_entries, freed_entries, is_claim, pass_entries, release_entry, kept_after}
 use Rattle.once_parts.specs.Steps.{answer_as, next_as}
-use Rattle.once_parts.proofs.Moments.Places.{at_add, at_again, at_count_in, at_count_out, at_fast, at_get, at_leave, at_list, at_load, at_look, at_release, at_run, at_start, at_take, at_value}
+use Rattle.once_parts.proofs.Moments.Places.{at_add, at_again, at_count_in, at_count_out, at_fast, at_get, at_leave, at_list, at_load, at_look, at_quick, at_release, at_run, at_start, at_take, at_value}
 use Rattle.once_parts.proofs.Moments.Steps.{again_as, copy_as, count_in_as, count_out_as, fast_as, get_as, list_as, load_as, look_as, put_as, quick_as, release_as, run_as, start_as}
 use Rattle.once_parts.specs.Own.{Did, Own, Turned, told}
-use Rattle.once_parts.specs.Places.{add_next, fast_next, fill_next, get_next, in_next, leave_next, list_next, load_next, look_next, numbered, out_next, release_next, run_next, take_next, unnamed}
+use Rattle.once_parts.specs.Page.{next_of}
+use Rattle.once_parts.specs.Places.{fill_next, get_next, in_next, leave_next, list_next, look_next, numbered, release_next, run_next, take_next, unnamed}
 use Rattle.once_parts.specs.Handed.{handed_in}
 use Rattle.once_parts.specs.Sides.{IsTold, Sided}
 use Rattle.once_parts.specs.Kept.{entries_of}
@@ -274,14 +276,16 @@ module _ {P S W : Type 0} (cell : P → Placed) (own : P → Own) (whose : W →
   line_went AtStart p p' s s' r r0 t is (n, (d, f)) =
       let ready : Bool = n.ready in
       let new : Bool = is_zero n in
-      let after : Did (own p) [] (after_start ready new) (own p') = subst (λ x. Did (own p) [] (load_next n x) (own p')) (at_start the_queue _ (sym is.step)) d.1 in
+      let after : Did (own p) [] (after_start ready new) (own p') = subst (λ x. Did (own p) [] (next_of x (own p).task.waker (Loaded n)) (own p')) (at_start the_queue _ (sym is.step)) d.1 in
       goes p p' s s' r t is.number (after_start ready new) (after_start ready new) (after_start ready new) [] d.0 after
       (start_as whose (λ (q : ⊤). q) ready new) (start_as (λ w. w) the_queue ready new) tt refl f
       (λ still. start_fits W ⊤ drops (state s') (own p') ready new (begun p p' s s' r t is.number [] (after_start ready new) is.fits.1 after still) (inits p p' s s' r t is.number is.fits.1 still))
   line_went AtTryQuick p p' s s' r r0 t is (won, (d, f)) =
-      goes p p' s s' r t is.number (after_quick won) (after_quick won) (after_quick won) (claim_entries won (own p).number) d.0 d.1
+      let did : List Entry = claim_entries won (own p).number in
+      let after : Did (own p) did (after_quick won) (own p') = subst (λ x. Did (own p) did (next_of x (own p).task.waker (TriedQuick won)) (own p')) (at_quick the_queue _ (sym is.step)) d.1 in
+      goes p p' s s' r t is.number (after_quick won) (after_quick won) (after_quick won) did d.0 after
       (quick_as whose (λ (q : ⊤). q) won) (quick_as (λ w. w) the_queue won) (claim_mid won (own p).number) (claim_handed won (own p).number) f
-      (λ still. quick_fits W ⊤ drops (state s') (own p') won (begun p p' s s' r t is.number (claim_entries won (own p).number) (after_quick won) is.fits.1 d.1 still) (inits p p' s s' r t is.number is.fits.1 still))
+      (λ still. quick_fits W ⊤ drops (state s') (own p') won (begun p p' s s' r t is.number did (after_quick won) is.fits.1 after still) (inits p p' s s' r t is.number is.fits.1 still))
   line_went AtDoorGet p p' s s' r r0 t is (q, (d, f)) =
       let door : Option ℕ = numbered d.1.0 (is_some q) in
       let after : Did (own p) [] (after_door_get door) (own p') = subst (λ x. Did (own p) [] (get_next door x) (own p')) (at_get the_queue _ (sym is.step)) d.1.1 in
@@ -302,7 +306,7 @@ module _ {P S W : Type 0} (cell : P → Placed) (own : P → Own) (whose : W →
   line_went (AtWaitLoad q k) p p' s s' r r0 t is (n, (d, f)) =
       let at = at_load the_queue _ q k (sym is.step) in
       let ready : Bool = n.ready in
-      let after : Did (own p) [] (after_load ready at.0 k) (own p') = subst (λ x. Did (own p) [] (load_next n x) (own p')) at.1 d.1 in
+      let after : Did (own p) [] (after_load ready at.0 k) (own p') = subst (λ x. Did (own p) [] (next_of x (own p).task.waker (Loaded n)) (own p')) at.1 d.1 in
       goes p p' s s' r t is.number (after_load ready tt k) (after_load ready at.0 k) (after_load ready tt k) [] d.0 after
       (load_as whose (λ (q : ⊤). q) ready tt k) (load_as (λ w. w) the_queue ready at.0 k) tt refl f
       (λ still. load_fits W ⊤ drops (state s') (own p') ready tt k (begun p p' s s' r t is.number [] (after_load ready at.0 k) is.fits.1 after still) (inits p p' s s' r t is.number is.fits.1 still))
@@ -347,7 +351,7 @@ module _ {P S W : Type 0} (cell : P → Placed) (own : P → Own) (whose : W →
       (fill_fits W ⊤ drops (state s') (own p') by (begun_on drops (state s) (state s') (own p) (own p') told.woke after.number (ap (λ (x : TaskState). x.waker) after.task) is.fits.1.0))
   line_went (AtFast e) p p' s s' r r0 t is (won, (d, f)) =
       let did : List Entry = freed_entries won (own p).number (own p).task.kept in
-      let after : Did (own p) did (after_fast won (is_value e) e) (own p') = subst (λ x. Did (own p) did (fast_next won x) (own p')) (at_fast the_queue _ e (sym is.step)) d.1 in
+      let after : Did (own p) did (after_fast won (is_value e) e) (own p') = subst (λ x. Did (own p) did (next_of x (own p).task.waker (TriedFast (is_value e) won)) (own p')) (at_fast the_queue _ e (sym is.step)) d.1 in
       goes p p' s s' r t is.number (after_fast won (is_value e) e) (after_fast won (is_value e) e) (after_fast won (is_value e) e) did d.0 after
       (fast_as whose (λ (q : ⊤). q) won (is_value e) e) (fast_as (λ w. w) the_queue won (is_value e) e)
       (freed_mid won (own p).number (own p).task.kept) (freed_handed won (own p).number (own p).task.kept) f
@@ -355,7 +359,7 @@ module _ {P S W : Type 0} (cell : P → Placed) (own : P → Own) (whose : W →
       (ending p p' s s' r t is.number e did (after_fast won (is_value e) e) is.fits.1.1 after still))
   line_went (AtAddOne e) p p' s s' r r0 t is (d, f) =
       let b : Next ℕ ℕ = next_at (AtDoorAgain e) in
-      let after : Did (own p) [] b (own p') = subst (λ x. Did (own p) [] (add_next x) (own p')) (at_add the_queue _ e (sym is.step)) d.1 in
+      let after : Did (own p) [] b (own p') = subst (λ x. Did (own p) [] (next_of x (own p).task.waker Added) (own p')) (at_add the_queue _ e (sym is.step)) d.1 in
       goes p p' s s' r t is.number (next_at (AtDoorAgain e)) b (next_at (AtDoorAgain e)) [] d.0 after refl refl tt refl f
       (λ still. (refl, (unwoken p p' s s' r t is.number is.fits.1.0 still, ending p p' s s' r t is.number e [] b is.fits.1.1 after still)))
   line_went (AtDoorAgain e) p p' s s' r r0 t is (q, (d, f)) =
@@ -376,7 +380,7 @@ module _ {P S W : Type 0} (cell : P → Placed) (own : P → Own) (whose : W →
       wakes p p' s s' r t e a did is.number d.0 (subst (λ x. Did (own p) did (leave_next x) (own p')) at.1 d.1.0) (pass_mid (own p).number (handed_in whose a)) (pass_handed (own p).number (handed_in whose a)) w more leads is.fits.1.0 is.fits.1.1
   line_went (AtCountOut e) p p' s s' r r0 t is (n, (d, f)) =
       let last : Bool = is_ready_bit n in
-      let after : Did (own p) [] (after_count_out last e) (own p') = subst (λ x. Did (own p) [] (out_next n x) (own p')) (at_count_out the_queue _ e (sym is.step)) d.1 in
+      let after : Did (own p) [] (after_count_out last e) (own p') = subst (λ x. Did (own p) [] (next_of x (own p).task.waker (CountedOut n)) (own p')) (at_count_out the_queue _ e (sym is.step)) d.1 in
       goes p p' s s' r t is.number (after_count_out last e) (after_count_out last e) (after_count_out last e) [] d.0 after
       (count_out_as whose (λ (q : ⊤). q) last e) (count_out_as (λ w. w) the_queue last e) tt refl f
       (λ still. out_fits W ⊤ drops (state s') (own p') last e (ending p p' s s' r t is.number e [] (after_count_out last e) is.fits.1 after still))

@@ -1,18 +1,105 @@
--- The moments at which a task reads or changes the word alone.
-use Rattle.std.proofs.Common.{◌≡◌, ◌≢◌, ◌≤◌, ◌<◌, ◌+◌, ◌-◌, ◌^◌, ℕ, suc, Bool, true, false, cond, List, [], ◌∷◌, Option, Some, slice_get, refl, sym, ap, ◌∙◌, arith}
-use Rattle.std.specs.Prelude.{nat_lt}
-use Rattle.std.proofs.lemmas.Bool.{ne_eqb}
+-- The moments at which a task reads or changes the word alone. Those that are one step of it go by their call.
+use Rattle.std.proofs.Common.{◌≡◌, ◌≤◌, ◌<◌, ◌+◌, ◌-◌, ◌^◌, ◌==◌, cond, ℕ, suc, Bool, true, false, List, [], Some, slice_get, refl, sym, ap, ◌∙◌, subst, arith}
+use Rattle.std.specs.Prelude.{nat_lt, ◌||◌}
+use Rattle.std.proofs.lemmas.Bool.{eqb-true}
 use Rattle.std.proofs.lemmas.Bool.Decides.{nat_tests}
-use Rattle.once_queue.specs.Word.{Flags, flags_of, is_quick_bit, is_ready_bit, is_zero}
-use Rattle.once_core.specs.Table.{after_count_out, after_fast, after_count_in, after_load, after_quick, after_start, next_at}
-use Rattle.once_world.specs.Record.{Claim, Entry, Once}
-use Rattle.once_world.specs.Book.{At, IsBook, Page}
-use Rattle.once_world.specs.Machine.{AtAddOne, AtCountIn, AtCountOut, AtDoorAgain, AtFast, AtStart, AtTryQuick, AtWaitLoad, Ending, SharedState, Task, UnderWay}
-use Rattle.once_world.specs.Machine.{fast_shared, is_value, out_shared, outcome_of, release_entry, word_of}
-use Rattle.once_world.proofs.Steps.{fast_step, in_step, quick_step}
+use prog.Atomic.{either}
+use Rattle.once_queue.specs.Numbers.{bit}
+use Rattle.once_queue.specs.Word.{Flags, flags_of, is_quick_bit, is_zero}
+use Rattle.once_core.specs.Table.{Call, Load, Quick, Fast, AddOne, CountOut, Told, Loaded, TriedQuick, TriedFast, CountedOut, after, after_count_in, call_at}
+use Rattle.once_world.specs.Record.{Answer, Entry, Once, RanPending}
+use Rattle.once_world.specs.Book.{At, Door, IsBook, Page, Queue}
+use Rattle.once_world.specs.Machine.{AtAddOne, AtCountIn, AtCountOut, AtPut, Place, SharedState, StepInput, Task, UnderWay, answer, fast_shared, hands, keeps, left_by}
+use Rattle.once_world.specs.Machine.{outcome_of, place_step, quick_shared, records, word_of}
+use Rattle.once_world.specs.Words.{IsFound, IsWordCall, found, word_after}
+use Rattle.once_world.proofs.Steps.{in_step}
 use Rattle.once_world.proofs.Invariant.Moves.{in_count}
-use Rattle.once_world.proofs.Moment.Numbers.{fast_within, in_within, out_within, quick_word, word_fast, word_in, word_out, word_quick, zero_word}
+use Rattle.once_world.proofs.Moment.Numbers.{fast_within, in_within, in_wraps, out_wraps, quick_word, word_fast, word_in, word_out, word_quick, zero_word}
 use Rattle.once_world.proofs.Moment.Step.{Moment, Stepped, moment, stands, stepped_alone}
+use Rattle.once_world.proofs.Shared.Slot.{is_put_at}
+
+-- what a call asks of the number
+abbrev WordFits : Call ℕ ℕ → ℕ → Type 0
+WordFits AddOne n = (flags_of n).count < 2 ^ 62 - 1
+WordFits CountOut n = 0 < (flags_of n).count
+WordFits _ n = Unit {0}
+
+module _ (i : StepInput) (s : SharedState) (k : Answer) (n : ℕ) (within : n < 2 ^ 64) (word_is : flags_of n ≡ word_of s) where
+  -- what is found tells what the machine tells
+  found_is : (c : Call ℕ ℕ) → IsWordCall c → WordFits c n → found c n ≡ answer i s c
+  found_is Load w l = ap Loaded word_is
+  found_is Quick w l = ap TriedQuick (sym (zero_word n within) ∙ ap is_zero word_is)
+  found_is (Fast fills) w l = ap (TriedFast fills) (sym (quick_word n within) ∙ ap is_quick_bit word_is)
+  found_is AddOne w l = refl
+  found_is CountOut w l = ap CountedOut (word_out n l ∙ ap (λ (f : Flags). record f { count = f.count - 1 }) word_is)
+  found_is _ w l = absurd w
+
+  -- by whether the word was NEW
+  quick_word_is : (b : Bool) → (n == 0) ≡ b → flags_of (either b (2 ^ 62) n) ≡ word_of (quick_shared b s)
+  quick_word_is true e = word_quick n (eqb-true n 0 e) ∙ ap (λ (f : Flags). record f { quick = true }) word_is
+  quick_word_is false e = word_is
+
+  -- and whether it was the quick bit
+  fast_word_is : (b fills : Bool) → (n == 2 ^ 62) ≡ b → flags_of (either b (cond fills (2 ^ 63) 0) n) ≡ word_of (fast_shared b fills s)
+  fast_word_is true true e = word_fast n true (eqb-true n (2 ^ 62) e) ∙ ap (λ (f : Flags). record f { quick = false; ready = true }) word_is
+  fast_word_is true false e =
+      let z = eqb-true n (2 ^ 62) e in
+      let r : false ≡ s.ready = ap (λ n. (flags_of n).ready) (sym z) ∙ ap (λ (f : Flags). f.ready) word_is in
+      word_fast n false z ∙ ap (λ (f : Flags). record f { quick = false; ready = false }) word_is ∙ (λ i. record { count = s.count; quick = false; ready = r i })
+  fast_word_is false fills e = word_is
+
+  -- the word after it
+  word_left : (c : Call ℕ ℕ) → IsWordCall c → WordFits c n → flags_of (word_after c n) ≡ word_of (left_by (found c n) k s)
+  word_left Load w l = word_is
+  word_left Quick w l = quick_word_is (n == 0) refl
+  word_left (Fast fills) w l = fast_word_is (n == 2 ^ 62) fills refl
+  word_left AddOne w l = ap flags_of (in_wraps n within l) ∙ word_in n l ∙ ap (λ (f : Flags). record f { count = suc f.count }) word_is
+  word_left CountOut w l = ap flags_of (out_wraps n within l) ∙ word_out n l ∙ ap (λ (f : Flags). record f { count = f.count - 1 }) word_is
+  word_left _ w l = absurd w
+
+  -- an exchange stays within its numbers
+  either_within : (b : Bool) (a : ℕ) → a < 2 ^ 64 → either b a n < 2 ^ 64
+  either_within true a l = l
+  either_within false a l = within
+
+  within_left : (c : Call ℕ ℕ) → IsWordCall c → word_after c n < 2 ^ 64
+  within_left Load w = within
+  within_left Quick w = either_within (n == 0) (2 ^ 62) (omega arith)
+  within_left (Fast fills) w = either_within (n == 2 ^ 62) (cond fills (2 ^ 63) 0) (fast_within fills)
+  within_left AddOne w = omega arith
+  within_left CountOut w = omega arith
+  within_left _ w = absurd w
+
+  -- what lies under the lock stays, and the init gave nothing
+  record Still (c : Call ℕ ℕ) : Type 0 where
+    queues : s.queues ≡ (left_by (found c n) k s).queues
+    door : s.door ≡ (left_by (found c n) k s).door
+    head : s.head ≡ (left_by (found c n) k s).head
+    listings : s.listings ≡ (left_by (found c n) k s).listings
+    kept : keeps (found c n) RanPending k ≡ k
+    nobody : hands (found c n) s ≡ []
+
+  quick_still : (b : Bool) → (s.queues ≡ (quick_shared b s).queues) × (s.door ≡ (quick_shared b s).door) × (s.head ≡ (quick_shared b s).head) × (s.listings ≡ (quick_shared b s).listings)
+  quick_still true = (refl, refl, refl, refl)
+  quick_still false = (refl, refl, refl, refl)
+
+  fast_still : (b fills : Bool) → (s.queues ≡ (fast_shared b fills s).queues) × (s.door ≡ (fast_shared b fills s).door) × (s.head ≡ (fast_shared b fills s).head) × (s.listings ≡ (fast_shared b fills s).listings)
+  fast_still true true = (refl, refl, refl, refl)
+  fast_still true false = (refl, refl, refl, refl)
+  fast_still false fills = (refl, refl, refl, refl)
+
+  still : (c : Call ℕ ℕ) → IsWordCall c → Still c
+  still Load w = record { queues = refl; door = refl; head = refl; listings = refl; kept = refl; nobody = refl }
+  still Quick w = let q = quick_still (n == 0) in record { queues = q.0; door = q.1; head = q.2; listings = q.3; kept = refl; nobody = refl }
+  still (Fast fills) w = let q = fast_still (n == 2 ^ 62) fills in record { queues = q.0; door = q.1; head = q.2; listings = q.3; kept = refl; nobody = refl }
+  still AddOne w = record { queues = refl; door = refl; head = refl; listings = refl; kept = refl; nobody = refl }
+  still CountOut w = record { queues = refl; door = refl; head = refl; listings = refl; kept = refl; nobody = refl }
+  still _ w = absurd w
+
+-- no value is put by a step of the word
+unput : (p : Place ℕ ℕ) → IsWordCall (call_at p) → is_put_at p ≡ false
+unput (AtPut by) w = absurd w
+unput _ w = refl
 
 module _ (limit n put : ℕ) (slot : Bool) (pages : List Page) (log : List Entry) (t : ℕ) (x : Task) (some : 0 < limit)
     (book : IsBook limit n put slot pages log) (pen : slice_get pages (suc (suc t)) ≡ Some (At x)) where
@@ -32,25 +119,45 @@ module _ (limit n put : ℕ) (slot : Bool) (pages : List Page) (log : List Entry
   ready_is : (flags_of n).ready ≡ c.ready
   ready_is = ap (λ (f : Flags). f.ready) book.1.word_is
 
-  -- AtStart: the load
-  pub start_load : x.step ≡ UnderWay AtStart → Stepped limit n put slot pages log t x [] (after_start (flags_of n).ready (is_zero (flags_of n)))
-  start_load at = stepped_alone limit n put slot pages log t x some book pen n false AtStart c [] (after_start (flags_of n).ready (is_zero (flags_of n))) at
-      (ap (λ (f : Flags). outcome_of c t x.kept [] (after_start f.ready (is_zero f))) (sym book.1.word_is))
-      book.1.within book.1.word_is book.1.put_is book.1.door_is book.1.queue_is
+  -- what the call of a place asks of the number does hold there
+  word_fits : (p : Place ℕ ℕ) → limit ≤ 2 ^ 62 - 2 → x.step ≡ UnderWay p → IsWordCall (call_at p) → WordFits (call_at p) n
+  word_fits (AtAddOne e) most at w =
+      let i = count_is in
+      let l : c.count ≤ limit = (stands limit n put slot pages log t x some book pen (AtAddOne e) at).2 in omega arith
+  word_fits (AtCountOut e) most at w =
+      let l : 0 < c.count = in_count Once limit m.w t m.fits (rw (m.found, at) refl) in
+      rw count_is l
+  word_fits _ most at w = tt
 
-  -- AtTryQuick: the exchange of NEW for the quick bit
-  pub quick_won : x.step ≡ UnderWay AtTryQuick → n ≡ 0 → Stepped limit (2 ^ 62) put slot pages log t x (Claim t ∷ []) (after_quick true)
-  quick_won at e =
-      let z : is_zero (word_of c) ≡ true = ap is_zero (sym book.1.word_is) ∙ ap (λ k. is_zero (flags_of k)) e in
-      stepped_alone limit n put slot pages log t x some book pen (2 ^ 62) false AtTryQuick (record c { quick = true }) (Claim t ∷ []) (after_quick true) at (ap (λ b. quick_step b c t x.kept) z)
-      (omega arith) (word_quick n e ∙ ap (λ (f : Flags). record f { quick = true }) book.1.word_is) book.1.put_is book.1.door_is book.1.queue_is
+  -- so this is known of it
+  counted : (p : Place ℕ ℕ) → IsWordCall (call_at p) → WordFits (call_at p) n → IsFound (call_at p) n
+  counted (AtCountOut e) w l = omega (arith, l)
+  counted _ w l = tt
 
-  -- where it is not done
-  pub quick_lost : x.step ≡ UnderWay AtTryQuick → n ≢ 0 → Stepped limit n put slot pages log t x [] (after_quick false)
-  quick_lost at d =
-      let z : is_zero (word_of c) ≡ false = ap is_zero (sym book.1.word_is) ∙ zero_word n book.1.within ∙ ne_eqb n 0 d in
-      stepped_alone limit n put slot pages log t x some book pen n false AtTryQuick c [] (after_quick false) at (ap (λ b. quick_step b c t x.kept) z)
-      book.1.within book.1.word_is book.1.put_is book.1.door_is book.1.queue_is
+  pub word_found : (p : Place ℕ ℕ) → limit ≤ 2 ^ 62 - 2 → x.step ≡ UnderWay p → IsWordCall (call_at p) → IsFound (call_at p) n
+  word_found p most at w = counted p w (word_fits p most at w)
+
+  -- the step of the word
+  pub word_step : (p : Place ℕ ℕ) → limit ≤ 2 ^ 62 - 2 → x.step ≡ UnderWay p → IsWordCall (call_at p)
+      → let e = found (call_at p) n in
+      Stepped limit (word_after (call_at p) n) put slot pages log t x (records e RanPending t x.kept []) (after (Some x.waker) p e)
+  word_step p most at w =
+      let call : Call ℕ ℕ = call_at p in
+      let e : Told ℕ ℕ = found call n in
+      let i : StepInput = record { limit = limit; waker = x.waker; init = RanPending; granted = true } in
+      let l = word_fits p most at w in
+      let q = still i c x.kept n book.1.within book.1.word_is call w in
+      let is : place_step false limit c t x.waker x.kept RanPending true p ≡ outcome_of (left_by e x.kept c) t x.kept (records e RanPending t x.kept []) (after (Some x.waker) p e) =
+      ap (λ (e : Told ℕ ℕ). outcome_of (left_by e x.kept c) t (keeps e RanPending x.kept) (records e RanPending t x.kept (hands e c)) (after (Some x.waker) p e))
+      (sym (found_is i c x.kept n book.1.within book.1.word_is call w l))
+      ∙ (λ j. outcome_of (left_by e x.kept c) t (q.kept j) (records e RanPending t x.kept (q.nobody j)) (after (Some x.waker) p e)) in
+      subst (λ b. Stepped limit (word_after call n) put (b || slot) pages log t x (records e RanPending t x.kept []) (after (Some x.waker) p e)) (unput p w)
+      (stepped_alone limit n put slot pages log t x some book pen (word_after call n) true p (left_by e x.kept c) (records e RanPending t x.kept []) (after (Some x.waker) p e) at is
+      (within_left i c x.kept n book.1.within book.1.word_is call w)
+      (word_left i c x.kept n book.1.within book.1.word_is call w l)
+      (book.1.put_is ∙ ap (λ k. bit (nat_lt 0 k)) q.queues)
+      (book.1.door_is ∙ (λ j. Some (Door (q.queues j) (q.door j))))
+      (book.1.queue_is ∙ (λ j. Some (Queue (q.head j) (q.listings j)))))
 
   -- AtCountIn: the exchange that counts t in
   pub count_in : (q : ℕ) → x.step ≡ UnderWay (AtCountIn q) → limit ≤ 2 ^ 62 - 2 → (flags_of n).count < limit
@@ -71,60 +178,3 @@ module _ (limit n put : ℕ) (slot : Bool) (pages : List Page) (log : List Entry
       stepped_alone limit n put slot pages log t x some book pen n false (AtCountIn q) c [] (after_count_in false (flags_of n).ready q) at
       (ap (λ b. in_step b c.ready c t x.kept q) above ∙ ap (λ b. outcome_of c t x.kept [] (after_count_in false b q)) (sym ready_is))
       book.1.within book.1.word_is book.1.put_is book.1.door_is book.1.queue_is
-
-  -- AtWaitLoad: the load
-  pub wait_load : (q : ℕ) (k : Option ℕ) → x.step ≡ UnderWay (AtWaitLoad q k) → Stepped limit n put slot pages log t x [] (after_load (flags_of n).ready q k)
-  wait_load q k at = stepped_alone limit n put slot pages log t x some book pen n false (AtWaitLoad q k) c [] (after_load (flags_of n).ready q k) at
-      (ap (λ (f : Flags). outcome_of c t x.kept [] (after_load f.ready q k)) (sym book.1.word_is))
-      book.1.within book.1.word_is book.1.put_is book.1.door_is book.1.queue_is
-
-  -- AtCountOut: the subtraction, which finds t counted
-  pub count_out : (e : Ending) → x.step ≡ UnderWay (AtCountOut e)
-      → (0 < (flags_of n).count) × Stepped limit (n - 1) put slot pages log t x [] (after_count_out (is_ready_bit (flags_of (n - 1))) e)
-  count_out e at =
-      let l : 0 < c.count = in_count Once limit m.w t m.fits (rw (m.found, at) refl) in
-      let counted : 0 < (flags_of n).count = rw count_is l in
-      let word : flags_of (n - 1) ≡ word_of (out_shared c) = word_out n counted ∙ ap (λ (f : Flags). record f { count = f.count - 1 }) book.1.word_is in (
-        counted,
-        stepped_alone limit n put slot pages log t x some book pen (n - 1) false (AtCountOut e) (out_shared c) [] (after_count_out (is_ready_bit (flags_of (n - 1))) e) at
-            (ap (λ (f : Flags). outcome_of (out_shared c) t x.kept [] (after_count_out (is_ready_bit f) e)) (sym word))
-            (out_within n book.1.within) word book.1.put_is book.1.door_is book.1.queue_is,
-      )
-
-  -- a release with the value sets the ready flag, another leaves it
-  fast_is : (v : Bool) → c.ready ≡ false → fast_shared true v c ≡ record c { quick = false; ready = v }
-  fast_is true r = refl
-  fast_is false r = λ i. record c { quick = false; ready = r i }
-
-  -- AtFast: the exchange of the quick bit for the ready bit, or for NEW
-  pub fast_won : (e : Ending) → x.step ≡ UnderWay (AtFast e) → n ≡ 2 ^ 62
-      → Stepped limit (cond (is_value e) (2 ^ 63) 0) put slot pages log t x (release_entry x.kept t [] ∷ []) (after_fast true (is_value e) e)
-  fast_won e at i =
-      let f : flags_of (2 ^ 62) ≡ word_of c = ap flags_of (sym i) ∙ book.1.word_is in
-      let z : is_quick_bit (word_of c) ≡ true = ap is_quick_bit (sym f) in
-      let r : c.ready ≡ false = ap (λ (f : Flags). f.ready) (sym f) in
-      stepped_alone limit n put slot pages log t x some book pen (cond (is_value e) (2 ^ 63) 0) false (AtFast e)
-      (record c { quick = false; ready = is_value e }) (release_entry x.kept t [] ∷ []) (after_fast true (is_value e) e) at
-      (ap (λ b. fast_step b (is_value e) c t x.kept e) z ∙ ap (λ c'. outcome_of c' t x.kept (release_entry x.kept t [] ∷ []) (after_fast true (is_value e) e)) (fast_is (is_value e) r))
-      (fast_within (is_value e)) (word_fast n (is_value e) i ∙ ap (λ (f : Flags). record f { quick = false; ready = is_value e }) book.1.word_is)
-      book.1.put_is book.1.door_is book.1.queue_is
-
-  -- where it is not done
-  pub fast_lost : (e : Ending) → x.step ≡ UnderWay (AtFast e) → n ≢ 2 ^ 62 → Stepped limit n put slot pages log t x [] (after_fast false (is_value e) e)
-  fast_lost e at d =
-      let z : is_quick_bit (word_of c) ≡ false = ap is_quick_bit (sym book.1.word_is) ∙ quick_word n book.1.within ∙ ne_eqb n (2 ^ 62) d in
-      stepped_alone limit n put slot pages log t x some book pen n false (AtFast e) c [] (after_fast false (is_value e) e) at (ap (λ b. fast_step b (is_value e) c t x.kept e) z)
-      book.1.within book.1.word_is book.1.put_is book.1.door_is book.1.queue_is
-
-  -- AtAddOne: the addition that counts a holder in, for whom there is a free place
-  pub add_one : (e : Ending) → x.step ≡ UnderWay (AtAddOne e) → limit ≤ 2 ^ 62 - 2
-      → ((flags_of n).count < 2 ^ 62 - 1) × Stepped limit (n + 1) put slot pages log t x [] (next_at (AtDoorAgain e))
-  add_one e at within =
-      let i = count_is in
-      let l : c.count ≤ limit = (stands limit n put slot pages log t x some book pen (AtAddOne e) at).2 in
-      let free : (flags_of n).count < 2 ^ 62 - 1 = omega arith in (
-        free,
-        stepped_alone limit n put slot pages log t x some book pen (n + 1) false (AtAddOne e) (record c { count = suc c.count }) [] (next_at (AtDoorAgain e)) at refl
-            (in_within n book.1.within free) (word_in n free ∙ ap (λ (f : Flags). record f { count = suc f.count }) book.1.word_is)
-            book.1.put_is book.1.door_is book.1.queue_is,
-      )

@@ -1,21 +1,20 @@
 -- The moves of the word, with the pen of the task alone.
-use Rattle.std.proofs.Common.{◌≡◌, ◌≢◌, ◌<◌, ◌+◌, ◌-◌, ◌%◌, ◌^◌, ◌==◌, ℕ, zero, suc, Bool, true, false, cond, List, [], ◌∷◌, ◌++◌, Option, Some, slice_get, slice_set, refl, sym, ap, ◌∙◌, subst, arith}
+use Rattle.std.proofs.Common.{◌≡◌, ◌<◌, ◌+◌, ◌^◌, ◌==◌, ℕ, zero, suc, Bool, true, false, List, [], ◌∷◌, ◌++◌, Some, slice_get, slice_set, refl, sym, ap, subst, arith}
 use Rattle.std.specs.Prelude.{nat_lt}
-use Rattle.std.proofs.lemmas.Bool.{false≢true, eqb-true, ltb-false}
+use Rattle.std.proofs.lemmas.Bool.{eqb-true, ltb-false}
 use Rattle.std.proofs.lemmas.List.{append-nil}
 use prog.Atomic.{either}
 use Rattle.pagebook.specs.Pages.{Moves, put as put_on}
-use Rattle.once_queue.specs.Word.{flags_of, is_ready_bit, is_zero}
-use Rattle.once_queue.proofs.Listing.Members.{eqb_self}
-use Rattle.once_core.specs.Table.{Next, after_count_out, after_fast, after_count_in, after_load, after_quick, after_start, next_at, next_end}
+use Rattle.once_queue.specs.Word.{flags_of}
+use Rattle.once_core.specs.Table.{Call, Quick, Fast, Next, after, after_count_in, call_at, next_end}
+use Rattle.once_world.specs.declared.record.Ran.TheVariants.{Pending as RanPending}
 use Rattle.once_world.specs.Record.{Entry}
+use Rattle.once_world.specs.Words.{IsFound, IsWordCall, found, word_after}
 use Rattle.once_world.specs.Book.{At, IsBook, Page, TaskState}
-use Rattle.once_world.specs.Machine.{AtAddOne, AtCountIn, AtCountOut, AtDoorAgain, AtDoorTake, AtFast, AtStart, AtTryQuick}
-use Rattle.once_world.specs.Machine.{AtWaitLoad, Ending, UnderWay, claim_entries, freed_entries, is_value}
+use Rattle.once_world.specs.Machine.{AtCountIn, AtDoorTake, Ending, Place, UnderWay, records}
 use Rattle.once_world.proofs.Moment.Doors.{take_none}
-use Rattle.once_world.proofs.Moment.Numbers.{in_wraps, out_wraps}
 use Rattle.once_world.proofs.Moment.Step.{Stepped, told}
-use Rattle.once_world.proofs.Moment.Words.{add_one, count_full, count_in, count_out, fast_lost, fast_won, quick_lost, quick_won, start_load, wait_load}
+use Rattle.once_world.proofs.Moment.Words.{count_full, count_in, word_found, word_step}
 use Rattle.once_parts.specs.Kept.{IsKept, Leaves, hand, most, sheets}
 use Rattle.once_parts.proofs.Moments.Forms.{moves, put_moves}
 use Rattle.once_parts.proofs.Moments.Mine.{AreOf, claim_of, freed_of, only_hand, told_of}
@@ -29,10 +28,6 @@ pub set_same : {X : Type 0} (xs : List X) (k : ℕ) (x : X) → slice_get xs k �
 set_same [] k x e = refl
 set_same (y ∷ xs) zero x e = let same : y ≡ x = cc in ap (λ z. z ∷ xs) (sym same)
 set_same (y ∷ xs) (suc k) x e = ap (λ zs. y ∷ zs) (set_same xs k x e)
-
--- a number that fails a test is another one
-unlike : (n m : ℕ) → (n == m) ≡ false → n ≢ m
-unlike n m f e = false≢true (sym f ∙ ap (λ k. k == m) e ∙ eqb_self m)
 
 -- the page of x at the step to which the table of places leads
 abbrev pub goes_to : TaskState → Next ℕ ℕ → List Page
@@ -48,32 +43,19 @@ module _ (seen : List Entry) (t : ℕ) (x : TaskState) where
       (λ n. only_hand t x (told t x.kept (next n) (did n)) (told_of t x.kept (next n) (did n) (of n)))
       (λ n put slot pages log book on. goes n put slot pages log book on.0)
 
-  -- AtStart
-  pub start_moves : x.step ≡ UnderWay AtStart
-      → Moves IsKept (seen, sheets seen (hand t x)) 0 (λ n. n)
-      (λ n v. Unit {0} × Leaves seen (hand t x) (goes_to x (after_start (flags_of n).ready (is_zero (flags_of n)))) (told t x.kept (after_start (flags_of n).ready (is_zero (flags_of n))) []) v)
-  start_moves at = own_moves (λ n. n) (λ n. []) (λ n. after_start (flags_of n).ready (is_zero (flags_of n))) (λ n. Unit {0}) (λ n. tt)
-      (λ n put slot pages log book pen. (tt, start_load most n put slot pages log t x some book pen at))
+  -- what a step of the word records is of t
+  pub word_of_t : (c : Call ℕ ℕ) (n : ℕ) → AreOf t (records (found c n) RanPending t x.kept [])
+  word_of_t Quick n = claim_of t (n == 0)
+  word_of_t (Fast fills) n = freed_of t (n == 2 ^ 62) x.kept
+  word_of_t _ n = tt
 
-  -- AtTryQuick, by whether the word was NEW
-  quick_by : (n put : ℕ) (slot : Bool) (pages : List Page) (log : List Entry) → IsBook most n put slot pages log → slice_get pages (suc (suc t)) ≡ Some (At x)
-      → x.step ≡ UnderWay AtTryQuick → (b : Bool) → (n == 0) ≡ b → Stepped most (either b (2 ^ 62) n) put slot pages log t x (claim_entries b t) (after_quick b)
-  quick_by n put slot pages log book pen at true e = quick_won most n put slot pages log t x some book pen at (eqb-true n 0 e)
-  quick_by n put slot pages log book pen at false e = quick_lost most n put slot pages log t x some book pen at (unlike n 0 e)
-
-  -- the exchange, done or not
-  pub quick_moves : x.step ≡ UnderWay AtTryQuick
-      → Moves IsKept (seen, sheets seen (hand t x)) 0 (λ n. either (n == 0) (2 ^ 62) n)
-      (λ n v. Unit {0} × Leaves seen (hand t x) (goes_to x (after_quick (n == 0))) (told t x.kept (after_quick (n == 0)) (claim_entries (n == 0) t)) v)
-  quick_moves at = own_moves (λ n. either (n == 0) (2 ^ 62) n) (λ n. claim_entries (n == 0) t) (λ n. after_quick (n == 0)) (λ n. Unit {0}) (λ n. claim_of t (n == 0))
-      (λ n put slot pages log book pen. (tt, quick_by n put slot pages log book pen at (n == 0) refl))
-
-  -- AtWaitLoad
-  pub wait_moves : (q : ℕ) (k : Option ℕ) → x.step ≡ UnderWay (AtWaitLoad q k)
-      → Moves IsKept (seen, sheets seen (hand t x)) 0 (λ n. n)
-      (λ n v. Unit {0} × Leaves seen (hand t x) (goes_to x (after_load (flags_of n).ready q k)) (told t x.kept (after_load (flags_of n).ready q k) []) v)
-  wait_moves q k at = own_moves (λ n. n) (λ n. []) (λ n. after_load (flags_of n).ready q k) (λ n. Unit {0}) (λ n. tt)
-      (λ n put slot pages log book pen. (tt, wait_load most n put slot pages log t x some book pen q k at))
+  -- a step of the word
+  pub word_moves : (p : Place ℕ ℕ) → x.step ≡ UnderWay p → IsWordCall (call_at p)
+      → Moves IsKept (seen, sheets seen (hand t x)) 0 (word_after (call_at p))
+      (λ n v. IsFound (call_at p) n × Leaves seen (hand t x) (goes_to x (after (Some x.waker) p (found (call_at p) n)))
+      (told t x.kept (after (Some x.waker) p (found (call_at p) n)) (records (found (call_at p) n) RanPending t x.kept [])) v)
+  word_moves p at w = own_moves (word_after (call_at p)) (λ n. records (found (call_at p) n) RanPending t x.kept []) (λ n. after (Some x.waker) p (found (call_at p) n)) (IsFound (call_at p)) (word_of_t (call_at p))
+      (λ n put slot pages log book pen. (word_found most n put slot pages log t x some book pen p (omega arith) at w, word_step most n put slot pages log t x some book pen p (omega arith) at w))
 
   -- AtCountIn: the page after a load that finds as many counted as may be, and the page as it was after another
   abbrev pub full_page : ℕ → ℕ → Bool → List Page
@@ -132,40 +114,6 @@ module _ (seen : List Entry) (t : ℕ) (x : TaskState) where
       → Moves IsKept (seen, sheets seen (hand t x)) 0 (λ n. either (n == old) (old + 1) n) (λ n v. Unit {0} × Leaves seen (hand t x) (in_page q old (n == old)) [] v)
   in_moves q old at l = moves seen (hand t x) (λ n. either (n == old) (old + 1) n) (λ n. in_page q old (n == old)) (λ n. []) (λ n. Unit {0}) (λ n. only_hand t x [] tt)
       (λ n put slot pages log book on. (tt, in_by q old n put slot pages log book on.0 at l (n == old) refl))
-
-  -- AtFast, by whether the word was the quick bit
-  fast_by : (e : Ending) (n put : ℕ) (slot : Bool) (pages : List Page) (log : List Entry) → IsBook most n put slot pages log → slice_get pages (suc (suc t)) ≡ Some (At x)
-      → x.step ≡ UnderWay (AtFast e) → (b : Bool) → (n == 2 ^ 62) ≡ b
-      → Stepped most (either b (cond (is_value e) (2 ^ 63) 0) n) put slot pages log t x (freed_entries b t x.kept) (after_fast b (is_value e) e)
-  fast_by e n put slot pages log book pen at true i = fast_won most n put slot pages log t x some book pen e at (eqb-true n (2 ^ 62) i)
-  fast_by e n put slot pages log book pen at false i = fast_lost most n put slot pages log t x some book pen e at (unlike n (2 ^ 62) i)
-
-  -- the exchange, done or not
-  pub fast_moves : (e : Ending) → x.step ≡ UnderWay (AtFast e)
-      → Moves IsKept (seen, sheets seen (hand t x)) 0 (λ n. either (n == 2 ^ 62) (cond (is_value e) (2 ^ 63) 0) n)
-      (λ n v. Unit {0} × Leaves seen (hand t x) (goes_to x (after_fast (n == 2 ^ 62) (is_value e) e))
-      (told t x.kept (after_fast (n == 2 ^ 62) (is_value e) e) (freed_entries (n == 2 ^ 62) t x.kept)) v)
-  fast_moves e at = own_moves (λ n. either (n == 2 ^ 62) (cond (is_value e) (2 ^ 63) 0) n) (λ n. freed_entries (n == 2 ^ 62) t x.kept) (λ n. after_fast (n == 2 ^ 62) (is_value e) e) (λ n. Unit {0}) (λ n. freed_of t (n == 2 ^ 62) x.kept)
-      (λ n put slot pages log book pen. (tt, fast_by e n put slot pages log book pen at (n == 2 ^ 62) refl))
-
-  -- AtAddOne: there is a free place
-  pub add_moves : (e : Ending) → x.step ≡ UnderWay (AtAddOne e)
-      → Moves IsKept (seen, sheets seen (hand t x)) 0 (λ n. (n + 1) % 2 ^ 64)
-      (λ n v. ((flags_of n).count < 2 ^ 62 - 1) × Leaves seen (hand t x) (goes_to x (next_at (AtDoorAgain e))) (told t x.kept (next_at (AtDoorAgain e)) []) v)
-  add_moves e at = own_moves (λ n. (n + 1) % 2 ^ 64) (λ n. []) (λ n. next_at (AtDoorAgain e)) (λ n. (flags_of n).count < 2 ^ 62 - 1) (λ n. tt)
-      (λ n put slot pages log book pen.
-      let a = add_one most n put slot pages log t x some book pen e at (omega arith) in
-      (a.0, subst (λ m. Stepped most m put slot pages log t x [] (next_at (AtDoorAgain e))) (sym (in_wraps n book.1.within a.0)) a.1))
-
-  -- AtCountOut: there is one to take away
-  pub out_moves : (e : Ending) → x.step ≡ UnderWay (AtCountOut e)
-      → Moves IsKept (seen, sheets seen (hand t x)) 0 (λ n. (n + (2 ^ 64 - 1)) % 2 ^ 64)
-      (λ n v. (0 < (flags_of n).count) × Leaves seen (hand t x) (goes_to x (after_count_out (is_ready_bit (flags_of (n - 1))) e))
-      (told t x.kept (after_count_out (is_ready_bit (flags_of (n - 1))) e) []) v)
-  out_moves e at = own_moves (λ n. (n + (2 ^ 64 - 1)) % 2 ^ 64) (λ n. []) (λ n. after_count_out (is_ready_bit (flags_of (n - 1))) e) (λ n. 0 < (flags_of n).count) (λ n. tt)
-      (λ n put slot pages log book pen.
-      let a = count_out most n put slot pages log t x some book pen e at in
-      (a.0, subst (λ m. Stepped most m put slot pages log t x [] (after_count_out (is_ready_bit (flags_of (n - 1))) e)) (sym (out_wraps n book.1.within a.0)) a.1))
 
   -- AtDoorTake: the page after a load that finds that no queue was ever put, and the page as it was after another
   abbrev pub none_page : Ending → Bool → List Page

@@ -1,5 +1,10 @@
-use Rattle.std.proofs.Common.{rules}
+use Rattle.std.proofs.Common.{refl}
+use Rattle.once_core.specs.Table.{AddOne}
+use Rattle.once_parts.proofs.Acts.{word_keeps, word_told}
 use Rattle.once_parts.proofs.shared.SharedParts.add_one.Goals as goal
 
+pub fetch_add-requires-clause-moves : goal.fetch_add-requires-clause-moves
+fetch_add-requires-clause-moves g c = rw c.args.self.now.inner.now.word_is.1 (word_keeps _ _ c.args.self.now.hand.is_hand AddOne tt c.requires)
+
 pub returns : goal.returns
-returns g c = search rules
+returns g c = (refl, word_told (c.args.self.now.hand.seen.log, c.args.self.now.hand.pens.held) (c.fetch_add.new.seen.log, c.fetch_add.new.pens.held) AddOne c.fetch_add.result c.requires c.fetch_add.ensures.then)

@@ -1,5 +1,14 @@
-use Rattle.std.proofs.Common.{rules}
+use Rattle.std.proofs.Common.{refl, subst}
+use Rattle.once_core.specs.Table.{CountOut}
+use Rattle.once_world.specs.Words.{IsFound}
+use Rattle.once_parts.proofs.Acts.{word_keeps, word_told}
 use Rattle.once_parts.proofs.shared.SharedParts.count_out.Goals as goal
 
+pub fetch_sub-found-requires-clause-moves : goal.fetch_sub-found-requires-clause-moves
+fetch_sub-found-requires-clause-moves g c = rw c.args.self.now.inner.now.word_is.1 (word_keeps _ _ c.args.self.now.hand.is_hand CountOut tt c.requires)
+
+pub overflow_sub-result : goal.overflow_sub-result
+overflow_sub-result g c = subst (λ d. IsFound d c.fetch_sub-found.result) c.requires c.fetch_sub-found.ensures.then.1
+
 pub returns : goal.returns
-returns g c = search rules
+returns g c = (refl, word_told (c.args.self.now.hand.seen.log, c.args.self.now.hand.pens.held) (c.fetch_sub-found.new.seen.log, c.fetch_sub-found.new.pens.held) CountOut c.fetch_sub-found.result c.requires c.fetch_sub-found.ensures.then)

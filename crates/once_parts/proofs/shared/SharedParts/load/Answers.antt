@@ -1,5 +1,10 @@
-use Rattle.std.proofs.Common.{rules}
+use Rattle.std.proofs.Common.{refl}
+use Rattle.once_core.specs.Table.{Load}
+use Rattle.once_parts.proofs.Acts.{word_keeps, word_told}
 use Rattle.once_parts.proofs.shared.SharedParts.load.Goals as goal
 
+pub load-requires-clause-moves : goal.load-requires-clause-moves
+load-requires-clause-moves g c = rw c.args.self.now.inner.now.word_is.1 (word_keeps _ _ c.args.self.now.hand.is_hand Load tt c.requires)
+
 pub returns : goal.returns
-returns g c = search rules
+returns g c = (refl, word_told (c.args.self.now.hand.seen.log, c.args.self.now.hand.pens.held) (c.load.new.seen.log, c.load.new.pens.held) Load c.load.result c.requires c.load.ensures.then)

@@ -1,5 +1,10 @@
-use Rattle.std.proofs.Common.{rules}
+use Rattle.std.proofs.Common.{refl}
+use Rattle.once_core.specs.Table.{Quick}
+use Rattle.once_parts.proofs.Acts.{word_keeps, word_told}
 use Rattle.once_parts.proofs.shared.SharedParts.quick.Goals as goal
 
+pub compare_exchange-found-requires-clause-moves : goal.compare_exchange-found-requires-clause-moves
+compare_exchange-found-requires-clause-moves g c = rw c.args.self.now.inner.now.word_is.1 (word_keeps _ _ c.args.self.now.hand.is_hand Quick tt c.requires)
+
 pub returns : goal.returns
-returns g c = search rules
+returns g c = (refl, word_told (c.args.self.now.hand.seen.log, c.args.self.now.hand.pens.held) (c.compare_exchange-found.new.seen.log, c.compare_exchange-found.new.pens.held) Quick c.compare_exchange-found.result c.requires c.compare_exchange-found.ensures.then)

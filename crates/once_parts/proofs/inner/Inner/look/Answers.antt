@@ -2,7 +2,7 @@
 use Rattle.std.proofs.Common.{◌≡◌, true, arith}
 use Rattle.once_queue.specs.Word.{flags_of}
 use Rattle.once_parts.proofs.Moments.Moves.Slots.{filled_sure}
-use Rattle.once_parts.proofs.shared.Inner.look.Goals as goal
+use Rattle.once_parts.proofs.inner.Inner.look.Goals as goal
 
 pub get-requires-clause-sure : goal.get-requires-clause-sure
 get-requires-clause-sure g c =
