@@ -16,7 +16,7 @@ fn a_list(rt: HostRuntime) {
 // A queue is put to the door of a new cell, and a look into it gets the right.
 #[test]
 fn a_core(rt: HostRuntime) -> Result<(), Fail> {
-    let mut core = Core::<u64>::new(rt.alloc(), false);
+    let mut core = Core::<u64>::new(rt.alloc(), false, MAX_WAITERS);
     core.grant(true);
     core.reserve()?;
     let Some(queue) = core.door_put() else {
