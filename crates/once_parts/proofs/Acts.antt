@@ -8,6 +8,7 @@ use Rattle.once_queue.specs.Word.{flags_of}
 use Rattle.once_core.specs.declared.step.Polled.{Polled}
 use Rattle.once_core.specs.declared.step.Polled.TheVariants.{Pending, Value, Error}
 use Rattle.once_core.specs.Steps.{is_resting, step_of_drop}
+use Rattle.once_core.specs.Table.{CountIn, CountedIn, DoorTake, Ran as PolledInit, Run, Taken}
 use Rattle.once_core.specs.Table.{Call, Load, Quick, Fast, AddOne, CountOut, Told, after, after_count_in, after_run, call_at, closing_end, next_end}
 use Rattle.once_world.specs.Record.{Begin, Entry, Ran}
 use Rattle.once_world.specs.declared.record.Ran.TheVariants.{Pending as RanPending, Value as RanValue, Error as RanError}
@@ -21,7 +22,7 @@ use Rattle.once_parts.specs.declared.act.Act.TheVariants.{Full, Enter, NonePut, 
 use Rattle.once_parts.specs.Own.{IsHand, Turned, number_in, own_in, task_in, told}
 use Rattle.once_parts.specs.Page.{Went, WordTells, call_in, given_in, next_of}
 use Rattle.once_parts.specs.Acts.{Goes, Makes, Stays, Tells, Turns}
-use Rattle.once_parts.specs.Places.{CanCountIn, CanRefuse, CanRun, CanTake, in_next, run_next, take_next, unnamed}
+use Rattle.once_parts.specs.Places.{CanRefuse}
 use Rattle.once_parts.proofs.Moments.Mine.{drop_of, one_of, told_of}
 use Rattle.once_queue.proofs.Listing.Members.{eqb_self}
 use Rattle.once_parts.proofs.Tells.{leaves_stays, leaves_turns, moves_tell, notes_tell}
@@ -59,15 +60,15 @@ module _ (seen : List Entry) (t : ℕ) (x : TaskState) where
 
   -- a load before an exchange, by whether there is room, and whether the value is set
   full_tells : (q n : ℕ) (b r : Bool) (w : View Entry Sheet) → (flags_of n).ready ≡ r → Leaves seen (hand t x) (full_page seen t x q n b) (full_told seen t x q n b) w
-      → cond b (Stays own w) (Goes own [] (in_next false r (UnderWay (AtCountIn q))) w)
+      → cond b (Stays own w) (Goes own [] (next_of (UnderWay (AtCountIn q)) x.waker (CountedIn false r)) w)
   full_tells q n true r w e l = leaves_stays seen t x w l
   full_tells q n false r w e l = subst (λ b. Goes own [] (after_count_in false b q) w) e (leaves_turns seen t x _ _ w (told_of t x.kept (after_count_in false (flags_of n).ready q) [] tt) l)
 
   -- that load
-  full_by : (s : Step ℕ ℕ) → x.step ≡ s → CanCountIn s
-      → Moves IsKept own 0 (λ n. n) (λ n w. cond (nat_lt (flags_of n).count most) (Stays own w) (Goes own [] (in_next false (flags_of n).ready s) w))
+  full_by : (s : Step ℕ ℕ) → x.step ≡ s → call_in s ≡ CountIn
+      → Moves IsKept own 0 (λ n. n) (λ n w. cond (nat_lt (flags_of n).count most) (Stays own w) (Goes own [] (next_of s x.waker (CountedIn false (flags_of n).ready)) w))
   full_by (UnderWay (AtCountIn q)) at can = moves_tell IsKept own 0 (λ n. n) _ _ (λ n w r. full_tells q n (nat_lt (flags_of n).count most) (flags_of n).ready w refl r.1) (full_moves seen t x q at)
-  full_by _ at can = absurd can
+  full_by _ at can = let no : ⊥ = cc in absurd no
 
   -- who counts itself in records nothing
   in_told : (r : Bool) (q : ℕ) → told t x.kept (after_count_in true r q) [] ≡ []
@@ -76,7 +77,7 @@ module _ (seen : List Entry) (t : ℕ) (x : TaskState) where
 
   -- an exchange, by whether it was done
   enter_tells : (q m : ℕ) (b : Bool) (w : View Entry Sheet) → Leaves seen (hand t x) (in_page seen t x q m b) [] w
-      → cond b (Goes own [] (in_next true (flags_of m).ready (UnderWay (AtCountIn q))) w) (Stays own w)
+      → cond b (Goes own [] (next_of (UnderWay (AtCountIn q)) x.waker (CountedIn true (flags_of m).ready)) w) (Stays own w)
   enter_tells q m true w l =
       let none = sym (in_told (flags_of m).ready q) in
       leaves_turns seen t x _ _ w (told_of t x.kept (after_count_in true (flags_of m).ready q) [] tt)
@@ -84,30 +85,29 @@ module _ (seen : List Entry) (t : ℕ) (x : TaskState) where
   enter_tells q m false w l = leaves_stays seen t x w l
 
   -- that exchange
-  enter_by : (m : ℕ) (s : Step ℕ ℕ) → x.step ≡ s → CanCountIn s → (flags_of m).count < most
-      → Moves IsKept own 0 (λ n. either (n == m) (m + 1) n) (λ n w. cond (n == m) (Goes own [] (in_next true (flags_of m).ready s) w) (Stays own w))
+  enter_by : (m : ℕ) (s : Step ℕ ℕ) → x.step ≡ s → call_in s ≡ CountIn → (flags_of m).count < most
+      → Moves IsKept own 0 (λ n. either (n == m) (m + 1) n) (λ n w. cond (n == m) (Goes own [] (next_of s x.waker (CountedIn true (flags_of m).ready)) w) (Stays own w))
   enter_by m (UnderWay (AtCountIn q)) at can l = moves_tell IsKept own 0 (λ n. either (n == m) (m + 1) n) _ _ (λ n w r. enter_tells q m (n == m) w r.1) (in_moves seen t x q m at l)
-  enter_by m _ at can l = absurd can
+  enter_by m _ at can l = let no : ⊥ = cc in absurd no
 
   -- the load of the word that says whether a queue was ever put
   none_tells : (e : Ending) (b : Bool) (w : View Entry Sheet) → Leaves seen (hand t x) (none_page seen t x e b) (none_told seen t x e b) w
-      → cond b (Goes own [] (take_next (UnderWay (AtDoorTake e))) w) (Stays own w)
+      → cond b (Goes own [] (next_of (UnderWay (AtDoorTake e)) x.waker (Taken false)) w) (Stays own w)
   none_tells e true w l = leaves_turns seen t x _ _ w (told_of t x.kept (next_end e) [] tt) l
   none_tells e false w l = leaves_stays seen t x w l
 
   -- by the place
-  none_by : (s : Step ℕ ℕ) → x.step ≡ s → CanTake s → Moves IsKept own 1 (λ n. n) (λ n w. cond (n == 0) (Goes own [] (take_next s) w) (Stays own w))
+  none_by : (s : Step ℕ ℕ) → x.step ≡ s → call_in s ≡ DoorTake → Moves IsKept own 1 (λ n. n) (λ n w. cond (n == 0) (Goes own [] (next_of s x.waker (Taken false)) w) (Stays own w))
   none_by (UnderWay (AtDoorTake e)) at can = moves_tell IsKept own 1 (λ n. n) _ _ (λ n w r. none_tells e (n == 0) w r) (none_moves seen t x e at)
-  none_by _ at can = absurd can
+  none_by _ at can = let no : ⊥ = cc in absurd no
 
   -- the init answers
-  ran_by : (a : Polled) (s : Step ℕ ℕ) → x.step ≡ s → CanRun s
-      → Notes IsKept own (λ w. Turns own (record x { step = (run_next a s).step; kept = kept_after (unnamed a) x.kept })
-      (told t (kept_after (unnamed a) x.kept) (run_next a s) (Ran t (unnamed a) ∷ [])) w)
+  ran_by : (a : Polled) (s : Step ℕ ℕ) → x.step ≡ s → call_in s ≡ Run
+      → Notes IsKept own (λ w. IsHand w.0 w.1 × WentAt s (PolledInit a) w)
   ran_by Pending (UnderWay (AtRun by)) at can = notes_tell IsKept own _ _ (λ w r. leaves_turns seen t x _ _ w (told_of t (kept_after RanPending x.kept) (after_run Pending by) (Ran t RanPending ∷ []) (one_of t (Ran t RanPending) (eqb_self t))) r.1) (ran_notes seen t x by RanPending tt at)
   ran_by Value (UnderWay (AtRun by)) at can = notes_tell IsKept own _ _ (λ w r. leaves_turns seen t x _ _ w (told_of t (kept_after (RanValue 0) x.kept) (after_run Value by) (Ran t (RanValue 0) ∷ []) (one_of t (Ran t (RanValue 0)) (eqb_self t))) r.1) (ran_notes seen t x by (RanValue 0) refl at)
   ran_by Error (UnderWay (AtRun by)) at can = notes_tell IsKept own _ _ (λ w r. leaves_turns seen t x _ _ w (told_of t (kept_after (RanError 0) x.kept) (after_run Error by) (Ran t (RanError 0) ∷ []) (one_of t (Ran t (RanError 0)) (eqb_self t))) r.1) (ran_notes seen t x by (RanError 0) tt at)
-  ran_by a _ at can = absurd can
+  ran_by a _ at can = let no : ⊥ = cc in absurd no
 
   -- the copy is refused
   refused_by : (s : Step ℕ ℕ) → x.step ≡ s → CanRefuse s → Notes IsKept own (λ w. Turns own (record x { step = refused_step s }) [] w)
@@ -130,13 +130,13 @@ module _ (seen : List Entry) (h : Held Sheet) (is : IsHand seen h) where
   word_keeps c w at = subst (λ c. Moves IsKept (seen, h) 0 (word_after c) (WordTells (seen, h))) at
       (of_hand 0 (word_after (call_in (task_in h).step)) WordTells (word_by seen (number_in h) (task_in h) (task_in h).step refl (subst IsWordCall (sym at) w)))
 
-  pub full_keeps : CanCountIn (task_in h).step → Moves IsKept (seen, h) 0 (λ n. n) (Tells Full (seen, h))
+  pub full_keeps : call_in (task_in h).step ≡ CountIn → Moves IsKept (seen, h) 0 (λ n. n) (Tells Full (seen, h))
   full_keeps can = of_hand 0 (λ n. n) (Tells Full) (full_by seen (number_in h) (task_in h) (task_in h).step refl can)
 
-  pub enter_keeps : (m : ℕ) → CanCountIn (task_in h).step → (flags_of m).count < most → Moves IsKept (seen, h) 0 (λ n. either (n == m) (m + 1) n) (Tells (Enter m) (seen, h))
+  pub enter_keeps : (m : ℕ) → call_in (task_in h).step ≡ CountIn → (flags_of m).count < most → Moves IsKept (seen, h) 0 (λ n. either (n == m) (m + 1) n) (Tells (Enter m) (seen, h))
   enter_keeps m can l = of_hand 0 (λ n. either (n == m) (m + 1) n) (Tells (Enter m)) (enter_by seen (number_in h) (task_in h) m (task_in h).step refl can l)
 
-  pub none_keeps : CanTake (task_in h).step → Moves IsKept (seen, h) 1 (λ n. n) (Tells NonePut (seen, h))
+  pub none_keeps : call_in (task_in h).step ≡ DoorTake → Moves IsKept (seen, h) 1 (λ n. n) (Tells NonePut (seen, h))
   none_keeps can = of_hand 1 (λ n. n) (Tells NonePut) (none_by seen (number_in h) (task_in h) (task_in h).step refl can)
 
   pub begin_keeps : is_resting (task_in h).step ≡ true → Notes IsKept (seen, h) (Tells BeginPoll (seen, h) 0)
@@ -147,7 +147,7 @@ module _ (seen : List Entry) (h : Held Sheet) (is : IsHand seen h) where
   drop_keeps r = of_noting (λ v. Tells BeginDrop v 0)
       (notes_tell IsKept _ _ _ (λ w l. leaves_turns seen (number_in h) (task_in h) _ _ w (drop_of (number_in h) (step_of_drop (task_in h).step)) l.1) (dropped_notes seen (number_in h) (task_in h) r))
 
-  pub ran_keeps : (a : Polled) → CanRun (task_in h).step → Notes IsKept (seen, h) (Tells (InitRan a) (seen, h) 0)
+  pub ran_keeps : (a : Polled) → call_in (task_in h).step ≡ Run → Notes IsKept (seen, h) (Tells (InitRan a) (seen, h) 0)
   ran_keeps a can = of_noting (λ v. Tells (InitRan a) v 0) (ran_by seen (number_in h) (task_in h) a (task_in h).step refl can)
 
   pub refused_keeps : CanRefuse (task_in h).step → Notes IsKept (seen, h) (Tells Refused (seen, h) 0)
@@ -166,7 +166,7 @@ make_keeps seen = made_notes seen
 pub room_stays : (n : ℕ) (v w : View Entry Sheet) → (flags_of n).count < most → Tells Full v n w → Stays v w
 room_stays n v w l told =
     let room : nat_lt (flags_of n).count most ≡ true = grind (arith, nat_tests, l) in
-    subst (λ b. cond b (Stays v w) (Goes v [] (in_next false (flags_of n).ready (task_in v.1).step) w)) room told
+    subst (λ b. cond b (Stays v w) (Goes v [] (next_of (task_in v.1).step (task_in v.1).waker (CountedIn false (flags_of n).ready)) w)) room told
 
 -- and is told this
 pub word_told : (v w : View Entry Sheet) (c : Call ℕ ℕ) (n : ℕ) → call_in (task_in v.1).step ≡ c → WordTells v n w → Went (own_in v) (found c n) [] (own_in w)

@@ -18,7 +18,9 @@ use Rattle.once_parts.specs.declared.act.Section.{Section}
 use Rattle.once_parts.specs.declared.act.Section.TheVariants.{Stand, Get, Put, Found, Take, Look, List as ListOwn, Release, Leave, Rest}
 use Rattle.once_parts.specs.Desk.{Desked, IsDesk, behind, desk_sheets, desked}
 use Rattle.once_parts.specs.Own.{Did, IsHand, Own, Stayed, Turned, number_in, task_in, told}
-use Rattle.once_parts.specs.Places.{CanEnter, CanGet, CanRelease, CanRest, CanTake, get_next, leave_next, list_next, look_next, release_next, take_next}
+use Rattle.once_parts.specs.Places.{CanEnter, CanRelease, CanRest, leave_next, list_next, look_next, release_next}
+use Rattle.once_parts.specs.Page.{call_in, next_of}
+use Rattle.once_core.specs.Table.{DoorGet, DoorTake, Got, Taken}
 use Rattle.once_parts.specs.Sections.{CanNote, CanSee, HandsEach, IsBoth, Tells, desk_left, desk_listed, desk_looked, desk_put}
 use Rattle.once_parts.specs.Sections.{desk_released, door_number, listed, looked, more_released, own_behind, passing, waker_at}
 use Rattle.once_parts.proofs.Tells.{grew_nothing, moves_tell, notes_tell}
@@ -89,11 +91,11 @@ module _ (seen : List Entry) (d : Desked) (t : ℕ) (x : TaskState) where
   again_is o e w one r = subst (λ o. Went d [] (after_door_again o e) w) (sym one) r
 
   -- what stands at the door is looked at
-  get_by : (s : Step ℕ ℕ) → x.step ≡ s → CanGet s → Notes IsKept own (λ w. Went d [] (get_next d.door s) w)
+  get_by : (s : Step ℕ ℕ) → x.step ≡ s → call_in s ≡ DoorGet → Notes IsKept own (λ w. Went d [] (next_of s x.waker (Got d.door)) w)
   get_by (UnderWay AtDoorGet) at can = notes_tell IsKept own _ _ (λ w r. left d [] (after_door_get d.door) w tt r.1) (get_notes seen d.made d.door d.head d.listings t x at)
   get_by (UnderWay (AtDoorAgain e)) at can = notes_tell IsKept own _ _ (λ w r. again_is d.door e w r.0 (left d [] (next_at (AtRelease 1 e)) w tt r.1))
       (again_notes seen d.made d.door d.head d.listings t x e at)
-  get_by _ at can = absurd can
+  get_by _ at can = let no : ⊥ = cc in absurd no
 
   -- a queue is found where one would be put
   found_by : (o : Option ℕ) → d.door ≡ o → is_some o ≡ true → x.step ≡ UnderWay AtDoorPut → Notes IsKept own (λ w. Went d [] (next_at (AtCountIn (door_number o))) w)
@@ -101,11 +103,11 @@ module _ (seen : List Entry) (d : Desked) (t : ℕ) (x : TaskState) where
   found_by None e one at = absurd (false≢true one)
 
   -- the queue is taken out
-  take_by : (s : Step ℕ ℕ) → x.step ≡ s → CanTake s
-      → Notes IsKept own (λ w. IsBoth w.0 w.1 × ((desked w.1 ≡ record d { door = None }) × Did known [] (take_next s) (own_behind w) × (d.head ≡ false) × (d.listings ≡ [])))
+  take_by : (s : Step ℕ ℕ) → x.step ≡ s → call_in s ≡ DoorTake
+      → Notes IsKept own (λ w. IsBoth w.0 w.1 × ((desked w.1 ≡ record d { door = None }) × ((b : Bool) → Did known [] (next_of s x.waker (Taken b)) (own_behind w)) × (d.head ≡ false) × (d.listings ≡ [])))
   take_by (UnderWay (AtDoorTake e)) at can = notes_tell IsKept own _ _
-      (λ w r. let l = left (record d { door = None }) [] (next_end e) w tt r.1 in (l.0, (l.1.0, l.1.1, r.0.0, r.0.1))) (take_notes seen d.made d.door d.head d.listings t x e at)
-  take_by _ at can = absurd can
+      (λ w r. let l = left (record d { door = None }) [] (next_end e) w tt r.1 in (l.0, (l.1.0, (λ b. l.1.1), r.0.0, r.0.1))) (take_notes seen d.made d.door d.head d.listings t x e at)
+  take_by _ at can = let no : ⊥ = cc in absurd no
 
   -- a moment that no word marks
   pub note_by : (m : Section) → CanNote m d x.step → Notes IsKept own (Tells m own 0)

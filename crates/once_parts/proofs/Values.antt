@@ -25,7 +25,8 @@ use Rattle.once_parts.proofs.Moments.Moves.Slots.{put_value_moves, state_at, wri
 use Rattle.once_parts.specs.Desk.{desk_pages, first_desk}
 use Rattle.once_parts.specs.Own.{IsHand, number_in, task_in}
 use Rattle.once_parts.specs.Acts.{Goes, Puts, Writes}
-use Rattle.once_parts.specs.Places.{CanFill, fill_next}
+use Rattle.once_parts.specs.Page.{call_in, next_of}
+use Rattle.once_core.specs.Table.{Put, PutValue}
 use Rattle.once_parts.specs.Record.{EndsSet, Looks}
 use Rattle.once_parts.proofs.Tells.{leaves_turns, moves_tell}
 
@@ -55,21 +56,21 @@ look_keeps seen = moves_tell IsKept (seen, []) 0 (λ n. n) _ _
 
 module _ (seen : List Entry) (t : ℕ) (x : TaskState) where
   -- the task begins to write the value
-  write_by : (s : Step ℕ ℕ) → x.step ≡ s → CanFill s → Moves IsKept (seen, sheets seen (hand t x)) 2 (λ _. 1) (λ n w. (n ≡ 0) × Writes (seen, sheets seen (hand t x)) w)
+  write_by : (s : Step ℕ ℕ) → x.step ≡ s → call_in s ≡ Put → Moves IsKept (seen, sheets seen (hand t x)) 2 (λ _. 1) (λ n w. (n ≡ 0) × Writes (seen, sheets seen (hand t x)) w)
   write_by (UnderWay (AtPut by)) at can = moves_tell IsKept _ 2 (λ _. 1) _ _ (λ n w r. (r.0, (r.1, r.2, r.3))) (write_moves seen t x by at)
-  write_by _ at can = absurd can
+  write_by _ at can = let no : ⊥ = cc in absurd no
 
   -- and has written it
-  put_by : (s : Step ℕ ℕ) → x.step ≡ s → CanFill s → Moves IsKept (seen, writing_hand seen t x) 2 (λ _. 2) (λ n w. Goes (seen, writing_hand seen t x) [] (fill_next s) w)
+  put_by : (s : Step ℕ ℕ) → x.step ≡ s → call_in s ≡ Put → Moves IsKept (seen, writing_hand seen t x) 2 (λ _. 2) (λ n w. Goes (seen, writing_hand seen t x) [] (next_of s x.waker PutValue) w)
   put_by (UnderWay (AtPut by)) at can = moves_tell IsKept _ 2 (λ _. 2) _ _ (λ n w r. leaves_turns seen t x _ _ w (told_of t x.kept (next_at (release_place by EndValue)) [] tt) r) (put_value_moves seen t x by at)
-  put_by _ at can = absurd can
+  put_by _ at can = let no : ⊥ = cc in absurd no
 
 -- the same of any hand that is a task's
-pub write_keeps : (seen : List Entry) (h : Held Sheet) → IsHand seen h → CanFill (task_in h).step → Moves IsKept (seen, h) 2 (λ _. 1) (λ n w. (n ≡ 0) × Writes (seen, h) w)
+pub write_keeps : (seen : List Entry) (h : Held Sheet) → IsHand seen h → call_in (task_in h).step ≡ Put → Moves IsKept (seen, h) 2 (λ _. 1) (λ n w. (n ≡ 0) × Writes (seen, h) w)
 write_keeps seen h is can = subst (λ g. Moves IsKept (seen, g) 2 (λ _. 1) (λ n w. (n ≡ 0) × Writes (seen, g) w)) (sym is) (write_by seen (number_in h) (task_in h) (task_in h).step refl can)
 
 -- after it began to write
-pub put_keeps : (v w : View Entry Sheet) → CanFill (task_in v.1).step → Writes v w → Moves IsKept w 2 (λ _. 2) (λ n u. Puts w u)
+pub put_keeps : (v w : View Entry Sheet) → call_in (task_in v.1).step ≡ Put → Writes v w → Moves IsKept w 2 (λ _. 2) (λ n u. Puts w u)
 put_keeps v w can wrote =
     subst (λ g. Moves IsKept (w.0, g) 2 (λ _. 2) (λ n u. Puts (w.0, g) u)) (sym wrote.0) (put_by w.0 (number_in v.1) (task_in v.1) (task_in v.1).step refl can)
 

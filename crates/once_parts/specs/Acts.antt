@@ -4,17 +4,17 @@ use Rattle.pagebook.specs.Pages.{View}
 use Rattle.once_queue.specs.Word.{flags_of}
 use Rattle.once_core.specs.Steps.{step_of_drop}
 use Rattle.once_core.specs.Table.{Next}
-use Rattle.once_world.specs.Record.{Begin, Entry, Made, Ran}
+use Rattle.once_world.specs.Record.{Begin, Entry, Made}
 use Rattle.once_world.specs.Book.{TaskState, refused_step}
 use Rattle.once_world.specs.Machine.{drop_entries, fresh_task}
+use Rattle.once_core.specs.Table.{CountedIn, PutValue, Ran, Taken, after_door_put}
+use Rattle.once_parts.specs.Page.{Went, next_of}
+use Rattle.once_parts.specs.Places.{task_begun, task_dropping}
 use Rattle.once_parts.specs.Kept.{Grew, Sheet, entries_of, hand, most, sheets, writing_sheet}
 use Rattle.once_parts.specs.declared.act.Act.{Act}
 use Rattle.once_parts.specs.declared.act.Act.TheVariants.{Full, Enter, NonePut}
 use Rattle.once_parts.specs.declared.act.Act.TheVariants.{Begin as BeginPoll, BeginDrop, Ran as InitRan, Refused, Unput}
 use Rattle.once_parts.specs.Own.{IsHand, Stayed, Turned, number_in, own_in, task_in, told}
-use Rattle.once_parts.specs.Places.{in_next}
-use Rattle.once_parts.specs.Places.{put_next, take_next, run_next, fill_next}
-use Rattle.once_parts.specs.Places.{task_begun, task_dropping, task_run, unnamed}
 
 -- the hand is the task's still, whose page has turned so
 abbrev pub Turns : View Entry Sheet → TaskState → List Entry → View Entry Sheet → Type 0
@@ -33,20 +33,20 @@ Stays v w = IsHand w.0 w.1 × Stayed (own_in v) (own_in w)
 abbrev pub Tells : Act → View Entry Sheet → ℕ → View Entry Sheet → Type 0
 Tells Full v n w =
     cond (nat_lt (flags_of n).count most) (Stays v w)
-    (Goes v [] (in_next false (flags_of n).ready (task_in v.1).step) w)
-Tells (Enter m) v n w = cond (n == m) (Goes v [] (in_next true (flags_of m).ready (task_in v.1).step) w) (Stays v w)
-Tells NonePut v n w = cond (n == 0) (Goes v [] (take_next (task_in v.1).step) w) (Stays v w)
+    (Goes v [] (next_of (task_in v.1).step (task_in v.1).waker (CountedIn false (flags_of n).ready)) w)
+Tells (Enter m) v n w =
+    cond (n == m) (Goes v [] (next_of (task_in v.1).step (task_in v.1).waker (CountedIn true (flags_of m).ready)) w)
+    (Stays v w)
+Tells NonePut v n w =
+    cond (n == 0) (Goes v [] (next_of (task_in v.1).step (task_in v.1).waker (Taken false)) w) (Stays v w)
 Tells BeginPoll v n w =
     Turns v (task_begun (number_in v.1) (task_in v.1)) (Begin (number_in v.1) (number_in v.1) ∷ []) w
 Tells BeginDrop v n w =
     Turns v (task_dropping (task_in v.1))
     (reverse (drop_entries (number_in v.1) (step_of_drop (task_in v.1).step))) w
-Tells (InitRan a) v n w =
-    Turns v (task_run a (task_in v.1))
-    (told (number_in v.1) (task_run a (task_in v.1)).kept (run_next a (task_in v.1).step)
-    (Ran (number_in v.1) (unnamed a) ∷ [])) w
+Tells (InitRan a) v n w = IsHand w.0 w.1 × Went (own_in v) (Ran a) [] (own_in w)
 Tells Refused v n w = Turns v (record (task_in v.1) { step = refused_step (task_in v.1).step }) [] w
-Tells Unput v n w = Goes v [] (put_next None) w
+Tells Unput v n w = Goes v [] (after_door_put None) w
 
 -- a task is made, by a hand that has no page
 abbrev pub Makes : View Entry Sheet → View Entry Sheet → Type 0
@@ -59,4 +59,4 @@ Writes v w = (w.1 ≡ (suc (suc (number_in v.1)), writing_sheet (entries_of (num
 
 -- the value is put
 abbrev pub Puts : View Entry Sheet → View Entry Sheet → Type 0
-Puts v w = Goes v [] (fill_next (task_in v.1).step) w
+Puts v w = Goes v [] (next_of (task_in v.1).step (task_in v.1).waker PutValue) w

@@ -3,57 +3,20 @@ use Rattle.std.specs.Prelude.{◌≡◌, ℕ, Bool, true, false, Option, Some, N
 use Rattle.once_queue.specs.declared.waiters.Answer.{Answer as SectionAnswer}
 use Rattle.once_core.specs.declared.step.Polled.{Polled}
 use Rattle.once_core.specs.declared.step.Polled.TheVariants.{Pending, Value, Error}
-use Rattle.once_core.specs.Steps.{release_place, step_of_drop, step_of_poll}
-use Rattle.once_core.specs.Table.{Next, next_at, next_end}
-use Rattle.once_core.specs.Table.{after_door_get, after_door_put, after_count_in}
+use Rattle.once_core.specs.Steps.{step_of_drop, step_of_poll}
+use Rattle.once_core.specs.Table.{Next, next_at}
 use Rattle.once_core.specs.Table.{after_look, after_list}
-use Rattle.once_core.specs.Table.{after_run, after_door_again}
 use Rattle.once_world.specs.declared.record.Ran.{Ran as Answer}
 use Rattle.once_world.specs.declared.record.Ran.TheVariants.{Pending as RanPending, Value as RanValue}
 use Rattle.once_world.specs.declared.record.Ran.TheVariants.{Error as RanError}
 use Rattle.once_world.specs.Book.{TaskState}
-use Rattle.once_world.specs.Machine.{AtStart, AtDoorGet, AtCountIn, AtLook, AtList, AtRun, AtPut}
-use Rattle.once_world.specs.Machine.{AtDoorAgain, AtRelease, AtLeave, AtCountOut, AtDoorTake}
-use Rattle.once_world.specs.Machine.{EndValue, RestWait, Resting, Step, UnderWay, is_value, kept_after}
+use Rattle.once_world.specs.Machine.{AtStart, AtLook, AtList}
+use Rattle.once_world.specs.Machine.{AtRelease, AtLeave, AtCountOut}
+use Rattle.once_world.specs.Machine.{RestWait, Resting, Step, UnderWay, is_value}
 
 -- at another place nothing of this is done, and it is left open where that would lead
 abbrev pub nowhere : Next ℕ ℕ
 nowhere = next_at AtStart
-
--- a task counts itself in
-abbrev pub CanCountIn : Step ℕ ℕ → Type 0
-CanCountIn (UnderWay (AtCountIn q)) = Unit {0}
-CanCountIn _ = ⊥
-
--- by whether it was counted, and whether the value is set
-abbrev pub in_next : Bool → Bool → Step ℕ ℕ → Next ℕ ℕ
-in_next is_in ready (UnderWay (AtCountIn q)) = after_count_in is_in ready q
-in_next is_in ready _ = nowhere
-
--- the door is looked at by a first poll, and by a holder that counted itself in
-abbrev pub CanGet : Step ℕ ℕ → Type 0
-CanGet (UnderWay AtDoorGet) = Unit {0}
-CanGet (UnderWay (AtDoorAgain e)) = Unit {0}
-CanGet _ = ⊥
-
--- by the queue that stands there
-abbrev pub get_next : Option ℕ → Step ℕ ℕ → Next ℕ ℕ
-get_next d (UnderWay (AtDoorAgain e)) = after_door_again d e
-get_next d _ = after_door_get d
-
--- a queue was put to the door or found there, or memory was refused
-abbrev pub put_next : Option ℕ → Next ℕ ℕ
-put_next d = after_door_put d
-
--- the queue is taken out of the door
-abbrev pub CanTake : Step ℕ ℕ → Type 0
-CanTake (UnderWay (AtDoorTake e)) = Unit {0}
-CanTake _ = ⊥
-
--- which ends the call
-abbrev pub take_next : Step ℕ ℕ → Next ℕ ℕ
-take_next (UnderWay (AtDoorTake e)) = next_end e
-take_next _ = nowhere
 
 -- a section under the lock is begun at these places
 abbrev pub CanEnter : Step ℕ ℕ → Type 0
@@ -109,35 +72,11 @@ abbrev pub leave_next : Step ℕ ℕ → Next ℕ ℕ
 leave_next (UnderWay (AtLeave q m e)) = next_at (AtCountOut e)
 leave_next _ = nowhere
 
--- the init is polled
-abbrev pub CanRun : Step ℕ ℕ → Type 0
-CanRun (UnderWay (AtRun by)) = Unit {0}
-CanRun _ = ⊥
-
--- by its answer
-abbrev pub run_next : Polled → Step ℕ ℕ → Next ℕ ℕ
-run_next a (UnderWay (AtRun by)) = after_run a by
-run_next a _ = nowhere
-
 -- the answer in the record, which names a value and an error 0
 abbrev pub unnamed : Polled → Answer
 unnamed Pending = RanPending
 unnamed Value = RanValue 0
 unnamed Error = RanError 0
-
--- the task whose init answered so
-abbrev pub task_run : Polled → TaskState → TaskState
-task_run a x = record x { step = (run_next a x.step).step; kept = kept_after (unnamed a) x.kept }
-
--- the value is put
-abbrev pub CanFill : Step ℕ ℕ → Type 0
-CanFill (UnderWay (AtPut by)) = Unit {0}
-CanFill _ = ⊥
-
--- to the release
-abbrev pub fill_next : Step ℕ ℕ → Next ℕ ℕ
-fill_next (UnderWay (AtPut by)) = next_at (release_place by EndValue)
-fill_next _ = nowhere
 
 -- the copy of the waker is refused, after a look
 abbrev pub CanRefuse : Step ℕ ℕ → Type 0

@@ -8,7 +8,7 @@ use Rattle.once_queue.specs.declared.waiters.Listing.{Listing}
 use Rattle.once_queue.specs.declared.waiters.Answer.{Answer as SectionAnswer}
 use Rattle.once_queue.specs.Listings.{find_listing, kept_ticket, left_list, next_waker}
 use Rattle.once_queue.specs.Listings.{own_listing, passes_turn, tickets, wakers_of}
-use Rattle.once_core.specs.Table.{next_at}
+use Rattle.once_core.specs.Table.{DoorGet, DoorTake, Got, Taken, next_at}
 use Rattle.once_world.specs.Record.{Entry}
 use Rattle.once_world.specs.UnderLock.{head_after, is_claim, list_answer, listed_list, listed_ticket}
 use Rattle.once_world.specs.UnderLock.{look_answer, looked_list}
@@ -20,8 +20,9 @@ use Rattle.once_parts.specs.declared.act.Section.TheVariants.{Stand, Get, Put, F
 use Rattle.once_parts.specs.declared.act.Section.TheVariants.{Look, List as ListOwn, Release, Leave, Rest}
 use Rattle.once_parts.specs.Desk.{Desked, behind, desked}
 use Rattle.once_parts.specs.Own.{Did, Own, Stayed, number_in, own_in, task_in}
-use Rattle.once_parts.specs.Places.{CanEnter, CanGet, CanLeave, CanList, CanLook, CanRest, CanTake}
-use Rattle.once_parts.specs.Places.{get_next, leave_next, list_next, look_next, release_next, take_next}
+use Rattle.once_parts.specs.Places.{CanEnter, CanLeave, CanList, CanLook, CanRest}
+use Rattle.once_parts.specs.Places.{leave_next, list_next, look_next, release_next}
+use Rattle.once_parts.specs.Page.{Went, call_in}
 
 -- what the task knows whose page lies behind the two under the lock
 abbrev pub own_behind : View Entry Sheet → Own
@@ -93,11 +94,11 @@ IsOwnListing k t xs = (v : ℕ) → find_listing k xs ≡ Some (Some v) → v �
 -- each moment, by the number found in the word: of the two pages and of what the task knew, before it and after it
 abbrev pub Moment : Section → ℕ → Desked → Own → Desked → Own → Type 0
 Moment Stand n d x e y = (e ≡ d) × Stayed x y × ((q : ℕ) × (d.door ≡ Some q))
-Moment Get n d x e y = (e ≡ d) × Did x [] (get_next d.door x.task.step) y
+Moment Get n d x e y = (e ≡ d) × Went x (Got d.door) [] y
 Moment Put n d x e y = (e ≡ desk_put d) × Did x [] (next_at (AtCountIn (suc d.made))) y
 Moment Found n d x e y = (e ≡ d) × Did x [] (next_at (AtCountIn (door_number d.door))) y
 Moment Take n d x e y =
-    (e ≡ record d { door = None }) × Did x [] (take_next x.task.step) y × (d.head ≡ false) × (d.listings ≡ [])
+    (e ≡ record d { door = None }) × ((b : Bool) → Went x (Taken b) [] y) × (d.head ≡ false) × (d.listings ≡ [])
 Moment (Look k) n d x e y = (e ≡ desk_looked (looked n k d) k d)
     × Did x (claim_entries (is_claim (looked n k d)) x.number) (look_next (looked n k d) k x.task.waker x.task.step) y
 Moment (ListOwn k room) n d x e y = (e ≡ desk_listed (listed n k room d) k (waker_at x.task.step) d)
@@ -119,9 +120,9 @@ Tells s v n w = IsBoth w.0 w.1 × Moment s n (desked v.1) (own_behind v) (desked
 -- what may be done that no word marks, by the two pages and by where the task stands
 abbrev pub CanNote : Section → Desked → Step ℕ ℕ → Type 0
 CanNote Stand d s = CanEnter s
-CanNote Get d s = CanGet s
+CanNote Get d s = call_in s ≡ DoorGet
 CanNote Found d s = (s ≡ UnderWay AtDoorPut) × (is_some d.door ≡ true)
-CanNote Take d s = CanTake s
+CanNote Take d s = call_in s ≡ DoorTake
 CanNote (Rest k) d s = CanRest k s
 CanNote _ d s = ⊥
 

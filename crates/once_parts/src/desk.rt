@@ -1,5 +1,5 @@
 //! What lies under the one lock of a cell.
-ghost use Rattle.std.specs.Prelude.{◌≡◌, ◌*◌, ◌⊎◌, ℕ, true, false, List, [], ◌∷◌, Option, Some, None};
+ghost use Rattle.std.specs.Prelude.{◌≡◌, ◌*◌, ◌⊎◌, ℕ, Bool, true, false, List, [], ◌∷◌, Option, Some, None};
 ghost use Rattle.std.specs.Option.{is_some};
 ghost use Rattle.pagebook.specs.Pages.{Book};
 ghost use Rattle.once_queue.specs.Listings.{kept_ticket};
@@ -40,7 +40,8 @@ impl<W: TaskWaker> Keyed for Desk<W> {
 }
 
 impl<W: TaskWaker + Drop> Desk<W> {
-    ghost use Rattle.once_core.specs.Table.{next_at};
+    ghost use Rattle.once_core.specs.Table.{DoorGet, DoorTake, Got, Taken, next_at};
+    ghost use Rattle.once_parts.specs.Page.{Went, call_in};
     ghost use Rattle.once_world.specs.Machine.{AtCountIn, AtDoorPut, UnderWay};
     ghost use Rattle.once_world.specs.Machine.{claim_entries, is_claim, pass_entries, release_entry};
     ghost use Rattle.once_parts.specs.Kept.{has_passed, hands_out};
@@ -48,8 +49,8 @@ impl<W: TaskWaker + Drop> Desk<W> {
     ghost use Rattle.once_parts.specs.Steps.{answer_as};
     ghost use Rattle.once_parts.specs.Desk.{desk_sheets, first_desk};
     ghost use Rattle.once_parts.specs.Own.{Did, IsWord};
-    ghost use Rattle.once_parts.specs.Places.{CanGet, CanTake, CanLook, CanList, CanRelease, CanLeave, CanRest};
-    ghost use Rattle.once_parts.specs.Places.{get_next, take_next, look_next, list_next, release_next, leave_next};
+    ghost use Rattle.once_parts.specs.Places.{CanLook, CanList, CanRelease, CanLeave, CanRest};
+    ghost use Rattle.once_parts.specs.Places.{look_next, list_next, release_next, leave_next};
     ghost use Rattle.once_parts.specs.Places.{numbered};
     ghost use Rattle.once_parts.specs.Hands.{own_of};
     ghost use Rattle.std.specs.Prelude.{IsSomeAnd};
@@ -72,11 +73,11 @@ impl<W: TaskWaker + Drop> Desk<W> {
     #[inline(always)]
     pub fn get(&mut self, hand: &mut Hand) -> bool
         requires book { self.old ≡ hand.old.seen.book }
-        requires can { CanGet (own_of hand.old).task.step }
+        requires can { call_in (own_of hand.old).task.step ≡ DoorGet }
         ensures desk { self.new ≡ self.old }
         ensures book { hand.new.seen.book ≡ hand.old.seen.book }
         ensures did { (q : ℕ)
-            × Did (own_of hand.old) [] (get_next (numbered q result) (own_of hand.old).task.step) (own_of hand.new) }
+            × Went (own_of hand.old) (Got (numbered q result)) [] (own_of hand.new) }
     {
         note(&mut self.pens, hand, &Section::Get);
         self.lists.is_some()
@@ -111,10 +112,10 @@ impl<W: TaskWaker + Drop> Desk<W> {
     #[inline(always)]
     pub fn take(&mut self, hand: &mut Hand) -> Option<Box<Lists<W>>>
         requires book { self.old ≡ hand.old.seen.book }
-        requires can { CanTake (own_of hand.old).task.step }
+        requires can { call_in (own_of hand.old).task.step ≡ DoorTake }
         ensures desk { self.new ≡ self.old }
         ensures book { hand.new.seen.book ≡ hand.old.seen.book }
-        ensures did { Did (own_of hand.old) [] (take_next (own_of hand.old).task.step) (own_of hand.new) }
+        ensures did { (b : Bool) → Went (own_of hand.old) (Taken b) [] (own_of hand.new) }
     {
         note(&mut self.pens, hand, &Section::Take);
         self.lists.take()

@@ -27,15 +27,14 @@ impl Hand {
     ghost use Rattle.std.specs.Prelude.{None, true, false, [], ◌∷◌, reverse};
     ghost use Rattle.std.specs.Option.{MatchOption};
     ghost use Rattle.once_core.specs.Steps.{is_resting, step_of_drop};
-    ghost use Rattle.once_core.specs.Table.{is_in, finds_ready};
+    ghost use Rattle.once_core.specs.Table.{CountIn, DoorTake, Put, PutValue, Taken, after_door_put, counted};
     ghost use Rattle.once_world.specs.Record.{Begin, Made};
     ghost use Rattle.once_world.specs.Book.{refused_step};
     ghost use Rattle.once_world.specs.Machine.{AtDoorPut, UnderWay, drop_entries, fresh_task};
     ghost use Rattle.once_parts.specs.Kept.{Grew};
     ghost use Rattle.once_parts.specs.Own.{Did, IsWord, Stayed, Turned};
-    ghost use Rattle.once_parts.specs.Places.{CanCountIn, CanTake, CanFill, CanRefuse};
-    ghost use Rattle.once_parts.specs.Places.{in_next, put_next, take_next, fill_next};
-    ghost use Rattle.once_parts.specs.Places.{task_begun, task_dropping};
+    ghost use Rattle.once_parts.specs.Page.{Went, call_in};
+    ghost use Rattle.once_parts.specs.Places.{CanRefuse, task_begun, task_dropping};
     ghost use Rattle.once_parts.specs.Hands.{HasRight, HasRun, own_of};
 
     /// A new task's, by what was seen of the log before.
@@ -56,11 +55,10 @@ impl Hand {
     #[inline(always)]
     pub fn try_count_in(&mut self, word: &CellWord) -> Option<Counted>
         requires word { IsWord word.now self.old.seen.book 0 }
-        requires can { CanCountIn (own_of self.old).task.step }
+        requires can { call_in (own_of self.old).task.step ≡ CountIn }
         ensures book { self.new.seen.book ≡ self.old.seen.book }
         ensures did { MatchOption result (Stayed (own_of self.old) (own_of self.new))
-            (λ c. Did (own_of self.old) [] (in_next (is_in c) (finds_ready c) (own_of self.old).task.step)
-            (own_of self.new)) }
+            (λ c. Went (own_of self.old) (counted c) [] (own_of self.new)) }
     {
         let before = word.load::<Act, Act>(&Act::Full, &mut self.seen, &mut self.pens);
         if before % QINIT_BIT >= MAX_WAITERS {
@@ -86,10 +84,9 @@ impl Hand {
     #[inline(always)]
     pub fn finds_none_put(&mut self, has_put: &CellWord) -> bool
         requires word { IsWord has_put.now self.old.seen.book 1 }
-        requires can { CanTake (own_of self.old).task.step }
+        requires can { call_in (own_of self.old).task.step ≡ DoorTake }
         ensures book { self.new.seen.book ≡ self.old.seen.book }
-        ensures none { result ≡ true
-            → Did (own_of self.old) [] (take_next (own_of self.old).task.step) (own_of self.new) }
+        ensures none { result ≡ true → Went (own_of self.old) (Taken false) [] (own_of self.new) }
         ensures some { result ≡ false → Stayed (own_of self.old) (own_of self.new) }
     {
         has_put.load::<Act, Act>(&Act::NonePut, &mut self.seen, &mut self.pens) == 0
@@ -160,7 +157,7 @@ impl Hand {
     pub fn unput(&mut self)
         requires can { (own_of self.old).task.step ≡ UnderWay AtDoorPut }
         ensures book { self.new.seen.book ≡ self.old.seen.book }
-        ensures did { Did (own_of self.old) [] (put_next None) (own_of self.new) }
+        ensures did { Did (own_of self.old) [] (after_door_put None) (own_of self.new) }
     {
         self.seen.note::<Act, Act>(&mut self.pens, &Act::Unput);
     }
@@ -169,9 +166,9 @@ impl Hand {
     #[inline(always)]
     pub fn put<T>(&mut self, slot: &CellSlot<T>, value: T) -> Written<T>
         requires slot { (slot.now.book ≡ self.old.seen.book) × (slot.now.key ≡ 2) }
-        requires can { CanFill (own_of self.old).task.step }
+        requires can { call_in (own_of self.old).task.step ≡ Put }
         ensures book { self.new.seen.book ≡ self.old.seen.book }
-        ensures did { Did (own_of self.old) [] (fill_next (own_of self.old).task.step) (own_of self.new) }
+        ensures did { Went (own_of self.old) PutValue [] (own_of self.new) }
         ensures written { (result.of ≡ slot.now.id) × (result.value ≡ value) }
     {
         slot.put::<(), Writes, Puts>(value, &(), &mut self.seen, &mut self.pens)

@@ -1,12 +1,13 @@
 //! What the tasks of a cell share, as one task uses it.
-ghost use Rattle.std.specs.Prelude.{◌≡◌, ◌≢◌, ◌^◌, if◌then◌else◌, ℕ, false, true, List, []};
+ghost use Rattle.std.specs.Prelude.{◌≡◌, ◌≢◌, ◌^◌, if◌then◌else◌, ℕ, Bool, false, true, List, []};
 ghost use mathlib.Core.List.{IsPrefix};
 ghost use Rattle.once_queue.specs.Room.{listings_of};
-ghost use Rattle.once_core.specs.Table.{next_at};
+ghost use Rattle.once_core.specs.Table.{DoorGet, DoorTake, Got, Taken, next_at};
 ghost use Rattle.once_world.specs.Machine.{AtCountIn, AtDoorPut, UnderWay};
 ghost use Rattle.once_parts.specs.Named.{HasRenewed, KeepsOwner};
 ghost use Rattle.once_parts.specs.Own.{Did, IsWord};
-ghost use Rattle.once_parts.specs.Places.{CanGet, CanRest, CanTake, get_next, numbered, take_next};
+ghost use Rattle.once_parts.specs.Page.{Went, call_in};
+ghost use Rattle.once_parts.specs.Places.{CanRest, numbered};
 ghost use Rattle.once_parts.specs.Handed.{CanSection, DidSection};
 ghost use Rattle.once_parts.specs.Hands.{own_of};
 ghost use Rattle.once_parts.specs.Record.{IsSet};
@@ -349,10 +350,10 @@ fn got<J: Key, T, W: TaskWaker + Drop, R: Wait>(
 ) -> bool
     requires key { inner.now.desk ≡ J.key }
     requires book { hand.old.seen.book ≡ J.key }
-    requires can { CanGet (own_of hand.old).task.step }
+    requires can { call_in (own_of hand.old).task.step ≡ DoorGet }
     ensures book { hand.new.seen.book ≡ hand.old.seen.book }
     ensures did { (q : ℕ)
-        × Did (own_of hand.old) [] (get_next (numbered q result) (own_of hand.old).task.step) (own_of hand.new) }
+        × Went (own_of hand.old) (Got (numbered q result)) [] (own_of hand.new) }
 {
     inner.desk.lock::<J, R>(rt).value.get(hand)
 }
@@ -388,9 +389,9 @@ fn taken<J: Key, T, W: TaskWaker + Drop, R: Wait>(
 ) -> Option<Box<Lists<W>>>
     requires key { inner.now.desk ≡ J.key }
     requires book { hand.old.seen.book ≡ J.key }
-    requires can { CanTake (own_of hand.old).task.step }
+    requires can { call_in (own_of hand.old).task.step ≡ DoorTake }
     ensures book { hand.new.seen.book ≡ hand.old.seen.book }
-    ensures did { Did (own_of hand.old) [] (take_next (own_of hand.old).task.step) (own_of hand.new) }
+    ensures did { (b : Bool) → Went (own_of hand.old) (Taken b) [] (own_of hand.new) }
 {
     inner.desk.lock::<J, R>(rt).value.take(hand)
 }

@@ -14,7 +14,7 @@ use Rattle.once_core.specs.declared.step.Polled.{Polled}
 use Rattle.once_core.specs.declared.step.Polled.TheVariants.{Pending, Value, Error}
 use Rattle.once_core.specs.Steps.{MayClose, SideTells, Wakes, out_of}
 use Rattle.once_core.specs.Table.{Follows, Next}
-use Rattle.once_core.specs.Table.{Added, CountedOut, Loaded, TriedFast, TriedQuick}
+use Rattle.once_core.specs.Table.{Added, CountedIn, CountedOut, Got, Loaded, PutValue, Ran as PolledInit, Taken, TriedFast, TriedQuick}
 use Rattle.once_core.specs.Table.{Line, Looked, MayRefuse, Refused, Was, wants_copy}
 use Rattle.once_world.specs.Places.{Ending, EndValue, More, Progress, Step, UnderWay}
 use Rattle.once_world.specs.Places.{Place, AtStart, AtTryQuick, AtDoorGet, AtDoorPut, AtCountIn, AtWaitLoad, AtLook, AtList}
@@ -32,7 +32,7 @@ use Rattle.once_parts.proofs.Moments.Places.{at_add, at_again, at_count_in, at_c
 use Rattle.once_parts.proofs.Moments.Steps.{again_as, copy_as, count_in_as, count_out_as, fast_as, get_as, list_as, load_as, look_as, put_as, quick_as, release_as, run_as, start_as}
 use Rattle.once_parts.specs.Own.{Did, Own, Turned, told}
 use Rattle.once_parts.specs.Page.{next_of}
-use Rattle.once_parts.specs.Places.{fill_next, get_next, in_next, leave_next, list_next, look_next, numbered, release_next, run_next, take_next, unnamed}
+use Rattle.once_parts.specs.Places.{leave_next, list_next, look_next, numbered, release_next, unnamed}
 use Rattle.once_parts.specs.Handed.{handed_in}
 use Rattle.once_parts.specs.Sides.{IsTold, Sided}
 use Rattle.once_parts.specs.Kept.{entries_of}
@@ -288,7 +288,7 @@ module _ {P S W : Type 0} (cell : P → Placed) (own : P → Own) (whose : W →
       (λ still. quick_fits W ⊤ drops (state s') (own p') won (begun p p' s s' r t is.number did (after_quick won) is.fits.1 after still) (inits p p' s s' r t is.number is.fits.1 still))
   line_went AtDoorGet p p' s s' r r0 t is (q, (d, f)) =
       let door : Option ℕ = numbered d.1.0 (is_some q) in
-      let after : Did (own p) [] (after_door_get door) (own p') = subst (λ x. Did (own p) [] (get_next door x) (own p')) (at_get the_queue _ (sym is.step)) d.1.1 in
+      let after : Did (own p) [] (after_door_get door) (own p') = subst (λ x. Did (own p) [] (next_of x (own p).task.waker (Got door)) (own p')) (at_get the_queue _ (sym is.step)) d.1.1 in
       goes p p' s s' r t is.number (after_door_get q) (after_door_get door) (after_door_get (option_map (λ q. q) q)) [] d.0 after (get_as whose (λ (q : ⊤). q) q)
       (get_as (λ w. w) the_queue door ∙ ap after_door_get (numbered_same q d.1.0)) tt refl f
       (λ still. get_fits W ⊤ drops (state s') (own p') q (begun p p' s s' r t is.number [] (after_door_get door) is.fits.1 after still) (inits p p' s s' r t is.number is.fits.1 still))
@@ -299,7 +299,7 @@ module _ {P S W : Type 0} (cell : P → Placed) (own : P → Own) (whose : W →
       (λ still. put_fits W ⊤ drops (state s') (own p') q (begun p p' s s' r t is.number [] (after_door_put door) is.fits.1 d.1.1 still) (inits p p' s s' r t is.number is.fits.1 still))
   line_went (AtCountIn q) p p' s s' r r0 t is (b, c, (d, f)) =
       let at = at_count_in the_queue _ q (sym is.step) in
-      let after : Did (own p) [] (after_count_in b c at.0) (own p') = subst (λ x. Did (own p) [] (in_next b c x) (own p')) at.1 d.1 in
+      let after : Did (own p) [] (after_count_in b c at.0) (own p') = subst (λ x. Did (own p) [] (next_of x (own p).task.waker (CountedIn b c)) (own p')) at.1 d.1 in
       goes p p' s s' r t is.number (after_count_in b c tt) (after_count_in b c at.0) (after_count_in b c tt) [] d.0 after
       (count_in_as whose (λ (q : ⊤). q) b c tt) (count_in_as (λ w. w) the_queue b c at.0) tt refl f
       (λ still. count_in_fits W ⊤ drops (state s') (own p') b c tt (begun p p' s s' r t is.number [] (after_count_in b c at.0) is.fits.1 after still) (inits p p' s s' r t is.number is.fits.1 still))
@@ -328,7 +328,7 @@ module _ {P S W : Type 0} (cell : P → Placed) (own : P → Own) (whose : W →
       let k : InitAnswer = kept_after (unnamed a) (own p).task.kept in
       let z : TaskState = record (own p).task { step = (after_run a at.0).step; kept = k } in
       let after : Turned (own p) z (told n k (after_run a at.0) (Ran n (unnamed a) ∷ [])) (own p') =
-      subst (λ x. Turned (own p) (record (own p).task { step = (run_next a x).step; kept = k }) (told n k (run_next a x) (Ran n (unnamed a) ∷ [])) (own p')) at.1 d.1 in
+      subst (λ x. Turned (own p) (record (own p).task { step = (next_of x (own p).task.waker (PolledInit a)).step; kept = k }) (told n k (next_of x (own p).task.waker (PolledInit a)) (Ran n (unnamed a) ∷ [])) (own p')) at.1 d.1 in
       let told = tells.run s a m ran in
       let now : Still (after_run {W = W} a by).closes (state m) (state s') = closed (after_run {W = W} a by).closes m s' close in
       let woke : (state s').woke ≡ (state s).woke = now.woke ∙ told.woke in
@@ -342,7 +342,7 @@ module _ {P S W : Type 0} (cell : P → Placed) (own : P → Own) (whose : W →
   line_went (AtPut by) p p' s s' r r0 t is (d, (put, more, leads)) =
       let at = at_value the_queue _ (option_map (λ q. q) by) (sym is.step) in
       let b : Next ℕ ℕ = next_at (release_place at.0 EndValue) in
-      let after : Did (own p) [] b (own p') = subst (λ x. Did (own p) [] (fill_next x) (own p')) at.1 d.1 in
+      let after : Did (own p) [] b (own p') = subst (λ x. Did (own p) [] (next_of x (own p).task.waker PutValue) (own p')) at.1 d.1 in
       let told = tells.put s s' put in
       went_by cell own whose state drops p p' s s' r t (next_at (release_place by EndValue)) b (next_at (release_place (option_map (λ q. q) by) EndValue))
       (record (own p).task { step = b.step }) [] [] d.0 after refl
@@ -364,7 +364,7 @@ module _ {P S W : Type 0} (cell : P → Placed) (own : P → Own) (whose : W →
       (λ still. (refl, (unwoken p p' s s' r t is.number is.fits.1.0 still, ending p p' s s' r t is.number e [] b is.fits.1.1 after still)))
   line_went (AtDoorAgain e) p p' s s' r r0 t is (q, (d, f)) =
       let door : Option ℕ = numbered d.1.0 (is_some q) in
-      let after : Did (own p) [] (after_door_again door e) (own p') = subst (λ x. Did (own p) [] (get_next door x) (own p')) (at_again the_queue _ e (sym is.step)) d.1.1 in
+      let after : Did (own p) [] (after_door_again door e) (own p') = subst (λ x. Did (own p) [] (next_of x (own p).task.waker (Got door)) (own p')) (at_again the_queue _ e (sym is.step)) d.1.1 in
       goes p p' s s' r t is.number (after_door_again q e) (after_door_again door e) (after_door_again (option_map (λ q. q) q) e) [] d.0 after (again_as whose (λ (q : ⊤). q) q e)
       (again_as (λ w. w) the_queue door e ∙ ap (λ o. after_door_again o e) (numbered_same q d.1.0)) tt refl f
       (λ still. again_fits W ⊤ drops (state s') (own p') q e (unwoken p p' s s' r t is.number is.fits.1.0 still)
@@ -385,6 +385,6 @@ module _ {P S W : Type 0} (cell : P → Placed) (own : P → Own) (whose : W →
       (count_out_as whose (λ (q : ⊤). q) last e) (count_out_as (λ w. w) the_queue last e) tt refl f
       (λ still. out_fits W ⊤ drops (state s') (own p') last e (ending p p' s s' r t is.number e [] (after_count_out last e) is.fits.1 after still))
   line_went (AtDoorTake e) p p' s s' r r0 t is (b, (d, f)) =
-      let after : Did (own p) [] (next_end e) (own p') = subst (λ x. Did (own p) [] (take_next x) (own p')) (at_take the_queue _ e (sym is.step)) d.1 in
+      let after : Did (own p) [] (next_end e) (own p') = subst (λ x. Did (own p) [] (next_of x (own p).task.waker (Taken b)) (own p')) (at_take the_queue _ e (sym is.step)) d.1 in
       goes p p' s s' r t is.number (next_end e) (next_end e) (next_end e) [] d.0 after refl refl tt refl f
       (λ still. take_fits W ⊤ drops (state s') (own p') e (ending p p' s s' r t is.number e [] (next_end e) is.fits.1 after still))

@@ -1,9 +1,10 @@
-use Rattle.std.proofs.Common.{◌<◌, sym, subst, arith}
+use Rattle.std.proofs.Common.{◌≡◌, ◌<◌, sym, subst, arith}
 use Rattle.std.proofs.lemmas.Bool.Decides.{nat_tests}
 use Rattle.once_queue.specs.Word.{flags_of}
 use Rattle.once_world.specs.Book.{TaskState}
 use Rattle.once_parts.specs.Kept.{most}
-use Rattle.once_parts.specs.Places.{CanCountIn}
+use Rattle.once_core.specs.Table.{CountIn}
+use Rattle.once_parts.specs.Page.{call_in}
 use Rattle.once_parts.proofs.Acts.{enter_keeps, full_keeps, room_stays}
 use Rattle.once_parts.proofs.hand.Hand.try_count_in.Goals as goal
 
@@ -15,4 +16,4 @@ compare_exchange-found-requires-clause-moves c =
     let full = c.if-before-ge-MAX_WAITERS.false in
     let l : (flags_of c.load-before.result).count < most = grind (arith, nat_tests, full) in
     let s = room_stays c.load-before.result (c.args.self.now.seen.log, c.args.self.now.pens.held) (c.load-before.new.seen.log, c.load-before.new.pens.held) l c.load-before.ensures.then in
-    rw c.requires.word.1 (enter_keeps _ _ s.0 _ (subst (λ (y : TaskState). CanCountIn y.step) (sym s.1.task) c.requires.can) l)
+    rw c.requires.word.1 (enter_keeps _ _ s.0 _ (subst (λ (y : TaskState). call_in y.step ≡ CountIn) (sym s.1.task) c.requires.can) l)

@@ -1,9 +1,9 @@
 -- A task that was not counted in for another's sake stands where it stood, now as before.
 use Rattle.std.proofs.Common.{◌≡◌, ℕ, rules, [], ◌∙◌, subst}
-use Rattle.once_core.specs.Table.{finds_ready, is_in}
+use Rattle.once_core.specs.Table.{counted}
 use Rattle.once_parts.specs.Kept.{entries_of}
 use Rattle.once_parts.specs.Own.{Own, Stayed}
-use Rattle.once_parts.specs.Places.{in_next}
+use Rattle.once_parts.specs.Page.{next_of}
 use Rattle.once_parts.proofs.Desks.{did_after, prefix_on}
 use Rattle.once_parts.proofs.shared.SharedParts.count_in.Goals as goal
 
@@ -28,4 +28,4 @@ loop-preserved g c =
 
 pub returns-in-Some-try_count_in : goal.returns-in-Some-try_count_in
 returns-in-Some-try_count_in g c =
-    (search rules, did_after (λ _ _. []) (λ task. in_next (is_in c.in-Some-try_count_in.counted) (finds_ready c.in-Some-try_count_in.counted) task.step) _ _ _ c.loop.invariant.3 c.in-Some-try_count_in.ensures.did)
+    (search rules, did_after (λ _ _. []) (λ task. next_of task.step task.waker (counted c.in-Some-try_count_in.counted)) _ _ _ c.loop.invariant.3 c.in-Some-try_count_in.ensures.did)
