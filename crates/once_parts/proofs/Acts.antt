@@ -40,7 +40,8 @@ module _ (seen : List Entry) (t : ℕ) (x : TaskState) where
 
   -- what is found is no answer of an init
   found_quiet : (c : Call ℕ ℕ) (n : ℕ) (p : Place ℕ ℕ) (w : View Entry Sheet) → IsWordCall c
-      → Turned (own_in own) (record x { step = (after (Some x.waker) p (found c n)).step }) (told t x.kept (after (Some x.waker) p (found c n)) (records (found c n) RanPending t x.kept [])) (own_in w)
+      → Turned (own_in own) (record x { step = (after (Some x.waker) p (found c n)).step })
+      (told t x.kept (after (Some x.waker) p (found c n)) (records (found c n) RanPending t x.kept [])) (own_in w)
       → WentAt (UnderWay p) (found c n) w
   found_quiet Load n p w i d = d
   found_quiet Quick n p w i d = d
@@ -53,7 +54,8 @@ module _ (seen : List Entry) (t : ℕ) (x : TaskState) where
   word_by : (s : Step ℕ ℕ) → x.step ≡ s → IsWordCall (call_in s)
       → Moves IsKept own 0 (word_after (call_in s)) (λ n w. IsHand w.0 w.1 × IsFound (call_in s) n × WentAt s (found (call_in s) n) w)
   word_by (UnderWay p) at is = moves_tell IsKept own 0 (word_after (call_at p)) _ _
-      (λ n w r. let l = leaves_turns seen t x _ _ w (told_of t x.kept (after (Some x.waker) p (found (call_at p) n)) (records (found (call_at p) n) RanPending t x.kept []) (word_of_t seen t x (call_at p) n)) r.1 in
+      (λ n w r. let l = leaves_turns seen t x _ _ w
+      (told_of t x.kept (after (Some x.waker) p (found (call_at p) n)) (records (found (call_at p) n) RanPending t x.kept []) (word_of_t seen t x (call_at p) n)) r.1 in
       (l.0, r.0, found_quiet (call_at p) n p w is l.1))
       (word_moves seen t x p at is)
   word_by _ at is = absurd is

@@ -3,7 +3,7 @@ use Rattle.std.proofs.Common.{◌≡◌, ◌+◌, ◌%◌, ◌^◌, ℕ, suc, Bo
 use Rattle.std.specs.Option.{is_some, option_to_list}
 use Rattle.std.proofs.lemmas.Bool.{false≢true}
 use Rattle.pagebook.specs.Pages.{Held, Moves, Notes, View}
-use Rattle.once_core.specs.Table.{Next, after_door_again, after_door_get, after_list, after_look, next_at, next_end}
+use Rattle.once_core.specs.Table.{Next, after_door_again, after_door_get, after_list, after_look, next_at, next_end, DoorGet, DoorTake, Got, Taken}
 use Rattle.once_world.specs.Record.{Entry}
 use Rattle.once_world.specs.Book.{TaskState}
 use Rattle.once_world.specs.Machine.{AtCountIn, AtCountOut, AtDoorAgain, AtDoorGet, AtDoorPut, AtDoorTake, AtLeave, AtList, AtLook, AtRelease, Ending}
@@ -20,7 +20,6 @@ use Rattle.once_parts.specs.Desk.{Desked, IsDesk, behind, desk_sheets, desked}
 use Rattle.once_parts.specs.Own.{Did, IsHand, Own, Stayed, Turned, number_in, task_in, told}
 use Rattle.once_parts.specs.Places.{CanEnter, CanRelease, CanRest, leave_next, list_next, look_next, release_next}
 use Rattle.once_parts.specs.Page.{call_in, next_of}
-use Rattle.once_core.specs.Table.{DoorGet, DoorTake, Got, Taken}
 use Rattle.once_parts.specs.Sections.{CanNote, CanSee, HandsEach, IsBoth, Tells, desk_left, desk_listed, desk_looked, desk_put}
 use Rattle.once_parts.specs.Sections.{desk_released, door_number, listed, looked, more_released, own_behind, passing, waker_at}
 use Rattle.once_parts.proofs.Tells.{grew_nothing, moves_tell, notes_tell}

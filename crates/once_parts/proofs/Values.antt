@@ -18,7 +18,7 @@ use Rattle.once_world.proofs.Told.Value.{ready_is_set, ready_written}
 use Rattle.once_parts.specs.Kept.{IsKept, IsState, Sheet, entries_on, hand, most, pages_in, sheet, sheets}
 use Rattle.once_parts.proofs.Moments.Mine.{told_of}
 use Rattle.once_core.specs.Steps.{release_place}
-use Rattle.once_core.specs.Table.{next_at}
+use Rattle.once_core.specs.Table.{next_at, Put, PutValue}
 use Rattle.once_parts.proofs.Moments.Moves.Words.{some}
 use Rattle.once_parts.proofs.Moments.Moves.Calls.{looked_moves}
 use Rattle.once_parts.proofs.Moments.Moves.Slots.{put_value_moves, state_at, write_moves, writing_hand, written_state}
@@ -26,7 +26,6 @@ use Rattle.once_parts.specs.Desk.{desk_pages, first_desk}
 use Rattle.once_parts.specs.Own.{IsHand, number_in, task_in}
 use Rattle.once_parts.specs.Acts.{Goes, Puts, Writes}
 use Rattle.once_parts.specs.Page.{call_in, next_of}
-use Rattle.once_core.specs.Table.{Put, PutValue}
 use Rattle.once_parts.specs.Record.{EndsSet, Looks}
 use Rattle.once_parts.proofs.Tells.{leaves_turns, moves_tell}
 

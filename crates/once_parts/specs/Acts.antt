@@ -3,11 +3,10 @@ use Rattle.std.specs.Prelude.{◌≡◌, ℕ, suc, ◌==◌, true, false, cond, 
 use Rattle.pagebook.specs.Pages.{View}
 use Rattle.once_queue.specs.Word.{flags_of}
 use Rattle.once_core.specs.Steps.{step_of_drop}
-use Rattle.once_core.specs.Table.{Next}
+use Rattle.once_core.specs.Table.{Next, CountedIn, PutValue, Ran, Taken, after_door_put}
 use Rattle.once_world.specs.Record.{Begin, Entry, Made}
 use Rattle.once_world.specs.Book.{TaskState, refused_step}
 use Rattle.once_world.specs.Machine.{drop_entries, fresh_task}
-use Rattle.once_core.specs.Table.{CountedIn, PutValue, Ran, Taken, after_door_put}
 use Rattle.once_parts.specs.Page.{Went, next_of}
 use Rattle.once_parts.specs.Places.{task_begun, task_dropping}
 use Rattle.once_parts.specs.Kept.{Grew, Sheet, entries_of, hand, most, sheets, writing_sheet}

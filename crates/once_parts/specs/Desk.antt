@@ -1,6 +1,5 @@
 -- The pages that lie under the lock, which are the door's and the queue's, and what lies there beside them.
-use Rattle.std.specs.Prelude.{◌≡◌, ℕ, Bool, false, List, [], ◌∷◌, drop, Option, Some, None}
-use Rattle.std.specs.Prelude.{Box}
+use Rattle.std.specs.Prelude.{◌≡◌, ℕ, Bool, false, List, [], ◌∷◌, drop, Option, Some, None, Box}
 use Rattle.std.specs.declared.alloc.Global.{Global}
 use Rattle.pagebook.specs.Pages.{Held}
 use Rattle.once_queue.specs.declared.waiters.Listing.{Listing}

@@ -1,17 +1,16 @@
--- The table of places, by what a thread does there: at which places a task may do it, and where the table leads then.
+-- The sections under the lock, by what a task does there: at which places it may do it, and where the table leads then.
+-- And the beginnings of calls.
 use Rattle.std.specs.Prelude.{◌≡◌, ℕ, Bool, true, false, Option, Some, None}
 use Rattle.once_queue.specs.declared.waiters.Answer.{Answer as SectionAnswer}
 use Rattle.once_core.specs.declared.step.Polled.{Polled}
 use Rattle.once_core.specs.declared.step.Polled.TheVariants.{Pending, Value, Error}
 use Rattle.once_core.specs.Steps.{step_of_drop, step_of_poll}
-use Rattle.once_core.specs.Table.{Next, next_at}
-use Rattle.once_core.specs.Table.{after_look, after_list}
+use Rattle.once_core.specs.Table.{Next, next_at, after_look, after_list}
 use Rattle.once_world.specs.declared.record.Ran.{Ran as Answer}
 use Rattle.once_world.specs.declared.record.Ran.TheVariants.{Pending as RanPending, Value as RanValue}
 use Rattle.once_world.specs.declared.record.Ran.TheVariants.{Error as RanError}
 use Rattle.once_world.specs.Book.{TaskState}
-use Rattle.once_world.specs.Machine.{AtStart, AtLook, AtList}
-use Rattle.once_world.specs.Machine.{AtRelease, AtLeave, AtCountOut}
+use Rattle.once_world.specs.Machine.{AtStart, AtLook, AtList, AtRelease, AtLeave, AtCountOut}
 use Rattle.once_world.specs.Machine.{RestWait, Resting, Step, UnderWay, is_value}
 
 -- at another place nothing of this is done, and it is left open where that would lead

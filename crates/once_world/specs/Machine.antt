@@ -13,8 +13,7 @@ pub use Rattle.once_core.specs.Steps.{is_value, is_resting, in_call, is_leaving,
 pub use Rattle.once_core.specs.Table.{left_at, left_of}
 pub use Rattle.once_core.specs.Steps.{place_of_poll, step_of_poll, release_place}
 pub use Rattle.once_core.specs.Steps.{leave_place, step_of_drop_at, step_of_drop}
-use Rattle.once_core.specs.Table.{Next}
-use Rattle.once_core.specs.Table.{Call, Load, Quick, Fast, CountIn, AddOne, CountOut, DoorGet, DoorPut, DoorTake}
+use Rattle.once_core.specs.Table.{Next, Call, Load, Quick, Fast, CountIn, AddOne, CountOut, DoorGet, DoorPut, DoorTake}
 use Rattle.once_core.specs.Table.{Section, Refuse, Run, Put, after, call_at}
 use Rattle.once_core.specs.Table.{Told, Loaded, TriedQuick, TriedFast, CountedIn, Added, CountedOut}
 use Rattle.once_core.specs.Table.{Got as Found, PutQueue, Taken as TakenOut, Was, Refused, Ran as Polls, PutValue}
@@ -28,8 +27,7 @@ use Rattle.once_queue.specs.declared.waiters.Answer.{Answer as SectionAnswer}
 use Rattle.once_queue.specs.declared.waiters.Answer.TheVariants.{Left, Gone}
 use Rattle.once_queue.specs.declared.word.Sees.{Sees}
 use Rattle.once_queue.specs.Word.{Flags, is_zero, is_quick_bit, sees, is_free}
-pub use Rattle.once_world.specs.UnderLock.{seen_by}
-pub use Rattle.once_world.specs.UnderLock.{look_answer, list_answer, is_claim, head_after}
+pub use Rattle.once_world.specs.UnderLock.{seen_by, look_answer, list_answer, is_claim, head_after}
 pub use Rattle.once_world.specs.UnderLock.{looked_list, looked_ticket, listed_list, listed_ticket, waker_left}
 pub use Rattle.once_world.specs.declared.world.cell.Task.{Task}
 pub use Rattle.once_queue.specs.declared.log.QueueLine.{QueueLine}
@@ -42,8 +40,7 @@ pub use Rattle.once_queue.specs.Listings.{left_list, first_waker, call_first, al
 use Rattle.once_world.specs.Record.{Kind, is_lazy, has_call, replaces, OwnerCall}
 use Rattle.once_world.specs.Record.{Take, Write, Parts, ReplaceValue, ReplaceAnswers}
 use Rattle.once_world.specs.Record.{Got, GotNone, GotValue, GotAnswers, Answer, RanPending, RanValue, RanError}
-use Rattle.once_world.specs.Record.{Pending, Value, Error, Memory, Full}
-use Rattle.once_world.specs.Record.{Entry, Made, Begin, Claim, Ran, Free, Fill}
+use Rattle.once_world.specs.Record.{Pending, Value, Error, Memory, Full, Entry, Made, Begin, Claim, Ran, Free, Fill}
 use Rattle.once_world.specs.Record.{Pass, End, DropBegin, DropEnd, Look, Own}
 use Rattle.once_world.specs.Cell.{is_set, value_in, first_cell, first_answers, rest_of, next_answer}
 use Rattle.once_world.specs.Inputs.{Input, Make, Poll, Drop, Go, Looks, Owns}

@@ -25,8 +25,7 @@ use Rattle.once_world.specs.declared.record.Entry.TheVariants.{Claim as WrittenC
 use Rattle.once_world.specs.declared.record.Entry.TheVariants.{Ran as WrittenRan, Free as WrittenFree}
 use Rattle.once_world.specs.declared.record.Entry.TheVariants.{Fill as WrittenFill}
 use Rattle.once_world.specs.declared.record.Entry.TheVariants.{Pass as WrittenPass, End as WrittenEnd}
-use Rattle.once_world.specs.declared.record.Entry.TheVariants.{DropBegin as WrittenDropBegin}
-use Rattle.once_world.specs.declared.record.Entry.TheVariants.{DropEnd as WrittenDropEnd}
+use Rattle.once_world.specs.declared.record.Entry.TheVariants.{DropBegin as WrittenDropBegin, DropEnd as WrittenDropEnd}
 use Rattle.once_world.specs.declared.record.Entry.TheVariants.{Look as WrittenLook, Own as WrittenOwn}
 use Rattle.once_world.specs.declared.record.Record.{Record as GivenRecord}
 use Rattle.once_queue.specs.declared.log.QueueLine.{QueueLine}

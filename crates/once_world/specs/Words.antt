@@ -1,5 +1,5 @@
 -- The calls that are one step of the word: what the number that is found there tells, and which number they leave.
-use Rattle.std.specs.Prelude.{◌<◌, ◌+◌, ◌-◌, ◌%◌, ◌^◌, ◌==◌, cond, ℕ}
+use Rattle.std.specs.Prelude.{◌<◌, ◌+◌, ◌-◌, ◌%◌, ◌^◌, ◌==◌, if◌then◌else◌, ℕ}
 use prog.Atomic.{either}
 use Rattle.once_queue.specs.Word.{flags_of}
 use Rattle.once_core.specs.Table.{Call, Load, Quick, Fast, AddOne, CountOut}
@@ -26,7 +26,7 @@ found _ n = Refused
 -- which number is left, modulo 2 ^ 64
 abbrev pub word_after : Call ℕ ℕ → ℕ → ℕ
 word_after Quick n = either (n == 0) (2 ^ 62) n
-word_after (Fast fills) n = either (n == 2 ^ 62) (cond fills (2 ^ 63) 0) n
+word_after (Fast fills) n = either (n == 2 ^ 62) (if fills then 2 ^ 63 else 0) n
 word_after AddOne n = (n + 1) % 2 ^ 64
 word_after CountOut n = (n + (2 ^ 64 - 1)) % 2 ^ 64
 word_after _ n = n

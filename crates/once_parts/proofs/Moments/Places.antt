@@ -1,8 +1,7 @@
 -- Where the code stands at a place, the page does too, with a queue of which the same is told.
 use Rattle.std.proofs.Common.{◌≡◌, ℕ, Option, refl}
 use Rattle.std.specs.Option.{option_map}
-use Rattle.once_world.specs.Machine.{Ending, Step, UnderWay}
-use Rattle.once_world.specs.Machine.{AtStart, AtTryQuick, AtDoorGet, AtDoorPut, AtCountIn, AtWaitLoad, AtLook, AtList, AtRun}
+use Rattle.once_world.specs.Machine.{Ending, Step, UnderWay, AtStart, AtTryQuick, AtDoorGet, AtDoorPut, AtCountIn, AtWaitLoad, AtLook, AtList, AtRun}
 use Rattle.once_world.specs.Machine.{AtPut, AtFast, AtAddOne, AtDoorAgain, AtRelease, AtLeave, AtCountOut, AtDoorTake}
 use Rattle.once_parts.specs.Steps.{step_as}
 

@@ -5,12 +5,10 @@ use Rattle.once_queue.specs.declared.waiters.Answer.{Answer}
 use Rattle.once_queue.specs.declared.waiters.Answer.TheVariants.{Ready, Claimed, Listed, Held, Memory, Gone, Released, Left}
 use Rattle.once_core.specs.declared.step.Polled.{Polled}
 use Rattle.once_core.specs.declared.step.Polled.TheVariants.{Pending, Value, Error}
-use Rattle.once_core.specs.Table.{Next}
+use Rattle.once_core.specs.Table.{Next, after_copy, after_count_in, after_count_out, after_door_again, after_door_get}
 use Rattle.once_world.specs.Machine.{EndMemory, EndError, EndDropped, Ending, RestRun, RestStart, RestWait, Resting, Step, UnderWay, Finished}
-use Rattle.once_core.specs.Table.{after_copy, after_count_in, after_count_out, after_door_again, after_door_get}
-use Rattle.once_core.specs.Table.{after_door_put, after_fast, after_list, after_load, after_look, after_quick}
+use Rattle.once_core.specs.Table.{after_door_put, after_fast, after_list, after_load, after_look, after_quick, after_run, after_start, closing_at}
 use Rattle.once_core.specs.Steps.{leave_place, release_place, step_of_drop, step_of_poll}
-use Rattle.once_core.specs.Table.{after_run, after_start, closing_at}
 use Rattle.once_parts.specs.Steps.{StandsForStep, answer_as, next_as, place_as, step_as}
 
 module _ {W V Q P : Type 0} (f : W → V) (g : Q → P) where

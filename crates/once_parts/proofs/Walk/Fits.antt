@@ -4,9 +4,8 @@ use Rattle.once_queue.specs.declared.waiters.Answer.{Answer}
 use Rattle.once_queue.specs.declared.waiters.Answer.TheVariants.{Ready, Claimed, Listed, Held, Memory, Gone, Released, Left}
 use Rattle.once_core.specs.declared.step.Polled.{Polled}
 use Rattle.once_core.specs.declared.step.Polled.TheVariants.{Pending, Value, Error}
-use Rattle.once_core.specs.Table.{Next}
+use Rattle.once_core.specs.Table.{Next, after_copy, after_count_in, after_count_out, after_door_again, after_door_get, after_door_put, after_fast}
 use Rattle.once_world.specs.Places.{Ending, EndPending, EndValue, EndError, EndMemory, EndFull, EndDropped}
-use Rattle.once_core.specs.Table.{after_copy, after_count_in, after_count_out, after_door_again, after_door_get, after_door_put, after_fast}
 use Rattle.once_core.specs.Steps.{leave_place, release_place}
 use Rattle.once_core.specs.Table.{after_list, after_load, after_look, after_quick, after_run, after_start, next_at, next_end}
 use Rattle.once_world.specs.declared.record.Ran.TheVariants.{Error as RanError}

@@ -12,15 +12,13 @@ use Rattle.once_queue.specs.declared.waiters.Answer.{Answer}
 use Rattle.once_queue.specs.declared.waiters.Answer.TheVariants.{Ready, Claimed, Listed, Held, Memory, Gone, Released, Left}
 use Rattle.once_core.specs.declared.step.Polled.{Polled}
 use Rattle.once_core.specs.declared.step.Polled.TheVariants.{Pending, Value, Error}
-use Rattle.once_core.specs.Steps.{MayClose, SideTells, Wakes, out_of}
-use Rattle.once_core.specs.Table.{Follows, Next}
-use Rattle.once_core.specs.Table.{Added, CountedIn, CountedOut, Got, Loaded, PutValue, Ran as PolledInit, Taken, TriedFast, TriedQuick}
+use Rattle.once_core.specs.Steps.{MayClose, SideTells, Wakes, out_of, is_value, release_place}
+use Rattle.once_core.specs.Table.{Follows, Next, Added, CountedIn, CountedOut, Got, Loaded, PutValue, Ran as PolledInit, Taken, TriedFast, TriedQuick}
 use Rattle.once_core.specs.Table.{Line, Looked, MayRefuse, Refused, Was, wants_copy}
 use Rattle.once_world.specs.Places.{Ending, EndValue, More, Progress, Step, UnderWay}
 use Rattle.once_world.specs.Places.{Place, AtStart, AtTryQuick, AtDoorGet, AtDoorPut, AtCountIn, AtWaitLoad, AtLook, AtList}
 use Rattle.once_world.specs.Places.{AtRun, AtPut, AtFast, AtAddOne, AtDoorAgain, AtRelease, AtLeave, AtCountOut, AtDoorTake}
 use Rattle.once_core.specs.Table.{after_copy, after_count_in, after_count_out, after_door_again, after_door_get, after_door_put, after_fast}
-use Rattle.once_core.specs.Steps.{is_value, release_place}
 use Rattle.once_core.specs.Table.{after_list, after_load, after_look, after_quick, after_run, after_start, next_at, next_end}
 use Rattle.once_world.specs.Record.{Entry, Ran}
 use Rattle.once_world.specs.declared.record.Ran.{Ran as InitAnswer}

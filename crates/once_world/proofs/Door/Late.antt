@@ -10,8 +10,7 @@ use Rattle.once_world.specs.Machine.{AtAddOne, AtCountIn, AtCountOut, AtDoorAgai
 use Rattle.once_world.specs.Machine.{AtRelease, AtRun, AtStart, AtTryQuick, AtWaitLoad, EndError, EndMemory, EndValue, Ending, Finished, SharedState, Place}
 use Rattle.once_world.specs.Machine.{RestRun, RestWait, Resting, Step, UnderWay, out_shared, take_shared, release_place}
 use Rattle.once_world.specs.Machine.{init_answer, is_at_door, is_value, is_waker, kept_ticket, leave_place}
-use Rattle.once_world.specs.Machine.{own_listing, place_step, put_value, run_shared, release_flags}
-use Rattle.once_world.specs.Machine.{step_at, word_of, seen_by}
+use Rattle.once_world.specs.Machine.{own_listing, place_step, put_value, run_shared, release_flags, step_at, word_of, seen_by}
 use Rattle.once_world.proofs.Steps.{again_step, door_step, fast_step, in_step, leave_step, list_step, load_step, look_step, out_step, put_step, quick_step, release_step, run_step, start_step}
 use Rattle.once_world.proofs.History.Others.{holds}
 use Rattle.once_world.proofs.History.Cells.{holder_unset, none_some, set_free}

@@ -8,8 +8,7 @@ use Rattle.once_world.specs.Log.{IsSound, standing_queue, take_lines, was_put}
 use Rattle.once_world.specs.Machine.{AtAddOne, AtCountIn, AtCountOut, AtDoorAgain, AtDoorGet, AtDoorPut, AtDoorTake, AtFast, AtLeave, AtList, AtLook, AtPut}
 use Rattle.once_world.specs.Machine.{AtRelease, AtRun, AtStart, AtTryQuick, AtWaitLoad, Ending, EnteredLine, Finished, SharedState, Place, QueueLine, Resting}
 use Rattle.once_world.specs.Machine.{Step, UnderWay, out_shared, take_shared, init_answer, is_at_door, is_value, is_waker, kept_ticket}
-use Rattle.once_world.specs.Machine.{own_listing, place_lines, place_step, put_lines}
-use Rattle.once_world.specs.Machine.{run_shared, release_flags, step_at, step_lines, word_of, seen_at}
+use Rattle.once_world.specs.Machine.{own_listing, place_lines, place_step, put_lines, run_shared, release_flags, step_at, step_lines, word_of, seen_at}
 use Rattle.once_world.proofs.Steps.{fast_step, in_step, leave_step, list_step, look_step, out_step, put_step, quick_step, release_step, run_step}
 use Rattle.once_world.proofs.Invariant.Facts.{AtPlace, AtStep}
 use Rattle.once_queue.specs.Word.{is_zero, is_quick_bit, is_ready_bit}

@@ -13,10 +13,8 @@ use Rattle.once_queue.specs.Listings.{kept_ticket}
 use Rattle.once_core.specs.Core.{CoreState, put_answer, put_state}
 use Rattle.once_world.specs.Places.{AtAddOne, AtCountIn, AtCountOut, AtDoorAgain, AtDoorGet, AtDoorPut, AtDoorTake, AtFast, AtLeave, AtList, AtLook, AtPut}
 use Rattle.once_world.specs.Places.{AtRelease, AtRun, AtStart, AtTryQuick, AtWaitLoad, Finished, Place, Progress, Resting, Step, UnderWay}
-use Rattle.once_core.specs.Table.{Advances, Line, Looked, MayRefuse, Told, Was, wants_copy}
-use Rattle.once_core.specs.Steps.{SideTells}
-use Rattle.once_core.specs.Table.{Follows, after_count_out, after_door_again, after_door_get}
-use Rattle.once_core.specs.Steps.{is_value}
+use Rattle.once_core.specs.Table.{Advances, Line, Looked, MayRefuse, Told, Was, wants_copy, Follows, after_count_out, after_door_again, after_door_get}
+use Rattle.once_core.specs.Steps.{SideTells, is_value}
 use Rattle.once_core.specs.Table.{after_door_put, after_load, after_start}
 use Rattle.once_world.specs.Machine.{EnteredLine, out_shared, init_answer, place_lines, place_step, step_at, step_lines, word_of, seen_at}
 use Rattle.once_world.proofs.Steps.{fast_step, list_step, quick_step}

@@ -5,10 +5,9 @@ use Rattle.std.proofs.lemmas.Bool.Decides.{nat_tests}
 use Rattle.once_world.specs.declared.world.side.ReplaySide.{ReplaySide}
 use Rattle.once_queue.specs.Word.{Flags, flags_alone, is_zero}
 use Rattle.once_core.specs.Core.{CoreState, put_answer, put_state}
-use Rattle.once_core.specs.Table.{CountedIn}
+use Rattle.once_core.specs.Table.{CountedIn, Follows, Next, after_door_get, after_door_put, after_count_in, after_load, after_quick, after_start}
 use Rattle.once_world.specs.Places.{AtCountIn, AtDoorGet, AtDoorPut, AtStart, AtTryQuick, AtWaitLoad, Progress, Step, UnderWay}
 use Rattle.once_core.specs.Steps.{is_running}
-use Rattle.once_core.specs.Table.{Follows, Next, after_door_get, after_door_put, after_count_in, after_load, after_quick, after_start}
 use Rattle.once_world.specs.Record.{Claim}
 use Rattle.once_world.specs.Machine.{PutLine, claim_entries, in_shared, put_lines, put_shared}
 use Rattle.once_world.proofs.Steps.{door_step, in_step, load_step, put_step, quick_step, start_step}

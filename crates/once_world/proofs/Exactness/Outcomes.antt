@@ -6,10 +6,9 @@ use Rattle.once_queue.specs.declared.log.QueueLine.{QueueLine}
 use Rattle.once_queue.specs.declared.waiters.Out.{Out}
 use Rattle.once_world.specs.declared.world.side.ReplaySide.{ReplaySide}
 use Rattle.once_core.specs.Core.{CoreState, DidCall}
-use Rattle.once_core.specs.Table.{Told}
+use Rattle.once_core.specs.Table.{Told, Follows, Next, next_at}
 use Rattle.once_world.specs.Places.{AtCountOut, Ended, Ending, More, Progress, Step, UnderWay}
 use Rattle.once_core.specs.Steps.{MayClose, is_adding, is_freeing, is_leaving, is_running}
-use Rattle.once_core.specs.Table.{Follows, Next, next_at}
 use Rattle.once_world.specs.Record.{Answer, Entry, Ran}
 use Rattle.once_world.specs.Machine.{SharedState, Outcome, end_entry, outcome_of}
 use Rattle.once_world.specs.Side.{DidClose, DidWake, answers_in}

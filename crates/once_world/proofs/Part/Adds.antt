@@ -8,8 +8,7 @@ use Rattle.once_world.specs.Machine.{AtAddOne, AtCountIn, AtCountOut, AtDoorAgai
 use Rattle.once_world.specs.Machine.{AtRelease, AtRun, AtStart, AtTryQuick, AtWaitLoad, EndDropped, EndError, EndFull, EndMemory, EndPending, EndValue, Ending}
 use Rattle.once_world.specs.Machine.{Finished, SharedState, Place, Resting, Step, UnderWay, out_shared, take_shared, end_entry}
 use Rattle.once_world.specs.Machine.{init_answer, release_wakers, is_at_door, is_value, is_waker, kept_ticket}
-use Rattle.once_world.specs.Machine.{next_waker, own_listing, pass_entries, is_passing, place_step}
-use Rattle.once_world.specs.Machine.{run_shared, release_entry, step_at, word_of, seen_at}
+use Rattle.once_world.specs.Machine.{next_waker, own_listing, pass_entries, is_passing, place_step, run_shared, release_entry, step_at, word_of, seen_at}
 use Rattle.once_world.proofs.Steps.{again_step, door_step, fast_step, in_step, leave_step, list_step, load_step, look_step, out_step, put_step, quick_step, release_step, run_step, start_step}
 use Rattle.once_queue.specs.Word.{is_zero, is_quick_bit, is_ready_bit}
 use Rattle.once_queue.specs.declared.word.Sees.TheVariants.{Set, Free, Taken}

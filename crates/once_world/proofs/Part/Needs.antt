@@ -7,8 +7,7 @@ use Rattle.once_world.specs.Log.{IsAtMostOne, has_entered, need_queue, take_line
 use Rattle.once_world.specs.Machine.{AtAddOne, AtCountIn, AtCountOut, AtDoorAgain, AtDoorGet, AtDoorPut, AtDoorTake, AtFast, AtLeave, AtList, AtLook, AtPut}
 use Rattle.once_world.specs.Machine.{AtRelease, AtRun, AtStart, AtTryQuick, AtWaitLoad, EndDropped, EndError, EndFull, EndMemory, EndPending, EndValue, Ending}
 use Rattle.once_world.specs.Machine.{Finished, SharedState, Place, Resting, Step, UnderWay, out_shared, end_entry}
-use Rattle.once_world.specs.Machine.{init_answer, is_value, place_lines, place_step, put_lines, run_shared}
-use Rattle.once_world.specs.Machine.{release_entry, step_at, step_lines, word_of}
+use Rattle.once_world.specs.Machine.{init_answer, is_value, place_lines, place_step, put_lines, run_shared, release_entry, step_at, step_lines, word_of}
 use Rattle.once_world.proofs.Steps.{again_step, door_step, fast_step, in_step, load_step, out_step, put_step, quick_step, run_step, start_step}
 use Rattle.once_queue.proofs.Listing.Members.{eqb_self}
 use Rattle.once_world.proofs.Invariant.Facts.{AtPlace, AtStep, Releasing}

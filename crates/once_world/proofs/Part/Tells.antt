@@ -10,8 +10,7 @@ use Rattle.once_world.specs.Machine.{AtRelease, AtRun, AtStart, AtTryQuick, AtWa
 use Rattle.once_world.specs.Machine.{Finished, SharedState, Outcome, Place, Resting, Step, UnderWay, out_shared, take_shared, end_entry}
 use Rattle.once_world.specs.Machine.{release_place, init_answer, release_wakers, in_call, is_at_door, is_value, is_waker, kept_ticket}
 use Rattle.once_world.specs.Machine.{leave_place, left_at, left_of, next_waker, own_listing}
-use Rattle.once_world.specs.Machine.{pass_entries, is_passing, place_step, put_value, run_shared, release_entry}
-use Rattle.once_world.specs.Machine.{step_at, word_of, seen_at}
+use Rattle.once_world.specs.Machine.{pass_entries, is_passing, place_step, put_value, run_shared, release_entry, step_at, word_of, seen_at}
 use Rattle.once_world.proofs.Steps.{again_step, door_step, fast_step, in_step, leave_step, list_step, load_step, look_step, out_step, put_step, quick_step, release_step, run_step, start_step}
 use Rattle.once_queue.specs.Word.{is_zero, is_quick_bit, is_ready_bit}
 use Rattle.once_queue.specs.declared.word.Sees.TheVariants.{Set, Free, Taken}

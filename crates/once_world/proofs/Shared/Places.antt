@@ -10,8 +10,7 @@ use Rattle.once_world.specs.Cell.{cell}
 use Rattle.once_world.specs.Book.{IsUnnamed, has_written, has_written_at}
 use Rattle.once_world.specs.Machine.{AtAddOne, AtCountIn, AtCountOut, AtDoorAgain, AtDoorGet, AtDoorPut, AtDoorTake, AtFast, AtLeave, AtList, AtLook, AtPut}
 use Rattle.once_world.specs.Machine.{AtRelease, AtRun, AtStart, AtTryQuick, AtWaitLoad, EndError, EndMemory, EndValue, Ending, Outcome, Place, SharedState}
-use Rattle.once_world.specs.Machine.{is_at_door, is_passing, is_value, leave_place}
-use Rattle.once_world.specs.Machine.{out_shared, place_step, put_value, seen_by, release_flags}
+use Rattle.once_world.specs.Machine.{is_at_door, is_passing, is_value, leave_place, out_shared, place_step, put_value, seen_by, release_flags}
 use Rattle.once_world.specs.Machine.{release_list, release_place, run_shared, take_shared, word_of}
 use Rattle.once_world.proofs.Steps.{again_step, door_step, fast_step, in_step, leave_step, list_step, load_step, look_step, out_step, put_step, quick_step, release_step, run_step, start_step}
 use Rattle.once_world.proofs.History.Cells.{holder_unset, none_some}

@@ -54,7 +54,8 @@ module _ (seen : List Entry) (t : ℕ) (x : TaskState) where
       → Moves IsKept (seen, sheets seen (hand t x)) 0 (word_after (call_at p))
       (λ n v. IsFound (call_at p) n × Leaves seen (hand t x) (goes_to x (after (Some x.waker) p (found (call_at p) n)))
       (told t x.kept (after (Some x.waker) p (found (call_at p) n)) (records (found (call_at p) n) RanPending t x.kept [])) v)
-  word_moves p at w = own_moves (word_after (call_at p)) (λ n. records (found (call_at p) n) RanPending t x.kept []) (λ n. after (Some x.waker) p (found (call_at p) n)) (IsFound (call_at p)) (word_of_t (call_at p))
+  word_moves p at w = own_moves (word_after (call_at p)) (λ n. records (found (call_at p) n) RanPending t x.kept [])
+      (λ n. after (Some x.waker) p (found (call_at p) n)) (IsFound (call_at p)) (word_of_t (call_at p))
       (λ n put slot pages log book pen. (word_found most n put slot pages log t x some book pen p (omega arith) at w, word_step most n put slot pages log t x some book pen p (omega arith) at w))
 
   -- AtCountIn: the page after a load that finds as many counted as may be, and the page as it was after another

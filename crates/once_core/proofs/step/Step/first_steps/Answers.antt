@@ -1,7 +1,6 @@
 -- Each step is a line of the table, and they follow one after the other. So what is asked of the next one is what the caller gave for it.
 use Rattle.std.proofs.Common.{◌≡◌, None, refl, rules, ap, subst, ◌∙◌}
-use Rattle.once_core.specs.Steps.{Step, UnderWay, Place, AtStart, AtTryQuick, AtRun, AtPut, AtFast, AtDoorTake}
-use Rattle.once_core.specs.Steps.{Progress, More, SideTells}
+use Rattle.once_core.specs.Steps.{Step, UnderWay, Place, AtStart, AtTryQuick, AtRun, AtPut, AtFast, AtDoorTake, Progress, More, SideTells}
 use Rattle.once_core.specs.Table.{Told, Asks, AsksAt, Line}
 use Rattle.once_core.specs.Chain.{Makes}
 use Rattle.once_core.specs.Chain.Makes.{none, next}

@@ -1,9 +1,8 @@
-use Rattle.std.proofs.Common.{sym, subst}
+use Rattle.std.proofs.Common.{sym, subst, ℕ, List, ◌∷◌, []}
 use Rattle.once_parts.specs.Desk.{Desked, IsDesked, IsShown, desked}
 use Rattle.once_parts.specs.Hands.{own_of}
 use Rattle.once_world.specs.Book.{TaskState}
 use Rattle.once_world.specs.Machine.{release_entry, release_wakers}
-use Rattle.std.proofs.Common.{ℕ, List, ◌∷◌, []}
 use Rattle.once_parts.specs.Places.{release_next}
 use Rattle.once_parts.specs.Own.{Did}
 use Rattle.once_parts.proofs.Desks.{did_after, release_fits}

@@ -7,4 +7,7 @@ pub fetch_add-requires-clause-moves : goal.fetch_add-requires-clause-moves
 fetch_add-requires-clause-moves g c = rw c.args.self.now.inner.now.word_is.1 (word_keeps _ _ c.args.self.now.hand.is_hand AddOne tt c.requires)
 
 pub returns : goal.returns
-returns g c = (refl, word_told (c.args.self.now.hand.seen.log, c.args.self.now.hand.pens.held) (c.fetch_add.new.seen.log, c.fetch_add.new.pens.held) AddOne c.fetch_add.result c.requires c.fetch_add.ensures.then)
+returns g c =
+    let h = c.args.self.now.hand in
+    let e = c.fetch_add in
+    (refl, word_told (h.seen.log, h.pens.held) (e.new.seen.log, e.new.pens.held) AddOne e.result c.requires e.ensures.then)

@@ -11,4 +11,7 @@ pub overflow_sub-result : goal.overflow_sub-result
 overflow_sub-result g c = subst (λ d. IsFound d c.fetch_sub-found.result) c.requires c.fetch_sub-found.ensures.then.1
 
 pub returns : goal.returns
-returns g c = (refl, word_told (c.args.self.now.hand.seen.log, c.args.self.now.hand.pens.held) (c.fetch_sub-found.new.seen.log, c.fetch_sub-found.new.pens.held) CountOut c.fetch_sub-found.result c.requires c.fetch_sub-found.ensures.then)
+returns g c =
+    let h = c.args.self.now.hand in
+    let e = c.fetch_sub-found in
+    (refl, word_told (h.seen.log, h.pens.held) (e.new.seen.log, e.new.pens.held) CountOut e.result c.requires e.ensures.then)

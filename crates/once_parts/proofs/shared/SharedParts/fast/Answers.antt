@@ -7,4 +7,7 @@ pub compare_exchange-found-requires-clause-moves : goal.compare_exchange-found-r
 compare_exchange-found-requires-clause-moves g c = rw (c.args.self.now.inner.now.word_is.1, c.freed-to.ensures) (word_keeps _ _ c.args.self.now.hand.is_hand (Fast c.args.ready) tt c.requires)
 
 pub returns : goal.returns
-returns g c = (refl, word_told (c.args.self.now.hand.seen.log, c.args.self.now.hand.pens.held) (c.compare_exchange-found.new.seen.log, c.compare_exchange-found.new.pens.held) (Fast c.args.ready) c.compare_exchange-found.result c.requires c.compare_exchange-found.ensures.then)
+returns g c =
+    let h = c.args.self.now.hand in
+    let e = c.compare_exchange-found in
+    (refl, word_told (h.seen.log, h.pens.held) (e.new.seen.log, e.new.pens.held) (Fast c.args.ready) e.result c.requires e.ensures.then)

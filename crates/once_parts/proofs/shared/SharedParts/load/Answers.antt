@@ -7,4 +7,7 @@ pub load-requires-clause-moves : goal.load-requires-clause-moves
 load-requires-clause-moves g c = rw c.args.self.now.inner.now.word_is.1 (word_keeps _ _ c.args.self.now.hand.is_hand Load tt c.requires)
 
 pub returns : goal.returns
-returns g c = (refl, word_told (c.args.self.now.hand.seen.log, c.args.self.now.hand.pens.held) (c.load.new.seen.log, c.load.new.pens.held) Load c.load.result c.requires c.load.ensures.then)
+returns g c =
+    let h = c.args.self.now.hand in
+    let e = c.load in
+    (refl, word_told (h.seen.log, h.pens.held) (e.new.seen.log, e.new.pens.held) Load e.result c.requires e.ensures.then)

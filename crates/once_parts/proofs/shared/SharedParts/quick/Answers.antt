@@ -7,4 +7,7 @@ pub compare_exchange-found-requires-clause-moves : goal.compare_exchange-found-r
 compare_exchange-found-requires-clause-moves g c = rw c.args.self.now.inner.now.word_is.1 (word_keeps _ _ c.args.self.now.hand.is_hand Quick tt c.requires)
 
 pub returns : goal.returns
-returns g c = (refl, word_told (c.args.self.now.hand.seen.log, c.args.self.now.hand.pens.held) (c.compare_exchange-found.new.seen.log, c.compare_exchange-found.new.pens.held) Quick c.compare_exchange-found.result c.requires c.compare_exchange-found.ensures.then)
+returns g c =
+    let h = c.args.self.now.hand in
+    let e = c.compare_exchange-found in
+    (refl, word_told (h.seen.log, h.pens.held) (e.new.seen.log, e.new.pens.held) Quick e.result c.requires e.ensures.then)
