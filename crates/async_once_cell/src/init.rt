@@ -10,8 +10,8 @@ ghost use Rattle.async_once_cell.specs.Inits.{FailsNoOther, MayFail};
 use crate::once::{Failure, Gives};
 use futures::Future;
 use futures::task::{Context, Poll};
-use once_parts::{Hand, Pollable, Splits, poll_init};
 use once_core::step::Ending;
+use once_parts::{Hand, Pollable, Splits, poll_init};
 
 /// What a task polls while it has the right. `T` is its value, and `X` says why there is none.
 ///

@@ -1,8 +1,10 @@
 //! What all tasks of a cell share: the word, the door and the queue behind it, with the record of the cell.
 
-pub use once_parts::{Hand, Mark, Pollable, Record, Splits, TaskWaker, poll_init, record};
 pub use once_core::parts::{Counted, Parts, QueueLine};
 pub use once_core::plain::Core;
-pub use once_parts::{Inner, Shared, Task, TaskSide};
+pub use once_parts::{
+    Hand, Inner, Mark, Pollable, Record, Shared, Splits, Task, TaskSide, TaskWaker, poll_init,
+    record,
+};
 pub use once_queue::waiters::{Answer, Listing, Op, Out};
 pub use once_queue::word::{MAX_WAITERS, NEW, QINIT_BIT, READY_BIT};

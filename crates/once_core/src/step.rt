@@ -360,11 +360,7 @@ impl<W: Drop, Q: Drop> Step<W, Q> {
     }
 
     #[inline(always)]
-    fn start<P: Parts<W, Queue = Q>, S: Side<W>>(
-        &mut self,
-        parts: &mut P,
-        side: &mut S,
-    ) -> Progress
+    fn start<P: Parts<W, Queue = Q>, S: Side<W>>(&mut self, parts: &mut P, side: &mut S) -> Progress
         requires { AsksAt P.can S.can_run S.can_put Place.Start parts.old side.old }
         ensures line { Line P.did S.did Place.Start parts.old side.old result self.new parts.new side.new }
         ensures stays { S.stays side.old side.new }

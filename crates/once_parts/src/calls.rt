@@ -8,11 +8,11 @@ ghost use Rattle.once_parts.specs.Sides.{Sided};
 ghost use Rattle.once_parts.specs.Walks.{Stands, Walked};
 ghost use Rattle.once_parts.specs.Idle.{step_of};
 
+use crate::hand::Hand;
 use crate::idle::Idle;
+use crate::mark::TaskWaker;
 use crate::shared::Shared;
 use crate::side::TaskSide;
-use crate::hand::Hand;
-use crate::mark::TaskWaker;
 use once_core::step::{Ending, Progress, Step};
 use std::alloc::AllocGlobal;
 use std::sync::Wait;

@@ -226,13 +226,9 @@ impl<T, W: TaskWaker + Drop, R: Wait + AllocGlobal> Parts<W> for Shared<'_, '_, 
     fn quick(&mut self) -> bool {
         let inner = self.inner;
         let hand = &mut self.hand;
-        let found = inner.word.compare_exchange::<(), ByTable>(
-            NEW,
-            QINIT_BIT,
-            &(),
-            &mut hand.seen,
-            &mut hand.pens,
-        );
+        let found = inner
+            .word
+            .compare_exchange::<(), ByTable>(NEW, QINIT_BIT, &(), &mut hand.seen, &mut hand.pens);
         found == NEW
     }
 
@@ -241,13 +237,9 @@ impl<T, W: TaskWaker + Drop, R: Wait + AllocGlobal> Parts<W> for Shared<'_, '_, 
         let inner = self.inner;
         let hand = &mut self.hand;
         let to = freed(ready);
-        let found = inner.word.compare_exchange::<(), ByTable>(
-            QINIT_BIT,
-            to,
-            &(),
-            &mut hand.seen,
-            &mut hand.pens,
-        );
+        let found = inner
+            .word
+            .compare_exchange::<(), ByTable>(QINIT_BIT, to, &(), &mut hand.seen, &mut hand.pens);
         found == QINIT_BIT
     }
 

@@ -4,9 +4,8 @@ ghost use Rattle.std.proofs.Common.{rules};
 
 use crate::bell::{Bell, named};
 use crate::poller::{Poller, Scripted, init_that_answers};
-use once_parts::{Hand, Mark, Pollable};
 use once_core::step::{Polled, Side};
-use once_parts::TaskSide;
+use once_parts::{Hand, Mark, Pollable, TaskSide};
 use once_queue::waiters::Out;
 use std::alloc::AllocGlobal;
 use std::marker::Model;
