@@ -198,6 +198,10 @@ impl<W: WakerId + Drop> Core<W> {
 
 impl<W: WakerId + Drop> Parts<W> for Core<W> {
     ghost use Rattle.once_core.specs.Core.{state_of, CanCall, DidCall};
+    ghost use Rattle.once_core.specs.Table.{counted};
+    ghost use Rattle.once_core.specs.declared.parts.Counted.{Counted};
+    ghost use Rattle.once_queue.specs.Word.{flags_of};
+    ghost use Rattle.std.specs.Prelude.{ℕ};
 
     type Queue = u64;
 
@@ -223,7 +227,11 @@ impl<W: WakerId + Drop> Parts<W> for Core<W> {
         self.word.fast(ready)
     }
 
-    fn count_in(&mut self) -> Counted {
+    // A caller that is counted is told the word as it was.
+    fn count_in(&mut self) -> Counted
+        ensures did { DidCall W.tells_same W.tells_other (state_of self.old) (counted result) (state_of self.new) }
+        ensures word { (w : ℕ) → result ≡ Counted.In w → flags_of w ≡ self.old.word }
+    {
         if self.word.count() < self.limit {
             let before = self.word.bits();
             self.word.count_in();

@@ -2,13 +2,13 @@
 //!
 //! A cell's word, its door and its queue change by steps of threads. Behind them stands a ghost book, whose
 //! pages are what the machine of `once_world` keeps, and whose log is the record of that machine. A [`Hand`]
-//! has what one task holds of the book: each of its calls makes one step of the word, and turns the page as
-//! the machine's table of places says. A [`Desk`] is what lies under the cell's one lock, and does the same
-//! for a section. So the record which a task has seen is a run of the cell, and at each of its beginnings
-//! somebody was called if somebody had to be. The second does not follow from the first.
+//! is what one task holds of the book, and a [`Desk`] what lies under the cell's one lock.
 //!
 //! [`Inner`] is what the tasks of a cell share: its words, its slot and its lock. [`Shared`] is that as one task
-//! uses it: each call is one moment of the machine. A [`Task`] makes whole polls and drops of such steps.
+//! uses it: each of its calls is one moment of the machine, and turns the task's page as the table of places
+//! says. A [`Task`] makes whole polls and drops of such steps. So the record that a task has seen is a run of
+//! the cell, and at each of its beginnings somebody was called if somebody had to be. The second does not
+//! follow from the first.
 //!
 //! Begin with `book`, which ties the rule to the words, and with `act`, which has a name for each move.
 #![tactic(auto)]

@@ -229,7 +229,8 @@ pub record StepInput : Type 0 where
   pub init : Answer  -- what its init answers
   pub granted : Bool  -- whether memory is given
 
--- what a release, and one who leaves, are answered of the queue q. Whom they hand out stands apart, in `hands`
+-- what a release or one who leaves is answered of the queue q: `Left None` stands for both where the queue is at the
+-- door. Whom they hand out stands apart, in `hands`
 abbrev pub out_answer : ℕ → SharedState → SectionAnswer ℕ
 out_answer q c = if is_at_door q c.door then Left None else Gone
 

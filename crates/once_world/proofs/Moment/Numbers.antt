@@ -56,10 +56,6 @@ word_fast n false e = rw e refl
 pub in_within : (n : ℕ) → n < 2 ^ 64 → (flags_of n).count < 2 ^ 62 - 1 → n + 1 < 2 ^ 64
 in_within n m l = omega arith
 
--- the subtraction
-pub out_within : (n : ℕ) → n < 2 ^ 64 → n - 1 < 2 ^ 64
-out_within n m = omega arith
-
 -- the exchange
 pub fast_within : (v : Bool) → cond v (2 ^ 63) 0 < 2 ^ 64
 fast_within true = omega arith
