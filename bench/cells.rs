@@ -138,6 +138,7 @@ mod rounds {
         match operation {
             "get" => Some(get(black_box(&OnceCell::new_with(1)), count)),
             "init" => Some(init(count)),
+            "late" => Some(late(black_box(&OnceCell::new_with(1)), count)),
             "listed" => Some(listed(count)),
             "waiters1" => Some(waiters(1, count)),
             "waiters10" => Some(waiters(10, count)),
@@ -207,6 +208,18 @@ mod rounds {
         for _ in 0..count {
             let cell = OnceCell::new();
             let future = pin!(black_box(&cell).get_or_init(ready(1)));
+            sum = sum.wrapping_add(value_of(future.poll(&mut cx)));
+        }
+        sum
+    }
+
+    #[inline(never)]
+    fn late(cell: &OnceCell<u64>, count: u64) -> u64 {
+        let wakers = wakers(1);
+        let mut cx = Context::from_waker(&wakers[0]);
+        let mut sum: u64 = 0;
+        for _ in 0..count {
+            let future = pin!(cell.get_or_init(ready(1)));
             sum = sum.wrapping_add(value_of(future.poll(&mut cx)));
         }
         sum

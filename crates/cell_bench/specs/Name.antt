@@ -1,7 +1,7 @@
 -- What the operations are called in the input.
 use Rattle.std.specs.Prelude.{◌≡◌, ℕ, List, ◌++◌, ◌∷◌, codes}
 use Rattle.cell_bench.specs.declared.operation.Operation.{Operation}
-use Rattle.cell_bench.specs.declared.operation.Operation.TheVariants.{Get, Init, Listed}
+use Rattle.cell_bench.specs.declared.operation.Operation.TheVariants.{Get, Init, Late, Listed}
 use Rattle.cell_bench.specs.declared.operation.Operation.TheVariants.{OneWaits, TenWait, HundredWait}
 use Rattle.cell_bench.specs.declared.operation.Operation.TheVariants.{ThousandWait, TenThousandWait}
 use Rattle.cell_bench.specs.declared.operation.Operation.TheVariants.{HundredThousandWait, TenThousandDrop}
@@ -16,6 +16,7 @@ use Rattle.cell_bench.specs.declared.operation.Operation.TheVariants.{WaitNew, W
 abbrev pub name_of : Operation → List ℕ
 name_of Get = codes "get"
 name_of Init = codes "init"
+name_of Late = codes "late"
 name_of Listed = codes "listed"
 name_of OneWaits = codes "waiters1"
 name_of TenWait = codes "waiters10"

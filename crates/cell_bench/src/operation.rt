@@ -10,6 +10,8 @@ pub enum Operation {
     Get,
     /// A new cell, and a poll whose init gives the value at once.
     Init,
+    /// A new future of a cell that is set, polled to its end.
+    Late,
     /// A poll of a future that waits and is listed already.
     Listed,
     /// A new cell: one future holds, 1 waits, the holder sets the cell, and the one that waits is
@@ -71,6 +73,7 @@ pub fn parse_operation(name: &str) -> Option<Operation>
     match name {
         "get" => Some(Operation::Get),
         "init" => Some(Operation::Init),
+        "late" => Some(Operation::Late),
         "listed" => Some(Operation::Listed),
         "waiters1" => Some(Operation::OneWaits),
         "waiters10" => Some(Operation::TenWait),

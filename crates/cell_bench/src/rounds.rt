@@ -37,6 +37,7 @@ where
         Operation::WaitKept => return kept_parker(rt, count),
         Operation::Get => Ok(get(&filled(rt, cx), count)),
         Operation::Init => Ok(init(rt, count, cx)),
+        Operation::Late => Ok(late(rt, &filled(rt, cx), count, cx)),
         Operation::Listed => listed(rt, count, cx),
         Operation::OneWaits
         | Operation::TenWait
@@ -94,6 +95,21 @@ fn init<R: Wait + AllocGlobal>(rt: &R, count: u64, cx: &mut Context<'_>) -> u64 
     let mut sum: u64 = 0;
     for _ in 0..count {
         sum = sum.wrapping_add(one_init(rt, &OnceCell::new(), cx));
+    }
+    sum
+}
+
+/// Asks a set cell for its value so many times, by a new future each.
+#[inline(never)]
+fn late<R: Wait + AllocGlobal>(
+    rt: &R,
+    cell: &OnceCell<u64>,
+    count: u64,
+    cx: &mut Context<'_>,
+) -> u64 {
+    let mut sum: u64 = 0;
+    for _ in 0..count {
+        sum = sum.wrapping_add(one_init(rt, cell, cx));
     }
     sum
 }
