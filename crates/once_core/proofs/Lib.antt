@@ -1,6 +1,5 @@
 -- There is no module here. The clauses of `Step` and of `Core` follow from specs/Table and specs/Core with no lemma of
--- this crate. Two functions are proved by hand: `first_steps`, whose steps are lines of the table one after the other,
--- and `list` of `Core`.
+-- this crate. One function is proved by hand: `list` of `Core`.
 --
 -- The folders are named after files and functions of src. `Answers` has the proofs of goals that are left open there,
 -- and `Invariants` what a loop keeps. Where an answer has one tactic, it is there only so that an edit that breaks its

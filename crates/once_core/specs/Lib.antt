@@ -1,4 +1,3 @@
 pub mod Core
 pub mod Steps
 pub mod Table
-pub mod Chain

@@ -2,7 +2,6 @@
 ghost use Rattle.std.specs.Prelude.{◌≡◌, ◌<◌, ◌≤◌, ◌↔◌, IsTrue, true, false};
 ghost use Rattle.once_core.specs.declared.step.Polled.{Polled};
 
-mod first;
 mod handed;
 mod place;
 mod waits;

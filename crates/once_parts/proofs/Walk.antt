@@ -8,3 +8,4 @@ pub mod Calls
 pub mod Begins
 pub mod Ends
 pub mod Polls
+pub mod Ways

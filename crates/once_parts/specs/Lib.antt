@@ -18,3 +18,4 @@ pub mod Sides
 pub mod Walks
 pub mod Tasks
 pub mod Idle
+pub mod Ways

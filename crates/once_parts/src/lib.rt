@@ -28,6 +28,7 @@ pub mod shared;
 pub mod side;
 pub mod task;
 mod under_lock;
+mod ways;
 
 pub use book::{CellRule, Leaf, Line, Record};
 pub use calls::one_step;

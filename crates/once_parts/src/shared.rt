@@ -2,7 +2,9 @@
 ghost use Rattle.std.specs.Prelude.{◌≡◌, ◌≢◌, ◌^◌, if◌then◌else◌, ℕ, Bool, false, true, List, []};
 ghost use mathlib.Core.List.{IsPrefix};
 ghost use Rattle.once_queue.specs.Room.{listings_of};
-ghost use Rattle.once_core.specs.Table.{DoorGet, DoorTake, Got, Taken, next_at};
+ghost use Rattle.once_queue.specs.Word.{flags_of};
+ghost use Rattle.once_core.specs.Table.{CountIn, DoorGet, DoorTake, Got, Load, Loaded, Taken, next_at};
+ghost use Rattle.once_core.specs.Table.{counted as count_told};
 ghost use Rattle.once_world.specs.Machine.{AtCountIn, AtDoorPut, UnderWay};
 ghost use Rattle.once_parts.specs.Named.{HasRenewed, KeepsOwner};
 ghost use Rattle.once_parts.specs.Own.{Did, IsWord};
@@ -29,9 +31,9 @@ use std::sync::Wait;
 /// What the tasks of a cell share, as one task uses it that has a page in the book.
 #[derive(Drop)]
 pub struct Shared<'a, 'r, T, W: TaskWaker, R> {
-    inner: &'a Inner<T, W>,
-    rt: &'r R,
-    hand: Hand,
+    pub(crate) inner: &'a Inner<T, W>,
+    pub(crate) rt: &'r R,
+    pub(crate) hand: Hand,
     ghost fits: { hand.seen.book ≡ inner.now.front.book },
 }
 
@@ -215,11 +217,7 @@ impl<T, W: TaskWaker + Drop, R: Wait + AllocGlobal> Parts<W> for Shared<'_, '_, 
 
     #[inline(always)]
     fn load(&mut self) -> u64 {
-        let inner = self.inner;
-        let hand = &mut self.hand;
-        inner
-            .word
-            .load::<(), ByTable>(&(), &mut hand.seen, &mut hand.pens)
+        loaded(self.inner, &mut self.hand)
     }
 
     #[inline(always)]
@@ -243,15 +241,9 @@ impl<T, W: TaskWaker + Drop, R: Wait + AllocGlobal> Parts<W> for Shared<'_, '_, 
         found == QINIT_BIT
     }
 
-    // It is tried again while others change the word between the load and the exchange.
     #[inline(always)]
     fn count_in(&mut self) -> Counted {
-        for _ in self.rt.forever() {
-            if let Some(counted) = self.hand.try_count_in(&self.inner.word) {
-                return counted;
-            }
-        }
-        unreachable!()
+        counted(self.rt, self.inner, &mut self.hand)
     }
 
     #[inline(always)]
@@ -331,6 +323,39 @@ fn freed(ready: bool) -> u64
     ensures { result ≡ (if ready then 2 ^ 63 else 0) }
 {
     if ready { READY_BIT } else { NEW }
+}
+
+/// The word, for a task that stands where it loads it.
+#[inline(always)]
+pub(crate) fn loaded<T, W: TaskWaker>(inner: &Inner<T, W>, hand: &mut Hand) -> u64
+    requires book { hand.old.seen.book ≡ inner.now.front.book }
+    requires can { call_in (own_of hand.old).task.step ≡ Load }
+    ensures book { hand.new.seen.book ≡ hand.old.seen.book }
+    ensures did { Went (own_of hand.old) (Loaded (flags_of result)) [] (own_of hand.new) }
+{
+    inner
+        .word
+        .load::<(), ByTable>(&(), &mut hand.seen, &mut hand.pens)
+}
+
+/// Counts the task in. It is tried again while others change the word between the load and the exchange.
+#[inline(always)]
+pub(crate) fn counted<T, W: TaskWaker, R: Wait>(
+    rt: &R,
+    inner: &Inner<T, W>,
+    hand: &mut Hand,
+) -> Counted
+    requires book { hand.old.seen.book ≡ inner.now.front.book }
+    requires can { call_in (own_of hand.old).task.step ≡ CountIn }
+    ensures book { hand.new.seen.book ≡ hand.old.seen.book }
+    ensures did { Went (own_of hand.old) (count_told result) [] (own_of hand.new) }
+{
+    for _ in rt.forever() {
+        if let Some(counted) = hand.try_count_in(&inner.word) {
+            return counted;
+        }
+    }
+    unreachable!()
 }
 
 // What is at the door, under the lock.

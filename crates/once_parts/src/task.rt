@@ -11,14 +11,15 @@ ghost use Rattle.once_parts.specs.Idle.{is_over, step_of};
 ghost use Rattle.once_parts.specs.Walks.{IsCall, Spans, StandsOn, end_of, handed};
 
 use crate::book::Record;
-use crate::calls::{go_on, steps_left};
+use crate::calls::go_on;
 use crate::hand::Hand;
 use crate::idle::Idle;
 use crate::inner::Inner;
 use crate::mark::{Mark, TaskWaker};
 use crate::shared::Shared;
 use crate::side::TaskSide;
-use once_core::step::{Ending, Progress, Step};
+use crate::ways::{later, start};
+use once_core::step::{Ending, Progress};
 use once_queue::waiters::Renews;
 use pagebook::Written;
 use std::alloc::AllocGlobal;
@@ -216,20 +217,10 @@ impl<'a, 'r, T, W: TaskWaker + Drop, R: Wait + AllocGlobal> Task<'a, 'r, T, W, R
         ensures stays { S.stays side.old side.new }
     {
         self.parts.begin();
-        if !self.idle.is_new() {
-            let mut step = self.idle.step();
-            step.begin();
-            return steps_left(&mut self.parts, &mut self.idle, step, side);
+        if self.idle.is_new() {
+            return start(&mut self.parts, &mut self.idle, side);
         }
-        // This step is of a first poll alone, so that the compiler keeps it in registers.
-        let mut first = Step::new();
-        match first.first_steps(&mut self.parts, side) {
-            Progress::Ended(ending) => {
-                self.idle = Idle::of(first);
-                ending
-            }
-            Progress::More => steps_left(&mut self.parts, &mut self.idle, first, side),
-        }
+        later(&mut self.parts, &mut self.idle, side)
     }
 
     /// Lets the waker of the task's listing be renewed: for a task whose last call ended Pending. The answer says

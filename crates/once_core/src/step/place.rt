@@ -6,8 +6,9 @@ use super::Ending;
 impl Ending {
     ghost use Rattle.once_core.specs.Steps.{is_value as ends_with_value};
 
+    /// Whether the call ends with the value: only then does its release set the ready bit.
     #[inline(always)]
-    pub(super) fn is_value(self) -> bool
+    pub fn is_value(self) -> bool
         ensures { result ≡ ends_with_value self }
     {
         matches!(&self, Ending::Value)

@@ -2,22 +2,18 @@
 use Rattle.std.proofs.Common.{◌≡◌, ℕ, false, true, List, [], ◌∷◌, ◌++◌, append_assoc, refl, sym, ap, ◌∙◌, subst}
 use Rattle.std.specs.Prelude.{◌↔◌, ⊤}
 use Rattle.std.proofs.lemmas.Bool.{false≢true}
-use Rattle.pagebook.specs.Slot.{Placed}
-use Rattle.once_core.specs.Chain.{Makes}
-use Rattle.once_core.specs.Steps.{SideTells, step_of_poll}
-use Rattle.once_world.specs.Places.{EndDropped, EndError, EndFull, EndMemory, EndPending, EndValue, Ended, Ending, Finished, More, Progress, Step}
+use Rattle.once_core.specs.Steps.{step_of_poll}
+use Rattle.once_world.specs.Places.{EndDropped, EndError, EndFull, EndMemory, EndPending, EndValue, Ended, Ending, Finished, More, Step}
 use Rattle.once_world.specs.Record.{Begin, Entry}
 use Rattle.once_parts.specs.declared.idle.Idle.{Idle}
 use Rattle.once_parts.specs.Idle.{is_over, step_of}
 use Rattle.once_parts.specs.Kept.{Grew, entries_of}
 use Rattle.once_parts.specs.Own.{Own, Turned}
 use Rattle.once_parts.specs.Places.{task_begun}
-use Rattle.once_parts.specs.Parts.{parts_did}
-use Rattle.once_parts.specs.Sides.{IsTold, Sided}
+use Rattle.once_parts.specs.Sides.{Sided}
 use Rattle.once_parts.specs.Walks.{IsCall, Spans, Stands, StandsOn, Walked, end_of, handed}
 use Rattle.once_parts.proofs.Idles.{live, not_in_call, over, rests}
 use Rattle.once_parts.proofs.Walk.Begins.{grew_from, poll_begins}
-use Rattle.once_parts.proofs.Walk.Calls.{steps_went}
 use Rattle.once_parts.proofs.Walk.Ends.{poll_ended}
 use Rattle.once_world.specs.Machine.{progress_entries}
 use Rattle.once_parts.proofs.Walk.Logs.{called, grew_on}
@@ -84,16 +80,3 @@ module _ {W : Type 0} (whose : W → ℕ) (x y : Sided) (u v w : Own) (e : Endin
         poll = ended.poll;
         stands = stands.step;
       }
-
--- a poll that ended in its first steps: how it ended, and that its parts are of the same cell
-pub polled_at_once : {P S W : Type 0} (cell : P → Placed) (own : P → Own) (whose : W → ℕ) (state : S → Sided) (side : SideTells S W) → IsTold whose state side
-    → (u : Own) (p : P) (s : S) (from to : Step W ⊤) (p' : P) (s' : S) (told : Progress) (e : Ending) (i : Idle)
-    → (state s).woke ≡ [] → Turned u (task_begun u.number u.task) (Begin u.number u.number ∷ []) (own p) → Stands whose false (state s) (own p) More from
-    → Makes (parts_did cell own whose) side from p s told to p' s' → told ≡ Ended e → step_of i ≡ to
-    → (cell p' ≡ cell p) × Polled whose (state s) (state s') u (own p) (own p') e i
-polled_at_once cell own whose state side tells u p s from to p' s' told e i none begun stands made is at =
-    let went = steps_went cell own whose state side tells false from p s to p' s' told stands made in
-    let walked = subst (λ r. Walked (state s) (own p) r (state s') (own p')) is went.walked in
-    let there = subst (λ r. Stands whose false (state s') (own p') r to) is went.stands in
-    let kept = subst (Stands whose false (state s') (own p') (Ended e)) (sym at) there in
-    (went.cell_is, polled whose (state s) (state s') u (own p) (own p') e i none begun walked kept)

@@ -5,7 +5,7 @@ use Rattle.once_parts.specs.Kept.{entries_of}
 use Rattle.once_parts.specs.Own.{Own, Stayed}
 use Rattle.once_parts.specs.Page.{next_of}
 use Rattle.once_parts.proofs.Desks.{did_after, prefix_on}
-use Rattle.once_parts.proofs.shared.SharedParts.count_in.Goals as goal
+use Rattle.once_parts.proofs.shared.counted.Goals as goal
 
 -- who stood still twice
 stayed_on : (x y z : Own) → Stayed x y → Stayed y z → Stayed x z
@@ -28,4 +28,7 @@ loop-preserved g c =
 
 pub returns-in-Some-try_count_in : goal.returns-in-Some-try_count_in
 returns-in-Some-try_count_in g c =
-    (search rules, did_after (λ _ _. []) (λ task. next_of task.step task.waker (counted c.in-Some-try_count_in.counted)) _ _ _ c.loop.invariant.3 c.in-Some-try_count_in.ensures.did)
+    record {
+      book = search rules;
+      did = did_after (λ _ _. []) (λ task. next_of task.step task.waker (counted c.in-Some-try_count_in.counted)) _ _ _ c.loop.invariant.3 c.in-Some-try_count_in.ensures.did;
+    }

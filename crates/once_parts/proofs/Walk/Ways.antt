@@ -1,0 +1,192 @@
+-- Each step of a straight way is its line of the table, whether it is made under the lock or not.
+use Rattle.std.proofs.Common.{◌≡◌, ℕ, Bool, true, false, Option, None, refl, sym, subst}
+use Rattle.std.specs.Prelude.{⊤}
+use Rattle.std.proofs.lemmas.Bool.{false≢true}
+use Rattle.pagebook.specs.Slot.{Placed}
+use Rattle.once_queue.specs.Ops.{ticket_in}
+use Rattle.once_queue.specs.declared.waiters.Answer.{Answer}
+use Rattle.once_queue.specs.declared.waiters.Answer.TheVariants.{Ready, Claimed, Listed, Held, Memory, Gone, Released, Left}
+use Rattle.once_queue.specs.declared.waiters.Op.{Op}
+use Rattle.once_queue.specs.declared.waiters.Op.TheVariants.{Look, List as ListOwn, Release, Leave}
+use Rattle.once_core.specs.declared.step.Polled.{Polled}
+use Rattle.once_core.specs.Steps.{MayClose, release_place}
+use Rattle.once_core.specs.Table.{Call, Load, Quick, Fast, CountIn, AddOne, CountOut, DoorGet, DoorPut, DoorTake, Section, Refuse, Run, Put}
+use Rattle.once_core.specs.Table.{Told, Loaded, TriedQuick, TriedFast, CountedIn, Added, CountedOut, Got, PutQueue, Taken, Was, Refused, Ran, PutValue}
+use Rattle.once_core.specs.Table.{GoesOn, Line, Looked, MayRefuse, Next, SideDid, Tells, after, after_copy, after_list, after_run, call_at, next_at, next_rest, wants_copy}
+use Rattle.once_world.specs.Places.{EndValue, More, Progress, RestWait, Step, UnderWay}
+use Rattle.once_world.specs.Places.{Place, AtStart, AtTryQuick, AtDoorGet, AtDoorPut, AtCountIn, AtWaitLoad, AtLook, AtList}
+use Rattle.once_world.specs.Places.{AtRun, AtPut, AtFast, AtAddOne, AtDoorAgain, AtRelease, AtLeave, AtCountOut, AtDoorTake}
+use Rattle.once_parts.specs.Own.{Own}
+use Rattle.once_parts.specs.Parts.{DidCall, parts_did}
+use Rattle.once_parts.specs.Sides.{HasClosed, HasCopied, HasPut, HasRun, Sided, sided_tells}
+use Rattle.once_parts.specs.Walks.{Stands}
+use Rattle.once_parts.specs.Ways.{Leads, closed_if}
+use Rattle.once_parts.proofs.Sides.{sided_told}
+use Rattle.once_parts.proofs.Walk.Logs.{walked_on}
+use Rattle.once_parts.proofs.Walk.Lines.{line_went}
+
+-- a look alone may call the side in the middle of its step
+abbrev pub is_look : {W : Type 0} → Place W ⊤ → Bool
+is_look (AtLook q k) = true
+is_look at = false
+
+-- neither is an init polled, nor a value put, nor is anybody handed out
+abbrev pub is_quiet : {W : Type 0} → Told W ⊤ → Bool
+is_quiet (Ran a) = false
+is_quiet PutValue = false
+is_quiet (Was q (Release fills) a o) = false
+is_quiet (Was q (Leave n) a o) = false
+is_quiet e = true
+
+-- the answer of a call, of which more is said
+told_more : {W : Type 0} (c : Call W ⊤) (P Q : Told W ⊤ → Type 0) → ((e : Told W ⊤) → P e → Q e) → Tells c P → Tells c Q
+told_more Load P Q f (w, p) = (w, f (Loaded w) p)
+told_more Quick P Q f (won, p) = (won, f (TriedQuick won) p)
+told_more (Fast fills) P Q f (won, p) = (won, f (TriedFast fills won) p)
+told_more CountIn P Q f (i, r, p) = (i, r, f (CountedIn i r) p)
+told_more AddOne P Q f p = f Added p
+told_more CountOut P Q f (w, p) = (w, f (CountedOut w) p)
+told_more DoorGet P Q f (q, p) = (q, f (Got q) p)
+told_more DoorPut P Q f (q, p) = (q, f (PutQueue q) p)
+told_more DoorTake P Q f (b, p) = (b, f (Taken b) p)
+told_more (Section q op) P Q f (a, o, p) = (a, o, f (Was q op a o) p)
+told_more Refuse P Q f p = f Refused p
+told_more Run P Q f (a, p) = (a, f (Ran a) p)
+told_more Put P Q f p = f PutValue p
+
+-- an init that is dropped or not
+closes : (b : Bool) (x y : Sided) → y ≡ closed_if b x → MayClose HasClosed b x y
+closes true x y is = is
+closes false x y is = is
+
+-- which cell it is does not matter
+abbrev pub any_cell : Placed
+any_cell = record { book = record { number = 0; words_name = 0; pages_name = 0; log_name = 0 }; key = 0; id = 0 }
+
+module _ {W : Type 0} (whose : W → ℕ) where
+  -- what the calls of the parts tell of a task, where the parts are what it knows
+  abbrev pub Tell : Own → Told W ⊤ → Own → Type 0
+  Tell = parts_did (λ (v : Own). any_cell) (λ (v : Own). v) whose
+
+  -- the side did no more than to close its init or not
+  quiet_side : (e : Told W ⊤) → is_quiet e ≡ true → (b : Bool) (x y : Sided) → y ≡ closed_if b x → SideDid (sided_tells whose (λ (z : Sided). z)) e b x y
+  quiet_side (Loaded w) quiet b x y is = closes b x y is
+  quiet_side (TriedQuick won) quiet b x y is = closes b x y is
+  quiet_side (TriedFast fills won) quiet b x y is = closes b x y is
+  quiet_side (CountedIn i r) quiet b x y is = closes b x y is
+  quiet_side Added quiet b x y is = closes b x y is
+  quiet_side (CountedOut w) quiet b x y is = closes b x y is
+  quiet_side (Got q) quiet b x y is = closes b x y is
+  quiet_side (PutQueue q) quiet b x y is = closes b x y is
+  quiet_side (Taken stood) quiet b x y is = closes b x y is
+  quiet_side (Was q (Look k) a o) quiet b x y is = closes b x y is
+  quiet_side (Was q (ListOwn k w) a o) quiet b x y is = closes b x y is
+  quiet_side (Was q (Release fills) a o) quiet b x y is = absurd (false≢true quiet)
+  quiet_side (Was q (Leave n) a o) quiet b x y is = absurd (false≢true quiet)
+  quiet_side Refused quiet b x y is = closes b x y is
+  quiet_side (Ran a) quiet b x y is = absurd (false≢true quiet)
+  quiet_side PutValue quiet b x y is = absurd (false≢true quiet)
+
+  module _ (x y : Sided) (v w : Own) where
+    -- a line of the table leads on
+    led_by : (at : Place W ⊤) (n : Next W ⊤) → Stands whose false x v More (UnderWay at)
+        → Line Tell (sided_tells whose (λ (z : Sided). z)) at v x n.progress n.step w y → Leads whose x v n.progress n.step y w
+    led_by at n is line =
+        let went = line_went (λ (v : Own). any_cell) (λ (v : Own). v) whose (λ (z : Sided). z) (sided_tells whose (λ (z : Sided). z)) (sided_told whose (λ (z : Sided). z)) false
+        at v w x y n.progress More n.step is line in
+        record { walked = went.walked; stands = went.stands }
+
+    -- a line that is no look says of what the call told that the task goes on by it
+    lone : (at : Place W ⊤) (r : Progress) (s : Step W ⊤) → is_look at ≡ false
+        → Tells (call_at at) (λ e. Tell v e w × GoesOn Tell (sided_tells whose (λ (z : Sided). z)) (after None at e) e x y r s)
+        → Line Tell (sided_tells whose (λ (z : Sided). z)) at v x r s w y
+    lone AtStart r s plain t = t
+    lone AtTryQuick r s plain t = t
+    lone AtDoorGet r s plain t = t
+    lone AtDoorPut r s plain t = t
+    lone (AtCountIn q) r s plain t = t
+    lone (AtWaitLoad q k) r s plain t = t
+    lone (AtLook q k) r s plain t = absurd (false≢true (sym plain))
+    lone (AtList q k c) r s plain t = t
+    lone (AtRun by) r s plain t = t
+    lone (AtPut by) r s plain t = t
+    lone (AtFast e) r s plain t = t
+    lone (AtAddOne e) r s plain t = t
+    lone (AtDoorAgain e) r s plain t = t
+    lone (AtRelease q e) r s plain t = t
+    lone (AtLeave q n e) r s plain t = t
+    lone (AtCountOut e) r s plain t = t
+    lone (AtDoorTake e) r s plain t = t
+
+  module _ {x y : Sided} {v w : Own} where
+    -- a step at which the side's init is dropped or not, and nothing else is asked of the side
+    pub led : (at : Place W ⊤) (e : Told W ⊤) (n : Next W ⊤) → is_look at ≡ false → is_quiet e ≡ true → Tells (call_at at) (λ d. d ≡ e)
+        → Stands whose false x v More (UnderWay at) → DidCall whose v e w → after None at e ≡ n → y ≡ closed_if n.closes x → Leads whose x v n.progress n.step y w
+    led at e n plain quiet tells is did leads closed =
+        let goes : GoesOn Tell (sided_tells whose (λ (z : Sided). z)) (after None at e) e x y n.progress n.step =
+        subst (λ (m : Next W ⊤). GoesOn Tell (sided_tells whose (λ (z : Sided). z)) m e x y n.progress n.step) (sym leads) (quiet_side e quiet n.closes x y closed, refl, refl) in
+        led_by x y v w at n is (lone x y v w at n.progress n.step plain
+        (told_more (call_at at) (λ d. d ≡ e) (λ d. Tell v d w × GoesOn Tell (sided_tells whose (λ (z : Sided). z)) (after None at d) d x y n.progress n.step)
+        (λ d same. subst (λ d. Tell v d w × GoesOn Tell (sided_tells whose (λ (z : Sided). z)) (after None at d) d x y n.progress n.step) (sym same) ((refl, did), goes)) tells))
+
+    -- a look that finds no holder, or the own listing
+    pub looked : (k : Option ℕ) (a : Answer W) (o : Op W) (n : Next W ⊤) → wants_copy (Look k) a ≡ false → Stands whose false x v More (UnderWay (AtLook tt k))
+        → DidCall whose v (Was tt (Look k) a o) w → after None (AtLook tt k) (Was tt (Look k) a o) ≡ n → y ≡ closed_if n.closes x → Leads whose x v n.progress n.step y w
+    looked k a o n calm is did leads closed =
+        let e : Told W ⊤ = Was tt (Look k) a o in
+        let goes : GoesOn Tell (sided_tells whose (λ (z : Sided). z)) (after None (AtLook tt k) e) e x y n.progress n.step =
+        subst (λ (m : Next W ⊤). GoesOn Tell (sided_tells whose (λ (z : Sided). z)) m e x y n.progress n.step) (sym leads) (closes n.closes x y closed, refl, refl) in
+        led_by x y v w (AtLook tt k) n is (
+          a,
+          o,
+          w,
+          (refl, did),
+          subst (λ b. Looked Tell (sided_tells whose (λ (z : Sided). z)) b (AtLook tt k) e w x n.progress n.step w y) (sym calm) (refl, goes),
+        )
+
+    -- the init is polled, and answers so
+    pub ran : (by : Option ⊤) (a : Polled) (m : Sided) → Stands whose false x v More (UnderWay (AtRun by)) → DidCall whose v (Ran a) w
+        → HasRun x a m → y ≡ closed_if (after_run {W = W} a by).closes m → Leads whose x v (after_run {W = W} a by).progress (after_run a by).step y w
+    ran by a m is did run closed = led_by x y v w (AtRun by) (after_run a by) is
+        (a, ((refl, did), ((m, run, closes (after_run {W = W} a by).closes m y closed), refl, refl)))
+
+    -- the value is put
+    pub put : (by : Option ⊤) → Stands whose false x v More (UnderWay (AtPut by)) → DidCall whose v PutValue w → HasPut x y
+        → Leads whose x v More (UnderWay (release_place by EndValue)) y w
+    put by is did has = led_by x y v w (AtPut by) (next_at (release_place by EndValue)) is ((refl, did), (has, refl, refl))
+
+  module _ {x m y : Sided} {v n w : Own} where
+    -- a look that finds a holder, and the copy of the waker, or its refusal
+    pub copied : (k : Option ℕ) (a : Answer W) (o : Op W) (c : Option W) → (a ≡ Ready → ⊥) → (a ≡ Claimed → ⊥) → (a ≡ Listed → ⊥)
+        → Stands whose false x v More (UnderWay (AtLook tt k)) → DidCall whose v (Was tt (Look k) a o) n → HasCopied whose x c m
+        → MayRefuse (λ p t. Tell p Refused t) c n w → y ≡ closed_if (after_copy {W = W} {Q = ⊤} c tt (ticket_in o)).closes m
+        → Leads whose x v (after_copy {W = W} {Q = ⊤} c tt (ticket_in o)).progress (after_copy c tt (ticket_in o)).step y w
+    copied k Ready o c r l i is did copy may closed = absurd (r refl)
+    copied k Claimed o c r l i is did copy may closed = absurd (l refl)
+    copied k Listed o c r l i is did copy may closed = absurd (i refl)
+    copied k Held o c r l i is did copy may closed = led_by x y v w (AtLook tt k) (after_copy c tt (ticket_in o)) is
+        (Held, o, n, (refl, did), (c, m, copy, may, (closes (after_copy {W = W} c tt (ticket_in o)).closes m y closed, refl, refl)))
+    copied k Memory o c r l i is did copy may closed = led_by x y v w (AtLook tt k) (after_copy c tt (ticket_in o)) is
+        (Memory, o, n, (refl, did), (c, m, copy, may, (closes (after_copy {W = W} c tt (ticket_in o)).closes m y closed, refl, refl)))
+    copied k Gone o c r l i is did copy may closed = led_by x y v w (AtLook tt k) (after_copy c tt (ticket_in o)) is
+        (Gone, o, n, (refl, did), (c, m, copy, may, (closes (after_copy {W = W} c tt (ticket_in o)).closes m y closed, refl, refl)))
+    copied k (Released out) o c r l i is did copy may closed = led_by x y v w (AtLook tt k) (after_copy c tt (ticket_in o)) is
+        ((Released out), o, n, (refl, did), (c, m, copy, may, (closes (after_copy {W = W} c tt (ticket_in o)).closes m y closed, refl, refl)))
+    copied k (Left own) o c r l i is did copy may closed = led_by x y v w (AtLook tt k) (after_copy c tt (ticket_in o)) is
+        ((Left own), o, n, (refl, did), (c, m, copy, may, (closes (after_copy {W = W} c tt (ticket_in o)).closes m y closed, refl, refl)))
+
+  -- one step, or some, after others
+  pub onward : {x y z : Sided} {u v w : Own} {at s : Step W ⊤} {r : Progress} → Leads whose x u More at y v → Leads whose y v r s z w → Leads whose x u r s z w
+  onward a b = record { walked = walked_on _ _ _ _ _ _ _ _ refl a.walked b.walked; stands = b.stands }
+
+-- a listing that answers otherwise leaves the task waiting
+pub rests : {W : Type 0} (a : Answer W) (k : Option ℕ) → (a ≡ Ready → ⊥) → (a ≡ Claimed → ⊥) → (a ≡ Memory → ⊥)
+    → ◌≡◌ {A = Next W ⊤} (after_list a tt k) (next_rest (RestWait tt k))
+rests Ready k r c m = absurd (r refl)
+rests Claimed k r c m = absurd (c refl)
+rests Memory k r c m = absurd (m refl)
+rests Listed k r c m = refl
+rests Held k r c m = refl
+rests Gone k r c m = refl
+rests (Released out) k r c m = refl
+rests (Left own) k r c m = refl

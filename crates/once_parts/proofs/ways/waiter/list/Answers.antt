@@ -1,0 +1,27 @@
+-- The listing is its line of the table.
+use Rattle.std.proofs.Common.{refl, ap, Some}
+use Rattle.once_queue.specs.declared.waiters.Op.TheVariants.{List as ListOwn}
+use Rattle.once_core.specs.Table.{Was, after_list}
+use Rattle.once_world.specs.Places.{AtList}
+use Rattle.once_parts.specs.Ways.{next_by}
+use Rattle.once_parts.specs.declared.ways.Reached.TheVariants.{Claimed, Ready, Refused}
+use Rattle.once_parts.proofs.Walk.Ways.{led}
+use Rattle.once_parts.proofs.ways.waiter.list.Goals as goal
+
+pub returns-in-Ready-clause-leads : goal.returns-in-Ready-clause-leads
+returns-in-Ready-clause-leads g c =
+    let s = c.list-answer in
+    led g.W.TaskWaker.whose (AtList tt c.args.ticket c.args.waker) (Was tt (ListOwn c.args.ticket (Some c.args.waker)) s.result.0 (ListOwn s.new.ticket s.new.waker))
+    (next_by Ready) refl refl (_, _, refl) c.requires.stands s.ensures.did (ap (λ a. after_list a tt s.new.ticket) c.in-Ready.is) refl
+
+pub returns-in-Claimed-clause-leads : goal.returns-in-Claimed-clause-leads
+returns-in-Claimed-clause-leads g c =
+    let s = c.list-answer in
+    led g.W.TaskWaker.whose (AtList tt c.args.ticket c.args.waker) (Was tt (ListOwn c.args.ticket (Some c.args.waker)) s.result.0 (ListOwn s.new.ticket s.new.waker))
+    (next_by Claimed) refl refl (_, _, refl) c.requires.stands s.ensures.did (ap (λ a. after_list a tt s.new.ticket) c.in-Claimed.is) refl
+
+pub returns-in-Memory-clause-leads : goal.returns-in-Memory-clause-leads
+returns-in-Memory-clause-leads g c =
+    let s = c.list-answer in
+    led g.W.TaskWaker.whose (AtList tt c.args.ticket c.args.waker) (Was tt (ListOwn c.args.ticket (Some c.args.waker)) s.result.0 (ListOwn s.new.ticket s.new.waker))
+    (next_by (Refused s.new.ticket)) refl refl (_, _, refl) c.requires.stands s.ensures.did (ap (λ a. after_list a tt s.new.ticket) c.in-Memory.is) refl

@@ -1,0 +1,38 @@
+-- What a straight way of a poll tells of the steps that it made.
+use Rattle.std.specs.Prelude.{ℕ, Bool, true, false, Some, ⊤}
+use Rattle.once_core.specs.Steps.{leave_place}
+use Rattle.once_core.specs.Table.{Next, closing_at, closing_end, next_at, next_rest}
+use Rattle.once_world.specs.Places.{AtCountOut, AtRun, EndMemory, EndValue, Progress, RestWait, Step}
+use Rattle.once_parts.specs.declared.ways.Reached.{Reached}
+use Rattle.once_parts.specs.declared.ways.Reached.TheVariants.{Claimed, Ended, Ready, Refused, Waits}
+use Rattle.once_parts.specs.Own.{Own}
+use Rattle.once_parts.specs.Sides.{Sided}
+use Rattle.once_parts.specs.Walks.{Stands, Walked}
+
+-- the side, after its init was dropped or not
+abbrev pub closed_if : Bool → Sided → Sided
+closed_if true x = record x { has_init = false }
+closed_if false x = x
+
+-- what follows by the table of places where steps under the lock led here
+abbrev pub next_by : {W : Type 0} → Reached → Next W ⊤
+next_by Ready = closing_at (AtCountOut EndValue)
+next_by Claimed = next_at (AtRun (Some tt))
+next_by (Waits k) = next_rest (RestWait tt k)
+next_by (Ended e) = closing_end e
+next_by (Refused k) = closing_at (leave_place tt k EndMemory)
+
+-- from x and v to y and w a poll made its steps; the last of them told r, and the poll stands at s
+pub record Leads {W : Type 0} (whose : W → ℕ) (x : Sided) (v : Own)
+    (r : Progress) (s : Step W ⊤) (y : Sided) (w : Own) : Type 0 where
+  pub walked : Walked x v r y w  -- what the steps made of the record
+  pub stands : Stands whose false y w r s  -- where the poll has come
+
+module _ {W : Type 0} (whose : W → ℕ) where
+  -- the poll has come so far, but for the drop of its init
+  abbrev pub StandsBy : Next W ⊤ → Sided → Own → Type 0
+  StandsBy n x v = Stands whose false (closed_if n.closes x) v n.progress n.step
+
+  -- it came there by its steps
+  abbrev pub LeadsBy : Sided → Own → Next W ⊤ → Sided → Own → Type 0
+  LeadsBy x v n y w = Leads whose x v n.progress n.step (closed_if n.closes y) w

@@ -1,0 +1,191 @@
+//! The way of a waiter: its later poll, and what it does under the lock, where a new waiter goes on too.
+ghost use Rattle.std.specs.Prelude.{◌≡◌, false};
+ghost use Rattle.once_parts.specs.Hands.{own_of};
+ghost use Rattle.once_parts.specs.Idle.{step_of};
+ghost use Rattle.once_parts.specs.Shares.{cell_of, own};
+ghost use Rattle.once_parts.specs.Walks.{Stands};
+ghost use Rattle.once_parts.specs.Ways.{Leads, LeadsBy, next_by};
+
+use super::quick::door_take;
+use super::{Reached, Spent, go_on_from};
+use crate::desk::Desk;
+use crate::hand::Hand;
+use crate::idle::Idle;
+use crate::inner::Inner;
+use crate::mark::TaskWaker;
+use crate::shared::Shared;
+use crate::side::TaskSide;
+use once_core::parts::Parts;
+use once_core::step::{Ending, Place, Progress, Step};
+use once_queue::waiters::Answer;
+use once_queue::word::Word;
+use pagebook::Key;
+use std::alloc::AllocGlobal;
+use std::marker::Brand;
+use std::sync::Wait;
+
+/// A later poll, from its load on.
+#[inline(always)]
+pub(super) fn wait<
+    T,
+    W: TaskWaker + Drop,
+    R: Wait + AllocGlobal,
+    S: TaskSide<W, Value = T, Right = Hand>,
+>(parts: &mut Shared<'_, '_, T, W, R>, idle: &mut Idle, ticket: Option<u64>, side: &mut S) -> Ending
+    requires stands { Stands W.whose false (S.state side.old) (own parts.old) Progress.More
+        (Step.UnderWay (Place.WaitLoad tt ticket)) }
+    ensures cell { cell_of parts.new ≡ cell_of parts.old }
+    ensures leads { Leads W.whose (S.state side.old) (own parts.old) (Progress.Ended result) (step_of idle.new)
+        (S.state side.new) (own parts.new) }
+    ensures stays { S.stays side.old side.new }
+{
+    if Word::from_bits(parts.load()).is_ready() {
+        side.close();
+        return count_out(parts, idle, Ending::Value, side);
+    }
+    look_again(parts, idle, ticket, side)
+}
+
+/// The task counts out, and where it is the last at a cell that is set, it takes the queue away.
+#[inline(always)]
+pub(super) fn count_out<
+    T,
+    W: TaskWaker + Drop,
+    R: Wait + AllocGlobal,
+    S: TaskSide<W, Value = T, Right = Hand>,
+>(parts: &mut Shared<'_, '_, T, W, R>, idle: &mut Idle, ending: Ending, side: &S) -> Ending
+    requires stands { Stands W.whose false (S.state side.now) (own parts.old) Progress.More
+        (Step.UnderWay (Place.CountOut ending)) }
+    ensures cell { cell_of parts.new ≡ cell_of parts.old }
+    ensures leads { Leads W.whose (S.state side.now) (own parts.old) (Progress.Ended result) (step_of idle.new)
+        (S.state side.now) (own parts.new) }
+{
+    if Word::from_bits(parts.count_out()).is_ready_alone() {
+        return door_take(parts, idle, ending, side);
+    }
+    *idle = Idle::Finished;
+    ending
+}
+
+// The look of a later poll, and its listing, in one hold of the lock.
+#[inline(always)]
+fn look_again<
+    T,
+    W: TaskWaker + Drop,
+    R: Wait + AllocGlobal,
+    S: TaskSide<W, Value = T, Right = Hand>,
+>(parts: &mut Shared<'_, '_, T, W, R>, idle: &mut Idle, ticket: Option<u64>, side: &mut S) -> Ending
+    requires stands { Stands W.whose false (S.state side.old) (own parts.old) Progress.More
+        (Step.UnderWay (Place.Look tt ticket)) }
+    ensures cell { cell_of parts.new ≡ cell_of parts.old }
+    ensures leads { Leads W.whose (S.state side.old) (own parts.old) (Progress.Ended result) (step_of idle.new)
+        (S.state side.new) (own parts.new) }
+    ensures stays { S.stays side.old side.new }
+{
+    let (reached, _spent) = held::<Brand, T, W, R, S>(
+        parts.rt,
+        parts.inner,
+        &mut parts.hand,
+        ticket,
+        side,
+    );
+    go_on_from(parts, idle, reached, side)
+}
+
+// Takes the lock for the look.
+#[inline(always)]
+fn held<J: Key, T, W: TaskWaker + Drop, R: Wait, S: TaskSide<W, Value = T, Right = Hand>>(
+    rt: &R,
+    inner: &Inner<T, W>,
+    hand: &mut Hand,
+    ticket: Option<u64>,
+    side: &mut S,
+) -> (Reached, Spent<W>)
+    requires key { inner.now.desk ≡ J.key }
+    requires book { hand.old.seen.book ≡ J.key }
+    requires stands { Stands W.whose false (S.state side.old) (own_of hand.old) Progress.More
+        (Step.UnderWay (Place.Look tt ticket)) }
+    ensures book { hand.new.seen.book ≡ hand.old.seen.book }
+    ensures leads { LeadsBy W.whose (S.state side.old) (own_of hand.old) (next_by result.0)
+        (S.state side.new) (own_of hand.new) }
+    ensures stays { S.stays side.old side.new }
+{
+    let mut tied = inner.desk.lock::<J, R>(rt);
+    look(inner, &mut tied.value, hand, ticket, side)
+}
+
+/// The look of a waiter under the lock. Where another task holds, the waiter copies its waker, and is listed.
+#[inline(always)]
+pub(super) fn look<T, W: TaskWaker + Drop, S: TaskSide<W, Value = T, Right = Hand>>(
+    inner: &Inner<T, W>,
+    desk: &mut Desk<W>,
+    hand: &mut Hand,
+    mut ticket: Option<u64>,
+    side: &mut S,
+) -> (Reached, Spent<W>)
+    requires book { hand.old.seen.book ≡ inner.now.front.book }
+    requires desk { desk.old ≡ hand.old.seen.book }
+    requires stands { Stands W.whose false (S.state side.old) (own_of hand.old) Progress.More
+        (Step.UnderWay (Place.Look tt ticket)) }
+    ensures book { hand.new.seen.book ≡ hand.old.seen.book }
+    ensures desk { desk.new ≡ desk.old }
+    ensures leads { LeadsBy W.whose (S.state side.old) (own_of hand.old) (next_by result.0)
+        (S.state side.new) (own_of hand.new) }
+    ensures stays { S.stays side.old side.new }
+{
+    let (answer, spent) = desk.look(&inner.word, hand, &mut ticket);
+    match answer {
+        Answer::Ready => (Reached::Ready, Spent::looked(spent)),
+        Answer::Claimed => (Reached::Claimed, Spent::looked(spent)),
+        Answer::Listed => (Reached::Waits(ticket), Spent::looked(spent)),
+        held => {
+            drop(held);
+            match side.copy() {
+                Some(waker) => list(inner, desk, hand, ticket, waker, spent, side),
+                None => {
+                    hand.refused();
+                    (Reached::Refused(ticket), Spent::looked(spent))
+                }
+            }
+        }
+    }
+}
+
+// The listing of a waiter under the lock. `looked` is what the look before it took.
+#[inline(always)]
+fn list<T, W: TaskWaker + Drop, S: TaskSide<W, Value = T, Right = Hand>>(
+    inner: &Inner<T, W>,
+    desk: &mut Desk<W>,
+    hand: &mut Hand,
+    mut ticket: Option<u64>,
+    waker: W,
+    looked: Option<W>,
+    side: &S,
+) -> (Reached, Spent<W>)
+    requires book { hand.old.seen.book ≡ inner.now.front.book }
+    requires desk { desk.old ≡ hand.old.seen.book }
+    requires stands { Stands W.whose false (S.state side.now) (own_of hand.old) Progress.More
+        (Step.UnderWay (Place.List tt ticket waker)) }
+    ensures book { hand.new.seen.book ≡ hand.old.seen.book }
+    ensures desk { desk.new ≡ desk.old }
+    ensures leads { LeadsBy W.whose (S.state side.now) (own_of hand.old) (next_by result.0)
+        (S.state side.now) (own_of hand.new) }
+{
+    let _ = side;
+    let mut copy = Some(waker);
+    let (answer, listed) = desk.list(&inner.word, hand, &mut ticket, &mut copy);
+    let spent = Spent {
+        looked,
+        listed,
+        copy,
+    };
+    match answer {
+        Answer::Ready => (Reached::Ready, spent),
+        Answer::Claimed => (Reached::Claimed, spent),
+        Answer::Memory => (Reached::Refused(ticket), spent),
+        waits => {
+            drop(waits);
+            (Reached::Waits(ticket), spent)
+        }
+    }
+}
