@@ -1,9 +1,7 @@
 -- One step of the code is one step of the machine, and so is a replay.
 pub mod Outcomes
-pub mod ExactWaits
-pub mod ExactSections
-pub mod ExactReleases
-pub mod ExactHolds
+pub mod Sections
+pub mod Calls
 pub mod Exact
 pub mod Unfinished
 pub mod Asked

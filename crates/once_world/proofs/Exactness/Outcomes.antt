@@ -1,26 +1,26 @@
 -- What a step left and was seen to do, against what the machine says.
-use Rattle.std.proofs.Common.{◌≡◌, ◌≢◌, ℕ, Bool, true, false, List, [], ◌∷◌, ◌++◌, None, Some, ap, ◌∙◌, arith, reverse}
+use Rattle.std.proofs.Common.{◌≡◌, ◌≢◌, ℕ, Bool, true, false, List, [], ◌++◌, Option, Some, None, arith, reverse}
 use Rattle.std.specs.Prelude.{not, ◌&&◌}
 use Rattle.std.proofs.lemmas.Grind.{common_steps}
 use Rattle.once_queue.specs.declared.log.QueueLine.{QueueLine}
-use Rattle.once_queue.specs.declared.waiters.Out.{Out}
+use Rattle.once_queue.specs.declared.waiters.Op.TheVariants.{Look as LookOp, List as ListOp, Leave as LeaveOp}
 use Rattle.once_world.specs.declared.world.side.ReplaySide.{ReplaySide}
 use Rattle.once_core.specs.Core.{CoreState, DidCall}
-use Rattle.once_core.specs.Table.{Told, Follows, Next, next_at}
-use Rattle.once_world.specs.Places.{AtCountOut, Ended, Ending, More, Progress, Step, UnderWay}
-use Rattle.once_core.specs.Steps.{MayClose, is_adding, is_freeing, is_leaving, is_running}
-use Rattle.once_world.specs.Record.{Answer, Entry, Ran}
-use Rattle.once_world.specs.Machine.{SharedState, Outcome, end_entry, outcome_of}
-use Rattle.once_world.specs.Side.{DidClose, DidWake, answers_in}
+use Rattle.once_core.specs.Table.{Call, Told, TriedQuick, TriedFast, Was, after, call_at}
+use Rattle.once_world.specs.Places.{Place, Progress, Step, UnderWay}
+use Rattle.once_core.specs.Steps.{SideTells, is_adding, is_freeing, is_leaving, is_running}
+use Rattle.once_world.specs.Record.{Entry}
+use Rattle.once_world.specs.Machine.{SharedState, Outcome, StepInput, answer, hands, is_claim, keeps, left_by, records}
+use Rattle.once_world.specs.Side.{DidClose, DidCopy, DidPut, DidRun, DidWake, answers_in, next_of}
 use Rattle.once_world.specs.Shown.{claim_entries, freed_entries, handed_entries, progress_entries, ran_entries}
-
--- the newest line stands first in the log
-pub reverse_push : (ls : List QueueLine) (x : QueueLine) → reverse (ls ++ x ∷ []) ≡ (x ∷ []) ++ reverse ls
-reverse_push ls x = grind (arith, common_steps)
 
 -- what a call tells and leaves, where wakers are numbers
 abbrev pub NumberCall : CoreState ℕ → Told ℕ ℕ → CoreState ℕ → Type 0
 NumberCall = DidCall (λ a b. a ≡ b) (λ a b. a ≢ b)
+
+-- what the calls of a side tell
+abbrev pub side_tells : SideTells ReplaySide ℕ
+side_tells = record { run = DidRun; close = DidClose; put = DidPut; copy = DidCopy; wake = DidWake }
 
 -- what all tasks share, as the machine sees it
 abbrev pub shared_by : CoreState ℕ → ReplaySide → SharedState
@@ -35,6 +35,18 @@ shared_by s c = record {
   value = c.value;
   answers = answers_in c;
 }
+
+-- where no queue stands at the door, nobody holds by its flag and nobody is listed
+abbrev pub IsBare : CoreState ℕ → Type 0
+IsBare s = s.door ≡ None → (s.head ≡ false) × (s.listings ≡ [])
+
+-- a step is about to be made by this side: it has seen nothing, and has what the core has
+pub record IsReady (s : CoreState ℕ) (c : ReplaySide) : Type 0 where
+  pub ran : c.ran ≡ None
+  pub handed : c.handed ≡ None
+  pub bare : IsBare s
+  pub current : s.current ≡ Some c.waker
+  pub granted : s.granted ≡ c.granted
 
 -- a step from here to t gave the right back by the fast release
 abbrev pub is_freed : Step ℕ ℕ → Step ℕ ℕ → Bool
@@ -56,69 +68,40 @@ pub record IsOutcome (from : Step ℕ ℕ) (o : ℕ → Outcome) (lines : List Q
   pub limit : s'.limit ≡ s.limit
   pub lazy_is : c'.lazy ≡ c.lazy
 
--- where no queue stands at the door, nobody holds by its flag and nobody is listed
-abbrev pub IsBare : CoreState ℕ → Type 0
-IsBare s = s.door ≡ None → (s.head ≡ false) × (s.listings ≡ [])
+-- a call that told this gave the right back by the fast release
+abbrev pub frees : Told ℕ ℕ → Bool
+frees (TriedFast fills won) = won
+frees _ = false
 
--- the side before a step has seen nothing
-pub record IsFresh (c : ReplaySide) : Type 0 where
-  pub ran : c.ran ≡ None
-  pub handed : c.handed ≡ None
+-- it claimed the right
+abbrev pub claims : Told ℕ ℕ → Bool
+claims (TriedQuick won) = won
+claims (Was q (LookOp k) a o) = is_claim a
+claims (Was q (ListOp k w) a o) = is_claim a
+claims _ = false
 
--- a side does nothing when its init is closed
-pub unclosed : (c c' : ReplaySide) (b : Bool) → MayClose DidClose b c c' → c' ≡ c
-unclosed c c' true e = e
-unclosed c c' false e = e
+-- it took the task's listing out
+abbrev pub leaves : Told ℕ ℕ → Bool
+leaves (Was q (LeaveOp k) a o) = true
+leaves _ = false
 
--- the entries of a step of which at most a fast release and a claim were seen
-told_by : (p : Progress) (b : Bool) (n v : ℕ) (k : Answer) (C D : List Entry) → freed_entries b n k ++ C ≡ D
-    → progress_entries p n v k ++ [] ++ freed_entries b n k ++ [] ++ C ≡ progress_entries p n v k ++ D
-told_by (Ended e) true n v k C D s = ap (λ l. end_entry e n v k ∷ l) s
-told_by (Ended e) false n v k C D s = ap (λ l. end_entry e n v k ∷ l) s
-told_by More true n v k C D s = s
-told_by More false n v k C D s = s
+-- place and next step say so
+module _ (i : StepInput) (c : SharedState) (w : Option ℕ) where
+  pub freed_so : (p : Place ℕ ℕ) → is_freed (UnderWay p) (after w p (answer i c (call_at p))).step ≡ frees (answer i c (call_at p))
+  freed_so p = grind (arith, common_steps)
 
--- and of one that polled the init, which answered x
-pub ran_by : (p : Progress) (n v : ℕ) (k x : Answer) (C : List Entry) → C ≡ []
-    → progress_entries p n v k ++ [] ++ [] ++ ran_entries (Some x) n ++ C ≡ progress_entries p n v k ++ (Ran n x ∷ [])
-ran_by (Ended e) n v k x C s = ap (λ l. end_entry e n v k ∷ Ran n x ∷ l) s
-ran_by More n v k x C s = ap (λ l. Ran n x ∷ l) s
+  pub claimed_so : (p : Place ℕ ℕ) → is_running (after w p (answer i c (call_at p))).step ≡ claims (answer i c (call_at p))
+  claimed_so p = grind (arith, common_steps)
 
--- what the table of places says follows a step that left d and was seen to do this
-pub follows_by : (from : Step ℕ ℕ) (s : CoreState ℕ) (c : ReplaySide) (f : IsFresh c) (s' : CoreState ℕ)
-    (c' : ReplaySide) (p : Progress) (t : Step ℕ ℕ) (lines : List QueueLine) (d : SharedState) (did : ℕ → List Entry)
-    (next : Next ℕ ℕ)
-    → reverse s'.log ≡ lines ++ reverse s.log → s'.limit ≡ s.limit → shared_by s' c ≡ d → Follows DidClose next c c' p t
-    → ((n : ℕ) → freed_entries (is_freed from next.step) n c.kept
-    ++ claim_entries (is_running next.step) n ≡ did n)
-    → IsOutcome from (λ n. outcome_of d n c.kept (did n) next) lines s c s' c' p t
-follows_by from s c f s' c' p t lines d did next log limit is x seen =
-    let same = unclosed c c' next.closes x.0 in
-    record {
-      shared = λ n. rw same is;
-      step = λ n. x.2;
-      kept = λ n. ap (λ y. y.kept) same;
-      told = λ n. rw (x.1, x.2, same, f.ran, f.handed) (told_by next.progress
-          (is_freed from next.step) n c.value c.kept (claim_entries (is_running next.step) n) (did n) (seen n)
-          ∙ ap (λ v. progress_entries next.progress n v c.kept ++ did n) (ap (λ y. y.value) is));
-      log = log;
-      limit = limit;
-      lazy_is = ap (λ y. y.lazy) same;
-    }
+  pub leaving_so : (p : Place ℕ ℕ) → is_leaving (UnderWay p) ≡ leaves (answer i c (call_at p))
+  leaving_so p = grind (arith, common_steps)
 
--- those who are handed out are called, and the call goes on to count out
-pub wakes_by : (from : Step ℕ ℕ) (s : CoreState ℕ) (c : ReplaySide) (f : IsFresh c) (s' : CoreState ℕ)
-    (c' : ReplaySide) (p : Progress) (t : Step ℕ ℕ) (lines : List QueueLine) (out : Out ℕ) (e : Ending)
-    (d : SharedState) (told : ℕ → List Entry)
-    → reverse s'.log ≡ lines ++ reverse s.log → s'.limit ≡ s.limit → DidWake c out c' → p ≡ More → t ≡ UnderWay (AtCountOut e)
-    → shared_by s' c ≡ d → ((n : ℕ) → seen_entries from n (record c { ran = None; handed = Some out }) More (UnderWay (AtCountOut e)) ≡ told n)
-    → IsOutcome from (λ n. outcome_of d n c.kept (told n) (next_at (AtCountOut e))) lines s c s' c' p t
-wakes_by from s c f s' c' p t lines out e d told log limit wake more step is handed = record {
-  shared = λ n. rw wake is;
-  step = λ n. step;
-  kept = λ n. ap (λ x. x.kept) wake;
-  told = λ n. rw (more, step, wake, f.ran) (handed n);
-  log = log;
-  limit = limit;
-  lazy_is = ap (λ x. x.lazy) wake;
-}
+-- the core went from s to s', and the side from c to c', as the machine says of a call that told e, which logs these lines
+pub record IsCall (s : CoreState ℕ) (c : ReplaySide) (e : Told ℕ ℕ) (lines : List QueueLine) (s' : CoreState ℕ) (c' : ReplaySide) : Type 0 where
+  pub shared : shared_by s' c' ≡ left_by e c.kept (shared_by s c)
+  pub kept : c'.kept ≡ keeps e (next_of c) c.kept
+  pub seen : (n : ℕ) → handed_entries (leaves e) c'.handed n c'.kept ++ freed_entries (frees e) n c'.kept ++ ran_entries c'.ran n ++ claim_entries (claims e) n
+      ≡ records e (next_of c) n c.kept (hands e (shared_by s c))
+  pub log : reverse s'.log ≡ lines ++ reverse s.log
+  pub limit : s'.limit ≡ s.limit
+  pub lazy_is : c'.lazy ≡ c.lazy

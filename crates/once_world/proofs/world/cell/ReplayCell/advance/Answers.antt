@@ -3,7 +3,7 @@ use Rattle.std.proofs.Common.{◌≡◌, ℕ, Bool, true, false, refl, sym, ap, 
 use Rattle.std.specs.Prelude.{not, ◌&&◌}
 use Rattle.once_core.specs.Core.{CoreState, state_of}
 use Rattle.once_world.specs.Machine.{Outcome, advance as outcome, step_lines}
-use Rattle.once_world.proofs.Exactness.Outcomes.{shared_by, is_freed}
+use Rattle.once_world.proofs.Exactness.Outcomes.{IsReady, shared_by, is_freed}
 use Rattle.once_world.proofs.Exactness.Exact.{advance_exact}
 use Rattle.once_world.proofs.world.cell.ReplayCell.advance.Goals as goal
 use Rattle.once_world.proofs.world.cell.ReplayCell.advance.Goals.{then-freeing, else-freeing}
@@ -18,9 +18,8 @@ pub returns : goal.returns
 returns c =
     let granted_to : CoreState ℕ → CoreState ℕ = λ s. record s { granted = c.args.granted } in
     let state = c.grant.ensures.state ∙ ap granted_to c.set_waker.ensures.state in
-    let x = advance_exact (λ p. state_of p) _ _ _ _ _ _ _
-    (record { ran = refl; handed = refl }) c.grant.new.self.bare (ap (λ s. s.current) state)
-    (ap (λ s. s.granted) state) c.advance-progress.ensures.line in
+    let ready : IsReady _ _ = record { ran = refl; handed = refl; bare = c.grant.new.self.bare; current = ap (λ s. s.current) state; granted = ap (λ s. s.granted) state } in
+    let x = advance_exact (λ p. state_of p) _ _ _ _ _ _ _ ready c.advance-progress.ensures.line in
     let told_by : CoreState ℕ → ℕ → Outcome = λ s t. outcome c.args.self.now.side.lazy s.limit (shared_by s c.args.self.now.side) t c.args.task.now c.args.answer c.args.granted in
     let freed : c.if-freeing.result ≡ is_freed c.args.task.now.step c.advance-progress.new.self = elim c.if-freeing.branch [
       | then-freeing w ↦ freed_on _ _ _ _ _ w.result-is w.if-freeing.true w.is_adding.ensures c.is_freeing-freeing.ensures
