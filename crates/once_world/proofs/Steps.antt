@@ -1,11 +1,12 @@
 -- One step of the machine at each place, by what it finds there. Each is what `place_step` computes to at its place, so
 -- that a lemma of it is a lemma of that step.
-use Rattle.std.proofs.Common.{◌≡◌, refl}
+use Rattle.std.proofs.Common.{◌≡◌, arith}
+use Rattle.std.proofs.lemmas.Grind.{common_steps}
 use Rattle.std.specs.Prelude.{ℕ, Bool, if◌then◌else◌, [], ◌∷◌, Option, Some, None}
 use Rattle.std.specs.Option.{option_to_list}
 use Rattle.once_queue.specs.declared.word.Sees.{Sees}
 use Rattle.once_queue.specs.declared.waiters.Answer.{Answer as SectionAnswer}
-use Rattle.once_queue.specs.declared.waiters.Answer.TheVariants.{Ready, Claimed, Listed, Held, Memory as NoMemory, Released, Left, Gone}
+use Rattle.once_queue.specs.declared.waiters.Answer.TheVariants.{Left, Gone}
 use Rattle.once_core.specs.Core.{put_answer}
 use Rattle.once_core.specs.Table.{after_start, after_quick, after_door_get, after_door_put, after_count_in, after_load}
 use Rattle.once_core.specs.Table.{after_look, after_list, after_run, after_fast, after_door_again, after_count_out, next_at}
@@ -85,11 +86,4 @@ out_step last c t k e = outcome_of c t k [] (after_count_out last e)
 
 -- what follows a claim does not ask for the ticket
 pub look_same : (a : SectionAnswer ℕ) (w : Option ℕ) (q : ℕ) (k : Option ℕ) → after_look a w q (looked_ticket a k) ≡ after_look a w q k
-look_same Ready w q k = refl
-look_same Claimed w q k = refl
-look_same Listed w q k = refl
-look_same Held w q k = refl
-look_same NoMemory w q k = refl
-look_same Gone w q k = refl
-look_same (Released out) w q k = refl
-look_same (Left o) w q k = refl
+look_same a w q k = grind (arith, common_steps)

@@ -3,9 +3,9 @@ use Rattle.std.proofs.Common.{◌≡◌, ◌<◌, ℕ, true, ◌⊎◌, inl, inr
 use Rattle.std.specs.Prelude.{not}
 use Rattle.once_world.specs.Record.{Entry, Kind}
 use Rattle.once_world.specs.Cell.{cell}
-use Rattle.once_world.specs.Inputs.{Drop, Go, Input, Looks, Make, Owns, Poll}
-use Rattle.once_world.specs.Machine.{AtAddOne, AtCountIn, AtCountOut, AtDoorAgain, AtDoorGet, AtDoorPut, AtDoorTake, AtFast, AtLeave, AtList, AtLook, AtPut}
-use Rattle.once_world.specs.Machine.{AtRelease, AtRun, AtStart, AtTryQuick, AtWaitLoad, Finished, SharedState, Place, Resting, Step, Task, UnderWay, World}
+use Rattle.once_world.specs.Inputs.{Go, Input, Make}
+use Rattle.once_world.specs.Machine.{AtAddOne, AtCountOut}
+use Rattle.once_world.specs.Machine.{AtRelease, Finished, SharedState, Place, Resting, Step, Task, UnderWay, World}
 use Rattle.once_world.specs.Machine.{world_of, step_of}
 use Rattle.once_world.specs.Can.{CanAdvance, CanStep, MayTake, TaskCan}
 use Rattle.once_world.proofs.History.Cells.{holder_unset}
@@ -27,20 +27,7 @@ asked_at : (K : Kind) (limit t : ℕ) (c : SharedState) (h : List Entry) (p : Pl
 asked_at K limit t c h (AtAddOne e) f n a = a.2
 asked_at K limit t c h (AtCountOut e) f n a = n refl
 asked_at K limit t c h (AtRelease q e) f n a = λ _. (f.ready_is ∙ holder_unset t (cell K h) (releasing_holds K t c h e a.0), one_flag c a.1)
-asked_at K limit t c h (AtLeave q k e) f n a = tt
-asked_at K limit t c h (AtLook q k) f n a = tt
-asked_at K limit t c h (AtList q k w) f n a = tt
-asked_at K limit t c h AtStart f n a = tt
-asked_at K limit t c h AtTryQuick f n a = tt
-asked_at K limit t c h AtDoorGet f n a = tt
-asked_at K limit t c h AtDoorPut f n a = tt
-asked_at K limit t c h (AtCountIn q) f n a = tt
-asked_at K limit t c h (AtWaitLoad q k) f n a = tt
-asked_at K limit t c h (AtRun by) f n a = tt
-asked_at K limit t c h (AtPut by) f n a = tt
-asked_at K limit t c h (AtFast e) f n a = tt
-asked_at K limit t c h (AtDoorAgain e) f n a = tt
-asked_at K limit t c h (AtDoorTake e) f n a = tt
+asked_at K limit t c h p f n a = tt
 
 -- what the next step of a task with a call under way asks
 pub asked : (K : Kind) (limit t : ℕ) (w : World) (x : Task) (p : Place ℕ ℕ) → Fits K limit w → w.tasks t ≡ Some x
@@ -65,7 +52,4 @@ asked_task K limit t w None f found = tt
 pub may_take : (kind : Kind) (limit : ℕ) (inputs : List Input) (i : Input) → 0 < limit → MayTake limit (world_of kind limit inputs) i
 may_take kind limit inputs (Go t a g) some = let w = world_of kind limit inputs in asked_task kind limit t w (w.tasks t) (world_fits kind limit inputs some) refl
 may_take kind limit inputs (Make t) some = let w = world_of kind limit inputs in unfinished_within kind limit w (world_fits kind limit inputs some)
-may_take kind limit inputs (Poll t k) some = tt
-may_take kind limit inputs (Drop t) some = tt
-may_take kind limit inputs (Owns o) some = tt
-may_take kind limit inputs Looks some = tt
+may_take kind limit inputs i some = tt

@@ -1,6 +1,6 @@
 -- Each unfinished task has an entry.
 use Rattle.std.proofs.Common.{◌≤◌, ℕ, List, [], ◌∷◌, length, suc, arith}
-use Rattle.once_world.specs.Record.{Entry, Kind, made_in, Begin, Claim, DropBegin, DropEnd, End, Fill, Free, Look, Made, Own, Pass, Ran}
+use Rattle.once_world.specs.Record.{Entry, Kind, made_in, Made}
 use Rattle.once_world.specs.Machine.{World}
 use Rattle.once_world.proofs.Invariant.Fits.{Fits, is_alive}
 use Rattle.once_world.proofs.Listing.Counting.{count_within}
@@ -8,17 +8,7 @@ use Rattle.once_world.proofs.Listing.Counting.{count_within}
 -- an entry makes one task or none
 made_step : (e : Entry) (h : List Entry) → length (made_in (e ∷ h)) ≤ suc (length (made_in h))
 made_step (Made t) h = omega arith
-made_step (Begin t k) h = omega arith
-made_step (Claim t) h = omega arith
-made_step (Ran t a) h = omega arith
-made_step (Free t ks) h = omega arith
-made_step (Fill t v ks) h = omega arith
-made_step (Pass t ks) h = omega arith
-made_step (End t r) h = omega arith
-made_step (DropBegin t) h = omega arith
-made_step (DropEnd t) h = omega arith
-made_step (Look o) h = omega arith
-made_step (Own c g) h = omega arith
+made_step e h = omega arith
 
 -- a history has no fewer entries than tasks that were made
 made_within : (h : List Entry) → length (made_in h) ≤ length h

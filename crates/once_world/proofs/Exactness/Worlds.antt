@@ -1,11 +1,11 @@
 -- The world of a replay after an input is the machine's.
-use Rattle.std.proofs.Common.{◌≡◌, ℕ, Bool, true, false, cond, List, [], ◌∷◌, ◌++◌, Some, None, IsSome, refl, ap, ◌∙◌, sym, subst}
+use Rattle.std.proofs.Common.{◌≡◌, ℕ, Bool, true, false, cond, List, [], ◌∷◌, ◌++◌, Some, IsSome, refl, ap, ◌∙◌, subst, arith}
 use Rattle.std.specs.Ordering.{nat_cmp}
 use Rattle.std.specs.Cmp.{unsigned_tied}
 use Rattle.std.specs.BTreeMap.{BTreeMap, get, WritesThrough}
-use Rattle.std.proofs.lemmas.Bool.{false≢true}
+use Rattle.std.proofs.lemmas.Grind.{common_steps}
 use Rattle.once_world.specs.Record.{Answer, Begin, DropBegin}
-use Rattle.once_world.specs.Places.{Step, Resting, UnderWay, Finished, RestStart, RestWait, RestRun}
+use Rattle.once_world.specs.Places.{Step, Finished}
 use Rattle.once_core.specs.Steps.{is_resting, in_call, step_of_poll, step_of_drop}
 use Rattle.once_world.specs.Machine.{Task, Outcome, World, QueueLine, put_task, poll_world, drop_world, drop_entries, unfinished_after, step_world, advance, step_lines, go_world}
 
@@ -39,19 +39,11 @@ dropped_world w w' t x s found rests is a b n c d =
 
 -- a drop that goes on is recorded as begun only
 pub drop_goes_on : (t : ℕ) (s : Step ℕ ℕ) → in_call s ≡ true → drop_entries t s ≡ DropBegin t ∷ []
-drop_goes_on t (UnderWay p) e = refl
-drop_goes_on t (Resting r) e = absurd (false≢true e)
-drop_goes_on t Finished e = absurd (false≢true e)
+drop_goes_on t s e = grind (arith, common_steps)
 
 -- a drop without a step ends there
 pub drop_ends : (s : Step ℕ ℕ) → is_resting s ≡ true → in_call (step_of_drop s) ≡ false → step_of_drop s ≡ Finished
-drop_ends (Resting RestStart) rests e = refl
-drop_ends (Resting (RestWait q None)) rests e = absurd (false≢true (sym e))
-drop_ends (Resting (RestWait q (Some n))) rests e = absurd (false≢true (sym e))
-drop_ends (Resting (RestRun None)) rests e = absurd (false≢true (sym e))
-drop_ends (Resting (RestRun (Some q))) rests e = absurd (false≢true (sym e))
-drop_ends (UnderWay p) rests e = absurd (false≢true rests)
-drop_ends Finished rests e = absurd (false≢true rests)
+drop_ends s rests e = grind (arith, common_steps)
 
 same_task : (x y : Task) (s : Step ℕ ℕ) (k : Answer) → y.waker ≡ x.waker → y.step ≡ s → y.kept ≡ k → y ≡ record x { step = s; kept = k }
 same_task x y s k a b c = λ i. record { waker = a i; kept = c i; step = b i }

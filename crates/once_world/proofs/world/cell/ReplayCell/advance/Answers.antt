@@ -1,29 +1,30 @@
 -- One step of a task is one step of the machine.
-use Rattle.std.proofs.Common.{◌≡◌, ℕ, Bool, true, false, refl, sym, ap, ◌∙◌, ◌++◌, reverse}
-use Rattle.std.specs.Prelude.{not, ◌&&◌}
+use Rattle.std.proofs.Common.{◌≡◌, ℕ, refl, ap, ◌∙◌, ◌++◌, arith, reverse}
+use Rattle.std.proofs.lemmas.Grind.{common_steps}
 use Rattle.once_core.specs.Core.{CoreState, state_of}
 use Rattle.once_world.specs.Machine.{Outcome, advance as outcome, step_lines}
-use Rattle.once_world.proofs.Exactness.Outcomes.{IsReady, shared_by, is_freed}
+use Rattle.once_world.proofs.Exactness.Outcomes.{IsSetUp, shared_by, is_freed}
 use Rattle.once_world.proofs.Exactness.Exact.{advance_exact}
 use Rattle.once_world.proofs.world.cell.ReplayCell.advance.Goals as goal
 use Rattle.once_world.proofs.world.cell.ReplayCell.advance.Goals.{then-freeing, else-freeing}
-
-freed_on : (f b a x y : Bool) → f ≡ not a → b ≡ true → a ≡ x → b ≡ y → f ≡ y && not x
-freed_on f b a x y e on is was = rw (e, is, sym was ∙ on) refl
-
-freed_off : (f b x y : Bool) → f ≡ b → b ≡ false → b ≡ y → f ≡ y && not x
-freed_off f b x y e off was = rw (e, off, sym was ∙ off) refl
 
 pub returns : goal.returns
 returns c =
     let granted_to : CoreState ℕ → CoreState ℕ = λ s. record s { granted = c.args.granted } in
     let state = c.grant.ensures.state ∙ ap granted_to c.set_waker.ensures.state in
-    let ready : IsReady _ _ = record { ran = refl; handed = refl; bare = c.grant.new.self.bare; current = ap (λ s. s.current) state; granted = ap (λ s. s.granted) state } in
-    let x = advance_exact (λ p. state_of p) _ _ _ _ _ _ _ ready c.advance-progress.ensures.line in
+    let set_up : IsSetUp _ _ = record {
+      bare = c.grant.new.self.bare;
+      current = ap (λ s. s.current) state;
+      granted = ap (λ s. s.granted) state;
+      ran = refl;
+      handed = refl;
+    } in
+    let x = advance_exact (λ p. state_of p) _ _ _ _ _ _ _ set_up c.advance-progress.ensures.line in
     let told_by : CoreState ℕ → ℕ → Outcome = λ s t. outcome c.args.self.now.side.lazy s.limit (shared_by s c.args.self.now.side) t c.args.task.now c.args.answer c.args.granted in
+    let was = c.is_freeing-freeing.ensures in
     let freed : c.if-freeing.result ≡ is_freed c.args.task.now.step c.advance-progress.new.self = elim c.if-freeing.branch [
-      | then-freeing w ↦ freed_on _ _ _ _ _ w.result-is w.if-freeing.true w.is_adding.ensures c.is_freeing-freeing.ensures
-      | else-freeing w ↦ freed_off _ _ _ _ w.result-is w.if-freeing.false c.is_freeing-freeing.ensures
+      | then-freeing w ↦ let on = w.if-freeing.true in let adds = w.is_adding.ensures in let is = w.result-is in grind (arith, common_steps, was, on, adds, is)
+      | else-freeing w ↦ let off = w.if-freeing.false in let is = w.result-is in grind (arith, common_steps, was, off, is)
     ] in
     record {
       shared = λ t. x.shared t ∙ ap (λ s. (told_by s t).shared) state;
