@@ -1,6 +1,5 @@
 -- What lies under the lock fits its pages after each section, and the section's answer is that of the page.
 use Rattle.std.proofs.Common.{◌≡◌, ◌⊎◌, ℕ, Bool, true, false, cond, List, ◌++◌, append_assoc, Option, Some, None, refl, sym, ap, ◌∙◌, subst}
-use Rattle.std.specs.Prelude.{IsSomeAnd}
 use Rattle.std.specs.Option.{is_some, option_flatten, option_map, option_to_list}
 use mathlib.Core.List.{IsPrefix}
 use Rattle.once_queue.specs.Numbers.{is_distinct}
@@ -29,6 +28,8 @@ use Rattle.once_parts.proofs.Moments.Releases.{left_out, left_shown, released_li
 use Rattle.once_parts.specs.Desk.{Desked, IsShown}
 use Rattle.once_parts.specs.Own.{Did, Own, Stayed, told}
 use Rattle.once_parts.specs.Places.{CanList, list_next, look_next}
+use Rattle.once_parts.specs.Handed.{CanSection}
+use Rattle.once_queue.specs.declared.waiters.Op.TheVariants.{List as ListOwn}
 use Rattle.once_parts.specs.Sections.{HandsEach, IsOwnListing, desk_left, desk_listed, desk_looked, desk_released, listed, looked, passing, waker_at}
 
 -- a beginning of a beginning
@@ -63,9 +64,9 @@ waker_is k v (UnderWay (AtList q m w)) can = can.1
 waker_is k v _ can = absurd can
 
 -- the waker that is there
-pub some_waker : {W : Type 0} (P : W → Type 0) (o : Option W) → IsSomeAnd o P → (w : W) × (o ≡ Some w) × P w
-some_waker P (Some w) p = (w, refl, p)
-some_waker P None p = absurd p
+pub some_waker : {W : Type 0} (whose : W → ℕ) (k : Option ℕ) (o : Option W) (s : Step ℕ ℕ) → CanSection whose (ListOwn k o) s → (w : W) × (o ≡ Some w) × CanList k (whose w) s
+some_waker whose k (Some w) s can = (w, refl, can)
+some_waker whose k None s can = absurd can
 
 -- a look that was told of the page, in the code's words
 pub look_did : (a b : Answer ℕ) (k k' : Option ℕ) (x y z : Own) → Stayed x y → Did y (claim_entries (is_claim a) y.number) (look_next a k y.task.waker y.task.step) z

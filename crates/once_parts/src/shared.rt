@@ -2,13 +2,13 @@
 ghost use Rattle.std.specs.Prelude.{◌≡◌, ◌≢◌, ◌^◌, if◌then◌else◌, ℕ, Bool, false, true, List, []};
 ghost use mathlib.Core.List.{IsPrefix};
 ghost use Rattle.once_queue.specs.Room.{listings_of};
-ghost use Rattle.once_core.specs.Table.{DoorGet, DoorTake, Got, Taken, next_at};
+ghost use Rattle.once_core.specs.Table.{DoorGet, DoorTake, Got, Section, Taken, Was, next_at};
 ghost use Rattle.once_world.specs.Machine.{AtCountIn, AtDoorPut, UnderWay};
 ghost use Rattle.once_parts.specs.Named.{HasRenewed, KeepsOwner};
 ghost use Rattle.once_parts.specs.Own.{Did, IsWord};
 ghost use Rattle.once_parts.specs.Page.{Went, call_in};
 ghost use Rattle.once_parts.specs.Places.{CanRest, numbered};
-ghost use Rattle.once_parts.specs.Handed.{CanSection, DidSection};
+ghost use Rattle.once_parts.specs.Parts.{CanCall, DidCall};
 ghost use Rattle.once_parts.specs.Hands.{own_of};
 ghost use Rattle.once_parts.specs.Record.{IsSet};
 
@@ -419,9 +419,9 @@ fn entered<J: Key, T, W: TaskWaker + Drop, R: Wait>(
 ) -> (Answer<W>, Option<W>)
     requires key { inner.now.desk ≡ J.key }
     requires book { hand.old.seen.book ≡ J.key }
-    requires can { CanSection W.whose op.old (own_of hand.old).task.step }
+    requires can { CanCall W.whose (own_of hand.old).task.step (Section tt op.old) }
     ensures book { hand.new.seen.book ≡ hand.old.seen.book }
-    ensures did { DidSection W.whose op.old result.0 op.new (own_of hand.old) (own_of hand.new) }
+    ensures did { DidCall W.whose (own_of hand.old) (Was tt op.old result.0 op.new) (own_of hand.new) }
 {
     let mut tied = inner.desk.lock::<J, R>(rt);
     match op {

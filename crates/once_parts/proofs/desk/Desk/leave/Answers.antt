@@ -33,15 +33,7 @@ returns-clause-did g c =
     let p = passing c.see-found.result c.args.ticket d in
     let on = did_after (λ t u. pass_entries t (option_to_list (next_waker p c.args.ticket d.listings))) (λ (u : TaskState). leave_next u.step)
     (own_of c.args.hand.now) (own_of c.note.new.hand) (own_of c.see-found.new.hand)
-    c.note.ensures.told.1 c.see-found.ensures.told.1 in
-    subst (λ ts. Did (own_of c.args.hand.now) (pass_entries (own_of c.args.hand.now).number ts) (leave_next (own_of c.args.hand.now).task.step) (own_of c.see-found.new.hand)) (sym s.1) on
-
-pub returns-clause-passed : goal.returns-clause-passed
-returns-clause-passed g c =
-    let whose = g.W.TaskWaker.whose in
-    let d : Desked = desked c.note.new.desk.held in
-    let before : IsDesked whose c.self.inside.lists d = subst (IsDesked whose c.self.inside.lists) (sym c.note.ensures.told.0) c.self.invariant.1 in
-    let all : IsShown whose c.in-Some.queue.value d = subst (λ o. IsDesked whose o d) c.in-Some.is before in
-    let fits : IsShown whose c.deref_mut-lists.result.now d = subst (λ l. IsShown whose l d) (sym c.deref_mut-lists.ensures.value) all in
-    let s = leave_fits whose c.deref_mut-lists.result.now d fits c.see-found.result c.args.ticket c.leave_own.new.self c.leave_own.result.0 c.leave_own.ensures.waker c.leave_own.ensures.listings c.leave_own.ensures.head in
-    c.see-found.ensures.told.2 ∙ ap hands_out (sym s.1)
+    c.note.ensures.told.1 c.see-found.ensures.told.1 in (
+      subst (λ ts. Did (own_of c.args.hand.now) (pass_entries (own_of c.args.hand.now).number ts) (leave_next (own_of c.args.hand.now).task.step) (own_of c.see-found.new.hand)) (sym s.1) on,
+      c.see-found.ensures.told.2 ∙ ap hands_out (sym s.1),
+    )
