@@ -40,15 +40,15 @@ impl<W: TaskWaker> Keyed for Desk<W> {
 }
 
 impl<W: TaskWaker + Drop> Desk<W> {
-    ghost use Rattle.once_core.specs.Table.{DoorGet, DoorTake, Got, Section as SectionCall, Taken, Was, next_at};
+    ghost use Rattle.once_core.specs.Table.{DoorGet, DoorPut, DoorTake, Section as SectionCall};
+    ghost use Rattle.once_core.specs.Table.{Got, PutQueue, Taken, Was};
     ghost use Rattle.once_queue.specs.declared.waiters.Answer.{Answer};
     ghost use Rattle.once_queue.specs.declared.waiters.Op.{Op};
     ghost use Rattle.once_parts.specs.Page.{Went, call_in};
     ghost use Rattle.once_parts.specs.Parts.{CanCall, DidCall};
-    ghost use Rattle.once_world.specs.Machine.{AtCountIn, AtDoorPut, UnderWay};
     ghost use Rattle.once_parts.specs.Named.{HasRenewed, KeepsOwner};
     ghost use Rattle.once_parts.specs.Desk.{desk_sheets, first_desk};
-    ghost use Rattle.once_parts.specs.Own.{Did, IsWord};
+    ghost use Rattle.once_parts.specs.Own.{IsWord};
     ghost use Rattle.once_parts.specs.Places.{CanRest, numbered};
     ghost use Rattle.once_parts.specs.Hands.{own_of};
 
@@ -91,10 +91,10 @@ impl<W: TaskWaker + Drop> Desk<W> {
         requires word { IsWord has_put.now hand.old.seen.book 1 }
         requires book { self.old ≡ hand.old.seen.book }
         requires queue { (queue.value.head ≡ false) × (listings_of queue.value ≡ []) }
-        requires can { (own_of hand.old).task.step ≡ UnderWay AtDoorPut }
+        requires can { call_in (own_of hand.old).task.step ≡ DoorPut }
         ensures desk { self.new ≡ self.old }
         ensures book { hand.new.seen.book ≡ hand.old.seen.book }
-        ensures did { (q : ℕ) × Did (own_of hand.old) [] (next_at (AtCountIn q)) (own_of hand.new) }
+        ensures did { (q : ℕ) × Went (own_of hand.old) (PutQueue (Some q)) [] (own_of hand.new) }
     {
         if self.lists.is_some() {
             note(&mut self.pens, hand, &Section::Found);
@@ -140,7 +140,7 @@ impl<W: TaskWaker + Drop> Desk<W> {
             unreachable!()
         };
         let lists = &mut **queue;
-        let found = see(word, &mut self.pens, hand, &Section::Look(*ticket));
+        let found = see(word, &mut self.pens, hand, true);
         lists.look_own(ticket, found)
     }
 
@@ -168,7 +168,7 @@ impl<W: TaskWaker + Drop> Desk<W> {
         };
         let lists = &mut **queue;
         let room = has_room(lists, *ticket);
-        let found = see(word, &mut self.pens, hand, &Section::List(*ticket, room));
+        let found = see(word, &mut self.pens, hand, room);
         if room {
             return lists.list_own(ticket, waker, found);
         }
@@ -239,7 +239,7 @@ impl<W: TaskWaker + Drop> Desk<W> {
             unreachable!()
         };
         let lists = &mut **queue;
-        let found = see(word, &mut self.pens, hand, &Section::Leave(ticket));
+        let found = see(word, &mut self.pens, hand, true);
         lists.leave_own(ticket, found)
     }
 }

@@ -1,11 +1,10 @@
 //! What the tasks of a cell share, as one task uses it.
-ghost use Rattle.std.specs.Prelude.{◌≡◌, ◌≢◌, ◌^◌, if◌then◌else◌, ℕ, Bool, false, true, List, []};
+ghost use Rattle.std.specs.Prelude.{◌≡◌, ◌≢◌, ◌^◌, if◌then◌else◌, ℕ, Bool, false, true, List, [], Some};
 ghost use mathlib.Core.List.{IsPrefix};
 ghost use Rattle.once_queue.specs.Room.{listings_of};
-ghost use Rattle.once_core.specs.Table.{DoorGet, DoorTake, Got, Section, Taken, Was, next_at};
-ghost use Rattle.once_world.specs.Machine.{AtCountIn, AtDoorPut, UnderWay};
+ghost use Rattle.once_core.specs.Table.{DoorGet, DoorPut, DoorTake, Got, PutQueue, Section, Taken, Was};
 ghost use Rattle.once_parts.specs.Named.{HasRenewed, KeepsOwner};
-ghost use Rattle.once_parts.specs.Own.{Did, IsWord};
+ghost use Rattle.once_parts.specs.Own.{IsWord};
 ghost use Rattle.once_parts.specs.Page.{Went, call_in};
 ghost use Rattle.once_parts.specs.Places.{CanRest, numbered};
 ghost use Rattle.once_parts.specs.Parts.{CanCall, DidCall};
@@ -361,9 +360,9 @@ fn put<J: Key, T, W: TaskWaker + Drop, R: Wait>(
     requires key { inner.now.desk ≡ J.key }
     requires book { hand.old.seen.book ≡ J.key }
     requires queue { (queue.value.head ≡ false) × (listings_of queue.value ≡ []) }
-    requires can { (own_of hand.old).task.step ≡ UnderWay AtDoorPut }
+    requires can { call_in (own_of hand.old).task.step ≡ DoorPut }
     ensures book { hand.new.seen.book ≡ hand.old.seen.book }
-    ensures did { (q : ℕ) × Did (own_of hand.old) [] (next_at (AtCountIn q)) (own_of hand.new) }
+    ensures did { (q : ℕ) × Went (own_of hand.old) (PutQueue (Some q)) [] (own_of hand.new) }
 {
     inner
         .desk

@@ -3,8 +3,7 @@ use Rattle.std.proofs.Common.{◌≡◌, ℕ, rules, [], ◌∙◌, subst}
 use Rattle.once_core.specs.Table.{counted}
 use Rattle.once_parts.specs.Kept.{entries_of}
 use Rattle.once_parts.specs.Own.{Own, Stayed}
-use Rattle.once_parts.specs.Page.{next_of}
-use Rattle.once_parts.proofs.Desks.{did_after, prefix_on}
+use Rattle.once_parts.proofs.Desks.{prefix_on, went_after}
 use Rattle.once_parts.proofs.shared.SharedParts.count_in.Goals as goal
 
 -- who stood still twice
@@ -28,4 +27,4 @@ loop-preserved g c =
 
 pub returns-in-Some-try_count_in : goal.returns-in-Some-try_count_in
 returns-in-Some-try_count_in g c =
-    (search rules, did_after (λ _ _. []) (λ task. next_of task.step task.waker (counted c.in-Some-try_count_in.counted)) _ _ _ c.loop.invariant.3 c.in-Some-try_count_in.ensures.did)
+    (search rules, went_after (counted c.in-Some-try_count_in.counted) [] _ _ _ c.loop.invariant.3 c.in-Some-try_count_in.ensures.did)
