@@ -1,5 +1,5 @@
 -- Each moment of a task alone keeps the rule of the book, and tells what it is to tell.
-use Rattle.std.proofs.Common.{◌≡◌, ◌<◌, ◌+◌, ◌==◌, ℕ, Bool, true, false, cond, List, [], ◌∷◌, Some, refl, sym, subst, arith}
+use Rattle.std.proofs.Common.{◌≡◌, ◌<◌, ◌+◌, ◌==◌, ℕ, Bool, true, false, cond, List, [], ◌∷◌, None, Some, refl, sym, subst, arith}
 use Rattle.std.specs.Prelude.{nat_lt}
 use Rattle.std.proofs.lemmas.Bool.Decides.{nat_tests}
 use prog.Atomic.{either}
@@ -8,11 +8,11 @@ use Rattle.once_queue.specs.Word.{flags_of}
 use Rattle.once_core.specs.declared.step.Polled.{Polled}
 use Rattle.once_core.specs.declared.step.Polled.TheVariants.{Pending, Value, Error}
 use Rattle.once_core.specs.Steps.{is_resting, step_of_drop}
-use Rattle.once_core.specs.Table.{CountIn, CountedIn, DoorTake, Ran as PolledInit, Run, Taken}
+use Rattle.once_core.specs.Table.{CountIn, CountedIn, DoorPut, DoorTake, PutQueue, Ran as PolledInit, Refused as RefusedCopy, Run, Taken}
 use Rattle.once_core.specs.Table.{Call, Load, Quick, Fast, AddOne, CountOut, Told, after, after_count_in, after_run, call_at, closing_end, next_end}
 use Rattle.once_world.specs.Record.{Begin, Entry, Ran}
 use Rattle.once_world.specs.declared.record.Ran.TheVariants.{Pending as RanPending, Value as RanValue, Error as RanError}
-use Rattle.once_world.specs.Book.{TaskState, refused_step}
+use Rattle.once_world.specs.Book.{TaskState}
 use Rattle.once_world.specs.Machine.{AtCountIn, AtDoorPut, AtDoorTake, AtList, AtRun, EndMemory, Ending, Place, Step, UnderWay, keeps, kept_after, records}
 use Rattle.once_world.specs.Words.{IsFound, IsWordCall, found, word_after}
 use Rattle.once_parts.specs.Kept.{Adds, Grew, IsKept, Leaves, Sheet, hand, most, sheets}
@@ -21,7 +21,7 @@ use Rattle.once_parts.proofs.Moments.Moves.Calls.{begun_notes, copy_notes, dropp
 use Rattle.once_parts.specs.declared.act.Act.TheVariants.{Full, Enter, NonePut, Begin as BeginPoll, BeginDrop, Ran as InitRan, Refused, Unput}
 use Rattle.once_parts.specs.Own.{IsHand, Turned, number_in, own_in, task_in, told}
 use Rattle.once_parts.specs.Page.{Went, WordTells, call_in, given_in, next_of}
-use Rattle.once_parts.specs.Acts.{Goes, Makes, Stays, Tells, Turns}
+use Rattle.once_parts.specs.Acts.{Goes, Makes, Stays, Tells}
 use Rattle.once_parts.specs.Places.{CanRefuse}
 use Rattle.once_parts.proofs.Moments.Mine.{drop_of, one_of, told_of}
 use Rattle.once_queue.proofs.Listing.Members.{eqb_self}
@@ -37,6 +37,10 @@ module _ (seen : List Entry) (t : ℕ) (x : TaskState) where
   WentAt s e w =
       Turned (own_in own) (record x { step = (next_of s x.waker e).step; kept = keeps e (given_in e) x.kept })
       (told t (keeps e (given_in e) x.kept) (next_of s x.waker e) (records e (given_in e) t x.kept [])) (own_in w)
+
+  -- and the hand is t's still
+  abbrev GoesAt : Step ℕ ℕ → Told ℕ ℕ → View Entry Sheet → Type 0
+  GoesAt s e w = IsHand w.0 w.1 × WentAt s e w
 
   -- what is found is no answer of an init
   found_quiet : (c : Call ℕ ℕ) (n : ℕ) (p : Place ℕ ℕ) (w : View Entry Sheet) → IsWordCall c
@@ -62,13 +66,13 @@ module _ (seen : List Entry) (t : ℕ) (x : TaskState) where
 
   -- a load before an exchange, by whether there is room, and whether the value is set
   full_tells : (q n : ℕ) (b r : Bool) (w : View Entry Sheet) → (flags_of n).ready ≡ r → Leaves seen (hand t x) (full_page seen t x q n b) (full_told seen t x q n b) w
-      → cond b (Stays own w) (Goes own [] (next_of (UnderWay (AtCountIn q)) x.waker (CountedIn false r)) w)
+      → cond b (Stays own w) (GoesAt (UnderWay (AtCountIn q)) (CountedIn false r) w)
   full_tells q n true r w e l = leaves_stays seen t x w l
-  full_tells q n false r w e l = subst (λ b. Goes own [] (after_count_in false b q) w) e (leaves_turns seen t x _ _ w (told_of t x.kept (after_count_in false (flags_of n).ready q) [] tt) l)
+  full_tells q n false r w e l = subst (λ b. GoesAt (UnderWay (AtCountIn q)) (CountedIn false b) w) e (leaves_turns seen t x _ _ w (told_of t x.kept (after_count_in false (flags_of n).ready q) [] tt) l)
 
   -- that load
   full_by : (s : Step ℕ ℕ) → x.step ≡ s → call_in s ≡ CountIn
-      → Moves IsKept own 0 (λ n. n) (λ n w. cond (nat_lt (flags_of n).count most) (Stays own w) (Goes own [] (next_of s x.waker (CountedIn false (flags_of n).ready)) w))
+      → Moves IsKept own 0 (λ n. n) (λ n w. cond (nat_lt (flags_of n).count most) (Stays own w) (GoesAt s (CountedIn false (flags_of n).ready) w))
   full_by (UnderWay (AtCountIn q)) at can = moves_tell IsKept own 0 (λ n. n) _ _ (λ n w r. full_tells q n (nat_lt (flags_of n).count most) (flags_of n).ready w refl r.1) (full_moves seen t x q at)
   full_by _ at can = let no : ⊥ = cc in absurd no
 
@@ -79,7 +83,7 @@ module _ (seen : List Entry) (t : ℕ) (x : TaskState) where
 
   -- an exchange, by whether it was done
   enter_tells : (q m : ℕ) (b : Bool) (w : View Entry Sheet) → Leaves seen (hand t x) (in_page seen t x q m b) [] w
-      → cond b (Goes own [] (next_of (UnderWay (AtCountIn q)) x.waker (CountedIn true (flags_of m).ready)) w) (Stays own w)
+      → cond b (GoesAt (UnderWay (AtCountIn q)) (CountedIn true (flags_of m).ready) w) (Stays own w)
   enter_tells q m true w l =
       let none = sym (in_told (flags_of m).ready q) in
       leaves_turns seen t x _ _ w (told_of t x.kept (after_count_in true (flags_of m).ready q) [] tt)
@@ -88,33 +92,38 @@ module _ (seen : List Entry) (t : ℕ) (x : TaskState) where
 
   -- that exchange
   enter_by : (m : ℕ) (s : Step ℕ ℕ) → x.step ≡ s → call_in s ≡ CountIn → (flags_of m).count < most
-      → Moves IsKept own 0 (λ n. either (n == m) (m + 1) n) (λ n w. cond (n == m) (Goes own [] (next_of s x.waker (CountedIn true (flags_of m).ready)) w) (Stays own w))
+      → Moves IsKept own 0 (λ n. either (n == m) (m + 1) n) (λ n w. cond (n == m) (GoesAt s (CountedIn true (flags_of m).ready) w) (Stays own w))
   enter_by m (UnderWay (AtCountIn q)) at can l = moves_tell IsKept own 0 (λ n. either (n == m) (m + 1) n) _ _ (λ n w r. enter_tells q m (n == m) w r.1) (in_moves seen t x q m at l)
   enter_by m _ at can l = let no : ⊥ = cc in absurd no
 
   -- the load of the word that says whether a queue was ever put
   none_tells : (e : Ending) (b : Bool) (w : View Entry Sheet) → Leaves seen (hand t x) (none_page seen t x e b) (none_told seen t x e b) w
-      → cond b (Goes own [] (next_of (UnderWay (AtDoorTake e)) x.waker (Taken false)) w) (Stays own w)
+      → cond b (GoesAt (UnderWay (AtDoorTake e)) (Taken false) w) (Stays own w)
   none_tells e true w l = leaves_turns seen t x _ _ w (told_of t x.kept (next_end e) [] tt) l
   none_tells e false w l = leaves_stays seen t x w l
 
   -- by the place
-  none_by : (s : Step ℕ ℕ) → x.step ≡ s → call_in s ≡ DoorTake → Moves IsKept own 1 (λ n. n) (λ n w. cond (n == 0) (Goes own [] (next_of s x.waker (Taken false)) w) (Stays own w))
+  none_by : (s : Step ℕ ℕ) → x.step ≡ s → call_in s ≡ DoorTake → Moves IsKept own 1 (λ n. n) (λ n w. cond (n == 0) (GoesAt s (Taken false) w) (Stays own w))
   none_by (UnderWay (AtDoorTake e)) at can = moves_tell IsKept own 1 (λ n. n) _ _ (λ n w r. none_tells e (n == 0) w r) (none_moves seen t x e at)
   none_by _ at can = let no : ⊥ = cc in absurd no
 
   -- the init answers
   ran_by : (a : Polled) (s : Step ℕ ℕ) → x.step ≡ s → call_in s ≡ Run
-      → Notes IsKept own (λ w. IsHand w.0 w.1 × WentAt s (PolledInit a) w)
+      → Notes IsKept own (λ w. GoesAt s (PolledInit a) w)
   ran_by Pending (UnderWay (AtRun by)) at can = notes_tell IsKept own _ _ (λ w r. leaves_turns seen t x _ _ w (told_of t (kept_after RanPending x.kept) (after_run Pending by) (Ran t RanPending ∷ []) (one_of t (Ran t RanPending) (eqb_self t))) r.1) (ran_notes seen t x by RanPending tt at)
   ran_by Value (UnderWay (AtRun by)) at can = notes_tell IsKept own _ _ (λ w r. leaves_turns seen t x _ _ w (told_of t (kept_after (RanValue 0) x.kept) (after_run Value by) (Ran t (RanValue 0) ∷ []) (one_of t (Ran t (RanValue 0)) (eqb_self t))) r.1) (ran_notes seen t x by (RanValue 0) refl at)
   ran_by Error (UnderWay (AtRun by)) at can = notes_tell IsKept own _ _ (λ w r. leaves_turns seen t x _ _ w (told_of t (kept_after (RanError 0) x.kept) (after_run Error by) (Ran t (RanError 0) ∷ []) (one_of t (Ran t (RanError 0)) (eqb_self t))) r.1) (ran_notes seen t x by (RanError 0) tt at)
   ran_by a _ at can = let no : ⊥ = cc in absurd no
 
   -- the copy is refused
-  refused_by : (s : Step ℕ ℕ) → x.step ≡ s → CanRefuse s → Notes IsKept own (λ w. Turns own (record x { step = refused_step s }) [] w)
+  refused_by : (s : Step ℕ ℕ) → x.step ≡ s → CanRefuse s → Notes IsKept own (λ w. GoesAt s RefusedCopy w)
   refused_by (UnderWay (AtList q k v)) at can = notes_tell IsKept own _ _ (λ w r. leaves_turns seen t x _ _ w tt r.1) (copy_notes seen t x q v k at)
   refused_by _ at can = absurd can
+
+  -- memory for a queue is refused
+  unput_by : (s : Step ℕ ℕ) → x.step ≡ s → call_in s ≡ DoorPut → Notes IsKept own (λ w. GoesAt s (PutQueue None) w)
+  unput_by (UnderWay AtDoorPut) at can = notes_tell IsKept own _ _ (λ w r. leaves_turns seen t x _ _ w (told_of t x.kept (closing_end EndMemory) [] tt) r.1) (unput_notes seen t x at)
+  unput_by _ at can = let no : ⊥ = cc in absurd no
 
 -- what is shown for a task's hand holds of each hand that is one
 module _ (seen : List Entry) (h : Held Sheet) (is : IsHand seen h) where
@@ -155,10 +164,8 @@ module _ (seen : List Entry) (h : Held Sheet) (is : IsHand seen h) where
   pub refused_keeps : CanRefuse (task_in h).step → Notes IsKept (seen, h) (Tells Refused (seen, h) 0)
   refused_keeps can = of_noting (λ v. Tells Refused v 0) (refused_by seen (number_in h) (task_in h) (task_in h).step refl can)
 
-  -- where memory for a queue is refused
-  pub unput_keeps : (task_in h).step ≡ UnderWay AtDoorPut → Notes IsKept (seen, h) (Tells Unput (seen, h) 0)
-  unput_keeps at = of_noting (λ v. Tells Unput v 0)
-      (notes_tell IsKept _ _ _ (λ w l. leaves_turns seen (number_in h) (task_in h) _ _ w (told_of (number_in h) (task_in h).kept (closing_end EndMemory) [] tt) l.1) (unput_notes seen (number_in h) (task_in h) at))
+  pub unput_keeps : call_in (task_in h).step ≡ DoorPut → Notes IsKept (seen, h) (Tells Unput (seen, h) 0)
+  unput_keeps can = of_noting (λ v. Tells Unput v 0) (unput_by seen (number_in h) (task_in h) (task_in h).step refl can)
 
 -- a task is made
 pub make_keeps : (seen : List Entry) → Notes IsKept (seen, []) (Makes (seen, []))
@@ -168,7 +175,7 @@ make_keeps seen = made_notes seen
 pub room_stays : (n : ℕ) (v w : View Entry Sheet) → (flags_of n).count < most → Tells Full v n w → Stays v w
 room_stays n v w l told =
     let room : nat_lt (flags_of n).count most ≡ true = grind (arith, nat_tests, l) in
-    subst (λ b. cond b (Stays v w) (Goes v [] (next_of (task_in v.1).step (task_in v.1).waker (CountedIn false (flags_of n).ready)) w)) room told
+    subst (λ b. cond b (Stays v w) (Goes v (CountedIn false (flags_of n).ready) w)) room told
 
 -- and is told this
 pub word_told : (v w : View Entry Sheet) (c : Call ℕ ℕ) (n : ℕ) → call_in (task_in v.1).step ≡ c → WordTells v n w → Went (own_in v) (found c n) [] (own_in w)

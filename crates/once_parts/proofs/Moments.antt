@@ -1,6 +1,5 @@
 -- What the list of those who wait shows on the queue's page, and one move of the book for each moment.
 pub mod Steps
-pub mod Places
 pub mod Named
 pub mod Looks
 pub mod Lists

@@ -23,8 +23,8 @@ use Rattle.once_parts.proofs.Moments.Moves.Words.{some}
 use Rattle.once_parts.proofs.Moments.Moves.Calls.{looked_moves}
 use Rattle.once_parts.proofs.Moments.Moves.Slots.{put_value_moves, state_at, write_moves, writing_hand, written_state}
 use Rattle.once_parts.specs.Desk.{desk_pages, first_desk}
-use Rattle.once_parts.specs.Own.{IsHand, number_in, task_in}
-use Rattle.once_parts.specs.Acts.{Goes, Puts, Writes}
+use Rattle.once_parts.specs.Own.{IsHand, number_in, task_in, told}
+use Rattle.once_parts.specs.Acts.{Puts, Turns, Writes}
 use Rattle.once_parts.specs.Page.{call_in, next_of}
 use Rattle.once_parts.specs.Record.{EndsSet, Looks}
 use Rattle.once_parts.proofs.Tells.{leaves_turns, moves_tell}
@@ -60,7 +60,8 @@ module _ (seen : List Entry) (t : ℕ) (x : TaskState) where
   write_by _ at can = let no : ⊥ = cc in absurd no
 
   -- and has written it
-  put_by : (s : Step ℕ ℕ) → x.step ≡ s → call_in s ≡ Put → Moves IsKept (seen, writing_hand seen t x) 2 (λ _. 2) (λ n w. Goes (seen, writing_hand seen t x) [] (next_of s x.waker PutValue) w)
+  put_by : (s : Step ℕ ℕ) → x.step ≡ s → call_in s ≡ Put → Moves IsKept (seen, writing_hand seen t x) 2 (λ _. 2)
+      (λ n w. Turns (seen, writing_hand seen t x) (record x { step = (next_of s x.waker PutValue).step }) (told t x.kept (next_of s x.waker PutValue) []) w)
   put_by (UnderWay (AtPut by)) at can = moves_tell IsKept _ 2 (λ _. 2) _ _ (λ n w r. leaves_turns seen t x _ _ w (told_of t x.kept (next_at (release_place by EndValue)) [] tt) r) (put_value_moves seen t x by at)
   put_by _ at can = let no : ⊥ = cc in absurd no
 

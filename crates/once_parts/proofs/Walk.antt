@@ -1,5 +1,6 @@
 -- A whole call: each of its steps is a line of the table, and what they make of the record together.
 pub mod Logs
+pub mod Alike
 pub mod Fits
 pub mod Parts
 pub mod Lines

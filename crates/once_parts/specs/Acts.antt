@@ -3,26 +3,25 @@ use Rattle.std.specs.Prelude.{◌≡◌, ℕ, suc, ◌==◌, true, false, cond, 
 use Rattle.pagebook.specs.Pages.{View}
 use Rattle.once_queue.specs.Word.{flags_of}
 use Rattle.once_core.specs.Steps.{step_of_drop}
-use Rattle.once_core.specs.Table.{Next, CountedIn, PutValue, Ran, Taken, after_door_put}
+use Rattle.once_core.specs.Table.{Told, CountedIn, PutQueue, PutValue, Ran, Refused as RefusedCopy, Taken}
 use Rattle.once_world.specs.Record.{Begin, Entry, Made}
-use Rattle.once_world.specs.Book.{TaskState, refused_step}
+use Rattle.once_world.specs.Book.{TaskState}
 use Rattle.once_world.specs.Machine.{drop_entries, fresh_task}
-use Rattle.once_parts.specs.Page.{Went, next_of}
+use Rattle.once_parts.specs.Page.{Went}
 use Rattle.once_parts.specs.Places.{task_begun, task_dropping}
 use Rattle.once_parts.specs.Kept.{Grew, Sheet, entries_of, hand, most, sheets, writing_sheet}
 use Rattle.once_parts.specs.declared.act.Act.{Act}
 use Rattle.once_parts.specs.declared.act.Act.TheVariants.{Full, Enter, NonePut}
 use Rattle.once_parts.specs.declared.act.Act.TheVariants.{Begin as BeginPoll, BeginDrop, Ran as InitRan, Refused, Unput}
-use Rattle.once_parts.specs.Own.{IsHand, Stayed, Turned, number_in, own_in, task_in, told}
+use Rattle.once_parts.specs.Own.{IsHand, Stayed, Turned, number_in, own_in, task_in}
 
 -- the hand is the task's still, whose page has turned so
 abbrev pub Turns : View Entry Sheet → TaskState → List Entry → View Entry Sheet → Type 0
 Turns v y es w = IsHand w.0 w.1 × Turned (own_in v) y es (own_in w)
 
--- the task did this, and goes on so
-abbrev pub Goes : View Entry Sheet → List Entry → Next ℕ ℕ → View Entry Sheet → Type 0
-Goes v did next w =
-    Turns v (record (task_in v.1) { step = next.step }) (told (number_in v.1) (task_in v.1).kept next did) w
+-- the task was told this, and goes on by the table
+abbrev pub Goes : View Entry Sheet → Told ℕ ℕ → View Entry Sheet → Type 0
+Goes v e w = IsHand w.0 w.1 × Went (own_in v) e [] (own_in w)
 
 -- the task did nothing
 abbrev pub Stays : View Entry Sheet → View Entry Sheet → Type 0
@@ -31,21 +30,17 @@ Stays v w = IsHand w.0 w.1 × Stayed (own_in v) (own_in w)
 -- each moment
 abbrev pub Tells : Act → View Entry Sheet → ℕ → View Entry Sheet → Type 0
 Tells Full v n w =
-    cond (nat_lt (flags_of n).count most) (Stays v w)
-    (Goes v [] (next_of (task_in v.1).step (task_in v.1).waker (CountedIn false (flags_of n).ready)) w)
-Tells (Enter m) v n w =
-    cond (n == m) (Goes v [] (next_of (task_in v.1).step (task_in v.1).waker (CountedIn true (flags_of m).ready)) w)
-    (Stays v w)
-Tells NonePut v n w =
-    cond (n == 0) (Goes v [] (next_of (task_in v.1).step (task_in v.1).waker (Taken false)) w) (Stays v w)
+    cond (nat_lt (flags_of n).count most) (Stays v w) (Goes v (CountedIn false (flags_of n).ready) w)
+Tells (Enter m) v n w = cond (n == m) (Goes v (CountedIn true (flags_of m).ready) w) (Stays v w)
+Tells NonePut v n w = cond (n == 0) (Goes v (Taken false) w) (Stays v w)
 Tells BeginPoll v n w =
     Turns v (task_begun (number_in v.1) (task_in v.1)) (Begin (number_in v.1) (number_in v.1) ∷ []) w
 Tells BeginDrop v n w =
     Turns v (task_dropping (task_in v.1))
     (reverse (drop_entries (number_in v.1) (step_of_drop (task_in v.1).step))) w
-Tells (InitRan a) v n w = IsHand w.0 w.1 × Went (own_in v) (Ran a) [] (own_in w)
-Tells Refused v n w = Turns v (record (task_in v.1) { step = refused_step (task_in v.1).step }) [] w
-Tells Unput v n w = Goes v [] (after_door_put None) w
+Tells (InitRan a) v n w = Goes v (Ran a) w
+Tells Refused v n w = Goes v RefusedCopy w
+Tells Unput v n w = Goes v (PutQueue None) w
 
 -- a task is made, by a hand that has no page
 abbrev pub Makes : View Entry Sheet → View Entry Sheet → Type 0
@@ -58,4 +53,4 @@ Writes v w = (w.1 ≡ (suc (suc (number_in v.1)), writing_sheet (entries_of (num
 
 -- the value is put
 abbrev pub Puts : View Entry Sheet → View Entry Sheet → Type 0
-Puts v w = Goes v [] (next_of (task_in v.1).step (task_in v.1).waker PutValue) w
+Puts v w = Goes v PutValue w

@@ -11,7 +11,6 @@ pub mod Hands
 pub mod Inits
 pub mod Record
 pub mod TwoTasks
-pub mod Handed
 pub mod Shares
 pub mod Parts
 pub mod Sides

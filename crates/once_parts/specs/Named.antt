@@ -1,10 +1,10 @@
 -- What a list of those who wait shows on the queue's page: the same listings.
 -- Each waker is told by the number of the task whose it is.
-use Rattle.std.specs.Prelude.{◌≡◌, ℕ, List, [], ◌∷◌, map, Option, None}
+use Rattle.std.specs.Prelude.{◌≡◌, ℕ, List, [], ◌∷◌, map, Option}
 use Rattle.std.specs.Option.{option_map, option_to_list}
 use Rattle.once_queue.specs.declared.waiters.Listing.{Listing}
 use Rattle.once_queue.specs.declared.waiters.Answer.{Answer}
-use Rattle.once_queue.specs.declared.waiters.Answer.TheVariants.{Claimed, Held, Memory}
+use Rattle.once_queue.specs.declared.waiters.Answer.TheVariants.{Held, Memory, Released, Left}
 use Rattle.once_queue.specs.declared.waiters.Out.{Out}
 use Rattle.once_queue.specs.declared.waiters.Out.TheVariants.{One, All}
 use Rattle.once_queue.specs.Listings.{wakers_of}
@@ -28,6 +28,12 @@ module _ {W : Type 0} (whose : W → ℕ) where
   named_out (One o) = named_one o
   named_out (All X) = map whose (wakers_of X.items)
 
+  -- those whose wakers an answer of a section hands out
+  abbrev pub handed_in : Answer W → List ℕ
+  handed_in (Released out) = named_out out
+  handed_in (Left next) = named_one next
+  handed_in _ = []
+
 module _ {W N : Type 0} (whose : W → ℕ) (renewed : N → W → N → W → Type 0) where
   -- a waker that is renewed stays the same task's
   abbrev pub KeepsOwner : Type 0
@@ -41,8 +47,3 @@ module _ {W N : Type 0} (whose : W → ℕ) (renewed : N → W → N → W → T
 abbrev pub as_memory : {W : Type 0} → Answer W → Answer W
 as_memory Held = Memory
 as_memory a = a
-
--- the ticket that is left: none after a claim
-abbrev pub ticket_left : Answer ℕ → Option ℕ → Option ℕ
-ticket_left Claimed k = None
-ticket_left _ k = k

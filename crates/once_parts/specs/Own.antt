@@ -55,10 +55,6 @@ pub record Turned (v : Own) (y : TaskState) (es : List Entry) (w : Own) : Type 0
   -- they are the task's, and it added no others
   pub mine : entries_of v.number w.log ≡ entries_of v.number v.log ++ es
 
--- the task did this, and goes on as the table of places says
-abbrev pub Did : Own → List Entry → Next ℕ ℕ → Own → Type 0
-Did v did next w = Turned v (record v.task { step = next.step }) (told v.number v.task.kept next did) w
-
 -- the task did nothing
 pub record Stayed (v w : Own) : Type 0 where
   pub number : w.number ≡ v.number  -- it is the same task

@@ -2,7 +2,7 @@
 use Rattle.std.specs.Prelude.{ℕ, false, List, [], Some}
 use Rattle.pagebook.specs.Pages.{View}
 use Rattle.once_core.specs.declared.step.Polled.TheVariants.{Pending}
-use Rattle.once_core.specs.Table.{Call, Refuse, Told, Ran, Next, after, call_at}
+use Rattle.once_core.specs.Table.{Call, Refuse, Section, Told, Ran, Next, after, call_at}
 use Rattle.once_world.specs.declared.record.Ran.{Ran as Answer}
 use Rattle.once_world.specs.Record.{Entry}
 use Rattle.once_world.specs.Book.{TaskState}
@@ -17,6 +17,11 @@ use Rattle.once_parts.specs.Places.{unnamed}
 abbrev pub call_in : Step ℕ ℕ → Call ℕ ℕ
 call_in (UnderWay p) = call_at p
 call_in _ = Refuse
+
+-- the queue of a section
+abbrev pub queue_of : Call ℕ ℕ → ℕ
+queue_of (Section q op) = q
+queue_of _ = 0
 
 -- what follows, where v is the task's waker
 abbrev pub next_of : Step ℕ ℕ → ℕ → Told ℕ ℕ → Next ℕ ℕ

@@ -1,10 +1,18 @@
--- A step of a call as it looks where wakers and queues have other names.
+-- A step of a call, and what it calls and is told, as they look where wakers and queues have other names.
 -- The code's wakers are objects, and those of a page are numbers.
-use Rattle.std.specs.Prelude.{◌≡◌, ℕ}
+use Rattle.std.specs.Prelude.{◌≡◌, ℕ, None}
 use Rattle.std.specs.Option.{option_map}
 use Rattle.once_queue.specs.declared.waiters.Answer.{Answer}
 use Rattle.once_queue.specs.declared.waiters.Answer.TheVariants.{Ready, Claimed, Listed, Held, Memory, Gone}
+use Rattle.once_queue.specs.declared.waiters.Answer.TheVariants.{Released, Left}
+use Rattle.once_queue.specs.Ops.{ticket_in}
+use Rattle.once_queue.specs.declared.waiters.Op.{Op}
+use Rattle.once_queue.specs.declared.waiters.Op.TheVariants.{Look, List as ListOwn, Release, Leave}
 use Rattle.once_core.specs.Table.{Next}
+use Rattle.once_core.specs.Table.{Call, Load, Quick, Fast, CountIn, AddOne, CountOut, DoorGet, DoorPut, DoorTake}
+use Rattle.once_core.specs.Table.{Section, Refuse, Run, Put}
+use Rattle.once_core.specs.Table.{Told, Loaded, TriedQuick, TriedFast, CountedIn, Added, CountedOut, Got, PutQueue}
+use Rattle.once_core.specs.Table.{Taken, Was, Refused, Ran, PutValue}
 use Rattle.once_world.specs.Machine.{Rest, RestStart, RestWait, RestRun, Step, Resting, UnderWay, Finished}
 use Rattle.once_world.specs.Machine.{Place, AtStart, AtTryQuick, AtDoorGet, AtDoorPut, AtCountIn}
 use Rattle.once_world.specs.Machine.{AtWaitLoad, AtLook, AtList, AtRun}
@@ -47,14 +55,60 @@ module _ {W V Q P : Type 0} (f : W → V) (g : Q → P) where
   abbrev pub next_as : Next W Q → Next V P
   next_as n = record { closes = n.closes; progress = n.progress; step = step_as n.step }
 
--- the answer of a look or a listing, which hands nobody out
+-- the answer of a section, without whom it hands out
 abbrev pub answer_as : {W V : Type 0} → Answer W → Answer V
 answer_as Ready = Ready
 answer_as Claimed = Claimed
 answer_as Listed = Listed
 answer_as Held = Held
 answer_as Memory = Memory
-answer_as _ = Gone
+answer_as Gone = Gone
+answer_as (Released out) = Left None
+answer_as (Left next) = Left None
+
+-- an operation of a section
+abbrev pub op_as : {W V : Type 0} → (W → V) → Op W → Op V
+op_as f (Look k) = Look k
+op_as f (ListOwn k w) = ListOwn k (option_map f w)
+op_as f (Release fills) = Release fills
+op_as f (Leave k) = Leave k
+
+-- what is left of it, of which the ticket alone is told
+abbrev pub left_as : {W V : Type 0} → Op W → Op V
+left_as o = Look (ticket_in o)
+
+module _ {W V Q P : Type 0} (f : W → V) (g : Q → P) where
+  -- a call
+  abbrev pub call_as : Call W Q → Call V P
+  call_as Load = Load
+  call_as Quick = Quick
+  call_as (Fast fills) = Fast fills
+  call_as CountIn = CountIn
+  call_as AddOne = AddOne
+  call_as CountOut = CountOut
+  call_as DoorGet = DoorGet
+  call_as DoorPut = DoorPut
+  call_as DoorTake = DoorTake
+  call_as (Section q op) = Section (g q) (op_as f op)
+  call_as Refuse = Refuse
+  call_as Run = Run
+  call_as Put = Put
+
+  -- what it told
+  abbrev pub told_as : Told W Q → Told V P
+  told_as (Loaded word) = Loaded word
+  told_as (TriedQuick won) = TriedQuick won
+  told_as (TriedFast fills won) = TriedFast fills won
+  told_as (CountedIn is_in ready) = CountedIn is_in ready
+  told_as Added = Added
+  told_as (CountedOut word) = CountedOut word
+  told_as (Got q) = Got (option_map g q)
+  told_as (PutQueue q) = PutQueue (option_map g q)
+  told_as (Taken stood) = Taken stood
+  told_as (Was q op a o) = Was (g q) (op_as f op) (answer_as a) (left_as o)
+  told_as Refused = Refused
+  told_as (Ran a) = Ran a
+  told_as PutValue = PutValue
 
 -- the step of the code stands for that of the page, by whom a waker stands for and by what is told of a queue
 abbrev pub StandsForStep : {W Q C : Type 0} → (W → ℕ) → (Q → C) → (ℕ → C) → Step W Q → Step ℕ ℕ → Type 0

@@ -88,14 +88,8 @@ pub(crate) enum Section {
     Found,
     /// Takes the queue out of the door.
     Take,
-    /// Looks, with this ticket.
-    Look(Option<u64>),
-    /// Lists itself, with this ticket; and whether there is room.
-    List(Option<u64>, bool),
-    /// Gives the right back, with the value or without.
-    Release(bool),
-    /// Takes the listing with this ticket out.
-    Leave(u64),
+    /// Makes the section that is the call of its place; and whether there is room to list its waker.
+    ByTable(bool),
     /// Is at rest, and comes to its listing, which has this ticket.
     Rest(u64),
 }

@@ -40,20 +40,17 @@ impl<W: TaskWaker> Keyed for Desk<W> {
 }
 
 impl<W: TaskWaker + Drop> Desk<W> {
-    ghost use Rattle.once_core.specs.Table.{DoorGet, DoorTake, Got, Taken, next_at};
+    ghost use Rattle.once_core.specs.Table.{DoorGet, DoorPut, DoorTake, Section as SectionCall};
+    ghost use Rattle.once_core.specs.Table.{Got, PutQueue, Taken, Was};
+    ghost use Rattle.once_queue.specs.declared.waiters.Answer.{Answer};
+    ghost use Rattle.once_queue.specs.declared.waiters.Op.{Op};
     ghost use Rattle.once_parts.specs.Page.{Went, call_in};
-    ghost use Rattle.once_world.specs.Machine.{AtCountIn, AtDoorPut, UnderWay};
-    ghost use Rattle.once_world.specs.Machine.{claim_entries, is_claim, pass_entries, release_entry};
-    ghost use Rattle.once_parts.specs.Kept.{has_passed, hands_out};
-    ghost use Rattle.once_parts.specs.Named.{HasRenewed, KeepsOwner, named_one, named_out};
-    ghost use Rattle.once_parts.specs.Steps.{answer_as};
+    ghost use Rattle.once_parts.specs.Parts.{CanCall, DidCall};
+    ghost use Rattle.once_parts.specs.Named.{HasRenewed, KeepsOwner};
     ghost use Rattle.once_parts.specs.Desk.{desk_sheets, first_desk};
-    ghost use Rattle.once_parts.specs.Own.{Did, IsWord};
-    ghost use Rattle.once_parts.specs.Places.{CanLook, CanList, CanRelease, CanLeave, CanRest};
-    ghost use Rattle.once_parts.specs.Places.{look_next, list_next, release_next, leave_next};
-    ghost use Rattle.once_parts.specs.Places.{numbered};
+    ghost use Rattle.once_parts.specs.Own.{IsWord};
+    ghost use Rattle.once_parts.specs.Places.{CanRest, numbered};
     ghost use Rattle.once_parts.specs.Hands.{own_of};
-    ghost use Rattle.std.specs.Prelude.{IsSomeAnd};
 
     /// No queue, and the first two pages of a new book.
     #[inline(always)]
@@ -94,10 +91,10 @@ impl<W: TaskWaker + Drop> Desk<W> {
         requires word { IsWord has_put.now hand.old.seen.book 1 }
         requires book { self.old ≡ hand.old.seen.book }
         requires queue { (queue.value.head ≡ false) × (listings_of queue.value ≡ []) }
-        requires can { (own_of hand.old).task.step ≡ UnderWay AtDoorPut }
+        requires can { call_in (own_of hand.old).task.step ≡ DoorPut }
         ensures desk { self.new ≡ self.old }
         ensures book { hand.new.seen.book ≡ hand.old.seen.book }
-        ensures did { (q : ℕ) × Did (own_of hand.old) [] (next_at (AtCountIn q)) (own_of hand.new) }
+        ensures did { (q : ℕ) × Went (own_of hand.old) (PutQueue (Some q)) [] (own_of hand.new) }
     {
         if self.lists.is_some() {
             note(&mut self.pens, hand, &Section::Found);
@@ -132,19 +129,18 @@ impl<W: TaskWaker + Drop> Desk<W> {
     ) -> (Answer<W>, Option<W>)
         requires word { IsWord word.now hand.old.seen.book 0 }
         requires book { self.old ≡ hand.old.seen.book }
-        requires can { CanLook ticket.old (own_of hand.old).task.step }
+        requires can { CanCall W.whose (own_of hand.old).task.step (SectionCall tt (Op.Look ticket.old)) }
         ensures desk { self.new ≡ self.old }
         ensures book { hand.new.seen.book ≡ hand.old.seen.book }
-        ensures did { Did (own_of hand.old) (claim_entries (is_claim (answer_as result.0)) (own_of hand.old).number)
-            (look_next (answer_as result.0) ticket.new (own_of hand.old).task.waker (own_of hand.old).task.step)
-            (own_of hand.new) }
+        ensures did { DidCall W.whose (own_of hand.old)
+            (Was tt (Op.Look ticket.old) result.0 (Op.Look ticket.new)) (own_of hand.new) }
     {
         note(&mut self.pens, hand, &Section::Stand);
         let Some(queue) = &mut self.lists else {
             unreachable!()
         };
         let lists = &mut **queue;
-        let found = see(word, &mut self.pens, hand, &Section::Look(*ticket));
+        let found = see(word, &mut self.pens, hand, true);
         lists.look_own(ticket, found)
     }
 
@@ -160,11 +156,11 @@ impl<W: TaskWaker + Drop> Desk<W> {
     ) -> (Answer<W>, Option<W>)
         requires word { IsWord word.now hand.old.seen.book 0 }
         requires book { self.old ≡ hand.old.seen.book }
-        requires can { IsSomeAnd waker.old (λ w. CanList ticket.old (W.whose w) (own_of hand.old).task.step) }
+        requires can { CanCall W.whose (own_of hand.old).task.step (SectionCall tt (Op.List ticket.old waker.old)) }
         ensures desk { self.new ≡ self.old }
         ensures book { hand.new.seen.book ≡ hand.old.seen.book }
-        ensures did { Did (own_of hand.old) (claim_entries (is_claim (answer_as result.0)) (own_of hand.old).number)
-            (list_next (answer_as result.0) ticket.new (own_of hand.old).task.step) (own_of hand.new) }
+        ensures did { DidCall W.whose (own_of hand.old)
+            (Was tt (Op.List ticket.old waker.old) result.0 (Op.List ticket.new waker.new)) (own_of hand.new) }
     {
         note(&mut self.pens, hand, &Section::Stand);
         let Some(queue) = &mut self.lists else {
@@ -172,7 +168,7 @@ impl<W: TaskWaker + Drop> Desk<W> {
         };
         let lists = &mut **queue;
         let room = has_room(lists, *ticket);
-        let found = see(word, &mut self.pens, hand, &Section::List(*ticket, room));
+        let found = see(word, &mut self.pens, hand, room);
         if room {
             return lists.list_own(ticket, waker, found);
         }
@@ -209,12 +205,11 @@ impl<W: TaskWaker + Drop> Desk<W> {
     pub fn release(&mut self, word: &CellWord, hand: &mut Hand, ready: bool) -> Out<W>
         requires word { IsWord word.now hand.old.seen.book 0 }
         requires book { self.old ≡ hand.old.seen.book }
-        requires can { CanRelease ready (own_of hand.old).task.step }
+        requires can { CanCall W.whose (own_of hand.old).task.step (SectionCall tt (Op.Release ready)) }
         ensures desk { self.new ≡ self.old }
         ensures book { hand.new.seen.book ≡ hand.old.seen.book }
-        ensures did { Did (own_of hand.old)
-            (release_entry (own_of hand.old).task.kept (own_of hand.old).number (named_out W.whose result) ∷ [])
-            (release_next (own_of hand.old).task.step) (own_of hand.new) }
+        ensures did { DidCall W.whose (own_of hand.old)
+            (Was tt (Op.Release ready) (Answer.Released result) (Op.Release ready)) (own_of hand.new) }
     {
         note(&mut self.pens, hand, &Section::Stand);
         let Some(queue) = &mut self.lists else {
@@ -233,20 +228,18 @@ impl<W: TaskWaker + Drop> Desk<W> {
     pub fn leave(&mut self, word: &CellWord, hand: &mut Hand, ticket: u64) -> (Option<W>, Option<W>)
         requires word { IsWord word.now hand.old.seen.book 0 }
         requires book { self.old ≡ hand.old.seen.book }
-        requires can { CanLeave ticket (own_of hand.old).task.step }
+        requires can { CanCall W.whose (own_of hand.old).task.step (SectionCall tt (Op.Leave ticket)) }
         ensures desk { self.new ≡ self.old }
         ensures book { hand.new.seen.book ≡ hand.old.seen.book }
-        ensures did { Did (own_of hand.old) (pass_entries (own_of hand.old).number (named_one W.whose result.0))
-            (leave_next (own_of hand.old).task.step) (own_of hand.new) }
-        ensures passed { has_passed (own_of hand.new).number (own_of hand.new).log
-            ≡ hands_out (named_one W.whose result.0) }
+        ensures did { DidCall W.whose (own_of hand.old)
+            (Was tt (Op.Leave ticket) (Answer.Left result.0) (Op.Leave ticket)) (own_of hand.new) }
     {
         note(&mut self.pens, hand, &Section::Stand);
         let Some(queue) = &mut self.lists else {
             unreachable!()
         };
         let lists = &mut **queue;
-        let found = see(word, &mut self.pens, hand, &Section::Leave(ticket));
+        let found = see(word, &mut self.pens, hand, true);
         lists.leave_own(ticket, found)
     }
 }

@@ -27,12 +27,12 @@ impl Hand {
     ghost use Rattle.std.specs.Prelude.{None, true, false, [], ◌∷◌, reverse};
     ghost use Rattle.std.specs.Option.{MatchOption};
     ghost use Rattle.once_core.specs.Steps.{is_resting, step_of_drop};
-    ghost use Rattle.once_core.specs.Table.{CountIn, DoorTake, Put, PutValue, Taken, after_door_put, counted};
+    ghost use Rattle.once_core.specs.Table.{CountIn, DoorPut, DoorTake, Put};
+    ghost use Rattle.once_core.specs.Table.{PutQueue, PutValue, Refused, Taken, counted};
     ghost use Rattle.once_world.specs.Record.{Begin, Made};
-    ghost use Rattle.once_world.specs.Book.{refused_step};
-    ghost use Rattle.once_world.specs.Machine.{AtDoorPut, UnderWay, drop_entries, fresh_task};
+    ghost use Rattle.once_world.specs.Machine.{drop_entries, fresh_task};
     ghost use Rattle.once_parts.specs.Kept.{Grew};
-    ghost use Rattle.once_parts.specs.Own.{Did, IsWord, Stayed, Turned};
+    ghost use Rattle.once_parts.specs.Own.{IsWord, Stayed, Turned};
     ghost use Rattle.once_parts.specs.Page.{Went, call_in};
     ghost use Rattle.once_parts.specs.Places.{CanRefuse, task_begun, task_dropping};
     ghost use Rattle.once_parts.specs.Hands.{HasRight, HasRun, own_of};
@@ -146,8 +146,7 @@ impl Hand {
     pub fn refused(&mut self)
         requires can { CanRefuse (own_of self.old).task.step }
         ensures book { self.new.seen.book ≡ self.old.seen.book }
-        ensures did { Turned (own_of self.old)
-            (record (own_of self.old).task { step = refused_step (own_of self.old).task.step }) [] (own_of self.new) }
+        ensures did { Went (own_of self.old) Refused [] (own_of self.new) }
     {
         self.seen.note::<Act, Act>(&mut self.pens, &Act::Refused);
     }
@@ -155,9 +154,9 @@ impl Hand {
     /// Memory for a queue was refused.
     #[inline(always)]
     pub fn unput(&mut self)
-        requires can { (own_of self.old).task.step ≡ UnderWay AtDoorPut }
+        requires can { call_in (own_of self.old).task.step ≡ DoorPut }
         ensures book { self.new.seen.book ≡ self.old.seen.book }
-        ensures did { Did (own_of self.old) [] (after_door_put None) (own_of self.new) }
+        ensures did { Went (own_of self.old) (PutQueue None) [] (own_of self.new) }
     {
         self.seen.note::<Act, Act>(&mut self.pens, &Act::Unput);
     }

@@ -1,16 +1,15 @@
 //! What the tasks of a cell share, as one task uses it.
-ghost use Rattle.std.specs.Prelude.{◌≡◌, ◌≢◌, ◌^◌, if◌then◌else◌, ℕ, Bool, false, true, List, []};
+ghost use Rattle.std.specs.Prelude.{◌≡◌, ◌≢◌, ◌^◌, if◌then◌else◌, ℕ, Bool, false, true, List, [], Some};
 ghost use mathlib.Core.List.{IsPrefix};
 ghost use Rattle.once_queue.specs.Room.{listings_of};
 ghost use Rattle.once_queue.specs.Word.{flags_of};
-ghost use Rattle.once_core.specs.Table.{CountIn, DoorGet, DoorTake, Got, Load, Loaded, Taken, next_at};
-ghost use Rattle.once_core.specs.Table.{counted as count_told};
-ghost use Rattle.once_world.specs.Machine.{AtCountIn, AtDoorPut, UnderWay};
+ghost use Rattle.once_core.specs.Table.{CountIn, DoorGet, DoorPut, DoorTake, Got, Load, Loaded, PutQueue, Section};
+ghost use Rattle.once_core.specs.Table.{Taken, Was, counted as count_told};
 ghost use Rattle.once_parts.specs.Named.{HasRenewed, KeepsOwner};
-ghost use Rattle.once_parts.specs.Own.{Did, IsWord};
+ghost use Rattle.once_parts.specs.Own.{IsWord};
 ghost use Rattle.once_parts.specs.Page.{Went, call_in};
 ghost use Rattle.once_parts.specs.Places.{CanRest, numbered};
-ghost use Rattle.once_parts.specs.Handed.{CanSection, DidSection};
+ghost use Rattle.once_parts.specs.Parts.{CanCall, DidCall};
 ghost use Rattle.once_parts.specs.Hands.{own_of};
 ghost use Rattle.once_parts.specs.Record.{IsSet};
 
@@ -386,9 +385,9 @@ fn put<J: Key, T, W: TaskWaker + Drop, R: Wait>(
     requires key { inner.now.desk ≡ J.key }
     requires book { hand.old.seen.book ≡ J.key }
     requires queue { (queue.value.head ≡ false) × (listings_of queue.value ≡ []) }
-    requires can { (own_of hand.old).task.step ≡ UnderWay AtDoorPut }
+    requires can { call_in (own_of hand.old).task.step ≡ DoorPut }
     ensures book { hand.new.seen.book ≡ hand.old.seen.book }
-    ensures did { (q : ℕ) × Did (own_of hand.old) [] (next_at (AtCountIn q)) (own_of hand.new) }
+    ensures did { (q : ℕ) × Went (own_of hand.old) (PutQueue (Some q)) [] (own_of hand.new) }
 {
     inner
         .desk
@@ -444,9 +443,9 @@ fn entered<J: Key, T, W: TaskWaker + Drop, R: Wait>(
 ) -> (Answer<W>, Option<W>)
     requires key { inner.now.desk ≡ J.key }
     requires book { hand.old.seen.book ≡ J.key }
-    requires can { CanSection W.whose op.old (own_of hand.old).task.step }
+    requires can { CanCall W.whose (own_of hand.old).task.step (Section tt op.old) }
     ensures book { hand.new.seen.book ≡ hand.old.seen.book }
-    ensures did { DidSection W.whose op.old result.0 op.new (own_of hand.old) (own_of hand.new) }
+    ensures did { DidCall W.whose (own_of hand.old) (Was tt op.old result.0 op.new) (own_of hand.new) }
 {
     let mut tied = inner.desk.lock::<J, R>(rt);
     match op {

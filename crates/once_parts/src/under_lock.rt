@@ -1,13 +1,14 @@
 // The moments of a task that has the lock. For each of them the pens of the door's page and of the queue's
 // are put together with the task's own, and parted again after the step.
-ghost use Rattle.std.specs.Prelude.{◌≡◌, ℕ, None};
+ghost use Rattle.std.specs.Prelude.{◌≡◌, ℕ, true, None};
 ghost use Rattle.once_parts.specs.Own.{IsWord};
 ghost use Rattle.once_parts.specs.Desk.{IsDesk, desked};
-ghost use Rattle.once_parts.specs.Places.{CanRelease};
-ghost use Rattle.once_parts.specs.Sections.{CanNote, CanSee, Moment, more_released};
+ghost use Rattle.once_core.specs.Table.{DoorPut, Section as SectionCall};
+ghost use Rattle.once_queue.specs.declared.waiters.Op.{Op};
+ghost use Rattle.once_parts.specs.Page.{call_in, queue_of};
+ghost use Rattle.once_parts.specs.Sections.{CanNote, IsLoading, Moment, more_released};
 ghost use Rattle.once_parts.specs.Hands.{own_of};
 ghost use Rattle.once_parts.specs.declared.act.Section.{Section};
-ghost use Rattle.once_world.specs.Machine.{AtDoorPut, UnderWay};
 
 use crate::act::Section;
 use crate::book::{CellPens, CellWord};
@@ -29,20 +30,20 @@ pub(crate) fn note(desk: &mut CellPens, hand: &mut Hand, section: &Section)
     hand.pens = desk.split_off(2);
 }
 
-/// A moment that a load of the word marks: a look, a `List`, or the leaving of a waiter.
+/// A moment that a load of the word marks: a look, a `List`, or the leaving of a waiter; and whether there is room.
 #[inline(always)]
-pub(crate) fn see(word: &CellWord, desk: &mut CellPens, hand: &mut Hand, section: &Section) -> u64
+pub(crate) fn see(word: &CellWord, desk: &mut CellPens, hand: &mut Hand, room: bool) -> u64
     requires word { IsWord word.now hand.old.seen.book 0 }
     requires book { desk.old.book ≡ hand.old.seen.book }
     requires desk { IsDesk desk.old.held }
-    requires can { CanSee section.now (own_of hand.old).task.step }
+    requires can { IsLoading (call_in (own_of hand.old).task.step) }
     ensures book { (desk.new.book ≡ hand.old.seen.book) × (hand.new.seen.book ≡ hand.old.seen.book) }
     ensures desk { IsDesk desk.new.held }
-    ensures told { Moment section.now result (desked desk.old.held) (own_of hand.old) (desked desk.new.held)
-        (own_of hand.new) }
+    ensures told { Moment (Section.ByTable room) result (desked desk.old.held) (own_of hand.old)
+        (desked desk.new.held) (own_of hand.new) }
 {
     desk.append(&mut hand.pens);
-    let found = word.load::<Section, Section>(section, &mut hand.seen, desk);
+    let found = word.load::<Section, Section>(&Section::ByTable(room), &mut hand.seen, desk);
     hand.pens = desk.split_off(2);
     found
 }
@@ -54,7 +55,7 @@ pub(crate) fn put(has_put: &CellWord, desk: &mut CellPens, hand: &mut Hand)
     requires book { desk.old.book ≡ hand.old.seen.book }
     requires desk { IsDesk desk.old.held }
     requires none { (desked desk.old.held).door ≡ None }
-    requires can { (own_of hand.old).task.step ≡ UnderWay AtDoorPut }
+    requires can { call_in (own_of hand.old).task.step ≡ DoorPut }
     ensures book { (desk.new.book ≡ hand.old.seen.book) × (hand.new.seen.book ≡ hand.old.seen.book) }
     ensures desk { IsDesk desk.new.held }
     ensures told { (n : ℕ)
@@ -71,15 +72,16 @@ pub(crate) fn release(word: &CellWord, desk: &mut CellPens, hand: &mut Hand, rea
     requires word { IsWord word.now hand.old.seen.book 0 }
     requires book { desk.old.book ≡ hand.old.seen.book }
     requires desk { IsDesk desk.old.held }
-    requires can { CanRelease ready (own_of hand.old).task.step }
+    requires can { call_in (own_of hand.old).task.step
+        ≡ SectionCall (queue_of (call_in (own_of hand.old).task.step)) (Op.Release ready) }
     requires more { more ≡ more_released ready (desked desk.old.held).head }
     ensures book { (desk.new.book ≡ hand.old.seen.book) × (hand.new.seen.book ≡ hand.old.seen.book) }
     ensures desk { IsDesk desk.new.held }
     ensures told { (n : ℕ)
-        × Moment (Section.Release ready) n (desked desk.old.held) (own_of hand.old) (desked desk.new.held)
+        × Moment (Section.ByTable true) n (desked desk.old.held) (own_of hand.old) (desked desk.new.held)
         (own_of hand.new) }
 {
     desk.append(&mut hand.pens);
-    word.fetch_add::<Section, Section>(more, &Section::Release(ready), &mut hand.seen, desk);
+    word.fetch_add::<Section, Section>(more, &Section::ByTable(true), &mut hand.seen, desk);
     hand.pens = desk.split_off(2);
 }

@@ -7,36 +7,29 @@ use Rattle.once_queue.specs.declared.waiters.Listing.{Listing}
 use Rattle.once_queue.specs.Listings.{find_listing, is_waker, own_listing}
 use Rattle.once_world.specs.Record.{Entry, Once}
 use Rattle.once_world.specs.Cell.{cell}
-use Rattle.once_core.specs.Table.{next_at}
+use Rattle.once_core.specs.Table.{call_at, next_at}
 use Rattle.once_world.specs.Tasks.{LastCall, last_call}
 use Rattle.once_queue.proofs.Listing.Members.{eqb_self}
 use Rattle.once_parts.specs.Kept.{has_passed, hands_out}
 use Rattle.once_world.specs.Book.{At, Door, IsBook, Page, Queue, TaskState}
 use Rattle.once_world.specs.Machine.{AtCountOut, AtDoorTake, AtLeave, AtList, AtLook, AtRelease, EndDropped, EndMemory, Ending, Place, RestWait, Resting, SharedState, UnderWay, look_answer, pass_entries}
-use Rattle.once_world.proofs.History.Cells.{holder_unset, none_some, set_free}
+use Rattle.once_world.proofs.History.Cells.{holder_unset, set_free}
 use Rattle.once_world.proofs.Input.Headline.{task_fits}
 use Rattle.once_world.proofs.Invariant.Facts.{AtPlace, AtStep, MayLeave}
 use Rattle.once_world.proofs.Invariant.Kept.{releasing_holds}
 use Rattle.once_world.proofs.Moment.Pages.{door_of, queue_of}
 use Rattle.once_world.proofs.Moment.Step.{Moment, grown, moment, stands, told}
 use Rattle.once_world.proofs.Told.Wakers.{look_own, own_wakers}
-use Rattle.once_parts.specs.Sections.{IsOwnListing}
+use Rattle.once_parts.specs.Page.{queue_of as section_queue}
+use Rattle.once_parts.specs.Sections.{IsOwnListing, IsSection}
 
--- the queue that a section at this place is about
-abbrev pub queue_at : Place ℕ ℕ → Option ℕ
-queue_at (AtLook q k) = Some q
-queue_at (AtList q k w) = Some q
-queue_at (AtRelease q e) = Some q
-queue_at (AtLeave q n e) = Some q
-queue_at _ = None
-
--- it stands at the door
-stood_at : (limit t q : ℕ) (c : SharedState) (h : List Entry) (p : Place ℕ ℕ) → queue_at p ≡ Some q → AtPlace Once limit t c h p → c.door ≡ Some q
-stood_at limit t q c h (AtLook u k) e a = a.1 ∙ e
-stood_at limit t q c h (AtList u k w) e a = a.1 ∙ e
-stood_at limit t q c h (AtRelease u e') e a = a.2 ∙ e
-stood_at limit t q c h (AtLeave u n e') e a = a.1 ∙ e
-stood_at limit t q c h _ e a = absurd (none_some q e)
+-- the queue of a section stands at the door
+stood_at : (limit t : ℕ) (c : SharedState) (h : List Entry) (p : Place ℕ ℕ) → IsSection (call_at p) → AtPlace Once limit t c h p → c.door ≡ Some (section_queue (call_at p))
+stood_at limit t c h (AtLook q k) is a = a.1
+stood_at limit t c h (AtList q k w) is a = a.1
+stood_at limit t c h (AtRelease q e) is a = a.2
+stood_at limit t c h (AtLeave q n e) is a = a.1
+stood_at limit t c h _ is a = absurd is
 
 -- no flag stands
 no_head : (a b : Bool) → false ≡ (a || b) → b ≡ false
@@ -86,9 +79,9 @@ module _ (limit n put : ℕ) (slot : Bool) (pages : List Page) (log : List Entry
       ap (λ l. (last_call Once t l).passed) (sym (grown m.w.history log (pass_entries t X) book.1.log_is)) ∙ passed_after t m.w.history X a
 
   -- the queue of a section stands at the door
-  pub door_at : (made : ℕ) (door : Option ℕ) → slice_get pages 0 ≡ Some (Door made door) → (q : ℕ) (p : Place ℕ ℕ) → queue_at p ≡ Some q → x.step ≡ UnderWay p → door ≡ Some q
-  door_at made door there q p inside at =
-      sym (door_of c.queues made c.door door (sym book.1.door_is ∙ there)).1 ∙ stood_at limit t q c m.w.history p inside (stands limit n put slot pages log t x some book pen p at)
+  pub door_at : (made : ℕ) (door : Option ℕ) → slice_get pages 0 ≡ Some (Door made door) → (p : Place ℕ ℕ) → IsSection (call_at p) → x.step ≡ UnderWay p → door ≡ Some (section_queue (call_at p))
+  door_at made door there p is at =
+      sym (door_of c.queues made c.door door (sym book.1.door_is ∙ there)).1 ∙ stood_at limit t c m.w.history p is (stands limit n put slot pages log t x some book pen p at)
 
   module _ (head : Bool) (xs : List (Listing ℕ)) (queue : slice_get pages 1 ≡ Some (Queue head xs)) where
     -- nobody holds under the lock, and nobody is listed, where the queue is taken out of the door

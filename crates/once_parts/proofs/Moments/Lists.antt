@@ -11,7 +11,7 @@ use Rattle.once_queue.specs.Listings.{kept_ticket, own_listing}
 use Rattle.once_queue.specs.Sections.{DidList}
 use Rattle.once_queue.proofs.Listing.Tickets.{own_none}
 use Rattle.once_world.specs.Machine.{head_after, list_answer, listed_list, listed_ticket}
-use Rattle.once_parts.specs.Named.{as_memory, named, ticket_left}
+use Rattle.once_parts.specs.Named.{as_memory, named}
 use Rattle.once_parts.specs.Steps.{answer_as}
 use Rattle.once_parts.proofs.Moments.Named.{kept_named, list_named, ticket_named, without_named}
 
@@ -26,7 +26,7 @@ module _ {W : Type 0} (whose : W → ℕ) where
     pub answer : answer_as result ≡ a
     pub flag : t.head ≡ head_after a s.head
     pub listings : named whose t.listings ≡ listed_list a s.ticket v (named whose s.listings)
-    pub ticket : t.ticket ≡ ticket_left a (listed_ticket a s.ticket (named whose s.listings))
+    pub ticket : t.ticket ≡ listed_ticket a s.ticket (named whose s.listings)
 
   -- by what is seen, where there is room
   granted_by : (seen : Sees) (s : Claimant W) (w : W) (w' : Option W) (result : Answer W) (t : Claimant W)

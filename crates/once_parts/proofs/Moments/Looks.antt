@@ -7,8 +7,8 @@ use Rattle.once_queue.specs.declared.waiters.Answer.{Answer}
 use Rattle.once_queue.specs.declared.waiters.Answer.TheVariants.{Listed, Held}
 use Rattle.once_queue.specs.Claims.{Claims, Claimant}
 use Rattle.once_queue.specs.Listings.{own_listing}
-use Rattle.once_world.specs.Machine.{head_after, look_answer, looked_list}
-use Rattle.once_parts.specs.Named.{named, ticket_left}
+use Rattle.once_world.specs.Machine.{head_after, look_answer, looked_list, looked_ticket}
+use Rattle.once_parts.specs.Named.{named}
 use Rattle.once_parts.specs.Steps.{answer_as}
 use Rattle.once_parts.proofs.Moments.Named.{uncalled_named, without_named}
 
@@ -18,7 +18,7 @@ module _ {W : Type 0} (whose : W → ℕ) where
     pub answer : answer_as result ≡ a
     pub flag : t.head ≡ head_after a s.head
     pub listings : named whose t.listings ≡ looked_list a s.ticket (named whose s.listings)
-    pub ticket : t.ticket ≡ ticket_left a s.ticket
+    pub ticket : t.ticket ≡ looked_ticket a s.ticket
 
   -- where some task holds all is as it was, by whether the own listing was not called
   look_held : (l : Bool) (s : Claimant W) (result : Answer W) (t : Claimant W) → result ≡ cond l Listed Held → t ≡ s

@@ -3,8 +3,7 @@ use Rattle.std.proofs.Common.{◌≡◌, ℕ, rules, [], ◌∙◌, subst}
 use Rattle.once_core.specs.Table.{counted}
 use Rattle.once_parts.specs.Kept.{entries_of}
 use Rattle.once_parts.specs.Own.{Own, Stayed}
-use Rattle.once_parts.specs.Page.{next_of}
-use Rattle.once_parts.proofs.Desks.{did_after, prefix_on}
+use Rattle.once_parts.proofs.Desks.{prefix_on, went_after}
 use Rattle.once_parts.proofs.shared.counted.Goals as goal
 
 -- who stood still twice
@@ -30,5 +29,5 @@ pub returns-in-Some-try_count_in : goal.returns-in-Some-try_count_in
 returns-in-Some-try_count_in g c =
     record {
       book = search rules;
-      did = did_after (λ _ _. []) (λ task. next_of task.step task.waker (counted c.in-Some-try_count_in.counted)) _ _ _ c.loop.invariant.3 c.in-Some-try_count_in.ensures.did;
+      did = went_after (counted c.in-Some-try_count_in.counted) [] _ _ _ c.loop.invariant.3 c.in-Some-try_count_in.ensures.did;
     }

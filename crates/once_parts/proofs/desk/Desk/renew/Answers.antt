@@ -1,27 +1,21 @@
 -- The listing is the task's own, and its waker stays the task's.
 use Rattle.std.proofs.Common.{sym, subst}
-use Rattle.once_parts.specs.Desk.{Desked, IsDesked, IsShown, desked}
+use Rattle.once_parts.specs.Desk.{Desked, desked}
 use Rattle.once_parts.specs.Hands.{own_of}
 use Rattle.once_parts.specs.Sections.{IsOwnListing}
-use Rattle.once_parts.proofs.Desks.{renew_fits, renew_own}
+use Rattle.once_parts.proofs.Desks.{found_shown, renew_fits, renew_own}
 use Rattle.once_parts.proofs.desk.Desk.renew.Goals as goal
 
 pub invariant_of-self-2 : goal.invariant_of-self-2
 invariant_of-self-2 g c =
     let whose = g.W.TaskWaker.whose in
-    let d : Desked = desked c.note.new.desk.held in
-    let before : IsDesked whose c.self.inside.lists d = subst (IsDesked whose c.self.inside.lists) (sym c.note.ensures.told.0) c.self.invariant.1 in
-    let all : IsShown whose c.in-Some.queue.value d = subst (λ o. IsDesked whose o d) c.in-Some.is before in
-    let fits : IsShown whose c.deref_mut-lists.result.now d = subst (λ l. IsShown whose l d) (sym c.deref_mut-lists.ensures.value) all in
-    (c.note.ensures.desk, renew_fits whose c.deref_mut-lists.result.now d fits g.N.Renews.renewed c.requires.owner c.args.ticket _ _ c.renew.new.self c.renew.result c.renew.ensures.renewed (λ f. (c.renew.ensures.not f).0) c.renew.ensures.head)
+    let fits = found_shown whose c.self.invariant.1 c.note.ensures.told.0 c.in-Some.is c.deref_mut-lists.ensures.value in
+    (c.note.ensures.desk, renew_fits whose c.deref_mut-lists.result.now (desked c.note.new.desk.held) fits g.N.Renews.renewed c.requires.owner c.args.ticket _ _ c.renew.new.self c.renew.result c.renew.ensures.renewed (λ f. (c.renew.ensures.not f).0) c.renew.ensures.head)
 
 pub returns-clause-renewed : goal.returns-clause-renewed
 returns-clause-renewed g c = λ r.
     let whose = g.W.TaskWaker.whose in
-    let d : Desked = desked c.note.new.desk.held in
-    let before : IsDesked whose c.self.inside.lists d = subst (IsDesked whose c.self.inside.lists) (sym c.note.ensures.told.0) c.self.invariant.1 in
-    let all : IsShown whose c.in-Some.queue.value d = subst (λ o. IsDesked whose o d) c.in-Some.is before in
-    let fits : IsShown whose c.deref_mut-lists.result.now d = subst (λ l. IsShown whose l d) (sym c.deref_mut-lists.ensures.value) all in
+    let fits = found_shown whose c.self.invariant.1 c.note.ensures.told.0 c.in-Some.is c.deref_mut-lists.ensures.value in
     let t = (own_of c.args.hand.now).number in
-    let own : IsOwnListing c.args.ticket t d.listings = subst (λ (e : Desked). IsOwnListing c.args.ticket t e.listings) (sym c.note.ensures.told.0) c.note.ensures.told.2 in
-    renew_own whose c.deref_mut-lists.result.now d fits g.N.Renews.renewed c.args.ticket t _ _ c.renew.new.self own (c.renew.ensures.renewed r)
+    let own = subst (λ (e : Desked). IsOwnListing c.args.ticket t e.listings) (sym c.note.ensures.told.0) c.note.ensures.told.2 in
+    renew_own whose c.deref_mut-lists.result.now (desked c.note.new.desk.held) fits g.N.Renews.renewed c.args.ticket t _ _ c.renew.new.self own (c.renew.ensures.renewed r)

@@ -1,11 +1,10 @@
 -- A task that found no queue left it where it was, so what it takes under the lock is all of its step.
 use Rattle.std.proofs.Common.{rules, []}
 use Rattle.once_core.specs.Table.{Taken}
-use Rattle.once_parts.specs.Page.{next_of}
-use Rattle.once_parts.proofs.Desks.{did_after}
+use Rattle.once_parts.proofs.Desks.{went_after}
 use Rattle.once_parts.proofs.shared.SharedParts.door_take.Goals as goal
 
 pub returns : goal.returns
 returns g c =
     let stayed = c.finds_none_put.ensures.some c.if-finds_none_put.false in
-    (search rules, did_after (λ _ _. []) (λ task. next_of task.step task.waker (Taken c.is_some.result)) _ _ _ stayed (c.taken.ensures.did c.is_some.result))
+    (search rules, went_after (Taken c.is_some.result) [] _ _ _ stayed (c.taken.ensures.did c.is_some.result))

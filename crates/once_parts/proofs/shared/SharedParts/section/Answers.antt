@@ -2,4 +2,4 @@ use Rattle.once_parts.proofs.Refusals.{refusable}
 use Rattle.once_parts.proofs.shared.SharedParts.section.Goals as goal
 
 pub returns-clause-refuse : goal.returns-clause-refuse
-returns-clause-refuse g c = refusable g.W.TaskWaker.whose _ _ _ _ _ c.requires.can c.entered-answer.ensures.did
+returns-clause-refuse g c = refusable g.W.TaskWaker.whose _ _ c.entered-answer.new.op _ _ c.requires.can c.entered-answer.ensures.did

@@ -1,0 +1,101 @@
+-- Where the code stands at a place, the page does too. So the page may make the code's call, and goes on as the code does.
+use Rattle.std.proofs.Common.{◌≡◌, ℕ, [], List, Option, Some, None, refl, sym, ap, ◌∙◌, subst}
+use Rattle.std.specs.Prelude.{⊤}
+use Rattle.std.specs.Option.{is_some, option_map}
+use Rattle.once_queue.specs.declared.waiters.Answer.{Answer}
+use Rattle.once_queue.specs.declared.waiters.Answer.TheVariants.{Ready}
+use Rattle.once_queue.specs.Ops.{ticket_in}
+use Rattle.once_queue.specs.declared.waiters.Op.{Op}
+use Rattle.once_queue.specs.declared.waiters.Op.TheVariants.{Look, List as ListOwn, Release, Leave}
+use Rattle.once_core.specs.Table.{Call, Load, Section, Told, Loaded, Got, PutQueue, Was, after, call_at}
+use Rattle.once_world.specs.Places.{Place, AtStart, Step, Resting, UnderWay, Finished}
+use Rattle.once_parts.specs.Named.{handed_in}
+use Rattle.once_parts.specs.Own.{Own}
+use Rattle.once_parts.specs.Page.{Went, call_in, next_of, queue_of}
+use Rattle.once_parts.specs.Parts.{CanCall, DidCall}
+use Rattle.once_parts.specs.Places.{numbered}
+use Rattle.once_parts.specs.Steps.{answer_as, call_as, next_as, op_as, place_as, step_as, told_as}
+use Rattle.once_parts.specs.Walks.{StandsOn, the_queue}
+use Rattle.once_parts.proofs.Moments.Steps.{after_as, call_at_as}
+
+-- the page goes on by the table, from a place for which this one stands
+pub page_goes : (s : Step ℕ ℕ) (at : Place ℕ ⊤) (v : ℕ) (e : Told ℕ ℕ) → step_as (λ w. w) the_queue s ≡ UnderWay at
+    → next_as (λ w. w) the_queue (next_of s v e) ≡ after (Some v) at (told_as (λ w. w) the_queue e)
+page_goes (UnderWay p) at v e is =
+    let same : place_as (λ w. w) the_queue p ≡ at = cc in
+    after_as (λ w. w) the_queue (Some v) p e ∙ ap (λ at. after (Some v) at (told_as (λ w. w) the_queue e)) same
+page_goes (Resting r) at v e is = let no : ⊥ = cc in absurd no
+page_goes Finished at v e is = let no : ⊥ = cc in absurd no
+
+-- and makes that place's call
+page_calls : (s : Step ℕ ℕ) (at : Place ℕ ⊤) → step_as (λ w. w) the_queue s ≡ UnderWay at → call_as (λ w. w) the_queue (call_in s) ≡ call_at at
+page_calls (UnderWay p) at is = let same : place_as (λ w. w) the_queue p ≡ at = cc in call_at_as (λ w. w) the_queue p ∙ ap call_at same
+page_calls (Resting r) at is = let no : ⊥ = cc in absurd no
+page_calls Finished at is = let no : ⊥ = cc in absurd no
+
+-- a number for the queue, and back
+op_back : (op : Op ℕ) → op ≡ op_as (λ w. w) (op_as (λ w. w) op)
+op_back (ListOwn k (Some w)) = refl
+op_back (ListOwn k None) = refl
+op_back _ = refl
+
+call_back : (c : Call ℕ ℕ) → c ≡ call_as (λ w. w) (λ q. queue_of c) (call_as (λ w. w) the_queue c)
+call_back (Section q op) = ap (Section q) (op_back op)
+call_back _ = refl
+
+module _ {W : Type 0} (whose : W → ℕ) where
+  -- the code's names, and then the page's
+  op_twice : (op : Op W) → op_as (λ (w : ℕ). w) (op_as whose op) ≡ op_as whose op
+  op_twice (ListOwn k (Some w)) = refl
+  op_twice (ListOwn k None) = refl
+  op_twice _ = refl
+
+  call_twice : (q : ℕ) (c : Call W ⊤) → call_as (λ (w : ℕ). w) (λ (u : ⊤). q) (call_as whose (λ u. u) c) ≡ call_as whose (λ u. q) c
+  call_twice q (Section u op) = ap (Section q) (op_twice op)
+  call_twice q _ = refl
+
+  answer_twice : (a : Answer W) → ◌≡◌ {A = Answer ℕ} (answer_as {W = ℕ} (answer_as a)) (answer_as a)
+  answer_twice Ready = refl
+  answer_twice _ = refl
+
+  queue_twice : (n : ℕ) (q : Option ⊤) → option_map the_queue (option_map (λ (u : ⊤). n) q) ≡ option_map (λ (u : ⊤). u) q
+  queue_twice n (Some u) = refl
+  queue_twice n None = refl
+
+  pub told_twice : (n : ℕ) (e : Told W ⊤) → told_as (λ w. w) the_queue (told_as whose (λ (u : ⊤). n) e) ≡ told_as whose (λ (u : ⊤). u) e
+  told_twice n (Got q) = ap Got (queue_twice n q)
+  told_twice n (PutQueue q) = ap PutQueue (queue_twice n q)
+  told_twice n (Was q op a o) = λ i. Was tt (op_twice op i) (answer_twice a i) (Look (ticket_in o))
+  told_twice n _ = refl
+
+  -- the call of a place is no refusal
+  can_at : (s : Step ℕ ℕ) (at : Place W ⊤) → call_in s ≡ call_as whose (λ (u : ⊤). queue_of (call_in s)) (call_at at) → CanCall whose s (call_at at)
+  can_at s AtStart is = is
+  can_at s _ is = is
+
+  -- so a task that stands at a place may make its call
+  pub can_call : (v : Own) (at : Place W ⊤) → StandsOn whose v (UnderWay at) → CanCall whose v.task.step (call_at at)
+  can_call v at is =
+      let c : Call ℕ ℕ = call_in v.task.step in
+      let same : call_as (λ w. w) the_queue c ≡ call_as whose (λ (u : ⊤). u) (call_at at) =
+      page_calls v.task.step (place_as whose (λ u. u) at) (sym is) ∙ sym (call_at_as whose (λ (u : ⊤). u) at) in
+      can_at v.task.step at (call_back c ∙ ap (call_as (λ w. w) (λ (u : ⊤). queue_of c)) same ∙ call_twice (queue_of c) (call_at at))
+
+  -- whom a call hands out: a look and a listing nobody
+  abbrev pub handed_by : Told W ⊤ → List ℕ
+  handed_by (Was q (Release fills) a o) = handed_in whose a
+  handed_by (Was q (Leave k) a o) = handed_in whose a
+  handed_by e = []
+
+  -- a queue that is there
+  numbered_as : (n : ℕ) (q : Option ⊤) → numbered n (is_some q) ≡ option_map (λ (u : ⊤). n) q
+  numbered_as n (Some u) = refl
+  numbered_as n None = refl
+
+  -- what a call told of the page: it went on by the table, with some number for the queue
+  pub did_went : (v w : Own) (e : Told W ⊤) → DidCall whose v e w → (n : ℕ) × Went v (told_as whose (λ (u : ⊤). n) e) (handed_by e) w
+  did_went v w (Got q) did = (did.0, subst (λ o. Went v (Got o) [] w) (numbered_as did.0 q) did.1)
+  did_went v w (PutQueue q) did = (did.0, subst (λ o. Went v (PutQueue o) [] w) (numbered_as did.0 q) did.1)
+  did_went v w (Was q (Look k) a o) did = (queue_of (call_in v.task.step), did.0)
+  did_went v w (Was q op a o) did = (queue_of (call_in v.task.step), did.0)
+  did_went v w _ did = (0, did)
