@@ -4,8 +4,8 @@ use Rattle.once_queue.specs.declared.waiters.Op.TheVariants.{List as ListOwn}
 use Rattle.once_core.specs.Table.{Was, after_list}
 use Rattle.once_world.specs.Places.{AtList}
 use Rattle.once_parts.specs.Ways.{next_by}
-use Rattle.once_parts.specs.declared.ways.Reached.TheVariants.{Claimed, Ready, Refused}
-use Rattle.once_parts.proofs.Walk.Ways.{led}
+use Rattle.once_parts.specs.declared.ways.Reached.TheVariants.{Claimed, Ready, Refused, Waits}
+use Rattle.once_parts.proofs.Walk.Ways.{led, rests}
 use Rattle.once_parts.proofs.ways.waiter.list.Goals as goal
 
 pub returns-in-Ready-clause-leads : goal.returns-in-Ready-clause-leads
@@ -25,3 +25,14 @@ returns-in-Memory-clause-leads g c =
     let s = c.list-answer in
     led g.W.TaskWaker.whose (AtList tt c.args.ticket c.args.waker) (Was tt (ListOwn c.args.ticket (Some c.args.waker)) s.result.0 (ListOwn s.new.ticket s.new.waker))
     (next_by (Refused s.new.ticket)) refl refl (_, _, refl) c.requires.stands s.ensures.did (ap (λ a. after_list a tt s.new.ticket) c.in-Memory.is) refl
+
+pub returns-in_default : goal.returns-in_default
+returns-in_default g c =
+    let s = c.list-answer in
+    record {
+      book = s.ensures.book;
+      desk = s.ensures.desk;
+      leads = led g.W.TaskWaker.whose (AtList tt c.args.ticket c.args.waker) (Was tt (ListOwn c.args.ticket (Some c.args.waker)) s.result.0 (ListOwn s.new.ticket s.new.waker))
+          (next_by (Waits s.new.ticket)) refl refl (_, _, refl) c.requires.stands s.ensures.did
+          (rests s.result.0 s.new.ticket c.in_default.not-Ready c.in_default.not-Claimed c.in_default.not-Memory) refl;
+    }
