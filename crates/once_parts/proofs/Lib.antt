@@ -12,7 +12,8 @@
 --   Refusals  after a look the refusal of the copy may be told: `section` of the parts of `Shared`
 --   Sides     what the calls of a side tell, by what is told of the side; those who write sides cite it
 --   Idles     what a task is at between two calls, and the step that stands for it
---   Walk      a whole call, step by step along the table: `end`, `spans` and `call` of `Task::poll` and `Task::leave`
+--   Walk      a whole call, step by step along the table: `end`, `spans` and `call` of `Task::poll` and `Task::leave`.
+--             Its Ways has the steps of the straight ways, whose functions cite it
 --   Late      a poll that began where the cell was set ended with the value: `set` of `Task::poll`
 --
 -- The other folders are named after files and functions of src. `Answers` has the proofs of goals that are left open
