@@ -36,72 +36,11 @@ use Rattle.once_parts.specs.Steps.{answer_as, left_as, next_as, place_as, step_a
 use Rattle.once_parts.specs.Walks.{AreMid, Fits, GoesOn, HasBegun, MayEnd, Stands, StandsOn, handed, the_queue}
 use Rattle.once_parts.proofs.Desks.{prefix_on}
 use Rattle.once_parts.proofs.Moments.Steps.{after_as, copy_as}
-use Rattle.once_parts.proofs.Walk.Alike.{did_went, handed_by, page_goes, told_twice}
+use Rattle.once_parts.proofs.Walk.Alike.{did_went, handed_by, page_goes, records_named, told_twice}
 use Rattle.once_parts.proofs.Walk.Fits.{again_fits, begun_on, copy_fits, count_in_fits, fast_fits, fill_fits, get_fits, list_fits}
 use Rattle.once_parts.proofs.Walk.Fits.{load_fits, look_fits, may_end_on, out_fits, put_fits, quick_fits, run_fits, start_fits, take_fits}
 use Rattle.once_parts.proofs.Walk.Logs.{grew_on}
 use Rattle.once_parts.proofs.Walk.Parts.{Went, quiet, went_by}
-
--- a release hands these out, and does so in the middle of a call
-release_handed : (k : InitAnswer) (t : ℕ) (X : List ℕ) → handed (reverse (release_entry k t X ∷ [])) ≡ X
-release_handed RanPending t X = append-nil X
-release_handed (RanValue v) t X = append-nil X
-release_handed (RanError e) t X = append-nil X
-
-release_mid : (k : InitAnswer) (t : ℕ) (X : List ℕ) → AreMid (reverse (release_entry k t X ∷ []))
-release_mid RanPending t X = (refl, tt)
-release_mid (RanValue v) t X = (refl, tt)
-release_mid (RanError e) t X = (refl, tt)
-
--- and so does one who leaves
-pass_handed : (t : ℕ) (X : List ℕ) → handed (reverse (pass_entries t X)) ≡ X
-pass_handed t [] = refl
-pass_handed t (x ∷ X) = append-nil (x ∷ X)
-
-pass_mid : (t : ℕ) (X : List ℕ) → AreMid (reverse (pass_entries t X))
-pass_mid t [] = tt
-pass_mid t (x ∷ X) = (refl, tt)
-
--- a claim hands nobody out
-claim_handed : (b : Bool) (t : ℕ) → handed (reverse (claim_entries b t)) ≡ []
-claim_handed true t = refl
-claim_handed false t = refl
-
-claim_mid : (b : Bool) (t : ℕ) → AreMid (reverse (claim_entries b t))
-claim_mid true t = (refl, tt)
-claim_mid false t = tt
-
--- a section whose queue is gone records nothing
-gone_mid : (a : Answer ℕ) (es : List Entry) → AreMid (reverse es) → AreMid (reverse (unless_gone a es))
-gone_mid Gone es mid = tt
-gone_mid _ es mid = mid
-
-gone_handed : {W : Type 0} (whose : W → ℕ) (a : Answer W) (es : List Entry) → handed (reverse es) ≡ handed_in whose a → handed (reverse (unless_gone (answer_as a) es)) ≡ handed_in whose a
-gone_handed whose Gone es is = refl
-gone_handed whose _ es is = is
-
--- what a call records is neither the beginning nor the end of the task's
-records_mid : (e : Told ℕ ℕ) (t : ℕ) (k : InitAnswer) (X : List ℕ) → AreMid (reverse (records e (given_in e) t k X))
-records_mid (TriedQuick won) t k X = claim_mid won t
-records_mid (TriedFast fills true) t k X = release_mid k t []
-records_mid (Was q (Look n) a o) t k X = claim_mid (is_claim a) t
-records_mid (Was q (ListOwn n w) a o) t k X = claim_mid (is_claim a) t
-records_mid (Was q (Release fills) a o) t k X = gone_mid a (release_entry k t X ∷ []) (release_mid k t X)
-records_mid (Was q (Leave n) a o) t k X = gone_mid a (pass_entries t X) (pass_mid t X)
-records_mid (PolledInit a) t k X = (refl, tt)
-records_mid _ t k X = tt
-
-module _ {W : Type 0} (whose : W → ℕ) where
-  -- and it names those who are handed out
-  records_handed : (n : ℕ) (e : Told W ⊤) (given : InitAnswer) (t : ℕ) (k : InitAnswer)
-      → handed (reverse (records (told_as whose (λ (u : ⊤). n) e) given t k (handed_by whose e))) ≡ handed_by whose e
-  records_handed n (TriedQuick won) given t k = claim_handed won t
-  records_handed n (TriedFast fills true) given t k = release_handed k t []
-  records_handed n (Was q (Look m) a o) given t k = claim_handed (is_claim (answer_as a)) t
-  records_handed n (Was q (ListOwn m w) a o) given t k = claim_handed (is_claim (answer_as a)) t
-  records_handed n (Was q (Release fills) a o) given t k = gone_handed whose a (release_entry k t (handed_in whose a) ∷ []) (release_handed k t (handed_in whose a))
-  records_handed n (Was q (Leave m) a o) given t k = gone_handed whose a (pass_entries t (handed_in whose a)) (pass_handed t (handed_in whose a))
-  records_handed n _ given t k = refl
 
 -- what the init gave, where it gave an error
 error_kept : (a : Polled) (k : InitAnswer) → a ≡ Error → kept_after (unnamed a) k ≡ RanError 0
@@ -138,37 +77,25 @@ record Still (closes : Bool) (x y : Sided) : Type 0 where
   pub error : y.has_error ≡ x.has_error
   pub woke : y.woke ≡ x.woke
 
--- after a call that left it as it was
-still_after : (b : Bool) (x y z : Sided) → y ≡ x → Still b y z → Still b x z
-still_after b x y z same c = record {
-  number = c.number ∙ ap (λ (x : Sided). x.number) same;
-  init = λ e. c.init e ∙ ap (λ (x : Sided). x.has_init) same;
-  value = c.value ∙ ap (λ (x : Sided). x.has_value) same;
-  error = c.error ∙ ap (λ (x : Sided). x.has_error) same;
-  woke = c.woke ∙ ap (λ (x : Sided). x.woke) same;
+-- by what became of its init
+still : (b i : Bool) (x y : Sided) → y ≡ record x { has_init = i } → (b ≡ false → i ≡ x.has_init) → Still b x y
+still b i x y is init = record {
+  number = ap (λ (x : Sided). x.number) is;
+  init = λ e. ap (λ (x : Sided). x.has_init) is ∙ init e;
+  value = ap (λ (x : Sided). x.has_value) is;
+  error = ap (λ (x : Sided). x.has_error) is;
+  woke = ap (λ (x : Sided). x.woke) is;
 }
 
 module _ {P S W : Type 0} (cell : P → Placed) (own : P → Own) (whose : W → ℕ) (state : S → Sided) (side : SideTells S W) (tells : IsTold whose state side) (drops : Bool) where
   -- an init that is dropped or not
   closed : (b : Bool) (s s' : S) → MayClose side.close b s s' → Still b (state s) (state s')
-  closed true s s' c =
-      let is = tells.close s s' c in
-      record {
-        number = ap (λ (x : Sided). x.number) is;
-        init = λ e. absurd (false≢true (sym e));
-        value = ap (λ (x : Sided). x.has_value) is;
-        error = ap (λ (x : Sided). x.has_error) is;
-        woke = ap (λ (x : Sided). x.woke) is;
-      }
-  closed false s s' c =
-      let is = ap state c in
-      record {
-        number = ap (λ (x : Sided). x.number) is;
-        init = λ e. ap (λ (x : Sided). x.has_init) is;
-        value = ap (λ (x : Sided). x.has_value) is;
-        error = ap (λ (x : Sided). x.has_error) is;
-        woke = ap (λ (x : Sided). x.woke) is;
-      }
+  closed true s s' c = still true false (state s) (state s') (tells.close s s' c) (λ e. absurd (false≢true (sym e)))
+  closed false s s' c = still false (state s).has_init (state s) (state s') (ap state c) (λ e. refl)
+
+  -- the same after a copy, which leaves the side as it was
+  closed_after : (b : Bool) (s m s' : S) → state m ≡ state s → MayClose side.close b m s' → Still b (state s) (state s')
+  closed_after b s m s' same c = subst (λ x. Still b x (state s')) same (closed b m s' c)
 
   -- what a step that hands nobody out leaves of what was known
   record Leaves (closes : Bool) (p p' : P) (s s' : S) : Type 0 where
@@ -213,13 +140,14 @@ module _ {P S W : Type 0} (cell : P → Placed) (own : P → Own) (whose : W →
         let v : Own = own p in
         let went = did_went whose v (own p') e did in
         let d : Told ℕ ℕ = told_as whose (λ (u : ⊤). went.0) e in
+        let named = records_named whose went.0 e (given_in d) v.number v.task.kept in
         let b : Next ℕ ℕ = next_of v.task.step v.task.waker d in
         let at' : Place ℕ ⊤ = place_as whose (λ u. u) at in
         let right : next_as (λ w. w) the_queue b ≡ after (option_map whose c) at' (told_as whose (λ u. u) e) =
         page_goes v.task.step at' v.task.waker d (sym stands) ∙ ap (after (Some v.task.waker) at') (told_twice whose went.0 e) ∙ sym copy in
         went_by cell own whose state drops p p' s s' r t (after c at e) b (after (option_map whose c) at' (told_as whose (λ u. u) e)) (task_after v.task d)
         (records d (given_in d) v.number v.task.kept (handed_by whose e)) (handed_by whose e) same went.1 refl (after_as whose (λ (u : ⊤). u) c at e) right
-        (records_mid d v.number v.task.kept (handed_by whose e)) (records_handed whose went.0 e (given_in d) v.number v.task.kept) woke number more leads
+        named.0 named.1 woke number more leads
         (fits went.0 went.1.number (ap (λ (x : TaskState). x.waker) went.1.task) (ap (λ (x : TaskState). x.kept) went.1.task))
 
     -- where nobody is handed out, and the side at most closes its init
@@ -263,7 +191,7 @@ module _ {P S W : Type 0} (cell : P → Placed) (own : P → Own) (whose : W →
         → side.copy s c m → MayRefuse (λ p t. parts_did cell own whose p Refused t) c n p' → Follows side.close (after_copy c tt j) m s' r t → Went cell own whose state drops p s r p' s' t
     copied q j (Some w) m same d copy back f =
         let told = tells.copy s (Some w) m copy in
-        let now = still_after false (state s) (state m) (state s') told.0 (closed false m s' f.0) in
+        let now = closed_after false s m s' told.0 f.0 in
         let v : ℕ = (own p).task.waker in
         let y : TaskState = record (own p).task { step = UnderWay (AtList q j v) } in
         let after : Turned (own p) y [] (own p') = subst (λ o. Turned (own p) y [] (own o)) (sym back) d in
@@ -274,8 +202,7 @@ module _ {P S W : Type 0} (cell : P → Placed) (own : P → Own) (whose : W →
         tt refl (quiet (state s) (state s') now.woke) (now.number ∙ is.number) f.1 f.2
         (copy_fits W ⊤ drops (state s') (own p') (Some w) tt j (begun leaves is.fits.1) (inits leaves is.fits.1))
     copied q j None m same d copy refused f =
-        let told' = tells.copy s None m copy in
-        let now = still_after true (state s) (state m) (state s') told'.0 (closed true m s' f.0) in
+        let now = closed_after true s m s' (tells.copy s None m copy).0 f.0 in
         let y : TaskState = record (own p).task { step = UnderWay (leave_place q j EndMemory) } in
         let back : Turned (own n) y [] (own p') = subst
         (λ (x : TaskState). Turned (own n) (task_after x Refused) (told (own n).number (task_after x Refused).kept (next_of x.step x.waker Refused) []) (own p')) d.task refused.1 in
@@ -290,15 +217,20 @@ module _ {P S W : Type 0} (cell : P → Placed) (own : P → Own) (whose : W →
         (copy_as whose (λ (q : ⊤). q) None tt j) (copy_as (λ w. w) the_queue None q j) tt refl (quiet (state s) (state s') now.woke) (now.number ∙ is.number) f.1 f.2
         (copy_fits W ⊤ drops (state s') (own p') None tt j (begun leaves is.fits.1) (inits leaves is.fits.1))
 
+    -- where it wants no copy
+    seen : (a : Answer W) (o : Op W) → let e : Told W ⊤ = Was tt (Look k) a o in
+        parts_did cell own whose p e n
+        → ◌≡◌ {A = Next ℕ ⊤} (after None (AtLook tt k) (told_as whose (λ u. u) e)) (after (Some (own p).task.waker) (AtLook tt k) (told_as whose (λ u. u) e))
+        → p' ≡ n → Follows side.close (after None (AtLook tt k) e) s s' r t → Went cell own whose state drops p s r p' s' t
+    seen a o did copy same f = subst (λ p'. Went cell own whose state drops p s r p' s' t) (sym same)
+        (plain (AtLook tt k) (Was tt (Look k) a o) is did copy refl (λ n. refl) f (λ l. look_fits W ⊤ drops (state s') (own n) a None tt (ticket_in o) (begun l is.fits.1) (inits l is.fits.1)))
+
     -- by its answer
     looked : (a : Answer W) (o : Op W) → parts_did cell own whose p (Was tt (Look k) a o) n
         → Looked (parts_did cell own whose) side (wants_copy (Look k) a) (AtLook tt k) (Was tt (Look k) a o) n s r t p' s' → Went cell own whose state drops p s r p' s' t
-    looked Ready o did (same, f) = subst (λ p'. Went cell own whose state drops p s r p' s' t) (sym same)
-        (plain (AtLook tt k) (Was tt (Look k) Ready o) is did refl refl (λ n. refl) f (λ l. look_fits W ⊤ drops (state s') (own n) Ready None tt (ticket_in o) (begun l is.fits.1) (inits l is.fits.1)))
-    looked Claimed o did (same, f) = subst (λ p'. Went cell own whose state drops p s r p' s' t) (sym same)
-        (plain (AtLook tt k) (Was tt (Look k) Claimed o) is did refl refl (λ n. refl) f (λ l. look_fits W ⊤ drops (state s') (own n) Claimed None tt (ticket_in o) (begun l is.fits.1) (inits l is.fits.1)))
-    looked Listed o did (same, f) = subst (λ p'. Went cell own whose state drops p s r p' s' t) (sym same)
-        (plain (AtLook tt k) (Was tt (Look k) Listed o) is did refl refl (λ n. refl) f (λ l. look_fits W ⊤ drops (state s') (own n) Listed None tt (ticket_in o) (begun l is.fits.1) (inits l is.fits.1)))
+    looked Ready o did (same, f) = seen Ready o did refl same f
+    looked Claimed o did (same, f) = seen Claimed o did refl same f
+    looked Listed o did (same, f) = seen Listed o did refl same f
     looked Held o did (c, m, copy, may, f) = let l = look_from p n k Held o is.step did in copied l.0 (ticket_in o) c m did.0 l.1 copy may f
     looked Memory o did (c, m, copy, may, f) = let l = look_from p n k Memory o is.step did in copied l.0 (ticket_in o) c m did.0 l.1 copy may f
     looked Gone o did (c, m, copy, may, f) = let l = look_from p n k Gone o is.step did in copied l.0 (ticket_in o) c m did.0 l.1 copy may f

@@ -1,12 +1,8 @@
-use Rattle.std.proofs.Common.{◌∙◌, inl, inr, ⊎_elim, sym, ap, subst}
+use Rattle.std.proofs.Common.{◌∙◌, inl, inr, ⊎_elim, ap}
 use Rattle.std.specs.Option.{is_some}
 use Rattle.once_queue.specs.Listings.{kept_ticket}
-use Rattle.once_parts.specs.Sections.{IsSection}
 use Rattle.once_parts.proofs.Desks.{in_section, list_ends, refusal_ends, roomed}
 use Rattle.once_parts.proofs.desk.Desk.list.Goals as goal
-
-pub note-requires-clause-can : goal.note-requires-clause-can
-note-requires-clause-can g c = subst IsSection (sym c.requires.can) tt
 
 pub invariant_of-self : goal.invariant_of-self
 invariant_of-self g c =

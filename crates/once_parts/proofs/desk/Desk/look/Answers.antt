@@ -1,10 +1,5 @@
-use Rattle.std.proofs.Common.{sym, subst}
-use Rattle.once_parts.specs.Sections.{IsSection}
 use Rattle.once_parts.proofs.Desks.{in_section, look_ends}
 use Rattle.once_parts.proofs.desk.Desk.look.Goals as goal
-
-pub note-requires-clause-can : goal.note-requires-clause-can
-note-requires-clause-can g c = subst IsSection (sym c.requires.can) tt
 
 pub invariant_of-self : goal.invariant_of-self
 invariant_of-self g c =
