@@ -73,7 +73,12 @@ impl<T: Keyed> KeyedMutex<T> {
     pub fn lock<J: Key, R: Wait>(&self, rt: &R) -> MutexGuard<'_, Tied<T, J>>
         requires { self.now ≡ J.key }
     {
-        self.get::<J>().lock.lock(rt)
+        let lock = &self.get::<J>().lock;
+        // `lock` begins with this too, but is a call.
+        match lock.try_lock() {
+            Some(held) => held,
+            None => lock.lock(rt),
+        }
     }
 
     /// Takes the lock if it is free.
