@@ -23,7 +23,7 @@ use once_parts::{Hand, Pollable};
 use std::alloc::AllocGlobal;
 use std::marker::Model;
 use std::random::RandomSource;
-use std::sync::{Mutex, Wait};
+use std::sync::{Mutex, MutexGuard, Wait};
 use std::{fmt, io};
 
 /// Future of [`Lazy::get`](crate::Lazy::get).
@@ -261,7 +261,7 @@ impl<F: Future, R: Wait> Driven<'_, F, R> {
         ensures { IsSome result }
     {
         for _ in self.rt.forever() {
-            let future = self.future.lock(self.rt).take();
+            let future = self.locked().take();
             if future.is_some() {
                 return future;
             }
@@ -271,7 +271,16 @@ impl<F: Future, R: Wait> Driven<'_, F, R> {
 
     #[inline(always)]
     fn put_back(&self, future: Option<Pollable<F>>) {
-        *self.future.lock(self.rt) = future;
+        *self.locked() = future;
+    }
+
+    // The lock is mostly free: then this makes no call, as `lock` would.
+    #[inline(always)]
+    fn locked(&self) -> MutexGuard<'_, Option<Pollable<F>>> {
+        match self.future.try_lock() {
+            Some(held) => held,
+            None => self.future.lock(self.rt),
+        }
     }
 }
 
