@@ -23,7 +23,7 @@ use Rattle.once_world.specs.Record.{Entry}
 use Rattle.once_world.specs.Book.{TaskState}
 use Rattle.once_world.specs.Machine.{AtList, Step, UnderWay, listed_ticket, looked_ticket, records, release_list, release_wakers}
 use Rattle.once_parts.specs.Kept.{Grew, entries_of, has_passed, hands_out}
-use Rattle.once_parts.specs.Named.{HasRenewed, KeepsOwner, as_memory, named, named_one, named_out}
+use Rattle.once_parts.specs.Named.{HasRenewed, KeepsOwner, named, named_one, named_out}
 use Rattle.once_parts.specs.Steps.{answer_as}
 use Rattle.once_parts.specs.Desk.{Desked, IsDesked, IsShown}
 use Rattle.once_parts.specs.Own.{Own, Stayed, told}
@@ -107,15 +107,15 @@ module _ {W : Type 0} {g : _} (whose : W → ℕ) (l : Lists W g) (d : Desked) (
       let s = list_shown whose (sees (flags_of n) l.head) (claimant l k) w w' result (claimant l' k') room claims held head in
       subst (ListFits true n k (whose w) l' (answer_as result) k') shown_is ((fits.0, s.flag, s.listings), s.answer, s.ticket)
 
-  -- after a look in place of a listing for which there was no room
+  -- after a listing for which there was no room
   refusal_fits : (n : ℕ) (k k' : Option ℕ) (v : ℕ) (l' : Lists W g) (result : Answer W) → is_some (kept_ticket k (listings_of l)) ≡ false
       → Claims (sees (flags_of n) l.head) (claimant l k) result (claimant l' k')
-      → (sees (flags_of n) l.head ≡ Sees.Taken → result ≡ cond (is_some (option_flatten (own_listing k (listings_of l)))) Listed Held)
+      → (sees (flags_of n) l.head ≡ Sees.Taken → result ≡ Memory)
       → (sees (flags_of n) l.head ≡ Sees.Taken → claimant l' k' ≡ claimant l k)
-      → ListFits false n k v l' (answer_as (as_memory result)) k' d
+      → ListFits false n k v l' (answer_as result) k' d
   refusal_fits n k k' v l' result gone claims held stays =
       let s = refusal_shown whose (sees (flags_of n) l.head) (claimant l k) v result (claimant l' k') gone claims held stays in
-      subst (ListFits false n k v l' (answer_as (as_memory result)) k') shown_is ((fits.0, s.flag, s.listings), s.answer, s.ticket)
+      subst (ListFits false n k v l' (answer_as result) k') shown_is ((fits.0, s.flag, s.listings), s.answer, s.ticket)
 
   -- after a waker was renewed, or none was
   pub renew_fits : {N : Type 0} (renewed : N → W → N → W → Type 0) → KeepsOwner whose renewed → (n : ℕ) (s t : N) (l' : Lists W g) (b : Bool)
@@ -204,9 +204,9 @@ module _ {W : Type 0} {g : _} (whose : W → ℕ) where
       → call_in x.task.step ≡ Section q (ListOwn k (option_map whose o)) → InSection l false n (Section q (ListOwn k (option_map whose o))) x e z
       → is_some (kept_ticket k (listings_of l)) ≡ false
       → Claims (sees (flags_of n) l.head) (claimant l k) result (claimant l' k')
-      → (sees (flags_of n) l.head ≡ Sees.Taken → result ≡ cond (is_some (option_flatten (own_listing k (listings_of l)))) Listed Held)
+      → (sees (flags_of n) l.head ≡ Sees.Taken → result ≡ Memory)
       → (sees (flags_of n) l.head ≡ Sees.Taken → claimant l' k' ≡ claimant l k)
-      → IsShown whose l' e × Went x (Was q (ListOwn k (option_map whose o)) (answer_as (as_memory result)) (Look k')) [] z
+      → IsShown whose l' e × Went x (Was q (ListOwn k (option_map whose o)) (answer_as result) (Look k')) [] z
   refusal_ends {l = l} {n = n} {q = q} {x = x} {z = z} {k = k} (Some w) k' l' result at s gone claims held stays =
       let f = refusal_fits whose l s.before s.shown n k k' (whose w) l' result gone claims held stays in
       (subst (IsShown whose l') (sym s.did.desk) f.0, was_so x z q (ListOwn k (Some (whose w))) {X = []} {X' = []} f.1 (ap Look f.2) refl s.did.went)

@@ -4,7 +4,7 @@ use Rattle.std.specs.Prelude.{◌≡◌, ℕ, List, [], ◌∷◌, map, Option}
 use Rattle.std.specs.Option.{option_map, option_to_list}
 use Rattle.once_queue.specs.declared.waiters.Listing.{Listing}
 use Rattle.once_queue.specs.declared.waiters.Answer.{Answer}
-use Rattle.once_queue.specs.declared.waiters.Answer.TheVariants.{Held, Memory, Released, Left}
+use Rattle.once_queue.specs.declared.waiters.Answer.TheVariants.{Released, Left}
 use Rattle.once_queue.specs.declared.waiters.Out.{Out}
 use Rattle.once_queue.specs.declared.waiters.Out.TheVariants.{One, All}
 use Rattle.once_queue.specs.Listings.{wakers_of}
@@ -42,8 +42,3 @@ module _ {W N : Type 0} (whose : W → ℕ) (renewed : N → W → N → W → T
   -- a waker of this task was renewed
   abbrev pub HasRenewed : ℕ → N → N → Type 0
   HasRenewed n s t = (v w : W) × (whose v ≡ n) × renewed s v t w
-
--- who looks in place of listing itself, since memory was refused, could not list itself where it finds a holder
-abbrev pub as_memory : {W : Type 0} → Answer W → Answer W
-as_memory Held = Memory
-as_memory a = a

@@ -2,9 +2,10 @@
 ghost use Rattle.std.specs.Prelude.{◌≡◌, ◌*◌, ◌⊎◌, ℕ, Bool, true, false, List, [], ◌∷◌, Option, Some, None};
 ghost use Rattle.std.specs.Option.{is_some};
 ghost use Rattle.pagebook.specs.Pages.{Book};
+ghost use Rattle.once_queue.specs.Claims.{Claims};
 ghost use Rattle.once_queue.specs.Listings.{kept_ticket};
-ghost use Rattle.once_queue.specs.Room.{HasSpace, listings_of};
-ghost use Rattle.once_parts.specs.Named.{as_memory};
+ghost use Rattle.once_queue.specs.Room.{HasSpace, claimant, listings_of};
+ghost use Rattle.once_queue.specs.Word.{flags_of, sees};
 ghost use Rattle.once_parts.specs.Sections.{more_released};
 
 use crate::act::Section;
@@ -13,7 +14,7 @@ use crate::hand::Hand;
 use crate::mark::TaskWaker;
 use crate::under_lock::{note, put, release, see};
 use once_queue::waiters::{Answer, Lists, Out, Renews, WakerId};
-use once_queue::word::{QINIT_BIT, READY_BIT};
+use once_queue::word::{QINIT_BIT, READY_BIT, Sees, Word};
 use pagebook::Keyed;
 use std::marker::Model;
 
@@ -172,8 +173,7 @@ impl<W: TaskWaker + Drop> Desk<W> {
         if room {
             return lists.list_own(ticket, waker, found);
         }
-        let (answer, spent) = lists.look_own(ticket, found);
-        (without_memory(answer), spent)
+        (list_without_room(lists, ticket, found), None)
     }
 
     /// Lets the waker of the listing of a task at rest be renewed. The answer says whether there is one. No page
@@ -285,13 +285,28 @@ fn has_room<W: WakerId + Drop>(lists: &mut Lists<W>, ticket: Option<u64>) -> boo
     lists.is_listed(ticket) || lists.reserve().is_ok()
 }
 
-// What a `List` answers where there was no room, by what a look answers.
+// A `List` where there was no room, and the own ticket has no listing: claims the right if it is free.
+// A claim then takes no listing out. With `look_own` in this place, a section is so large that the kit inlines none.
 #[inline(always)]
-fn without_memory<W: Drop>(answer: Answer<W>) -> Answer<W>
-    ensures { result ≡ as_memory answer }
+fn list_without_room<W: WakerId + Drop>(
+    lists: &mut Lists<W>,
+    ticket: &mut Option<u64>,
+    word: u64,
+) -> Answer<W>
+    requires none { is_some (kept_ticket ticket.old (listings_of lists.old)) ≡ false }
+    ensures claims { Claims (sees (flags_of word) lists.old.head)
+        (claimant lists.old ticket.old) result (claimant lists.new ticket.new) }
+    ensures memory { sees (flags_of word) lists.old.head ≡ Sees.Taken → result ≡ Answer.Memory }
+    ensures stays { sees (flags_of word) lists.old.head ≡ Sees.Taken
+        → claimant lists.new ticket.new ≡ claimant lists.old ticket.old }
 {
-    match answer {
-        Answer::Held => Answer::Memory,
-        other => other,
+    match Word::from_bits(word).sees(lists.head) {
+        Sees::Set => Answer::Ready,
+        Sees::Taken => Answer::Memory,
+        Sees::Free => {
+            *ticket = None;
+            lists.head = true;
+            Answer::Claimed
+        }
     }
 }

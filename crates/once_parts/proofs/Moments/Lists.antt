@@ -1,17 +1,16 @@
 -- A call to list oneself is the listing of the machine on the page, where room was made before the load, or was refused.
-use Rattle.std.proofs.Common.{◌≡◌, ◌⊎◌, ℕ, Bool, true, false, cond, ◌||◌, Option, Some, ⊎_elim, refl, sym, ap, ◌∙◌}
-use Rattle.std.specs.Option.{is_some, option_flatten}
+use Rattle.std.proofs.Common.{◌≡◌, ◌⊎◌, ℕ, Bool, true, false, ◌||◌, Option, Some, ⊎_elim, refl, sym, ap, ◌∙◌}
+use Rattle.std.specs.Option.{is_some}
 use Rattle.std.proofs.lemmas.Bool.{true≢false}
 use Rattle.once_queue.specs.declared.word.Sees.{Sees}
 use Rattle.once_queue.specs.declared.word.Sees.TheVariants.{Set, Free, Taken}
 use Rattle.once_queue.specs.declared.waiters.Answer.{Answer}
-use Rattle.once_queue.specs.declared.waiters.Answer.TheVariants.{Listed, Held, Memory}
+use Rattle.once_queue.specs.declared.waiters.Answer.TheVariants.{Memory}
 use Rattle.once_queue.specs.Claims.{Claims, Claimant}
-use Rattle.once_queue.specs.Listings.{kept_ticket, own_listing}
+use Rattle.once_queue.specs.Listings.{kept_ticket}
 use Rattle.once_queue.specs.Sections.{DidList}
-use Rattle.once_queue.proofs.Listing.Tickets.{own_none}
 use Rattle.once_world.specs.Machine.{head_after, list_answer, listed_list, listed_ticket}
-use Rattle.once_parts.specs.Named.{as_memory, named}
+use Rattle.once_parts.specs.Named.{named}
 use Rattle.once_parts.specs.Steps.{answer_as}
 use Rattle.once_parts.proofs.Moments.Named.{kept_named, list_named, ticket_named, without_named}
 
@@ -53,20 +52,18 @@ module _ {W : Type 0} (whose : W → ℕ) where
   list_shown seen s w w' result t fits claims held head =
       rw (or_true (is_some (kept_ticket s.ticket (named whose s.listings)))) (granted_by seen s w w' result t fits claims held head)
 
-  -- by what is seen, where there is no room: a look in place of the listing
+  -- by what is seen, where there is no room
   refused_by : (seen : Sees) (s : Claimant W) (v : ℕ) (result : Answer W) (t : Claimant W) → Claims seen s result t
-      → (seen ≡ Sees.Taken → result ≡ Held) → (seen ≡ Sees.Taken → t ≡ s) → ListShown v (list_answer (Some seen) false) s (as_memory result) t
+      → (seen ≡ Sees.Taken → result ≡ Memory) → (seen ≡ Sees.Taken → t ≡ s) → ListShown v (list_answer (Some seen) false) s result t
   refused_by Set s v result t claims held stays = rw (claims.0, claims.1) record { answer = refl; flag = refl; listings = refl; ticket = refl }
   refused_by Free s v result t claims held stays = rw (claims.0, claims.1) record { answer = refl; flag = refl; listings = sym (without_named whose s.ticket s.listings); ticket = refl }
   refused_by Taken s v result t claims held stays = rw (held refl, stays refl) record { answer = refl; flag = refl; listings = refl; ticket = refl }
 
-  -- from what `look_own` tells, where the own ticket has no listing and room was refused: who would list itself looks in place of it
+  -- from what `list_without_room` tells: the own ticket has no listing, and room was refused
   pub refusal_shown : (seen : Sees) (s : Claimant W) (v : ℕ) (result : Answer W) (t : Claimant W)
       → is_some (kept_ticket s.ticket s.listings) ≡ false → Claims seen s result t
-      → (seen ≡ Sees.Taken → result ≡ cond (is_some (option_flatten (own_listing s.ticket s.listings))) Listed Held)
-      → (seen ≡ Sees.Taken → t ≡ s)
-      → ListShown v (list_answer (Some seen) (is_some (kept_ticket s.ticket (named whose s.listings)) || false)) s (as_memory result) t
+      → (seen ≡ Sees.Taken → result ≡ Memory) → (seen ≡ Sees.Taken → t ≡ s)
+      → ListShown v (list_answer (Some seen) (is_some (kept_ticket s.ticket (named whose s.listings)) || false)) s result t
   refusal_shown seen s v result t gone claims held stays =
       let none : is_some (kept_ticket s.ticket (named whose s.listings)) ≡ false = ap (λ (o : Option ℕ). is_some o) (kept_named whose s.ticket s.listings) ∙ gone in
-      rw none (refused_by seen s v result t claims
-      (λ e. held e ∙ ap (λ o. cond (is_some (option_flatten o)) Listed Held) (own_none s.ticket s.listings gone)) stays)
+      rw none (refused_by seen s v result t claims held stays)

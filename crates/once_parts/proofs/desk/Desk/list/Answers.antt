@@ -34,10 +34,10 @@ invariant_of-self-2 g c =
     let r = c.has_room-room.ensures in
     let s = roomed whose c.has_room-room.new.lists r.head r.listings c.if-room.false
     (in_section whose c.self.invariant.1 c.note.ensures.told.0 c.in-Some.is c.deref_mut-lists.ensures.value c.requires.can c.note.ensures.told.1 c.see-found.ensures.told) in
-    let e = c.look_own-answer.ensures in (
+    let e = c.list_without_room.ensures in (
       c.see-found.ensures.desk,
-      (refusal_ends whose c.args.waker.now c.look_own-answer.new.ticket c.look_own-answer.new.self c.look_own-answer.result.0 c.requires.can s
-          (ap (λ xs. is_some (kept_ticket c.args.ticket.now xs)) r.listings ∙ r.none c.if-room.false) e.claims e.held e.stays).0,
+      (refusal_ends whose c.args.waker.now c.list_without_room.new.ticket c.list_without_room.new.lists c.list_without_room.result c.requires.can s
+          (ap (λ xs. is_some (kept_ticket c.args.ticket.now xs)) r.listings ∙ r.none c.if-room.false) e.claims e.memory e.stays).0,
     )
 
 pub returns-clause-did : goal.returns-clause-did
@@ -46,9 +46,9 @@ returns-clause-did g c =
     let r = c.has_room-room.ensures in
     let s = roomed whose c.has_room-room.new.lists r.head r.listings c.if-room.false
     (in_section whose c.self.invariant.1 c.note.ensures.told.0 c.in-Some.is c.deref_mut-lists.ensures.value c.requires.can c.note.ensures.told.1 c.see-found.ensures.told) in
-    let e = c.look_own-answer.ensures in
-    rw c.without_memory.ensures (
-      (refusal_ends whose c.args.waker.now c.look_own-answer.new.ticket c.look_own-answer.new.self c.look_own-answer.result.0 c.requires.can s
-          (ap (λ xs. is_some (kept_ticket c.args.ticket.now xs)) r.listings ∙ r.none c.if-room.false) e.claims e.held e.stays).1,
+    let e = c.list_without_room.ensures in
+    (
+      (refusal_ends whose c.args.waker.now c.list_without_room.new.ticket c.list_without_room.new.lists c.list_without_room.result c.requires.can s
+          (ap (λ xs. is_some (kept_ticket c.args.ticket.now xs)) r.listings ∙ r.none c.if-room.false) e.claims e.memory e.stays).1,
       tt,
     )
