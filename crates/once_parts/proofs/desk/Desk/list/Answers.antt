@@ -46,8 +46,7 @@ returns-clause-did g c =
     let r = c.has_room-room.ensures in
     let s = roomed whose c.has_room-room.new.lists r.head r.listings c.if-room.false
     (in_section whose c.self.invariant.1 c.note.ensures.told.0 c.in-Some.is c.deref_mut-lists.ensures.value c.requires.can c.note.ensures.told.1 c.see-found.ensures.told) in
-    let e = c.list_without_room.ensures in
-    (
+    let e = c.list_without_room.ensures in (
       (refusal_ends whose c.args.waker.now c.list_without_room.new.ticket c.list_without_room.new.lists c.list_without_room.result c.requires.can s
           (ap (λ xs. is_some (kept_ticket c.args.ticket.now xs)) r.listings ∙ r.none c.if-room.false) e.claims e.memory e.stays).1,
       tt,
