@@ -19,6 +19,7 @@ ghost use Rattle.once_parts.specs.Walks.{Stands};
 ghost use Rattle.once_parts.specs.Ways.{Leads, LeadsBy, StandsBy, next_by};
 
 mod door;
+mod holder;
 mod quick;
 mod waiter;
 
@@ -95,6 +96,8 @@ pub(crate) fn later<
     match *idle {
         Idle::Listed(ticket) => waiter::wait(parts, idle, Some(ticket), side),
         Idle::Unlisted => waiter::wait(parts, idle, None, side),
+        Idle::Quick => holder::hold(parts, idle, None, side),
+        Idle::Queued => holder::hold(parts, idle, Some(()), side),
         _ => {
             let mut step = idle.step();
             step.begin();
@@ -123,7 +126,7 @@ fn go_on_from<
             side.close();
             waiter::count_out(parts, idle, Ending::Value, side)
         }
-        Reached::Claimed => steps_left(parts, idle, Step::UnderWay(Place::Run(Some(()))), side),
+        Reached::Claimed => holder::hold(parts, idle, Some(()), side),
         Reached::Waits(ticket) => {
             *idle = Idle::of(Step::<W, ()>::Resting(Rest::Wait((), ticket)));
             Ending::Pending

@@ -7,18 +7,19 @@ use Rattle.once_queue.specs.Ops.{ticket_in}
 use Rattle.once_queue.specs.declared.waiters.Answer.{Answer}
 use Rattle.once_queue.specs.declared.waiters.Answer.TheVariants.{Ready, Claimed, Listed, Held, Memory, Gone, Released, Left}
 use Rattle.once_queue.specs.declared.waiters.Op.{Op}
+use Rattle.once_queue.specs.declared.waiters.Out.{Out}
 use Rattle.once_queue.specs.declared.waiters.Op.TheVariants.{Look, List as ListOwn, Release, Leave}
 use Rattle.once_core.specs.declared.step.Polled.{Polled}
-use Rattle.once_core.specs.Steps.{MayClose, release_place}
+use Rattle.once_core.specs.Steps.{MayClose, is_value, release_place}
 use Rattle.once_core.specs.Table.{Call, Load, Quick, Fast, CountIn, AddOne, CountOut, DoorGet, DoorPut, DoorTake, Section, Refuse, Run, Put}
 use Rattle.once_core.specs.Table.{Told, Loaded, TriedQuick, TriedFast, CountedIn, Added, CountedOut, Got, PutQueue, Taken, Was, Refused, Ran, PutValue}
 use Rattle.once_core.specs.Table.{GoesOn, Line, Looked, MayRefuse, Next, SideDid, Tells, after, after_copy, after_list, after_run, call_at, next_at, next_rest, wants_copy}
-use Rattle.once_world.specs.Places.{EndValue, More, Progress, RestWait, Step, UnderWay}
+use Rattle.once_world.specs.Places.{EndValue, Ending, More, Progress, RestWait, Step, UnderWay}
 use Rattle.once_world.specs.Places.{Place, AtStart, AtTryQuick, AtDoorGet, AtDoorPut, AtCountIn, AtWaitLoad, AtLook, AtList}
 use Rattle.once_world.specs.Places.{AtRun, AtPut, AtFast, AtAddOne, AtDoorAgain, AtRelease, AtLeave, AtCountOut, AtDoorTake}
 use Rattle.once_parts.specs.Own.{Own}
 use Rattle.once_parts.specs.Parts.{DidCall, parts_did}
-use Rattle.once_parts.specs.Sides.{HasClosed, HasCopied, HasPut, HasRun, Sided, sided_tells}
+use Rattle.once_parts.specs.Sides.{HasClosed, HasCopied, HasPut, HasRun, HasWoken, Sided, sided_tells}
 use Rattle.once_parts.specs.Walks.{Stands}
 use Rattle.once_parts.specs.Ways.{Leads, closed_if}
 use Rattle.once_parts.proofs.Sides.{sided_told}
@@ -154,6 +155,11 @@ module _ {W : Type 0} (whose : W → ℕ) where
     pub put : (by : Option ⊤) → Stands whose false x v More (UnderWay (AtPut by)) → DidCall whose v PutValue w → HasPut x y
         → Leads whose x v More (UnderWay (release_place by EndValue)) y w
     put by is did has = led_by x y v w (AtPut by) (next_at (release_place by EndValue)) is ((refl, did), (has, refl, refl))
+
+    -- a release under the lock, and those whom it hands out are called
+    pub released : (e : Ending) (out : Out W) (o : Op W) → Stands whose false x v More (UnderWay (AtRelease tt e))
+        → DidCall whose v (Was tt (Release (is_value e)) (Released out) o) w → HasWoken whose x out y → Leads whose x v More (UnderWay (AtCountOut e)) y w
+    released e out o is did woken = led_by x y v w (AtRelease tt e) (next_at (AtCountOut e)) is (Released out, o, ((refl, did), (woken, refl, refl)))
 
   module _ {x m y : Sided} {v n w : Own} where
     -- a look that finds a holder, and the copy of the waker, or its refusal

@@ -6,7 +6,6 @@ ghost use Rattle.once_parts.specs.Shares.{cell_of, own};
 ghost use Rattle.once_parts.specs.Walks.{Stands};
 ghost use Rattle.once_parts.specs.Ways.{Leads, LeadsBy, next_by};
 
-use super::quick::door_take;
 use super::{Reached, Spent, go_on_from};
 use crate::desk::Desk;
 use crate::hand::Hand;
@@ -63,6 +62,26 @@ pub(super) fn count_out<
     if Word::from_bits(parts.count_out()).is_ready_alone() {
         return door_take(parts, idle, ending, side);
     }
+    *idle = Idle::Finished;
+    ending
+}
+
+/// The queue is taken out of the door, and the poll ends so.
+#[inline(always)]
+pub(super) fn door_take<
+    T,
+    W: TaskWaker + Drop,
+    R: Wait + AllocGlobal,
+    S: TaskSide<W, Value = T, Right = Hand>,
+>(parts: &mut Shared<'_, '_, T, W, R>, idle: &mut Idle, ending: Ending, side: &S) -> Ending
+    requires stands { Stands W.whose false (S.state side.now) (own parts.old) Progress.More
+        (Step.UnderWay (Place.DoorTake ending)) }
+    ensures cell { cell_of parts.new ≡ cell_of parts.old }
+    ensures leads { Leads W.whose (S.state side.now) (own parts.old) (Progress.Ended result) (step_of idle.new)
+        (S.state side.now) (own parts.new) }
+{
+    let _ = side;
+    parts.door_take();
     *idle = Idle::Finished;
     ending
 }

@@ -7,8 +7,8 @@ use Rattle.once_parts.specs.Ways.{Leads, LeadsBy, StandsBy, next_by}
 use Rattle.once_parts.proofs.Walk.Ways.{onward}
 use Rattle.once_parts.proofs.ways.go_on_from.Goals as goal
 
-pub steps_left-requires : goal.steps_left-requires
-steps_left-requires g c = record {
+pub hold-requires : goal.hold-requires
+hold-requires g c = record {
   stands = subst (λ r. StandsBy g.W.TaskWaker.whose (next_by r) (g.S.TaskSide.state c.args.side.now) (own c.args.parts.now)) c.in-Claimed.is c.requires.stands;
 }
 
@@ -22,11 +22,11 @@ returns-in-Ready-clause-leads g c = λ x v so_far.
 pub returns-in-Claimed-clause-leads : goal.returns-in-Claimed-clause-leads
 returns-in-Claimed-clause-leads g c = λ x v so_far.
     let at = subst (λ r. LeadsBy g.W.TaskWaker.whose x v (next_by r) (g.S.TaskSide.state c.args.side.now) (own c.args.parts.now)) c.in-Claimed.is so_far in
-    record { walked = c.steps_left.ensures.walked _ _ at.walked; stands = c.steps_left.ensures.stands }
+    onward g.W.TaskWaker.whose at c.hold.ensures.leads
 
 pub returns-in-Refused-clause-leads : goal.returns-in-Refused-clause-leads
 returns-in-Refused-clause-leads g c = λ x v so_far.
     let at = subst (λ r. LeadsBy g.W.TaskWaker.whose x v (next_by r) (g.S.TaskSide.state c.args.side.now) (own c.args.parts.now)) c.in-Refused.is so_far in
     let free = subst (λ y. Leads g.W.TaskWaker.whose x v More (UnderWay (leave_place tt c.in-Refused.ticket EndMemory)) y (own c.args.parts.now))
     (sym (g.met.S.TaskSide.tells.close _ _ c.close-in-Refused.ensures.did)) at in
-    record { walked = c.steps_left-in-Refused.ensures.walked _ _ free.walked; stands = c.steps_left-in-Refused.ensures.stands }
+    record { walked = c.steps_left.ensures.walked _ _ free.walked; stands = c.steps_left.ensures.stands }

@@ -1,4 +1,4 @@
--- The poll of a waiter begins at its load. Of any other task the machine makes all steps.
+-- The poll of a waiter begins at its load, and that of a holder with its init.
 use Rattle.std.proofs.Common.{false, subst}
 use Rattle.once_core.specs.Steps.{step_of_poll}
 use Rattle.once_world.specs.Places.{More}
@@ -19,6 +19,18 @@ pub wait-requires-in-Unlisted : goal.wait-requires-in-Unlisted
 wait-requires-in-Unlisted g c = record {
   stands = subst (λ (i : Idle). Stands g.W.TaskWaker.whose false (g.S.TaskSide.state c.args.side.now) (own c.args.parts.now) More (step_of_poll (step_of i)))
       c.in-Unlisted.is c.requires.stands;
+}
+
+pub hold-requires : goal.hold-requires
+hold-requires g c = record {
+  stands = subst (λ (i : Idle). Stands g.W.TaskWaker.whose false (g.S.TaskSide.state c.args.side.now) (own c.args.parts.now) More (step_of_poll (step_of i)))
+      c.in-Quick.is c.requires.stands;
+}
+
+pub hold-requires-in-Queued : goal.hold-requires-in-Queued
+hold-requires-in-Queued g c = record {
+  stands = subst (λ (i : Idle). Stands g.W.TaskWaker.whose false (g.S.TaskSide.state c.args.side.now) (own c.args.parts.now) More (step_of_poll (step_of i)))
+      c.in-Queued.is c.requires.stands;
 }
 
 pub returns-in_default : goal.returns-in_default

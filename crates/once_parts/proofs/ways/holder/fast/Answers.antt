@@ -4,7 +4,7 @@ use Rattle.once_core.specs.Steps.{is_value}
 use Rattle.once_core.specs.Table.{TriedFast, after_fast, next_at, next_end}
 use Rattle.once_world.specs.Places.{AtAddOne, AtDoorTake, AtFast}
 use Rattle.once_parts.proofs.Walk.Ways.{led, onward}
-use Rattle.once_parts.proofs.ways.quick.fast.Goals as goal
+use Rattle.once_parts.proofs.ways.holder.fast.Goals as goal
 
 pub returns-then-not-fast-clause-leads : goal.returns-then-not-fast-clause-leads
 returns-then-not-fast-clause-leads g c =
@@ -12,7 +12,7 @@ returns-then-not-fast-clause-leads g c =
     let won = c.fast.result in
     let at = led g.W.TaskWaker.whose (AtFast e) (TriedFast c.is_value-filled.result won) (next_at (AtAddOne e)) refl refl
     (won, ap (λ b. TriedFast b won) (sym c.is_value-filled.ensures)) c.requires.stands c.fast.ensures.1 (ap (λ b. after_fast b (is_value e) e) c.if-not-fast.true) refl in
-    record { walked = c.steps_left.ensures.walked _ _ at.walked; stands = c.steps_left.ensures.stands }
+    onward g.W.TaskWaker.whose at c.add_one.ensures.leads
 
 pub returns-then-filled-clause-leads : goal.returns-then-filled-clause-leads
 returns-then-filled-clause-leads g c =
