@@ -1,6 +1,7 @@
 -- What the calls of a step ask of what all tasks share: it stands wherever a task comes to make that step.
-use Rattle.std.proofs.Common.{◌≡◌, ◌<◌, ℕ, true, ◌⊎◌, inl, inr, List, Option, Some, None, refl, sym, ap, ◌∙◌, subst}
+use Rattle.std.proofs.Common.{◌≡◌, ◌<◌, ℕ, true, ◌⊎◌, List, Option, Some, None, refl, ap, ◌∙◌, subst, arith}
 use Rattle.std.specs.Prelude.{not}
+use Rattle.std.proofs.lemmas.Grind.{common_steps}
 use Rattle.once_world.specs.Record.{Entry, Kind}
 use Rattle.once_world.specs.Cell.{cell}
 use Rattle.once_world.specs.Inputs.{Go, Input, Make}
@@ -18,8 +19,7 @@ use Rattle.once_world.proofs.Input.Headline.{task_fits, world_fits}
 
 -- exactly one flag stands for a holder
 pub one_flag : (c : SharedState) → QuickFlag c ⊎ HeadFlag c → c.head ≡ not c.quick
-one_flag c (inl f) = f.head_is ∙ sym (ap not f.quick_is)
-one_flag c (inr f) = f.head_is ∙ sym (ap not f.quick_is)
+one_flag c f = grind (arith, common_steps)
 
 -- one place after the other
 asked_at : (K : Kind) (limit t : ℕ) (c : SharedState) (h : List Entry) (p : Place ℕ ℕ) → SharedFits K limit c h

@@ -36,7 +36,7 @@ call_of Refused = Refuse
 call_of (Ran a) = Run
 call_of PutValue = Put
 
--- what a call tells is of that call
+-- a call tells one thing, and that is of this call
 pub told_one : (call : Call ℕ ℕ) (T : Told ℕ ℕ → Type 0) → Tells call T → (e : Told ℕ ℕ) × (call_of e ≡ call) × T e
 told_one Load T (w, t) = (Loaded w, refl, t)
 told_one Quick T (won, t) = (TriedQuick won, refl, t)
@@ -69,21 +69,21 @@ Brings (Section q op) = HasWaker op
 Brings _ = Unit {0}
 
 -- a call that told this gave the right back by the fast release
-abbrev pub frees : Told ℕ ℕ → Bool
-frees (TriedFast fills won) = won
-frees _ = false
+abbrev pub freed_by : Told ℕ ℕ → Bool
+freed_by (TriedFast fills won) = won
+freed_by _ = false
 
 -- it claimed the right
-abbrev pub claims : Told ℕ ℕ → Bool
-claims (TriedQuick won) = won
-claims (Was q (LookOp k) a o) = is_claim a
-claims (Was q (ListOp k w) a o) = is_claim a
-claims _ = false
+abbrev pub claimed_by : Told ℕ ℕ → Bool
+claimed_by (TriedQuick won) = won
+claimed_by (Was q (LookOp k) a o) = is_claim a
+claimed_by (Was q (ListOp k w) a o) = is_claim a
+claimed_by _ = false
 
 -- it took the task's listing out
-abbrev pub leaves : Told ℕ ℕ → Bool
-leaves (Was q (LeaveOp k) a o) = true
-leaves _ = false
+abbrev pub leaving_by : Told ℕ ℕ → Bool
+leaving_by (Was q (LeaveOp k) a o) = true
+leaving_by _ = false
 
 -- what the machine says that a call tells of this core, with this side
 abbrev pub says : CoreState ℕ → ReplaySide → Call ℕ ℕ → Told ℕ ℕ
@@ -94,8 +94,8 @@ pub record IsCall (e : Told ℕ ℕ) (lines : List QueueLine) (s : CoreState ℕ
     (c' : ReplaySide) : Type 0 where
   pub shared : shared_by s' c' ≡ left_by e c.kept (shared_by s c)
   pub kept : c'.kept ≡ keeps e (next_of c) c.kept
-  pub seen : (n : ℕ) → handed_entries (leaves e) c'.handed n c'.kept ++ freed_entries (frees e) n c'.kept
-      ++ ran_entries c'.ran n ++ claim_entries (claims e) n ≡ records e (next_of c) n c.kept (hands e (shared_by s c))
+  pub seen : (n : ℕ) → handed_entries (leaving_by e) c'.handed n c'.kept ++ freed_entries (freed_by e) n c'.kept
+      ++ ran_entries c'.ran n ++ claim_entries (claimed_by e) n ≡ records e (next_of c) n c.kept (hands e (shared_by s c))
   pub log : reverse s'.log ≡ lines ++ reverse s.log
   pub limit : s'.limit ≡ s.limit
   pub lazy_is : c'.lazy ≡ c.lazy

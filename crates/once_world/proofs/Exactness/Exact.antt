@@ -9,11 +9,11 @@ use Rattle.once_queue.specs.declared.waiters.Op.TheVariants.{Look as LookOp}
 use Rattle.once_queue.specs.declared.waiters.Answer.{Answer as SectionAnswer}
 use Rattle.once_core.specs.Core.{CoreState}
 use Rattle.once_core.specs.Steps.{is_leaving, is_running}
-use Rattle.once_core.specs.Table.{Advances, GoesOn, Line, Looked, MayRefuse, Tells, Told, Was, after, after_look, call_at, wants_copy}
+use Rattle.once_core.specs.Table.{Advances, GoesOn, Line, Looked, Tells, Told, Was, after, after_look, call_at, wants_copy}
 use Rattle.once_world.specs.Places.{AtList, AtLook, Finished, Place, Progress, Resting, Step, UnderWay}
 use Rattle.once_world.specs.Machine.{place_lines, place_step, step_at, step_lines}
 use Rattle.once_world.proofs.Exactness.Outcomes.{IsOutcome, IsSetUp, NumberCall, is_freed, shared_by, side_tells}
-use Rattle.once_world.proofs.Exactness.Calls.{Brings, nameless, claims, frees, call_exact, leaves, says, told_exact, told_one}
+use Rattle.once_world.proofs.Exactness.Calls.{Brings, nameless, claimed_by, freed_by, call_exact, leaving_by, says, told_exact, told_one}
 
 -- each place brings the waker that its call asks for
 brings : (at : Place ℕ ℕ) → Brings (call_at at)
@@ -26,19 +26,15 @@ copy c = if c.granted then Some c.waker else None
 
 -- the place and the next step show what the call told
 module _ (s : CoreState ℕ) (c : ReplaySide) where
-  leaves_shown : (at : Place ℕ ℕ) → is_leaving (UnderWay at) ≡ leaves (says s c (call_at at))
-  leaves_shown at = grind (arith, common_steps)
+  leaving_shown : (at : Place ℕ ℕ) → is_leaving (UnderWay at) ≡ leaving_by (says s c (call_at at))
+  leaving_shown at = grind (arith, common_steps)
 
-  frees_shown : (at : Place ℕ ℕ) → is_freed (UnderWay at) (after (copy c) at (says s c (call_at at))).step ≡ frees (says s c (call_at at))
-  frees_shown at = grind (arith, common_steps)
+  freed_shown : (at : Place ℕ ℕ)
+      → is_freed (UnderWay at) (after (copy c) at (says s c (call_at at))).step ≡ freed_by (says s c (call_at at))
+  freed_shown at = grind (arith, common_steps)
 
-  claims_shown : (at : Place ℕ ℕ) → is_running (after (copy c) at (says s c (call_at at))).step ≡ claims (says s c (call_at at))
-  claims_shown at = grind (arith, common_steps)
-
--- a core is as it was where the copy of a waker is refused
-not_refused : {P : Type 0} (see : P → CoreState ℕ) (w : Option ℕ) (n y : P) → MayRefuse (λ x y. see y ≡ see x) w n y → see y ≡ see n
-not_refused see (Some w) n y e = ap see e
-not_refused see None n y e = e
+  claimed_shown : (at : Place ℕ ℕ) → is_running (after (copy c) at (says s c (call_at at))).step ≡ claimed_by (says s c (call_at at))
+  claimed_shown at = grind (arith, common_steps)
 
 -- parts of any type, by what contracts see of them
 module _ {P : Type 0} (see : P → CoreState ℕ) (x y : P) (c c' : ReplaySide) (p : Progress) (t : Step ℕ ℕ) where
@@ -54,7 +50,9 @@ module _ {P : Type 0} (see : P → CoreState ℕ) (x y : P) (c c' : ReplaySide) 
   looked : (wants : Bool) (q : ℕ) (k : Option ℕ) (a : SectionAnswer ℕ) (o : Op ℕ) (n : P) → wants_copy (LookOp k) a ≡ wants
       → did x (Was q (LookOp k) a o) n → Looked did side_tells wants (AtLook q k) (Was q (LookOp k) a o) n c p t y c'
       → GoesOnAt (AtLook q k) (Was q (LookOp k) a o)
-  looked true q k a o n wants d (w, m, copies, left, z) = (rw (not_refused see w n y left) d, rw (copies.0, copies.1) at z)
+  looked true q k a o n wants d (w, m, copies, refuses, z) =
+      let same : see y ≡ see n = grind (arith, common_steps) in
+      (rw same d, rw (copies.0, copies.1) at z)
   looked false q k a o n wants d z =
       let same : after_look a None q (ticket_in o) ≡ after_look a (copy c) q (ticket_in o) = grind (arith, common_steps) in
       (rw z.0 d, rw same at z.1)
@@ -66,12 +64,14 @@ module _ {P : Type 0} (see : P → CoreState ℕ) (x y : P) (c c' : ReplaySide) 
 
   -- one step at any place
   line_exact : (at : Place ℕ ℕ) → IsSetUp (see x) c → Line did side_tells at x c p t y c'
-      → IsOutcome (UnderWay at) (λ n. place_step c.lazy (see x).limit (shared_by (see x) c) n c.waker c.kept c.answer c.granted at)
+      → IsOutcome (UnderWay at)
+      (λ n. place_step c.lazy (see x).limit (shared_by (see x) c) n c.waker c.kept c.answer c.granted at)
       (place_lines c.granted (shared_by (see x) c) at) (see x) c (see y) c' p t
   line_exact at set_up z =
       let (e, of, (d, (side, more, step))) = told_one (call_at at) (GoesOnAt at) (line_tells at z) in
       let brought = subst Brings (sym of) (brings at) in
-      let told : nameless e ≡ says (see x) c (call_at at) = told_exact (see x) c set_up (see y) c' _ e brought d side ∙ ap (says (see x) c) of in
+      let told : nameless e ≡ says (see x) c (call_at at) =
+      told_exact (see x) c set_up (see y) c' _ e brought d side ∙ ap (says (see x) c) of in
       let went = rw (told, of) at (call_exact (see x) c set_up (see y) c' _ e brought d side) in
       let more = rw told at more in
       let step = rw told at step in
@@ -79,8 +79,9 @@ module _ {P : Type 0} (see : P → CoreState ℕ) (x y : P) (c c' : ReplaySide) 
         shared = λ n. went.shared;
         step = λ n. step;
         kept = λ n. went.kept;
-        told = λ n. rw (more, step, leaves_shown (see x) c at, frees_shown (see x) c at, claims_shown (see x) c at)
-            (let seen = went.seen n in let value = ap (λ y. y.value) went.shared in let kept = went.kept in grind (arith, common_steps, seen, value, kept));
+        told = λ n. rw (more, step, leaving_shown (see x) c at, freed_shown (see x) c at, claimed_shown (see x) c at)
+            (let seen = went.seen n in let value = ap (λ y. y.value) went.shared in let kept = went.kept in
+            grind (arith, common_steps, seen, value, kept));
         log = went.log;
         limit = went.limit;
         lazy_is = went.lazy_is;

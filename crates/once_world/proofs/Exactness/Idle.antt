@@ -1,6 +1,7 @@
 -- Steps of a task without a call under way change nothing.
-use Rattle.std.proofs.Common.{◌≡◌, ◌≤◌, ◌+◌, ◌-◌, ◌++◌, ℕ, suc, zero, Bool, List, Option, Some, None, refl, sym, ap, ◌∙◌, arith, replicate, subst}
+use Rattle.std.proofs.Common.{◌≡◌, ◌≤◌, ◌+◌, ◌-◌, ◌++◌, ℕ, suc, zero, Bool, List, Option, refl, sym, ap, ◌∙◌, arith, replicate, subst}
 use Rattle.std.proofs.lemmas.List.{append_assoc, replicate-append-replicate}
+use Rattle.std.proofs.lemmas.Grind.{common_steps}
 use Rattle.once_world.specs.declared.world.play.World.{World as CodeWorld}
 use Rattle.once_world.specs.Inputs.{Go, Input}
 use Rattle.once_world.specs.Machine.{IsIdle, Task, World, go_world, world_of}
@@ -9,8 +10,7 @@ use Rattle.once_world.specs.Record.{Answer, Kind, is_lazy}
 use Rattle.once_world.specs.Shown.{world_in}
 
 passed_over : (lazy : Bool) (limit : ℕ) (w : World) (t : ℕ) (a : Answer) (granted : Bool) (x : Option Task) → IsIdle x → go_world lazy limit w t a granted x ≡ w
-passed_over lazy limit w t a granted None idle = refl
-passed_over lazy limit w t a granted (Some x) idle = rw (idle) refl
+passed_over lazy limit w t a granted x idle = grind (arith, common_steps)
 
 module _ (K : Kind) (limit t : ℕ) (a : Answer) (granted : Bool) where
   idle_steps : (inputs : List Input) → IsIdle ((world_of K limit inputs).tasks t) → (n : ℕ)

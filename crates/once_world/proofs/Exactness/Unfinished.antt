@@ -1,14 +1,14 @@
 -- Each unfinished task has an entry.
 use Rattle.std.proofs.Common.{◌≤◌, ℕ, List, [], ◌∷◌, length, suc, arith}
-use Rattle.once_world.specs.Record.{Entry, Kind, made_in, Made}
+use Rattle.std.proofs.lemmas.Grind.{common_steps}
+use Rattle.once_world.specs.Record.{Entry, Kind, made_in}
 use Rattle.once_world.specs.Machine.{World}
 use Rattle.once_world.proofs.Invariant.Fits.{Fits, is_alive}
 use Rattle.once_world.proofs.Listing.Counting.{count_within}
 
 -- an entry makes one task or none
 made_step : (e : Entry) (h : List Entry) → length (made_in (e ∷ h)) ≤ suc (length (made_in h))
-made_step (Made t) h = omega arith
-made_step e h = omega arith
+made_step e h = grind (arith, common_steps)
 
 -- a history has no fewer entries than tasks that were made
 made_within : (h : List Entry) → length (made_in h) ≤ length h

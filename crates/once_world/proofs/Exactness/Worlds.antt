@@ -1,5 +1,5 @@
 -- The world of a replay after an input is the machine's.
-use Rattle.std.proofs.Common.{◌≡◌, ℕ, Bool, true, false, cond, List, [], ◌∷◌, ◌++◌, Some, IsSome, refl, ap, ◌∙◌, subst, arith}
+use Rattle.std.proofs.Common.{◌≡◌, ℕ, Bool, true, false, cond, List, [], ◌∷◌, ◌++◌, Some, IsSome, refl, ap, ◌∙◌, arith}
 use Rattle.std.specs.Ordering.{nat_cmp}
 use Rattle.std.specs.Cmp.{unsigned_tied}
 use Rattle.std.specs.BTreeMap.{BTreeMap, get, WritesThrough}
@@ -7,7 +7,7 @@ use Rattle.std.proofs.lemmas.Grind.{common_steps}
 use Rattle.once_world.specs.Record.{Answer, Begin, DropBegin}
 use Rattle.once_world.specs.Places.{Step, Finished}
 use Rattle.once_core.specs.Steps.{is_resting, in_call, step_of_poll, step_of_drop}
-use Rattle.once_world.specs.Machine.{Task, Outcome, World, QueueLine, put_task, poll_world, drop_world, drop_entries, unfinished_after, step_world, advance, step_lines, go_world}
+use Rattle.once_world.specs.Machine.{Task, Outcome, World, QueueLine, put_task, poll_world, drop_world, drop_entries, unfinished_after, advance, step_lines, go_world}
 
 -- a map in which y was written over x at t, as a function from numbers to tasks
 pub tasks_written : (m n : BTreeMap ℕ Task) (t : ℕ) (x y : Task) → get nat_cmp m t ≡ Some x → WritesThrough nat_cmp (nat_cmp t) m y n
@@ -17,25 +17,19 @@ tasks_written m n t x y found d =
     let k = d.3 there in
     λ i. λ u. let e : get nat_cmp n u ≡ put_task t y (λ v. get nat_cmp m v) u = k.0 u ∙ ap (λ b. cond b (Some y) (get nat_cmp m u)) (unsigned_tied t u) in e i
 
-same_world : (w w' : World) → w'.shared ≡ w.shared → w'.tasks ≡ w.tasks → w'.unfinished ≡ w.unfinished → w'.history ≡ w.history → w'.log ≡ w.log → w' ≡ w
-same_world w w' a b n c d = λ i. record { shared = a i; tasks = b i; unfinished = n i; history = c i; log = d i }
-
 -- a poll that began
 pub begun_world : (w w' : World) (t k : ℕ) (x : Task) (s : Step ℕ ℕ) → w.tasks t ≡ Some x → is_resting x.step ≡ true
-    → s ≡ step_of_poll x.step → w'.shared ≡ w.shared
-    → w'.tasks ≡ put_task t (record x { waker = k; step = s }) w.tasks → w'.unfinished ≡ w.unfinished → w'.history ≡ Begin t k ∷ w.history → w'.log ≡ w.log
+    → s ≡ step_of_poll x.step → w'.shared ≡ w.shared → w'.tasks ≡ put_task t (record x { waker = k; step = s }) w.tasks
+    → w'.unfinished ≡ w.unfinished → w'.history ≡ Begin t k ∷ w.history → w'.log ≡ w.log
     → w' ≡ poll_world w t k (w.tasks t)
-begun_world w w' t k x s found rests is a b n c d =
-    rw (found, rests) (same_world (record w { tasks = put_task t (record x { waker = k; step = step_of_poll x.step }) w.tasks; history = Begin t k ∷ w.history }) w' a (rw is at b) n c d)
+begun_world w w' t k x s found rests is a b n c d = grind (arith, common_steps)
 
 -- a drop that began
 pub dropped_world : (w w' : World) (t : ℕ) (x : Task) (s : Step ℕ ℕ) → w.tasks t ≡ Some x → is_resting x.step ≡ true
-    → s ≡ step_of_drop x.step → w'.shared ≡ w.shared
-    → w'.tasks ≡ put_task t (record x { step = s }) w.tasks → w'.unfinished ≡ unfinished_after s w.unfinished → w'.history ≡ drop_entries t s ++ w.history → w'.log ≡ w.log
+    → s ≡ step_of_drop x.step → w'.shared ≡ w.shared → w'.tasks ≡ put_task t (record x { step = s }) w.tasks
+    → w'.unfinished ≡ unfinished_after s w.unfinished → w'.history ≡ drop_entries t s ++ w.history → w'.log ≡ w.log
     → w' ≡ drop_world w t (w.tasks t)
-dropped_world w w' t x s found rests is a b n c d =
-    rw (found, rests) (subst (λ z. w' ≡ record w { tasks = put_task t (record x { step = z }) w.tasks; unfinished = unfinished_after z w.unfinished; history = drop_entries t z ++ w.history }) is
-    (same_world (record w { tasks = put_task t (record x { step = s }) w.tasks; unfinished = unfinished_after s w.unfinished; history = drop_entries t s ++ w.history }) w' a b n c d))
+dropped_world w w' t x s found rests is a b n c d = grind (arith, common_steps)
 
 -- a drop that goes on is recorded as begun only
 pub drop_goes_on : (t : ℕ) (s : Step ℕ ℕ) → in_call s ≡ true → drop_entries t s ≡ DropBegin t ∷ []
@@ -45,15 +39,11 @@ drop_goes_on t s e = grind (arith, common_steps)
 pub drop_ends : (s : Step ℕ ℕ) → is_resting s ≡ true → in_call (step_of_drop s) ≡ false → step_of_drop s ≡ Finished
 drop_ends s rests e = grind (arith, common_steps)
 
-same_task : (x y : Task) (s : Step ℕ ℕ) (k : Answer) → y.waker ≡ x.waker → y.step ≡ s → y.kept ≡ k → y ≡ record x { step = s; kept = k }
-same_task x y s k a b c = λ i. record { waker = a i; kept = c i; step = b i }
-
 -- a step that was made, with the outcome o and these lines of the log
-pub stepped_world : (lazy : Bool) (limit : ℕ) (w w' : World) (t : ℕ) (a : Answer) (granted : Bool) (x y : Task) (o : Outcome) (lines : List QueueLine)
-    → o ≡ advance lazy limit w.shared t x a granted → lines ≡ step_lines granted w.shared x.step → w.tasks t ≡ Some x → in_call x.step ≡ true
+pub stepped_world : (lazy : Bool) (limit : ℕ) (w w' : World) (t : ℕ) (a : Answer) (granted : Bool) (x y : Task) (o : Outcome)
+    (lines : List QueueLine) → o ≡ advance lazy limit w.shared t x a granted → lines ≡ step_lines granted w.shared x.step
+    → w.tasks t ≡ Some x → in_call x.step ≡ true
     → w'.shared ≡ o.shared → y.waker ≡ x.waker → y.step ≡ o.step → y.kept ≡ o.kept → w'.tasks ≡ put_task t y w.tasks
     → w'.unfinished ≡ unfinished_after o.step w.unfinished → w'.history ≡ o.entries ++ w.history → w'.log ≡ lines ++ w.log
     → w' ≡ go_world lazy limit w t a granted (w.tasks t)
-stepped_world lazy limit w w' t a granted x y o lines is line found calls i waker step kept b n c d =
-    let e = same_world (step_world w t x o lines) w' i (b ∙ ap (λ z. put_task t z w.tasks) (same_task x y o.step o.kept waker step kept)) n c d in
-    rw (found, calls) (e ∙ ap (λ z. step_world w t x z lines) is ∙ ap (λ z. step_world w t x (advance lazy limit w.shared t x a granted) z) line)
+stepped_world lazy limit w w' t a granted x y o lines is line found calls i waker step kept b n c d = grind (arith, common_steps)
