@@ -5,12 +5,11 @@ ghost use Rattle.std.specs.Option.{MatchOption};
 ghost use Rattle.once_queue.specs.declared.waiters.Answer.{Answer};
 ghost use Rattle.once_queue.specs.declared.waiters.Op.{Op};
 ghost use Rattle.once_core.specs.Steps.{is_value, release_place};
-ghost use Rattle.once_core.specs.Table.{Was};
+ghost use Rattle.once_core.specs.Table.{Section, Was};
 ghost use Rattle.once_parts.specs.Hands.{own_of};
 ghost use Rattle.once_parts.specs.Idle.{step_of};
 ghost use Rattle.once_parts.specs.Own.{Own};
-ghost use Rattle.once_parts.specs.Parts.{DidCall};
-ghost use Rattle.once_parts.specs.Places.{CanRelease};
+ghost use Rattle.once_parts.specs.Parts.{CanCall, DidCall};
 ghost use Rattle.once_parts.specs.Shares.{cell_of, own};
 ghost use Rattle.once_parts.specs.Walks.{Stands};
 ghost use Rattle.once_parts.specs.Ways.{Leads};
@@ -212,7 +211,7 @@ fn released<J: Key, T, W: TaskWaker + Drop, R: Wait>(
 ) -> Out<W>
     requires key { inner.now.desk ≡ J.key }
     requires book { hand.old.seen.book ≡ J.key }
-    requires can { CanRelease ready (own_of hand.old).task.step }
+    requires can { CanCall W.whose (own_of hand.old).task.step (Section tt (Op.Release ready)) }
     ensures book { hand.new.seen.book ≡ hand.old.seen.book }
     ensures did { DidCall W.whose (own_of hand.old)
         (Was tt (Op.Release ready) (Answer.Released result) (Op.Release ready)) (own_of hand.new) }

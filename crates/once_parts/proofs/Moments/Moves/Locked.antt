@@ -9,8 +9,8 @@ use Rattle.once_core.specs.Table.{Call, Next, Section, after, after_door_get, af
 use Rattle.once_world.specs.declared.record.Ran.TheVariants.{Pending as RanPending}
 use Rattle.once_world.specs.Record.{Entry}
 use Rattle.once_world.specs.Book.{At, Door, IsBook, Page, Queue, TaskState}
-use Rattle.once_world.specs.Machine.{AtCountIn, AtDoorAgain, AtDoorGet, AtDoorPut, AtDoorTake, AtLeave, AtList, AtLook, AtRelease}
-use Rattle.once_world.specs.Machine.{Ending, Place, RestWait, Resting, UnderWay, claim_entries, head_after, is_claim, is_value, looked_list, records, release_wakers}
+use Rattle.once_world.specs.Machine.{AtCountIn, AtCountOut, AtDoorAgain, AtDoorGet, AtDoorPut, AtDoorTake, AtLeave, AtList, AtLook, AtRelease}
+use Rattle.once_world.specs.Machine.{Ending, Place, RestWait, Resting, UnderWay, claim_entries, head_after, is_claim, is_value, looked_list, records, release_list, release_wakers}
 use Rattle.once_world.proofs.Moment.Doors.{door_again, door_get, door_take, put_found, put_new}
 use Rattle.once_world.proofs.Moment.Numbers.{release_more}
 use Rattle.once_world.proofs.Moment.Pages.{set_other, zero_one}
@@ -89,42 +89,40 @@ module _ (seen : List Entry) (d : Desked) (t : ℕ) (x : TaskState) where
   abbrev pub section_next : Bool → ℕ → Place ℕ ℕ → Next ℕ ℕ
   section_next room n p = after (Some x.waker) p (section_told room n d (call_at p))
 
-  -- the book after it, and what is known besides
+  -- the book after it
   section_step : (room : Bool) (p : Place ℕ ℕ) → x.step ≡ UnderWay p → IsSection (call_at p)
-      → (n put : ℕ) (slot : Bool) (pages : List Page) (log : List Entry) → IsBook most n put slot pages log → (on : AreOn all pages)
-      → SectionShows n d (call_at p) t (log ++ told t x.kept (section_next room n p) (section_entries room n (call_at p)))
-      × Set (section_word (call_at p) n) put slot pages log (section_entries room n (call_at p)) (section_next room n p) on (section_desk room n d (call_at p))
+      → (n put : ℕ) (slot : Bool) (pages : List Page) (log : List Entry) → IsBook most n put slot pages log → AreOn all pages
+      → let e = section_desk room n d (call_at p) in
+      Stepped most (section_word (call_at p) n) put slot (slice_set pages 1 (Queue e.head e.listings)) log t x (section_entries room n (call_at p)) (section_next room n p)
   section_step room (AtLook q k) at is n put slot pages log book on =
       let a : SectionAnswer ℕ = looked n k d in
-      let c : Call ℕ ℕ = Section q (Look k) in
-      let stepped = subst
-      (λ a. Stepped most n put slot (slice_set pages 1 (Queue (head_after a d.head) (looked_list a k d.listings))) log t x (claim_entries (is_claim a) t) (after_look a (Some x.waker) q k))
-      (look_is most n put slot pages log t x some book on.1.1.0 d.head d.listings on.1.0 q k at (flags_of n).ready refl)
-      (look_load most n put slot pages log t x some book on.1.1.0 d.head d.listings on.1.0 q k true at) in (
-        tt,
-        only_queue n put slot pages log (section_entries room n c) (section_next room n (AtLook q k)) on (section_desk room n d c) refl refl
-            (subst (Stepped most n put slot (slice_set pages 1 (Queue (head_after a d.head) (looked_list a k d.listings))) log t x (claim_entries (is_claim a) t)) (sym (look_same a (Some x.waker) q k)) stepped),
-      )
-  section_step room (AtList q k w) at is n put slot pages log book on =
-      let c : Call ℕ ℕ = Section q (ListOwn k (Some w)) in (
-        tt,
-        only_queue n put slot pages log (section_entries room n c) (section_next room n (AtList q k w)) on (section_desk room n d c) refl refl
-            (list_load most n put slot pages log t x some book on.1.1.0 d.head d.listings on.1.0 q k w room at),
-      )
+      let Looks : SectionAnswer ℕ → Next ℕ ℕ → Type 0 = λ a next.
+      Stepped most n put slot (slice_set pages 1 (Queue (head_after a d.head) (looked_list a k d.listings))) log t x (claim_entries (is_claim a) t) next in
+      subst (Looks a) (sym (look_same a (Some x.waker) q k))
+      (subst (λ a. Looks a (after_look a (Some x.waker) q k)) (look_is most n put slot pages log t x some book on.1.1.0 d.head d.listings on.1.0 q k at (flags_of n).ready refl)
+      (look_load most n put slot pages log t x some book on.1.1.0 d.head d.listings on.1.0 q k true at))
+  section_step room (AtList q k w) at is n put slot pages log book on = list_load most n put slot pages log t x some book on.1.1.0 d.head d.listings on.1.0 q k w room at
   section_step room (AtRelease q e) at is n put slot pages log book on =
-      let c : Call ℕ ℕ = Section q (Release (is_value e)) in
-      let set = only_queue ((n + release_more (is_value e) d.head) % 2 ^ 64) put slot pages log (section_entries room n c) (section_next room n (AtRelease q e)) on (section_desk room n d c) refl refl
-      (release_add most n put slot pages log t x some book on.1.1.0 d.head d.listings on.1.0 q e at) in (
-        (λ v u. fill_hands_all most n put slot pages log some book d.head d.listings on.1.0 (unset_at most n put slot pages log t x some book on.1.1.0 q e at) u),
-        subst (λ m. Set ((n + m) % 2 ^ 64) put slot pages log (section_entries room n c) (section_next room n (AtRelease q e)) on (section_desk room n d c)) (more_is (is_value e) d.head) set,
-      )
-  section_step room (AtLeave q k e) at is n put slot pages log book on =
-      let c : Call ℕ ℕ = Section q (Leave k) in (
-        passed_at most n put slot pages log t x some book on.1.1.0 q k e at (section_hands n d c),
-        only_queue n put slot pages log (section_entries room n c) (section_next room n (AtLeave q k e)) on (section_desk room n d c) refl refl
-            (leave_load most n put slot pages log t x some book on.1.1.0 d.head d.listings on.1.0 q k e at),
-      )
+      let r : Bool = is_value e in
+      subst (λ m. Stepped most ((n + m) % 2 ^ 64) put slot (slice_set pages 1 (Queue false (release_list r d.listings))) log t x (section_entries room n (Section q (Release r))) (next_at (AtCountOut e))) (more_is r d.head)
+      (release_add most n put slot pages log t x some book on.1.1.0 d.head d.listings on.1.0 q e at)
+  section_step room (AtLeave q k e) at is n put slot pages log book on = leave_load most n put slot pages log t x some book on.1.1.0 d.head d.listings on.1.0 q k e at
   section_step room _ at is n put slot pages log book on = absurd is
+
+  -- what is known besides
+  section_shows : (room : Bool) (p : Place ℕ ℕ) → x.step ≡ UnderWay p
+      → (n put : ℕ) (slot : Bool) (pages : List Page) (log : List Entry) → IsBook most n put slot pages log → AreOn all pages
+      → SectionShows n d (call_at p) t (log ++ told t x.kept (section_next room n p) (section_entries room n (call_at p)))
+  section_shows room (AtRelease q e) at n put slot pages log book on =
+      λ v u. fill_hands_all most n put slot pages log some book d.head d.listings on.1.0 (unset_at most n put slot pages log t x some book on.1.1.0 q e at) u
+  section_shows room (AtLeave q k e) at n put slot pages log book on = passed_at most n put slot pages log t x some book on.1.1.0 q k e at (section_hands n d (Section q (Leave k)))
+  section_shows room _ at n put slot pages log book on = tt
+
+  -- it changes nothing of the door's page
+  section_door : (room : Bool) (n : ℕ) (c : Call ℕ ℕ) → let e = section_desk room n d c in (e.made ≡ d.made) × (e.door ≡ d.door)
+  section_door room n (Section q (Look k)) = (refl, refl)
+  section_door room n (Section q (ListOwn k (Some w))) = (refl, refl)
+  section_door room n _ = (refl, refl)
 
   -- the section of a task's place
   pub section_moves : (room : Bool) (p : Place ℕ ℕ) → x.step ≡ UnderWay p → IsSection (call_at p)
@@ -134,36 +132,38 @@ module _ (seen : List Entry) (d : Desked) (t : ℕ) (x : TaskState) where
   section_moves room p at is = telling_moves seen all (section_word (call_at p))
       (λ n. pages_after (section_desk room n d (call_at p)) (section_next room n p)) (λ n. told t x.kept (section_next room n p) (section_entries room n (call_at p)))
       (λ n log. SectionShows n d (call_at p) t log) (λ n. only (section_entries room n (call_at p)) (section_next room n p) (section_of_t room n (call_at p)))
-      (section_step room p at is)
+      (λ n put slot pages log book on.
+      let c : Call ℕ ℕ = call_at p in
+      let door = section_door room n c in (
+        section_shows room p at n put slot pages log book on,
+        only_queue (section_word c n) put slot pages log (section_entries room n c) (section_next room n p) on (section_desk room n d c) door.0 door.1
+            (section_step room p at is n put slot pages log book on),
+      ))
 
-  -- a note by which t goes on so
-  going_notes : (e : Desked) (next : Next ℕ ℕ) (P : Type 0)
-      → ((n put : ℕ) (slot : Bool) (pages : List Page) (log : List Entry) → IsBook most n put slot pages log → (on : AreOn all pages) → P × Set n put slot pages log [] next on e)
-      → Notes IsKept (seen, sheets seen all) (λ v. P × Leaves seen all (pages_after e next) (told t x.kept next []) v)
-  going_notes e next P goes = notes seen all (pages_after e next) (told t x.kept next []) P (only [] next tt) goes
+  -- a note by which t goes on so, and nothing changes but its page
+  own_notes : (next : Next ℕ ℕ) (P : Type 0)
+      → ((n put : ℕ) (slot : Bool) (pages : List Page) (log : List Entry) → IsBook most n put slot pages log → AreOn all pages → P × Stepped most n put slot pages log t x [] next)
+      → Notes IsKept (seen, sheets seen all) (λ v. P × Leaves seen all (pages_after d next) (told t x.kept next []) v)
+  own_notes next P goes = notes seen all (pages_after d next) (told t x.kept next []) P (only [] next tt)
+      (λ n put slot pages log book on. let r = goes n put slot pages log book on in (r.0, only_own n put slot pages log [] next on r.1))
 
   -- AtDoorGet
   pub get_notes : x.step ≡ UnderWay AtDoorGet
       → Notes IsKept (seen, sheets seen all) (λ v. Unit {0} × Leaves seen all (pages_after d (after_door_get d.door)) (told t x.kept (after_door_get d.door) []) v)
-  get_notes at = going_notes d (after_door_get d.door) (Unit {0})
-      (λ n put slot pages log book on. (tt, only_own n put slot pages log [] (after_door_get d.door) on (door_get most n put slot pages log t x some book on.1.1.0 d.made d.door on.0 at)))
+  get_notes at = own_notes (after_door_get d.door) (Unit {0})
+      (λ n put slot pages log book on. (tt, door_get most n put slot pages log t x some book on.1.1.0 d.made d.door on.0 at))
 
   -- AtDoorAgain: the first queue stands at the door
   pub again_notes : (e : Ending) → x.step ≡ UnderWay (AtDoorAgain e)
       → Notes IsKept (seen, sheets seen all) (λ v. (d.door ≡ Some 1) × Leaves seen all (pages_after d (next_at (AtRelease 1 e))) (told t x.kept (next_at (AtRelease 1 e)) []) v)
-  again_notes e at = going_notes d (next_at (AtRelease 1 e)) (d.door ≡ Some 1)
-      (λ n put slot pages log book on.
-      let a = door_again most n put slot pages log t x some book on.1.1.0 d.made d.door on.0 e at in
-      (a.0, only_own n put slot pages log [] (next_at (AtRelease 1 e)) on a.1))
+  again_notes e at = own_notes (next_at (AtRelease 1 e)) (d.door ≡ Some 1)
+      (λ n put slot pages log book on. door_again most n put slot pages log t x some book on.1.1.0 d.made d.door on.0 e at)
 
   -- AtDoorPut where a queue stands already
   pub found_notes : (q : ℕ) → x.step ≡ UnderWay AtDoorPut → d.door ≡ Some q
       → Notes IsKept (seen, sheets seen all) (λ v. Unit {0} × Leaves seen all (pages_after d (next_at (AtCountIn q))) (told t x.kept (next_at (AtCountIn q)) []) v)
-  found_notes q at there = going_notes d (next_at (AtCountIn q)) (Unit {0})
-      (λ n put slot pages log book on. (
-        tt,
-        only_own n put slot pages log [] (next_at (AtCountIn q)) on (put_found most n put slot pages log t x some book on.1.1.0 d.made d.door on.0 q at there),
-      ))
+  found_notes q at there = own_notes (next_at (AtCountIn q)) (Unit {0})
+      (λ n put slot pages log book on. (tt, put_found most n put slot pages log t x some book on.1.1.0 d.made d.door on.0 q at there))
 
   -- AtDoorPut where none stands: a store of 1 says that a queue was put
   pub new_moves : x.step ≡ UnderWay AtDoorPut → d.door ≡ None
@@ -179,7 +179,7 @@ module _ (seen : List Entry) (d : Desked) (t : ℕ) (x : TaskState) where
   pub take_notes : (e : Ending) → x.step ≡ UnderWay (AtDoorTake e)
       → Notes IsKept (seen, sheets seen all)
       (λ v. ((d.head ≡ false) × (d.listings ≡ [])) × Leaves seen all (pages_after (record d { door = None }) (next_end e)) (told t x.kept (next_end e) []) v)
-  take_notes e at = going_notes (record d { door = None }) (next_end e) ((d.head ≡ false) × (d.listings ≡ []))
+  take_notes e at = notes seen all (pages_after (record d { door = None }) (next_end e)) (told t x.kept (next_end e) []) ((d.head ≡ false) × (d.listings ≡ [])) (only [] (next_end e) tt)
       (λ n put slot pages log book on. (
         bare_at most n put slot pages log t x some book on.1.1.0 d.head d.listings on.1.0 e at,
         only_door n put slot pages log [] (next_end e) on d.made None (door_take most n put slot pages log t x some book on.1.1.0 d.made d.door on.0 e at),
