@@ -1,8 +1,11 @@
 -- The second look at the door is its line of the table.
-use Rattle.std.proofs.Common.{refl, None, Some}
-use Rattle.once_core.specs.Table.{Got, next_at}
+use Rattle.std.proofs.Common.{refl, None, Some, subst}
+use Rattle.once_queue.specs.declared.waiters.Answer.TheVariants.{Released}
+use Rattle.once_queue.specs.declared.waiters.Op.TheVariants.{Release}
+use Rattle.once_core.specs.Table.{Got, Was, next_at}
 use Rattle.once_world.specs.Places.{AtCountOut, AtDoorAgain, AtRelease}
 use Rattle.once_parts.specs.Hands.{own_of}
+use Rattle.once_parts.specs.Parts.{DidCall}
 use Rattle.once_parts.proofs.Walk.Ways.{led}
 use Rattle.once_parts.proofs.ways.holder.released_again.Goals as goal
 
@@ -14,5 +17,6 @@ pub returns-clause-leads : goal.returns-clause-leads
 returns-clause-leads g c = (
   own_of c.get.new.hand,
   led g.W.TaskWaker.whose (AtDoorAgain c.args.ending) (Got (Some tt)) (next_at (AtRelease tt c.args.ending)) refl refl (Some tt, refl) c.requires.stands c.if-not-get.ensures.did refl refl,
-  c.release.ensures.did,
+  subst (λ b. DidCall g.W.TaskWaker.whose (own_of c.get.new.hand) (Was tt (Release b) (Released c.release.result) (Release b)) (own_of c.release.new.hand))
+      c.is_value.ensures c.release.ensures.did,
 )
