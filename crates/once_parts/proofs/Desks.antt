@@ -9,7 +9,7 @@ use Rattle.once_queue.specs.declared.word.Sees.{Sees}
 use Rattle.once_queue.specs.Word.{flags_of, sees, is_free}
 use Rattle.once_queue.specs.declared.waiters.Lists.{Lists}
 use Rattle.once_queue.specs.declared.waiters.Answer.{Answer}
-use Rattle.once_queue.specs.declared.waiters.Answer.TheVariants.{Listed, Held, Memory, Left, Released}
+use Rattle.once_queue.specs.declared.waiters.Answer.TheVariants.{Listed, Held, Memory, Left}
 use Rattle.once_queue.specs.declared.waiters.Op.{Op}
 use Rattle.once_queue.specs.declared.waiters.Op.TheVariants.{Look, List as ListOwn, Release, Leave}
 use Rattle.once_queue.specs.declared.waiters.Out.{Out}
@@ -28,7 +28,7 @@ use Rattle.once_parts.specs.Steps.{answer_as}
 use Rattle.once_parts.specs.Desk.{Desked, IsDesked, IsShown}
 use Rattle.once_parts.specs.Own.{Own, Stayed, told}
 use Rattle.once_parts.specs.Page.{Went, call_in, given_in, next_of, task_after}
-use Rattle.once_parts.specs.Sections.{HandsEach, IsOwnListing, SectionDid, listed, looked, passing, section_desk, section_hands}
+use Rattle.once_parts.specs.Sections.{HandsEach, IsOwnListing, SectionDid, listed, looked, passing, section_desk}
 use Rattle.once_parts.proofs.Moments.Looks.{look_shown}
 use Rattle.once_parts.proofs.Moments.Lists.{list_shown, refusal_shown}
 use Rattle.once_parts.proofs.Moments.Named.{find_named, named_renewed, tickets_named}

@@ -2,10 +2,10 @@
 use Rattle.std.proofs.Common.{◌≡◌, ℕ, true, sym, ap, subst}
 use Rattle.std.proofs.lemmas.Bool.{false≢true}
 use Rattle.once_queue.specs.declared.waiters.Answer.{Answer}
-use Rattle.once_queue.specs.declared.waiters.Answer.TheVariants.{Ready, Claimed, Listed, Held, Memory, Gone, Released, Left}
+use Rattle.once_queue.specs.declared.waiters.Answer.TheVariants.{Ready, Claimed, Listed}
 use Rattle.once_queue.specs.declared.waiters.Op.{Op}
 use Rattle.once_queue.specs.declared.waiters.Op.TheVariants.{Look, List as ListOwn, Release, Leave}
-use Rattle.std.specs.Prelude.{⊤, Option}
+use Rattle.std.specs.Prelude.{Option}
 use Rattle.once_core.specs.Table.{Section, Was, wants_copy}
 use Rattle.once_world.specs.Book.{TaskState}
 use Rattle.once_world.specs.Machine.{AtLook, Step, UnderWay}

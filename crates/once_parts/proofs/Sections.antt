@@ -1,23 +1,23 @@
 -- Each moment of a task that has the lock keeps the rule of the book, and tells what it is to tell.
-use Rattle.std.proofs.Common.{◌≡◌, ◌+◌, ◌%◌, ◌^◌, ℕ, suc, Bool, true, false, List, [], ◌∷◌, ◌++◌, Option, Some, None, refl, sym, ap, ◌∙◌, subst}
+use Rattle.std.proofs.Common.{◌≡◌, ◌+◌, ◌%◌, ◌^◌, ℕ, suc, Bool, true, false, List, [], ◌++◌, Option, Some, None, refl, sym, ap, ◌∙◌, subst}
 use Rattle.std.specs.Option.{is_some}
 use Rattle.std.proofs.lemmas.Bool.{false≢true}
 use Rattle.std.proofs.lemmas.List.{append-nil}
 use Rattle.pagebook.specs.Pages.{Held, Moves, Notes, View}
 use Rattle.once_queue.specs.declared.waiters.Op.TheVariants.{Look, List as ListOwn, Release, Leave}
-use Rattle.once_core.specs.Table.{Call, Next, Section as SectionCall, after, after_door_again, after_door_get, call_at, next_at, next_end}
+use Rattle.once_core.specs.Table.{Call, Next, Section as SectionCall, after_door_again, after_door_get, call_at, next_at, next_end}
 use Rattle.once_core.specs.Table.{DoorGet, DoorPut, DoorTake, Got, PutQueue, Taken, Told}
 use Rattle.once_world.specs.Record.{Entry}
 use Rattle.once_world.specs.Book.{TaskState}
-use Rattle.once_world.specs.Machine.{AtCountIn, AtDoorAgain, AtDoorGet, AtDoorPut, AtDoorTake, AtRelease, Ending, Place, RestWait, Resting, Step, UnderWay, keeps, records}
-use Rattle.once_parts.specs.Kept.{Grew, IsKept, Leaves, Sheet, entries_of, locked, sheets}
+use Rattle.once_world.specs.Machine.{AtCountIn, AtDoorAgain, AtDoorGet, AtDoorPut, AtDoorTake, AtRelease, Ending, RestWait, Resting, Step, UnderWay, keeps, records}
+use Rattle.once_parts.specs.Kept.{IsKept, Leaves, Sheet, entries_of, locked, sheets}
 use Rattle.once_parts.specs.declared.act.Section.{Section}
 use Rattle.once_parts.specs.declared.act.Section.TheVariants.{Stand, Get, Put, Found, Take, ByTable, Rest}
 use Rattle.once_parts.specs.Desk.{Desked, IsDesk, behind, desk_sheets, desked}
 use Rattle.once_parts.specs.Own.{IsHand, Own, Stayed, Turned, number_in, task_in, told}
 use Rattle.once_parts.specs.Page.{call_in, given_in, next_of, queue_of}
 use Rattle.once_parts.specs.Places.{CanRest}
-use Rattle.once_parts.specs.Sections.{CanNote, IsBoth, IsLoading, IsSection, SectionDid, SectionShows, Tells, desk_put, more_released, own_behind, section_desk, section_hands, section_told}
+use Rattle.once_parts.specs.Sections.{CanNote, IsBoth, IsLoading, IsSection, SectionShows, Tells, desk_put, more_released, own_behind, section_desk, section_hands, section_told}
 use Rattle.once_parts.proofs.Moments.Mine.{AreOf, all_of, told_of}
 use Rattle.once_parts.proofs.Moments.Moves.Locked.{again_notes, all, found_notes, get_notes, new_moves, pages_after, rest_notes, section_entries, section_moves, section_next, section_of_t, section_word, stand_notes, take_notes}
 use Rattle.once_parts.proofs.Tells.{grew_nothing, moves_tell, notes_tell}

@@ -4,7 +4,6 @@ ghost use mathlib.Core.List.{IsPrefix};
 ghost use Rattle.once_queue.specs.Room.{listings_of};
 ghost use Rattle.once_core.specs.Table.{DoorGet, DoorPut, DoorTake, Got, PutQueue, Section, Taken, Was};
 ghost use Rattle.once_parts.specs.Named.{HasRenewed, KeepsOwner};
-ghost use Rattle.once_parts.specs.Own.{IsWord};
 ghost use Rattle.once_parts.specs.Page.{Went, call_in};
 ghost use Rattle.once_parts.specs.Places.{CanRest, numbered};
 ghost use Rattle.once_parts.specs.Parts.{CanCall, DidCall};

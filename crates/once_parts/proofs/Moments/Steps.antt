@@ -7,7 +7,7 @@ use Rattle.once_queue.specs.declared.waiters.Answer.{Answer}
 use Rattle.once_queue.specs.declared.waiters.Answer.TheVariants.{Ready, Claimed, Listed, Memory}
 use Rattle.once_core.specs.declared.step.Polled.{Polled}
 use Rattle.once_core.specs.declared.step.Polled.TheVariants.{Pending, Value, Error}
-use Rattle.once_core.specs.Table.{Call, Section, Next, Told, Loaded, TriedQuick, TriedFast, CountedIn, Added, CountedOut, Got, PutQueue, Taken, Was, Refused, Ran, PutValue}
+use Rattle.once_core.specs.Table.{Next, Told, Loaded, TriedQuick, TriedFast, CountedIn, Added, CountedOut, Got, PutQueue, Taken, Was, Refused, Ran, PutValue}
 use Rattle.once_core.specs.Table.{after, after_copy, after_count_in, after_count_out, after_door_again, after_door_get, after_door_put, after_fast, after_list, after_load, after_look}
 use Rattle.once_core.specs.Table.{after_quick, after_run, after_start, call_at, closing_at, next_at}
 use Rattle.once_core.specs.Steps.{is_value, leave_place, release_place, step_of_drop, step_of_poll}

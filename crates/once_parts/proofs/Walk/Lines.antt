@@ -1,5 +1,5 @@
 -- Each line of the table, where the task stands: what the step makes of the record, and where the task stands after it.
-use Rattle.std.proofs.Common.{◌≡◌, ℕ, Bool, true, false, List, [], ◌∷◌, ◌++◌, Option, Some, None, reverse, refl, sym, ap, ◌∙◌, subst}
+use Rattle.std.proofs.Common.{◌≡◌, ℕ, Bool, true, false, [], ◌++◌, Option, Some, None, refl, sym, ap, ◌∙◌, subst}
 use Rattle.std.specs.Prelude.{⊤}
 use Rattle.std.proofs.lemmas.Bool.{false≢true}
 use Rattle.std.proofs.lemmas.List.{append-nil}
@@ -17,14 +17,13 @@ use Rattle.once_core.specs.Steps.{MayClose, SideTells, Wakes, out_of, is_value, 
 use Rattle.once_core.specs.Table.{Follows, Line, Looked, MayRefuse, Next, Refused, Told, wants_copy}
 use Rattle.once_core.specs.Table.{Added, CountedIn, CountedOut, Got, Loaded, PutQueue, PutValue, Ran as PolledInit, Taken, TriedFast, TriedQuick, Was}
 use Rattle.once_core.specs.Table.{after, after_copy, after_run, next_at}
-use Rattle.once_world.specs.Places.{Ending, EndMemory, More, Progress, Step, Resting, UnderWay, Finished}
+use Rattle.once_world.specs.Places.{Ending, EndMemory, More, Progress, Step, UnderWay}
 use Rattle.once_world.specs.Places.{Place, AtStart, AtTryQuick, AtDoorGet, AtDoorPut, AtCountIn, AtWaitLoad, AtLook, AtList}
 use Rattle.once_world.specs.Places.{AtRun, AtPut, AtFast, AtAddOne, AtDoorAgain, AtRelease, AtLeave, AtCountOut, AtDoorTake}
-use Rattle.once_world.specs.Record.{Entry}
 use Rattle.once_world.specs.declared.record.Ran.{Ran as InitAnswer}
-use Rattle.once_world.specs.declared.record.Ran.TheVariants.{Error as RanError, Value as RanValue, Pending as RanPending}
+use Rattle.once_world.specs.declared.record.Ran.TheVariants.{Error as RanError}
 use Rattle.once_world.specs.Book.{TaskState}
-use Rattle.once_world.specs.Machine.{claim_entries, freed_entries, is_claim, keeps, kept_after, pass_entries, records, release_entry, unless_gone}
+use Rattle.once_world.specs.Machine.{keeps, kept_after, records}
 use Rattle.once_parts.specs.Kept.{entries_of}
 use Rattle.once_parts.specs.Named.{handed_in}
 use Rattle.once_parts.specs.Own.{Own, Turned, told}
@@ -33,7 +32,7 @@ use Rattle.once_parts.specs.Parts.{parts_did}
 use Rattle.once_parts.specs.Places.{unnamed}
 use Rattle.once_parts.specs.Sides.{IsTold, Sided}
 use Rattle.once_parts.specs.Steps.{answer_as, left_as, next_as, place_as, step_as, told_as}
-use Rattle.once_parts.specs.Walks.{AreMid, Fits, GoesOn, HasBegun, MayEnd, Stands, StandsOn, handed, the_queue}
+use Rattle.once_parts.specs.Walks.{Fits, GoesOn, HasBegun, MayEnd, Stands, StandsOn, handed, the_queue}
 use Rattle.once_parts.proofs.Desks.{prefix_on}
 use Rattle.once_parts.proofs.Moments.Steps.{after_as, copy_as}
 use Rattle.once_parts.proofs.Walk.Alike.{did_went, handed_by, page_goes, records_named, told_twice}

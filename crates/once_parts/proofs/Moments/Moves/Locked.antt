@@ -1,11 +1,11 @@
 -- The moves under the lock, with the pens of the door's page, the queue's and the task's.
-use Rattle.std.proofs.Common.{◌≡◌, ◌+◌, ◌%◌, ◌^◌, ℕ, suc, Bool, true, false, List, [], ◌∷◌, ◌++◌, Option, Some, None, slice_get, slice_set, refl, sym, ap, ◌∙◌, subst}
+use Rattle.std.proofs.Common.{◌≡◌, ◌+◌, ◌%◌, ◌^◌, ℕ, suc, Bool, true, false, List, [], ◌∷◌, ◌++◌, Option, Some, None, slice_set, refl, sym, ◌∙◌, subst}
 use Rattle.std.proofs.lemmas.List.{append-nil}
 use Rattle.pagebook.specs.Pages.{Held, Moves, Notes, put as put_on}
 use Rattle.once_queue.specs.Word.{flags_of}
 use Rattle.once_queue.specs.declared.waiters.Answer.{Answer as SectionAnswer}
 use Rattle.once_queue.specs.declared.waiters.Op.TheVariants.{Look, List as ListOwn, Release, Leave}
-use Rattle.once_core.specs.Table.{Call, Next, Section, Told, after, after_door_get, after_look, call_at, next_at, next_end}
+use Rattle.once_core.specs.Table.{Call, Next, Section, after, after_door_get, after_look, call_at, next_at, next_end}
 use Rattle.once_world.specs.declared.record.Ran.TheVariants.{Pending as RanPending}
 use Rattle.once_world.specs.Record.{Entry}
 use Rattle.once_world.specs.Book.{At, Door, IsBook, Page, Queue, TaskState}
