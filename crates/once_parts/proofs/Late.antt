@@ -3,7 +3,7 @@ use Rattle.std.proofs.Common.{◌≡◌, ℕ, Bool, true, false, List, [], ◌�
 use Rattle.std.proofs.lemmas.List.{reverse-append}
 use mathlib.Core.List.{IsPrefix}
 use Rattle.once_queue.proofs.Listing.Members.{eqb_self}
-use Rattle.once_world.specs.Record.{Begin, Claim, DropBegin, DropEnd, End, Entry, Fill, Free, Look, Made, Once, Own, Pass, Ran, is_of}
+use Rattle.once_world.specs.Record.{Begin, DropBegin, End, Entry, Once, is_of}
 use Rattle.once_world.specs.declared.record.Reply.TheVariants.{Error, Full, Memory, Pending, Value}
 use Rattle.once_world.specs.Cell.{cell, is_set}
 use Rattle.once_world.specs.Tasks.{last_call, last_call_after, status}
@@ -34,20 +34,8 @@ late_begun t h set = record { set = set; set_then = rw (eqb_self t) set }
 own_call : (t : ℕ) (e : Entry) (h : List Entry) → Late t h → (last_call_after e (cell Once h) (status Once t h) (last_call Once t h)).set_then ≡ true
 own_call t (Begin u w) h k = k.set
 own_call t (DropBegin u) h k = k.set
-own_call t (Made u) h k = k.set_then
-own_call t (Claim u) h k = k.set_then
-own_call t (Ran u a) h k = k.set_then
-own_call t (Free u X) h k = k.set_then
-own_call t (Fill u v X) h k = k.set_then
-own_call t (Pass u X) h k = k.set_then
 own_call t (End u Pending) h k = k.set_then
-own_call t (End u (Value v)) h k = k.set_then
-own_call t (End u (Error x)) h k = k.set_then
-own_call t (End u Memory) h k = k.set_then
-own_call t (End u Full) h k = k.set_then
-own_call t (DropEnd u) h k = k.set_then
-own_call t (Look v) h k = k.set_then
-own_call t (Own o g) h k = k.set_then
+own_call t _ h k = k.set_then
 
 -- any entry
 call_on : (t : ℕ) (e : Entry) (h : List Entry) (b : Bool) → is_of t e ≡ b → Late t h → (last_call Once t (e ∷ h)).set_then ≡ true

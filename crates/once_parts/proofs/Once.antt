@@ -3,8 +3,8 @@ use Rattle.std.proofs.Common.{◌≡◌, ℕ, Bool, true, false, List, [], ◌�
 use Rattle.std.proofs.lemmas.Bool.{eqb-true}
 use Rattle.std.proofs.lemmas.List.{append-nil, reverse-append}
 use Rattle.std.specs.Option.{is_some}
-use Rattle.once_world.specs.Record.{Entry, Made, Begin, Claim, Ran, Free, Fill, Pass, End, DropBegin, DropEnd, Look, Own, Once, is_of}
-use Rattle.once_world.specs.declared.record.Reply.TheVariants.{Pending, Value, Error, Memory, Full}
+use Rattle.once_world.specs.Record.{Entry, Begin, Ran, End, DropBegin, Once, is_of}
+use Rattle.once_world.specs.declared.record.Reply.TheVariants.{Pending}
 use Rattle.once_world.specs.Cell.{Cell, cell}
 use Rattle.once_world.specs.Tasks.{LastCall, Status, last_call, last_call_after, status}
 use Rattle.once_world.specs.Run.{IsRun}
@@ -33,75 +33,25 @@ MayCome (Ran t a) b = b ≡ false
 MayCome _ b = Unit {0}
 
 ran_more : (e : Entry) (b : Bool) (es : List Entry) → ran_in b (es ++ e ∷ []) ≡ ran_after e (ran_in b es)
-ran_more (Made t) b [] = refl
-ran_more (Begin t w) b [] = refl
-ran_more (Claim t) b [] = refl
 ran_more (Ran t a) b [] = refl
-ran_more (Free t X) b [] = refl
-ran_more (Fill t v X) b [] = refl
-ran_more (Pass t X) b [] = refl
-ran_more (End t r) b [] = refl
-ran_more (DropBegin t) b [] = refl
-ran_more (DropEnd t) b [] = refl
-ran_more (Look f) b [] = refl
-ran_more (Own o g) b [] = refl
-ran_more e b (Made t ∷ es) = ran_more e b es
+ran_more _ b [] = refl
 ran_more e b (Begin t w ∷ es) = ran_more e false es
-ran_more e b (Claim t ∷ es) = ran_more e b es
-ran_more e b (Ran t a ∷ es) = ran_more e true es
-ran_more e b (Free t X ∷ es) = ran_more e b es
-ran_more e b (Fill t v X ∷ es) = ran_more e b es
-ran_more e b (Pass t X ∷ es) = ran_more e b es
-ran_more e b (End t r ∷ es) = ran_more e b es
 ran_more e b (DropBegin t ∷ es) = ran_more e false es
-ran_more e b (DropEnd t ∷ es) = ran_more e b es
-ran_more e b (Look f ∷ es) = ran_more e b es
-ran_more e b (Own o g ∷ es) = ran_more e b es
+ran_more e b (Ran t a ∷ es) = ran_more e true es
+ran_more e b (_ ∷ es) = ran_more e b es
 
 once_more : (e : Entry) (b : Bool) (es : List Entry) → AreOnce b es → MayCome e (ran_in b es) → AreOnce b (es ++ e ∷ [])
 once_more (Ran t a) b [] o may = (may, tt)
-once_more (Made t) b [] o may = tt
-once_more (Begin t w) b [] o may = tt
-once_more (Claim t) b [] o may = tt
-once_more (Free t X) b [] o may = tt
-once_more (Fill t v X) b [] o may = tt
-once_more (Pass t X) b [] o may = tt
-once_more (End t r) b [] o may = tt
-once_more (DropBegin t) b [] o may = tt
-once_more (DropEnd t) b [] o may = tt
-once_more (Look f) b [] o may = tt
-once_more (Own o g) b [] p may = tt
-once_more e b (Made t ∷ es) o may = once_more e b es o may
+once_more _ b [] o may = tt
 once_more e b (Begin t w ∷ es) o may = once_more e false es o may
-once_more e b (Claim t ∷ es) o may = once_more e b es o may
-once_more e b (Ran t a ∷ es) o may = (o.0, once_more e true es o.1 may)
-once_more e b (Free t X ∷ es) o may = once_more e b es o may
-once_more e b (Fill t v X ∷ es) o may = once_more e b es o may
-once_more e b (Pass t X ∷ es) o may = once_more e b es o may
-once_more e b (End t r ∷ es) o may = once_more e b es o may
 once_more e b (DropBegin t ∷ es) o may = once_more e false es o may
-once_more e b (DropEnd t ∷ es) o may = once_more e b es o may
-once_more e b (Look f ∷ es) o may = once_more e b es o may
-once_more e b (Own q g ∷ es) o may = once_more e b es o may
+once_more e b (Ran t a ∷ es) o may = (o.0, once_more e true es o.1 may)
+once_more e b (_ ∷ es) o may = once_more e b es o may
 
 -- the last call tells the same after one entry more of the task
 ran_call : (e : Entry) (c : Cell) (s : Status) (p : LastCall) → is_some (last_call_after e c s p).ran ≡ ran_after e (is_some p.ran)
-ran_call (Made t) c s p = refl
-ran_call (Begin t w) c s p = refl
-ran_call (Claim t) c s p = refl
-ran_call (Ran t a) c s p = refl
-ran_call (Free t X) c s p = refl
-ran_call (Fill t v X) c s p = refl
-ran_call (Pass t X) c s p = refl
 ran_call (End t Pending) c s p = refl
-ran_call (End t (Value v)) c s p = refl
-ran_call (End t (Error e)) c s p = refl
-ran_call (End t Memory) c s p = refl
-ran_call (End t Full) c s p = refl
-ran_call (DropBegin t) c s p = refl
-ran_call (DropEnd t) c s p = refl
-ran_call (Look f) c s p = refl
-ran_call (Own o g) c s p = refl
+ran_call _ c s p = refl
 
 module _ (t : ℕ) where
   -- the own entries of a history, the oldest first
@@ -127,17 +77,7 @@ module _ (t : ℕ) where
   may_come (Ran u a) h is run =
       let none = subst (λ (v : ℕ). (last_call Once v h).ran ≡ None) (eqb-true u t is) run.0.2 in
       ran_is h ∙ ap is_some none
-  may_come (Made u) h is run = tt
-  may_come (Begin u w) h is run = tt
-  may_come (Claim u) h is run = tt
-  may_come (Free u X) h is run = tt
-  may_come (Fill u v X) h is run = tt
-  may_come (Pass u X) h is run = tt
-  may_come (End u r) h is run = tt
-  may_come (DropBegin u) h is run = tt
-  may_come (DropEnd u) h is run = tt
-  may_come (Look f) h is run = tt
-  may_come (Own o g) h is run = tt
+  may_come _ h is run = tt
 
   once_by : (b : Bool) (e : Entry) (h : List Entry) → is_of t e ≡ b → IsRun Once most (e ∷ h) → AreOnce false (mine h) → AreOnce false (mine h ++ kept_if b e [])
   once_by true e h is run o = once_more e false (mine h) o (may_come e h is run)

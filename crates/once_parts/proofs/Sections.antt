@@ -4,7 +4,7 @@ use Rattle.std.specs.Option.{is_some}
 use Rattle.std.proofs.lemmas.Bool.{false≢true}
 use Rattle.std.proofs.lemmas.List.{append-nil}
 use Rattle.pagebook.specs.Pages.{Held, Moves, Notes, View}
-use Rattle.once_queue.specs.declared.waiters.Op.TheVariants.{Look, List as ListOwn, Release, Leave}
+use Rattle.once_queue.specs.declared.waiters.Op.TheVariants.{Look, Release}
 use Rattle.once_core.specs.Table.{Call, Next, Section as SectionCall, after_door_again, after_door_get, call_at, next_at, next_end}
 use Rattle.once_core.specs.Table.{DoorGet, DoorPut, DoorTake, Got, PutQueue, Taken, Told}
 use Rattle.once_world.specs.Record.{Entry}
@@ -137,9 +137,7 @@ module _ (seen : List Entry) (d : Desked) (t : ℕ) (x : TaskState) where
       → let e : Told ℕ ℕ = section_told room n d c in
       Turned known (record x { step = next.step; kept = keeps e (given_in e) x.kept }) (told t (keeps e (given_in e) x.kept) next (records e (given_in e) t x.kept (section_hands n d c))) v
   section_quiet room n (SectionCall q (Look k)) next v is turned = turned
-  section_quiet room n (SectionCall q (ListOwn k w)) next v is turned = turned
-  section_quiet room n (SectionCall q (Release fills)) next v is turned = turned
-  section_quiet room n (SectionCall q (Leave k)) next v is turned = turned
+  section_quiet room n (SectionCall q op) next v is turned = turned
   section_quiet room n _ next v is turned = absurd is
 
   -- the section of a task's place

@@ -15,8 +15,8 @@ use Rattle.once_parts.specs.Places.{CanRefuse, numbered}
 use Rattle.once_parts.specs.Steps.{answer_as, call_as, left_as, op_as, told_as}
 
 module _ {W : Type 0} (whose : W → ℕ) where
-  -- what each call asks: the task stands where it is made. The code has no name for its queue, so that of the page is
-  -- taken
+  -- what each call asks: the task stands where it is made. The code has one queue and no name for it, so a section is
+  -- asked by the number that the page has
   abbrev pub CanCall : Step ℕ ℕ → Call W ⊤ → Type 0
   CanCall s Refuse = CanRefuse s
   CanCall s c = call_in s ≡ call_as whose (λ (q : ⊤). queue_of (call_in s)) c
@@ -26,7 +26,7 @@ module _ {W : Type 0} (whose : W → ℕ) where
   PassesOn (Leave k) a w = has_passed w.number w.log ≡ hands_out (handed_in whose a)
   PassesOn op a w = Unit {0}
 
-  -- what each call tells: the task's page went on by the table
+  -- what each call tells: the task's page went on by the table, where a queue that was found has some number
   abbrev pub DidCall : Own → Told W ⊤ → Own → Type 0
   DidCall v (Got q) w = (n : ℕ) × Went v (Got (numbered n (is_some q))) [] w
   DidCall v (PutQueue q) w = (n : ℕ) × Went v (PutQueue (numbered n (is_some q))) [] w

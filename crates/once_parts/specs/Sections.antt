@@ -86,7 +86,7 @@ HandsEach fills xs = fills ≡ true → is_distinct (tickets xs) ≡ true → re
 abbrev pub SectionShows : ℕ → Desked → Call ℕ ℕ → ℕ → List Entry → Type 0
 SectionShows n d (SectionCall q (Release fills)) t log = HandsEach fills d.listings
 SectionShows n d (SectionCall q (Leave k)) t log =
-    has_passed t log ≡ hands_out (option_to_list (next_waker (passing n k d) k d.listings))
+    has_passed t log ≡ hands_out (section_hands n d (SectionCall q (Leave k)))
 SectionShows n d c t log = Unit {0}
 
 -- the section that is this call: of the two pages and of what the task knew, before it and after it

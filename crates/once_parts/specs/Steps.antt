@@ -1,4 +1,4 @@
--- A step of a call, and what it calls and is told, as they look where wakers and queues have other names.
+-- A step of a call, a call of the parts and what it told, as they look where wakers and queues have other names.
 -- The code's wakers are objects, and those of a page are numbers.
 use Rattle.std.specs.Prelude.{◌≡◌, ℕ, None}
 use Rattle.std.specs.Option.{option_map}

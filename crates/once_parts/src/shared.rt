@@ -6,7 +6,6 @@ ghost use Rattle.once_queue.specs.Word.{flags_of};
 ghost use Rattle.once_core.specs.Table.{CountIn, DoorGet, DoorPut, DoorTake, Got, Load, Loaded, PutQueue, Section};
 ghost use Rattle.once_core.specs.Table.{Taken, Was, counted as count_told};
 ghost use Rattle.once_parts.specs.Named.{HasRenewed, KeepsOwner};
-ghost use Rattle.once_parts.specs.Own.{IsWord};
 ghost use Rattle.once_parts.specs.Page.{Went, call_in};
 ghost use Rattle.once_parts.specs.Places.{CanRest, numbered};
 ghost use Rattle.once_parts.specs.Parts.{CanCall, DidCall};

@@ -30,7 +30,8 @@ pub(crate) fn note(desk: &mut CellPens, hand: &mut Hand, section: &Section)
     hand.pens = desk.split_off(2);
 }
 
-/// A moment that a load of the word marks: a look, a `List`, or the leaving of a waiter; and whether there is room.
+/// A moment that a load of the word marks: a look, a `List`, or the leaving of a waiter. `room` says whether the
+/// waker of a `List` can be listed; the others list none.
 #[inline(always)]
 pub(crate) fn see(word: &CellWord, desk: &mut CellPens, hand: &mut Hand, room: bool) -> u64
     requires word { IsWord word.now hand.old.seen.book 0 }

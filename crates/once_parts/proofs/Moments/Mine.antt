@@ -6,10 +6,10 @@ use Rattle.pagebook.specs.Pages.{Apart, Held}
 use Rattle.once_queue.specs.declared.waiters.Listing.{Listing}
 use Rattle.once_queue.proofs.Listing.Members.{eqb_self}
 use Rattle.once_core.specs.Table.{Next}
-use Rattle.once_world.specs.Places.{Progress, More, Ended, EndPending, EndValue, EndError, EndMemory, EndFull, EndDropped}
+use Rattle.once_world.specs.Places.{Progress, More, Ended, EndPending}
 use Rattle.once_world.specs.Record.{Entry, Made, Begin, Claim, Ran, Free, Fill, Pass, End, DropBegin, DropEnd, Look, Own, is_of}
 use Rattle.once_world.specs.declared.record.Ran.{Ran as Answer}
-use Rattle.once_world.specs.declared.record.Ran.TheVariants.{Pending as RanPending, Value as RanValue, Error as RanError}
+use Rattle.once_world.specs.declared.record.Ran.TheVariants.{Pending as RanPending}
 use Rattle.once_world.specs.Book.{Page, TaskState}
 use Rattle.once_world.specs.Machine.{Step, Resting, UnderWay, Finished, claim_entries, drop_entries, freed_entries, pass_entries, progress_entries, release_entry}
 use Rattle.once_world.proofs.Moment.Step.{told}
@@ -84,11 +84,7 @@ module _ (t : ℕ) where
   end_of : (r : Progress) (k : Answer) → AreOf t (progress_entries r t 0 k)
   end_of More k = tt
   end_of (Ended EndPending) k = (eqb_self t, tt)
-  end_of (Ended EndValue) k = (eqb_self t, tt)
-  end_of (Ended EndError) k = (eqb_self t, tt)
-  end_of (Ended EndMemory) k = (eqb_self t, tt)
-  end_of (Ended EndFull) k = (eqb_self t, tt)
-  end_of (Ended EndDropped) k = (eqb_self t, tt)
+  end_of (Ended _) k = (eqb_self t, tt)
 
   -- the entries of a step of t, which did these
   pub told_of : (k : Answer) (next : Next ℕ ℕ) (did : List Entry) → AreOf t did → AreOf t (told t k next did)
@@ -100,8 +96,7 @@ module _ (t : ℕ) where
 
   pub release_of : (k : Answer) (X : List ℕ) → AreOf t (release_entry k t X ∷ [])
   release_of RanPending X = (eqb_self t, tt)
-  release_of (RanValue v) X = (eqb_self t, tt)
-  release_of (RanError e) X = (eqb_self t, tt)
+  release_of _ X = (eqb_self t, tt)
 
   pub freed_of : (b : Bool) (k : Answer) → AreOf t (freed_entries b t k)
   freed_of true k = release_of k []

@@ -11,7 +11,7 @@ use Rattle.once_queue.specs.declared.waiters.Op.TheVariants.{Look, List as ListO
 use Rattle.once_core.specs.Table.{Call, Section, Told, Got, PutQueue, Ran as PolledInit, TriedFast, TriedQuick, Was, after, call_at}
 use Rattle.once_world.specs.Record.{Entry}
 use Rattle.once_world.specs.declared.record.Ran.{Ran as InitAnswer}
-use Rattle.once_world.specs.declared.record.Ran.TheVariants.{Error as RanError, Value as RanValue, Pending as RanPending}
+use Rattle.once_world.specs.declared.record.Ran.TheVariants.{Pending as RanPending}
 use Rattle.once_world.specs.Machine.{claim_entries, is_claim, pass_entries, records, release_entry, unless_gone}
 use Rattle.once_world.specs.Places.{Place, AtStart, Step, Resting, UnderWay, Finished}
 use Rattle.once_parts.specs.Named.{handed_in}
@@ -112,8 +112,7 @@ Names es X = AreMid (reverse es) × (handed (reverse es) ≡ X)
 -- a release
 release_names : (k : InitAnswer) (t : ℕ) (X : List ℕ) → Names (release_entry k t X ∷ []) X
 release_names RanPending t X = ((refl, tt), append-nil X)
-release_names (RanValue v) t X = ((refl, tt), append-nil X)
-release_names (RanError e) t X = ((refl, tt), append-nil X)
+release_names _ t X = ((refl, tt), append-nil X)
 
 -- one who leaves
 pass_names : (t : ℕ) (X : List ℕ) → Names (pass_entries t X) X

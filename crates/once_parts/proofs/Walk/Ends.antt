@@ -19,11 +19,7 @@ same_end r d e a b = let same : Ended d ≡ Ended e = sym a ∙ b in cc
 -- its entry, by how it may end
 entry_is : (drops : Bool) (y : Sided) (w : Own) (e : Ending) → MayEnd drops y w e → end_entry e w.number 0 w.task.kept ≡ end_of w.number e
 entry_is true y w EndDropped m = refl
-entry_is true y w EndPending m = absurd m
-entry_is true y w EndValue m = absurd m
-entry_is true y w EndError m = absurd m
-entry_is true y w EndMemory m = absurd m
-entry_is true y w EndFull m = absurd m
+entry_is true y w _ m = absurd m
 entry_is false y w EndDropped m = absurd m
 entry_is false y w EndPending m = refl
 entry_is false y w EndValue m = refl
@@ -34,11 +30,7 @@ entry_is false y w EndFull m = refl
 -- a drop ends as one
 only_dropped : (y : Sided) (w : Own) (e : Ending) → MayEnd true y w e → e ≡ EndDropped
 only_dropped y w EndDropped m = refl
-only_dropped y w EndPending m = absurd m
-only_dropped y w EndValue m = absurd m
-only_dropped y w EndError m = absurd m
-only_dropped y w EndMemory m = absurd m
-only_dropped y w EndFull m = absurd m
+only_dropped y w _ m = absurd m
 
 -- an error was given
 error_given : (y : Sided) (w : Own) (e : Ending) → MayEnd false y w e → e ≡ EndError → y.has_error ≡ true

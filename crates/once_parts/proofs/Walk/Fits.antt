@@ -1,7 +1,7 @@
 -- What is known of a call holds at the place to which each line of the table leads.
 use Rattle.std.proofs.Common.{◌≡◌, ℕ, Bool, true, false, [], Option, Some, None, refl, sym, ◌∙◌, subst}
 use Rattle.once_queue.specs.declared.waiters.Answer.{Answer}
-use Rattle.once_queue.specs.declared.waiters.Answer.TheVariants.{Ready, Claimed, Listed, Held, Memory, Gone, Released, Left}
+use Rattle.once_queue.specs.declared.waiters.Answer.TheVariants.{Ready, Claimed, Listed, Memory}
 use Rattle.once_core.specs.declared.step.Polled.{Polled}
 use Rattle.once_core.specs.declared.step.Polled.TheVariants.{Pending, Value, Error}
 use Rattle.once_core.specs.Table.{Next, after_copy, after_count_in, after_count_out, after_door_again, after_door_get, after_door_put, after_fast}
@@ -96,21 +96,12 @@ module _ (W Q : Type 0) (drops : Bool) (x : Sided) (v : Own) where
   look_fits Ready w q k b i = (refl, ends_value drops x v b)
   look_fits Claimed w q k b i = (refl, (b, i refl))
   look_fits Listed w q k b i = (refl, (b, i refl))
-  look_fits Held w q k b i = copy_fits w q k b i
-  look_fits Memory w q k b i = copy_fits w q k b i
-  look_fits Gone w q k b i = copy_fits w q k b i
-  look_fits (Released out) w q k b i = copy_fits w q k b i
-  look_fits (Left o) w q k b i = copy_fits w q k b i
+  look_fits _ w q k b i = copy_fits w q k b i
 
   pub list_fits : (a : Answer W) (q : Q) (k : Option ℕ) → HasBegun drops x v → HasInit (after_list a q k) → FitsNext (after_list a q k)
   list_fits Ready q k b i = (refl, ends_value drops x v b)
-  list_fits Claimed q k b i = (refl, (b, i refl))
-  list_fits Listed q k b i = (refl, (b, i refl))
-  list_fits Held q k b i = (refl, (b, i refl))
   list_fits Memory q k b i = (refl, leave_fits q k EndMemory b.1 (ends_memory drops x v b))
-  list_fits Gone q k b i = (refl, (b, i refl))
-  list_fits (Released out) q k b i = (refl, (b, i refl))
-  list_fits (Left o) q k b i = (refl, (b, i refl))
+  list_fits _ q k b i = (refl, (b, i refl))
 
   pub run_fits : (a : Polled) (by : Option Q) → HasBegun drops x v → HasInit (after_run a by) → (a ≡ Value → x.has_value ≡ true) → (a ≡ Error → (x.has_error ≡ true) × (v.task.kept ≡ RanError 0)) → FitsNext (after_run a by)
   run_fits Pending by b i value error = (refl, (b, i refl))
