@@ -19,7 +19,6 @@ pub use Rattle.once_queue.specs.Sections
 pub use Rattle.once_core.specs.Core
 pub use Rattle.once_core.specs.Steps
 pub use Rattle.once_core.specs.Table
-pub use Rattle.once_core.specs.Chain
 pub use Rattle.once_world.specs.Places
 pub use Rattle.once_world.specs.Cell
 pub use Rattle.once_world.specs.Tasks
