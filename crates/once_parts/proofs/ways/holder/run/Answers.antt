@@ -35,3 +35,10 @@ returns-in-Error-clause-leads g c =
 pub returns-in-Error-clause-stays : goal.returns-in-Error-clause-stays
 returns-in-Error-clause-stays g c =
     g.met.S.Side.stays_on _ _ _ (g.met.S.Side.stays_on _ _ _ c.in-Error.ensures.stays c.close-in-Error.ensures.stays) c.give_back.ensures.stays
+
+pub give_back-requires : goal.give_back-requires
+give_back-requires g c =
+    let tells = g.met.S.TaskSide.tells in
+    record {
+      stands = (ran g.W.TaskWaker.whose c.args.by Error _ c.requires.stands c.in-Error.ensures.did.1 (tells.run _ _ _ c.in-Error.ensures.ran) (tells.close _ _ c.close-in-Error.ensures.did)).stands;
+    }
