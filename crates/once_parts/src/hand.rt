@@ -5,7 +5,6 @@ ghost use Rattle.once_parts.specs.Own.{IsHand};
 use crate::act::{Act, Makes, Puts, Writes};
 use crate::apart::{are_two, has_learned};
 use crate::book::{CellPens, CellSlot, CellWord, Record};
-use crate::mark::Mark;
 use crate::record::stays_set;
 use once_core::parts::Counted;
 use once_core::step::{Polled, RunRight};
@@ -113,22 +112,6 @@ impl Hand {
             (own_of self.new) }
     {
         self.seen.note::<Act, Act>(&mut self.pens, &Act::BeginDrop);
-    }
-
-    /// What the task has seen of the log.
-    #[inline(always)]
-    pub fn seen(&self) -> &Record
-        ensures { result.now ≡ self.now.seen }
-    {
-        &self.seen
-    }
-
-    /// The number of the task.
-    #[inline(always)]
-    pub fn mark(&self) -> Mark
-        ensures { result ≡ (own_of self.now).number }
-    {
-        Mark::of(&self.pens)
     }
 
     // The init was polled, and answered so. Who polls it says this: see `pollable`.

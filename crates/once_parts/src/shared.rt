@@ -1,6 +1,5 @@
 //! What the tasks of a cell share, as one task uses it.
-ghost use Rattle.std.specs.Prelude.{◌≡◌, ◌≢◌, ◌^◌, if◌then◌else◌, ℕ, Bool, false, true, List, [], Some};
-ghost use mathlib.Core.List.{IsPrefix};
+ghost use Rattle.std.specs.Prelude.{◌≡◌, ◌^◌, if◌then◌else◌, ℕ, Bool, false, true, List, [], Some};
 ghost use Rattle.once_queue.specs.Room.{listings_of};
 ghost use Rattle.once_queue.specs.Word.{flags_of};
 ghost use Rattle.once_core.specs.Table.{CountIn, DoorGet, DoorPut, DoorTake, Got, Load, Loaded, PutQueue, Section};
@@ -10,10 +9,8 @@ ghost use Rattle.once_parts.specs.Page.{Went, call_in};
 ghost use Rattle.once_parts.specs.Places.{CanRest, numbered};
 ghost use Rattle.once_parts.specs.Parts.{CanCall, DidCall};
 ghost use Rattle.once_parts.specs.Hands.{own_of};
-ghost use Rattle.once_parts.specs.Record.{IsSet};
 
 use crate::act::ByTable;
-use crate::book::Record;
 use crate::hand::Hand;
 use crate::inner::Inner;
 use crate::mark::{Mark, TaskWaker};
@@ -71,7 +68,6 @@ impl<'a, 'r, T, W: TaskWaker, R> Shared<'a, 'r, T, W, R> {
     ghost use Rattle.once_parts.specs.Own.{Turned};
     ghost use Rattle.once_parts.specs.Places.{task_begun, task_dropping};
     ghost use Rattle.once_parts.specs.Record.{EndsSet};
-    ghost use Rattle.once_parts.specs.Kept.{entries_of};
     ghost use Rattle.once_parts.specs.Shares.{cell_of, own};
 
     /// Begins a poll.
@@ -118,13 +114,7 @@ impl<'a, 'r, T, W: TaskWaker, R> Shared<'a, 'r, T, W, R> {
         ensures value { (result.0.now ≡ result.1.value) × (result.1.of ≡ (cell_of self.now).id) }
     {
         let inner = self.inner;
-        inner.slot.get(self.hand.seen())
-    }
-
-    /// The handle that the task was made with.
-    #[inline(always)]
-    pub fn rt(&self) -> &'r R {
-        self.rt
+        inner.slot.get(&self.hand.seen)
     }
 
     /// The number of this task, for its wakers.
@@ -136,65 +126,7 @@ impl<'a, 'r, T, W: TaskWaker, R> Shared<'a, 'r, T, W, R> {
     pub fn mark(&self) -> Mark
         ensures { result ≡ (own self.now).number }
     {
-        self.hand.mark()
-    }
-
-    /// The task learns what a record of its cell has. Its next call comes after that.
-    #[inline(always)]
-    pub fn learn(&mut self, seen: &Record)
-        requires book { seen.now.book ≡ (cell_of self.old).book }
-        ensures cell { cell_of self.new ≡ cell_of self.old }
-        ensures number { (own self.new).number ≡ (own self.old).number }
-        ensures task { (own self.new).task ≡ (own self.old).task }
-        ensures log { IsPrefix (own self.old).log (own self.new).log × IsPrefix seen.now.log (own self.new).log }
-        ensures mine { entries_of (own self.old).number (own self.new).log
-            ≡ entries_of (own self.old).number (own self.old).log }
-        ensures own_set { IsSet (own self.old).log → IsSet (own self.new).log }
-        ensures other_set { IsSet seen.now.log → IsSet (own self.new).log }
-    {
-        self.hand.learn(seen);
-    }
-
-    /// Shows that two tasks of a cell have two numbers. It does nothing, but that the first may learn more of the
-    /// record.
-    #[inline(always)]
-    pub fn are_two(a: &mut Self, b: &mut Self)
-        requires book { (cell_of b.old).book ≡ (cell_of a.old).book }
-        ensures cell { cell_of a.new ≡ cell_of a.old }
-        ensures number { (own a.new).number ≡ (own a.old).number }
-        ensures task { (own a.new).task ≡ (own a.old).task }
-        ensures log { IsPrefix (own a.old).log (own a.new).log }
-        ensures set { IsSet (own a.old).log → IsSet (own a.new).log }
-        ensures other_cell { cell_of b.new ≡ cell_of b.old }
-        ensures other { own b.new ≡ own b.old }
-        ensures two { (own a.new).number ≢ (own b.new).number }
-    {
-        Hand::are_two(&mut a.hand, &mut b.hand);
-    }
-
-    /// The record as far as this task has seen it.
-    #[inline(always)]
-    pub fn record(&self) -> Record
-        ensures { (result.book ≡ (cell_of self.now).book) × (result.log ≡ (own self.now).log) }
-    {
-        self.hand.seen().again()
-    }
-}
-
-impl<T, W: TaskWaker + Drop, R: Wait> Shared<'_, '_, T, W, R> {
-    ghost use Rattle.once_parts.specs.Shares.{cell_of, own};
-
-    /// Lets the waker of the task's listing be renewed, under the lock. The answer says whether there is one.
-    #[inline(always)]
-    pub fn renew<N: Renews<W>>(&mut self, ticket: u64, by: &mut N) -> bool
-        requires owner { KeepsOwner W.whose N.renewed }
-        requires can { CanRest ticket (own self.old).task.step }
-        ensures cell { cell_of self.new ≡ cell_of self.old }
-        ensures task { own self.new ≡ own self.old }
-        ensures renewed { result ≡ true → HasRenewed W.whose N.renewed (own self.old).number by.old by.new }
-        ensures not { result ≡ false → by.new ≡ by.old }
-    {
-        renewed::<Brand, T, W, R, N>(self.rt, self.inner, &mut self.hand, ticket, by)
+        Mark::of(&self.hand.pens)
     }
 }
 
@@ -411,9 +343,9 @@ fn taken<J: Key, T, W: TaskWaker + Drop, R: Wait>(
     inner.desk.lock::<J, R>(rt).value.take(hand)
 }
 
-// Whether the waker of this listing was renewed, under the lock.
+/// Whether the waker of this listing was renewed, under the lock.
 #[inline(always)]
-fn renewed<J: Key, T, W: TaskWaker + Drop, R: Wait, N: Renews<W>>(
+pub(crate) fn renewed<J: Key, T, W: TaskWaker + Drop, R: Wait, N: Renews<W>>(
     rt: &R,
     inner: &Inner<T, W>,
     hand: &mut Hand,

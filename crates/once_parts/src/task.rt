@@ -16,14 +16,14 @@ use crate::hand::Hand;
 use crate::idle::Idle;
 use crate::inner::Inner;
 use crate::mark::{Mark, TaskWaker};
-use crate::shared::Shared;
+use crate::shared::{Shared, renewed};
 use crate::side::TaskSide;
 use crate::ways::{later, start};
 use once_core::step::{Ending, Progress};
 use once_queue::waiters::Renews;
 use pagebook::Written;
 use std::alloc::AllocGlobal;
-use std::marker::Model;
+use std::marker::{Brand, Model};
 use std::sync::Wait;
 
 /// A task of a cell, between two of its calls: its share of the cell, and where its next call begins.
@@ -103,7 +103,7 @@ impl<'a, 'r, T, W: TaskWaker + Drop, R> Task<'a, 'r, T, W, R> {
     /// The handle that the task was made with.
     #[inline(always)]
     pub fn rt(&self) -> &'r R {
-        self.parts.rt()
+        self.parts.rt
     }
 
     /// The number of this task, for its wakers.
@@ -130,7 +130,8 @@ impl<'a, 'r, T, W: TaskWaker + Drop, R> Task<'a, 'r, T, W, R> {
         ensures own_set { IsSet self.old.log → IsSet self.new.log }
         ensures other_set { IsSet seen.now.log → IsSet self.new.log }
     {
-        self.parts.learn(seen);
+        let parts = &mut self.parts;
+        parts.hand.learn(seen);
     }
 
     /// Shows that two tasks of a cell have two numbers. It does nothing, but that the first may learn more of the
@@ -146,7 +147,8 @@ impl<'a, 'r, T, W: TaskWaker + Drop, R> Task<'a, 'r, T, W, R> {
         ensures other { b.new ≡ b.old }
         ensures two { a.new.number ≢ b.new.number }
     {
-        Shared::are_two(&mut a.parts, &mut b.parts);
+        let (a, b) = (&mut a.parts, &mut b.parts);
+        Hand::are_two(&mut a.hand, &mut b.hand);
     }
 
     /// The record as far as this task has seen it.
@@ -154,7 +156,7 @@ impl<'a, 'r, T, W: TaskWaker + Drop, R> Task<'a, 'r, T, W, R> {
     pub fn record(&self) -> Record
         ensures { (result.book ≡ self.now.cell.book) × (result.log ≡ self.now.log) }
     {
-        self.parts.record()
+        self.parts.hand.seen.again()
     }
 }
 
@@ -240,7 +242,8 @@ impl<'a, 'r, T, W: TaskWaker + Drop, R: Wait + AllocGlobal> Task<'a, 'r, T, W, R
         let Idle::Listed(ticket) = self.idle else {
             return false;
         };
-        self.parts.renew(ticket, by)
+        let parts = &mut self.parts;
+        renewed::<Brand, T, W, R, N>(parts.rt, parts.inner, &mut parts.hand, ticket, by)
     }
 
     /// A whole drop of a task that is not finished. It may wait as [`poll`](Self::poll), and as much is said of

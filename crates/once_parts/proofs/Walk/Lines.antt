@@ -32,7 +32,7 @@ use Rattle.once_parts.specs.Parts.{parts_did}
 use Rattle.once_parts.specs.Places.{unnamed}
 use Rattle.once_parts.specs.Sides.{IsTold, Sided}
 use Rattle.once_parts.specs.Steps.{answer_as, left_as, next_as, place_as, step_as, told_as}
-use Rattle.once_parts.specs.Walks.{Fits, GoesOn, HasBegun, MayEnd, Stands, StandsOn, handed, the_queue}
+use Rattle.once_parts.specs.Walks.{Fits, GoesOn, HasBegun, MayEnd, Stands, StandsOn, the_queue}
 use Rattle.once_parts.proofs.Desks.{prefix_on}
 use Rattle.once_parts.proofs.Moments.Steps.{after_as, copy_as}
 use Rattle.once_parts.proofs.Walk.Alike.{did_went, handed_by, page_goes, records_named, told_twice}

@@ -1,4 +1,4 @@
-use Rattle.once_parts.proofs.shared.Shared.renew.Given as goal
+use Rattle.once_parts.proofs.task.Task.renew.Given as goal
 
 abbrev pub ghosts-renewed : goal.ghosts-renewed
 ghosts-renewed g a = record { key = a.inner.now.desk }
