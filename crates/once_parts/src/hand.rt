@@ -2,14 +2,13 @@
 ghost use Rattle.std.specs.Prelude.{◌≡◌};
 ghost use Rattle.once_parts.specs.Own.{IsHand};
 
-use crate::act::{Act, Makes, Puts, Writes};
+use crate::act::{Act, Makes};
 use crate::apart::{are_two, has_learned};
-use crate::book::{CellPens, CellSlot, CellWord, Record};
+use crate::book::{CellPens, CellWord, Record};
 use crate::record::stays_set;
 use once_core::parts::Counted;
 use once_core::step::{Polled, RunRight};
 use once_queue::word::{MAX_WAITERS, QINIT_BIT, READY_BIT};
-use pagebook::Written;
 
 /// What a task has of its cell's book. It has no bytes.
 #[derive(Drop)]
@@ -23,17 +22,16 @@ pub struct Hand {
 }
 
 impl Hand {
-    ghost use Rattle.std.specs.Prelude.{None, true, false, [], ◌∷◌, reverse};
+    ghost use Rattle.std.specs.Prelude.{None, true, false, [], ◌∷◌};
     ghost use Rattle.std.specs.Option.{MatchOption};
-    ghost use Rattle.once_core.specs.Steps.{is_resting, step_of_drop};
-    ghost use Rattle.once_core.specs.Table.{CountIn, DoorPut, DoorTake, Put};
-    ghost use Rattle.once_core.specs.Table.{PutQueue, PutValue, Refused, Taken, counted};
-    ghost use Rattle.once_world.specs.Record.{Begin, Made};
-    ghost use Rattle.once_world.specs.Machine.{drop_entries, fresh_task};
+    ghost use Rattle.once_core.specs.Table.{CountIn, DoorPut, DoorTake, PutQueue, Refused};
+    ghost use Rattle.once_core.specs.Table.{Taken, counted};
+    ghost use Rattle.once_world.specs.Record.{Made};
+    ghost use Rattle.once_world.specs.Machine.{fresh_task};
     ghost use Rattle.once_parts.specs.Kept.{Grew};
-    ghost use Rattle.once_parts.specs.Own.{IsWord, Stayed, Turned};
+    ghost use Rattle.once_parts.specs.Own.{IsWord, Stayed};
     ghost use Rattle.once_parts.specs.Page.{Went, call_in};
-    ghost use Rattle.once_parts.specs.Places.{CanRefuse, task_begun, task_dropping};
+    ghost use Rattle.once_parts.specs.Places.{CanRefuse};
     ghost use Rattle.once_parts.specs.Hands.{HasRight, HasRun, own_of};
 
     /// A new task's, by what was seen of the log before.
@@ -91,29 +89,6 @@ impl Hand {
         has_put.load::<Act, Act>(&Act::NonePut, &mut self.seen, &mut self.pens) == 0
     }
 
-    /// Begins a poll.
-    #[inline(always)]
-    pub fn begin(&mut self)
-        requires can { is_resting (own_of self.old).task.step ≡ true }
-        ensures book { self.new.seen.book ≡ self.old.seen.book }
-        ensures did { Turned (own_of self.old) (task_begun (own_of self.old).number (own_of self.old).task)
-            (Begin (own_of self.old).number (own_of self.old).number ∷ []) (own_of self.new) }
-    {
-        self.seen.note::<Act, Act>(&mut self.pens, &Act::Begin);
-    }
-
-    /// Begins a drop.
-    #[inline(always)]
-    pub fn begin_drop(&mut self)
-        requires can { is_resting (own_of self.old).task.step ≡ true }
-        ensures book { self.new.seen.book ≡ self.old.seen.book }
-        ensures did { Turned (own_of self.old) (task_dropping (own_of self.old).task)
-            (reverse (drop_entries (own_of self.old).number (step_of_drop (own_of self.old).task.step)))
-            (own_of self.new) }
-    {
-        self.seen.note::<Act, Act>(&mut self.pens, &Act::BeginDrop);
-    }
-
     // The init was polled, and answered so. Who polls it says this: see `pollable`.
     #[inline(always)]
     pub(crate) fn ran(&mut self, answer: Polled)
@@ -142,18 +117,6 @@ impl Hand {
         ensures did { Went (own_of self.old) (PutQueue None) [] (own_of self.new) }
     {
         self.seen.note::<Act, Act>(&mut self.pens, &Act::Unput);
-    }
-
-    /// Puts the value that the init gave. Nothing can refuse it.
-    #[inline(always)]
-    pub fn put<T>(&mut self, slot: &CellSlot<T>, value: T) -> Written<T>
-        requires slot { (slot.now.book ≡ self.old.seen.book) × (slot.now.key ≡ 2) }
-        requires can { call_in (own_of self.old).task.step ≡ Put }
-        ensures book { self.new.seen.book ≡ self.old.seen.book }
-        ensures did { Went (own_of self.old) PutValue [] (own_of self.new) }
-        ensures written { (result.of ≡ slot.now.id) × (result.value ≡ value) }
-    {
-        slot.put::<(), Writes, Puts>(value, &(), &mut self.seen, &mut self.pens)
     }
 }
 

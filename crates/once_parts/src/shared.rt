@@ -10,7 +10,7 @@ ghost use Rattle.once_parts.specs.Places.{CanRest, numbered};
 ghost use Rattle.once_parts.specs.Parts.{CanCall, DidCall};
 ghost use Rattle.once_parts.specs.Hands.{own_of};
 
-use crate::act::ByTable;
+use crate::act::{Act, ByTable, Puts, Writes};
 use crate::hand::Hand;
 use crate::inner::Inner;
 use crate::mark::{Mark, TaskWaker};
@@ -83,7 +83,8 @@ impl<'a, 'r, T, W: TaskWaker, R> Shared<'a, 'r, T, W, R> {
         ensures did { Turned (own self.old) (task_begun (own self.old).number (own self.old).task)
             (Begin (own self.old).number (own self.old).number ∷ []) (own self.new) }
     {
-        self.hand.begin();
+        let hand = &mut self.hand;
+        hand.seen.note::<Act, Act>(&mut hand.pens, &Act::Begin);
     }
 
     /// Begins a drop.
@@ -99,7 +100,8 @@ impl<'a, 'r, T, W: TaskWaker, R> Shared<'a, 'r, T, W, R> {
         ensures did { Turned (own self.old) (task_dropping (own self.old).task)
             (reverse (drop_entries (own self.old).number (step_of_drop (own self.old).task.step))) (own self.new) }
     {
-        self.hand.begin_drop();
+        let hand = &mut self.hand;
+        hand.seen.note::<Act, Act>(&mut hand.pens, &Act::BeginDrop);
     }
 
     /// The value, for a task whose last call ended with it.
@@ -243,7 +245,11 @@ impl<T, W: TaskWaker + Drop, R: Wait + AllocGlobal> Parts<W> for Shared<'_, '_, 
     // Nothing can refuse it.
     #[inline(always)]
     fn put(&mut self, value: T) {
-        self.hand.put(&self.inner.slot, value);
+        let inner = self.inner;
+        let hand = &mut self.hand;
+        inner
+            .slot
+            .put::<(), Writes, Puts>(value, &(), &mut hand.seen, &mut hand.pens);
     }
 }
 
