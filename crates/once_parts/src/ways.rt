@@ -8,7 +8,7 @@
 //! its place.
 //!
 //! While the lock is held, nothing of the caller's own is dropped or called: such a function answers how far it came,
-//! as [`Reached`], and with it the wakers that it took, as [`Spent`]. Who let the lock go then closes the init.
+//! as [`Reached`], and puts the wakers that it took aside, as [`Spent`]. Who let the lock go then closes the init.
 ghost use Rattle.std.specs.Prelude.{◌≡◌, false};
 ghost use Rattle.once_core.specs.Steps.{leave_place, step_of_poll};
 ghost use Rattle.once_parts.specs.Idle.{is_over, step_of};
@@ -32,6 +32,7 @@ use crate::side::TaskSide;
 use once_core::step::{Ending, Place, Progress, Rest, Step};
 pub(crate) use quick::start;
 use std::alloc::AllocGlobal;
+use std::mem;
 use std::sync::Wait;
 
 /// How far a poll came under the lock.
@@ -48,32 +49,21 @@ pub(crate) enum Reached {
     Refused(Option<u64>),
 }
 
-/// The wakers that a hold of the lock took and gave to nobody. They are let go when the lock is free.
+/// The wakers that were taken while the lock was held, and given to nobody. They lie in a place of whoever took the
+/// lock, and are let go where that ends. They are the task's own.
 #[derive(Drop)]
 pub(crate) struct Spent<W> {
-    /// Out of the list, by a look that claimed the right.
-    pub(crate) looked: Option<W>,
-    /// Out of the list, by a `List` that claimed the right.
-    pub(crate) listed: Option<W>,
+    /// Out of the list, by a claim.
+    taken: Option<W>,
     /// The copy that was not listed.
-    pub(crate) copy: Option<W>,
+    copy: Option<W>,
 }
 
-impl<W> Spent<W> {
-    /// None was taken.
+impl<W: Drop> Spent<W> {
+    /// Keeps these in a place where nothing lies yet. What lies there is not looked at.
     #[inline(always)]
-    pub(crate) fn none() -> Self {
-        Spent::looked(None)
-    }
-
-    /// A look took this one, and nothing was listed.
-    #[inline(always)]
-    pub(crate) fn looked(looked: Option<W>) -> Self {
-        Spent {
-            looked,
-            listed: None,
-            copy: None,
-        }
+    pub(crate) fn keep(place: &mut Option<Self>, taken: Option<W>, copy: Option<W>) {
+        mem::forget(mem::replace(place, Some(Spent { taken, copy })));
     }
 }
 

@@ -39,7 +39,14 @@ pub(super) fn meet<
         (S.state side.new) (own parts.new) }
     ensures stays { S.stays side.old side.new }
 {
-    let (reached, _spent) = held::<Brand, T, W, R, S>(parts.rt, parts.inner, &mut parts.hand, side);
+    let mut spent = None;
+    let reached = held::<Brand, T, W, R, S>(
+        parts.rt,
+        parts.inner,
+        &mut parts.hand,
+        &mut spent,
+        side,
+    );
     go_on_from(parts, idle, reached, side)
 }
 
@@ -51,18 +58,24 @@ fn held<
     W: TaskWaker + Drop,
     R: Wait + AllocGlobal,
     S: TaskSide<W, Value = T, Right = Hand>,
->(rt: &R, inner: &Inner<T, W>, hand: &mut Hand, side: &mut S) -> (Reached, Spent<W>)
+>(
+    rt: &R,
+    inner: &Inner<T, W>,
+    hand: &mut Hand,
+    spent: &mut Option<Spent<W>>,
+    side: &mut S,
+) -> Reached
     requires key { inner.now.desk ≡ J.key }
     requires book { hand.old.seen.book ≡ J.key }
     requires stands { Stands W.whose false (S.state side.old) (own_of hand.old) Progress.More
         (Step.UnderWay Place.DoorGet) }
     ensures book { hand.new.seen.book ≡ hand.old.seen.book }
-    ensures leads { LeadsBy W.whose (S.state side.old) (own_of hand.old) (next_by result.0)
+    ensures leads { LeadsBy W.whose (S.state side.old) (own_of hand.old) (next_by result)
         (S.state side.new) (own_of hand.new) }
     ensures stays { S.stays side.old side.new }
 {
     let mut tied = inner.desk.lock::<J, R>(rt);
-    get(rt, inner, &mut tied.value, hand, side)
+    get(rt, inner, &mut tied.value, hand, spent, side)
 }
 
 // The look at the door.
@@ -72,22 +85,23 @@ fn get<T, W: TaskWaker + Drop, R: Wait + AllocGlobal, S: TaskSide<W, Value = T, 
     inner: &Inner<T, W>,
     desk: &mut Desk<W>,
     hand: &mut Hand,
+    spent: &mut Option<Spent<W>>,
     side: &mut S,
-) -> (Reached, Spent<W>)
+) -> Reached
     requires book { hand.old.seen.book ≡ inner.now.front.book }
     requires desk { desk.old ≡ hand.old.seen.book }
     requires stands { Stands W.whose false (S.state side.old) (own_of hand.old) Progress.More
         (Step.UnderWay Place.DoorGet) }
     ensures book { hand.new.seen.book ≡ hand.old.seen.book }
     ensures desk { desk.new ≡ desk.old }
-    ensures leads { LeadsBy W.whose (S.state side.old) (own_of hand.old) (next_by result.0)
+    ensures leads { LeadsBy W.whose (S.state side.old) (own_of hand.old) (next_by result)
         (S.state side.new) (own_of hand.new) }
     ensures stays { S.stays side.old side.new }
 {
     if desk.get(hand) {
-        return count_in(rt, inner, desk, hand, side);
+        return count_in(rt, inner, desk, hand, spent, side);
     }
-    put(rt, inner, desk, hand, side)
+    put(rt, inner, desk, hand, spent, side)
 }
 
 // A queue is put to the door, where none stands.
@@ -97,26 +111,27 @@ fn put<T, W: TaskWaker + Drop, R: Wait + AllocGlobal, S: TaskSide<W, Value = T, 
     inner: &Inner<T, W>,
     desk: &mut Desk<W>,
     hand: &mut Hand,
+    spent: &mut Option<Spent<W>>,
     side: &mut S,
-) -> (Reached, Spent<W>)
+) -> Reached
     requires book { hand.old.seen.book ≡ inner.now.front.book }
     requires desk { desk.old ≡ hand.old.seen.book }
     requires stands { Stands W.whose false (S.state side.old) (own_of hand.old) Progress.More
         (Step.UnderWay Place.DoorPut) }
     ensures book { hand.new.seen.book ≡ hand.old.seen.book }
     ensures desk { desk.new ≡ desk.old }
-    ensures leads { LeadsBy W.whose (S.state side.old) (own_of hand.old) (next_by result.0)
+    ensures leads { LeadsBy W.whose (S.state side.old) (own_of hand.old) (next_by result)
         (S.state side.new) (own_of hand.new) }
     ensures stays { S.stays side.old side.new }
 {
     let alloc = rt.alloc();
     let Ok(queue) = Box::new(alloc, Lists::new(alloc)) else {
         hand.unput();
-        return (Reached::Ended(Ending::Memory), Spent::none());
+        return Reached::Ended(Ending::Memory);
     };
     // None can stand there, since the lock was held from the look on.
     desk.put(&inner.has_put, hand, queue);
-    count_in(rt, inner, desk, hand, side)
+    count_in(rt, inner, desk, hand, spent, side)
 }
 
 // The task counts in.
@@ -126,23 +141,24 @@ fn count_in<T, W: TaskWaker + Drop, R: Wait, S: TaskSide<W, Value = T, Right = H
     inner: &Inner<T, W>,
     desk: &mut Desk<W>,
     hand: &mut Hand,
+    spent: &mut Option<Spent<W>>,
     side: &mut S,
-) -> (Reached, Spent<W>)
+) -> Reached
     requires book { hand.old.seen.book ≡ inner.now.front.book }
     requires desk { desk.old ≡ hand.old.seen.book }
     requires stands { Stands W.whose false (S.state side.old) (own_of hand.old) Progress.More
         (Step.UnderWay (Place.CountIn tt)) }
     ensures book { hand.new.seen.book ≡ hand.old.seen.book }
     ensures desk { desk.new ≡ desk.old }
-    ensures leads { LeadsBy W.whose (S.state side.old) (own_of hand.old) (next_by result.0)
+    ensures leads { LeadsBy W.whose (S.state side.old) (own_of hand.old) (next_by result)
         (S.state side.new) (own_of hand.new) }
     ensures stays { S.stays side.old side.new }
 {
     match counted(rt, inner, hand) {
-        Counted::In(word) if Word::from_bits(word).is_ready() => (Reached::Ready, Spent::none()),
-        Counted::In(_) => load(inner, desk, hand, side),
-        Counted::Full => (Reached::Ended(Ending::Full), Spent::none()),
-        Counted::SeenReady => (Reached::Ended(Ending::Value), Spent::none()),
+        Counted::In(word) if Word::from_bits(word).is_ready() => Reached::Ready,
+        Counted::In(_) => load(inner, desk, hand, spent, side),
+        Counted::Full => Reached::Ended(Ending::Full),
+        Counted::SeenReady => Reached::Ended(Ending::Value),
     }
 }
 
@@ -152,20 +168,21 @@ fn load<T, W: TaskWaker + Drop, S: TaskSide<W, Value = T, Right = Hand>>(
     inner: &Inner<T, W>,
     desk: &mut Desk<W>,
     hand: &mut Hand,
+    spent: &mut Option<Spent<W>>,
     side: &mut S,
-) -> (Reached, Spent<W>)
+) -> Reached
     requires book { hand.old.seen.book ≡ inner.now.front.book }
     requires desk { desk.old ≡ hand.old.seen.book }
     requires stands { Stands W.whose false (S.state side.old) (own_of hand.old) Progress.More
         (Step.UnderWay (Place.WaitLoad tt None)) }
     ensures book { hand.new.seen.book ≡ hand.old.seen.book }
     ensures desk { desk.new ≡ desk.old }
-    ensures leads { LeadsBy W.whose (S.state side.old) (own_of hand.old) (next_by result.0)
+    ensures leads { LeadsBy W.whose (S.state side.old) (own_of hand.old) (next_by result)
         (S.state side.new) (own_of hand.new) }
     ensures stays { S.stays side.old side.new }
 {
     if Word::from_bits(loaded(inner, hand)).is_ready() {
-        return (Reached::Ready, Spent::none());
+        return Reached::Ready;
     }
-    look(inner, desk, hand, None, side)
+    look(inner, desk, hand, None, spent, side)
 }

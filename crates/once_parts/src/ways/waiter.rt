@@ -101,11 +101,13 @@ fn look_again<
         (S.state side.new) (own parts.new) }
     ensures stays { S.stays side.old side.new }
 {
-    let (reached, _spent) = held::<Brand, T, W, R, S>(
+    let mut spent = None;
+    let reached = held::<Brand, T, W, R, S>(
         parts.rt,
         parts.inner,
         &mut parts.hand,
         ticket,
+        &mut spent,
         side,
     );
     go_on_from(parts, idle, reached, side)
@@ -118,59 +120,73 @@ fn held<J: Key, T, W: TaskWaker + Drop, R: Wait, S: TaskSide<W, Value = T, Right
     inner: &Inner<T, W>,
     hand: &mut Hand,
     ticket: Option<u64>,
+    spent: &mut Option<Spent<W>>,
     side: &mut S,
-) -> (Reached, Spent<W>)
+) -> Reached
     requires key { inner.now.desk ≡ J.key }
     requires book { hand.old.seen.book ≡ J.key }
     requires stands { Stands W.whose false (S.state side.old) (own_of hand.old) Progress.More
         (Step.UnderWay (Place.Look tt ticket)) }
     ensures book { hand.new.seen.book ≡ hand.old.seen.book }
-    ensures leads { LeadsBy W.whose (S.state side.old) (own_of hand.old) (next_by result.0)
+    ensures leads { LeadsBy W.whose (S.state side.old) (own_of hand.old) (next_by result)
         (S.state side.new) (own_of hand.new) }
     ensures stays { S.stays side.old side.new }
 {
     let mut tied = inner.desk.lock::<J, R>(rt);
-    look(inner, &mut tied.value, hand, ticket, side)
+    look(inner, &mut tied.value, hand, ticket, spent, side)
 }
 
-/// The look of a waiter under the lock. Where another task holds, the waiter copies its waker, and is listed.
+/// The look of a waiter under the lock. Who claims takes its waker out of the list. Where another task holds, the
+/// waiter copies its waker, and is listed.
 #[inline(always)]
 pub(super) fn look<T, W: TaskWaker + Drop, S: TaskSide<W, Value = T, Right = Hand>>(
     inner: &Inner<T, W>,
     desk: &mut Desk<W>,
     hand: &mut Hand,
     mut ticket: Option<u64>,
+    spent: &mut Option<Spent<W>>,
     side: &mut S,
-) -> (Reached, Spent<W>)
+) -> Reached
     requires book { hand.old.seen.book ≡ inner.now.front.book }
     requires desk { desk.old ≡ hand.old.seen.book }
     requires stands { Stands W.whose false (S.state side.old) (own_of hand.old) Progress.More
         (Step.UnderWay (Place.Look tt ticket)) }
     ensures book { hand.new.seen.book ≡ hand.old.seen.book }
     ensures desk { desk.new ≡ desk.old }
-    ensures leads { LeadsBy W.whose (S.state side.old) (own_of hand.old) (next_by result.0)
+    ensures leads { LeadsBy W.whose (S.state side.old) (own_of hand.old) (next_by result)
         (S.state side.new) (own_of hand.new) }
     ensures stays { S.stays side.old side.new }
 {
-    let (answer, spent) = desk.look(&inner.word, hand, &mut ticket);
+    let (answer, taken) = desk.look(&inner.word, hand, &mut ticket);
     match answer {
-        Answer::Ready => (Reached::Ready, Spent::looked(spent)),
-        Answer::Claimed => (Reached::Claimed, Spent::looked(spent)),
-        Answer::Listed => (Reached::Waits(ticket), Spent::looked(spent)),
+        Answer::Ready => {
+            Spent::keep(spent, taken, None);
+            Reached::Ready
+        }
+        Answer::Claimed => {
+            Spent::keep(spent, taken, None);
+            Reached::Claimed
+        }
+        // Only a claim takes a waker out. So there is none to put aside here, and below.
+        Answer::Listed => {
+            drop(taken);
+            Reached::Waits(ticket)
+        }
         held => {
             drop(held);
+            drop(taken);
             match side.copy() {
                 Some(waker) => list(inner, desk, hand, ticket, waker, spent, side),
                 None => {
                     hand.refused();
-                    (Reached::Refused(ticket), Spent::looked(spent))
+                    Reached::Refused(ticket)
                 }
             }
         }
     }
 }
 
-// The listing of a waiter under the lock. `looked` is what the look before it took.
+// The listing of a waiter under the lock. Who is listed has its waker in the list now, and took none out.
 #[inline(always)]
 fn list<T, W: TaskWaker + Drop, S: TaskSide<W, Value = T, Right = Hand>>(
     inner: &Inner<T, W>,
@@ -178,33 +194,37 @@ fn list<T, W: TaskWaker + Drop, S: TaskSide<W, Value = T, Right = Hand>>(
     hand: &mut Hand,
     mut ticket: Option<u64>,
     waker: W,
-    looked: Option<W>,
+    spent: &mut Option<Spent<W>>,
     side: &S,
-) -> (Reached, Spent<W>)
+) -> Reached
     requires book { hand.old.seen.book ≡ inner.now.front.book }
     requires desk { desk.old ≡ hand.old.seen.book }
     requires stands { Stands W.whose false (S.state side.now) (own_of hand.old) Progress.More
         (Step.UnderWay (Place.List tt ticket waker)) }
     ensures book { hand.new.seen.book ≡ hand.old.seen.book }
     ensures desk { desk.new ≡ desk.old }
-    ensures leads { LeadsBy W.whose (S.state side.now) (own_of hand.old) (next_by result.0)
+    ensures leads { LeadsBy W.whose (S.state side.now) (own_of hand.old) (next_by result)
         (S.state side.now) (own_of hand.new) }
 {
     let _ = side;
     let mut copy = Some(waker);
-    let (answer, listed) = desk.list(&inner.word, hand, &mut ticket, &mut copy);
-    let spent = Spent {
-        looked,
-        listed,
-        copy,
-    };
+    let (answer, taken) = desk.list(&inner.word, hand, &mut ticket, &mut copy);
     match answer {
-        Answer::Ready => (Reached::Ready, spent),
-        Answer::Claimed => (Reached::Claimed, spent),
-        Answer::Memory => (Reached::Refused(ticket), spent),
+        Answer::Ready => {
+            Spent::keep(spent, taken, copy);
+            Reached::Ready
+        }
+        Answer::Claimed => {
+            Spent::keep(spent, taken, copy);
+            Reached::Claimed
+        }
+        Answer::Memory => {
+            Spent::keep(spent, taken, copy);
+            Reached::Refused(ticket)
+        }
         waits => {
             drop(waits);
-            (Reached::Waits(ticket), spent)
+            Reached::Waits(ticket)
         }
     }
 }

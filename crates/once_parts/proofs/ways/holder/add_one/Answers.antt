@@ -21,4 +21,6 @@ returns-in-Some-clause-leads g c =
     let added = led g.W.TaskWaker.whose (AtAddOne c.args.ending) Added (next_at (AtDoorAgain c.args.ending)) refl refl refl c.requires.stands c.add_one.ensures.1 refl refl in
     let found = c.in-Some.ensures.leads in
     onward g.W.TaskWaker.whose (onward g.W.TaskWaker.whose added found.1)
-    (onward g.W.TaskWaker.whose (released g.W.TaskWaker.whose c.args.ending c.in-Some.out (Release (is_value c.args.ending)) found.1.stands found.2 (g.met.S.TaskSide.tells.wake _ _ _ c.wake.ensures.did)) c.count_out.ensures.leads)
+    (onward g.W.TaskWaker.whose
+    (released g.W.TaskWaker.whose c.args.ending c.in-Some.out (Release (is_value c.args.ending)) found.1.stands found.2 (g.met.S.TaskSide.tells.wake _ _ _ c.wake.ensures.did))
+    c.count_out.ensures.leads)

@@ -13,5 +13,8 @@ use Rattle.once_parts.proofs.ways.holder.release.Goals as goal
 pub returns-clause-leads : goal.returns-clause-leads
 returns-clause-leads g c =
     let out = c.released-out.result in
-    let did = subst (λ b. DidCall g.W.TaskWaker.whose (own c.args.parts.now) (Was tt (Release b) (Released out) (Release b)) (own_of c.released-out.new.hand)) c.is_value.ensures c.released-out.ensures.did in
-    onward g.W.TaskWaker.whose (released g.W.TaskWaker.whose c.args.ending out (Release (is_value c.args.ending)) c.requires.stands did (g.met.S.TaskSide.tells.wake _ _ _ c.wake.ensures.did)) c.count_out.ensures.leads
+    let did = subst (λ b. DidCall g.W.TaskWaker.whose (own c.args.parts.now) (Was tt (Release b) (Released out) (Release b)) (own_of c.released-out.new.hand))
+    c.is_value.ensures c.released-out.ensures.did in
+    onward g.W.TaskWaker.whose
+    (released g.W.TaskWaker.whose c.args.ending out (Release (is_value c.args.ending)) c.requires.stands did (g.met.S.TaskSide.tells.wake _ _ _ c.wake.ensures.did))
+    c.count_out.ensures.leads
