@@ -38,40 +38,8 @@ is_late _ = false
 abbrev pub Clean : SharedState → Step ℕ ℕ → Type 0 → Type 0
 Clean c s Other = c.ready ≡ true → IsSomeDoor c → (0 < c.count) ⊎ ((is_late s ≡ true) ⊎ Other)
 
--- a step of one who is not late changes nothing here
-clean_same : (c : SharedState) (s s' : Step ℕ ℕ) (Other : Type 0) → is_late s ≡ false → Clean c s Other → Clean c s' Other
-clean_same c s s' Other n k r d = ⊎_elim (λ l. inl l) (λ x. ⊎_elim (λ e. absurd (false≢true (sym n ∙ e))) (λ o. inr (inr o)) x) (k r d)
-
--- a cell that is not set asks nothing
-clean_held : (c : SharedState) (s : Step ℕ ℕ) (Other : Type 0) → c.ready ≡ false → Clean c s Other
-clean_held c s Other n r d = absurd (false≢true (sym n ∙ r))
-
--- who is late sees to the queue
-clean_late : (c : SharedState) (s : Step ℕ ℕ) (Other : Type 0) → is_late s ≡ true → Clean c s Other
-clean_late c s Other n r d = inr (inl n)
-
--- so does who is in the count
-clean_counted : (c : SharedState) (s : Step ℕ ℕ) (Other : Type 0) → 0 < c.count → Clean c s Other
-clean_counted c s Other l r d = inl l
-
--- neither flag stands
-left_false : (a b : Bool) → false ≡ (a || b) → a ≡ false
-left_false a b e = grind arith
-
--- a counting out that leaves more than the ready bit leaves somebody in the count
-out_count : (c : SharedState) → c.quick ≡ false → c.ready ≡ true → is_ready_bit (word_of (out_shared c)) ≡ false → 0 < c.count - 1
-out_count c q r e = grind (arith, nat_tests)
-
--- a word that is NEW does not say that the value is set
-zero_unset : (c : SharedState) → is_zero (word_of c) ≡ true → c.ready ≡ false
-zero_unset c z = grind (arith, nat_tests)
-
 module _ (K : Kind) (limit t w : ℕ) (k : Answer) (c : SharedState) (h : List Entry) (some : 0 < limit) (shared : SharedFits K limit c h) (Other : Type 0) where
-  -- a holder's cell is not set
-  unset_by : holds t (cell K h) ≡ true → c.ready ≡ false
-  unset_by a = shared.ready_is ∙ holder_unset t (cell K h) a
-
-  -- one place after the other
+  -- one place after the other, by `grind`
   clean_at : (a : Answer) (g : Bool) (p : Place ℕ ℕ) → Around K t (is_counted_at p) (is_take_at p) c h
       → AtPlace K limit t c h p → Clean c (UnderWay p) Other
       → Clean (place_step (is_lazy K) limit c t w k a g p).shared (place_step (is_lazy K) limit c t w k a g p).step Other
