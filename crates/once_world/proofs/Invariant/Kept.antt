@@ -56,11 +56,7 @@ any_kept K u h h' k p = record { entered = entered_kept K u h h' k p.entered; fr
 memory_kept : (K : Kind) (s : Status) (u : ℕ) (h h' : List Entry) → Keeps K u h h' → MemoryFrom K s u h → MemoryFrom K s u h'
 memory_kept K Fresh u h h' k m = (rw k.call_is m.0, k.met m.1)
 memory_kept K Waiting u h h' k m = k.met_holder m
-memory_kept K Unmade u h h' k m = m
-memory_kept K Polling u h h' k m = m
-memory_kept K Dropping u h h' k m = m
-memory_kept K Holding u h h' k m = m
-memory_kept K Gone u h h' k m = m
+memory_kept K _ u h h' k m = m
 
 refused_kept : (K : Kind) (u : ℕ) (h h' : List Entry) → Keeps K u h h' → RefusedIn K u h → RefusedIn K u h'
 refused_kept K u h h' k p = record {
@@ -75,10 +71,7 @@ refused_kept K u h h' k p = record {
 leaves_kept : (K : Kind) (u : ℕ) (h h' : List Entry) (e : Ending) → Keeps K u h h' → MayLeave K u h e → MayLeave K u h' e
 leaves_kept K u h h' EndMemory k o = (entered_kept K u h h' k o.0, rw k.call_is (memory_kept K (last_call K u h).began u h h' k o.1))
 leaves_kept K u h h' EndDropped k o = (in_status_kept K u h h' Dropping false k o.0, rw k.call_is o.1, rw k.call_is o.2)
-leaves_kept K u h h' EndValue k o = absurd o
-leaves_kept K u h h' EndError k o = absurd o
-leaves_kept K u h h' EndPending k o = absurd o
-leaves_kept K u h h' EndFull k o = absurd o
+leaves_kept K u h h' _ k o = absurd o
 
 -- what a call still owes
 owes_kept : (K : Kind) (u : ℕ) (h h' : List Entry) (e : Ending) → Keeps K u h h' → Owes K u h e → Owes K u h' e
@@ -86,8 +79,7 @@ owes_kept K u h h' EndValue k o = (k.status_is ∙ o.0, (o.1.0, k.set_stays o.1.
 owes_kept K u h h' EndError k o = (o.0, in_poll_kept K u h h' (Some (RanError o.0)) false k o.1, ap (λ (x : LastCall). x.freed) k.call_is ∙ o.2)
 owes_kept K u h h' EndMemory k o = (refused_kept K u h h' k o.0, rw k.call_is (memory_kept K (last_call K u h).began u h h' k o.1))
 owes_kept K u h h' EndDropped k o = in_status_kept K u h h' Dropping false k o
-owes_kept K u h h' EndPending k o = absurd o
-owes_kept K u h h' EndFull k o = absurd o
+owes_kept K u h h' _ k o = absurd o
 
 -- what a holder that releases keeps
 releasing_kept : (K : Kind) (u : ℕ) (c c' : SharedState) (h h' : List Entry) (e : Ending) → Keeps K u h h'
@@ -95,18 +87,14 @@ releasing_kept : (K : Kind) (u : ℕ) (c c' : SharedState) (h h' : List Entry) (
 releasing_kept K u c c' h h' EndValue k s r = (r.0, in_poll_kept K u h h' (Some (RanValue r.0)) true k r.1, s ∙ r.2)
 releasing_kept K u c c' h h' EndError k s r = (r.0, in_poll_kept K u h h' (Some (RanError r.0)) true k r.1)
 releasing_kept K u c c' h h' EndDropped k s r = (in_status_kept K u h h' Dropping true k r.0, nothing_kept K u h h' k r.1)
-releasing_kept K u c c' h h' EndPending k s r = absurd r
-releasing_kept K u c c' h h' EndMemory k s r = absurd r
-releasing_kept K u c c' h h' EndFull k s r = absurd r
+releasing_kept K u c c' h h' _ k s r = absurd r
 
 -- a task that releases holds
 pub releasing_holds : (K : Kind) (u : ℕ) (c : SharedState) (h : List Entry) (e : Ending) → Releasing K u h c e → holds u (cell K h) ≡ true
 releasing_holds K u c h EndValue r = r.1.holds_is
 releasing_holds K u c h EndError r = r.1.holds_is
 releasing_holds K u c h EndDropped r = r.0.holds_is
-releasing_holds K u c h EndPending r = absurd r
-releasing_holds K u c h EndMemory r = absurd r
-releasing_holds K u c h EndFull r = absurd r
+releasing_holds K u c h _ r = absurd r
 
 -- what a holder keeps through the step of another task
 record HolderKeeps (limit : ℕ) (c c' : SharedState) : Type 0 where
@@ -148,8 +136,7 @@ holds_by_kept limit c c' (Some q) k f = (head_kept limit c c' k f.0, k.door q f.
 -- a set cell stays set
 stays_set : (c c' : Cell) → ((v : ℕ) → c ≡ SetTo v → c' ≡ SetTo v) → is_set c ≡ true → is_set c' ≡ true
 stays_set (SetTo v) c' f e = ap is_set (f v refl)
-stays_set Empty c' f e = grind arith
-stays_set (Held t) c' f e = grind arith
+stays_set _ c' f e = grind arith
 
 module _ (K : Kind) (limit u : ℕ) (c c' : SharedState) (h h' : List Entry) (r : c.ready ≡ is_set (cell K h)) (k : Keeps K u h h') where
   -- a task at rest
