@@ -1,5 +1,7 @@
 -- What stands for a task keeps standing through the step of another.
 use Rattle.std.proofs.Common.{◌≡◌, ◌≤◌, ℕ, Bool, true, false, ◌⊎◌, inl, inr, ⊎_elim, List, Option, Some, None, refl, sym, ap, ◌∙◌, arith}
+use Rattle.std.proofs.lemmas.Bool.Decides.{nat_tests}
+use Rattle.std.proofs.lemmas.Grind.{common_steps}
 use Rattle.std.proofs.lemmas.Bool.{false≢true}
 use Rattle.once_world.specs.Record.{Answer, Entry, Kind, RanError, RanValue}
 use Rattle.once_world.specs.Cell.{Cell, Empty, Held, SetTo, cell, is_set}
@@ -23,78 +25,44 @@ pub record SharedKeeps (K : Kind) (limit : ℕ) (c c' : SharedState) (u : ℕ) (
 
 -- the facts of the history, one after the other
 in_poll_kept : (K : Kind) (u : ℕ) (h h' : List Entry) (a : Option Answer) (b : Bool) → Keeps K u h h' → InPoll K u h a b → InPoll K u h' a b
-in_poll_kept K u h h' a b k p = record {
-  status_is = k.status_is
-      ∙ p.status_is;
-  ran_is = ap (λ (x : LastCall). x.ran) k.call_is ∙ p.ran_is;
-  holds_is = k.holds_is
-      ∙ p.holds_is;
-  unpassed = ap (λ (x : LastCall). x.passed) k.call_is ∙ p.unpassed;
-}
+in_poll_kept K u h h' a b k p = grind (arith, nat_tests, common_steps)
 
 pub in_status_kept : (K : Kind) (u : ℕ) (h h' : List Entry) (s : Status) (b : Bool) → Keeps K u h h' → InStatus K u h s b → InStatus K u h' s b
-in_status_kept K u h h' s b k p = record { status_is = k.status_is ∙ p.status_is; holds_is = k.holds_is ∙ p.holds_is }
+in_status_kept K u h h' s b k p = grind (arith, nat_tests, common_steps)
 
 nothing_kept : (K : Kind) (u : ℕ) (h h' : List Entry) → Keeps K u h h' → GaveNothing K u h → GaveNothing K u h'
 nothing_kept K u h h' k p = rw k.call_is p
 
 entered_kept : (K : Kind) (u : ℕ) (h h' : List Entry) → Keeps K u h h' → Entered K u h → Entered K u h'
-entered_kept K u h h' k p = record { poll = in_poll_kept K u h h' None false k p.poll; unclaimed = ap (λ (x : LastCall). x.claimed) k.call_is ∙ p.unclaimed }
+entered_kept K u h h' k p = grind (arith, nat_tests, common_steps)
 
 fresh_kept : (K : Kind) (u : ℕ) (h h' : List Entry) → Keeps K u h h' → FreshIn K u h → FreshIn K u h'
-fresh_kept K u h h' k p = record {
-  entered = entered_kept K u h h' k p.entered;
-  began_is = ap
-      (λ (x : LastCall). x.began) k.call_is ∙ p.began_is;
-  unset = ap (λ (x : LastCall). x.set_then) k.call_is
-      ∙ p.unset;
-}
+fresh_kept K u h h' k p = grind (arith, nat_tests, common_steps)
 
 any_kept : (K : Kind) (u : ℕ) (h h' : List Entry) → Keeps K u h h' → AnyIn K u h → AnyIn K u h'
-any_kept K u h h' k p = record { entered = entered_kept K u h h' k p.entered; from = rw k.call_is p.from }
+any_kept K u h h' k p = grind (arith, nat_tests, common_steps)
 
 memory_kept : (K : Kind) (s : Status) (u : ℕ) (h h' : List Entry) → Keeps K u h h' → MemoryFrom K s u h → MemoryFrom K s u h'
-memory_kept K Fresh u h h' k m = (rw k.call_is m.0, k.met m.1)
-memory_kept K Waiting u h h' k m = k.met_holder m
-memory_kept K _ u h h' k m = m
+memory_kept K s u h h' k m = let met = k.met in let met_holder = k.met_holder in grind (arith, nat_tests, common_steps, met, met_holder)
 
 refused_kept : (K : Kind) (u : ℕ) (h h' : List Entry) → Keeps K u h h' → RefusedIn K u h → RefusedIn K u h'
-refused_kept K u h h' k p = record {
-  status_is = k.status_is
-      ∙ p.status_is;
-  ran_is = ap (λ (x : LastCall). x.ran) k.call_is ∙ p.ran_is;
-  holds_is = k.holds_is
-      ∙ p.holds_is;
-  unclaimed = ap (λ (x : LastCall). x.claimed) k.call_is ∙ p.unclaimed;
-}
+refused_kept K u h h' k p = grind (arith, nat_tests, common_steps)
 
 leaves_kept : (K : Kind) (u : ℕ) (h h' : List Entry) (e : Ending) → Keeps K u h h' → MayLeave K u h e → MayLeave K u h' e
-leaves_kept K u h h' EndMemory k o = (entered_kept K u h h' k o.0, rw k.call_is (memory_kept K (last_call K u h).began u h h' k o.1))
-leaves_kept K u h h' EndDropped k o = (in_status_kept K u h h' Dropping false k o.0, rw k.call_is o.1, rw k.call_is o.2)
-leaves_kept K u h h' _ k o = absurd o
+leaves_kept K u h h' e k o = let met = k.met in let met_holder = k.met_holder in grind (arith, nat_tests, common_steps, met, met_holder)
 
 -- what a call still owes
 owes_kept : (K : Kind) (u : ℕ) (h h' : List Entry) (e : Ending) → Keeps K u h h' → Owes K u h e → Owes K u h' e
-owes_kept K u h h' EndValue k o = (k.status_is ∙ o.0, (o.1.0, k.set_stays o.1.0 o.1.1, rw k.call_is o.1.2), rw k.call_is o.2)
-owes_kept K u h h' EndError k o = (o.0, in_poll_kept K u h h' (Some (RanError o.0)) false k o.1, ap (λ (x : LastCall). x.freed) k.call_is ∙ o.2)
-owes_kept K u h h' EndMemory k o = (refused_kept K u h h' k o.0, rw k.call_is (memory_kept K (last_call K u h).began u h h' k o.1))
-owes_kept K u h h' EndDropped k o = in_status_kept K u h h' Dropping false k o
-owes_kept K u h h' _ k o = absurd o
+owes_kept K u h h' e k o = let met = k.met in let met_holder = k.met_holder in let stays = k.set_stays in grind (arith, nat_tests, common_steps, met, met_holder, stays)
 
 -- what a holder that releases keeps
 releasing_kept : (K : Kind) (u : ℕ) (c c' : SharedState) (h h' : List Entry) (e : Ending) → Keeps K u h h'
     → c'.value ≡ c.value → Releasing K u h c e → Releasing K u h' c' e
-releasing_kept K u c c' h h' EndValue k s r = (r.0, in_poll_kept K u h h' (Some (RanValue r.0)) true k r.1, s ∙ r.2)
-releasing_kept K u c c' h h' EndError k s r = (r.0, in_poll_kept K u h h' (Some (RanError r.0)) true k r.1)
-releasing_kept K u c c' h h' EndDropped k s r = (in_status_kept K u h h' Dropping true k r.0, nothing_kept K u h h' k r.1)
-releasing_kept K u c c' h h' _ k s r = absurd r
+releasing_kept K u c c' h h' e k s r = grind (arith, nat_tests, common_steps)
 
 -- a task that releases holds
 pub releasing_holds : (K : Kind) (u : ℕ) (c : SharedState) (h : List Entry) (e : Ending) → Releasing K u h c e → holds u (cell K h) ≡ true
-releasing_holds K u c h EndValue r = r.1.holds_is
-releasing_holds K u c h EndError r = r.1.holds_is
-releasing_holds K u c h EndDropped r = r.0.holds_is
-releasing_holds K u c h _ r = absurd r
+releasing_holds K u c h e r = grind (arith, nat_tests, common_steps)
 
 -- what a holder keeps through the step of another task
 record HolderKeeps (limit : ℕ) (c c' : SharedState) : Type 0 where
@@ -120,23 +88,21 @@ holder_keeps K limit u c c' h inside r hold k =
 
 -- a waiter keeps its queue at the door
 inside_door : (K : Kind) (limit u q : ℕ) (c c' : SharedState) (h : List Entry) → SharedKeeps K limit c c' u h true → c.door ≡ Some q → c'.door ≡ Some q
-inside_door K limit u q c c' h k d = ⊎_elim (λ s. s) (λ n. absurd (false≢true (sym n.1))) (k.door q d)
+inside_door K limit u q c c' h k d = let door = k.door in grind (arith, nat_tests, common_steps, door)
 
 quick_kept : (limit : ℕ) (c c' : SharedState) → HolderKeeps limit c c' → QuickFlag c → QuickFlag c'
-quick_kept limit c c' k f = record { quick_is = k.quick_is ∙ f.quick_is; head_is = k.head_is ∙ f.head_is }
+quick_kept limit c c' k f = grind (arith, nat_tests, common_steps)
 
 head_kept : (limit : ℕ) (c c' : SharedState) → HolderKeeps limit c c' → HeadFlag c → HeadFlag c'
-head_kept limit c c' k f = record { quick_is = k.quick_is ∙ f.quick_is; head_is = k.head_is ∙ f.head_is }
+head_kept limit c c' k f = grind (arith, nat_tests, common_steps)
 
 -- a holder keeps how it holds
 holds_by_kept : (limit : ℕ) (c c' : SharedState) (by : Option ℕ) → HolderKeeps limit c c' → HoldsBy limit c by → HoldsBy limit c' by
-holds_by_kept limit c c' None k f = (quick_kept limit c c' k f.0, k.within f.1)
-holds_by_kept limit c c' (Some q) k f = (head_kept limit c c' k f.0, k.door q f.1)
+holds_by_kept limit c c' by k f = let within = k.within in let door = k.door in grind (arith, nat_tests, common_steps, within, door)
 
 -- a set cell stays set
 stays_set : (c c' : Cell) → ((v : ℕ) → c ≡ SetTo v → c' ≡ SetTo v) → is_set c ≡ true → is_set c' ≡ true
-stays_set (SetTo v) c' f e = ap is_set (f v refl)
-stays_set _ c' f e = grind arith
+stays_set c c' f e = grind (arith, common_steps, f)
 
 module _ (K : Kind) (limit u : ℕ) (c c' : SharedState) (h h' : List Entry) (r : c.ready ≡ is_set (cell K h)) (k : Keeps K u h h') where
   -- a task at rest
