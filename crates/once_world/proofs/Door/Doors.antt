@@ -117,14 +117,11 @@ write_clean w v false k = k
 owner_clean : (w : World) (o : OwnerCall) → IsClean w → IsClean (record w { shared = owner_shared o w.shared })
 owner_clean w Take k = λ r d. absurd (none_some d.0 d.1)
 owner_clean w (Write v) k = write_clean w v w.shared.ready k
-owner_clean w Parts k = λ r d. absurd (none_some d.0 d.1)
-owner_clean w (ReplaceValue v) k = λ r d. absurd (none_some d.0 d.1)
-owner_clean w (ReplaceAnswers l) k = λ r d. absurd (none_some d.0 d.1)
+owner_clean w _ k = λ r d. absurd (none_some d.0 d.1)
 
 owned_clean : (w : World) (o : OwnerCall) (d b : Bool) → IsClean w → IsClean (own_world_by d b w o)
 owned_clean w o true true k = owner_clean w o k
-owned_clean w o true false k = k
-owned_clean w o false b k = k
+owned_clean w o _ _ k = k
 
 -- each input keeps the door clean
 after_clean : (K : Kind) (limit : ℕ) (w : World) (i : Input) → 0 < limit → Fits K limit w → IsClean w → IsClean (world_after K limit w i)
@@ -144,8 +141,7 @@ world_clean K limit (i ∷ before) some = after_clean K limit (world_of K limit 
 late_acts : (K : Kind) (limit t : ℕ) (c : SharedState) (h : List Entry) (s : Step ℕ ℕ) → AtStep K limit t c h s
     → is_late s ≡ true → is_under_way (status K t h) ≡ true
 late_acts K limit t c h (UnderWay p) a e = place_acts K limit t c h p a
-late_acts K limit t c h (Resting r) a e = absurd (false≢true e)
-late_acts K limit t c h Finished a e = absurd (false≢true e)
+late_acts K limit t c h _ a e = absurd (false≢true e)
 
 -- so is one of the world
 stands_late : (K : Kind) (limit t : ℕ) (c : SharedState) (h : List Entry) (o : Option Task)

@@ -66,8 +66,7 @@ owner_log c (ReplaceAnswers l) log f = reset_log c None l log f
 -- by whether the call fits
 owned_log : (w : World) (o : OwnerCall) (d b : Bool) → LogFits w.shared w.log → LogFits (own_world_by d b w o).shared (own_world_by d b w o).log
 owned_log w o true true f = owner_log w.shared o w.log f
-owned_log w o true false f = f
-owned_log w o false b f = f
+owned_log w o _ _ f = f
 
 -- each input
 after_log : (K : Kind) (limit : ℕ) (w : World) (i : Input) → Fits K limit w → LogFits w.shared w.log

@@ -40,8 +40,7 @@ asked K limit t w x p f found at =
 -- the same by the step of the task: without a call under way nothing is asked
 asked_step : (K : Kind) (limit t : ℕ) (w : World) (x : Task) (s : Step ℕ ℕ) → Fits K limit w → w.tasks t ≡ Some x → x.step ≡ s → CanAdvance limit w.shared s
 asked_step K limit t w x (UnderWay p) f found at = asked K limit t w x p f found at
-asked_step K limit t w x (Resting r) f found at = tt
-asked_step K limit t w x Finished f found at = tt
+asked_step K limit t w x _ f found at = tt
 
 -- and by whether the task is there
 asked_task : (K : Kind) (limit t : ℕ) (w : World) (o : Option Task) → Fits K limit w → w.tasks t ≡ o → TaskCan limit w.shared o

@@ -92,5 +92,4 @@ module _ {P : Type 0} (see : P → CoreState ℕ) (x y : P) (c c' : ReplaySide) 
       → IsOutcome at (λ n. step_at c.lazy (see x).limit (shared_by (see x) c) n c.waker c.kept c.answer c.granted at)
       (step_lines c.granted (shared_by (see x) c) at) (see x) c (see y) c' p t
   advance_exact (UnderWay at) set_up d = line_exact at set_up d
-  advance_exact (Resting r) set_up d = absurd d
-  advance_exact Finished set_up d = absurd d
+  advance_exact _ set_up d = absurd d

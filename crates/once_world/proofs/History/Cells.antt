@@ -13,14 +13,12 @@ is_held _ = false
 -- who holds a cell that is held
 pub holder_of : (c : Cell) → is_held c ≡ true → (u : ℕ) × (c ≡ Held u)
 holder_of (Held u) e = (u, refl)
-holder_of Empty e = absurd (false≢true e)
-holder_of (SetTo v) e = absurd (false≢true e)
+holder_of _ e = absurd (false≢true e)
 
 -- a task that holds is the holder
 pub held_by : (t : ℕ) (c : Cell) → holds t c ≡ true → c ≡ Held t
 held_by t (Held u) e = grind (arith, nat_tests)
-held_by t Empty e = absurd (false≢true e)
-held_by t (SetTo v) e = absurd (false≢true e)
+held_by t _ e = absurd (false≢true e)
 
 -- at most one task holds
 pub no_other : (t u : ℕ) (c : Cell) → holds t c ≡ true → t ≢ u → holds u c ≡ false
@@ -31,14 +29,12 @@ no_other t u (SetTo v) a n = refl
 -- the value of a cell that is set
 pub value_of_set : (c : Cell) → is_set c ≡ true → (v : ℕ) × (c ≡ SetTo v)
 value_of_set (SetTo v) e = (v, refl)
-value_of_set Empty e = absurd (false≢true e)
-value_of_set (Held u) e = absurd (false≢true e)
+value_of_set _ e = absurd (false≢true e)
 
 -- a cell that is neither set nor held is empty
 pub empty_cell : (c : Cell) → is_set c ≡ false → is_held c ≡ false → c ≡ Empty
 empty_cell Empty e k = refl
-empty_cell (Held u) e k = grind arith
-empty_cell (SetTo v) e k = grind arith
+empty_cell _ e k = grind arith
 
 -- a cell that a task holds is not set
 pub holder_unset : (u : ℕ) (c : Cell) → holds u c ≡ true → is_set c ≡ false

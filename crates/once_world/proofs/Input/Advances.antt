@@ -62,5 +62,4 @@ module _ (K : Kind) (limit t w : ℕ) (k : Answer) (c : SharedState) (h : List E
       }) c (step_at (is_lazy K) limit c t w k a g s).shared h
       ((step_at (is_lazy K) limit c t w k a g s).entries ++ h)
   advances (UnderWay p) n ar al at = advances_at p ar al at
-  advances (Resting r) n ar al at = absurd (false≢true n)
-  advances Finished n ar al at = absurd (false≢true n)
+  advances _ n ar al at = absurd (false≢true n)

@@ -133,8 +133,7 @@ pub begins : (K : Kind) (limit t w : ℕ) (k : Answer) (c : SharedState) (h : Li
     → is_resting s ≡ true → AtStep K limit t c h s
     → Moves K limit t s (record { waker = w; kept = k; step = step_of_poll s }) c c h (Begin t w ∷ h)
 begins K limit t w k c h (Resting r) run shared queue kk n a = begins_at K limit t w k c h r run shared queue (kk ∙ a.1) a.0
-begins K limit t w k c h (UnderWay p) run shared queue kk n a = absurd (false≢true n)
-begins K limit t w k c h Finished run shared queue kk n a = absurd (false≢true n)
+begins K limit t w k c h _ run shared queue kk n a = absurd (false≢true n)
 
 -- the drop begins, by the place at rest
 drops_at : (K : Kind) (limit t w : ℕ) (k : Answer) (c : SharedState) (h : List Entry) (r : Rest ℕ) → IsRun K limit h
@@ -158,5 +157,4 @@ pub drop_begins : (K : Kind) (limit t w : ℕ) (k : Answer) (c : SharedState) (h
     → k ≡ kept_of (last_call K t h).ran → is_resting s ≡ true → AtStep K limit t c h s
     → Moves K limit t s (record { waker = w; kept = k; step = step_of_drop s }) c c h (drop_entries t (step_of_drop s) ++ h)
 drop_begins K limit t w k c h (Resting r) run shared queue wk kk n a = drops_at K limit t w k c h r run shared queue wk kk a
-drop_begins K limit t w k c h (UnderWay p) run shared queue wk kk n a = absurd (false≢true n)
-drop_begins K limit t w k c h Finished run shared queue wk kk n a = absurd (false≢true n)
+drop_begins K limit t w k c h _ run shared queue wk kk n a = absurd (false≢true n)

@@ -18,8 +18,7 @@ use Rattle.once_world.proofs.Invariant.Around.{place_acts}
 -- a task that is not alive is finished
 pub finished : (s : Step ℕ ℕ) → not (is_finished s) ≡ false → s ≡ Finished
 finished Finished e = refl
-finished (Resting r) e = absurd (true≢false e)
-finished (UnderWay p) e = absurd (true≢false e)
+finished _ e = absurd (true≢false e)
 
 -- a task that is alive was made
 alive_made : (K : Kind) (limit t : ℕ) (w : World) → Fits K limit w → is_alive (w.tasks t) ≡ true → member t (made_in w.history) ≡ true
@@ -81,14 +80,12 @@ acts_not_gone Unmade a g = false≢true a
 acts_not_gone Fresh a g = false≢true a
 acts_not_gone Waiting a g = false≢true a
 acts_not_gone Holding a g = false≢true a
-acts_not_gone Polling a g = false≢true g
-acts_not_gone Dropping a g = false≢true g
+acts_not_gone _ a g = false≢true g
 
 -- who rests is not gone
 rest_not_gone : (K : Kind) (limit t : ℕ) (c : SharedState) (h : List Entry) (r : Rest ℕ) → AtRest K limit t c h r → is_gone (status K t h) ≡ true → ⊥
 rest_not_gone K limit t c h RestStart a g = false≢true (sym (ap is_gone a.status_is) ∙ g)
-rest_not_gone K limit t c h (RestWait q k) a g = false≢true (sym (ap is_gone a.0.status_is) ∙ g)
-rest_not_gone K limit t c h (RestRun by) a g = false≢true (sym (ap is_gone a.0.status_is) ∙ g)
+rest_not_gone K limit t c h _ a g = false≢true (sym (ap is_gone a.0.status_is) ∙ g)
 
 -- who is gone is finished
 gone_finished : (K : Kind) (limit t : ℕ) (c : SharedState) (h : List Entry) (s : Step ℕ ℕ) → AtStep K limit t c h s

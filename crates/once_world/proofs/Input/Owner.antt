@@ -47,9 +47,7 @@ written_holds t v (Held u) n = n
 owned_holds : (t : ℕ) (o : OwnerCall) (c : Cell) → holds t c ≡ false → holds t (cell_after_call o c) ≡ false
 owned_holds t Take c n = refl
 owned_holds t (Write v) c n = written_holds t v c n
-owned_holds t Parts c n = refl
-owned_holds t (ReplaceValue v) c n = refl
-owned_holds t (ReplaceAnswers l) c n = refl
+owned_holds t _ c n = refl
 
 -- the owner is given the value that is set
 value_is_got : (K : Kind) (limit : ℕ) (c : SharedState) (h : List Entry) (v : Cell) → cell K h ≡ v
@@ -71,8 +69,7 @@ pub owner_is_got : (K : Kind) (limit : ℕ) (o : OwnerCall) (c : SharedState) (h
 owner_is_got K limit Take c h f = value_is_got K limit c h (cell K h) refl f
 owner_is_got K limit (Write v) c h f = value_is_got K limit c h (cell K h) refl f
 owner_is_got K limit Parts c h f = parts_are_got K limit c h (cell K h) refl f
-owner_is_got K limit (ReplaceValue v) c h f = value_is_got K limit c h (cell K h) refl f
-owner_is_got K limit (ReplaceAnswers l) c h f = value_is_got K limit c h (cell K h) refl f
+owner_is_got K limit _ c h f = value_is_got K limit c h (cell K h) refl f
 
 -- a cell made new fits
 reset_fits : (K : Kind) (limit : ℕ) (c : SharedState) (v : Option ℕ) (l : List (Option ℕ)) (h : List Entry)
@@ -219,5 +216,4 @@ owner_fits K limit w o f d =
 pub owned_fits : (K : Kind) (limit : ℕ) (w : World) (o : OwnerCall) (d b : Bool) → (w.unfinished == 0) ≡ d
     → Fits K limit w → Fits K limit (own_world_by d b w o)
 owned_fits K limit w o true true e f = owner_fits K limit w o f (eqb-true w.unfinished 0 e)
-owned_fits K limit w o true false e f = f
-owned_fits K limit w o false b e f = f
+owned_fits K limit w o _ _ e f = f

@@ -1,5 +1,7 @@
 -- What the other tasks tell of the count, the flags and the waiters.
 use Rattle.std.proofs.Common.{◌≡◌, ◌≢◌, ◌≤◌, ◌<◌, ℕ, Bool, true, false, cond, ◌==◌, ◌⊎◌, inl, inr, ⊎_elim, List, Option, Some, None, refl, sym, ap, ◌∙◌, subst, arith}
+use Rattle.std.proofs.lemmas.Bool.Decides.{nat_tests}
+use Rattle.std.proofs.lemmas.Grind.{common_steps}
 use Rattle.std.proofs.lemmas.Bool.{false≢true, ne_eqb, or_right}
 use Rattle.once_world.specs.Record.{Entry, Kind, made_in}
 use Rattle.once_world.specs.Cell.{cell}
@@ -28,59 +30,23 @@ pub record Around (K : Kind) (t : ℕ) (counted take : Bool) (c : SharedState) (
 
 -- a call that owes an ending is under way
 owes_acts : (K : Kind) (u : ℕ) (h : List Entry) (e : Ending) → Owes K u h e → is_under_way (status K u h) ≡ true
-owes_acts K u h EndValue o = ap is_under_way o.0
-owes_acts K u h EndError o = ap is_under_way o.1.status_is
-owes_acts K u h EndMemory o = ap is_under_way o.0.status_is
-owes_acts K u h EndDropped o = ap is_under_way o.status_is
-owes_acts K u h EndPending o = absurd o
-owes_acts K u h EndFull o = absurd o
+owes_acts K u h e o = grind (arith, nat_tests, common_steps)
 
 -- it holds no more
 pub owes_holds : (K : Kind) (u : ℕ) (h : List Entry) (e : Ending) → Owes K u h e → holds u (cell K h) ≡ false
-owes_holds K u h EndValue o = ap (holds u) o.1.1
-owes_holds K u h EndError o = o.1.holds_is
-owes_holds K u h EndMemory o = o.0.holds_is
-owes_holds K u h EndDropped o = o.holds_is
-owes_holds K u h EndPending o = absurd o
-owes_holds K u h EndFull o = absurd o
+owes_holds K u h e o = grind (arith, nat_tests, common_steps)
 
 -- a call that releases is under way
 pub releasing_acts : (K : Kind) (u : ℕ) (c : SharedState) (h : List Entry) (e : Ending) → Releasing K u h c e → is_under_way (status K u h) ≡ true
-releasing_acts K u c h EndValue r = ap is_under_way r.1.status_is
-releasing_acts K u c h EndError r = ap is_under_way r.1.status_is
-releasing_acts K u c h EndDropped r = ap is_under_way r.0.status_is
-releasing_acts K u c h EndPending r = absurd r
-releasing_acts K u c h EndMemory r = absurd r
-releasing_acts K u c h EndFull r = absurd r
+releasing_acts K u c h e r = grind (arith, nat_tests, common_steps)
 
 -- a call that leaves is under way
 pub leaves_acts : (K : Kind) (u : ℕ) (h : List Entry) (e : Ending) → MayLeave K u h e → is_under_way (status K u h) ≡ true
-leaves_acts K u h EndMemory o = ap is_under_way o.0.poll.status_is
-leaves_acts K u h EndDropped o = ap is_under_way o.0.status_is
-leaves_acts K u h EndValue o = absurd o
-leaves_acts K u h EndError o = absurd o
-leaves_acts K u h EndPending o = absurd o
-leaves_acts K u h EndFull o = absurd o
+leaves_acts K u h e o = grind (arith, nat_tests, common_steps)
 
 -- a task whose call is under way is in a poll or a drop
 pub place_acts : (K : Kind) (limit u : ℕ) (c : SharedState) (h : List Entry) (p : Place ℕ ℕ) → AtPlace K limit u c h p → is_under_way (status K u h) ≡ true
-place_acts K limit u c h AtStart a = ap is_under_way a.0.poll.status_is
-place_acts K limit u c h AtTryQuick a = ap is_under_way a.0.entered.poll.status_is
-place_acts K limit u c h AtDoorGet a = ap is_under_way a.0.entered.poll.status_is
-place_acts K limit u c h AtDoorPut a = ap is_under_way a.0.entered.poll.status_is
-place_acts K limit u c h (AtCountIn q) a = ap is_under_way a.0.entered.poll.status_is
-place_acts K limit u c h (AtWaitLoad q k) a = ap is_under_way a.0.entered.poll.status_is
-place_acts K limit u c h (AtLook q k) a = ap is_under_way a.0.entered.poll.status_is
-place_acts K limit u c h (AtList q k w) a = ap is_under_way a.0.entered.poll.status_is
-place_acts K limit u c h (AtRun by) a = ap is_under_way a.0.status_is
-place_acts K limit u c h (AtPut by) a = ap is_under_way a.1.status_is
-place_acts K limit u c h (AtFast e) a = releasing_acts K u c h e a.0
-place_acts K limit u c h (AtAddOne e) a = releasing_acts K u c h e a.0
-place_acts K limit u c h (AtDoorAgain e) a = releasing_acts K u c h e a.0
-place_acts K limit u c h (AtRelease q e) a = releasing_acts K u c h e a.0
-place_acts K limit u c h (AtLeave q n e) a = leaves_acts K u h e a.0
-place_acts K limit u c h (AtCountOut e) a = owes_acts K u h e a
-place_acts K limit u c h (AtDoorTake e) a = owes_acts K u h e a.0
+place_acts K limit u c h p a = grind (arith, nat_tests, common_steps)
 
 -- who acts does not wait
 pub no_wait : {s : Status} → is_under_way s ≡ true → s ≡ Waiting → ⊥
@@ -89,16 +55,12 @@ no_wait a w = false≢true (sym (ap is_under_way w) ∙ a)
 -- a task at rest that waits is a waiter, with its queue at the door
 waiting_at : (K : Kind) (limit u : ℕ) (c : SharedState) (h : List Entry) (r : Rest ℕ) → AtRest K limit u c h r
     → status K u h ≡ Waiting → (is_inside (Resting r) ≡ true) × IsSomeDoor c
-waiting_at K limit u c h RestStart a s = grind (arith, a.status_is)
-waiting_at K limit u c h (RestWait q k) a s = (refl, (q, a.1))
-waiting_at K limit u c h (RestRun by) a s = grind (arith, a.0.status_is)
+waiting_at K limit u c h r a s = grind (arith, nat_tests, common_steps)
 
 -- and no other task waits
 waiting_in : (K : Kind) (limit u : ℕ) (c : SharedState) (h : List Entry) (x : Step ℕ ℕ) → AtStep K limit u c h x
     → status K u h ≡ Waiting → (is_inside x ≡ true) × IsSomeDoor c
-waiting_in K limit u c h (Resting r) a s = waiting_at K limit u c h r a.0 s
-waiting_in K limit u c h (UnderWay p) a s = absurd (no_wait (place_acts K limit u c h p a) s)
-waiting_in K limit u c h Finished a s = grind (arith, a.status_is)
+waiting_in K limit u c h x a s = grind (arith, nat_tests, common_steps, waiting_at, place_acts)
 
 -- what a counted task is: it waits, or it is in a call, or it holds
 abbrev IsCounted : Kind → ℕ → List Entry → Type 0
@@ -106,49 +68,29 @@ IsCounted K u h = (status K u h ≡ Waiting) ⊎ ((is_under_way (status K u h) �
 
 -- what a counted task at rest is
 counted_at : (K : Kind) (limit u : ℕ) (c : SharedState) (h : List Entry) (r : Rest ℕ) → AtRest K limit u c h r → is_counted (Resting r) ≡ true → IsCounted K u h
-counted_at K limit u c h RestStart a s = absurd (false≢true s)
-counted_at K limit u c h (RestWait q k) a s = inl a.0.status_is
-counted_at K limit u c h (RestRun by) a s = inr (inr (a.0.status_is, a.0.holds_is))
+counted_at K limit u c h r a s = grind (arith, nat_tests, common_steps)
 
 -- what a counted task is
 counted_in : (K : Kind) (limit u : ℕ) (c : SharedState) (h : List Entry) (x : Step ℕ ℕ) → AtStep K limit u c h x → is_counted x ≡ true → IsCounted K u h
-counted_in K limit u c h (Resting r) a s = counted_at K limit u c h r a.0 s
-counted_in K limit u c h (UnderWay p) a s = inr (inl (place_acts K limit u c h p a))
-counted_in K limit u c h Finished a s = absurd (false≢true s)
+counted_in K limit u c h x a s = grind (arith, nat_tests, common_steps, counted_at, place_acts)
 
 -- a holder under the lock stands in the count
 head_by : (K : Kind) (limit u : ℕ) (c : SharedState) (h : List Entry) (by : Option ℕ) → HoldsBy limit c by → c.head ≡ true → is_counted_at (AtRun by) ≡ true
-head_by K limit u c h None a k = absurd (false≢true (sym a.0.head_is ∙ k))
-head_by K limit u c h (Some q) a k = refl
+head_by K limit u c h by a k = grind (arith, nat_tests, common_steps)
 
 -- the same where it puts the value
 head_put : (by : Option ℕ) → is_counted_at (AtRun by) ≡ true → is_counted_at (AtPut by) ≡ true
-head_put None e = e
-head_put (Some q) e = refl
+head_put by e = grind (arith, nat_tests, common_steps)
 
 -- while the flag of the lock stands, the holder is in the count
 head_at : (K : Kind) (limit u : ℕ) (c : SharedState) (h : List Entry) (p : Place ℕ ℕ) → AtPlace K limit u c h p
     → holds u (cell K h) ≡ true → c.head ≡ true → is_counted_at p ≡ true
-head_at K limit u c h AtStart a s k = absurd (false≢true (sym a.0.poll.holds_is ∙ s))
-head_at K limit u c h AtTryQuick a s k = absurd (false≢true (sym a.0.entered.poll.holds_is ∙ s))
-head_at K limit u c h AtDoorGet a s k = absurd (false≢true (sym a.0.entered.poll.holds_is ∙ s))
-head_at K limit u c h AtDoorPut a s k = absurd (false≢true (sym a.0.entered.poll.holds_is ∙ s))
-head_at K limit u c h (AtCountIn q) a s k = absurd (false≢true (sym a.0.entered.poll.holds_is ∙ s))
-head_at K limit u c h (AtRun by) a s k = head_by K limit u c h by a.1 k
-head_at K limit u c h (AtPut by) a s k = head_put by (head_by K limit u c h by a.2 k)
-head_at K limit u c h (AtFast e) a s k = absurd (false≢true (sym a.1.head_is ∙ k))
-head_at K limit u c h (AtAddOne e) a s k = absurd (false≢true (sym a.1.head_is ∙ k))
-head_at K limit u c h (AtDoorTake e) a s k = absurd (false≢true (sym (owes_holds K u h e a.0) ∙ s))
-head_at K limit u c h _ a s k = refl
+head_at K limit u c h p a s k = grind (arith, nat_tests, common_steps)
 
 -- the same at rest
 head_in : (K : Kind) (limit u : ℕ) (c : SharedState) (h : List Entry) (x : Step ℕ ℕ) → AtStep K limit u c h x
     → holds u (cell K h) ≡ true → c.head ≡ true → is_counted x ≡ true
-head_in K limit u c h (Resting RestStart) a s k = absurd (false≢true (sym a.0.holds_is ∙ s))
-head_in K limit u c h (Resting (RestWait q n)) a s k = refl
-head_in K limit u c h (Resting (RestRun by)) a s k = head_by K limit u c h by a.0.1 k
-head_in K limit u c h (UnderWay p) a s k = head_at K limit u c h p a s k
-head_in K limit u c h Finished a s k = absurd (false≢true (sym a.holds_is ∙ s))
+head_in K limit u c h x a s k = grind (arith, nat_tests, common_steps, head_at)
 
 -- a task that waits is inside, and a queue stands at the door
 pub stands_waiting : (K : Kind) (limit u : ℕ) (c : SharedState) (h : List Entry) (o : Option Task)
@@ -169,16 +111,8 @@ stands_head K limit u c h None a s k = absurd (false≢true (sym a.0.holds_is �
 stands_head K limit u c h (Some x) a s k = head_in K limit u c h x.step a.step s k
 
 -- who waits, acts or holds is about
-about : {s : Status} → (s ≡ Waiting) ⊎ ((is_under_way s ≡ true) ⊎ (s ≡ Holding)) → is_about s ≡ true
-about (inl e) = ap is_about e
-about (inr (inr e)) = ap is_about e
-about {s = Polling} (inr (inl e)) = refl
-about {s = Dropping} (inr (inl e)) = refl
-about {s = Unmade} (inr (inl e)) = e
-about {s = Fresh} (inr (inl e)) = e
-about {s = Waiting} (inr (inl e)) = refl
-about {s = Holding} (inr (inl e)) = refl
-about {s = Gone} (inr (inl e)) = e
+about : (s : Status) → (s ≡ Waiting) ⊎ ((is_under_way s ≡ true) ⊎ (s ≡ Holding)) → is_about s ≡ true
+about s e = grind (arith, common_steps)
 
 -- no queue is not some queue
 pub no_door : (c : SharedState) → c.door ≡ None → IsSomeDoor c → ⊥
@@ -210,7 +144,7 @@ crowd_by : (K : Kind) (limit t : ℕ) (w : World) → Fits K limit w → is_coun
 crowd_by K limit t w f n =
     rw f.count_is (count_weaker (made_in w.history) (λ u. is_counted (step_of (w.tasks u))) (λ u. cond (u == t) false (is_about (status K u w.history)))
     (λ u k. in_crowd t u (status K u w.history) (differs t u w n k)
-    (about (⊎_elim (λ e. inl e) (λ a. inr (⊎_elim (λ k. inl k) (λ k. inr k.0) a)) (stands_counted K limit u w.shared w.history (w.tasks u) (f.tasks u) k)))))
+    (about (status K u w.history) (⊎_elim (λ e. inl e) (λ a. inr (⊎_elim (λ k. inl k) (λ k. inr k.0) a)) (stands_counted K limit u w.shared w.history (w.tasks u) (f.tasks u) k)))))
 
 -- all that a step may know of the others holds
 pub around : (K : Kind) (limit t : ℕ) (x : Task) (w : World) → Fits K limit w → w.tasks t ≡ Some x

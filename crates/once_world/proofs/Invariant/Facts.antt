@@ -80,17 +80,14 @@ Owes K t h EndValue = (status K t h ≡ Polling) × ((v : ℕ) × (cell K h ≡ 
 Owes K t h EndError = (e : ℕ) × InPoll K t h (Some (RanError e)) false × ((last_call K t h).freed ≡ true)
 Owes K t h EndMemory = RefusedIn K t h × MemoryFrom K (last_call K t h).began t h
 Owes K t h EndDropped = InStatus K t h Dropping false
-Owes K t h EndPending = ⊥
-Owes K t h EndFull = ⊥
+Owes K t h _ = ⊥
 
 -- what stands in the call of a holder that gives the right back, with the value put or without
 abbrev pub Releasing : Kind → ℕ → List Entry → SharedState → Ending → Type 0
 Releasing K t h c EndValue = (v : ℕ) × InPoll K t h (Some (RanValue v)) true × (c.value ≡ v)
 Releasing K t h c EndError = (e : ℕ) × InPoll K t h (Some (RanError e)) true
 Releasing K t h c EndDropped = InStatus K t h Dropping true × GaveNothing K t h
-Releasing K t h c EndPending = ⊥
-Releasing K t h c EndMemory = ⊥
-Releasing K t h c EndFull = ⊥
+Releasing K t h c _ = ⊥
 
 -- a queue stands at the door
 abbrev pub IsSomeDoor : SharedState → Type 0
@@ -116,10 +113,7 @@ RestsOn K t c h (Some n) = ((last_call K t h).listed ≡ (last_call K t h).waker
 abbrev pub MayLeave : Kind → ℕ → List Entry → Ending → Type 0
 MayLeave K t h EndMemory = Entered K t h × MemoryFrom K (last_call K t h).began t h
 MayLeave K t h EndDropped = InStatus K t h Dropping false × ((last_call K t h).claimed ≡ false) × ((last_call K t h).passed ≡ false)
-MayLeave K t h EndValue = ⊥
-MayLeave K t h EndError = ⊥
-MayLeave K t h EndPending = ⊥
-MayLeave K t h EndFull = ⊥
+MayLeave K t h _ = ⊥
 
 -- what stands for a task at rest
 abbrev pub AtRest : Kind → ℕ → ℕ → SharedState → List Entry → Rest ℕ → Type 0

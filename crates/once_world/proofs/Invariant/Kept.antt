@@ -1,5 +1,7 @@
 -- What stands for a task keeps standing through the step of another.
 use Rattle.std.proofs.Common.{◌≡◌, ◌≤◌, ℕ, Bool, true, false, ◌⊎◌, inl, inr, ⊎_elim, List, Option, Some, None, refl, sym, ap, ◌∙◌, arith}
+use Rattle.std.proofs.lemmas.Bool.Decides.{nat_tests}
+use Rattle.std.proofs.lemmas.Grind.{common_steps}
 use Rattle.std.proofs.lemmas.Bool.{false≢true}
 use Rattle.once_world.specs.Record.{Answer, Entry, Kind, RanError, RanValue}
 use Rattle.once_world.specs.Cell.{Cell, Empty, Held, SetTo, cell, is_set}
@@ -23,90 +25,44 @@ pub record SharedKeeps (K : Kind) (limit : ℕ) (c c' : SharedState) (u : ℕ) (
 
 -- the facts of the history, one after the other
 in_poll_kept : (K : Kind) (u : ℕ) (h h' : List Entry) (a : Option Answer) (b : Bool) → Keeps K u h h' → InPoll K u h a b → InPoll K u h' a b
-in_poll_kept K u h h' a b k p = record {
-  status_is = k.status_is
-      ∙ p.status_is;
-  ran_is = ap (λ (x : LastCall). x.ran) k.call_is ∙ p.ran_is;
-  holds_is = k.holds_is
-      ∙ p.holds_is;
-  unpassed = ap (λ (x : LastCall). x.passed) k.call_is ∙ p.unpassed;
-}
+in_poll_kept K u h h' a b k p = grind (arith, nat_tests, common_steps)
 
 pub in_status_kept : (K : Kind) (u : ℕ) (h h' : List Entry) (s : Status) (b : Bool) → Keeps K u h h' → InStatus K u h s b → InStatus K u h' s b
-in_status_kept K u h h' s b k p = record { status_is = k.status_is ∙ p.status_is; holds_is = k.holds_is ∙ p.holds_is }
+in_status_kept K u h h' s b k p = grind (arith, nat_tests, common_steps)
 
 nothing_kept : (K : Kind) (u : ℕ) (h h' : List Entry) → Keeps K u h h' → GaveNothing K u h → GaveNothing K u h'
 nothing_kept K u h h' k p = rw k.call_is p
 
 entered_kept : (K : Kind) (u : ℕ) (h h' : List Entry) → Keeps K u h h' → Entered K u h → Entered K u h'
-entered_kept K u h h' k p = record { poll = in_poll_kept K u h h' None false k p.poll; unclaimed = ap (λ (x : LastCall). x.claimed) k.call_is ∙ p.unclaimed }
+entered_kept K u h h' k p = grind (arith, nat_tests, common_steps)
 
 fresh_kept : (K : Kind) (u : ℕ) (h h' : List Entry) → Keeps K u h h' → FreshIn K u h → FreshIn K u h'
-fresh_kept K u h h' k p = record {
-  entered = entered_kept K u h h' k p.entered;
-  began_is = ap
-      (λ (x : LastCall). x.began) k.call_is ∙ p.began_is;
-  unset = ap (λ (x : LastCall). x.set_then) k.call_is
-      ∙ p.unset;
-}
+fresh_kept K u h h' k p = grind (arith, nat_tests, common_steps)
 
 any_kept : (K : Kind) (u : ℕ) (h h' : List Entry) → Keeps K u h h' → AnyIn K u h → AnyIn K u h'
-any_kept K u h h' k p = record { entered = entered_kept K u h h' k p.entered; from = rw k.call_is p.from }
+any_kept K u h h' k p = grind (arith, nat_tests, common_steps)
 
 memory_kept : (K : Kind) (s : Status) (u : ℕ) (h h' : List Entry) → Keeps K u h h' → MemoryFrom K s u h → MemoryFrom K s u h'
-memory_kept K Fresh u h h' k m = (rw k.call_is m.0, k.met m.1)
-memory_kept K Waiting u h h' k m = k.met_holder m
-memory_kept K Unmade u h h' k m = m
-memory_kept K Polling u h h' k m = m
-memory_kept K Dropping u h h' k m = m
-memory_kept K Holding u h h' k m = m
-memory_kept K Gone u h h' k m = m
+memory_kept K s u h h' k m = let met = k.met in let met_holder = k.met_holder in grind (arith, nat_tests, common_steps, met, met_holder)
 
 refused_kept : (K : Kind) (u : ℕ) (h h' : List Entry) → Keeps K u h h' → RefusedIn K u h → RefusedIn K u h'
-refused_kept K u h h' k p = record {
-  status_is = k.status_is
-      ∙ p.status_is;
-  ran_is = ap (λ (x : LastCall). x.ran) k.call_is ∙ p.ran_is;
-  holds_is = k.holds_is
-      ∙ p.holds_is;
-  unclaimed = ap (λ (x : LastCall). x.claimed) k.call_is ∙ p.unclaimed;
-}
+refused_kept K u h h' k p = grind (arith, nat_tests, common_steps)
 
 leaves_kept : (K : Kind) (u : ℕ) (h h' : List Entry) (e : Ending) → Keeps K u h h' → MayLeave K u h e → MayLeave K u h' e
-leaves_kept K u h h' EndMemory k o = (entered_kept K u h h' k o.0, rw k.call_is (memory_kept K (last_call K u h).began u h h' k o.1))
-leaves_kept K u h h' EndDropped k o = (in_status_kept K u h h' Dropping false k o.0, rw k.call_is o.1, rw k.call_is o.2)
-leaves_kept K u h h' EndValue k o = absurd o
-leaves_kept K u h h' EndError k o = absurd o
-leaves_kept K u h h' EndPending k o = absurd o
-leaves_kept K u h h' EndFull k o = absurd o
+leaves_kept K u h h' e k o = let met = k.met in let met_holder = k.met_holder in grind (arith, nat_tests, common_steps, met, met_holder)
 
 -- what a call still owes
 owes_kept : (K : Kind) (u : ℕ) (h h' : List Entry) (e : Ending) → Keeps K u h h' → Owes K u h e → Owes K u h' e
-owes_kept K u h h' EndValue k o = (k.status_is ∙ o.0, (o.1.0, k.set_stays o.1.0 o.1.1, rw k.call_is o.1.2), rw k.call_is o.2)
-owes_kept K u h h' EndError k o = (o.0, in_poll_kept K u h h' (Some (RanError o.0)) false k o.1, ap (λ (x : LastCall). x.freed) k.call_is ∙ o.2)
-owes_kept K u h h' EndMemory k o = (refused_kept K u h h' k o.0, rw k.call_is (memory_kept K (last_call K u h).began u h h' k o.1))
-owes_kept K u h h' EndDropped k o = in_status_kept K u h h' Dropping false k o
-owes_kept K u h h' EndPending k o = absurd o
-owes_kept K u h h' EndFull k o = absurd o
+owes_kept K u h h' e k o = let met = k.met in let met_holder = k.met_holder in let stays = k.set_stays in grind (arith, nat_tests, common_steps, met, met_holder, stays)
 
 -- what a holder that releases keeps
 releasing_kept : (K : Kind) (u : ℕ) (c c' : SharedState) (h h' : List Entry) (e : Ending) → Keeps K u h h'
     → c'.value ≡ c.value → Releasing K u h c e → Releasing K u h' c' e
-releasing_kept K u c c' h h' EndValue k s r = (r.0, in_poll_kept K u h h' (Some (RanValue r.0)) true k r.1, s ∙ r.2)
-releasing_kept K u c c' h h' EndError k s r = (r.0, in_poll_kept K u h h' (Some (RanError r.0)) true k r.1)
-releasing_kept K u c c' h h' EndDropped k s r = (in_status_kept K u h h' Dropping true k r.0, nothing_kept K u h h' k r.1)
-releasing_kept K u c c' h h' EndPending k s r = absurd r
-releasing_kept K u c c' h h' EndMemory k s r = absurd r
-releasing_kept K u c c' h h' EndFull k s r = absurd r
+releasing_kept K u c c' h h' e k s r = grind (arith, nat_tests, common_steps)
 
 -- a task that releases holds
 pub releasing_holds : (K : Kind) (u : ℕ) (c : SharedState) (h : List Entry) (e : Ending) → Releasing K u h c e → holds u (cell K h) ≡ true
-releasing_holds K u c h EndValue r = r.1.holds_is
-releasing_holds K u c h EndError r = r.1.holds_is
-releasing_holds K u c h EndDropped r = r.0.holds_is
-releasing_holds K u c h EndPending r = absurd r
-releasing_holds K u c h EndMemory r = absurd r
-releasing_holds K u c h EndFull r = absurd r
+releasing_holds K u c h e r = grind (arith, nat_tests, common_steps)
 
 -- what a holder keeps through the step of another task
 record HolderKeeps (limit : ℕ) (c c' : SharedState) : Type 0 where
@@ -132,24 +88,21 @@ holder_keeps K limit u c c' h inside r hold k =
 
 -- a waiter keeps its queue at the door
 inside_door : (K : Kind) (limit u q : ℕ) (c c' : SharedState) (h : List Entry) → SharedKeeps K limit c c' u h true → c.door ≡ Some q → c'.door ≡ Some q
-inside_door K limit u q c c' h k d = ⊎_elim (λ s. s) (λ n. absurd (false≢true (sym n.1))) (k.door q d)
+inside_door K limit u q c c' h k d = let door = k.door in grind (arith, nat_tests, common_steps, door)
 
 quick_kept : (limit : ℕ) (c c' : SharedState) → HolderKeeps limit c c' → QuickFlag c → QuickFlag c'
-quick_kept limit c c' k f = record { quick_is = k.quick_is ∙ f.quick_is; head_is = k.head_is ∙ f.head_is }
+quick_kept limit c c' k f = grind (arith, nat_tests, common_steps)
 
 head_kept : (limit : ℕ) (c c' : SharedState) → HolderKeeps limit c c' → HeadFlag c → HeadFlag c'
-head_kept limit c c' k f = record { quick_is = k.quick_is ∙ f.quick_is; head_is = k.head_is ∙ f.head_is }
+head_kept limit c c' k f = grind (arith, nat_tests, common_steps)
 
 -- a holder keeps how it holds
 holds_by_kept : (limit : ℕ) (c c' : SharedState) (by : Option ℕ) → HolderKeeps limit c c' → HoldsBy limit c by → HoldsBy limit c' by
-holds_by_kept limit c c' None k f = (quick_kept limit c c' k f.0, k.within f.1)
-holds_by_kept limit c c' (Some q) k f = (head_kept limit c c' k f.0, k.door q f.1)
+holds_by_kept limit c c' by k f = let within = k.within in let door = k.door in grind (arith, nat_tests, common_steps, within, door)
 
 -- a set cell stays set
 stays_set : (c c' : Cell) → ((v : ℕ) → c ≡ SetTo v → c' ≡ SetTo v) → is_set c ≡ true → is_set c' ≡ true
-stays_set (SetTo v) c' f e = ap is_set (f v refl)
-stays_set Empty c' f e = grind arith
-stays_set (Held t) c' f e = grind arith
+stays_set c c' f e = grind (arith, common_steps, f)
 
 module _ (K : Kind) (limit u : ℕ) (c c' : SharedState) (h h' : List Entry) (r : c.ready ≡ is_set (cell K h)) (k : Keeps K u h h') where
   -- a task at rest
@@ -162,38 +115,15 @@ module _ (K : Kind) (limit u : ℕ) (c c' : SharedState) (h h' : List Entry) (r 
   -- a task with a call under way
   place_kept : (p : Place ℕ ℕ) → SharedKeeps K limit c c' u h (is_inside_at p) → ListKept u (ticket_at p) c c' h'
       → AtPlace K limit u c h p → AtPlace K limit u c' h' p
-  place_kept AtStart s l a = (entered_kept K u h h' k a.0, rw k.call_is a.1, λ e. stays_set (cell K h) (cell K h') k.set_stays (a.2 (sym (ap (λ (x : LastCall). x.set_then) k.call_is) ∙ e)))
-  place_kept AtTryQuick s l a = (fresh_kept K u h h' k a.0, ⊎_elim (λ n. k.became_set n) (λ m. inr (k.met m)) a.1)
-  place_kept AtDoorGet s l a = (fresh_kept K u h h' k a.0, ⊎_elim (λ m. inl (k.met m)) (λ w. k.waits w) a.1)
-  place_kept AtDoorPut s l a = (fresh_kept K u h h' k a.0, k.met a.1)
-  place_kept (AtCountIn q) s l a = (fresh_kept K u h h' k a.0, ⊎_elim (λ d. ⊎_elim (λ x. inl x) (λ n. inr (s.ready n.0)) (s.door q d)) (λ n. inr (s.ready n)) a.1)
-  place_kept (AtWaitLoad q n) s l a = (any_kept K u h h' k a.0, inside_door K limit u q c c' h s a.1, ticket_kept K u c c' h h' n s.ready k l a.2)
-  place_kept (AtLook q n) s l a = (any_kept K u h h' k a.0, inside_door K limit u q c c' h s a.1, ticket_kept K u c c' h h' n s.ready k l a.2)
-  place_kept (AtList q n w) s l a = (any_kept K u h h' k a.0, inside_door K limit u q c c' h s a.1, ticket_kept K u c c' h h' n s.ready k l a.2, k.met_holder a.3, rw k.call_is a.4)
-  place_kept (AtLeave q n e) s l a =
-      (leaves_kept K u h h' e k a.0, inside_door K limit u q c c' h s a.1, ap (λ (x : LastCall). x.began) k.call_is ∙ a.2, listed_kept K u c c' h h' n (Some n) refl s.ready k l a.3)
-  place_kept (AtRun by) s l a = let x = holder_keeps K limit u c c' h false r a.0.holds_is s in (in_poll_kept K u h h' None true k a.0, holds_by_kept limit c c' by x a.1)
-  place_kept (AtPut by) s l a = let x = holder_keeps K limit u c c' h false r a.1.holds_is s in (a.0, in_poll_kept K u h h' (Some (RanValue a.0)) true k a.1, holds_by_kept limit c c' by x a.2)
-  place_kept (AtFast e) s l a = let x = holder_keeps K limit u c c' h false r (releasing_holds K u c h e a.0) s in
-      (releasing_kept K u c c' h h' e k x.value_is a.0, quick_kept limit c c' x a.1, x.within a.2)
-  place_kept (AtAddOne e) s l a = let x = holder_keeps K limit u c c' h false r (releasing_holds K u c h e a.0) s in (
-    releasing_kept K u c c' h h' e k x.value_is a.0,
-    quick_kept limit c c' x a.1,
-    x.within a.2,
-    (a.3.0, x.door a.3.0 a.3.1),
-  )
-  place_kept (AtDoorAgain e) s l a = let x = holder_keeps K limit u c c' h false r
-      (releasing_holds K u c h e a.0) s in
-      (releasing_kept K u c c' h h' e k x.value_is a.0, quick_kept limit c c' x a.1, (a.2.0, x.door a.2.0 a.2.1))
-  place_kept (AtRelease q e) s l a = let x = holder_keeps K limit u c c' h false r
-      (releasing_holds K u c h e a.0) s in (
-        releasing_kept K u c c' h h' e k x.value_is a.0,
-        ⊎_elim
-            (λ f. inl (quick_kept limit c c' x f)) (λ f. inr (head_kept limit c c' x f)) a.1,
-        x.door q a.2,
-      )
-  place_kept (AtCountOut e) s l a = owes_kept K u h h' e k a
-  place_kept (AtDoorTake e) s l a = (owes_kept K u h h' e k a.0, s.ready a.1)
+  place_kept AtStart s l a = let stays = k.set_stays in grind (arith, nat_tests, common_steps, stays)
+  place_kept p s l a =
+      let became = k.became_set in
+      let met = k.met in
+      let holder = k.met_holder in
+      let waits = k.waits in
+      let door = s.door in
+      let set = s.ready in
+      grind (arith, nat_tests, common_steps, became, met, holder, waits, door, set, fresh_kept, any_kept, leaves_kept, owes_kept, releasing_kept, ticket_kept, listed_kept)
 
   -- a task keeps what stands for it through the step of another
   pub step_kept : (x : Step ℕ ℕ) → SharedKeeps K limit c c' u h (is_inside x) → ListKept u (ticket_of x) c c' h'

@@ -77,10 +77,7 @@ polls_at K u n q c h k e a d f =
 leaves_turn : (K : Kind) (u : ℕ) (h : List Entry) (e : Ending) → (last_call K u h).began ≡ Waiting → MayLeave K u h e → HasTurn K u h
 leaves_turn K u h EndMemory b a = record { under_way = ap is_under_way a.0.poll.status_is; began = b; unclaimed = a.0.unclaimed; unpassed = a.0.poll.unpassed }
 leaves_turn K u h EndDropped b a = record { under_way = ap is_under_way a.0.status_is; began = b; unclaimed = a.1; unpassed = a.2 }
-leaves_turn K u h EndValue b a = absurd a
-leaves_turn K u h EndError b a = absurd a
-leaves_turn K u h EndPending b a = absurd a
-leaves_turn K u h EndFull b a = absurd a
+leaves_turn K u h _ b a = absurd a
 
 -- by the place
 ticketed_at : (K : Kind) (limit u n : ℕ) (c : SharedState) (h : List Entry) (p : Place ℕ ℕ) → AtPlace K limit u c h p

@@ -30,17 +30,7 @@ set_kept : (K : Kind) (limit : ℕ) (e : Entry) (h : List Entry) → IsLegal K l
     → is_set (cell K h) ≡ true → (b : Bool) → is_own e ≡ b → is_set (cell K (e ∷ h)) ≡ true
 set_kept K limit e h l g s false n = let v = value_of_set (cell K h) s in ap is_set (set_stays_after K e limit h v.0 n l v.1)
 set_kept K limit (Own o got) h l g s true n = absurd (g l.0)
-set_kept K limit (Made u) h l g s true n = absurd (false≢true n)
-set_kept K limit (Begin u w) h l g s true n = absurd (false≢true n)
-set_kept K limit (Claim u) h l g s true n = absurd (false≢true n)
-set_kept K limit (Ran u a) h l g s true n = absurd (false≢true n)
-set_kept K limit (Free u X) h l g s true n = absurd (false≢true n)
-set_kept K limit (Fill u v X) h l g s true n = absurd (false≢true n)
-set_kept K limit (Pass u X) h l g s true n = absurd (false≢true n)
-set_kept K limit (End u a) h l g s true n = absurd (false≢true n)
-set_kept K limit (DropBegin u) h l g s true n = absurd (false≢true n)
-set_kept K limit (DropEnd u) h l g s true n = absurd (false≢true n)
-set_kept K limit (Look v) h l g s true n = absurd (false≢true n)
+set_kept K limit _ h l g s true n = absurd (false≢true n)
 
 -- such a poll sees the cell set
 abbrev SetSo : Kind → ℕ → List Entry → Type 0
@@ -49,8 +39,7 @@ SetSo K t h = status K t h ≡ Polling → (last_call K t h).set_then ≡ true �
 -- a poll that ended is over
 pending_polls : (u : ℕ) (c : Cell) → pending_status u c ≡ Polling → ⊥
 pending_polls u (Held k) e = grind (arith, nat_tests)
-pending_polls u Empty e = grind arith
-pending_polls u (SetTo v) e = grind arith
+pending_polls u _ e = grind arith
 
 -- nobody else held since it began
 begun_unheld : (K : Kind) (t u w : ℕ) (h : List Entry) → (u == t) ≡ true → is_set (cell K h) ≡ true → Since t (OtherHolds K t) (Begin u w ∷ h) → ⊥
@@ -84,8 +73,7 @@ own_set K limit t (End u Memory) h n l ih s x = grind arith
 own_set K limit t (End u Full) h n l ih s x = grind arith
 own_set K limit t (DropBegin u) h n l ih s x = grind arith
 own_set K limit t (DropEnd u) h n l ih s x = grind arith
-own_set K limit t (Look v) h n l ih s x = absurd (false≢true n)
-own_set K limit t (Own o g) h n l ih s x = absurd (false≢true n)
+own_set K limit t _ h n l ih s x = absurd (false≢true n)
 
 not_unmade_polling : Polling ≡ Unmade → ⊥
 not_unmade_polling e = cc
@@ -110,11 +98,7 @@ set_poll K limit t (e ∷ h) r s x = set_by K limit t e h (is_of t e) refl r (se
 not_memory : (K : Kind) (t : ℕ) (h : List Entry) → (last_call K t h).set_then ≡ true → (Since t (OtherHolds K t) h → ⊥) → (s : Status) → MemoryFrom K s t h → ⊥
 not_memory K t h set unheld Fresh m = false≢true (sym m.0 ∙ set)
 not_memory K t h set unheld Waiting m = unheld m
-not_memory K t h set unheld Unmade m = m
-not_memory K t h set unheld Polling m = m
-not_memory K t h set unheld Dropping m = m
-not_memory K t h set unheld Holding m = m
-not_memory K t h set unheld Gone m = m
+not_memory K t h set unheld _ m = m
 
 -- it ends with the value
 set_end : (K : Kind) (limit t : ℕ) (r : Reply) (h : List Entry) (v : ℕ) → cell K h ≡ SetTo v

@@ -26,13 +26,7 @@ listed_own K t (Made u) h ih s = grind arith
 listed_own K t (Begin u w) h ih s = grind arith
 listed_own K t (DropBegin u) h ih s = grind arith
 listed_own K t (DropEnd u) h ih s = grind arith
-listed_own K t (Claim u) h ih s = ih s
-listed_own K t (Ran u a) h ih s = ih s
-listed_own K t (Free u X) h ih s = ih s
-listed_own K t (Fill u v X) h ih s = ih s
-listed_own K t (Pass u X) h ih s = ih s
-listed_own K t (Look found) h ih s = ih s
-listed_own K t (Own o g) h ih s = ih s
+listed_own K t _ h ih s = ih s
 
 -- by whether the entry is of the task
 listed_by : (K : Kind) (t : ℕ) (e : Entry) (h : List Entry) (b : Bool) → is_of t e ≡ b

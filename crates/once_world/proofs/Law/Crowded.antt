@@ -34,9 +34,7 @@ about_by K limit t u h r n d Waiting e a = refl
 about_by K limit t u h r n d Polling e a = absurd (n (inr (u, d, ap is_under_way e)))
 about_by K limit t u h r n d Dropping e a = absurd (n (inr (u, d, ap is_under_way e)))
 about_by K limit t u h r n d Holding e a = absurd (n (inl (u, d, holding_holds K limit u h r e)))
-about_by K limit t u h r n d Unmade e a = absurd (false≢true a)
-about_by K limit t u h r n d Fresh e a = absurd (false≢true a)
-about_by K limit t u h r n d Gone e a = absurd (false≢true a)
+about_by K limit t u h r n d _ e a = absurd (false≢true a)
 
 -- the same for who is another task
 waits_by : (K : Kind) (limit t u : ℕ) (h : List Entry) → IsRun K limit h → (OtherActs K t h → ⊥) → (b : Bool)
@@ -84,8 +82,7 @@ full_waits K limit t h r n = crowded_waits K limit t h r.1 n (full_by K limit t 
 value_by : (K : Kind) (limit t v : ℕ) (h : List Entry) (a : Option Answer) → MayEnd K limit t (Value v) a h → cell K h ≡ SetTo v
 value_by K limit t v h None m = m
 value_by K limit t v h (Some (RanValue u)) m = m.1
-value_by K limit t v h (Some RanPending) m = absurd m
-value_by K limit t v h (Some (RanError e)) m = absurd m
+value_by K limit t v h _ m = absurd m
 
 -- a poll that completes with a value answers the one that is set
 pub value_set : (K : Kind) (limit t v : ℕ) (h : List Entry) → IsRun K limit (End t (Value v) ∷ h) → cell K h ≡ SetTo v

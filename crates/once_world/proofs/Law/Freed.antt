@@ -28,8 +28,7 @@ freed_by_own K t (End u (Error v)) h is ih f = inr (ih f)
 freed_by_own K t (End u Memory) h is ih f = inr (ih f)
 freed_by_own K t (End u Full) h is ih f = inr (ih f)
 freed_by_own K t (DropEnd u) h is ih f = inr (ih f)
-freed_by_own K t (Look r) h is ih f = absurd (false≢true is)
-freed_by_own K t (Own o g) h is ih f = absurd (false≢true is)
+freed_by_own K t _ h is ih f = absurd (false≢true is)
 
 -- its entries and those of others
 freed_by : (K : Kind) (t : ℕ) (e : Entry) (h : List Entry) (b : Bool) → is_of t e ≡ b

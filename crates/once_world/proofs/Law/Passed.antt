@@ -12,11 +12,7 @@ use Rattle.once_queue.proofs.Listing.Members.{eqb_self}
 passer_acts : (s : Status) (claimed : Bool) (ran : Option Answer) → MayPass s claimed ran → is_under_way s ≡ true
 passer_acts Dropping claimed ran m = refl
 passer_acts Polling claimed ran m = refl
-passer_acts Unmade claimed ran m = absurd m
-passer_acts Fresh claimed ran m = absurd m
-passer_acts Waiting claimed ran m = absurd m
-passer_acts Holding claimed ran m = absurd m
-passer_acts Gone claimed ran m = absurd m
+passer_acts _ claimed ran m = absurd m
 
 -- so the task of the entry is
 passes_acting : (K : Kind) (t u : ℕ) (h : List Entry) → (u == t) ≡ true
@@ -88,8 +84,7 @@ own_leaves K limit t (End u Memory) h n l ih p = inr refl
 own_leaves K limit t (End u Full) h n l ih p = inr refl
 own_leaves K limit t (DropBegin u) h n l ih p = absurd (false≢true p)
 own_leaves K limit t (DropEnd u) h n l ih p = inr refl
-own_leaves K limit t (Look found) h n l ih p = absurd (false≢true n)
-own_leaves K limit t (Own o g) h n l ih p = absurd (false≢true n)
+own_leaves K limit t _ h n l ih p = absurd (false≢true n)
 
 -- by whether the entry is of the task
 leaves_by : (K : Kind) (limit t : ℕ) (e : Entry) (h : List Entry) (b : Bool) → is_of t e ≡ b → IsLegal K limit e h

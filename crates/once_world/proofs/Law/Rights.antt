@@ -40,8 +40,7 @@ held_kept K limit t (Own o g') h n l g c = absurd (g l.0)
 -- a poll that ended Pending and holds is the holder
 pending_holding : (u : ℕ) (c : Cell) → pending_status u c ≡ Holding → c ≡ Held u
 pending_holding u (Held k) e = grind (arith, nat_tests)
-pending_holding u Empty e = grind arith
-pending_holding u (SetTo v) e = grind arith
+pending_holding u _ e = grind arith
 
 -- a task at rest does not free the cell
 free_holding : (K : Kind) (t u : ℕ) (h : List Entry) → (u == t) ≡ true → status K t h ≡ Holding → MayFree (status K u h) (last_call K u h).ran → ⊥
@@ -67,8 +66,7 @@ own_holding K limit t (End u Memory) h n l s = grind arith
 own_holding K limit t (End u Full) h n l s = grind arith
 own_holding K limit t (DropBegin u) h n l s = grind arith
 own_holding K limit t (DropEnd u) h n l s = grind arith
-own_holding K limit t (Look v) h n l s = absurd (false≢true n)
-own_holding K limit t (Own o g) h n l s = absurd (false≢true n)
+own_holding K limit t _ h n l s = absurd (false≢true n)
 
 -- a task that holds was made
 not_unmade : Holding ≡ Unmade → ⊥
@@ -100,9 +98,7 @@ value_lasts K limit e h v r n c = set_stays_after K e limit h v n r.0 c
 error_by : (K : Kind) (limit t e : ℕ) (h : List Entry) (a : Option Answer) → MayEnd K limit t (Error e) a h
     → (a ≡ Some (RanError e)) × ((last_call K t h).freed ≡ true)
 error_by K limit t e h (Some (RanError f)) m = (ap (λ (k : ℕ). Some (RanError k)) (sym m.0), m.1)
-error_by K limit t e h (Some RanPending) m = absurd m
-error_by K limit t e h (Some (RanValue v)) m = absurd m
-error_by K limit t e h None m = absurd m
+error_by K limit t e h _ m = absurd m
 
 -- an error goes to the caller whose own init gave it, after it freed the cell
 pub own_error : (K : Kind) (limit t e : ℕ) (h : List Entry) → IsRun K limit (End t (Error e) ∷ h)

@@ -35,23 +35,12 @@ first_made K t (Pass u X) limit h n l s = absurd (no_pass K t u h n (ap is_under
 first_made K t (End u r) limit h n l s = grind (arith, nat_tests, l.0)
 first_made K t (DropBegin u) limit h n l s = absurd (no_begin K t u h n s l)
 first_made K t (DropEnd u) limit h n l s = grind (arith, nat_tests, l.0)
-first_made K t (Look r) limit h n l s = absurd (false≢true n)
-first_made K t (Own o g) limit h n l s = absurd (false≢true n)
+first_made K t _ limit h n l s = absurd (false≢true n)
 
 -- who is made later was not made
 made_less : (t : ℕ) (e : Entry) (h : List Entry) → member t (made_in (e ∷ h)) ≡ false → member t (made_in h) ≡ false
 made_less t (Made u) h m = grind arith
-made_less t (Begin u w) h m = m
-made_less t (Claim u) h m = m
-made_less t (Ran u a) h m = m
-made_less t (Free u X) h m = m
-made_less t (Fill u k X) h m = m
-made_less t (Pass u X) h m = m
-made_less t (End u r) h m = m
-made_less t (DropBegin u) h m = m
-made_less t (DropEnd u) h m = m
-made_less t (Look r) h m = m
-made_less t (Own o g) h m = m
+made_less t _ h m = m
 
 -- by whether the entry is of the task
 unmade_by : (K : Kind) (t : ℕ) (e : Entry) (limit : ℕ) (h : List Entry) (b : Bool) → is_of t e ≡ b

@@ -8,21 +8,7 @@ use Rattle.once_world.proofs.Law.Crowded.{value_set}
 
 answers_set : (K : Kind) (limit : ℕ) (e : Entry) (h : List Entry) → IsRun K limit (e ∷ h) → AnswersSet K e h
 answers_set K limit (End t (Value v)) h r = value_set K limit t v h r
-answers_set K limit (End t Pending) h r = tt
-answers_set K limit (End t (Error e)) h r = tt
-answers_set K limit (End t Memory) h r = tt
-answers_set K limit (End t Full) h r = tt
-answers_set K limit (Made t) h r = tt
-answers_set K limit (Begin t w) h r = tt
-answers_set K limit (Claim t) h r = tt
-answers_set K limit (Ran t a) h r = tt
-answers_set K limit (Free t X) h r = tt
-answers_set K limit (Fill t v X) h r = tt
-answers_set K limit (Pass t X) h r = tt
-answers_set K limit (DropBegin t) h r = tt
-answers_set K limit (DropEnd t) h r = tt
-answers_set K limit (Look found) h r = tt
-answers_set K limit (Own o g) h r = tt
+answers_set K limit _ h r = tt
 
 pub one_value : (K : Kind) (limit : ℕ) (h : List Entry) → IsRun K limit h → IsOneValue K h
 one_value K limit [] r = tt

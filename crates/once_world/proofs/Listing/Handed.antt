@@ -52,8 +52,7 @@ hands_all : (xs ys : List (Listing ℕ)) (seen before : List ℕ) → ((w : ℕ)
     → HandsAll (λ a b. a ≡ b) (λ a b. a ≢ b) seen xs ys → wakers_of ys ≡ all_out xs before
 hands_all [] [] seen before same d = refl
 hands_all (x ∷ xs) (y ∷ ys) seen before same d = hands_by x.waker y.waker seen before (wakers_of ys) (all_out xs) same d.1 (λ now e. hands_all xs ys (cons_option x.waker seen) now e d.2)
-hands_all [] (y ∷ ys) seen before same d = absurd d
-hands_all (x ∷ xs) [] seen before same d = absurd d
+hands_all _ _ seen before same d = absurd d
 
 -- the wakers that a release hands out are the machine's
 pub released_wakers : (ready : Bool) (xs rest : List (Listing ℕ)) (out : Out ℕ)

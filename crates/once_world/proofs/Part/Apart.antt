@@ -16,8 +16,7 @@ begins_step K n t a (Pass u X) r s = refl
 begins_step K n t a (End u r2) r s = refl
 begins_step K n t a (DropBegin u) r s = absurd s
 begins_step K n t a (DropEnd u) r s = refl
-begins_step K n t a (Look v) r s = absurd s
-begins_step K n t a (Own o g) r s = absurd s
+begins_step K n t a _ r s = absurd s
 
 -- they begin no call
 pub step_begins : (K : Kind) (n t : ℕ) (a : Answer) (part : List Entry) → AreOfStep K n a part → begins_call t part ≡ false
@@ -42,8 +41,7 @@ memory_step K n t a (End u Full) r d s = refl
 memory_step K n t a (End u Memory) r d s = let z : (u == t) ≡ false = ne_eqb u t (λ k. d (sym s ∙ k)) in rw z refl
 memory_step K n t a (DropBegin u) r d s = absurd s
 memory_step K n t a (DropEnd u) r d s = refl
-memory_step K n t a (Look v) r d s = absurd s
-memory_step K n t a (Own o g) r d s = absurd s
+memory_step K n t a _ r d s = absurd s
 
 -- they end no poll of another task
 pub step_memory : (K : Kind) (n t : ℕ) (a : Answer) (part : List Entry) → n ≢ t → AreOfStep K n a part → ends_for_memory t part ≡ false

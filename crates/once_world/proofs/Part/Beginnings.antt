@@ -47,33 +47,23 @@ begun_granted Finished e = refl
 rest_begins : (K : Kind) (limit t k : ℕ) (c : SharedState) (h : List Entry) (r : Rest ℕ) → AtRest K limit t c h r
     → Begin t k ∷ [] ≡ poll_part (status K t h) t k
 rest_begins K limit t k c h RestStart a = rw a.status_is refl
-rest_begins K limit t k c h (RestWait q n) a = rw a.0.status_is refl
-rest_begins K limit t k c h (RestRun by) a = rw a.0.status_is refl
+rest_begins K limit t k c h _ a = rw a.0.status_is refl
 
 rest_drops : (K : Kind) (limit t : ℕ) (c : SharedState) (h : List Entry) (r : Rest ℕ) → AtRest K limit t c h r
     → drop_entries t (step_of_drop_at r) ≡ drop_part (status K t h) t
 rest_drops K limit t c h RestStart a = rw a.status_is refl
-rest_drops K limit t c h (RestWait q n) a = rw a.0.status_is refl
-rest_drops K limit t c h (RestRun by) a = rw a.0.status_is refl
+rest_drops K limit t c h _ a = rw a.0.status_is refl
 
 -- they add nothing while a call is under way
 busy_begins : (s : Status) (t k : ℕ) → is_under_way s ≡ true → [] ≡ poll_part s t k
 busy_begins Polling t k e = refl
 busy_begins Dropping t k e = refl
-busy_begins Unmade t k e = absurd (false≢true e)
-busy_begins Fresh t k e = absurd (false≢true e)
-busy_begins Waiting t k e = absurd (false≢true e)
-busy_begins Holding t k e = absurd (false≢true e)
-busy_begins Gone t k e = absurd (false≢true e)
+busy_begins _ t k e = absurd (false≢true e)
 
 busy_drops : (s : Status) (t : ℕ) → is_under_way s ≡ true → [] ≡ drop_part s t
 busy_drops Polling t e = refl
 busy_drops Dropping t e = refl
-busy_drops Unmade t e = absurd (false≢true e)
-busy_drops Fresh t e = absurd (false≢true e)
-busy_drops Waiting t e = absurd (false≢true e)
-busy_drops Holding t e = absurd (false≢true e)
-busy_drops Gone t e = absurd (false≢true e)
+busy_drops _ t e = absurd (false≢true e)
 
 -- what a poll adds, by whether the task is at rest
 abbrev pub begins_if : Bool → ℕ → ℕ → List Entry
@@ -102,18 +92,13 @@ step_drops_so K limit t c h Finished a = rw a.status_is refl
 -- a task that was found was made
 rest_made : (K : Kind) (limit t : ℕ) (c : SharedState) (h : List Entry) (r : Rest ℕ) → AtRest K limit t c h r → [] ≡ make_part (status K t h) t
 rest_made K limit t c h RestStart a = rw a.status_is refl
-rest_made K limit t c h (RestWait q n) a = rw a.0.status_is refl
-rest_made K limit t c h (RestRun by) a = rw a.0.status_is refl
+rest_made K limit t c h _ a = rw a.0.status_is refl
 
 -- a task in a call was made
 busy_made : (s : Status) (t : ℕ) → is_under_way s ≡ true → [] ≡ make_part s t
 busy_made Polling t e = refl
 busy_made Dropping t e = refl
-busy_made Unmade t e = absurd (false≢true e)
-busy_made Fresh t e = absurd (false≢true e)
-busy_made Waiting t e = absurd (false≢true e)
-busy_made Holding t e = absurd (false≢true e)
-busy_made Gone t e = absurd (false≢true e)
+busy_made _ t e = absurd (false≢true e)
 
 -- a task that is there was made
 pub step_made : (K : Kind) (limit t : ℕ) (c : SharedState) (h : List Entry) (s : Step ℕ ℕ) → AtStep K limit t c h s → [] ≡ make_part (status K t h) t
@@ -124,8 +109,7 @@ step_made K limit t c h Finished a = rw a.status_is refl
 -- no call of a task at rest is under way
 rest_idle : (K : Kind) (limit t : ℕ) (c : SharedState) (h : List Entry) (r : Rest ℕ) → AtRest K limit t c h r → is_under_way (status K t h) ≡ false
 rest_idle K limit t c h RestStart a = ap is_under_way a.status_is
-rest_idle K limit t c h (RestWait q n) a = ap is_under_way a.0.status_is
-rest_idle K limit t c h (RestRun by) a = ap is_under_way a.0.status_is
+rest_idle K limit t c h _ a = ap is_under_way a.0.status_is
 
 -- a call is under way exactly where the record says so
 pub step_acts : (K : Kind) (limit t : ℕ) (c : SharedState) (h : List Entry) (s : Step ℕ ℕ) → AtStep K limit t c h s → is_under_way (status K t h) ≡ in_call s

@@ -24,8 +24,7 @@ gos_after false false n = n
 abbrev pub ungranted_after : Bool → Bool → Bool → Bool → Bool
 ungranted_after true fits none u = false
 ungranted_after false true true u = true
-ungranted_after false true false u = u
-ungranted_after false false none u = u
+ungranted_after false _ _ u = u
 
 -- how many Go there are then
 pub gos_length : (begins fits : Bool) (i : Input) (g : List Input) → length (cond begins [] (cond fits (i ∷ g) g)) ≡ gos_after begins fits (length g)

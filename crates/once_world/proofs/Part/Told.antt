@@ -82,7 +82,7 @@ go_part K limit w t a g x f found true c =
     let acts : is_under_way (status K t w.history) ≡ true = step_acts K limit t w.shared w.history x.step own.step ∙ c in
     let o : Outcome = advance (is_lazy K) limit w.shared t x a g in
     let y : Task = record x { step = o.step; kept = o.kept } in
-    let l : StepTells g x.step o = tells w.shared t x.kept g (is_lazy K) limit x.waker a x.step c in
+    let l : StepTells g x.step o = tells K w.shared t x.kept w.history limit x.waker a g x.step own.step c in
     let z : AreOfStep K t a o.entries = step_part K w.shared t x.kept a limit x.waker g x.step in
     let was : step_of (w.tasks t) ≡ x.step = ap step_of found in
     record {

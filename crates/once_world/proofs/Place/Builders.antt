@@ -112,8 +112,7 @@ owes_lasts K t h EndValue o n = let z : ⊥ = cc in z
 owes_lasts K t h EndError o n = let z : ⊥ = cc in z
 owes_lasts K t h EndMemory o n = let z : ⊥ = cc in z
 owes_lasts K t h EndDropped o n = let z : ⊥ = cc in z
-owes_lasts K t h EndPending o n = o
-owes_lasts K t h EndFull o n = o
+owes_lasts K t h _ o n = o
 
 -- what is shared fits the cell alone
 pub shared_at : (K : Kind) (limit : ℕ) (c : SharedState) (h h' : List Entry) → cell K h' ≡ cell K h
@@ -150,8 +149,7 @@ owes_legal K limit t v k h EndValue f a o = (o.0, rw (f o.1.0 o.1.1) (value_lega
 owes_legal K limit t v k h EndError f a o = (o.1.status_is, rw o.1.ran_is (error_kept o.0 k (last_call K t h).ran a o.1.ran_is, o.2), inl o.1.unpassed)
 owes_legal K limit t v k h EndMemory f a o = (o.0.status_is, rw o.0.ran_is (o.0.unclaimed, o.1), inr refl)
 owes_legal K limit t v k h EndDropped f a o = (o.status_is, not_holding t (cell K h) o.holds_is)
-owes_legal K limit t v k h EndPending f a o = absurd o
-owes_legal K limit t v k h EndFull f a o = absurd o
+owes_legal K limit t v k h _ f a o = absurd o
 
 -- a task in a poll does not wait
 pub polls_not_waits : (K : Kind) (t u : ℕ) (h : List Entry) → (t == u) ≡ true → status K t h ≡ Polling → status K u h ≢ Waiting

@@ -39,9 +39,7 @@ pub frees : (K : Kind) (t : ℕ) (h : List Entry) (c : SharedState) (k : Answer)
 frees K t h c k X EndError n a r = ap (λ x. release_entry x t X) (a ∙ ap kept_of r.1.ran_is)
 frees K t h c k X EndDropped n a r = ap (λ x. release_entry x t X) (a ∙ r.1)
 frees K t h c k X EndValue n a r = absurd (false≢true (sym n))
-frees K t h c k X EndPending n a r = absurd r
-frees K t h c k X EndMemory n a r = absurd r
-frees K t h c k X EndFull n a r = absurd r
+frees K t h c k X _ n a r = absurd r
 
 -- what stands in a call that freed the cell
 pub freed_owes : (K : Kind) (t : ℕ) (h : List Entry) (c : SharedState) (X : List ℕ) (e : Ending) → is_value e ≡ false
@@ -59,9 +57,7 @@ freed_owes K t h c X EndError n r = (
 )
 freed_owes K t h c X EndDropped n r = record { status_is = rw (eqb_self t) r.0.status_is; holds_is = refl }
 freed_owes K t h c X EndValue n r = absurd (false≢true (sym n))
-freed_owes K t h c X EndPending n r = absurd r
-freed_owes K t h c X EndMemory n r = absurd r
-freed_owes K t h c X EndFull n r = absurd r
+freed_owes K t h c X _ n r = absurd r
 
 -- what stands in a call that filled it
 pub filled_owes : (K : Kind) (t : ℕ) (h : List Entry) (c : SharedState) (X : List ℕ) → (r : Releasing K t h c EndValue) → Owes K t (Fill t r.0 X ∷ h) EndValue
@@ -73,9 +69,7 @@ pub free_legal : (K : Kind) (limit t : ℕ) (h : List Entry) (c : SharedState) (
 free_legal K limit t h c X EndError n r o = (held_by t (cell K h) r.1.holds_is, rw (r.1.status_is, r.1.ran_is) tt, o)
 free_legal K limit t h c X EndDropped n r o = (held_by t (cell K h) r.0.holds_is, rw r.0.status_is tt, o)
 free_legal K limit t h c X EndValue n r o = absurd (false≢true (sym n))
-free_legal K limit t h c X EndPending n r o = absurd r
-free_legal K limit t h c X EndMemory n r o = absurd r
-free_legal K limit t h c X EndFull n r o = absurd r
+free_legal K limit t h c X _ n r o = absurd r
 
 -- t may fill it
 pub fill_legal : (K : Kind) (limit t : ℕ) (h : List Entry) (c : SharedState) (X : List ℕ)

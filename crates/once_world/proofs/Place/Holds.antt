@@ -29,11 +29,7 @@ cond_same false = refl
 -- what a release owes goes by the value alone
 releasing_same : (K : Kind) (t : ℕ) (h : List Entry) (c c' : SharedState) (e : Ending) → c'.value ≡ c.value → Releasing K t h c e → Releasing K t h c' e
 releasing_same K t h c c' EndValue s r = (r.0, r.1, s ∙ r.2)
-releasing_same K t h c c' EndError s r = r
-releasing_same K t h c c' EndDropped s r = r
-releasing_same K t h c c' EndPending s r = r
-releasing_same K t h c c' EndMemory s r = r
-releasing_same K t h c c' EndFull s r = r
+releasing_same K t h c c' _ s r = r
 
 -- what the step of a holder leaves for the others
 pub holder_shared : (K : Kind) (limit t : ℕ) (c c' : SharedState) (h : List Entry) → SharedFits K limit c h
@@ -56,8 +52,7 @@ holding_not_waits s a b = cc
 pub next_given : (K : Kind) (l k : List (Option ℕ)) (a : Answer) → l ≡ k → IsNext K (init_answer (is_lazy K) l a) k
 next_given Once l k a e = tt
 next_given (OnceWith v) l k a e = tt
-next_given (Lazy n) l k a e = ap next_answer e
-next_given (LazyWith v) l k a e = ap next_answer e
+next_given _ l k a e = ap next_answer e
 
 -- a poll in which the init answered
 ran_in : (K : Kind) (t : ℕ) (h : List Entry) (a : Answer) → InPoll K t h None true → InPoll K t (Ran t a ∷ h) (Some a) true

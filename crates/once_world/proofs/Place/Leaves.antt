@@ -34,20 +34,14 @@ use Rattle.once_world.proofs.Place.Outcomes.{goes_to}
 leaves_owes : (K : Kind) (t : ℕ) (h : List Entry) (e : Ending) → MayLeave K t h e → Owes K t h e
 leaves_owes K t h EndMemory a = (refused_in K t h a.0, a.1)
 leaves_owes K t h EndDropped a = a.0
-leaves_owes K t h EndValue a = absurd a
-leaves_owes K t h EndError a = absurd a
-leaves_owes K t h EndPending a = absurd a
-leaves_owes K t h EndFull a = absurd a
+leaves_owes K t h _ a = absurd a
 
 -- it may pass its turn on, and did not yet
 leaves_may : (K : Kind) (t : ℕ) (h : List Entry) (e : Ending) → MayLeave K t h e
     → MayPass (status K t h) (last_call K t h).claimed (last_call K t h).ran × ((last_call K t h).passed ≡ false)
 leaves_may K t h EndMemory a = (rw (a.0.poll.status_is, a.0.unclaimed, a.0.poll.ran_is) tt, a.0.poll.unpassed)
 leaves_may K t h EndDropped a = (rw a.0.status_is tt, a.2)
-leaves_may K t h EndValue a = absurd a
-leaves_may K t h EndError a = absurd a
-leaves_may K t h EndPending a = absurd a
-leaves_may K t h EndFull a = absurd a
+leaves_may K t h _ a = absurd a
 
 -- and owes the end after it passed
 passed_owes : (K : Kind) (t : ℕ) (h : List Entry) (X : List ℕ) (e : Ending) → (last_call K t h).began ≡ Waiting → MayLeave K t h e → Owes K t (Pass t X ∷ h) e
@@ -63,10 +57,7 @@ passed_owes K t h X EndMemory b a = (
       (eqb_self t, b) (inr (rw b at a.1)),
 )
 passed_owes K t h X EndDropped b a = record { status_is = rw (eqb_self t) a.0.status_is; holds_is = a.0.holds_is }
-passed_owes K t h X EndValue b a = absurd a
-passed_owes K t h X EndError b a = absurd a
-passed_owes K t h X EndPending b a = absurd a
-passed_owes K t h X EndFull b a = absurd a
+passed_owes K t h X _ b a = absurd a
 
 -- in an empty cell a called listing passes its turn on
 passes_in : (c : SharedState) (n : ℕ) → c.ready ≡ false → (c.quick || c.head) ≡ false → find_listing n c.listings ≡ Some None → is_passing c n ≡ true

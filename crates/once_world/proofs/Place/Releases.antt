@@ -108,9 +108,7 @@ module _ (K : Kind) (limit t w : ℕ) (k : Answer) (c : SharedState) (h : List E
   fast_goes true EndValue x ar a = fast_fills (exact c x) ar a
   fast_goes true EndError x ar a = fast_frees EndError refl (exact c x) ar a
   fast_goes true EndDropped x ar a = fast_frees EndDropped refl (exact c x) ar a
-  fast_goes true EndPending x ar a = absurd a.0
-  fast_goes true EndMemory x ar a = absurd a.0
-  fast_goes true EndFull x ar a = absurd a.0
+  fast_goes true _ x ar a = absurd a.0
   fast_goes false e x ar a =
       let unset = shared.ready_is ∙ holder_unset t (cell K h) (releasing_holds K t c h e a.0) in
       stays K limit t w k (AtFast e) c h run shared queue wk kk (AtAddOne e) (a.0, a.1, a.2, shared.stands unset (inexact c unset a.1.quick_is x)) refl refl (λ e. absurd (false≢true e)) (inl refl)
@@ -194,9 +192,7 @@ module _ (K : Kind) (limit t w : ℕ) (k : Answer) (c : SharedState) (h : List E
   release_by q EndValue c' cl al a = release_fills q c' cl al a
   release_by q EndError c' cl al a = release_frees q EndError c' refl cl al a
   release_by q EndDropped c' cl al a = release_frees q EndDropped c' refl cl al a
-  release_by q EndPending c' cl al a = absurd a.0
-  release_by q EndMemory c' cl al a = absurd a.0
-  release_by q EndFull c' cl al a = absurd a.0
+  release_by q _ c' cl al a = absurd a.0
 
   -- the queue of a releaser is at the door
   pub release_goes : (door : Bool) (q : ℕ) (e : Ending) → is_at_door q c.door ≡ door → AroundList K t None c h

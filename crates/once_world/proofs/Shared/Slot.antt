@@ -77,8 +77,7 @@ writer_holds_at limit u c h _ a i = absurd (false≢true i)
 -- by the step
 writer_holds_in : (limit u : ℕ) (c : SharedState) (h : List Entry) (s : Step ℕ ℕ) → AtStep Once limit u c h s → has_written s ≡ true → holds u (cell Once h) ≡ true
 writer_holds_in limit u c h (UnderWay p) a i = writer_holds_at limit u c h p a i
-writer_holds_in limit u c h (Resting r) a i = absurd (false≢true i)
-writer_holds_in limit u c h Finished a i = absurd (false≢true i)
+writer_holds_in limit u c h _ a i = absurd (false≢true i)
 
 -- by the task
 writer_holds : (limit u : ℕ) (c : SharedState) (h : List Entry) (o : Option Task) → StandsFor Once limit u c h o → has_written (step_of o) ≡ true → holds u (cell Once h) ≡ true

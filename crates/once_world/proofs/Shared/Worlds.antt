@@ -76,15 +76,7 @@ step_plain : (t : ℕ) (a : Answer) (e : Entry) → IsOfStep Once t a e → IsPl
 step_plain t a (Own o g) i = i
 step_plain t a (Made u) i = tt
 step_plain t a (Begin u k) i = absurd i
-step_plain t a (Claim u) i = tt
-step_plain t a (Ran u b) i = tt
-step_plain t a (Free u X) i = tt
-step_plain t a (Fill u v X) i = tt
-step_plain t a (Pass u X) i = tt
-step_plain t a (End u r) i = tt
-step_plain t a (DropBegin u) i = tt
-step_plain t a (DropEnd u) i = tt
-step_plain t a (Look v) i = tt
+step_plain t a _ i = tt
 
 -- nor are those that a step adds
 steps_plain : (t : ℕ) (a : Answer) (es h : List Entry) → AreOfStep Once t a es → ArePlain h → ArePlain (es ++ h)
@@ -96,8 +88,7 @@ steps_plain t a (e ∷ f ∷ g ∷ es) h i u = absurd i
 -- nor those of a drop that begins
 dropped_plain : (t : ℕ) (s : Step ℕ ℕ) (h : List Entry) → ArePlain h → ArePlain (drop_entries t s ++ h)
 dropped_plain t Finished h u = (tt, (tt, u))
-dropped_plain t (Resting r) h u = (tt, u)
-dropped_plain t (UnderWay p) h u = (tt, u)
+dropped_plain t _ h u = (tt, u)
 
 -- a task is put among the others
 enters_by : (b : Bool) (y : Task) (o : Option Task) → EntersFirst y.step → EntersFirst (step_of o) → EntersFirst (step_of (cond b (Some y) o))
@@ -128,8 +119,7 @@ drop_enters : (s : Step ℕ ℕ) → EntersFirst s → EntersFirst (step_of_drop
 drop_enters (Resting RestStart) i = tt
 drop_enters (Resting (RestWait q n)) i = leave_first q n EndDropped i
 drop_enters (Resting (RestRun by)) i = release_first by EndDropped i
-drop_enters (UnderWay p) i = i
-drop_enters Finished i = i
+drop_enters _ i = i
 
 -- t is y now
 pub put_unowned : (t : ℕ) (y : Task) (w w' : World) → Unowned w → w'.tasks ≡ put_task t y w.tasks → OneQueue w'.shared → EntersFirst y.step → w'.shared.value ≡ 0

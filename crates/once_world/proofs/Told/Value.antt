@@ -17,17 +17,7 @@ use Rattle.once_world.proofs.Told.Log.{is_one_value, log_is_plain}
 -- such an entry is no owner's call
 plain_unowned : (e : Entry) → IsPlain e → is_own e ≡ false
 plain_unowned (Own o g) p = absurd p
-plain_unowned (Made u) p = refl
-plain_unowned (Begin u k) p = refl
-plain_unowned (Claim u) p = refl
-plain_unowned (Ran u b) p = refl
-plain_unowned (Free u X) p = refl
-plain_unowned (Fill u v X) p = refl
-plain_unowned (Pass u X) p = refl
-plain_unowned (End u r) p = refl
-plain_unowned (DropBegin u) p = refl
-plain_unowned (DropEnd u) p = refl
-plain_unowned (Look v) p = refl
+plain_unowned _ p = refl
 
 -- an entry stands in the list
 abbrev pub StandsIn : Entry → List Entry → Type 0
@@ -88,8 +78,7 @@ stays_filled h (d ∷ late) before t v X u o e =
 -- what a set cell is set to
 pub set_to : (c : Cell) → is_set c ≡ true → (v : ℕ) × (c ≡ SetTo v)
 set_to (SetTo v) e = (v, refl)
-set_to Empty e = absurd (false≢true e)
-set_to (Held t) e = absurd (false≢true e)
+set_to _ e = absurd (false≢true e)
 
 module _ (limit n put : ℕ) (slot : Bool) (pages : List Page) (log : List Entry) (some : 0 < limit) (book : IsBook limit n put slot pages log) where
   -- the ready flag says whether the cell of the log is set
