@@ -1,5 +1,5 @@
 -- The release is its line of the table, and then the task counts out.
-use Rattle.std.proofs.Common.{◌≡◌, subst}
+use Rattle.std.proofs.Common.{subst}
 use Rattle.once_queue.specs.declared.waiters.Answer.TheVariants.{Released}
 use Rattle.once_queue.specs.declared.waiters.Op.TheVariants.{Release}
 use Rattle.once_core.specs.Steps.{is_value}
