@@ -29,7 +29,7 @@ use std::alloc::AllocGlobal;
 use std::marker::Brand;
 use std::sync::Wait;
 
-/// A holder that did not claim in this poll's first steps, by the queue where it has it.
+/// A holder that has not claimed by the first steps of this poll: it held before, or claimed under the lock.
 #[inline(never)]
 pub(super) fn hold<
     T,
