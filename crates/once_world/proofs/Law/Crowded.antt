@@ -14,13 +14,9 @@ use Rattle.once_world.proofs.Law.Rights.{holding_holds}
 -- by what the task was at its Begin
 memory_by : (K : Kind) (limit t : ℕ) (h : List Entry) (a : Option Answer) (s : Status) → (last_call K t h).began ≡ s
     → MayEnd K limit t Memory a h → Since t (OtherActs K t) h
-memory_by K limit t h None Fresh b m = let P : Status → Type 0 = λ y. MemoryFrom K y t h in let k : MemoryFrom K Fresh t h = subst P b m.1 in k.1
-memory_by K limit t h None Waiting b m = let P : Status → Type 0 = λ y. MemoryFrom K y t h in let k : MemoryFrom K Waiting t h = subst P b m.1 in since_weaken K t h k
-memory_by K limit t h None Unmade b m = let P : Status → Type 0 = λ y. MemoryFrom K y t h in let k : MemoryFrom K Unmade t h = subst P b m.1 in absurd k
-memory_by K limit t h None Polling b m = let P : Status → Type 0 = λ y. MemoryFrom K y t h in let k : MemoryFrom K Polling t h = subst P b m.1 in absurd k
-memory_by K limit t h None Dropping b m = let P : Status → Type 0 = λ y. MemoryFrom K y t h in let k : MemoryFrom K Dropping t h = subst P b m.1 in absurd k
-memory_by K limit t h None Holding b m = let P : Status → Type 0 = λ y. MemoryFrom K y t h in let k : MemoryFrom K Holding t h = subst P b m.1 in absurd k
-memory_by K limit t h None Gone b m = let P : Status → Type 0 = λ y. MemoryFrom K y t h in let k : MemoryFrom K Gone t h = subst P b m.1 in absurd k
+memory_by K limit t h None Fresh b m = let k : MemoryFrom K Fresh t h = subst (λ y. MemoryFrom K y t h) b m.1 in k.1
+memory_by K limit t h None Waiting b m = since_weaken K t h (subst (λ y. MemoryFrom K y t h) b m.1)
+memory_by K limit t h None s b m = absurd (subst (λ y. MemoryFrom K y t h) b m.1)
 memory_by K limit t h (Some a) s b m = absurd m
 
 -- want of memory is answered only where another task held or was in a call since the poll began

@@ -69,18 +69,14 @@ owned_due K limit w o g h r a d =
 -- where the cell is set, nobody is owed a waker
 nobody_owed : (K : Kind) (limit w : ℕ) (h : List Entry) → IsRun K limit h → is_set (cell K h) ≡ true → IsDue K w h → ⊥
 nobody_owed K limit w [] r n d = grind (arith, d.1)
-nobody_owed K limit w (Made t ∷ h) r n d = nobody_owed K limit w h r.1 n (due_kept K (Made t) h w refl (λ u is. grind arith) d)
-nobody_owed K limit w (Begin t k ∷ h) r n d = nobody_owed K limit w h r.1 n (due_kept K (Begin t k) h w refl (λ u is. grind arith) d)
 nobody_owed K limit w (Claim t ∷ h) r n d = false≢true n
 nobody_owed K limit w (Ran t a ∷ h) r n d = false≢true (ap is_set (sym r.0.0) ∙ n)
 nobody_owed K limit w (Free t X ∷ h) r n d = false≢true n
 nobody_owed K limit w (Fill t v X ∷ h) r n d = release_due K (Fill t v X) h X w refl r.0.3 (λ u is. polls_not_waits K t u h is r.0.1) d
 nobody_owed K limit w (Pass t X ∷ h) r n d = false≢true (ap is_set (sym r.0.0) ∙ n)
 nobody_owed K limit w (End t r' ∷ h) r n d = nobody_owed K limit w h r.1 n (due_kept K (End t r') h w refl (ended_awake K t r' h n) d)
-nobody_owed K limit w (DropBegin t ∷ h) r n d = nobody_owed K limit w h r.1 n (due_kept K (DropBegin t) h w refl (λ u is. grind arith) d)
-nobody_owed K limit w (DropEnd t ∷ h) r n d = nobody_owed K limit w h r.1 n (due_kept K (DropEnd t) h w refl (λ u is. grind arith) d)
 nobody_owed K limit w (Own o g ∷ h) r n d = owned_due K limit w o g h r.1 r.0.0 d
-nobody_owed K limit w (Look v ∷ h) r n d = nobody_owed K limit w h r.1 n (due_kept K (Look v) h w refl (λ u is. grind arith) d)
+nobody_owed K limit w (e ∷ h) r n d = nobody_owed K limit w h r.1 n (due_kept K e h w refl (λ u is. grind arith) d)
 
 -- at every moment at which the cell is set, nobody who waits is forgotten
 pub nobody_forgotten : (kind : Kind) (limit : ℕ) (h : List Entry) → IsRun kind limit h → AtEvery (NobodyForgotten kind) h

@@ -1,5 +1,7 @@
 -- The moments that no atomic operation marks: a task is made, a call begins, the init answers, the value is put, the copy of a waker is refused; and a look without a call.
-use Rattle.std.proofs.Common.{◌≡◌, ◌<◌, ℕ, suc, Bool, true, false, cond, List, [], ◌∷◌, ◌++◌, length, Option, Some, None, reverse, slice_get, slice_set, refl, sym, ap, ◌∙◌, subst}
+use Rattle.std.proofs.Common.{◌≡◌, ◌<◌, ℕ, suc, Bool, true, false, cond, List, [], ◌∷◌, ◌++◌, length, Option, Some, None, reverse, slice_get, slice_set, refl, sym, ap, ◌∙◌, subst, arith}
+use Rattle.std.proofs.lemmas.Bool.Decides.{nat_tests}
+use Rattle.std.proofs.lemmas.Grind.{common_steps}
 use Rattle.std.proofs.lemmas.List.{append-nil}
 use Rattle.std.proofs.lemmas.Bool.{false≢true}
 use Rattle.once_queue.specs.Word.{Flags, flags_of}
@@ -25,20 +27,11 @@ resting_unwritten Finished e = refl
 
 -- nor does it by beginning a poll
 poll_unwritten : (s : Step ℕ ℕ) → is_resting s ≡ true → has_written (step_of_poll s) ≡ false
-poll_unwritten (Resting RestStart) e = refl
-poll_unwritten (Resting (RestWait q k)) e = refl
-poll_unwritten (Resting (RestRun by)) e = refl
-poll_unwritten (UnderWay p) e = absurd (false≢true e)
-poll_unwritten Finished e = refl
+poll_unwritten s e = grind (arith, nat_tests, common_steps)
 
 -- nor by beginning a drop
 drop_unwritten : (s : Step ℕ ℕ) → is_resting s ≡ true → has_written (step_of_drop s) ≡ false
-drop_unwritten (Resting RestStart) e = refl
-drop_unwritten (Resting (RestWait q k)) e = leave_unwritten q k EndDropped
-drop_unwritten (Resting (RestRun None)) e = refl
-drop_unwritten (Resting (RestRun (Some q))) e = refl
-drop_unwritten (UnderWay p) e = absurd (false≢true e)
-drop_unwritten Finished e = refl
+drop_unwritten s e = grind (arith, nat_tests, common_steps)
 
 module _ (limit n put : ℕ) (slot : Bool) (pages : List Page) (log : List Entry) (some : 0 < limit) (book : IsBook limit n put slot pages log) where
   -- Made: a task is made, with the next number

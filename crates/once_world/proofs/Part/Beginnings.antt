@@ -1,5 +1,7 @@
 -- What a making, a poll and a drop add to the record, by the step of their task.
-use Rattle.std.proofs.Common.{◌≡◌, ℕ, Bool, true, false, cond, ◌==◌, List, [], ◌∷◌, Some, None, refl, ap}
+use Rattle.std.proofs.Common.{◌≡◌, ℕ, Bool, true, false, cond, ◌==◌, List, [], ◌∷◌, Some, None, refl, ap, arith}
+use Rattle.std.proofs.lemmas.Bool.Decides.{nat_tests}
+use Rattle.std.proofs.lemmas.Grind.{common_steps}
 use Rattle.std.proofs.lemmas.Bool.{false≢true}
 use Rattle.once_world.specs.Record.{Begin, Entry, Kind}
 use Rattle.once_world.specs.Tasks.{Dropping, Fresh, Gone, Holding, Polling, Status, Unmade, Waiting, is_under_way, status}
@@ -28,20 +30,10 @@ drop_memory n v (UnderWay p) = refl
 
 -- a call that just began is refused nothing
 pub dropped_granted : (s : Step ℕ ℕ) → is_resting s ≡ true → is_refused (step_of_drop s) ≡ false
-dropped_granted (Resting RestStart) e = refl
-dropped_granted (Resting (RestWait q None)) e = refl
-dropped_granted (Resting (RestWait q (Some n))) e = refl
-dropped_granted (Resting (RestRun None)) e = refl
-dropped_granted (Resting (RestRun (Some q))) e = refl
-dropped_granted (UnderWay p) e = absurd (false≢true e)
-dropped_granted Finished e = refl
+dropped_granted s e = grind (arith, nat_tests, common_steps)
 
 pub begun_granted : (s : Step ℕ ℕ) → is_resting s ≡ true → is_refused (step_of_poll s) ≡ false
-begun_granted (Resting RestStart) e = refl
-begun_granted (Resting (RestWait q n)) e = refl
-begun_granted (Resting (RestRun by)) e = refl
-begun_granted (UnderWay p) e = absurd (false≢true e)
-begun_granted Finished e = refl
+begun_granted s e = grind (arith, nat_tests, common_steps)
 
 -- what a poll and a drop add, by the place at rest
 rest_begins : (K : Kind) (limit t k : ℕ) (c : SharedState) (h : List Entry) (r : Rest ℕ) → AtRest K limit t c h r

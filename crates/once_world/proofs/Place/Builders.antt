@@ -1,5 +1,7 @@
 -- The kinds of step: none recorded, an end, a wait, a claim.
 use Rattle.std.proofs.Common.{◌≡◌, ◌≢◌, ◌≤◌, ◌+◌, ℕ, Bool, true, false, cond, ◌==◌, ◌⊎◌, inl, inr, List, [], ◌∷◌, ◌++◌, Option, Some, None, refl, sym, ap, ◌∙◌, arith}
+use Rattle.std.proofs.lemmas.Bool.Decides.{nat_tests}
+use Rattle.std.proofs.lemmas.Grind.{common_steps}
 use Rattle.std.proofs.lemmas.Bool.{false≢true, ne_eqb, eqb-true}
 use Rattle.once_queue.specs.Numbers.{bit}
 use Rattle.once_world.specs.Record.{Answer, Claim, DropEnd, End, Entry, Error, Full, Kind, Memory, Pending, RanError, RanValue, Reply, Value, handed_by, is_of, is_own, is_replacing, made_in}
@@ -108,11 +110,7 @@ is_last t v k EndPending n = absurd (n refl)
 
 -- a call that owes an ending does not end Pending
 pub owes_lasts : (K : Kind) (t : ℕ) (h : List Entry) (e : Ending) → Owes K t h e → e ≢ EndPending
-owes_lasts K t h EndValue o n = let z : ⊥ = cc in z
-owes_lasts K t h EndError o n = let z : ⊥ = cc in z
-owes_lasts K t h EndMemory o n = let z : ⊥ = cc in z
-owes_lasts K t h EndDropped o n = let z : ⊥ = cc in z
-owes_lasts K t h _ o n = o
+owes_lasts K t h e o n = grind (arith, nat_tests, common_steps)
 
 -- what is shared fits the cell alone
 pub shared_at : (K : Kind) (limit : ℕ) (c : SharedState) (h h' : List Entry) → cell K h' ≡ cell K h
@@ -164,8 +162,7 @@ waits_at : (K : Kind) (t u : ℕ) (h : List Entry) → cell K h ≡ Held u → t
 waits_at K t u h c n f = let d = ne_eqb u t (λ e. n (sym e)) in record { status_is = rw (eqb_self t, c, d) refl; holds_is = f }
 
 opened_by : (b : Bool) → cond b true false ≡ b
-opened_by true = refl
-opened_by false = refl
+opened_by b = grind arith
 
 -- such an end opens the waker of the poll
 opens_now : (K : Kind) (t u w v : ℕ) (h : List Entry) → cell K h ≡ Held u → t ≢ u → (last_call K t h).waker ≡ w → opens K v (End t Pending) h ≡ (w == v)

@@ -38,13 +38,8 @@ since_weaken K t (e ∷ h) (inr r) = inr (begin_by (OtherHolds K t) (OtherActs K
 memory_from : (K : Kind) (t : ℕ) (h : List Entry) (s : Status)
     → ((s ≡ Fresh) × ((last_call K t h).set_then ≡ false)) ⊎ (s ≡ Waiting) → MetHolder K t h → MemoryFrom K s t h
 memory_from K t h Fresh (inl f) m = (f.1, since_weaken K t h m)
-memory_from K t h Waiting f m = m
 memory_from K t h Fresh (inr f) m = grind arith
-memory_from K t h Unmade f m = grind arith
-memory_from K t h Polling f m = grind arith
-memory_from K t h Dropping f m = grind arith
-memory_from K t h Holding f m = grind arith
-memory_from K t h Gone f m = grind arith
+memory_from K t h s f m = grind arith
 
 -- a poll that met a holder may be refused memory
 any_memory : (K : Kind) (t : ℕ) (h : List Entry) → AnyIn K t h → MetHolder K t h → MemoryFrom K (last_call K t h).began t h
