@@ -6,8 +6,8 @@ use Rattle.once_world.specs.Cell.{cell}
 use Rattle.once_world.specs.Tasks.{Dropping, Fresh, Waiting, last_call, status}
 use Rattle.once_world.specs.Called.{SomebodyCalled}
 use Rattle.once_world.specs.Run.{IsLegal, IsRun, MayBegin}
-use Rattle.once_world.specs.Machine.{AtFast, AtLeave, AtRelease, EndDropped, Finished, SharedState, Place, Rest, RestRun, RestStart, RestWait, Resting, Step}
-use Rattle.once_world.specs.Machine.{UnderWay, step_of_poll, place_of_poll, drop_entries, step_of_drop, step_of_drop_at, is_resting}
+use Rattle.once_world.specs.Machine.{AtLeave, EndDropped, Finished, SharedState, Place, Rest, RestRun, RestStart, RestWait, Resting, Step}
+use Rattle.once_world.specs.Machine.{UnderWay, step_of_poll, place_of_poll, release_place, drop_entries, step_of_drop, step_of_drop_at, is_resting}
 use Rattle.once_queue.proofs.Listing.Members.{eqb_self}
 use Rattle.once_world.proofs.History.Others.{holds, keeps_both, legal_keeps}
 use Rattle.once_world.proofs.History.Waiters.{QueueFits, quiet}
@@ -17,6 +17,7 @@ use Rattle.once_world.proofs.Invariant.Fits.{SharedFits}
 use Rattle.once_world.proofs.Invariant.Turns.{lists_stay}
 use Rattle.once_world.proofs.Invariant.Moves.{Moves}
 use Rattle.once_world.proofs.Place.Builders.{shared_at, of_other, same_shared}
+use Rattle.once_world.proofs.Place.Holds.{back_counts, gives_back}
 use Rattle.once_world.proofs.Input.Drops.{drop_moment, now}
 
 module _ (K : Kind) (limit t w : ℕ) (k : Answer) (c : SharedState) (h : List Entry) (run : IsRun K limit h) (shared : SharedFits K limit c h) (queue : QueueFits K c.listings h) where
@@ -142,14 +143,15 @@ drops_at : (K : Kind) (limit t w : ℕ) (k : Answer) (c : SharedState) (h : List
     → Moves K limit t (Resting r) (record { waker = w; kept = k; step = step_of_drop_at r }) c c h (drop_entries t (step_of_drop_at r) ++ h)
 drops_at K limit t w k c h RestStart run shared queue wk kk a = drop_fresh K limit t w k c h run shared queue a.0 wk (kk ∙ a.1)
 drops_at K limit t w k c h (RestWait q None) run shared queue wk kk a = absurd a.0.2
-drops_at K limit t w k c h (RestWait q (Some n)) run shared queue wk kk a =
+drops_at K limit t w k c h (RestWait q (Some n)) run shared queue wk kk a = 
     drop_moves K limit t w k c h run shared queue (RestWait q (Some n)) (AtLeave q n EndDropped)
     (rw a.0.0.status_is tt) wk (kk ∙ a.1)
     ((dropping K t h false a.0.0.holds_is, rw (eqb_self t) refl, rw (eqb_self t) refl), a.0.1, rw (eqb_self t) a.0.0.status_is, λ r. rw (eqb_self t) (a.0.2.1 r)) refl refl (λ _. refl) refl
-drops_at K limit t w k c h (RestRun None) run shared queue wk kk a = drop_moves K limit t w k c h run shared queue (RestRun None) (AtFast EndDropped) (rw a.0.0.status_is tt) wk (kk ∙ a.1)
-    ((dropping K t h true a.0.0.holds_is, rw (eqb_self t) refl), a.0.1.0, a.0.1.1) refl refl (λ e. absurd (false≢true e)) refl
-drops_at K limit t w k c h (RestRun (Some q)) run shared queue wk kk a = drop_moves K limit t w k c h run shared queue (RestRun (Some q)) (AtRelease q EndDropped) (rw a.0.0.status_is tt) wk (kk ∙ a.1)
-    ((dropping K t h true a.0.0.holds_is, rw (eqb_self t) refl), inr a.0.1.0, a.0.1.1) refl refl (λ e. absurd (false≢true e)) refl
+drops_at K limit t w k c h (RestRun by) run shared queue wk kk a = 
+    let n = back_counts by EndDropped in
+    let own = gives_back K limit t c (DropBegin t ∷ h) by EndDropped (dropping K t h true a.0.0.holds_is, rw (eqb_self t) refl) a.0.1 in
+    drop_moves K limit t w k c h run shared queue (RestRun by) (release_place by EndDropped) (rw a.0.0.status_is tt) wk (kk ∙ a.1)
+    own n.0 n.1 (λ e. absurd (false≢true (sym n.2 ∙ e))) n.3
 
 -- a drop begins from the step at rest
 pub drop_begins : (K : Kind) (limit t w : ℕ) (k : Answer) (c : SharedState) (h : List Entry) (s : Step ℕ ℕ)

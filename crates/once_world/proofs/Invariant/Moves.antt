@@ -1,5 +1,7 @@
 -- What the step of one task owes, and that it then keeps all that holds.
 use Rattle.std.proofs.Common.{◌≡◌, ◌≢◌, ◌<◌, ◌+◌, ℕ, Bool, true, false, ◌⊎◌, inl, inr, ⊎_elim, List, Option, Some, None, refl, sym, ap, ◌∙◌, subst, arith}
+use Rattle.std.proofs.lemmas.Bool.Decides.{nat_tests}
+use Rattle.std.proofs.lemmas.Grind.{common_steps}
 use Rattle.std.specs.Prelude.{not}
 use Rattle.std.proofs.lemmas.Bool.{false≢true, cases_eq, cases_Bool, ne_eqb, false_from_ne_true}
 use Rattle.once_queue.specs.Numbers.{bit, how_many, member}
@@ -83,11 +85,7 @@ counted c c' n n' b b' p q e g k x y =
 
 -- by the place
 inside_counted_at : (p : Place ℕ ℕ) → is_inside_at p ≡ true → is_counted_at p ≡ true
-inside_counted_at (AtWaitLoad q k) e = refl
-inside_counted_at (AtLook q k) e = refl
-inside_counted_at (AtList q k w) e = refl
-inside_counted_at (AtLeave q n x) e = refl
-inside_counted_at _ e = absurd (false≢true e)
+inside_counted_at p e = grind (arith, nat_tests, common_steps)
 
 -- a waiter stands in the count
 pub inside_counted : (s : Step ℕ ℕ) → is_inside s ≡ true → is_counted s ≡ true

@@ -54,11 +54,8 @@ pending_awake t (Held u) n w = false≢true n
 -- no other end leaves a task waiting
 ended_awake : (K : Kind) (t : ℕ) (r : Reply) (h : List Entry) → is_set (cell K h) ≡ true → (u : ℕ)
     → is_of u (End t r) ≡ true → status_after (End t r) (cell K h) (status K u h) ≢ Waiting
-ended_awake K t (Value v) h n u is w = grind arith
-ended_awake K t (Error v) h n u is w = grind arith
-ended_awake K t Memory h n u is w = grind arith
-ended_awake K t Full h n u is w = grind arith
 ended_awake K t Pending h n u is w = pending_awake t (cell K h) n w
+ended_awake K t r h n u is w = grind arith
 
 -- where all are gone nobody waits
 owned_due : (K : Kind) (limit w : ℕ) (o : OwnerCall) (g : Got) (h : List Entry) → IsRun K limit h → all_gone K h ≡ true → IsDue K w (Own o g ∷ h) → ⊥

@@ -1,5 +1,7 @@
 -- The places of a holder: it polls the init, and puts the value.
 use Rattle.std.proofs.Common.{◌≡◌, ◌≢◌, ℕ, suc, Bool, true, false, cond, ◌==◌, inl, inr, List, [], ◌∷◌, Option, Some, None, refl, sym, ap, ◌∙◌, arith}
+use Rattle.std.proofs.lemmas.Bool.Decides.{nat_tests}
+use Rattle.std.proofs.lemmas.Grind.{common_steps}
 use Rattle.std.proofs.lemmas.Bool.{false≢true}
 use Rattle.once_world.specs.Record.{Answer, End, Entry, Kind, Lazy, LazyWith, Once, OnceWith, Pending, Ran, RanError, RanPending, RanValue, is_lazy}
 use Rattle.once_world.specs.Cell.{Cell, Held, IsNext, answers_left, cell, next_answer}
@@ -23,13 +25,11 @@ use Rattle.once_world.proofs.Place.Outcomes.{goes_to}
 
 -- a test between false and false
 cond_same : (b : Bool) → cond b false false ≡ false
-cond_same true = refl
-cond_same false = refl
+cond_same b = grind arith
 
 -- what a release owes goes by the value alone
 releasing_same : (K : Kind) (t : ℕ) (h : List Entry) (c c' : SharedState) (e : Ending) → c'.value ≡ c.value → Releasing K t h c e → Releasing K t h c' e
-releasing_same K t h c c' EndValue s r = (r.0, r.1, s ∙ r.2)
-releasing_same K t h c c' _ s r = r
+releasing_same K t h c c' e s r = grind (arith, nat_tests, common_steps)
 
 -- what the step of a holder leaves for the others
 pub holder_shared : (K : Kind) (limit t : ℕ) (c c' : SharedState) (h : List Entry) → SharedFits K limit c h
@@ -67,6 +67,21 @@ by_same : (limit : ℕ) (c c' : SharedState) (by : Option ℕ) → c'.quick ≡ 
     → c'.count ≡ c.count → c'.door ≡ c.door → HoldsBy limit c by → HoldsBy limit c' by
 by_same limit c c' None q e n d a = (record { quick_is = q ∙ a.0.quick_is; head_is = e ∙ a.0.head_is }, rw n a.1)
 by_same limit c c' (Some x) q e n d a = (record { quick_is = q ∙ a.0.quick_is; head_is = e ∙ a.0.head_is }, d ∙ a.1)
+
+-- where a holder gives the right back, by how it holds
+pub gives_back : (K : Kind) (limit t : ℕ) (c : SharedState) (h : List Entry) (by : Option ℕ) (e : Ending) → Releasing K t h c e
+    → HoldsBy limit c by → AtPlace K limit t c h (release_place by e)
+gives_back K limit t c h None e r b = (r, b.0, b.1)
+gives_back K limit t c h (Some q) e r b = (r, inr b.0, b.1)
+
+-- it stays counted as it is, does not take the queue, does not wait, and has no ticket
+pub back_counts : (by : Option ℕ) (e : Ending) → (is_counted_at (AtRun by) ≡ is_counted_at (release_place by e))
+    × (is_take_at (release_place by e) ≡ false) × (is_inside_at (release_place by e) ≡ false) × (ticket_at (release_place by e) ≡ None)
+back_counts by e = grind (arith, common_steps)
+
+-- so it does where it puts the value
+put_counts : (by : Option ℕ) → is_counted_at (AtRun by) ≡ is_counted_at (AtPut by)
+put_counts by = grind (arith, common_steps)
 
 module _ (K : Kind) (limit t w : ℕ) (k : Answer) (c : SharedState) (h : List Entry) (run : IsRun K limit h)
     (shared : SharedFits K limit c h) (queue : QueueFits K c.listings h) (wk : (last_call K t h).waker ≡ w)
@@ -136,13 +151,12 @@ module _ (K : Kind) (limit t w : ℕ) (k : Answer) (c : SharedState) (h : List E
   pub run_goes : (a : Answer) (by : Option ℕ) → IsNext K a (answers_left K h) → AtPlace K limit t c h (AtRun by)
       → Goes K limit t w (AtRun by) c h (run_step a (run_shared c) t k by)
   run_goes RanPending by x a = pending_so by x a.0 (by_same limit c (run_shared c) by refl refl refl refl a.1)
-  run_goes (RanValue v) None x a = run_value None v x a.0 (by_same limit c (run_shared c) None refl refl refl refl a.1) refl
-  run_goes (RanValue v) (Some q) x a = run_value (Some q) v x a.0 (by_same limit c (run_shared c) (Some q) refl refl refl refl a.1) refl
-  run_goes (RanError e) None x a = let b = by_same limit c (run_shared c) None refl refl refl refl a.1 in ran_so None
-      (RanError e) (AtFast EndError) x a.0 ((e, ran_in K t h (RanError e) a.0), b.0, b.1) refl refl refl refl
-  run_goes (RanError e) (Some q) x a = let b = by_same limit c (run_shared c)
-      (Some q) refl refl refl refl a.1 in ran_so (Some q) (RanError e) (AtRelease q EndError) x a.0
-      ((e, ran_in K t h (RanError e) a.0), inr b.0, b.1) refl refl refl refl
+  run_goes (RanValue v) by x a = run_value by v x a.0 (by_same limit c (run_shared c) by refl refl refl refl a.1) (put_counts by)
+  run_goes (RanError e) by x a = 
+      let b = by_same limit c (run_shared c) by refl refl refl refl a.1 in
+      let n = back_counts by EndError in
+      let own = gives_back K limit t (run_shared c) (Ran t (RanError e) ∷ h) by EndError (e, ran_in K t h (RanError e) a.0) b in
+      ran_so by (RanError e) (release_place by EndError) x a.0 own n.0 n.1 n.2 n.3
 
   -- the value that is kept is put
   put_so : (by : Option ℕ) (p' : Place ℕ ℕ) (c' : SharedState) → holds t (cell K h) ≡ true → SharedFits K limit c' h
@@ -163,18 +177,13 @@ module _ (K : Kind) (limit t w : ℕ) (k : Answer) (c : SharedState) (h : List E
   -- a step that puts the value
   pub put_goes : (by : Option ℕ) → AtPlace K limit t c h (AtPut by)
       → Goes K limit t w (AtPut by) c h (goes_to (record c { value = put_value k c.value }) k (release_place by EndValue))
-  put_goes None a =
+  put_goes by a = 
       let c' : SharedState = record c { value = put_value k c.value } in
-      let b = by_same limit c c' None refl refl refl refl a.2 in
-      put_so None (AtFast EndValue) c' a.1.holds_is (value_fits K limit t c h (put_value k c.value) shared
-      (held_by t (cell K h) a.1.holds_is)) refl refl refl
-      ((a.0, a.1, put_is a.0 a.1.ran_is), b.0, b.1) refl refl refl refl
-  put_goes (Some q) a =
-      let c' : SharedState = record c { value = put_value k c.value } in
-      let b = by_same limit c c' (Some q) refl refl refl refl a.2 in
-      put_so (Some q) (AtRelease q EndValue) c' a.1.holds_is
+      let n = back_counts by EndValue in
+      let own = gives_back K limit t c' h by EndValue (a.0, a.1, put_is a.0 a.1.ran_is) (by_same limit c c' by refl refl refl refl a.2) in
+      put_so by (release_place by EndValue) c' a.1.holds_is
       (value_fits K limit t c h (put_value k c.value) shared (held_by t (cell K h) a.1.holds_is)) refl refl refl
-      ((a.0, a.1, put_is a.0 a.1.ran_is), inr b.0, b.1) refl refl refl refl
+      own (sym (put_counts by) ∙ n.0) n.1 n.2 n.3
 
   -- a step that counts the holder in
   pub add_goes : (e : Ending) → AtPlace K limit t c h (AtAddOne e)

@@ -1,5 +1,7 @@
 -- The place at which a waiter leaves: its listing is taken out, and it passes its turn on where it had it.
 use Rattle.std.proofs.Common.{◌≡◌, ◌≢◌, ◌≤◌, ◌+◌, ℕ, Bool, true, false, ⊎_elim, inr, List, [], ◌∷◌, Option, Some, None, cond, refl, sym, ap, ◌∙◌, subst, arith, ◌||◌}
+use Rattle.std.proofs.lemmas.Bool.Decides.{nat_tests}
+use Rattle.std.proofs.lemmas.Grind.{common_steps}
 use Rattle.std.specs.Option.{option_to_list}
 use Rattle.std.proofs.lemmas.Bool.{false≢true, cases_eq}
 use Rattle.once_queue.specs.Numbers.{times_in}
@@ -32,32 +34,16 @@ use Rattle.once_world.proofs.Place.Outcomes.{goes_to}
 
 -- who leaves owes an end
 leaves_owes : (K : Kind) (t : ℕ) (h : List Entry) (e : Ending) → MayLeave K t h e → Owes K t h e
-leaves_owes K t h EndMemory a = (refused_in K t h a.0, a.1)
-leaves_owes K t h EndDropped a = a.0
-leaves_owes K t h _ a = absurd a
+leaves_owes K t h e a = grind (arith, nat_tests, common_steps)
 
 -- it may pass its turn on, and did not yet
 leaves_may : (K : Kind) (t : ℕ) (h : List Entry) (e : Ending) → MayLeave K t h e
     → MayPass (status K t h) (last_call K t h).claimed (last_call K t h).ran × ((last_call K t h).passed ≡ false)
-leaves_may K t h EndMemory a = (rw (a.0.poll.status_is, a.0.unclaimed, a.0.poll.ran_is) tt, a.0.poll.unpassed)
-leaves_may K t h EndDropped a = (rw a.0.status_is tt, a.2)
-leaves_may K t h _ a = absurd a
+leaves_may K t h e a = grind (arith, nat_tests, common_steps)
 
 -- and owes the end after it passed
 passed_owes : (K : Kind) (t : ℕ) (h : List Entry) (X : List ℕ) (e : Ending) → (last_call K t h).began ≡ Waiting → MayLeave K t h e → Owes K t (Pass t X ∷ h) e
-passed_owes K t h X EndMemory b a = (
-  record {
-    status_is = rw (eqb_self t) a.0.poll.status_is;
-    ran_is = rw
-        (eqb_self t) a.0.poll.ran_is;
-    holds_is = a.0.poll.holds_is;
-    unclaimed = rw (eqb_self t) a.0.unclaimed;
-  },
-  rw
-      (eqb_self t, b) (inr (rw b at a.1)),
-)
-passed_owes K t h X EndDropped b a = record { status_is = rw (eqb_self t) a.0.status_is; holds_is = a.0.holds_is }
-passed_owes K t h X _ b a = absurd a
+passed_owes K t h X e b a = grind (arith, nat_tests, common_steps)
 
 -- in an empty cell a called listing passes its turn on
 passes_in : (c : SharedState) (n : ℕ) → c.ready ≡ false → (c.quick || c.head) ≡ false → find_listing n c.listings ≡ Some None → is_passing c n ≡ true

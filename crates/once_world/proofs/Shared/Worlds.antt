@@ -1,5 +1,7 @@
 -- Each input but an owner's call keeps what is known of a world in which no owner called.
 use Rattle.std.proofs.Common.{◌≡◌, ℕ, Bool, true, false, cond, ◌==◌, inl, List, [], ◌∷◌, ◌++◌, Option, Some, None, refl, sym, subst, arith}
+use Rattle.std.proofs.lemmas.Bool.Decides.{nat_tests}
+use Rattle.std.proofs.lemmas.Grind.{common_steps}
 use Rattle.std.proofs.lemmas.Bool.{false≢true}
 use Rattle.once_queue.specs.declared.waiters.Listing.{Listing}
 use Rattle.once_queue.specs.Listings.{find_listing}
@@ -47,11 +49,7 @@ pub record Unowned (w : World) : Type 0 where
 
 -- who has a ticket is a waiter, by the place
 ticket_inside_at : (p : Place ℕ ℕ) (n : ℕ) → ticket_at p ≡ Some n → is_inside_at p ≡ true
-ticket_inside_at (AtWaitLoad q k) n e = refl
-ticket_inside_at (AtLook q k) n e = refl
-ticket_inside_at (AtList q k v) n e = refl
-ticket_inside_at (AtLeave q k x) n e = refl
-ticket_inside_at _ n e = absurd (none_not_some n e)
+ticket_inside_at p n e = grind (arith, nat_tests, common_steps)
 
 -- by the step
 ticket_inside : (s : Step ℕ ℕ) (n : ℕ) → ticket_of s ≡ Some n → is_inside s ≡ true
