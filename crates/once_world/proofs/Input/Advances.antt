@@ -8,8 +8,8 @@ use Rattle.once_world.specs.Cell.{answers_left}
 use Rattle.once_world.specs.Tasks.{last_call}
 use Rattle.once_queue.specs.Listings.{is_waker, kept_ticket, own_listing}
 use Rattle.once_world.specs.Run.{IsRun}
-use Rattle.once_world.specs.Machine.{AtAddOne, AtCountIn, AtCountOut, AtDoorAgain, AtDoorGet, AtDoorPut, AtDoorTake, AtFast, AtLeave, AtList, AtLook, AtPut}
-use Rattle.once_world.specs.Machine.{AtRelease, AtRun, AtStart, AtTryQuick, AtWaitLoad, Finished, SharedState, Place, Resting, Step, UnderWay, out_shared}
+use Rattle.once_world.specs.Machine.{AtAddOne, AtCountIn, AtCountOut, AtDoorAgain, AtDoorGet, AtDoorPut, AtDoorTake, AtFast, AtLeave, AtList, AtLook}
+use Rattle.once_world.specs.Machine.{AtPut, AtRelease, AtRun, AtStart, AtTryQuick, AtWaitLoad, SharedState, Place, Step, UnderWay, out_shared}
 use Rattle.once_world.specs.Machine.{init_answer, in_call, is_at_door, place_step, step_at, word_of}
 use Rattle.once_world.proofs.History.Waiters.{QueueFits}
 use Rattle.once_world.proofs.Invariant.Facts.{AtPlace, AtStep, is_counted, is_counted_at, is_take, is_take_at, kept_of, ticket_at, ticket_of}

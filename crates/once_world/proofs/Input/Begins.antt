@@ -143,11 +143,11 @@ drops_at : (K : Kind) (limit t w : ℕ) (k : Answer) (c : SharedState) (h : List
     → Moves K limit t (Resting r) (record { waker = w; kept = k; step = step_of_drop_at r }) c c h (drop_entries t (step_of_drop_at r) ++ h)
 drops_at K limit t w k c h RestStart run shared queue wk kk a = drop_fresh K limit t w k c h run shared queue a.0 wk (kk ∙ a.1)
 drops_at K limit t w k c h (RestWait q None) run shared queue wk kk a = absurd a.0.2
-drops_at K limit t w k c h (RestWait q (Some n)) run shared queue wk kk a = 
+drops_at K limit t w k c h (RestWait q (Some n)) run shared queue wk kk a =
     drop_moves K limit t w k c h run shared queue (RestWait q (Some n)) (AtLeave q n EndDropped)
     (rw a.0.0.status_is tt) wk (kk ∙ a.1)
     ((dropping K t h false a.0.0.holds_is, rw (eqb_self t) refl, rw (eqb_self t) refl), a.0.1, rw (eqb_self t) a.0.0.status_is, λ r. rw (eqb_self t) (a.0.2.1 r)) refl refl (λ _. refl) refl
-drops_at K limit t w k c h (RestRun by) run shared queue wk kk a = 
+drops_at K limit t w k c h (RestRun by) run shared queue wk kk a =
     let n = back_counts by EndDropped in
     let own = gives_back K limit t c (DropBegin t ∷ h) by EndDropped (dropping K t h true a.0.0.holds_is, rw (eqb_self t) refl) a.0.1 in
     drop_moves K limit t w k c h run shared queue (RestRun by) (release_place by EndDropped) (rw a.0.0.status_is tt) wk (kk ∙ a.1)

@@ -7,8 +7,8 @@ use Rattle.std.proofs.lemmas.Bool.Decides.{nat_tests}
 use Rattle.once_queue.specs.Numbers.{member}
 use Rattle.once_world.specs.Record.{Entry, Kind, made_in}
 use Rattle.once_world.specs.Cell.{cell}
-use Rattle.once_world.specs.Tasks.{Dropping, Fresh, Gone, Holding, Polling, Status, Unmade, Waiting, all_gone, are_gone, is_gone, is_under_way, status}
-use Rattle.once_world.specs.Machine.{Finished, SharedState, Rest, RestRun, RestStart, RestWait, Resting, Step, Task, UnderWay, World, is_finished}
+use Rattle.once_world.specs.Tasks.{Gone, Status, Unmade, all_gone, are_gone, is_gone, is_under_way, status}
+use Rattle.once_world.specs.Machine.{Finished, SharedState, Rest, RestStart, Resting, Step, Task, UnderWay, World, is_finished}
 use Rattle.once_queue.proofs.Listing.Members.{eqb_self}
 use Rattle.once_world.proofs.History.Others.{holds}
 use Rattle.once_world.proofs.Listing.Counting.{count_none, count_positive}

@@ -12,8 +12,8 @@ use Rattle.once_queue.specs.declared.waiters.Listing.{Listing}
 use Rattle.once_queue.specs.Listings.{find_listing}
 use Rattle.once_world.specs.Run.{AtEvery, IsRun}
 use Rattle.once_world.specs.Called.{SomebodyCalled}
-use Rattle.once_world.specs.Machine.{AtDoorTake, AtLeave, AtList, AtLook, AtWaitLoad, Finished, SharedState, Place, Resting, Step, Task, UnderWay, World}
-use Rattle.once_world.specs.Machine.{place_of_poll, is_finished, put_task, unfinished_after, step_of}
+use Rattle.once_world.specs.Machine.{AtDoorTake, Finished, SharedState, Place, Resting, Step, Task, UnderWay, World, place_of_poll, is_finished}
+use Rattle.once_world.specs.Machine.{put_task, unfinished_after, step_of}
 use Rattle.once_queue.proofs.Listing.Members.{eqb_self}
 use Rattle.once_world.proofs.History.Others.{Keeps}
 use Rattle.once_world.proofs.History.Waiters.{QueueFits}

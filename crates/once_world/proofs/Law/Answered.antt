@@ -3,9 +3,9 @@ use Rattle.std.proofs.Common.{◌≡◌, ◌==◌, ℕ, Bool, true, false, inl, 
 use Rattle.std.proofs.lemmas.Grind.{common_steps}
 use Rattle.std.proofs.lemmas.Bool.{false≢true}
 use Rattle.std.proofs.lemmas.Bool.Decides.{nat_tests}
-use Rattle.once_world.specs.Record.{Answer, Begin, Claim, DropBegin, DropEnd, End, Entry, Error, Fill, Free, Full, Kind, Look, Made, Memory, Own, Pass, Pending, Ran, Reply, Value, is_of, is_own}
+use Rattle.once_world.specs.Record.{Answer, Begin, End, Entry, Error, Full, Kind, Memory, Own, Pending, Reply, Value, is_of, is_own}
 use Rattle.once_world.specs.Cell.{Cell, Empty, Held, SetTo, cell, got, is_set}
-use Rattle.once_world.specs.Tasks.{Dropping, Fresh, Gone, Holding, Polling, Status, Unmade, Waiting, all_gone, last_call, last_call_after, pending_status, status, status_after}
+use Rattle.once_world.specs.Tasks.{Fresh, Polling, Status, Unmade, Waiting, all_gone, last_call, last_call_after, pending_status, status, status_after}
 use Rattle.once_world.specs.Refusals.{MemoryFrom, OtherHolds, Since, is_begin_of}
 use Rattle.once_world.specs.Run.{IsLegal, IsRun, MayEnd}
 use Rattle.once_world.proofs.History.Others.{set_stays_after}

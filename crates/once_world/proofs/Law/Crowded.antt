@@ -1,9 +1,9 @@
 -- Refusals need a crowd, and a poll that completes answers the value that is set. From the run alone.
 use Rattle.std.proofs.Common.{◌≡◌, ◌≢◌, ◌≤◌, ℕ, Bool, true, false, cond, ◌==◌, inl, inr, List, [], ◌∷◌, Option, Some, None, refl, sym, ap, ◌∙◌, subst, arith}
 use Rattle.std.proofs.lemmas.Bool.{false≢true, eq-eqb}
-use Rattle.once_world.specs.Record.{Answer, End, Entry, Full, Kind, Memory, RanError, RanPending, RanValue, Value, made_in}
+use Rattle.once_world.specs.Record.{Answer, End, Entry, Full, Kind, Memory, RanValue, Value, made_in}
 use Rattle.once_world.specs.Cell.{SetTo, cell}
-use Rattle.once_world.specs.Tasks.{Dropping, Fresh, Gone, Holding, Polling, Status, Unmade, Waiting, is_under_way, last_call, status}
+use Rattle.once_world.specs.Tasks.{Dropping, Fresh, Holding, Polling, Status, Waiting, is_under_way, last_call, status}
 use Rattle.once_world.specs.Refusals.{AtSome, IsCrowded, MemoryFrom, OtherActs, Since, crowd, is_about, is_begin_of, moments_since}
 use Rattle.once_world.specs.Crowd.{AreWaiting, is_waiting, waiters}
 use Rattle.once_world.specs.Run.{IsRun, MayEnd}

@@ -2,8 +2,7 @@
 use Rattle.std.proofs.Common.{◌≡◌, ◌≢◌, ℕ, Bool, true, false, ⊎_elim, List, [], ◌∷◌, ◌++◌, refl, sym, ap, ◌∙◌, arith}
 use Rattle.std.proofs.lemmas.Bool.{false≢true}
 use Rattle.once_queue.specs.Numbers.{member}
-use Rattle.once_world.specs.Record.{Begin, Claim, DropBegin, DropEnd, End, Entry, Error, Fill, Free, Full, Got, Kind, Look, Made, Memory, Own, OwnerCall, Pass}
-use Rattle.once_world.specs.Record.{Pending, Ran, Reply, Value, handed_by, is_of}
+use Rattle.once_world.specs.Record.{Claim, End, Entry, Fill, Free, Got, Kind, Own, OwnerCall, Pass, Pending, Ran, Reply, handed_by, is_of}
 use Rattle.once_world.specs.Cell.{Cell, Empty, Held, SetTo, cell, is_set}
 use Rattle.once_world.specs.Tasks.{Waiting, all_gone, is_gone, last_call, pending_status, status, status_after}
 use Rattle.once_world.specs.Wakers.{HandsOut, IsDue, handed_since}

@@ -1,15 +1,14 @@
 -- The right to initialise: one task holds it, it alone releases it, and a value that is set lasts. From the run alone.
-use Rattle.std.proofs.Common.{◌≡◌, ◌≢◌, ℕ, Bool, true, false, ◌==◌, ◌⊎◌, inl, inr, ⊎_elim, List, [], ◌∷◌, Option, Some, None, refl, sym, ap, ◌∙◌, subst, arith}
+use Rattle.std.proofs.Common.{◌≡◌, ◌≢◌, ℕ, Bool, true, false, ◌==◌, ◌⊎◌, ⊎_elim, List, [], ◌∷◌, Option, Some, refl, sym, ap, ◌∙◌, subst, arith}
 use Rattle.std.proofs.lemmas.Grind.{common_steps}
 use Rattle.std.proofs.lemmas.Bool.{false≢true, eqb-true, eq-eqb}
 use Rattle.std.proofs.lemmas.Bool.Decides.{nat_tests}
-use Rattle.once_world.specs.Record.{Answer, Begin, Claim, DropBegin, DropEnd, End, Entry, Error, Fill, Free, Full, Kind, Look, Made, Memory, Own, Pass, Pending}
-use Rattle.once_world.specs.Record.{Ran, RanError, RanPending, RanValue, Value, is_of, is_own}
+use Rattle.once_world.specs.Record.{Answer, End, Entry, Error, Fill, Free, Kind, Own, Pass, Pending, Ran, RanError, is_of, is_own}
 use Rattle.once_world.specs.Cell.{Cell, Empty, Held, SetTo, answers_left, cell}
 use Rattle.once_world.specs.Tasks.{Dropping, Holding, Polling, Status, Unmade, all_gone, is_gone, is_under_way, last_call, pending_status, status, status_after}
 use Rattle.once_world.specs.Run.{IsLegal, IsRun, MayEnd, MayFree}
 use Rattle.once_world.proofs.History.Others.{set_stays_after}
-use Rattle.once_world.proofs.History.Cells.{held_not_empty, same_holder}
+use Rattle.once_world.proofs.History.Cells.{same_holder}
 use Rattle.once_world.proofs.Law.Passed.{no_pass}
 use Rattle.once_world.proofs.Law.Unmade.{over_all}
 

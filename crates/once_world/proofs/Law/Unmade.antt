@@ -4,7 +4,7 @@ use Rattle.std.proofs.lemmas.Grind.{common_steps}
 use Rattle.std.proofs.lemmas.Bool.{false≢true, cases_Bool, eqb-true}
 use Rattle.std.proofs.lemmas.Bool.Decides.{nat_tests}
 use Rattle.once_queue.specs.Numbers.{member}
-use Rattle.once_world.specs.Record.{Begin, Claim, DropBegin, DropEnd, End, Entry, Fill, Free, Kind, Look, Made, Own, Pass, Ran, is_of, made_in}
+use Rattle.once_world.specs.Record.{Begin, DropBegin, Entry, Free, Kind, Made, Pass, is_of, made_in}
 use Rattle.once_world.specs.Tasks.{Status, Unmade, all_gone, is_gone, is_under_way, last_call, status}
 use Rattle.once_world.specs.Run.{IsLegal, IsRun, MayBegin, MayFree}
 use Rattle.once_world.proofs.Input.Gone.{made_there}

@@ -10,9 +10,9 @@ use Rattle.once_core.specs.Table.{after_run, next_at}
 use Rattle.once_world.specs.Record.{Answer, Begin, Entry, Look, Made, Ran}
 use Rattle.once_world.specs.Inputs.{Drop, Looks, Make, Poll}
 use Rattle.once_world.specs.Book.{At, IsBook, IsUnnamed, Page, TasksReach, has_written, refused_step}
-use Rattle.once_world.specs.Machine.{AtList, AtPut, AtRun, EndDropped, EndMemory, EndValue, Finished, RestRun, RestStart, RestWait, Resting, SharedState, Step}
-use Rattle.once_world.specs.Machine.{Task, UnderWay, World, drop_entries, drop_world, drop_world_by, fresh_task, is_resting, kept_after, leave_place}
-use Rattle.once_world.specs.Machine.{look_value, make_world, poll_world, poll_world_by, polled_of, put_task, put_value, run_shared, step_of}
+use Rattle.once_world.specs.Machine.{AtList, AtPut, AtRun, EndMemory, EndValue, Finished, Resting, SharedState, Step, Task, UnderWay, World}
+use Rattle.once_world.specs.Machine.{drop_entries, drop_world, drop_world_by, fresh_task, is_resting, kept_after, leave_place, look_value, make_world}
+use Rattle.once_world.specs.Machine.{poll_world, poll_world_by, polled_of, put_task, put_value, run_shared, step_of}
 use Rattle.once_world.proofs.Moment.Pages.{add_other, add_tasks, no_task, one_task, past_end, set_other, set_tasks, zero_task}
 use Rattle.once_world.proofs.Moment.Step.{Moment, Stepped, grown, moment, stepped, stepped_alone, told}
 use Rattle.once_world.proofs.Shared.Places.{leave_unwritten}

@@ -10,8 +10,8 @@ use Rattle.once_queue.specs.Word.{Flags, flags_of, is_quick_bit, is_zero}
 use Rattle.once_core.specs.Table.{Call, Load, Quick, Fast, AddOne, CountOut, Told, Loaded, TriedQuick, TriedFast, CountedOut, after, after_count_in, call_at}
 use Rattle.once_world.specs.Record.{Answer, Entry, Once, RanPending}
 use Rattle.once_world.specs.Book.{At, Door, IsBook, Page, Queue}
-use Rattle.once_world.specs.Machine.{AtAddOne, AtCountIn, AtCountOut, AtPut, Place, SharedState, StepInput, Task, UnderWay, answer, fast_shared, hands, keeps, left_by}
-use Rattle.once_world.specs.Machine.{outcome_of, place_step, quick_shared, records, word_of}
+use Rattle.once_world.specs.Machine.{AtAddOne, AtCountIn, AtCountOut, Place, SharedState, StepInput, Task, UnderWay, answer, fast_shared, hands}
+use Rattle.once_world.specs.Machine.{keeps, left_by, outcome_of, place_step, quick_shared, records, word_of}
 use Rattle.once_world.specs.Words.{IsFound, IsWordCall, found, word_after}
 use Rattle.once_world.proofs.Steps.{in_step}
 use Rattle.once_world.proofs.Invariant.Moves.{in_count}
@@ -82,12 +82,12 @@ module _ (i : StepInput) (s : SharedState) (k : Answer) (n : ℕ) (within : n < 
 
   still : (c : Call ℕ ℕ) → IsWordCall c → Still c
   still c w = record {
-      queues = grind (arith, common_steps);
-      door = grind (arith, common_steps);
-      head = grind (arith, common_steps);
-      listings = grind (arith, common_steps);
-      kept = grind (arith, common_steps);
-      nobody = grind (arith, common_steps);
+    queues = grind (arith, common_steps);
+    door = grind (arith, common_steps);
+    head = grind (arith, common_steps);
+    listings = grind (arith, common_steps);
+    kept = grind (arith, common_steps);
+    nobody = grind (arith, common_steps);
   }
 
 -- no value is put by a step of the word

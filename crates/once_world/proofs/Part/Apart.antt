@@ -1,9 +1,8 @@
 -- The entries of one task's step begin no call, and refuse nobody else memory.
-use Rattle.std.proofs.Common.{◌≡◌, ◌≢◌, ℕ, false, ◌==◌, List, [], ◌∷◌, refl, sym, ◌∙◌, arith}
+use Rattle.std.proofs.Common.{◌≡◌, ◌≢◌, ℕ, false, List, [], ◌∷◌, refl, ◌∙◌, arith}
 use Rattle.std.proofs.lemmas.Bool.Decides.{nat_tests}
 use Rattle.std.proofs.lemmas.Grind.{common_steps}
-use Rattle.std.proofs.lemmas.Bool.{ne_eqb}
-use Rattle.once_world.specs.Record.{Answer, Begin, Claim, DropBegin, DropEnd, End, Entry, Error, Fill, Free, Full, Kind, Look, Made, Memory, Own, Pass, Pending, Ran, Value}
+use Rattle.once_world.specs.Record.{Answer, Entry, Kind}
 use Rattle.once_world.specs.Inputs.{AreOfStep, IsOfStep, begins_call, ends_for_memory}
 
 -- an entry of a step begins no call

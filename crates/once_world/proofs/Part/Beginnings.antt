@@ -1,13 +1,12 @@
 -- What a making, a poll and a drop add to the record, by the step of their task.
-use Rattle.std.proofs.Common.{◌≡◌, ℕ, Bool, true, false, cond, ◌==◌, List, [], ◌∷◌, Some, None, refl, ap, arith}
+use Rattle.std.proofs.Common.{◌≡◌, ℕ, Bool, true, false, cond, ◌==◌, List, [], ◌∷◌, arith}
 use Rattle.std.proofs.lemmas.Bool.Decides.{nat_tests}
 use Rattle.std.proofs.lemmas.Grind.{common_steps}
-use Rattle.std.proofs.lemmas.Bool.{false≢true}
 use Rattle.once_world.specs.Record.{Begin, Entry, Kind}
-use Rattle.once_world.specs.Tasks.{Dropping, Fresh, Gone, Holding, Polling, Status, Unmade, Waiting, is_under_way, status}
+use Rattle.once_world.specs.Tasks.{is_under_way, status}
 use Rattle.once_world.specs.Inputs.{begins_call, drop_part, ends_for_memory, make_part, poll_part}
-use Rattle.once_world.specs.Machine.{Finished, SharedState, Rest, RestRun, RestStart, RestWait, Resting, Step, UnderWay, step_of_poll, drop_entries, step_of_drop, step_of_drop_at, in_call, is_resting}
-use Rattle.once_world.proofs.Invariant.Facts.{AtRest, AtStep}
+use Rattle.once_world.specs.Machine.{SharedState, Step, step_of_poll, drop_entries, step_of_drop, in_call, is_resting}
+use Rattle.once_world.proofs.Invariant.Facts.{AtStep}
 use Rattle.once_world.proofs.Invariant.Around.{place_acts}
 use Rattle.once_world.proofs.Part.Tells.{is_refused}
 

@@ -1,5 +1,5 @@
 -- What a release is, and what it leaves.
-use Rattle.std.proofs.Common.{◌≡◌, ◌≢◌, ◌<◌, ℕ, Bool, true, false, ◌==◌, ◌⊎◌, inl, inr, List, ◌∷◌, refl, sym, ap, ◌∙◌, arith}
+use Rattle.std.proofs.Common.{◌≡◌, ◌≢◌, ◌<◌, ℕ, Bool, true, false, ◌==◌, ◌⊎◌, inr, List, ◌∷◌, refl, sym, ap, ◌∙◌, arith}
 use Rattle.std.proofs.lemmas.Grind.{common_steps}
 use Rattle.std.specs.Prelude.{◌-◌}
 use Rattle.std.proofs.lemmas.Bool.{false≢true, eqb-true}
@@ -10,7 +10,7 @@ use Rattle.once_world.specs.Tasks.{LastCall, Status, Waiting, is_under_way, last
 use Rattle.once_queue.specs.declared.waiters.Listing.{Listing}
 use Rattle.once_world.specs.Wakers.{CallsOne, HandsOut}
 use Rattle.once_world.specs.Run.{IsLegal}
-use Rattle.once_world.specs.Machine.{EndDropped, EndError, EndFull, EndMemory, EndPending, EndValue, Ending, SharedState, out_shared, is_value, release_entry, release_flags, word_of}
+use Rattle.once_world.specs.Machine.{EndValue, Ending, SharedState, out_shared, is_value, release_entry, release_flags, word_of}
 use Rattle.once_queue.proofs.Listing.Members.{eqb_self}
 use Rattle.once_world.proofs.History.Cells.{held_by}
 use Rattle.once_world.proofs.Invariant.Facts.{HeadFlag, Owes, QuickFlag, Releasing, kept_of}

@@ -3,13 +3,13 @@ use Rattle.std.proofs.Common.{◌≡◌, ◌≢◌, ℕ, suc, Bool, true, false,
 use Rattle.std.proofs.lemmas.Bool.Decides.{nat_tests}
 use Rattle.std.proofs.lemmas.Grind.{common_steps}
 use Rattle.std.proofs.lemmas.Bool.{false≢true}
-use Rattle.once_world.specs.Record.{Answer, End, Entry, Kind, Lazy, LazyWith, Once, OnceWith, Pending, Ran, RanError, RanPending, RanValue, is_lazy}
+use Rattle.once_world.specs.Record.{Answer, End, Entry, Kind, Once, OnceWith, Pending, Ran, RanError, RanPending, RanValue, is_lazy}
 use Rattle.once_world.specs.Cell.{Cell, Held, IsNext, answers_left, cell, next_answer}
 use Rattle.once_world.specs.Tasks.{Holding, Polling, Status, Waiting, last_call, status, status_after}
 use Rattle.once_world.specs.Wakers.{opens}
 use Rattle.once_world.specs.Run.{IsLegal, IsRun}
-use Rattle.once_world.specs.Machine.{AtAddOne, AtDoorAgain, AtFast, AtPut, AtRelease, AtRun, EndDropped, EndError, EndFull, EndMemory, EndPending, EndValue}
-use Rattle.once_world.specs.Machine.{Ending, SharedState, Place, UnderWay, release_place, init_answer, put_value, run_shared}
+use Rattle.once_world.specs.Machine.{AtAddOne, AtDoorAgain, AtPut, AtRelease, AtRun, EndError, EndValue, Ending, SharedState, Place, UnderWay}
+use Rattle.once_world.specs.Machine.{release_place, init_answer, put_value, run_shared}
 use Rattle.once_world.proofs.Steps.{again_step, run_step}
 use Rattle.once_queue.proofs.Listing.Members.{eqb_self}
 use Rattle.once_world.proofs.History.Others.{holds, keeps_both, legal_keeps}
@@ -152,7 +152,7 @@ module _ (K : Kind) (limit t w : ℕ) (k : Answer) (c : SharedState) (h : List E
       → Goes K limit t w (AtRun by) c h (run_step a (run_shared c) t k by)
   run_goes RanPending by x a = pending_so by x a.0 (by_same limit c (run_shared c) by refl refl refl refl a.1)
   run_goes (RanValue v) by x a = run_value by v x a.0 (by_same limit c (run_shared c) by refl refl refl refl a.1) (put_counts by)
-  run_goes (RanError e) by x a = 
+  run_goes (RanError e) by x a =
       let b = by_same limit c (run_shared c) by refl refl refl refl a.1 in
       let n = back_counts by EndError in
       let own = gives_back K limit t (run_shared c) (Ran t (RanError e) ∷ h) by EndError (e, ran_in K t h (RanError e) a.0) b in
@@ -177,7 +177,7 @@ module _ (K : Kind) (limit t w : ℕ) (k : Answer) (c : SharedState) (h : List E
   -- a step that puts the value
   pub put_goes : (by : Option ℕ) → AtPlace K limit t c h (AtPut by)
       → Goes K limit t w (AtPut by) c h (goes_to (record c { value = put_value k c.value }) k (release_place by EndValue))
-  put_goes by a = 
+  put_goes by a =
       let c' : SharedState = record c { value = put_value k c.value } in
       let n = back_counts by EndValue in
       let own = gives_back K limit t c' h by EndValue (a.0, a.1, put_is a.0 a.1.ran_is) (by_same limit c c' by refl refl refl refl a.2) in

@@ -9,9 +9,9 @@ use Rattle.once_world.specs.Tasks.{Waiting, last_call, status}
 use Rattle.once_queue.specs.declared.waiters.Listing.{Listing}
 use Rattle.once_queue.specs.Listings.{all_out, call_first, first_waker}
 use Rattle.once_world.specs.Run.{IsLegal, IsRun}
-use Rattle.once_world.specs.Machine.{AtAddOne, AtCountOut, AtDoorTake, AtFast, AtRelease, EndDropped, EndError, EndFull, EndMemory, EndPending, EndValue}
-use Rattle.once_world.specs.Machine.{Ending, Finished, SharedState, UnderWay, out_shared, take_shared, end_entry, release_wakers, is_at_door}
-use Rattle.once_world.specs.Machine.{is_value, release_list, release_entry, release_flags, word_of}
+use Rattle.once_world.specs.Machine.{AtAddOne, AtCountOut, AtDoorTake, AtFast, AtRelease, EndDropped, EndError, EndValue, Ending, Finished}
+use Rattle.once_world.specs.Machine.{SharedState, UnderWay, out_shared, take_shared, end_entry, release_wakers, is_at_door, is_value, release_list}
+use Rattle.once_world.specs.Machine.{release_entry, release_flags, word_of}
 use Rattle.once_world.proofs.Steps.{fast_step, out_step, release_step}
 use Rattle.once_queue.proofs.Listing.Members.{eqb_self}
 use Rattle.once_world.proofs.History.Others.{keeps_both, legal_keeps}

@@ -3,7 +3,7 @@ use Rattle.std.proofs.Common.{◌≡◌, ℕ, Bool, true, false, cond, ◌⊎◌
 use Rattle.std.proofs.lemmas.Bool.{false≢true, or_parts}
 use Rattle.once_world.specs.Record.{Answer, Claim, End, Entry, Kind, Pending}
 use Rattle.once_world.specs.Cell.{cell}
-use Rattle.once_world.specs.Tasks.{Dropping, Fresh, Gone, Holding, Polling, Status, Unmade, Waiting, last_call}
+use Rattle.once_world.specs.Tasks.{Fresh, Status, Waiting, last_call}
 use Rattle.once_queue.specs.Listings.{find_listing, is_waker, list_with, own_listing, ticket_for}
 use Rattle.once_queue.specs.Word.{sees_by}
 use Rattle.once_world.specs.Refusals.{AtSome, MemoryFrom, OtherActs, OtherHolds, is_begin_of, moments_since}

@@ -6,7 +6,7 @@ use Rattle.std.proofs.lemmas.Bool.{false≢true, cases_eq}
 use Rattle.once_world.specs.Record.{Entry, Once}
 use Rattle.once_world.specs.Cell.{Cell, cell}
 use Rattle.once_world.specs.Book.{SlotIs, has_written, has_written_at}
-use Rattle.once_world.specs.Machine.{AtAddOne, AtDoorAgain, AtFast, AtPut, AtRelease, Finished, Place, Resting, SharedState, Step, Task, UnderWay, World, first_world, put_task, step_of}
+use Rattle.once_world.specs.Machine.{AtPut, Place, SharedState, Step, Task, UnderWay, World, first_world, put_task, step_of}
 use Rattle.once_world.proofs.History.Others.{holds}
 use Rattle.once_world.proofs.History.Cells.{held_by, holder_unset}
 use Rattle.once_world.proofs.Invariant.Facts.{AtPlace, AtStep}

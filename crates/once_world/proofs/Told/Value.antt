@@ -3,7 +3,7 @@ use Rattle.std.proofs.Common.{◌≡◌, ◌<◌, ℕ, suc, Bool, true, false, i
 use Rattle.std.proofs.lemmas.Bool.{false≢true}
 use Rattle.std.proofs.lemmas.List.{reverse-append, reverse-reverse, append_assoc}
 use Rattle.once_queue.specs.Word.{Flags, flags_of}
-use Rattle.once_world.specs.Record.{Begin, Claim, DropBegin, DropEnd, End, Entry, Fill, Free, Look, Made, Once, Own, Pass, Ran, is_own}
+use Rattle.once_world.specs.Record.{Claim, Entry, Fill, Free, Once, Own, is_own}
 use Rattle.once_world.specs.Cell.{Cell, Empty, Held, SetTo, cell, is_set}
 use Rattle.once_world.specs.Values.{IsOneValue}
 use Rattle.once_world.specs.Book.{At, IsBook, Page}
