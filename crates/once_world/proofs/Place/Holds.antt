@@ -19,7 +19,7 @@ use Rattle.once_world.proofs.Invariant.Facts.{AtPlace, HoldsBy, InPoll, InStatus
 use Rattle.once_world.proofs.Invariant.Turns.{lists_stay}
 use Rattle.once_world.proofs.Invariant.Fits.{SharedFits}
 use Rattle.once_world.proofs.Invariant.Kept.{SharedKeeps, releasing_holds}
-use Rattle.once_world.proofs.Place.Builders.{Goes, free_shared, shared_at, moves_on, of_other, polls_not_waits, same_shared, stays}
+use Rattle.once_world.proofs.Place.Builders.{Before, Goes, free_shared, shared_at, moves_on, of_other, polls_not_waits, same_shared, stays}
 use Rattle.once_world.proofs.Place.FitsAfter.{count_fits, ran_fits, value_fits}
 use Rattle.once_world.proofs.Place.Outcomes.{goes_to}
 
@@ -83,9 +83,7 @@ back_counts by e = grind (arith, common_steps)
 put_counts : (by : Option ℕ) → is_counted_at (AtRun by) ≡ is_counted_at (AtPut by)
 put_counts by = grind (arith, common_steps)
 
-module _ (K : Kind) (limit t w : ℕ) (k : Answer) (c : SharedState) (h : List Entry) (run : IsRun K limit h)
-    (shared : SharedFits K limit c h) (queue : QueueFits K c.listings h) (wk : (last_call K t h).waker ≡ w)
-    (kk : k ≡ kept_of (last_call K t h).ran) where
+module _ {K : Kind} {limit t w : ℕ} {k : Answer} {c : SharedState} {h : List Entry} (before : Before K limit t w k c h) where
   -- an init that gave a value or an error
   ran_so : (by : Option ℕ) (a : Answer) (p' : Place ℕ ℕ) → IsNext K a (answers_left K h) → InPoll K t h None true
       → AtPlace K limit t (run_shared c) (Ran t a ∷ h) p' → is_counted_at (AtRun by) ≡ is_counted_at p'
@@ -94,11 +92,11 @@ module _ (K : Kind) (limit t w : ℕ) (k : Answer) (c : SharedState) (h : List E
   ran_so by a p' next i own n take inside tickets =
       let legal : IsLegal K limit (Ran t a) h = (held_by t (cell K h) i.holds_is, i.status_is, i.ran_is, next) in
       record {
-        run = (legal, run);
-        shared = ran_fits K limit t c h a shared;
-        queue = quiet K c.listings (Ran t a) h queue refl refl (λ _. refl) (λ u is. polls_not_waits K t u h is i.status_is) (λ x. x);
+        run = (legal, before.run);
+        shared = ran_fits K limit t c h a before.shared;
+        queue = quiet K c.listings (Ran t a) h before.queue refl refl (λ _. refl) (λ u is. polls_not_waits K t u h is i.status_is) (λ x. x);
         own = own;
-        waker_is = rw (eqb_self t) wk;
+        waker_is = rw (eqb_self t) before.waker_is;
         kept_is = rw (eqb_self t) refl;
         others = λ u n. legal_keeps K u (Ran t a) limit h (of_other t u n) legal refl;
         keeps = λ u n b j. same_shared K limit c (run_shared c) u h b refl refl refl refl refl (λ x. x);
@@ -120,15 +118,15 @@ module _ (K : Kind) (limit t w : ℕ) (k : Answer) (c : SharedState) (h : List E
       let polls : status K t h1 ≡ Polling = rw (eqb_self t) i.status_is in
       let legal1 : IsLegal K limit (End t Pending) h1 = (polls, rw (eqb_self t) held, inl (rw (eqb_self t) i.unpassed)) in
       record {
-        run = (legal1, (legal, run));
-        shared = shared_at K limit (run_shared c) h1 (End t Pending ∷ h1) refl refl (ran_fits K limit t c h RanPending shared);
-        queue = quiet K c.listings (End t Pending) h1 (quiet K c.listings (Ran t RanPending) h queue refl refl (λ _. refl) (λ u is. polls_not_waits K t u h is i.status_is) (λ x. x))
+        run = (legal1, (legal, before.run));
+        shared = shared_at K limit (run_shared c) h1 (End t Pending ∷ h1) refl refl (ran_fits K limit t c h RanPending before.shared);
+        queue = quiet K c.listings (End t Pending) h1 (quiet K c.listings (Ran t RanPending) h before.queue refl refl (λ _. refl) (λ u is. polls_not_waits K t u h is i.status_is) (λ x. x))
             refl refl (λ w. opens_none K t w h1 held) (λ u is. holding_not_waits
             (status_after (End t Pending) (cell K h1) (status K u h1))
             (pending_status_own t (cell K h1) (status K u h1) held)) (λ x. x);
         own = ((pending_in K t h i, own), rw (eqb_self t) refl);
-        waker_is = rw (eqb_self t) wk;
-        kept_is = rw (eqb_self t) (kk ∙ ap kept_of i.ran_is);
+        waker_is = rw (eqb_self t) before.waker_is;
+        kept_is = rw (eqb_self t) (before.kept_is ∙ ap kept_of i.ran_is);
         others = λ u n. keeps_both K u h h1 (End t Pending ∷ h1)
             (legal_keeps K u (Ran t RanPending) limit h (of_other t u n) legal refl)
             (legal_keeps K u (End t Pending) limit h1 (of_other t u n) legal1 refl);
@@ -165,14 +163,14 @@ module _ (K : Kind) (limit t w : ℕ) (k : Answer) (c : SharedState) (h : List E
       → ticket_at p' ≡ None
       → Goes K limit t w (AtPut by) c h (goes_to c' k p')
   put_so by p' c' hold fits same door m own n take inside tickets =
-      moves_on K limit t w k (AtPut by) c h run shared queue wk kk c' p' fits (rw same queue) own
-      (λ u d b i. holder_shared K limit t c c' h shared hold door u d b) (rw (n, m) refl)
+      moves_on before (AtPut by) c' p' fits (rw same before.queue) own
+      (λ u d b i. holder_shared K limit t c c' h before.shared hold door u d b) (rw (n, m) refl)
       (λ e. absurd (false≢true (sym take ∙ e))) (λ e. absurd (false≢true (sym inside ∙ e)))
-      (lists_stay t None (ticket_at p') c c' h same (λ r. fits.ready_is ∙ sym shared.ready_is ∙ r) (inl tickets))
+      (lists_stay t None (ticket_at p') c c' h same (λ r. fits.ready_is ∙ sym before.shared.ready_is ∙ r) (inl tickets))
 
   -- what is put is what the init gave
   put_is : (v : ℕ) → (last_call K t h).ran ≡ Some (RanValue v) → put_value k c.value ≡ v
-  put_is v e = ap (λ x. put_value x c.value) (kk ∙ ap kept_of e)
+  put_is v e = ap (λ x. put_value x c.value) (before.kept_is ∙ ap kept_of e)
 
   -- a step that puts the value
   pub put_goes : (by : Option ℕ) → AtPlace K limit t c h (AtPut by)
@@ -182,16 +180,16 @@ module _ (K : Kind) (limit t w : ℕ) (k : Answer) (c : SharedState) (h : List E
       let n = back_counts by EndValue in
       let own = gives_back K limit t c' h by EndValue (a.0, a.1, put_is a.0 a.1.ran_is) (by_same limit c c' by refl refl refl refl a.2) in
       put_so by (release_place by EndValue) c' a.1.holds_is
-      (value_fits K limit t c h (put_value k c.value) shared (held_by t (cell K h) a.1.holds_is)) refl refl refl
+      (value_fits K limit t c h (put_value k c.value) before.shared (held_by t (cell K h) a.1.holds_is)) refl refl refl
       own (sym (put_counts by) ∙ n.0) n.1 n.2 n.3
 
   -- a step that counts the holder in
   pub add_goes : (e : Ending) → AtPlace K limit t c h (AtAddOne e)
       → Goes K limit t w (AtAddOne e) c h (goes_to (record c { count = suc c.count }) k (AtDoorAgain e))
-  add_goes e a = moves_on K limit t w k (AtAddOne e) c h run shared queue wk kk (record c { count = suc c.count }) (AtDoorAgain e)
-      (count_fits K limit c (suc c.count) h shared (let le = a.2 in omega arith) (λ _ _. a.3)) queue
+  add_goes e a = moves_on before (AtAddOne e) (record c { count = suc c.count }) (AtDoorAgain e)
+      (count_fits K limit c (suc c.count) h before.shared (let le = a.2 in omega arith) (λ _ _. a.3)) before.queue
       (releasing_same K t h c (record c { count = suc c.count }) e refl a.0, record { quick_is = a.1.quick_is; head_is = a.1.head_is }, a.3)
-      (λ u n b i. holder_shared K limit t c (record c { count = suc c.count }) h shared
+      (λ u n b i. holder_shared K limit t c (record c { count = suc c.count }) h before.shared
       (releasing_holds K t c h e a.0) refl u n b) (omega arith) (λ e. absurd (false≢true e))
       (λ e. absurd (false≢true e)) (lists_stay t None None c (record c { count = suc c.count }) h refl (λ x. x)
       (inl refl))
@@ -199,5 +197,5 @@ module _ (K : Kind) (limit t w : ℕ) (k : Answer) (c : SharedState) (h : List E
   -- a step that looks at the door again
   pub again_goes : (door : Option ℕ) (e : Ending) → c.door ≡ door → AtPlace K limit t c h (AtDoorAgain e)
       → Goes K limit t w (AtDoorAgain e) c h (again_step door c t k e)
-  again_goes (Some q) e d a = stays K limit t w k (AtDoorAgain e) c h run shared queue wk kk (AtRelease q e) (a.0, inl a.1, d) refl refl (λ e. absurd (false≢true e)) (inl refl)
+  again_goes (Some q) e d a = stays before (AtDoorAgain e) (AtRelease q e) (a.0, inl a.1, d) refl refl (λ e. absurd (false≢true e)) (inl refl)
   again_goes None e d a = absurd (none_some a.2.0 (sym d ∙ a.2.1))
