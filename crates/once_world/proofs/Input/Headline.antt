@@ -60,7 +60,7 @@ begun_fits K limit w t k x f found true r =
     let y : Task = record x { waker = k; step = step_of_poll x.step } in
     let own = task_fits K limit t w x f found in
     moved_fits K limit t x y w (poll_world_by true w t k x) f found (resting_live x.step r) (puts t y w.tasks) (begun_live x.step w.unfinished r)
-    (begins K limit t k x.kept w.shared w.history x.step f.run f.shared f.queue own.kept_is r own.step)
+    (begins K limit t k x.kept w.shared w.history f.run f.shared f.queue x.step own.kept_is r own.step)
 
 -- the beginning of a drop
 drop_fits : (K : Kind) (limit : ℕ) (w : World) (t : ℕ) (x : Task) → Fits K limit w → w.tasks t ≡ Some x → (r : Bool)
@@ -70,7 +70,7 @@ drop_fits K limit w t x f found true r =
     let y : Task = record x { step = step_of_drop x.step } in
     let own = task_fits K limit t w x f found in
     moved_fits K limit t x y w (drop_world_by true w t x) f found (resting_live x.step r) (puts t y w.tasks) refl
-    (drop_begins K limit t x.waker x.kept w.shared w.history x.step f.run f.shared f.queue own.waker_is own.kept_is r own.step)
+    (drop_begins K limit t x.waker x.kept w.shared w.history f.run f.shared f.queue x.step own.waker_is own.kept_is r own.step)
 
 -- a step
 goes_fits : (K : Kind) (limit : ℕ) (w : World) (t : ℕ) (a : Answer) (g : Bool) (x : Task) → 0 < limit
