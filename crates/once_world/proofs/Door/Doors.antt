@@ -1,14 +1,15 @@
 -- A queue stands at the door while a task waits, and none is kept there once the set cell is left alone.
 use Rattle.std.proofs.Common.{◌≡◌, ◌≢◌, ◌<◌, ℕ, Bool, true, false, ◌==◌, ◌⊎◌, inl, inr, ⊎_elim, List, [], ◌∷◌, Option, Some, None, refl, sym, ap, ◌∙◌, subst}
 use Rattle.std.proofs.lemmas.Bool.{false≢true, cases_eq}
-use Rattle.once_world.specs.Record.{Answer, Entry, Kind, OwnerCall, Parts, ReplaceAnswers, ReplaceValue, Take, Write, has_call, is_lazy, made_in}
+use Rattle.once_world.specs.Record.{Answer, Entry, Kind, OwnerCall, Take, Write, has_call, is_lazy, made_in}
 use Rattle.once_world.specs.Cell.{cell, is_set}
 use Rattle.once_world.specs.Tasks.{Waiting, is_under_way, status}
 use Rattle.once_world.specs.Inputs.{Drop, Go, Input, Looks, Make, Owns, Poll}
 use Rattle.once_world.specs.Log.{standing_queue}
-use Rattle.once_world.specs.Machine.{Finished, SharedState, Outcome, Resting, Step, Task, UnderWay, World, advance, world_after, step_of_poll, poll_world_by}
-use Rattle.once_world.specs.Machine.{step_of_drop, drop_world_by, drop_world, fresh_task, go_world, go_world_by, history_of, in_call, is_resting, log_of}
-use Rattle.once_world.specs.Machine.{make_world, own_world_by, owner_shared, poll_world, put_task, write_shared, world_of, step_of}
+use Rattle.once_world.specs.Machine.{Finished, SharedState, Outcome, Resting, Step, Task, UnderWay, World, advance, world_after, step_of_poll}
+use Rattle.once_world.specs.Machine.{poll_world_by, step_of_drop, drop_world_by, drop_world, fresh_task, go_world, go_world_by, history_of, in_call}
+use Rattle.once_world.specs.Machine.{is_resting, log_of, make_world, own_world_by, owner_shared, poll_world, put_task, write_shared, world_of}
+use Rattle.once_world.specs.Machine.{step_of}
 use Rattle.once_world.proofs.History.Cells.{holder_unset, none_some}
 use Rattle.once_world.proofs.Listing.Counting.{count_some}
 use Rattle.once_world.proofs.Invariant.Facts.{AtStep, IsSomeDoor, is_counted}

@@ -1,27 +1,12 @@
 -- A queue at the door of a set cell has somebody in the count, or somebody who sees to it.
-use Rattle.std.proofs.Common.{◌≡◌, ◌<◌, ℕ, suc, Bool, true, false, ◌⊎◌, inl, inr, ⊎_elim, List, Option, Some, None, refl, sym, ◌∙◌, arith}
-use Rattle.std.specs.Prelude.{◌||◌, ◌-◌, nat_lt}
-use Rattle.std.specs.Option.{is_some}
-use Rattle.std.proofs.lemmas.Bool.{false≢true, ltb-false}
+use Rattle.std.proofs.Common.{◌≡◌, ◌<◌, ℕ, Bool, true, false, ◌⊎◌, List, arith}
 use Rattle.std.proofs.lemmas.Bool.Decides.{nat_tests}
 use Rattle.std.proofs.lemmas.Grind.{common_steps}
-use Rattle.once_world.specs.Record.{Answer, Entry, Kind, RanError, RanPending, RanValue, is_lazy}
-use Rattle.once_world.specs.Cell.{cell}
-use Rattle.once_world.specs.Machine.{AtAddOne, AtCountIn, AtCountOut, AtDoorAgain, AtDoorGet, AtDoorPut, AtDoorTake, AtFast, AtLeave, AtList, AtLook, AtPut}
-use Rattle.once_world.specs.Machine.{AtRelease, AtRun, AtStart, AtTryQuick, AtWaitLoad, EndError, EndMemory, EndValue, Ending, Finished, SharedState, Place}
-use Rattle.once_world.specs.Machine.{RestRun, RestWait, Resting, Step, UnderWay, out_shared, take_shared, release_place}
-use Rattle.once_world.specs.Machine.{init_answer, is_at_door, is_value, is_waker, kept_ticket, leave_place}
-use Rattle.once_world.specs.Machine.{own_listing, place_step, put_value, run_shared, release_flags, step_at, word_of, seen_by}
-use Rattle.once_world.proofs.Steps.{again_step, door_step, fast_step, in_step, leave_step, list_step, load_step, look_step, out_step, put_step, quick_step, release_step, run_step, start_step}
-use Rattle.once_world.proofs.History.Others.{holds}
-use Rattle.once_world.proofs.History.Cells.{holder_unset, none_some, set_free}
+use Rattle.once_world.specs.Record.{Answer, Entry, Kind, is_lazy}
+use Rattle.once_world.specs.Machine.{AtCountIn, AtDoorTake, AtStart, SharedState, Place, Step, UnderWay, place_step, step_at}
 use Rattle.once_world.proofs.Invariant.Facts.{AtPlace, AtStep, IsSomeDoor, is_counted, is_counted_at, is_take, is_take_at}
 use Rattle.once_world.proofs.Invariant.Fits.{SharedFits}
-use Rattle.once_world.proofs.Invariant.Kept.{releasing_holds}
 use Rattle.once_world.proofs.Invariant.Around.{Around}
-use Rattle.once_queue.specs.Word.{is_zero, is_quick_bit, is_ready_bit, sees_by}
-use Rattle.once_queue.specs.declared.word.Sees.TheVariants.{Taken}
-use Rattle.once_world.proofs.Place.Outcomes.{claim_shared}
 
 -- the places whose task will see to the queue at the door of a set cell
 abbrev is_late_at : Place ℕ ℕ → Bool

@@ -1,20 +1,11 @@
 -- Each step keeps the queue log sound, and the log tells what stands at the door.
-use Rattle.std.proofs.Common.{◌≡◌, ◌<◌, ℕ, suc, Bool, true, false, List, ◌∷◌, ◌++◌, Option, Some, None, refl, sym, ◌∙◌, arith}
-use Rattle.std.specs.Prelude.{◌||◌, nat_lt}
-use Rattle.std.specs.Option.{is_some}
+use Rattle.std.proofs.Common.{◌≡◌, ◌<◌, ℕ, Bool, false, List, ◌++◌, Option, Some, None, refl, ◌∙◌, arith}
 use Rattle.std.proofs.lemmas.Bool.Decides.{nat_tests}
 use Rattle.std.proofs.lemmas.Grind.{common_steps}
-use Rattle.once_world.specs.Record.{Answer, Entry, Kind, RanError, RanPending, RanValue, is_lazy}
+use Rattle.once_world.specs.Record.{Answer, Entry, Kind, is_lazy}
 use Rattle.once_world.specs.Log.{IsSound, standing_queue, take_lines, was_put}
-use Rattle.once_world.specs.Machine.{AtAddOne, AtCountIn, AtCountOut, AtDoorAgain, AtDoorGet, AtDoorPut, AtDoorTake, AtFast, AtLeave, AtList, AtLook, AtPut}
-use Rattle.once_world.specs.Machine.{AtRelease, AtRun, AtStart, AtTryQuick, AtWaitLoad, Ending, EnteredLine, Finished, SharedState, Place, QueueLine, Resting}
-use Rattle.once_world.specs.Machine.{Step, UnderWay, out_shared, take_shared, init_answer, is_at_door, is_value, is_waker, kept_ticket}
-use Rattle.once_world.specs.Machine.{own_listing, place_lines, place_step, put_lines, run_shared, release_flags, step_at, step_lines, word_of, seen_at}
-use Rattle.once_world.proofs.Steps.{fast_step, in_step, leave_step, list_step, look_step, out_step, put_step, quick_step, release_step, run_step}
+use Rattle.once_world.specs.Machine.{SharedState, Place, QueueLine, Step, UnderWay, take_shared, place_lines, place_step, step_at, step_lines}
 use Rattle.once_world.proofs.Invariant.Facts.{AtPlace, AtStep}
-use Rattle.once_queue.specs.Word.{is_zero, is_quick_bit, is_ready_bit}
-use Rattle.once_queue.specs.declared.word.Sees.TheVariants.{Set, Free, Taken}
-use Rattle.once_queue.specs.declared.word.Sees.{Sees}
 
 -- the log against what is shared: a number that no queue was made with yet was never put
 pub record LogFits (c : SharedState) (log : List QueueLine) : Type 0 where

@@ -5,9 +5,7 @@ use Rattle.std.proofs.lemmas.Grind.{common_steps}
 use Rattle.once_world.specs.Record.{Entry, Kind}
 use Rattle.once_world.specs.Cell.{cell}
 use Rattle.once_world.specs.Inputs.{Go, Input, Make}
-use Rattle.once_world.specs.Machine.{AtAddOne, AtCountOut}
-use Rattle.once_world.specs.Machine.{AtRelease, Finished, SharedState, Place, Resting, Step, Task, UnderWay, World}
-use Rattle.once_world.specs.Machine.{world_of, step_of}
+use Rattle.once_world.specs.Machine.{AtAddOne, AtCountOut, AtRelease, SharedState, Place, Step, Task, UnderWay, World, world_of, step_of}
 use Rattle.once_world.specs.Can.{CanAdvance, CanStep, MayTake, TaskCan}
 use Rattle.once_world.proofs.History.Cells.{holder_unset}
 use Rattle.once_world.proofs.Invariant.Facts.{AtPlace, AtStep, HeadFlag, QuickFlag, is_counted, is_counted_at}

@@ -10,7 +10,7 @@ use Rattle.once_queue.specs.declared.waiters.Answer.{Answer as SectionAnswer}
 use Rattle.once_core.specs.Core.{CoreState}
 use Rattle.once_core.specs.Steps.{is_leaving, is_running}
 use Rattle.once_core.specs.Table.{Advances, GoesOn, Line, Looked, Tells, Told, Was, after, after_look, call_at, wants_copy}
-use Rattle.once_world.specs.Places.{AtList, AtLook, Finished, Place, Progress, Resting, Step, UnderWay}
+use Rattle.once_world.specs.Places.{AtList, AtLook, Place, Progress, Step, UnderWay}
 use Rattle.once_world.specs.Machine.{place_lines, place_step, step_at, step_lines}
 use Rattle.once_world.proofs.Exactness.Outcomes.{IsOutcome, IsSetUp, NumberCall, is_freed, shared_by, side_tells}
 use Rattle.once_world.proofs.Exactness.Calls.{Brings, nameless, claimed_by, freed_by, call_exact, leaving_by, says, told_exact, told_one}

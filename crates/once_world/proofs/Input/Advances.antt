@@ -8,8 +8,8 @@ use Rattle.once_world.specs.Cell.{answers_left}
 use Rattle.once_world.specs.Tasks.{last_call}
 use Rattle.once_queue.specs.Listings.{is_waker, kept_ticket, own_listing}
 use Rattle.once_world.specs.Run.{IsRun}
-use Rattle.once_world.specs.Machine.{AtAddOne, AtCountIn, AtCountOut, AtDoorAgain, AtDoorGet, AtDoorPut, AtDoorTake, AtFast, AtLeave, AtList, AtLook, AtPut}
-use Rattle.once_world.specs.Machine.{AtRelease, AtRun, AtStart, AtTryQuick, AtWaitLoad, Finished, SharedState, Place, Resting, Step, UnderWay, out_shared}
+use Rattle.once_world.specs.Machine.{AtAddOne, AtCountIn, AtCountOut, AtDoorAgain, AtDoorGet, AtDoorPut, AtDoorTake, AtFast, AtLeave, AtList, AtLook}
+use Rattle.once_world.specs.Machine.{AtPut, AtRelease, AtRun, AtStart, AtTryQuick, AtWaitLoad, SharedState, Place, Step, UnderWay, out_shared}
 use Rattle.once_world.specs.Machine.{init_answer, in_call, is_at_door, place_step, step_at, word_of}
 use Rattle.once_world.proofs.History.Waiters.{QueueFits}
 use Rattle.once_world.proofs.Invariant.Facts.{AtPlace, AtStep, is_counted, is_counted_at, is_take, is_take_at, kept_of, ticket_at, ticket_of}
@@ -17,7 +17,7 @@ use Rattle.once_world.proofs.Invariant.Fits.{SharedFits}
 use Rattle.once_world.proofs.Invariant.Moves.{Moves}
 use Rattle.once_world.proofs.Invariant.Around.{Around}
 use Rattle.once_world.proofs.Invariant.AroundLists.{AroundList}
-use Rattle.once_world.proofs.Place.Builders.{Goes}
+use Rattle.once_world.proofs.Place.Builders.{Before, Goes}
 use Rattle.once_world.proofs.Place.Waits.{door_get_goes, door_put_goes, in_goes, quick_goes, start_goes}
 use Rattle.once_world.proofs.Place.Sections.{list_goes, load_goes, look_goes}
 use Rattle.once_world.proofs.Place.Holds.{add_goes, again_goes, next_given, put_goes, run_goes}
@@ -26,31 +26,30 @@ use Rattle.once_world.proofs.Place.Leaves.{leave_goes}
 use Rattle.once_queue.specs.Word.{is_zero, is_quick_bit, is_ready_bit}
 
 -- all that stands before the step
-module _ (K : Kind) (limit t w : ℕ) (k : Answer) (c : SharedState) (h : List Entry) (a : Answer) (g : Bool)
-    (some : 0 < limit) (run : IsRun K limit h) (shared : SharedFits K limit c h) (queue : QueueFits K c.listings h)
-    (wk : (last_call K t h).waker ≡ w) (kk : k ≡ kept_of (last_call K t h).ran) where
+module _ {K : Kind} {limit t w : ℕ} {k : Answer} {c : SharedState} {h : List Entry} (before : Before K limit t w k c h) (a : Answer) (g : Bool)
+    (some : 0 < limit) where
   -- one place after the other
   advances_at : (p : Place ℕ ℕ) → Around K t (is_counted_at p) (is_take_at p) c h → AroundList K t (ticket_at p) c h
       → AtPlace K limit t c h p → Goes K limit t w p c h (place_step (is_lazy K) limit c t w k a g p)
-  advances_at AtStart ar al at = start_goes K limit t w k c h run shared queue wk kk c.ready (is_zero (word_of c)) refl refl ar at
-  advances_at AtTryQuick ar al at = quick_goes K limit t w k c h run shared queue wk kk (is_zero (word_of c)) refl ar at
-  advances_at AtDoorGet ar al at = door_get_goes K limit t w k c h run shared queue wk kk c.door refl ar at
-  advances_at AtDoorPut ar al at = door_put_goes K limit t w k c h run shared queue wk kk g c.door refl ar al at
-  advances_at (AtCountIn q) ar al at = in_goes K limit t w k c h run shared queue wk kk (nat_lt c.count limit) c.ready q refl refl some ar at
-  advances_at (AtWaitLoad q n) ar al at = load_goes K limit t w k c h run shared queue wk kk c.ready q n refl at
-  advances_at (AtLook q n) ar al at = look_goes K limit t w k c h run shared queue wk kk (is_at_door q c.door) c.ready (c.quick || c.head)
+  advances_at AtStart ar al at = start_goes before c.ready (is_zero (word_of c)) refl refl ar at
+  advances_at AtTryQuick ar al at = quick_goes before (is_zero (word_of c)) refl ar at
+  advances_at AtDoorGet ar al at = door_get_goes before c.door refl ar at
+  advances_at AtDoorPut ar al at = door_put_goes before g c.door refl ar al at
+  advances_at (AtCountIn q) ar al at = in_goes before (nat_lt c.count limit) c.ready q refl refl some ar at
+  advances_at (AtWaitLoad q n) ar al at = load_goes before c.ready q n refl at
+  advances_at (AtLook q n) ar al at = look_goes before (is_at_door q c.door) c.ready (c.quick || c.head)
       (is_waker w (own_listing n c.listings)) g q n refl refl refl refl at
-  advances_at (AtList q n v) ar al at = list_goes K limit t w k c h run shared queue wk kk (is_at_door q c.door) c.ready (c.quick || c.head)
+  advances_at (AtList q n v) ar al at = list_goes before (is_at_door q c.door) c.ready (c.quick || c.head)
       (is_some (kept_ticket n c.listings) || g) q n v refl refl refl at
-  advances_at (AtRun by) ar al at = run_goes K limit t w k c h run shared queue wk kk (init_answer (is_lazy K) c.answers a) by (next_given K c.answers (answers_left K h) a shared.answers_is) at
-  advances_at (AtPut by) ar al at = put_goes K limit t w k c h run shared queue wk kk by at
-  advances_at (AtFast e) ar al at = fast_goes K limit t w k c h run shared queue wk kk (is_quick_bit (word_of c)) e refl ar at
-  advances_at (AtAddOne e) ar al at = add_goes K limit t w k c h run shared queue wk kk e at
-  advances_at (AtDoorAgain e) ar al at = again_goes K limit t w k c h run shared queue wk kk c.door e refl at
-  advances_at (AtRelease q e) ar al at = release_goes K limit t w k c h run shared queue wk kk (is_at_door q c.door) q e refl al at
-  advances_at (AtLeave q n e) ar al at = leave_goes K limit t w k c h run shared queue wk kk (is_at_door q c.door) q n e refl al at
-  advances_at (AtCountOut e) ar al at = out_goes K limit t w k c h run shared queue wk kk (is_ready_bit (word_of (out_shared c))) e refl ar at
-  advances_at (AtDoorTake e) ar al at = take_goes K limit t w k c h run shared queue wk kk e ar at
+  advances_at (AtRun by) ar al at = run_goes before (init_answer (is_lazy K) c.answers a) by (next_given K c.answers (answers_left K h) a before.shared.answers_is) at
+  advances_at (AtPut by) ar al at = put_goes before by at
+  advances_at (AtFast e) ar al at = fast_goes before (is_quick_bit (word_of c)) e refl ar at
+  advances_at (AtAddOne e) ar al at = add_goes before e at
+  advances_at (AtDoorAgain e) ar al at = again_goes before c.door e refl at
+  advances_at (AtRelease q e) ar al at = release_goes before (is_at_door q c.door) q e refl al at
+  advances_at (AtLeave q n e) ar al at = leave_goes before (is_at_door q c.door) q n e refl al at
+  advances_at (AtCountOut e) ar al at = out_goes before (is_ready_bit (word_of (out_shared c))) e refl ar at
+  advances_at (AtDoorTake e) ar al at = take_goes before e ar at
 
   -- a step keeps what a step owes
   pub advances : (s : Step ℕ ℕ) → in_call s ≡ true → Around K t (is_counted s) (is_take s) c h → AroundList K t (ticket_of s) c h → AtStep K limit t c h s

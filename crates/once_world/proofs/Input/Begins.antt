@@ -6,8 +6,8 @@ use Rattle.once_world.specs.Cell.{cell}
 use Rattle.once_world.specs.Tasks.{Dropping, Fresh, Waiting, last_call, status}
 use Rattle.once_world.specs.Called.{SomebodyCalled}
 use Rattle.once_world.specs.Run.{IsLegal, IsRun, MayBegin}
-use Rattle.once_world.specs.Machine.{AtFast, AtLeave, AtRelease, EndDropped, Finished, SharedState, Place, Rest, RestRun, RestStart, RestWait, Resting, Step}
-use Rattle.once_world.specs.Machine.{UnderWay, step_of_poll, place_of_poll, drop_entries, step_of_drop, step_of_drop_at, is_resting}
+use Rattle.once_world.specs.Machine.{AtLeave, EndDropped, Finished, SharedState, Place, Rest, RestRun, RestStart, RestWait, Resting, Step}
+use Rattle.once_world.specs.Machine.{UnderWay, step_of_poll, place_of_poll, release_place, drop_entries, step_of_drop, step_of_drop_at, is_resting}
 use Rattle.once_queue.proofs.Listing.Members.{eqb_self}
 use Rattle.once_world.proofs.History.Others.{holds, keeps_both, legal_keeps}
 use Rattle.once_world.proofs.History.Waiters.{QueueFits, quiet}
@@ -17,7 +17,26 @@ use Rattle.once_world.proofs.Invariant.Fits.{SharedFits}
 use Rattle.once_world.proofs.Invariant.Turns.{lists_stay}
 use Rattle.once_world.proofs.Invariant.Moves.{Moves}
 use Rattle.once_world.proofs.Place.Builders.{shared_at, of_other, same_shared}
+use Rattle.once_world.proofs.Place.Holds.{back_counts, gives_back}
 use Rattle.once_world.proofs.Input.Drops.{drop_moment, now}
+
+-- a poll that just began has not claimed
+begun_entered : (K : Kind) (t w : ℕ) (h : List Entry) → holds t (cell K h) ≡ false → Entered K t (Begin t w ∷ h)
+begun_entered K t w h n = record { poll = record { status_is = rw (eqb_self t) refl; ran_is = rw (eqb_self t) refl; holds_is = n; unpassed = rw (eqb_self t) refl }; unclaimed = rw (eqb_self t) refl }
+
+-- a holder holds in its next poll
+begun_holds : (K : Kind) (t w : ℕ) (h : List Entry) → holds t (cell K h) ≡ true → InPoll K t (Begin t w ∷ h) None true
+begun_holds K t w h n = record { status_is = rw (eqb_self t) refl; ran_is = rw (eqb_self t) refl; holds_is = n; unpassed = rw (eqb_self t) refl }
+
+-- a drop that just began
+dropping : (K : Kind) (t : ℕ) (h : List Entry) (b : Bool) → holds t (cell K h) ≡ b → InStatus K t (DropBegin t ∷ h) Dropping b
+dropping K t h b n = record { status_is = rw (eqb_self t) refl; holds_is = n }
+
+-- a waiter keeps its ticket in its next poll
+begun_ticket : (K : Kind) (t w : ℕ) (c : SharedState) (h : List Entry) (n : Option ℕ) → status K t h ≡ Waiting
+    → RestsOn K t c h n → HasTicket K t c (Begin t w ∷ h) n
+begun_ticket K t w c h None s a = tt
+begun_ticket K t w c h (Some n) s a = (rw (eqb_self t) s, λ r. rw (eqb_self t) (a.1 r))
 
 module _ (K : Kind) (limit t w : ℕ) (k : Answer) (c : SharedState) (h : List Entry) (run : IsRun K limit h) (shared : SharedFits K limit c h) (queue : QueueFits K c.listings h) where
   -- a poll that begins
@@ -90,71 +109,40 @@ module _ (K : Kind) (limit t w : ℕ) (k : Answer) (c : SharedState) (h : List E
         moments = λ b s. (s, (drop_moment K limit t h a.status_is legal (now (SomebodyCalled K) h b), b));
       }
 
--- a poll that just began has not claimed
-begun_entered : (K : Kind) (t w : ℕ) (h : List Entry) → holds t (cell K h) ≡ false → Entered K t (Begin t w ∷ h)
-begun_entered K t w h n = record { poll = record { status_is = rw (eqb_self t) refl; ran_is = rw (eqb_self t) refl; holds_is = n; unpassed = rw (eqb_self t) refl }; unclaimed = rw (eqb_self t) refl }
+  -- the poll begins, by the place at rest
+  begins_at : (r : Rest ℕ) → k ≡ RanPending → AtRest K limit t c h r
+      → Moves K limit t (Resting r) (record { waker = w; kept = k; step = UnderWay (place_of_poll r) }) c c h (Begin t w ∷ h)
+  begins_at RestStart g a =
+      begin_moves RestStart (rw a.status_is tt) g
+      (begun_entered K t w h a.holds_is, rw (eqb_self t) a.status_is, λ e. (rw (eqb_self t) at e)) refl
+  begins_at (RestWait q n) g a =
+      begin_moves (RestWait q n) (rw a.0.status_is tt) g
+      (record { entered = begun_entered K t w h a.0.holds_is; from = inr (rw (eqb_self t) a.0.status_is) }, a.1, begun_ticket K t w c h n a.0.status_is a.2) refl
+  begins_at (RestRun by) g a = begin_moves (RestRun by) (rw a.0.status_is tt) g (begun_holds K t w h a.0.holds_is, a.1) refl
 
--- a holder holds in its next poll
-begun_holds : (K : Kind) (t w : ℕ) (h : List Entry) → holds t (cell K h) ≡ true → InPoll K t (Begin t w ∷ h) None true
-begun_holds K t w h n = record { status_is = rw (eqb_self t) refl; ran_is = rw (eqb_self t) refl; holds_is = n; unpassed = rw (eqb_self t) refl }
+  -- a poll begins from the step at rest
+  pub begins : (s : Step ℕ ℕ) → k ≡ kept_of (last_call K t h).ran → is_resting s ≡ true → AtStep K limit t c h s
+      → Moves K limit t s (record { waker = w; kept = k; step = step_of_poll s }) c c h (Begin t w ∷ h)
+  begins (Resting r) kk n a = begins_at r (kk ∙ a.1) a.0
+  begins _ kk n a = absurd (false≢true n)
 
--- a drop that just began
-dropping : (K : Kind) (t : ℕ) (h : List Entry) (b : Bool) → holds t (cell K h) ≡ b → InStatus K t (DropBegin t ∷ h) Dropping b
-dropping K t h b n = record { status_is = rw (eqb_self t) refl; holds_is = n }
+  -- the drop begins, by the place at rest
+  drops_at : (r : Rest ℕ) → (last_call K t h).waker ≡ w → k ≡ kept_of (last_call K t h).ran → AtStep K limit t c h (Resting r)
+      → Moves K limit t (Resting r) (record { waker = w; kept = k; step = step_of_drop_at r }) c c h (drop_entries t (step_of_drop_at r) ++ h)
+  drops_at RestStart wk kk a = drop_fresh a.0 wk (kk ∙ a.1)
+  drops_at (RestWait q None) wk kk a = absurd a.0.2
+  drops_at (RestWait q (Some n)) wk kk a =
+      drop_moves (RestWait q (Some n)) (AtLeave q n EndDropped) (rw a.0.0.status_is tt) wk (kk ∙ a.1)
+      ((dropping K t h false a.0.0.holds_is, rw (eqb_self t) refl, rw (eqb_self t) refl), a.0.1, rw (eqb_self t) a.0.0.status_is, λ r. rw (eqb_self t) (a.0.2.1 r))
+      refl refl (λ _. refl) refl
+  drops_at (RestRun by) wk kk a =
+      let n = back_counts by EndDropped in
+      let own = gives_back K limit t c (DropBegin t ∷ h) by EndDropped (dropping K t h true a.0.0.holds_is, rw (eqb_self t) refl) a.0.1 in
+      drop_moves (RestRun by) (release_place by EndDropped) (rw a.0.0.status_is tt) wk (kk ∙ a.1)
+      own n.0 n.1 (λ e. absurd (false≢true (sym n.2 ∙ e))) n.3
 
--- a waiter keeps its ticket in its next poll
-begun_ticket : (K : Kind) (t w : ℕ) (c : SharedState) (h : List Entry) (n : Option ℕ) → status K t h ≡ Waiting
-    → RestsOn K t c h n → HasTicket K t c (Begin t w ∷ h) n
-begun_ticket K t w c h None s a = tt
-begun_ticket K t w c h (Some n) s a = (rw (eqb_self t) s, λ r. rw (eqb_self t) (a.1 r))
-
--- the poll begins, by the place at rest
-begins_at : (K : Kind) (limit t w : ℕ) (k : Answer) (c : SharedState) (h : List Entry) (r : Rest ℕ) → IsRun K limit h
-    → SharedFits K limit c h → QueueFits K c.listings h → k ≡ RanPending → AtRest K limit t c h r
-    → Moves K limit t (Resting r) (record { waker = w; kept = k; step = UnderWay (place_of_poll r) }) c c h (Begin t w ∷ h)
-begins_at K limit t w k c h RestStart run shared queue g a =
-    begin_moves K limit t w k c h run shared queue RestStart (rw a.status_is tt) g
-    (begun_entered K t w h a.holds_is, rw (eqb_self t) a.status_is, λ e. (rw (eqb_self t) at e)) refl
-begins_at K limit t w k c h (RestWait q n) run shared queue g a = begin_moves K limit t w k c h run shared queue
-    (RestWait q n) (rw a.0.status_is tt) g (
-      record {
-        entered = begun_entered K t w h a.0.holds_is;
-        from = inr
-            (rw (eqb_self t) a.0.status_is);
-      },
-      a.1,
-      begun_ticket K t w c h n a.0.status_is a.2,
-    ) refl
-begins_at K limit t w k c h (RestRun by) run shared queue g a = begin_moves K limit t w k c h run shared queue (RestRun by) (rw a.0.status_is tt) g (begun_holds K t w h a.0.holds_is, a.1) refl
-
--- a poll begins from the step at rest
-pub begins : (K : Kind) (limit t w : ℕ) (k : Answer) (c : SharedState) (h : List Entry) (s : Step ℕ ℕ)
-    → IsRun K limit h → SharedFits K limit c h → QueueFits K c.listings h → k ≡ kept_of (last_call K t h).ran
-    → is_resting s ≡ true → AtStep K limit t c h s
-    → Moves K limit t s (record { waker = w; kept = k; step = step_of_poll s }) c c h (Begin t w ∷ h)
-begins K limit t w k c h (Resting r) run shared queue kk n a = begins_at K limit t w k c h r run shared queue (kk ∙ a.1) a.0
-begins K limit t w k c h _ run shared queue kk n a = absurd (false≢true n)
-
--- the drop begins, by the place at rest
-drops_at : (K : Kind) (limit t w : ℕ) (k : Answer) (c : SharedState) (h : List Entry) (r : Rest ℕ) → IsRun K limit h
-    → SharedFits K limit c h → QueueFits K c.listings h → (last_call K t h).waker ≡ w
-    → k ≡ kept_of (last_call K t h).ran → AtStep K limit t c h (Resting r)
-    → Moves K limit t (Resting r) (record { waker = w; kept = k; step = step_of_drop_at r }) c c h (drop_entries t (step_of_drop_at r) ++ h)
-drops_at K limit t w k c h RestStart run shared queue wk kk a = drop_fresh K limit t w k c h run shared queue a.0 wk (kk ∙ a.1)
-drops_at K limit t w k c h (RestWait q None) run shared queue wk kk a = absurd a.0.2
-drops_at K limit t w k c h (RestWait q (Some n)) run shared queue wk kk a =
-    drop_moves K limit t w k c h run shared queue (RestWait q (Some n)) (AtLeave q n EndDropped)
-    (rw a.0.0.status_is tt) wk (kk ∙ a.1)
-    ((dropping K t h false a.0.0.holds_is, rw (eqb_self t) refl, rw (eqb_self t) refl), a.0.1, rw (eqb_self t) a.0.0.status_is, λ r. rw (eqb_self t) (a.0.2.1 r)) refl refl (λ _. refl) refl
-drops_at K limit t w k c h (RestRun None) run shared queue wk kk a = drop_moves K limit t w k c h run shared queue (RestRun None) (AtFast EndDropped) (rw a.0.0.status_is tt) wk (kk ∙ a.1)
-    ((dropping K t h true a.0.0.holds_is, rw (eqb_self t) refl), a.0.1.0, a.0.1.1) refl refl (λ e. absurd (false≢true e)) refl
-drops_at K limit t w k c h (RestRun (Some q)) run shared queue wk kk a = drop_moves K limit t w k c h run shared queue (RestRun (Some q)) (AtRelease q EndDropped) (rw a.0.0.status_is tt) wk (kk ∙ a.1)
-    ((dropping K t h true a.0.0.holds_is, rw (eqb_self t) refl), inr a.0.1.0, a.0.1.1) refl refl (λ e. absurd (false≢true e)) refl
-
--- a drop begins from the step at rest
-pub drop_begins : (K : Kind) (limit t w : ℕ) (k : Answer) (c : SharedState) (h : List Entry) (s : Step ℕ ℕ)
-    → IsRun K limit h → SharedFits K limit c h → QueueFits K c.listings h → (last_call K t h).waker ≡ w
-    → k ≡ kept_of (last_call K t h).ran → is_resting s ≡ true → AtStep K limit t c h s
-    → Moves K limit t s (record { waker = w; kept = k; step = step_of_drop s }) c c h (drop_entries t (step_of_drop s) ++ h)
-drop_begins K limit t w k c h (Resting r) run shared queue wk kk n a = drops_at K limit t w k c h r run shared queue wk kk a
-drop_begins K limit t w k c h _ run shared queue wk kk n a = absurd (false≢true n)
+  -- a drop begins from the step at rest
+  pub drop_begins : (s : Step ℕ ℕ) → (last_call K t h).waker ≡ w → k ≡ kept_of (last_call K t h).ran → is_resting s ≡ true → AtStep K limit t c h s
+      → Moves K limit t s (record { waker = w; kept = k; step = step_of_drop s }) c c h (drop_entries t (step_of_drop s) ++ h)
+  drop_begins (Resting r) wk kk n a = drops_at r wk kk a
+  drop_begins _ wk kk n a = absurd (false≢true n)

@@ -1,13 +1,14 @@
 -- Every made task is gone exactly where no task is unfinished.
 use Rattle.std.proofs.Common.{◌≡◌, ℕ, Bool, true, false, ◌==◌, ◌⊎◌, inl, inr, ⊎_elim, List, [], ◌∷◌, Option, Some, None, refl, sym, ap, ◌∙◌, subst, arith}
+use Rattle.std.proofs.lemmas.Grind.{common_steps}
 use Rattle.std.specs.Prelude.{not}
 use Rattle.std.proofs.lemmas.Bool.{false≢true, true≢false, cases_Bool, eqb-true, false_from_ne_true}
 use Rattle.std.proofs.lemmas.Bool.Decides.{nat_tests}
 use Rattle.once_queue.specs.Numbers.{member}
 use Rattle.once_world.specs.Record.{Entry, Kind, made_in}
 use Rattle.once_world.specs.Cell.{cell}
-use Rattle.once_world.specs.Tasks.{Dropping, Fresh, Gone, Holding, Polling, Status, Unmade, Waiting, all_gone, are_gone, is_gone, is_under_way, status}
-use Rattle.once_world.specs.Machine.{Finished, SharedState, Rest, RestRun, RestStart, RestWait, Resting, Step, Task, UnderWay, World, is_finished}
+use Rattle.once_world.specs.Tasks.{Gone, Status, Unmade, all_gone, are_gone, is_gone, is_under_way, status}
+use Rattle.once_world.specs.Machine.{Finished, SharedState, Rest, RestStart, Resting, Step, Task, UnderWay, World, is_finished}
 use Rattle.once_queue.proofs.Listing.Members.{eqb_self}
 use Rattle.once_world.proofs.History.Others.{holds}
 use Rattle.once_world.proofs.Listing.Counting.{count_none, count_positive}
@@ -75,12 +76,7 @@ made_there K t (x ∷ xs) h a m =
 
 -- who acts is not gone
 acts_not_gone : (s : Status) → is_under_way s ≡ true → is_gone s ≡ true → ⊥
-acts_not_gone Gone a g = false≢true a
-acts_not_gone Unmade a g = false≢true a
-acts_not_gone Fresh a g = false≢true a
-acts_not_gone Waiting a g = false≢true a
-acts_not_gone Holding a g = false≢true a
-acts_not_gone _ a g = false≢true g
+acts_not_gone s a g = grind (arith, common_steps)
 
 -- who rests is not gone
 rest_not_gone : (K : Kind) (limit t : ℕ) (c : SharedState) (h : List Entry) (r : Rest ℕ) → AtRest K limit t c h r → is_gone (status K t h) ≡ true → ⊥

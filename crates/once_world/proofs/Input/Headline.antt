@@ -19,12 +19,20 @@ use Rattle.once_world.proofs.Invariant.Around.{around}
 use Rattle.once_world.proofs.Invariant.AroundLists.{around_list}
 use Rattle.once_world.proofs.Input.Owner.{owned_fits}
 use Rattle.once_world.proofs.Input.Begins.{begins, drop_begins}
+use Rattle.once_world.proofs.Place.Builders.{Before}
 use Rattle.once_world.proofs.Input.Advances.{advances}
 use Rattle.once_world.proofs.Input.Makes.{look_fits, made_fits}
 
 -- the task x at the number t
 pub task_fits : (K : Kind) (limit t : ℕ) (w : World) (x : Task) → Fits K limit w → w.tasks t ≡ Some x → TaskFits K limit t w.shared w.history x
 task_fits K limit t w x f found = rw found at (f.tasks t)
+
+-- all that stands before a step of it
+pub task_before : (K : Kind) (limit t : ℕ) (w : World) (x : Task) → Fits K limit w → w.tasks t ≡ Some x
+    → Before K limit t x.waker x.kept w.shared w.history
+task_before K limit t w x f found =
+    let own = task_fits K limit t w x f found in
+    record { run = f.run; shared = f.shared; queue = f.queue; waker_is = own.waker_is; kept_is = own.kept_is }
 
 -- a task at rest is not finished
 resting_live : (s : Step ℕ ℕ) → is_resting s ≡ true → is_finished s ≡ false
@@ -52,7 +60,7 @@ begun_fits K limit w t k x f found true r =
     let y : Task = record x { waker = k; step = step_of_poll x.step } in
     let own = task_fits K limit t w x f found in
     moved_fits K limit t x y w (poll_world_by true w t k x) f found (resting_live x.step r) (puts t y w.tasks) (begun_live x.step w.unfinished r)
-    (begins K limit t k x.kept w.shared w.history x.step f.run f.shared f.queue own.kept_is r own.step)
+    (begins K limit t k x.kept w.shared w.history f.run f.shared f.queue x.step own.kept_is r own.step)
 
 -- the beginning of a drop
 drop_fits : (K : Kind) (limit : ℕ) (w : World) (t : ℕ) (x : Task) → Fits K limit w → w.tasks t ≡ Some x → (r : Bool)
@@ -62,7 +70,7 @@ drop_fits K limit w t x f found true r =
     let y : Task = record x { step = step_of_drop x.step } in
     let own = task_fits K limit t w x f found in
     moved_fits K limit t x y w (drop_world_by true w t x) f found (resting_live x.step r) (puts t y w.tasks) refl
-    (drop_begins K limit t x.waker x.kept w.shared w.history x.step f.run f.shared f.queue own.waker_is own.kept_is r own.step)
+    (drop_begins K limit t x.waker x.kept w.shared w.history f.run f.shared f.queue x.step own.waker_is own.kept_is r own.step)
 
 -- a step
 goes_fits : (K : Kind) (limit : ℕ) (w : World) (t : ℕ) (a : Answer) (g : Bool) (x : Task) → 0 < limit
@@ -74,7 +82,7 @@ goes_fits K limit w t a g x some f found true r =
     let y : Task = record x { step = o.step; kept = o.kept } in
     let own = task_fits K limit t w x f found in
     moved_fits K limit t x y w (go_world_by true (is_lazy K) limit w t a g x) f found (calling_live x.step r) (puts t y w.tasks) refl
-    (advances K limit t x.waker x.kept w.shared w.history a g some f.run f.shared f.queue own.waker_is own.kept_is x.step r (around K limit t x w f found) (around_list K limit t x w f found) own.step)
+    (advances (task_before K limit t w x f found) a g some x.step r (around K limit t x w f found) (around_list K limit t x w f found) own.step)
 
 -- the inputs, by whether the task is there
 polled_fits : (K : Kind) (limit : ℕ) (w : World) (t k : ℕ) → Fits K limit w → (o : Option Task) → w.tasks t ≡ o → Fits K limit (poll_world w t k o)

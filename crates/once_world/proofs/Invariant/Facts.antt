@@ -7,8 +7,8 @@ use Rattle.once_world.specs.Tasks.{Dropping, Fresh, Gone, Holding, Polling, Stat
 use Rattle.once_queue.specs.Listings.{find_listing}
 use Rattle.once_world.specs.Refusals.{MemoryFrom}
 use Rattle.once_world.specs.Wakers.{handed_since}
-use Rattle.once_world.specs.Machine.{AtAddOne, AtCountIn, AtCountOut, AtDoorAgain, AtDoorGet, AtDoorPut, AtDoorTake, AtFast, AtList, AtLook, AtPut, AtLeave}
-use Rattle.once_world.specs.Machine.{AtRelease, AtRun, AtStart, AtTryQuick, AtWaitLoad, EndDropped, EndError, EndFull, EndMemory, EndPending, EndValue, Ending}
+use Rattle.once_world.specs.Machine.{AtAddOne, AtCountIn, AtCountOut, AtDoorAgain, AtDoorGet, AtDoorPut, AtDoorTake, AtFast, AtList, AtLook, AtPut}
+use Rattle.once_world.specs.Machine.{AtLeave, AtRelease, AtRun, AtStart, AtTryQuick, AtWaitLoad, EndDropped, EndError, EndMemory, EndValue, Ending}
 use Rattle.once_world.specs.Machine.{Finished, SharedState, Place, Rest, RestRun, RestStart, RestWait, Resting, Step, UnderWay, place_of_poll}
 use Rattle.once_world.proofs.History.Others.{Met, MetHolder, SomeoneWaits, holds}
 

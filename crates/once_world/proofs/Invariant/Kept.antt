@@ -1,19 +1,17 @@
 -- What stands for a task keeps standing through the step of another.
-use Rattle.std.proofs.Common.{◌≡◌, ◌≤◌, ℕ, Bool, true, false, ◌⊎◌, inl, inr, ⊎_elim, List, Option, Some, None, refl, sym, ap, ◌∙◌, arith}
+use Rattle.std.proofs.Common.{◌≡◌, ◌≤◌, ℕ, Bool, true, false, ◌⊎◌, ⊎_elim, List, Option, Some, sym, ◌∙◌, arith}
 use Rattle.std.proofs.lemmas.Bool.Decides.{nat_tests}
 use Rattle.std.proofs.lemmas.Grind.{common_steps}
 use Rattle.std.proofs.lemmas.Bool.{false≢true}
-use Rattle.once_world.specs.Record.{Answer, Entry, Kind, RanError, RanValue}
-use Rattle.once_world.specs.Cell.{Cell, Empty, Held, SetTo, cell, is_set}
-use Rattle.once_world.specs.Tasks.{Dropping, Fresh, Gone, Holding, LastCall, Polling, Status, Unmade, Waiting, last_call}
+use Rattle.once_world.specs.Record.{Answer, Entry, Kind}
+use Rattle.once_world.specs.Cell.{Cell, SetTo, cell, is_set}
+use Rattle.once_world.specs.Tasks.{Fresh, Gone, Holding, Status, Waiting}
 use Rattle.once_world.specs.Refusals.{MemoryFrom}
-use Rattle.once_world.specs.Machine.{AtAddOne, AtCountIn, AtCountOut, AtDoorAgain, AtDoorGet, AtDoorPut, AtDoorTake, AtFast, AtList, AtLook, AtPut, AtLeave}
-use Rattle.once_world.specs.Machine.{AtRelease, AtRun, AtStart, AtTryQuick, AtWaitLoad, EndDropped, EndError, EndFull, EndMemory, EndPending, EndValue, Ending}
-use Rattle.once_world.specs.Machine.{Finished, SharedState, Place, Rest, RestRun, RestStart, RestWait, Resting, Step, UnderWay}
+use Rattle.once_world.specs.Machine.{AtStart, Ending, Finished, SharedState, Place, Rest, RestRun, RestStart, RestWait, Resting, Step, UnderWay}
 use Rattle.once_world.proofs.History.Others.{Keeps, holds}
 use Rattle.once_world.proofs.History.Cells.{holder_unset}
-use Rattle.once_world.proofs.Invariant.Facts.{AnyIn, AtPlace, AtRest, AtStep, Entered, FreshIn, GaveNothing, HeadFlag, HoldsBy, InPoll, InStatus, MayLeave}
-use Rattle.once_world.proofs.Invariant.Facts.{Owes, QuickFlag, RefusedIn, Releasing, is_inside, is_inside_at, ticket_at, ticket_of}
+use Rattle.once_world.proofs.Invariant.Facts.{AnyIn, AtPlace, AtRest, AtStep, Entered, FreshIn, GaveNothing, HeadFlag, HoldsBy, InPoll, InStatus}
+use Rattle.once_world.proofs.Invariant.Facts.{MayLeave, Owes, QuickFlag, RefusedIn, Releasing, is_inside, is_inside_at, ticket_at, ticket_of}
 use Rattle.once_world.proofs.Invariant.Listed.{ListKept, listed_kept, rests_kept, ticket_kept}
 
 -- what a step of another task leaves for u of what all tasks share

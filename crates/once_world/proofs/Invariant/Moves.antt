@@ -1,5 +1,7 @@
 -- What the step of one task owes, and that it then keeps all that holds.
 use Rattle.std.proofs.Common.{◌≡◌, ◌≢◌, ◌<◌, ◌+◌, ℕ, Bool, true, false, ◌⊎◌, inl, inr, ⊎_elim, List, Option, Some, None, refl, sym, ap, ◌∙◌, subst, arith}
+use Rattle.std.proofs.lemmas.Bool.Decides.{nat_tests}
+use Rattle.std.proofs.lemmas.Grind.{common_steps}
 use Rattle.std.specs.Prelude.{not}
 use Rattle.std.proofs.lemmas.Bool.{false≢true, cases_eq, cases_Bool, ne_eqb, false_from_ne_true}
 use Rattle.once_queue.specs.Numbers.{bit, how_many, member}
@@ -10,8 +12,8 @@ use Rattle.once_queue.specs.declared.waiters.Listing.{Listing}
 use Rattle.once_queue.specs.Listings.{find_listing}
 use Rattle.once_world.specs.Run.{AtEvery, IsRun}
 use Rattle.once_world.specs.Called.{SomebodyCalled}
-use Rattle.once_world.specs.Machine.{AtDoorTake, AtLeave, AtList, AtLook, AtWaitLoad, Finished, SharedState, Place, Resting, Step, Task, UnderWay, World}
-use Rattle.once_world.specs.Machine.{place_of_poll, is_finished, put_task, unfinished_after, step_of}
+use Rattle.once_world.specs.Machine.{AtDoorTake, Finished, SharedState, Place, Resting, Step, Task, UnderWay, World, place_of_poll, is_finished}
+use Rattle.once_world.specs.Machine.{put_task, unfinished_after, step_of}
 use Rattle.once_queue.proofs.Listing.Members.{eqb_self}
 use Rattle.once_world.proofs.History.Others.{Keeps}
 use Rattle.once_world.proofs.History.Waiters.{QueueFits}
@@ -83,11 +85,7 @@ counted c c' n n' b b' p q e g k x y =
 
 -- by the place
 inside_counted_at : (p : Place ℕ ℕ) → is_inside_at p ≡ true → is_counted_at p ≡ true
-inside_counted_at (AtWaitLoad q k) e = refl
-inside_counted_at (AtLook q k) e = refl
-inside_counted_at (AtList q k w) e = refl
-inside_counted_at (AtLeave q n x) e = refl
-inside_counted_at _ e = absurd (false≢true e)
+inside_counted_at p e = grind (arith, nat_tests, common_steps)
 
 -- a waiter stands in the count
 pub inside_counted : (s : Step ℕ ℕ) → is_inside s ≡ true → is_counted s ≡ true

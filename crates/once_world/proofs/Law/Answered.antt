@@ -1,10 +1,11 @@
 -- A poll that begins when the value is set answers it without running its init. From the run alone.
 use Rattle.std.proofs.Common.{◌≡◌, ◌==◌, ℕ, Bool, true, false, inl, inr, List, [], ◌∷◌, Option, None, refl, sym, ap, ◌∙◌, subst, arith}
+use Rattle.std.proofs.lemmas.Grind.{common_steps}
 use Rattle.std.proofs.lemmas.Bool.{false≢true}
 use Rattle.std.proofs.lemmas.Bool.Decides.{nat_tests}
-use Rattle.once_world.specs.Record.{Answer, Begin, Claim, DropBegin, DropEnd, End, Entry, Error, Fill, Free, Full, Kind, Look, Made, Memory, Own, Pass, Pending, Ran, Reply, Value, is_of, is_own}
+use Rattle.once_world.specs.Record.{Answer, Begin, End, Entry, Error, Full, Kind, Memory, Own, Pending, Reply, Value, is_of, is_own}
 use Rattle.once_world.specs.Cell.{Cell, Empty, Held, SetTo, cell, got, is_set}
-use Rattle.once_world.specs.Tasks.{Dropping, Fresh, Gone, Holding, Polling, Status, Unmade, Waiting, all_gone, last_call, last_call_after, pending_status, status, status_after}
+use Rattle.once_world.specs.Tasks.{Fresh, Polling, Status, Unmade, Waiting, all_gone, last_call, last_call_after, pending_status, status, status_after}
 use Rattle.once_world.specs.Refusals.{MemoryFrom, OtherHolds, Since, is_begin_of}
 use Rattle.once_world.specs.Run.{IsLegal, IsRun, MayEnd}
 use Rattle.once_world.proofs.History.Others.{set_stays_after}
@@ -59,21 +60,9 @@ own_set : (K : Kind) (limit t : ℕ) (e : Entry) (h : List Entry) → is_of t e 
     → (last_call_after e (cell K h) (status K t h) (last_call K t h)).set_then ≡ true
     → (is_set (cell K (e ∷ h)) ≡ true) × ((last_call_after e (cell K h) (status K t h) (last_call K t h)).ran ≡ None)
     × (Since t (OtherHolds K t) (e ∷ h) → ⊥)
-own_set K limit t (Made u) h n l ih s x = grind arith
 own_set K limit t (Begin u w) h n l ih s x = (x, refl, begun_unheld K t u w h n x)
-own_set K limit t (Claim u) h n l ih s x = let k = ih s x in absurd (set_not_empty (cell K h) k.set l.0)
-own_set K limit t (Ran u a) h n l ih s x = let k = ih s x in absurd (set_not_held (cell K h) u k.set l.0)
-own_set K limit t (Free u X) h n l ih s x = let k = ih s x in absurd (set_not_held (cell K h) u k.set l.0)
-own_set K limit t (Fill u v X) h n l ih s x = let k = ih s x in absurd (set_not_held (cell K h) u k.set l.0)
-own_set K limit t (Pass u X) h n l ih s x = let k = ih s x in absurd (set_not_empty (cell K h) k.set l.0)
 own_set K limit t (End u Pending) h n l ih s x = absurd (pending_polls u (cell K h) s)
-own_set K limit t (End u (Value v)) h n l ih s x = grind arith
-own_set K limit t (End u (Error v)) h n l ih s x = grind arith
-own_set K limit t (End u Memory) h n l ih s x = grind arith
-own_set K limit t (End u Full) h n l ih s x = grind arith
-own_set K limit t (DropBegin u) h n l ih s x = grind arith
-own_set K limit t (DropEnd u) h n l ih s x = grind arith
-own_set K limit t _ h n l ih s x = absurd (false≢true n)
+own_set K limit t e h n l ih s x = grind (arith, nat_tests, common_steps, ih)
 
 not_unmade_polling : Polling ≡ Unmade → ⊥
 not_unmade_polling e = cc

@@ -1,8 +1,10 @@
 -- Where no call is under way, the task that was called is one that waits.
 use Rattle.std.proofs.Common.{◌≡◌, ℕ, Bool, true, false, ⊎_elim, List, [], ◌∷◌, refl, sym, ◌∙◌, subst, arith}
+use Rattle.std.proofs.lemmas.Bool.Decides.{nat_tests}
+use Rattle.std.proofs.lemmas.Grind.{common_steps}
 use Rattle.std.proofs.lemmas.Bool.{false≢true}
 use Rattle.once_queue.specs.Numbers.{member}
-use Rattle.once_world.specs.Record.{Begin, Claim, DropBegin, DropEnd, End, Entry, Error, Fill, Free, Full, Kind, Look, Made, Memory, Own, Pass, Pending, Ran, Value, is_of}
+use Rattle.once_world.specs.Record.{Entry, Kind, is_of}
 use Rattle.once_world.specs.Cell.{cell}
 use Rattle.once_world.specs.Tasks.{LastCall, Waiting, is_under_way, last_call, last_call_after, status, status_after}
 use Rattle.once_world.specs.Wakers.{handed_since}
@@ -17,16 +19,7 @@ IsListed p = p.listed ≡ p.waker
 listed_own : (K : Kind) (t : ℕ) (e : Entry) (h : List Entry) → (status K t h ≡ Waiting → IsListed (last_call K t h))
     → status_after e (cell K h) (status K t h) ≡ Waiting
     → IsListed (last_call_after e (cell K h) (status K t h) (last_call K t h))
-listed_own K t (End u Pending) h ih s = refl
-listed_own K t (End u (Value v)) h ih s = grind arith
-listed_own K t (End u (Error e)) h ih s = grind arith
-listed_own K t (End u Memory) h ih s = grind arith
-listed_own K t (End u Full) h ih s = grind arith
-listed_own K t (Made u) h ih s = grind arith
-listed_own K t (Begin u w) h ih s = grind arith
-listed_own K t (DropBegin u) h ih s = grind arith
-listed_own K t (DropEnd u) h ih s = grind arith
-listed_own K t _ h ih s = ih s
+listed_own K t e h ih s = grind (arith, nat_tests, common_steps, ih)
 
 -- by whether the entry is of the task
 listed_by : (K : Kind) (t : ℕ) (e : Entry) (h : List Entry) (b : Bool) → is_of t e ≡ b

@@ -1,9 +1,9 @@
 -- Refusals need a crowd, and a poll that completes answers the value that is set. From the run alone.
 use Rattle.std.proofs.Common.{◌≡◌, ◌≢◌, ◌≤◌, ℕ, Bool, true, false, cond, ◌==◌, inl, inr, List, [], ◌∷◌, Option, Some, None, refl, sym, ap, ◌∙◌, subst, arith}
 use Rattle.std.proofs.lemmas.Bool.{false≢true, eq-eqb}
-use Rattle.once_world.specs.Record.{Answer, End, Entry, Full, Kind, Memory, RanError, RanPending, RanValue, Value, made_in}
+use Rattle.once_world.specs.Record.{Answer, End, Entry, Full, Kind, Memory, RanValue, Value, made_in}
 use Rattle.once_world.specs.Cell.{SetTo, cell}
-use Rattle.once_world.specs.Tasks.{Dropping, Fresh, Gone, Holding, Polling, Status, Unmade, Waiting, is_under_way, last_call, status}
+use Rattle.once_world.specs.Tasks.{Dropping, Fresh, Holding, Polling, Status, Waiting, is_under_way, last_call, status}
 use Rattle.once_world.specs.Refusals.{AtSome, IsCrowded, MemoryFrom, OtherActs, Since, crowd, is_about, is_begin_of, moments_since}
 use Rattle.once_world.specs.Crowd.{AreWaiting, is_waiting, waiters}
 use Rattle.once_world.specs.Run.{IsRun, MayEnd}
@@ -14,13 +14,9 @@ use Rattle.once_world.proofs.Law.Rights.{holding_holds}
 -- by what the task was at its Begin
 memory_by : (K : Kind) (limit t : ℕ) (h : List Entry) (a : Option Answer) (s : Status) → (last_call K t h).began ≡ s
     → MayEnd K limit t Memory a h → Since t (OtherActs K t) h
-memory_by K limit t h None Fresh b m = let P : Status → Type 0 = λ y. MemoryFrom K y t h in let k : MemoryFrom K Fresh t h = subst P b m.1 in k.1
-memory_by K limit t h None Waiting b m = let P : Status → Type 0 = λ y. MemoryFrom K y t h in let k : MemoryFrom K Waiting t h = subst P b m.1 in since_weaken K t h k
-memory_by K limit t h None Unmade b m = let P : Status → Type 0 = λ y. MemoryFrom K y t h in let k : MemoryFrom K Unmade t h = subst P b m.1 in absurd k
-memory_by K limit t h None Polling b m = let P : Status → Type 0 = λ y. MemoryFrom K y t h in let k : MemoryFrom K Polling t h = subst P b m.1 in absurd k
-memory_by K limit t h None Dropping b m = let P : Status → Type 0 = λ y. MemoryFrom K y t h in let k : MemoryFrom K Dropping t h = subst P b m.1 in absurd k
-memory_by K limit t h None Holding b m = let P : Status → Type 0 = λ y. MemoryFrom K y t h in let k : MemoryFrom K Holding t h = subst P b m.1 in absurd k
-memory_by K limit t h None Gone b m = let P : Status → Type 0 = λ y. MemoryFrom K y t h in let k : MemoryFrom K Gone t h = subst P b m.1 in absurd k
+memory_by K limit t h None Fresh b m = let k : MemoryFrom K Fresh t h = subst (λ y. MemoryFrom K y t h) b m.1 in k.1
+memory_by K limit t h None Waiting b m = since_weaken K t h (subst (λ y. MemoryFrom K y t h) b m.1)
+memory_by K limit t h None s b m = absurd (subst (λ y. MemoryFrom K y t h) b m.1)
 memory_by K limit t h (Some a) s b m = absurd m
 
 -- want of memory is answered only where another task held or was in a call since the poll began

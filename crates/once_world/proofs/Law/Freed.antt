@@ -1,7 +1,9 @@
 -- A poll that ends with an error has emptied the cell. From the run alone.
-use Rattle.std.proofs.Common.{◌≡◌, ℕ, Bool, true, false, inl, inr, List, [], ◌∷◌, refl, ap}
+use Rattle.std.proofs.Common.{◌≡◌, ℕ, Bool, true, false, inl, List, [], ◌∷◌, refl, ap, arith}
+use Rattle.std.proofs.lemmas.Bool.Decides.{nat_tests}
+use Rattle.std.proofs.lemmas.Grind.{common_steps}
 use Rattle.std.proofs.lemmas.Bool.{false≢true, eqb-true}
-use Rattle.once_world.specs.Record.{Begin, Claim, DropBegin, DropEnd, End, Entry, Error, Fill, Free, Full, Kind, Look, Made, Memory, Own, Pass, Pending, Ran, Value, is_of}
+use Rattle.once_world.specs.Record.{End, Entry, Error, Free, Kind, is_of}
 use Rattle.once_world.specs.Cell.{cell}
 use Rattle.once_world.specs.Tasks.{last_call, last_call_after, status}
 use Rattle.once_world.specs.Refusals.{Since}
@@ -15,20 +17,7 @@ freed_by_own : (K : Kind) (t : ℕ) (e : Entry) (h : List Entry) → is_of t e �
     → ((last_call K t h).freed ≡ true → Since t (HasFreed K t) h)
     → (last_call_after e (cell K h) (status K t h) (last_call K t h)).freed ≡ true → Since t (HasFreed K t) (e ∷ h)
 freed_by_own K t (Free u X) h is ih f = inl ((X, h, ap (λ (v : ℕ). Free v X ∷ h) (eqb-true u t is)), refl)
-freed_by_own K t (Begin u w) h is ih f = absurd (false≢true f)
-freed_by_own K t (DropBegin u) h is ih f = absurd (false≢true f)
-freed_by_own K t (Made u) h is ih f = inr (ih f)
-freed_by_own K t (Claim u) h is ih f = inr (ih f)
-freed_by_own K t (Ran u a) h is ih f = inr (ih f)
-freed_by_own K t (Fill u v X) h is ih f = inr (ih f)
-freed_by_own K t (Pass u X) h is ih f = inr (ih f)
-freed_by_own K t (End u Pending) h is ih f = inr (ih f)
-freed_by_own K t (End u (Value v)) h is ih f = inr (ih f)
-freed_by_own K t (End u (Error v)) h is ih f = inr (ih f)
-freed_by_own K t (End u Memory) h is ih f = inr (ih f)
-freed_by_own K t (End u Full) h is ih f = inr (ih f)
-freed_by_own K t (DropEnd u) h is ih f = inr (ih f)
-freed_by_own K t _ h is ih f = absurd (false≢true is)
+freed_by_own K t e h is ih f = grind (arith, nat_tests, common_steps, ih)
 
 -- its entries and those of others
 freed_by : (K : Kind) (t : ℕ) (e : Entry) (h : List Entry) (b : Bool) → is_of t e ≡ b

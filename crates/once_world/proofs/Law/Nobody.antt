@@ -2,8 +2,7 @@
 use Rattle.std.proofs.Common.{◌≡◌, ◌≢◌, ℕ, Bool, true, false, ⊎_elim, List, [], ◌∷◌, ◌++◌, refl, sym, ap, ◌∙◌, arith}
 use Rattle.std.proofs.lemmas.Bool.{false≢true}
 use Rattle.once_queue.specs.Numbers.{member}
-use Rattle.once_world.specs.Record.{Begin, Claim, DropBegin, DropEnd, End, Entry, Error, Fill, Free, Full, Got, Kind, Look, Made, Memory, Own, OwnerCall, Pass}
-use Rattle.once_world.specs.Record.{Pending, Ran, Reply, Value, handed_by, is_of}
+use Rattle.once_world.specs.Record.{Claim, End, Entry, Fill, Free, Got, Kind, Own, OwnerCall, Pass, Pending, Ran, Reply, handed_by, is_of}
 use Rattle.once_world.specs.Cell.{Cell, Empty, Held, SetTo, cell, is_set}
 use Rattle.once_world.specs.Tasks.{Waiting, all_gone, is_gone, last_call, pending_status, status, status_after}
 use Rattle.once_world.specs.Wakers.{HandsOut, IsDue, handed_since}
@@ -54,11 +53,8 @@ pending_awake t (Held u) n w = false≢true n
 -- no other end leaves a task waiting
 ended_awake : (K : Kind) (t : ℕ) (r : Reply) (h : List Entry) → is_set (cell K h) ≡ true → (u : ℕ)
     → is_of u (End t r) ≡ true → status_after (End t r) (cell K h) (status K u h) ≢ Waiting
-ended_awake K t (Value v) h n u is w = grind arith
-ended_awake K t (Error v) h n u is w = grind arith
-ended_awake K t Memory h n u is w = grind arith
-ended_awake K t Full h n u is w = grind arith
 ended_awake K t Pending h n u is w = pending_awake t (cell K h) n w
+ended_awake K t r h n u is w = grind arith
 
 -- where all are gone nobody waits
 owned_due : (K : Kind) (limit w : ℕ) (o : OwnerCall) (g : Got) (h : List Entry) → IsRun K limit h → all_gone K h ≡ true → IsDue K w (Own o g ∷ h) → ⊥
@@ -69,18 +65,14 @@ owned_due K limit w o g h r a d =
 -- where the cell is set, nobody is owed a waker
 nobody_owed : (K : Kind) (limit w : ℕ) (h : List Entry) → IsRun K limit h → is_set (cell K h) ≡ true → IsDue K w h → ⊥
 nobody_owed K limit w [] r n d = grind (arith, d.1)
-nobody_owed K limit w (Made t ∷ h) r n d = nobody_owed K limit w h r.1 n (due_kept K (Made t) h w refl (λ u is. grind arith) d)
-nobody_owed K limit w (Begin t k ∷ h) r n d = nobody_owed K limit w h r.1 n (due_kept K (Begin t k) h w refl (λ u is. grind arith) d)
 nobody_owed K limit w (Claim t ∷ h) r n d = false≢true n
 nobody_owed K limit w (Ran t a ∷ h) r n d = false≢true (ap is_set (sym r.0.0) ∙ n)
 nobody_owed K limit w (Free t X ∷ h) r n d = false≢true n
 nobody_owed K limit w (Fill t v X ∷ h) r n d = release_due K (Fill t v X) h X w refl r.0.3 (λ u is. polls_not_waits K t u h is r.0.1) d
 nobody_owed K limit w (Pass t X ∷ h) r n d = false≢true (ap is_set (sym r.0.0) ∙ n)
 nobody_owed K limit w (End t r' ∷ h) r n d = nobody_owed K limit w h r.1 n (due_kept K (End t r') h w refl (ended_awake K t r' h n) d)
-nobody_owed K limit w (DropBegin t ∷ h) r n d = nobody_owed K limit w h r.1 n (due_kept K (DropBegin t) h w refl (λ u is. grind arith) d)
-nobody_owed K limit w (DropEnd t ∷ h) r n d = nobody_owed K limit w h r.1 n (due_kept K (DropEnd t) h w refl (λ u is. grind arith) d)
 nobody_owed K limit w (Own o g ∷ h) r n d = owned_due K limit w o g h r.1 r.0.0 d
-nobody_owed K limit w (Look v ∷ h) r n d = nobody_owed K limit w h r.1 n (due_kept K (Look v) h w refl (λ u is. grind arith) d)
+nobody_owed K limit w (e ∷ h) r n d = nobody_owed K limit w h r.1 n (due_kept K e h w refl (λ u is. grind arith) d)
 
 -- at every moment at which the cell is set, nobody who waits is forgotten
 pub nobody_forgotten : (kind : Kind) (limit : ℕ) (h : List Entry) → IsRun kind limit h → AtEvery (NobodyForgotten kind) h

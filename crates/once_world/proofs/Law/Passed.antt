@@ -1,9 +1,11 @@
 -- A release without a value calls one task, and a task that leaves passes its turn on to one. From the run alone.
 use Rattle.std.proofs.Common.{◌≡◌, ◌≢◌, ◌≤◌, ℕ, Bool, true, false, ◌==◌, ◌⊎◌, inl, inr, ⊎_elim, List, [], ◌∷◌, Option, length, refl, sym, ap, ◌∙◌, arith}
+use Rattle.std.proofs.lemmas.Bool.Decides.{nat_tests}
+use Rattle.std.proofs.lemmas.Grind.{common_steps}
 use Rattle.std.proofs.lemmas.Bool.{false≢true, eqb-true}
-use Rattle.once_world.specs.Record.{Answer, Begin, Claim, DropBegin, DropEnd, End, Entry, Error, Fill, Free, Full, Kind, Look, Made, Memory, Own, Pass, Pending, Ran, Reply, Value, is_of}
+use Rattle.once_world.specs.Record.{Answer, Claim, End, Entry, Free, Kind, Made, Memory, Pass, Pending, Reply, is_of}
 use Rattle.once_world.specs.Cell.{Empty, cell}
-use Rattle.once_world.specs.Tasks.{Dropping, Fresh, Gone, Holding, Polling, Status, Unmade, Waiting, is_under_way, last_call, last_call_after, status, status_after}
+use Rattle.once_world.specs.Tasks.{Dropping, Gone, Polling, Status, Unmade, is_under_way, last_call, last_call_after, status, status_after}
 use Rattle.once_world.specs.Wakers.{CallsOne, IsDue, IsOpen}
 use Rattle.once_world.specs.Run.{IsLegal, IsRun, MayPass}
 use Rattle.once_queue.proofs.Listing.Members.{eqb_self}
@@ -69,22 +71,11 @@ own_leaves : (K : Kind) (limit t : ℕ) (e : Entry) (h : List Entry) → is_of t
     → ((last_call K t h).passed ≡ true → IsLeaving (status K t h))
     → (last_call_after e (cell K h) (status K t h) (last_call K t h)).passed ≡ true → IsLeaving (status_after e (cell K h) (status K t h))
 own_leaves K limit t (Made u) h n l ih p = absurd (unmade_stays (status K t h) (ap (λ v. status K v h) (sym (eqb-true u t n)) ∙ l) (ih p))
-own_leaves K limit t (Begin u w) h n l ih p = absurd (false≢true p)
-own_leaves K limit t (Claim u) h n l ih p = ih p
-own_leaves K limit t (Ran u a) h n l ih p = ih p
-own_leaves K limit t (Free u X) h n l ih p = ih p
-own_leaves K limit t (Fill u v X) h n l ih p = ih p
 own_leaves K limit t (Pass u X) h n l ih p = inl (passes_acting K t u h n l.1)
 own_leaves K limit t (End u Pending) h n l ih p =
     let r : Pending ≡ Memory = ⊎_elim (λ f. absurd (false≢true (sym f ∙ ap (λ v. (last_call K v h).passed) (eqb-true u t n) ∙ p))) (λ m. m) l.2 in
     cc
-own_leaves K limit t (End u (Value v)) h n l ih p = inr refl
-own_leaves K limit t (End u (Error e)) h n l ih p = inr refl
-own_leaves K limit t (End u Memory) h n l ih p = inr refl
-own_leaves K limit t (End u Full) h n l ih p = inr refl
-own_leaves K limit t (DropBegin u) h n l ih p = absurd (false≢true p)
-own_leaves K limit t (DropEnd u) h n l ih p = inr refl
-own_leaves K limit t _ h n l ih p = absurd (false≢true n)
+own_leaves K limit t e h n l ih p = grind (arith, nat_tests, common_steps, ih)
 
 -- by whether the entry is of the task
 leaves_by : (K : Kind) (limit t : ℕ) (e : Entry) (h : List Entry) (b : Bool) → is_of t e ≡ b → IsLegal K limit e h

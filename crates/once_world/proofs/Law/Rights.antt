@@ -1,14 +1,14 @@
 -- The right to initialise: one task holds it, it alone releases it, and a value that is set lasts. From the run alone.
-use Rattle.std.proofs.Common.{◌≡◌, ◌≢◌, ℕ, Bool, true, false, ◌==◌, ◌⊎◌, inl, inr, ⊎_elim, List, [], ◌∷◌, Option, Some, None, refl, sym, ap, ◌∙◌, subst, arith}
+use Rattle.std.proofs.Common.{◌≡◌, ◌≢◌, ℕ, Bool, true, false, ◌==◌, ◌⊎◌, ⊎_elim, List, [], ◌∷◌, Option, Some, refl, sym, ap, ◌∙◌, subst, arith}
+use Rattle.std.proofs.lemmas.Grind.{common_steps}
 use Rattle.std.proofs.lemmas.Bool.{false≢true, eqb-true, eq-eqb}
 use Rattle.std.proofs.lemmas.Bool.Decides.{nat_tests}
-use Rattle.once_world.specs.Record.{Answer, Begin, Claim, DropBegin, DropEnd, End, Entry, Error, Fill, Free, Full, Kind, Look, Made, Memory, Own, Pass, Pending}
-use Rattle.once_world.specs.Record.{Ran, RanError, RanPending, RanValue, Value, is_of, is_own}
+use Rattle.once_world.specs.Record.{Answer, End, Entry, Error, Fill, Free, Kind, Own, Pass, Pending, Ran, RanError, is_of, is_own}
 use Rattle.once_world.specs.Cell.{Cell, Empty, Held, SetTo, answers_left, cell}
 use Rattle.once_world.specs.Tasks.{Dropping, Holding, Polling, Status, Unmade, all_gone, is_gone, is_under_way, last_call, pending_status, status, status_after}
 use Rattle.once_world.specs.Run.{IsLegal, IsRun, MayEnd, MayFree}
 use Rattle.once_world.proofs.History.Others.{set_stays_after}
-use Rattle.once_world.proofs.History.Cells.{held_not_empty, same_holder}
+use Rattle.once_world.proofs.History.Cells.{same_holder}
 use Rattle.once_world.proofs.Law.Passed.{no_pass}
 use Rattle.once_world.proofs.Law.Unmade.{over_all}
 
@@ -24,18 +24,9 @@ others_held K t u h n a b = false≢true (sym n ∙ eq-eqb u t (same_holder u t 
 -- the right stays with its holder through the entries of others
 held_kept : (K : Kind) (limit t : ℕ) (e : Entry) (h : List Entry) → is_of t e ≡ false → IsLegal K limit e h
     → (all_gone K h ≡ true → ⊥) → cell K h ≡ Held t → cell K (e ∷ h) ≡ Held t
-held_kept K limit t (Made u) h n l g c = c
-held_kept K limit t (Begin u w) h n l g c = c
-held_kept K limit t (Claim u) h n l g c = absurd (held_not_empty t (sym c ∙ l.0))
-held_kept K limit t (Ran u a) h n l g c = c
 held_kept K limit t (Free u X) h n l g c = absurd (others_held K t u h n l.0 c)
 held_kept K limit t (Fill u v X) h n l g c = absurd (others_held K t u h n l.0 c)
-held_kept K limit t (Pass u X) h n l g c = c
-held_kept K limit t (End u r) h n l g c = c
-held_kept K limit t (DropBegin u) h n l g c = c
-held_kept K limit t (DropEnd u) h n l g c = c
-held_kept K limit t (Look v) h n l g c = c
-held_kept K limit t (Own o g') h n l g c = absurd (g l.0)
+held_kept K limit t e h n l g c = grind (arith, common_steps, g)
 
 -- a poll that ended Pending and holds is the holder
 pending_holding : (u : ℕ) (c : Cell) → pending_status u c ≡ Holding → c ≡ Held u
@@ -52,21 +43,10 @@ free_holding K t u h e s m =
 -- an entry after which its task rests with the right leaves it the right
 own_holding : (K : Kind) (limit t : ℕ) (e : Entry) (h : List Entry) → is_of t e ≡ true → IsLegal K limit e h
     → status_after e (cell K h) (status K t h) ≡ Holding → cell K (e ∷ h) ≡ Held t
-own_holding K limit t (Made u) h n l s = grind arith
-own_holding K limit t (Begin u w) h n l s = grind arith
-own_holding K limit t (Claim u) h n l s = grind (arith, nat_tests, l.1)
-own_holding K limit t (Ran u a) h n l s = grind (arith, nat_tests, l.1)
 own_holding K limit t (Free u X) h n l s = absurd (free_holding K t u h n s l.1)
-own_holding K limit t (Fill u v X) h n l s = grind (arith, nat_tests, l.1)
 own_holding K limit t (Pass u X) h n l s = absurd (no_pass K t u h n (ap is_under_way s) l.1)
 own_holding K limit t (End u Pending) h n l s = pending_holding u (cell K h) s ∙ ap (λ v. Held v) (eqb-true u t n)
-own_holding K limit t (End u (Value v)) h n l s = grind arith
-own_holding K limit t (End u (Error v)) h n l s = grind arith
-own_holding K limit t (End u Memory) h n l s = grind arith
-own_holding K limit t (End u Full) h n l s = grind arith
-own_holding K limit t (DropBegin u) h n l s = grind arith
-own_holding K limit t (DropEnd u) h n l s = grind arith
-own_holding K limit t _ h n l s = absurd (false≢true n)
+own_holding K limit t e h n l s = grind (arith, nat_tests, common_steps)
 
 -- a task that holds was made
 not_unmade : Holding ≡ Unmade → ⊥
@@ -118,18 +98,10 @@ not_unmade_dropping e = cc
 pub dropped_holder : (K : Kind) (limit t : ℕ) (e : Entry) (h : List Entry) → IsRun K limit (e ∷ h)
     → status K t h ≡ Dropping → cell K h ≡ Held t
     → (answers_left K (e ∷ h) ≡ answers_left K h) × ((cell K (e ∷ h) ≡ Held t) ⊎ (cell K (e ∷ h) ≡ Empty))
-dropped_holder K limit t (Made u) h r s c = (refl, inl c)
-dropped_holder K limit t (Begin u w) h r s c = (refl, inl c)
-dropped_holder K limit t (Claim u) h r s c = absurd (held_not_empty t (sym c ∙ r.0.0))
 dropped_holder K limit t (Ran u a) h r s c = absurd (dropping_polls K t u h c r.0.0 s r.0.1)
-dropped_holder K limit t (Free u X) h r s c = (refl, inr refl)
 dropped_holder K limit t (Fill u v X) h r s c = absurd (dropping_polls K t u h c r.0.0 s r.0.1)
-dropped_holder K limit t (Pass u X) h r s c = absurd (held_not_empty t (sym c ∙ r.0.0))
-dropped_holder K limit t (End u a) h r s c = (refl, inl c)
-dropped_holder K limit t (DropBegin u) h r s c = (refl, inl c)
-dropped_holder K limit t (DropEnd u) h r s c = (refl, inl c)
-dropped_holder K limit t (Look v) h r s c = (refl, inl c)
 dropped_holder K limit t (Own o g) h r s c = absurd (live K limit t h Dropping r.1 s refl not_unmade_dropping r.0.0)
+dropped_holder K limit t e h r s c = grind (arith, common_steps)
 
 -- the task that polls the init holds the right
 pub runner_holds : (K : Kind) (limit t : ℕ) (a : Answer) (h : List Entry) → IsRun K limit (Ran t a ∷ h) → cell K h ≡ Held t

@@ -1,9 +1,10 @@
 -- A task without a Made is unmade: where all that were made are gone, each task is unmade or gone.
 use Rattle.std.proofs.Common.{◌≡◌, ℕ, Bool, true, false, ◌==◌, ◌⊎◌, inl, inr, ⊎_elim, List, [], ◌∷◌, refl, sym, ap, ◌∙◌, subst, arith}
+use Rattle.std.proofs.lemmas.Grind.{common_steps}
 use Rattle.std.proofs.lemmas.Bool.{false≢true, cases_Bool, eqb-true}
 use Rattle.std.proofs.lemmas.Bool.Decides.{nat_tests}
 use Rattle.once_queue.specs.Numbers.{member}
-use Rattle.once_world.specs.Record.{Begin, Claim, DropBegin, DropEnd, End, Entry, Fill, Free, Kind, Look, Made, Own, Pass, Ran, is_of, made_in}
+use Rattle.once_world.specs.Record.{Begin, DropBegin, Entry, Free, Kind, Made, Pass, is_of, made_in}
 use Rattle.once_world.specs.Tasks.{Status, Unmade, all_gone, is_gone, is_under_way, last_call, status}
 use Rattle.once_world.specs.Run.{IsLegal, IsRun, MayBegin, MayFree}
 use Rattle.once_world.proofs.Input.Gone.{made_there}
@@ -25,17 +26,11 @@ no_begin K t u h e s m =
 -- only a Made is legal for a task that was not made
 first_made : (K : Kind) (t : ℕ) (e : Entry) (limit : ℕ) (h : List Entry) → is_of t e ≡ true → IsLegal K limit e h
     → status K t h ≡ Unmade → member t (made_in (e ∷ h)) ≡ true
-first_made K t (Made u) limit h n l s = rw n refl
 first_made K t (Begin u w) limit h n l s = absurd (no_begin K t u h n s l)
-first_made K t (Claim u) limit h n l s = grind (arith, nat_tests, l.1)
-first_made K t (Ran u a) limit h n l s = grind (arith, nat_tests, l.1)
-first_made K t (Free u X) limit h n l s = absurd (no_free K t u h n s l.1)
-first_made K t (Fill u k X) limit h n l s = grind (arith, nat_tests, l.1)
-first_made K t (Pass u X) limit h n l s = absurd (no_pass K t u h n (ap is_under_way s) l.1)
-first_made K t (End u r) limit h n l s = grind (arith, nat_tests, l.0)
 first_made K t (DropBegin u) limit h n l s = absurd (no_begin K t u h n s l)
-first_made K t (DropEnd u) limit h n l s = grind (arith, nat_tests, l.0)
-first_made K t _ limit h n l s = absurd (false≢true n)
+first_made K t (Free u X) limit h n l s = absurd (no_free K t u h n s l.1)
+first_made K t (Pass u X) limit h n l s = absurd (no_pass K t u h n (ap is_under_way s) l.1)
+first_made K t e limit h n l s = grind (arith, nat_tests, common_steps)
 
 -- who is made later was not made
 made_less : (t : ℕ) (e : Entry) (h : List Entry) → member t (made_in (e ∷ h)) ≡ false → member t (made_in h) ≡ false

@@ -1,6 +1,6 @@
 -- In a run, polls that end with a value answer the one value that is set until the owner changes it.
 use Rattle.std.proofs.Common.{ℕ, List, [], ◌∷◌}
-use Rattle.once_world.specs.Record.{Kind, Entry, Pending, Value, Error, Memory, Full, Made, Begin, Claim, Ran, Free, Fill, Pass, End, DropBegin, DropEnd, Look, Own}
+use Rattle.once_world.specs.Record.{Kind, Entry, Value, End}
 use Rattle.once_world.specs.Run.{IsRun}
 use Rattle.once_world.specs.Values.{AnswersSet, IsOneValue}
 use Rattle.once_world.proofs.Law.Rights.{value_lasts}

@@ -1,5 +1,7 @@
 -- The moments that no atomic operation marks: a task is made, a call begins, the init answers, the value is put, the copy of a waker is refused; and a look without a call.
-use Rattle.std.proofs.Common.{◌≡◌, ◌<◌, ℕ, suc, Bool, true, false, cond, List, [], ◌∷◌, ◌++◌, length, Option, Some, None, reverse, slice_get, slice_set, refl, sym, ap, ◌∙◌, subst}
+use Rattle.std.proofs.Common.{◌≡◌, ◌<◌, ℕ, suc, Bool, true, false, cond, List, [], ◌∷◌, ◌++◌, length, Option, Some, None, reverse, slice_get, slice_set, refl, sym, ap, ◌∙◌, subst, arith}
+use Rattle.std.proofs.lemmas.Bool.Decides.{nat_tests}
+use Rattle.std.proofs.lemmas.Grind.{common_steps}
 use Rattle.std.proofs.lemmas.List.{append-nil}
 use Rattle.std.proofs.lemmas.Bool.{false≢true}
 use Rattle.once_queue.specs.Word.{Flags, flags_of}
@@ -8,9 +10,9 @@ use Rattle.once_core.specs.Table.{after_run, next_at}
 use Rattle.once_world.specs.Record.{Answer, Begin, Entry, Look, Made, Ran}
 use Rattle.once_world.specs.Inputs.{Drop, Looks, Make, Poll}
 use Rattle.once_world.specs.Book.{At, IsBook, IsUnnamed, Page, TasksReach, has_written, refused_step}
-use Rattle.once_world.specs.Machine.{AtList, AtPut, AtRun, EndDropped, EndMemory, EndValue, Finished, RestRun, RestStart, RestWait, Resting, SharedState, Step}
-use Rattle.once_world.specs.Machine.{Task, UnderWay, World, drop_entries, drop_world, drop_world_by, fresh_task, is_resting, kept_after, leave_place}
-use Rattle.once_world.specs.Machine.{look_value, make_world, poll_world, poll_world_by, polled_of, put_task, put_value, run_shared, step_of}
+use Rattle.once_world.specs.Machine.{AtList, AtPut, AtRun, EndMemory, EndValue, Finished, Resting, SharedState, Step, Task, UnderWay, World}
+use Rattle.once_world.specs.Machine.{drop_entries, drop_world, drop_world_by, fresh_task, is_resting, kept_after, leave_place, look_value, make_world}
+use Rattle.once_world.specs.Machine.{poll_world, poll_world_by, polled_of, put_task, put_value, run_shared, step_of}
 use Rattle.once_world.proofs.Moment.Pages.{add_other, add_tasks, no_task, one_task, past_end, set_other, set_tasks, zero_task}
 use Rattle.once_world.proofs.Moment.Step.{Moment, Stepped, grown, moment, stepped, stepped_alone, told}
 use Rattle.once_world.proofs.Shared.Places.{leave_unwritten}
@@ -25,20 +27,11 @@ resting_unwritten Finished e = refl
 
 -- nor does it by beginning a poll
 poll_unwritten : (s : Step ℕ ℕ) → is_resting s ≡ true → has_written (step_of_poll s) ≡ false
-poll_unwritten (Resting RestStart) e = refl
-poll_unwritten (Resting (RestWait q k)) e = refl
-poll_unwritten (Resting (RestRun by)) e = refl
-poll_unwritten (UnderWay p) e = absurd (false≢true e)
-poll_unwritten Finished e = refl
+poll_unwritten s e = grind (arith, nat_tests, common_steps)
 
 -- nor by beginning a drop
 drop_unwritten : (s : Step ℕ ℕ) → is_resting s ≡ true → has_written (step_of_drop s) ≡ false
-drop_unwritten (Resting RestStart) e = refl
-drop_unwritten (Resting (RestWait q k)) e = leave_unwritten q k EndDropped
-drop_unwritten (Resting (RestRun None)) e = refl
-drop_unwritten (Resting (RestRun (Some q))) e = refl
-drop_unwritten (UnderWay p) e = absurd (false≢true e)
-drop_unwritten Finished e = refl
+drop_unwritten s e = grind (arith, nat_tests, common_steps)
 
 module _ (limit n put : ℕ) (slot : Bool) (pages : List Page) (log : List Entry) (some : 0 < limit) (book : IsBook limit n put slot pages log) where
   -- Made: a task is made, with the next number

@@ -1,5 +1,6 @@
 -- The moments at which a task reads or changes the word alone. Those that are one step of it go by their call.
 use Rattle.std.proofs.Common.{◌≡◌, ◌≤◌, ◌<◌, ◌+◌, ◌-◌, ◌^◌, ◌==◌, cond, ℕ, suc, Bool, true, false, List, [], Some, slice_get, refl, sym, ap, ◌∙◌, subst, arith}
+use Rattle.std.proofs.lemmas.Grind.{common_steps}
 use Rattle.std.specs.Prelude.{nat_lt, ◌||◌}
 use Rattle.std.proofs.lemmas.Bool.{eqb-true}
 use Rattle.std.proofs.lemmas.Bool.Decides.{nat_tests}
@@ -9,8 +10,8 @@ use Rattle.once_queue.specs.Word.{Flags, flags_of, is_quick_bit, is_zero}
 use Rattle.once_core.specs.Table.{Call, Load, Quick, Fast, AddOne, CountOut, Told, Loaded, TriedQuick, TriedFast, CountedOut, after, after_count_in, call_at}
 use Rattle.once_world.specs.Record.{Answer, Entry, Once, RanPending}
 use Rattle.once_world.specs.Book.{At, Door, IsBook, Page, Queue}
-use Rattle.once_world.specs.Machine.{AtAddOne, AtCountIn, AtCountOut, AtPut, Place, SharedState, StepInput, Task, UnderWay, answer, fast_shared, hands, keeps, left_by}
-use Rattle.once_world.specs.Machine.{outcome_of, place_step, quick_shared, records, word_of}
+use Rattle.once_world.specs.Machine.{AtAddOne, AtCountIn, AtCountOut, Place, SharedState, StepInput, Task, UnderWay, answer, fast_shared, hands}
+use Rattle.once_world.specs.Machine.{keeps, left_by, outcome_of, place_step, quick_shared, records, word_of}
 use Rattle.once_world.specs.Words.{IsFound, IsWordCall, found, word_after}
 use Rattle.once_world.proofs.Steps.{in_step}
 use Rattle.once_world.proofs.Invariant.Moves.{in_count}
@@ -79,27 +80,19 @@ module _ (i : StepInput) (s : SharedState) (k : Answer) (n : ℕ) (within : n < 
     kept : keeps (found c n) RanPending k ≡ k
     nobody : hands (found c n) s ≡ []
 
-  quick_still : (b : Bool) → (s.queues ≡ (quick_shared b s).queues) × (s.door ≡ (quick_shared b s).door) × (s.head ≡ (quick_shared b s).head) × (s.listings ≡ (quick_shared b s).listings)
-  quick_still true = (refl, refl, refl, refl)
-  quick_still false = (refl, refl, refl, refl)
-
-  fast_still : (b fills : Bool) → (s.queues ≡ (fast_shared b fills s).queues) × (s.door ≡ (fast_shared b fills s).door) × (s.head ≡ (fast_shared b fills s).head) × (s.listings ≡ (fast_shared b fills s).listings)
-  fast_still true true = (refl, refl, refl, refl)
-  fast_still true false = (refl, refl, refl, refl)
-  fast_still false fills = (refl, refl, refl, refl)
-
   still : (c : Call ℕ ℕ) → IsWordCall c → Still c
-  still Load w = record { queues = refl; door = refl; head = refl; listings = refl; kept = refl; nobody = refl }
-  still Quick w = let q = quick_still (n == 0) in record { queues = q.0; door = q.1; head = q.2; listings = q.3; kept = refl; nobody = refl }
-  still (Fast fills) w = let q = fast_still (n == 2 ^ 62) fills in record { queues = q.0; door = q.1; head = q.2; listings = q.3; kept = refl; nobody = refl }
-  still AddOne w = record { queues = refl; door = refl; head = refl; listings = refl; kept = refl; nobody = refl }
-  still CountOut w = record { queues = refl; door = refl; head = refl; listings = refl; kept = refl; nobody = refl }
-  still _ w = absurd w
+  still c w = record {
+    queues = grind (arith, common_steps);
+    door = grind (arith, common_steps);
+    head = grind (arith, common_steps);
+    listings = grind (arith, common_steps);
+    kept = grind (arith, common_steps);
+    nobody = grind (arith, common_steps);
+  }
 
 -- no value is put by a step of the word
 unput : (p : Place ℕ ℕ) → IsWordCall (call_at p) → is_put_at p ≡ false
-unput (AtPut by) w = absurd w
-unput _ w = refl
+unput p w = grind (arith, common_steps)
 
 module _ (limit n put : ℕ) (slot : Bool) (pages : List Page) (log : List Entry) (t : ℕ) (x : Task) (some : 0 < limit)
     (book : IsBook limit n put slot pages log) (pen : slice_get pages (suc (suc t)) ≡ Some (At x)) where

@@ -1,11 +1,10 @@
 -- The entries of a step are entries of its task, two at most.
-use Rattle.std.proofs.Common.{◌≡◌, ℕ, Bool, List, Option, arith}
+use Rattle.std.proofs.Common.{ℕ, Bool, List, Option, arith}
 use Rattle.std.proofs.lemmas.Bool.Decides.{nat_tests}
 use Rattle.std.proofs.lemmas.Grind.{common_steps}
 use Rattle.once_world.specs.Record.{Answer, Kind, is_lazy}
 use Rattle.once_world.specs.Inputs.{AreOfStep, IsAsked, IsOfStep}
-use Rattle.once_world.specs.Machine.{AtStart, Ending, Place, SharedState, Step, UnderWay, end_entry, init_answer}
-use Rattle.once_world.specs.Machine.{pass_entries, place_step, release_entry, step_at}
+use Rattle.once_world.specs.Machine.{AtStart, Ending, Place, SharedState, Step, UnderWay, end_entry, init_answer, place_step, step_at}
 
 -- the last entry of a call is of its task
 last_part : (K : Kind) (t : ℕ) (a : Answer) (v : ℕ) (k : Answer) (e : Ending) → IsOfStep K t a (end_entry e t v k)

@@ -1,8 +1,9 @@
 -- Where every step is given memory, no call ends for want of it.
 use Rattle.std.proofs.Common.{◌≡◌, ◌<◌, ℕ, Bool, true, false, cond, ⊎_elim, List, [], ◌∷◌, ◌++◌, refl, sym, ap, ◌∙◌, arith}
+use Rattle.std.proofs.lemmas.Grind.{common_steps}
 use Rattle.std.proofs.lemmas.Bool.{false≢true, cases_Bool}
 use Rattle.std.proofs.lemmas.Bool.Decides.{nat_tests}
-use Rattle.once_world.specs.Record.{Begin, Claim, DropBegin, DropEnd, End, Entry, Error, Fill, Free, Full, Kind, Look, Made, Memory, Own, Pass, Pending, Ran, Value}
+use Rattle.once_world.specs.Record.{Entry, Kind}
 use Rattle.once_world.specs.Inputs.{Always, FallsInto, Input, Part, WantsMemoryOnlyUngranted, all_granted, begins_call, ends_for_memory, entries_of, gos, inputs_of, is_fitting_go, is_ungranted}
 use Rattle.once_world.specs.Machine.{history_of}
 use Rattle.once_world.proofs.Part.Belonging.{belongs}
@@ -10,22 +11,7 @@ use Rattle.once_world.proofs.Part.Belonging.{belongs}
 -- a poll ends for want of memory in the one part or the other
 ends_for_memory-append : (t : ℕ) (xs ys : List Entry) → ends_for_memory t (xs ++ ys) ≡ cond (ends_for_memory t xs) true (ends_for_memory t ys)
 ends_for_memory-append t [] ys = refl
-ends_for_memory-append t (Made u ∷ xs) ys = ends_for_memory-append t xs ys
-ends_for_memory-append t (Begin u w ∷ xs) ys = ends_for_memory-append t xs ys
-ends_for_memory-append t (Claim u ∷ xs) ys = ends_for_memory-append t xs ys
-ends_for_memory-append t (Ran u a ∷ xs) ys = ends_for_memory-append t xs ys
-ends_for_memory-append t (Free u X ∷ xs) ys = ends_for_memory-append t xs ys
-ends_for_memory-append t (Fill u v X ∷ xs) ys = ends_for_memory-append t xs ys
-ends_for_memory-append t (Pass u X ∷ xs) ys = ends_for_memory-append t xs ys
-ends_for_memory-append t (End u Pending ∷ xs) ys = ends_for_memory-append t xs ys
-ends_for_memory-append t (End u (Value v) ∷ xs) ys = ends_for_memory-append t xs ys
-ends_for_memory-append t (End u (Error v) ∷ xs) ys = ends_for_memory-append t xs ys
-ends_for_memory-append t (End u Memory ∷ xs) ys = let ih = ends_for_memory-append t xs ys in grind (arith, nat_tests)
-ends_for_memory-append t (End u Full ∷ xs) ys = ends_for_memory-append t xs ys
-ends_for_memory-append t (DropBegin u ∷ xs) ys = ends_for_memory-append t xs ys
-ends_for_memory-append t (DropEnd u ∷ xs) ys = ends_for_memory-append t xs ys
-ends_for_memory-append t (Look v ∷ xs) ys = ends_for_memory-append t xs ys
-ends_for_memory-append t (Own o g ∷ xs) ys = ends_for_memory-append t xs ys
+ends_for_memory-append t (e ∷ xs) ys = let ih = ends_for_memory-append t xs ys in grind (arith, nat_tests, common_steps)
 
 -- one more that is given memory
 granted_after : (begins fits : Bool) (i : Input) (g : List Input) → is_ungranted i ≡ false → all_granted g ≡ true

@@ -1,5 +1,7 @@
 -- The kinds of step: none recorded, an end, a wait, a claim.
 use Rattle.std.proofs.Common.{◌≡◌, ◌≢◌, ◌≤◌, ◌+◌, ℕ, Bool, true, false, cond, ◌==◌, ◌⊎◌, inl, inr, List, [], ◌∷◌, ◌++◌, Option, Some, None, refl, sym, ap, ◌∙◌, arith}
+use Rattle.std.proofs.lemmas.Bool.Decides.{nat_tests}
+use Rattle.std.proofs.lemmas.Grind.{common_steps}
 use Rattle.std.proofs.lemmas.Bool.{false≢true, ne_eqb, eqb-true}
 use Rattle.once_queue.specs.Numbers.{bit}
 use Rattle.once_world.specs.Record.{Answer, Claim, DropEnd, End, Entry, Error, Full, Kind, Memory, Pending, RanError, RanValue, Reply, Value, handed_by, is_of, is_own, is_replacing, made_in}
@@ -108,11 +110,7 @@ is_last t v k EndPending n = absurd (n refl)
 
 -- a call that owes an ending does not end Pending
 pub owes_lasts : (K : Kind) (t : ℕ) (h : List Entry) (e : Ending) → Owes K t h e → e ≢ EndPending
-owes_lasts K t h EndValue o n = let z : ⊥ = cc in z
-owes_lasts K t h EndError o n = let z : ⊥ = cc in z
-owes_lasts K t h EndMemory o n = let z : ⊥ = cc in z
-owes_lasts K t h EndDropped o n = let z : ⊥ = cc in z
-owes_lasts K t h _ o n = o
+owes_lasts K t h e o n = grind (arith, nat_tests, common_steps)
 
 -- what is shared fits the cell alone
 pub shared_at : (K : Kind) (limit : ℕ) (c : SharedState) (h h' : List Entry) → cell K h' ≡ cell K h
@@ -164,16 +162,21 @@ waits_at : (K : Kind) (t u : ℕ) (h : List Entry) → cell K h ≡ Held u → t
 waits_at K t u h c n f = let d = ne_eqb u t (λ e. n (sym e)) in record { status_is = rw (eqb_self t, c, d) refl; holds_is = f }
 
 opened_by : (b : Bool) → cond b true false ≡ b
-opened_by true = refl
-opened_by false = refl
+opened_by b = grind arith
 
 -- such an end opens the waker of the poll
 opens_now : (K : Kind) (t u w v : ℕ) (h : List Entry) → cell K h ≡ Held u → t ≢ u → (last_call K t h).waker ≡ w → opens K v (End t Pending) h ≡ (w == v)
 opens_now K t u w v h c n wk = let d = ne_eqb u t (λ e. n (sym e)) in rw (wk, c, d) (opened_by (w == v))
 
-module _ (K : Kind) (limit t w : ℕ) (k : Answer) (p : Place ℕ ℕ) (c : SharedState) (h : List Entry)
-    (run : IsRun K limit h) (shared : SharedFits K limit c h) (queue : QueueFits K c.listings h)
-    (wk : (last_call K t h).waker ≡ w) (kk : k ≡ kept_of (last_call K t h).ran) where
+-- what stands before a step of t, which is polled with the waker w and whose init gave k
+pub record Before (K : Kind) (limit t w : ℕ) (k : Answer) (c : SharedState) (h : List Entry) : Type 0 where
+  pub run : IsRun K limit h
+  pub shared : SharedFits K limit c h
+  pub queue : QueueFits K c.listings h
+  pub waker_is : (last_call K t h).waker ≡ w
+  pub kept_is : k ≡ kept_of (last_call K t h).ran
+
+module _ {K : Kind} {limit t w : ℕ} {k : Answer} {c : SharedState} {h : List Entry} (before : Before K limit t w k c h) (p : Place ℕ ℕ) where
   -- a step that records nothing
   pub moves_on : (c' : SharedState) (p' : Place ℕ ℕ) → SharedFits K limit c' h → QueueFits K c'.listings h → AtPlace K limit t c' h p'
       → ((u : ℕ) → t ≢ u → (b : Bool) → (is_take_at p ≡ true → b ≡ false) → SharedKeeps K limit c c' u h b)
@@ -182,12 +185,12 @@ module _ (K : Kind) (limit t w : ℕ) (k : Answer) (p : Place ℕ ℕ) (c : Shar
       → ListMoves t (ticket_at p) (ticket_at p') c c' h
       → Goes K limit t w p c h (goes_to c' k p')
   moves_on c' p' shared' queue' own keeps count takes enters lists = record {
-    run = run;
+    run = before.run;
     shared = shared';
     queue = queue';
     own = own;
-    waker_is = wk;
-    kept_is = kk;
+    waker_is = before.waker_is;
+    kept_is = before.kept_is;
     others = λ u n. keeps_all K u h;
     keeps = keeps;
     count = count;
@@ -204,7 +207,7 @@ module _ (K : Kind) (limit t w : ℕ) (k : Answer) (p : Place ℕ ℕ) (c : Shar
       → (ticket_at p' ≡ ticket_at p) ⊎ ((ticket_at p' ≡ None) × (c.ready ≡ true))
       → Goes K limit t w p c h (goes_to c k p')
   stays p' own same take enters tickets =
-      moves_on c p' shared queue own (λ u n b i. same_shared K limit c c u h b refl refl refl refl refl (λ x. x))
+      moves_on c p' before.shared before.queue own (λ u n b i. same_shared K limit c c u h b refl refl refl refl refl (λ x. x))
       (ap (λ b. c.count + bit b) same) (λ e. absurd (false≢true (sym take ∙ e))) enters
       (lists_stay t (ticket_at p) (ticket_at p') c c h refl (λ r. r) tickets)
 
@@ -217,14 +220,14 @@ module _ (K : Kind) (limit t w : ℕ) (k : Answer) (p : Place ℕ ℕ) (c : Shar
       let e : Entry = end_entry x t c'.value k in
       let l : IsLast t e = is_last t c'.value k x good in
       record {
-        run = (legal, run);
+        run = (legal, before.run);
         shared = shared_at K limit c' h (e ∷ h) (l.cell_is (cell K h)) (l.left_is (answers_left K h)) shared';
         queue = quiet K c'.listings e h queue' l.hands l.replaces_not (λ w. l.shut K w h)
             (λ u is. not_waiting (status_after e (cell K h) (status K u h)) (l.gone (cell K h) (status K u h)))
             (λ y. sym (l.cell_is (cell K h)) ∙ y);
         own = record { status_is = rw (l.of t, eqb_self t) (l.gone (cell K h) (status K t h)); holds_is = ap (holds t) (l.cell_is (cell K h)) ∙ free };
-        waker_is = rw (l.of t, eqb_self t, l.call_is (cell K h) (status K t h) (last_call K t h)) wk;
-        kept_is = rw (l.of t, eqb_self t, l.call_is (cell K h) (status K t h) (last_call K t h)) kk;
+        waker_is = rw (l.of t, eqb_self t, l.call_is (cell K h) (status K t h) (last_call K t h)) before.waker_is;
+        kept_is = rw (l.of t, eqb_self t, l.call_is (cell K h) (status K t h) (last_call K t h)) before.kept_is;
         others = λ u n. legal_keeps K u e limit h (l.of u ∙ of_other t u n) legal l.owns;
         keeps = keeps;
         count = rw count (omega arith);
@@ -240,13 +243,13 @@ module _ (K : Kind) (limit t w : ℕ) (k : Answer) (p : Place ℕ ℕ) (c : Shar
       → ((u : ℕ) → t ≢ u → (b : Bool) → (is_take_at p ≡ true → b ≡ false) → SharedKeeps K limit c c' u h b)
       → c'.count + bit (is_counted_at p) ≡ c.count → ListMoves t (ticket_at p) None c c' (end_entry e t c'.value k ∷ h) → Goes K limit t w p c h (ends c' t k e)
   ends_so c' e owes shared' queue' keeps count lists =
-      ends_by c' e (owes_lasts K t h e owes) (owes_legal K limit t c'.value k h e shared'.value_is kk owes)
+      ends_by c' e (owes_lasts K t h e owes) (owes_legal K limit t c'.value k h e shared'.value_is before.kept_is owes)
       (owes_holds K t h e owes) shared' queue' keeps count lists
 
   -- the last step of an uncounted call, which leaves all that is shared alone
   pub ends_plain : (e : Ending) → Owes K t h e → is_counted_at p ≡ false → ticket_at p ≡ None → Goes K limit t w p c h (ends c t k e)
   ends_plain e owes n none =
-      ends_so c e owes shared queue (λ u d b i. same_shared K limit c c u h b refl refl refl refl refl (λ x. x))
+      ends_so c e owes before.shared before.queue (λ u d b i. same_shared K limit c c u h b refl refl refl refl refl (λ x. x))
       (rw n (omega arith))
       (lists_stay t (ticket_at p) None c c (end_entry e t c.value k ∷ h) refl (λ r. r) (inl (sym none)))
 
@@ -258,9 +261,9 @@ module _ (K : Kind) (limit t w : ℕ) (k : Answer) (p : Place ℕ ℕ) (c : Shar
   claims_so c' by empty entered shared' less own r d n same lists =
       let legal : IsLegal K limit (Claim t) h = (empty, entered.poll.status_is, entered.poll.ran_is, entered.poll.unpassed) in
       record {
-        run = (legal, run);
+        run = (legal, before.run);
         shared = shared';
-        queue = entry_fits K c.listings c'.listings (Claim t) h queue refl (λ n. let a = less n in omega arith) (λ e. absurd (held_not_empty t e));
+        queue = entry_fits K c.listings c'.listings (Claim t) h before.queue refl (λ n. let a = less n in omega arith) (λ e. absurd (held_not_empty t e));
         own = (
           record {
             status_is = rw (eqb_self t) entered.poll.status_is;
@@ -272,8 +275,8 @@ module _ (K : Kind) (limit t w : ℕ) (k : Answer) (p : Place ℕ ℕ) (c : Shar
           },
           own,
         );
-        waker_is = rw (eqb_self t) wk;
-        kept_is = rw (eqb_self t) kk;
+        waker_is = rw (eqb_self t) before.waker_is;
+        kept_is = rw (eqb_self t) before.kept_is;
         others = λ u n. legal_keeps K u (Claim t) limit h (of_other t u n) legal refl;
         keeps = λ u n b i. free_shared K limit c c' u h b (λ e. r ∙ e) d (ap (holds u) empty);
         count = rw (n, same) refl;
@@ -293,22 +296,22 @@ module _ (K : Kind) (limit t w : ℕ) (k : Answer) (p : Place ℕ ℕ) (c : Shar
   waits_so c' q n u held apart entered shared' less found same_ready door keeps m same inside lists =
       let legal : IsLegal K limit (End t Pending) h = (entered.poll.status_is, rw entered.poll.ran_is (u, apart, held), inl entered.poll.unpassed) in
       record {
-        run = (legal, run);
+        run = (legal, before.run);
         shared = shared_at K limit c' h (End t Pending ∷ h) refl refl shared';
-        queue = entry_fits K c.listings c'.listings (End t Pending) h queue refl
-            (λ v. let a = less v in rw (opens_now K t u w v h held apart wk) (omega arith))
+        queue = entry_fits K c.listings c'.listings (End t Pending) h before.queue refl
+            (λ v. let a = less v in rw (opens_now K t u w v h held apart before.waker_is) (omega arith))
             (λ e. absurd (held_not_empty u (sym held ∙ e)));
         own = (
           (
             waits_at K t u h held apart entered.poll.holds_is,
             door,
-            (rw (eqb_self t) refl, λ r. inl (rw (eqb_self t, wk) (found (sym same_ready ∙ r)))),
+            (rw (eqb_self t) refl, λ r. inl (rw (eqb_self t, before.waker_is) (found (sym same_ready ∙ r)))),
           ),
           rw (eqb_self t)
               (ap kept_of entered.poll.ran_is),
         );
-        waker_is = rw (eqb_self t) wk;
-        kept_is = rw (eqb_self t) kk;
+        waker_is = rw (eqb_self t) before.waker_is;
+        kept_is = rw (eqb_self t) before.kept_is;
         others = λ u n. legal_keeps K u (End t Pending) limit h (of_other t u n) legal refl;
         keeps = keeps;
         count = rw (m, same) refl;

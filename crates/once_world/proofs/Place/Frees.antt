@@ -1,5 +1,6 @@
 -- What a release is, and what it leaves.
-use Rattle.std.proofs.Common.{◌≡◌, ◌≢◌, ◌<◌, ℕ, Bool, true, false, ◌==◌, ◌⊎◌, inl, inr, List, ◌∷◌, refl, sym, ap, ◌∙◌, arith}
+use Rattle.std.proofs.Common.{◌≡◌, ◌≢◌, ◌<◌, ℕ, Bool, true, false, ◌==◌, ◌⊎◌, inr, List, ◌∷◌, refl, sym, ap, ◌∙◌, arith}
+use Rattle.std.proofs.lemmas.Grind.{common_steps}
 use Rattle.std.specs.Prelude.{◌-◌}
 use Rattle.std.proofs.lemmas.Bool.{false≢true, eqb-true}
 use Rattle.std.proofs.lemmas.Bool.Decides.{nat_tests}
@@ -9,7 +10,7 @@ use Rattle.once_world.specs.Tasks.{LastCall, Status, Waiting, is_under_way, last
 use Rattle.once_queue.specs.declared.waiters.Listing.{Listing}
 use Rattle.once_world.specs.Wakers.{CallsOne, HandsOut}
 use Rattle.once_world.specs.Run.{IsLegal}
-use Rattle.once_world.specs.Machine.{EndDropped, EndError, EndFull, EndMemory, EndPending, EndValue, Ending, SharedState, out_shared, is_value, release_entry, release_flags, word_of}
+use Rattle.once_world.specs.Machine.{EndValue, Ending, SharedState, out_shared, is_value, release_entry, release_flags, word_of}
 use Rattle.once_queue.proofs.Listing.Members.{eqb_self}
 use Rattle.once_world.proofs.History.Cells.{held_by}
 use Rattle.once_world.proofs.Invariant.Facts.{HeadFlag, Owes, QuickFlag, Releasing, kept_of}
@@ -36,28 +37,12 @@ fills K t h c k X a r = ap (λ x. release_entry x t X) (a ∙ ap kept_of r.1.ran
 -- another call frees it
 pub frees : (K : Kind) (t : ℕ) (h : List Entry) (c : SharedState) (k : Answer) (X : List ℕ) (e : Ending)
     → is_value e ≡ false → k ≡ kept_of (last_call K t h).ran → Releasing K t h c e → release_entry k t X ≡ Free t X
-frees K t h c k X EndError n a r = ap (λ x. release_entry x t X) (a ∙ ap kept_of r.1.ran_is)
-frees K t h c k X EndDropped n a r = ap (λ x. release_entry x t X) (a ∙ r.1)
-frees K t h c k X EndValue n a r = absurd (false≢true (sym n))
-frees K t h c k X _ n a r = absurd r
+frees K t h c k X e n a r = grind (arith, nat_tests, common_steps)
 
 -- what stands in a call that freed the cell
 pub freed_owes : (K : Kind) (t : ℕ) (h : List Entry) (c : SharedState) (X : List ℕ) (e : Ending) → is_value e ≡ false
     → Releasing K t h c e → Owes K t (Free t X ∷ h) e
-freed_owes K t h c X EndError n r = (
-  r.0,
-  record {
-    status_is = rw (eqb_self t) r.1.status_is;
-    ran_is = rw
-        (eqb_self t) r.1.ran_is;
-    holds_is = refl;
-    unpassed = rw (eqb_self t) r.1.unpassed;
-  },
-  rw (eqb_self t) refl,
-)
-freed_owes K t h c X EndDropped n r = record { status_is = rw (eqb_self t) r.0.status_is; holds_is = refl }
-freed_owes K t h c X EndValue n r = absurd (false≢true (sym n))
-freed_owes K t h c X _ n r = absurd r
+freed_owes K t h c X e n r = grind (arith, nat_tests, common_steps)
 
 -- what stands in a call that filled it
 pub filled_owes : (K : Kind) (t : ℕ) (h : List Entry) (c : SharedState) (X : List ℕ) → (r : Releasing K t h c EndValue) → Owes K t (Fill t r.0 X ∷ h) EndValue
@@ -66,10 +51,7 @@ filled_owes K t h c X r = (rw (eqb_self t) r.1.status_is, (r.0, refl, inr (rw (e
 -- t may free the cell
 pub free_legal : (K : Kind) (limit t : ℕ) (h : List Entry) (c : SharedState) (X : List ℕ) (e : Ending)
     → is_value e ≡ false → Releasing K t h c e → CallsOne K X h → IsLegal K limit (Free t X) h
-free_legal K limit t h c X EndError n r o = (held_by t (cell K h) r.1.holds_is, rw (r.1.status_is, r.1.ran_is) tt, o)
-free_legal K limit t h c X EndDropped n r o = (held_by t (cell K h) r.0.holds_is, rw r.0.status_is tt, o)
-free_legal K limit t h c X EndValue n r o = absurd (false≢true (sym n))
-free_legal K limit t h c X _ n r o = absurd r
+free_legal K limit t h c X e n r o = grind (arith, nat_tests, common_steps, held_by)
 
 -- t may fill it
 pub fill_legal : (K : Kind) (limit t : ℕ) (h : List Entry) (c : SharedState) (X : List ℕ)
@@ -98,9 +80,7 @@ pub record Cleared (c c' : SharedState) (r : Bool) (xs : List (Listing ℕ)) : T
 -- a release clears the flags
 pub cleared : (b : Bool) (c : SharedState) (r : Bool) (xs : List (Listing ℕ)) → c.quick ≡ b
     → QuickFlag c ⊎ HeadFlag c → Cleared c (record (release_flags b r c) { listings = xs }) r xs
-cleared true c r xs e (inl f) = record { quick_is = refl; head_is = f.head_is; ready_is = refl; listings_is = refl; door_is = refl; count_is = refl; value_is = refl; answers_is = refl }
-cleared true c r xs e (inr f) = absurd (false≢true (sym f.quick_is ∙ e))
-cleared false c r xs e f = record { quick_is = e; head_is = refl; ready_is = refl; listings_is = refl; door_is = refl; count_is = refl; value_is = refl; answers_is = refl }
+cleared b c r xs e f = grind (arith, nat_tests, common_steps)
 
 -- an entry by which t gives the right back and hands X out
 pub record IsRelease (t : ℕ) (X : List ℕ) (e : Entry) : Type 0 where

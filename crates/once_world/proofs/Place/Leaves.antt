@@ -1,5 +1,7 @@
 -- The place at which a waiter leaves: its listing is taken out, and it passes its turn on where it had it.
 use Rattle.std.proofs.Common.{◌≡◌, ◌≢◌, ◌≤◌, ◌+◌, ℕ, Bool, true, false, ⊎_elim, inr, List, [], ◌∷◌, Option, Some, None, cond, refl, sym, ap, ◌∙◌, subst, arith, ◌||◌}
+use Rattle.std.proofs.lemmas.Bool.Decides.{nat_tests}
+use Rattle.std.proofs.lemmas.Grind.{common_steps}
 use Rattle.std.specs.Option.{option_to_list}
 use Rattle.std.proofs.lemmas.Bool.{false≢true, cases_eq}
 use Rattle.once_queue.specs.Numbers.{times_in}
@@ -10,8 +12,7 @@ use Rattle.once_queue.specs.declared.waiters.Listing.{Listing}
 use Rattle.once_queue.specs.Word.{is_free, sees_by}
 use Rattle.once_queue.specs.Listings.{call_first, find_listing, first_waker, left_list, next_waker, take_out, was_called}
 use Rattle.once_world.specs.Run.{IsLegal, IsRun, MayPass}
-use Rattle.once_world.specs.Machine.{AtCountOut, AtLeave, EndDropped, EndError, EndFull, EndMemory, EndPending, EndValue, Ending, SharedState, UnderWay}
-use Rattle.once_world.specs.Machine.{is_at_door, pass_entries, is_passing}
+use Rattle.once_world.specs.Machine.{AtCountOut, AtLeave, Ending, SharedState, UnderWay, is_at_door, pass_entries, is_passing}
 use Rattle.once_world.proofs.Steps.{leave_step}
 use Rattle.once_queue.proofs.Listing.Members.{eqb_self}
 use Rattle.once_world.proofs.History.Others.{legal_keeps}
@@ -19,45 +20,29 @@ use Rattle.once_world.proofs.History.Cells.{empty_cell, is_held}
 use Rattle.once_world.proofs.Listing.Listings.{asks, asks_call, asks_take, find_take_other, none_found}
 use Rattle.once_world.proofs.Listing.CalledFirst.{call_back, call_called, call_none}
 use Rattle.once_world.proofs.History.Waiters.{CalledAt, QueueFits, entry_fits, list_fits, open_by}
-use Rattle.once_world.proofs.Invariant.Facts.{AtPlace, MayLeave, Owes, kept_of, refused_in}
+use Rattle.once_world.proofs.Invariant.Facts.{AtPlace, MayLeave, Owes, kept_of}
 use Rattle.once_world.proofs.Invariant.Fits.{SharedFits}
 use Rattle.once_world.proofs.Invariant.Listed.{none_not_some, same_some}
 use Rattle.once_world.proofs.Invariant.Calls.{call_kept}
 use Rattle.once_world.proofs.Invariant.Around.{leaves_acts, no_wait}
 use Rattle.once_world.proofs.Invariant.AroundLists.{AroundList}
-use Rattle.once_world.proofs.Place.Builders.{Goes, shared_at, moves_on, of_other, same_shared}
+use Rattle.once_world.proofs.Place.Builders.{Before, Goes, shared_at, moves_on, of_other, same_shared}
 use Rattle.once_world.proofs.Place.FitsAfter.{at_door, relisted_fits}
 use Rattle.once_world.proofs.Place.Relisted.{take_back, without_lists}
 use Rattle.once_world.proofs.Place.Outcomes.{goes_to}
 
 -- who leaves owes an end
 leaves_owes : (K : Kind) (t : ℕ) (h : List Entry) (e : Ending) → MayLeave K t h e → Owes K t h e
-leaves_owes K t h EndMemory a = (refused_in K t h a.0, a.1)
-leaves_owes K t h EndDropped a = a.0
-leaves_owes K t h _ a = absurd a
+leaves_owes K t h e a = grind (arith, nat_tests, common_steps)
 
 -- it may pass its turn on, and did not yet
 leaves_may : (K : Kind) (t : ℕ) (h : List Entry) (e : Ending) → MayLeave K t h e
     → MayPass (status K t h) (last_call K t h).claimed (last_call K t h).ran × ((last_call K t h).passed ≡ false)
-leaves_may K t h EndMemory a = (rw (a.0.poll.status_is, a.0.unclaimed, a.0.poll.ran_is) tt, a.0.poll.unpassed)
-leaves_may K t h EndDropped a = (rw a.0.status_is tt, a.2)
-leaves_may K t h _ a = absurd a
+leaves_may K t h e a = grind (arith, nat_tests, common_steps)
 
 -- and owes the end after it passed
 passed_owes : (K : Kind) (t : ℕ) (h : List Entry) (X : List ℕ) (e : Ending) → (last_call K t h).began ≡ Waiting → MayLeave K t h e → Owes K t (Pass t X ∷ h) e
-passed_owes K t h X EndMemory b a = (
-  record {
-    status_is = rw (eqb_self t) a.0.poll.status_is;
-    ran_is = rw
-        (eqb_self t) a.0.poll.ran_is;
-    holds_is = a.0.poll.holds_is;
-    unclaimed = rw (eqb_self t) a.0.unclaimed;
-  },
-  rw
-      (eqb_self t, b) (inr (rw b at a.1)),
-)
-passed_owes K t h X EndDropped b a = record { status_is = rw (eqb_self t) a.0.status_is; holds_is = a.0.holds_is }
-passed_owes K t h X _ b a = absurd a
+passed_owes K t h X e b a = grind (arith, nat_tests, common_steps)
 
 -- in an empty cell a called listing passes its turn on
 passes_in : (c : SharedState) (n : ℕ) → c.ready ≡ false → (c.quick || c.head) ≡ false → find_listing n c.listings ≡ Some None → is_passing c n ≡ true
@@ -73,17 +58,15 @@ free_where true taken called e = absurd (false≢true e)
 passes_when : (c : SharedState) (n : ℕ) → is_passing c n ≡ true → (c.ready ≡ false) × ((c.quick || c.head) ≡ false)
 passes_when c n e = free_where c.ready (c.quick || c.head) (was_called (find_listing n c.listings)) e
 
-module _ (K : Kind) (limit t w : ℕ) (k : Answer) (c : SharedState) (h : List Entry) (run : IsRun K limit h)
-    (shared : SharedFits K limit c h) (queue : QueueFits K c.listings h) (wk : (last_call K t h).waker ≡ w)
-    (kk : k ≡ kept_of (last_call K t h).ran) where
+module _ {K : Kind} {limit t w : ℕ} {k : Answer} {c : SharedState} {h : List Entry} (before : Before K limit t w k c h) where
   -- who leaves and calls nobody
   leaves_plain : (q n : ℕ) (e : Ending) → AtPlace K limit t c h (AtLeave q n e)
       → CalledAt K (take_out n c.listings) h
       → Goes K limit t w (AtLeave q n e) c h (goes_to (record c { listings = take_out n c.listings }) k (AtCountOut e))
   leaves_plain q n e a called =
       let c' : SharedState = record c { listings = take_out n c.listings } in
-      moves_on K limit t w k (AtLeave q n e) c h run shared queue wk kk c' (AtCountOut e) (relisted_fits K limit c (take_out n c.listings) h shared)
-      (list_fits K c.listings (take_out n c.listings) h queue (λ v. asks_take v n c.listings) called) (leaves_owes K t h e a.0)
+      moves_on before (AtLeave q n e) c' (AtCountOut e) (relisted_fits K limit c (take_out n c.listings) h before.shared)
+      (list_fits K c.listings (take_out n c.listings) h before.queue (λ v. asks_take v n c.listings) called) (leaves_owes K t h e a.0)
       (λ u m b j. same_shared K limit c c' u h b refl refl refl refl refl (λ x. x)) refl (λ e. absurd (false≢true e)) (λ e. absurd (false≢true e)) (without_lists t (Some n) c c' h refl (λ x. x))
 
   -- who leaves and calls the first
@@ -97,14 +80,14 @@ module _ (K : Kind) (limit t w : ℕ) (k : Answer) (c : SharedState) (h : List E
       (call_first xs) + times_in x (v ∷ []) ≡ asks x xs = rw one at
       (asks_call x xs) in let j = asks_take x n c.listings in omega arith in
       let may = leaves_may K t h e a.0 in
-      let legal : IsLegal K limit (Pass t (v ∷ [])) h = (empty, may.0, may.1, (v, refl, open_by K v (v ∷ []) c.listings h queue (λ x. let i = less x in omega arith) (rw (eqb_self v) refl))) in
+      let legal : IsLegal K limit (Pass t (v ∷ [])) h = (empty, may.0, may.1, (v, refl, open_by K v (v ∷ []) c.listings h before.queue (λ x. let i = less x in omega arith) (rw (eqb_self v) refl))) in
       record {
-        run = (legal, run);
-        shared = shared_at K limit c' h (Pass t (v ∷ []) ∷ h) refl refl (relisted_fits K limit c (call_first xs) h shared);
-        queue = entry_fits K c.listings (call_first xs) (Pass t (v ∷ [])) h queue refl (λ x. let i = less x in omega arith) (λ _ u s. call_called v xs first);
+        run = (legal, before.run);
+        shared = shared_at K limit c' h (Pass t (v ∷ []) ∷ h) refl refl (relisted_fits K limit c (call_first xs) h before.shared);
+        queue = entry_fits K c.listings (call_first xs) (Pass t (v ∷ [])) h before.queue refl (λ x. let i = less x in omega arith) (λ _ u s. call_called v xs first);
         own = passed_owes K t h (v ∷ []) e a.2 a.0;
-        waker_is = rw (eqb_self t) wk;
-        kept_is = rw (eqb_self t) kk;
+        waker_is = rw (eqb_self t) before.waker_is;
+        kept_is = rw (eqb_self t) before.kept_is;
         others = λ u d. legal_keeps K u (Pass t (v ∷ [])) limit h (of_other t u d) legal refl;
         keeps = λ u d b j. same_shared K limit c c' u h b refl refl refl refl refl (λ x. x);
         count = refl;
@@ -138,16 +121,16 @@ module _ (K : Kind) (limit t w : ℕ) (k : Answer) (c : SharedState) (h : List E
   pass_goes : (o : Option ℕ) (q n : ℕ) (e : Ending) → first_waker (take_out n c.listings) ≡ o → is_passing c n ≡ true
       → AroundList K t (Some n) c h → AtPlace K limit t c h (AtLeave q n e)
       → Left q n e o (call_first (take_out n c.listings))
-  pass_goes (Some v) q n e first on al a = let p = passes_when c n on in leaves_on q n v e a (empty_cell (cell K h) (sym shared.ready_is ∙ p.0) (shared.held_is ∙ p.1)) first
+  pass_goes (Some v) q n e first on al a = let p = passes_when c n on in leaves_on q n v e a (empty_cell (cell K h) (sym before.shared.ready_is ∙ p.0) (before.shared.held_is ∙ p.1)) first
   pass_goes None q n e first on al a =
       subst (λ xs. Left q n e None xs) (sym (call_none (take_out n c.listings) first)) (leaves_plain q n e a (others_called q n e first (passes_when c n on).0 al a))
 
   -- another listing was called in an empty cell, where this one has no turn
   still_called : (n : ℕ) → is_passing c n ≡ false → CalledAt K (take_out n c.listings) h
   still_called n on = λ empty u s.
-      let m = queue.called empty u s in
-      let other : n ≢ m.0 = λ x. false≢true (sym on ∙ passes_in c n (shared.ready_is ∙ ap is_set empty)
-      (sym shared.held_is ∙ ap is_held empty) (subst (λ v. find_listing v c.listings ≡ Some None) (sym x) m.1)) in
+      let m = before.queue.called empty u s in
+      let other : n ≢ m.0 = λ x. false≢true (sym on ∙ passes_in c n (before.shared.ready_is ∙ ap is_set empty)
+      (sym before.shared.held_is ∙ ap is_held empty) (subst (λ v. find_listing v c.listings ≡ Some None) (sym x) m.1)) in
       (m.0, find_take_other m.0 n c.listings other ∙ m.1)
 
   -- by whether it has its turn

@@ -9,9 +9,9 @@ use Rattle.once_world.specs.Tasks.{Waiting, last_call, status}
 use Rattle.once_queue.specs.declared.waiters.Listing.{Listing}
 use Rattle.once_queue.specs.Listings.{all_out, call_first, first_waker}
 use Rattle.once_world.specs.Run.{IsLegal, IsRun}
-use Rattle.once_world.specs.Machine.{AtAddOne, AtCountOut, AtDoorTake, AtFast, AtRelease, EndDropped, EndError, EndFull, EndMemory, EndPending, EndValue}
-use Rattle.once_world.specs.Machine.{Ending, Finished, SharedState, UnderWay, out_shared, take_shared, end_entry, release_wakers, is_at_door}
-use Rattle.once_world.specs.Machine.{is_value, release_list, release_entry, release_flags, word_of}
+use Rattle.once_world.specs.Machine.{AtAddOne, AtCountOut, AtDoorTake, AtFast, AtRelease, EndDropped, EndError, EndValue, Ending, Finished}
+use Rattle.once_world.specs.Machine.{SharedState, UnderWay, out_shared, take_shared, end_entry, release_wakers, is_at_door, is_value, release_list}
+use Rattle.once_world.specs.Machine.{release_entry, release_flags, word_of}
 use Rattle.once_world.proofs.Steps.{fast_step, out_step, release_step}
 use Rattle.once_queue.proofs.Listing.Members.{eqb_self}
 use Rattle.once_world.proofs.History.Others.{keeps_both, legal_keeps}
@@ -28,7 +28,7 @@ use Rattle.once_world.proofs.Invariant.AroundLists.{AroundList, due_asks}
 use Rattle.once_world.proofs.Invariant.Fits.{SharedFits}
 use Rattle.once_world.proofs.Invariant.Kept.{releasing_holds}
 use Rattle.once_world.proofs.Invariant.Around.{Around}
-use Rattle.once_world.proofs.Place.Builders.{Goes, ends_so, moves_on, of_other, polls_not_waits, same_shared, stays}
+use Rattle.once_world.proofs.Place.Builders.{Before, Goes, ends_so, moves_on, of_other, polls_not_waits, same_shared, stays}
 use Rattle.once_world.proofs.Place.FitsAfter.{at_door, count_fits, nobody, release_fits, take_fits}
 use Rattle.once_world.proofs.Place.Holds.{holder_shared}
 use Rattle.once_world.proofs.Place.Frees.{Cleared, IsRelease, cleared, exact, exact_out, fill_legal, fill_releases, filled_owes, fills, free_legal}
@@ -36,9 +36,7 @@ use Rattle.once_world.proofs.Place.Frees.{free_releases, freed_owes, frees, inex
 use Rattle.once_queue.specs.Word.{is_quick_bit, is_ready_bit}
 use Rattle.once_world.proofs.Place.Outcomes.{ends}
 
-module _ (K : Kind) (limit t w : ℕ) (k : Answer) (c : SharedState) (h : List Entry) (run : IsRun K limit h)
-    (shared : SharedFits K limit c h) (queue : QueueFits K c.listings h) (wk : (last_call K t h).waker ≡ w)
-    (kk : k ≡ kept_of (last_call K t h).ran) where
+module _ {K : Kind} {limit t w : ℕ} {k : Answer} {c : SharedState} {h : List Entry} (before : Before K limit t w k c h) where
   -- a fast release with a value
   fast_fills : c.count ≡ 0 → Around K t false false c h → AtPlace K limit t c h (AtFast EndValue)
       → Goes K limit t w (AtFast EndValue) c h (fast_step true true c t k EndValue)
@@ -48,15 +46,15 @@ module _ (K : Kind) (limit t w : ℕ) (k : Answer) (c : SharedState) (h : List E
       let c' : SharedState = record c { quick = false; ready = true } in
       let legal : IsLegal K limit e h = fill_legal K limit t h c [] a.0 (hands_none K h (ar.none_waits z)) in
       let P : Entry → Type 0 = λ x. Goes K limit t w (AtFast EndValue) c h (record { shared = c'; step = UnderWay (AtDoorTake EndValue); kept = k; entries = x ∷ [] }) in
-      subst P (sym (fills K t h c k [] kk a.0)) (record {
-        run = (legal, run);
-        shared = release_fits K limit t c c' h (e ∷ h) shared a.0.1.holds_is refl refl refl a.1.head_is (λ x i. a.0.2 ∙ same_value v x i) refl (λ l. absurd (omega arith)) refl refl;
-        queue = quiet K c.listings e h queue refl refl (λ _. refl) (λ u is. polls_not_waits K t u h is a.0.1.status_is) (λ x. absurd (empty_not_set v (sym x)));
+      subst P (sym (fills K t h c k [] before.kept_is a.0)) (record {
+        run = (legal, before.run);
+        shared = release_fits K limit t c c' h (e ∷ h) before.shared a.0.1.holds_is refl refl refl a.1.head_is (λ x i. a.0.2 ∙ same_value v x i) refl (λ l. absurd (omega arith)) refl refl;
+        queue = quiet K c.listings e h before.queue refl refl (λ _. refl) (λ u is. polls_not_waits K t u h is a.0.1.status_is) (λ x. absurd (empty_not_set v (sym x)));
         own = (filled_owes K t h c [] a.0, refl);
-        waker_is = rw (eqb_self t) wk;
-        kept_is = rw (eqb_self t) kk;
+        waker_is = rw (eqb_self t) before.waker_is;
+        kept_is = rw (eqb_self t) before.kept_is;
         others = λ u n. legal_keeps K u e limit h (of_other t u n) legal refl;
-        keeps = λ u n b i. holder_shared K limit t c c' h shared a.0.1.holds_is refl u n b;
+        keeps = λ u n b i. holder_shared K limit t c c' h before.shared a.0.1.holds_is refl u n b;
         count = refl;
         made = refl;
         takes = λ _. z;
@@ -75,17 +73,16 @@ module _ (K : Kind) (limit t w : ℕ) (k : Answer) (c : SharedState) (h : List E
       let legal : IsLegal K limit (Free t []) h = free_legal K limit t h c [] e nv a.0 (calls_none K h (ar.none_waits z)) in
       let none : (u : ℕ) → status K u h1 ≢ Waiting = λ u s. ar.none_waits z u (waited K (Free t []) h (λ u is. releasing_awake K t u h c e a.0 is) u s) in
       let owes : Owes K t h1 e = freed_owes K t h c [] e nv a.0 in
-      let shared1 : SharedFits K limit c' h1 = release_fits K limit t c c' h h1 shared hold
-      (shared.ready_is ∙ holder_unset t (cell K h) hold) refl refl a.1.head_is
+      let shared1 : SharedFits K limit c' h1 = release_fits K limit t c c' h h1 before.shared hold
+      (before.shared.ready_is ∙ holder_unset t (cell K h) hold) refl refl a.1.head_is
       (λ x i. absurd (empty_not_set x i)) refl (λ l. absurd (omega arith)) refl refl in
-      let queue1 : QueueFits K c.listings h1 = entry_fits K c.listings c.listings (Free t []) h queue refl (λ w. omega arith) (nobody_called K c.listings h1 none) in
-      let wk1 : (last_call K t h1).waker ≡ w = rw (eqb_self t) wk in
-      let kk1 : k ≡ kept_of (last_call K t h1).ran = rw (eqb_self t) kk in
-      let m = ends_so K limit t w k (AtFast e) c' h1 (legal, run) shared1 queue1 wk1 kk1 c' e owes shared1 queue1
+      let queue1 : QueueFits K c.listings h1 = entry_fits K c.listings c.listings (Free t []) h before.queue refl (λ w. omega arith) (nobody_called K c.listings h1 none) in
+      let before1 : Before K limit t w k c' h1 = record { run = (legal, before.run); shared = shared1; queue = queue1; waker_is = rw (eqb_self t) before.waker_is; kept_is = rw (eqb_self t) before.kept_is } in
+      let m = ends_so before1 (AtFast e) c' e owes shared1 queue1
       (λ u n b i. same_shared K limit c' c' u h1 b refl refl refl refl refl (λ x. x)) (omega arith)
       (lists_stay t None None c' c' (end_entry e t c'.value k ∷ h1) refl (λ r. r) (inl refl)) in
       let P : Entry → Type 0 = λ x. Goes K limit t w (AtFast e) c h (record { shared = c'; step = Finished; kept = k; entries = end_entry e t c.value k ∷ x ∷ [] }) in
-      subst P (sym (frees K t h c k [] e nv kk a.0)) (record {
+      subst P (sym (frees K t h c k [] e nv before.kept_is a.0)) (record {
         run = m.run;
         shared = m.shared;
         queue = m.queue;
@@ -93,7 +90,7 @@ module _ (K : Kind) (limit t w : ℕ) (k : Answer) (c : SharedState) (h : List E
         waker_is = m.waker_is;
         kept_is = m.kept_is;
         others = λ u n. keeps_both K u h h1 (end_entry e t c.value k ∷ h1) (legal_keeps K u (Free t []) limit h (of_other t u n) legal refl) (m.others u n);
-        keeps = λ u n b i. holder_shared K limit t c c' h shared hold refl u n b;
+        keeps = λ u n b i. holder_shared K limit t c c' h before.shared hold refl u n b;
         count = refl;
         made = m.made;
         takes = λ e. absurd (false≢true e);
@@ -110,8 +107,8 @@ module _ (K : Kind) (limit t w : ℕ) (k : Answer) (c : SharedState) (h : List E
   fast_goes true EndDropped x ar a = fast_frees EndDropped refl (exact c x) ar a
   fast_goes true _ x ar a = absurd a.0
   fast_goes false e x ar a =
-      let unset = shared.ready_is ∙ holder_unset t (cell K h) (releasing_holds K t c h e a.0) in
-      stays K limit t w k (AtFast e) c h run shared queue wk kk (AtAddOne e) (a.0, a.1, a.2, shared.stands unset (inexact c unset a.1.quick_is x)) refl refl (λ e. absurd (false≢true e)) (inl refl)
+      let unset = before.shared.ready_is ∙ holder_unset t (cell K h) (releasing_holds K t c h e a.0) in
+      stays before (AtFast e) (AtAddOne e) (a.0, a.1, a.2, before.shared.stands unset (inexact c unset a.1.quick_is x)) refl refl (λ e. absurd (false≢true e)) (inl refl)
 
   -- a release under the lock of the queue, which hands X out and leaves ys
   release_moves : (q : ℕ) (e : Ending) (x : Entry) (c' : SharedState) (X : List ℕ) (ys : List (Listing ℕ))
@@ -122,14 +119,14 @@ module _ (K : Kind) (limit t w : ℕ) (k : Answer) (c : SharedState) (h : List E
   release_moves q e x c' X ys a cl legal owes shared' l same queue' lists =
       let P : Entry → Type 0 = λ y. Goes K limit t w (AtRelease q e) c h (record { shared = c'; step = UnderWay (AtCountOut e); kept = k; entries = y ∷ [] }) in
       subst P (sym same) (record {
-        run = (legal, run);
+        run = (legal, before.run);
         shared = shared';
         queue = rw cl.listings_is queue';
         own = owes;
-        waker_is = rw (l.of t, eqb_self t) (l.waker_is (cell K h) (status K t h) (last_call K t h) ∙ wk);
-        kept_is = rw (l.of t, eqb_self t) (kk ∙ sym (ap kept_of (l.ran_is (cell K h) (status K t h) (last_call K t h))));
+        waker_is = rw (l.of t, eqb_self t) (l.waker_is (cell K h) (status K t h) (last_call K t h) ∙ before.waker_is);
+        kept_is = rw (l.of t, eqb_self t) (before.kept_is ∙ sym (ap kept_of (l.ran_is (cell K h) (status K t h) (last_call K t h))));
         others = λ u n. legal_keeps K u x limit h (l.of u ∙ of_other t u n) legal l.owns;
-        keeps = λ u n b i. holder_shared K limit t c c' h shared (releasing_holds K t c h e a.0) cl.door_is u n b;
+        keeps = λ u n b i. holder_shared K limit t c c' h before.shared (releasing_holds K t c h e a.0) cl.door_is u n b;
         count = rw cl.count_is refl;
         made = l.made h;
         takes = λ e. absurd (false≢true e);
@@ -145,12 +142,12 @@ module _ (K : Kind) (limit t w : ℕ) (k : Answer) (c : SharedState) (h : List E
       let v : ℕ = a.0.0 in
       let X : List ℕ = all_out c.listings [] in
       let e : Entry = Fill t v X in
-      let unset : c.ready ≡ false = shared.ready_is ∙ holder_unset t (cell K h) a.0.1.holds_is in
-      release_moves q EndValue e c' X [] a cl (fill_legal K limit t h c X a.0 (hands_out K c.listings h queue (due_asks K t None c h unset al))) (filled_owes K t h c X a.0)
-      (release_fits K limit t c c' h (e ∷ h) shared a.0.1.holds_is cl.ready_is refl cl.quick_is cl.head_is
+      let unset : c.ready ≡ false = before.shared.ready_is ∙ holder_unset t (cell K h) a.0.1.holds_is in
+      release_moves q EndValue e c' X [] a cl (fill_legal K limit t h c X a.0 (hands_out K c.listings h before.queue (due_asks K t None c h unset al))) (filled_owes K t h c X a.0)
+      (release_fits K limit t c c' h (e ∷ h) before.shared a.0.1.holds_is cl.ready_is refl cl.quick_is cl.head_is
       (λ x i. cl.value_is ∙ a.0.2 ∙ same_value v x i) cl.count_is (λ l. (q, cl.door_is ∙ a.2)) cl.answers_is refl)
-      (fill_releases t v X) (fills K t h c k X kk a.0)
-      (entry_fits K c.listings [] e h queue refl (λ n. let i = all_times n c.listings [] in omega arith) (λ x. absurd (empty_not_set v (sym x))))
+      (fill_releases t v X) (fills K t h c k X before.kept_is a.0)
+      (entry_fits K c.listings [] e h before.queue refl (λ n. let i = all_times n c.listings [] in omega arith) (λ x. absurd (empty_not_set v (sym x))))
       (ready_lists t None c c' (e ∷ h) cl.ready_is)
 
   -- who waits was called, or the first is called now
@@ -168,15 +165,15 @@ module _ (K : Kind) (limit t w : ℕ) (k : Answer) (c : SharedState) (h : List E
       → Goes K limit t w (AtRelease q e) c h (record { shared = c'; step = UnderWay (AtCountOut e); kept = k; entries = release_entry k t (option_to_list (first_waker c.listings)) ∷ [] })
   release_frees q e c' nv cl al a =
       let X : List ℕ = option_to_list (first_waker c.listings) in
-      let unset : c.ready ≡ false = shared.ready_is ∙ holder_unset t (cell K h) (releasing_holds K t c h e a.0) in
+      let unset : c.ready ≡ false = before.shared.ready_is ∙ holder_unset t (cell K h) (releasing_holds K t c h e a.0) in
       release_moves q e (Free t X) c' X (call_first c.listings) a cl
-      (free_legal K limit t h c X e nv a.0 (calls_one K c.listings h queue (due_asks K t None c h unset al)))
+      (free_legal K limit t h c X e nv a.0 (calls_one K c.listings h before.queue (due_asks K t None c h unset al)))
       (freed_owes K t h c X e nv a.0)
-      (release_fits K limit t c c' h (Free t X ∷ h) shared (releasing_holds K t c h e a.0)
+      (release_fits K limit t c c' h (Free t X ∷ h) before.shared (releasing_holds K t c h e a.0)
       (cl.ready_is ∙ nv) refl cl.quick_is cl.head_is (λ x i. absurd (empty_not_set x i)) cl.count_is
       (λ l. (q, cl.door_is ∙ a.2)) cl.answers_is refl)
-      (free_releases t X) (frees K t h c k X e nv kk a.0)
-      (entry_fits K c.listings (call_first c.listings) (Free t X) h queue refl (λ n. let i = asks_call n c.listings in omega arith) (free_called (first_waker c.listings) e refl unset al a.0))
+      (free_releases t X) (frees K t h c k X e nv before.kept_is a.0)
+      (entry_fits K c.listings (call_first c.listings) (Free t X) h before.queue refl (λ n. let i = asks_call n c.listings in omega arith) (free_called (first_waker c.listings) e refl unset al a.0))
       (record {
         up = λ r. absurd (false≢true (sym unset ∙ r));
         lists = λ u n o d x r f. rw cl.listings_is (call_kept u n o c.listings (Free t X) h (of_other t u d) refl f);
@@ -208,17 +205,17 @@ module _ (K : Kind) (limit t w : ℕ) (k : Answer) (c : SharedState) (h : List E
       → AtPlace K limit t c h (AtCountOut e) → Goes K limit t w (AtCountOut e) c h (out_step x (out_shared c) t k e)
   out_goes true e x ar a =
       let l = ar.own_count refl in let y = exact_out c x in
-      moves_on K limit t w k (AtCountOut e) c h run shared queue wk kk (out_shared c) (AtDoorTake e)
-      (count_fits K limit c (c.count - 1) h shared (let b = shared.within in omega arith)
-      (λ n _. absurd (false≢true (sym n ∙ y.1)))) queue (a, y.1)
+      moves_on before (AtCountOut e) (out_shared c) (AtDoorTake e)
+      (count_fits K limit c (c.count - 1) h before.shared (let b = before.shared.within in omega arith)
+      (λ n _. absurd (false≢true (sym n ∙ y.1)))) before.queue (a, y.1)
       (λ u n b i. same_shared K limit c (out_shared c) u h b refl refl refl refl refl (λ le. omega arith))
       (omega arith) (λ _. y.0) (λ e. absurd (false≢true e))
       (lists_stay t None None c (out_shared c) h refl (λ r. r) (inl refl))
   out_goes false e x ar a =
       let l = ar.own_count refl in
-      ends_so K limit t w k (AtCountOut e) c h run shared queue wk kk (out_shared c) e a
-      (count_fits K limit c (c.count - 1) h shared (let b = shared.within in omega arith)
-      (λ n p. shared.stands n (omega arith))) queue
+      ends_so before (AtCountOut e) (out_shared c) e a
+      (count_fits K limit c (c.count - 1) h before.shared (let b = before.shared.within in omega arith)
+      (λ n p. before.shared.stands n (omega arith))) before.queue
       (λ u n b i. same_shared K limit c (out_shared c) u h b refl refl refl refl refl (λ le. omega arith))
       (omega arith) (lists_stay t None None c (out_shared c) (end_entry e t c.value k ∷ h) refl (λ r. r)
       (inl refl))
@@ -226,12 +223,12 @@ module _ (K : Kind) (limit t w : ℕ) (k : Answer) (c : SharedState) (h : List E
   -- the taking of the queue
   pub take_goes : (e : Ending) → Around K t false true c h → AtPlace K limit t c h (AtDoorTake e)
       → Goes K limit t w (AtDoorTake e) c h (ends (take_shared c) t k e)
-  take_goes e ar a = ends_so K limit t w k (AtDoorTake e) c h run shared queue wk kk (take_shared c) e a.0 (take_fits K limit c h shared a.1) (nobody K c.listings h queue (ar.take_waits refl))
+  take_goes e ar a = ends_so before (AtDoorTake e) (take_shared c) e a.0 (take_fits K limit c h before.shared a.1) (nobody K c.listings h before.queue (ar.take_waits refl))
       (λ u n b i. record {
         ready = λ r. r;
         door = λ q d. inr (a.1, i refl);
         flags = inr
-            (set_unheld u (cell K h) (sym shared.ready_is ∙ a.1));
+            (set_unheld u (cell K h) (sym before.shared.ready_is ∙ a.1));
         within = inl (λ x. x);
       }) (omega arith)
       (ready_lists t None c (take_shared c) (end_entry e t c.value k ∷ h) a.1)

@@ -3,7 +3,7 @@ use Rattle.std.proofs.Common.{◌≡◌, ℕ, Bool, true, false, cond, ◌⊎◌
 use Rattle.std.proofs.lemmas.Bool.{false≢true, or_parts}
 use Rattle.once_world.specs.Record.{Answer, Claim, End, Entry, Kind, Pending}
 use Rattle.once_world.specs.Cell.{cell}
-use Rattle.once_world.specs.Tasks.{Dropping, Fresh, Gone, Holding, Polling, Status, Unmade, Waiting, last_call}
+use Rattle.once_world.specs.Tasks.{Fresh, Status, Waiting, last_call}
 use Rattle.once_queue.specs.Listings.{find_listing, is_waker, list_with, own_listing, ticket_for}
 use Rattle.once_queue.specs.Word.{sees_by}
 use Rattle.once_world.specs.Refusals.{AtSome, MemoryFrom, OtherActs, OtherHolds, is_begin_of, moments_since}
@@ -15,7 +15,7 @@ use Rattle.once_world.proofs.History.Cells.{empty_cell}
 use Rattle.once_world.proofs.History.Waiters.{QueueFits}
 use Rattle.once_world.proofs.Invariant.Facts.{AnyIn, AtPlace, Entered, HasTicket, is_counted_at, is_inside_at, kept_of, refused_in, ticket_at}
 use Rattle.once_world.proofs.Invariant.Fits.{SharedFits}
-use Rattle.once_world.proofs.Place.Builders.{Goes, claims_so, same_shared, stays, waits_so}
+use Rattle.once_world.proofs.Place.Builders.{Before, Goes, claims_so, same_shared, stays, waits_so}
 use Rattle.once_world.proofs.Place.FitsAfter.{at_door, claim_fits, relisted_fits}
 use Rattle.once_world.proofs.Invariant.Turns.{lists_stay}
 use Rattle.once_world.proofs.Place.Relisted.{anew_asks, anew_lists, find_own, is_waker_found, lists_by, without_asks, without_lists}
@@ -38,38 +38,31 @@ since_weaken K t (e ∷ h) (inr r) = inr (begin_by (OtherHolds K t) (OtherActs K
 memory_from : (K : Kind) (t : ℕ) (h : List Entry) (s : Status)
     → ((s ≡ Fresh) × ((last_call K t h).set_then ≡ false)) ⊎ (s ≡ Waiting) → MetHolder K t h → MemoryFrom K s t h
 memory_from K t h Fresh (inl f) m = (f.1, since_weaken K t h m)
-memory_from K t h Waiting f m = m
 memory_from K t h Fresh (inr f) m = grind arith
-memory_from K t h Unmade f m = grind arith
-memory_from K t h Polling f m = grind arith
-memory_from K t h Dropping f m = grind arith
-memory_from K t h Holding f m = grind arith
-memory_from K t h Gone f m = grind arith
+memory_from K t h s f m = grind arith
 
 -- a poll that met a holder may be refused memory
 any_memory : (K : Kind) (t : ℕ) (h : List Entry) → AnyIn K t h → MetHolder K t h → MemoryFrom K (last_call K t h).began t h
 any_memory K t h a m = memory_from K t h (last_call K t h).began a.from m
 
-module _ (K : Kind) (limit t w : ℕ) (k : Answer) (c : SharedState) (h : List Entry) (run : IsRun K limit h)
-    (shared : SharedFits K limit c h) (queue : QueueFits K c.listings h) (wk : (last_call K t h).waker ≡ w)
-    (kk : k ≡ kept_of (last_call K t h).ran) where
+module _ {K : Kind} {limit t w : ℕ} {k : Answer} {c : SharedState} {h : List Entry} (before : Before K limit t w k c h) where
   -- the load
   pub load_goes : (ready : Bool) (q : ℕ) (n : Option ℕ) → c.ready ≡ ready → AtPlace K limit t c h (AtWaitLoad q n)
       → Goes K limit t w (AtWaitLoad q n) c h (load_step ready c t k q n)
   load_goes true q n r a =
-      stays K limit t w k (AtWaitLoad q n) c h run shared queue wk kk (AtCountOut EndValue)
-      (owes_value K t h a.0.entered (sym shared.ready_is ∙ r)) refl refl (λ e. inl refl) (inr (refl, r))
-  load_goes false q n r a = stays K limit t w k (AtWaitLoad q n) c h run shared queue wk kk (AtLook q n) a refl refl (λ e. inl refl) (inl refl)
+      stays before (AtWaitLoad q n) (AtCountOut EndValue)
+      (owes_value K t h a.0.entered (sym before.shared.ready_is ∙ r)) refl refl (λ e. inl refl) (inr (refl, r))
+  load_goes false q n r a = stays before (AtWaitLoad q n) (AtLook q n) a refl refl (λ e. inl refl) (inl refl)
 
   -- a waiter claims under the lock, and its listing is taken out
   claims_head : (p : Place ℕ ℕ) (q : ℕ) → is_counted_at p ≡ true → c.ready ≡ false → (c.quick || c.head) ≡ false
       → Entered K t h → c.door ≡ Some q → Goes K limit t w p c h (claims (claim_shared c (ticket_at p)) t k (Some q))
   claims_head p q n r f e d =
       let c' : SharedState = claim_shared c (ticket_at p) in
-      let empty = empty_cell (cell K h) (sym shared.ready_is ∙ r) (shared.held_is ∙ f) in
+      let empty = empty_cell (cell K h) (sym before.shared.ready_is ∙ r) (before.shared.held_is ∙ f) in
       let z = or_parts c.quick c.head f in
-      claims_so K limit t w k p c h run shared queue wk kk c' (Some q) empty e
-      (claim_fits K limit t c c' h shared r (rw z.0 refl) refl refl r (λ _. (q, d)) refl) (λ v. without_asks v (ticket_at p) c.listings)
+      claims_so before p c' (Some q) empty e
+      (claim_fits K limit t c c' h before.shared r (rw z.0 refl) refl refl r (λ _. (q, d)) refl) (λ v. without_asks v (ticket_at p) c.listings)
       (record { quick_is = z.0; head_is = refl }, d) refl refl refl n (without_lists t (ticket_at p) c c' (Claim t ∷ h) refl (λ x. x))
 
   -- a waiter waits whose own listing has its waker
@@ -77,7 +70,7 @@ module _ (K : Kind) (limit t w : ℕ) (k : Answer) (c : SharedState) (h : List E
       → is_inside_at p ≡ true → Entered K t h → c.door ≡ Some q → OtherHolds K t h
       → is_waker w (own_listing n c.listings) ≡ true → Goes K limit t w p c h (waits c t k q n)
   waits_listed p q None own cnt i e d o m = absurd (false≢true m)
-  waits_listed p q (Some n) own cnt i e d o m = waits_so K limit t w k p c h run shared queue wk kk c q n o.0 o.2 o.1 e shared
+  waits_listed p q (Some n) own cnt i e d o m = waits_so before p c q n o.0 o.2 o.1 e before.shared
       (λ v. omega arith) (λ r. is_waker_found w (find_listing n c.listings) m) refl d (λ u m b j. same_shared K limit c c u h b refl refl refl refl refl (λ y. y)) refl cnt i
       (lists_stay t (ticket_at p) (Some n) c c (End t Pending ∷ h) refl (λ x. x) (inl (sym own)))
 
@@ -86,10 +79,10 @@ module _ (K : Kind) (limit t w : ℕ) (k : Answer) (c : SharedState) (h : List E
       → is_inside_at p ≡ true → AnyIn K t h → c.door ≡ Some q → HasTicket K t c h n → MetHolder K t h
       → Goes K limit t w p c h (goes_to c k (leave_place q n EndMemory))
   refused_at p q None own cnt i a d f m =
-      stays K limit t w k p c h run shared queue wk kk (AtCountOut EndMemory)
+      stays before p (AtCountOut EndMemory)
       (refused_in K t h a.entered, any_memory K t h a m) cnt refl (λ e. inl i) (inl (sym own))
   refused_at p q (Some n) own cnt i a d f m =
-      stays K limit t w k p c h run shared queue wk kk (AtLeave q n EndMemory)
+      stays before p (AtLeave q n EndMemory)
       ((a.entered, any_memory K t h a m), d, f.0, f.1) cnt refl (λ e. inl i) (inl (sym own))
 
   -- the look
@@ -99,13 +92,13 @@ module _ (K : Kind) (limit t w : ℕ) (k : Answer) (c : SharedState) (h : List E
       → Goes K limit t w (AtLook q n) c h (look_step (seen_by door (sees_by ready taken)) there granted c t w k q n)
   look_goes false ready taken there granted q n d r f m a = absurd (false≢true (sym d ∙ at_door q c.door a.1))
   look_goes true true taken there granted q n d r f m a =
-      stays K limit t w k (AtLook q n) c h run shared queue wk kk (AtCountOut EndValue)
-      (owes_value K t h a.0.entered (sym shared.ready_is ∙ r)) refl refl (λ e. inl refl) (inr (refl, r))
+      stays before (AtLook q n) (AtCountOut EndValue)
+      (owes_value K t h a.0.entered (sym before.shared.ready_is ∙ r)) refl refl (λ e. inl refl) (inr (refl, r))
   look_goes true false false there granted q n d r f m a = claims_head (AtLook q n) q refl r f a.0.entered a.1
-  look_goes true false true true granted q n d r f m a = waits_listed (AtLook q n) q n refl refl refl a.0.entered a.1 (other_holds K t c h shared.held_is a.0.entered.poll.holds_is f) m
-  look_goes true false true false true q n d r f m a = let o = other_holds K t c h shared.held_is a.0.entered.poll.holds_is f in
-      stays K limit t w k (AtLook q n) c h run shared queue wk kk (AtList q n w) (a.0, a.1, a.2, since_now_holder K t o.0 h o.1 o.2, wk) refl refl (λ e. inl refl) (inl refl)
-  look_goes true false true false false q n d r f m a = let o = other_holds K t c h shared.held_is a.0.entered.poll.holds_is f in
+  look_goes true false true true granted q n d r f m a = waits_listed (AtLook q n) q n refl refl refl a.0.entered a.1 (other_holds K t c h before.shared.held_is a.0.entered.poll.holds_is f) m
+  look_goes true false true false true q n d r f m a = let o = other_holds K t c h before.shared.held_is a.0.entered.poll.holds_is f in
+      stays before (AtLook q n) (AtList q n w) (a.0, a.1, a.2, since_now_holder K t o.0 h o.1 o.2, before.waker_is) refl refl (λ e. inl refl) (inl refl)
+  look_goes true false true false false q n d r f m a = let o = other_holds K t c h before.shared.held_is a.0.entered.poll.holds_is f in
       refused_at (AtLook q n) q n refl refl refl a.0 a.1 a.2 (since_now_holder K t o.0 h o.1 o.2)
 
   -- the listing
@@ -114,14 +107,14 @@ module _ (K : Kind) (limit t w : ℕ) (k : Answer) (c : SharedState) (h : List E
       → Goes K limit t w (AtList q n v) c h (list_step (seen_by door (sees_by ready taken)) may c t v k q n)
   list_goes false ready taken may q n v d r f a = absurd (false≢true (sym d ∙ at_door q c.door a.1))
   list_goes true true taken may q n v d r f a =
-      stays K limit t w k (AtList q n v) c h run shared queue wk kk (AtCountOut EndValue)
-      (owes_value K t h a.0.entered (sym shared.ready_is ∙ r)) refl refl (λ e. inl refl) (inr (refl, r))
+      stays before (AtList q n v) (AtCountOut EndValue)
+      (owes_value K t h a.0.entered (sym before.shared.ready_is ∙ r)) refl refl (λ e. inl refl) (inr (refl, r))
   list_goes true false false may q n v d r f a = claims_head (AtList q n v) q refl r f a.0.entered a.1
   list_goes true false true true q n v d r f a =
       let m : ℕ = ticket_for n c.listings in
-      let o = other_holds K t c h shared.held_is a.0.entered.poll.holds_is f in
-      let same : v ≡ w = sym a.4 ∙ wk in
-      waits_so K limit t w k (AtList q n v) c h run shared queue wk kk (listing_shared c m v) q m o.0 o.2 o.1 a.0.entered (relisted_fits K limit c (list_with m v c.listings) h shared)
+      let o = other_holds K t c h before.shared.held_is a.0.entered.poll.holds_is f in
+      let same : v ≡ w = sym a.4 ∙ before.waker_is in
+      waits_so before (AtList q n v) (listing_shared c m v) q m o.0 o.2 o.1 a.0.entered (relisted_fits K limit c (list_with m v c.listings) h before.shared)
       (rw same (λ x. anew_asks x m w c.listings)) (λ r. rw same (find_own m w c.listings)) refl a.1
       (λ u x b j. same_shared K limit c (listing_shared c m v) u h b refl refl refl refl refl
       (λ y. y)) refl refl refl

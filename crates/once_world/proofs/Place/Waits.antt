@@ -21,7 +21,7 @@ use Rattle.once_world.proofs.Invariant.Around.{Around}
 use Rattle.once_world.proofs.Invariant.AroundLists.{AroundList}
 use Rattle.once_world.proofs.Invariant.Turns.{ListMoves, lists_stay}
 use Rattle.once_world.proofs.Place.Relisted.{no_listing}
-use Rattle.once_world.proofs.Place.Builders.{Goes, claims_so, ends_by, ends_plain, moves_on, same_shared, stays}
+use Rattle.once_world.proofs.Place.Builders.{Before, Goes, claims_so, ends_by, ends_plain, moves_on, same_shared, stays}
 use Rattle.once_world.proofs.Place.FitsAfter.{claim_fits, count_fits, headless, nobody, put_fits, put_keeps}
 use Rattle.once_queue.specs.Word.{is_zero}
 
@@ -89,20 +89,18 @@ crowd_legal K limit t h a n le =
 full_lasts : EndFull ≢ EndPending
 full_lasts e = cc
 
-module _ (K : Kind) (limit t w : ℕ) (k : Answer) (c : SharedState) (h : List Entry) (run : IsRun K limit h)
-    (shared : SharedFits K limit c h) (queue : QueueFits K c.listings h) (wk : (last_call K t h).waker ≡ w)
-    (kk : k ≡ kept_of (last_call K t h).ran) where
+module _ {K : Kind} {limit t w : ℕ} {k : Answer} {c : SharedState} {h : List Entry} (before : Before K limit t w k c h) where
   -- the start
   pub start_goes : (ready new : Bool) → c.ready ≡ ready → is_zero (word_of c) ≡ new → Around K t false false c h
       → AtPlace K limit t c h AtStart → Goes K limit t w AtStart c h (start_step ready new c t k)
-  start_goes true new r f ar a = ends_plain K limit t w k AtStart c h run shared queue wk kk EndValue (owes_value K t h a.0 (sym shared.ready_is ∙ r)) refl refl
+  start_goes true new r f ar a = ends_plain before AtStart EndValue (owes_value K t h a.0 (sym before.shared.ready_is ∙ r)) refl refl
   start_goes false true r f ar a =
-      stays K limit t w k AtStart c h run shared queue wk kk AtTryQuick
-      (fresh_from K t h a.0 a.1 a.2 (sym shared.ready_is ∙ r), inl (sym shared.ready_is ∙ r)) refl refl
+      stays before AtStart AtTryQuick
+      (fresh_from K t h a.0 a.1 a.2 (sym before.shared.ready_is ∙ r), inl (sym before.shared.ready_is ∙ r)) refl refl
       (λ e. absurd (false≢true e)) (inl refl)
   start_goes false false r f ar a =
-      stays K limit t w k AtStart c h run shared queue wk kk AtDoorGet
-      (fresh_from K t h a.0 a.1 a.2 (sym shared.ready_is ∙ r), met_busy K limit t c h shared ar a.0.poll.holds_is r f) refl refl
+      stays before AtStart AtDoorGet
+      (fresh_from K t h a.0 a.1 a.2 (sym before.shared.ready_is ∙ r), met_busy K limit t c h before.shared ar a.0.poll.holds_is r f) refl refl
       (λ e. absurd (false≢true e)) (inl refl)
 
   -- the quick claim
@@ -112,21 +110,21 @@ module _ (K : Kind) (limit t w : ℕ) (k : Answer) (c : SharedState) (h : List E
       let z = idle c f in
       let r = z.2 in
       let n = no_head K t false false c h ar z.0 in
-      let empty = empty_cell (cell K h) (sym shared.ready_is ∙ r) (shared.held_is ∙ or_from c.quick c.head z.1 n) in
-      claims_so K limit t w k AtTryQuick c h run shared queue wk kk (record c { quick = true }) None empty a.0.entered
-      (claim_fits K limit t c (record c { quick = true }) h shared r refl refl refl r shared.head_door refl) (λ n. omega arith)
+      let empty = empty_cell (cell K h) (sym before.shared.ready_is ∙ r) (before.shared.held_is ∙ or_from c.quick c.head z.1 n) in
+      claims_so before AtTryQuick (record c { quick = true }) None empty a.0.entered
+      (claim_fits K limit t c (record c { quick = true }) h before.shared r refl refl refl r before.shared.head_door refl) (λ n. omega arith)
       (record { quick_is = refl; head_is = n }, omega arith) refl refl refl refl (lists_stay t None None c (record c { quick = true }) (Claim t ∷ h) refl (λ r. r) (inl refl))
   quick_goes false f ar a =
-      let unset : c.ready ≡ false → Met K t h ⊎ SomeoneWaits K h = λ r. met_busy K limit t c h shared ar a.0.entered.poll.holds_is r f in
-      let set : c.ready ≡ true → Met K t h ⊎ SomeoneWaits K h = λ r. ⊎_elim (λ n. absurd (false≢true (sym n ∙ sym shared.ready_is ∙ r))) (λ m. inl m) a.1 in
-      stays K limit t w k AtTryQuick c h run shared queue wk kk AtDoorGet (a.0, ⊎_elim set unset (cases_Bool c.ready)) refl refl (λ e. absurd (false≢true e)) (inl refl)
+      let unset : c.ready ≡ false → Met K t h ⊎ SomeoneWaits K h = λ r. met_busy K limit t c h before.shared ar a.0.entered.poll.holds_is r f in
+      let set : c.ready ≡ true → Met K t h ⊎ SomeoneWaits K h = λ r. ⊎_elim (λ n. absurd (false≢true (sym n ∙ sym before.shared.ready_is ∙ r))) (λ m. inl m) a.1 in
+      stays before AtTryQuick AtDoorGet (a.0, ⊎_elim set unset (cases_Bool c.ready)) refl refl (λ e. absurd (false≢true e)) (inl refl)
 
   -- a look at the door
   pub door_get_goes : (door : Option ℕ) → c.door ≡ door → Around K t false false c h
       → AtPlace K limit t c h AtDoorGet → Goes K limit t w AtDoorGet c h (door_step door c t k)
-  door_get_goes (Some q) d ar a = stays K limit t w k AtDoorGet c h run shared queue wk kk (AtCountIn q) (a.0, inl d) refl refl (λ e. absurd (false≢true e)) (inl refl)
+  door_get_goes (Some q) d ar a = stays before AtDoorGet (AtCountIn q) (a.0, inl d) refl refl (λ e. absurd (false≢true e)) (inl refl)
   door_get_goes None d ar a =
-      stays K limit t w k AtDoorGet c h run shared queue wk kk AtDoorPut
+      stays before AtDoorGet AtDoorPut
       (a.0, ⊎_elim (λ m. m) (λ x. absurd (ar.door_waits d x.0 x.1)) a.1) refl refl (λ e. absurd (false≢true e))
       (inl refl)
 
@@ -134,12 +132,12 @@ module _ (K : Kind) (limit t w : ℕ) (k : Answer) (c : SharedState) (h : List E
   pub door_put_goes : (granted : Bool) (door : Option ℕ) → c.door ≡ door → Around K t false false c h
       → AroundList K t None c h → AtPlace K limit t c h AtDoorPut
       → Goes K limit t w AtDoorPut c h (put_step granted door c t k)
-  door_put_goes false door d ar al a = ends_plain K limit t w k AtDoorPut c h run shared queue wk kk EndMemory (refused_in K t h a.0.entered, rw a.0.began_is (a.0.unset, a.1)) refl refl
-  door_put_goes true (Some q) d ar al a = stays K limit t w k AtDoorPut c h run shared queue wk kk (AtCountIn q) (a.0, inl d) refl refl (λ e. absurd (false≢true e)) (inl refl)
+  door_put_goes false door d ar al a = ends_plain before AtDoorPut EndMemory (refused_in K t h a.0.entered, rw a.0.began_is (a.0.unset, a.1)) refl refl
+  door_put_goes true (Some q) d ar al a = stays before AtDoorPut (AtCountIn q) (a.0, inl d) refl refl (λ e. absurd (false≢true e)) (inl refl)
   door_put_goes true None d ar al a =
-      let n = headless K limit c h shared d in
-      moves_on K limit t w k AtDoorPut c h run shared queue wk kk (record c { door = Some (suc c.queues); head = false; listings = []; queues = suc c.queues }) (AtCountIn (suc c.queues))
-      (put_fits K limit c h shared n (suc c.queues)) (nobody K c.listings h queue (ar.door_waits d)) (a.0, inl refl)
+      let n = headless K limit c h before.shared d in
+      moves_on before AtDoorPut (record c { door = Some (suc c.queues); head = false; listings = []; queues = suc c.queues }) (AtCountIn (suc c.queues))
+      (put_fits K limit c h before.shared n (suc c.queues)) (nobody K c.listings h before.queue (ar.door_waits d)) (a.0, inl refl)
       (λ u x b i. put_keeps K limit c u h b d n (suc c.queues)) refl (λ e. absurd (false≢true e))
       (λ e. absurd (false≢true e)) (put_lists K t c (suc c.queues) h d al)
 
@@ -149,17 +147,17 @@ module _ (K : Kind) (limit t w : ℕ) (k : Answer) (c : SharedState) (h : List E
       → Goes K limit t w (AtCountIn q) c h (in_step below ready c t k q)
   in_goes true true q b r some ar a =
       let l = ltb-true c.count limit b in
-      moves_on K limit t w k (AtCountIn q) c h run shared queue wk kk (record c { count = suc c.count })
-      (AtCountOut EndValue) (count_fits K limit c (suc c.count) h shared (omega arith)
-      (λ n. absurd (false≢true (sym n ∙ r)))) queue (owes_value K t h a.0.entered (sym shared.ready_is ∙ r))
+      moves_on before (AtCountIn q) (record c { count = suc c.count })
+      (AtCountOut EndValue) (count_fits K limit c (suc c.count) h before.shared (omega arith)
+      (λ n. absurd (false≢true (sym n ∙ r)))) before.queue (owes_value K t h a.0.entered (sym before.shared.ready_is ∙ r))
       (λ u n d i. same_shared K limit c (record c { count = suc c.count }) u h d refl refl refl refl refl
       (λ _. ltb-true c.count limit b)) (omega arith) (λ e. absurd (false≢true e)) (λ e. absurd (false≢true e))
       (lists_stay t None None c (record c { count = suc c.count }) h refl (λ r. r) (inl refl))
   in_goes true false q b r some ar a =
       let l = ltb-true c.count limit b in
-      moves_on K limit t w k (AtCountIn q) c h run shared queue wk kk (record c { count = suc c.count })
-      (AtWaitLoad q None) (count_fits K limit c (suc c.count) h shared (omega arith)
-      (λ _ _. (q, in_door c q r a.1))) queue (
+      moves_on before (AtCountIn q) (record c { count = suc c.count })
+      (AtWaitLoad q None) (count_fits K limit c (suc c.count) h before.shared (omega arith)
+      (λ _ _. (q, in_door c q r a.1))) before.queue (
         record {
           entered = a.0.entered;
           from = inl
@@ -171,9 +169,8 @@ module _ (K : Kind) (limit t w : ℕ) (k : Answer) (c : SharedState) (h : List E
       (λ u n d i. same_shared K limit c (record c { count = suc c.count }) u h d refl refl refl refl refl
       (λ _. ltb-true c.count limit b)) (omega arith) (λ e. absurd (false≢true e)) (λ e. inr r)
       (lists_stay t None None c (record c { count = suc c.count }) h refl (λ r. r) (inl refl))
-  in_goes false true q b r some ar a = ends_plain K limit t w k (AtCountIn q) c h run shared queue wk kk EndValue (owes_value K t h a.0.entered (sym shared.ready_is ∙ r)) refl refl
-  in_goes false false q b r some ar a = ends_by K limit t w k
-      (AtCountIn q) c h run shared queue wk kk c EndFull full_lasts
-      (crowd_legal K limit t h a.0 (sym shared.ready_is ∙ r)
-      (let l = ltb-false c.count limit b in let m = ar.crowded refl in omega arith)) a.0.entered.poll.holds_is shared queue
+  in_goes false true q b r some ar a = ends_plain before (AtCountIn q) EndValue (owes_value K t h a.0.entered (sym before.shared.ready_is ∙ r)) refl refl
+  in_goes false false q b r some ar a = ends_by before (AtCountIn q) c EndFull full_lasts
+      (crowd_legal K limit t h a.0 (sym before.shared.ready_is ∙ r)
+      (let l = ltb-false c.count limit b in let m = ar.crowded refl in omega arith)) a.0.entered.poll.holds_is before.shared before.queue
       (λ u d b i. same_shared K limit c c u h b refl refl refl refl refl (λ x. x)) (omega arith) (lists_stay t None None c c (End t Full ∷ h) refl (λ r. r) (inl refl))

@@ -9,7 +9,7 @@ use Rattle.once_world.proofs.Invariant.Facts.{AtPlace, AtStep}
 use Rattle.once_world.proofs.Invariant.Fits.{Fits}
 use Rattle.once_world.proofs.Invariant.Moves.{Moves, moved_fits, puts}
 use Rattle.once_world.proofs.Place.Sections.{refused_at}
-use Rattle.once_world.proofs.Input.Headline.{task_fits}
+use Rattle.once_world.proofs.Input.Headline.{task_before, task_fits}
 use Rattle.once_world.proofs.Shared.Queue.{EntersFirst, leave_first}
 use Rattle.once_world.proofs.Shared.Worlds.{Unowned, enters_of, moved_unowned}
 
@@ -53,7 +53,7 @@ leaves_fit limit t x w f found q v n at =
     let y : Task = record x { step = UnderWay (leave_place q n EndMemory) } in
     let own = task_fits Once limit t w x f found in
     let a : AtPlace Once limit t c h (AtList q n v) = subst (λ s. AtStep Once limit t c h s) at own.step in
-    let g = refused_at Once limit t x.waker x.kept c h f.run f.shared f.queue own.waker_is own.kept_is (AtList q n v) q n refl refl refl a.0 a.1 a.2 a.3 in
+    let g = refused_at (task_before Once limit t w x f found) (AtList q n v) q n refl refl refl a.0 a.1 a.2 a.3 in
     moved_fits Once limit t x y w (record w { tasks = put_task t y w.tasks }) f found (ap is_finished at) (puts t y w.tasks) refl
     (subst (λ s. Moves Once limit t s y c c h h) (sym at) g)
 

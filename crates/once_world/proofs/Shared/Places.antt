@@ -4,12 +4,11 @@ use Rattle.std.proofs.Common.{◌≡◌, ℕ, Bool, true, false, ◌⊎◌, List
 use Rattle.std.proofs.lemmas.Bool.Decides.{nat_tests}
 use Rattle.std.proofs.lemmas.Grind.{common_steps}
 use Rattle.once_world.specs.Record.{Answer, Entry, Once}
-use Rattle.once_world.specs.Book.{IsUnnamed, has_written, has_written_at}
+use Rattle.once_world.specs.Book.{IsUnnamed, has_written_at}
 use Rattle.once_world.specs.Machine.{AtStart, Ending, Outcome, Place, SharedState, leave_place, place_step}
 use Rattle.once_world.proofs.Invariant.Facts.{AtPlace}
 use Rattle.once_world.proofs.Invariant.Fits.{SharedFits}
-use Rattle.once_world.proofs.Place.Frees.{exact}
-use Rattle.once_world.proofs.Shared.Queue.{EntersFirst, EntersFirstAt, OneQueue, door_first, left_none, without_none}
+use Rattle.once_world.proofs.Shared.Queue.{EntersFirst, EntersFirstAt, OneQueue, left_none, without_none}
 use Rattle.once_world.proofs.Shared.Slot.{SlotKeeps, is_put_at}
 
 -- what a step leaves, by whether it writes the slot, or its task did so before

@@ -1,11 +1,12 @@
 -- The slot is written once: by a holder whose init gave the value, before it gives the right back.
-use Rattle.std.proofs.Common.{◌≡◌, ℕ, Bool, true, false, ◌⊎◌, inl, inr, ⊎_elim, Option, Some, None, List, refl, sym, ap, ◌∙◌, subst}
+use Rattle.std.proofs.Common.{◌≡◌, ℕ, Bool, true, false, ◌⊎◌, inl, inr, ⊎_elim, Option, Some, None, List, refl, sym, ap, ◌∙◌, subst, arith}
+use Rattle.std.proofs.lemmas.Grind.{common_steps}
 use Rattle.std.specs.Prelude.{◌||◌}
 use Rattle.std.proofs.lemmas.Bool.{false≢true, cases_eq}
 use Rattle.once_world.specs.Record.{Entry, Once}
 use Rattle.once_world.specs.Cell.{Cell, cell}
 use Rattle.once_world.specs.Book.{SlotIs, has_written, has_written_at}
-use Rattle.once_world.specs.Machine.{AtAddOne, AtDoorAgain, AtFast, AtPut, AtRelease, Finished, Place, Resting, SharedState, Step, Task, UnderWay, World, first_world, put_task, step_of}
+use Rattle.once_world.specs.Machine.{AtPut, Place, SharedState, Step, Task, UnderWay, World, first_world, put_task, step_of}
 use Rattle.once_world.proofs.History.Others.{holds}
 use Rattle.once_world.proofs.History.Cells.{held_by, holder_unset}
 use Rattle.once_world.proofs.Invariant.Facts.{AtPlace, AtStep}
@@ -68,11 +69,7 @@ slot_kept false slot w w' t y e k f =
 
 -- who wrote it holds, by the place
 writer_holds_at : (limit u : ℕ) (c : SharedState) (h : List Entry) (p : Place ℕ ℕ) → AtPlace Once limit u c h p → has_written_at p ≡ true → holds u (cell Once h) ≡ true
-writer_holds_at limit u c h (AtFast e) a i = releasing_holds Once u c h e a.0
-writer_holds_at limit u c h (AtAddOne e) a i = releasing_holds Once u c h e a.0
-writer_holds_at limit u c h (AtDoorAgain e) a i = releasing_holds Once u c h e a.0
-writer_holds_at limit u c h (AtRelease q e) a i = releasing_holds Once u c h e a.0
-writer_holds_at limit u c h _ a i = absurd (false≢true i)
+writer_holds_at limit u c h p a i = grind (arith, common_steps, releasing_holds)
 
 -- by the step
 writer_holds_in : (limit u : ℕ) (c : SharedState) (h : List Entry) (s : Step ℕ ℕ) → AtStep Once limit u c h s → has_written s ≡ true → holds u (cell Once h) ≡ true

@@ -1,15 +1,17 @@
 -- Each input but an owner's call keeps what is known of a world in which no owner called.
 use Rattle.std.proofs.Common.{◌≡◌, ℕ, Bool, true, false, cond, ◌==◌, inl, List, [], ◌∷◌, ◌++◌, Option, Some, None, refl, sym, subst, arith}
+use Rattle.std.proofs.lemmas.Bool.Decides.{nat_tests}
+use Rattle.std.proofs.lemmas.Grind.{common_steps}
 use Rattle.std.proofs.lemmas.Bool.{false≢true}
 use Rattle.once_queue.specs.declared.waiters.Listing.{Listing}
 use Rattle.once_queue.specs.Listings.{find_listing}
 use Rattle.once_queue.proofs.Listing.Members.{eqb_self}
-use Rattle.once_world.specs.Record.{Answer, Begin, Claim, DropBegin, DropEnd, End, Entry, Fill, Free, Look, Made, Once, Own, Pass, Ran}
+use Rattle.once_world.specs.Record.{Answer, Begin, Entry, Made, Once, Own}
 use Rattle.once_world.specs.Inputs.{AreOfStep, IsOfStep, Drop, Go, Input, Looks, Make, Owns, Poll}
 use Rattle.once_world.specs.Book.{IsShared, IsUnnamed, has_written_at}
-use Rattle.once_world.specs.Machine.{AtLeave, AtList, AtLook, AtWaitLoad, EndDropped, Finished, Outcome, Place, RestRun, RestStart, RestWait, Resting, Step}
-use Rattle.once_world.specs.Machine.{Task, UnderWay, World, advance, drop_entries, drop_world, drop_world_by, first_world, fresh_task, go_world, go_world_by}
-use Rattle.once_world.specs.Machine.{in_call, is_resting, make_world, place_of_poll, poll_world, poll_world_by, put_task, step_at, step_of, step_of_drop}
+use Rattle.once_world.specs.Machine.{EndDropped, Finished, Outcome, Place, RestRun, RestStart, RestWait, Resting, Step, Task, UnderWay, World}
+use Rattle.once_world.specs.Machine.{advance, drop_entries, drop_world, drop_world_by, first_world, fresh_task, go_world, go_world_by, in_call}
+use Rattle.once_world.specs.Machine.{is_resting, make_world, place_of_poll, poll_world, poll_world_by, put_task, step_at, step_of, step_of_drop}
 use Rattle.once_world.specs.Machine.{step_of_poll, world_after}
 use Rattle.once_world.proofs.Invariant.Facts.{AtPlace, AtStep, is_inside, is_inside_at, ticket_at, ticket_of}
 use Rattle.once_world.proofs.Invariant.Fits.{Fits}
@@ -47,11 +49,7 @@ pub record Unowned (w : World) : Type 0 where
 
 -- who has a ticket is a waiter, by the place
 ticket_inside_at : (p : Place ℕ ℕ) (n : ℕ) → ticket_at p ≡ Some n → is_inside_at p ≡ true
-ticket_inside_at (AtWaitLoad q k) n e = refl
-ticket_inside_at (AtLook q k) n e = refl
-ticket_inside_at (AtList q k v) n e = refl
-ticket_inside_at (AtLeave q k x) n e = refl
-ticket_inside_at _ n e = absurd (none_not_some n e)
+ticket_inside_at p n e = grind (arith, nat_tests, common_steps)
 
 -- by the step
 ticket_inside : (s : Step ℕ ℕ) (n : ℕ) → ticket_of s ≡ Some n → is_inside s ≡ true

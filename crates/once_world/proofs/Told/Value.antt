@@ -3,7 +3,7 @@ use Rattle.std.proofs.Common.{◌≡◌, ◌<◌, ℕ, suc, Bool, true, false, i
 use Rattle.std.proofs.lemmas.Bool.{false≢true}
 use Rattle.std.proofs.lemmas.List.{reverse-append, reverse-reverse, append_assoc}
 use Rattle.once_queue.specs.Word.{Flags, flags_of}
-use Rattle.once_world.specs.Record.{Begin, Claim, DropBegin, DropEnd, End, Entry, Fill, Free, Look, Made, Once, Own, Pass, Ran, is_own}
+use Rattle.once_world.specs.Record.{Claim, Entry, Fill, Free, Once, Own, is_own}
 use Rattle.once_world.specs.Cell.{Cell, Empty, Held, SetTo, cell, is_set}
 use Rattle.once_world.specs.Values.{IsOneValue}
 use Rattle.once_world.specs.Book.{At, IsBook, Page}
@@ -58,14 +58,7 @@ filled (Claim t ∷ h) v u s = absurd (held_set t v s)
 filled (Free t X ∷ h) v u s = absurd (empty_set v s)
 filled (Fill t m X ∷ h) v u s = let same : m ≡ v = cc in (t, X, ([], h, ap (λ k. Fill t k X ∷ h) same))
 filled (Own o g ∷ h) v u s = absurd u.0
-filled (Made t ∷ h) v u s = filled_on v (Made t) h (filled h v u.1 s)
-filled (Begin t k ∷ h) v u s = filled_on v (Begin t k) h (filled h v u.1 s)
-filled (Ran t a ∷ h) v u s = filled_on v (Ran t a) h (filled h v u.1 s)
-filled (Pass t X ∷ h) v u s = filled_on v (Pass t X) h (filled h v u.1 s)
-filled (End t a ∷ h) v u s = filled_on v (End t a) h (filled h v u.1 s)
-filled (DropBegin t ∷ h) v u s = filled_on v (DropBegin t) h (filled h v u.1 s)
-filled (DropEnd t ∷ h) v u s = filled_on v (DropEnd t) h (filled h v u.1 s)
-filled (Look a ∷ h) v u s = filled_on v (Look a) h (filled h v u.1 s)
+filled (e ∷ h) v u s = filled_on v e h (filled h v u.1 s)
 
 -- a value that was filled in stays
 stays_filled : (h late before : List Entry) (t v : ℕ) (X : List ℕ) → ArePlain h → IsOneValue Once h → h ≡ late ++ Fill t v X ∷ before → cell Once h ≡ SetTo v
