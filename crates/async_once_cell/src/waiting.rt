@@ -20,7 +20,7 @@ use crate::waker::{ListedWaker, Renewal};
 use futures::task::{Context, Poll};
 use once_core::step::{Ending, Polled, Side};
 use once_parts::record::is_set_where_answered;
-use once_parts::{Hand, Inner, Mark, Record, Task, TaskSide};
+use once_parts::{CopiesWaker, Hand, Inner, Mark, Record, Task, TaskSide};
 use once_queue::waiters::Out;
 use pagebook::Written;
 use std::alloc::AllocGlobal;
@@ -361,6 +361,14 @@ impl<T: Drop, X: Failure, I: Init<T, X>> TaskSide<ListedWaker>
     ghost puts = { λ s h. h };
 }
 
+impl<T: Drop, X: Failure, I: Init<T, X>> CopiesWaker for Polling<'_, '_, T, Failed<X>, I> {
+    // A waker is the kit's, and so is the code that makes one.
+    #[inline(always)]
+    fn copies_under_lock() -> bool {
+        true
+    }
+}
+
 // What a drop brings, when the init is gone. It does not name the init's type, so that a program has
 // the code of a drop once for all inits.
 #[derive(Drop)]
@@ -443,4 +451,11 @@ impl<T, R: Wait> TaskSide<ListedWaker> for Leaving<'_, T, R> {
     ghost runs = { λ s h. tt };
 
     ghost puts = { λ s h. tt };
+}
+
+impl<T, R: Wait> CopiesWaker for Leaving<'_, T, R> {
+    #[inline(always)]
+    fn copies_under_lock() -> bool {
+        false
+    }
 }

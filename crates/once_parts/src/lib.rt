@@ -38,5 +38,5 @@ pub use inner::Inner;
 pub use mark::{Mark, TaskWaker};
 pub use pollable::{Pollable, Splits, poll_init};
 pub use shared::Shared;
-pub use side::TaskSide;
+pub use side::{CopiesWaker, TaskSide};
 pub use task::Task;

@@ -7,7 +7,7 @@ use super::walks::{Caller, Cell, ERROR, MEMORY, PENDING, TWO, VALUE};
 use crate::bell::Bell;
 use crate::doubles::text::shows;
 use once_core::step::{Ending, Polled, Side};
-use once_parts::{Hand, Mark, Task, TaskSide};
+use once_parts::{CopiesWaker, Hand, Mark, Task, TaskSide};
 use once_queue::waiters::Out;
 use std::alloc::AllocGlobal;
 use std::io;
@@ -196,6 +196,12 @@ impl<R: Wait + AllocGlobal> TaskSide<Bell> for Meddling<'_, '_, R> {
     ghost runs = { λ s h. h };
 
     ghost puts = { λ s h. h };
+}
+
+impl<R: Wait + AllocGlobal> CopiesWaker for Meddling<'_, '_, R> {
+    fn copies_under_lock() -> bool {
+        false
+    }
 }
 
 /// A task, and its side, which uses another task.

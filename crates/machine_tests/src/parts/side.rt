@@ -5,7 +5,7 @@ ghost use Rattle.std.proofs.Common.{rules};
 use crate::bell::{Bell, task_of};
 use crate::poller::{Poller, Scripted, init_that_answers};
 use once_core::step::{Polled, Side};
-use once_parts::{Hand, Mark, Pollable, TaskSide};
+use once_parts::{CopiesWaker, Hand, Mark, Pollable, TaskSide};
 use once_queue::waiters::Out;
 use std::alloc::AllocGlobal;
 use std::io;
@@ -179,6 +179,12 @@ impl<R: Wait> TaskSide<Bell> for TestSide<'_, R> {
     ghost runs = { λ s h. h };
 
     ghost puts = { λ s h. h };
+}
+
+impl<R: Wait> CopiesWaker for TestSide<'_, R> {
+    fn copies_under_lock() -> bool {
+        false
+    }
 }
 
 // The names of those whose bells are in it.

@@ -5,7 +5,7 @@ ghost use Rattle.std.proofs.Common.{rules};
 use crate::bell::{Bell, named};
 use crate::poller::{Poller, Scripted, init_that_answers};
 use once_core::step::{Polled, Side};
-use once_parts::{Hand, Mark, Pollable, TaskSide};
+use once_parts::{CopiesWaker, Hand, Mark, Pollable, TaskSide};
 use once_queue::waiters::Out;
 use std::alloc::AllocGlobal;
 use std::marker::Model;
@@ -184,4 +184,10 @@ impl<R: Wait> TaskSide<Bell> for Noting<'_, R> {
     ghost runs = { λ s h. h };
 
     ghost puts = { λ s h. tt };
+}
+
+impl<R: Wait> CopiesWaker for Noting<'_, R> {
+    fn copies_under_lock() -> bool {
+        false
+    }
 }

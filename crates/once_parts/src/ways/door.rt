@@ -8,6 +8,7 @@ ghost use Rattle.once_parts.specs.Ways.{Leads, LeadsBy, next_by};
 
 use super::waiter::look;
 use super::{Reached, Spent, go_on_from};
+use crate::calls::steps_left;
 use crate::desk::Desk;
 use crate::hand::Hand;
 use crate::idle::Idle;
@@ -39,6 +40,9 @@ pub(super) fn meet<
         (S.state side.new) (own parts.new) }
     ensures stays { S.stays side.old side.new }
 {
+    if !S::copies_under_lock() {
+        return steps_left(parts, idle, Step::UnderWay(Place::DoorGet), side);
+    }
     let mut spent = None;
     let reached = held::<Brand, T, W, R, S>(
         parts.rt,

@@ -7,6 +7,7 @@ ghost use Rattle.once_parts.specs.Walks.{Stands};
 ghost use Rattle.once_parts.specs.Ways.{Leads, LeadsBy, next_by};
 
 use super::{Reached, Spent, go_on_from};
+use crate::calls::steps_left;
 use crate::desk::Desk;
 use crate::hand::Hand;
 use crate::idle::Idle;
@@ -101,6 +102,9 @@ fn look_again<
         (S.state side.new) (own parts.new) }
     ensures stays { S.stays side.old side.new }
 {
+    if !S::copies_under_lock() {
+        return steps_left(parts, idle, Step::UnderWay(Place::Look((), ticket)), side);
+    }
     let mut spent = None;
     let reached = held::<Brand, T, W, R, S>(
         parts.rt,
