@@ -10,7 +10,8 @@ use Rattle.once_world.specs.Cell.{cell}
 use Rattle.once_world.specs.Book.{At, Door, IsBook, Page, Queue}
 use Rattle.once_world.specs.Machine.{AtCountIn, AtDoorAgain, AtDoorGet, AtDoorPut, AtDoorTake, AtRelease, EndMemory, Ending, Place, SharedState, Task, UnderWay}
 use Rattle.once_world.specs.Machine.{outcome_of, place_step, put_shared, take_shared, word_of}
-use Rattle.once_world.proofs.Steps.{again_step, put_step}
+use Rattle.once_core.specs.Table.{after_door_again}
+use Rattle.once_world.proofs.Steps.{put_step}
 use Rattle.once_world.proofs.History.Cells.{holder_unset, none_some, set_free}
 use Rattle.once_world.proofs.Invariant.Kept.{releasing_holds}
 use Rattle.once_world.proofs.Place.FitsAfter.{headless}
@@ -76,7 +77,7 @@ module _ (limit n put : ℕ) (slot : Bool) (pages : List Page) (log : List Entry
         let r : c.ready ≡ false = m.fits.shared.ready_is ∙ holder_unset t (cell Once m.w.history) (releasing_holds Once t c m.w.history e a.0) in
         let d : c.door ≡ Some 1 = a.2.1 ∙ ap (λ (q : ℕ). Some q) (door_first c a.2.0 m.unowned.queue r a.2.1) in (
           sym own_door.1 ∙ d,
-          stepped_alone limit n put slot pages log t x some book pen n false (AtDoorAgain e) c [] (next_at (AtRelease 1 e)) at (ap (λ q. again_step q c t x.kept e) d)
+          stepped_alone limit n put slot pages log t x some book pen n false (AtDoorAgain e) c [] (next_at (AtRelease 1 e)) at (ap (λ q. outcome_of c t x.kept [] (after_door_again q e)) d)
               book.1.within book.1.word_is book.1.put_is book.1.door_is book.1.queue_is,
         )
 

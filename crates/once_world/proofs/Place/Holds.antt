@@ -10,7 +10,9 @@ use Rattle.once_world.specs.Wakers.{opens}
 use Rattle.once_world.specs.Run.{IsLegal, IsRun}
 use Rattle.once_world.specs.Machine.{AtAddOne, AtDoorAgain, AtPut, AtRelease, AtRun, EndError, EndValue, Ending, SharedState, Place, UnderWay}
 use Rattle.once_world.specs.Machine.{release_place, init_answer, put_value, run_shared}
-use Rattle.once_world.proofs.Steps.{again_step, run_step}
+use Rattle.once_core.specs.Table.{after_door_again}
+use Rattle.once_world.specs.Machine.{outcome_of}
+use Rattle.once_world.proofs.Steps.{run_step}
 use Rattle.once_queue.proofs.Listing.Members.{eqb_self}
 use Rattle.once_world.proofs.History.Others.{holds, keeps_both, legal_keeps}
 use Rattle.once_world.proofs.History.Cells.{held_by, held_not_empty, holder_unset, no_other, none_some}
@@ -196,6 +198,6 @@ module _ {K : Kind} {limit t w : ℕ} {k : Answer} {c : SharedState} {h : List E
 
   -- a step that looks at the door again
   pub again_goes : (door : Option ℕ) (e : Ending) → c.door ≡ door → AtPlace K limit t c h (AtDoorAgain e)
-      → Goes K limit t w (AtDoorAgain e) c h (again_step door c t k e)
+      → Goes K limit t w (AtDoorAgain e) c h (outcome_of c t k [] (after_door_again door e))
   again_goes (Some q) e d a = stays before (AtDoorAgain e) (AtRelease q e) (a.0, inl a.1, d) refl refl (λ e. absurd (false≢true e)) (inl refl)
   again_goes None e d a = absurd (none_some a.2.0 (sym d ∙ a.2.1))

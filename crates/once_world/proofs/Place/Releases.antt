@@ -12,7 +12,9 @@ use Rattle.once_world.specs.Run.{IsLegal, IsRun}
 use Rattle.once_world.specs.Machine.{AtAddOne, AtCountOut, AtDoorTake, AtFast, AtRelease, EndDropped, EndError, EndValue, Ending, Finished}
 use Rattle.once_world.specs.Machine.{SharedState, UnderWay, out_shared, take_shared, end_entry, release_wakers, is_at_door, is_value, release_list}
 use Rattle.once_world.specs.Machine.{release_entry, release_flags, word_of}
-use Rattle.once_world.proofs.Steps.{fast_step, out_step, release_step}
+use Rattle.once_core.specs.Table.{after_count_out}
+use Rattle.once_world.specs.Machine.{outcome_of}
+use Rattle.once_world.proofs.Steps.{fast_step, release_step}
 use Rattle.once_queue.proofs.Listing.Members.{eqb_self}
 use Rattle.once_world.proofs.History.Others.{keeps_both, legal_keeps}
 use Rattle.once_world.proofs.History.Cells.{empty_not_set, holder_unset, same_value, set_unheld}
@@ -202,7 +204,7 @@ module _ {K : Kind} {limit t w : ℕ} {k : Answer} {c : SharedState} {h : List E
 
   -- a counting out
   pub out_goes : (x : Bool) (e : Ending) → is_ready_bit (word_of (out_shared c)) ≡ x → Around K t true false c h
-      → AtPlace K limit t c h (AtCountOut e) → Goes K limit t w (AtCountOut e) c h (out_step x (out_shared c) t k e)
+      → AtPlace K limit t c h (AtCountOut e) → Goes K limit t w (AtCountOut e) c h (outcome_of (out_shared c) t k [] (after_count_out x e))
   out_goes true e x ar a =
       let l = ar.own_count refl in let y = exact_out c x in
       moves_on before (AtCountOut e) (out_shared c) (AtDoorTake e)

@@ -9,7 +9,9 @@ use Rattle.once_queue.specs.Word.{sees_by}
 use Rattle.once_world.specs.Refusals.{AtSome, MemoryFrom, OtherActs, OtherHolds, is_begin_of, moments_since}
 use Rattle.once_world.specs.Run.{IsRun}
 use Rattle.once_world.specs.Machine.{AtCountOut, AtLeave, AtList, AtLook, AtWaitLoad, EndMemory, EndValue, SharedState, Place, is_at_door, leave_place, seen_by}
-use Rattle.once_world.proofs.Steps.{list_step, load_step, look_step}
+use Rattle.once_core.specs.Table.{after_load}
+use Rattle.once_world.specs.Machine.{outcome_of}
+use Rattle.once_world.proofs.Steps.{list_step, look_step}
 use Rattle.once_world.proofs.History.Others.{Met, MetHolder, since_now_holder}
 use Rattle.once_world.proofs.History.Cells.{empty_cell}
 use Rattle.once_world.proofs.History.Waiters.{QueueFits}
@@ -48,7 +50,7 @@ any_memory K t h a m = memory_from K t h (last_call K t h).began a.from m
 module _ {K : Kind} {limit t w : ℕ} {k : Answer} {c : SharedState} {h : List Entry} (before : Before K limit t w k c h) where
   -- the load
   pub load_goes : (ready : Bool) (q : ℕ) (n : Option ℕ) → c.ready ≡ ready → AtPlace K limit t c h (AtWaitLoad q n)
-      → Goes K limit t w (AtWaitLoad q n) c h (load_step ready c t k q n)
+      → Goes K limit t w (AtWaitLoad q n) c h (outcome_of c t k [] (after_load ready q n))
   load_goes true q n r a =
       stays before (AtWaitLoad q n) (AtCountOut EndValue)
       (owes_value K t h a.0.entered (sym before.shared.ready_is ∙ r)) refl refl (λ e. inl refl) (inr (refl, r))

@@ -10,7 +10,9 @@ use Rattle.once_world.specs.Refusals.{IsCrowded, OtherHolds, Since, crowd}
 use Rattle.once_world.specs.Run.{IsLegal, IsRun}
 use Rattle.once_world.specs.Machine.{AtCountIn, AtCountOut, AtDoorGet, AtDoorPut, AtStart, AtTryQuick, AtWaitLoad, EndFull, EndMemory, EndPending, EndValue}
 use Rattle.once_world.specs.Machine.{SharedState, word_of}
-use Rattle.once_world.proofs.Steps.{door_step, in_step, put_step, quick_step, start_step}
+use Rattle.once_core.specs.Table.{after_count_in, after_door_get, after_quick, after_start}
+use Rattle.once_world.specs.Machine.{claim_entries, in_shared, outcome_of, quick_shared}
+use Rattle.once_world.proofs.Steps.{put_step}
 use Rattle.once_queue.proofs.Listing.Members.{eqb_self}
 use Rattle.once_world.proofs.History.Others.{Met, SomeoneWaits, holds, since_now}
 use Rattle.once_world.proofs.History.Cells.{empty_cell, holder_of, is_held, value_of_set}
@@ -92,7 +94,7 @@ full_lasts e = cc
 module _ {K : Kind} {limit t w : ℕ} {k : Answer} {c : SharedState} {h : List Entry} (before : Before K limit t w k c h) where
   -- the start
   pub start_goes : (ready new : Bool) → c.ready ≡ ready → is_zero (word_of c) ≡ new → Around K t false false c h
-      → AtPlace K limit t c h AtStart → Goes K limit t w AtStart c h (start_step ready new c t k)
+      → AtPlace K limit t c h AtStart → Goes K limit t w AtStart c h (outcome_of c t k [] (after_start ready new))
   start_goes true new r f ar a = ends_plain before AtStart EndValue (owes_value K t h a.0 (sym before.shared.ready_is ∙ r)) refl refl
   start_goes false true r f ar a =
       stays before AtStart AtTryQuick
@@ -105,7 +107,7 @@ module _ {K : Kind} {limit t w : ℕ} {k : Answer} {c : SharedState} {h : List E
 
   -- the quick claim
   pub quick_goes : (won : Bool) → is_zero (word_of c) ≡ won → Around K t false false c h
-      → AtPlace K limit t c h AtTryQuick → Goes K limit t w AtTryQuick c h (quick_step won c t k)
+      → AtPlace K limit t c h AtTryQuick → Goes K limit t w AtTryQuick c h (outcome_of (quick_shared won c) t k (claim_entries won t) (after_quick won))
   quick_goes true f ar a =
       let z = idle c f in
       let r = z.2 in
@@ -121,7 +123,7 @@ module _ {K : Kind} {limit t w : ℕ} {k : Answer} {c : SharedState} {h : List E
 
   -- a look at the door
   pub door_get_goes : (door : Option ℕ) → c.door ≡ door → Around K t false false c h
-      → AtPlace K limit t c h AtDoorGet → Goes K limit t w AtDoorGet c h (door_step door c t k)
+      → AtPlace K limit t c h AtDoorGet → Goes K limit t w AtDoorGet c h (outcome_of c t k [] (after_door_get door))
   door_get_goes (Some q) d ar a = stays before AtDoorGet (AtCountIn q) (a.0, inl d) refl refl (λ e. absurd (false≢true e)) (inl refl)
   door_get_goes None d ar a =
       stays before AtDoorGet AtDoorPut
@@ -144,7 +146,7 @@ module _ {K : Kind} {limit t w : ℕ} {k : Answer} {c : SharedState} {h : List E
   -- the counting in
   pub in_goes : (below ready : Bool) (q : ℕ) → nat_lt c.count limit ≡ below → c.ready ≡ ready → 0 < limit
       → Around K t false false c h → AtPlace K limit t c h (AtCountIn q)
-      → Goes K limit t w (AtCountIn q) c h (in_step below ready c t k q)
+      → Goes K limit t w (AtCountIn q) c h (outcome_of (in_shared below c) t k [] (after_count_in below ready q))
   in_goes true true q b r some ar a =
       let l = ltb-true c.count limit b in
       moves_on before (AtCountIn q) (record c { count = suc c.count })
