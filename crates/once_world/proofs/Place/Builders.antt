@@ -67,46 +67,20 @@ pub record IsLast (t : ℕ) (e : Entry) : Type 0 where
   pub call_is : (c : Cell) (s : Status) (k : LastCall) → last_call_after e c s k ≡ k
   pub made : (h : List Entry) → made_in (e ∷ h) ≡ made_in h
 
--- an end that is not Pending
-ended_last : (t : ℕ) (r : Reply) → ((c : Cell) (s : Status) → status_after (End t r) c s ≡ Gone)
-    → ((K : Kind) (w : ℕ) (h : List Entry) → opens K w (End t r) h ≡ false)
-    → ((c : Cell) (s : Status) (k : LastCall) → last_call_after (End t r) c s k ≡ k) → IsLast t (End t r)
-ended_last t r gone shut call = record {
-  cell_is = λ c. refl;
-  gone = gone;
-  hands = refl;
-  owns = refl;
-  replaces_not = refl;
-  left_is = λ l. refl;
-  shut = shut;
-  of = λ u. refl;
-  call_is = call;
-  made = λ h. refl;
-}
-
--- the end of a drop
-dropped_last : (t : ℕ) → IsLast t (DropEnd t)
-dropped_last t = record {
-  cell_is = λ c. refl;
-  gone = λ c s. refl;
-  hands = refl;
-  owns = refl;
-  replaces_not = refl;
-  left_is = λ l. refl;
-  shut = λ K w h. refl;
-  of = λ u. refl;
-  call_is = λ c s k. refl;
-  made = λ h. refl;
-}
-
 -- all endings but Pending
 is_last : (t v : ℕ) (k : Answer) (e : Ending) → e ≢ EndPending → IsLast t (end_entry e t v k)
-is_last t v k EndValue n = ended_last t (Value v) (λ c s. refl) (λ K w h. refl) (λ c s k. refl)
-is_last t v k EndError n = ended_last t (Error (error_in k)) (λ c s. refl) (λ K w h. refl) (λ c s k. refl)
-is_last t v k EndMemory n = ended_last t Memory (λ c s. refl) (λ K w h. refl) (λ c s k. refl)
-is_last t v k EndFull n = ended_last t Full (λ c s. refl) (λ K w h. refl) (λ c s k. refl)
-is_last t v k EndDropped n = dropped_last t
-is_last t v k EndPending n = absurd (n refl)
+is_last t v k e n = record {
+  cell_is = λ c. grind (arith, nat_tests, common_steps, n);
+  gone = λ c s. grind (arith, nat_tests, common_steps, n);
+  hands = grind (arith, nat_tests, common_steps, n);
+  owns = grind (arith, nat_tests, common_steps, n);
+  replaces_not = grind (arith, nat_tests, common_steps, n);
+  left_is = λ l. grind (arith, nat_tests, common_steps, n);
+  shut = λ K w h. grind (arith, nat_tests, common_steps, n);
+  of = λ u. grind (arith, nat_tests, common_steps, n);
+  call_is = λ c s l. grind (arith, nat_tests, common_steps, n);
+  made = λ h. grind (arith, nat_tests, common_steps, n);
+}
 
 -- a call that owes an ending does not end Pending
 pub owes_lasts : (K : Kind) (t : ℕ) (h : List Entry) (e : Ending) → Owes K t h e → e ≢ EndPending
