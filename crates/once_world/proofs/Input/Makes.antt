@@ -1,5 +1,6 @@
 -- The making of a task, and a look.
 use Rattle.std.proofs.Common.{◌≡◌, ◌≢◌, ◌+◌, ℕ, suc, Bool, true, false, ◌⊎◌, inl, inr, ⊎_elim, List, ◌∷◌, Option, Some, None, refl, sym, ap, ◌∙◌, subst, arith}
+use Rattle.std.proofs.lemmas.Grind.{common_steps}
 use Rattle.std.proofs.lemmas.Bool.{false≢true, cases_eq}
 use Rattle.std.proofs.lemmas.Bool.Decides.{nat_tests}
 use Rattle.once_queue.specs.Numbers.{bit, how_many, member}
@@ -119,15 +120,9 @@ made_fits K limit w t f None is =
       moments = (somebody_called K limit w.shared h' new shared'.ready_is queue'.called owned stands, f.moments);
     }
 
--- by the state of the cell
-looked_by : (K : Kind) (limit : ℕ) (c : SharedState) (h : List Entry) (v : Cell) → cell K h ≡ v → SharedFits K limit c h → look_value c ≡ value_in (cell K h)
-looked_by K limit c h Empty e f = rw (e, f.ready_is, e) refl
-looked_by K limit c h (Held u) e f = rw (e, f.ready_is, e) refl
-looked_by K limit c h (SetTo v) e f = rw (e, f.ready_is, e, f.value_is v e) refl
-
 -- a look finds the value that is set
 pub looked_is : (K : Kind) (limit : ℕ) (c : SharedState) (h : List Entry) → SharedFits K limit c h → look_value c ≡ value_in (cell K h)
-looked_is K limit c h f = looked_by K limit c h (cell K h) refl f
+looked_is K limit c h f = let value = f.value_is in grind (arith, nat_tests, common_steps, value)
 
 -- a look keeps all that holds
 pub look_fits : (K : Kind) (limit : ℕ) (w : World) → Fits K limit w → Fits K limit (record w { history = Look (look_value w.shared) ∷ w.history })

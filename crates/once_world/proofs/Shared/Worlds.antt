@@ -47,15 +47,9 @@ pub record Unowned (w : World) : Type 0 where
   pub kept : (t : ℕ) → IsUnnamedIn (w.tasks t)
   pub plain : ArePlain w.history
 
--- who has a ticket is a waiter, by the place
-ticket_inside_at : (p : Place ℕ ℕ) (n : ℕ) → ticket_at p ≡ Some n → is_inside_at p ≡ true
-ticket_inside_at p n e = grind (arith, nat_tests, common_steps)
-
--- by the step
+-- who has a ticket is a waiter
 ticket_inside : (s : Step ℕ ℕ) (n : ℕ) → ticket_of s ≡ Some n → is_inside s ≡ true
-ticket_inside (Resting r) n e = ticket_inside_at (place_of_poll r) n e
-ticket_inside (UnderWay p) n e = ticket_inside_at p n e
-ticket_inside Finished n e = absurd (none_not_some n e)
+ticket_inside s n e = grind (arith, common_steps)
 
 -- a list in which nothing is found is empty
 nothing_found : (xs : List (Listing ℕ)) → ((n : ℕ) (o : Option ℕ) → find_listing n xs ≡ Some o → ⊥) → xs ≡ []
@@ -71,10 +65,7 @@ unlisted limit w f r z = nothing_found w.shared.listings (λ n o e.
 
 -- no entry of a step is an owner's call, or begins a call
 step_plain : (t : ℕ) (a : Answer) (e : Entry) → IsOfStep Once t a e → IsPlain e
-step_plain t a (Own o g) i = i
-step_plain t a (Made u) i = tt
-step_plain t a (Begin u k) i = absurd i
-step_plain t a _ i = tt
+step_plain t a e i = grind (arith, nat_tests, common_steps)
 
 -- nor are those that a step adds
 steps_plain : (t : ℕ) (a : Answer) (es h : List Entry) → AreOfStep Once t a es → ArePlain h → ArePlain (es ++ h)
@@ -108,16 +99,11 @@ unnamed_of t w x c found = rw found at (c.kept t)
 
 -- a call that begins enters the first queue too
 poll_enters : (s : Step ℕ ℕ) → EntersFirst s → EntersFirst (step_of_poll s)
-poll_enters (Resting r) i = i
-poll_enters (UnderWay p) i = i
-poll_enters Finished i = i
+poll_enters s i = grind (arith, common_steps)
 
 -- and so does a drop
 drop_enters : (s : Step ℕ ℕ) → EntersFirst s → EntersFirst (step_of_drop s)
-drop_enters (Resting RestStart) i = tt
-drop_enters (Resting (RestWait q n)) i = leave_first q n EndDropped i
-drop_enters (Resting (RestRun by)) i = release_first by EndDropped i
-drop_enters _ i = i
+drop_enters s i = grind (arith, common_steps)
 
 -- t is y now
 pub put_unowned : (t : ℕ) (y : Task) (w w' : World) → Unowned w → w'.tasks ≡ put_task t y w.tasks → OneQueue w'.shared → EntersFirst y.step → w'.shared.value ≡ 0

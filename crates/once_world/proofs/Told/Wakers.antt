@@ -35,10 +35,10 @@ module _ (limit t : ℕ) (h : List Entry) (o : OwnBy t (status Once t h) (last_c
   -- an entry of t keeps it
   own_entry : (e : Entry) → is_of t e ≡ true → IsLegal Once limit e h → IsPlain e
       → OwnBy t (status_after e (cell Once h) (status Once t h)) (last_call_after e (cell Once h) (status Once t h) (last_call Once t h))
-  own_entry (End u Pending) i l p = 
+  own_entry (End u Pending) i l p =
       let own : (last_call Once t h).waker ≡ t = o.polls (subst (λ v. status Once v h ≡ Polling) (eqb-true u t i) l.0) in
       record { polls = λ e. absurd (pending_polls u (cell Once h) e); waits = λ _. own; began = λ _. own }
-  own_entry e i l p = 
+  own_entry e i l p =
       let polls = o.polls in
       let waits = o.waits in
       let began = o.began in
