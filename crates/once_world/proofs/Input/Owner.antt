@@ -93,7 +93,7 @@ owned_so : (K : Kind) (limit : ℕ) (c : SharedState) (o : OwnerCall) (g : Got) 
     → ((u : ℕ) → status K u h ≢ Waiting) → Owned K limit c (owner_shared o c) o g h
 owned_so K limit c (Write v) g h n f q w =
     owned_write K limit v c g h c.ready refl n f
-    (quiet K c.listings (Own (Write v) g) h q refl refl (λ _. refl) (λ u is. absurd (false≢true is)) (written_empty v (cell K h)))
+    (quiet q refl refl (λ _. refl) (λ u is. absurd (false≢true is)) (written_empty v (cell K h)))
 owned_so K limit c o g h n f q w =
     let answers = f.answers_is in
     record {

@@ -33,10 +33,9 @@ abbrev pub Goes : Kind → ℕ → ℕ → ℕ → Place ℕ ℕ → SharedState
 Goes K limit t w p c h o = Moves K limit t (UnderWay p) (record { waker = w; kept = o.kept; step = o.step }) c o.shared h (o.entries ++ h)
 
 -- what a step that leaves flags, door and value alone leaves for the others
-pub same_shared : (K : Kind) (limit : ℕ) (c c' : SharedState) (u : ℕ) (h : List Entry) (b : Bool)
-    → c'.ready ≡ c.ready → c'.door ≡ c.door → c'.quick ≡ c.quick → c'.head ≡ c.head → c'.value ≡ c.value
+pub same_shared : {K : Kind} {limit : ℕ} {c c' : SharedState} {u : ℕ} {h : List Entry} {b : Bool} → c'.ready ≡ c.ready → c'.door ≡ c.door → c'.quick ≡ c.quick → c'.head ≡ c.head → c'.value ≡ c.value
     → (c.count ≤ limit → c'.count ≤ limit) → SharedKeeps K limit c c' u h b
-same_shared K limit c c' u h b r d q e v n = record {
+same_shared r d q e v n = record {
   ready = λ k. r ∙ k;
   door = λ j k. inl (d ∙ k);
   flags = inl (q, e, v);
@@ -44,10 +43,9 @@ same_shared K limit c c' u h b r d q e v n = record {
 }
 
 -- what a step leaves where no other task holds
-pub free_shared : (K : Kind) (limit : ℕ) (c c' : SharedState) (u : ℕ) (h : List Entry) (b : Bool)
-    → (c.ready ≡ true → c'.ready ≡ true) → c'.door ≡ c.door → holds u (cell K h) ≡ false
+pub free_shared : {K : Kind} {limit : ℕ} {c c' : SharedState} {u : ℕ} {h : List Entry} {b : Bool} → (c.ready ≡ true → c'.ready ≡ true) → c'.door ≡ c.door → holds u (cell K h) ≡ false
     → SharedKeeps K limit c c' u h b
-free_shared K limit c c' u h b r d n = record {
+free_shared r d n = record {
   ready = r;
   door = λ j k. inl (d ∙ k);
   flags = inr n;
@@ -87,9 +85,9 @@ pub owes_lasts : (K : Kind) (t : ℕ) (h : List Entry) (e : Ending) → Owes K t
 owes_lasts K t h e o n = grind (arith, nat_tests, common_steps)
 
 -- what is shared fits the cell alone
-pub shared_at : (K : Kind) (limit : ℕ) (c : SharedState) (h h' : List Entry) → cell K h' ≡ cell K h
+pub shared_at : {K : Kind} {limit : ℕ} {c : SharedState} {h h' : List Entry} → cell K h' ≡ cell K h
     → answers_left K h' ≡ answers_left K h → SharedFits K limit c h → SharedFits K limit c h'
-shared_at K limit c h h' e s f = record {
+shared_at e s f = record {
   answers_is = f.answers_is ∙ sym s;
   ready_is = rw e f.ready_is;
   held_is = rw e f.held_is;
@@ -181,9 +179,9 @@ module _ {K : Kind} {limit t w : ℕ} {k : Answer} {c : SharedState} {h : List E
       → (ticket_at p' ≡ ticket_at p) ⊎ ((ticket_at p' ≡ None) × (c.ready ≡ true))
       → Goes K limit t w p c h (goes_to c k p')
   stays p' own same take enters tickets =
-      moves_on c p' before.shared before.queue own (λ u n b i. same_shared K limit c c u h b refl refl refl refl refl (λ x. x))
+      moves_on c p' before.shared before.queue own (λ u n b i. same_shared refl refl refl refl refl (λ x. x))
       (ap (λ b. c.count + bit b) same) (λ e. absurd (false≢true (sym take ∙ e))) enters
-      (lists_stay t (ticket_at p) (ticket_at p') c c h refl (λ r. r) tickets)
+      (lists_stay refl (λ r. r) tickets)
 
   -- an entry that ends the call for good
   pub ends_by : (c' : SharedState) (e : Ending) → e ≢ EndPending → IsLegal K limit (end_entry e t c'.value k) h
@@ -195,8 +193,8 @@ module _ {K : Kind} {limit t w : ℕ} {k : Answer} {c : SharedState} {h : List E
       let l : IsLast t e = is_last t c'.value k x good in
       record {
         run = (legal, before.run);
-        shared = shared_at K limit c' h (e ∷ h) (l.cell_is (cell K h)) (l.left_is (answers_left K h)) shared';
-        queue = quiet K c'.listings e h queue' l.hands l.replaces_not (λ w. l.shut K w h)
+        shared = shared_at (l.cell_is (cell K h)) (l.left_is (answers_left K h)) shared';
+        queue = quiet queue' l.hands l.replaces_not (λ w. l.shut K w h)
             (λ u is. not_waiting (status_after e (cell K h) (status K u h)) (l.gone (cell K h) (status K u h)))
             (λ y. sym (l.cell_is (cell K h)) ∙ y);
         own = record { status_is = rw (l.of t, eqb_self t) (l.gone (cell K h) (status K t h)); holds_is = ap (holds t) (l.cell_is (cell K h)) ∙ free };
@@ -223,9 +221,9 @@ module _ {K : Kind} {limit t w : ℕ} {k : Answer} {c : SharedState} {h : List E
   -- the last step of an uncounted call, which leaves all that is shared alone
   pub ends_plain : (e : Ending) → Owes K t h e → is_counted_at p ≡ false → ticket_at p ≡ None → Goes K limit t w p c h (ends c t k e)
   ends_plain e owes n none =
-      ends_so c e owes before.shared before.queue (λ u d b i. same_shared K limit c c u h b refl refl refl refl refl (λ x. x))
+      ends_so c e owes before.shared before.queue (λ u d b i. same_shared refl refl refl refl refl (λ x. x))
       (rw n (omega arith))
-      (lists_stay t (ticket_at p) None c c (end_entry e t c.value k ∷ h) refl (λ r. r) (inl (sym none)))
+      (lists_stay refl (λ r. r) (inl (sym none)))
 
   -- a poll that claims
   pub claims_so : (c' : SharedState) (by : Option ℕ) → cell K h ≡ Empty → Entered K t h
@@ -237,7 +235,7 @@ module _ {K : Kind} {limit t w : ℕ} {k : Answer} {c : SharedState} {h : List E
       record {
         run = (legal, before.run);
         shared = shared';
-        queue = entry_fits K c.listings c'.listings (Claim t) h before.queue refl (λ n. let a = less n in omega arith) (λ e. absurd (held_not_empty t e));
+        queue = entry_fits before.queue refl (λ n. let a = less n in omega arith) (λ e. absurd (held_not_empty t e));
         own = (
           record {
             status_is = rw (eqb_self t) entered.poll.status_is;
@@ -252,7 +250,7 @@ module _ {K : Kind} {limit t w : ℕ} {k : Answer} {c : SharedState} {h : List E
         waker_is = rw (eqb_self t) before.waker_is;
         kept_is = rw (eqb_self t) before.kept_is;
         others = λ u n. legal_keeps K u (Claim t) limit h (of_other t u n) legal refl;
-        keeps = λ u n b i. free_shared K limit c c' u h b (λ e. r ∙ e) d (ap (holds u) empty);
+        keeps = λ u n b i. free_shared (λ e. r ∙ e) d (ap (holds u) empty);
         count = rw (n, same) refl;
         made = refl;
         takes = λ e. absurd (false≢true e);
@@ -271,8 +269,8 @@ module _ {K : Kind} {limit t w : ℕ} {k : Answer} {c : SharedState} {h : List E
       let legal : IsLegal K limit (End t Pending) h = (entered.poll.status_is, rw entered.poll.ran_is (u, apart, held), inl entered.poll.unpassed) in
       record {
         run = (legal, before.run);
-        shared = shared_at K limit c' h (End t Pending ∷ h) refl refl shared';
-        queue = entry_fits K c.listings c'.listings (End t Pending) h before.queue refl
+        shared = shared_at refl refl shared';
+        queue = entry_fits before.queue refl
             (λ v. let a = less v in rw (opens_now K t u w v h held apart before.waker_is) (omega arith))
             (λ e. absurd (held_not_empty u (sym held ∙ e)));
         own = (

@@ -16,10 +16,10 @@ use Rattle.once_world.proofs.Invariant.Fits.{SharedFits}
 use Rattle.once_world.proofs.Invariant.Kept.{SharedKeeps}
 
 -- after a claim
-pub claim_fits : (K : Kind) (limit t : ℕ) (c c' : SharedState) (h : List Entry) → SharedFits K limit c h
+pub claim_fits : {K : Kind} {limit t : ℕ} {c c' : SharedState} {h : List Entry} → SharedFits K limit c h
     → c'.ready ≡ false → (c'.quick || c'.head) ≡ true → c'.count ≡ c.count → c'.door ≡ c.door → c.ready ≡ false
     → (c'.head ≡ true → IsSomeDoor c') → c'.answers ≡ c.answers → SharedFits K limit c' (Claim t ∷ h)
-claim_fits K limit t c c' h f r b n d z hd w = record {
+claim_fits {t = t} f r b n d z hd w = record {
   answers_is = w ∙ f.answers_is;
   ready_is = r;
   held_is = sym b;

@@ -67,7 +67,7 @@ module _ {K : Kind} {limit t w : ℕ} {k : Answer} {c : SharedState} {h : List E
       let c' : SharedState = record c { listings = take_out n c.listings } in
       moves_on before (AtLeave q n e) c' (AtCountOut e) (relisted_fits K limit c (take_out n c.listings) h before.shared)
       (list_fits K c.listings (take_out n c.listings) h before.queue (λ v. asks_take v n c.listings) called) (leaves_owes K t h e a.0)
-      (λ u m b j. same_shared K limit c c' u h b refl refl refl refl refl (λ x. x)) refl (λ e. absurd (false≢true e)) (λ e. absurd (false≢true e)) (without_lists t (Some n) c c' h refl (λ x. x))
+      (λ u m b j. same_shared refl refl refl refl refl (λ x. x)) refl (λ e. absurd (false≢true e)) (λ e. absurd (false≢true e)) (without_lists t (Some n) c c' h refl (λ x. x))
 
   -- who leaves and calls the first
   leaves_on : (q n v : ℕ) (e : Ending) → AtPlace K limit t c h (AtLeave q n e) → cell K h ≡ Empty → first_waker (take_out n c.listings) ≡ Some v
@@ -83,13 +83,13 @@ module _ {K : Kind} {limit t w : ℕ} {k : Answer} {c : SharedState} {h : List E
       let legal : IsLegal K limit (Pass t (v ∷ [])) h = (empty, may.0, may.1, (v, refl, open_by K v (v ∷ []) c.listings h before.queue (λ x. let i = less x in omega arith) (rw (eqb_self v) refl))) in
       record {
         run = (legal, before.run);
-        shared = shared_at K limit c' h (Pass t (v ∷ []) ∷ h) refl refl (relisted_fits K limit c (call_first xs) h before.shared);
-        queue = entry_fits K c.listings (call_first xs) (Pass t (v ∷ [])) h before.queue refl (λ x. let i = less x in omega arith) (λ _ u s. call_called v xs first);
+        shared = shared_at refl refl (relisted_fits K limit c (call_first xs) h before.shared);
+        queue = entry_fits before.queue refl (λ x. let i = less x in omega arith) (λ _ u s. call_called v xs first);
         own = passed_owes K t h (v ∷ []) e a.2 a.0;
         waker_is = rw (eqb_self t) before.waker_is;
         kept_is = rw (eqb_self t) before.kept_is;
         others = λ u d. legal_keeps K u (Pass t (v ∷ [])) limit h (of_other t u d) legal refl;
-        keeps = λ u d b j. same_shared K limit c c' u h b refl refl refl refl refl (λ x. x);
+        keeps = λ u d b j. same_shared refl refl refl refl refl (λ x. x);
         count = refl;
         made = refl;
         takes = λ e. absurd (false≢true e);

@@ -64,7 +64,7 @@ module _ {K : Kind} {limit t w : ℕ} {k : Answer} {c : SharedState} {h : List E
       let empty = empty_cell (cell K h) (sym before.shared.ready_is ∙ r) (before.shared.held_is ∙ f) in
       let z = or_parts c.quick c.head f in
       claims_so before p c' (Some q) empty e
-      (claim_fits K limit t c c' h before.shared r (rw z.0 refl) refl refl r (λ _. (q, d)) refl) (λ v. without_asks v (ticket_at p) c.listings)
+      (claim_fits before.shared r (rw z.0 refl) refl refl r (λ _. (q, d)) refl) (λ v. without_asks v (ticket_at p) c.listings)
       (record { quick_is = z.0; head_is = refl }, d) refl refl refl n (without_lists t (ticket_at p) c c' (Claim t ∷ h) refl (λ x. x))
 
   -- a waiter waits whose own listing has its waker
@@ -73,8 +73,8 @@ module _ {K : Kind} {limit t w : ℕ} {k : Answer} {c : SharedState} {h : List E
       → is_waker w (own_listing n c.listings) ≡ true → Goes K limit t w p c h (waits c t k q n)
   waits_listed p q None own cnt i e d o m = absurd (false≢true m)
   waits_listed p q (Some n) own cnt i e d o m = waits_so before p c q n o.0 o.2 o.1 e before.shared
-      (λ v. omega arith) (λ r. is_waker_found w (find_listing n c.listings) m) refl d (λ u m b j. same_shared K limit c c u h b refl refl refl refl refl (λ y. y)) refl cnt i
-      (lists_stay t (ticket_at p) (Some n) c c (End t Pending ∷ h) refl (λ x. x) (inl (sym own)))
+      (λ v. omega arith) (λ r. is_waker_found w (find_listing n c.listings) m) refl d (λ u m b j. same_shared refl refl refl refl refl (λ y. y)) refl cnt i
+      (lists_stay refl (λ x. x) (inl (sym own)))
 
   -- a waiter is refused memory
   pub refused_at : (p : Place ℕ ℕ) (q : ℕ) (n : Option ℕ) → ticket_at p ≡ n → is_counted_at p ≡ true
@@ -118,7 +118,7 @@ module _ {K : Kind} {limit t w : ℕ} {k : Answer} {c : SharedState} {h : List E
       let same : v ≡ w = sym a.4 ∙ before.waker_is in
       waits_so before (AtList q n v) (listing_shared c m v) q m o.0 o.2 o.1 a.0.entered (relisted_fits K limit c (list_with m v c.listings) h before.shared)
       (rw same (λ x. anew_asks x m w c.listings)) (λ r. rw same (find_own m w c.listings)) refl a.1
-      (λ u x b j. same_shared K limit c (listing_shared c m v) u h b refl refl refl refl refl
+      (λ u x b j. same_shared refl refl refl refl refl
       (λ y. y)) refl refl refl
       (anew_lists t m v n c (End t Pending ∷ h) (lists_by K t n c h r a.2))
   list_goes true false true false q n v d r f a = refused_at (AtList q n v) q n refl refl refl a.0 a.1 a.2 a.3

@@ -114,8 +114,8 @@ module _ {K : Kind} {limit t w : ℕ} {k : Answer} {c : SharedState} {h : List E
       let n = no_head K t false false c h ar z.0 in
       let empty = empty_cell (cell K h) (sym before.shared.ready_is ∙ r) (before.shared.held_is ∙ or_from c.quick c.head z.1 n) in
       claims_so before AtTryQuick (record c { quick = true }) None empty a.0.entered
-      (claim_fits K limit t c (record c { quick = true }) h before.shared r refl refl refl r before.shared.head_door refl) (λ n. omega arith)
-      (record { quick_is = refl; head_is = n }, omega arith) refl refl refl refl (lists_stay t None None c (record c { quick = true }) (Claim t ∷ h) refl (λ r. r) (inl refl))
+      (claim_fits before.shared r refl refl refl r before.shared.head_door refl) (λ n. omega arith)
+      (record { quick_is = refl; head_is = n }, omega arith) refl refl refl refl (lists_stay refl (λ r. r) (inl refl))
   quick_goes false f ar a =
       let unset : c.ready ≡ false → Met K t h ⊎ SomeoneWaits K h = λ r. met_busy K limit t c h before.shared ar a.0.entered.poll.holds_is r f in
       let set : c.ready ≡ true → Met K t h ⊎ SomeoneWaits K h = λ r. ⊎_elim (λ n. absurd (false≢true (sym n ∙ sym before.shared.ready_is ∙ r))) (λ m. inl m) a.1 in
@@ -152,9 +152,9 @@ module _ {K : Kind} {limit t w : ℕ} {k : Answer} {c : SharedState} {h : List E
       moves_on before (AtCountIn q) (record c { count = suc c.count })
       (AtCountOut EndValue) (count_fits K limit c (suc c.count) h before.shared (omega arith)
       (λ n. absurd (false≢true (sym n ∙ r)))) before.queue (owes_value K t h a.0.entered (sym before.shared.ready_is ∙ r))
-      (λ u n d i. same_shared K limit c (record c { count = suc c.count }) u h d refl refl refl refl refl
+      (λ u n d i. same_shared refl refl refl refl refl
       (λ _. ltb-true c.count limit b)) (omega arith) (λ e. absurd (false≢true e)) (λ e. absurd (false≢true e))
-      (lists_stay t None None c (record c { count = suc c.count }) h refl (λ r. r) (inl refl))
+      (lists_stay refl (λ r. r) (inl refl))
   in_goes true false q b r some ar a =
       let l = ltb-true c.count limit b in
       moves_on before (AtCountIn q) (record c { count = suc c.count })
@@ -168,11 +168,11 @@ module _ {K : Kind} {limit t w : ℕ} {k : Answer} {c : SharedState} {h : List E
         in_door c q r a.1,
         tt,
       )
-      (λ u n d i. same_shared K limit c (record c { count = suc c.count }) u h d refl refl refl refl refl
+      (λ u n d i. same_shared refl refl refl refl refl
       (λ _. ltb-true c.count limit b)) (omega arith) (λ e. absurd (false≢true e)) (λ e. inr r)
-      (lists_stay t None None c (record c { count = suc c.count }) h refl (λ r. r) (inl refl))
+      (lists_stay refl (λ r. r) (inl refl))
   in_goes false true q b r some ar a = ends_plain before (AtCountIn q) EndValue (owes_value K t h a.0.entered (sym before.shared.ready_is ∙ r)) refl refl
   in_goes false false q b r some ar a = ends_by before (AtCountIn q) c EndFull full_lasts
       (crowd_legal K limit t h a.0 (sym before.shared.ready_is ∙ r)
       (let l = ltb-false c.count limit b in let m = ar.crowded refl in omega arith)) a.0.entered.poll.holds_is before.shared before.queue
-      (λ u d b i. same_shared K limit c c u h b refl refl refl refl refl (λ x. x)) (omega arith) (lists_stay t None None c c (End t Full ∷ h) refl (λ r. r) (inl refl))
+      (λ u d b i. same_shared refl refl refl refl refl (λ x. x)) (omega arith) (lists_stay refl (λ r. r) (inl refl))
