@@ -189,7 +189,7 @@ module _ {K : Kind} {limit t w : ℕ} {k : Answer} {c : SharedState} {h : List E
   pub add_goes : (e : Ending) → AtPlace K limit t c h (AtAddOne e)
       → Goes K limit t w (AtAddOne e) c h (goes_to (record c { count = suc c.count }) k (AtDoorAgain e))
   add_goes e a = moves_on before (AtAddOne e) (record c { count = suc c.count }) (AtDoorAgain e)
-      (count_fits K limit c (suc c.count) h before.shared (let le = a.2 in omega arith) (λ _ _. a.3)) before.queue
+      (count_fits before.shared (let le = a.2 in omega arith) (λ _ _. a.3)) before.queue
       (releasing_same K t h c (record c { count = suc c.count }) e refl a.0, record { quick_is = a.1.quick_is; head_is = a.1.head_is }, a.3)
       (λ u n b i. holder_shared before.shared
       (releasing_holds K t c h e a.0) refl u n b) (omega arith) (λ e. absurd (false≢true e))

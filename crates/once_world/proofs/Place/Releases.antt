@@ -50,7 +50,7 @@ module _ {K : Kind} {limit t w : ℕ} {k : Answer} {c : SharedState} {h : List E
       let P : Entry → Type 0 = λ x. Goes K limit t w (AtFast EndValue) c h (record { shared = c'; step = UnderWay (AtDoorTake EndValue); kept = k; entries = x ∷ [] }) in
       subst P (sym (fills K t h c k [] before.kept_is a.0)) (record {
         run = (legal, before.run);
-        shared = release_fits K limit t c c' h (e ∷ h) before.shared a.0.1.holds_is refl refl refl a.1.head_is (λ x i. a.0.2 ∙ same_value v x i) refl (λ l. absurd (omega arith)) refl refl;
+        shared = release_fits t before.shared a.0.1.holds_is refl refl refl a.1.head_is (λ x i. a.0.2 ∙ same_value v x i) refl (λ l. absurd (omega arith)) refl refl;
         queue = quiet before.queue refl refl (λ _. refl) (λ u is. polls_not_waits K t u h is a.0.1.status_is) (λ x. absurd (empty_not_set v (sym x)));
         own = (filled_owes K t h c [] a.0, refl);
         waker_is = rw (eqb_self t) before.waker_is;
@@ -75,11 +75,12 @@ module _ {K : Kind} {limit t w : ℕ} {k : Answer} {c : SharedState} {h : List E
       let legal : IsLegal K limit (Free t []) h = free_legal K limit t h c [] e nv a.0 (calls_none K h (ar.none_waits z)) in
       let none : (u : ℕ) → status K u h1 ≢ Waiting = λ u s. ar.none_waits z u (waited K (Free t []) h (λ u is. releasing_awake K t u h c e a.0 is) u s) in
       let owes : Owes K t h1 e = freed_owes K t h c [] e nv a.0 in
-      let shared1 : SharedFits K limit c' h1 = release_fits K limit t c c' h h1 before.shared hold
+      let shared1 : SharedFits K limit c' h1 = release_fits t before.shared hold
       (before.shared.ready_is ∙ holder_unset t (cell K h) hold) refl refl a.1.head_is
       (λ x i. absurd (empty_not_set x i)) refl (λ l. absurd (omega arith)) refl refl in
       let queue1 : QueueFits K c.listings h1 = entry_fits before.queue refl (λ w. omega arith) (nobody_called K c.listings h1 none) in
-      let before1 : Before K limit t w k c' h1 = record { run = (legal, before.run); shared = shared1; queue = queue1; waker_is = rw (eqb_self t) before.waker_is; kept_is = rw (eqb_self t) before.kept_is } in
+      let before1 : Before K limit t w k c' h1 =
+          record { run = (legal, before.run); shared = shared1; queue = queue1; waker_is = rw (eqb_self t) before.waker_is; kept_is = rw (eqb_self t) before.kept_is } in
       let m = ends_so before1 (AtFast e) c' e owes shared1 queue1
       (λ u n b i. same_shared refl refl refl refl refl (λ x. x)) (omega arith)
       (lists_stay refl (λ r. r) (inl refl)) in
@@ -146,7 +147,7 @@ module _ {K : Kind} {limit t w : ℕ} {k : Answer} {c : SharedState} {h : List E
       let e : Entry = Fill t v X in
       let unset : c.ready ≡ false = before.shared.ready_is ∙ holder_unset t (cell K h) a.0.1.holds_is in
       release_moves q EndValue e c' X [] a cl (fill_legal K limit t h c X a.0 (hands_out K c.listings h before.queue (due_asks K t None c h unset al))) (filled_owes K t h c X a.0)
-      (release_fits K limit t c c' h (e ∷ h) before.shared a.0.1.holds_is cl.ready_is refl cl.quick_is cl.head_is
+      (release_fits t before.shared a.0.1.holds_is cl.ready_is refl cl.quick_is cl.head_is
       (λ x i. cl.value_is ∙ a.0.2 ∙ same_value v x i) cl.count_is (λ l. (q, cl.door_is ∙ a.2)) cl.answers_is refl)
       (fill_releases t v X) (fills K t h c k X before.kept_is a.0)
       (entry_fits before.queue refl (λ n. let i = all_times n c.listings [] in omega arith) (λ x. absurd (empty_not_set v (sym x))))
@@ -171,7 +172,7 @@ module _ {K : Kind} {limit t w : ℕ} {k : Answer} {c : SharedState} {h : List E
       release_moves q e (Free t X) c' X (call_first c.listings) a cl
       (free_legal K limit t h c X e nv a.0 (calls_one K c.listings h before.queue (due_asks K t None c h unset al)))
       (freed_owes K t h c X e nv a.0)
-      (release_fits K limit t c c' h (Free t X ∷ h) before.shared (releasing_holds K t c h e a.0)
+      (release_fits t before.shared (releasing_holds K t c h e a.0)
       (cl.ready_is ∙ nv) refl cl.quick_is cl.head_is (λ x i. absurd (empty_not_set x i)) cl.count_is
       (λ l. (q, cl.door_is ∙ a.2)) cl.answers_is refl)
       (free_releases t X) (frees K t h c k X e nv before.kept_is a.0)
@@ -208,7 +209,7 @@ module _ {K : Kind} {limit t w : ℕ} {k : Answer} {c : SharedState} {h : List E
   out_goes true e x ar a =
       let l = ar.own_count refl in let y = exact_out c x in
       moves_on before (AtCountOut e) (out_shared c) (AtDoorTake e)
-      (count_fits K limit c (c.count - 1) h before.shared (let b = before.shared.within in omega arith)
+      (count_fits before.shared (let b = before.shared.within in omega arith)
       (λ n _. absurd (false≢true (sym n ∙ y.1)))) before.queue (a, y.1)
       (λ u n b i. same_shared refl refl refl refl refl (λ le. omega arith))
       (omega arith) (λ _. y.0) (λ e. absurd (false≢true e))
@@ -216,7 +217,7 @@ module _ {K : Kind} {limit t w : ℕ} {k : Answer} {c : SharedState} {h : List E
   out_goes false e x ar a =
       let l = ar.own_count refl in
       ends_so before (AtCountOut e) (out_shared c) e a
-      (count_fits K limit c (c.count - 1) h before.shared (let b = before.shared.within in omega arith)
+      (count_fits before.shared (let b = before.shared.within in omega arith)
       (λ n p. before.shared.stands n (omega arith))) before.queue
       (λ u n b i. same_shared refl refl refl refl refl (λ le. omega arith))
       (omega arith) (lists_stay refl (λ r. r)

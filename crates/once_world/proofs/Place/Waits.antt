@@ -150,7 +150,7 @@ module _ {K : Kind} {limit t w : ℕ} {k : Answer} {c : SharedState} {h : List E
   in_goes true true q b r some ar a =
       let l = ltb-true c.count limit b in
       moves_on before (AtCountIn q) (record c { count = suc c.count })
-      (AtCountOut EndValue) (count_fits K limit c (suc c.count) h before.shared (omega arith)
+      (AtCountOut EndValue) (count_fits before.shared (omega arith)
       (λ n. absurd (false≢true (sym n ∙ r)))) before.queue (owes_value K t h a.0.entered (sym before.shared.ready_is ∙ r))
       (λ u n d i. same_shared refl refl refl refl refl
       (λ _. ltb-true c.count limit b)) (omega arith) (λ e. absurd (false≢true e)) (λ e. absurd (false≢true e))
@@ -158,7 +158,7 @@ module _ {K : Kind} {limit t w : ℕ} {k : Answer} {c : SharedState} {h : List E
   in_goes true false q b r some ar a =
       let l = ltb-true c.count limit b in
       moves_on before (AtCountIn q) (record c { count = suc c.count })
-      (AtWaitLoad q None) (count_fits K limit c (suc c.count) h before.shared (omega arith)
+      (AtWaitLoad q None) (count_fits before.shared (omega arith)
       (λ _ _. (q, in_door c q r a.1))) before.queue (
         record {
           entered = a.0.entered;
