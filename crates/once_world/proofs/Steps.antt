@@ -8,12 +8,12 @@ use Rattle.once_queue.specs.declared.word.Sees.{Sees}
 use Rattle.once_queue.specs.declared.waiters.Answer.{Answer as SectionAnswer}
 use Rattle.once_queue.specs.declared.waiters.Answer.TheVariants.{Left, Gone}
 use Rattle.once_core.specs.Core.{put_answer}
-use Rattle.once_core.specs.Table.{after_start, after_quick, after_door_get, after_door_put, after_count_in, after_load}
-use Rattle.once_core.specs.Table.{after_look, after_list, after_run, after_fast, after_door_again, after_count_out, next_at}
+use Rattle.once_core.specs.Table.{after_door_put, after_look, after_list, after_run, after_fast, next_at}
 use Rattle.once_world.specs.Record.{Answer, Ran}
-use Rattle.once_world.specs.Machine.{AtCountOut, Ending, Outcome, SharedState, claim_entries, fast_shared, freed_entries, in_shared, is_claim, is_passing, is_value}
-use Rattle.once_world.specs.Machine.{kept_after, leave_shared, list_answer, list_shared, listed_ticket, look_answer, look_shared, looked_ticket, next_waker, outcome_of}
-use Rattle.once_world.specs.Machine.{pass_entries, polled_of, put_shared, quick_shared, release_entry, release_shared, release_wakers, unless_gone}
+use Rattle.once_world.specs.Machine.{AtCountOut, Ending, Outcome, SharedState, claim_entries, fast_shared, freed_entries, is_claim, is_passing}
+use Rattle.once_world.specs.Machine.{is_value, kept_after, leave_shared, list_answer, list_shared, listed_ticket, look_answer, look_shared}
+use Rattle.once_world.specs.Machine.{looked_ticket, next_waker, outcome_of, pass_entries, polled_of, put_shared, release_entry, release_shared}
+use Rattle.once_world.specs.Machine.{release_wakers, unless_gone}
 
 -- granted, door
 abbrev pub put_step : Bool → Option ℕ → SharedState → ℕ → Answer → Outcome

@@ -5,7 +5,7 @@ use Rattle.std.proofs.lemmas.Bool.{false≢true, cases_eq}
 use Rattle.std.proofs.lemmas.Bool.Decides.{nat_tests}
 use Rattle.once_queue.specs.Numbers.{bit, how_many, member}
 use Rattle.once_world.specs.Record.{Entry, Kind, Look, Made, RanPending, made_in}
-use Rattle.once_world.specs.Cell.{Cell, Empty, Held, SetTo, cell, value_in}
+use Rattle.once_world.specs.Cell.{cell, value_in}
 use Rattle.once_world.specs.Tasks.{last_call}
 use Rattle.once_queue.specs.Listings.{find_listing}
 use Rattle.once_world.specs.Run.{IsLegal}

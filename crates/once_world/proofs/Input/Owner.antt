@@ -3,16 +3,15 @@ use Rattle.std.proofs.Common.{◌≡◌, ◌≢◌, ℕ, Bool, true, false, ◌=
 use Rattle.std.proofs.lemmas.Bool.Decides.{nat_tests}
 use Rattle.std.proofs.lemmas.Grind.{common_steps}
 use Rattle.std.proofs.lemmas.Bool.{false≢true, eqb-true}
-use Rattle.std.specs.Option.{is_some, unwrap_or}
 use Rattle.once_queue.specs.Numbers.{how_many}
-use Rattle.once_world.specs.Record.{Entry, Got, GotAnswers, Kind, Own, OwnerCall, Parts, ReplaceAnswers, ReplaceValue, Take, Write, made_in, replaces}
-use Rattle.once_world.specs.Cell.{Cell, Empty, Held, SetTo, answers_left, cell, got, got_parts, got_value, is_set, cell_after_call, write_cell}
+use Rattle.once_world.specs.Record.{Entry, Got, Kind, Own, OwnerCall, Write, made_in, replaces}
+use Rattle.once_world.specs.Cell.{Cell, Empty, answers_left, cell, got, cell_after_call, write_cell}
 use Rattle.once_world.specs.Tasks.{Waiting, status}
 use Rattle.once_queue.specs.Listings.{find_listing}
-use Rattle.once_world.specs.Machine.{SharedState, Task, World, own_world_by, owner_got, owner_shared, parts_got, reset_shared, write_shared, value_got, step_of}
+use Rattle.once_world.specs.Machine.{SharedState, Task, World, own_world_by, owner_got, owner_shared, write_shared, step_of}
 use Rattle.once_queue.proofs.Listing.Members.{eqb_self}
 use Rattle.once_world.proofs.History.Others.{holds}
-use Rattle.once_world.proofs.History.Cells.{empty_cell, empty_not_set, holder_of, is_held, same_value, value_of_set}
+use Rattle.once_world.proofs.History.Cells.{holder_of, is_held}
 use Rattle.once_world.proofs.History.Waiters.{QueueFits, quiet}
 use Rattle.once_world.proofs.Listing.Counting.{count_none}
 use Rattle.once_world.proofs.Invariant.Facts.{is_counted}

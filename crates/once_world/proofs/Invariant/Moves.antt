@@ -1,6 +1,5 @@
 -- What the step of one task owes, and that it then keeps all that holds.
 use Rattle.std.proofs.Common.{◌≡◌, ◌≢◌, ◌<◌, ◌+◌, ℕ, Bool, true, false, ◌⊎◌, inl, inr, ⊎_elim, List, Option, Some, None, refl, sym, ap, ◌∙◌, subst, arith}
-use Rattle.std.proofs.lemmas.Bool.Decides.{nat_tests}
 use Rattle.std.proofs.lemmas.Grind.{common_steps}
 use Rattle.std.specs.Prelude.{not}
 use Rattle.std.proofs.lemmas.Bool.{false≢true, cases_eq, cases_Bool, ne_eqb, false_from_ne_true}
@@ -12,13 +11,12 @@ use Rattle.once_queue.specs.declared.waiters.Listing.{Listing}
 use Rattle.once_queue.specs.Listings.{find_listing}
 use Rattle.once_world.specs.Run.{AtEvery, IsRun}
 use Rattle.once_world.specs.Called.{SomebodyCalled}
-use Rattle.once_world.specs.Machine.{AtDoorTake, Finished, SharedState, Place, Resting, Step, Task, UnderWay, World, place_of_poll, is_finished}
-use Rattle.once_world.specs.Machine.{put_task, unfinished_after, step_of}
+use Rattle.once_world.specs.Machine.{SharedState, Step, Task, World, is_finished, put_task, unfinished_after, step_of}
 use Rattle.once_queue.proofs.Listing.Members.{eqb_self}
 use Rattle.once_world.proofs.History.Others.{Keeps}
 use Rattle.once_world.proofs.History.Waiters.{QueueFits}
 use Rattle.once_world.proofs.Listing.Counting.{count_change, count_positive}
-use Rattle.once_world.proofs.Invariant.Facts.{AtPlace, AtStep, is_counted, is_counted_at, is_inside, is_inside_at, is_take, is_take_at, kept_of, ticket_of}
+use Rattle.once_world.proofs.Invariant.Facts.{AtStep, is_counted, is_inside, is_take, kept_of, ticket_of}
 use Rattle.once_world.proofs.Invariant.Fits.{Fits, SharedFits, StandsFor, is_alive}
 use Rattle.once_world.proofs.Invariant.Kept.{SharedKeeps, in_status_kept, step_kept}
 use Rattle.once_world.proofs.Invariant.Listed.{ListKept, was_unset}

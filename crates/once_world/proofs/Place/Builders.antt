@@ -4,13 +4,13 @@ use Rattle.std.proofs.lemmas.Bool.Decides.{nat_tests}
 use Rattle.std.proofs.lemmas.Grind.{common_steps}
 use Rattle.std.proofs.lemmas.Bool.{false≢true, ne_eqb, eqb-true}
 use Rattle.once_queue.specs.Numbers.{bit}
-use Rattle.once_world.specs.Record.{Answer, Claim, DropEnd, End, Entry, Error, Full, Kind, Memory, Pending, RanError, RanValue, Reply, Value, handed_by, is_of, is_own, is_replacing, made_in}
+use Rattle.once_world.specs.Record.{Answer, Claim, End, Entry, Kind, Pending, RanError, RanValue, Value, handed_by, is_of, is_own, is_replacing, made_in}
 use Rattle.once_world.specs.Cell.{Cell, Empty, Held, SetTo, answers_after, answers_left, cell, cell_after}
 use Rattle.once_world.specs.Tasks.{Gone, LastCall, Polling, Status, Waiting, last_call, last_call_after, status, status_after}
 use Rattle.once_queue.specs.Listings.{find_listing}
 use Rattle.once_world.specs.Wakers.{opens}
 use Rattle.once_world.specs.Run.{IsLegal, IsRun, MayEnd}
-use Rattle.once_world.specs.Machine.{AtRun, EndDropped, EndError, EndFull, EndMemory, EndPending, EndValue, Ending, SharedState, Outcome, Place, UnderWay, end_entry, error_in}
+use Rattle.once_world.specs.Machine.{AtRun, EndDropped, EndError, EndMemory, EndPending, EndValue, Ending, SharedState, Outcome, Place, UnderWay, end_entry, error_in}
 use Rattle.once_queue.proofs.Listing.Members.{eqb_self}
 use Rattle.once_world.proofs.History.Others.{holds, keeps_all, legal_keeps}
 use Rattle.once_world.proofs.History.Cells.{held_not_empty}

@@ -7,7 +7,7 @@ use Rattle.once_world.specs.Record.{Answer, End, Entry, Kind, Once, OnceWith, Pe
 use Rattle.once_world.specs.Cell.{Cell, Held, IsNext, answers_left, cell, next_answer}
 use Rattle.once_world.specs.Tasks.{Holding, Polling, Status, Waiting, last_call, status, status_after}
 use Rattle.once_world.specs.Wakers.{opens}
-use Rattle.once_world.specs.Run.{IsLegal, IsRun}
+use Rattle.once_world.specs.Run.{IsLegal}
 use Rattle.once_world.specs.Machine.{AtAddOne, AtDoorAgain, AtPut, AtRelease, AtRun, EndError, EndValue, Ending, SharedState, Place, UnderWay}
 use Rattle.once_world.specs.Machine.{release_place, init_answer, put_value, run_shared}
 use Rattle.once_core.specs.Table.{after_door_again}
@@ -16,7 +16,7 @@ use Rattle.once_world.proofs.Steps.{run_step}
 use Rattle.once_queue.proofs.Listing.Members.{eqb_self}
 use Rattle.once_world.proofs.History.Others.{holds, keeps_both, legal_keeps}
 use Rattle.once_world.proofs.History.Cells.{held_by, held_not_empty, holder_unset, no_other, none_some}
-use Rattle.once_world.proofs.History.Waiters.{QueueFits, quiet}
+use Rattle.once_world.proofs.History.Waiters.{quiet}
 use Rattle.once_world.proofs.Invariant.Facts.{AtPlace, HoldsBy, InPoll, InStatus, Releasing, is_counted_at, is_inside_at, is_take_at, kept_of, ticket_at}
 use Rattle.once_world.proofs.Invariant.Turns.{lists_stay}
 use Rattle.once_world.proofs.Invariant.Fits.{SharedFits}

@@ -11,7 +11,7 @@ use Rattle.once_world.specs.Tasks.{Waiting, last_call, status}
 use Rattle.once_queue.specs.declared.waiters.Listing.{Listing}
 use Rattle.once_queue.specs.Word.{is_free, sees_by}
 use Rattle.once_queue.specs.Listings.{call_first, find_listing, first_waker, left_list, next_waker, take_out, was_called}
-use Rattle.once_world.specs.Run.{IsLegal, IsRun, MayPass}
+use Rattle.once_world.specs.Run.{IsLegal, MayPass}
 use Rattle.once_world.specs.Machine.{AtCountOut, AtLeave, Ending, SharedState, UnderWay, is_at_door, pass_entries, is_passing}
 use Rattle.once_world.proofs.Steps.{leave_step}
 use Rattle.once_queue.proofs.Listing.Members.{eqb_self}
@@ -19,9 +19,8 @@ use Rattle.once_world.proofs.History.Others.{legal_keeps}
 use Rattle.once_world.proofs.History.Cells.{empty_cell, is_held}
 use Rattle.once_world.proofs.Listing.Listings.{asks, asks_call, asks_take, find_take_other, none_found}
 use Rattle.once_world.proofs.Listing.CalledFirst.{call_back, call_called, call_none}
-use Rattle.once_world.proofs.History.Waiters.{CalledAt, QueueFits, entry_fits, list_fits, open_by}
-use Rattle.once_world.proofs.Invariant.Facts.{AtPlace, MayLeave, Owes, kept_of}
-use Rattle.once_world.proofs.Invariant.Fits.{SharedFits}
+use Rattle.once_world.proofs.History.Waiters.{CalledAt, entry_fits, list_fits, open_by}
+use Rattle.once_world.proofs.Invariant.Facts.{AtPlace, MayLeave, Owes}
 use Rattle.once_world.proofs.Invariant.Listed.{none_not_some, same_some}
 use Rattle.once_world.proofs.Invariant.Calls.{call_kept}
 use Rattle.once_world.proofs.Invariant.Around.{leaves_acts, no_wait}

@@ -1,14 +1,13 @@
 -- The releases, and the places of a call that ends.
 use Rattle.std.proofs.Common.{◌≡◌, ◌≢◌, ℕ, Bool, true, false, ⊎_elim, inl, inr, List, [], ◌∷◌, Option, Some, None, refl, sym, ap, ◌∙◌, subst, arith}
 use Rattle.std.specs.Option.{option_to_list}
-use Rattle.std.specs.Prelude.{◌-◌}
 use Rattle.std.proofs.lemmas.Bool.{false≢true}
 use Rattle.once_world.specs.Record.{Answer, Entry, Fill, Free, Kind}
 use Rattle.once_world.specs.Cell.{cell}
 use Rattle.once_world.specs.Tasks.{Waiting, last_call, status}
 use Rattle.once_queue.specs.declared.waiters.Listing.{Listing}
 use Rattle.once_queue.specs.Listings.{all_out, call_first, first_waker}
-use Rattle.once_world.specs.Run.{IsLegal, IsRun}
+use Rattle.once_world.specs.Run.{IsLegal}
 use Rattle.once_world.specs.Machine.{AtAddOne, AtCountOut, AtDoorTake, AtFast, AtRelease, EndDropped, EndError, EndValue, Ending, Finished}
 use Rattle.once_world.specs.Machine.{SharedState, UnderWay, out_shared, take_shared, end_entry, release_wakers, is_at_door, is_value, release_list}
 use Rattle.once_world.specs.Machine.{release_entry, release_flags, word_of}
@@ -80,7 +79,7 @@ module _ {K : Kind} {limit t w : ℕ} {k : Answer} {c : SharedState} {h : List E
       (λ x i. absurd (empty_not_set x i)) refl (λ l. absurd (omega arith)) refl refl in
       let queue1 : QueueFits K c.listings h1 = entry_fits before.queue refl (λ w. omega arith) (nobody_called K c.listings h1 none) in
       let before1 : Before K limit t w k c' h1 =
-          record { run = (legal, before.run); shared = shared1; queue = queue1; waker_is = rw (eqb_self t) before.waker_is; kept_is = rw (eqb_self t) before.kept_is } in
+      record { run = (legal, before.run); shared = shared1; queue = queue1; waker_is = rw (eqb_self t) before.waker_is; kept_is = rw (eqb_self t) before.kept_is } in
       let m = ends_so before1 (AtFast e) c' e owes shared1 queue1
       (λ u n b i. same_shared refl refl refl refl refl (λ x. x)) (omega arith)
       (lists_stay refl (λ r. r) (inl refl)) in

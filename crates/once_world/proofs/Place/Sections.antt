@@ -7,16 +7,13 @@ use Rattle.once_world.specs.Tasks.{Fresh, Status, Waiting, last_call}
 use Rattle.once_queue.specs.Listings.{find_listing, is_waker, list_with, own_listing, ticket_for}
 use Rattle.once_queue.specs.Word.{sees_by}
 use Rattle.once_world.specs.Refusals.{AtSome, MemoryFrom, OtherActs, OtherHolds, is_begin_of, moments_since}
-use Rattle.once_world.specs.Run.{IsRun}
 use Rattle.once_world.specs.Machine.{AtCountOut, AtLeave, AtList, AtLook, AtWaitLoad, EndMemory, EndValue, SharedState, Place, is_at_door, leave_place, seen_by}
 use Rattle.once_core.specs.Table.{after_load}
 use Rattle.once_world.specs.Machine.{outcome_of}
 use Rattle.once_world.proofs.Steps.{list_step, look_step}
 use Rattle.once_world.proofs.History.Others.{Met, MetHolder, since_now_holder}
 use Rattle.once_world.proofs.History.Cells.{empty_cell}
-use Rattle.once_world.proofs.History.Waiters.{QueueFits}
-use Rattle.once_world.proofs.Invariant.Facts.{AnyIn, AtPlace, Entered, HasTicket, is_counted_at, is_inside_at, kept_of, refused_in, ticket_at}
-use Rattle.once_world.proofs.Invariant.Fits.{SharedFits}
+use Rattle.once_world.proofs.Invariant.Facts.{AnyIn, AtPlace, Entered, HasTicket, is_counted_at, is_inside_at, refused_in, ticket_at}
 use Rattle.once_world.proofs.Place.Builders.{Before, Goes, claims_so, same_shared, stays, waits_so}
 use Rattle.once_world.proofs.Place.FitsAfter.{at_door, claim_fits, relisted_fits}
 use Rattle.once_world.proofs.Invariant.Turns.{lists_stay}

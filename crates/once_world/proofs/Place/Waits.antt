@@ -3,21 +3,20 @@ use Rattle.std.proofs.Common.{◌≡◌, ◌≢◌, ◌≤◌, ◌<◌, ℕ, suc
 use Rattle.std.specs.Prelude.{◌||◌, nat_lt}
 use Rattle.std.proofs.lemmas.Bool.{false≢true, cases_Bool, or_from, ltb-true, ltb-false}
 use Rattle.std.proofs.lemmas.Bool.Decides.{nat_tests}
-use Rattle.once_world.specs.Record.{Answer, Claim, End, Entry, Full, Kind}
+use Rattle.once_world.specs.Record.{Answer, End, Entry, Full, Kind}
 use Rattle.once_world.specs.Cell.{cell, is_set}
 use Rattle.once_world.specs.Tasks.{Fresh, Polling, last_call, status}
 use Rattle.once_world.specs.Refusals.{IsCrowded, OtherHolds, Since, crowd}
-use Rattle.once_world.specs.Run.{IsLegal, IsRun}
-use Rattle.once_world.specs.Machine.{AtCountIn, AtCountOut, AtDoorGet, AtDoorPut, AtStart, AtTryQuick, AtWaitLoad, EndFull, EndMemory, EndPending, EndValue}
-use Rattle.once_world.specs.Machine.{SharedState, word_of}
+use Rattle.once_world.specs.Run.{IsLegal}
+use Rattle.once_world.specs.Machine.{AtCountIn, AtCountOut, AtDoorGet, AtDoorPut, AtStart, AtTryQuick, AtWaitLoad, EndFull, EndMemory, EndPending}
+use Rattle.once_world.specs.Machine.{EndValue, SharedState, word_of}
 use Rattle.once_core.specs.Table.{after_count_in, after_door_get, after_quick, after_start}
 use Rattle.once_world.specs.Machine.{claim_entries, in_shared, outcome_of, quick_shared}
 use Rattle.once_world.proofs.Steps.{put_step}
 use Rattle.once_queue.proofs.Listing.Members.{eqb_self}
 use Rattle.once_world.proofs.History.Others.{Met, SomeoneWaits, holds, since_now}
 use Rattle.once_world.proofs.History.Cells.{empty_cell, holder_of, is_held, value_of_set}
-use Rattle.once_world.proofs.History.Waiters.{QueueFits}
-use Rattle.once_world.proofs.Invariant.Facts.{AtPlace, Entered, FreshIn, Owes, kept_of, refused_in}
+use Rattle.once_world.proofs.Invariant.Facts.{AtPlace, Entered, FreshIn, Owes, refused_in}
 use Rattle.once_world.proofs.Invariant.Fits.{SharedFits}
 use Rattle.once_world.proofs.Invariant.Around.{Around}
 use Rattle.once_world.proofs.Invariant.AroundLists.{AroundList}

@@ -6,21 +6,19 @@ use Rattle.std.proofs.lemmas.Bool.{false≢true}
 use Rattle.once_queue.specs.declared.waiters.Listing.{Listing}
 use Rattle.once_queue.specs.Listings.{find_listing}
 use Rattle.once_queue.proofs.Listing.Members.{eqb_self}
-use Rattle.once_world.specs.Record.{Answer, Begin, Entry, Made, Once, Own}
+use Rattle.once_world.specs.Record.{Answer, Begin, Entry, Once, Own}
 use Rattle.once_world.specs.Inputs.{AreOfStep, IsOfStep, Drop, Go, Input, Looks, Make, Owns, Poll}
 use Rattle.once_world.specs.Book.{IsShared, IsUnnamed, has_written_at}
-use Rattle.once_world.specs.Machine.{EndDropped, Finished, Outcome, Place, RestRun, RestStart, RestWait, Resting, Step, Task, UnderWay, World}
-use Rattle.once_world.specs.Machine.{advance, drop_entries, drop_world, drop_world_by, first_world, fresh_task, go_world, go_world_by, in_call}
-use Rattle.once_world.specs.Machine.{is_resting, make_world, place_of_poll, poll_world, poll_world_by, put_task, step_at, step_of, step_of_drop}
-use Rattle.once_world.specs.Machine.{step_of_poll, world_after}
-use Rattle.once_world.proofs.Invariant.Facts.{AtPlace, AtStep, is_inside, is_inside_at, ticket_at, ticket_of}
+use Rattle.once_world.specs.Machine.{Finished, Outcome, Place, Resting, Step, Task, UnderWay, World, advance, drop_entries, drop_world, drop_world_by}
+use Rattle.once_world.specs.Machine.{first_world, fresh_task, go_world, go_world_by, in_call, is_resting, make_world, poll_world, poll_world_by}
+use Rattle.once_world.specs.Machine.{put_task, step_at, step_of, step_of_drop, step_of_poll, world_after}
+use Rattle.once_world.proofs.Invariant.Facts.{AtPlace, AtStep, is_inside, ticket_of}
 use Rattle.once_world.proofs.Invariant.Fits.{Fits}
-use Rattle.once_world.proofs.Invariant.Listed.{none_not_some}
 use Rattle.once_world.proofs.Invariant.Moves.{in_count, inside_counted}
 use Rattle.once_world.proofs.Input.Headline.{task_fits}
 use Rattle.once_world.proofs.Part.Adds.{step_part}
 use Rattle.once_world.proofs.Shared.Places.{StepKeeps, place_keeps}
-use Rattle.once_world.proofs.Shared.Queue.{EntersFirst, OneQueue, leave_first, release_first}
+use Rattle.once_world.proofs.Shared.Queue.{EntersFirst, OneQueue}
 use Rattle.once_world.proofs.Shared.Slot.{is_put_at}
 
 -- what is kept of the init of a task that was made has no name

@@ -3,12 +3,12 @@ use Rattle.std.proofs.Common.{◌≡◌, ◌<◌, ℕ, suc, Bool, true, false, c
 use Rattle.std.proofs.lemmas.Bool.Decides.{nat_tests}
 use Rattle.std.proofs.lemmas.Grind.{common_steps}
 use Rattle.std.specs.Option.{is_some, option_flatten}
-use Rattle.std.proofs.lemmas.Bool.{false≢true, eqb-true}
+use Rattle.std.proofs.lemmas.Bool.{eqb-true}
 use Rattle.once_queue.specs.Word.{Flags, flags_of}
 use Rattle.once_queue.specs.declared.waiters.Listing.{Listing}
 use Rattle.once_queue.specs.Listings.{find_listing, is_waker, own_listing}
 use Rattle.once_queue.proofs.Listing.Members.{eqb_self}
-use Rattle.once_world.specs.Record.{Begin, Claim, DropBegin, DropEnd, End, Entry, Error, Fill, Free, Full, Look, Made, Memory, Once, Own, Pass, Pending, Ran, Value, is_of}
+use Rattle.once_world.specs.Record.{End, Entry, Once, Pending, is_of}
 use Rattle.once_world.specs.Cell.{Cell, Empty, Held, SetTo, cell}
 use Rattle.once_world.specs.Tasks.{LastCall, Polling, Status, Waiting, last_call, last_call_after, pending_status, status, status_after}
 use Rattle.once_world.specs.Run.{IsLegal, IsRun}
