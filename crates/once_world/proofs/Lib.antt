@@ -1,5 +1,5 @@
 -- The order in which to read the proofs. Each module stands on those above it; only Listing.Apart stands on Invariant.
---   Steps      one step of the machine at each place, by what it finds there
+--   Steps      one step of the machine at the places where it is long, by what it finds there
 --   Listing    lists of numbers and of listings: what calls, fills and sections hand out
 --   History    what one more entry changes, and the listings against the history
 --   Invariant  what stands for each task at each place, and what a step owes so that all of it stays

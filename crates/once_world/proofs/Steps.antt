@@ -1,5 +1,5 @@
--- One step of the machine at each place, by what it finds there. Each is what `place_step` computes to at its place, so
--- that a lemma of it is a lemma of that step.
+-- One step of the machine at the places where it is long, by what it finds there. Each is what `place_step` computes to
+-- at its place, so that a lemma of it is a lemma of that step.
 use Rattle.std.proofs.Common.{◌≡◌, arith}
 use Rattle.std.proofs.lemmas.Grind.{common_steps}
 use Rattle.std.specs.Prelude.{ℕ, Bool, if◌then◌else◌, [], ◌∷◌, Option, Some, None}
@@ -8,38 +8,18 @@ use Rattle.once_queue.specs.declared.word.Sees.{Sees}
 use Rattle.once_queue.specs.declared.waiters.Answer.{Answer as SectionAnswer}
 use Rattle.once_queue.specs.declared.waiters.Answer.TheVariants.{Left, Gone}
 use Rattle.once_core.specs.Core.{put_answer}
-use Rattle.once_core.specs.Table.{after_start, after_quick, after_door_get, after_door_put, after_count_in, after_load}
-use Rattle.once_core.specs.Table.{after_look, after_list, after_run, after_fast, after_door_again, after_count_out, next_at}
+use Rattle.once_core.specs.Table.{after_door_put, after_look, after_list, after_run, after_fast, next_at}
 use Rattle.once_world.specs.Record.{Answer, Ran}
-use Rattle.once_world.specs.Machine.{AtCountOut, Ending, Outcome, SharedState, claim_entries, fast_shared, freed_entries, in_shared, is_claim, is_passing, is_value}
-use Rattle.once_world.specs.Machine.{kept_after, leave_shared, list_answer, list_shared, listed_ticket, look_answer, look_shared, looked_ticket, next_waker, outcome_of}
-use Rattle.once_world.specs.Machine.{pass_entries, polled_of, put_shared, quick_shared, release_entry, release_shared, release_wakers, unless_gone}
-
--- ready, NEW
-abbrev pub start_step : Bool → Bool → SharedState → ℕ → Answer → Outcome
-start_step ready new c t k = outcome_of c t k [] (after_start ready new)
-
--- whether the claim was won
-abbrev pub quick_step : Bool → SharedState → ℕ → Answer → Outcome
-quick_step won c t k = outcome_of (quick_shared won c) t k (claim_entries won t) (after_quick won)
-
--- what stands at the door
-abbrev pub door_step : Option ℕ → SharedState → ℕ → Answer → Outcome
-door_step door c t k = outcome_of c t k [] (after_door_get door)
+use Rattle.once_world.specs.Machine.{AtCountOut, Ending, Outcome, SharedState, claim_entries, fast_shared, freed_entries, is_claim, is_passing}
+use Rattle.once_world.specs.Machine.{is_value, kept_after, leave_shared, list_answer, list_shared, listed_ticket, look_answer, look_shared}
+use Rattle.once_world.specs.Machine.{looked_ticket, next_waker, outcome_of, pass_entries, polled_of, put_shared, release_entry, release_shared}
+use Rattle.once_world.specs.Machine.{release_wakers, unless_gone}
 
 -- granted, door
 abbrev pub put_step : Bool → Option ℕ → SharedState → ℕ → Answer → Outcome
 put_step granted door c t k =
     let q = put_answer granted door c.queues in
     outcome_of (put_shared q door c) t k [] (after_door_put q)
-
--- below the limit, ready
-abbrev pub in_step : Bool → Bool → SharedState → ℕ → Answer → ℕ → Outcome
-in_step below ready c t k q = outcome_of (in_shared below c) t k [] (after_count_in below ready q)
-
--- ready
-abbrev pub load_step : Bool → SharedState → ℕ → Answer → ℕ → Option ℕ → Outcome
-load_step ready c t k q n = outcome_of c t k [] (after_load ready q n)
 
 -- what a look finds of its queue, whether its own listing has its waker, and whether memory is given
 abbrev pub look_step : Option Sees → Bool → Bool → SharedState → ℕ → ℕ → Answer → ℕ → Option ℕ → Outcome
@@ -62,10 +42,6 @@ run_step a c t k by = outcome_of c t (kept_after a k) (Ran t a ∷ []) (after_ru
 abbrev pub fast_step : Bool → Bool → SharedState → ℕ → Answer → Ending → Outcome
 fast_step won fills c t k e = outcome_of (fast_shared won fills c) t k (freed_entries won t k) (after_fast won fills e)
 
--- what stands at the door
-abbrev pub again_step : Option ℕ → SharedState → ℕ → Answer → Ending → Outcome
-again_step door c t k e = outcome_of c t k [] (after_door_again door e)
-
 -- at the door
 abbrev pub release_step : Bool → SharedState → ℕ → Answer → Ending → Outcome
 release_step at c t k e =
@@ -79,10 +55,6 @@ leave_step at c t k n e =
     let a = if at then Left None else Gone in
     outcome_of (leave_shared a n c) t k
     (unless_gone a (pass_entries t (option_to_list (next_waker (is_passing c n) n c.listings)))) (next_at (AtCountOut e))
-
--- the word after is exactly the ready bit
-abbrev pub out_step : Bool → SharedState → ℕ → Answer → Ending → Outcome
-out_step last c t k e = outcome_of c t k [] (after_count_out last e)
 
 -- what follows a claim does not ask for the ticket
 pub look_same : (a : SectionAnswer ℕ) (w : Option ℕ) (q : ℕ) (k : Option ℕ) → after_look a w q (looked_ticket a k) ≡ after_look a w q k

@@ -22,9 +22,9 @@ pub record QueueFits (K : Kind) (xs : List (Listing ℕ)) (h : List Entry) : Typ
   pub called : CalledAt K xs h
 
 -- one more entry, which hands out what the list loses
-pub entry_fits : (K : Kind) (xs ys : List (Listing ℕ)) (e : Entry) (h : List Entry) → QueueFits K xs h → is_replacing e ≡ false
+pub entry_fits : {K : Kind} {xs ys : List (Listing ℕ)} {e : Entry} {h : List Entry} → QueueFits K xs h → is_replacing e ≡ false
     → ((w : ℕ) → times_in w (handed_by e) + asks w ys ≤ asks w xs + bit (opens K w e h)) → CalledAt K ys (e ∷ h) → QueueFits K ys (e ∷ h)
-entry_fits K xs ys e h q stays less called = record {
+entry_fits q stays less called = record {
   counts = λ w. let a = q.counts w in let b = less w in rw stays (omega arith);
   called = called;
 }
@@ -49,11 +49,11 @@ pub waited : (K : Kind) (e : Entry) (h : List Entry)
 waited K e h n u s = waits_before K u e h (n u) s
 
 -- an entry that hands out nothing, and after which its task does not wait
-pub quiet : (K : Kind) (xs : List (Listing ℕ)) (e : Entry) (h : List Entry) → QueueFits K xs h → handed_by e ≡ []
+pub quiet : {K : Kind} {xs : List (Listing ℕ)} {e : Entry} {h : List Entry} → QueueFits K xs h → handed_by e ≡ []
     → is_replacing e ≡ false → ((w : ℕ) → opens K w e h ≡ false)
     → ((t : ℕ) → is_of t e ≡ true → status_after e (cell K h) (status K t h) ≢ Waiting)
     → (cell_after e (cell K h) ≡ Empty → cell K h ≡ Empty) → QueueFits K xs (e ∷ h)
-quiet K xs e h q none stays shut not_waiting empty = entry_fits K xs xs e h q stays (λ w. rw (none, shut w) (omega arith)) (λ c u s. q.called (empty c) u (waited K e h not_waiting u s))
+quiet {K = K} {e = e} {h = h} q none stays shut not_waiting empty = entry_fits q stays (λ w. rw (none, shut w) (omega arith)) (λ c u s. q.called (empty c) u (waited K e h not_waiting u s))
 
 -- where nobody waits
 pub nobody_called : (K : Kind) (xs : List (Listing ℕ)) (h : List Entry) → ((u : ℕ) → status K u h ≢ Waiting) → CalledAt K xs h

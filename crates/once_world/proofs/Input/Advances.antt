@@ -5,15 +5,11 @@ use Rattle.std.specs.Option.{is_some}
 use Rattle.std.proofs.lemmas.Bool.{false≢true}
 use Rattle.once_world.specs.Record.{Answer, Entry, Kind, is_lazy}
 use Rattle.once_world.specs.Cell.{answers_left}
-use Rattle.once_world.specs.Tasks.{last_call}
 use Rattle.once_queue.specs.Listings.{is_waker, kept_ticket, own_listing}
-use Rattle.once_world.specs.Run.{IsRun}
 use Rattle.once_world.specs.Machine.{AtAddOne, AtCountIn, AtCountOut, AtDoorAgain, AtDoorGet, AtDoorPut, AtDoorTake, AtFast, AtLeave, AtList, AtLook}
 use Rattle.once_world.specs.Machine.{AtPut, AtRelease, AtRun, AtStart, AtTryQuick, AtWaitLoad, SharedState, Place, Step, UnderWay, out_shared}
 use Rattle.once_world.specs.Machine.{init_answer, in_call, is_at_door, place_step, step_at, word_of}
-use Rattle.once_world.proofs.History.Waiters.{QueueFits}
-use Rattle.once_world.proofs.Invariant.Facts.{AtPlace, AtStep, is_counted, is_counted_at, is_take, is_take_at, kept_of, ticket_at, ticket_of}
-use Rattle.once_world.proofs.Invariant.Fits.{SharedFits}
+use Rattle.once_world.proofs.Invariant.Facts.{AtPlace, AtStep, is_counted, is_counted_at, is_take, is_take_at, ticket_at, ticket_of}
 use Rattle.once_world.proofs.Invariant.Moves.{Moves}
 use Rattle.once_world.proofs.Invariant.Around.{Around}
 use Rattle.once_world.proofs.Invariant.AroundLists.{AroundList}

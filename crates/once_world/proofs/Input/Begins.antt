@@ -45,18 +45,18 @@ module _ (K : Kind) (limit t w : ℕ) (k : Answer) (c : SharedState) (h : List E
       → Moves K limit t (Resting r) (record { waker = w; kept = k; step = UnderWay (place_of_poll r) }) c c h (Begin t w ∷ h)
   begin_moves r legal nothing own take = record {
     run = (legal, run);
-    shared = shared_at K limit c h (Begin t w ∷ h) refl refl shared;
-    queue = quiet K c.listings (Begin t w) h queue refl refl (λ _. refl) (λ u is. grind arith) (λ x. x);
+    shared = shared_at refl refl shared;
+    queue = quiet queue refl refl (λ _. refl) (λ u is. grind arith) (λ x. x);
     own = own;
     waker_is = rw (eqb_self t) refl;
     kept_is = rw (eqb_self t) nothing;
     others = λ u n. legal_keeps K u (Begin t w) limit h (of_other t u n) legal refl;
-    keeps = λ u n b i. same_shared K limit c c u h b refl refl refl refl refl (λ x. x);
+    keeps = λ u n b i. same_shared refl refl refl refl refl (λ x. x);
     count = refl;
     made = refl;
     takes = λ e. absurd (false≢true (sym take ∙ e));
     enters = λ e. inl e;
-    listings = lists_stay t (ticket_of (Resting r)) (ticket_of (Resting r)) c c (Begin t w ∷ h) refl (λ r. r) (inl refl);
+    listings = lists_stay refl (λ r. r) (inl refl);
     moments = λ a s. (s, a);
   }
 
@@ -67,18 +67,18 @@ module _ (K : Kind) (limit t w : ℕ) (k : Answer) (c : SharedState) (h : List E
       → Moves K limit t (Resting r) (record { waker = w; kept = k; step = UnderWay p }) c c h (DropBegin t ∷ h)
   drop_moves r p legal wk nothing own n take inside ticket = record {
     run = (legal, run);
-    shared = shared_at K limit c h (DropBegin t ∷ h) refl refl shared;
-    queue = quiet K c.listings (DropBegin t) h queue refl refl (λ _. refl) (λ u is. grind arith) (λ x. x);
+    shared = shared_at refl refl shared;
+    queue = quiet queue refl refl (λ _. refl) (λ u is. grind arith) (λ x. x);
     own = own;
     waker_is = rw (eqb_self t) wk;
     kept_is = rw (eqb_self t) nothing;
     others = λ u n. legal_keeps K u (DropBegin t) limit h (of_other t u n) legal refl;
-    keeps = λ u n b i. same_shared K limit c c u h b refl refl refl refl refl (λ x. x);
+    keeps = λ u n b i. same_shared refl refl refl refl refl (λ x. x);
     count = rw n refl;
     made = refl;
     takes = λ e. absurd (false≢true (sym take ∙ e));
     enters = λ e. inl (inside e);
-    listings = lists_stay t (ticket_of (Resting r)) (ticket_at p) c c (DropBegin t ∷ h) refl (λ r. r) (inl ticket);
+    listings = lists_stay refl (λ r. r) (inl ticket);
     moments = λ a s. (s, a);
   }
 
@@ -90,9 +90,9 @@ module _ (K : Kind) (limit t w : ℕ) (k : Answer) (c : SharedState) (h : List E
       let legal1 : IsLegal K limit (DropEnd t) (DropBegin t ∷ h) = (rw (eqb_self t) refl, λ e. false≢true (sym a.holds_is ∙ ap (holds t) e ∙ eqb_self t)) in
       record {
         run = (legal1, (legal, run));
-        shared = shared_at K limit c h (DropEnd t ∷ DropBegin t ∷ h) refl refl shared;
-        queue = quiet K c.listings (DropEnd t) (DropBegin t ∷ h)
-            (quiet K c.listings (DropBegin t) h queue refl refl (λ _. refl) (λ u is. grind arith) (λ x. x)) refl refl
+        shared = shared_at refl refl shared;
+        queue = quiet
+            (quiet queue refl refl (λ _. refl) (λ u is. grind arith) (λ x. x)) refl refl
             (λ _. refl) (λ u is. grind arith) (λ x. x);
         own = record { status_is = rw (eqb_self t) refl; holds_is = a.holds_is };
         waker_is = rw (eqb_self t) wk;
@@ -100,12 +100,12 @@ module _ (K : Kind) (limit t w : ℕ) (k : Answer) (c : SharedState) (h : List E
         others = λ u d. keeps_both K u h (DropBegin t ∷ h) (DropEnd t ∷ DropBegin t ∷ h)
             (legal_keeps K u (DropBegin t) limit h (of_other t u d) legal refl)
             (legal_keeps K u (DropEnd t) limit (DropBegin t ∷ h) (of_other t u d) legal1 refl);
-        keeps = λ u d b i. same_shared K limit c c u h b refl refl refl refl refl (λ x. x);
+        keeps = λ u d b i. same_shared refl refl refl refl refl (λ x. x);
         count = refl;
         made = refl;
         takes = λ e. absurd (false≢true e);
         enters = λ e. absurd (false≢true e);
-        listings = lists_stay t None None c c (DropEnd t ∷ DropBegin t ∷ h) refl (λ r. r) (inl refl);
+        listings = lists_stay refl (λ r. r) (inl refl);
         moments = λ b s. (s, (drop_moment K limit t h a.status_is legal (now (SomebodyCalled K) h b), b));
       }
 

@@ -1,10 +1,11 @@
 -- The making of a task, and a look.
 use Rattle.std.proofs.Common.{◌≡◌, ◌≢◌, ◌+◌, ℕ, suc, Bool, true, false, ◌⊎◌, inl, inr, ⊎_elim, List, ◌∷◌, Option, Some, None, refl, sym, ap, ◌∙◌, subst, arith}
+use Rattle.std.proofs.lemmas.Grind.{common_steps}
 use Rattle.std.proofs.lemmas.Bool.{false≢true, cases_eq}
 use Rattle.std.proofs.lemmas.Bool.Decides.{nat_tests}
 use Rattle.once_queue.specs.Numbers.{bit, how_many, member}
 use Rattle.once_world.specs.Record.{Entry, Kind, Look, Made, RanPending, made_in}
-use Rattle.once_world.specs.Cell.{Cell, Empty, Held, SetTo, cell, value_in}
+use Rattle.once_world.specs.Cell.{cell, value_in}
 use Rattle.once_world.specs.Tasks.{last_call}
 use Rattle.once_queue.specs.Listings.{find_listing}
 use Rattle.once_world.specs.Run.{IsLegal}
@@ -96,11 +97,11 @@ made_fits K limit w t f None is =
     let living = count_same t (made_in h) lived lives out (λ u n. ap is_alive (sym (p.others u n))) in
     let none : later t ≡ false = ap (λ o. is_counted (step_of o)) p.there in
     let alive : lives t ≡ true = ap is_alive p.there in
-    let shared' : SharedFits K limit w.shared h' = shared_at K limit w.shared h h' refl refl f.shared in
-    let queue' : QueueFits K w.shared.listings h' = quiet K w.shared.listings (Made t) h f.queue refl refl (λ _. refl) (λ u is. grind arith) (λ x. x) in
+    let shared' : SharedFits K limit w.shared h' = shared_at refl refl f.shared in
+    let queue' : QueueFits K w.shared.listings h' = quiet f.queue refl refl (λ _. refl) (λ u is. grind arith) (λ x. x) in
     let stands : (u : ℕ) → P u = λ u. ⊎_elim (λ e. subst P e same)
     (λ n. rw (p.others u n) (stands_kept K limit u w.shared w.shared h h' (w.tasks u) f.shared.ready_is (legal_keeps K u (Made t) limit h (of_other t u n) legal refl)
-    (same_shared K limit w.shared w.shared u h (is_inside (step_of (w.tasks u))) refl refl refl refl refl (λ x. x)) (λ n o k r e. inl e) (f.tasks u)))
+    (same_shared refl refl refl refl refl (λ x. x)) (λ n o k r e. inl e) (f.tasks u)))
     (cases_eq t u) in
     let owned = owned_made K limit w new t f is p.others in
     record {
@@ -119,15 +120,9 @@ made_fits K limit w t f None is =
       moments = (somebody_called K limit w.shared h' new shared'.ready_is queue'.called owned stands, f.moments);
     }
 
--- by the state of the cell
-looked_by : (K : Kind) (limit : ℕ) (c : SharedState) (h : List Entry) (v : Cell) → cell K h ≡ v → SharedFits K limit c h → look_value c ≡ value_in (cell K h)
-looked_by K limit c h Empty e f = rw (e, f.ready_is, e) refl
-looked_by K limit c h (Held u) e f = rw (e, f.ready_is, e) refl
-looked_by K limit c h (SetTo v) e f = rw (e, f.ready_is, e, f.value_is v e) refl
-
 -- a look finds the value that is set
 pub looked_is : (K : Kind) (limit : ℕ) (c : SharedState) (h : List Entry) → SharedFits K limit c h → look_value c ≡ value_in (cell K h)
-looked_is K limit c h f = looked_by K limit c h (cell K h) refl f
+looked_is K limit c h f = let value = f.value_is in grind (arith, nat_tests, common_steps, value)
 
 -- a look keeps all that holds
 pub look_fits : (K : Kind) (limit : ℕ) (w : World) → Fits K limit w → Fits K limit (record w { history = Look (look_value w.shared) ∷ w.history })
@@ -135,12 +130,12 @@ look_fits K limit w f =
     let h : List Entry = w.history in
     let h' : List Entry = Look (look_value w.shared) ∷ h in
     let legal : IsLegal K limit (Look (look_value w.shared)) h = looked_is K limit w.shared h f.shared in
-    let shared' : SharedFits K limit w.shared h' = shared_at K limit w.shared h h' refl refl f.shared in
-    let queue' : QueueFits K w.shared.listings h' = quiet K w.shared.listings (Look (look_value w.shared)) h f.queue refl refl (λ _. refl) (λ u is. grind arith) (λ x. x) in
+    let shared' : SharedFits K limit w.shared h' = shared_at refl refl f.shared in
+    let queue' : QueueFits K w.shared.listings h' = quiet f.queue refl refl (λ _. refl) (λ u is. grind arith) (λ x. x) in
     let stands : (u : ℕ) → StandsFor K limit u w.shared h'
     (w.tasks u) = λ u. stands_kept K limit u w.shared w.shared h h' (w.tasks u) f.shared.ready_is
     (legal_keeps K u (Look (look_value w.shared)) limit h refl legal refl)
-    (same_shared K limit w.shared w.shared u h (is_inside (step_of (w.tasks u))) refl refl refl refl refl (λ x. x)) (λ n o k r e. inl e) (f.tasks u) in
+    (same_shared refl refl refl refl refl (λ x. x)) (λ n o k r e. inl e) (f.tasks u) in
     record {
       run = (legal, f.run);
       shared = shared';

@@ -1,16 +1,17 @@
 -- The owner's calls: where no task is unfinished they keep all that holds.
 use Rattle.std.proofs.Common.{◌≡◌, ◌≢◌, ℕ, Bool, true, false, ◌==◌, ◌⊎◌, inl, inr, ⊎_elim, List, [], ◌∷◌, Option, Some, None, refl, sym, ap, ◌∙◌, arith}
+use Rattle.std.proofs.lemmas.Bool.Decides.{nat_tests}
+use Rattle.std.proofs.lemmas.Grind.{common_steps}
 use Rattle.std.proofs.lemmas.Bool.{false≢true, eqb-true}
-use Rattle.std.specs.Option.{is_some, unwrap_or}
 use Rattle.once_queue.specs.Numbers.{how_many}
-use Rattle.once_world.specs.Record.{Entry, Got, GotAnswers, Kind, Own, OwnerCall, Parts, ReplaceAnswers, ReplaceValue, Take, Write, made_in, replaces}
-use Rattle.once_world.specs.Cell.{Cell, Empty, Held, SetTo, answers_left, cell, got, got_parts, got_value, is_set, cell_after_call, write_cell}
+use Rattle.once_world.specs.Record.{Entry, Got, Kind, Own, OwnerCall, Write, made_in, replaces}
+use Rattle.once_world.specs.Cell.{Cell, Empty, answers_left, cell, got, cell_after_call, write_cell}
 use Rattle.once_world.specs.Tasks.{Waiting, status}
 use Rattle.once_queue.specs.Listings.{find_listing}
-use Rattle.once_world.specs.Machine.{SharedState, Task, World, own_world_by, owner_got, owner_shared, parts_got, reset_shared, write_shared, value_got, step_of}
+use Rattle.once_world.specs.Machine.{SharedState, Task, World, own_world_by, owner_got, owner_shared, write_shared, step_of}
 use Rattle.once_queue.proofs.Listing.Members.{eqb_self}
 use Rattle.once_world.proofs.History.Others.{holds}
-use Rattle.once_world.proofs.History.Cells.{empty_cell, empty_not_set, holder_of, is_held, same_value, value_of_set}
+use Rattle.once_world.proofs.History.Cells.{holder_of, is_held}
 use Rattle.once_world.proofs.History.Waiters.{QueueFits, quiet}
 use Rattle.once_world.proofs.Listing.Counting.{count_none}
 use Rattle.once_world.proofs.Invariant.Facts.{is_counted}
@@ -37,82 +38,31 @@ cell_free : (K : Kind) (h : List Entry) → ((t : ℕ) → holds t (cell K h) �
 cell_free K h n false e = e
 cell_free K h n true e = let u = holder_of (cell K h) e in absurd (false≢true (sym (n u.0) ∙ ap (holds u.0) u.1 ∙ eqb_self u.0))
 
--- a writing gives nobody the right
-written_holds : (t v : ℕ) (c : Cell) → holds t c ≡ false → holds t (write_cell v c) ≡ false
-written_holds t v (SetTo u) n = refl
-written_holds t v Empty n = refl
-written_holds t v (Held u) n = n
-
--- nor does another call of the owner
+-- no call of the owner gives anybody the right
 owned_holds : (t : ℕ) (o : OwnerCall) (c : Cell) → holds t c ≡ false → holds t (cell_after_call o c) ≡ false
-owned_holds t Take c n = refl
-owned_holds t (Write v) c n = written_holds t v c n
-owned_holds t _ c n = refl
-
--- the owner is given the value that is set
-value_is_got : (K : Kind) (limit : ℕ) (c : SharedState) (h : List Entry) (v : Cell) → cell K h ≡ v
-    → SharedFits K limit c h → value_got c.ready c.value ≡ got_value (cell K h)
-value_is_got K limit c h Empty e f = rw (e, f.ready_is, e) refl
-value_is_got K limit c h (Held u) e f = rw (e, f.ready_is, e) refl
-value_is_got K limit c h (SetTo v) e f = rw (e, f.ready_is, e, f.value_is v e) refl
-
--- or the answers that are left
-parts_are_got : (K : Kind) (limit : ℕ) (c : SharedState) (h : List Entry) (v : Cell) → cell K h ≡ v
-    → SharedFits K limit c h → parts_got c.ready c ≡ got_parts (cell K h) (answers_left K h)
-parts_are_got K limit c h Empty e f = rw (e, f.ready_is, e) (ap (λ l. GotAnswers l) f.answers_is)
-parts_are_got K limit c h (Held u) e f = rw (e, f.ready_is, e) (ap (λ l. GotAnswers l) f.answers_is)
-parts_are_got K limit c h (SetTo v) e f = rw (e, f.ready_is, e, f.value_is v e) refl
+owned_holds t o c n = grind (arith, nat_tests, common_steps)
 
 -- the owner is given what the cell has
 pub owner_is_got : (K : Kind) (limit : ℕ) (o : OwnerCall) (c : SharedState) (h : List Entry) → SharedFits K limit c h
     → owner_got o c ≡ got o (cell K h) (answers_left K h)
-owner_is_got K limit Take c h f = value_is_got K limit c h (cell K h) refl f
-owner_is_got K limit (Write v) c h f = value_is_got K limit c h (cell K h) refl f
-owner_is_got K limit Parts c h f = parts_are_got K limit c h (cell K h) refl f
-owner_is_got K limit _ c h f = value_is_got K limit c h (cell K h) refl f
-
--- a cell made new fits
-reset_fits : (K : Kind) (limit : ℕ) (c : SharedState) (v : Option ℕ) (l : List (Option ℕ)) (h : List Entry)
-    → is_some v ≡ is_set (cell K h) → is_held (cell K h) ≡ false
-    → ((u : ℕ) → cell K h ≡ SetTo u → unwrap_or v c.value ≡ u) → l ≡ answers_left K h
-    → SharedFits K limit (reset_shared c v l) h
-reset_fits K limit c v l h r n s a = record {
-  ready_is = r;
-  held_is = n;
-  value_is = s;
-  answers_is = a;
-  within = omega arith;
-  stands = λ _ z. absurd (omega arith);
-  head_door = λ e. absurd (false≢true e);
-}
+owner_is_got K limit o c h f = let value = f.value_is in grind (arith, nat_tests, common_steps, value)
 
 -- a written value fits, and a cell without a value stays as it is
 written_shared : (K : Kind) (limit v : ℕ) (c : SharedState) (g : Got) (h : List Entry) (r : Bool) → c.ready ≡ r
     → is_held (cell K h) ≡ false → SharedFits K limit c h
     → SharedFits K limit (write_shared r v c) (Own (Write v) g ∷ h)
-written_shared K limit v c g h true r n f =
-    let u = value_of_set (cell K h) (sym f.ready_is ∙ r) in
-    let now : cell K (Own (Write v) g ∷ h) ≡ SetTo v = ap (write_cell v) u.1 in
+written_shared K limit v c g h r is n f =
+    let value = f.value_is in
+    let stands = f.stands in
+    let head = f.head_door in
     record {
-      ready_is = r ∙ sym (ap is_set now);
-      held_is = ap is_held now ∙ sym n ∙ f.held_is;
-      value_is = λ w e. same_value v w (sym now ∙ e);
-      answers_is = f.answers_is;
-      within = f.within;
-      stands = f.stands;
-      head_door = f.head_door;
-    }
-written_shared K limit v c g h false r n f =
-    let was = empty_cell (cell K h) (sym f.ready_is ∙ r) n in
-    let now : cell K (Own (Write v) g ∷ h) ≡ Empty = ap (write_cell v) was in
-    record {
-      ready_is = r ∙ sym (ap is_set now);
-      held_is = ap is_held now ∙ sym n ∙ f.held_is;
-      value_is = λ w e. absurd (empty_not_set w (sym now ∙ e));
-      answers_is = f.answers_is;
-      within = f.within;
-      stands = f.stands;
-      head_door = f.head_door;
+      ready_is = grind (arith, nat_tests, common_steps);
+      held_is = grind (arith, nat_tests, common_steps);
+      value_is = λ u e. grind (arith, nat_tests, common_steps, value);
+      answers_is = grind (arith, nat_tests, common_steps);
+      within = grind (arith, nat_tests, common_steps);
+      stands = λ n l. grind (arith, nat_tests, common_steps, stands);
+      head_door = λ e. grind (arith, nat_tests, common_steps, head);
     }
 
 -- what an owner's call owes
@@ -127,9 +77,7 @@ replaced : (K : Kind) (o : OwnerCall) (g : Got) (h : List Entry) → replaces o 
 replaced K o g h r w = record { counts = λ k. rw r (omega arith); called = λ e u s. absurd (w u s) }
 
 written_empty : (v : ℕ) (c : Cell) → write_cell v c ≡ Empty → c ≡ Empty
-written_empty v Empty e = refl
-written_empty v (Held u) e = e
-written_empty v (SetTo u) e = absurd (empty_not_set v (sym e))
+written_empty v c e = grind (arith, nat_tests, common_steps)
 
 -- a writing, by whether a value is set
 owned_write : (K : Kind) (limit v : ℕ) (c : SharedState) (g : Got) (h : List Entry) (r : Bool) → c.ready ≡ r
@@ -142,40 +90,25 @@ owned_write K limit v c g h false r n f q = record { shared = written_shared K l
 owned_so : (K : Kind) (limit : ℕ) (c : SharedState) (o : OwnerCall) (g : Got) (h : List Entry)
     → is_held (cell K h) ≡ false → SharedFits K limit c h → QueueFits K c.listings h
     → ((u : ℕ) → status K u h ≢ Waiting) → Owned K limit c (owner_shared o c) o g h
-owned_so K limit c Take g h n f q w = record {
-  shared = reset_fits K limit c None c.answers
-      (Own Take g ∷ h) refl refl (λ u e. absurd
-      (empty_not_set u e)) f.answers_is;
-  queue = replaced K Take g h refl w;
-  count = inl refl;
-  lists = λ z n x e. absurd (no_listing x e);
-}
-owned_so K limit c Parts g h n f q w = record {
-  shared = reset_fits K limit c None [] (Own Parts g ∷ h) refl refl
-      (λ u e. absurd (empty_not_set u e)) refl;
-  queue = replaced K Parts g h refl w;
-  count = inl refl;
-  lists = λ z n x e. absurd (no_listing x e);
-}
-owned_so K limit c (ReplaceValue v) g h n f q w = record {
-  shared = reset_fits K limit c (Some v) []
-      (Own (ReplaceValue v) g ∷ h) refl refl (λ u e. same_value v u e) refl;
-  queue = replaced K
-      (ReplaceValue v) g h refl w;
-  count = inl refl;
-  lists = λ z n x e. absurd (no_listing x e);
-}
-owned_so K limit c (ReplaceAnswers l) g h n f q w = record {
-  shared = reset_fits K limit c None l
-      (Own (ReplaceAnswers l) g ∷ h) refl refl (λ u e. absurd (empty_not_set u e)) refl;
-  queue = replaced K
-      (ReplaceAnswers l) g h refl w;
-  count = inl refl;
-  lists = λ z n x e. absurd (no_listing x e);
-}
 owned_so K limit c (Write v) g h n f q w =
     owned_write K limit v c g h c.ready refl n f
-    (quiet K c.listings (Own (Write v) g) h q refl refl (λ _. refl) (λ u is. absurd (false≢true is)) (written_empty v (cell K h)))
+    (quiet q refl refl (λ _. refl) (λ u is. absurd (false≢true is)) (written_empty v (cell K h)))
+owned_so K limit c o g h n f q w =
+    let answers = f.answers_is in
+    record {
+      shared = record {
+        ready_is = grind (arith, nat_tests, common_steps);
+        held_is = grind (arith, nat_tests, common_steps);
+        value_is = λ u e. grind (arith, nat_tests, common_steps);
+        answers_is = grind (arith, nat_tests, common_steps);
+        within = grind (arith, nat_tests, common_steps);
+        stands = λ n l. grind (arith, nat_tests, common_steps);
+        head_door = λ e. grind (arith, nat_tests, common_steps);
+      };
+      queue = replaced K o g h refl w;
+      count = inl refl;
+      lists = λ z n x e. absurd (no_listing x e);
+    }
 
 -- a task that is unmade or gone does not wait
 over_awake : (K : Kind) (t : ℕ) (h : List Entry) → Over K t h → status K t h ≢ Waiting
@@ -183,8 +116,7 @@ over_awake K t h o w = ⊎_elim (λ e. let z : ⊥ = cc in z) (λ e. let z : ⊥
 
 -- the count is 0 before and after
 zero_is : (c c' n : ℕ) → c ≡ n → n ≡ 0 → (c' ≡ 0) ⊎ (c' ≡ c) → c' ≡ n
-zero_is c c' n a b (inl e) = omega arith
-zero_is c c' n a b (inr e) = omega arith
+zero_is c c' n a b e = grind arith
 
 -- a call that fits keeps all that holds
 owner_fits : (K : Kind) (limit : ℕ) (w : World) (o : OwnerCall) → Fits K limit w → w.unfinished ≡ 0 → Fits K limit (own_world_by true true w o)

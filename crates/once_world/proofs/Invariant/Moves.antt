@@ -1,6 +1,5 @@
 -- What the step of one task owes, and that it then keeps all that holds.
 use Rattle.std.proofs.Common.{◌≡◌, ◌≢◌, ◌<◌, ◌+◌, ℕ, Bool, true, false, ◌⊎◌, inl, inr, ⊎_elim, List, Option, Some, None, refl, sym, ap, ◌∙◌, subst, arith}
-use Rattle.std.proofs.lemmas.Bool.Decides.{nat_tests}
 use Rattle.std.proofs.lemmas.Grind.{common_steps}
 use Rattle.std.specs.Prelude.{not}
 use Rattle.std.proofs.lemmas.Bool.{false≢true, cases_eq, cases_Bool, ne_eqb, false_from_ne_true}
@@ -12,13 +11,12 @@ use Rattle.once_queue.specs.declared.waiters.Listing.{Listing}
 use Rattle.once_queue.specs.Listings.{find_listing}
 use Rattle.once_world.specs.Run.{AtEvery, IsRun}
 use Rattle.once_world.specs.Called.{SomebodyCalled}
-use Rattle.once_world.specs.Machine.{AtDoorTake, Finished, SharedState, Place, Resting, Step, Task, UnderWay, World, place_of_poll, is_finished}
-use Rattle.once_world.specs.Machine.{put_task, unfinished_after, step_of}
+use Rattle.once_world.specs.Machine.{SharedState, Step, Task, World, is_finished, put_task, unfinished_after, step_of}
 use Rattle.once_queue.proofs.Listing.Members.{eqb_self}
 use Rattle.once_world.proofs.History.Others.{Keeps}
 use Rattle.once_world.proofs.History.Waiters.{QueueFits}
 use Rattle.once_world.proofs.Listing.Counting.{count_change, count_positive}
-use Rattle.once_world.proofs.Invariant.Facts.{AtPlace, AtStep, is_counted, is_counted_at, is_inside, is_inside_at, is_take, is_take_at, kept_of, ticket_of}
+use Rattle.once_world.proofs.Invariant.Facts.{AtStep, is_counted, is_inside, is_take, kept_of, ticket_of}
 use Rattle.once_world.proofs.Invariant.Fits.{Fits, SharedFits, StandsFor, is_alive}
 use Rattle.once_world.proofs.Invariant.Kept.{SharedKeeps, in_status_kept, step_kept}
 use Rattle.once_world.proofs.Invariant.Listed.{ListKept, was_unset}
@@ -83,43 +81,18 @@ counted c c' n n' b b' p q e g k x y =
     let d = ap bit y in
     omega arith
 
--- by the place
-inside_counted_at : (p : Place ℕ ℕ) → is_inside_at p ≡ true → is_counted_at p ≡ true
-inside_counted_at p e = grind (arith, nat_tests, common_steps)
-
 -- a waiter stands in the count
 pub inside_counted : (s : Step ℕ ℕ) → is_inside s ≡ true → is_counted s ≡ true
-inside_counted (Resting r) e = inside_counted_at (place_of_poll r) e
-inside_counted (UnderWay p) e = inside_counted_at p e
-inside_counted Finished e = absurd (false≢true e)
+inside_counted s e = grind (arith, common_steps)
 
 -- who takes the queue does not wait
-take_not_inside_at : (p : Place ℕ ℕ) → is_take_at p ≡ true → is_inside_at p ≡ true → ⊥
-take_not_inside_at (AtDoorTake e) a b = false≢true b
-take_not_inside_at _ a b = false≢true a
-
--- the same of a step
 take_not_inside : (s : Step ℕ ℕ) → is_take s ≡ true → is_inside s ≡ true → ⊥
-take_not_inside (Resting r) a b = false≢true a
-take_not_inside (UnderWay p) a b = take_not_inside_at p a b
-take_not_inside Finished a b = false≢true a
-
--- by the place
-take_ready_at : (K : Kind) (limit t : ℕ) (c : SharedState) (h : List Entry) (p : Place ℕ ℕ) → AtPlace K limit t c h p → is_take_at p ≡ true → c.ready ≡ true
-take_ready_at K limit t c h (AtDoorTake e) a k = a.1
-take_ready_at K limit t c h _ a k = absurd (false≢true k)
-
--- by the step
-take_ready_in : (K : Kind) (limit t : ℕ) (c : SharedState) (h : List Entry) (s : Step ℕ ℕ) → AtStep K limit t c h s → is_take s ≡ true → c.ready ≡ true
-take_ready_in K limit t c h (Resting r) a k = absurd (false≢true k)
-take_ready_in K limit t c h (UnderWay p) a k = take_ready_at K limit t c h p a k
-take_ready_in K limit t c h Finished a k = absurd (false≢true k)
+take_not_inside s a b = grind (arith, common_steps)
 
 -- the value is set where a task takes the queue out of the door
 take_ready : (K : Kind) (limit t : ℕ) (c : SharedState) (h : List Entry) (o : Option Task)
     → StandsFor K limit t c h o → is_take (step_of o) ≡ true → c.ready ≡ true
-take_ready K limit t c h None a k = absurd (false≢true k)
-take_ready K limit t c h (Some x) a k = take_ready_in K limit t c h x.step a.step k
+take_ready K limit t c h o a k = grind (arith, common_steps)
 
 -- nobody takes the queue out of the door while somebody waits
 alone_by : (K : Kind) (limit t : ℕ) (x y : Task) (w w' : World) → Fits K limit w → Puts t y w.tasks w'.tasks
@@ -152,9 +125,7 @@ alive_by x n = ap not n
 
 -- the number of unfinished tasks follows
 unfinished_by : (m n n' : ℕ) (s : Step ℕ ℕ) → m ≡ n → n' + 1 ≡ n + bit (not (is_finished s)) → unfinished_after s m ≡ n'
-unfinished_by m n n' (Resting r) e c = omega arith
-unfinished_by m n n' (UnderWay p) e c = omega arith
-unfinished_by m n n' Finished e c = omega arith
+unfinished_by m n n' s e c = grind (arith, common_steps)
 
 found_none : (n : ℕ) (o : Option ℕ) (xs : List (Listing ℕ)) → find_listing n xs ≡ None → find_listing n xs ≡ Some o → ⊥
 found_none n o xs a b = cc

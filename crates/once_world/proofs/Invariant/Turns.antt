@@ -27,15 +27,15 @@ decide None n = inr (none_not_some n)
 decide (Some m) n = ⊎_elim (λ e. inl (ap (λ (v : ℕ). Some v) e)) (λ d. inr (λ e. d (same_some m n e))) (cases_eq m n)
 
 -- a step that leaves the list alone, and the ticket too unless the value is set
-pub lists_stay : (t : ℕ) (k k' : Option ℕ) (c c' : SharedState) (h' : List Entry) → c'.listings ≡ c.listings
+pub lists_stay : {t : ℕ} {k k' : Option ℕ} {c c' : SharedState} {h' : List Entry} → c'.listings ≡ c.listings
     → (c.ready ≡ true → c'.ready ≡ true) → (k' ≡ k) ⊎ ((k' ≡ None) × (c'.ready ≡ true)) → ListMoves t k k' c c' h'
-lists_stay t k k' c c' h' same up (inl e) = record {
+lists_stay {k = k} same up (inl e) = record {
   up = up;
   lists = λ u n o d x r f. inl (rw same f);
   fresh = λ n q. inl (sym e ∙ q);
   owner = λ r n o f. ⊎_elim (λ q. inl (e ∙ q)) (λ q. inr (q, (o, rw same at f))) (decide k n);
 }
-lists_stay t k k' c c' h' same up (inr e) = record {
+lists_stay {k = k} same up (inr e) = record {
   up = up;
   lists = λ u n o d x r f. inl (rw same f);
   fresh = λ n q. absurd (none_not_some n (sym e.0 ∙ q));

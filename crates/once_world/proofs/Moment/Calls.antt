@@ -131,13 +131,13 @@ module _ (limit n put : ℕ) (slot : Bool) (pages : List Page) (log : List Entry
         IsBook limit n put slot (slice_set pages (suc (suc t)) (At (record x { step = next.step; kept = kept_after a x.kept })))
         (log ++ told t (kept_after a x.kept) next (Ran t a ∷ []))
     init_ran by a unnamed at =
-        stepped limit n put slot pages log t x some book pen n put pages a false (AtRun by) (run_shared book.0.shared) (kept_after a x.kept) (Ran t a ∷ []) (after_run (polled_of a) by)
+        stepped t some book pen n put pages a false (AtRun by) (run_shared book.0.shared) (kept_after a x.kept) (Ran t a ∷ []) (after_run (polled_of a) by)
         unnamed at refl book.1.within book.1.word_is book.1.put_is book.1.door_is book.1.queue_is (λ u. refl)
 
     -- AtPut: the value is put, and the slot is written, which was not
     pub value_put : (by : Option ℕ) → x.step ≡ UnderWay (AtPut by) → (slot ≡ false) × Stepped limit n put true pages log t x [] (next_at (release_place by EndValue))
     value_put by at = (
       slot_free limit m.w t x by slot m.fits m.is.slot_is m.found at,
-      stepped_alone limit n put slot pages log t x some book pen n false (AtPut by) (record book.0.shared { value = put_value x.kept book.0.shared.value }) [] (next_at (release_place by EndValue))
+      stepped_alone t some book pen n false (AtPut by) (record book.0.shared { value = put_value x.kept book.0.shared.value }) [] (next_at (release_place by EndValue))
           at refl book.1.within book.1.word_is book.1.put_is book.1.door_is book.1.queue_is,
     )

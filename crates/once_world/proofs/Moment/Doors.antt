@@ -10,7 +10,8 @@ use Rattle.once_world.specs.Cell.{cell}
 use Rattle.once_world.specs.Book.{At, Door, IsBook, Page, Queue}
 use Rattle.once_world.specs.Machine.{AtCountIn, AtDoorAgain, AtDoorGet, AtDoorPut, AtDoorTake, AtRelease, EndMemory, Ending, Place, SharedState, Task, UnderWay}
 use Rattle.once_world.specs.Machine.{outcome_of, place_step, put_shared, take_shared, word_of}
-use Rattle.once_world.proofs.Steps.{again_step, put_step}
+use Rattle.once_core.specs.Table.{after_door_again}
+use Rattle.once_world.proofs.Steps.{put_step}
 use Rattle.once_world.proofs.History.Cells.{holder_unset, none_some, set_free}
 use Rattle.once_world.proofs.Invariant.Kept.{releasing_holds}
 use Rattle.once_world.proofs.Place.FitsAfter.{headless}
@@ -54,7 +55,7 @@ module _ (limit n put : ℕ) (slot : Bool) (pages : List Page) (log : List Entry
   take_none e at z =
       let r = taken_ready e at in
       let d : c.door ≡ None = m.unowned.queue.unput (none_put c.queues (sym z ∙ book.1.put_is)) in
-      stepped_alone limit n put slot pages log t x some book pen n false (AtDoorTake e) (take_shared c) [] (next_end e) at refl book.1.within book.1.word_is book.1.put_is
+      stepped_alone t some book pen n false (AtDoorTake e) (take_shared c) [] (next_end e) at refl book.1.within book.1.word_is book.1.put_is
       (book.1.door_is ∙ ap (λ q. Some (Door c.queues q)) d)
       (book.1.queue_is ∙ ap (λ h. Some (Queue h c.listings)) (set_headless r) ∙ ap (λ ys. Some (Queue false ys)) (m.unowned.queue.set_empty r))
 
@@ -65,7 +66,7 @@ module _ (limit n put : ℕ) (slot : Bool) (pages : List Page) (log : List Entry
 
     -- AtDoorGet: what stands at the door is read
     pub door_get : x.step ≡ UnderWay AtDoorGet → Stepped limit n put slot pages log t x [] (after_door_get door)
-    door_get at = stepped_alone limit n put slot pages log t x some book pen n false AtDoorGet c [] (after_door_get door) at (ap (λ d. outcome_of c t x.kept [] (after_door_get d)) own_door.1)
+    door_get at = stepped_alone t some book pen n false AtDoorGet c [] (after_door_get door) at (ap (λ d. outcome_of c t x.kept [] (after_door_get d)) own_door.1)
         book.1.within book.1.word_is book.1.put_is book.1.door_is book.1.queue_is
 
     -- AtDoorAgain: the queue that a holder finds there is the first
@@ -76,18 +77,18 @@ module _ (limit n put : ℕ) (slot : Bool) (pages : List Page) (log : List Entry
         let r : c.ready ≡ false = m.fits.shared.ready_is ∙ holder_unset t (cell Once m.w.history) (releasing_holds Once t c m.w.history e a.0) in
         let d : c.door ≡ Some 1 = a.2.1 ∙ ap (λ (q : ℕ). Some q) (door_first c a.2.0 m.unowned.queue r a.2.1) in (
           sym own_door.1 ∙ d,
-          stepped_alone limit n put slot pages log t x some book pen n false (AtDoorAgain e) c [] (next_at (AtRelease 1 e)) at (ap (λ q. again_step q c t x.kept e) d)
+          stepped_alone t some book pen n false (AtDoorAgain e) c [] (next_at (AtRelease 1 e)) at (ap (λ q. outcome_of c t x.kept [] (after_door_again q e)) d)
               book.1.within book.1.word_is book.1.put_is book.1.door_is book.1.queue_is,
         )
 
     -- AtDoorPut where another put a queue first
     pub put_found : (q : ℕ) → x.step ≡ UnderWay AtDoorPut → door ≡ Some q → Stepped limit n put slot pages log t x [] (next_at (AtCountIn q))
-    put_found q at e = stepped_alone limit n put slot pages log t x some book pen n true AtDoorPut c [] (next_at (AtCountIn q)) at (ap (λ d. put_step true d c t x.kept) (own_door.1 ∙ e))
+    put_found q at e = stepped_alone t some book pen n true AtDoorPut c [] (next_at (AtCountIn q)) at (ap (λ d. put_step true d c t x.kept) (own_door.1 ∙ e))
         book.1.within book.1.word_is book.1.put_is book.1.door_is book.1.queue_is
 
     -- where memory is refused
     pub put_refused : x.step ≡ UnderWay AtDoorPut → Stepped limit n put slot pages log t x [] (closing_end EndMemory)
-    put_refused at = stepped_alone limit n put slot pages log t x some book pen n false AtDoorPut c [] (closing_end EndMemory) at
+    put_refused at = stepped_alone t some book pen n false AtDoorPut c [] (closing_end EndMemory) at
         refl book.1.within book.1.word_is book.1.put_is book.1.door_is book.1.queue_is
 
     -- a step by which the door's page changes
@@ -96,7 +97,7 @@ module _ (limit n put : ℕ) (slot : Bool) (pages : List Page) (log : List Entry
         → flags_of n ≡ word_of c' → put' ≡ bit (nat_lt 0 c'.queues) → c'.queues ≡ made' → c'.door ≡ door' → c'.head ≡ c.head → c'.listings ≡ c.listings
         → Stepped limit n put' (is_put_at p || slot) (slice_set pages 0 (Door made' door')) log t x [] next
     door_set put' made' door' p g c' next at is word pu q d b l =
-        stepped limit n put slot pages log t x some book pen n put' (slice_set pages 0 (Door made' door')) RanPending g p c' x.kept [] next tt at is book.1.within word pu
+        stepped t some book pen n put' (slice_set pages 0 (Door made' door')) RanPending g p c' x.kept [] next tt at is book.1.within word pu
         (set_here pages 0 (Door made door) (Door made' door') there ∙ ap (λ k. Some (Door k door')) (sym q) ∙ ap (λ o. Some (Door c'.queues o)) (sym d))
         (set_other pages 0 1 (Door made' door') zero_one ∙ book.1.queue_is ∙ ap (λ h. Some (Queue h c.listings)) (sym b) ∙ ap (λ ys. Some (Queue c'.head ys)) (sym l))
         (λ u. set_other pages 0 (suc (suc u)) (Door made' door') (zero_task u))

@@ -51,7 +51,7 @@ module _ (limit n put : ℕ) (slot : Bool) (pages : List Page) (log : List Entry
       → word < 2 ^ 64 → flags_of word ≡ word_of c' → c'.queues ≡ c.queues → c'.door ≡ c.door → c'.head ≡ h → c'.listings ≡ ys
       → Stepped limit word put (is_put_at p || slot) (slice_set pages 1 (Queue h ys)) log t x did next
   queue_set word p g c' did next h ys at is within word_is q d b l =
-      stepped limit n put slot pages log t x some book pen word put (slice_set pages 1 (Queue h ys)) RanPending g p c' x.kept did next tt at is within word_is
+      stepped t some book pen word put (slice_set pages 1 (Queue h ys)) RanPending g p c' x.kept did next tt at is within word_is
       (rw q book.1.put_is)
       (set_other pages 1 0 (Queue h ys) (λ e. zero_one (sym e)) ∙ book.1.door_is ∙ ap (λ k. Some (Door k c.door)) (sym q) ∙ ap (λ o. Some (Door c'.queues o)) (sym d))
       (set_here pages 1 (Queue head xs) (Queue h ys) queue ∙ ap (λ v. Some (Queue v ys)) (sym b) ∙ ap (λ zs. Some (Queue c'.head zs)) (sym l))

@@ -13,7 +13,7 @@ use Rattle.once_world.specs.Book.{At, Door, IsBook, Page, Queue}
 use Rattle.once_world.specs.Machine.{AtAddOne, AtCountIn, AtCountOut, Place, SharedState, StepInput, Task, UnderWay, answer, fast_shared, hands}
 use Rattle.once_world.specs.Machine.{keeps, left_by, outcome_of, place_step, quick_shared, records, word_of}
 use Rattle.once_world.specs.Words.{IsFound, IsWordCall, found, word_after}
-use Rattle.once_world.proofs.Steps.{in_step}
+use Rattle.once_world.specs.Machine.{in_shared}
 use Rattle.once_world.proofs.Invariant.Moves.{in_count}
 use Rattle.once_world.proofs.Moment.Numbers.{fast_within, in_within, in_wraps, out_wraps, quick_word, word_fast, word_in, word_out, word_quick, zero_word}
 use Rattle.once_world.proofs.Moment.Step.{Moment, Stepped, moment, stands, stepped_alone}
@@ -145,7 +145,7 @@ module _ (limit n put : ℕ) (slot : Bool) (pages : List Page) (log : List Entry
       (sym (found_is i c x.kept n book.1.within book.1.word_is call w l))
       ∙ (λ j. outcome_of (left_by e x.kept c) t (q.kept j) (records e RanPending t x.kept (q.nobody j)) (after (Some x.waker) p e)) in
       subst (λ b. Stepped limit (word_after call n) put (b || slot) pages log t x (records e RanPending t x.kept []) (after (Some x.waker) p e)) (unput p w)
-      (stepped_alone limit n put slot pages log t x some book pen (word_after call n) true p (left_by e x.kept c) (records e RanPending t x.kept []) (after (Some x.waker) p e) at is
+      (stepped_alone t some book pen (word_after call n) true p (left_by e x.kept c) (records e RanPending t x.kept []) (after (Some x.waker) p e) at is
       (within_left i c x.kept n book.1.within book.1.word_is call w)
       (word_left i c x.kept n book.1.within book.1.word_is call w l)
       (book.1.put_is ∙ ap (λ k. bit (nat_lt 0 k)) q.queues)
@@ -158,8 +158,9 @@ module _ (limit n put : ℕ) (slot : Bool) (pages : List Page) (log : List Entry
   count_in q at within l =
       let e = count_is in
       let below : nat_lt c.count limit ≡ true = grind (arith, nat_tests) in
-      stepped_alone limit n put slot pages log t x some book pen (n + 1) false (AtCountIn q) (record c { count = suc c.count }) [] (after_count_in true (flags_of n).ready q) at
-      (ap (λ b. in_step b c.ready c t x.kept q) below ∙ ap (λ b. outcome_of (record c { count = suc c.count }) t x.kept [] (after_count_in true b q)) (sym ready_is))
+      stepped_alone t some book pen (n + 1) false (AtCountIn q) (record c { count = suc c.count }) [] (after_count_in true (flags_of n).ready q) at
+      (ap (λ b. outcome_of (in_shared b c) t x.kept [] (after_count_in b c.ready q)) below
+      ∙ ap (λ b. outcome_of (record c { count = suc c.count }) t x.kept [] (after_count_in true b q)) (sym ready_is))
       (in_within n book.1.within (omega arith)) (word_in n (omega arith) ∙ ap (λ (f : Flags). record f { count = suc f.count }) book.1.word_is)
       book.1.put_is book.1.door_is book.1.queue_is
 
@@ -168,6 +169,6 @@ module _ (limit n put : ℕ) (slot : Bool) (pages : List Page) (log : List Entry
   count_full q at l =
       let e = count_is in
       let above : nat_lt c.count limit ≡ false = grind (arith, nat_tests) in
-      stepped_alone limit n put slot pages log t x some book pen n false (AtCountIn q) c [] (after_count_in false (flags_of n).ready q) at
-      (ap (λ b. in_step b c.ready c t x.kept q) above ∙ ap (λ b. outcome_of c t x.kept [] (after_count_in false b q)) (sym ready_is))
+      stepped_alone t some book pen n false (AtCountIn q) c [] (after_count_in false (flags_of n).ready q) at
+      (ap (λ b. outcome_of (in_shared b c) t x.kept [] (after_count_in b c.ready q)) above ∙ ap (λ b. outcome_of c t x.kept [] (after_count_in false b q)) (sym ready_is))
       book.1.within book.1.word_is book.1.put_is book.1.door_is book.1.queue_is

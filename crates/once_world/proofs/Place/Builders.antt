@@ -4,13 +4,13 @@ use Rattle.std.proofs.lemmas.Bool.Decides.{nat_tests}
 use Rattle.std.proofs.lemmas.Grind.{common_steps}
 use Rattle.std.proofs.lemmas.Bool.{false≢true, ne_eqb, eqb-true}
 use Rattle.once_queue.specs.Numbers.{bit}
-use Rattle.once_world.specs.Record.{Answer, Claim, DropEnd, End, Entry, Error, Full, Kind, Memory, Pending, RanError, RanValue, Reply, Value, handed_by, is_of, is_own, is_replacing, made_in}
+use Rattle.once_world.specs.Record.{Answer, Claim, End, Entry, Kind, Pending, RanError, RanValue, Value, handed_by, is_of, is_own, is_replacing, made_in}
 use Rattle.once_world.specs.Cell.{Cell, Empty, Held, SetTo, answers_after, answers_left, cell, cell_after}
 use Rattle.once_world.specs.Tasks.{Gone, LastCall, Polling, Status, Waiting, last_call, last_call_after, status, status_after}
 use Rattle.once_queue.specs.Listings.{find_listing}
 use Rattle.once_world.specs.Wakers.{opens}
 use Rattle.once_world.specs.Run.{IsLegal, IsRun, MayEnd}
-use Rattle.once_world.specs.Machine.{AtRun, EndDropped, EndError, EndFull, EndMemory, EndPending, EndValue, Ending, SharedState, Outcome, Place, UnderWay, end_entry, error_in}
+use Rattle.once_world.specs.Machine.{AtRun, EndDropped, EndError, EndMemory, EndPending, EndValue, Ending, SharedState, Outcome, Place, UnderWay, end_entry, error_in}
 use Rattle.once_queue.proofs.Listing.Members.{eqb_self}
 use Rattle.once_world.proofs.History.Others.{holds, keeps_all, legal_keeps}
 use Rattle.once_world.proofs.History.Cells.{held_not_empty}
@@ -33,10 +33,9 @@ abbrev pub Goes : Kind → ℕ → ℕ → ℕ → Place ℕ ℕ → SharedState
 Goes K limit t w p c h o = Moves K limit t (UnderWay p) (record { waker = w; kept = o.kept; step = o.step }) c o.shared h (o.entries ++ h)
 
 -- what a step that leaves flags, door and value alone leaves for the others
-pub same_shared : (K : Kind) (limit : ℕ) (c c' : SharedState) (u : ℕ) (h : List Entry) (b : Bool)
-    → c'.ready ≡ c.ready → c'.door ≡ c.door → c'.quick ≡ c.quick → c'.head ≡ c.head → c'.value ≡ c.value
+pub same_shared : {K : Kind} {limit : ℕ} {c c' : SharedState} {u : ℕ} {h : List Entry} {b : Bool} → c'.ready ≡ c.ready → c'.door ≡ c.door → c'.quick ≡ c.quick → c'.head ≡ c.head → c'.value ≡ c.value
     → (c.count ≤ limit → c'.count ≤ limit) → SharedKeeps K limit c c' u h b
-same_shared K limit c c' u h b r d q e v n = record {
+same_shared r d q e v n = record {
   ready = λ k. r ∙ k;
   door = λ j k. inl (d ∙ k);
   flags = inl (q, e, v);
@@ -44,10 +43,9 @@ same_shared K limit c c' u h b r d q e v n = record {
 }
 
 -- what a step leaves where no other task holds
-pub free_shared : (K : Kind) (limit : ℕ) (c c' : SharedState) (u : ℕ) (h : List Entry) (b : Bool)
-    → (c.ready ≡ true → c'.ready ≡ true) → c'.door ≡ c.door → holds u (cell K h) ≡ false
+pub free_shared : {K : Kind} {limit : ℕ} {c c' : SharedState} {u : ℕ} {h : List Entry} {b : Bool} → (c.ready ≡ true → c'.ready ≡ true) → c'.door ≡ c.door → holds u (cell K h) ≡ false
     → SharedKeeps K limit c c' u h b
-free_shared K limit c c' u h b r d n = record {
+free_shared r d n = record {
   ready = r;
   door = λ j k. inl (d ∙ k);
   flags = inr n;
@@ -67,55 +65,29 @@ pub record IsLast (t : ℕ) (e : Entry) : Type 0 where
   pub call_is : (c : Cell) (s : Status) (k : LastCall) → last_call_after e c s k ≡ k
   pub made : (h : List Entry) → made_in (e ∷ h) ≡ made_in h
 
--- an end that is not Pending
-ended_last : (t : ℕ) (r : Reply) → ((c : Cell) (s : Status) → status_after (End t r) c s ≡ Gone)
-    → ((K : Kind) (w : ℕ) (h : List Entry) → opens K w (End t r) h ≡ false)
-    → ((c : Cell) (s : Status) (k : LastCall) → last_call_after (End t r) c s k ≡ k) → IsLast t (End t r)
-ended_last t r gone shut call = record {
-  cell_is = λ c. refl;
-  gone = gone;
-  hands = refl;
-  owns = refl;
-  replaces_not = refl;
-  left_is = λ l. refl;
-  shut = shut;
-  of = λ u. refl;
-  call_is = call;
-  made = λ h. refl;
-}
-
--- the end of a drop
-dropped_last : (t : ℕ) → IsLast t (DropEnd t)
-dropped_last t = record {
-  cell_is = λ c. refl;
-  gone = λ c s. refl;
-  hands = refl;
-  owns = refl;
-  replaces_not = refl;
-  left_is = λ l. refl;
-  shut = λ K w h. refl;
-  of = λ u. refl;
-  call_is = λ c s k. refl;
-  made = λ h. refl;
-}
-
 -- all endings but Pending
 is_last : (t v : ℕ) (k : Answer) (e : Ending) → e ≢ EndPending → IsLast t (end_entry e t v k)
-is_last t v k EndValue n = ended_last t (Value v) (λ c s. refl) (λ K w h. refl) (λ c s k. refl)
-is_last t v k EndError n = ended_last t (Error (error_in k)) (λ c s. refl) (λ K w h. refl) (λ c s k. refl)
-is_last t v k EndMemory n = ended_last t Memory (λ c s. refl) (λ K w h. refl) (λ c s k. refl)
-is_last t v k EndFull n = ended_last t Full (λ c s. refl) (λ K w h. refl) (λ c s k. refl)
-is_last t v k EndDropped n = dropped_last t
-is_last t v k EndPending n = absurd (n refl)
+is_last t v k e n = record {
+  cell_is = λ c. grind (arith, nat_tests, common_steps, n);
+  gone = λ c s. grind (arith, nat_tests, common_steps, n);
+  hands = grind (arith, nat_tests, common_steps, n);
+  owns = grind (arith, nat_tests, common_steps, n);
+  replaces_not = grind (arith, nat_tests, common_steps, n);
+  left_is = λ l. grind (arith, nat_tests, common_steps, n);
+  shut = λ K w h. grind (arith, nat_tests, common_steps, n);
+  of = λ u. grind (arith, nat_tests, common_steps, n);
+  call_is = λ c s l. grind (arith, nat_tests, common_steps, n);
+  made = λ h. grind (arith, nat_tests, common_steps, n);
+}
 
 -- a call that owes an ending does not end Pending
 pub owes_lasts : (K : Kind) (t : ℕ) (h : List Entry) (e : Ending) → Owes K t h e → e ≢ EndPending
 owes_lasts K t h e o n = grind (arith, nat_tests, common_steps)
 
 -- what is shared fits the cell alone
-pub shared_at : (K : Kind) (limit : ℕ) (c : SharedState) (h h' : List Entry) → cell K h' ≡ cell K h
+pub shared_at : {K : Kind} {limit : ℕ} {c : SharedState} {h h' : List Entry} → cell K h' ≡ cell K h
     → answers_left K h' ≡ answers_left K h → SharedFits K limit c h → SharedFits K limit c h'
-shared_at K limit c h h' e s f = record {
+shared_at e s f = record {
   answers_is = f.answers_is ∙ sym s;
   ready_is = rw e f.ready_is;
   held_is = rw e f.held_is;
@@ -207,9 +179,9 @@ module _ {K : Kind} {limit t w : ℕ} {k : Answer} {c : SharedState} {h : List E
       → (ticket_at p' ≡ ticket_at p) ⊎ ((ticket_at p' ≡ None) × (c.ready ≡ true))
       → Goes K limit t w p c h (goes_to c k p')
   stays p' own same take enters tickets =
-      moves_on c p' before.shared before.queue own (λ u n b i. same_shared K limit c c u h b refl refl refl refl refl (λ x. x))
+      moves_on c p' before.shared before.queue own (λ u n b i. same_shared refl refl refl refl refl (λ x. x))
       (ap (λ b. c.count + bit b) same) (λ e. absurd (false≢true (sym take ∙ e))) enters
-      (lists_stay t (ticket_at p) (ticket_at p') c c h refl (λ r. r) tickets)
+      (lists_stay refl (λ r. r) tickets)
 
   -- an entry that ends the call for good
   pub ends_by : (c' : SharedState) (e : Ending) → e ≢ EndPending → IsLegal K limit (end_entry e t c'.value k) h
@@ -221,8 +193,8 @@ module _ {K : Kind} {limit t w : ℕ} {k : Answer} {c : SharedState} {h : List E
       let l : IsLast t e = is_last t c'.value k x good in
       record {
         run = (legal, before.run);
-        shared = shared_at K limit c' h (e ∷ h) (l.cell_is (cell K h)) (l.left_is (answers_left K h)) shared';
-        queue = quiet K c'.listings e h queue' l.hands l.replaces_not (λ w. l.shut K w h)
+        shared = shared_at (l.cell_is (cell K h)) (l.left_is (answers_left K h)) shared';
+        queue = quiet queue' l.hands l.replaces_not (λ w. l.shut K w h)
             (λ u is. not_waiting (status_after e (cell K h) (status K u h)) (l.gone (cell K h) (status K u h)))
             (λ y. sym (l.cell_is (cell K h)) ∙ y);
         own = record { status_is = rw (l.of t, eqb_self t) (l.gone (cell K h) (status K t h)); holds_is = ap (holds t) (l.cell_is (cell K h)) ∙ free };
@@ -249,9 +221,9 @@ module _ {K : Kind} {limit t w : ℕ} {k : Answer} {c : SharedState} {h : List E
   -- the last step of an uncounted call, which leaves all that is shared alone
   pub ends_plain : (e : Ending) → Owes K t h e → is_counted_at p ≡ false → ticket_at p ≡ None → Goes K limit t w p c h (ends c t k e)
   ends_plain e owes n none =
-      ends_so c e owes before.shared before.queue (λ u d b i. same_shared K limit c c u h b refl refl refl refl refl (λ x. x))
+      ends_so c e owes before.shared before.queue (λ u d b i. same_shared refl refl refl refl refl (λ x. x))
       (rw n (omega arith))
-      (lists_stay t (ticket_at p) None c c (end_entry e t c.value k ∷ h) refl (λ r. r) (inl (sym none)))
+      (lists_stay refl (λ r. r) (inl (sym none)))
 
   -- a poll that claims
   pub claims_so : (c' : SharedState) (by : Option ℕ) → cell K h ≡ Empty → Entered K t h
@@ -263,7 +235,7 @@ module _ {K : Kind} {limit t w : ℕ} {k : Answer} {c : SharedState} {h : List E
       record {
         run = (legal, before.run);
         shared = shared';
-        queue = entry_fits K c.listings c'.listings (Claim t) h before.queue refl (λ n. let a = less n in omega arith) (λ e. absurd (held_not_empty t e));
+        queue = entry_fits before.queue refl (λ n. let a = less n in omega arith) (λ e. absurd (held_not_empty t e));
         own = (
           record {
             status_is = rw (eqb_self t) entered.poll.status_is;
@@ -278,7 +250,7 @@ module _ {K : Kind} {limit t w : ℕ} {k : Answer} {c : SharedState} {h : List E
         waker_is = rw (eqb_self t) before.waker_is;
         kept_is = rw (eqb_self t) before.kept_is;
         others = λ u n. legal_keeps K u (Claim t) limit h (of_other t u n) legal refl;
-        keeps = λ u n b i. free_shared K limit c c' u h b (λ e. r ∙ e) d (ap (holds u) empty);
+        keeps = λ u n b i. free_shared (λ e. r ∙ e) d (ap (holds u) empty);
         count = rw (n, same) refl;
         made = refl;
         takes = λ e. absurd (false≢true e);
@@ -297,8 +269,8 @@ module _ {K : Kind} {limit t w : ℕ} {k : Answer} {c : SharedState} {h : List E
       let legal : IsLegal K limit (End t Pending) h = (entered.poll.status_is, rw entered.poll.ran_is (u, apart, held), inl entered.poll.unpassed) in
       record {
         run = (legal, before.run);
-        shared = shared_at K limit c' h (End t Pending ∷ h) refl refl shared';
-        queue = entry_fits K c.listings c'.listings (End t Pending) h before.queue refl
+        shared = shared_at refl refl shared';
+        queue = entry_fits before.queue refl
             (λ v. let a = less v in rw (opens_now K t u w v h held apart before.waker_is) (omega arith))
             (λ e. absurd (held_not_empty u (sym held ∙ e)));
         own = (

@@ -16,10 +16,10 @@ use Rattle.once_world.proofs.Invariant.Fits.{SharedFits}
 use Rattle.once_world.proofs.Invariant.Kept.{SharedKeeps}
 
 -- after a claim
-pub claim_fits : (K : Kind) (limit t : ℕ) (c c' : SharedState) (h : List Entry) → SharedFits K limit c h
+pub claim_fits : {K : Kind} {limit t : ℕ} {c c' : SharedState} {h : List Entry} → SharedFits K limit c h
     → c'.ready ≡ false → (c'.quick || c'.head) ≡ true → c'.count ≡ c.count → c'.door ≡ c.door → c.ready ≡ false
     → (c'.head ≡ true → IsSomeDoor c') → c'.answers ≡ c.answers → SharedFits K limit c' (Claim t ∷ h)
-claim_fits K limit t c c' h f r b n d z hd w = record {
+claim_fits {t = t} f r b n d z hd w = record {
   answers_is = w ∙ f.answers_is;
   ready_is = r;
   held_is = sym b;
@@ -30,9 +30,9 @@ claim_fits K limit t c c' h f r b n d z hd w = record {
 }
 
 -- with another count
-pub count_fits : (K : Kind) (limit : ℕ) (c : SharedState) (n : ℕ) (h : List Entry) → SharedFits K limit c h
+pub count_fits : {K : Kind} {limit : ℕ} {c : SharedState} {n : ℕ} {h : List Entry} → SharedFits K limit c h
     → n ≤ suc limit → (c.ready ≡ false → 0 < n → IsSomeDoor c) → SharedFits K limit (record c { count = n }) h
-count_fits K limit c n h f le st = record {
+count_fits f le st = record {
   ready_is = f.ready_is;
   held_is = f.held_is;
   value_is = f.value_is;
@@ -110,11 +110,11 @@ value_fits K limit t c h v f held = record {
 }
 
 -- after a release by t: the flags are cleared, and ready stands for a value
-pub release_fits : (K : Kind) (limit t : ℕ) (c c' : SharedState) (h h' : List Entry) → SharedFits K limit c h
+pub release_fits : {K : Kind} {limit : ℕ} (t : ℕ) {c c' : SharedState} {h h' : List Entry} → SharedFits K limit c h
     → holds t (cell K h) ≡ true → c'.ready ≡ is_set (cell K h') → is_held (cell K h') ≡ false → c'.quick ≡ false
     → c'.head ≡ false
     → ((v : ℕ) → cell K h' ≡ SetTo v → c'.value ≡ v) → c'.count ≡ c.count → (0 < c.count → IsSomeDoor c') → c'.answers ≡ c.answers → answers_left K h' ≡ answers_left K h → SharedFits K limit c' h'
-release_fits K limit t c c' h h' f hold r n q e v same d w z = record {
+release_fits t f hold r n q e v same d w z = record {
   answers_is = w ∙ f.answers_is ∙ sym z;
   ready_is = r;
   held_is = n ∙ sym (rw (q, e) refl);

@@ -7,14 +7,16 @@ use Rattle.once_world.specs.Record.{Answer, End, Entry, Kind, Once, OnceWith, Pe
 use Rattle.once_world.specs.Cell.{Cell, Held, IsNext, answers_left, cell, next_answer}
 use Rattle.once_world.specs.Tasks.{Holding, Polling, Status, Waiting, last_call, status, status_after}
 use Rattle.once_world.specs.Wakers.{opens}
-use Rattle.once_world.specs.Run.{IsLegal, IsRun}
+use Rattle.once_world.specs.Run.{IsLegal}
 use Rattle.once_world.specs.Machine.{AtAddOne, AtDoorAgain, AtPut, AtRelease, AtRun, EndError, EndValue, Ending, SharedState, Place, UnderWay}
 use Rattle.once_world.specs.Machine.{release_place, init_answer, put_value, run_shared}
-use Rattle.once_world.proofs.Steps.{again_step, run_step}
+use Rattle.once_core.specs.Table.{after_door_again}
+use Rattle.once_world.specs.Machine.{outcome_of}
+use Rattle.once_world.proofs.Steps.{run_step}
 use Rattle.once_queue.proofs.Listing.Members.{eqb_self}
 use Rattle.once_world.proofs.History.Others.{holds, keeps_both, legal_keeps}
 use Rattle.once_world.proofs.History.Cells.{held_by, held_not_empty, holder_unset, no_other, none_some}
-use Rattle.once_world.proofs.History.Waiters.{QueueFits, quiet}
+use Rattle.once_world.proofs.History.Waiters.{quiet}
 use Rattle.once_world.proofs.Invariant.Facts.{AtPlace, HoldsBy, InPoll, InStatus, Releasing, is_counted_at, is_inside_at, is_take_at, kept_of, ticket_at}
 use Rattle.once_world.proofs.Invariant.Turns.{lists_stay}
 use Rattle.once_world.proofs.Invariant.Fits.{SharedFits}
@@ -32,9 +34,9 @@ releasing_same : (K : Kind) (t : ℕ) (h : List Entry) (c c' : SharedState) (e :
 releasing_same K t h c c' e s r = grind (arith, nat_tests, common_steps)
 
 -- what the step of a holder leaves for the others
-pub holder_shared : (K : Kind) (limit t : ℕ) (c c' : SharedState) (h : List Entry) → SharedFits K limit c h
+pub holder_shared : {K : Kind} {limit t : ℕ} {c c' : SharedState} {h : List Entry} → SharedFits K limit c h
     → holds t (cell K h) ≡ true → c'.door ≡ c.door → (u : ℕ) → t ≢ u → (b : Bool) → SharedKeeps K limit c c' u h b
-holder_shared K limit t c c' h f hold d u n b = free_shared K limit c c' u h b (λ e. absurd (false≢true (sym (f.ready_is ∙ holder_unset t (cell K h) hold) ∙ e))) d (no_other t u (cell K h) hold n)
+holder_shared {K = K} {t = t} {h = h} f hold d u n b = free_shared (λ e. absurd (false≢true (sym (f.ready_is ∙ holder_unset t (cell K h) hold) ∙ e))) d (no_other t u (cell K h) hold n)
 
 -- the pending end of a holder opens no waker
 opens_none : (K : Kind) (t w : ℕ) (h : List Entry) → cell K h ≡ Held t → opens K w (End t Pending) h ≡ false
@@ -94,17 +96,17 @@ module _ {K : Kind} {limit t w : ℕ} {k : Answer} {c : SharedState} {h : List E
       record {
         run = (legal, before.run);
         shared = ran_fits K limit t c h a before.shared;
-        queue = quiet K c.listings (Ran t a) h before.queue refl refl (λ _. refl) (λ u is. polls_not_waits K t u h is i.status_is) (λ x. x);
+        queue = quiet before.queue refl refl (λ _. refl) (λ u is. polls_not_waits K t u h is i.status_is) (λ x. x);
         own = own;
         waker_is = rw (eqb_self t) before.waker_is;
         kept_is = rw (eqb_self t) refl;
         others = λ u n. legal_keeps K u (Ran t a) limit h (of_other t u n) legal refl;
-        keeps = λ u n b j. same_shared K limit c (run_shared c) u h b refl refl refl refl refl (λ x. x);
+        keeps = λ u n b j. same_shared refl refl refl refl refl (λ x. x);
         count = rw n refl;
         made = refl;
         takes = λ e. absurd (false≢true (sym take ∙ e));
         enters = λ e. absurd (false≢true (sym inside ∙ e));
-        listings = lists_stay t None (ticket_at p') c (run_shared c) (Ran t a ∷ h) refl (λ x. x) (inl tickets);
+        listings = lists_stay refl (λ x. x) (inl tickets);
         moments = λ a s. (s, a);
       }
 
@@ -119,8 +121,8 @@ module _ {K : Kind} {limit t w : ℕ} {k : Answer} {c : SharedState} {h : List E
       let legal1 : IsLegal K limit (End t Pending) h1 = (polls, rw (eqb_self t) held, inl (rw (eqb_self t) i.unpassed)) in
       record {
         run = (legal1, (legal, before.run));
-        shared = shared_at K limit (run_shared c) h1 (End t Pending ∷ h1) refl refl (ran_fits K limit t c h RanPending before.shared);
-        queue = quiet K c.listings (End t Pending) h1 (quiet K c.listings (Ran t RanPending) h before.queue refl refl (λ _. refl) (λ u is. polls_not_waits K t u h is i.status_is) (λ x. x))
+        shared = shared_at refl refl (ran_fits K limit t c h RanPending before.shared);
+        queue = quiet (quiet before.queue refl refl (λ _. refl) (λ u is. polls_not_waits K t u h is i.status_is) (λ x. x))
             refl refl (λ w. opens_none K t w h1 held) (λ u is. holding_not_waits
             (status_after (End t Pending) (cell K h1) (status K u h1))
             (pending_status_own t (cell K h1) (status K u h1) held)) (λ x. x);
@@ -130,12 +132,12 @@ module _ {K : Kind} {limit t w : ℕ} {k : Answer} {c : SharedState} {h : List E
         others = λ u n. keeps_both K u h h1 (End t Pending ∷ h1)
             (legal_keeps K u (Ran t RanPending) limit h (of_other t u n) legal refl)
             (legal_keeps K u (End t Pending) limit h1 (of_other t u n) legal1 refl);
-        keeps = λ u n b j. same_shared K limit c (run_shared c) u h b refl refl refl refl refl (λ x. x);
+        keeps = λ u n b j. same_shared refl refl refl refl refl (λ x. x);
         count = refl;
         made = refl;
         takes = λ e. absurd (false≢true e);
         enters = λ e. absurd (false≢true e);
-        listings = lists_stay t None None c (run_shared c) (End t Pending ∷ h1) refl (λ x. x) (inl refl);
+        listings = lists_stay refl (λ x. x) (inl refl);
         moments = λ a s. (s, ((λ e. absurd (held_not_empty t (sym held ∙ e))), a));
       }
 
@@ -164,9 +166,9 @@ module _ {K : Kind} {limit t w : ℕ} {k : Answer} {c : SharedState} {h : List E
       → Goes K limit t w (AtPut by) c h (goes_to c' k p')
   put_so by p' c' hold fits same door m own n take inside tickets =
       moves_on before (AtPut by) c' p' fits (rw same before.queue) own
-      (λ u d b i. holder_shared K limit t c c' h before.shared hold door u d b) (rw (n, m) refl)
+      (λ u d b i. holder_shared before.shared hold door u d b) (rw (n, m) refl)
       (λ e. absurd (false≢true (sym take ∙ e))) (λ e. absurd (false≢true (sym inside ∙ e)))
-      (lists_stay t None (ticket_at p') c c' h same (λ r. fits.ready_is ∙ sym before.shared.ready_is ∙ r) (inl tickets))
+      (lists_stay same (λ r. fits.ready_is ∙ sym before.shared.ready_is ∙ r) (inl tickets))
 
   -- what is put is what the init gave
   put_is : (v : ℕ) → (last_call K t h).ran ≡ Some (RanValue v) → put_value k c.value ≡ v
@@ -187,15 +189,15 @@ module _ {K : Kind} {limit t w : ℕ} {k : Answer} {c : SharedState} {h : List E
   pub add_goes : (e : Ending) → AtPlace K limit t c h (AtAddOne e)
       → Goes K limit t w (AtAddOne e) c h (goes_to (record c { count = suc c.count }) k (AtDoorAgain e))
   add_goes e a = moves_on before (AtAddOne e) (record c { count = suc c.count }) (AtDoorAgain e)
-      (count_fits K limit c (suc c.count) h before.shared (let le = a.2 in omega arith) (λ _ _. a.3)) before.queue
+      (count_fits before.shared (let le = a.2 in omega arith) (λ _ _. a.3)) before.queue
       (releasing_same K t h c (record c { count = suc c.count }) e refl a.0, record { quick_is = a.1.quick_is; head_is = a.1.head_is }, a.3)
-      (λ u n b i. holder_shared K limit t c (record c { count = suc c.count }) h before.shared
+      (λ u n b i. holder_shared before.shared
       (releasing_holds K t c h e a.0) refl u n b) (omega arith) (λ e. absurd (false≢true e))
-      (λ e. absurd (false≢true e)) (lists_stay t None None c (record c { count = suc c.count }) h refl (λ x. x)
+      (λ e. absurd (false≢true e)) (lists_stay refl (λ x. x)
       (inl refl))
 
   -- a step that looks at the door again
   pub again_goes : (door : Option ℕ) (e : Ending) → c.door ≡ door → AtPlace K limit t c h (AtDoorAgain e)
-      → Goes K limit t w (AtDoorAgain e) c h (again_step door c t k e)
+      → Goes K limit t w (AtDoorAgain e) c h (outcome_of c t k [] (after_door_again door e))
   again_goes (Some q) e d a = stays before (AtDoorAgain e) (AtRelease q e) (a.0, inl a.1, d) refl refl (λ e. absurd (false≢true e)) (inl refl)
   again_goes None e d a = absurd (none_some a.2.0 (sym d ∙ a.2.1))

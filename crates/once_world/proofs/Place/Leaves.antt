@@ -11,7 +11,7 @@ use Rattle.once_world.specs.Tasks.{Waiting, last_call, status}
 use Rattle.once_queue.specs.declared.waiters.Listing.{Listing}
 use Rattle.once_queue.specs.Word.{is_free, sees_by}
 use Rattle.once_queue.specs.Listings.{call_first, find_listing, first_waker, left_list, next_waker, take_out, was_called}
-use Rattle.once_world.specs.Run.{IsLegal, IsRun, MayPass}
+use Rattle.once_world.specs.Run.{IsLegal, MayPass}
 use Rattle.once_world.specs.Machine.{AtCountOut, AtLeave, Ending, SharedState, UnderWay, is_at_door, pass_entries, is_passing}
 use Rattle.once_world.proofs.Steps.{leave_step}
 use Rattle.once_queue.proofs.Listing.Members.{eqb_self}
@@ -19,9 +19,8 @@ use Rattle.once_world.proofs.History.Others.{legal_keeps}
 use Rattle.once_world.proofs.History.Cells.{empty_cell, is_held}
 use Rattle.once_world.proofs.Listing.Listings.{asks, asks_call, asks_take, find_take_other, none_found}
 use Rattle.once_world.proofs.Listing.CalledFirst.{call_back, call_called, call_none}
-use Rattle.once_world.proofs.History.Waiters.{CalledAt, QueueFits, entry_fits, list_fits, open_by}
-use Rattle.once_world.proofs.Invariant.Facts.{AtPlace, MayLeave, Owes, kept_of}
-use Rattle.once_world.proofs.Invariant.Fits.{SharedFits}
+use Rattle.once_world.proofs.History.Waiters.{CalledAt, entry_fits, list_fits, open_by}
+use Rattle.once_world.proofs.Invariant.Facts.{AtPlace, MayLeave, Owes}
 use Rattle.once_world.proofs.Invariant.Listed.{none_not_some, same_some}
 use Rattle.once_world.proofs.Invariant.Calls.{call_kept}
 use Rattle.once_world.proofs.Invariant.Around.{leaves_acts, no_wait}
@@ -67,7 +66,7 @@ module _ {K : Kind} {limit t w : ℕ} {k : Answer} {c : SharedState} {h : List E
       let c' : SharedState = record c { listings = take_out n c.listings } in
       moves_on before (AtLeave q n e) c' (AtCountOut e) (relisted_fits K limit c (take_out n c.listings) h before.shared)
       (list_fits K c.listings (take_out n c.listings) h before.queue (λ v. asks_take v n c.listings) called) (leaves_owes K t h e a.0)
-      (λ u m b j. same_shared K limit c c' u h b refl refl refl refl refl (λ x. x)) refl (λ e. absurd (false≢true e)) (λ e. absurd (false≢true e)) (without_lists t (Some n) c c' h refl (λ x. x))
+      (λ u m b j. same_shared refl refl refl refl refl (λ x. x)) refl (λ e. absurd (false≢true e)) (λ e. absurd (false≢true e)) (without_lists t (Some n) c c' h refl (λ x. x))
 
   -- who leaves and calls the first
   leaves_on : (q n v : ℕ) (e : Ending) → AtPlace K limit t c h (AtLeave q n e) → cell K h ≡ Empty → first_waker (take_out n c.listings) ≡ Some v
@@ -83,13 +82,13 @@ module _ {K : Kind} {limit t w : ℕ} {k : Answer} {c : SharedState} {h : List E
       let legal : IsLegal K limit (Pass t (v ∷ [])) h = (empty, may.0, may.1, (v, refl, open_by K v (v ∷ []) c.listings h before.queue (λ x. let i = less x in omega arith) (rw (eqb_self v) refl))) in
       record {
         run = (legal, before.run);
-        shared = shared_at K limit c' h (Pass t (v ∷ []) ∷ h) refl refl (relisted_fits K limit c (call_first xs) h before.shared);
-        queue = entry_fits K c.listings (call_first xs) (Pass t (v ∷ [])) h before.queue refl (λ x. let i = less x in omega arith) (λ _ u s. call_called v xs first);
+        shared = shared_at refl refl (relisted_fits K limit c (call_first xs) h before.shared);
+        queue = entry_fits before.queue refl (λ x. let i = less x in omega arith) (λ _ u s. call_called v xs first);
         own = passed_owes K t h (v ∷ []) e a.2 a.0;
         waker_is = rw (eqb_self t) before.waker_is;
         kept_is = rw (eqb_self t) before.kept_is;
         others = λ u d. legal_keeps K u (Pass t (v ∷ [])) limit h (of_other t u d) legal refl;
-        keeps = λ u d b j. same_shared K limit c c' u h b refl refl refl refl refl (λ x. x);
+        keeps = λ u d b j. same_shared refl refl refl refl refl (λ x. x);
         count = refl;
         made = refl;
         takes = λ e. absurd (false≢true e);

@@ -1,18 +1,19 @@
 -- The releases, and the places of a call that ends.
 use Rattle.std.proofs.Common.{◌≡◌, ◌≢◌, ℕ, Bool, true, false, ⊎_elim, inl, inr, List, [], ◌∷◌, Option, Some, None, refl, sym, ap, ◌∙◌, subst, arith}
 use Rattle.std.specs.Option.{option_to_list}
-use Rattle.std.specs.Prelude.{◌-◌}
 use Rattle.std.proofs.lemmas.Bool.{false≢true}
 use Rattle.once_world.specs.Record.{Answer, Entry, Fill, Free, Kind}
 use Rattle.once_world.specs.Cell.{cell}
 use Rattle.once_world.specs.Tasks.{Waiting, last_call, status}
 use Rattle.once_queue.specs.declared.waiters.Listing.{Listing}
 use Rattle.once_queue.specs.Listings.{all_out, call_first, first_waker}
-use Rattle.once_world.specs.Run.{IsLegal, IsRun}
+use Rattle.once_world.specs.Run.{IsLegal}
 use Rattle.once_world.specs.Machine.{AtAddOne, AtCountOut, AtDoorTake, AtFast, AtRelease, EndDropped, EndError, EndValue, Ending, Finished}
 use Rattle.once_world.specs.Machine.{SharedState, UnderWay, out_shared, take_shared, end_entry, release_wakers, is_at_door, is_value, release_list}
 use Rattle.once_world.specs.Machine.{release_entry, release_flags, word_of}
-use Rattle.once_world.proofs.Steps.{fast_step, out_step, release_step}
+use Rattle.once_core.specs.Table.{after_count_out}
+use Rattle.once_world.specs.Machine.{outcome_of}
+use Rattle.once_world.proofs.Steps.{fast_step, release_step}
 use Rattle.once_queue.proofs.Listing.Members.{eqb_self}
 use Rattle.once_world.proofs.History.Others.{keeps_both, legal_keeps}
 use Rattle.once_world.proofs.History.Cells.{empty_not_set, holder_unset, same_value, set_unheld}
@@ -48,13 +49,13 @@ module _ {K : Kind} {limit t w : ℕ} {k : Answer} {c : SharedState} {h : List E
       let P : Entry → Type 0 = λ x. Goes K limit t w (AtFast EndValue) c h (record { shared = c'; step = UnderWay (AtDoorTake EndValue); kept = k; entries = x ∷ [] }) in
       subst P (sym (fills K t h c k [] before.kept_is a.0)) (record {
         run = (legal, before.run);
-        shared = release_fits K limit t c c' h (e ∷ h) before.shared a.0.1.holds_is refl refl refl a.1.head_is (λ x i. a.0.2 ∙ same_value v x i) refl (λ l. absurd (omega arith)) refl refl;
-        queue = quiet K c.listings e h before.queue refl refl (λ _. refl) (λ u is. polls_not_waits K t u h is a.0.1.status_is) (λ x. absurd (empty_not_set v (sym x)));
+        shared = release_fits t before.shared a.0.1.holds_is refl refl refl a.1.head_is (λ x i. a.0.2 ∙ same_value v x i) refl (λ l. absurd (omega arith)) refl refl;
+        queue = quiet before.queue refl refl (λ _. refl) (λ u is. polls_not_waits K t u h is a.0.1.status_is) (λ x. absurd (empty_not_set v (sym x)));
         own = (filled_owes K t h c [] a.0, refl);
         waker_is = rw (eqb_self t) before.waker_is;
         kept_is = rw (eqb_self t) before.kept_is;
         others = λ u n. legal_keeps K u e limit h (of_other t u n) legal refl;
-        keeps = λ u n b i. holder_shared K limit t c c' h before.shared a.0.1.holds_is refl u n b;
+        keeps = λ u n b i. holder_shared before.shared a.0.1.holds_is refl u n b;
         count = refl;
         made = refl;
         takes = λ _. z;
@@ -73,14 +74,15 @@ module _ {K : Kind} {limit t w : ℕ} {k : Answer} {c : SharedState} {h : List E
       let legal : IsLegal K limit (Free t []) h = free_legal K limit t h c [] e nv a.0 (calls_none K h (ar.none_waits z)) in
       let none : (u : ℕ) → status K u h1 ≢ Waiting = λ u s. ar.none_waits z u (waited K (Free t []) h (λ u is. releasing_awake K t u h c e a.0 is) u s) in
       let owes : Owes K t h1 e = freed_owes K t h c [] e nv a.0 in
-      let shared1 : SharedFits K limit c' h1 = release_fits K limit t c c' h h1 before.shared hold
+      let shared1 : SharedFits K limit c' h1 = release_fits t before.shared hold
       (before.shared.ready_is ∙ holder_unset t (cell K h) hold) refl refl a.1.head_is
       (λ x i. absurd (empty_not_set x i)) refl (λ l. absurd (omega arith)) refl refl in
-      let queue1 : QueueFits K c.listings h1 = entry_fits K c.listings c.listings (Free t []) h before.queue refl (λ w. omega arith) (nobody_called K c.listings h1 none) in
-      let before1 : Before K limit t w k c' h1 = record { run = (legal, before.run); shared = shared1; queue = queue1; waker_is = rw (eqb_self t) before.waker_is; kept_is = rw (eqb_self t) before.kept_is } in
+      let queue1 : QueueFits K c.listings h1 = entry_fits before.queue refl (λ w. omega arith) (nobody_called K c.listings h1 none) in
+      let before1 : Before K limit t w k c' h1 =
+      record { run = (legal, before.run); shared = shared1; queue = queue1; waker_is = rw (eqb_self t) before.waker_is; kept_is = rw (eqb_self t) before.kept_is } in
       let m = ends_so before1 (AtFast e) c' e owes shared1 queue1
-      (λ u n b i. same_shared K limit c' c' u h1 b refl refl refl refl refl (λ x. x)) (omega arith)
-      (lists_stay t None None c' c' (end_entry e t c'.value k ∷ h1) refl (λ r. r) (inl refl)) in
+      (λ u n b i. same_shared refl refl refl refl refl (λ x. x)) (omega arith)
+      (lists_stay refl (λ r. r) (inl refl)) in
       let P : Entry → Type 0 = λ x. Goes K limit t w (AtFast e) c h (record { shared = c'; step = Finished; kept = k; entries = end_entry e t c.value k ∷ x ∷ [] }) in
       subst P (sym (frees K t h c k [] e nv before.kept_is a.0)) (record {
         run = m.run;
@@ -90,12 +92,12 @@ module _ {K : Kind} {limit t w : ℕ} {k : Answer} {c : SharedState} {h : List E
         waker_is = m.waker_is;
         kept_is = m.kept_is;
         others = λ u n. keeps_both K u h h1 (end_entry e t c.value k ∷ h1) (legal_keeps K u (Free t []) limit h (of_other t u n) legal refl) (m.others u n);
-        keeps = λ u n b i. holder_shared K limit t c c' h before.shared hold refl u n b;
+        keeps = λ u n b i. holder_shared before.shared hold refl u n b;
         count = refl;
         made = m.made;
         takes = λ e. absurd (false≢true e);
         enters = λ e. absurd (false≢true e);
-        listings = lists_stay t None None c c' (end_entry e t c.value k ∷ h1) refl (λ r. r) (inl refl);
+        listings = lists_stay refl (λ r. r) (inl refl);
         moments = λ b s. (s, ((λ _ u s. absurd (none u s)), b));
       })
 
@@ -126,7 +128,7 @@ module _ {K : Kind} {limit t w : ℕ} {k : Answer} {c : SharedState} {h : List E
         waker_is = rw (l.of t, eqb_self t) (l.waker_is (cell K h) (status K t h) (last_call K t h) ∙ before.waker_is);
         kept_is = rw (l.of t, eqb_self t) (before.kept_is ∙ sym (ap kept_of (l.ran_is (cell K h) (status K t h) (last_call K t h))));
         others = λ u n. legal_keeps K u x limit h (l.of u ∙ of_other t u n) legal l.owns;
-        keeps = λ u n b i. holder_shared K limit t c c' h before.shared (releasing_holds K t c h e a.0) cl.door_is u n b;
+        keeps = λ u n b i. holder_shared before.shared (releasing_holds K t c h e a.0) cl.door_is u n b;
         count = rw cl.count_is refl;
         made = l.made h;
         takes = λ e. absurd (false≢true e);
@@ -144,10 +146,10 @@ module _ {K : Kind} {limit t w : ℕ} {k : Answer} {c : SharedState} {h : List E
       let e : Entry = Fill t v X in
       let unset : c.ready ≡ false = before.shared.ready_is ∙ holder_unset t (cell K h) a.0.1.holds_is in
       release_moves q EndValue e c' X [] a cl (fill_legal K limit t h c X a.0 (hands_out K c.listings h before.queue (due_asks K t None c h unset al))) (filled_owes K t h c X a.0)
-      (release_fits K limit t c c' h (e ∷ h) before.shared a.0.1.holds_is cl.ready_is refl cl.quick_is cl.head_is
+      (release_fits t before.shared a.0.1.holds_is cl.ready_is refl cl.quick_is cl.head_is
       (λ x i. cl.value_is ∙ a.0.2 ∙ same_value v x i) cl.count_is (λ l. (q, cl.door_is ∙ a.2)) cl.answers_is refl)
       (fill_releases t v X) (fills K t h c k X before.kept_is a.0)
-      (entry_fits K c.listings [] e h before.queue refl (λ n. let i = all_times n c.listings [] in omega arith) (λ x. absurd (empty_not_set v (sym x))))
+      (entry_fits before.queue refl (λ n. let i = all_times n c.listings [] in omega arith) (λ x. absurd (empty_not_set v (sym x))))
       (ready_lists t None c c' (e ∷ h) cl.ready_is)
 
   -- who waits was called, or the first is called now
@@ -169,11 +171,11 @@ module _ {K : Kind} {limit t w : ℕ} {k : Answer} {c : SharedState} {h : List E
       release_moves q e (Free t X) c' X (call_first c.listings) a cl
       (free_legal K limit t h c X e nv a.0 (calls_one K c.listings h before.queue (due_asks K t None c h unset al)))
       (freed_owes K t h c X e nv a.0)
-      (release_fits K limit t c c' h (Free t X ∷ h) before.shared (releasing_holds K t c h e a.0)
+      (release_fits t before.shared (releasing_holds K t c h e a.0)
       (cl.ready_is ∙ nv) refl cl.quick_is cl.head_is (λ x i. absurd (empty_not_set x i)) cl.count_is
       (λ l. (q, cl.door_is ∙ a.2)) cl.answers_is refl)
       (free_releases t X) (frees K t h c k X e nv before.kept_is a.0)
-      (entry_fits K c.listings (call_first c.listings) (Free t X) h before.queue refl (λ n. let i = asks_call n c.listings in omega arith) (free_called (first_waker c.listings) e refl unset al a.0))
+      (entry_fits before.queue refl (λ n. let i = asks_call n c.listings in omega arith) (free_called (first_waker c.listings) e refl unset al a.0))
       (record {
         up = λ r. absurd (false≢true (sym unset ∙ r));
         lists = λ u n o d x r f. rw cl.listings_is (call_kept u n o c.listings (Free t X) h (of_other t u d) refl f);
@@ -202,22 +204,22 @@ module _ {K : Kind} {limit t w : ℕ} {k : Answer} {c : SharedState} {h : List E
 
   -- a counting out
   pub out_goes : (x : Bool) (e : Ending) → is_ready_bit (word_of (out_shared c)) ≡ x → Around K t true false c h
-      → AtPlace K limit t c h (AtCountOut e) → Goes K limit t w (AtCountOut e) c h (out_step x (out_shared c) t k e)
+      → AtPlace K limit t c h (AtCountOut e) → Goes K limit t w (AtCountOut e) c h (outcome_of (out_shared c) t k [] (after_count_out x e))
   out_goes true e x ar a =
       let l = ar.own_count refl in let y = exact_out c x in
       moves_on before (AtCountOut e) (out_shared c) (AtDoorTake e)
-      (count_fits K limit c (c.count - 1) h before.shared (let b = before.shared.within in omega arith)
+      (count_fits before.shared (let b = before.shared.within in omega arith)
       (λ n _. absurd (false≢true (sym n ∙ y.1)))) before.queue (a, y.1)
-      (λ u n b i. same_shared K limit c (out_shared c) u h b refl refl refl refl refl (λ le. omega arith))
+      (λ u n b i. same_shared refl refl refl refl refl (λ le. omega arith))
       (omega arith) (λ _. y.0) (λ e. absurd (false≢true e))
-      (lists_stay t None None c (out_shared c) h refl (λ r. r) (inl refl))
+      (lists_stay refl (λ r. r) (inl refl))
   out_goes false e x ar a =
       let l = ar.own_count refl in
       ends_so before (AtCountOut e) (out_shared c) e a
-      (count_fits K limit c (c.count - 1) h before.shared (let b = before.shared.within in omega arith)
+      (count_fits before.shared (let b = before.shared.within in omega arith)
       (λ n p. before.shared.stands n (omega arith))) before.queue
-      (λ u n b i. same_shared K limit c (out_shared c) u h b refl refl refl refl refl (λ le. omega arith))
-      (omega arith) (lists_stay t None None c (out_shared c) (end_entry e t c.value k ∷ h) refl (λ r. r)
+      (λ u n b i. same_shared refl refl refl refl refl (λ le. omega arith))
+      (omega arith) (lists_stay refl (λ r. r)
       (inl refl))
 
   -- the taking of the queue

@@ -7,14 +7,13 @@ use Rattle.once_world.specs.Tasks.{Fresh, Status, Waiting, last_call}
 use Rattle.once_queue.specs.Listings.{find_listing, is_waker, list_with, own_listing, ticket_for}
 use Rattle.once_queue.specs.Word.{sees_by}
 use Rattle.once_world.specs.Refusals.{AtSome, MemoryFrom, OtherActs, OtherHolds, is_begin_of, moments_since}
-use Rattle.once_world.specs.Run.{IsRun}
 use Rattle.once_world.specs.Machine.{AtCountOut, AtLeave, AtList, AtLook, AtWaitLoad, EndMemory, EndValue, SharedState, Place, is_at_door, leave_place, seen_by}
-use Rattle.once_world.proofs.Steps.{list_step, load_step, look_step}
+use Rattle.once_core.specs.Table.{after_load}
+use Rattle.once_world.specs.Machine.{outcome_of}
+use Rattle.once_world.proofs.Steps.{list_step, look_step}
 use Rattle.once_world.proofs.History.Others.{Met, MetHolder, since_now_holder}
 use Rattle.once_world.proofs.History.Cells.{empty_cell}
-use Rattle.once_world.proofs.History.Waiters.{QueueFits}
-use Rattle.once_world.proofs.Invariant.Facts.{AnyIn, AtPlace, Entered, HasTicket, is_counted_at, is_inside_at, kept_of, refused_in, ticket_at}
-use Rattle.once_world.proofs.Invariant.Fits.{SharedFits}
+use Rattle.once_world.proofs.Invariant.Facts.{AnyIn, AtPlace, Entered, HasTicket, is_counted_at, is_inside_at, refused_in, ticket_at}
 use Rattle.once_world.proofs.Place.Builders.{Before, Goes, claims_so, same_shared, stays, waits_so}
 use Rattle.once_world.proofs.Place.FitsAfter.{at_door, claim_fits, relisted_fits}
 use Rattle.once_world.proofs.Invariant.Turns.{lists_stay}
@@ -48,7 +47,7 @@ any_memory K t h a m = memory_from K t h (last_call K t h).began a.from m
 module _ {K : Kind} {limit t w : ℕ} {k : Answer} {c : SharedState} {h : List Entry} (before : Before K limit t w k c h) where
   -- the load
   pub load_goes : (ready : Bool) (q : ℕ) (n : Option ℕ) → c.ready ≡ ready → AtPlace K limit t c h (AtWaitLoad q n)
-      → Goes K limit t w (AtWaitLoad q n) c h (load_step ready c t k q n)
+      → Goes K limit t w (AtWaitLoad q n) c h (outcome_of c t k [] (after_load ready q n))
   load_goes true q n r a =
       stays before (AtWaitLoad q n) (AtCountOut EndValue)
       (owes_value K t h a.0.entered (sym before.shared.ready_is ∙ r)) refl refl (λ e. inl refl) (inr (refl, r))
@@ -62,7 +61,7 @@ module _ {K : Kind} {limit t w : ℕ} {k : Answer} {c : SharedState} {h : List E
       let empty = empty_cell (cell K h) (sym before.shared.ready_is ∙ r) (before.shared.held_is ∙ f) in
       let z = or_parts c.quick c.head f in
       claims_so before p c' (Some q) empty e
-      (claim_fits K limit t c c' h before.shared r (rw z.0 refl) refl refl r (λ _. (q, d)) refl) (λ v. without_asks v (ticket_at p) c.listings)
+      (claim_fits before.shared r (rw z.0 refl) refl refl r (λ _. (q, d)) refl) (λ v. without_asks v (ticket_at p) c.listings)
       (record { quick_is = z.0; head_is = refl }, d) refl refl refl n (without_lists t (ticket_at p) c c' (Claim t ∷ h) refl (λ x. x))
 
   -- a waiter waits whose own listing has its waker
@@ -71,8 +70,8 @@ module _ {K : Kind} {limit t w : ℕ} {k : Answer} {c : SharedState} {h : List E
       → is_waker w (own_listing n c.listings) ≡ true → Goes K limit t w p c h (waits c t k q n)
   waits_listed p q None own cnt i e d o m = absurd (false≢true m)
   waits_listed p q (Some n) own cnt i e d o m = waits_so before p c q n o.0 o.2 o.1 e before.shared
-      (λ v. omega arith) (λ r. is_waker_found w (find_listing n c.listings) m) refl d (λ u m b j. same_shared K limit c c u h b refl refl refl refl refl (λ y. y)) refl cnt i
-      (lists_stay t (ticket_at p) (Some n) c c (End t Pending ∷ h) refl (λ x. x) (inl (sym own)))
+      (λ v. omega arith) (λ r. is_waker_found w (find_listing n c.listings) m) refl d (λ u m b j. same_shared refl refl refl refl refl (λ y. y)) refl cnt i
+      (lists_stay refl (λ x. x) (inl (sym own)))
 
   -- a waiter is refused memory
   pub refused_at : (p : Place ℕ ℕ) (q : ℕ) (n : Option ℕ) → ticket_at p ≡ n → is_counted_at p ≡ true
@@ -116,7 +115,7 @@ module _ {K : Kind} {limit t w : ℕ} {k : Answer} {c : SharedState} {h : List E
       let same : v ≡ w = sym a.4 ∙ before.waker_is in
       waits_so before (AtList q n v) (listing_shared c m v) q m o.0 o.2 o.1 a.0.entered (relisted_fits K limit c (list_with m v c.listings) h before.shared)
       (rw same (λ x. anew_asks x m w c.listings)) (λ r. rw same (find_own m w c.listings)) refl a.1
-      (λ u x b j. same_shared K limit c (listing_shared c m v) u h b refl refl refl refl refl
+      (λ u x b j. same_shared refl refl refl refl refl
       (λ y. y)) refl refl refl
       (anew_lists t m v n c (End t Pending ∷ h) (lists_by K t n c h r a.2))
   list_goes true false true false q n v d r f a = refused_at (AtList q n v) q n refl refl refl a.0 a.1 a.2 a.3

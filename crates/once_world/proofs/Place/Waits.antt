@@ -3,19 +3,20 @@ use Rattle.std.proofs.Common.{◌≡◌, ◌≢◌, ◌≤◌, ◌<◌, ℕ, suc
 use Rattle.std.specs.Prelude.{◌||◌, nat_lt}
 use Rattle.std.proofs.lemmas.Bool.{false≢true, cases_Bool, or_from, ltb-true, ltb-false}
 use Rattle.std.proofs.lemmas.Bool.Decides.{nat_tests}
-use Rattle.once_world.specs.Record.{Answer, Claim, End, Entry, Full, Kind}
+use Rattle.once_world.specs.Record.{Answer, End, Entry, Full, Kind}
 use Rattle.once_world.specs.Cell.{cell, is_set}
 use Rattle.once_world.specs.Tasks.{Fresh, Polling, last_call, status}
 use Rattle.once_world.specs.Refusals.{IsCrowded, OtherHolds, Since, crowd}
-use Rattle.once_world.specs.Run.{IsLegal, IsRun}
-use Rattle.once_world.specs.Machine.{AtCountIn, AtCountOut, AtDoorGet, AtDoorPut, AtStart, AtTryQuick, AtWaitLoad, EndFull, EndMemory, EndPending, EndValue}
-use Rattle.once_world.specs.Machine.{SharedState, word_of}
-use Rattle.once_world.proofs.Steps.{door_step, in_step, put_step, quick_step, start_step}
+use Rattle.once_world.specs.Run.{IsLegal}
+use Rattle.once_world.specs.Machine.{AtCountIn, AtCountOut, AtDoorGet, AtDoorPut, AtStart, AtTryQuick, AtWaitLoad, EndFull, EndMemory, EndPending}
+use Rattle.once_world.specs.Machine.{EndValue, SharedState, word_of}
+use Rattle.once_core.specs.Table.{after_count_in, after_door_get, after_quick, after_start}
+use Rattle.once_world.specs.Machine.{claim_entries, in_shared, outcome_of, quick_shared}
+use Rattle.once_world.proofs.Steps.{put_step}
 use Rattle.once_queue.proofs.Listing.Members.{eqb_self}
 use Rattle.once_world.proofs.History.Others.{Met, SomeoneWaits, holds, since_now}
 use Rattle.once_world.proofs.History.Cells.{empty_cell, holder_of, is_held, value_of_set}
-use Rattle.once_world.proofs.History.Waiters.{QueueFits}
-use Rattle.once_world.proofs.Invariant.Facts.{AtPlace, Entered, FreshIn, Owes, kept_of, refused_in}
+use Rattle.once_world.proofs.Invariant.Facts.{AtPlace, Entered, FreshIn, Owes, refused_in}
 use Rattle.once_world.proofs.Invariant.Fits.{SharedFits}
 use Rattle.once_world.proofs.Invariant.Around.{Around}
 use Rattle.once_world.proofs.Invariant.AroundLists.{AroundList}
@@ -92,7 +93,7 @@ full_lasts e = cc
 module _ {K : Kind} {limit t w : ℕ} {k : Answer} {c : SharedState} {h : List Entry} (before : Before K limit t w k c h) where
   -- the start
   pub start_goes : (ready new : Bool) → c.ready ≡ ready → is_zero (word_of c) ≡ new → Around K t false false c h
-      → AtPlace K limit t c h AtStart → Goes K limit t w AtStart c h (start_step ready new c t k)
+      → AtPlace K limit t c h AtStart → Goes K limit t w AtStart c h (outcome_of c t k [] (after_start ready new))
   start_goes true new r f ar a = ends_plain before AtStart EndValue (owes_value K t h a.0 (sym before.shared.ready_is ∙ r)) refl refl
   start_goes false true r f ar a =
       stays before AtStart AtTryQuick
@@ -105,15 +106,15 @@ module _ {K : Kind} {limit t w : ℕ} {k : Answer} {c : SharedState} {h : List E
 
   -- the quick claim
   pub quick_goes : (won : Bool) → is_zero (word_of c) ≡ won → Around K t false false c h
-      → AtPlace K limit t c h AtTryQuick → Goes K limit t w AtTryQuick c h (quick_step won c t k)
+      → AtPlace K limit t c h AtTryQuick → Goes K limit t w AtTryQuick c h (outcome_of (quick_shared won c) t k (claim_entries won t) (after_quick won))
   quick_goes true f ar a =
       let z = idle c f in
       let r = z.2 in
       let n = no_head K t false false c h ar z.0 in
       let empty = empty_cell (cell K h) (sym before.shared.ready_is ∙ r) (before.shared.held_is ∙ or_from c.quick c.head z.1 n) in
       claims_so before AtTryQuick (record c { quick = true }) None empty a.0.entered
-      (claim_fits K limit t c (record c { quick = true }) h before.shared r refl refl refl r before.shared.head_door refl) (λ n. omega arith)
-      (record { quick_is = refl; head_is = n }, omega arith) refl refl refl refl (lists_stay t None None c (record c { quick = true }) (Claim t ∷ h) refl (λ r. r) (inl refl))
+      (claim_fits before.shared r refl refl refl r before.shared.head_door refl) (λ n. omega arith)
+      (record { quick_is = refl; head_is = n }, omega arith) refl refl refl refl (lists_stay refl (λ r. r) (inl refl))
   quick_goes false f ar a =
       let unset : c.ready ≡ false → Met K t h ⊎ SomeoneWaits K h = λ r. met_busy K limit t c h before.shared ar a.0.entered.poll.holds_is r f in
       let set : c.ready ≡ true → Met K t h ⊎ SomeoneWaits K h = λ r. ⊎_elim (λ n. absurd (false≢true (sym n ∙ sym before.shared.ready_is ∙ r))) (λ m. inl m) a.1 in
@@ -121,7 +122,7 @@ module _ {K : Kind} {limit t w : ℕ} {k : Answer} {c : SharedState} {h : List E
 
   -- a look at the door
   pub door_get_goes : (door : Option ℕ) → c.door ≡ door → Around K t false false c h
-      → AtPlace K limit t c h AtDoorGet → Goes K limit t w AtDoorGet c h (door_step door c t k)
+      → AtPlace K limit t c h AtDoorGet → Goes K limit t w AtDoorGet c h (outcome_of c t k [] (after_door_get door))
   door_get_goes (Some q) d ar a = stays before AtDoorGet (AtCountIn q) (a.0, inl d) refl refl (λ e. absurd (false≢true e)) (inl refl)
   door_get_goes None d ar a =
       stays before AtDoorGet AtDoorPut
@@ -144,19 +145,19 @@ module _ {K : Kind} {limit t w : ℕ} {k : Answer} {c : SharedState} {h : List E
   -- the counting in
   pub in_goes : (below ready : Bool) (q : ℕ) → nat_lt c.count limit ≡ below → c.ready ≡ ready → 0 < limit
       → Around K t false false c h → AtPlace K limit t c h (AtCountIn q)
-      → Goes K limit t w (AtCountIn q) c h (in_step below ready c t k q)
+      → Goes K limit t w (AtCountIn q) c h (outcome_of (in_shared below c) t k [] (after_count_in below ready q))
   in_goes true true q b r some ar a =
       let l = ltb-true c.count limit b in
       moves_on before (AtCountIn q) (record c { count = suc c.count })
-      (AtCountOut EndValue) (count_fits K limit c (suc c.count) h before.shared (omega arith)
+      (AtCountOut EndValue) (count_fits before.shared (omega arith)
       (λ n. absurd (false≢true (sym n ∙ r)))) before.queue (owes_value K t h a.0.entered (sym before.shared.ready_is ∙ r))
-      (λ u n d i. same_shared K limit c (record c { count = suc c.count }) u h d refl refl refl refl refl
+      (λ u n d i. same_shared refl refl refl refl refl
       (λ _. ltb-true c.count limit b)) (omega arith) (λ e. absurd (false≢true e)) (λ e. absurd (false≢true e))
-      (lists_stay t None None c (record c { count = suc c.count }) h refl (λ r. r) (inl refl))
+      (lists_stay refl (λ r. r) (inl refl))
   in_goes true false q b r some ar a =
       let l = ltb-true c.count limit b in
       moves_on before (AtCountIn q) (record c { count = suc c.count })
-      (AtWaitLoad q None) (count_fits K limit c (suc c.count) h before.shared (omega arith)
+      (AtWaitLoad q None) (count_fits before.shared (omega arith)
       (λ _ _. (q, in_door c q r a.1))) before.queue (
         record {
           entered = a.0.entered;
@@ -166,11 +167,11 @@ module _ {K : Kind} {limit t w : ℕ} {k : Answer} {c : SharedState} {h : List E
         in_door c q r a.1,
         tt,
       )
-      (λ u n d i. same_shared K limit c (record c { count = suc c.count }) u h d refl refl refl refl refl
+      (λ u n d i. same_shared refl refl refl refl refl
       (λ _. ltb-true c.count limit b)) (omega arith) (λ e. absurd (false≢true e)) (λ e. inr r)
-      (lists_stay t None None c (record c { count = suc c.count }) h refl (λ r. r) (inl refl))
+      (lists_stay refl (λ r. r) (inl refl))
   in_goes false true q b r some ar a = ends_plain before (AtCountIn q) EndValue (owes_value K t h a.0.entered (sym before.shared.ready_is ∙ r)) refl refl
   in_goes false false q b r some ar a = ends_by before (AtCountIn q) c EndFull full_lasts
       (crowd_legal K limit t h a.0 (sym before.shared.ready_is ∙ r)
       (let l = ltb-false c.count limit b in let m = ar.crowded refl in omega arith)) a.0.entered.poll.holds_is before.shared before.queue
-      (λ u d b i. same_shared K limit c c u h b refl refl refl refl refl (λ x. x)) (omega arith) (lists_stay t None None c c (End t Full ∷ h) refl (λ r. r) (inl refl))
+      (λ u d b i. same_shared refl refl refl refl refl (λ x. x)) (omega arith) (lists_stay refl (λ r. r) (inl refl))

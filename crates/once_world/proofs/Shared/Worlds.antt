@@ -6,21 +6,19 @@ use Rattle.std.proofs.lemmas.Bool.{false≢true}
 use Rattle.once_queue.specs.declared.waiters.Listing.{Listing}
 use Rattle.once_queue.specs.Listings.{find_listing}
 use Rattle.once_queue.proofs.Listing.Members.{eqb_self}
-use Rattle.once_world.specs.Record.{Answer, Begin, Entry, Made, Once, Own}
+use Rattle.once_world.specs.Record.{Answer, Begin, Entry, Once, Own}
 use Rattle.once_world.specs.Inputs.{AreOfStep, IsOfStep, Drop, Go, Input, Looks, Make, Owns, Poll}
 use Rattle.once_world.specs.Book.{IsShared, IsUnnamed, has_written_at}
-use Rattle.once_world.specs.Machine.{EndDropped, Finished, Outcome, Place, RestRun, RestStart, RestWait, Resting, Step, Task, UnderWay, World}
-use Rattle.once_world.specs.Machine.{advance, drop_entries, drop_world, drop_world_by, first_world, fresh_task, go_world, go_world_by, in_call}
-use Rattle.once_world.specs.Machine.{is_resting, make_world, place_of_poll, poll_world, poll_world_by, put_task, step_at, step_of, step_of_drop}
-use Rattle.once_world.specs.Machine.{step_of_poll, world_after}
-use Rattle.once_world.proofs.Invariant.Facts.{AtPlace, AtStep, is_inside, is_inside_at, ticket_at, ticket_of}
+use Rattle.once_world.specs.Machine.{Finished, Outcome, Place, Resting, Step, Task, UnderWay, World, advance, drop_entries, drop_world, drop_world_by}
+use Rattle.once_world.specs.Machine.{first_world, fresh_task, go_world, go_world_by, in_call, is_resting, make_world, poll_world, poll_world_by}
+use Rattle.once_world.specs.Machine.{put_task, step_at, step_of, step_of_drop, step_of_poll, world_after}
+use Rattle.once_world.proofs.Invariant.Facts.{AtPlace, AtStep, is_inside, ticket_of}
 use Rattle.once_world.proofs.Invariant.Fits.{Fits}
-use Rattle.once_world.proofs.Invariant.Listed.{none_not_some}
 use Rattle.once_world.proofs.Invariant.Moves.{in_count, inside_counted}
 use Rattle.once_world.proofs.Input.Headline.{task_fits}
 use Rattle.once_world.proofs.Part.Adds.{step_part}
 use Rattle.once_world.proofs.Shared.Places.{StepKeeps, place_keeps}
-use Rattle.once_world.proofs.Shared.Queue.{EntersFirst, OneQueue, leave_first, release_first}
+use Rattle.once_world.proofs.Shared.Queue.{EntersFirst, OneQueue}
 use Rattle.once_world.proofs.Shared.Slot.{is_put_at}
 
 -- what is kept of the init of a task that was made has no name
@@ -47,15 +45,9 @@ pub record Unowned (w : World) : Type 0 where
   pub kept : (t : ℕ) → IsUnnamedIn (w.tasks t)
   pub plain : ArePlain w.history
 
--- who has a ticket is a waiter, by the place
-ticket_inside_at : (p : Place ℕ ℕ) (n : ℕ) → ticket_at p ≡ Some n → is_inside_at p ≡ true
-ticket_inside_at p n e = grind (arith, nat_tests, common_steps)
-
--- by the step
+-- who has a ticket is a waiter
 ticket_inside : (s : Step ℕ ℕ) (n : ℕ) → ticket_of s ≡ Some n → is_inside s ≡ true
-ticket_inside (Resting r) n e = ticket_inside_at (place_of_poll r) n e
-ticket_inside (UnderWay p) n e = ticket_inside_at p n e
-ticket_inside Finished n e = absurd (none_not_some n e)
+ticket_inside s n e = grind (arith, common_steps)
 
 -- a list in which nothing is found is empty
 nothing_found : (xs : List (Listing ℕ)) → ((n : ℕ) (o : Option ℕ) → find_listing n xs ≡ Some o → ⊥) → xs ≡ []
@@ -71,10 +63,7 @@ unlisted limit w f r z = nothing_found w.shared.listings (λ n o e.
 
 -- no entry of a step is an owner's call, or begins a call
 step_plain : (t : ℕ) (a : Answer) (e : Entry) → IsOfStep Once t a e → IsPlain e
-step_plain t a (Own o g) i = i
-step_plain t a (Made u) i = tt
-step_plain t a (Begin u k) i = absurd i
-step_plain t a _ i = tt
+step_plain t a e i = grind (arith, nat_tests, common_steps)
 
 -- nor are those that a step adds
 steps_plain : (t : ℕ) (a : Answer) (es h : List Entry) → AreOfStep Once t a es → ArePlain h → ArePlain (es ++ h)
@@ -108,16 +97,11 @@ unnamed_of t w x c found = rw found at (c.kept t)
 
 -- a call that begins enters the first queue too
 poll_enters : (s : Step ℕ ℕ) → EntersFirst s → EntersFirst (step_of_poll s)
-poll_enters (Resting r) i = i
-poll_enters (UnderWay p) i = i
-poll_enters Finished i = i
+poll_enters s i = grind (arith, common_steps)
 
 -- and so does a drop
 drop_enters : (s : Step ℕ ℕ) → EntersFirst s → EntersFirst (step_of_drop s)
-drop_enters (Resting RestStart) i = tt
-drop_enters (Resting (RestWait q n)) i = leave_first q n EndDropped i
-drop_enters (Resting (RestRun by)) i = release_first by EndDropped i
-drop_enters _ i = i
+drop_enters s i = grind (arith, common_steps)
 
 -- t is y now
 pub put_unowned : (t : ℕ) (y : Task) (w w' : World) → Unowned w → w'.tasks ≡ put_task t y w.tasks → OneQueue w'.shared → EntersFirst y.step → w'.shared.value ≡ 0

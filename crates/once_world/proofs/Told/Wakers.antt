@@ -1,12 +1,14 @@
 -- The waker by which a task is listed has its number: a look need not compare wakers, but see whether the own listing was called.
 use Rattle.std.proofs.Common.{◌≡◌, ◌<◌, ℕ, suc, Bool, true, false, cond, ◌==◌, ◌⊎◌, inl, inr, ⊎_elim, List, [], ◌∷◌, Option, Some, None, slice_get, refl, sym, ap, ◌∙◌, subst, arith}
+use Rattle.std.proofs.lemmas.Bool.Decides.{nat_tests}
+use Rattle.std.proofs.lemmas.Grind.{common_steps}
 use Rattle.std.specs.Option.{is_some, option_flatten}
-use Rattle.std.proofs.lemmas.Bool.{false≢true, eqb-true}
+use Rattle.std.proofs.lemmas.Bool.{eqb-true}
 use Rattle.once_queue.specs.Word.{Flags, flags_of}
 use Rattle.once_queue.specs.declared.waiters.Listing.{Listing}
 use Rattle.once_queue.specs.Listings.{find_listing, is_waker, own_listing}
 use Rattle.once_queue.proofs.Listing.Members.{eqb_self}
-use Rattle.once_world.specs.Record.{Begin, Claim, DropBegin, DropEnd, End, Entry, Error, Fill, Free, Full, Look, Made, Memory, Once, Own, Pass, Pending, Ran, Value, is_of}
+use Rattle.once_world.specs.Record.{End, Entry, Once, Pending, is_of}
 use Rattle.once_world.specs.Cell.{Cell, Empty, Held, SetTo, cell}
 use Rattle.once_world.specs.Tasks.{LastCall, Polling, Status, Waiting, last_call, last_call_after, pending_status, status, status_after}
 use Rattle.once_world.specs.Run.{IsLegal, IsRun}
@@ -33,24 +35,18 @@ module _ (limit t : ℕ) (h : List Entry) (o : OwnBy t (status Once t h) (last_c
   -- an entry of t keeps it
   own_entry : (e : Entry) → is_of t e ≡ true → IsLegal Once limit e h → IsPlain e
       → OwnBy t (status_after e (cell Once h) (status Once t h)) (last_call_after e (cell Once h) (status Once t h) (last_call Once t h))
-  own_entry (Made u) i l p = record { polls = λ e. grind (arith, e); waits = λ e. grind (arith, e); began = o.began }
-  own_entry (Begin u k) i l p = record { polls = λ _. p ∙ eqb-true u t i; waits = λ e. grind (arith, e); began = o.waits }
-  own_entry (Claim u) i l p = record { polls = o.polls; waits = o.waits; began = o.began }
-  own_entry (Ran u a) i l p = record { polls = o.polls; waits = o.waits; began = o.began }
-  own_entry (Free u X) i l p = record { polls = o.polls; waits = o.waits; began = o.began }
-  own_entry (Fill u v X) i l p = record { polls = o.polls; waits = o.waits; began = o.began }
-  own_entry (Pass u X) i l p = record { polls = o.polls; waits = o.waits; began = o.began }
   own_entry (End u Pending) i l p =
       let own : (last_call Once t h).waker ≡ t = o.polls (subst (λ v. status Once v h ≡ Polling) (eqb-true u t i) l.0) in
       record { polls = λ e. absurd (pending_polls u (cell Once h) e); waits = λ _. own; began = λ _. own }
-  own_entry (End u (Value v)) i l p = record { polls = λ e. grind (arith, e); waits = λ e. grind (arith, e); began = o.began }
-  own_entry (End u (Error v)) i l p = record { polls = λ e. grind (arith, e); waits = λ e. grind (arith, e); began = o.began }
-  own_entry (End u Memory) i l p = record { polls = λ e. grind (arith, e); waits = λ e. grind (arith, e); began = o.began }
-  own_entry (End u Full) i l p = record { polls = λ e. grind (arith, e); waits = λ e. grind (arith, e); began = o.began }
-  own_entry (DropBegin u) i l p = record { polls = λ e. grind (arith, e); waits = λ e. grind (arith, e); began = o.waits }
-  own_entry (DropEnd u) i l p = record { polls = λ e. grind (arith, e); waits = λ e. grind (arith, e); began = o.began }
-  own_entry (Look v) i l p = absurd (false≢true i)
-  own_entry (Own a g) i l p = absurd (false≢true i)
+  own_entry e i l p =
+      let polls = o.polls in
+      let waits = o.waits in
+      let began = o.began in
+      record {
+        polls = λ s. grind (arith, nat_tests, common_steps, polls);
+        waits = λ s. grind (arith, nat_tests, common_steps, waits);
+        began = λ s. grind (arith, nat_tests, common_steps, began, waits);
+      }
 
   -- any entry does, by whether it is one of t
   own_by : (e : Entry) (b : Bool) → is_of t e ≡ b → IsLegal Once limit e h → IsPlain e
