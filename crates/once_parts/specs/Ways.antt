@@ -2,9 +2,9 @@
 use Rattle.std.specs.Prelude.{ℕ, Bool, true, false, Some, ⊤}
 use Rattle.once_core.specs.Steps.{leave_place}
 use Rattle.once_core.specs.Table.{Next, closing_at, closing_end, next_at, next_rest}
-use Rattle.once_world.specs.Places.{AtCountOut, AtRun, EndMemory, EndValue, Progress, RestWait, Step}
+use Rattle.once_world.specs.Places.{AtCountOut, AtDoorPut, AtRun, EndMemory, EndValue, Progress, RestWait, Step}
 use Rattle.once_parts.specs.declared.ways.Reached.{Reached}
-use Rattle.once_parts.specs.declared.ways.Reached.TheVariants.{Claimed, Ended, Ready, Refused, Waits}
+use Rattle.once_parts.specs.declared.ways.Reached.TheVariants.{Claimed, Ended, NoQueue, Ready, Refused, Waits}
 use Rattle.once_parts.specs.Own.{Own}
 use Rattle.once_parts.specs.Sides.{Sided}
 use Rattle.once_parts.specs.Walks.{Stands, Walked}
@@ -16,6 +16,7 @@ closed_if false x = x
 
 -- what follows by the table of places where steps under the lock led here
 abbrev pub next_by : {W : Type 0} → Reached → Next W ⊤
+next_by NoQueue = next_at AtDoorPut
 next_by Ready = closing_at (AtCountOut EndValue)
 next_by Claimed = next_at (AtRun (Some tt))
 next_by (Waits k) = next_rest (RestWait tt k)

@@ -37,6 +37,8 @@ use std::sync::Wait;
 
 /// How far a poll came under the lock.
 pub(crate) enum Reached {
+    /// No queue stands at the door, so the task is to bring one.
+    NoQueue,
     /// The value is set: the init is to be closed, and the task counts out.
     Ready,
     /// The task has the right, and its init is to be polled.
@@ -130,6 +132,7 @@ fn go_on_from<
             side.close();
             steps_left(parts, idle, Step::UnderWay(leaving(ticket)), side)
         }
+        Reached::NoQueue => steps_left(parts, idle, Step::UnderWay(Place::DoorPut), side),
     }
 }
 

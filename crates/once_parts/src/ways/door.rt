@@ -1,5 +1,6 @@
 //! The way of a new task that met others: from the door to its listing, in one hold of the lock.
-ghost use Rattle.std.specs.Prelude.{◌≡◌, None, false};
+ghost use Rattle.std.specs.Prelude.{◌≡◌, None, false, []};
+ghost use Rattle.once_queue.specs.Room.{listings_of};
 ghost use Rattle.once_parts.specs.Hands.{own_of};
 ghost use Rattle.once_parts.specs.Idle.{step_of};
 ghost use Rattle.once_parts.specs.Shares.{cell_of, own};
@@ -51,6 +52,9 @@ pub(super) fn meet<
         &mut spent,
         side,
     );
+    if let Reached::NoQueue = reached {
+        return put(parts, idle, side);
+    }
     go_on_from(parts, idle, reached, side)
 }
 
@@ -105,37 +109,69 @@ fn get<T, W: TaskWaker + Drop, R: Wait + AllocGlobal, S: TaskSide<W, Value = T, 
     if desk.get(hand) {
         return count_in(rt, inner, desk, hand, spent, side);
     }
-    put(rt, inner, desk, hand, spent, side)
+    Reached::NoQueue
 }
 
-// A queue is put to the door, where none stands.
+// A queue is put to the door. It is made with the lock free: that is for the allocator of the handle, which may be any
+// code. So another task may put one meanwhile, and this one is let go then, with the lock free.
 #[inline(always)]
 fn put<T, W: TaskWaker + Drop, R: Wait + AllocGlobal, S: TaskSide<W, Value = T, Right = Hand>>(
+    parts: &mut Shared<'_, '_, T, W, R>,
+    idle: &mut Idle,
+    side: &mut S,
+) -> Ending
+    requires stands { Stands W.whose false (S.state side.old) (own parts.old) Progress.More
+        (Step.UnderWay Place.DoorPut) }
+    ensures cell { cell_of parts.new ≡ cell_of parts.old }
+    ensures leads { Leads W.whose (S.state side.old) (own parts.old) (Progress.Ended result) (step_of idle.new)
+        (S.state side.new) (own parts.new) }
+    ensures stays { S.stays side.old side.new }
+{
+    let alloc = parts.rt.alloc();
+    let Ok(queue) = Box::new(alloc, Lists::new(alloc)) else {
+        parts.hand.unput();
+        side.close();
+        *idle = Idle::Finished;
+        return Ending::Memory;
+    };
+    let mut spent = None;
+    let (reached, _spare) = put_queue::<Brand, T, W, R, S>(
+        parts.rt,
+        parts.inner,
+        &mut parts.hand,
+        queue,
+        &mut spent,
+        side,
+    );
+    go_on_from(parts, idle, reached, side)
+}
+
+// Takes the lock, and puts this queue. Where one stood there, this comes back.
+#[inline(always)]
+fn put_queue<J: Key, T, W: TaskWaker + Drop, R: Wait, S: TaskSide<W, Value = T, Right = Hand>>(
     rt: &R,
     inner: &Inner<T, W>,
-    desk: &mut Desk<W>,
     hand: &mut Hand,
+    queue: Box<Lists<W>>,
     spent: &mut Option<Spent<W>>,
     side: &mut S,
-) -> Reached
-    requires book { hand.old.seen.book ≡ inner.now.front.book }
-    requires desk { desk.old ≡ hand.old.seen.book }
+) -> (Reached, Option<Box<Lists<W>>>)
+    requires key { inner.now.desk ≡ J.key }
+    requires book { hand.old.seen.book ≡ J.key }
+    requires queue { (queue.value.head ≡ false) × (listings_of queue.value ≡ []) }
     requires stands { Stands W.whose false (S.state side.old) (own_of hand.old) Progress.More
         (Step.UnderWay Place.DoorPut) }
     ensures book { hand.new.seen.book ≡ hand.old.seen.book }
-    ensures desk { desk.new ≡ desk.old }
-    ensures leads { LeadsBy W.whose (S.state side.old) (own_of hand.old) (next_by result)
+    ensures leads { LeadsBy W.whose (S.state side.old) (own_of hand.old) (next_by result.0)
         (S.state side.new) (own_of hand.new) }
     ensures stays { S.stays side.old side.new }
 {
-    let alloc = rt.alloc();
-    let Ok(queue) = Box::new(alloc, Lists::new(alloc)) else {
-        hand.unput();
-        return Reached::Ended(Ending::Memory);
-    };
-    // None can stand there, since the lock was held from the look on.
-    desk.put(&inner.has_put, hand, queue);
-    count_in(rt, inner, desk, hand, spent, side)
+    let mut tied = inner.desk.lock::<J, R>(rt);
+    let spare = tied.value.put(&inner.has_put, hand, queue);
+    (
+        count_in(rt, inner, &mut tied.value, hand, spent, side),
+        spare,
+    )
 }
 
 // The task counts in.

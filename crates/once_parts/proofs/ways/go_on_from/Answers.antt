@@ -30,3 +30,13 @@ returns-in-Refused-clause-leads g c = λ x v so_far.
     let free = subst (λ y. Leads g.W.TaskWaker.whose x v More (UnderWay (leave_place tt c.in-Refused.ticket EndMemory)) y (own c.args.parts.now))
     (sym (g.met.S.TaskSide.tells.close _ _ c.close-in-Refused.ensures.did)) at in
     record { walked = c.steps_left.ensures.walked _ _ free.walked; stands = c.steps_left.ensures.stands }
+
+pub steps_left-requires-in-NoQueue : goal.steps_left-requires-in-NoQueue
+steps_left-requires-in-NoQueue g c = record {
+  stands = subst (λ r. StandsBy g.W.TaskWaker.whose (next_by r) (g.S.TaskSide.state c.args.side.now) (own c.args.parts.now)) c.in-NoQueue.is c.requires.stands;
+}
+
+pub returns-in-NoQueue-clause-leads : goal.returns-in-NoQueue-clause-leads
+returns-in-NoQueue-clause-leads g c = λ x v so_far.
+    let at = subst (λ r. LeadsBy g.W.TaskWaker.whose x v (next_by r) (g.S.TaskSide.state c.args.side.now) (own c.args.parts.now)) c.in-NoQueue.is so_far in
+    record { walked = c.steps_left-in-NoQueue.ensures.walked _ _ at.walked; stands = c.steps_left-in-NoQueue.ensures.stands }
