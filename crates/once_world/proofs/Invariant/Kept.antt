@@ -1,13 +1,15 @@
 -- What stands for a task keeps standing through the step of another.
-use Rattle.std.proofs.Common.{◌≡◌, ◌≤◌, ℕ, Bool, true, false, ◌⊎◌, ⊎_elim, List, Option, Some, sym, ◌∙◌, arith}
+use Rattle.std.proofs.Common.{◌≡◌, ◌≤◌, ℕ, Bool, true, false, ◌⊎◌, inl, inr, ⊎_elim, List, Option, Some, None, refl, sym, ap, ◌∙◌, arith}
 use Rattle.std.proofs.lemmas.Bool.Decides.{nat_tests}
 use Rattle.std.proofs.lemmas.Grind.{common_steps}
 use Rattle.std.proofs.lemmas.Bool.{false≢true}
-use Rattle.once_world.specs.Record.{Answer, Entry, Kind}
+use Rattle.once_world.specs.Record.{Answer, Entry, Kind, RanValue}
 use Rattle.once_world.specs.Cell.{Cell, SetTo, cell, is_set}
-use Rattle.once_world.specs.Tasks.{Fresh, Gone, Holding, Status, Waiting}
+use Rattle.once_world.specs.Tasks.{Fresh, Gone, Holding, LastCall, Status, Waiting}
 use Rattle.once_world.specs.Refusals.{MemoryFrom}
-use Rattle.once_world.specs.Machine.{AtStart, Ending, Finished, SharedState, Place, Rest, RestRun, RestStart, RestWait, Resting, Step, UnderWay}
+use Rattle.once_world.specs.Machine.{AtAddOne, AtCountIn, AtCountOut, AtDoorAgain, AtDoorGet, AtDoorPut, AtDoorTake, AtFast, AtList, AtLook, AtPut}
+use Rattle.once_world.specs.Machine.{AtLeave, AtRelease, AtRun, AtStart, AtTryQuick, AtWaitLoad, Ending, Finished, SharedState, Place, Rest, RestRun}
+use Rattle.once_world.specs.Machine.{RestStart, RestWait, Resting, Step, UnderWay}
 use Rattle.once_world.proofs.History.Others.{Keeps, holds}
 use Rattle.once_world.proofs.History.Cells.{holder_unset}
 use Rattle.once_world.proofs.Invariant.Facts.{AnyIn, AtPlace, AtRest, AtStep, Entered, FreshIn, GaveNothing, HeadFlag, HoldsBy, InPoll, InStatus}
@@ -113,15 +115,38 @@ module _ (K : Kind) (limit u : ℕ) (c c' : SharedState) (h h' : List Entry) (r 
   -- a task with a call under way
   place_kept : (p : Place ℕ ℕ) → SharedKeeps K limit c c' u h (is_inside_at p) → ListKept u (ticket_at p) c c' h'
       → AtPlace K limit u c h p → AtPlace K limit u c' h' p
-  place_kept AtStart s l a = let stays = k.set_stays in grind (arith, nat_tests, common_steps, stays)
-  place_kept p s l a =
-      let became = k.became_set in
-      let met = k.met in
-      let holder = k.met_holder in
-      let waits = k.waits in
-      let door = s.door in
-      let set = s.ready in
-      grind (arith, nat_tests, common_steps, became, met, holder, waits, door, set, fresh_kept, any_kept, leaves_kept, owes_kept, releasing_kept, ticket_kept, listed_kept)
+  place_kept AtStart s l a = (entered_kept K u h h' k a.0, rw k.call_is a.1, λ e. stays_set (cell K h) (cell K h') k.set_stays (a.2 (sym (ap (λ (x : LastCall). x.set_then) k.call_is) ∙ e)))
+  place_kept AtTryQuick s l a = (fresh_kept K u h h' k a.0, ⊎_elim (λ n. k.became_set n) (λ m. inr (k.met m)) a.1)
+  place_kept AtDoorGet s l a = (fresh_kept K u h h' k a.0, ⊎_elim (λ m. inl (k.met m)) (λ w. k.waits w) a.1)
+  place_kept AtDoorPut s l a = (fresh_kept K u h h' k a.0, k.met a.1)
+  place_kept (AtCountIn q) s l a = (fresh_kept K u h h' k a.0, ⊎_elim (λ d. ⊎_elim (λ x. inl x) (λ n. inr (s.ready n.0)) (s.door q d)) (λ n. inr (s.ready n)) a.1)
+  place_kept (AtWaitLoad q n) s l a = (any_kept K u h h' k a.0, inside_door K limit u q c c' h s a.1, ticket_kept K u c c' h h' n s.ready k l a.2)
+  place_kept (AtLook q n) s l a = (any_kept K u h h' k a.0, inside_door K limit u q c c' h s a.1, ticket_kept K u c c' h h' n s.ready k l a.2)
+  place_kept (AtList q n w) s l a = (any_kept K u h h' k a.0, inside_door K limit u q c c' h s a.1, ticket_kept K u c c' h h' n s.ready k l a.2, k.met_holder a.3, rw k.call_is a.4)
+  place_kept (AtLeave q n e) s l a =
+      (leaves_kept K u h h' e k a.0, inside_door K limit u q c c' h s a.1, ap (λ (x : LastCall). x.began) k.call_is ∙ a.2, listed_kept K u c c' h h' n (Some n) refl s.ready k l a.3)
+  place_kept (AtRun by) s l a = let x = holder_keeps K limit u c c' h false r a.0.holds_is s in (in_poll_kept K u h h' None true k a.0, holds_by_kept limit c c' by x a.1)
+  place_kept (AtPut by) s l a = let x = holder_keeps K limit u c c' h false r a.1.holds_is s in (a.0, in_poll_kept K u h h' (Some (RanValue a.0)) true k a.1, holds_by_kept limit c c' by x a.2)
+  place_kept (AtFast e) s l a = let x = holder_keeps K limit u c c' h false r (releasing_holds K u c h e a.0) s in
+      (releasing_kept K u c c' h h' e k x.value_is a.0, quick_kept limit c c' x a.1, x.within a.2)
+  place_kept (AtAddOne e) s l a = let x = holder_keeps K limit u c c' h false r (releasing_holds K u c h e a.0) s in (
+    releasing_kept K u c c' h h' e k x.value_is a.0,
+    quick_kept limit c c' x a.1,
+    x.within a.2,
+    (a.3.0, x.door a.3.0 a.3.1),
+  )
+  place_kept (AtDoorAgain e) s l a = let x = holder_keeps K limit u c c' h false r
+      (releasing_holds K u c h e a.0) s in
+      (releasing_kept K u c c' h h' e k x.value_is a.0, quick_kept limit c c' x a.1, (a.2.0, x.door a.2.0 a.2.1))
+  place_kept (AtRelease q e) s l a = let x = holder_keeps K limit u c c' h false r
+      (releasing_holds K u c h e a.0) s in (
+        releasing_kept K u c c' h h' e k x.value_is a.0,
+        ⊎_elim
+            (λ f. inl (quick_kept limit c c' x f)) (λ f. inr (head_kept limit c c' x f)) a.1,
+        x.door q a.2,
+      )
+  place_kept (AtCountOut e) s l a = owes_kept K u h h' e k a
+  place_kept (AtDoorTake e) s l a = (owes_kept K u h h' e k a.0, s.ready a.1)
 
   -- a task keeps what stands for it through the step of another
   pub step_kept : (x : Step ℕ ℕ) → SharedKeeps K limit c c' u h (is_inside x) → ListKept u (ticket_of x) c c' h'
