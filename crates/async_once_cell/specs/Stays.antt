@@ -8,7 +8,8 @@ use Rattle.once_parts.specs.Sides.{Sided}
 use Rattle.async_once_cell.specs.declared.waiting.Polling.{Polling}
 use Rattle.async_once_cell.specs.declared.waiting.Leaving.{Leaving}
 use Rattle.async_once_cell.specs.Inits.{FailsNoOther, MayFail}
-use Rattle.async_once_cell.specs.Listed.{whose}
+use Rattle.async_once_cell.specs.declared.waker.ListedWaker.{ListedWaker}
+use Rattle.async_once_cell.specs.Listed.{WakesTask, number_on, whose}
 
 module _ {T E H : Type 0} where
   -- its task, whether it has its init, a value or an error, and who was handed to it
@@ -35,6 +36,14 @@ module _ {T E H X : Type 0} (may_fail : H → X → Type 0) (error_of : E → X)
   Stays a b =
       (b.cx.ghost_name ≡ a.cx.ghost_name) × Keeps a.cx.now b.cx.now × (b.first.value ≡ a.first.value)
       × (Tied a → Tied b)
+
+  -- the poll put its task's waker in the place of one that was listed, under the same number
+  pub record IsRenewed (a : Polling T E H) (v : ListedWaker) (b : Polling T E H) (w : ListedWaker) : Type 0 where
+    pub whose : number_on w.tag.numbers ≡ number_on v.tag.numbers  -- the listing stays the same task's
+    pub wakes : WakesTask w b.cx.now  -- whoever calls it wakes the task that is polled
+    pub armed : b.is_armed ≡ true  -- the poll says that its task is to be called
+    pub told : told b ≡ told a  -- nothing else that is told of the side changed
+    pub stays : Stays a b  -- the context keeps what it had, and the side is as right as before
 
 -- what a leaving task's side tells: it has nothing that the init gave
 abbrev pub leaving : {T R : Type 0} → Leaving T R → Sided

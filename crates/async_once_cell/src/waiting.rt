@@ -16,12 +16,12 @@ ghost use Rattle.async_once_cell.specs.Polls.{IsValue, ending_by, is_over};
 
 use crate::init::{Failed, Init};
 use crate::once::{Failure, Refused};
-use crate::waker::{ListedWaker, Renewal};
+use crate::waker::ListedWaker;
 use futures::task::{Context, Poll};
 use once_core::step::{Ending, Polled, Side};
 use once_parts::record::is_set_where_answered;
 use once_parts::{CopiesWaker, Hand, Inner, Mark, Record, Task, TaskSide};
-use once_queue::waiters::Out;
+use once_queue::waiters::{Out, Renews};
 use pagebook::Written;
 use std::alloc::AllocGlobal;
 use std::marker::{Model, PhantomData};
@@ -205,7 +205,8 @@ impl<'a, T: Drop, I: Drop, R: Wait + AllocGlobal> Waiting<'a, T, I, R> {
         } = side;
         self.init = init;
         if ending == Ending::Pending && !is_armed {
-            self.renew(cx);
+            // No clause says that who is told of its listing has one to renew. Without one it asks for a poll.
+            let _: Poll<()> = cx.yield_now();
             return Poll::Pending;
         }
         self.answer(ending, error)
@@ -240,23 +241,6 @@ impl<'a, T: Drop, I: Drop, R: Wait + AllocGlobal> Waiting<'a, T, I, R> {
             Ending::Dropped => unreachable!(),
         }
     }
-
-    // Ends a poll that is Pending, if neither the init nor a new listing saw to it that the task is called. If an
-    // earlier poll listed the task, its waker there becomes that of this poll. If the task was called since, it is to
-    // be polled again.
-    #[inline(always)]
-    fn renew(&mut self, cx: &mut Context<'_>)
-        ensures task { self.new ≡ self.old }
-        ensures armed { IsArmed cx.new }
-        ensures kept { Keeps cx.old cx.new }
-    {
-        let mut renewal = Renewal { cx };
-        let is_listed = self.task.renew(&mut renewal);
-        let Renewal { cx } = renewal;
-        if !is_listed {
-            let _: Poll<()> = cx.yield_now();
-        }
-    }
 }
 
 // What a poll brings.
@@ -268,7 +252,7 @@ struct Polling<'c, 'd, T, E, H> {
     init: Option<H>,
     value: Option<T>,
     error: Option<E>,
-    // The init was Pending, and saw to it that the task is called; or the task was listed with its waker.
+    // The init was Pending, and saw to it that the task is called; or the task is listed with the waker of this poll.
     is_armed: bool,
     // Whom the cell handed out in this poll.
     woke: Snapshot<Out<ListedWaker>>,
@@ -346,6 +330,19 @@ impl<T: Drop, X: Failure, I: Init<T, X>> Side<ListedWaker> for Polling<'_, '_, T
     ghost stays_on = { λ a b c p q. Prim.search rules };
 }
 
+impl<T: Drop, X: Failure, I: Init<T, X>> Renews<ListedWaker> for Polling<'_, '_, T, Failed<X>, I> {
+    ghost use Rattle.async_once_cell.specs.Stays.{IsRenewed};
+
+    ghost renewed = { IsRenewed I.may_fail (λ e. e.error) };
+
+    // An earlier poll listed the task. Its waker there becomes that of this poll.
+    #[inline(always)]
+    fn renew(&mut self, listed: &mut ListedWaker) {
+        self.is_armed = true;
+        listed.register(self.cx);
+    }
+}
+
 impl<T: Drop, X: Failure, I: Init<T, X>> TaskSide<ListedWaker>
     for Polling<'_, '_, T, Failed<X>, I> {
     ghost use Rattle.async_once_cell.specs.Stays.{told};
@@ -359,6 +356,10 @@ impl<T: Drop, X: Failure, I: Init<T, X>> TaskSide<ListedWaker>
     ghost runs = { λ s h. h };
 
     ghost puts = { λ s h. h };
+
+    ghost owner = { λ s v t w r. r.whose };
+
+    ghost renews = { λ s v t w r. (r.told, r.stays) };
 }
 
 impl<T: Drop, X: Failure, I: Init<T, X>> CopiesWaker for Polling<'_, '_, T, Failed<X>, I> {
@@ -439,7 +440,17 @@ impl<T, R: Wait> Side<ListedWaker> for Leaving<'_, T, R> {
     ghost stays_on = { λ _ _ _ _ _. tt };
 }
 
+impl<T, R: Wait> Renews<ListedWaker> for Leaving<'_, T, R> {
+    ghost renewed = { λ s v t w. (t ≡ s) × (w ≡ v) };
+
+    // Nobody calls this: a task that leaves does not wait.
+    fn renew(&mut self, listed: &mut ListedWaker) {
+        let _ = listed;
+    }
+}
+
 impl<T, R: Wait> TaskSide<ListedWaker> for Leaving<'_, T, R> {
+    ghost use Rattle.std.proofs.Common.{ap};
     ghost use Rattle.async_once_cell.specs.Stays.{leaving};
     ghost use Rattle.once_parts.proofs.Sides.{sided_told};
     ghost use Rattle.async_once_cell.specs.Listed.{whose};
@@ -451,6 +462,10 @@ impl<T, R: Wait> TaskSide<ListedWaker> for Leaving<'_, T, R> {
     ghost runs = { λ s h. tt };
 
     ghost puts = { λ s h. tt };
+
+    ghost owner = { λ s v t w r. ap whose r.1 };
+
+    ghost renews = { λ s v t w r. (ap leaving r.0, tt) };
 }
 
 impl<T, R: Wait> CopiesWaker for Leaving<'_, T, R> {

@@ -6,7 +6,7 @@ ghost use Rattle.async_once_cell.specs.Listed.{WakesTask, whose};
 use boxcar::tag::{Names, Tag};
 use futures::task::{Context, Poll, Source, Waker};
 use once_parts::{Mark, TaskWaker};
-use once_queue::waiters::{Renews, WakerId};
+use once_queue::waiters::WakerId;
 
 /// The waker of a task, with the number of the task. Two of these are never compared, since a task is listed once.
 ///
@@ -72,31 +72,14 @@ impl ListedWaker {
         listed
     }
 
-    // Puts the waker of the task that is polled here in the place of the one that was there. Another task's is woken.
+    /// Puts the waker of the task that is polled here in the place of the one that was there. Another task's is woken.
     #[inline(always)]
-    fn register(&mut self, cx: &mut Context<'_>)
+    pub(crate) fn register(&mut self, cx: &mut Context<'_>)
         ensures whose { whose self.new ≡ whose self.old }
         ensures wakes { WakesTask self.new cx.new }
         ensures armed { IsArmed cx.new }
         ensures kept { Keeps cx.old cx.new }
     {
         let _: Poll<()> = cx.register(&Source::new(), &mut self.waker);
-    }
-}
-
-/// The context of a poll that is Pending, whose task is listed since an earlier one.
-pub struct Renewal<'c, 'd> {
-    /// The context.
-    pub cx: &'c mut Context<'d>,
-}
-
-impl Renews<ListedWaker> for Renewal<'_, '_> {
-    ghost use Rattle.async_once_cell.specs.Listed.{IsRenewed};
-
-    ghost renewed = { IsRenewed };
-
-    #[inline(always)]
-    fn renew(&mut self, listed: &mut ListedWaker) {
-        listed.register(self.cx);
     }
 }

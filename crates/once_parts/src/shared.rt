@@ -4,9 +4,8 @@ ghost use Rattle.once_queue.specs.Room.{listings_of};
 ghost use Rattle.once_queue.specs.Word.{flags_of};
 ghost use Rattle.once_core.specs.Table.{CountIn, DoorGet, DoorPut, DoorTake, Got, Load, Loaded, PutQueue, Section};
 ghost use Rattle.once_core.specs.Table.{Taken, Was, counted as count_told};
-ghost use Rattle.once_parts.specs.Named.{HasRenewed, KeepsOwner};
 ghost use Rattle.once_parts.specs.Page.{Went, call_in};
-ghost use Rattle.once_parts.specs.Places.{CanRest, numbered};
+ghost use Rattle.once_parts.specs.Places.{numbered};
 ghost use Rattle.once_parts.specs.Parts.{CanCall, DidCall};
 ghost use Rattle.once_parts.specs.Hands.{own_of};
 
@@ -16,7 +15,7 @@ use crate::inner::Inner;
 use crate::mark::{Mark, TaskWaker};
 use once_core::parts::{Counted, Parts};
 use once_core::step::{Polled, Side};
-use once_queue::waiters::{Answer, Lists, Op, Renews};
+use once_queue::waiters::{Answer, Lists, Op};
 use once_queue::word::{NEW, QINIT_BIT, READY_BIT};
 use pagebook::{Key, Written};
 use std::alloc::AllocGlobal;
@@ -347,27 +346,6 @@ fn taken<J: Key, T, W: TaskWaker + Drop, R: Wait>(
     ensures did { (b : Bool) → Went (own_of hand.old) (Taken b) [] (own_of hand.new) }
 {
     inner.desk.lock::<J, R>(rt).value.take(hand)
-}
-
-/// Whether the waker of this listing was renewed, under the lock.
-#[inline(always)]
-pub(crate) fn renewed<J: Key, T, W: TaskWaker + Drop, R: Wait, N: Renews<W>>(
-    rt: &R,
-    inner: &Inner<T, W>,
-    hand: &mut Hand,
-    ticket: u64,
-    by: &mut N,
-) -> bool
-    requires key { inner.now.desk ≡ J.key }
-    requires book { hand.old.seen.book ≡ J.key }
-    requires owner { KeepsOwner W.whose N.renewed }
-    requires can { CanRest ticket (own_of hand.old).task.step }
-    ensures book { hand.new.seen.book ≡ hand.old.seen.book }
-    ensures hand { own_of hand.new ≡ own_of hand.old }
-    ensures renewed { result ≡ true → HasRenewed W.whose N.renewed (own_of hand.old).number by.old by.new }
-    ensures not { result ≡ false → by.new ≡ by.old }
-{
-    inner.desk.lock::<J, R>(rt).value.renew(hand, ticket, by)
 }
 
 // A section, under the lock, and the waker that it took out of the list and hands to nobody.

@@ -3,7 +3,6 @@ ghost use Rattle.std.specs.Prelude.{◌≡◌, ◌≢◌, ◌↔◌, ℕ, true, 
 ghost use mathlib.Core.List.{IsPrefix};
 ghost use Rattle.once_world.specs.Record.{Begin, DropBegin, DropEnd, Entry, Made};
 ghost use Rattle.once_parts.specs.Kept.{Grew, entries_of};
-ghost use Rattle.once_parts.specs.Named.{HasRenewed, KeepsOwner};
 ghost use Rattle.once_parts.specs.Record.{EndsSet, IsSet};
 ghost use Rattle.once_core.specs.declared.step.Ending.{Ending};
 ghost use Rattle.once_parts.specs.Shares.{cell_of, own};
@@ -16,14 +15,13 @@ use crate::hand::Hand;
 use crate::idle::Idle;
 use crate::inner::Inner;
 use crate::mark::{Mark, TaskWaker};
-use crate::shared::{Shared, renewed};
+use crate::shared::Shared;
 use crate::side::TaskSide;
 use crate::ways::{later, start};
 use once_core::step::{Ending, Progress};
-use once_queue::waiters::Renews;
 use pagebook::Written;
 use std::alloc::AllocGlobal;
-use std::marker::{Brand, Model};
+use std::marker::Model;
 use std::sync::Wait;
 
 /// A task of a cell, between two of its calls: its share of the cell, and where its next call begins.
@@ -165,7 +163,8 @@ impl<'a, 'r, T, W: TaskWaker + Drop, R: Wait + AllocGlobal> Task<'a, 'r, T, W, R
     ///
     /// The record grew, and its newest entry is the end of this poll with what is answered here. The task's own entries
     /// since the poll before are the beginning of this poll, what it did, and that end. The wakers that were handed to
-    /// the side are those of the tasks that these entries name, in their order.
+    /// the side are those of the tasks that these entries name, in their order. If the poll finds the task listed, the
+    /// side renews the waker there, under the cell's lock.
     ///
     /// The poll began after all that the task had seen before. So if the cell was set in that, it answers the value.
     ///
@@ -223,27 +222,6 @@ impl<'a, 'r, T, W: TaskWaker + Drop, R: Wait + AllocGlobal> Task<'a, 'r, T, W, R
             return start(&mut self.parts, &mut self.idle, side);
         }
         later(&mut self.parts, &mut self.idle, side)
-    }
-
-    /// Lets the waker of the task's listing be renewed: for a task whose last call ended Pending. The answer says
-    /// whether there is one. There is none if the task is not listed, or was called.
-    ///
-    /// ```
-    /// let mut renewal = Renewal { cx };
-    /// let is_listed = self.task.renew(&mut renewal);
-    /// ```
-    #[inline(never)]
-    pub fn renew<N: Renews<W>>(&mut self, by: &mut N) -> bool
-        requires owner { KeepsOwner W.whose N.renewed }
-        ensures task { self.new ≡ self.old }
-        ensures renewed { result ≡ true → HasRenewed W.whose N.renewed self.old.number by.old by.new }
-        ensures not { result ≡ false → by.new ≡ by.old }
-    {
-        let Idle::Listed(ticket) = self.idle else {
-            return false;
-        };
-        let parts = &mut self.parts;
-        renewed::<Brand, T, W, R, N>(parts.rt, parts.inner, &mut parts.hand, ticket, by)
     }
 
     /// A whole drop of a task that is not finished. It may wait as [`poll`](Self::poll), and as much is said of

@@ -8,7 +8,7 @@ use crate::bell::Bell;
 use crate::doubles::text::shows;
 use once_core::step::{Ending, Polled, Side};
 use once_parts::{CopiesWaker, Hand, Mark, Task, TaskSide};
-use once_queue::waiters::Out;
+use once_queue::waiters::{Out, Renews};
 use std::alloc::AllocGlobal;
 use std::io;
 use std::marker::Model;
@@ -186,7 +186,17 @@ impl<R: Wait + AllocGlobal> Side<Bell> for Meddling<'_, '_, R> {
     }
 }
 
+impl<R: Wait + AllocGlobal> Renews<Bell> for Meddling<'_, '_, R> {
+    ghost renewed = { λ s v t w. (t ≡ s) × (w ≡ v) };
+
+    // A task has one bell, which stays.
+    fn renew(&mut self, listed: &mut Bell) {
+        let _ = listed;
+    }
+}
+
 impl<R: Wait + AllocGlobal> TaskSide<Bell> for Meddling<'_, '_, R> {
+    ghost use Rattle.std.proofs.Common.{ap};
     ghost use Rattle.once_parts.proofs.Sides.{sided_told};
 
     ghost state = { λ s. s };
@@ -196,6 +206,10 @@ impl<R: Wait + AllocGlobal> TaskSide<Bell> for Meddling<'_, '_, R> {
     ghost runs = { λ s h. h };
 
     ghost puts = { λ s h. h };
+
+    ghost owner = { λ s v t w r. ap (λ b. b.mark.value) r.1 };
+
+    ghost renews = { λ s v t w r. (r.0, ap (λ x. x.number) r.0) };
 }
 
 impl<R: Wait + AllocGlobal> CopiesWaker for Meddling<'_, '_, R> {

@@ -6,7 +6,7 @@ use crate::bell::{Bell, task_of};
 use crate::poller::{Poller, Scripted, init_that_answers};
 use once_core::step::{Polled, Side};
 use once_parts::{CopiesWaker, Hand, Mark, Pollable, TaskSide};
-use once_queue::waiters::Out;
+use once_queue::waiters::{Out, Renews};
 use std::alloc::AllocGlobal;
 use std::io;
 use std::marker::Model;
@@ -169,7 +169,17 @@ impl<R: Wait> Side<Bell> for TestSide<'_, R> {
     }
 }
 
+impl<R: Wait> Renews<Bell> for TestSide<'_, R> {
+    ghost renewed = { λ s v t w. (t ≡ s) × (w ≡ v) };
+
+    // A task has one bell, which stays.
+    fn renew(&mut self, listed: &mut Bell) {
+        let _ = listed;
+    }
+}
+
 impl<R: Wait> TaskSide<Bell> for TestSide<'_, R> {
+    ghost use Rattle.std.proofs.Common.{ap};
     ghost use Rattle.once_parts.proofs.Sides.{sided_told};
 
     ghost state = { λ s. s };
@@ -179,6 +189,10 @@ impl<R: Wait> TaskSide<Bell> for TestSide<'_, R> {
     ghost runs = { λ s h. h };
 
     ghost puts = { λ s h. h };
+
+    ghost owner = { λ s v t w r. ap (λ b. b.mark.value) r.1 };
+
+    ghost renews = { λ s v t w r. (r.0, ap (λ x. x.number) r.0) };
 }
 
 impl<R: Wait> CopiesWaker for TestSide<'_, R> {

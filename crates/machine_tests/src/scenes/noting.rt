@@ -6,7 +6,7 @@ use crate::bell::{Bell, named};
 use crate::poller::{Poller, Scripted, init_that_answers};
 use once_core::step::{Polled, Side};
 use once_parts::{CopiesWaker, Hand, Mark, Pollable, TaskSide};
-use once_queue::waiters::Out;
+use once_queue::waiters::{Out, Renews};
 use std::alloc::AllocGlobal;
 use std::marker::Model;
 use std::random::RandomSource;
@@ -174,7 +174,17 @@ impl<R: Wait> Side<Bell> for Noting<'_, R> {
     }
 }
 
+impl<R: Wait> Renews<Bell> for Noting<'_, R> {
+    ghost renewed = { λ s v t w. (t ≡ s) × (w ≡ v) };
+
+    // A task has one bell, which stays.
+    fn renew(&mut self, listed: &mut Bell) {
+        let _ = listed;
+    }
+}
+
 impl<R: Wait> TaskSide<Bell> for Noting<'_, R> {
+    ghost use Rattle.std.proofs.Common.{ap};
     ghost use Rattle.once_parts.proofs.Sides.{sided_told};
 
     ghost state = { λ s. s };
@@ -184,6 +194,10 @@ impl<R: Wait> TaskSide<Bell> for Noting<'_, R> {
     ghost runs = { λ s h. h };
 
     ghost puts = { λ s h. tt };
+
+    ghost owner = { λ s v t w r. ap (λ b. b.mark.value) r.1 };
+
+    ghost renews = { λ s v t w r. (r.0, ap (λ x. x.number) r.0) };
 }
 
 impl<R: Wait> CopiesWaker for Noting<'_, R> {

@@ -3,7 +3,7 @@ ghost use Rattle.std.specs.Prelude.{◌≡◌, false};
 ghost use Rattle.once_parts.specs.Hands.{own_of};
 ghost use Rattle.once_parts.specs.Idle.{step_of};
 ghost use Rattle.once_parts.specs.Shares.{cell_of, own};
-ghost use Rattle.once_parts.specs.Walks.{Stands};
+ghost use Rattle.once_parts.specs.Walks.{Stands, StandsOn};
 ghost use Rattle.once_parts.specs.Ways.{Leads, LeadsBy, next_by};
 
 use super::{Reached, Spent, go_on_from};
@@ -16,7 +16,7 @@ use crate::mark::TaskWaker;
 use crate::shared::Shared;
 use crate::side::TaskSide;
 use once_core::parts::Parts;
-use once_core::step::{Ending, Place, Progress, Step};
+use once_core::step::{Ending, Place, Progress, Rest, Step};
 use once_queue::waiters::Answer;
 use once_queue::word::Word;
 use pagebook::Key;
@@ -140,8 +140,8 @@ fn held<J: Key, T, W: TaskWaker + Drop, R: Wait, S: TaskSide<W, Value = T, Right
     look(inner, &mut tied.value, hand, ticket, spent, side)
 }
 
-/// The look of a waiter under the lock. Who claims takes its waker out of the list. Where another task holds, the
-/// waiter copies its waker, and is listed.
+/// The look of a waiter under the lock. Who claims takes its waker out of the list. Who is listed renews the waker
+/// there. Where another task holds, the waiter copies its waker, and is listed.
 #[inline(always)]
 pub(super) fn look<T, W: TaskWaker + Drop, S: TaskSide<W, Value = T, Right = Hand>>(
     inner: &Inner<T, W>,
@@ -174,6 +174,7 @@ pub(super) fn look<T, W: TaskWaker + Drop, S: TaskSide<W, Value = T, Right = Han
         // Only a claim takes a waker out. So there is none to put aside here, and below.
         Answer::Listed => {
             drop(taken);
+            renew(desk, hand, ticket, side);
             Reached::Waits(ticket)
         }
         held => {
@@ -188,6 +189,28 @@ pub(super) fn look<T, W: TaskWaker + Drop, S: TaskSide<W, Value = T, Right = Han
             }
         }
     }
+}
+
+// The waker of a waiter that is listed becomes that of this poll.
+#[inline(always)]
+fn renew<T, W: TaskWaker + Drop, S: TaskSide<W, Value = T, Right = Hand>>(
+    desk: &mut Desk<W>,
+    hand: &mut Hand,
+    ticket: Option<u64>,
+    side: &mut S,
+)
+    requires desk { desk.old ≡ hand.old.seen.book }
+    requires rests { StandsOn W.whose (own_of hand.old) (Step.Resting (Rest.Wait tt ticket)) }
+    ensures book { hand.new.seen.book ≡ hand.old.seen.book }
+    ensures desk { desk.new ≡ desk.old }
+    ensures hand { own_of hand.new ≡ own_of hand.old }
+    ensures state { S.state side.new ≡ S.state side.old }
+    ensures stays { S.stays side.old side.new }
+{
+    let Some(ticket) = ticket else {
+        return;
+    };
+    let _is_renewed = desk.renew(hand, ticket, side);
 }
 
 // The listing of a waiter under the lock. Who is listed has its waker in the list now, and took none out.
