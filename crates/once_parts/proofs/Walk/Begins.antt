@@ -38,8 +38,8 @@ module _ {W : Type 0} (whose : W → ℕ) (x : Sided) (v w : Own) (s : Step W �
   -- a drop fits where it begins, if it has steps to make
   drop_fits : (s : Step W ⊤) → is_resting s ≡ true → in_call (step_of_drop s) ≡ true → Fits true x w More (step_of_drop s)
   drop_fits (Resting RestStart) rests call = absurd (false≢true call)
-  drop_fits (Resting (RestWait q k)) rests call = (refl, leave_fits W ⊤ true x w q k EndDropped none tt)
-  drop_fits (Resting (RestRun by)) rests call = (refl, release_fits W ⊤ true x w by EndDropped none tt)
+  drop_fits (Resting (RestWait q k)) rests call = (refl, leave_fits W true x w q k EndDropped (none, tt))
+  drop_fits (Resting (RestRun by)) rests call = (refl, release_fits W true x w by EndDropped (none, tt))
   drop_fits (UnderWay p) rests call = absurd (false≢true rests)
   drop_fits Finished rests call = absurd (false≢true rests)
 

@@ -75,8 +75,8 @@ walked_none x v = record {
 }
 
 -- one step more
-pub walked_on : (x y z : Sided) (u v w : Own) (r q : Progress) → r ≡ More → Walked x u r y v → Walked y v q z w → Walked x u q z w
-walked_on x y z u v w r q more a b =
+pub walked_on : {x y z : Sided} {u v w : Own} {r q : Progress} → r ≡ More → Walked x u r y v → Walked y v q z w → Walked x u q z w
+walked_on {x = x} {u = u} {v = v} {w = w} {r = r} {q = q} more a b =
     let end : List Entry = progress_entries q w.number 0 w.task.kept in
     let first : entries_of u.number v.log ≡ entries_of u.number u.log ++ a.made.0 =
     a.made.2 ∙ ap (λ p. entries_of u.number u.log ++ (a.made.0 ++ progress_entries p v.number 0 v.task.kept)) more ∙ ap (λ l. entries_of u.number u.log ++ l) (append-nil a.made.0) in
