@@ -197,7 +197,8 @@ module _ {P S W : Type 0} (cell : P → Placed) (own : P → Own) {whose : W →
       -- the waker c was copied, and c' on the page, or it was refused on both
       copy_went : (q : ℕ) (j : Option ℕ) (c : Option W) (c' : Option ℕ) → option_map whose c ≡ option_map (λ w. w) c'
           → cell p' ≡ cell p → Turned (own p) (copying q j c') (told (own p).number (own p).task.kept (after_copy c' q j) []) (own p')
-          → Still (after_copy {W = W} {Q = ⊤} c tt j).closes (state s) (state s') × (r ≡ (after_copy {W = W} {Q = ⊤} c tt j).progress) × (t ≡ (after_copy {W = W} {Q = ⊤} c tt j).step) → HasGone
+          → Still (after_copy {W = W} {Q = ⊤} c tt j).closes (state s) (state s') × (r ≡ (after_copy {W = W} {Q = ⊤} c tt j).progress)
+          × (t ≡ (after_copy {W = W} {Q = ⊤} c tt j).step) → HasGone
       copy_went q j c c' mine same d (now, more, leads) =
           let leaves : LeavesBoth (after_copy {W = W} {Q = ⊤} c tt j).closes =
           record { side_is = now; number = d.number; waker = ap (λ (x : TaskState). x.waker) d.task; kept = ap (λ (x : TaskState). x.kept) d.task } in
