@@ -12,7 +12,8 @@ use Rattle.once_world.specs.Tasks.{LastCall, last_call}
 use Rattle.once_queue.proofs.Listing.Members.{eqb_self}
 use Rattle.once_parts.specs.Kept.{has_passed, hands_out}
 use Rattle.once_world.specs.Book.{At, Door, IsBook, Page, Queue, TaskState}
-use Rattle.once_world.specs.Machine.{AtCountOut, AtDoorTake, AtLeave, AtList, AtLook, AtRelease, EndDropped, EndMemory, Ending, Place, RestWait, Resting, SharedState, UnderWay, look_answer, pass_entries}
+use Rattle.once_world.specs.Machine.{AtCountOut, AtDoorTake, AtLeave, AtList, AtLook, AtRelease, EndDropped, EndMemory, Ending, Place, RestWait, Resting}
+use Rattle.once_world.specs.Machine.{SharedState, UnderWay, look_answer, pass_entries}
 use Rattle.once_world.proofs.History.Cells.{holder_unset, set_free}
 use Rattle.once_world.proofs.Input.Headline.{task_fits}
 use Rattle.once_world.proofs.Invariant.Facts.{AtPlace, AtStep, MayLeave}

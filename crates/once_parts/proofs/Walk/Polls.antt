@@ -53,7 +53,8 @@ pub record Polled {W : Type 0} (whose : W → ℕ) (y : Sided) (u w : Own) (e : 
   pub stands : StandsOn whose w (step_of i)
 
 -- it began, and its steps were made
-pub polled : {W : Type 0} {whose : W → ℕ} {x y : Sided} {u v w : Own} {e : Ending} (i : Idle) → x.woke ≡ [] → Turned u (task_begun u.number u.task) (Begin u.number u.number ∷ []) v → Walked x v (Ended e) y w
+pub polled : {W : Type 0} {whose : W → ℕ} {x y : Sided} {u v w : Own} {e : Ending} (i : Idle) → x.woke ≡ []
+    → Turned u (task_begun u.number u.task) (Begin u.number u.number ∷ []) v → Walked x v (Ended e) y w
     → Stands whose false y w (Ended e) (step_of i) → Polled whose y u w e i
 polled {u = u} {v = v} {w = w} {e = e} i none begun walked stands =
     let seen = grew_on _ _ _ begun.log in

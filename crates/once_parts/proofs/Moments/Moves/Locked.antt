@@ -107,7 +107,8 @@ module _ (seen : List Entry) (d : Desked) (t : ℕ) (x : TaskState) where
   section_step room (AtList q k w) at is n put slot pages log book on = list_load most n put slot pages log t x some book on.1.1.0 d.head d.listings on.1.0 q k w room at
   section_step room (AtRelease q e) at is n put slot pages log book on =
       let r : Bool = is_value e in
-      subst (λ m. Makes ((n + m) % 2 ^ 64) put slot (slice_set pages 1 (Queue false (release_list r d.listings))) log (section_entries room n (Section q (Release r))) (next_at (AtCountOut e))) (more_is r d.head)
+      subst (λ m. Makes ((n + m) % 2 ^ 64) put slot (slice_set pages 1 (Queue false (release_list r d.listings))) log (section_entries room n (Section q (Release r))) (next_at (AtCountOut e)))
+      (more_is r d.head)
       (release_add most n put slot pages log t x some book on.1.1.0 d.head d.listings on.1.0 q e at)
   section_step room (AtLeave q k e) at is n put slot pages log book on = leave_load most n put slot pages log t x some book on.1.1.0 d.head d.listings on.1.0 q k e at
   section_step room _ at is n put slot pages log book on = absurd is

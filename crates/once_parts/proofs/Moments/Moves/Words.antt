@@ -99,7 +99,8 @@ module _ (seen : List Entry) (t : ℕ) (x : TaskState) where
       → IsBook most (either b (old + 1) n) put slot (put_on (in_page q old b) (hand t x) pages) (log ++ [])
   in_by q old {n = n} {put = put} {slot = slot} {pages = pages} {log = log} book pen at l true e =
       let b : IsBook most old put slot pages log = subst (λ w. IsBook most w put slot pages log) (eqb-true n old e) book in
-      subst (λ es. IsBook most (old + 1) put slot (slice_set pages (suc (suc t)) (At (record x { step = (after_count_in true (flags_of old).ready q).step }))) (log ++ es)) (in_told (flags_of old).ready q)
+      subst (λ es. IsBook most (old + 1) put slot (slice_set pages (suc (suc t)) (At (record x { step = (after_count_in true (flags_of old).ready q).step }))) (log ++ es))
+      (in_told (flags_of old).ready q)
       (count_in most old put slot pages log t x some b pen q at (omega arith) l)
   in_by q old {n = n} {put = put} {slot = slot} {pages = pages} {log = log} book pen at l false e =
       subst (λ ps. IsBook most n put slot ps (log ++ [])) (sym (set_same pages (suc (suc t)) (At x) pen)) (subst (IsBook most n put slot pages) (sym (append-nil log)) book)

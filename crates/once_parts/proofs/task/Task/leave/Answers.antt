@@ -71,8 +71,9 @@ returns g c =
     let last : Own = own c.go_on.new.parts in
     let opens = drop_opens g.W.TaskWaker.whose (own c.self.inside.parts) (own c.begin_drop.new.self) c.step-step.result rests (ap in_call (sym c.begin_drop-2.ensures.step) ∙ call)
     c.begin_drop.ensures.did in
-    let end = drop_ended refl c.go_on.new.step walked
-    (c.go_on.ensures.stands true (stands_closed (g.S.TaskSide.state c.args.side.now) c.step-step.result closed c.begin_drop-2.ensures.step (number, c.requires.none) rests c.begin_drop.ensures.did call)) c.go_on.ensures.over in
+    let stands = c.go_on.ensures.stands true
+    (stands_closed (g.S.TaskSide.state c.args.side.now) c.step-step.result closed c.begin_drop-2.ensures.step (number, c.requires.none) rests c.begin_drop.ensures.did call) in
+    let end = drop_ended refl c.go_on.new.step walked stands c.go_on.ensures.over in
     rw (← c.self.view_is) (record {
       cell = c.go_on.ensures.cell ∙ c.begin_drop.ensures.cell;
       number = walked.number ∙ c.begin_drop.ensures.did.number;
