@@ -8,9 +8,10 @@ use Rattle.once_queue.specs.Word.{flags_of}
 use Rattle.once_core.specs.declared.step.Polled.{Polled}
 use Rattle.once_core.specs.declared.step.Polled.TheVariants.{Pending, Value, Error}
 use Rattle.once_core.specs.Steps.{is_resting, step_of_drop}
-use Rattle.once_core.specs.Table.{CountIn, CountedIn, DoorPut, DoorTake, PutQueue, Ran as PolledInit, Refused as RefusedCopy, Run, Taken}
+use Rattle.once_core.specs.Table.{Next, CountIn, CountedIn, DoorPut, DoorTake, PutQueue, Ran as PolledInit, Refused as RefusedCopy, Run, Taken}
 use Rattle.once_core.specs.Table.{Call, Load, Quick, Fast, AddOne, CountOut, Told, after, after_count_in, after_run, call_at, closing_end, next_end}
 use Rattle.once_world.specs.Record.{Begin, Entry, Ran}
+use Rattle.once_world.specs.declared.record.Ran.{Ran as InitAnswer}
 use Rattle.once_world.specs.declared.record.Ran.TheVariants.{Pending as RanPending, Value as RanValue, Error as RanError}
 use Rattle.once_world.specs.Book.{TaskState}
 use Rattle.once_world.specs.Machine.{AtCountIn, AtDoorPut, AtDoorTake, AtList, AtRun, EndMemory, Ending, Place, Step, UnderWay, keeps, kept_after, records}
@@ -23,7 +24,7 @@ use Rattle.once_parts.specs.Own.{IsHand, Turned, number_in, own_in, task_in, tol
 use Rattle.once_parts.specs.Page.{Went, WordTells, call_in, given_in, next_of}
 use Rattle.once_parts.specs.Acts.{Goes, Makes, Stays, Tells}
 use Rattle.once_parts.specs.Places.{CanRefuse}
-use Rattle.once_parts.proofs.Moments.Mine.{drop_of, one_of, told_of}
+use Rattle.once_parts.proofs.Moments.Mine.{AreOf, drop_of, one_of, told_of}
 use Rattle.once_queue.proofs.Listing.Members.{eqb_self}
 use Rattle.once_parts.proofs.Tells.{leaves_stays, leaves_turns, moves_tell, notes_tell}
 
@@ -68,7 +69,8 @@ module _ (seen : List Entry) (t : ℕ) (x : TaskState) where
   full_tells : (q n : ℕ) (b r : Bool) (w : View Entry Sheet) → (flags_of n).ready ≡ r → Leaves seen (hand t x) (full_page seen t x q n b) (full_told seen t x q n b) w
       → cond b (Stays own w) (GoesAt (UnderWay (AtCountIn q)) (CountedIn false r) w)
   full_tells q n true r w e l = leaves_stays seen t x w l
-  full_tells q n false r w e l = subst (λ b. GoesAt (UnderWay (AtCountIn q)) (CountedIn false b) w) e (leaves_turns seen t x _ _ w (told_of t x.kept (after_count_in false (flags_of n).ready q) [] tt) l)
+  full_tells q n false r w e l = subst (λ b. GoesAt (UnderWay (AtCountIn q)) (CountedIn false b) w) e
+      (leaves_turns seen t x _ _ w (told_of t x.kept (after_count_in false (flags_of n).ready q) [] tt) l)
 
   -- that load
   full_by : (s : Step ℕ ℕ) → x.step ≡ s → call_in s ≡ CountIn
@@ -107,12 +109,19 @@ module _ (seen : List Entry) (t : ℕ) (x : TaskState) where
   none_by (UnderWay (AtDoorTake e)) at can = moves_tell IsKept own 1 (λ n. n) _ _ (λ n w r. none_tells e (n == 0) w r) (none_moves seen t x e at)
   none_by _ at can = let no : ⊥ = cc in absurd no
 
+  -- what a poll of the init records is of t
+  of_run : (r : InitAnswer) (next : Next ℕ ℕ) → AreOf t (told t (kept_after r x.kept) next (Ran t r ∷ []))
+  of_run r next = told_of t (kept_after r x.kept) next (Ran t r ∷ []) (one_of t (Ran t r) (eqb_self t))
+
   -- the init answers
   ran_by : (a : Polled) (s : Step ℕ ℕ) → x.step ≡ s → call_in s ≡ Run
       → Notes IsKept own (λ w. GoesAt s (PolledInit a) w)
-  ran_by Pending (UnderWay (AtRun by)) at can = notes_tell IsKept own _ _ (λ w r. leaves_turns seen t x _ _ w (told_of t (kept_after RanPending x.kept) (after_run Pending by) (Ran t RanPending ∷ []) (one_of t (Ran t RanPending) (eqb_self t))) r.1) (ran_notes seen t x by RanPending tt at)
-  ran_by Value (UnderWay (AtRun by)) at can = notes_tell IsKept own _ _ (λ w r. leaves_turns seen t x _ _ w (told_of t (kept_after (RanValue 0) x.kept) (after_run Value by) (Ran t (RanValue 0) ∷ []) (one_of t (Ran t (RanValue 0)) (eqb_self t))) r.1) (ran_notes seen t x by (RanValue 0) refl at)
-  ran_by Error (UnderWay (AtRun by)) at can = notes_tell IsKept own _ _ (λ w r. leaves_turns seen t x _ _ w (told_of t (kept_after (RanError 0) x.kept) (after_run Error by) (Ran t (RanError 0) ∷ []) (one_of t (Ran t (RanError 0)) (eqb_self t))) r.1) (ran_notes seen t x by (RanError 0) tt at)
+  ran_by Pending (UnderWay (AtRun by)) at can = notes_tell IsKept own _ _ (λ w r. leaves_turns seen t x _ _ w (of_run RanPending (after_run Pending by)) r.1)
+      (ran_notes seen t x by RanPending tt at)
+  ran_by Value (UnderWay (AtRun by)) at can = notes_tell IsKept own _ _ (λ w r. leaves_turns seen t x _ _ w (of_run (RanValue 0) (after_run Value by)) r.1)
+      (ran_notes seen t x by (RanValue 0) refl at)
+  ran_by Error (UnderWay (AtRun by)) at can = notes_tell IsKept own _ _ (λ w r. leaves_turns seen t x _ _ w (of_run (RanError 0) (after_run Error by)) r.1)
+      (ran_notes seen t x by (RanError 0) tt at)
   ran_by a _ at can = let no : ⊥ = cc in absurd no
 
   -- the copy is refused
@@ -152,7 +161,8 @@ module _ (seen : List Entry) (h : Held Sheet) (is : IsHand seen h) where
 
   pub begin_keeps : is_resting (task_in h).step ≡ true → Notes IsKept (seen, h) (Tells BeginPoll (seen, h) 0)
   begin_keeps r = of_noting (λ v. Tells BeginPoll v 0)
-      (notes_tell IsKept _ _ _ (λ w l. leaves_turns seen (number_in h) (task_in h) _ _ w (one_of (number_in h) (Begin (number_in h) (number_in h)) (eqb_self (number_in h))) l.1) (begun_notes seen (number_in h) (task_in h) r))
+      (notes_tell IsKept _ _ _ (λ w l. leaves_turns seen (number_in h) (task_in h) _ _ w (one_of (number_in h) (Begin (number_in h) (number_in h)) (eqb_self (number_in h))) l.1)
+      (begun_notes seen (number_in h) (task_in h) r))
 
   pub drop_keeps : is_resting (task_in h).step ≡ true → Notes IsKept (seen, h) (Tells BeginDrop (seen, h) 0)
   drop_keeps r = of_noting (λ v. Tells BeginDrop v 0)

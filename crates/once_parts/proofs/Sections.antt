@@ -19,7 +19,8 @@ use Rattle.once_parts.specs.Page.{call_in, given_in, next_of, queue_of}
 use Rattle.once_parts.specs.Places.{CanRest}
 use Rattle.once_parts.specs.Sections.{CanNote, IsBoth, IsLoading, IsSection, SectionShows, Tells, desk_put, more_released, own_behind, section_desk, section_hands, section_told}
 use Rattle.once_parts.proofs.Moments.Mine.{AreOf, all_of, told_of}
-use Rattle.once_parts.proofs.Moments.Moves.Locked.{again_notes, all, found_notes, get_notes, new_moves, pages_after, rest_notes, section_entries, section_moves, section_next, section_of_t, section_word, stand_notes, take_notes}
+use Rattle.once_parts.proofs.Moments.Moves.Locked.{again_notes, all, found_notes, get_notes, new_moves, pages_after, rest_notes, stand_notes, take_notes}
+use Rattle.once_parts.proofs.Moments.Moves.Locked.{section_entries, section_moves, section_next, section_of_t, section_word}
 use Rattle.once_parts.proofs.Tells.{grew_nothing, moves_tell, notes_tell}
 
 -- a hand that is known to have both pages and a task's

@@ -62,7 +62,8 @@ module _ (seen : List Entry) (t : ℕ) (x : TaskState) where
   -- and has written it
   put_by : (s : Step ℕ ℕ) → x.step ≡ s → call_in s ≡ Put → Moves IsKept (seen, writing_hand seen t x) 2 (λ _. 2)
       (λ n w. Turns (seen, writing_hand seen t x) (record x { step = (next_of s x.waker PutValue).step }) (told t x.kept (next_of s x.waker PutValue) []) w)
-  put_by (UnderWay (AtPut by)) at can = moves_tell IsKept _ 2 (λ _. 2) _ _ (λ n w r. leaves_turns seen t x _ _ w (told_of t x.kept (next_at (release_place by EndValue)) [] tt) r) (put_value_moves seen t x by at)
+  put_by (UnderWay (AtPut by)) at can = moves_tell IsKept _ 2 (λ _. 2) _ _ (λ n w r. leaves_turns seen t x _ _ w (told_of t x.kept (next_at (release_place by EndValue)) [] tt) r)
+      (put_value_moves seen t x by at)
   put_by _ at can = let no : ⊥ = cc in absurd no
 
 -- the same of any hand that is a task's

@@ -12,7 +12,8 @@ use Rattle.once_world.specs.Tasks.{LastCall, last_call}
 use Rattle.once_queue.proofs.Listing.Members.{eqb_self}
 use Rattle.once_parts.specs.Kept.{has_passed, hands_out}
 use Rattle.once_world.specs.Book.{At, Door, IsBook, Page, Queue, TaskState}
-use Rattle.once_world.specs.Machine.{AtCountOut, AtDoorTake, AtLeave, AtList, AtLook, AtRelease, EndDropped, EndMemory, Ending, Place, RestWait, Resting, SharedState, UnderWay, look_answer, pass_entries}
+use Rattle.once_world.specs.Machine.{AtCountOut, AtDoorTake, AtLeave, AtList, AtLook, AtRelease, EndDropped, EndMemory, Ending, Place, RestWait, Resting}
+use Rattle.once_world.specs.Machine.{SharedState, UnderWay, look_answer, pass_entries}
 use Rattle.once_world.proofs.History.Cells.{holder_unset, set_free}
 use Rattle.once_world.proofs.Input.Headline.{task_fits}
 use Rattle.once_world.proofs.Invariant.Facts.{AtPlace, AtStep, MayLeave}
@@ -55,7 +56,7 @@ own_found false t k v l xs empty is own found = ⊎_elim
     (λ e. same_Some v l (same_Some (Some v) (Some l) (sym found ∙ e)) ∙ own)
     (λ e. absurd (none-some v (same_Some None (Some v) (sym e ∙ found)))) (is refl)
 
-module _ (limit n put : ℕ) (slot : Bool) (pages : List Page) (log : List Entry) (t : ℕ) (x : TaskState) (some : 0 < limit)
+module _ {limit n put : ℕ} {slot : Bool} {pages : List Page} {log : List Entry} (t : ℕ) {x : TaskState} (some : 0 < limit)
     (book : IsBook limit n put slot pages log) (pen : slice_get pages (suc (suc t)) ≡ Some (At x)) where
   -- what all tasks share
   abbrev c : SharedState
@@ -65,30 +66,34 @@ module _ (limit n put : ℕ) (slot : Bool) (pages : List Page) (log : List Entry
   abbrev m : Moment limit n put slot pages log t x
   m = moment limit n put slot pages log t x some book pen
 
+  -- what stands for the task at its place
+  at_place : (p : Place ℕ ℕ) → x.step ≡ UnderWay p → AtPlace Once limit t c m.w.history p
+  at_place p at = stands limit n put slot pages log t x some book pen p at
+
   -- the value is not set where a holder is about to give the right back
   pub unset_at : (q : ℕ) (e : Ending) → x.step ≡ UnderWay (AtRelease q e) → (flags_of n).ready ≡ false
   unset_at q e at =
-      let a = stands limit n put slot pages log t x some book pen (AtRelease q e) at in
+      let a = at_place (AtRelease q e) at in
       ap (λ (f : Flags). f.ready) book.1.word_is ∙ m.fits.shared.ready_is ∙ holder_unset t (cell Once m.w.history) (releasing_holds Once t c m.w.history e a.0)
 
   -- a waiter that leaves has passed its turn on just where it hands somebody out
-  pub passed_at : (q k : ℕ) (e : Ending) → x.step ≡ UnderWay (AtLeave q k e) → (X : List ℕ)
+  pub passed_at : {q k : ℕ} {e : Ending} → x.step ≡ UnderWay (AtLeave q k e) → (X : List ℕ)
       → has_passed t (log ++ told t x.kept (next_at (AtCountOut e)) (pass_entries t X)) ≡ hands_out X
-  passed_at q k e at X =
-      let a = leaves_unpassed t m.w.history e (stands limit n put slot pages log t x some book pen (AtLeave q k e) at).0 in
+  passed_at {q = q} {k = k} {e = e} at X =
+      let a = leaves_unpassed t m.w.history e (at_place (AtLeave q k e) at).0 in
       ap (λ l. (last_call Once t l).passed) (sym (grown m.w.history log (pass_entries t X) book.1.log_is)) ∙ passed_after t m.w.history X a
 
   -- the queue of a section stands at the door
-  pub door_at : (made : ℕ) (door : Option ℕ) → slice_get pages 0 ≡ Some (Door made door) → (p : Place ℕ ℕ) → IsSection (call_at p) → x.step ≡ UnderWay p → door ≡ Some (section_queue (call_at p))
-  door_at made door there p is at =
-      sym (door_of c.queues made c.door door (sym book.1.door_is ∙ there)).1 ∙ stood_at limit t c m.w.history p is (stands limit n put slot pages log t x some book pen p at)
+  pub door_at : {made : ℕ} {door : Option ℕ} → slice_get pages 0 ≡ Some (Door made door) → (p : Place ℕ ℕ) → IsSection (call_at p) → x.step ≡ UnderWay p → door ≡ Some (section_queue (call_at p))
+  door_at {made = made} {door = door} there p is at =
+      sym (door_of c.queues made c.door door (sym book.1.door_is ∙ there)).1 ∙ stood_at limit t c m.w.history p is (at_place p at)
 
-  module _ (head : Bool) (xs : List (Listing ℕ)) (queue : slice_get pages 1 ≡ Some (Queue head xs)) where
+  module _ {head : Bool} {xs : List (Listing ℕ)} (queue : slice_get pages 1 ≡ Some (Queue head xs)) where
     -- nobody holds under the lock, and nobody is listed, where the queue is taken out of the door
     pub bare_at : (e : Ending) → x.step ≡ UnderWay (AtDoorTake e) → (head ≡ false) × (xs ≡ [])
     bare_at e at =
         let own = queue_of c.head head c.listings xs (sym book.1.queue_is ∙ queue) in
-        let r : c.ready ≡ true = (stands limit n put slot pages log t x some book pen (AtDoorTake e) at).1 in
+        let r : c.ready ≡ true = (at_place (AtDoorTake e) at).1 in
         let free : c.head ≡ false = no_head c.quick c.head (sym (set_free (cell Once m.w.history) (sym m.fits.shared.ready_is ∙ r)) ∙ m.fits.shared.held_is) in
         (sym own.0 ∙ free, sym own.1 ∙ m.unowned.queue.set_empty r)
 
@@ -101,8 +106,12 @@ module _ (limit n put : ℕ) (slot : Bool) (pages : List Page) (log : List Entry
         own_found c.ready t k v (last_call Once t m.w.history).listed c.listings m.unowned.queue.set_empty
         (λ r. ⊎_elim inl (λ e. inr e.0) (a.0.2.1 r)) listed (ap (find_listing k) own.1 ∙ found)
 
-    -- a look need not compare wakers: its own listing has its waker where it was not called
-    pub look_is : (q : ℕ) (k : Option ℕ) → x.step ≡ UnderWay (AtLook q k) → (r : Bool) → (flags_of n).ready ≡ r
+    -- a look need not compare wakers, by whether the value is set: its own listing has its waker where it was not called
+    look_by : (q : ℕ) (k : Option ℕ) → x.step ≡ UnderWay (AtLook q k) → (r : Bool) → (flags_of n).ready ≡ r
         → look_answer (Some (sees (flags_of n) head)) (is_waker x.waker (own_listing k xs)) ≡ look_answer (Some (sees (flags_of n) head)) (is_some (option_flatten (own_listing k xs)))
-    look_is q k at true e = rw e refl
-    look_is q k at false e = ap (look_answer (Some (sees (flags_of n) head))) (look_own limit n put slot pages log t x some book pen head xs queue q k at e)
+    look_by q k at true e = rw e refl
+    look_by q k at false e = ap (look_answer (Some (sees (flags_of n) head))) (look_own limit n put slot pages log t x some book pen head xs queue q k at e)
+
+    pub look_is : (q : ℕ) (k : Option ℕ) → x.step ≡ UnderWay (AtLook q k)
+        → look_answer (Some (sees (flags_of n) head)) (is_waker x.waker (own_listing k xs)) ≡ look_answer (Some (sees (flags_of n) head)) (is_some (option_flatten (own_listing k xs)))
+    look_is q k at = look_by q k at (flags_of n).ready refl

@@ -14,28 +14,28 @@ abbrev pub AreOn : Held Page → List Page → Type 0
 AreOn [] ps = Unit {0}
 AreOn (e ∷ h) ps = (slice_get ps e.0 ≡ Some e.1) × AreOn h ps
 
--- the page on a sheet
-page_at : (ss : List Sheet) (k : ℕ) (es : List Entry) (p : Page) → slice_get ss k ≡ Some (sheet es p) → slice_get (pages_in ss) k ≡ Some p
-page_at [] k es p e = let no : ⊥ = cc in absurd no
-page_at (s ∷ ss) zero es p e = let same : s ≡ sheet es p = cc in ap (λ (s : Sheet). Some s.page) same
-page_at (s ∷ ss) (suc k) es p e = page_at ss k es p e
+-- the page on a sheet, whoever writes
+pub page_of : (ss : List Sheet) (k : ℕ) (s : Sheet) → slice_get ss k ≡ Some s → slice_get (pages_in ss) k ≡ Some s.page
+page_of [] k s e = let no : ⊥ = cc in absurd no
+page_of (z ∷ ss) zero s e = let same : z ≡ s = cc in ap (λ (s : Sheet). Some s.page) same
+page_of (z ∷ ss) (suc k) s e = page_of ss k s e
 
 -- a hand that agrees with the book
 pub are_on : (seen : List Entry) (h : Held Page) (ss : List Sheet) → Agrees (sheets seen h) ss → AreOn h (pages_in ss)
 are_on seen [] ss a = tt
-are_on seen (e ∷ h) ss a = (page_at ss e.0 (entries_on e.0 seen) e.1 a.0, are_on seen h ss a.1.1)
+are_on seen (e ∷ h) ss a = (page_of ss e.0 (sheet (entries_on e.0 seen) e.1) a.0, are_on seen h ss a.1.1)
 
 -- one sheet is set
-page_set : (ss : List Sheet) (k : ℕ) (es : List Entry) (p : Page) → pages_in (slice_set ss k (sheet es p)) ≡ slice_set (pages_in ss) k p
-page_set [] k es p = refl
-page_set (s ∷ ss) zero es p = refl
-page_set (s ∷ ss) (suc k) es p = ap (λ (xs : List Page). s.page ∷ xs) (page_set ss k es p)
+pub page_put : (ss : List Sheet) (k : ℕ) (s : Sheet) → pages_in (slice_set ss k s) ≡ slice_set (pages_in ss) k s.page
+page_put [] k s = refl
+page_put (z ∷ ss) zero s = refl
+page_put (z ∷ ss) (suc k) s = ap (λ (xs : List Page). z.page ∷ xs) (page_put ss k s)
 
 -- a page that is set to what it is
-set_still : (ps : List Page) (k : ℕ) (p : Page) → slice_get ps k ≡ Some p → slice_set ps k p ≡ ps
-set_still [] k p e = refl
-set_still (q ∷ ps) zero p e = let same : q ≡ p = cc in ap (λ z. z ∷ ps) (sym same)
-set_still (q ∷ ps) (suc k) p e = ap (λ zs. q ∷ zs) (set_still ps k p e)
+pub set_same : {X : Type 0} (xs : List X) (k : ℕ) (x : X) → slice_get xs k ≡ Some x → slice_set xs k x ≡ xs
+set_same [] k x e = refl
+set_same (y ∷ xs) zero x e = let same : y ≡ x = cc in ap (λ z. z ∷ xs) (sym same)
+set_same (y ∷ xs) (suc k) x e = ap (λ zs. y ∷ zs) (set_same xs k x e)
 
 -- the sheets of a hand whose first pages are set to these, where the log is this
 abbrev sheets_set : List Entry → List Page → Held Page → List Sheet
@@ -56,11 +56,11 @@ module _ (seen log : List Entry) where
   put_pages [] (e ∷ h) ss a =
       let s : Sheet = sheet (entries_on e.0 log) e.1 in
       put_pages [] h (slice_set ss e.0 s) (agrees_set (sheets seen h) e.0 s ss a.1.0 a.1.1)
-      ∙ page_set ss e.0 (entries_on e.0 log) e.1 ∙ set_still (pages_in ss) e.0 e.1 (page_at ss e.0 (entries_on e.0 seen) e.1 a.0)
+      ∙ page_put ss e.0 s ∙ set_same (pages_in ss) e.0 e.1 (page_of ss e.0 (sheet (entries_on e.0 seen) e.1) a.0)
   put_pages (y ∷ ys) (e ∷ h) ss a =
       let s : Sheet = sheet (entries_on e.0 log) y in
       put_pages ys h (slice_set ss e.0 s) (agrees_set (sheets seen h) e.0 s ss a.1.0 a.1.1)
-      ∙ ap (put ys h) (page_set ss e.0 (entries_on e.0 log) y)
+      ∙ ap (put ys h) (page_put ss e.0 s)
 
   -- the hand afterwards
   hand_after : (ys : List Page) (h : Held Page) → rewritten (sheets_set log ys h) (sheets seen h) ≡ sheets log (rewritten ys h)
@@ -69,12 +69,9 @@ module _ (seen log : List Entry) where
   hand_after [] (e ∷ h) = ap (λ (xs : Held Sheet). (e.0, sheet (entries_on e.0 log) e.1) ∷ xs) (hand_after [] h)
   hand_after (y ∷ ys) (e ∷ h) = ap (λ (xs : Held Sheet). (e.0, sheet (entries_on e.0 log) y) ∷ xs) (hand_after ys h)
 
--- a page that does not write is not that of the one who writes
-apart_at : (ss : List Sheet) (i j : ℕ) (es fs : List Entry) (p : Page) (x : TaskState) → slice_get ss i ≡ Some (sheet es p) → slice_get ss j ≡ Some (writing_sheet fs x) → i ≢ j
-apart_at ss i j es fs p x a b e =
-    let same : ◌≡◌ {A = Option Sheet} (Some (sheet es p)) (Some (writing_sheet fs x)) = sym a ∙ ap (slice_get ss) e ∙ b in
-    let no : sheet es p ≡ writing_sheet fs x = cc in
-    false≢true (ap (λ (s : Sheet). s.writing) no)
+-- a sheet that does not write is not one that does
+pub apart : (es fs : List Entry) (p : Page) (x : TaskState) → ◌≡◌ {A = Option Sheet} (Some (sheet es p)) (Some (writing_sheet fs x)) → ⊥
+apart es fs p x e = let same : sheet es p ≡ writing_sheet fs x = cc in false≢true (ap (λ (s : Sheet). s.writing) same)
 
 module _ (seen log : List Entry) where
   -- who writes goes on writing while others change their pages
@@ -85,17 +82,17 @@ module _ (seen log : List Entry) where
   writer_stays [] (e ∷ h) ss j fs x a w =
       let s : Sheet = sheet (entries_on e.0 log) e.1 in
       writer_stays [] h (slice_set ss e.0 s) j fs x (agrees_set (sheets seen h) e.0 s ss a.1.0 a.1.1)
-      (set_other ss e.0 j s (apart_at ss e.0 j (entries_on e.0 seen) fs e.1 x a.0 w) ∙ w)
+      (set_other ss e.0 j s (λ n. apart (entries_on e.0 seen) fs e.1 x (sym a.0 ∙ ap (slice_get ss) n ∙ w)) ∙ w)
   writer_stays (y ∷ ys) (e ∷ h) ss j fs x a w =
       let s : Sheet = sheet (entries_on e.0 log) y in
       writer_stays ys h (slice_set ss e.0 s) j fs x (agrees_set (sheets seen h) e.0 s ss a.1.0 a.1.1)
-      (set_other ss e.0 j s (apart_at ss e.0 j (entries_on e.0 seen) fs e.1 x a.0 w) ∙ w)
+      (set_other ss e.0 j s (λ n. apart (entries_on e.0 seen) fs e.1 x (sym a.0 ∙ ap (slice_get ss) n ∙ w)) ∙ w)
 
   -- so the state of the slot stays
-  state_stays : (k : ℕ) (slot : Bool) (ys : List Page) (h : Held Page) (ss : List Sheet) → Agrees (sheets seen h) ss → IsState k slot ss → IsState k slot (put (sheets_set log ys h) (sheets seen h) ss)
-  state_stays k slot ys h ss a (inl s) = inl s
-  state_stays k slot ys h ss a (inr (inl s)) = inr (inl s)
-  state_stays k slot ys h ss a (inr (inr s)) = inr (inr (s.0, s.1, s.2, s.3, s.4, s.5, writer_stays ys h ss (suc (suc s.2)) s.5 s.3 a s.6, s.7))
+  state_stays : {k : ℕ} {slot : Bool} (ys : List Page) (h : Held Page) (ss : List Sheet) → Agrees (sheets seen h) ss → IsState k slot ss → IsState k slot (put (sheets_set log ys h) (sheets seen h) ss)
+  state_stays ys h ss a (inl s) = inl s
+  state_stays ys h ss a (inr (inl s)) = inr (inl s)
+  state_stays ys h ss a (inr (inr s)) = inr (inr (s.0, s.1, s.2, s.3, s.4, s.5, writer_stays ys h ss (suc (suc s.2)) s.5 s.3 a s.6, s.7))
 
 module _ (seen log es : List Entry) where
   -- what the task of this page added is told by the log now and by what was seen
@@ -131,10 +128,11 @@ module _ (seen log es : List Entry) where
       all_set ys h (slice_set ss e.0 s) (agrees_set (sheets seen h) e.0 s ss a.1.0 a.1.1) (other_set h ss e y a.0 o)
 
   -- after a step that adds entries of the hand's tasks alone, each page has its entries
-  pub entries_put : (ys : List Page) (h : Held Page) (ss : List Sheet) → OnlyOf h es → Agrees (sheets seen h) ss → ((k : ℕ) (s : Sheet) → slice_get ss k ≡ Some s → s.entries ≡ entries_on k log)
+  entries_put : (ys : List Page) (h : Held Page) (ss : List Sheet) → OnlyOf h es → Agrees (sheets seen h) ss → ((k : ℕ) (s : Sheet) → slice_get ss k ≡ Some s → s.entries ≡ entries_on k log)
       → (k : ℕ) (s : Sheet) → slice_get (put (sheets_set longer ys h) (sheets seen h) ss) k ≡ Some s → s.entries ≡ entries_on k longer
-  entries_put ys h ss only a are k s at = all_set ys h ss a
-      (λ k s at apart. are k s at ∙ sym (append-nil (entries_on k log)) ∙ ap (λ l. entries_on k log ++ l) (sym (only k apart)) ∙ sym (on_append k log es)) k s at tt
+  entries_put ys h ss only a are k s at =
+      let others : Others h ss = λ k s at apart. are k s at ∙ sym (append-nil (entries_on k log)) ∙ ap (λ l. entries_on k log ++ l) (sym (only k apart)) ∙ sym (on_append k log es) in
+      all_set ys h ss a others k s at tt
 
   -- what the hand's tasks added
   pub adds : (h : Held Page) (ss : List Sheet) → Agrees (sheets seen h) ss → ((k : ℕ) (s : Sheet) → slice_get ss k ≡ Some s → s.entries ≡ entries_on k log) → Adds seen h es longer
@@ -153,6 +151,11 @@ put_at : (w put k n : ℕ) (ns : List ℕ) → ns ≡ w ∷ put ∷ k ∷ [] →
 put_at w put k n ns e at = let same : ◌≡◌ {A = Option ℕ} (Some put) (Some n) = ap (λ xs. slice_get xs 1) (sym e) ∙ at in cc
 
 module _ (seen : List Entry) (h : Held Page) where
+  -- after a step of the hand's tasks each page has its entries
+  all_entries : (log es : List Entry) (ys : List Page) (ss : List Sheet) → OnlyOf h es → Agrees (sheets seen h) ss → ((k : ℕ) (s : Sheet) → slice_get ss k ≡ Some s → s.entries ≡ entries_on k log)
+      → (k : ℕ) (s : Sheet) → slice_get (put (sheets_set (log ++ es) ys h) (sheets seen h) ss) k ≡ Some s → s.entries ≡ entries_on k (log ++ es)
+  all_entries log es ys ss only a are = entries_put seen log es ys h ss only a are
+
   -- a step of the cell's word, and what it tells of the log after it
   pub telling_moves : (f : ℕ → ℕ) (ys : ℕ → List Page) (es : ℕ → List Entry) (P : ℕ → List Entry → Type 0) → ((n : ℕ) → OnlyOf h (es n))
       → ((n has_put : ℕ) (slot : Bool) (pages : List Page) (log : List Entry) → IsBook most n has_put slot pages log → AreOn h pages
@@ -172,8 +175,8 @@ module _ (seen : List Entry) (h : Held Page) where
             slot = k.slot;
             words_are = ap (λ xs. slice_set xs 0 (f n)) k.words_are;
             book = subst (λ ps. IsBook most (f n) k.has_put k.slot ps (log ++ es n)) (sym (put_pages seen (log ++ es n) (ys n) h ss a)) r.1;
-            state_is = state_stays seen (log ++ es n) k.state k.slot (ys n) h ss a k.state_is;
-            entries_are = entries_put seen log (es n) (ys n) h ss (only n) a k.entries_are;
+            state_is = state_stays seen (log ++ es n) (ys n) h ss a k.state_is;
+            entries_are = all_entries log (es n) (ys n) ss (only n) a k.entries_are;
           },
           (r.0, (hand_after seen (log ++ es n) (ys n) h, (log, pre, refl), adds seen log (es n) h ss a k.entries_are)),
         );
@@ -205,8 +208,8 @@ module _ (seen : List Entry) (h : Held Page) where
             slot = k.slot;
             words_are = ap (λ xs. slice_set xs 1 (f n)) k.words_are;
             book = subst (λ ps. IsBook most k.word (f n) k.slot ps (log ++ es n)) (sym (put_pages seen (log ++ es n) (ys n) h ss a)) r;
-            state_is = state_stays seen (log ++ es n) k.state k.slot (ys n) h ss a k.state_is;
-            entries_are = entries_put seen log (es n) (ys n) h ss (only n) a k.entries_are;
+            state_is = state_stays seen (log ++ es n) (ys n) h ss a k.state_is;
+            entries_are = all_entries log (es n) (ys n) ss (only n) a k.entries_are;
           },
           (hand_after seen (log ++ es n) (ys n) h, (log, pre, refl), adds seen log (es n) h ss a k.entries_are),
         );
@@ -230,8 +233,8 @@ module _ (seen : List Entry) (h : Held Page) where
             slot = k.slot;
             words_are = k.words_are;
             book = subst (λ ps. IsBook most k.word k.has_put k.slot ps (log ++ es)) (sym (put_pages seen (log ++ es) ys h ss a)) r.1;
-            state_is = state_stays seen (log ++ es) k.state k.slot ys h ss a k.state_is;
-            entries_are = entries_put seen log es ys h ss only a k.entries_are;
+            state_is = state_stays seen (log ++ es) ys h ss a k.state_is;
+            entries_are = all_entries log es ys ss only a k.entries_are;
           },
           (r.0, (hand_after seen (log ++ es) ys h, (log, pre, refl), adds seen log es h ss a k.entries_are)),
         );

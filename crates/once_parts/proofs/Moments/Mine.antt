@@ -1,29 +1,25 @@
 -- The entries of one task among those of a log: a step of a task adds to its own, and to no others.
-use Rattle.std.proofs.Common.{◌≡◌, ◌==◌, ℕ, zero, suc, Bool, true, false, List, [], ◌∷◌, ◌++◌, Option, reverse, refl, sym, ap, ◌∙◌, subst}
-use Rattle.std.proofs.lemmas.Bool.{eqb-true, ne_eqb}
+use Rattle.std.proofs.Common.{◌≡◌, ℕ, zero, suc, Bool, true, false, List, [], ◌∷◌, ◌++◌, Option, reverse, refl, sym, ap, subst, arith}
+use Rattle.std.proofs.lemmas.Bool.Decides.{nat_tests}
+use Rattle.std.proofs.lemmas.Grind.{common_steps}
 use Rattle.std.proofs.lemmas.List.{reverse-append}
 use Rattle.pagebook.specs.Pages.{Apart, Held}
 use Rattle.once_queue.specs.declared.waiters.Listing.{Listing}
 use Rattle.once_queue.proofs.Listing.Members.{eqb_self}
 use Rattle.once_core.specs.Table.{Next}
 use Rattle.once_world.specs.Places.{Progress, More, Ended, EndPending}
-use Rattle.once_world.specs.Record.{Entry, Made, Begin, Claim, Ran, Free, Fill, Pass, End, DropBegin, DropEnd, Look, Own, is_of}
+use Rattle.once_world.specs.Record.{Entry, Look, is_of}
 use Rattle.once_world.specs.declared.record.Ran.{Ran as Answer}
 use Rattle.once_world.specs.declared.record.Ran.TheVariants.{Pending as RanPending}
 use Rattle.once_world.specs.Book.{Page, TaskState}
 use Rattle.once_world.specs.Machine.{Step, Resting, UnderWay, Finished, claim_entries, drop_entries, freed_entries, pass_entries, progress_entries, release_entry}
 use Rattle.once_world.proofs.Moment.Step.{told}
-use Rattle.once_parts.specs.Kept.{entries_of, entries_on, hand, kept_if, locked}
-
--- an entry before others, and more after them
-kept_append : (b : Bool) (e : Entry) (xs ys : List Entry) → kept_if b e xs ++ ys ≡ kept_if b e (xs ++ ys)
-kept_append true e xs ys = refl
-kept_append false e xs ys = refl
+use Rattle.once_parts.specs.Kept.{entries_of, entries_on, hand, locked}
 
 -- the entries of the one list and then of the other
 pub entries_append : (t : ℕ) (xs ys : List Entry) → entries_of t (xs ++ ys) ≡ entries_of t xs ++ entries_of t ys
 entries_append t [] ys = refl
-entries_append t (e ∷ xs) ys = ap (kept_if (is_of t e) e) (entries_append t xs ys) ∙ sym (kept_append (is_of t e) e (entries_of t xs) (entries_of t ys))
+entries_append t (e ∷ xs) ys = grind (arith, common_steps, entries_append t xs ys)
 
 -- the same by the page
 pub on_append : (k : ℕ) (xs ys : List Entry) → entries_on k (xs ++ ys) ≡ entries_on k xs ++ entries_on k ys
@@ -39,31 +35,16 @@ AreOf t (e ∷ es) = (is_of t e ≡ true) × AreOf t es
 -- so all of them are its entries
 pub all_of : (t : ℕ) (es : List Entry) → AreOf t es → entries_of t es ≡ es
 all_of t [] a = refl
-all_of t (e ∷ es) a = ap (λ b. kept_if b e (entries_of t es)) a.0 ∙ ap (λ l. e ∷ l) (all_of t es a.1)
-
--- what is the number of one task is not that of another
-differ : (t u v : ℕ) → (u ≡ t → ⊥) → (v == t) ≡ true → (v == u) ≡ false
-differ t u v n a = ne_eqb v u (λ e. n (sym e ∙ eqb-true v t a))
+all_of t (e ∷ es) a = grind (arith, common_steps, all_of t es)
 
 -- an entry of one task is none of another's
 other_of : (t u : ℕ) → (u ≡ t → ⊥) → (e : Entry) → is_of t e ≡ true → is_of u e ≡ false
-other_of t u n (Made v) a = differ t u v n a
-other_of t u n (Begin v w) a = differ t u v n a
-other_of t u n (Claim v) a = differ t u v n a
-other_of t u n (Ran v r) a = differ t u v n a
-other_of t u n (Free v X) a = differ t u v n a
-other_of t u n (Fill v x X) a = differ t u v n a
-other_of t u n (Pass v X) a = differ t u v n a
-other_of t u n (End v r) a = differ t u v n a
-other_of t u n (DropBegin v) a = differ t u v n a
-other_of t u n (DropEnd v) a = differ t u v n a
-other_of t u n (Look f) a = refl
-other_of t u n (Own o g) a = refl
+other_of t u n e a = grind (arith, nat_tests, common_steps)
 
 -- so they are none of another's
 pub none_of : (t u : ℕ) → (u ≡ t → ⊥) → (es : List Entry) → AreOf t es → entries_of u es ≡ []
 none_of t u n [] a = refl
-none_of t u n (e ∷ es) a = ap (λ b. kept_if b e (entries_of u es)) (other_of t u n e a.0) ∙ none_of t u n es a.1
+none_of t u n (e ∷ es) a = grind (arith, common_steps, other_of t u n e, none_of t u n es)
 
 -- some and then others
 are_append : (t : ℕ) (xs ys : List Entry) → AreOf t xs → AreOf t ys → AreOf t (xs ++ ys)

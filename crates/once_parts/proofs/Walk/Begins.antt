@@ -18,30 +18,29 @@ use Rattle.once_parts.specs.Walks.{Fits, GoesOn, IsCall, Rests, Stands, the_queu
 use Rattle.once_parts.proofs.Desks.{prefix_on}
 use Rattle.once_parts.proofs.Walk.Fits.{leave_fits, release_fits}
 
-module _ {W : Type 0} (whose : W → ℕ) (x : Sided) (v w : Own) (s : Step W ⊤) (number : x.number ≡ v.number) (none : x.woke ≡ []) where
+module _ {W : Type 0} (x : Sided) (w : Own) where
   -- a poll fits where it begins
   poll_fits : (s : Step W ⊤) → is_resting s ≡ true → GoesOn false x w → Fits false x w More (step_of_poll s)
   poll_fits (Resting RestStart) rests b = (refl, b)
   poll_fits (Resting (RestWait q k)) rests b = (refl, b)
   poll_fits (Resting (RestRun by)) rests b = (refl, b)
-  poll_fits (UnderWay p) rests b = absurd (false≢true rests)
-  poll_fits Finished rests b = absurd (false≢true rests)
+  poll_fits _ rests b = absurd (false≢true rests)
 
+  -- a drop fits where it begins, if it has steps to make
+  drop_fits : (s : Step W ⊤) → x.woke ≡ [] → is_resting s ≡ true → in_call (step_of_drop s) ≡ true → Fits true x w More (step_of_drop s)
+  drop_fits (Resting RestStart) none rests call = absurd (false≢true call)
+  drop_fits (Resting (RestWait q k)) none rests call = (refl, leave_fits W true x w q k EndDropped (none, tt))
+  drop_fits (Resting (RestRun by)) none rests call = (refl, release_fits W true x w by EndDropped (none, tt))
+  drop_fits _ none rests call = absurd (false≢true rests)
+
+module _ {W : Type 0} {whose : W → ℕ} {x : Sided} {v w : Own} (s : Step W ⊤) (number : x.number ≡ v.number) (none : x.woke ≡ []) where
   -- a task that rests begins a poll
   pub poll_begins : x.has_init ≡ true → Rests whose v s → Turned v (task_begun v.number v.task) (Begin v.number v.number ∷ []) w → Stands whose false x w More (step_of_poll s)
   poll_begins init is d = record {
     step = poll_as whose (λ (q : ⊤). q) s ∙ ap step_of_poll is.1 ∙ sym (poll_as (λ w. w) the_queue v.task.step) ∙ ap (λ (y : TaskState). step_as (λ w. w) the_queue y.step) (sym d.task);
     number = number ∙ sym d.number;
-    fits = poll_fits s is.0 ((refl, none, ap (λ (y : TaskState). y.waker) d.task ∙ sym d.number), init);
+    fits = poll_fits x w s is.0 ((refl, none, ap (λ (y : TaskState). y.waker) d.task ∙ sym d.number), init);
   }
-
-  -- a drop fits where it begins, if it has steps to make
-  drop_fits : (s : Step W ⊤) → is_resting s ≡ true → in_call (step_of_drop s) ≡ true → Fits true x w More (step_of_drop s)
-  drop_fits (Resting RestStart) rests call = absurd (false≢true call)
-  drop_fits (Resting (RestWait q k)) rests call = (refl, leave_fits W ⊤ true x w q k EndDropped none tt)
-  drop_fits (Resting (RestRun by)) rests call = (refl, release_fits W ⊤ true x w by EndDropped none tt)
-  drop_fits (UnderWay p) rests call = absurd (false≢true rests)
-  drop_fits Finished rests call = absurd (false≢true rests)
 
   -- a task that rests begins a drop
   pub drop_begins : Rests whose v s → Turned v (task_dropping v.task) (reverse (drop_entries v.number (step_of_drop v.task.step))) w → in_call (step_of_drop s) ≡ true
@@ -49,7 +48,7 @@ module _ {W : Type 0} (whose : W → ℕ) (x : Sided) (v w : Own) (s : Step W �
   drop_begins is d call = record {
     step = drop_as whose (λ (q : ⊤). q) s ∙ ap step_of_drop is.1 ∙ sym (drop_as (λ w. w) the_queue v.task.step) ∙ ap (λ (y : TaskState). step_as (λ w. w) the_queue y.step) (sym d.task);
     number = number ∙ sym d.number;
-    fits = drop_fits s is.0 call;
+    fits = drop_fits x w s none is.0 call;
   }
 
 -- a step rests whose names are others
@@ -63,10 +62,11 @@ pub rests_there : {W : Type 0} (whose : W → ℕ) (s : Step W ⊤) (y : Step �
 rests_there whose s y rests same = sym (rests_as (λ w. w) the_queue y) ∙ sym (ap is_resting same) ∙ rests_as whose (λ q. q) s ∙ rests
 
 -- a drop begins so after the init was dropped
-pub stands_closed : {W : Type 0} (whose : W → ℕ) (x y : Sided) (v w : Own) (s t : Step W ⊤) → HasClosed x y → t ≡ step_of_drop s → x.number ≡ v.number → x.woke ≡ [] → Rests whose v s
-    → Turned v (task_dropping v.task) (reverse (drop_entries v.number (step_of_drop v.task.step))) w → in_call (step_of_drop s) ≡ true → Stands whose true y w More t
-stands_closed whose x y v w s t closed at number none rests did call = subst (Stands whose true y w More) (sym at)
-    (drop_begins whose y v w s (ap (λ (x : Sided). x.number) closed ∙ number) (ap (λ (x : Sided). x.woke) closed ∙ none) rests did call)
+pub stands_closed : {W : Type 0} {whose : W → ℕ} (x : Sided) {y : Sided} {v w : Own} (s : Step W ⊤) {t : Step W ⊤} → HasClosed x y
+    → t ≡ step_of_drop s → (x.number ≡ v.number) × (x.woke ≡ []) → Rests whose v s
+    → Turned v (task_dropping v.task) (reverse (drop_entries v.number (step_of_drop v.task.step))) w → in_call t ≡ true → Stands whose true y w More t
+stands_closed {whose = whose} x {y = y} {w = w} s closed at (number, none) rests did call = subst (Stands whose true y w More) (sym at)
+    (drop_begins s (ap (λ (x : Sided). x.number) closed ∙ number) (ap (λ (x : Sided). x.woke) closed ∙ none) rests did (ap in_call (sym at) ∙ call))
 
 -- a task whose drop has no step was never polled
 never_polled : {W : Type 0} (whose : W → ℕ) (v : Own) (s : Step W ⊤) (y : Step ℕ ℕ) → is_resting s ≡ true

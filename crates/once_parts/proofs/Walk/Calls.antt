@@ -4,7 +4,7 @@ use Rattle.std.specs.Prelude.{⊤}
 use Rattle.pagebook.specs.Slot.{Placed}
 use Rattle.once_core.specs.Steps.{SideTells}
 use Rattle.once_core.specs.Table.{Advances}
-use Rattle.once_world.specs.Places.{Finished, More, Progress, Resting, Step, UnderWay}
+use Rattle.once_world.specs.Places.{More, Progress, Step, UnderWay}
 use Rattle.once_parts.specs.Own.{Own}
 use Rattle.once_parts.specs.Walks.{Stands}
 use Rattle.once_parts.specs.Parts.{parts_did}
@@ -12,17 +12,9 @@ use Rattle.once_parts.specs.Sides.{IsTold, Sided}
 use Rattle.once_parts.proofs.Walk.Parts.{Went}
 use Rattle.once_parts.proofs.Walk.Lines.{line_went}
 
-module _ {P S W : Type 0} (cell : P → Placed) (own : P → Own) (whose : W → ℕ) (state : S → Sided) (side : SideTells S W) (tells : IsTold whose state side) (drops : Bool) where
-  -- one step
-  pub step_went : (at : Step W ⊤) (p p' : P) (s s' : S) (r r0 : Progress) (t : Step W ⊤) → Stands whose drops (state s) (own p) r0 at
-      → Advances (parts_did cell own whose) side at p s r t p' s' → Went cell own whose state drops p s r p' s' t
-  step_went (UnderWay at) p p' s s' r r0 t is line = line_went cell own whose state side tells drops at p p' s s' r r0 t is line
-  step_went (Resting rest) p p' s s' r r0 t is line = absurd line
-  step_went Finished p p' s s' r r0 t is line = absurd line
-
-  -- a call that makes a step goes on
-  pub goes_more : (at : Step W ⊤) (p p' : P) (s s' : S) (r r0 : Progress) (t : Step W ⊤) → Stands whose drops (state s) (own p) r0 at
-      → Advances (parts_did cell own whose) side at p s r t p' s' → r0 ≡ More
-  goes_more (UnderWay at) p p' s s' r r0 t is line = is.fits.0
-  goes_more (Resting rest) p p' s s' r r0 t is line = absurd line
-  goes_more Finished p p' s s' r r0 t is line = absurd line
+module _ {P S W : Type 0} (cell : P → Placed) (own : P → Own) {whose : W → ℕ} {state : S → Sided} {side : SideTells S W} (tells : IsTold whose state side) (drops : Bool) where
+  -- one step of a call that goes on
+  pub step_went : {p p' : P} {s s' : S} {r r0 : Progress} {t : Step W ⊤} (at : Step W ⊤) → Stands whose drops (state s) (own p) r0 at
+      → Advances (parts_did cell own whose) side at p s r t p' s' → (r0 ≡ More) × Went cell own whose state drops p s r p' s' t
+  step_went (UnderWay at) is line = (is.fits.0, line_went cell own tells drops at is line)
+  step_went _ is line = absurd line

@@ -3,7 +3,7 @@ use Rattle.std.proofs.Common.{◌≡◌, ℕ, Bool, true, false, [], ◌∷◌, 
 use Rattle.std.specs.Prelude.{⊤}
 use Rattle.std.proofs.lemmas.Bool.{false≢true}
 use Rattle.once_core.specs.Steps.{in_call}
-use Rattle.once_world.specs.Places.{EndDropped, EndError, EndFull, EndMemory, EndPending, EndValue, Ended, Ending, Finished, Progress, Resting, Step, UnderWay}
+use Rattle.once_world.specs.Places.{EndDropped, EndError, EndPending, Ended, Ending, Finished, Progress, Resting, Step, UnderWay}
 use Rattle.once_world.specs.Record.{Entry}
 use Rattle.once_world.specs.declared.record.Ran.{Ran as Answer}
 use Rattle.once_world.specs.Machine.{end_entry, progress_entries}
@@ -21,11 +21,8 @@ entry_is : (drops : Bool) (y : Sided) (w : Own) (e : Ending) → MayEnd drops y 
 entry_is true y w EndDropped m = refl
 entry_is true y w _ m = absurd m
 entry_is false y w EndDropped m = absurd m
-entry_is false y w EndPending m = refl
-entry_is false y w EndValue m = refl
 entry_is false y w EndError m = ap (λ (k : Answer). end_entry EndError w.number 0 k) m.1
-entry_is false y w EndMemory m = refl
-entry_is false y w EndFull m = refl
+entry_is false y w _ m = refl
 
 -- a drop ends as one
 only_dropped : (y : Sided) (w : Own) (e : Ending) → MayEnd true y w e → e ≡ EndDropped
@@ -42,29 +39,29 @@ told_end y w drops r (UnderWay p) f over = absurd (false≢true (sym over))
 told_end y w drops r (Resting rest) f over = (EndPending, f.0)
 told_end y w drops r Finished f over = (f.0, f.1)
 
-module _ {W : Type 0} (whose : W → ℕ) (x y : Sided) (v w : Own) (r : Progress) (e : Ending) (told : r ≡ Ended e) where
-  -- a poll that ended so
-  pub record PollEnded (s : Step W ⊤) : Type 0 where
-    pub end : Grew (end_of w.number e ∷ []) v.log w.log
-    pub entry : end_entry e w.number 0 w.task.kept ≡ end_of w.number e
-    pub error : e ≡ EndError → y.has_error ≡ true
-    pub init : e ≡ EndPending → y.has_init ≡ true
-    pub pending : e ≡ EndPending → Rests whose w s
-    pub finished : (e ≡ EndPending → ⊥) → s ≡ Finished
-    pub poll : e ≡ EndDropped → ⊥
+-- a poll that ended so
+pub record PollEnded {W : Type 0} (whose : W → ℕ) (y : Sided) (v w : Own) (e : Ending) (s : Step W ⊤) : Type 0 where
+  pub end : Grew (end_of w.number e ∷ []) v.log w.log
+  pub entry : end_entry e w.number 0 w.task.kept ≡ end_of w.number e
+  pub error : e ≡ EndError → y.has_error ≡ true
+  pub init : e ≡ EndPending → y.has_init ≡ true
+  pub pending : e ≡ EndPending → Rests whose w s
+  pub finished : (e ≡ EndPending → ⊥) → s ≡ Finished
+  pub poll : e ≡ EndDropped → ⊥
 
-  -- the newest entry is that of its end
-  end_is : Walked x v r y w → end_entry e w.number 0 w.task.kept ≡ end_of w.number e → Grew (end_of w.number e ∷ []) v.log w.log
-  end_is m is = subst (λ es. Grew es v.log w.log) (ap (λ p. progress_entries p w.number 0 w.task.kept) told ∙ ap (λ (l : Entry). l ∷ []) is) m.ends
+-- the newest entry is that of its end
+end_is : {x y : Sided} {v w : Own} {r : Progress} {e : Ending} → r ≡ Ended e → Walked x v r y w → end_entry e w.number 0 w.task.kept ≡ end_of w.number e → Grew (end_of w.number e ∷ []) v.log w.log
+end_is {v = v} {w = w} told m is = subst (λ es. Grew es v.log w.log) (ap (λ p. progress_entries p w.number 0 w.task.kept) told ∙ ap (λ (l : Entry). l ∷ []) is) m.ends
 
+module _ {W : Type 0} {whose : W → ℕ} {x y : Sided} {v w : Own} {r : Progress} {e : Ending} (told : r ≡ Ended e) where
   -- a poll ends so
-  pub poll_ended : (s : Step W ⊤) → Walked x v r y w → Stands whose false y w r s → in_call s ≡ false → PollEnded s
+  pub poll_ended : (s : Step W ⊤) → Walked x v r y w → Stands whose false y w r s → in_call s ≡ false → PollEnded whose y v w e s
   poll_ended (UnderWay p) m is over = absurd (false≢true (sym over))
   poll_ended (Resting rest) m is over =
       let pends : e ≡ EndPending = same_end r e EndPending told is.fits.0 in
       let entry = ap (λ d. end_entry d w.number 0 w.task.kept) pends ∙ ap (end_of w.number) (sym pends) in
       record {
-        end = end_is m entry;
+        end = end_is told m entry;
         entry = entry;
         error = λ err. let no : EndPending ≡ EndError = sym pends ∙ err in let never : ⊥ = cc in absurd never;
         init = λ p. is.fits.1.1;
@@ -76,7 +73,7 @@ module _ {W : Type 0} (whose : W → ℕ) (x y : Sided) (v w : Own) (r : Progres
       let same : is.fits.0 ≡ e = same_end r is.fits.0 e is.fits.1 told in
       let may : MayEnd false y w e = subst (MayEnd false y w) same is.fits.2 in
       record {
-        end = end_is m (entry_is false y w e may);
+        end = end_is told m (entry_is false y w e may);
         entry = entry_is false y w e may;
         error = error_given y w e may;
         init = λ p. absurd (subst (MayEnd false y w) p may);
@@ -94,4 +91,4 @@ module _ {W : Type 0} (whose : W → ℕ) (x y : Sided) (v w : Own) (r : Progres
       let same : is.fits.0 ≡ e = same_end r is.fits.0 e is.fits.1 told in
       let may : MayEnd true y w e = subst (MayEnd true y w) same is.fits.2 in
       let is = only_dropped y w e may in
-      (subst (λ d. Grew (end_of w.number d ∷ []) v.log w.log) is (end_is m (entry_is true y w e may)), entry_is true y w e may ∙ ap (end_of w.number) is)
+      (subst (λ d. Grew (end_of w.number d ∷ []) v.log w.log) is (end_is told m (entry_is true y w e may)), entry_is true y w e may ∙ ap (end_of w.number) is)

@@ -1,5 +1,6 @@
 -- What is known of a call holds at the place to which each line of the table leads.
 use Rattle.std.proofs.Common.{◌≡◌, ℕ, Bool, true, false, [], Option, Some, None, refl, sym, ◌∙◌, subst}
+use Rattle.std.specs.Prelude.{⊤}
 use Rattle.once_queue.specs.declared.waiters.Answer.{Answer}
 use Rattle.once_queue.specs.declared.waiters.Answer.TheVariants.{Ready, Claimed, Listed, Memory}
 use Rattle.once_core.specs.declared.step.Polled.{Polled}
@@ -7,122 +8,156 @@ use Rattle.once_core.specs.declared.step.Polled.TheVariants.{Pending, Value, Err
 use Rattle.once_core.specs.Table.{Next, after_copy, after_count_in, after_count_out, after_door_again, after_door_get, after_door_put, after_fast}
 use Rattle.once_world.specs.Places.{Ending, EndPending, EndValue, EndError, EndMemory, EndFull, EndDropped}
 use Rattle.once_core.specs.Steps.{leave_place, release_place}
-use Rattle.once_core.specs.Table.{after_list, after_load, after_look, after_quick, after_run, after_start, next_at, next_end}
+use Rattle.once_core.specs.Table.{after_list, after_load, after_look, after_quick, after_run, after_start, next_at}
 use Rattle.once_world.specs.declared.record.Ran.TheVariants.{Error as RanError}
 use Rattle.once_parts.specs.Own.{Own}
 use Rattle.once_parts.specs.Sides.{Sided}
-use Rattle.once_parts.specs.Walks.{Fits, FitsAt, HasBegun, MayEnd}
+use Rattle.once_parts.specs.Walks.{Fits, FitsAt, GoesOn, HasBegun, MayEnd}
 
 -- how a call may end stays, whoever was handed out since
-pub may_end_on : (drops : Bool) (x y : Sided) (v w : Own) (e : Ending) → y.has_error ≡ x.has_error → w.task.kept ≡ v.task.kept → MayEnd drops x v e → MayEnd drops y w e
-may_end_on true x y v w EndDropped error kept m = tt
-may_end_on true x y v w _ error kept m = absurd m
-may_end_on false x y v w EndDropped error kept m = absurd m
-may_end_on false x y v w EndPending error kept m = absurd m
-may_end_on false x y v w EndValue error kept m = tt
-may_end_on false x y v w EndError error kept m = (error ∙ m.0, kept ∙ m.1)
-may_end_on false x y v w EndMemory error kept m = tt
-may_end_on false x y v w EndFull error kept m = tt
+pub may_end_on : (drops : Bool) (x y : Sided) (v w : Own) (e : Ending) → (y.has_error ≡ x.has_error) × (w.task.kept ≡ v.task.kept)
+    → MayEnd drops x v e → MayEnd drops y w e
+may_end_on true x y v w EndDropped same m = tt
+may_end_on true x y v w _ same m = absurd m
+may_end_on false x y v w EndDropped same m = absurd m
+may_end_on false x y v w EndPending same m = absurd m
+may_end_on false x y v w EndError same m = (same.0 ∙ m.0, same.1 ∙ m.1)
+may_end_on false x y v w _ same m = tt
 
--- a poll goes on
-pub begun_on : (drops : Bool) (x y : Sided) (v w : Own) → y.woke ≡ x.woke → w.number ≡ v.number → w.task.waker ≡ v.task.waker → HasBegun drops x v → HasBegun drops y w
-begun_on drops x y v w woke number waker b = (b.0, woke ∙ b.1, waker ∙ b.2 ∙ sym number)
+-- a poll goes on, where it closes its init or not
+abbrev pub Onward : Bool → Bool → Sided → Own → Type 0
+Onward drops closes x v = HasBegun drops x v × (closes ≡ false → x.has_init ≡ true)
 
-module _ (drops : Bool) (x : Sided) (v : Own) where
-  -- a poll may end with the value, or be refused
-  ends_value : HasBegun drops x v → MayEnd drops x v EndValue
-  ends_value b = subst (λ d. MayEnd d x v EndValue) (sym b.0) tt
+-- a side is as it was, but that its init may have been dropped
+pub record Still (closes : Bool) (x y : Sided) : Type 0 where
+  pub number : y.number ≡ x.number
+  pub init : closes ≡ false → y.has_init ≡ x.has_init
+  pub value : y.has_value ≡ x.has_value
+  pub error : y.has_error ≡ x.has_error
+  pub woke : y.woke ≡ x.woke
 
-  ends_memory : HasBegun drops x v → MayEnd drops x v EndMemory
-  ends_memory b = subst (λ d. MayEnd d x v EndMemory) (sym b.0) tt
+-- nobody was handed out, and the task is the same
+pub record Same (x y : Sided) (v w : Own) : Type 0 where
+  pub woke : y.woke ≡ x.woke
+  pub number : w.number ≡ v.number
+  pub waker : w.task.waker ≡ v.task.waker
 
-  ends_full : HasBegun drops x v → MayEnd drops x v EndFull
-  ends_full b = subst (λ d. MayEnd d x v EndFull) (sym b.0) tt
+-- what a step that hands nobody out leaves of what was known
+pub record Leaves (closes : Bool) (x y : Sided) (v w : Own) : Type 0 where
+  pub side_is : Still closes x y
+  pub number : w.number ≡ v.number
+  pub waker : w.task.waker ≡ v.task.waker
+  pub kept : w.task.kept ≡ v.task.kept
 
-  ends_error : HasBegun drops x v → x.has_error ≡ true → v.task.kept ≡ RanError 0 → MayEnd drops x v EndError
-  ends_error b error kept = subst (λ d. MayEnd d x v EndError) (sym b.0) (error, kept)
+module _ (drops : Bool) {x y : Sided} {v w : Own} where
+  -- a poll has begun still
+  pub begun : Same x y v w → HasBegun drops x v → HasBegun drops y w
+  begun s b = (b.0, s.woke ∙ b.1, s.waker ∙ b.2 ∙ sym s.number)
 
-module _ (W Q : Type 0) (drops : Bool) (x : Sided) (v : Own) where
+  -- and its init is there if it was not dropped
+  pub onward : {b : Bool} → Leaves b x y v w → GoesOn drops x v → Onward drops b y w
+  onward l h = (begun (record { woke = l.side_is.woke; number = l.number; waker = l.waker }) h.0, λ e. l.side_is.init e ∙ h.1)
+
+  -- the call may end so
+  pub ending : {b : Bool} (e : Ending) → Leaves b x y v w → MayEnd drops x v e → MayEnd drops y w e
+  ending e l m = may_end_on drops x y v w e (l.side_is.error, l.kept) m
+
+  -- and nobody was handed out, if the right is to be given back
+  pub ending_held : {b : Bool} (e : Ending) → Leaves b x y v w → (x.woke ≡ []) × MayEnd drops x v e → (y.woke ≡ []) × MayEnd drops y w e
+  ending_held e l m = (l.side_is.woke ∙ m.0, ending e l m.1)
+
+module _ (W : Type 0) (drops : Bool) (x : Sided) (v : Own) where
   -- it holds of what follows
-  abbrev pub FitsNext : Next W Q → Type 0
+  abbrev pub FitsNext : Next W ⊤ → Type 0
   FitsNext n = Fits drops x v n.progress n.step
 
-  -- where the call goes on without a close, the init is there
-  abbrev pub HasInit : Next W Q → Type 0
-  HasInit n = n.closes ≡ false → x.has_init ≡ true
+  -- a poll that goes on so
+  abbrev pub Goes : Next W ⊤ → Type 0
+  Goes n = Onward drops n.closes x v
+
+  -- a poll may end with the value, or be refused, or with an error that its init gave
+  ends_by : (e : Ending) → HasBegun drops x v → MayEnd false x v e → MayEnd drops x v e
+  ends_by e b m = subst (λ d. MayEnd d x v e) (sym b.0) m
 
   -- where the right is given back
-  pub release_fits : (by : Option Q) (e : Ending) → x.woke ≡ [] → MayEnd drops x v e → FitsAt drops x v (release_place {W = W} by e)
-  release_fits None e none m = (none, m)
-  release_fits (Some q) e none m = (none, m)
+  pub release_fits : (by : Option ⊤) (e : Ending) → (x.woke ≡ []) × MayEnd drops x v e → FitsAt drops x v (release_place {W = W} by e)
+  release_fits None e m = m
+  release_fits (Some q) e m = m
 
   -- where one leaves
-  pub leave_fits : (q : Q) (k : Option ℕ) (e : Ending) → x.woke ≡ [] → MayEnd drops x v e → FitsAt drops x v (leave_place {W = W} q k e)
-  leave_fits q None e none m = m
-  leave_fits q (Some n) e none m = (none, m)
+  pub leave_fits : (q : ⊤) (k : Option ℕ) (e : Ending) → (x.woke ≡ []) × MayEnd drops x v e → FitsAt drops x v (leave_place {W = W} q k e)
+  leave_fits q None e m = m.1
+  leave_fits q (Some n) e m = m
 
-  pub start_fits : (ready new : Bool) → HasBegun drops x v → HasInit (after_start ready new) → FitsNext (after_start ready new)
-  start_fits true new b i = (EndValue, refl, ends_value drops x v b)
-  start_fits false true b i = (refl, (b, i refl))
-  start_fits false false b i = (refl, (b, i refl))
+  -- where memory was refused to one who waits
+  refused_fits : (q : ⊤) (k : Option ℕ) → HasBegun drops x v → FitsAt drops x v (leave_place {W = W} q k EndMemory)
+  refused_fits q k b = leave_fits q k EndMemory (b.1, ends_by EndMemory b tt)
 
-  pub quick_fits : (won : Bool) → HasBegun drops x v → HasInit (after_quick won) → FitsNext (after_quick won)
-  quick_fits true b i = (refl, (b, i refl))
-  quick_fits false b i = (refl, (b, i refl))
+  pub start_fits : (ready new : Bool) → Goes (after_start ready new) → FitsNext (after_start ready new)
+  start_fits true new b = (EndValue, refl, ends_by EndValue b.0 tt)
+  start_fits false true b = (refl, (b.0, b.1 refl))
+  start_fits false false b = (refl, (b.0, b.1 refl))
 
-  pub get_fits : (door : Option Q) → HasBegun drops x v → HasInit (after_door_get door) → FitsNext (after_door_get door)
-  get_fits (Some q) b i = (refl, (b, i refl))
-  get_fits None b i = (refl, (b, i refl))
+  pub quick_fits : (won : Bool) → Goes (after_quick won) → FitsNext (after_quick won)
+  quick_fits true b = (refl, (b.0, b.1 refl))
+  quick_fits false b = (refl, (b.0, b.1 refl))
 
-  pub put_fits : (door : Option Q) → HasBegun drops x v → HasInit (after_door_put door) → FitsNext (after_door_put door)
-  put_fits (Some q) b i = (refl, (b, i refl))
-  put_fits None b i = (EndMemory, refl, ends_memory drops x v b)
+  pub get_fits : (door : Option ⊤) → Goes (after_door_get door) → FitsNext (after_door_get door)
+  get_fits (Some q) b = (refl, (b.0, b.1 refl))
+  get_fits None b = (refl, (b.0, b.1 refl))
 
-  pub count_in_fits : (is_in ready : Bool) (q : Q) → HasBegun drops x v → HasInit (after_count_in is_in ready q) → FitsNext (after_count_in is_in ready q)
-  count_in_fits true true q b i = (refl, ends_value drops x v b)
-  count_in_fits true false q b i = (refl, (b, i refl))
-  count_in_fits false true q b i = (EndValue, refl, ends_value drops x v b)
-  count_in_fits false false q b i = (EndFull, refl, ends_full drops x v b)
+  pub put_fits : (door : Option ⊤) → Goes (after_door_put door) → FitsNext (after_door_put door)
+  put_fits (Some q) b = (refl, (b.0, b.1 refl))
+  put_fits None b = (EndMemory, refl, ends_by EndMemory b.0 tt)
 
-  pub load_fits : (ready : Bool) (q : Q) (k : Option ℕ) → HasBegun drops x v → HasInit (after_load ready q k) → FitsNext (after_load ready q k)
-  load_fits true q k b i = (refl, ends_value drops x v b)
-  load_fits false q k b i = (refl, (b, i refl))
+  pub count_in_fits : (is_in ready : Bool) (q : ⊤) → Goes (after_count_in is_in ready q) → FitsNext (after_count_in is_in ready q)
+  count_in_fits true true q b = (refl, ends_by EndValue b.0 tt)
+  count_in_fits true false q b = (refl, (b.0, b.1 refl))
+  count_in_fits false true q b = (EndValue, refl, ends_by EndValue b.0 tt)
+  count_in_fits false false q b = (EndFull, refl, ends_by EndFull b.0 tt)
 
-  pub copy_fits : (w : Option W) (q : Q) (k : Option ℕ) → HasBegun drops x v → HasInit (after_copy w q k) → FitsNext (after_copy w q k)
-  copy_fits (Some w) q k b i = (refl, (b, i refl))
-  copy_fits None q k b i = (refl, leave_fits q k EndMemory b.1 (ends_memory drops x v b))
+  pub load_fits : (ready : Bool) (q : ⊤) (k : Option ℕ) → Goes (after_load ready q k) → FitsNext (after_load ready q k)
+  load_fits true q k b = (refl, ends_by EndValue b.0 tt)
+  load_fits false q k b = (refl, (b.0, b.1 refl))
 
-  pub look_fits : (a : Answer W) (w : Option W) (q : Q) (k : Option ℕ) → HasBegun drops x v → HasInit (after_look a w q k) → FitsNext (after_look a w q k)
-  look_fits Ready w q k b i = (refl, ends_value drops x v b)
-  look_fits Claimed w q k b i = (refl, (b, i refl))
-  look_fits Listed w q k b i = (refl, (b, i refl))
-  look_fits _ w q k b i = copy_fits w q k b i
+  pub copy_fits : (w : Option W) (q : ⊤) (k : Option ℕ) → Goes (after_copy w q k) → FitsNext (after_copy w q k)
+  copy_fits (Some w) q k b = (refl, (b.0, b.1 refl))
+  copy_fits None q k b = (refl, refused_fits q k b.0)
 
-  pub list_fits : (a : Answer W) (q : Q) (k : Option ℕ) → HasBegun drops x v → HasInit (after_list a q k) → FitsNext (after_list a q k)
-  list_fits Ready q k b i = (refl, ends_value drops x v b)
-  list_fits Memory q k b i = (refl, leave_fits q k EndMemory b.1 (ends_memory drops x v b))
-  list_fits _ q k b i = (refl, (b, i refl))
+  pub look_fits : (a : Answer W) (q : ⊤) (k : Option ℕ) → Goes (after_look a None q k) → FitsNext (after_look a None q k)
+  look_fits Ready q k b = (refl, ends_by EndValue b.0 tt)
+  look_fits Claimed q k b = (refl, (b.0, b.1 refl))
+  look_fits Listed q k b = (refl, (b.0, b.1 refl))
+  look_fits _ q k b = copy_fits None q k b
 
-  pub run_fits : (a : Polled) (by : Option Q) → HasBegun drops x v → HasInit (after_run a by) → (a ≡ Value → x.has_value ≡ true) → (a ≡ Error → (x.has_error ≡ true) × (v.task.kept ≡ RanError 0)) → FitsNext (after_run a by)
-  run_fits Pending by b i value error = (refl, (b, i refl))
-  run_fits Value by b i value error = (refl, (b, value refl))
-  run_fits Error by b i value error = let gave = error refl in (refl, release_fits by EndError b.1 (ends_error drops x v b gave.0 gave.1))
+  pub list_fits : (a : Answer W) (q : ⊤) (k : Option ℕ) → Goes (after_list a q k) → FitsNext (after_list a q k)
+  list_fits Ready q k b = (refl, ends_by EndValue b.0 tt)
+  list_fits Memory q k b = (refl, refused_fits q k b.0)
+  list_fits _ q k b = (refl, (b.0, b.1 refl))
 
-  pub fill_fits : (by : Option Q) → HasBegun drops x v → FitsNext (next_at (release_place by EndValue))
-  fill_fits by b = (refl, release_fits by EndValue b.1 (ends_value drops x v b))
+  -- what is there once the init was polled
+  pub record Gave (a : Polled) : Type 0 where
+    pub init : a ≡ Pending → x.has_init ≡ true
+    pub value : a ≡ Value → x.has_value ≡ true
+    pub error : a ≡ Error → (x.has_error ≡ true) × (v.task.kept ≡ RanError 0)
 
-  pub fast_fits : (won fills : Bool) (e : Ending) → x.woke ≡ [] → MayEnd drops x v e → FitsNext (after_fast won fills e)
-  fast_fits true true e none m = (refl, m)
-  fast_fits true false e none m = (e, refl, m)
-  fast_fits false fills e none m = (refl, (none, m))
+  pub run_fits : (a : Polled) (by : Option ⊤) → HasBegun drops x v → Gave a → FitsNext (after_run a by)
+  run_fits Pending by b g = (refl, (b, g.init refl))
+  run_fits Value by b g = (refl, (b, g.value refl))
+  run_fits Error by b g = (refl, release_fits by EndError (b.1, ends_by EndError b (g.error refl)))
 
-  pub again_fits : (door : Option Q) (e : Ending) → x.woke ≡ [] → MayEnd drops x v e → FitsNext (after_door_again door e)
-  again_fits (Some q) e none m = (refl, (none, m))
-  again_fits None e none m = (refl, m)
+  pub fill_fits : (by : Option ⊤) → HasBegun drops x v → FitsNext (next_at (release_place by EndValue))
+  fill_fits by b = (refl, release_fits by EndValue (b.1, ends_by EndValue b tt))
+
+  pub fast_fits : (won fills : Bool) (e : Ending) → (x.woke ≡ []) × MayEnd drops x v e → FitsNext (after_fast won fills e)
+  fast_fits true true e m = (refl, m.1)
+  fast_fits true false e m = (e, refl, m.1)
+  fast_fits false fills e m = (refl, m)
+
+  pub again_fits : (door : Option ⊤) (e : Ending) → (x.woke ≡ []) × MayEnd drops x v e → FitsNext (after_door_again door e)
+  again_fits (Some q) e m = (refl, m)
+  again_fits None e m = (refl, m.1)
 
   pub out_fits : (last : Bool) (e : Ending) → MayEnd drops x v e → FitsNext (after_count_out last e)
   out_fits true e m = (refl, m)
   out_fits false e m = (e, refl, m)
-
-  pub take_fits : (e : Ending) → MayEnd drops x v e → FitsNext (next_end e)
-  take_fits e m = (e, refl, m)

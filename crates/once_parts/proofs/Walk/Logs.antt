@@ -75,8 +75,8 @@ walked_none x v = record {
 }
 
 -- one step more
-pub walked_on : (x y z : Sided) (u v w : Own) (r q : Progress) → r ≡ More → Walked x u r y v → Walked y v q z w → Walked x u q z w
-walked_on x y z u v w r q more a b =
+pub walked_on : {x y z : Sided} {u v w : Own} {r q : Progress} → r ≡ More → Walked x u r y v → Walked y v q z w → Walked x u q z w
+walked_on {x = x} {u = u} {v = v} {w = w} {r = r} {q = q} more a b =
     let end : List Entry = progress_entries q w.number 0 w.task.kept in
     let first : entries_of u.number v.log ≡ entries_of u.number u.log ++ a.made.0 =
     a.made.2 ∙ ap (λ p. entries_of u.number u.log ++ (a.made.0 ++ progress_entries p v.number 0 v.task.kept)) more ∙ ap (λ l. entries_of u.number u.log ++ l) (append-nil a.made.0) in
@@ -94,9 +94,10 @@ walked_on x y z u v w r q more a b =
     }
 
 -- a call that began by these own entries, did these things, and ended so
-pub called : (t : ℕ) (r : Progress) (v : ℕ) (k : Answer) (e begin : Entry) (mid a b c : List Entry) → progress_entries r t v k ≡ e ∷ [] → entries_of t b ≡ entries_of t a ++ begin ∷ [] → AreMid mid
-    → entries_of t c ≡ entries_of t b ++ (mid ++ progress_entries r t v k) → IsCall t begin e mid a c
-called t r v k e begin mid a b c ends began are made = record {
+pub called : {t : ℕ} {e begin : Entry} {mid a c : List Entry} (r : Progress) (k : Answer) (b : List Entry) → progress_entries r t 0 k ≡ e ∷ []
+    → entries_of t b ≡ entries_of t a ++ begin ∷ [] → AreMid mid → entries_of t c ≡ entries_of t b ++ (mid ++ progress_entries r t 0 k)
+    → IsCall t begin e mid a c
+called {t = t} {e = e} {begin = begin} {mid = mid} {a = a} r k b ends began are made = record {
   own = made ∙ ap (λ l. entries_of t b ++ (mid ++ l)) ends ∙ ap (λ l. l ++ (mid ++ e ∷ [])) began ∙ append_assoc (entries_of t a) (begin ∷ []) (mid ++ e ∷ []);
   between = are;
 }

@@ -3,7 +3,7 @@ use Rattle.std.proofs.Common.{◌≡◌, ℕ, false, true, List, [], ◌∷◌, 
 use Rattle.std.specs.Prelude.{◌↔◌, ⊤}
 use Rattle.std.proofs.lemmas.Bool.{false≢true}
 use Rattle.once_core.specs.Steps.{step_of_poll}
-use Rattle.once_world.specs.Places.{EndDropped, EndError, EndFull, EndMemory, EndPending, EndValue, Ended, Ending, Finished, More, Step}
+use Rattle.once_world.specs.Places.{EndDropped, EndError, EndPending, Ended, Ending, Finished, More, Step}
 use Rattle.once_world.specs.Record.{Begin, Entry}
 use Rattle.once_parts.specs.declared.idle.Idle.{Idle}
 use Rattle.once_parts.specs.Idle.{is_over, step_of}
@@ -21,17 +21,14 @@ use Rattle.once_parts.proofs.Walk.Logs.{called, grew_on}
 -- a task that is not finished after a poll was told Pending
 told_pending : {W : Type 0} (e : Ending) (i : Idle) → ((e ≡ EndPending → ⊥) → step_of {W = W} i ≡ Finished) → is_over i ≡ false → e ≡ EndPending
 told_pending EndPending i ends live = refl
-told_pending EndValue i ends live = absurd (false≢true (sym live ∙ over _ i (ends (λ p. let no : EndValue ≡ EndPending = p in cc))))
-told_pending EndError i ends live = absurd (false≢true (sym live ∙ over _ i (ends (λ p. let no : EndError ≡ EndPending = p in cc))))
-told_pending EndMemory i ends live = absurd (false≢true (sym live ∙ over _ i (ends (λ p. let no : EndMemory ≡ EndPending = p in cc))))
-told_pending EndFull i ends live = absurd (false≢true (sym live ∙ over _ i (ends (λ p. let no : EndFull ≡ EndPending = p in cc))))
-told_pending EndDropped i ends live = absurd (false≢true (sym live ∙ over _ i (ends (λ p. let no : EndDropped ≡ EndPending = p in cc))))
+told_pending _ i ends live = absurd (false≢true (sym live ∙ over _ i (ends (λ p. cc))))
 
 -- a poll of a task that is not finished begins where the task rests
-pub begins_at : {W : Type 0} (whose : W → ℕ) (x : Sided) (v w : Own) (i : Idle) (s : Step W ⊤) → x.number ≡ v.number → x.woke ≡ [] → x.has_init ≡ true → is_over i ≡ false → StandsOn whose v (step_of i)
+pub begins_at : {W : Type 0} {whose : W → ℕ} {x : Sided} {v w : Own} (i : Idle) {s : Step W ⊤}
+    → (x.number ≡ v.number) × (x.woke ≡ []) × (x.has_init ≡ true) → is_over i ≡ false → StandsOn whose v (step_of i)
     → Turned v (task_begun v.number v.task) (Begin v.number v.number ∷ []) w → step_of_poll (step_of i) ≡ s → Stands whose false x w More s
-begins_at whose x v w i s number none init live stands begun at =
-    subst (Stands whose false x w More) at (poll_begins whose x v w (step_of i) number none init (rests _ i live, stands) begun)
+begins_at {whose = whose} {x = x} {w = w} i (number, none, init) live stands begun at =
+    subst (Stands whose false x w More) at (poll_begins (step_of i) number none init (rests _ i live, stands) begun)
 
 -- a poll began, and its end is the newest entry
 spans_of : (t : ℕ) (e : Entry) (u v w : List Entry) → Grew (Begin t t ∷ []) u v → Grew (e ∷ []) v w → Spans t e u w
@@ -43,40 +40,41 @@ spans_of t e u v w began ended = record {
       ∙ append_assoc (began.0 ++ Begin t t ∷ []) ended.1.0 (e ∷ []) ∙ append_assoc began.0 (Begin t t ∷ []) (ended.1.0 ++ e ∷ []);
 }
 
-module _ {W : Type 0} (whose : W → ℕ) (x y : Sided) (u v w : Own) (e : Ending) (i : Idle) where
-  -- a poll ended so, and the task is at this
-  pub record Polled : Type 0 where
-    pub number : w.number ≡ u.number
-    pub end : Grew (end_of w.number e ∷ []) u.log w.log
-    pub spans : Spans w.number (end_of w.number e) u.log w.log
-    pub call : (mid : List Entry) × IsCall w.number (Begin w.number w.number) (end_of w.number e) mid u.log w.log × (y.woke ≡ handed mid)
-    pub error : e ≡ EndError → y.has_error ≡ true
-    pub init : e ≡ EndPending → y.has_init ≡ true
-    pub finished : (e ≡ EndPending) ↔ (is_over i ≡ false)
-    pub poll : e ≡ EndDropped → ⊥
-    pub stands : StandsOn whose w (step_of i)
+-- a poll ended so, and the task is at this
+pub record Polled {W : Type 0} (whose : W → ℕ) (y : Sided) (u w : Own) (e : Ending) (i : Idle) : Type 0 where
+  pub number : w.number ≡ u.number
+  pub end : Grew (end_of w.number e ∷ []) u.log w.log
+  pub spans : Spans w.number (end_of w.number e) u.log w.log
+  pub call : (mid : List Entry) × IsCall w.number (Begin w.number w.number) (end_of w.number e) mid u.log w.log × (y.woke ≡ handed mid)
+  pub error : e ≡ EndError → y.has_error ≡ true
+  pub init : e ≡ EndPending → y.has_init ≡ true
+  pub finished : (e ≡ EndPending) ↔ (is_over i ≡ false)
+  pub poll : e ≡ EndDropped → ⊥
+  pub stands : StandsOn whose w (step_of i)
 
-  -- it began, and its steps were made
-  pub polled : x.woke ≡ [] → Turned u (task_begun u.number u.task) (Begin u.number u.number ∷ []) v → Walked x v (Ended e) y w → Stands whose false y w (Ended e) (step_of i) → Polled
-  polled none begun walked stands =
-      let seen = grew_on _ _ _ begun.log in
-      let ended = poll_ended whose x y v w (Ended e) e refl (step_of i) walked stands (not_in_call _ i) in
-      record {
-        number = walked.number ∙ begun.number;
-        end = grew_from _ _ _ _ seen ended.end;
-        spans = spans_of w.number (end_of w.number e) u.log v.log w.log
-            (subst (λ (t : ℕ). Grew (Begin t t ∷ []) u.log v.log) (sym (walked.number ∙ begun.number)) begun.log) ended.end;
-        call = (
-          walked.made.0,
-          called w.number (Ended e) 0 w.task.kept (end_of w.number e) (Begin w.number w.number) walked.made.0 u.log v.log w.log (ap (λ (l : Entry). l ∷ []) ended.entry)
-              (subst (λ (t : ℕ). entries_of t v.log ≡ entries_of t u.log ++ Begin t t ∷ []) (sym begun.number ∙ sym walked.number) begun.mine)
-              walked.made.1
-              (subst (λ (t : ℕ). entries_of t w.log ≡ entries_of t v.log ++ (walked.made.0 ++ progress_entries (Ended e) w.number 0 w.task.kept)) (sym walked.number) walked.made.2),
-          walked.made.3 ∙ ap (λ X. X ++ handed walked.made.0) none,
-        );
-        error = ended.error;
-        init = ended.init;
-        finished = (λ p. live _ i (ended.pending p).0, told_pending e i ended.finished);
-        poll = ended.poll;
-        stands = stands.step;
-      }
+-- it began, and its steps were made
+pub polled : {W : Type 0} {whose : W → ℕ} {x y : Sided} {u v w : Own} {e : Ending} (i : Idle) → x.woke ≡ []
+    → Turned u (task_begun u.number u.task) (Begin u.number u.number ∷ []) v → Walked x v (Ended e) y w
+    → Stands whose false y w (Ended e) (step_of i) → Polled whose y u w e i
+polled {u = u} {v = v} {w = w} {e = e} i none begun walked stands =
+    let seen = grew_on _ _ _ begun.log in
+    let ended = poll_ended refl (step_of i) walked stands (not_in_call _ i) in
+    record {
+      number = walked.number ∙ begun.number;
+      end = grew_from _ _ _ _ seen ended.end;
+      spans = spans_of w.number (end_of w.number e) u.log v.log w.log
+          (subst (λ (t : ℕ). Grew (Begin t t ∷ []) u.log v.log) (sym (walked.number ∙ begun.number)) begun.log) ended.end;
+      call = (
+        walked.made.0,
+        called (Ended e) w.task.kept v.log (ap (λ (l : Entry). l ∷ []) ended.entry)
+            (subst (λ (t : ℕ). entries_of t v.log ≡ entries_of t u.log ++ Begin t t ∷ []) (sym begun.number ∙ sym walked.number) begun.mine)
+            walked.made.1
+            (subst (λ (t : ℕ). entries_of t w.log ≡ entries_of t v.log ++ (walked.made.0 ++ progress_entries (Ended e) w.number 0 w.task.kept)) (sym walked.number) walked.made.2),
+        walked.made.3 ∙ ap (λ X. X ++ handed walked.made.0) none,
+      );
+      error = ended.error;
+      init = ended.init;
+      finished = (λ p. live _ i (ended.pending p).0, told_pending e i ended.finished);
+      poll = ended.poll;
+      stands = stands.step;
+    }

@@ -93,8 +93,7 @@ module _ {W : Type 0} (whose : W → ℕ) where
     led_by : (at : Place W ⊤) (n : Next W ⊤) → Stands whose false x v More (UnderWay at)
         → Line Tell (sided_tells whose (λ (z : Sided). z)) at v x n.progress n.step w y → Leads whose x v n.progress n.step y w
     led_by at n is line =
-        let went = line_went (λ (v : Own). any_cell) (λ (v : Own). v) whose (λ (z : Sided). z) (sided_tells whose (λ (z : Sided). z)) (sided_told whose (λ (z : Sided). z)) false
-        at v w x y n.progress More n.step is line in
+        let went = line_went (λ (v : Own). any_cell) (λ (v : Own). v) (sided_told whose (λ (z : Sided). z)) false at is line in
         record { walked = went.walked; stands = went.stands }
 
     -- a line that is no look says of what the call told that the task goes on by it
@@ -183,7 +182,7 @@ module _ {W : Type 0} (whose : W → ℕ) where
 
   -- one step, or some, after others
   pub onward : {x y z : Sided} {u v w : Own} {at s : Step W ⊤} {r : Progress} → Leads whose x u More at y v → Leads whose y v r s z w → Leads whose x u r s z w
-  onward a b = record { walked = walked_on _ _ _ _ _ _ _ _ refl a.walked b.walked; stands = b.stands }
+  onward a b = record { walked = walked_on refl a.walked b.walked; stands = b.stands }
 
 -- a listing that answers otherwise leaves the task waiting
 pub rests : {W : Type 0} (a : Answer W) (k : Option ℕ) → (a ≡ Ready → ⊥) → (a ≡ Claimed → ⊥) → (a ≡ Memory → ⊥)

@@ -1,5 +1,6 @@
 -- The moves that no atomic operation marks, with the pen of the task alone, or with none.
-use Rattle.std.proofs.Common.{◌≡◌, ◌⊎◌, ◌-◌, ℕ, zero, suc, pred, Bool, true, cond, inl, inr, ⊎_elim, List, [], ◌∷◌, ◌++◌, length, Option, Some, None, reverse, slice_get, slice_set, refl, sym, ap, ◌∙◌, subst, arith}
+use Rattle.std.proofs.Common.{◌≡◌, ◌⊎◌, ◌-◌, ℕ, zero, suc, pred, Bool, true, cond, inl, inr, ⊎_elim, List, [], ◌∷◌, ◌++◌, length}
+use Rattle.std.proofs.Common.{Option, Some, None, reverse, slice_get, slice_set, refl, sym, ap, ◌∙◌, subst, arith}
 use Rattle.std.proofs.lemmas.List.{map-append, append-nil}
 use Rattle.pagebook.specs.Pages.{Held, Moves, Notes}
 use Rattle.once_queue.specs.Word.{flags_of}

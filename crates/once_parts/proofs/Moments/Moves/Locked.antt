@@ -2,7 +2,6 @@
 use Rattle.std.proofs.Common.{◌≡◌, ◌+◌, ◌%◌, ◌^◌, ℕ, suc, Bool, true, false, List, [], ◌∷◌, ◌++◌, Option, Some, None, slice_set, refl, sym, ◌∙◌, subst}
 use Rattle.std.proofs.lemmas.List.{append-nil}
 use Rattle.pagebook.specs.Pages.{Held, Moves, Notes, put as put_on}
-use Rattle.once_queue.specs.Word.{flags_of}
 use Rattle.once_queue.specs.declared.waiters.Answer.{Answer as SectionAnswer}
 use Rattle.once_queue.specs.declared.waiters.Op.TheVariants.{Look, List as ListOwn, Release, Leave}
 use Rattle.once_core.specs.Table.{Call, Next, Section, after, after_door_get, after_look, call_at, next_at, next_end}
@@ -22,10 +21,10 @@ use Rattle.once_parts.specs.Kept.{IsKept, Leaves, locked, most, sheets}
 use Rattle.once_parts.specs.Desk.{Desked}
 use Rattle.once_parts.specs.Page.{queue_of}
 use Rattle.once_parts.specs.Sections.{IsOwnListing, IsSection, SectionShows, desk_put, looked, listed, more_released, section_desk, section_hands, section_told}
-use Rattle.once_parts.proofs.Moments.Forms.{AreOn, notes, put_moves, telling_moves}
+use Rattle.once_parts.proofs.Moments.Forms.{AreOn, notes, put_moves, set_same, telling_moves}
 use Rattle.once_parts.proofs.Moments.Mine.{AreOf, OnlyOf, claim_of, only_locked, pass_of, release_of, told_of}
 use Rattle.once_parts.proofs.Moments.Facts.{bare_at, door_at, look_is, own_at, passed_at, unset_at}
-use Rattle.once_parts.proofs.Moments.Moves.Words.{set_same, some}
+use Rattle.once_parts.proofs.Moments.Moves.Words.{some}
 
 -- what a release adds
 more_is : (fills head : Bool) → release_more fills head ≡ more_released fills head
@@ -43,6 +42,10 @@ module _ (seen : List Entry) (d : Desked) (t : ℕ) (x : TaskState) where
   abbrev pub pages_after : Desked → Next ℕ ℕ → List Page
   pages_after e next = Door e.made e.door ∷ Queue e.head e.listings ∷ At (record x { step = next.step }) ∷ []
 
+  -- the book once t made a step on these pages
+  abbrev Makes : ℕ → ℕ → Bool → List Page → List Entry → List Entry → Next ℕ ℕ → Type 0
+  Makes n put slot pages log did next = Stepped most n put slot pages log t x did next
+
   -- what the task did is its own
   only : (did : List Entry) (next : Next ℕ ℕ) → AreOf t did → OnlyOf all (told t x.kept next did)
   only did next a = only_locked d.made d.door d.head d.listings t x (told t x.kept next did) (told_of t x.kept next did a)
@@ -53,20 +56,20 @@ module _ (seen : List Entry) (d : Desked) (t : ℕ) (x : TaskState) where
     Set e = IsBook most n put slot (put_on (pages_after e next) all pages) (log ++ told t x.kept next did)
 
     -- where only the queue's page changes besides the own one
-    only_queue : (e : Desked) → e.made ≡ d.made → e.door ≡ d.door → Stepped most n put slot (slice_set pages 1 (Queue e.head e.listings)) log t x did next → Set e
+    only_queue : (e : Desked) → e.made ≡ d.made → e.door ≡ d.door → Makes n put slot (slice_set pages 1 (Queue e.head e.listings)) log did next → Set e
     only_queue e made door s =
-        subst (λ ps. Stepped most n put slot (slice_set ps 1 (Queue e.head e.listings)) log t x did next)
+        subst (λ ps. Makes n put slot (slice_set ps 1 (Queue e.head e.listings)) log did next)
         (sym (set_same pages 0 (Door d.made d.door) on.0) ∙ (λ i. slice_set pages 0 (Door (sym made i) (sym door i)))) s
 
     -- where only the door's does
-    only_door : (m : ℕ) (q : Option ℕ) → Stepped most n put slot (slice_set pages 0 (Door m q)) log t x did next → Set (record d { made = m; door = q })
+    only_door : (m : ℕ) (q : Option ℕ) → Makes n put slot (slice_set pages 0 (Door m q)) log did next → Set (record d { made = m; door = q })
     only_door m q s =
         let here = set_other pages 0 1 (Door m q) zero_one ∙ on.1.0 in
-        subst (λ ps. Stepped most n put slot ps log t x did next) (sym (set_same (slice_set pages 0 (Door m q)) 1 (Queue d.head d.listings) here)) s
+        subst (λ ps. Makes n put slot ps log did next) (sym (set_same (slice_set pages 0 (Door m q)) 1 (Queue d.head d.listings) here)) s
 
     -- where neither does
-    only_own : Stepped most n put slot pages log t x did next → Set d
-    only_own s = only_queue d refl refl (subst (λ ps. Stepped most n put slot ps log t x did next) (sym (set_same pages 1 (Queue d.head d.listings) on.1.0)) s)
+    only_own : Makes n put slot pages log did next → Set d
+    only_own s = only_queue d refl refl (subst (λ ps. Makes n put slot ps log did next) (sym (set_same pages 1 (Queue d.head d.listings) on.1.0)) s)
 
   -- the word that a section leaves
   abbrev pub section_word : Call ℕ ℕ → ℕ → ℕ
@@ -93,18 +96,19 @@ module _ (seen : List Entry) (d : Desked) (t : ℕ) (x : TaskState) where
   section_step : (room : Bool) (p : Place ℕ ℕ) → x.step ≡ UnderWay p → IsSection (call_at p)
       → (n put : ℕ) (slot : Bool) (pages : List Page) (log : List Entry) → IsBook most n put slot pages log → AreOn all pages
       → let e = section_desk room n d (call_at p) in
-      Stepped most (section_word (call_at p) n) put slot (slice_set pages 1 (Queue e.head e.listings)) log t x (section_entries room n (call_at p)) (section_next room n p)
+      Makes (section_word (call_at p) n) put slot (slice_set pages 1 (Queue e.head e.listings)) log (section_entries room n (call_at p)) (section_next room n p)
   section_step room (AtLook q k) at is n put slot pages log book on =
       let a : SectionAnswer ℕ = looked n k d in
       let Looks : SectionAnswer ℕ → Next ℕ ℕ → Type 0 = λ a next.
-      Stepped most n put slot (slice_set pages 1 (Queue (head_after a d.head) (looked_list a k d.listings))) log t x (claim_entries (is_claim a) t) next in
+      Makes n put slot (slice_set pages 1 (Queue (head_after a d.head) (looked_list a k d.listings))) log (claim_entries (is_claim a) t) next in
       subst (Looks a) (sym (look_same a (Some x.waker) q k))
-      (subst (λ a. Looks a (after_look a (Some x.waker) q k)) (look_is most n put slot pages log t x some book on.1.1.0 d.head d.listings on.1.0 q k at (flags_of n).ready refl)
+      (subst (λ a. Looks a (after_look a (Some x.waker) q k)) (look_is t some book on.1.1.0 on.1.0 q k at)
       (look_load most n put slot pages log t x some book on.1.1.0 d.head d.listings on.1.0 q k true at))
   section_step room (AtList q k w) at is n put slot pages log book on = list_load most n put slot pages log t x some book on.1.1.0 d.head d.listings on.1.0 q k w room at
   section_step room (AtRelease q e) at is n put slot pages log book on =
       let r : Bool = is_value e in
-      subst (λ m. Stepped most ((n + m) % 2 ^ 64) put slot (slice_set pages 1 (Queue false (release_list r d.listings))) log t x (section_entries room n (Section q (Release r))) (next_at (AtCountOut e))) (more_is r d.head)
+      subst (λ m. Makes ((n + m) % 2 ^ 64) put slot (slice_set pages 1 (Queue false (release_list r d.listings))) log (section_entries room n (Section q (Release r))) (next_at (AtCountOut e)))
+      (more_is r d.head)
       (release_add most n put slot pages log t x some book on.1.1.0 d.head d.listings on.1.0 q e at)
   section_step room (AtLeave q k e) at is n put slot pages log book on = leave_load most n put slot pages log t x some book on.1.1.0 d.head d.listings on.1.0 q k e at
   section_step room _ at is n put slot pages log book on = absurd is
@@ -114,8 +118,8 @@ module _ (seen : List Entry) (d : Desked) (t : ℕ) (x : TaskState) where
       → (n put : ℕ) (slot : Bool) (pages : List Page) (log : List Entry) → IsBook most n put slot pages log → AreOn all pages
       → SectionShows n d (call_at p) t (log ++ told t x.kept (section_next room n p) (section_entries room n (call_at p)))
   section_shows room (AtRelease q e) at n put slot pages log book on =
-      λ v u. fill_hands_all most n put slot pages log some book d.head d.listings on.1.0 (unset_at most n put slot pages log t x some book on.1.1.0 q e at) u
-  section_shows room (AtLeave q k e) at n put slot pages log book on = passed_at most n put slot pages log t x some book on.1.1.0 q k e at (section_hands n d (Section q (Leave k)))
+      λ v u. fill_hands_all most n put slot pages log some book d.head d.listings on.1.0 (unset_at t some book on.1.1.0 q e at) u
+  section_shows room (AtLeave q k e) at n put slot pages log book on = passed_at t some book on.1.1.0 at (section_hands n d (Section q (Leave k)))
   section_shows room _ at n put slot pages log book on = tt
 
   -- it changes nothing of the door's page
@@ -142,7 +146,7 @@ module _ (seen : List Entry) (d : Desked) (t : ℕ) (x : TaskState) where
 
   -- a note by which t goes on so, and nothing changes but its page
   own_notes : (next : Next ℕ ℕ) (P : Type 0)
-      → ((n put : ℕ) (slot : Bool) (pages : List Page) (log : List Entry) → IsBook most n put slot pages log → AreOn all pages → P × Stepped most n put slot pages log t x [] next)
+      → ((n put : ℕ) (slot : Bool) (pages : List Page) (log : List Entry) → IsBook most n put slot pages log → AreOn all pages → P × Makes n put slot pages log [] next)
       → Notes IsKept (seen, sheets seen all) (λ v. P × Leaves seen all (pages_after d next) (told t x.kept next []) v)
   own_notes next P goes = notes seen all (pages_after d next) (told t x.kept next []) P (only [] next tt)
       (λ n put slot pages log book on. let r = goes n put slot pages log book on in (r.0, only_own n put slot pages log [] next on r.1))
@@ -181,7 +185,7 @@ module _ (seen : List Entry) (d : Desked) (t : ℕ) (x : TaskState) where
       (λ v. ((d.head ≡ false) × (d.listings ≡ [])) × Leaves seen all (pages_after (record d { door = None }) (next_end e)) (told t x.kept (next_end e) []) v)
   take_notes e at = notes seen all (pages_after (record d { door = None }) (next_end e)) (told t x.kept (next_end e) []) ((d.head ≡ false) × (d.listings ≡ [])) (only [] (next_end e) tt)
       (λ n put slot pages log book on. (
-        bare_at most n put slot pages log t x some book on.1.1.0 d.head d.listings on.1.0 e at,
+        bare_at t some book on.1.1.0 on.1.0 e at,
         only_door n put slot pages log [] (next_end e) on d.made None (door_take most n put slot pages log t x some book on.1.1.0 d.made d.door on.0 e at),
       ))
 
@@ -195,9 +199,9 @@ module _ (seen : List Entry) (d : Desked) (t : ℕ) (x : TaskState) where
   pub stand_notes : (p : Place ℕ ℕ) → IsSection (call_at p) → x.step ≡ UnderWay p
       → Notes IsKept (seen, sheets seen all) (λ v. (d.door ≡ Some (queue_of (call_at p))) × Leaves seen all [] [] v)
   stand_notes p is at = still_notes (d.door ≡ Some (queue_of (call_at p)))
-      (λ n put slot pages log book on. door_at most n put slot pages log t x some book on.1.1.0 d.made d.door on.0 p is at)
+      (λ n put slot pages log book on. door_at t some book on.1.1.0 on.0 p is at)
 
   -- a task at rest comes to its listing, which is its own
   pub rest_notes : (q k : ℕ) → x.step ≡ Resting (RestWait q (Some k)) → Notes IsKept (seen, sheets seen all) (λ v. IsOwnListing k t d.listings × Leaves seen all [] [] v)
   rest_notes q k at = still_notes (IsOwnListing k t d.listings)
-      (λ n put slot pages log book on. own_at most n put slot pages log t x some book on.1.1.0 d.head d.listings on.1.0 q k at)
+      (λ n put slot pages log book on. own_at t some book on.1.1.0 on.1.0 q k at)

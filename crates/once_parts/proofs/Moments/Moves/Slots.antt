@@ -15,32 +15,17 @@ use Rattle.once_world.proofs.Moment.Pages.{set_here, set_other}
 use Rattle.once_world.proofs.Moment.Step.{told}
 use Rattle.once_world.proofs.Told.Value.{StandsIn, WasFilled, filled_ready, put_alone, ready_written}
 use Rattle.once_parts.specs.Kept.{Grew, IsKept, IsState, Leaves, Sheet, entries_of, entries_on, hand, most, pages_in, sheet, sheets, writing_sheet}
+use Rattle.once_parts.proofs.Moments.Forms.{apart, page_of, page_put, set_same}
 use Rattle.once_parts.proofs.Moments.Mine.{on_append, only_hand, told_of}
-use Rattle.once_parts.proofs.Moments.Moves.Words.{set_same, some}
+use Rattle.once_parts.proofs.Moments.Moves.Words.{some}
 
 -- a hand whose task writes the slot
 abbrev pub writing_hand : List Entry → ℕ → TaskState → Held Sheet
 writing_hand log t x = (suc (suc t), writing_sheet (entries_of t log) x) ∷ []
 
--- the page on a sheet, whoever writes
-page_of : (ss : List Sheet) (k : ℕ) (s : Sheet) → slice_get ss k ≡ Some s → slice_get (pages_in ss) k ≡ Some s.page
-page_of [] k s e = let no : ⊥ = cc in absurd no
-page_of (z ∷ ss) zero s e = let same : z ≡ s = cc in ap (λ (s : Sheet). Some s.page) same
-page_of (z ∷ ss) (suc k) s e = page_of ss k s e
-
--- one sheet is set
-page_put : (ss : List Sheet) (k : ℕ) (s : Sheet) → pages_in (slice_set ss k s) ≡ slice_set (pages_in ss) k s.page
-page_put [] k s = refl
-page_put (z ∷ ss) zero s = refl
-page_put (z ∷ ss) (suc k) s = ap (λ (xs : List Page). z.page ∷ xs) (page_put ss k s)
-
 -- the third word
 pub state_at : (w put k n : ℕ) (ns : List ℕ) → ns ≡ w ∷ put ∷ k ∷ [] → slice_get ns 2 ≡ Some n → k ≡ n
 state_at w put k n ns e at = let same : ◌≡◌ {A = Option ℕ} (Some k) (Some n) = ap (λ xs. slice_get xs 2) (sym e) ∙ at in cc
-
--- a sheet that does not write is not one that does
-apart : (es fs : List Entry) (p : Page) (x : TaskState) → ◌≡◌ {A = Option Sheet} (Some (sheet es p)) (Some (writing_sheet fs x)) → ⊥
-apart es fs p x e = let same : sheet es p ≡ writing_sheet fs x = cc in false≢true (ap (λ (s : Sheet). s.writing) same)
 
 -- each page has its entries once one is set, where the others have theirs
 one_set : (ss : List Sheet) (t : ℕ) (old new : Sheet) (log : List Entry) → slice_get ss (suc (suc t)) ≡ Some old → new.entries ≡ entries_of t log

@@ -1,5 +1,5 @@
 -- The moves of the word, with the pen of the task alone.
-use Rattle.std.proofs.Common.{◌≡◌, ◌<◌, ◌+◌, ◌^◌, ◌==◌, ℕ, zero, suc, Bool, true, false, List, [], ◌∷◌, ◌++◌, Some, slice_get, slice_set, refl, sym, ap, subst, arith}
+use Rattle.std.proofs.Common.{◌≡◌, ◌<◌, ◌+◌, ◌^◌, ◌==◌, ℕ, suc, Bool, true, false, List, [], ◌∷◌, ◌++◌, Some, slice_get, slice_set, refl, sym, subst, arith}
 use Rattle.std.specs.Prelude.{nat_lt}
 use Rattle.std.proofs.lemmas.Bool.{eqb-true, ltb-false}
 use Rattle.std.proofs.lemmas.List.{append-nil}
@@ -16,18 +16,12 @@ use Rattle.once_world.proofs.Moment.Doors.{take_none}
 use Rattle.once_world.proofs.Moment.Step.{Stepped, told}
 use Rattle.once_world.proofs.Moment.Words.{count_full, count_in, word_found, word_step}
 use Rattle.once_parts.specs.Kept.{IsKept, Leaves, hand, most, sheets}
-use Rattle.once_parts.proofs.Moments.Forms.{moves, put_moves}
+use Rattle.once_parts.proofs.Moments.Forms.{moves, put_moves, set_same}
 use Rattle.once_parts.proofs.Moments.Mine.{AreOf, claim_of, freed_of, only_hand, told_of}
 
 -- some task may be counted
 pub some : 0 < most
 some = omega arith
-
--- a page that is set to what it is
-pub set_same : {X : Type 0} (xs : List X) (k : ℕ) (x : X) → slice_get xs k ≡ Some x → slice_set xs k x ≡ xs
-set_same [] k x e = refl
-set_same (y ∷ xs) zero x e = let same : y ≡ x = cc in ap (λ z. z ∷ xs) (sym same)
-set_same (y ∷ xs) (suc k) x e = ap (λ zs. y ∷ zs) (set_same xs k x e)
 
 -- the page of x at the step to which the table of places leads
 abbrev pub goes_to : TaskState → Next ℕ ℕ → List Page
@@ -74,12 +68,12 @@ module _ (seen : List Entry) (t : ℕ) (x : TaskState) where
   full_of q n false = told_of t x.kept (after_count_in false (flags_of n).ready q) [] tt
 
   -- by whether there is room
-  full_by : (q n put : ℕ) (slot : Bool) (pages : List Page) (log : List Entry) → IsBook most n put slot pages log → slice_get pages (suc (suc t)) ≡ Some (At x)
+  full_by : (q : ℕ) {n put : ℕ} {slot : Bool} {pages : List Page} {log : List Entry} → IsBook most n put slot pages log → slice_get pages (suc (suc t)) ≡ Some (At x)
       → x.step ≡ UnderWay (AtCountIn q) → (b : Bool) → nat_lt (flags_of n).count most ≡ b
       → IsBook most n put slot (put_on (full_page q n b) (hand t x) pages) (log ++ full_told q n b)
-  full_by q n put slot pages log book pen at true e =
+  full_by q {n = n} {put = put} {slot = slot} {pages = pages} {log = log} book pen at true e =
       subst (λ ps. IsBook most n put slot ps (log ++ [])) (sym (set_same pages (suc (suc t)) (At x) pen)) (subst (IsBook most n put slot pages) (sym (append-nil log)) book)
-  full_by q n put slot pages log book pen at false e = count_full most n put slot pages log t x some book pen q at (ltb-false (flags_of n).count most e)
+  full_by q {n = n} {put = put} {slot = slot} {pages = pages} {log = log} book pen at false e = count_full most n put slot pages log t x some book pen q at (ltb-false (flags_of n).count most e)
 
   -- the load before the exchange
   pub full_moves : (q : ℕ) → x.step ≡ UnderWay (AtCountIn q)
@@ -87,7 +81,7 @@ module _ (seen : List Entry) (t : ℕ) (x : TaskState) where
       (λ n v. Unit {0} × Leaves seen (hand t x) (full_page q n (nat_lt (flags_of n).count most)) (full_told q n (nat_lt (flags_of n).count most)) v)
   full_moves q at = moves seen (hand t x) (λ n. n) (λ n. full_page q n (nat_lt (flags_of n).count most)) (λ n. full_told q n (nat_lt (flags_of n).count most)) (λ n. Unit {0})
       (λ n. only_hand t x (full_told q n (nat_lt (flags_of n).count most)) (full_of q n (nat_lt (flags_of n).count most)))
-      (λ n put slot pages log book on. (tt, full_by q n put slot pages log book on.0 at (nat_lt (flags_of n).count most) refl))
+      (λ n put slot pages log book on. (tt, full_by q book on.0 at (nat_lt (flags_of n).count most) refl))
 
   -- AtCountIn: the page after the exchange, by whether it was done
   abbrev pub in_page : ℕ → ℕ → Bool → List Page
@@ -100,21 +94,22 @@ module _ (seen : List Entry) (t : ℕ) (x : TaskState) where
   in_told false q = refl
 
   -- by whether the word is still the one that was loaded
-  in_by : (q old n put : ℕ) (slot : Bool) (pages : List Page) (log : List Entry) → IsBook most n put slot pages log → slice_get pages (suc (suc t)) ≡ Some (At x)
+  in_by : (q old : ℕ) {n put : ℕ} {slot : Bool} {pages : List Page} {log : List Entry} → IsBook most n put slot pages log → slice_get pages (suc (suc t)) ≡ Some (At x)
       → x.step ≡ UnderWay (AtCountIn q) → (flags_of old).count < most → (b : Bool) → (n == old) ≡ b
       → IsBook most (either b (old + 1) n) put slot (put_on (in_page q old b) (hand t x) pages) (log ++ [])
-  in_by q old n put slot pages log book pen at l true e =
+  in_by q old {n = n} {put = put} {slot = slot} {pages = pages} {log = log} book pen at l true e =
       let b : IsBook most old put slot pages log = subst (λ w. IsBook most w put slot pages log) (eqb-true n old e) book in
-      subst (λ es. IsBook most (old + 1) put slot (slice_set pages (suc (suc t)) (At (record x { step = (after_count_in true (flags_of old).ready q).step }))) (log ++ es)) (in_told (flags_of old).ready q)
+      subst (λ es. IsBook most (old + 1) put slot (slice_set pages (suc (suc t)) (At (record x { step = (after_count_in true (flags_of old).ready q).step }))) (log ++ es))
+      (in_told (flags_of old).ready q)
       (count_in most old put slot pages log t x some b pen q at (omega arith) l)
-  in_by q old n put slot pages log book pen at l false e =
+  in_by q old {n = n} {put = put} {slot = slot} {pages = pages} {log = log} book pen at l false e =
       subst (λ ps. IsBook most n put slot ps (log ++ [])) (sym (set_same pages (suc (suc t)) (At x) pen)) (subst (IsBook most n put slot pages) (sym (append-nil log)) book)
 
   -- the exchange, done or not
   pub in_moves : (q old : ℕ) → x.step ≡ UnderWay (AtCountIn q) → (flags_of old).count < most
       → Moves IsKept (seen, sheets seen (hand t x)) 0 (λ n. either (n == old) (old + 1) n) (λ n v. Unit {0} × Leaves seen (hand t x) (in_page q old (n == old)) [] v)
   in_moves q old at l = moves seen (hand t x) (λ n. either (n == old) (old + 1) n) (λ n. in_page q old (n == old)) (λ n. []) (λ n. Unit {0}) (λ n. only_hand t x [] tt)
-      (λ n put slot pages log book on. (tt, in_by q old n put slot pages log book on.0 at l (n == old) refl))
+      (λ n put slot pages log book on. (tt, in_by q old book on.0 at l (n == old) refl))
 
   -- AtDoorTake: the page after a load that finds that no queue was ever put, and the page as it was after another
   abbrev pub none_page : Ending → Bool → List Page
@@ -132,15 +127,15 @@ module _ (seen : List Entry) (t : ℕ) (x : TaskState) where
   none_of_t e false = tt
 
   -- by whether a queue was ever put
-  none_by : (e : Ending) (n k : ℕ) (slot : Bool) (pages : List Page) (log : List Entry) → IsBook most n k slot pages log → slice_get pages (suc (suc t)) ≡ Some (At x)
+  none_by : (e : Ending) {n k : ℕ} {slot : Bool} {pages : List Page} {log : List Entry} → IsBook most n k slot pages log → slice_get pages (suc (suc t)) ≡ Some (At x)
       → x.step ≡ UnderWay (AtDoorTake e) → (b : Bool) → (k == 0) ≡ b
       → IsBook most n k slot (put_on (none_page e b) (hand t x) pages) (log ++ none_told e b)
-  none_by e n k slot pages log book pen at true i = take_none most n k slot pages log t x some book pen e at (eqb-true k 0 i)
-  none_by e n k slot pages log book pen at false i =
+  none_by e {n = n} {k = k} {slot = slot} {pages = pages} {log = log} book pen at true i = take_none most n k slot pages log t x some book pen e at (eqb-true k 0 i)
+  none_by e {n = n} {k = k} {slot = slot} {pages = pages} {log = log} book pen at false i =
       subst (λ ps. IsBook most n k slot ps (log ++ [])) (sym (set_same pages (suc (suc t)) (At x) pen)) (subst (IsBook most n k slot pages) (sym (append-nil log)) book)
 
   -- the load of the word that says so
   pub none_moves : (e : Ending) → x.step ≡ UnderWay (AtDoorTake e)
       → Moves IsKept (seen, sheets seen (hand t x)) 1 (λ k. k) (λ k v. Leaves seen (hand t x) (none_page e (k == 0)) (none_told e (k == 0)) v)
   none_moves e at = put_moves seen (hand t x) (λ k. k) (λ k. none_page e (k == 0)) (λ k. none_told e (k == 0)) (λ k. only_hand t x (none_told e (k == 0)) (none_of_t e (k == 0)))
-      (λ n k slot pages log book on. none_by e n k slot pages log book on.0 at (k == 0) refl)
+      (λ n k slot pages log book on. none_by e book on.0 at (k == 0) refl)

@@ -18,32 +18,29 @@ use Rattle.once_parts.proofs.Walk.Begins.{drop_alone, drop_opens, grew_from, gre
 use Rattle.once_parts.proofs.Walk.Ends.{drop_ended}
 use Rattle.once_parts.proofs.task.Task.leave.Goals as goal
 
--- a task, as a contract sees it, rests where its call begins
-rests_at : {W : Type 0} (whose : W → ℕ) (v : Own) (i : Idle) (s : Step W ⊤) {seen told : TaskView} → seen ≡ told → is_over i ≡ seen.finished → told.finished ≡ false
+-- a task that is not finished rests where its call begins
+rests_at : {W : Type 0} (whose : W → ℕ) (v : Own) (i : Idle) {s : Step W ⊤} → is_over i ≡ false
     → (is_over i ≡ false → is_resting s ≡ true) → s ≡ step_of i → (is_over i ≡ false → StandsOn whose v (step_of i)) → Rests whose v s
-rests_at whose v i s same is_idle unfinished rests is stands =
-    let live = is_idle ∙ ap (λ (t : TaskView). t.finished) same ∙ unfinished in
-    (rests live, subst (StandsOn whose v) (sym is) (stands live))
+rests_at whose v i live rests is stands = (rests live, subst (StandsOn whose v) (sym is) (stands live))
 
 pub go_on-requires : goal.go_on-requires
 go_on-requires g c =
     let number = c.requires.number ∙ sym (ap (λ (t : TaskView). t.number) c.self.view_is) in
-    let rests = rests_at g.W.TaskWaker.whose (own c.self.inside.parts) c.self.inside.idle c.step-step.result c.self.view_is refl c.requires.live
-    c.step-step.ensures.rests c.step-step.ensures.is c.self.inside.stands in
+    let live = ap (λ (t : TaskView). t.finished) c.self.view_is ∙ c.requires.live in
+    let rests = rests_at g.W.TaskWaker.whose (own c.self.inside.parts) c.self.inside.idle live c.step-step.ensures.rests c.step-step.ensures.is c.self.inside.stands in
     let call = sym c.begin_drop-2.ensures.more ∙ c.if-not-begin_drop.false in
     record {
       stands = (
         true,
-        stands_closed g.W.TaskWaker.whose (g.S.TaskSide.state c.args.side.now) (g.S.TaskSide.state c.begin_drop-2.new.side) (own c.self.inside.parts) (own c.begin_drop.new.self) c.step-step.result _
-            (g.met.S.TaskSide.tells.close _ _ c.begin_drop-2.ensures.close) c.begin_drop-2.ensures.step number c.requires.none rests c.begin_drop.ensures.did
-            (ap in_call (sym c.begin_drop-2.ensures.step) ∙ call),
+        stands_closed (g.S.TaskSide.state c.args.side.now) c.step-step.result (g.met.S.TaskSide.tells.close _ _ c.begin_drop-2.ensures.close) c.begin_drop-2.ensures.step
+            (number, c.requires.none) rests c.begin_drop.ensures.did call,
       );
     }
 
 pub returns-then-not-begin_drop-clause-end : goal.returns-then-not-begin_drop-clause-end
 returns-then-not-begin_drop-clause-end g c =
-    let rests = rests_at g.W.TaskWaker.whose (own c.self.inside.parts) c.self.inside.idle c.step-step.result c.self.view_is refl c.requires.live
-    c.step-step.ensures.rests c.step-step.ensures.is c.self.inside.stands in
+    let live = ap (λ (t : TaskView). t.finished) c.self.view_is ∙ c.requires.live in
+    let rests = rests_at g.W.TaskWaker.whose (own c.self.inside.parts) c.self.inside.idle live c.step-step.ensures.rests c.step-step.ensures.is c.self.inside.stands in
     let over = ap in_call (sym c.begin_drop-2.ensures.step) ∙ sym c.begin_drop-2.ensures.more ∙ c.if-not-begin_drop.true in
     let grew = (drop_alone g.W.TaskWaker.whose (own c.self.inside.parts) (own c.begin_drop.new.self) c.step-step.result rests over c.begin_drop.ensures.did).0 in
     rw (← c.self.view_is)
@@ -52,8 +49,8 @@ returns-then-not-begin_drop-clause-end g c =
 
 pub returns-then-not-begin_drop-clause-call : goal.returns-then-not-begin_drop-clause-call
 returns-then-not-begin_drop-clause-call g c =
-    let rests = rests_at g.W.TaskWaker.whose (own c.self.inside.parts) c.self.inside.idle c.step-step.result c.self.view_is refl c.requires.live
-    c.step-step.ensures.rests c.step-step.ensures.is c.self.inside.stands in
+    let live = ap (λ (t : TaskView). t.finished) c.self.view_is ∙ c.requires.live in
+    let rests = rests_at g.W.TaskWaker.whose (own c.self.inside.parts) c.self.inside.idle live c.step-step.ensures.rests c.step-step.ensures.is c.self.inside.stands in
     let over = ap in_call (sym c.begin_drop-2.ensures.step) ∙ sym c.begin_drop-2.ensures.more ∙ c.if-not-begin_drop.true in
     let call = (drop_alone g.W.TaskWaker.whose (own c.self.inside.parts) (own c.begin_drop.new.self) c.step-step.result rests over c.begin_drop.ensures.did).1 in
     rw (← c.self.view_is) (
@@ -65,28 +62,25 @@ returns-then-not-begin_drop-clause-call g c =
 pub returns : goal.returns
 returns g c =
     let number = c.requires.number ∙ sym (ap (λ (t : TaskView). t.number) c.self.view_is) in
-    let rests = rests_at g.W.TaskWaker.whose (own c.self.inside.parts) c.self.inside.idle c.step-step.result c.self.view_is refl c.requires.live
-    c.step-step.ensures.rests c.step-step.ensures.is c.self.inside.stands in
+    let live = ap (λ (t : TaskView). t.finished) c.self.view_is ∙ c.requires.live in
+    let rests = rests_at g.W.TaskWaker.whose (own c.self.inside.parts) c.self.inside.idle live c.step-step.ensures.rests c.step-step.ensures.is c.self.inside.stands in
     let call = sym c.begin_drop-2.ensures.more ∙ c.if-not-begin_drop.false in
     let closed = g.met.S.TaskSide.tells.close _ _ c.begin_drop-2.ensures.close in
-    let stands = stands_closed g.W.TaskWaker.whose (g.S.TaskSide.state c.args.side.now) (g.S.TaskSide.state c.begin_drop-2.new.side) (own c.self.inside.parts) (own c.begin_drop.new.self) c.step-step.result _ closed c.begin_drop-2.ensures.step
-    number c.requires.none rests c.begin_drop.ensures.did (ap in_call (sym c.begin_drop-2.ensures.step) ∙ call) in
     let seen = grew_on _ _ _ c.begin_drop.ensures.did.log in
     let walked = c.go_on.ensures.walked _ _ (walked_none _ _) in
     let last : Own = own c.go_on.new.parts in
     let opens = drop_opens g.W.TaskWaker.whose (own c.self.inside.parts) (own c.begin_drop.new.self) c.step-step.result rests (ap in_call (sym c.begin_drop-2.ensures.step) ∙ call)
     c.begin_drop.ensures.did in
-    let end = drop_ended g.W.TaskWaker.whose (g.S.TaskSide.state c.begin_drop-2.new.side) (g.S.TaskSide.state c.go_on.new.side) (own c.begin_drop.new.self)
-    (own c.go_on.new.parts) _ c.go_on.result refl c.go_on.new.step walked
-    (c.go_on.ensures.stands true stands) c.go_on.ensures.over in
+    let stands = c.go_on.ensures.stands true
+    (stands_closed (g.S.TaskSide.state c.args.side.now) c.step-step.result closed c.begin_drop-2.ensures.step (number, c.requires.none) rests c.begin_drop.ensures.did call) in
+    let end = drop_ended refl c.go_on.new.step walked stands c.go_on.ensures.over in
     rw (← c.self.view_is) (record {
       cell = c.go_on.ensures.cell ∙ c.begin_drop.ensures.cell;
       number = walked.number ∙ c.begin_drop.ensures.did.number;
       end = grew_from _ _ _ _ seen end.0;
       call = (
         walked.made.0,
-        called last.number (Ended c.go_on.result) 0 last.task.kept (DropEnd last.number) (DropBegin last.number) walked.made.0 (own c.self.inside.parts).log
-            (own c.begin_drop.new.self).log last.log (ap (λ (l : Entry). l ∷ []) end.1)
+        called (Ended c.go_on.result) last.task.kept (own c.begin_drop.new.self).log (ap (λ (l : Entry). l ∷ []) end.1)
             (subst (λ (t : ℕ). entries_of t (own c.begin_drop.new.self).log ≡ entries_of t (own c.self.inside.parts).log ++ DropBegin t ∷ [])
             (sym c.begin_drop.ensures.did.number ∙ sym walked.number) opens)
             walked.made.1

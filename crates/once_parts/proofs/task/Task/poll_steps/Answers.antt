@@ -1,7 +1,6 @@
 -- The poll begins, its steps are made, and so it ends.
 use Rattle.std.proofs.Common.{◌≡◌, rules, refl, sym, ap, ◌∙◌}
 use Rattle.once_core.specs.Steps.{step_of_poll}
-use Rattle.once_world.specs.Places.{AtStart, UnderWay}
 use Rattle.once_parts.specs.declared.idle.Idle.{Idle}
 use Rattle.once_parts.specs.declared.idle.Idle.TheVariants.{New}
 use Rattle.once_parts.specs.Idle.{step_of}
@@ -23,8 +22,7 @@ start-requires g c =
     let number = c.requires.number ∙ sym (ap (λ (t : TaskView). t.number) c.self.view_is) in
     let new : c.self.inside.idle ≡ New = search rules in
     record {
-      stands = begins_at g.W.TaskWaker.whose (g.S.TaskSide.state c.args.side.now) (own c.self.inside.parts) (own c.begin.new.self) c.self.inside.idle
-          (UnderWay AtStart) number c.requires.none c.requires.init live (c.self.inside.stands live) c.begin.ensures.did
+      stands = begins_at c.self.inside.idle (number, c.requires.none, c.requires.init) live (c.self.inside.stands live) c.begin.ensures.did
           (ap (λ (i : Idle). step_of_poll (step_of i)) new);
     }
 
@@ -34,14 +32,12 @@ later-requires g c =
     let number = c.requires.number ∙ sym (ap (λ (t : TaskView). t.number) c.self.view_is) in
     record {
       live = live;
-      stands = begins_at g.W.TaskWaker.whose (g.S.TaskSide.state c.args.side.now) (own c.self.inside.parts) (own c.begin.new.self) c.self.inside.idle
-          (step_of_poll (step_of c.self.inside.idle)) number c.requires.none c.requires.init live (c.self.inside.stands live) c.begin.ensures.did refl;
+      stands = begins_at c.self.inside.idle (number, c.requires.none, c.requires.init) live (c.self.inside.stands live) c.begin.ensures.did refl;
     }
 
 pub returns-then-is_new : goal.returns-then-is_new
 returns-then-is_new g c =
-    let p = polled g.W.TaskWaker.whose (g.S.TaskSide.state c.args.side.now) (g.S.TaskSide.state c.start.new.side) (own c.self.inside.parts) (own c.begin.new.self)
-    (own c.start.new.parts) c.start.result c.start.new.idle c.requires.none c.begin.ensures.did c.start.ensures.leads.walked c.start.ensures.leads.stands in
+    let p = polled c.start.new.idle c.requires.none c.begin.ensures.did c.start.ensures.leads.walked c.start.ensures.leads.stands in
     rw (← c.self.view_is) (record {
       cell = c.start.ensures.cell ∙ c.begin.ensures.cell;
       number = p.number;
@@ -57,8 +53,7 @@ returns-then-is_new g c =
 
 pub returns : goal.returns
 returns g c =
-    let p = polled g.W.TaskWaker.whose (g.S.TaskSide.state c.args.side.now) (g.S.TaskSide.state c.later.new.side) (own c.self.inside.parts) (own c.begin.new.self)
-    (own c.later.new.parts) c.later.result c.later.new.idle c.requires.none c.begin.ensures.did c.later.ensures.leads.walked c.later.ensures.leads.stands in
+    let p = polled c.later.new.idle c.requires.none c.begin.ensures.did c.later.ensures.leads.walked c.later.ensures.leads.stands in
     rw (← c.self.view_is) (record {
       cell = c.later.ensures.cell ∙ c.begin.ensures.cell;
       number = p.number;
