@@ -192,7 +192,8 @@ pub(super) fn look<T, W: TaskWaker + Drop, S: TaskSide<W, Value = T, Right = Han
 }
 
 // The waker of a waiter that is listed becomes that of this poll.
-#[inline(always)]
+// With this one inlined too, the ways are so large that the kit inlines less of them.
+#[inline(never)]
 fn renew<T, W: TaskWaker + Drop, S: TaskSide<W, Value = T, Right = Hand>>(
     desk: &mut Desk<W>,
     hand: &mut Hand,
