@@ -1,7 +1,8 @@
 -- Each line of the table, where the task stands: what the step makes of the record, and where the task stands after it.
-use Rattle.std.proofs.Common.{◌≡◌, ℕ, Bool, true, false, List, [], ◌++◌, Option, Some, None, refl, sym, ap, ◌∙◌, subst}
+use Rattle.std.proofs.Common.{◌≡◌, ℕ, Bool, true, false, List, [], ◌++◌, Option, Some, None, refl, sym, ap, ◌∙◌, subst, arith}
 use Rattle.std.specs.Prelude.{⊤}
 use Rattle.std.proofs.lemmas.Bool.{false≢true}
+use Rattle.std.proofs.lemmas.Grind.{common_steps}
 use Rattle.std.proofs.lemmas.List.{append-nil}
 use Rattle.std.specs.Option.{option_map}
 use Rattle.pagebook.specs.Slot.{Placed}
@@ -12,7 +13,7 @@ use Rattle.once_queue.specs.declared.waiters.Op.TheVariants.{Look, List as ListO
 use Rattle.once_queue.specs.declared.waiters.Answer.{Answer}
 use Rattle.once_queue.specs.declared.waiters.Answer.TheVariants.{Ready, Claimed, Listed, Released, Left}
 use Rattle.once_core.specs.declared.step.Polled.{Polled}
-use Rattle.once_core.specs.declared.step.Polled.TheVariants.{Pending, Value, Error}
+use Rattle.once_core.specs.declared.step.Polled.TheVariants.{Pending, Error}
 use Rattle.once_core.specs.Steps.{MayClose, SideTells, Wakes, out_of, is_value}
 use Rattle.once_core.specs.Table.{Follows, Line, Looked, MayRefuse, Next, Refused, Told, wants_copy}
 use Rattle.once_core.specs.Table.{Added, CountedIn, CountedOut, Got, Loaded, PutQueue, PutValue, Ran as PolledInit, Taken, TriedFast, TriedQuick, Was}
@@ -44,9 +45,7 @@ use Rattle.once_parts.proofs.Walk.Parts.{Went, quiet}
 
 -- what the init gave, where it gave an error
 error_kept : (a : Polled) (k : InitAnswer) → a ≡ Error → kept_after (unnamed a) k ≡ RanError 0
-error_kept Pending k e = let no : ⊥ = cc in absurd no
-error_kept Value k e = let no : ⊥ = cc in absurd no
-error_kept Error k e = refl
+error_kept a k e = grind (arith, common_steps)
 
 -- an init that is pending is not dropped
 pending_stays : (W : Type 0) (a : Polled) (by : Option ⊤) → a ≡ Pending → (after_run {W = W} a by).closes ≡ false
