@@ -127,13 +127,6 @@ module _ (seen log es : List Entry) where
       let s : Sheet = sheet (entries_on e.0 longer) y in
       all_set ys h (slice_set ss e.0 s) (agrees_set (sheets seen h) e.0 s ss a.1.0 a.1.1) (other_set h ss e y a.0 o)
 
-  -- after a step that adds entries of the hand's tasks alone, each page has its entries
-  entries_put : (ys : List Page) (h : Held Page) (ss : List Sheet) → OnlyOf h es → Agrees (sheets seen h) ss → ((k : ℕ) (s : Sheet) → slice_get ss k ≡ Some s → s.entries ≡ entries_on k log)
-      → (k : ℕ) (s : Sheet) → slice_get (put (sheets_set longer ys h) (sheets seen h) ss) k ≡ Some s → s.entries ≡ entries_on k longer
-  entries_put ys h ss only a are k s at =
-      let others : Others h ss = λ k s at apart. are k s at ∙ sym (append-nil (entries_on k log)) ∙ ap (λ l. entries_on k log ++ l) (sym (only k apart)) ∙ sym (on_append k log es) in
-      all_set ys h ss a others k s at tt
-
   -- what the hand's tasks added
   pub adds : (h : Held Page) (ss : List Sheet) → Agrees (sheets seen h) ss → ((k : ℕ) (s : Sheet) → slice_get ss k ≡ Some s → s.entries ≡ entries_on k log) → Adds seen h es longer
   adds [] ss a are = tt
@@ -151,10 +144,12 @@ put_at : (w put k n : ℕ) (ns : List ℕ) → ns ≡ w ∷ put ∷ k ∷ [] →
 put_at w put k n ns e at = let same : ◌≡◌ {A = Option ℕ} (Some put) (Some n) = ap (λ xs. slice_get xs 1) (sym e) ∙ at in cc
 
 module _ (seen : List Entry) (h : Held Page) where
-  -- after a step of the hand's tasks each page has its entries
+  -- after a step that adds entries of the hand's tasks alone, each page has its entries
   all_entries : (log es : List Entry) (ys : List Page) (ss : List Sheet) → OnlyOf h es → Agrees (sheets seen h) ss → ((k : ℕ) (s : Sheet) → slice_get ss k ≡ Some s → s.entries ≡ entries_on k log)
       → (k : ℕ) (s : Sheet) → slice_get (put (sheets_set (log ++ es) ys h) (sheets seen h) ss) k ≡ Some s → s.entries ≡ entries_on k (log ++ es)
-  all_entries log es ys ss only a are = entries_put seen log es ys h ss only a are
+  all_entries log es ys ss only a are k s at =
+      let others : Others seen log es h ss = λ k s at apart. are k s at ∙ sym (append-nil (entries_on k log)) ∙ ap (λ l. entries_on k log ++ l) (sym (only k apart)) ∙ sym (on_append k log es) in
+      all_set seen log es ys h ss a others k s at tt
 
   -- a step of the cell's word, and what it tells of the log after it
   pub telling_moves : (f : ℕ → ℕ) (ys : ℕ → List Page) (es : ℕ → List Entry) (P : ℕ → List Entry → Type 0) → ((n : ℕ) → OnlyOf h (es n))

@@ -1,5 +1,6 @@
 -- Where the code stands at a place, the page does too. So the page may make the code's call, and goes on as the code does.
-use Rattle.std.proofs.Common.{◌≡◌, ℕ, Bool, true, false, List, [], ◌∷◌, reverse, Option, Some, None, refl, sym, ap, ◌∙◌, subst}
+use Rattle.std.proofs.Common.{◌≡◌, ℕ, Bool, true, false, List, [], ◌∷◌, reverse, Option, Some, None, refl, sym, ap, ◌∙◌, subst, arith}
+use Rattle.std.proofs.lemmas.Grind.{common_steps}
 use Rattle.std.proofs.lemmas.List.{append-nil}
 use Rattle.std.specs.Prelude.{⊤}
 use Rattle.std.specs.Option.{is_some, option_map}
@@ -39,14 +40,8 @@ page_calls (Resting r) at is = let no : ⊥ = cc in absurd no
 page_calls Finished at is = let no : ⊥ = cc in absurd no
 
 -- a number for the queue, and back
-op_back : (op : Op ℕ) → op ≡ op_as (λ w. w) (op_as (λ w. w) op)
-op_back (ListOwn k (Some w)) = refl
-op_back (ListOwn k None) = refl
-op_back _ = refl
-
 call_back : (c : Call ℕ ℕ) → c ≡ call_as (λ w. w) (λ q. queue_of c) (call_as (λ w. w) the_queue c)
-call_back (Section q op) = ap (Section q) (op_back op)
-call_back _ = refl
+call_back c = grind (arith, common_steps)
 
 module _ {W : Type 0} (whose : W → ℕ) where
   -- the code's names, and then the page's
@@ -64,8 +59,7 @@ module _ {W : Type 0} (whose : W → ℕ) where
   answer_twice _ = refl
 
   queue_twice : (n : ℕ) (q : Option ⊤) → option_map the_queue (option_map (λ (u : ⊤). n) q) ≡ option_map (λ (u : ⊤). u) q
-  queue_twice n (Some u) = refl
-  queue_twice n None = refl
+  queue_twice n q = grind (arith, common_steps)
 
   pub told_twice : (n : ℕ) (e : Told W ⊤) → told_as (λ w. w) the_queue (told_as whose (λ (u : ⊤). n) e) ≡ told_as whose (λ (u : ⊤). u) e
   told_twice n (Got q) = ap Got (queue_twice n q)
@@ -94,8 +88,7 @@ module _ {W : Type 0} (whose : W → ℕ) where
 
   -- a queue that is there
   numbered_as : (n : ℕ) (q : Option ⊤) → numbered n (is_some q) ≡ option_map (λ (u : ⊤). n) q
-  numbered_as n (Some u) = refl
-  numbered_as n None = refl
+  numbered_as n q = grind (arith, common_steps)
 
   -- what a call told of the page: it went on by the table, with some number for the queue
   pub did_went : (v w : Own) (e : Told W ⊤) → DidCall whose v e w → (n : ℕ) × Went v (told_as whose (λ (u : ⊤). n) e) (handed_by e) w

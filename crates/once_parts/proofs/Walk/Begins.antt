@@ -1,10 +1,11 @@
 -- Where a call begins, and what is known when it has ended.
-use Rattle.std.proofs.Common.{◌≡◌, ℕ, true, false, List, [], ◌∷◌, ◌++◌, append_assoc, Some, None, reverse, refl, sym, ap, ◌∙◌, subst}
+use Rattle.std.proofs.Common.{◌≡◌, ℕ, true, false, List, [], ◌∷◌, ◌++◌, append_assoc, reverse, refl, sym, ap, ◌∙◌, subst, arith}
 use Rattle.std.specs.Prelude.{⊤}
 use Rattle.std.proofs.lemmas.Bool.{false≢true}
+use Rattle.std.proofs.lemmas.Grind.{common_steps}
 use mathlib.Core.List.{IsPrefix}
 use Rattle.once_core.specs.Steps.{in_call, is_resting, step_of_drop, step_of_poll}
-use Rattle.once_world.specs.Places.{EndDropped, Finished, More, Rest, RestRun, RestStart, RestWait, Resting, Step, UnderWay}
+use Rattle.once_world.specs.Places.{EndDropped, More, RestRun, RestStart, RestWait, Resting, Step}
 use Rattle.once_world.specs.Record.{Begin, DropBegin, DropEnd, Entry}
 use Rattle.once_world.specs.Book.{TaskState}
 use Rattle.once_world.specs.Machine.{drop_entries}
@@ -53,9 +54,7 @@ module _ {W : Type 0} {whose : W → ℕ} {x : Sided} {v w : Own} (s : Step W �
 
 -- a step rests whose names are others
 rests_as : {W V Q P : Type 0} (f : W → V) (g : Q → P) (s : Step W Q) → is_resting (step_as f g s) ≡ is_resting s
-rests_as f g (Resting r) = refl
-rests_as f g (UnderWay p) = refl
-rests_as f g Finished = refl
+rests_as f g s = grind (arith, common_steps)
 
 -- the task rests where the code's step does
 pub rests_there : {W : Type 0} (whose : W → ℕ) (s : Step W ⊤) (y : Step ℕ ℕ) → is_resting s ≡ true → step_as whose (λ q. q) s ≡ step_as (λ w. w) the_queue y → is_resting y ≡ true
@@ -71,17 +70,7 @@ stands_closed {whose = whose} x {y = y} {w = w} s closed at (number, none) rests
 -- a task whose drop has no step was never polled
 never_polled : {W : Type 0} (whose : W → ℕ) (v : Own) (s : Step W ⊤) (y : Step ℕ ℕ) → is_resting s ≡ true
     → step_as whose (λ q. q) s ≡ step_as (λ w. w) the_queue y → in_call (step_of_drop s) ≡ false → y ≡ Resting RestStart
-never_polled whose v (Resting RestStart) (Resting RestStart) rests is over = refl
-never_polled whose v (Resting RestStart) (Resting (RestWait q k)) rests is over = let no : ⊥ = cc in absurd no
-never_polled whose v (Resting RestStart) (Resting (RestRun by)) rests is over = let no : ⊥ = cc in absurd no
-never_polled whose v (Resting RestStart) (UnderWay p) rests is over = let no : ⊥ = cc in absurd no
-never_polled whose v (Resting RestStart) Finished rests is over = let no : ⊥ = cc in absurd no
-never_polled whose v (Resting (RestWait q None)) y rests is over = absurd (false≢true (sym over))
-never_polled whose v (Resting (RestWait q (Some n))) y rests is over = absurd (false≢true (sym over))
-never_polled whose v (Resting (RestRun None)) y rests is over = absurd (false≢true (sym over))
-never_polled whose v (Resting (RestRun (Some q))) y rests is over = absurd (false≢true (sym over))
-never_polled whose v (UnderWay p) y rests is over = absurd (false≢true rests)
-never_polled whose v Finished y rests is over = absurd (false≢true rests)
+never_polled whose v s y rests is over = grind (arith, common_steps)
 
 -- the last entry of some is the newest
 pub grew_last : (e : Entry) (es old new : List Entry) → Grew (es ++ e ∷ []) old new → Grew (e ∷ []) old new
@@ -101,24 +90,10 @@ drop_alone whose v w s rests over d =
       record { own = subst (λ y. entries_of v.number w.log ≡ entries_of v.number v.log ++ reverse (drop_entries v.number (step_of_drop y))) never d.mine; between = tt },
     )
 
--- a step that stands for one of a new task is such a step
-starts : {W : Type 0} (whose : W → ℕ) (r : Rest ⊤) → step_as {W = W} whose (λ q. q) (Resting r) ≡ step_as (λ w. w) the_queue (Resting RestStart) → in_call (step_of_drop {W = W} (Resting r)) ≡ false
-starts whose RestStart is = refl
-starts whose (RestWait q k) is = let no : ⊥ = cc in absurd no
-starts whose (RestRun by) is = let no : ⊥ = cc in absurd no
-
 -- a drop that has steps to make adds its beginning at first
 begins_alone : {W : Type 0} (whose : W → ℕ) (t : ℕ) (s : Step W ⊤) (y : Step ℕ ℕ) → is_resting s ≡ true
     → step_as whose (λ q. q) s ≡ step_as (λ w. w) the_queue y → in_call (step_of_drop s) ≡ true → reverse (drop_entries t (step_of_drop y)) ≡ DropBegin t ∷ []
-begins_alone whose t (Resting r) (Resting RestStart) rests is call = absurd (false≢true (sym (starts whose r is) ∙ call))
-begins_alone whose t (Resting r) (Resting (RestWait q None)) rests is call = refl
-begins_alone whose t (Resting r) (Resting (RestWait q (Some n))) rests is call = refl
-begins_alone whose t (Resting r) (Resting (RestRun None)) rests is call = refl
-begins_alone whose t (Resting r) (Resting (RestRun (Some q))) rests is call = refl
-begins_alone whose t (Resting r) (UnderWay p) rests is call = let no : ⊥ = cc in absurd no
-begins_alone whose t (Resting r) Finished rests is call = let no : ⊥ = cc in absurd no
-begins_alone whose t (UnderWay p) y rests is call = absurd (false≢true rests)
-begins_alone whose t Finished y rests is call = absurd (false≢true rests)
+begins_alone whose t s y rests is call = grind (arith, common_steps)
 
 -- the beginning of such a drop, by the task's own entries
 pub drop_opens : {W : Type 0} (whose : W → ℕ) (v w : Own) (s : Step W ⊤) → Rests whose v s → in_call (step_of_drop s) ≡ true

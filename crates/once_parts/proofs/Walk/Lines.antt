@@ -1,7 +1,8 @@
 -- Each line of the table, where the task stands: what the step makes of the record, and where the task stands after it.
-use Rattle.std.proofs.Common.{◌≡◌, ℕ, Bool, true, false, List, [], ◌++◌, Option, Some, None, refl, sym, ap, ◌∙◌, subst}
+use Rattle.std.proofs.Common.{◌≡◌, ℕ, Bool, true, false, List, [], ◌++◌, Option, Some, None, refl, sym, ap, ◌∙◌, subst, arith}
 use Rattle.std.specs.Prelude.{⊤}
 use Rattle.std.proofs.lemmas.Bool.{false≢true}
+use Rattle.std.proofs.lemmas.Grind.{common_steps}
 use Rattle.std.proofs.lemmas.List.{append-nil}
 use Rattle.std.specs.Option.{option_map}
 use Rattle.pagebook.specs.Slot.{Placed}
@@ -12,7 +13,7 @@ use Rattle.once_queue.specs.declared.waiters.Op.TheVariants.{Look, List as ListO
 use Rattle.once_queue.specs.declared.waiters.Answer.{Answer}
 use Rattle.once_queue.specs.declared.waiters.Answer.TheVariants.{Ready, Claimed, Listed, Released, Left}
 use Rattle.once_core.specs.declared.step.Polled.{Polled}
-use Rattle.once_core.specs.declared.step.Polled.TheVariants.{Pending, Value, Error}
+use Rattle.once_core.specs.declared.step.Polled.TheVariants.{Pending, Error}
 use Rattle.once_core.specs.Steps.{MayClose, SideTells, Wakes, out_of, is_value}
 use Rattle.once_core.specs.Table.{Follows, Line, Looked, MayRefuse, Next, Refused, Told, wants_copy}
 use Rattle.once_core.specs.Table.{Added, CountedIn, CountedOut, Got, Loaded, PutQueue, PutValue, Ran as PolledInit, Taken, TriedFast, TriedQuick, Was}
@@ -44,9 +45,7 @@ use Rattle.once_parts.proofs.Walk.Parts.{Went, quiet}
 
 -- what the init gave, where it gave an error
 error_kept : (a : Polled) (k : InitAnswer) → a ≡ Error → kept_after (unnamed a) k ≡ RanError 0
-error_kept Pending k e = let no : ⊥ = cc in absurd no
-error_kept Value k e = let no : ⊥ = cc in absurd no
-error_kept Error k e = refl
+error_kept a k e = grind (arith, common_steps)
 
 -- an init that is pending is not dropped
 pending_stays : (W : Type 0) (a : Polled) (by : Option ⊤) → a ≡ Pending → (after_run {W = W} a by).closes ≡ false
@@ -125,14 +124,14 @@ module _ {P S W : Type 0} (cell : P → Placed) (own : P → Own) {whose : W →
     abbrev FitsThere : Next W ⊤ → Type 0
     FitsThere n = Fits drops (state s') (own p') n.progress n.step
 
-    -- the page has the same copy of the waker, where one is asked for
-    abbrev SameCopy : Option W → Place W ⊤ → Told W ⊤ → Type 0
-    SameCopy c at e = ◌≡◌ {A = Next ℕ ⊤} (after (option_map whose c) (place_as whose (λ u. u) at) (told_as whose (λ u. u) e))
+    -- a copy of the waker, which the page would have, is not asked for
+    abbrev NoCopy : Place W ⊤ → Told W ⊤ → Type 0
+    NoCopy at e = ◌≡◌ {A = Next ℕ ⊤} (after None (place_as whose (λ u. u) at) (told_as whose (λ u. u) e))
         (after (Some (own p).task.waker) (place_as whose (λ u. u) at) (told_as whose (λ u. u) e))
 
     -- no copy is asked for, these are handed out, and no init answers
     abbrev Plain : List ℕ → Place W ⊤ → Told W ⊤ → Type 0
-    Plain X at e = SameCopy None at e × (handed_by whose e ≡ X)
+    Plain X at e = NoCopy at e × (handed_by whose e ≡ X)
         × ((n : ℕ) → let d : Told ℕ ℕ = told_as whose (λ (u : ⊤). n) e in keeps d (given_in d) (own p).task.kept ≡ (own p).task.kept)
 
     -- the code goes on by a, and the page by b: both are the same line of the table
@@ -153,21 +152,21 @@ module _ {P S W : Type 0} (cell : P → Placed) (own : P → Own) {whose : W →
         }
 
     -- the code goes on by the table, and so does the page
-    goes : (c : Option W) (at : Place W ⊤) (e : Told W ⊤) → StandsOn whose (own p) (UnderWay at) → Did p e p' → SameCopy c at e
+    goes : (at : Place W ⊤) (e : Told W ⊤) → StandsOn whose (own p) (UnderWay at) → Did p e p' → NoCopy at e
         → ((state s').woke ≡ (state s).woke ++ handed_by whose e) × ((state s').number ≡ (own p).number)
-        → (r ≡ (after c at e).progress) × (t ≡ (after c at e).step)
-        → ((n : ℕ) → (own p').number ≡ (own p).number → (own p').task.waker ≡ (own p).task.waker → KeptBy whose n e (own p) (own p') → FitsThere (after c at e)) → HasGone
-    goes c at e stands (same, did) copy (woke, number) on fits =
+        → (r ≡ (after None at e).progress) × (t ≡ (after None at e).step)
+        → ((n : ℕ) → (own p').number ≡ (own p).number → (own p').task.waker ≡ (own p).task.waker → KeptBy whose n e (own p) (own p') → FitsThere (after None at e)) → HasGone
+    goes at e stands (same, did) copy (woke, number) on fits =
         let v : Own = own p in
         let went = did_went whose v (own p') e did in
         let d : Told ℕ ℕ = told_as whose (λ (u : ⊤). went.0) e in
         let named = records_named whose went.0 e (given_in d) v.number v.task.kept in
         let b : Next ℕ ℕ = next_of v.task.step v.task.waker d in
         let at' : Place ℕ ⊤ = place_as whose (λ u. u) at in
-        let right : next_as (λ w. w) the_queue b ≡ after (option_map whose c) at' (told_as whose (λ u. u) e) =
+        let right : next_as (λ w. w) the_queue b ≡ after (None) at' (told_as whose (λ u. u) e) =
         page_goes v.task.step at' v.task.waker d (sym stands) ∙ ap (after (Some v.task.waker) at') (told_twice whose went.0 e) ∙ sym copy in
-        went_by (after c at e) b (after (option_map whose c) at' (told_as whose (λ u. u) e)) (task_after v.task d)
-        (records d (given_in d) v.number v.task.kept (handed_by whose e)) (handed_by whose e) same (went.1, refl) (after_as whose (λ (u : ⊤). u) c at e, right)
+        went_by (after None at e) b (after (None) at' (told_as whose (λ u. u) e)) (task_after v.task d)
+        (records d (given_in d) v.number v.task.kept (handed_by whose e)) (handed_by whose e) same (went.1, refl) (after_as whose (λ (u : ⊤). u) None at e, right)
         (named, woke, number) on (fits went.0 went.1.number (ap (λ (x : TaskState). x.waker) went.1.task) (ap (λ (x : TaskState). x.kept) went.1.task))
 
     -- where nobody is handed out, and the side at most closes its init
@@ -175,7 +174,7 @@ module _ {P S W : Type 0} (cell : P → Placed) (own : P → Own) {whose : W →
         → Follows side.close (after None at e) s s' r t → (LeavesBoth (after None at e).closes → FitsThere (after None at e)) → HasGone
     plain at e is did (copy, none, kept) (close, more, leads) fits =
         let still = closed (after None at e).closes s s' close in
-        goes None at e is.step did copy (quiet (state s) (state s') still.woke ∙ ap (λ X. (state s).woke ++ X) (sym none), still.number ∙ is.number) (more, leads)
+        goes at e is.step did copy (quiet (state s) (state s') still.woke ∙ ap (λ X. (state s).woke ++ X) (sym none), still.number ∙ is.number) (more, leads)
         (λ n i w k. fits (record { side_is = still; number = i; waker = w; kept = k ∙ kept n }))
 
     -- a section that hands out whom it answers, after which the task counts itself out
@@ -183,7 +182,7 @@ module _ {P S W : Type 0} (cell : P → Placed) (own : P → Own) {whose : W →
         → Wakes side.wake (out_of a) s s' × (r ≡ More) × (t ≡ UnderWay (AtCountOut end)) × ((state s).woke ≡ []) × MayEnd drops (state s) (own p) end → HasGone
     wakes at e a end is did ((copy, hands, kept), leads) (wake, more, step, none, m) =
         let now = woken s s' a wake none in
-        goes None at e is.step did copy (ap (λ (x : Sided). x.woke) now ∙ sym hands ∙ ap (λ X. X ++ handed_by whose e) (sym none), ap (λ (x : Sided). x.number) now ∙ is.number)
+        goes at e is.step did copy (ap (λ (x : Sided). x.woke) now ∙ sym hands ∙ ap (λ X. X ++ handed_by whose e) (sym none), ap (λ (x : Sided). x.number) now ∙ is.number)
         (more ∙ sym (ap (λ (n : Next W ⊤). n.progress) leads), step ∙ sym (ap (λ (n : Next W ⊤). n.step) leads))
         (λ n i w k. subst (λ (n : Next W ⊤). FitsThere n) (sym leads)
         (refl, may_end_on drops (state s) (state s') (own p) (own p') end (ap (λ (x : Sided). x.has_error) now, k ∙ kept n) m))
@@ -228,7 +227,7 @@ module _ {P S W : Type 0} (cell : P → Placed) (own : P → Own) {whose : W →
           copy_went q j None None refl (refused.0 ∙ same) after (closed_after true s m s' (tells.copy s None m copy).0 close, more, leads)
 
       -- where it wants no copy
-      seen : (a : Answer W) (o : Op W) → Did p (Was tt (Look k) a o) n → SameCopy None (AtLook tt k) (Was tt (Look k) a o)
+      seen : (a : Answer W) (o : Op W) → Did p (Was tt (Look k) a o) n → NoCopy (AtLook tt k) (Was tt (Look k) a o)
           → p' ≡ n → Follows side.close (after None (AtLook tt k) (Was tt (Look k) a o)) s s' r t → HasGone
       seen a o did copy same f = plain (AtLook tt k) (Was tt (Look k) a o) is (subst (Did p (Was tt (Look k) a o)) (sym same) did) (copy, refl, λ n. refl) f
           (λ l. look_fits W drops (state s') (own p') a tt (ticket_in o) (onward drops l is.fits.1))
@@ -268,7 +267,7 @@ module _ {P S W : Type 0} (cell : P → Placed) (own : P → Own) {whose : W →
         let told = tells.run s a m ran in
         let now = closed (after_run {W = W} a by).closes m s' close in
         let woke : (state s').woke ≡ (state s).woke = now.woke ∙ told.woke in
-        goes None (AtRun by) (PolledInit a) is.step d refl (quiet (state s) (state s') woke, now.number ∙ told.number ∙ is.number) (more, leads)
+        goes (AtRun by) (PolledInit a) is.step d refl (quiet (state s) (state s') woke, now.number ∙ told.number ∙ is.number) (more, leads)
         (λ n i w k. run_fits W drops (state s') (own p') a by (begun drops (same_as woke i w) is.fits.1.0) (record {
           init = λ e. now.init (pending_stays W a by e) ∙ told.init e ∙ is.fits.1.1;
           value = λ e. now.value ∙ told.value e;
@@ -276,7 +275,7 @@ module _ {P S W : Type 0} (cell : P → Placed) (own : P → Own) {whose : W →
         }))
     by_line (AtPut by) is (d, (put, more, leads)) =
         let told = tells.put s s' put in
-        goes None (AtPut by) PutValue is.step d refl (quiet (state s) (state s') told.woke, told.number ∙ is.number) (more, leads)
+        goes (AtPut by) PutValue is.step d refl (quiet (state s) (state s') told.woke, told.number ∙ is.number) (more, leads)
         (λ n i w k. fill_fits W drops (state s') (own p') by (begun drops (same_as told.woke i w) is.fits.1.0))
     by_line (AtFast e) is (won, (d, f)) = plain (AtFast e) (TriedFast (is_value e) won) is d (refl, refl, λ n. refl) f
         (λ l. fast_fits W drops (state s') (own p') won (is_value e) e (ending_held drops e l is.fits.1))

@@ -1,11 +1,11 @@
 -- Each step of a straight way is its line of the table, whether it is made under the lock or not.
-use Rattle.std.proofs.Common.{◌≡◌, ℕ, Bool, true, false, Option, None, refl, sym, subst}
+use Rattle.std.proofs.Common.{◌≡◌, ℕ, Bool, true, false, Option, None, refl, sym, ap, subst}
 use Rattle.std.specs.Prelude.{⊤}
 use Rattle.std.proofs.lemmas.Bool.{false≢true}
 use Rattle.pagebook.specs.Slot.{Placed}
 use Rattle.once_queue.specs.Ops.{ticket_in}
 use Rattle.once_queue.specs.declared.waiters.Answer.{Answer}
-use Rattle.once_queue.specs.declared.waiters.Answer.TheVariants.{Ready, Claimed, Listed, Held, Memory, Gone, Released, Left}
+use Rattle.once_queue.specs.declared.waiters.Answer.TheVariants.{Ready, Claimed, Listed, Memory, Released}
 use Rattle.once_queue.specs.declared.waiters.Op.{Op}
 use Rattle.once_queue.specs.declared.waiters.Out.{Out}
 use Rattle.once_queue.specs.declared.waiters.Op.TheVariants.{Look, List as ListOwn, Release, Leave}
@@ -13,10 +13,10 @@ use Rattle.once_core.specs.declared.step.Polled.{Polled}
 use Rattle.once_core.specs.Steps.{MayClose, is_value, release_place}
 use Rattle.once_core.specs.Table.{Call, Load, Quick, Fast, CountIn, AddOne, CountOut, DoorGet, DoorPut, DoorTake, Section, Refuse, Run, Put}
 use Rattle.once_core.specs.Table.{Told, Loaded, TriedQuick, TriedFast, CountedIn, Added, CountedOut, Got, PutQueue, Taken, Was, Refused, Ran, PutValue}
-use Rattle.once_core.specs.Table.{GoesOn, Line, Looked, MayRefuse, Next, SideDid, Tells, after, after_copy, after_list, after_run, call_at, next_at, next_rest, wants_copy}
+use Rattle.once_core.specs.Table.{GoesOn, Line, Looked, MayRefuse, Next, SideDid, Tells, after, after_copy, after_fast, after_list, after_run, call_at, next_at, next_rest, wants_copy}
 use Rattle.once_world.specs.Places.{EndValue, Ending, More, Progress, RestWait, Step, UnderWay}
-use Rattle.once_world.specs.Places.{Place, AtStart, AtTryQuick, AtDoorGet, AtDoorPut, AtCountIn, AtWaitLoad, AtLook, AtList}
-use Rattle.once_world.specs.Places.{AtRun, AtPut, AtFast, AtAddOne, AtDoorAgain, AtRelease, AtLeave, AtCountOut, AtDoorTake}
+use Rattle.once_world.specs.Places.{Place, AtLook}
+use Rattle.once_world.specs.Places.{AtRun, AtPut, AtFast, AtAddOne, AtDoorAgain, AtRelease, AtCountOut}
 use Rattle.once_parts.specs.Own.{Own}
 use Rattle.once_parts.specs.Parts.{DidCall, parts_did}
 use Rattle.once_parts.specs.Sides.{HasClosed, HasCopied, HasPut, HasRun, HasWoken, Sided, sided_tells}
@@ -71,22 +71,12 @@ module _ {W : Type 0} (whose : W → ℕ) where
 
   -- the side did no more than to close its init or not
   quiet_side : (e : Told W ⊤) → is_quiet e ≡ true → (b : Bool) (x y : Sided) → y ≡ closed_if b x → SideDid (sided_tells whose (λ (z : Sided). z)) e b x y
-  quiet_side (Loaded w) quiet b x y is = closes b x y is
-  quiet_side (TriedQuick won) quiet b x y is = closes b x y is
-  quiet_side (TriedFast fills won) quiet b x y is = closes b x y is
-  quiet_side (CountedIn i r) quiet b x y is = closes b x y is
-  quiet_side Added quiet b x y is = closes b x y is
-  quiet_side (CountedOut w) quiet b x y is = closes b x y is
-  quiet_side (Got q) quiet b x y is = closes b x y is
-  quiet_side (PutQueue q) quiet b x y is = closes b x y is
-  quiet_side (Taken stood) quiet b x y is = closes b x y is
   quiet_side (Was q (Look k) a o) quiet b x y is = closes b x y is
   quiet_side (Was q (ListOwn k w) a o) quiet b x y is = closes b x y is
-  quiet_side (Was q (Release fills) a o) quiet b x y is = absurd (false≢true quiet)
-  quiet_side (Was q (Leave n) a o) quiet b x y is = absurd (false≢true quiet)
-  quiet_side Refused quiet b x y is = closes b x y is
+  quiet_side (Was q op a o) quiet b x y is = absurd (false≢true quiet)
   quiet_side (Ran a) quiet b x y is = absurd (false≢true quiet)
   quiet_side PutValue quiet b x y is = absurd (false≢true quiet)
+  quiet_side e quiet b x y is = closes b x y is
 
   module _ (x y : Sided) (v w : Own) where
     -- a line of the table leads on
@@ -100,23 +90,8 @@ module _ {W : Type 0} (whose : W → ℕ) where
     lone : (at : Place W ⊤) (r : Progress) (s : Step W ⊤) → is_look at ≡ false
         → Tells (call_at at) (λ e. Tell v e w × GoesOn Tell (sided_tells whose (λ (z : Sided). z)) (after None at e) e x y r s)
         → Line Tell (sided_tells whose (λ (z : Sided). z)) at v x r s w y
-    lone AtStart r s plain t = t
-    lone AtTryQuick r s plain t = t
-    lone AtDoorGet r s plain t = t
-    lone AtDoorPut r s plain t = t
-    lone (AtCountIn q) r s plain t = t
-    lone (AtWaitLoad q k) r s plain t = t
     lone (AtLook q k) r s plain t = absurd (false≢true (sym plain))
-    lone (AtList q k c) r s plain t = t
-    lone (AtRun by) r s plain t = t
-    lone (AtPut by) r s plain t = t
-    lone (AtFast e) r s plain t = t
-    lone (AtAddOne e) r s plain t = t
-    lone (AtDoorAgain e) r s plain t = t
-    lone (AtRelease q e) r s plain t = t
-    lone (AtLeave q n e) r s plain t = t
-    lone (AtCountOut e) r s plain t = t
-    lone (AtDoorTake e) r s plain t = t
+    lone at r s plain t = t
 
   module _ {x y : Sided} {v w : Own} where
     -- a step at which the side's init is dropped or not, and nothing else is asked of the side
@@ -128,6 +103,15 @@ module _ {W : Type 0} (whose : W → ℕ) where
         led_by x y v w at n is (lone x y v w at n.progress n.step plain
         (told_more (call_at at) (λ d. d ≡ e) (λ d. Tell v d w × GoesOn Tell (sided_tells whose (λ (z : Sided). z)) (after None at d) d x y n.progress n.step)
         (λ d same. subst (λ d. Tell v d w × GoesOn Tell (sided_tells whose (λ (z : Sided). z)) (after None at d) d x y n.progress n.step) (sym same) ((refl, did), goes)) tells))
+
+    -- a holder counts itself in where another waits for it
+    pub added : (e : Ending) → Stands whose false x v More (UnderWay (AtAddOne e)) → DidCall whose v Added w → y ≡ x → Leads whose x v More (UnderWay (AtDoorAgain e)) y w
+    added e is did same = led (AtAddOne e) Added (next_at (AtDoorAgain e)) refl refl refl is did refl same
+
+    -- the fast release, by whether it was won and whether it fills
+    pub freed : (e : Ending) (fills won : Bool) (n : Next W ⊤) → Stands whose false x v More (UnderWay (AtFast e)) → DidCall whose v (TriedFast fills won) w
+        → fills ≡ is_value e → after_fast won (is_value e) e ≡ n → y ≡ closed_if n.closes x → Leads whose x v n.progress n.step y w
+    freed e fills won n is did same leads closed = led (AtFast e) (TriedFast fills won) n refl refl (won, ap (λ b. TriedFast b won) (sym same)) is did leads closed
 
     -- a look that finds no holder, or the own listing
     pub looked : (k : Option ℕ) (a : Answer W) (o : Op W) (n : Next W ⊤) → wants_copy (Look k) a ≡ false → Stands whose false x v More (UnderWay (AtLook tt k))
@@ -169,16 +153,8 @@ module _ {W : Type 0} (whose : W → ℕ) where
     copied k Ready o c r l i is did copy may closed = absurd (r refl)
     copied k Claimed o c r l i is did copy may closed = absurd (l refl)
     copied k Listed o c r l i is did copy may closed = absurd (i refl)
-    copied k Held o c r l i is did copy may closed = led_by x y v w (AtLook tt k) (after_copy c tt (ticket_in o)) is
-        (Held, o, n, (refl, did), (c, m, copy, may, (closes (after_copy {W = W} c tt (ticket_in o)).closes m y closed, refl, refl)))
-    copied k Memory o c r l i is did copy may closed = led_by x y v w (AtLook tt k) (after_copy c tt (ticket_in o)) is
-        (Memory, o, n, (refl, did), (c, m, copy, may, (closes (after_copy {W = W} c tt (ticket_in o)).closes m y closed, refl, refl)))
-    copied k Gone o c r l i is did copy may closed = led_by x y v w (AtLook tt k) (after_copy c tt (ticket_in o)) is
-        (Gone, o, n, (refl, did), (c, m, copy, may, (closes (after_copy {W = W} c tt (ticket_in o)).closes m y closed, refl, refl)))
-    copied k (Released out) o c r l i is did copy may closed = led_by x y v w (AtLook tt k) (after_copy c tt (ticket_in o)) is
-        ((Released out), o, n, (refl, did), (c, m, copy, may, (closes (after_copy {W = W} c tt (ticket_in o)).closes m y closed, refl, refl)))
-    copied k (Left own) o c r l i is did copy may closed = led_by x y v w (AtLook tt k) (after_copy c tt (ticket_in o)) is
-        ((Left own), o, n, (refl, did), (c, m, copy, may, (closes (after_copy {W = W} c tt (ticket_in o)).closes m y closed, refl, refl)))
+    copied k a o c r l i is did copy may closed = led_by x y v w (AtLook tt k) (after_copy c tt (ticket_in o)) is
+        (a, o, n, (refl, did), (c, m, copy, may, (closes (after_copy {W = W} c tt (ticket_in o)).closes m y closed, refl, refl)))
 
   -- one step, or some, after others
   pub onward : {x y z : Sided} {u v w : Own} {at s : Step W ⊤} {r : Progress} → Leads whose x u More at y v → Leads whose y v r s z w → Leads whose x u r s z w
@@ -190,8 +166,4 @@ pub rests : {W : Type 0} (a : Answer W) (k : Option ℕ) → (a ≡ Ready → �
 rests Ready k r c m = absurd (r refl)
 rests Claimed k r c m = absurd (c refl)
 rests Memory k r c m = absurd (m refl)
-rests Listed k r c m = refl
-rests Held k r c m = refl
-rests Gone k r c m = refl
-rests (Released out) k r c m = refl
-rests (Left own) k r c m = refl
+rests _ k r c m = refl

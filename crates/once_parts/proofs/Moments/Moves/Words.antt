@@ -23,6 +23,12 @@ use Rattle.once_parts.proofs.Moments.Mine.{AreOf, claim_of, freed_of, only_hand,
 pub some : 0 < most
 some = omega arith
 
+-- a book whose page is set to what it is, and whose log grew by nothing
+pub book_still : {n put : ℕ} {slot : Bool} {pages : List Page} {log : List Entry} (k : ℕ) {p : Page} → IsBook most n put slot pages log → slice_get pages k ≡ Some p
+    → IsBook most n put slot (slice_set pages k p) (log ++ [])
+book_still {n = n} {put = put} {slot = slot} {pages = pages} {log = log} k book at =
+    subst (λ ps. IsBook most n put slot ps (log ++ [])) (sym (set_same _ k _ at)) (subst (IsBook most n put slot pages) (sym (append-nil log)) book)
+
 -- the page of x at the step to which the table of places leads
 abbrev pub goes_to : TaskState → Next ℕ ℕ → List Page
 goes_to x next = At (record x { step = next.step }) ∷ []
@@ -71,9 +77,8 @@ module _ (seen : List Entry) (t : ℕ) (x : TaskState) where
   full_by : (q : ℕ) {n put : ℕ} {slot : Bool} {pages : List Page} {log : List Entry} → IsBook most n put slot pages log → slice_get pages (suc (suc t)) ≡ Some (At x)
       → x.step ≡ UnderWay (AtCountIn q) → (b : Bool) → nat_lt (flags_of n).count most ≡ b
       → IsBook most n put slot (put_on (full_page q n b) (hand t x) pages) (log ++ full_told q n b)
-  full_by q {n = n} {put = put} {slot = slot} {pages = pages} {log = log} book pen at true e =
-      subst (λ ps. IsBook most n put slot ps (log ++ [])) (sym (set_same pages (suc (suc t)) (At x) pen)) (subst (IsBook most n put slot pages) (sym (append-nil log)) book)
-  full_by q {n = n} {put = put} {slot = slot} {pages = pages} {log = log} book pen at false e = count_full most n put slot pages log t x some book pen q at (ltb-false (flags_of n).count most e)
+  full_by q book pen at true e = book_still (suc (suc t)) book pen
+  full_by q book pen at false e = count_full most _ _ _ _ _ t x some book pen q at (ltb-false _ most e)
 
   -- the load before the exchange
   pub full_moves : (q : ℕ) → x.step ≡ UnderWay (AtCountIn q)
@@ -97,13 +102,11 @@ module _ (seen : List Entry) (t : ℕ) (x : TaskState) where
   in_by : (q old : ℕ) {n put : ℕ} {slot : Bool} {pages : List Page} {log : List Entry} → IsBook most n put slot pages log → slice_get pages (suc (suc t)) ≡ Some (At x)
       → x.step ≡ UnderWay (AtCountIn q) → (flags_of old).count < most → (b : Bool) → (n == old) ≡ b
       → IsBook most (either b (old + 1) n) put slot (put_on (in_page q old b) (hand t x) pages) (log ++ [])
-  in_by q old {n = n} {put = put} {slot = slot} {pages = pages} {log = log} book pen at l true e =
-      let b : IsBook most old put slot pages log = subst (λ w. IsBook most w put slot pages log) (eqb-true n old e) book in
+  in_by q old {put = put} {slot = slot} {pages = pages} {log = log} book pen at l true e =
+      let b : IsBook most old put slot pages log = subst (λ w. IsBook most w put slot pages log) (eqb-true _ old e) book in
       subst (λ es. IsBook most (old + 1) put slot (slice_set pages (suc (suc t)) (At (record x { step = (after_count_in true (flags_of old).ready q).step }))) (log ++ es))
-      (in_told (flags_of old).ready q)
-      (count_in most old put slot pages log t x some b pen q at (omega arith) l)
-  in_by q old {n = n} {put = put} {slot = slot} {pages = pages} {log = log} book pen at l false e =
-      subst (λ ps. IsBook most n put slot ps (log ++ [])) (sym (set_same pages (suc (suc t)) (At x) pen)) (subst (IsBook most n put slot pages) (sym (append-nil log)) book)
+      (in_told (flags_of old).ready q) (count_in most old put slot pages log t x some b pen q at (omega arith) l)
+  in_by q old book pen at l false e = book_still (suc (suc t)) book pen
 
   -- the exchange, done or not
   pub in_moves : (q old : ℕ) → x.step ≡ UnderWay (AtCountIn q) → (flags_of old).count < most
@@ -130,9 +133,8 @@ module _ (seen : List Entry) (t : ℕ) (x : TaskState) where
   none_by : (e : Ending) {n k : ℕ} {slot : Bool} {pages : List Page} {log : List Entry} → IsBook most n k slot pages log → slice_get pages (suc (suc t)) ≡ Some (At x)
       → x.step ≡ UnderWay (AtDoorTake e) → (b : Bool) → (k == 0) ≡ b
       → IsBook most n k slot (put_on (none_page e b) (hand t x) pages) (log ++ none_told e b)
-  none_by e {n = n} {k = k} {slot = slot} {pages = pages} {log = log} book pen at true i = take_none most n k slot pages log t x some book pen e at (eqb-true k 0 i)
-  none_by e {n = n} {k = k} {slot = slot} {pages = pages} {log = log} book pen at false i =
-      subst (λ ps. IsBook most n k slot ps (log ++ [])) (sym (set_same pages (suc (suc t)) (At x) pen)) (subst (IsBook most n k slot pages) (sym (append-nil log)) book)
+  none_by e book pen at true i = take_none most _ _ _ _ _ t x some book pen e at (eqb-true _ 0 i)
+  none_by e book pen at false i = book_still (suc (suc t)) book pen
 
   -- the load of the word that says so
   pub none_moves : (e : Ending) → x.step ≡ UnderWay (AtDoorTake e)

@@ -2,25 +2,23 @@
 use Rattle.std.proofs.Common.{refl}
 use Rattle.once_queue.specs.declared.waiters.Op.TheVariants.{Release}
 use Rattle.once_core.specs.Steps.{is_value}
-use Rattle.once_core.specs.Table.{Added, next_at}
-use Rattle.once_world.specs.Places.{AtAddOne, AtDoorAgain}
-use Rattle.once_parts.proofs.Walk.Ways.{led, onward, released}
+use Rattle.once_parts.proofs.Walk.Ways.{added, onward, released}
 use Rattle.once_parts.proofs.ways.holder.add_one.Goals as goal
 
 pub released_again-requires-clause-stands : goal.released_again-requires-clause-stands
 released_again-requires-clause-stands g c =
-    (led g.W.TaskWaker.whose (AtAddOne c.args.ending) Added (next_at (AtDoorAgain c.args.ending)) refl refl refl c.requires.stands c.add_one.ensures.1 refl refl).stands
+    (added g.W.TaskWaker.whose c.args.ending c.requires.stands c.add_one.ensures.1 refl).stands
 
 pub returns-in-None-clause-leads : goal.returns-in-None-clause-leads
 returns-in-None-clause-leads g c =
-    let added = led g.W.TaskWaker.whose (AtAddOne c.args.ending) Added (next_at (AtDoorAgain c.args.ending)) refl refl refl c.requires.stands c.add_one.ensures.1 refl refl in
-    onward g.W.TaskWaker.whose (onward g.W.TaskWaker.whose added c.in-None.ensures.leads) c.count_out-in-None.ensures.leads
+    let led = added g.W.TaskWaker.whose c.args.ending c.requires.stands c.add_one.ensures.1 refl in
+    onward g.W.TaskWaker.whose (onward g.W.TaskWaker.whose led c.in-None.ensures.leads) c.count_out-in-None.ensures.leads
 
 pub returns-in-Some-clause-leads : goal.returns-in-Some-clause-leads
 returns-in-Some-clause-leads g c =
-    let added = led g.W.TaskWaker.whose (AtAddOne c.args.ending) Added (next_at (AtDoorAgain c.args.ending)) refl refl refl c.requires.stands c.add_one.ensures.1 refl refl in
+    let led = added g.W.TaskWaker.whose c.args.ending c.requires.stands c.add_one.ensures.1 refl in
     let found = c.in-Some.ensures.leads in
-    onward g.W.TaskWaker.whose (onward g.W.TaskWaker.whose added found.1)
+    onward g.W.TaskWaker.whose (onward g.W.TaskWaker.whose led found.1)
     (onward g.W.TaskWaker.whose
     (released g.W.TaskWaker.whose c.args.ending c.in-Some.out (Release (is_value c.args.ending)) found.1.stands found.2 (g.met.S.TaskSide.tells.wake _ _ _ c.wake.ensures.did))
     c.count_out.ensures.leads)
