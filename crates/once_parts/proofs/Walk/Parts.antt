@@ -4,9 +4,9 @@ use Rattle.std.specs.Prelude.{⊤}
 use Rattle.std.proofs.lemmas.List.{append-nil}
 use Rattle.pagebook.specs.Slot.{Placed}
 use Rattle.once_world.specs.Places.{Progress, Step}
-use Rattle.once_parts.specs.Own.{Own, told}
+use Rattle.once_parts.specs.Own.{Own}
 use Rattle.once_parts.specs.Sides.{Sided}
-use Rattle.once_parts.specs.Walks.{Stands, Walked, handed}
+use Rattle.once_parts.specs.Walks.{Stands, Walked}
 
 module _ {P S W : Type 0} (cell : P → Placed) (own : P → Own) (whose : W → ℕ) (state : S → Sided) where
   -- a call made steps, of which the last told r, and stands there
