@@ -79,10 +79,10 @@ pub late : (ns : List ℕ) (ss : List Sheet) (seen log : List Entry) → IsKept 
 late ns ss seen log kept pre t e old set s poll =
     let h : List Entry = reverse s.since ++ Begin t t ∷ reverse s.before in
     let is : reverse seen ≡ end_of t e ∷ h = ap reverse s.is ∙ turned s.before s.since (Begin t t) (end_of t e) in
-    let run : IsRun Once most (end_of t e ∷ h) = subst (IsRun Once most) is (seen_run ns ss seen log kept pre) in
+    let run : IsRun Once most (end_of t e ∷ h) = subst (IsRun Once most) is (seen_run seen kept pre) in
     let all : ArePlain (reverse log) = log_is_plain most kept.word kept.has_put kept.slot (pages_in ss) log some kept.book in
     let plain : ArePlain (end_of t e ∷ h) = subst ArePlain is
     (plain_after (reverse pre.0) (reverse seen) (subst ArePlain (ap reverse (sym pre.1) ∙ reverse-append seen pre.0) all)) in
     let before : IsPrefix s.before log = prefix_on s.before seen log (Begin t t ∷ (s.since ++ end_of t e ∷ []), sym s.is) pre in
-    let first_set : IsSet s.before = seen_set ns ss s.before log kept before old s.after set in
+    let first_set : IsSet s.before = seen_set s.before kept before old s.after set in
     ends t e h (late_on t (reverse s.since) (Begin t t ∷ reverse s.before) run.1 plain.1 (late_begun t (reverse s.before) first_set)) run poll

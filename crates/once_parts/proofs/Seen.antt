@@ -33,7 +33,7 @@ set_by es h run plain (SetTo v) is set = ap is_set (stays_set es h v run plain i
 set_on : (es h : List Entry) → IsRun Once most (es ++ h) → ArePlain (es ++ h) → is_set (cell Once h) ≡ true → is_set (cell Once (es ++ h)) ≡ true
 set_on es h run plain set = set_by es h run plain (cell Once h) refl set
 
-module _ (ns : List ℕ) (ss : List Sheet) (seen log : List Entry) (kept : IsKept ns ss log) (pre : IsPrefix seen log) where
+module _ {ns : List ℕ} {ss : List Sheet} (seen : List Entry) {log : List Entry} (kept : IsKept ns ss log) (pre : IsPrefix seen log) where
   -- it is a run
   pub seen_run : IsRun Once most (reverse seen)
   seen_run = run_of_beginning Once most seen pre.0

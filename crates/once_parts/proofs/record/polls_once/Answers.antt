@@ -9,4 +9,4 @@ use Rattle.once_parts.proofs.record.polls_once.Goals as goal
 pub returns : goal.returns
 returns c = λ t. subst (λ l. AreOnce false (entries_of t l)) (reverse-reverse c.args.seen.now.log)
     (are_once t (reverse c.args.seen.now.log)
-    (seen_run c.learn.ensures.rule.0 c.learn.ensures.rule.1 c.args.seen.now.log c.learn.new.self.log c.learn.ensures.rule.2 c.learn.ensures.log.1))
+    (seen_run c.args.seen.now.log c.learn.ensures.rule.2 c.learn.ensures.log.1))
