@@ -2,9 +2,8 @@
 use Rattle.std.proofs.Common.{◌≡◌, true, Some, None, ◌∙◌, ap, sym}
 use Rattle.std.proofs.lemmas.Bool.{false≢true}
 use Rattle.std.specs.Prelude.{⊤}
-use Rattle.once_core.specs.Steps.{in_call, is_resting, step_of_drop}
+use Rattle.once_core.specs.Steps.{is_resting, step_of_drop}
 use Rattle.once_world.specs.Places.{Finished, RestRun, RestStart, RestWait, Resting, Step, UnderWay}
-use Rattle.once_parts.specs.Shares.{own}
 use Rattle.once_parts.specs.Sides.{Sided}
 use Rattle.once_parts.proofs.Walk.Begins.{stands_closed}
 use Rattle.machine_tests.proofs.scenes.walker.Walker.begin_drop.Goals as goal
@@ -27,9 +26,8 @@ invariant_of-self g c =
     record {
       same = ap (λ (x : Sided). x.number) c.begin_drop-2.ensures.close ∙ number ∙ sym c.begin_drop.ensures.did.number;
       goes = λ h.
-          stands_closed (λ b. b.mark.value) c.begin.new.self c.begin_drop-2.new.side (own task.parts) (own c.begin_drop.new.self) task.step c.begin_drop-2.new.self
-          c.begin_drop-2.ensures.close c.begin_drop-2.ensures.step number (ap (λ (x : Sided). x.woke) c.begin.ensures) (rests, task.rests rests)
-          c.begin_drop.ensures.did (ap in_call (sym c.begin_drop-2.ensures.step) ∙ h);
+          stands_closed {whose = λ b. b.mark.value} c.begin.new.self task.step c.begin_drop-2.ensures.close c.begin_drop-2.ensures.step
+          (number, ap (λ (x : Sided). x.woke) c.begin.ensures) (rests, task.rests rests) c.begin_drop.ensures.did h;
       rests = λ h. absurd (never_rests task.step (ap is_resting (sym c.begin_drop-2.ensures.step) ∙ h));
       has_init = λ h. absurd (never_rests task.step (ap is_resting (sym c.begin_drop-2.ensures.step) ∙ h));
     }

@@ -13,7 +13,7 @@ invariant_of-self g c =
     let task = c.args.self.now in
     let rests : is_resting task.step ≡ true = sym c.is_resting.ensures ∙ c.if-not-is_resting.false in
     let init = ap (λ (x : Sided). x.has_init) c.begin.ensures ∙ task.has_init rests in
-    let begun = poll_begins (λ b. b.mark.value) c.begin.new.self (own task.parts) (own c.begin-2.new.self) task.step
+    let begun = poll_begins {whose = λ b. b.mark.value} {x = c.begin.new.self} task.step
     (ap (λ (x : Sided). x.number) c.begin.ensures ∙ task.same) (ap (λ (x : Sided). x.woke) c.begin.ensures) init (rests, task.rests rests) c.begin-2.ensures.did in
     let stands = subst (Stands (λ b. b.mark.value) false c.begin.new.self (own c.begin-2.new.self) More) (sym c.begin-3.ensures) begun in
     record { same = stands.number; goes = λ h. stands; rests = λ h. stands.step; has_init = λ h. init }
