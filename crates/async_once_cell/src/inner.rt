@@ -3,8 +3,8 @@
 pub use once_core::parts::{Counted, Parts, QueueLine};
 pub use once_core::plain::Core;
 pub use once_parts::{
-    Hand, Inner, Mark, Pollable, Record, Shared, Splits, Task, TaskSide, TaskWaker, poll_init,
-    record,
+    CopiesWaker, Hand, Inner, Mark, Pollable, Record, Shared, Splits, Task, TaskSide, TaskWaker,
+    poll_init, record,
 };
 pub use once_queue::waiters::{Answer, Listing, Op, Out};
 pub use once_queue::word::{MAX_WAITERS, NEW, QINIT_BIT, READY_BIT};
