@@ -42,8 +42,9 @@
 //! **Waiting.** A task that is counted loads the word again, and then takes the lock and looks. If the
 //! value is set, it counts out and answers the value. If nobody holds, it raises the flag and has the
 //! right. Else it makes a waker, looks again, and lists the waker at the end. All of that is one hold of
-//! the lock, from the door on. Now its poll is Pending: the task waits. At its next poll it looks again.
-//! If it is listed still, its waker there becomes that of this poll. Else it is listed anew.
+//! the lock, from the door on, or two if the task has to bring the queue. Now its poll is Pending: the
+//! task waits. At its next poll it looks again. If it is listed still, its waker there becomes that of
+//! this poll. Else it is listed anew.
 //!
 //! **The release.** A holder whose init gave a value puts it into the cell, and takes the lock. It gives
 //! the right back, sets the ready bit, and takes all listings out. Their wakers are handed out, and are

@@ -1,4 +1,5 @@
-//! The way of a new task that met others: from the door to its listing, in one hold of the lock.
+//! The way of a new task that met others: from the door to its listing, in one hold of the lock, or in two if it has to
+//! bring the queue.
 ghost use Rattle.std.specs.Prelude.{◌≡◌, None, false, []};
 ghost use Rattle.once_queue.specs.Room.{listings_of};
 ghost use Rattle.once_parts.specs.Hands.{own_of};
