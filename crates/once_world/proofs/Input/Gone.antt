@@ -48,7 +48,7 @@ over K limit t c h None a d = record { status_is = inl a.0.status_is; holds_is =
 over K limit t c h (Some x) a d = let r = over_at K limit t c h x a d in record { status_is = inr r.status_is; holds_is = r.holds_is }
 
 -- all of a list are gone
-gone_list : (K : Kind) (ns : List ℕ) (h : List Entry) → ((t : ℕ) → member t ns ≡ true → is_gone (status K t h) ≡ true) → are_gone K ns h ≡ true
+pub gone_list : (K : Kind) (ns : List ℕ) (h : List Entry) → ((t : ℕ) → member t ns ≡ true → is_gone (status K t h) ≡ true) → are_gone K ns h ≡ true
 gone_list K [] h f = refl
 gone_list K (x ∷ xs) h f =
     let here = f x (rw (eqb_self x) refl) in

@@ -153,7 +153,7 @@ after_fits K limit w (Make t) some f = made_fits K limit w t f (w.tasks t) refl
 after_fits K limit w (Poll t k) some f = polled_fits K limit w t k f (w.tasks t) refl
 after_fits K limit w (Drop t) some f = dropped_fits K limit w t f (w.tasks t) refl
 after_fits K limit w (Go t a g) some f = gone_fits K limit w t a g some f (w.tasks t) refl
-after_fits K limit w (Owns o) some f = owned_fits K limit w o (w.unfinished == 0) (has_call K o) refl f
+after_fits K limit w (Owns o) some f = owned_fits K limit w o (w.unfinished == 0) (has_call K o) refl refl f
 after_fits K limit w Looks some f = look_fits K limit w f
 
 -- all holds after every list of inputs

@@ -4,7 +4,7 @@ use Rattle.std.proofs.lemmas.Bool.Decides.{nat_tests}
 use Rattle.std.proofs.lemmas.Grind.{common_steps}
 use Rattle.std.proofs.lemmas.Bool.{false≢true, eqb-true}
 use Rattle.once_queue.specs.Numbers.{how_many}
-use Rattle.once_world.specs.Record.{Entry, Got, Kind, Own, OwnerCall, Write, made_in, replaces}
+use Rattle.once_world.specs.Record.{Entry, Got, Kind, Own, OwnerCall, Write, has_call, made_in, replaces}
 use Rattle.once_world.specs.Cell.{Cell, Empty, answers_left, cell, got, cell_after_call, write_cell}
 use Rattle.once_world.specs.Tasks.{Waiting, status}
 use Rattle.once_queue.specs.Listings.{find_listing}
@@ -119,8 +119,9 @@ zero_is : (c c' n : ℕ) → c ≡ n → n ≡ 0 → (c' ≡ 0) ⊎ (c' ≡ c) �
 zero_is c c' n a b e = grind arith
 
 -- a call that fits keeps all that holds
-owner_fits : (K : Kind) (limit : ℕ) (w : World) (o : OwnerCall) → Fits K limit w → w.unfinished ≡ 0 → Fits K limit (own_world_by true true w o)
-owner_fits K limit w o f d =
+owner_fits : (K : Kind) (limit : ℕ) (w : World) (o : OwnerCall) → Fits K limit w → w.unfinished ≡ 0 → has_call K o ≡ true
+    → Fits K limit (own_world_by true true w o)
+owner_fits K limit w o f d has =
     let h : List Entry = w.history in
     let g : Got = owner_got o w.shared in
     let dead : (t : ℕ) → is_alive (w.tasks t) ≡ false = λ t. none_alive K limit t w f d in
@@ -129,7 +130,7 @@ owner_fits K limit w o f d =
     let s : Owned K limit w.shared (owner_shared o w.shared) o g h = owned_so K limit w.shared o g h n f.shared f.queue (λ u. over_awake K u h (all_over u)) in
     let zero_count = count_none (made_in h) (λ k. is_counted (step_of (w.tasks k))) (λ k. uncounted (w.tasks k) (dead k)) in
     record {
-      run = ((done_gone K limit w f d, owner_is_got K limit o w.shared h f.shared), f.run);
+      run = ((done_gone K limit w f d, has, owner_is_got K limit o w.shared h f.shared), f.run);
       shared = s.shared;
       queue = s.queue;
       tasks = λ t. stands_over K limit t w.shared (owner_shared o w.shared) h o g (w.tasks t) (owned_holds t o (cell K h) (let v = all_over t in v.holds_is)) (f.tasks t) (dead t);
@@ -146,6 +147,6 @@ owner_fits K limit w o f d =
 
 -- by whether the call fits
 pub owned_fits : (K : Kind) (limit : ℕ) (w : World) (o : OwnerCall) (d b : Bool) → (w.unfinished == 0) ≡ d
-    → Fits K limit w → Fits K limit (own_world_by d b w o)
-owned_fits K limit w o true true e f = owner_fits K limit w o f (eqb-true w.unfinished 0 e)
-owned_fits K limit w o _ _ e f = f
+    → has_call K o ≡ b → Fits K limit w → Fits K limit (own_world_by d b w o)
+owned_fits K limit w o true true e has f = owner_fits K limit w o f (eqb-true w.unfinished 0 e) has
+owned_fits K limit w o _ _ e has f = f

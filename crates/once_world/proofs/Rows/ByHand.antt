@@ -136,11 +136,11 @@ queue_refused_by_hand =
 
 -- the owner's calls and looks
 repeat_after_emptying_by_hand : IsRun (OnceWith 5) 8 repeat_after_emptying_record
-repeat_after_emptying_by_hand = ((refl, refl), ((refl, refl), (refl, ((refl, refl), ((refl, refl), (refl, tt))))))
+repeat_after_emptying_by_hand = ((refl, refl, refl), ((refl, refl, refl), (refl, ((refl, refl, refl), ((refl, refl, refl), (refl, tt))))))
 
 -- a lazy cell is replaced twice and taken apart
 replacements_by_hand : IsRun (LazyWith 7) 8 replacements_record
-replacements_by_hand = ((refl, refl), ((refl, refl), (refl, ((refl, refl), tt))))
+replacements_by_hand = ((refl, refl, refl), ((refl, refl, refl), (refl, ((refl, refl, refl), tt))))
 
 -- an init without answers left is pending
 lazy_answers_used_up_by_hand : IsRun (Lazy []) 8 lazy_answers_used_up_record

@@ -71,12 +71,12 @@ used_answer_back = (
   every_run (Lazy (None ∷ [])) 8 (newest_first
       (Make 1 ∷ Poll 1 7 ∷ steps 3 1 RanPending ++ Drop 1 ∷ Go 1 RanPending true ∷ []))
       (omega arith),
-  λ r. let e = r.0.1 in let z : ⊥ = cc in z,
+  λ r. let e = r.0.2 in let z : ⊥ = cc in z,
 )
 
 -- the value is set, and the owner's Take gives nothing
 take_of_nothing : Spoilt (OnceWith 4) 8 (newest_first (Own Take GotNone ∷ []))
-take_of_nothing = (every_run (OnceWith 4) 8 [] (omega arith), λ r. nothing_not_value r.0.1)
+take_of_nothing = (every_run (OnceWith 4) 8 [] (omega arith), λ r. nothing_not_value r.0.2)
 
 -- the owner took the value, and a look still finds it
 look_after_a_take : Spoilt (OnceWith 4) 8 (newest_first (Own Take (GotValue 4) ∷ Look (Some 4) ∷ []))
@@ -93,6 +93,10 @@ look_finds_nothing = (every_run (OnceWith 4) 8 [] (omega arith), λ r. none_not_
 -- the owner calls while a task is not gone
 owner_too_early : Spoilt (OnceWith 4) 8 (newest_first (Made 1 ∷ Own Take (GotValue 4) ∷ []))
 owner_too_early = (every_run (OnceWith 4) 8 (newest_first (Make 1 ∷ [])) (omega arith), λ r. false≢true r.0.0)
+
+-- a once cell is taken apart, which is a call of lazy cells alone
+parts_of_a_once_cell : Spoilt Once 8 (newest_first (Own Parts (GotAnswers []) ∷ []))
+parts_of_a_once_cell = (every_run Once 8 [] (omega arith), λ r. false≢true r.0.1)
 
 -- a task begins a poll while its poll is under way
 begin_under_way : Spoilt Once 8 (newest_first (Made 1 ∷ Begin 1 7 ∷ Begin 1 7 ∷ []))
