@@ -1,15 +1,17 @@
 """The walks of the functions of a slot, for tools/pagebook_walks."""
 
-from walk_writer import RULE, TOKEN_MADE, Walk, operands
+from walk_writer import TOKEN_MADE, Walk, operands
 
 SLOT = ("let O : RattleType = OptionOf T' in let LO = option_laws T' (param_laws 0 T L) in"
-        " let Sl : RattleType = Slot.the_row T' E' P' R' g in let W : RattleType = Written.the_row T' in\n    ")
+        " let Sl : RattleType = Slot.the_row T' E' P' R' V' g fs in let W : RattleType = Written.the_row T' in\n    ")
 INTO = "sets ! (addr ! (through ! refl (stop !))) refl (tt, tt) $ first ! $ blocks ! $"
 FIELD = "sets ! (addr ! (through ! refl (fld ! refl (stop !)))) refl (tt, tt) $"
 AT_VALUE = ("sets ! (bin ! (get ! refl) (align_word !) tt) refl (tt, tt) $ sets ! (of_opd ! (get ! refl)) refl (tt, tt) $"
             " sets_last ! (addr ! (through ! refl (stop !))) refl (tt, tt) $")
 WRITTEN = "(record { marker = record {}; of = γ; value = x })"
-IN_TURN = "𝓛 T' l₀ t b o ce cp g.holds j s"
+RULE_AND_PROMISE = [("g", "d"), ("fs", "df")]
+AT_SLOT = "𝓛 T' fs.fits l₀ t b o"
+IN_TURN = f"{AT_SLOT} ce cp g.holds j s"
 
 # What a walk over a `&` to a slot names first.
 SLOT_LETS = ["b : ℕ = a.0.ref_ptr.0", "o : ℕ = a.0.ref_ptr.1", "l₀ : Placed = a.0.now", "γ : ℕ = l₀.id",
@@ -17,13 +19,13 @@ SLOT_LETS = ["b : ℕ = a.0.ref_ptr.0", "o : ℕ = a.0.ref_ptr.1", "l₀ : Place
 
 
 def new_slot():
-    walk = Walk("slot.Slot.new", "`new` makes the first blank the state of a slot.", "TEPR", RULE,
-                [("mut", "Bl")], laws="TEPR")
-    inside = "T' E' P' R' g"
-    walk.start(["bl = a.0.now", "bk : Book = bl.book", "key : ℕ = bl.first",
+    walk = Walk("slot.Slot.promised", "`promised` makes the first blank the state of a slot.", "TEPRV", RULE_AND_PROMISE,
+                [("mut", "Bl"), ("shr", "Tag.the_row")], laws="TEPRV")
+    inside = "T' E' P' R' V' g fs"
+    walk.start(["bl = a.0.now", "bk : Book = bl.book", "key : ℕ = bl.first", "ns : List ℕ = a.1.0.now.numbers",
                 f"S : RattleType = Inside.the_row {inside}",
-                "placed : ℕ → Placed = λ γ. record { book = bk; key = key; id = γ }",
-                "Mark : RattleType = marker.the_row All", "none : Val = live 0 vnil",
+                "placed : ℕ → Placed = λ γ. record { book = bk; key = key; id = γ; about = ns }",
+                "Mark : RattleType = marker.the_row (Tuple (E' ∷ P' ∷ R' ∷ V' ∷ []))", "none : Val = live 0 vnil",
                 "v : Val = vstruct (vcons none (vcons (vstruct vnil) vnil))",
                 "rests : Rest T.Denot → S.Denot = λ s. record { value = s.1; marker = record {} }",
                 "s₀ : Rest T.Denot = (0, None, empty)"], ["asked"], 0, [], SLOT)
@@ -35,20 +37,20 @@ def new_slot():
     walk.add("zero", "feq_i ! ℕ 0 0 refl")
     walk.fjoin("told", "zero", "obs")
     walk.fjoin("tracked", "auth", "told")
-    walk.add("known", "nothing ! $ fpack ! (Unit {0}) (λ _. ftrue) tt")
+    walk.add("known", "nothing ! $ fpack ! (Unit {0} × Unit {0}) (λ _. ftrue) (tt, tt)")
     walk.fjoin("rest", "tracked", "known")
     walk.fjoin("resting", "pen", "rest")
     walk.line()
     slot_fields(walk, inside)
     walk.fjoin("res", "inside", "resting")
-    walk.say("fpack ! (Rest T.Denot) (λ s. fsep (S.own_val (rests s) (v ∷ [])) (resting T' (placed γ) s)) s₀ $"
+    walk.say("fpack ! (Rest T.Denot) (λ s. fsep (S.own_val (rests s) (v ∷ [])) (resting T' fs.fits (placed γ) s)) s₀ $"
              " let fits : Type 0 = Typed Sl.mir (v ∷ []) in")
     walk.add("typed", "use0 𝓛 (‵ (fex fits (λ _. ftrue))) (fact_i 𝓤 fits (emp 𝓤) good)")
     walk.fjoin("res", "typed", "res")
     walk.line()
     walk.say(f"sets ! (agg ! (and_then ! (lit ! tt) (no_more !))) refl ((LO.lawful 𝓛).typed None (none ∷ []) is-none).0 $"
              f" sets ! (agg ! (no_more !)) refl (tt, tt) $ sets ! (agg ! {operands(2)}) refl good.0 $")
-    walk.finish("v", "(placed γ)", [rest], ["(refl, refl)", "(refl, refl, refl)"])
+    walk.finish("v", "(placed γ)", [rest, None], ["(refl, refl, refl)", "(refl, refl, refl)"])
     return walk
 
 
@@ -68,8 +70,8 @@ def slot_fields(walk, inside):
     walk.say(f"fpack ! (Valss (fields {shape})) (within (shape {shape}) ({shape}.to (rests s₀)) (v ∷ []))"
              " (none ∷ [], (vstruct vnil ∷ [], tt)) $")
     walk.use(["inside"], "inside", "(‵ (S.own_val (rests s₀) (v ∷ []))) (id⊢ 𝓤 _)")
-    walk.say("peeks ! S (Is S) (shows 𝓛 S) (rests s₀) (v ∷ []) (λ is-s. let good = (((inside_laws T' E' P' R' g"
-             " (param_laws 0 T L) (param_laws 1 E LE) (param_laws 2 P LP) (param_laws 3 R LR)).lawful 𝓛).typed (rests s₀)"
+    walk.say("peeks ! S (Is S) (shows 𝓛 S) (rests s₀) (v ∷ []) (λ is-s. let good = (((inside_laws T' E' P' R' V' g fs"
+             " (param_laws 0 T L) (param_laws 1 E LE) (param_laws 2 P LP) (param_laws 3 R LR) (param_laws 4 V LV)).lawful 𝓛).typed (rests s₀)"
              " (v ∷ []) is-s) in")
     walk.open += 1
     walk.line()
@@ -110,8 +112,8 @@ def state_stepped(walk, named, held, after, lemma):
 
 
 def found():
-    walk = Walk("slot.Slot.found", "`found` makes a token of the value: by the rule the state is 2.", "TEPR", RULE,
-                [("shr", "Sl"), ("shr", "Me")])
+    walk = Walk("slot.Slot.found", "`found` makes a token of the value: by the rule the state is 2.", "TEPRV",
+                RULE_AND_PROMISE, [("shr", "Sl"), ("shr", "Me")])
     walk.start(SLOT_LETS + ["me = a.1.0.now", "v : View E.Denot P.Denot = (me.log, [])",
                             "then : ℕ → View E.Denot P.Denot → Type 0 = λ n u. n ≡ 2"],
                ["same", "sure"], 0, [0, 1], SLOT)
@@ -132,7 +134,7 @@ def found():
     walk.fsplit("after", "fact", "rest")
     walk.fsplit("rest", "KH", "also")
     walk.fpick("also", "x")
-    walk.fsplit("also", "written", "shared")
+    walk.fsplit("also", "fits", "written", "shared")
     walk.line()
     written_made(walk, "res")
     walk.say(TOKEN_MADE)
@@ -141,7 +143,7 @@ def found():
 
 
 def value():
-    walk = Walk("slot.Slot.value", "`value` lends the value that a token shows.", "TEPR", RULE,
+    walk = Walk("slot.Slot.value", "`value` lends the value that a token shows.", "TEPRV", RULE_AND_PROMISE,
                 [("shr", "Sl"), ("shr", "W")])
     walk.start(SLOT_LETS + ["e : ℕ = at T' o", "p : ℕ = capped (align (lone T'.mir)) + e", "x : T.Denot = a.1.0.now.value"], ["same"], 0, [0, 1], SLOT)
     walk.move("S1")
@@ -155,11 +157,12 @@ def value():
     walk.line()
     walk.enter()
     borrowed(walk)
-    walk.use(["named", "lft", "written"], "both", "(later (‵ (state.Shown 𝓛 T' l₀ t b o x) ⊛ ‵ (flft α s)))"
-             " (state.looks_written 𝓛 T' l₀ t b o LO.shr_laws j s x)", "await ! tt $")
+    walk.use(["named", "lft", "written"], "both", "(later (‵ (state.Shown 𝓛 T' fs.fits l₀ t b o x) ⊛ ‵ (flft α s)))"
+             " (state.looks_written 𝓛 T' fs.fits l₀ t b o LO.shr_laws j s x)", "await ! tt $")
     walk.split("both", "also", "lft")
     given_back(walk)
-    walk.fsplit("also", "written", "shared")
+    walk.fsplit("also", "fits", "written", "shared")
+    walk.fact("fits", "fit")
     walk.use(["outlasts", "shared"], "shared", "(‵ (shared_of O (Some x) b e κ))"
              " ((LO.shr_laws (Some x) b e).mono M 𝓤 𝓛 κ α)")
     walk.use(["shared"], "shared", "(‵ (shared_of T' x b p κ)) (value_in_some 𝓛 T' x b e κ)")
@@ -169,22 +172,22 @@ def value():
     walk.line()
     walk.say(f"{INTO} {FIELD} {AT_VALUE} exec ! 𝓣.C 𝓣.Λ Ev (tail (tail fn.body)) (at_ret Ev Post) $"
              " sets ! (of_opd ! (get ! refl)) refl (tt, tt) $")
-    walk.finish("(vptr b p)", "(record { ref_ptr = (b, p); now = x })", [None, None], ["refl"])
+    walk.finish("(vptr b p)", "(record { ref_ptr = (b, p); now = x })", [None, None], ["(refl, fit)"])
     return walk
 
 
 def put():
     walk = Walk("slot.Slot.put", "`put` writes the value, between two steps of the state and of the book.",
-                "TEPRXBF", [("g", "d"), ("gb", "db"), ("gf", "df")],
+                "TEPRVXBF", [("g", "d"), ("fs", "ds"), ("gb", "db"), ("gf", "df")],
                 [("shr", "Sl"), ("own", "T'"), ("shr", "X'"), ("mut", "Me"), ("mut", "Pn")])
     walk.start(SLOT_LETS + ["e : ℕ = at T' o", "bk : Book = l₀.book", "τ : Lft = κs.1.1.1.1.0",
                             "r : Share = qs.1.1.1.1.0", "about = a.1.1.0.now", "seen = a.1.1.1.0.now",
                             "hand = a.1.1.1.1.0.now", "v : View E.Denot P.Denot = (seen.log, hand.held)",
                             "then₁ : ℕ → View E.Denot P.Denot → Type 0 = λ n u. (n ≡ 0) × gb.then about v n u"],
-               ["this", "that", "law", "laws"], 4, [0], SLOT)
+               ["this", "that", "law", "laws", "fit"], 4, [0], SLOT)
     turn(walk)
-    cell = "(‵ (fnamed j (fbor α (Cell T' l₀ t b o))))"
-    walk.use(["named"], "nn", f"({cell[1:-1]} ⊛ {cell[1:-1]}) (𝓛.invs.named_dup j (fbor α (Cell T' l₀ t b o)))")
+    cell = "(‵ (fnamed j (fbor α (Cell T' fs.fits l₀ t b o))))"
+    walk.use(["named"], "nn", f"({cell[1:-1]} ⊛ {cell[1:-1]}) (𝓛.invs.named_dup j (fbor α (Cell T' fs.fits l₀ t b o)))")
     walk.split("nn", "named", "named2")
     walk.line()
     walk.enter()
@@ -218,9 +221,12 @@ def value_written(walk):
     walk.open += 1
     walk.fpick("tie", "old")
     walk.move("tie", "lent", "lft")
-    walk.bind("opens", "vs")
-    walk.body[-1] = "opens ! tt O b e (λ vs."
-    walk.context = ["place", "old", "open", "oobs", "oauth"] + walk.context[3:]
+    walk.say("open_ref ! tt (promised T' fs.fits l₀) {b = b} {o = e} $")
+    walk.context = ["field", "open", "oobs", "oauth"] + walk.context[3:]
+    walk.use(["field"], "both", "(some (λ (vs : List Val). ‵ (cell_at full_share O.mir vs b e) ⊛ ‵ (O.own_val old vs)))"
+             f" (state.field_out {AT_SLOT} old)", "pick ! (λ vs.")
+    walk.open += 1
+    walk.split("both", "place", "old")
     walk.move("old")
     walk.say("peeks ! O (Is O) (shows 𝓛 O) old vs (λ is-old."
              " let got = one (lone O.mir) vs ((LO.lawful 𝓛).typed old vs is-old) in let_go ! $")
@@ -232,12 +238,14 @@ def value_written(walk):
              f" sets ! (agg ! (and_then ! (lit ! tt) {operands(1)})) refl good $"
              " assigns ! (of_opd ! (get ! refl)) (through ! refl (stop !)) (store_raw ! 0 refl good) $")
     walk.line()
-    walk.move("place", "new", "open", "oobs", "oauth")
-    walk.say("closes ! tt O (Some x) (w₁ ∷ []) b e $")
-    walk.context = ["name", "bor", "lft"] + walk.context[5:]
+    walk.use(["place", "new"], "field", "(‵ ((promised T' fs.fits l₀).own_at (Some x) b e))"
+             f" (state.field_in {AT_SLOT} (Some x) (w₁ ∷ []) fit)")
+    walk.move("field", "open", "oobs", "oauth")
+    walk.say("close_ref ! tt (promised T' fs.fits l₀) (Some x) {b = b} {o = e} $")
+    walk.context = ["name", "bor", "lft"] + walk.context[4:]
     walk.join("lfts", "lft", "t4")
-    walk.use(["name", "bor", "lfts"], "frz", "(later (‵ (state.ToRead 𝓛 T' l₀ t b o x) ⊛ ‵ (flft α s) ⊛ ‵ (flft τ r)))"
-             " (state.read_from_now 𝓛 T' l₀ t b o O.lives (LO.shares 𝓛) ((α, s) ∷ (τ, r) ∷ [])"
+    walk.use(["name", "bor", "lfts"], "frz", "(later (‵ (state.ToRead 𝓛 T' fs.fits l₀ t b o x) ⊛ ‵ (flft α s) ⊛ ‵ (flft τ r)))"
+             " (state.read_from_now 𝓛 T' fs.fits l₀ t b o O.lives (LO.shares 𝓛) ((α, s) ∷ (τ, r) ∷ [])"
              " (Incl-trans (meet_⊑_right α τ) (Incl-trans inc (state.option_lives T'))) (meet_⊑_left α τ) x)",
              "await ! tt $")
     walk.split("frz", "frozen", "lft", "t4")
@@ -249,7 +257,7 @@ def second_step(walk):
     walk.join("X", "obs", "frozen")
     walk.group("KHX", "K", "Hd", "X")
     state_stepped(walk, "named2", "KHX", f"state.ended {IN_TURN} w past x then₂",
-                  f"state.ends {IN_TURN} w past x then₂ (laws w did)")
+                  f"state.ends {IN_TURN} w past x fit then₂ (laws w did)")
     walk.fpick("after", "n₂")
     walk.fpick("after", "w₂")
     walk.fsplit("after", "fact", "KHa")

@@ -29,6 +29,7 @@ base.Logic: SProp ent wand emp id⊢ via apply∗
 base.Fml: Lft Share Fml ftrue fsep fex feq flft fhide fbor fnamed Incl-trans
 types.Kit: ‵ raw ◌⊛◌ some given later mean at_ret ◌$◌ ◌∵◌ ! qed by move keep let_go=drop split split3 join group fsplit fsplit3 fjoin fjoin3 fpick fpack pick learn use0 use1 use2 use3 await rewrite feq_i flt_i
 types.Match: live
+types.Mut: open_ref close_ref
 types.Tokens: name_new
 types.Run: stop fld addr bin lit align_word unit_lit of_opd no_more and_then first blocks exec Calls-last returns enter assigns store_raw
 types.ByLocal: alloc_all pass_all free_all look_at get through sets sets_last lands_last env
@@ -66,7 +67,7 @@ Rattle.atomic_table.proofs.Walks: proved proved_at
 Rattle.atomic_table.proofs.Calls: fm seq_cst found finds stored has_stored loads stores swaps exchanges adds
 Rattle.pagebook.specs.Pages: Book View dealt named_at=named
 Rattle.pagebook.specs.Owned: seen_owns pens_own blanks_own word_pen reached
-Rattle.pagebook.specs.Slot: Placed Turn at Cell Rest resting empty written
+Rattle.pagebook.specs.Slot: Placed Turn at Cell promised Rest resting empty written
 Rattle.pagebook.proofs.Page.Hands: hands_joined hand_cut
 Rattle.pagebook.proofs.Book.Steps: after notes learns seen_reached steps steps_untold
 Rattle.pagebook.proofs.Book.Opening: book_opens
@@ -87,6 +88,7 @@ MODULES = {
     "Blanks": "Rattle.pagebook.specs.contracts.word.Blanks",
     "Written": "Rattle.pagebook.specs.contracts.slot.Written",
     "Slot": "Rattle.pagebook.specs.contracts.slot.Slot",
+    "Tag": "Rattle.boxcar.specs.contracts.tag.Tag",
     "Inside": "Rattle.pagebook.specs.contracts.slot.Slot.TheInside",
     "state": "Rattle.pagebook.proofs.State.Steps",
 }
@@ -119,10 +121,10 @@ def field(number):
 
 
 def cited(name, text):
-    """Whether the text has this name."""
+    """Whether the text has this name, and not as a field of a record."""
     if "◌" in name:
         return f" {name.replace('◌', '')} " in text
-    return re.search(r"(?<![\w#'.-])" + re.escape(name) + r"(?![\w'-])", text) is not None
+    return re.search(r"(?<![\w#'.-])(?<!; )" + re.escape(name) + r"(?![\w'-])", text) is not None
 
 
 def imported(module, names):

@@ -3,14 +3,15 @@
 -- then on. So nobody reads it: the rule of the book, or a token, says what it is.
 -- Each time the slot is lent it takes a turn. One invariant, whose number is greater than the book's, then holds the
 -- word's pen and, by its phase, the right to write the value, or the value to be read.
-use Rattle.core.specs.Prelude.{◌≡◌, ℕ, ◌+◌, ◌<◌}
-use base.Stored.{Gv, gnil, gcons, Coded, coded×, coded_ℕ, coded_via}
+use Rattle.core.specs.Prelude.{◌≡◌, ℕ, ◌+◌, ◌<◌, List, IfSome}
+use base.Stored.{Gv, gnil, gcons, Coded, coded×, coded_ℕ, coded_list, coded_via}
+use base.Fraction.{full_share}
 use base.Fml.{Lft, GName, Fml, ftrue, ffalse, feq, fsep, fex, fobs, fauth, fres, fbor, fnamed}
 use base.Before.{before}
 use prog.Memory.{up, align}
-use types.SemTy.{Body}
+use types.SemTy.{SemTy, Body}
 use denote.RattleType.{RattleType}
-use denote.Memory.{mem, lone, shared_of}
+use denote.Memory.{mem, lone, part_at, shared_of}
 use denote.RawPtr.{Ptr, block_ptr, null_ptr}
 use Rattle.core.specs.declared.option.Option.{Option}
 use Rattle.core.specs.declared.option.Option.TheVariants.{Some}
@@ -23,10 +24,12 @@ pub record Placed : Type 0 where
   pub book : Book  -- the book that has its state as a word
   pub key : ℕ  -- the place of its state among the book's words
   pub id : GName  -- the name under which its value is told
+  pub about : List ℕ  -- what is promised of its value, is promised about these numbers
 
 abbrev pub placed_coded : Coded Placed
-placed_coded = coded_via (coded× book_coded (coded× coded_ℕ coded_ℕ)) (λ (l : Placed). (l.book, (l.key, l.id)))
-    (λ x y e i. record { book = (e i).0; key = (e i).1.0; id = (e i).1.1 })
+placed_coded = coded_via (coded× book_coded (coded× coded_ℕ (coded× coded_ℕ (coded_list coded_ℕ))))
+    (λ (l : Placed). (l.book, (l.key, (l.id, l.about))))
+    (λ x y e i. record { book = (e i).0; key = (e i).1.0; id = (e i).1.1.0; about = (e i).1.1.1 })
 
 -- the word that is its state
 abbrev pub word_of : Placed → Named
@@ -67,12 +70,17 @@ module _ (R : RattleType) where
   abbrev pub at : ℕ → ℕ
   at o = o + up (align (lone (OptionOf R).mir)) 0
 
-  module _ (l : Placed) where
+  -- fits: what is promised of a value, by the numbers that it is promised about
+  module _ (fits : List ℕ → R.Denot → Type 0) (l : Placed) where
+    -- what lies in the field is as promised
+    abbrev pub Kept : Option R.Denot → Type 0
+    Kept v = IfSome v (fits l.about)
+
     -- the state's number says the phase. While the slot is empty, whoever has this may begin to write
     abbrev pub told : ℕ → Phase R.Denot → Fml
     told n empty = fsep (feq ℕ n 0) (fobs l.id gnil)
     told n writing = feq ℕ n 1
-    told n (full x) = fsep (known (n ≡ 2)) (written l.id x)
+    told n (full x) = fsep (known ((n ≡ 2) × fits l.about x)) (written l.id x)
 
     -- the slot's name tells the phase
     abbrev pub tracked : ℕ → Phase R.Denot → Fml
@@ -80,12 +88,21 @@ module _ (R : RattleType) where
 
     -- what a slot at rest owns beside its field
     abbrev pub resting : Rest R.Denot → Fml
-    resting s = fsep (word_pen (word_of l) s.0) (fsep (tracked s.0 s.2) (known (Filled s.1 s.2)))
+    resting s = fsep (word_pen (word_of l) s.0) (fsep (tracked s.0 s.2) (known (Kept s.1 × Filled s.1 s.2)))
+
+    -- the field's memory, in which no value lies but one that is as promised
+    abbrev pub promised : SemTy
+    promised = record {
+      rep = Option R.Denot;
+      coded = (OptionOf R).coded;
+      size = (mem (OptionOf R)).size;
+      own_at = λ v b o. fsep (part_at (OptionOf R) full_share v b o) (known (Kept v));
+    }
 
     module _ (t : Turn) (b o : ℕ) where
       -- the field, with some value, which the turn's name tells
       abbrev pub Field : Fml
-      Field = Body (mem (OptionOf R)) b (at o) t.1
+      Field = Body promised b (at o) t.1
 
       -- what is known of the field in this phase
       abbrev pub tie : Phase R.Denot → Fml

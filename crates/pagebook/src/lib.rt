@@ -29,6 +29,8 @@
 //! - `Slot` is a place for one value, whose state is a word of the book, without bytes. By the rule nothing can refuse
 //!   to put the value, and whoever has seen that it was put gets it with no test. `Written` is a token that shows for
 //!   good what it is.
+//! - `Fits` says what is promised of a slot's value when the slot is made. Whoever puts the value shows it, and whoever
+//!   gets the value knows it, on any thread and without a token.
 //! - `KeyedMutex` is a lock whose content is of a book, as pens are. A clause can name that book, and no type has to.
 //!
 //! # How a structure is made of it
@@ -117,7 +119,7 @@ mod tokens;
 mod word;
 
 pub use lock::KeyedMutex;
-pub use rule::{Opening, Play, Rule};
+pub use rule::{Anything, Fits, Opening, Play, Rule};
 pub use slot::{Slot, Written};
 pub use tied::{Key, Keyed, LockOf, Tied};
 pub use tokens::{Pens, Seen};

@@ -24,3 +24,18 @@ pub trait Play<X, E, P> {
     // Of the caller's data, the view before, the number that was found in the word, and the view after. A note finds 0.
     ghost then: { X → View E P → ℕ → View E P → Type 0 };
 }
+
+/// What is promised of the value of a slot, by the numbers about which it was promised when the slot was made. Whoever
+/// puts a value shows it, and whoever is given the value knows it, without any token.
+pub trait Fits<T> {
+    ghost fits: { List ℕ → T → Type 0 };
+}
+
+/// No promise: any value fits.
+pub struct Anything;
+
+impl<T> Fits<T> for Anything {
+    ghost use Rattle.core.specs.Prelude.{⊤};
+
+    ghost fits = { λ _ _. ⊤ };
+}

@@ -6,7 +6,7 @@
 // found a number that says so, or it got a `Seen` or a `Written` from a thread that did, over a lock, say, or at a
 // join. Neither a note nor a put elsewhere can tell it (`proofs/Book/Untold.antt`), so whoever may call `get` or
 // `value` has such an order.
-ghost use Rattle.core.specs.Prelude.{◌≡◌, ℕ, ◌+◌, drop, slice_get};
+ghost use Rattle.core.specs.Prelude.{◌≡◌, ℕ, ◌+◌, [], drop, slice_get, IfSome};
 ghost use mathlib.Core.List.{IsPrefix};
 ghost use base.Fml.{fsep, fex};
 ghost use denote.Sharing.{said};
@@ -14,9 +14,10 @@ ghost use Rattle.core.specs.declared.option.Option.TheVariants.{Some};
 ghost use Rattle.pagebook.specs.Pages.{View, Moves, Sure};
 ghost use Rattle.pagebook.specs.Slot.{Placed, placed_coded, Rest, resting, shared, written};
 
-use crate::rule::{Play, Rule};
+use crate::rule::{Anything, Fits, Play, Rule};
 use crate::tokens::{Pens, Seen};
 use crate::word::Blanks;
+use boxcar::tag::Tag;
 use std::marker::{Model, Move, Owns, PhantomData};
 use std::mem::align_of;
 
@@ -34,36 +35,52 @@ impl<T> Model for Written<T> {
 }
 
 /// A place for one value, which is put once and then read by all. A clause sees its `book`, its `key`, which is the
-/// place of its state among the words of the book, and its `id`, which a `Written` names.
-pub struct Slot<T, E, P, R: Rule<E, P>> {
+/// place of its state among the words of the book, its `id`, which a `Written` names, and `about`, the numbers about
+/// which `V` promises something of its value. `Anything` promises nothing.
+pub struct Slot<T, E, P, R: Rule<E, P>, V: Fits<T> = Anything> {
     value: Option<T>,
-    marker: PhantomData<(E, P, R)>,
+    marker: PhantomData<(E, P, R, V)>,
 }
 
-impl<T, E, P, R: Rule<E, P>> Owns for Slot<T, E, P, R> {
+impl<T, E, P, R: Rule<E, P>, V: Fits<T>> Owns for Slot<T, E, P, R, V> {
     ghost Value = { Placed };
 
     ghost coded = { placed_coded };
 
-    ghost shr_at = { λ l p κ. shared T.row l p κ };
+    ghost shr_at = { λ l p κ. shared T.row V.fits l p κ };
 }
 
-impl<T, E, P, R: Rule<E, P>> Move for Slot<T, E, P, R> {
+impl<T, E, P, R: Rule<E, P>, V: Fits<T>> Move for Slot<T, E, P, R, V> {
     ghost own_val = { λ l vs. fex (Rest T.row.Denot)
-        (λ s. fsep (Fields.own_val (record { value = s.1; marker = record {} }) vs) (resting T.row l s)) };
+        (λ s. fsep (Fields.own_val (record { value = s.1; marker = record {} }) vs) (resting T.row V.fits l s)) };
 }
 
-impl<T, E, P, R: Rule<E, P>> Slot<T, E, P, R> {
-    /// An empty slot, whose state is the word of the first blank.
+impl<T, E, P, R: Rule<E, P>, V: Fits<T>> Slot<T, E, P, R, V> {
+    /// An empty slot, whose state is the word of the first blank. What `V` promises of its value is about no numbers.
     ///
     /// Asked for: that word begins with 0.
     #[inline(always)]
-    pub fn new(blanks: &mut Blanks) -> Slot<T, E, P, R>
+    pub fn new(blanks: &mut Blanks) -> Slot<T, E, P, R, V>
         requires { slice_get blanks.old.numbers 0 ≡ Some 0 }
-        ensures slot { (result.book ≡ blanks.old.book) × (result.key ≡ blanks.old.first) }
+        ensures slot { (result.book ≡ blanks.old.book) × (result.key ≡ blanks.old.first) × (result.about ≡ []) }
         ensures blanks { (blanks.new.book ≡ blanks.old.book) × (blanks.new.first ≡ blanks.old.first + 1)
             × (blanks.new.numbers ≡ drop 1 blanks.old.numbers) }
     {
+        Slot::promised(blanks, &Tag::empty())
+    }
+
+    /// As `new`, but what `V` promises of the value is about the numbers of the tag.
+    ///
+    /// Asked for: as by `new`.
+    #[inline(always)]
+    pub fn promised(blanks: &mut Blanks, tag: &Tag) -> Slot<T, E, P, R, V>
+        requires { slice_get blanks.old.numbers 0 ≡ Some 0 }
+        ensures slot { (result.book ≡ blanks.old.book) × (result.key ≡ blanks.old.first)
+            × (result.about ≡ tag.now.numbers) }
+        ensures blanks { (blanks.new.book ≡ blanks.old.book) × (blanks.new.first ≡ blanks.old.first + 1)
+            × (blanks.new.numbers ≡ drop 1 blanks.old.numbers) }
+    {
+        let _ = tag;
         Slot {
             value: None,
             marker: PhantomData,
@@ -75,7 +92,8 @@ impl<T, E, P, R: Rule<E, P>> Slot<T, E, P, R> {
     /// them is in the machine code: all that runs is a plain write of the value.
     ///
     /// Asked for: `seen` and `pens` are of the slot's book; the first step keeps the rule, and by the rule finds 0,
-    /// which says that nobody began to put a value; the second keeps the rule wherever the first led.
+    /// which says that nobody began to put a value; the second keeps the rule wherever the first led; and the value
+    /// is as promised.
     #[inline(always)]
     pub fn put<X, B: Play<X, E, P>, F: Play<X, E, P>>(
         &self,
@@ -90,13 +108,14 @@ impl<T, E, P, R: Rule<E, P>> Slot<T, E, P, R> {
             (λ n w. (n ≡ 0) × B.then about.now (seen.old.log, pens.old.held) n w) }
         requires fills { (w : View E P) → B.then about.now (seen.old.log, pens.old.held) 0 w
             → Moves R.holds w self.now.key (λ _. 2) (λ n u. F.then about.now w n u) }
+        requires fits { V.fits self.now.about value }
         ensures book { (seen.new.book ≡ seen.old.book) × (pens.new.book ≡ pens.old.book) }
         ensures log { IsPrefix seen.old.log seen.new.log }
         ensures then { (w : View E P) × B.then about.now (seen.old.log, pens.old.held) 0 w
             × F.then about.now w 1 (seen.new.log, pens.new.held) }
         ensures written { (result.of ≡ self.now.id) × (result.value ≡ value) }
     {
-        let slot = self as *const Slot<T, E, P, R>;
+        let slot = self as *const Slot<T, E, P, R, V>;
         unsafe {
             std::ptr::write(&raw const (*slot).value as *mut Option<T>, Some(value));
             Written {
@@ -113,7 +132,8 @@ impl<T, E, P, R: Rule<E, P>> Slot<T, E, P, R> {
     pub fn get<'a>(&'a self, seen: &Seen<E, P, R>) -> (&'a T, Written<T>)
         requires book { seen.now.book ≡ self.now.book }
         requires sure { Sure R.holds seen.now.log self.now.key 2 }
-        ensures { (result.0.now ≡ result.1.value) × (result.1.of ≡ self.now.id) }
+        ensures { (result.0.now ≡ result.1.value) × (result.1.of ≡ self.now.id)
+            × V.fits self.now.about result.0.now }
     {
         let written = self.found(seen);
         (self.value(&written), written)
@@ -137,9 +157,9 @@ impl<T, E, P, R: Rule<E, P>> Slot<T, E, P, R> {
     #[inline(always)]
     pub fn value<'a>(&'a self, written: &Written<T>) -> &'a T
         requires { written.now.of ≡ self.now.id }
-        ensures { result.now ≡ written.now.value }
+        ensures { (result.now ≡ written.now.value) × V.fits self.now.about result.now }
     {
-        let slot = self as *const Slot<T, E, P, R>;
+        let slot = self as *const Slot<T, E, P, R, V>;
         unsafe {
             // The value of a `Some` lies so far behind its tag. The token shows that it is one: the tag is not read.
             let place = (&raw const (*slot).value as *const u8).add(align_of::<T>()) as *const T;
@@ -149,7 +169,9 @@ impl<T, E, P, R: Rule<E, P>> Slot<T, E, P, R> {
 
     /// The value, if there is one.
     #[inline(always)]
-    pub fn into_inner(self) -> Option<T> {
+    pub fn into_inner(self) -> Option<T>
+        ensures { IfSome result (V.fits self.about) }
+    {
         let Self { value, marker: _ } = self;
         value
     }
@@ -160,7 +182,7 @@ impl<T, E, P, R: Rule<E, P>> Slot<T, E, P, R> {
     #[inline(always)]
     pub fn into_value(self, written: &Written<T>) -> T
         requires { written.now.of ≡ self.id }
-        ensures { result ≡ written.now.value }
+        ensures { (result ≡ written.now.value) × V.fits self.about result }
     {
         match self.taken(written) {
             Some(value) => value,
@@ -172,7 +194,7 @@ impl<T, E, P, R: Rule<E, P>> Slot<T, E, P, R> {
     #[inline(always)]
     fn taken(self, written: &Written<T>) -> Option<T>
         requires { written.now.of ≡ self.id }
-        ensures { result ≡ Some written.now.value }
+        ensures { (result ≡ Some written.now.value) × V.fits self.about written.now.value }
     {
         let _ = written;
         let Self { value, marker: _ } = self;
@@ -201,7 +223,7 @@ impl<T> Written<T> {
     {}
 }
 
-impl<T: Drop, E, P, R: Rule<E, P>> Drop for Slot<T, E, P, R> {
+impl<T: Drop, E, P, R: Rule<E, P>, V: Fits<T>> Drop for Slot<T, E, P, R, V> {
     #[inline(always)]
     fn drop(self) {
         drop(self.into_inner());
@@ -215,9 +237,9 @@ impl<T> Drop for Written<T> {
     }
 }
 
-unsafe impl<T: Send, E, P, R: Rule<E, P>> Send for Slot<T, E, P, R> {}
+unsafe impl<T: Send, E, P, R: Rule<E, P>, V: Fits<T>> Send for Slot<T, E, P, R, V> {}
 
-unsafe impl<T: Send + Sync, E, P, R: Rule<E, P>> Sync for Slot<T, E, P, R> {}
+unsafe impl<T: Send + Sync, E, P, R: Rule<E, P>, V: Fits<T>> Sync for Slot<T, E, P, R, V> {}
 
 unsafe impl<T> Send for Written<T> {}
 

@@ -1,12 +1,14 @@
 // A shelf for one value: it is put once, and then a bit is set. Whoever finds the bit has the value, with no test
-// and no lock, and a token that shows for good which value it is.
+// and no lock, and a token that shows for good which value it is. What was promised of the value when the shelf was
+// made is known without any token (`memo`).
 ghost use Rattle.std.specs.Prelude.{◌≡◌, ℕ, [], ◌∷◌, IfSome};
 ghost use Rattle.std.specs.declared.option.Option.TheVariants.{Some};
 ghost use mathlib.Core.List.{IsPrefix};
 ghost use Rattle.pagebook_uses.specs.Shelf.{filled};
 ghost use Rattle.pagebook_uses.specs.declared.shelf.Stage.TheVariants.{Empty};
 
-use pagebook::{Opening, Pens, Play, Rule, Seen, Slot, Word, Written};
+use boxcar::tag::Tag;
+use pagebook::{Anything, Fits, Opening, Pens, Play, Rule, Seen, Slot, Word, Written};
 use std::thread::{Threads, join};
 
 /// An entry of the log: the value was put.
@@ -77,11 +79,11 @@ impl Play<(), Filled, Stage> for Looks {
     ghost then = { λ x. Looked };
 }
 
-/// The bit and the value, which threads share.
+/// The bit and the value, which threads share. `V` says what is promised of the value.
 #[derive(Drop)]
-pub struct Shelf<T> {
+pub struct Shelf<T, V: Fits<T> = Anything> {
     pub ready: Word<Filled, Stage, OneFill>,
-    pub slot: Slot<T, Filled, Stage, OneFill>,
+    pub slot: Slot<T, Filled, Stage, OneFill, V>,
     pub ghost ready_is: { ready.key ≡ 0 },
     pub ghost slot_is: { (slot.key ≡ 1) × (slot.book ≡ ready.book) },
 }
@@ -96,15 +98,25 @@ pub struct Filler {
 }
 
 impl<T> Shelf<T> {
-    /// An empty shelf, and the right to fill it.
+    /// An empty shelf of whose value nothing is promised, and the right to fill it.
     pub fn new() -> (Shelf<T>, Filler)
         ensures { result.1.pens.book ≡ result.0.ready.book }
+    {
+        Shelf::promised(&Tag::empty())
+    }
+}
+
+impl<T, V: Fits<T>> Shelf<T, V> {
+    /// An empty shelf, and the right to fill it. What `V` promises of the value is about the numbers of the tag.
+    pub fn promised(tag: &Tag) -> (Shelf<T, V>, Filler)
+        ensures book { result.1.pens.book ≡ result.0.ready.book }
+        ensures about { result.0.slot.about ≡ tag.now.numbers }
     {
         let (mut blanks, seen, pens) = Word::open::<(), OneFill>(&());
         (
             Shelf {
                 ready: Word::new(0, &mut blanks),
-                slot: Slot::new(&mut blanks),
+                slot: Slot::promised(&mut blanks, tag),
             },
             Filler { seen, pens },
         )
@@ -112,9 +124,10 @@ impl<T> Shelf<T> {
 
     /// Puts the value and sets the bit. Nothing can refuse it.
     ///
-    /// Asked for: the right is to this shelf.
+    /// Asked for: the right is to this shelf, and the value is as promised.
     pub fn fill(&self, value: T, filler: Filler) -> (Written<T>, Seen<Filled, Stage, OneFill>)
-        requires { filler.pens.book ≡ self.now.ready.book }
+        requires filler { filler.pens.book ≡ self.now.ready.book }
+        requires fits { V.fits self.now.slot.about value }
         ensures written { (result.0.of ≡ self.now.slot.id) × (result.0.value ≡ value) }
         ensures seen { (result.1.book ≡ self.now.ready.book) × (result.1.log ≡ filled ∷ []) }
     {
@@ -136,6 +149,7 @@ impl<T> Shelf<T> {
         requires { seen.old.book ≡ self.now.ready.book }
         ensures seen { (seen.new.book ≡ seen.old.book) × IsPrefix seen.old.log seen.new.log }
         ensures found { IfSome result (λ r. (r.0.now ≡ r.1.value) × (r.1.of ≡ self.now.slot.id)) }
+        ensures fits { IfSome result (λ r. V.fits self.now.slot.about r.0.now) }
     {
         let mut none = seen.no_pens();
         if self.ready.load::<(), Looks>(&(), seen, &mut none) == 1 {
@@ -146,9 +160,11 @@ impl<T> Shelf<T> {
     }
 }
 
-impl<T> Shelf<T> {
-    /// The value, for the owner of the shelf, if there is one.
-    pub fn take(self) -> Option<T> {
+impl<T, V: Fits<T>> Shelf<T, V> {
+    /// The value, for the owner of the shelf, if there is one. It is as promised.
+    pub fn take(self) -> Option<T>
+        ensures { IfSome result (V.fits self.slot.about) }
+    {
         let Shelf { ready, slot } = self;
         drop(ready);
         slot.into_inner()

@@ -49,23 +49,24 @@ use Rattle.pagebook.proofs.slot.Slot.found.Statement.{statement}
 use Rattle.pagebook.proofs.slot.Slot.found.Code as code
 
 pub found_spec : {M : Type 1} → statement M
-found_spec {M} 𝓤 𝓛 𝓜 𝓡 wired T E P R L _ _ _ g d _ =
+found_spec {M} 𝓤 𝓛 𝓜 𝓡 wired T E P R V L _ _ _ _ g d fs df _ _ =
     let H = 𝓛.H in let A = 𝓛.A in let 𝓣 = tables 𝓤 H 𝓜 𝓡 𝓡.env in
     let T' : RattleType = param 0 T in let E' : RattleType = param 1 E in let P' : RattleType = param 2 P in
-    let R' : RattleType = param 3 R in
-    let En = ended T E P R g d in let inst = bounded (a_type ∷ a_type ∷ a_type ∷ a_type ∷ []) (T, (E, (P, (R, tt))))
-    (dcons d dnil) in let fn = inst_fn inst code.function in let c = clauses T E P R g d 𝓛 𝓜.mem 𝓡.returns in
+    let R' : RattleType = param 3 R in let V' : RattleType = param 4 V in
+    let En = ended T E P R V g d fs df in let inst = bounded (a_type ∷ a_type ∷ a_type ∷ a_type ∷ a_type ∷ [])
+    (T, (E, (P, (R, (V, tt))))) (dcons d (dcons df dnil)) in let fn = inst_fn inst code.function in
+    let c = clauses T E P R V g d fs df 𝓛 𝓜.mem 𝓡.returns in
     let ce = E'.coded in let Me : RattleType = Seen.the_row E' P' R' g in
     let Wd : RattleType = Word.the_row E' P' R' g in let All : RattleType = Tuple (E' ∷ P' ∷ R' ∷ []) in
     let cp = P'.coded in let Pn : RattleType = Pens.the_row P' in
     let O : RattleType = OptionOf T' in let LO = option_laws T' (param_laws 0 T L) in
-    let Sl : RattleType = Slot.the_row T' E' P' R' g in let W : RattleType = Written.the_row T' in
+    let Sl : RattleType = Slot.the_row T' E' P' R' V' g fs in let W : RattleType = Written.the_row T' in
     let hs : Stays En.signature.params En.kept =
     (stay_dropped (RefOf (0 ∷ []) tt (plain (λ _. Sl)) (λ _. tt)) yes, (stay_dropped (RefOf (1 ∷ []) tt (plain (λ _. Me)) (λ _. tt)) yes, tt)) in
     proved 𝓛 En hs c 𝓜 𝓡 (
-      Goes-dropped 𝓛 6 (RefOf (0 ∷ []) tt (plain (λ _. Sl)) (λ _. tt)) yes (λ κs x f. refl),
-      (Goes-dropped 𝓛 6 (RefOf (1 ∷ []) tt (plain (λ _. Me)) (λ _. tt)) yes (λ κs x f. refl), tt),
-    ) (#self inst) fn (code.unfolded 𝓤 H 𝓜 𝓡 wired (T, (E, (P, (R, tt)))) d)
+      Goes-dropped 𝓛 7 (RefOf (0 ∷ []) tt (plain (λ _. Sl)) (λ _. tt)) yes (λ κs x f. refl),
+      (Goes-dropped 𝓛 7 (RefOf (1 ∷ []) tt (plain (λ _. Me)) (λ _. tt)) yes (λ κs x f. refl), tt),
+    ) (#self inst) fn (code.unfolded 𝓤 H 𝓜 𝓡 wired (T, (E, (P, (R, (V, tt))))) d df)
     (λ κs. (shr_vals, (shr_vals, tt))) (λ κs. (shr_Tells (named 0) κs.0 Sl, (shr_Tells (named 1) κs.1.0 Me, tt)))
     (λ κs qs bounds a gh are.
     let b : ℕ = a.0.ref_ptr.0 in let o : ℕ = a.0.ref_ptr.1 in let l₀ : Placed = a.0.now in let γ : ℕ = l₀.id in
@@ -77,10 +78,10 @@ found_spec {M} 𝓤 𝓛 𝓜 𝓡 wired T E P R L _ _ _ g d _ =
     let toks : Fml = (fsep (flft κs.0 qs.0)
     (fsep (flft κs.1.0 qs.1.0) (fsep (flft κs.1.1.0 qs.1.1.0)
     (fsep (flft κs.1.1.1.0 qs.1.1.1.0) (fsep (flft κs.1.1.1.1.0 qs.1.1.1.1.0)
-    (fsep (flft κs.1.1.1.1.1.0 qs.1.1.1.1.1.0) ftrue)))))) in
+    (fsep (flft κs.1.1.1.1.1.0 qs.1.1.1.1.1.0) (fsep (flft κs.1.1.1.1.1.1.0 qs.1.1.1.1.1.1.0) ftrue))))))) in
     qed 𝓛 ((‵ toks ⊛ ‵ (owns (types_at En.signature.params κs) a y.0.4)) ∷ raw (fact 𝓤 _) ∷ raw (fact 𝓤 _)
-    ∷ raw (fact 𝓤 _) ∷ raw (fact 𝓤 _) ∷ given _ (‵ ftrue) ∷ given _ (‵ ftrue) ∷ []) ∵ keep ! (5 ∷ 6 ∷ 0 ∷ []) $
-    learn ! (λ same. let_go ! $ learn ! (λ sure. let_go ! $ split ! $
+    ∷ raw (fact 𝓤 _) ∷ raw (fact 𝓤 _) ∷ raw (fact 𝓤 _) ∷ given _ (‵ ftrue) ∷ given _ (‵ ftrue) ∷ []) ∵
+    keep ! (6 ∷ 7 ∷ 0 ∷ []) $ learn ! (λ same. let_go ! $ learn ! (λ sure. let_go ! $ split ! $
     fsplit ! $ move ! (2 ∷ []) $ fsplit ! $ fsplit ! $ move ! (2 ∷ []) $
     fsplit ! $ fsplit ! $ keep ! (4 ∷ 1 ∷ 5 ∷ 6 ∷ []) $
     move ! (1 ∷ []) $ use1 𝓛 (‵ (hidden_shr (Token All) κs.1.0 (record {}, tt) a.1.0.ref_ptr.0 a.1.0.ref_ptr.1)
@@ -98,16 +99,16 @@ found_spec {M} 𝓤 𝓛 𝓜 𝓡 wired T E P R L _ _ _ g d _ =
     await ! tt $ pick ! (λ s. split ! $
     use0 𝓛 (raw (emp 𝓤)) (id⊢ 𝓤 (emp 𝓤)) $ use0 𝓛 (‵ (pens_own cp.code l₀.book [])) (id⊢ 𝓤 (emp 𝓤)) $
     move ! (5 ∷ 0 ∷ 1 ∷ []) $ group ! 3 $ move ! (3 ∷ 1 ∷ 0 ∷ []) $
-    use3 𝓛 (later (‵ (fex ℕ (state.seen_sure 𝓛 T' l₀ t b o ce cp g.holds j s v past then)) ⊛ ‵ (flft α s)))
-    (state.looks_sure 𝓛 T' l₀ t b o ce cp g.holds j s v past LO.shr_laws then (λ n u so. so)
+    use3 𝓛 (later (‵ (fex ℕ (state.seen_sure 𝓛 T' fs.fits l₀ t b o ce cp g.holds j s v past then)) ⊛ ‵ (flft α s)))
+    (state.looks_sure 𝓛 T' fs.fits l₀ t b o ce cp g.holds j s v past LO.shr_laws then (λ n u so. so)
     (load_keeps g.holds me.log l₀.key 2 sure)) $ await ! tt $ split ! $
     move ! (1 ∷ 2 ∷ []) $ use2 𝓛 (later (‵ (flft κ q))) (apply∗ 𝓤 (A.lft α s) (H.⇛ (A.lft κ q))) $ await ! tt $
     move ! (1 ∷ []) $ fpick ! (λ n. fpick ! (λ w. fsplit ! $ move ! (1 ∷ []) $ fsplit ! $ move ! (1 ∷ []) $
-    fpick ! (λ x. fsplit ! $
-    use1 𝓛 (‵ (W.own_val (record { marker = record {}; of = γ; value = x }) (token_value ∷ [])))
+    fpick ! (λ x. fsplit3 ! $
+    move ! (1 ∷ []) $ use1 𝓛 (‵ (W.own_val (record { marker = record {}; of = γ; value = x }) (token_value ∷ [])))
     (written_made 𝓛 T' γ x) $ sets ! (agg ! (no_more !)) refl (tt, tt) $
     sets ! (agg ! (and_then ! (get ! refl) (no_more !))) refl (tt, (tt, tt)) $
-    move ! (4 ∷ 5 ∷ []) $ fjoin ! $ nothing ! $ nothing ! $ fjoin ! $ nothing ! $ fjoin ! $
+    move ! (5 ∷ 6 ∷ []) $ fjoin ! $ nothing ! $ nothing ! $ fjoin ! $ nothing ! $ fjoin ! $
     returns ! (look_at ! 0 refl) $ free_all ! refl $ keep ! (1 ∷ 0 ∷ 2 ∷ []) $
     by ! (ends 𝓛 En hs c y token_value (record { marker = record {}; of = γ; value = x }) (tt, (tt, tt))
     (tt, (tt, tt)) (fact_i 𝓤 _ (emp 𝓤) refl))))))))))))

@@ -46,23 +46,24 @@ use Rattle.pagebook.proofs.slot.Slot.value.Statement.{statement}
 use Rattle.pagebook.proofs.slot.Slot.value.Code as code
 
 pub value_spec : {M : Type 1} → statement M
-value_spec {M} 𝓤 𝓛 𝓜 𝓡 wired T E P R L _ _ _ g d _ =
+value_spec {M} 𝓤 𝓛 𝓜 𝓡 wired T E P R V L _ _ _ _ g d fs df _ _ =
     let H = 𝓛.H in let A = 𝓛.A in let 𝓣 = tables 𝓤 H 𝓜 𝓡 𝓡.env in
     let T' : RattleType = param 0 T in let E' : RattleType = param 1 E in let P' : RattleType = param 2 P in
-    let R' : RattleType = param 3 R in
-    let En = ended T E P R g d in let inst = bounded (a_type ∷ a_type ∷ a_type ∷ a_type ∷ []) (T, (E, (P, (R, tt))))
-    (dcons d dnil) in let fn = inst_fn inst code.function in let c = clauses T E P R g d 𝓛 𝓜.mem 𝓡.returns in
+    let R' : RattleType = param 3 R in let V' : RattleType = param 4 V in
+    let En = ended T E P R V g d fs df in let inst = bounded (a_type ∷ a_type ∷ a_type ∷ a_type ∷ a_type ∷ [])
+    (T, (E, (P, (R, (V, tt))))) (dcons d (dcons df dnil)) in let fn = inst_fn inst code.function in
+    let c = clauses T E P R V g d fs df 𝓛 𝓜.mem 𝓡.returns in
     let ce = E'.coded in let Me : RattleType = Seen.the_row E' P' R' g in
     let Wd : RattleType = Word.the_row E' P' R' g in let All : RattleType = Tuple (E' ∷ P' ∷ R' ∷ []) in
     let cp = P'.coded in let Pn : RattleType = Pens.the_row P' in
     let O : RattleType = OptionOf T' in let LO = option_laws T' (param_laws 0 T L) in
-    let Sl : RattleType = Slot.the_row T' E' P' R' g in let W : RattleType = Written.the_row T' in
+    let Sl : RattleType = Slot.the_row T' E' P' R' V' g fs in let W : RattleType = Written.the_row T' in
     let hs : Stays En.signature.params En.kept =
     (stay_dropped (RefOf (0 ∷ []) tt (plain (λ _. Sl)) (λ _. tt)) yes, (stay_dropped (RefOf (1 ∷ []) tt (plain (λ _. W)) (λ _. tt)) yes, tt)) in
     proved 𝓛 En hs c 𝓜 𝓡 (
-      Goes-dropped 𝓛 6 (RefOf (0 ∷ []) tt (plain (λ _. Sl)) (λ _. tt)) yes (λ κs x f. refl),
-      (Goes-dropped 𝓛 6 (RefOf (1 ∷ []) tt (plain (λ _. W)) (λ _. tt)) yes (λ κs x f. refl), tt),
-    ) (#self inst) fn (code.unfolded 𝓤 H 𝓜 𝓡 wired (T, (E, (P, (R, tt)))) d)
+      Goes-dropped 𝓛 7 (RefOf (0 ∷ []) tt (plain (λ _. Sl)) (λ _. tt)) yes (λ κs x f. refl),
+      (Goes-dropped 𝓛 7 (RefOf (1 ∷ []) tt (plain (λ _. W)) (λ _. tt)) yes (λ κs x f. refl), tt),
+    ) (#self inst) fn (code.unfolded 𝓤 H 𝓜 𝓡 wired (T, (E, (P, (R, (V, tt))))) d df)
     (λ κs. (shr_vals, (shr_vals, tt))) (λ κs. (shr_Tells (named 0) κs.0 Sl, (shr_Tells (named 1) κs.1.0 W, tt)))
     (λ κs qs bounds a gh are.
     let b : ℕ = a.0.ref_ptr.0 in let o : ℕ = a.0.ref_ptr.1 in let l₀ : Placed = a.0.now in let γ : ℕ = l₀.id in
@@ -74,9 +75,9 @@ value_spec {M} 𝓤 𝓛 𝓜 𝓡 wired T E P R L _ _ _ g d _ =
     let toks : Fml = (fsep (flft κs.0 qs.0)
     (fsep (flft κs.1.0 qs.1.0) (fsep (flft κs.1.1.0 qs.1.1.0)
     (fsep (flft κs.1.1.1.0 qs.1.1.1.0) (fsep (flft κs.1.1.1.1.0 qs.1.1.1.1.0)
-    (fsep (flft κs.1.1.1.1.1.0 qs.1.1.1.1.1.0) ftrue)))))) in
+    (fsep (flft κs.1.1.1.1.1.0 qs.1.1.1.1.1.0) (fsep (flft κs.1.1.1.1.1.1.0 qs.1.1.1.1.1.1.0) ftrue))))))) in
     qed 𝓛 ((‵ toks ⊛ ‵ (owns (types_at En.signature.params κs) a y.0.4)) ∷ raw (fact 𝓤 _) ∷ raw (fact 𝓤 _)
-    ∷ raw (fact 𝓤 _) ∷ raw (fact 𝓤 _) ∷ given _ (‵ ftrue) ∷ []) ∵ keep ! (5 ∷ 0 ∷ []) $
+    ∷ raw (fact 𝓤 _) ∷ raw (fact 𝓤 _) ∷ raw (fact 𝓤 _) ∷ given _ (‵ ftrue) ∷ []) ∵ keep ! (6 ∷ 0 ∷ []) $
     learn ! (λ same. let_go ! $ split ! $
     fsplit ! $ move ! (2 ∷ []) $ fsplit ! $ fsplit ! $ move ! (2 ∷ []) $
     fsplit ! $ fsplit ! $ keep ! (4 ∷ 1 ∷ 5 ∷ 6 ∷ []) $
@@ -89,11 +90,12 @@ value_spec {M} 𝓤 𝓛 𝓜 𝓡 wired T E P R L _ _ _ g d _ =
     move ! (0 ∷ 4 ∷ []) $ use2 𝓛 (later
     (some (λ (s : Share). ‵ (flft α s) ⊛ raw (wand 𝓤 (A.lft α s) (H.⇛ (A.lft κ q)))))) (Lends-one 𝓛 𝓜 𝓡 κ α q) $
     await ! tt $ pick ! (λ s. split ! $
-    move ! (3 ∷ 0 ∷ 4 ∷ []) $ use3 𝓛 (later (‵ (state.Shown 𝓛 T' l₀ t b o x) ⊛ ‵ (flft α s)))
-    (state.looks_written 𝓛 T' l₀ t b o LO.shr_laws j s x) $ await ! tt $ split ! $ move ! (1 ∷ 2 ∷ []) $
+    move ! (3 ∷ 0 ∷ 4 ∷ []) $ use3 𝓛 (later (‵ (state.Shown 𝓛 T' fs.fits l₀ t b o x) ⊛ ‵ (flft α s)))
+    (state.looks_written 𝓛 T' fs.fits l₀ t b o LO.shr_laws j s x) $ await ! tt $ split ! $ move ! (1 ∷ 2 ∷ []) $
     use2 𝓛 (later (‵ (flft κ q))) (apply∗ 𝓤 (A.lft α s) (H.⇛ (A.lft κ q))) $ await ! tt $ move ! (1 ∷ []) $
-    fsplit ! $ move ! (3 ∷ 1 ∷ []) $ use2 𝓛 (‵ (shared_of O (Some x) b e κ))
-    ((LO.shr_laws (Some x) b e).mono M 𝓤 𝓛 κ α) $ use1 𝓛 (‵ (shared_of T' x b p κ)) (value_in_some 𝓛 T' x b e κ) $
+    fsplit3 ! $ fpick ! (λ fit. let_go ! $ move ! (3 ∷ 1 ∷ []) $
+    use2 𝓛 (‵ (shared_of O (Some x) b e κ)) ((LO.shr_laws (Some x) b e).mono M 𝓤 𝓛 κ α) $
+    use1 𝓛 (‵ (shared_of T' x b p κ)) (value_in_some 𝓛 T' x b e κ) $
     hide ! $ feq_i ! (List Val) (vptr b p ∷ []) (vptr b p ∷ []) refl $ fjoin ! $
     sets ! (addr ! (through ! refl (stop !))) refl (tt, tt) $
     first ! $ blocks ! $ sets ! (addr ! (through ! refl (fld ! refl (stop !)))) refl (tt, tt) $
@@ -103,4 +105,4 @@ value_spec {M} 𝓤 𝓛 𝓜 𝓡 wired T E P R L _ _ _ g d _ =
     move ! (2 ∷ 3 ∷ []) $ fjoin ! $ nothing ! $ nothing ! $ fjoin ! $ nothing ! $ fjoin ! $
     returns ! (look_at ! 0 refl) $ free_all ! refl $ keep ! (1 ∷ 0 ∷ 2 ∷ []) $
     by ! (ends 𝓛 En hs c y (vptr b p) (record { ref_ptr = (b, p); now = x }) (tt, (tt, tt)) (tt, (tt, tt))
-    (fact_i 𝓤 _ (emp 𝓤) refl))))))))
+    (fact_i 𝓤 _ (emp 𝓤) (refl, fit))))))))))

@@ -6,7 +6,7 @@ use mir.MapTy.{inst_fn}
 use base.Logic.{SProp}
 use base.Fml.{Fml, ftrue, fsep, flft}
 use types.Kit.{‵, raw, ◌⊛◌, given, ◌$◌, ◌∵◌, !, qed, by, move, keep, drop as let_go, split, fsplit, fsplit3, fjoin, fjoin3, learn, use1, feq_i}
-use types.Run.{no_more, and_then, first, returns, enter}
+use types.Run.{no_more, and_then, returns, enter}
 use types.ByLocal.{alloc_all, pass_all, free_all, look_at, get, sets, env}
 use types.Part.{agg}
 use contract.Monad.{fact}

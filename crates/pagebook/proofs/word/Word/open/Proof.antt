@@ -7,7 +7,7 @@ use base.Logic.{SProp}
 use base.Fml.{Fml, ftrue, fsep, feq, flft}
 use types.Kit.{‵, raw, ◌⊛◌, some, given, later, ◌$◌, ◌∵◌, !, qed, by, move, keep, drop as let_go, split, split3, fsplit, fjoin, fpack, pick, learn, use0, use1}
 use types.Kit.{await, feq_i}
-use types.Run.{no_more, and_then, first, returns, enter}
+use types.Run.{no_more, and_then, returns, enter}
 use types.ByLocal.{alloc_all, pass_all, free_all, look_at, get, sets, env}
 use types.Part.{agg}
 use contract.Monad.{fact}
