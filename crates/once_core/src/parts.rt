@@ -18,7 +18,8 @@ pub enum Counted {
 
 /// The word, the door and the queue of a cell, and the place of its value. Each call is one step, but for
 /// [`refuse`](Self::refuse), which tells the parts what the side answered in a step.
-/// `can` says what a call asks, and `did` what it told and left; if they are left out, they say nothing.
+/// `can` says what a call asks, `did` what it told and left, and `takes` which values may be set; if they are left out,
+/// they say nothing.
 pub trait Parts<W> {
     /// A queue, as a waiter keeps it.
     type Queue;
@@ -42,6 +43,9 @@ pub trait Parts<W> {
 
     // What a call told and left.
     ghost did: { Self → Told W Self.Queue → Self → Type 0 } = { λ _ _ _. ⊤ };
+
+    // Which values they take.
+    ghost takes: { Self → Self.Value → Type 0 } = { λ _ _. ⊤ };
 
     /// The word.
     fn load(&mut self) -> u64
@@ -112,6 +116,7 @@ pub trait Parts<W> {
 
     /// Sets the value that the init gave.
     fn put(&mut self, value: Self::Value)
-        requires { can self.old Put }
+        requires can { can self.old Put }
+        requires takes { takes self.old value }
         ensures { did self.old PutValue self.new };
 }

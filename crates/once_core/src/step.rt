@@ -90,6 +90,9 @@ pub trait Side<W> {
     // What `put` asks.
     ghost can_put: { Self → Type 0 } = { λ _. ⊤ };
 
+    // Which values `put` may hand over.
+    ghost hands: { Self → Self.Value → Type 0 } = { λ _ _. ⊤ };
+
     // What each call keeps, from the side before it to the side after.
     ghost stays: { Self → Self → Type 0 };
 
@@ -109,6 +112,7 @@ pub trait Side<W> {
     /// Hands over the value that the init gave, for the parts to set. A side that keeps values itself answers `()`.
     fn put(&mut self) -> Self::Value
         requires { can_put self.old }
+        ensures hands { hands self.old result }
         ensures did { did.put self.old self.new }
         ensures stays { stays self.old self.new };
 
@@ -260,6 +264,8 @@ impl<W: Drop, Q: Drop> Step<W, Q> {
     }
 
     /// Makes one step of the call that is under way.
+    ///
+    /// Asked for: what the place's call asks, and that the parts take whatever value the side may hand over.
     // A queue is taken out first. A place that keeps none is only looked at. A holder's place stays: its queue
     // alone is taken out of it.
     #[inline(always)]
@@ -270,6 +276,7 @@ impl<W: Drop, Q: Drop> Step<W, Q> {
     ) -> Progress
         requires call { in_call self.old ≡ true }
         requires asks { Asks P.can S.can_run S.can_put self.old parts.old side.old }
+        requires takes { (v : P.Value) → S.hands side.old v → P.takes parts.old v }
         ensures lower { left_of self.new < left_of self.old }
         ensures line { Advances P.did S.did self.old parts.old side.old result self.new parts.new side.new }
         ensures stays { S.stays side.old side.new }
@@ -457,7 +464,8 @@ impl<W: Drop, Q: Drop> Step<W, Q> {
         parts: &mut P,
         side: &mut S,
     ) -> Progress
-        requires { AsksAt P.can S.can_run S.can_put (Place.Put by) parts.old side.old }
+        requires asks { AsksAt P.can S.can_run S.can_put (Place.Put by) parts.old side.old }
+        requires takes { (v : P.Value) → S.hands side.old v → P.takes parts.old v }
         ensures line { Line P.did S.did (Place.Put by) parts.old side.old result self.new parts.new side.new }
         ensures stays { S.stays side.old side.new }
     {
