@@ -1,5 +1,5 @@
 -- Each step of a straight way is its line of the table, whether it is made under the lock or not.
-use Rattle.std.proofs.Common.{◌≡◌, ℕ, Bool, true, false, Option, None, refl, sym, ap, subst}
+use Rattle.std.proofs.Common.{◌≡◌, ℕ, Bool, true, false, [], Option, None, refl, sym, ap, subst}
 use Rattle.std.specs.Prelude.{⊤}
 use Rattle.std.proofs.lemmas.Bool.{false≢true}
 use Rattle.pagebook.specs.Slot.{Placed}
@@ -62,7 +62,7 @@ closes false x y is = is
 
 -- which cell it is does not matter
 abbrev pub any_cell : Placed
-any_cell = record { book = record { number = 0; words_name = 0; pages_name = 0; log_name = 0 }; key = 0; id = 0 }
+any_cell = record { book = record { number = 0; words_name = 0; pages_name = 0; log_name = 0 }; key = 0; id = 0; about = [] }
 
 module _ {W : Type 0} (whose : W → ℕ) where
   -- what the calls of the parts tell of a task, where the parts are what it knows
