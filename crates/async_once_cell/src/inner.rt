@@ -4,7 +4,7 @@ pub use once_core::parts::{Counted, Parts, QueueLine};
 pub use once_core::plain::Core;
 pub use once_parts::{
     CopiesWaker, Hand, Inner, Mark, Pollable, Record, Shared, Splits, Task, TaskSide, TaskWaker,
-    poll_init, record,
+    book as record, poll_init,
 };
 pub use once_queue::waiters::{Answer, Listing, Op, Out};
 pub use once_queue::word::{MAX_WAITERS, NEW, QINIT_BIT, READY_BIT};

@@ -19,7 +19,7 @@ use crate::once::{Failure, Refused};
 use crate::waker::ListedWaker;
 use futures::task::{Context, Poll};
 use once_core::step::{Ending, Polled, Side};
-use once_parts::record::is_set_where_answered;
+use once_parts::book::is_set_where_answered;
 use once_parts::{CopiesWaker, Hand, Inner, Mark, Record, Task, TaskSide};
 use once_queue::waiters::{Out, Renews};
 use pagebook::Written;

@@ -2,15 +2,9 @@
 ghost use Rattle.std.specs.Prelude.{◌≡◌, ◌<◌, ◌≤◌, ◌↔◌, IsTrue, true, false};
 ghost use Rattle.once_core.specs.declared.step.Polled.{Polled};
 
-mod handed;
-mod place;
-mod waits;
+mod advance;
 
-use crate::parts::Parts;
-use handed::wake;
-use once_queue::waiters::{Op, Out};
-use once_queue::word::Word;
-pub use place::{Place, Rest};
+use once_queue::waiters::Out;
 use std::mem;
 
 /// What one poll of an init answered. The side keeps the value or the error.
@@ -39,6 +33,18 @@ pub enum Ending {
     Full,
     /// The call was the drop of the task.
     Dropped,
+}
+
+impl Ending {
+    ghost use Rattle.once_core.specs.Steps.{is_value as ends_with_value};
+
+    /// Whether the call ends with the value: only then does its release set the ready bit.
+    #[inline(always)]
+    pub fn is_value(self) -> bool
+        ensures { result ≡ ends_with_value self }
+    {
+        matches!(&self, Ending::Value)
+    }
 }
 
 /// Whether a call goes on after a step.
@@ -133,6 +139,114 @@ pub trait Side<W> {
     ghost stays_on: { (a b c : Self) → stays a b → stays b c → stays a c };
 }
 
+/// Where the next call of a task begins.
+#[derive(Drop)]
+pub enum Rest<Q> {
+    /// The task was not polled yet.
+    Start,
+    /// The task waits, and keeps this queue and the ticket of its listing there.
+    Wait(Q, Option<u64>),
+    /// The task holds the right: by the quick claim, or under the lock of this queue.
+    Run(Option<Q>),
+}
+
+/// Where a call makes its next step. An ending says how the call will end.
+#[derive(Drop)]
+pub enum Place<W, Q> {
+    /// Load the word.
+    Start,
+    /// Claim the right by one exchange.
+    TryQuick,
+    /// Look for the queue at the door.
+    DoorGet,
+    /// Put a queue to the door.
+    DoorPut,
+    /// Count in, keeping this queue.
+    CountIn(Q),
+    /// Load the word as a counted waiter, with a ticket as in [`Rest::Wait`].
+    WaitLoad(Q, Option<u64>),
+    /// Claim the right under the lock, or see whether the waker is listed.
+    Look(Q, Option<u64>),
+    /// Claim the right under the lock, or list this copy of the waker.
+    List(Q, Option<u64>, W),
+    /// Poll the init, holding the right as in [`Rest::Run`].
+    Run(Option<Q>),
+    /// Set the value that the init gave.
+    Put(Option<Q>),
+    /// Give the right back by one exchange.
+    Fast(Ending),
+    /// Count in, since others are counted.
+    AddOne(Ending),
+    /// Look for their queue.
+    DoorAgain(Ending),
+    /// Give the right back under the lock, and call one who waits, or all.
+    Release(Q, Ending),
+    /// Take the listing with this ticket out, and pass the turn on where it had it.
+    Leave(Q, u64, Ending),
+    /// Count out.
+    CountOut(Ending),
+    /// Take the queue out of the door.
+    DoorTake(Ending),
+}
+
+impl<W, Q> Place<W, Q> {
+    ghost use Rattle.once_core.specs.Steps.{release_place};
+    ghost use Rattle.once_core.specs.Table.{left_at};
+
+    // How many steps a call here may still take.
+    #[inline(always)]
+    fn left(&self) -> u32
+        ensures left { result ≡ left_at self.now }
+        ensures most { result ≤ 16 }
+        ensures some { 0 < result }
+    {
+        match self {
+            Place::Start => 16,
+            Place::TryQuick => 15,
+            Place::DoorGet => 14,
+            Place::DoorPut => 13,
+            Place::CountIn(_) => 12,
+            Place::WaitLoad(_, _) => 11,
+            Place::Look(_, _) => 10,
+            Place::List(_, _, _) => 9,
+            Place::Run(_) => 8,
+            Place::Put(_) => 7,
+            Place::Fast(_) => 6,
+            Place::AddOne(_) => 5,
+            Place::DoorAgain(_) => 4,
+            Place::Release(_, _) | Place::Leave(_, _, _) => 3,
+            Place::CountOut(_) => 2,
+            Place::DoorTake(_) => 1,
+        }
+    }
+
+    // Where a holder gives the right back.
+    #[inline(always)]
+    fn giving_back(by: Option<Q>, ending: Ending) -> Self
+        ensures { result ≡ release_place by ending }
+    {
+        match by {
+            None => Place::Fast(ending),
+            Some(queue) => Place::Release(queue, ending),
+        }
+    }
+}
+
+impl<W, Q: Drop> Place<W, Q> {
+    ghost use Rattle.once_core.specs.Steps.{leave_place};
+
+    // Where a waiter leaves that is dropped or refused.
+    #[inline(always)]
+    fn leaving(queue: Q, ticket: Option<u64>, ending: Ending) -> Self
+        ensures { result ≡ leave_place queue ticket ending }
+    {
+        match ticket {
+            None => Place::CountOut(ending),
+            Some(ticket) => Place::Leave(queue, ticket, ending),
+        }
+    }
+}
+
 /// Where a task stands: between two calls, in one, or after its last.
 #[derive(Drop)]
 pub enum Step<W, Q> {
@@ -148,7 +262,6 @@ impl<W: Drop, Q: Drop> Step<W, Q> {
     ghost use Rattle.once_core.specs.Steps.{is_resting, in_call, is_running, is_leaving};
     ghost use Rattle.once_core.specs.Table.{left_of};
     ghost use Rattle.once_core.specs.Steps.{is_freeing, is_adding, step_of_poll, step_of_drop};
-    ghost use Rattle.once_core.specs.Table.{Line, Advances, AsksAt, Asks};
 
     /// A task that was not polled yet.
     #[inline(always)]
@@ -263,69 +376,6 @@ impl<W: Drop, Q: Drop> Step<W, Q> {
         matches!(self, Step::UnderWay(_))
     }
 
-    /// Makes one step of the call that is under way.
-    ///
-    /// Asked for: what the place's call asks, and that the parts take whatever value the side may hand over.
-    // A queue is taken out first. A place that keeps none is only looked at. A holder's place stays: its queue
-    // alone is taken out of it.
-    #[inline(always)]
-    pub fn advance<P: Parts<W, Queue = Q>, S: Side<W, Value = P::Value, Right = P::Right>>(
-        &mut self,
-        parts: &mut P,
-        side: &mut S,
-    ) -> Progress
-        requires call { in_call self.old ≡ true }
-        requires asks { Asks P.can S.can_run S.can_put self.old parts.old side.old }
-        requires takes { (v : P.Value) → S.hands side.old v → P.takes parts.old v }
-        ensures lower { left_of self.new < left_of self.old }
-        ensures line { Advances P.did S.did self.old parts.old side.old result self.new parts.new side.new }
-        ensures stays { S.stays side.old side.new }
-    {
-        match *self {
-            Step::UnderWay(Place::Start) => self.start(parts, side),
-            Step::UnderWay(Place::TryQuick) => self.try_quick(parts, side),
-            Step::UnderWay(Place::DoorGet) => self.door_get(parts, side),
-            Step::UnderWay(Place::DoorPut) => self.door_put(parts, side),
-            Step::UnderWay(Place::Run(ref mut by)) => {
-                let by = by.take();
-                self.run(by, parts, side)
-            }
-            Step::UnderWay(Place::Put(ref mut by)) => {
-                let by = by.take();
-                self.put(by, parts, side)
-            }
-            Step::UnderWay(Place::Fast(ending)) => self.fast(ending, parts, side),
-            Step::UnderWay(Place::AddOne(ending)) => self.add_one(ending, parts, side),
-            Step::UnderWay(Place::DoorAgain(ending)) => self.door_again(ending, parts, side),
-            Step::UnderWay(Place::CountOut(ending)) => self.count_out(ending, parts, side),
-            Step::UnderWay(Place::DoorTake(ending)) => self.door_take(ending, parts, side),
-            _ => match self.take_place() {
-                Place::CountIn(queue) => self.count_in(queue, parts, side),
-                Place::WaitLoad(queue, ticket) => self.wait_load(queue, ticket, parts, side),
-                Place::Look(queue, ticket) => self.look(queue, ticket, parts, side),
-                Place::List(queue, ticket, waker) => self.list(queue, ticket, waker, parts, side),
-                Place::Release(queue, ending) => self.release(queue, ending, parts, side),
-                Place::Leave(queue, ticket, ending) => self.leave(
-                    queue, ticket, ending, parts, side,
-                ),
-                _ => unreachable!(),
-            },
-        }
-    }
-
-    // Takes the place out of a step that is under way, so that what it keeps can be moved.
-    #[inline(always)]
-    fn take_place(&mut self) -> Place<W, Q>
-        requires { in_call self.old ≡ true }
-        ensures place { self.old ≡ Step.UnderWay result }
-        ensures left { self.new ≡ Step.Finished }
-    {
-        match mem::replace(self, Step::Finished) {
-            Step::UnderWay(place) => place,
-            _ => unreachable!(),
-        }
-    }
-
     // Puts a step in place of one that has nothing to drop: `Finished`, where the place was taken out, or
     // one that keeps no queue. Without `forget` each assignment would first test which variant it replaces.
     #[inline(always)]
@@ -333,246 +383,5 @@ impl<W: Drop, Q: Drop> Step<W, Q> {
         ensures { self.new ≡ step }
     {
         mem::forget(mem::replace(self, step));
-    }
-
-    // The call goes on at this place.
-    #[inline(always)]
-    fn on(&mut self, place: Place<W, Q>) -> Progress
-        ensures more { result ≡ Progress.More }
-        ensures step { self.new ≡ Step.UnderWay place }
-    {
-        self.set(Step::UnderWay(place));
-        Progress::More
-    }
-
-    // The call ends so, and the task is finished.
-    #[inline(always)]
-    fn end(&mut self, ending: Ending) -> Progress
-        ensures ended { result ≡ Progress.Ended ending }
-        ensures step { self.new ≡ Step.Finished }
-    {
-        self.set(Step::Finished);
-        Progress::Ended(ending)
-    }
-
-    // The poll ends Pending, and the next call begins here.
-    #[inline(always)]
-    fn rest(&mut self, rest: Rest<Q>) -> Progress
-        ensures ended { result ≡ Progress.Ended Ending.Pending }
-        ensures step { self.new ≡ Step.Resting rest }
-    {
-        self.set(Step::Resting(rest));
-        Progress::Ended(Ending::Pending)
-    }
-
-    #[inline(always)]
-    fn start<P: Parts<W, Queue = Q>, S: Side<W>>(&mut self, parts: &mut P, side: &mut S) -> Progress
-        requires { AsksAt P.can S.can_run S.can_put Place.Start parts.old side.old }
-        ensures line { Line P.did S.did Place.Start parts.old side.old result self.new parts.new side.new }
-        ensures stays { S.stays side.old side.new }
-    {
-        let word = Word::from_bits(parts.load());
-        if word.is_ready() {
-            side.close();
-            return self.end(Ending::Value);
-        }
-        if word.is_new() {
-            return self.on(Place::TryQuick);
-        }
-        self.on(Place::DoorGet)
-    }
-
-    #[inline(always)]
-    fn try_quick<P: Parts<W, Queue = Q>, S: Side<W>>(
-        &mut self,
-        parts: &mut P,
-        side: &mut S,
-    ) -> Progress
-        requires { AsksAt P.can S.can_run S.can_put Place.TryQuick parts.old side.old }
-        ensures line { Line P.did S.did Place.TryQuick parts.old side.old result self.new parts.new side.new }
-        ensures stays { S.stays side.old side.new }
-    {
-        if parts.quick() {
-            return self.on(Place::Run(None));
-        }
-        self.on(Place::DoorGet)
-    }
-
-    #[inline(always)]
-    fn door_get<P: Parts<W, Queue = Q>, S: Side<W>>(
-        &mut self,
-        parts: &mut P,
-        side: &mut S,
-    ) -> Progress
-        requires { AsksAt P.can S.can_run S.can_put Place.DoorGet parts.old side.old }
-        ensures line { Line P.did S.did Place.DoorGet parts.old side.old result self.new parts.new side.new }
-        ensures stays { S.stays side.old side.new }
-    {
-        match parts.door_get() {
-            Some(queue) => self.on(Place::CountIn(queue)),
-            None => self.on(Place::DoorPut),
-        }
-    }
-
-    #[inline(always)]
-    fn door_put<P: Parts<W, Queue = Q>, S: Side<W>>(
-        &mut self,
-        parts: &mut P,
-        side: &mut S,
-    ) -> Progress
-        requires { AsksAt P.can S.can_run S.can_put Place.DoorPut parts.old side.old }
-        ensures line { Line P.did S.did Place.DoorPut parts.old side.old result self.new parts.new side.new }
-        ensures stays { S.stays side.old side.new }
-    {
-        match parts.door_put() {
-            Some(queue) => self.on(Place::CountIn(queue)),
-            None => {
-                side.close();
-                self.end(Ending::Memory)
-            }
-        }
-    }
-
-    #[inline(always)]
-    fn run<P: Parts<W, Queue = Q>, S: Side<W, Right = P::Right>>(
-        &mut self,
-        by: Option<Q>,
-        parts: &mut P,
-        side: &mut S,
-    ) -> Progress
-        requires { AsksAt P.can S.can_run S.can_put (Place.Run by) parts.old side.old }
-        ensures line { Line P.did S.did (Place.Run by) parts.old side.old result self.new parts.new side.new }
-        ensures stays { S.stays side.old side.new }
-    {
-        match parts.run(side) {
-            Polled::Pending => self.rest(Rest::Run(by)),
-            Polled::Value => {
-                side.close();
-                self.on(Place::Put(by))
-            }
-            Polled::Error => {
-                side.close();
-                self.on(Place::giving_back(by, Ending::Error))
-            }
-        }
-    }
-
-    #[inline(always)]
-    fn put<P: Parts<W, Queue = Q>, S: Side<W, Value = P::Value>>(
-        &mut self,
-        by: Option<Q>,
-        parts: &mut P,
-        side: &mut S,
-    ) -> Progress
-        requires asks { AsksAt P.can S.can_run S.can_put (Place.Put by) parts.old side.old }
-        requires takes { (v : P.Value) → S.hands side.old v → P.takes parts.old v }
-        ensures line { Line P.did S.did (Place.Put by) parts.old side.old result self.new parts.new side.new }
-        ensures stays { S.stays side.old side.new }
-    {
-        parts.put(side.put());
-        self.on(Place::giving_back(by, Ending::Value))
-    }
-
-    #[inline(always)]
-    fn fast<P: Parts<W, Queue = Q>, S: Side<W>>(
-        &mut self,
-        ending: Ending,
-        parts: &mut P,
-        side: &mut S,
-    ) -> Progress
-        requires { AsksAt P.can S.can_run S.can_put (Place.Fast ending) parts.old side.old }
-        ensures line { Line P.did S.did (Place.Fast ending) parts.old side.old result self.new parts.new side.new }
-        ensures stays { S.stays side.old side.new }
-    {
-        let filled = ending.is_value();
-        if !parts.fast(filled) {
-            return self.on(Place::AddOne(ending));
-        }
-        if filled {
-            return self.on(Place::DoorTake(ending));
-        }
-        self.end(ending)
-    }
-
-    #[inline(always)]
-    fn add_one<P: Parts<W, Queue = Q>, S: Side<W>>(
-        &mut self,
-        ending: Ending,
-        parts: &mut P,
-        side: &mut S,
-    ) -> Progress
-        requires { AsksAt P.can S.can_run S.can_put (Place.AddOne ending) parts.old side.old }
-        ensures line { Line P.did S.did (Place.AddOne ending) parts.old side.old result self.new parts.new side.new }
-        ensures stays { S.stays side.old side.new }
-    {
-        parts.add_one();
-        self.on(Place::DoorAgain(ending))
-    }
-
-    #[inline(always)]
-    fn door_again<P: Parts<W, Queue = Q>, S: Side<W>>(
-        &mut self,
-        ending: Ending,
-        parts: &mut P,
-        side: &mut S,
-    ) -> Progress
-        requires { AsksAt P.can S.can_run S.can_put (Place.DoorAgain ending) parts.old side.old }
-        ensures line { Line P.did S.did (Place.DoorAgain ending) parts.old side.old result self.new parts.new side.new }
-        ensures stays { S.stays side.old side.new }
-    {
-        match parts.door_get() {
-            Some(queue) => self.on(Place::Release(queue, ending)),
-            None => self.on(Place::CountOut(ending)),
-        }
-    }
-
-    #[inline(always)]
-    fn release<P: Parts<W, Queue = Q>, S: Side<W>>(
-        &mut self,
-        queue: Q,
-        ending: Ending,
-        parts: &mut P,
-        side: &mut S,
-    ) -> Progress
-        requires { AsksAt P.can S.can_run S.can_put (Place.Release queue ending) parts.old side.old }
-        ensures line { Line P.did S.did (Place.Release queue ending) parts.old side.old
-            result self.new parts.new side.new }
-        ensures stays { S.stays side.old side.new }
-    {
-        let answer = parts.section(&queue, &mut Op::Release(ending.is_value()));
-        wake(answer, side);
-        self.on(Place::CountOut(ending))
-    }
-
-    #[inline(always)]
-    fn count_out<P: Parts<W, Queue = Q>, S: Side<W>>(
-        &mut self,
-        ending: Ending,
-        parts: &mut P,
-        side: &mut S,
-    ) -> Progress
-        requires { AsksAt P.can S.can_run S.can_put (Place.CountOut ending) parts.old side.old }
-        ensures line { Line P.did S.did (Place.CountOut ending) parts.old side.old result self.new parts.new side.new }
-        ensures stays { S.stays side.old side.new }
-    {
-        if Word::from_bits(parts.count_out()).is_ready_alone() {
-            return self.on(Place::DoorTake(ending));
-        }
-        self.end(ending)
-    }
-
-    #[inline(always)]
-    fn door_take<P: Parts<W, Queue = Q>, S: Side<W>>(
-        &mut self,
-        ending: Ending,
-        parts: &mut P,
-        side: &mut S,
-    ) -> Progress
-        requires { AsksAt P.can S.can_run S.can_put (Place.DoorTake ending) parts.old side.old }
-        ensures line { Line P.did S.did (Place.DoorTake ending) parts.old side.old result self.new parts.new side.new }
-        ensures stays { S.stays side.old side.new }
-    {
-        parts.door_take();
-        self.end(ending)
     }
 }

@@ -19,7 +19,7 @@ use Rattle.once_world.specs.Words.{IsFound, IsWordCall, found, word_after}
 use Rattle.once_parts.specs.Kept.{Adds, Grew, IsKept, Leaves, Sheet, hand, most, sheets}
 use Rattle.once_parts.proofs.Moments.Moves.Words.{full_moves, full_page, full_told, in_moves, in_page, none_moves, none_page, none_told, word_moves, word_of_t}
 use Rattle.once_parts.proofs.Moments.Moves.Calls.{begun_notes, copy_notes, dropped_notes, made_notes, ran_notes, unput_notes}
-use Rattle.once_parts.specs.declared.act.Act.TheVariants.{Full, Enter, NonePut, Begin as BeginPoll, BeginDrop, Ran as InitRan, Refused, Unput}
+use Rattle.once_parts.specs.declared.hand.Act.TheVariants.{Full, Enter, NonePut, Begin as BeginPoll, BeginDrop, Ran as InitRan, Refused, Unput}
 use Rattle.once_parts.specs.Own.{IsHand, Turned, number_in, own_in, task_in, told}
 use Rattle.once_parts.specs.Page.{Went, WordTells, call_in, given_in, next_of}
 use Rattle.once_parts.specs.Acts.{Goes, Makes, Stays, Tells}

@@ -4,8 +4,8 @@ use Rattle.std.proofs.lemmas.Bool.{false≢true}
 use Rattle.once_core.specs.Steps.{in_call, is_resting}
 use Rattle.once_world.specs.Places.{Finished as Ended}
 use Rattle.once_parts.specs.Idle.{is_over, step_of}
-use Rattle.once_parts.specs.declared.idle.Idle.{Idle}
-use Rattle.once_parts.specs.declared.idle.Idle.TheVariants.{New, Listed, Unlisted, Quick, Queued, Finished}
+use Rattle.once_parts.specs.declared.task.Idle.{Idle}
+use Rattle.once_parts.specs.declared.task.Idle.TheVariants.{New, Listed, Unlisted, Quick, Queued, Finished}
 
 module _ (W : Type 0) where
   -- no call is under way

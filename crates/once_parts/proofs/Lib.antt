@@ -3,7 +3,7 @@
 --   Moments   one move of the book for each moment, and the list of those who wait as the queue's page shows it
 --   Tells     from what a move leaves to what it tells of the task
 --   Acts      the moments of a task alone keep the rule of the book: the clauses of `Hand`, as `did`
---   Sections  so do those of a task that has the lock: `told` of src/under_lock.rt
+--   Sections  so do those of a task that has the lock: `told` of src/desk.rt
 --   Desks     what lies under the lock fits its pages after each section: `did` of `Desk`
 --   Values    a new book, and how the value is put and looked for: `put` of `Hand`, and `Inner`
 --   Seen      what holds of the whole log holds of what was seen of it: `is_run`, `stays_set`, `is_set_where_answered`

@@ -11,8 +11,8 @@ use Rattle.once_world.specs.Record.{Entry}
 use Rattle.once_world.specs.Book.{TaskState}
 use Rattle.once_world.specs.Machine.{AtCountIn, AtDoorAgain, AtDoorGet, AtDoorPut, AtDoorTake, AtRelease, Ending, RestWait, Resting, Step, UnderWay, keeps, records}
 use Rattle.once_parts.specs.Kept.{IsKept, Leaves, Sheet, entries_of, locked, sheets}
-use Rattle.once_parts.specs.declared.act.Section.{Section}
-use Rattle.once_parts.specs.declared.act.Section.TheVariants.{Stand, Get, Put, Found, Take, ByTable, Rest}
+use Rattle.once_parts.specs.declared.desk.Section.{Section}
+use Rattle.once_parts.specs.declared.desk.Section.TheVariants.{Stand, Get, Put, Found, Take, ByTable, Rest}
 use Rattle.once_parts.specs.Desk.{Desked, IsDesk, behind, desk_sheets, desked}
 use Rattle.once_parts.specs.Own.{IsHand, Own, Stayed, Turned, number_in, task_in, told}
 use Rattle.once_parts.specs.Page.{call_in, given_in, next_of, queue_of}

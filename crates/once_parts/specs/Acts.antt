@@ -10,9 +10,9 @@ use Rattle.once_world.specs.Machine.{drop_entries, fresh_task}
 use Rattle.once_parts.specs.Page.{Went}
 use Rattle.once_parts.specs.Places.{task_begun, task_dropping}
 use Rattle.once_parts.specs.Kept.{Grew, Sheet, entries_of, hand, most, sheets, writing_sheet}
-use Rattle.once_parts.specs.declared.act.Act.{Act}
-use Rattle.once_parts.specs.declared.act.Act.TheVariants.{Full, Enter, NonePut}
-use Rattle.once_parts.specs.declared.act.Act.TheVariants.{Begin as BeginPoll, BeginDrop, Ran as InitRan, Refused, Unput}
+use Rattle.once_parts.specs.declared.hand.Act.{Act}
+use Rattle.once_parts.specs.declared.hand.Act.TheVariants.{Full, Enter, NonePut, Refused, Unput}
+use Rattle.once_parts.specs.declared.hand.Act.TheVariants.{Begin as BeginPoll, BeginDrop, Ran as InitRan}
 use Rattle.once_parts.specs.Own.{IsHand, Stayed, Turned, number_in, own_in, task_in}
 
 -- the hand is the task's still, whose page has turned so

@@ -1,8 +1,8 @@
 -- What a task is at between two calls, and the step of the code that stands for it.
 use Rattle.std.specs.Prelude.{Bool, true, false, None, Some, ⊤}
 use Rattle.once_world.specs.Places.{Finished, RestRun, RestStart, RestWait, Resting, Step}
-use Rattle.once_parts.specs.declared.idle.Idle.{Idle}
-use Rattle.once_parts.specs.declared.idle.Idle.TheVariants.{New, Listed, Unlisted, Quick, Queued, Finished as Over}
+use Rattle.once_parts.specs.declared.task.Idle.{Idle}
+use Rattle.once_parts.specs.declared.task.Idle.TheVariants.{New, Listed, Unlisted, Quick, Queued, Finished as Over}
 
 -- the step with which the next call begins
 abbrev pub step_of : {W : Type 0} → Idle → Step W ⊤

@@ -17,8 +17,8 @@ use Rattle.once_world.specs.UnderLock.{head_after, list_answer, listed_list, lis
 use Rattle.once_world.specs.UnderLock.{look_answer, looked_list, looked_ticket}
 use Rattle.once_world.specs.Machine.{Step, release_list, release_wakers}
 use Rattle.once_parts.specs.Kept.{Sheet, has_passed, hands_out, locked, sheets}
-use Rattle.once_parts.specs.declared.act.Section.{Section}
-use Rattle.once_parts.specs.declared.act.Section.TheVariants.{Stand, Get, Put, Found, Take, ByTable, Rest}
+use Rattle.once_parts.specs.declared.desk.Section.{Section}
+use Rattle.once_parts.specs.declared.desk.Section.TheVariants.{Stand, Get, Put, Found, Take, ByTable, Rest}
 use Rattle.once_parts.specs.Desk.{Desked, behind, desked}
 use Rattle.once_parts.specs.Own.{Own, Stayed, number_in, own_in, task_in}
 use Rattle.once_parts.specs.Places.{CanRest}

@@ -1,11 +1,18 @@
 -- What a straight way of a poll tells of the steps that it made.
 use Rattle.std.specs.Prelude.{ℕ, Bool, true, false, Some, ⊤}
-use Rattle.once_core.specs.Steps.{leave_place}
+use Rattle.once_core.specs.Steps.{leave_place, step_of_poll}
 use Rattle.once_core.specs.Table.{Next, closing_at, closing_end, next_at, next_rest}
-use Rattle.once_world.specs.Places.{AtCountOut, AtDoorPut, AtRun, EndMemory, EndValue, Progress, RestWait, Step}
+use Rattle.once_world.specs.Places.{AtCountOut, AtDoorPut, AtRun, Ended as CallEnded, EndMemory, EndValue, Ending}
+use Rattle.once_world.specs.Places.{More, Place, Progress, RestWait, Step, UnderWay}
 use Rattle.once_parts.specs.declared.ways.Reached.{Reached}
 use Rattle.once_parts.specs.declared.ways.Reached.TheVariants.{Claimed, Ended, NoQueue, Ready, Refused, Waits}
+use Rattle.once_parts.specs.declared.hand.Hand.{Hand}
+use Rattle.once_parts.specs.declared.shared.Shared.{Shared}
+use Rattle.once_parts.specs.declared.task.Idle.{Idle}
+use Rattle.once_parts.specs.Hands.{own_of}
+use Rattle.once_parts.specs.Idle.{step_of}
 use Rattle.once_parts.specs.Own.{Own}
+use Rattle.once_parts.specs.Shares.{own}
 use Rattle.once_parts.specs.Sides.{Sided}
 use Rattle.once_parts.specs.Walks.{Stands, Walked}
 
@@ -37,3 +44,25 @@ module _ {W : Type 0} (whose : W → ℕ) where
   -- it came there by its steps
   abbrev pub LeadsBy : Sided → Own → Next W ⊤ → Sided → Own → Type 0
   LeadsBy x v n y w = Leads whose x v n.progress n.step (closed_if n.closes y) w
+
+module _ {W S : Type 0} (whose : W → ℕ) (state : S → Sided) where
+  -- the task whose hand this is stands at this place of a poll, and the side is its own
+  abbrev pub IsUnder : Place W ⊤ → Hand → S → Type 0
+  IsUnder at h s = Stands whose false (state s) (own_of h) More (UnderWay at)
+
+  -- under the lock a poll made its steps, and came so far
+  abbrev pub Reaches : Hand → S → Reached → Hand → S → Type 0
+  Reaches h s r k t = LeadsBy whose (state s) (own_of h) (next_by r) (state t) (own_of k)
+
+module _ {T W R S : Type 0} {g : _} {h : _} (whose : W → ℕ) (state : S → Sided) where
+  -- a task stands at this place of a poll
+  abbrev pub IsAt : Place W ⊤ → Shared T W R g h → S → Type 0
+  IsAt at p s = Stands whose false (state s) (own p) More (UnderWay at)
+
+  -- its poll began where it rested
+  abbrev pub IsBegun : Idle → Shared T W R g h → S → Type 0
+  IsBegun i p s = Stands whose false (state s) (own p) More (step_of_poll (step_of i))
+
+  -- its poll made its steps and ended so, and the next call begins where the task rests now
+  abbrev pub Ends : Shared T W R g h → S → Ending → Idle → Shared T W R g h → S → Type 0
+  Ends p s e i q t = Leads whose (state s) (own p) (CallEnded e) (step_of i) (state t) (own q)

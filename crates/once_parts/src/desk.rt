@@ -1,4 +1,4 @@
-//! What lies under the one lock of a cell.
+//! What lies under the one lock of a cell, and the moments of a task that has the lock.
 ghost use Rattle.std.specs.Prelude.{◌≡◌, ◌*◌, ◌⊎◌, ℕ, Bool, true, false, List, [], Option, Some, None};
 ghost use Rattle.std.specs.Option.{is_some};
 ghost use Rattle.pagebook.specs.Pages.{Book};
@@ -6,17 +6,49 @@ ghost use Rattle.once_queue.specs.Claims.{Claims};
 ghost use Rattle.once_queue.specs.Listings.{kept_ticket};
 ghost use Rattle.once_queue.specs.Room.{HasSpace, claimant, listings_of};
 ghost use Rattle.once_queue.specs.Word.{flags_of, sees};
-ghost use Rattle.once_parts.specs.Sections.{more_released};
+ghost use Rattle.once_parts.specs.Sections.{more_released, CanNote, IsLoading, Moment};
+ghost use Rattle.once_parts.specs.Own.{IsWord};
+ghost use Rattle.once_parts.specs.Desk.{IsDesk, desked};
+ghost use Rattle.once_core.specs.Table.{DoorPut, Section as SectionCall, DoorGet, DoorTake, Got, PutQueue, Taken, Was};
+ghost use Rattle.once_queue.specs.declared.waiters.Op.{Op};
+ghost use Rattle.once_parts.specs.Page.{call_in, queue_of, Went};
+ghost use Rattle.once_parts.specs.Hands.{own_of};
+ghost use Rattle.once_parts.specs.Places.{numbered};
+ghost use Rattle.once_parts.specs.Parts.{CanCall, DidCall};
 
-use crate::act::Section;
-use crate::book::{CellPens, CellWord};
-use crate::hand::Hand;
-use crate::mark::TaskWaker;
-use crate::under_lock::{note, put, release, see};
-use once_queue::waiters::{Answer, Lists, Out, Renews, WakerId};
+use crate::book::{CellPens, CellWord, Leaf, Line};
+use crate::hand::{Hand, TaskWaker};
+use crate::shared::Inner;
+use once_queue::waiters::{Answer, Lists, Op, Out, Renews, WakerId};
 use once_queue::word::{QINIT_BIT, READY_BIT, Sees, Word};
-use pagebook::Keyed;
+use pagebook::{Key, Keyed, Play};
 use std::marker::Model;
+use std::sync::Wait;
+
+/// What a task does under the lock.
+#[derive(Drop)]
+pub(crate) enum Section {
+    /// Comes to its queue, which stands at the door.
+    Stand,
+    /// Looks at the door.
+    Get,
+    /// Puts a queue to the door.
+    Put,
+    /// Finds a queue at the door, where it would put one.
+    Found,
+    /// Takes the queue out of the door.
+    Take,
+    /// Makes the section that is the call of its place; and whether there is room to list its waker.
+    ByTable(bool),
+    /// Is at rest, and comes to its listing, which has this ticket.
+    Rest(u64),
+}
+
+impl Play<Section, Line, Leaf> for Section {
+    ghost use Rattle.once_parts.specs.Sections.{Tells};
+
+    ghost then = { Tells };
+}
 
 /// The door, with the queue if one stands there, and the pens of the door's page and of the queue's. A clause
 /// sees of which book they are.
@@ -41,17 +73,10 @@ impl<W: TaskWaker> Keyed for Desk<W> {
 }
 
 impl<W: TaskWaker + Drop> Desk<W> {
-    ghost use Rattle.once_core.specs.Table.{DoorGet, DoorPut, DoorTake, Section as SectionCall};
-    ghost use Rattle.once_core.specs.Table.{Got, PutQueue, Taken, Was};
     ghost use Rattle.once_queue.specs.declared.waiters.Answer.{Answer};
-    ghost use Rattle.once_queue.specs.declared.waiters.Op.{Op};
-    ghost use Rattle.once_parts.specs.Page.{Went, call_in};
-    ghost use Rattle.once_parts.specs.Parts.{CanCall, DidCall};
     ghost use Rattle.once_parts.specs.Named.{HasRenewed, KeepsOwner};
     ghost use Rattle.once_parts.specs.Desk.{desk_sheets, first_desk};
-    ghost use Rattle.once_parts.specs.Own.{IsWord};
-    ghost use Rattle.once_parts.specs.Places.{CanRest, numbered};
-    ghost use Rattle.once_parts.specs.Hands.{own_of};
+    ghost use Rattle.once_parts.specs.Places.{CanRest};
 
     /// No queue, and the first two pages of a new book.
     #[inline(always)]
@@ -308,5 +333,163 @@ fn list_without_room<W: WakerId + Drop>(
             lists.head = true;
             Answer::Claimed
         }
+    }
+}
+
+/// A moment that no word marks: the task comes to its queue, looks at the door, finds a queue there, or takes it out.
+#[inline(always)]
+fn note(desk: &mut CellPens, hand: &mut Hand, section: &Section)
+    requires book { desk.old.book ≡ hand.old.seen.book }
+    requires desk { IsDesk desk.old.held }
+    requires can { CanNote section.now (desked desk.old.held) (own_of hand.old).task.step }
+    ensures book { (desk.new.book ≡ hand.old.seen.book) × (hand.new.seen.book ≡ hand.old.seen.book) }
+    ensures desk { IsDesk desk.new.held }
+    ensures told { Moment section.now 0 (desked desk.old.held) (own_of hand.old) (desked desk.new.held)
+        (own_of hand.new) }
+{
+    desk.append(&mut hand.pens);
+    hand.seen.note::<Section, Section>(desk, section);
+    hand.pens = desk.split_off(2);
+}
+
+/// A moment that a load of the word marks: a look, a `List`, or the leaving of a waiter. `room` says whether the
+/// waker of a `List` can be listed; the others list none.
+#[inline(always)]
+fn see(word: &CellWord, desk: &mut CellPens, hand: &mut Hand, room: bool) -> u64
+    requires word { IsWord word.now hand.old.seen.book 0 }
+    requires book { desk.old.book ≡ hand.old.seen.book }
+    requires desk { IsDesk desk.old.held }
+    requires can { IsLoading (call_in (own_of hand.old).task.step) }
+    ensures book { (desk.new.book ≡ hand.old.seen.book) × (hand.new.seen.book ≡ hand.old.seen.book) }
+    ensures desk { IsDesk desk.new.held }
+    ensures told { Moment (Section.ByTable room) result (desked desk.old.held) (own_of hand.old)
+        (desked desk.new.held) (own_of hand.new) }
+{
+    desk.append(&mut hand.pens);
+    let found = word.load::<Section, Section>(&Section::ByTable(room), &mut hand.seen, desk);
+    hand.pens = desk.split_off(2);
+    found
+}
+
+/// A queue is put to the door, where none stands.
+#[inline(always)]
+fn put(has_put: &CellWord, desk: &mut CellPens, hand: &mut Hand)
+    requires word { IsWord has_put.now hand.old.seen.book 1 }
+    requires book { desk.old.book ≡ hand.old.seen.book }
+    requires desk { IsDesk desk.old.held }
+    requires none { (desked desk.old.held).door ≡ None }
+    requires can { call_in (own_of hand.old).task.step ≡ DoorPut }
+    ensures book { (desk.new.book ≡ hand.old.seen.book) × (hand.new.seen.book ≡ hand.old.seen.book) }
+    ensures desk { IsDesk desk.new.held }
+    ensures told { (n : ℕ)
+        × Moment Section.Put n (desked desk.old.held) (own_of hand.old) (desked desk.new.held) (own_of hand.new) }
+{
+    desk.append(&mut hand.pens);
+    has_put.store::<Section, Section>(1, &Section::Put, &mut hand.seen, desk);
+    hand.pens = desk.split_off(2);
+}
+
+/// The right is given back, with the value or without, by this addition.
+#[inline(always)]
+fn release(word: &CellWord, desk: &mut CellPens, hand: &mut Hand, ready: bool, more: u64)
+    requires word { IsWord word.now hand.old.seen.book 0 }
+    requires book { desk.old.book ≡ hand.old.seen.book }
+    requires desk { IsDesk desk.old.held }
+    requires can { call_in (own_of hand.old).task.step
+        ≡ SectionCall (queue_of (call_in (own_of hand.old).task.step)) (Op.Release ready) }
+    requires more { more ≡ more_released ready (desked desk.old.held).head }
+    ensures book { (desk.new.book ≡ hand.old.seen.book) × (hand.new.seen.book ≡ hand.old.seen.book) }
+    ensures desk { IsDesk desk.new.held }
+    ensures told { (n : ℕ)
+        × Moment (Section.ByTable true) n (desked desk.old.held) (own_of hand.old) (desked desk.new.held)
+        (own_of hand.new) }
+{
+    desk.append(&mut hand.pens);
+    word.fetch_add::<Section, Section>(more, &Section::ByTable(true), &mut hand.seen, desk);
+    hand.pens = desk.split_off(2);
+}
+
+impl<T, W: TaskWaker + Drop> Inner<T, W> {
+    // What is at the door, under the lock.
+    #[inline(always)]
+    pub(crate) fn got<J: Key, R: Wait>(&self, rt: &R, hand: &mut Hand) -> bool
+        requires key { self.now.desk ≡ J.key }
+        requires book { hand.old.seen.book ≡ J.key }
+        requires can { call_in (own_of hand.old).task.step ≡ DoorGet }
+        ensures book { hand.new.seen.book ≡ hand.old.seen.book }
+        ensures did { (q : ℕ)
+            × Went (own_of hand.old) (Got (numbered q result)) [] (own_of hand.new) }
+    {
+        self.desk.lock::<J, R>(rt).value.get(hand)
+    }
+
+    // This queue, put under the lock; where one stood there, this comes back.
+    #[inline(always)]
+    pub(crate) fn put<J: Key, R: Wait>(
+        &self,
+        rt: &R,
+        hand: &mut Hand,
+        queue: Box<Lists<W>>,
+    ) -> Option<Box<Lists<W>>>
+        requires key { self.now.desk ≡ J.key }
+        requires book { hand.old.seen.book ≡ J.key }
+        requires queue { (queue.value.head ≡ false) × (listings_of queue.value ≡ []) }
+        requires can { call_in (own_of hand.old).task.step ≡ DoorPut }
+        ensures book { hand.new.seen.book ≡ hand.old.seen.book }
+        ensures did { (q : ℕ) × Went (own_of hand.old) (PutQueue (Some q)) [] (own_of hand.new) }
+    {
+        self.desk
+            .lock::<J, R>(rt)
+            .value
+            .put(&self.has_put, hand, queue)
+    }
+
+    // The queue, taken out under the lock.
+    #[inline(never)]
+    pub(crate) fn taken<J: Key, R: Wait>(&self, rt: &R, hand: &mut Hand) -> Option<Box<Lists<W>>>
+        requires key { self.now.desk ≡ J.key }
+        requires book { hand.old.seen.book ≡ J.key }
+        requires can { call_in (own_of hand.old).task.step ≡ DoorTake }
+        ensures book { hand.new.seen.book ≡ hand.old.seen.book }
+        ensures did { (b : Bool) → Went (own_of hand.old) (Taken b) [] (own_of hand.new) }
+    {
+        self.desk.lock::<J, R>(rt).value.take(hand)
+    }
+
+    // A section, under the lock, and the waker that it took out of the list and hands to nobody.
+    #[inline(always)]
+    pub(crate) fn entered<J: Key, R: Wait>(
+        &self,
+        rt: &R,
+        hand: &mut Hand,
+        op: &mut Op<W>,
+    ) -> (Answer<W>, Option<W>)
+        requires key { self.now.desk ≡ J.key }
+        requires book { hand.old.seen.book ≡ J.key }
+        requires can { CanCall W.whose (own_of hand.old).task.step (SectionCall tt op.old) }
+        ensures book { hand.new.seen.book ≡ hand.old.seen.book }
+        ensures did { DidCall W.whose (own_of hand.old) (Was tt op.old result.0 op.new) (own_of hand.new) }
+    {
+        let mut tied = self.desk.lock::<J, R>(rt);
+        match op {
+            Op::Look(ticket) => tied.value.look(&self.word, hand, ticket),
+            Op::List(ticket, waker) => tied.value.list(&self.word, hand, ticket, waker),
+            Op::Release(ready) => {
+                let out = tied.value.release(&self.word, hand, *ready);
+                (Answer::Released(out), None)
+            }
+            Op::Leave(ticket) => {
+                let (next, own) = tied.value.leave(&self.word, hand, *ticket);
+                (Answer::Left(next), own)
+            }
+        }
+    }
+
+    // Whether a queue stands at the door, if the lock is free.
+    pub(crate) fn stands<J: Key>(&self) -> Option<bool>
+        requires { self.now.desk ≡ J.key }
+    {
+        let tied = self.desk.try_lock::<J>()?;
+        Some(tied.value.has_queue())
     }
 }

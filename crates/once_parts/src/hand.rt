@@ -1,14 +1,84 @@
-//! A task's pen, with what the task has seen of the log, and the moments that the task makes by itself.
-ghost use Rattle.std.specs.Prelude.{◌≡◌};
-ghost use Rattle.once_parts.specs.Own.{IsHand};
+//! A task's pen, with what the task has seen of the log, and the moments that the task makes by itself; and whose a
+//! waker is.
+ghost use Rattle.std.specs.Prelude.{◌≡◌, ◌≢◌, ℕ};
+ghost use Rattle.once_parts.specs.Own.{IsHand, number_in};
+ghost use mathlib.Core.List.{IsPrefix};
+ghost use Rattle.once_parts.specs.TwoTasks.{IsSomeHand};
 
-use crate::act::{Act, Makes};
-use crate::apart::{are_two, has_learned};
-use crate::book::{CellPens, CellWord, Record};
-use crate::record::stays_set;
+use crate::book::{CellPens, CellWord, Leaf, Line, Record, stays_set};
 use once_core::parts::Counted;
 use once_core::step::{Polled, RunRight};
+use once_queue::waiters::WakerId;
 use once_queue::word::{MAX_WAITERS, QINIT_BIT, READY_BIT};
+use pagebook::Play;
+use std::marker::Model;
+use std::snapshot::Snapshot;
+
+/// What a task does by itself, but for a step of the word that is the call of its place.
+#[derive(Drop)]
+pub enum Act {
+    /// Loads the word, to count itself in: it may find as many counted as may be.
+    Full,
+    /// Counts itself in, where the word is still this one.
+    Enter(u64),
+    /// Sees whether a queue was ever put to the door.
+    NonePut,
+    /// Begins a poll.
+    Begin,
+    /// Begins a drop.
+    BeginDrop,
+    /// Polled its init.
+    Ran(Polled),
+    /// Was refused the copy of its waker.
+    Refused,
+    /// Was refused the memory of a queue.
+    Unput,
+}
+
+impl Play<Act, Line, Leaf> for Act {
+    ghost use Rattle.once_parts.specs.Acts.{Tells};
+
+    ghost then = { Tells };
+}
+
+/// A task is made.
+pub(crate) struct Makes;
+
+impl Play<(), Line, Leaf> for Makes {
+    ghost use Rattle.once_parts.specs.Acts.{Makes as Made};
+
+    ghost then = { λ _ v n w. Made v w };
+}
+
+/// The number of a task. It has no bytes. A clause sees the number.
+#[derive(Drop)]
+pub struct Mark {
+    pens: Snapshot<CellPens>,
+}
+
+impl Model for Mark {
+    ghost use Rattle.std.specs.Prelude.{ℕ};
+    ghost use Rattle.once_parts.specs.Own.{number_in};
+
+    ghost Value = { ℕ };
+
+    ghost view = { λ m. number_in m.pens.value.held };
+}
+
+impl Mark {
+    ghost use Rattle.std.specs.Prelude.{◌≡◌};
+    ghost use Rattle.once_parts.specs.Own.{number_in};
+
+    /// The number of the task whose pen this is.
+    #[inline(always)]
+    pub fn of(pens: &CellPens) -> Mark
+        ensures { result ≡ number_in pens.now.held }
+    {
+        Mark {
+            pens: Snapshot::of(pens),
+        }
+    }
+}
 
 /// What a task has of its cell's book. It has no bytes.
 #[derive(Drop)]
@@ -174,4 +244,62 @@ impl RunRight for Hand {
     ghost can = { HasRight };
 
     ghost ran = { HasRun };
+}
+
+// Nothing is done, and the page of a task is seen to have all of the task's entries.
+struct Learned;
+
+impl Play<(), Line, Leaf> for Learned {
+    ghost use Rattle.once_parts.specs.TwoTasks.{HasLearned};
+
+    ghost then = { λ _ v n w. HasLearned v w };
+}
+
+// Nothing is done, and two pens are seen to be of two pages.
+struct Apart;
+
+impl Play<(), Line, Leaf> for Apart {
+    ghost use Rattle.once_parts.specs.TwoTasks.{AreTwo};
+
+    ghost then = { λ _ v n w. AreTwo v w };
+}
+
+/// Shows that a task has seen all of its own entries, however much it has learned of the log. It does nothing, but that
+/// more of the log may be seen.
+#[inline(always)]
+fn has_learned(seen: &mut Record, pens: &mut CellPens)
+    requires book { pens.old.book ≡ seen.old.book }
+    requires hand { IsSomeHand pens.old.held }
+    ensures book { (seen.new.book ≡ seen.old.book) × (pens.new.book ≡ pens.old.book) }
+    ensures log { IsPrefix seen.old.log seen.new.log }
+    ensures held { pens.new.held ≡ pens.old.held }
+    ensures hand { IsHand seen.new.log pens.new.held }
+{
+    seen.note::<(), Learned>(pens, &());
+}
+
+/// Shows that two pens of one book are of two tasks. It does nothing, but that more of the log may be seen.
+#[inline(always)]
+fn are_two(seen: &mut Record, a: &mut CellPens, b: &mut CellPens)
+    requires book { (a.old.book ≡ seen.old.book) × (b.old.book ≡ seen.old.book) }
+    requires hands { IsSomeHand a.old.held × IsSomeHand b.old.held }
+    ensures book { (seen.new.book ≡ seen.old.book) × (a.new.book ≡ a.old.book) × (b.new.book ≡ b.old.book) }
+    ensures log { IsPrefix seen.old.log seen.new.log }
+    ensures first { a.new.held ≡ a.old.held }
+    ensures hand { IsHand seen.new.log a.new.held }
+    ensures other { b.new.held ≡ b.old.held }
+    ensures two { number_in a.old.held ≢ number_in b.old.held }
+{
+    a.append(b);
+    seen.note::<(), Apart>(a, &());
+    *b = a.split_off(1);
+}
+
+/// A waker that is known to be a task's.
+pub trait TaskWaker: WakerId {
+    // The task's number.
+    ghost whose: { Self → ℕ };
+
+    // No two wakers are told to be the same: a task is listed once.
+    ghost apart: { (a b : Self) → Self.tells_same a b → ⊥ };
 }

@@ -10,33 +10,18 @@
 //! the cell, and at each of its beginnings somebody was called if somebody had to be. The second does not
 //! follow from the first.
 //!
-//! Begin with `book`, which ties the rule to the words, and with `act`, which has a name for each move.
+//! Begin with `book`, which ties the rule to the words, and with `Act` of `hand`, which has a name for each move.
 #![tactic(auto)]
 
-pub mod act;
-mod apart;
 pub mod book;
-pub mod calls;
 pub mod desk;
 pub mod hand;
-mod idle;
-pub mod inner;
-pub mod mark;
-pub mod pollable;
-pub mod record;
 pub mod shared;
-pub mod side;
 pub mod task;
-mod under_lock;
 mod ways;
 
 pub use book::{CellRule, Leaf, Line, Record};
-pub use calls::one_step;
 pub use desk::Desk;
-pub use hand::Hand;
-pub use inner::Inner;
-pub use mark::{Mark, TaskWaker};
-pub use pollable::{Pollable, Splits, poll_init};
-pub use shared::Shared;
-pub use side::{CopiesWaker, TaskSide};
-pub use task::Task;
+pub use hand::{Hand, Mark, TaskWaker};
+pub use shared::{Inner, Shared};
+pub use task::{CopiesWaker, Pollable, Splits, Task, TaskSide, one_step, poll_init};

@@ -1,26 +1,246 @@
-//! What the tasks of a cell share, as one task uses it.
-ghost use Rattle.std.specs.Prelude.{◌≡◌, ◌^◌, if◌then◌else◌, ℕ, Bool, false, true, List, [], Some};
-ghost use Rattle.once_queue.specs.Room.{listings_of};
+//! What the tasks of a cell share, and that as one task uses it.
+//!
+//! Each load, store, exchange and addition of its words is sequentially consistent, as all atomics of the kit are:
+//! they stand in one order, on which all threads agree. A task that takes the lock receives all that was done
+//! before it was last let go.
+//!
+//! The value lies beside them, and is written and read plainly. It is written before the step that makes the
+//! word ready, and read after a step that found the word ready, or with a token that came from such a step.
+ghost use Rattle.std.specs.Prelude.{◌≡◌, ◌^◌, if◌then◌else◌, []};
+ghost use Rattle.once_parts.specs.Own.{IsWord};
 ghost use Rattle.once_queue.specs.Word.{flags_of};
-ghost use Rattle.once_core.specs.Table.{CountIn, DoorGet, DoorPut, DoorTake, Got, Load, Loaded, PutQueue, Section};
-ghost use Rattle.once_core.specs.Table.{Taken, Was, counted as count_told};
+ghost use Rattle.once_core.specs.Table.{CountIn, Load, Loaded, counted as count_told};
 ghost use Rattle.once_parts.specs.Page.{Went, call_in};
-ghost use Rattle.once_parts.specs.Places.{numbered};
-ghost use Rattle.once_parts.specs.Parts.{CanCall, DidCall};
 ghost use Rattle.once_parts.specs.Hands.{own_of};
 
-use crate::act::{Act, ByTable, Puts, Writes};
-use crate::hand::Hand;
-use crate::inner::Inner;
-use crate::mark::{Mark, TaskWaker};
+use crate::book::{CellRule, CellSlot, CellWord, Leaf, Line, Record};
+use crate::desk::Desk;
+use crate::hand::{Act, Hand, Mark, TaskWaker};
 use once_core::parts::{Counted, Parts};
 use once_core::step::{Polled, Side};
 use once_queue::waiters::{Answer, Lists, Op};
-use once_queue::word::{NEW, QINIT_BIT, READY_BIT};
-use pagebook::{Key, Written};
+use once_queue::word::{NEW, QINIT_BIT, READY_BIT, Word as Flags};
+use pagebook::{KeyedMutex, Play, Slot, Word, Written};
 use std::alloc::AllocGlobal;
+use std::fmt;
 use std::marker::Brand;
 use std::sync::Wait;
+
+/// The value is looked for.
+pub struct Looks;
+
+impl Play<(), Line, Leaf> for Looks {
+    ghost use Rattle.once_parts.specs.Record.{Looks as Looked};
+
+    ghost then = { λ _. Looked };
+}
+
+/// A step of the word by a task alone, which is the call of its place.
+pub(crate) struct ByTable;
+
+impl Play<(), Line, Leaf> for ByTable {
+    ghost use Rattle.once_parts.specs.Page.{WordTells};
+
+    ghost then = { λ _. WordTells };
+}
+
+/// A task begins to write the value.
+pub(crate) struct Writes;
+
+impl Play<(), Line, Leaf> for Writes {
+    ghost use Rattle.once_parts.specs.Acts.{Writes as Wrote};
+
+    ghost then = { λ _ v n w. Wrote v w };
+}
+
+/// A task puts the value into the slot.
+pub(crate) struct Puts;
+
+impl Play<(), Line, Leaf> for Puts {
+    ghost use Rattle.once_parts.specs.Acts.{Puts as HasPut};
+
+    ghost then = { λ _ v n w. HasPut v w };
+}
+
+/// What all tasks of a cell share: the word, whether a queue was ever put to the door, the slot of the value,
+/// and under one lock the door with the queue.
+#[derive(Drop)]
+pub struct Inner<T, W: TaskWaker> {
+    pub(crate) word: CellWord,
+    pub(crate) has_put: CellWord,
+    pub(crate) slot: CellSlot<T>,
+    // What each new task has seen of the log.
+    pub(crate) front: Record,
+    pub(crate) desk: KeyedMutex<Desk<W>>,
+    ghost word_is: { IsWord word front.book 0 },
+    ghost put_is: { IsWord has_put front.book 1 },
+    ghost slot_is: { (slot.book ≡ front.book) × (slot.key ≡ 2) },
+    ghost desk_is: { desk ≡ front.book },
+}
+
+impl<T, W: TaskWaker + Drop> Inner<T, W> {
+    ghost use Rattle.std.specs.Prelude.{true, IfSome, IsSome};
+    ghost use Rattle.std.specs.Option.{is_some};
+    ghost use Rattle.once_queue.specs.Word.{flags_of};
+    ghost use Rattle.once_parts.specs.Record.{Looked, WasFilled};
+
+    /// A new cell. It takes no memory. No clause says that it is empty.
+    ///
+    /// ```
+    /// let cell = Inner::<u64, Bell>::new();
+    /// assert_eq!(rt; cell.has_queue(), Some(false));
+    /// ```
+    #[inline(always)]
+    pub fn new() -> Self {
+        let (mut blanks, front, pens) = Word::open::<(), CellRule>(&());
+        Inner {
+            word: Word::new(0, &mut blanks),
+            has_put: Word::new(0, &mut blanks),
+            slot: Slot::new(&mut blanks),
+            front,
+            desk: KeyedMutex::new(Desk::new(pens)),
+        }
+    }
+
+    /// The record as a new task or token has seen it.
+    ///
+    /// ```
+    /// let mut record = cell.record();
+    /// assert!(rt; cell.look(&mut record).is_some());
+    /// ```
+    #[inline(always)]
+    pub fn record(&self) -> Record
+        ensures { result.book ≡ self.now.slot.book }
+    {
+        self.front.again()
+    }
+
+    /// Looks for the value: one load of the word. If that is ready, the value is there.
+    ///
+    /// ```
+    /// let mut record = cell.record();
+    /// assert!(rt; cell.look(&mut record).is_none()); // at a moment of this call the cell was not set
+    /// ```
+    #[inline(always)]
+    pub fn look<'a>(&'a self, seen: &mut Record) -> Option<(&'a T, Written<T>)>
+        requires book { seen.old.book ≡ self.now.slot.book }
+        ensures book { seen.new.book ≡ seen.old.book }
+        ensures look { Looked (is_some result) seen.old.log seen.new.log }
+        ensures filled { IsSome result → WasFilled seen.new.log }
+        ensures value { IfSome result (λ r. (r.0.now ≡ r.1.value) × (r.1.of ≡ self.now.slot.id)) }
+    {
+        if Flags::from_bits(self.load(seen)).is_ready() {
+            return Some(self.slot.get(seen));
+        }
+        None
+    }
+
+    // One load of the word.
+    #[inline(always)]
+    fn load(&self, seen: &mut Record) -> u64
+        requires book { seen.old.book ≡ self.now.slot.book }
+        ensures book { seen.new.book ≡ seen.old.book }
+        ensures look { Looked (flags_of result).ready seen.old.log seen.new.log }
+        ensures filled { (flags_of result).ready ≡ true → WasFilled seen.new.log }
+    {
+        let mut none = seen.no_pens();
+        self.word.load::<(), Looks>(&(), seen, &mut none)
+    }
+
+    /// The value, for whoever has what shows it.
+    ///
+    /// ```
+    /// if let Some(written) = written {
+    ///     return Some(inner.value(written)); // without a look at the word
+    /// }
+    /// ```
+    #[inline(always)]
+    pub fn value<'a>(&'a self, written: &Written<T>) -> &'a T
+        requires { written.now.of ≡ self.now.slot.id }
+        ensures { result.now ≡ written.now.value }
+    {
+        self.slot.value(written)
+    }
+
+    /// What shows the value, if a look finds it.
+    ///
+    /// ```
+    /// match self {
+    ///     Value::Owned(_) => None,
+    ///     Value::Shared(inner) => inner.witness(),
+    /// }
+    /// ```
+    pub fn witness(&self) -> Option<Written<T>>
+        ensures { IfSome result (λ w. w.of ≡ self.now.slot.id) }
+    {
+        let (_, written) = self.look(&mut self.record())?;
+        Some(written)
+    }
+
+    /// The value, where it was put. The record ends. No clause says so.
+    ///
+    /// ```
+    /// match self {
+    ///     Value::Owned(value) => Some(value),
+    ///     Value::Shared(inner) => inner.into_inner(),
+    /// }
+    /// ```
+    pub fn into_inner(self) -> Option<T> {
+        let Inner {
+            word: _word,
+            has_put: _has_put,
+            slot,
+            front: _front,
+            desk: _desk,
+        } = self;
+        slot.into_inner()
+    }
+
+    /// The value, for a caller that has what shows it. The record ends.
+    pub fn into_value(self, written: &Written<T>) -> T
+        requires { written.now.of ≡ self.slot.id }
+        ensures { result ≡ written.now.value }
+    {
+        let Inner {
+            word: _word,
+            has_put: _has_put,
+            slot,
+            front: _front,
+            desk: _desk,
+        } = self;
+        slot.into_value(written)
+    }
+
+    /// Whether a queue stands at the door. `None` says that the lock could not be had at once. It waits for
+    /// nobody. It is for Debug: no clause says what it answers.
+    ///
+    /// ```
+    /// assert_eq!(rt; cell.has_queue(), Some(false)); // nobody had to wait yet
+    /// ```
+    pub fn has_queue(&self) -> Option<bool> {
+        self.stands::<Brand>()
+    }
+}
+
+impl<T, W: TaskWaker + Drop> fmt::Debug for Inner<T, W> {
+    fn fmt<F: fmt::Write>(&self, f: &mut fmt::Formatter<F>) -> fmt::Result {
+        let flags = Flags::from_bits(self.load(&mut self.record()));
+        let queue = match self.has_queue() {
+            Some(true) => "true",
+            Some(false) => "false",
+            None => "busy",
+        };
+        let (ready, quick, count) = (flags.is_ready(), flags.is_quick(), flags.count());
+        write!(
+            f,
+            "Inner {{ ready: {ready}, quick_init: {quick}, refcount: {count}, queue: {queue} }}"
+        )
+    }
+}
+
+unsafe impl<T: Send, W: TaskWaker + Send> Send for Inner<T, W> {}
+
+unsafe impl<T: Send + Sync, W: TaskWaker + Send> Sync for Inner<T, W> {}
 
 /// What the tasks of a cell share, as one task uses it that has a page in the book.
 #[derive(Drop)]
@@ -148,7 +368,7 @@ impl<T, W: TaskWaker + Drop, R: Wait + AllocGlobal> Parts<W> for Shared<'_, '_, 
 
     #[inline(always)]
     fn load(&mut self) -> u64 {
-        loaded(self.inner, &mut self.hand)
+        self.inner.loaded(&mut self.hand)
     }
 
     #[inline(always)]
@@ -174,7 +394,7 @@ impl<T, W: TaskWaker + Drop, R: Wait + AllocGlobal> Parts<W> for Shared<'_, '_, 
 
     #[inline(always)]
     fn count_in(&mut self) -> Counted {
-        counted(self.rt, self.inner, &mut self.hand)
+        self.inner.counted(self.rt, &mut self.hand)
     }
 
     #[inline(always)]
@@ -198,7 +418,7 @@ impl<T, W: TaskWaker + Drop, R: Wait + AllocGlobal> Parts<W> for Shared<'_, '_, 
 
     #[inline(always)]
     fn door_get(&mut self) -> Option<()> {
-        if got::<Brand, T, W, R>(self.rt, self.inner, &mut self.hand) {
+        if self.inner.got::<Brand, R>(self.rt, &mut self.hand) {
             return Some(());
         }
         None
@@ -212,7 +432,7 @@ impl<T, W: TaskWaker + Drop, R: Wait + AllocGlobal> Parts<W> for Shared<'_, '_, 
             self.hand.unput();
             return None;
         };
-        put::<Brand, T, W, R>(self.rt, self.inner, &mut self.hand, queue);
+        self.inner.put::<Brand, R>(self.rt, &mut self.hand, queue);
         Some(())
     }
 
@@ -222,12 +442,14 @@ impl<T, W: TaskWaker + Drop, R: Wait + AllocGlobal> Parts<W> for Shared<'_, '_, 
         if self.hand.finds_none_put(&self.inner.has_put) {
             return false;
         }
-        taken::<Brand, T, W, R>(self.rt, self.inner, &mut self.hand).is_some()
+        self.inner
+            .taken::<Brand, R>(self.rt, &mut self.hand)
+            .is_some()
     }
 
     #[inline(always)]
     fn section(&mut self, _queue: &(), op: &mut Op<W>) -> Answer<W> {
-        let (answer, _spent) = entered::<Brand, T, W, R>(self.rt, self.inner, &mut self.hand, op);
+        let (answer, _spent) = self.inner.entered::<Brand, R>(self.rt, &mut self.hand, op);
         answer
     }
 
@@ -260,119 +482,32 @@ fn freed(ready: bool) -> u64
     if ready { READY_BIT } else { NEW }
 }
 
-/// The word, for a task that stands where it loads it.
-#[inline(always)]
-pub(crate) fn loaded<T, W: TaskWaker>(inner: &Inner<T, W>, hand: &mut Hand) -> u64
-    requires book { hand.old.seen.book ≡ inner.now.front.book }
-    requires can { call_in (own_of hand.old).task.step ≡ Load }
-    ensures book { hand.new.seen.book ≡ hand.old.seen.book }
-    ensures did { Went (own_of hand.old) (Loaded (flags_of result)) [] (own_of hand.new) }
-{
-    inner
-        .word
-        .load::<(), ByTable>(&(), &mut hand.seen, &mut hand.pens)
-}
-
-/// Counts the task in. It is tried again while others change the word between the load and the exchange.
-#[inline(always)]
-pub(crate) fn counted<T, W: TaskWaker, R: Wait>(
-    rt: &R,
-    inner: &Inner<T, W>,
-    hand: &mut Hand,
-) -> Counted
-    requires book { hand.old.seen.book ≡ inner.now.front.book }
-    requires can { call_in (own_of hand.old).task.step ≡ CountIn }
-    ensures book { hand.new.seen.book ≡ hand.old.seen.book }
-    ensures did { Went (own_of hand.old) (count_told result) [] (own_of hand.new) }
-{
-    for _ in rt.forever() {
-        if let Some(counted) = hand.try_count_in(&inner.word) {
-            return counted;
-        }
+impl<T, W: TaskWaker> Inner<T, W> {
+    /// The word, for a task that stands where it loads it.
+    #[inline(always)]
+    pub(crate) fn loaded(&self, hand: &mut Hand) -> u64
+        requires book { hand.old.seen.book ≡ self.now.front.book }
+        requires can { call_in (own_of hand.old).task.step ≡ Load }
+        ensures book { hand.new.seen.book ≡ hand.old.seen.book }
+        ensures did { Went (own_of hand.old) (Loaded (flags_of result)) [] (own_of hand.new) }
+    {
+        self.word
+            .load::<(), ByTable>(&(), &mut hand.seen, &mut hand.pens)
     }
-    unreachable!()
-}
 
-// What is at the door, under the lock.
-#[inline(always)]
-fn got<J: Key, T, W: TaskWaker + Drop, R: Wait>(
-    rt: &R,
-    inner: &Inner<T, W>,
-    hand: &mut Hand,
-) -> bool
-    requires key { inner.now.desk ≡ J.key }
-    requires book { hand.old.seen.book ≡ J.key }
-    requires can { call_in (own_of hand.old).task.step ≡ DoorGet }
-    ensures book { hand.new.seen.book ≡ hand.old.seen.book }
-    ensures did { (q : ℕ)
-        × Went (own_of hand.old) (Got (numbered q result)) [] (own_of hand.new) }
-{
-    inner.desk.lock::<J, R>(rt).value.get(hand)
-}
-
-// This queue, put under the lock; where one stood there, this comes back.
-#[inline(always)]
-fn put<J: Key, T, W: TaskWaker + Drop, R: Wait>(
-    rt: &R,
-    inner: &Inner<T, W>,
-    hand: &mut Hand,
-    queue: Box<Lists<W>>,
-) -> Option<Box<Lists<W>>>
-    requires key { inner.now.desk ≡ J.key }
-    requires book { hand.old.seen.book ≡ J.key }
-    requires queue { (queue.value.head ≡ false) × (listings_of queue.value ≡ []) }
-    requires can { call_in (own_of hand.old).task.step ≡ DoorPut }
-    ensures book { hand.new.seen.book ≡ hand.old.seen.book }
-    ensures did { (q : ℕ) × Went (own_of hand.old) (PutQueue (Some q)) [] (own_of hand.new) }
-{
-    inner
-        .desk
-        .lock::<J, R>(rt)
-        .value
-        .put(&inner.has_put, hand, queue)
-}
-
-// The queue, taken out under the lock.
-#[inline(never)]
-fn taken<J: Key, T, W: TaskWaker + Drop, R: Wait>(
-    rt: &R,
-    inner: &Inner<T, W>,
-    hand: &mut Hand,
-) -> Option<Box<Lists<W>>>
-    requires key { inner.now.desk ≡ J.key }
-    requires book { hand.old.seen.book ≡ J.key }
-    requires can { call_in (own_of hand.old).task.step ≡ DoorTake }
-    ensures book { hand.new.seen.book ≡ hand.old.seen.book }
-    ensures did { (b : Bool) → Went (own_of hand.old) (Taken b) [] (own_of hand.new) }
-{
-    inner.desk.lock::<J, R>(rt).value.take(hand)
-}
-
-// A section, under the lock, and the waker that it took out of the list and hands to nobody.
-#[inline(always)]
-fn entered<J: Key, T, W: TaskWaker + Drop, R: Wait>(
-    rt: &R,
-    inner: &Inner<T, W>,
-    hand: &mut Hand,
-    op: &mut Op<W>,
-) -> (Answer<W>, Option<W>)
-    requires key { inner.now.desk ≡ J.key }
-    requires book { hand.old.seen.book ≡ J.key }
-    requires can { CanCall W.whose (own_of hand.old).task.step (Section tt op.old) }
-    ensures book { hand.new.seen.book ≡ hand.old.seen.book }
-    ensures did { DidCall W.whose (own_of hand.old) (Was tt op.old result.0 op.new) (own_of hand.new) }
-{
-    let mut tied = inner.desk.lock::<J, R>(rt);
-    match op {
-        Op::Look(ticket) => tied.value.look(&inner.word, hand, ticket),
-        Op::List(ticket, waker) => tied.value.list(&inner.word, hand, ticket, waker),
-        Op::Release(ready) => {
-            let out = tied.value.release(&inner.word, hand, *ready);
-            (Answer::Released(out), None)
+    /// Counts the task in. It is tried again while others change the word between the load and the exchange.
+    #[inline(always)]
+    pub(crate) fn counted<R: Wait>(&self, rt: &R, hand: &mut Hand) -> Counted
+        requires book { hand.old.seen.book ≡ self.now.front.book }
+        requires can { call_in (own_of hand.old).task.step ≡ CountIn }
+        ensures book { hand.new.seen.book ≡ hand.old.seen.book }
+        ensures did { Went (own_of hand.old) (count_told result) [] (own_of hand.new) }
+    {
+        for _ in rt.forever() {
+            if let Some(counted) = hand.try_count_in(&self.word) {
+                return counted;
+            }
         }
-        Op::Leave(ticket) => {
-            let (next, own) = tied.value.leave(&inner.word, hand, *ticket);
-            (Answer::Left(next), own)
-        }
+        unreachable!()
     }
 }

@@ -1,5 +1,7 @@
-//! A task of a cell, with its whole polls and drops.
-ghost use Rattle.std.specs.Prelude.{◌≡◌, ◌≢◌, ◌↔◌, ℕ, true, false, List, [], ◌∷◌};
+//! A task of a cell, with its whole polls and drops: its side and its init, what it keeps between two calls, and its
+//! steps.
+ghost use Rattle.std.specs.Prelude.{◌≡◌, ◌≢◌, ◌<◌, ◌↔◌, IsTrue, ℕ, Bool, true, false, List, [], ◌∷◌};
+ghost use Rattle.std.specs.Prelude.{IfErr, IsSome, Option, Some};
 ghost use mathlib.Core.List.{IsPrefix};
 ghost use Rattle.once_world.specs.Record.{Begin, DropBegin, DropEnd, Entry, Made};
 ghost use Rattle.once_parts.specs.Kept.{Grew, entries_of};
@@ -7,22 +9,226 @@ ghost use Rattle.once_parts.specs.Record.{EndsSet, IsSet};
 ghost use Rattle.once_core.specs.declared.step.Ending.{Ending};
 ghost use Rattle.once_parts.specs.Shares.{cell_of, own};
 ghost use Rattle.once_parts.specs.Idle.{is_over, step_of};
-ghost use Rattle.once_parts.specs.Walks.{IsCall, Spans, StandsOn, end_of, handed};
+ghost use Rattle.once_parts.specs.Walks.{IsCall, Spans, StandsOn, end_of, handed, Stands, Walked};
+ghost use Rattle.once_core.specs.Steps.{in_call, is_resting};
+ghost use Rattle.once_core.specs.Table.{left_of};
+ghost use Rattle.once_parts.specs.Own.{Own};
+ghost use Rattle.once_parts.specs.Sides.{Sided, IsTold};
+ghost use Rattle.once_parts.specs.Named.{KeepsOwner};
+ghost use Rattle.once_parts.specs.Hands.{HasRight, HasRun};
+ghost use Rattle.once_parts.specs.Inits.{MayGive, StandsFor, polled_in};
+ghost use Rattle.futures.specs.Poll.{IfReady, OnPending};
+ghost use Rattle.futures.specs.Task.{IsArmed, Keeps};
 
 use crate::book::Record;
-use crate::calls::go_on;
-use crate::hand::Hand;
-use crate::idle::Idle;
-use crate::inner::Inner;
-use crate::mark::{Mark, TaskWaker};
-use crate::shared::Shared;
-use crate::side::TaskSide;
-use crate::ways::{later, start};
-use once_core::step::{Ending, Progress};
+use crate::hand::{Hand, Mark, TaskWaker};
+use crate::shared::{Inner, Shared};
+use futures::Future;
+use futures::task::{Context, Poll};
+use once_core::step::{Ending, Polled, Progress, Rest, Side, Step};
+use once_queue::waiters::Renews;
 use pagebook::Written;
 use std::alloc::AllocGlobal;
 use std::marker::Model;
 use std::sync::Wait;
+
+/// Where the waker of a task is copied.
+pub trait CopiesWaker {
+    /// Whether the waker may be copied while the cell's lock is held. It may if no code runs there that could use the
+    /// cell: such code would wait for the lock for ever. No clause says so. Else each copy is made with the lock free,
+    /// between two sections.
+    fn copies_under_lock() -> bool;
+}
+
+/// A side that says which task it is of, whether its init is there and gave something, and who was handed to it in
+/// this call. In a poll by which it may copy its waker under the cell's lock, and that finds the task listed, the side
+/// renews the waker there.
+pub trait TaskSide<W: TaskWaker>: Side<W, Right = Hand> + Renews<W> + CopiesWaker {
+    // What is told of it.
+    ghost state: { Self → Sided };
+
+    // What each of its calls makes of that.
+    ghost tells: { IsTold W.whose state Self.did };
+
+    // An init that is there may be run.
+    ghost runs: { (s : Self) → (state s).has_init ≡ true → Self.can_run s };
+
+    // A value that is there may be put.
+    ghost puts: { (s : Self) → (state s).has_value ≡ true → Self.can_put s };
+
+    // A listed waker that it renews stays the same task's.
+    ghost owner: { KeepsOwner W.whose Self.renewed };
+
+    // A renewal changes nothing that is told of the side, and keeps what each of its calls keeps.
+    ghost renews: { (s : Self) (v : W) (t : Self) (w : W) → Self.renewed s v t w
+        → (state t ≡ state s) × Self.stays s t };
+}
+
+/// How what an init gives is told apart: the value, or an error as its task tells it.
+pub trait Splits<O, T, E> {
+    // The output for which this error stands, if it stands for one.
+    ghost output_of: { E → Option O };
+
+    /// The one or the other.
+    fn split(output: O) -> Result<T, E>
+        ensures { IfErr result (λ e. output_of e ≡ Some output) };
+}
+
+/// A future that may be polled, by a task that has the right alone. A clause sees the future.
+#[derive(Drop)]
+pub struct Pollable<F: Future> {
+    future: F,
+}
+
+impl<F: Future> Model for Pollable<F> {
+    ghost Value = { F };
+
+    ghost view = { λ p. p.future };
+
+    ghost invariant = { λ p. F.can_poll p.future };
+}
+
+impl<F: Future> Pollable<F> {
+    /// A box with this future.
+    #[inline(always)]
+    pub fn new(future: F) -> Self
+        requires { F.can_poll future }
+        ensures { result ≡ future }
+    {
+        Pollable { future }
+    }
+
+    /// The future, for the owner of a cell. No clause says that it may be polled.
+    #[inline(always)]
+    pub fn into_inner(self) -> F
+        ensures { result ≡ self }
+    {
+        let Pollable { future } = self;
+        future
+    }
+
+    // The future, to be polled.
+    #[inline(always)]
+    fn opened(self) -> F
+        ensures is { result ≡ self }
+        ensures can { F.can_poll result }
+    {
+        let Pollable { future } = self;
+        future
+    }
+}
+
+/// Polls the init of the task whose hand this is, and writes its answer into the record. The task has the right. The
+/// box is kept if the init is Pending. An error stands for an output that the init may give, and an init that is left
+/// may give no other output than before.
+#[inline(always)]
+pub fn poll_init<T, E, F, G>(
+    init: &mut Option<Pollable<F>>,
+    cx: &mut Context<'_>,
+    right: &mut Hand,
+) -> Poll<Result<T, E>>
+where
+    F: Future,
+    G: Splits<F::Output, T, E>,
+    requires init { IsSome init.old }
+    requires right { HasRight right.old }
+    ensures ran { HasRun right.old (polled_in result) right.new }
+    ensures init { OnPending result (IsSome init.new) }
+    ensures own { IfReady result (λ a. IfErr a (StandsFor F.gives G.output_of init.old)) }
+    ensures same { (o : F.Output) → MayGive F.gives init.new o → MayGive F.gives init.old o }
+    ensures armed { OnPending result (IsArmed cx.new) }
+    ensures kept { Keeps cx.old cx.new }
+{
+    let Some(pollable) = init.take() else {
+        unreachable!()
+    };
+    let mut future = pollable.opened();
+    match future.poll(cx) {
+        Poll::Pending => {
+            *init = Some(Pollable::new(future));
+            right.ran(Polled::Pending);
+            Poll::Pending
+        }
+        Poll::Ready(output) => match G::split(output) {
+            Ok(value) => {
+                right.ran(Polled::Value);
+                Poll::Ready(Ok(value))
+            }
+            Err(error) => {
+                right.ran(Polled::Error);
+                Poll::Ready(Err(error))
+            }
+        },
+    }
+}
+
+/// Where the next call of a task begins, if there is to be one. It has fewer bytes than the step of a call.
+#[derive(Drop)]
+pub(crate) enum Idle {
+    /// The task was not polled yet.
+    New,
+    /// It waits, and its listing has this ticket.
+    Listed(u64),
+    /// It waits, and is not listed.
+    Unlisted,
+    /// It holds by the quick claim.
+    Quick,
+    /// It holds by the queue.
+    Queued,
+    /// Its last call ended with anything but Pending.
+    Finished,
+}
+
+impl Idle {
+    /// By the step with which a call ended.
+    #[inline(always)]
+    pub(crate) fn of<W: Drop>(step: Step<W, ()>) -> Idle
+        requires over { in_call step ≡ false }
+        ensures is { step_of result ≡ step }
+    {
+        match step {
+            Step::Resting(Rest::Start) => Idle::New,
+            Step::Resting(Rest::Wait(_, Some(ticket))) => Idle::Listed(ticket),
+            Step::Resting(Rest::Wait(_, None)) => Idle::Unlisted,
+            Step::Resting(Rest::Run(None)) => Idle::Quick,
+            Step::Resting(Rest::Run(Some(_))) => Idle::Queued,
+            Step::UnderWay(_) => unreachable!(),
+            Step::Finished => Idle::Finished,
+        }
+    }
+
+    /// The step with which the next call begins.
+    #[inline(always)]
+    pub(crate) fn step<W: Drop>(&self) -> Step<W, ()>
+        ensures is { result ≡ step_of self.now }
+        ensures rests { is_over self.now ≡ false → is_resting result ≡ true }
+    {
+        match self {
+            Idle::New => Step::Resting(Rest::Start),
+            Idle::Listed(ticket) => Step::Resting(Rest::Wait((), Some(*ticket))),
+            Idle::Unlisted => Step::Resting(Rest::Wait((), None)),
+            Idle::Quick => Step::Resting(Rest::Run(None)),
+            Idle::Queued => Step::Resting(Rest::Run(Some(()))),
+            Idle::Finished => Step::Finished,
+        }
+    }
+
+    /// Whether the task was not polled yet.
+    #[inline(always)]
+    pub(crate) fn is_new(&self) -> bool
+        ensures { IsTrue result ↔ (self.now ≡ Idle.New) }
+    {
+        matches!(self, Idle::New)
+    }
+
+    /// Whether the last call ended with anything but Pending.
+    #[inline(always)]
+    pub(crate) fn is_over(&self) -> bool
+        ensures { result ≡ is_over self.now }
+    {
+        matches!(self, Idle::Finished)
+    }
+}
 
 /// A task of a cell, between two of its calls: its share of the cell, and where its next call begins.
 ///
@@ -159,6 +365,8 @@ impl<'a, 'r, T, W: TaskWaker + Drop, R> Task<'a, 'r, T, W, R> {
 }
 
 impl<'a, 'r, T, W: TaskWaker + Drop, R: Wait + AllocGlobal> Task<'a, 'r, T, W, R> {
+    ghost use Rattle.once_parts.specs.Tasks.{HasPolled};
+
     /// A whole poll. It may wait for the cell's lock, and for whatever the side waits for.
     ///
     /// The record grew, and its newest entry is the end of this poll with what is answered here. The task's own entries
@@ -173,7 +381,7 @@ impl<'a, 'r, T, W: TaskWaker + Drop, R: Wait + AllocGlobal> Task<'a, 'r, T, W, R
     /// self.task.poll(&mut self.side)
     /// ```
     #[inline(always)]
-    pub fn poll<S: TaskSide<W, Value = T, Right = Hand>>(&mut self, side: &mut S) -> Ending
+    pub fn poll<S: TaskSide<W, Value = T>>(&mut self, side: &mut S) -> Ending
         requires live { self.old.finished ≡ false }
         requires number { (S.state side.old).number ≡ self.old.number }
         requires none { (S.state side.old).woke ≡ [] }
@@ -199,29 +407,24 @@ impl<'a, 'r, T, W: TaskWaker + Drop, R: Wait + AllocGlobal> Task<'a, 'r, T, W, R
 
     // Begins the poll, and makes its steps.
     #[inline(always)]
-    fn poll_steps<S: TaskSide<W, Value = T, Right = Hand>>(&mut self, side: &mut S) -> Ending
+    fn poll_steps<S: TaskSide<W, Value = T>>(&mut self, side: &mut S) -> Ending
         requires live { self.old.finished ≡ false }
         requires number { (S.state side.old).number ≡ self.old.number }
         requires none { (S.state side.old).woke ≡ [] }
         requires init { (S.state side.old).has_init ≡ true }
         ensures cell { self.new.cell ≡ self.old.cell }
-        ensures number { self.new.number ≡ self.old.number }
-        ensures init { result ≡ Ending.Pending → (S.state side.new).has_init ≡ true }
-        ensures end { Grew (end_of self.new.number result ∷ []) self.old.log self.new.log }
-        ensures spans { Spans self.new.number (end_of self.new.number result) self.old.log self.new.log }
-        ensures call { (mid : List Entry)
-            × IsCall self.new.number (Begin self.new.number self.new.number) (end_of self.new.number result) mid
-            self.old.log self.new.log × ((S.state side.new).woke ≡ handed mid) }
-        ensures error { result ≡ Ending.Error → (S.state side.new).has_error ≡ true }
-        ensures finished { (result ≡ Ending.Pending) ↔ (self.new.finished ≡ false) }
-        ensures not_dropped { result ≡ Ending.Dropped → ⊥ }
+        ensures polled { HasPolled (S.state side.new) result self.old self.new }
         ensures stays { S.stays side.old side.new }
     {
         self.parts.begin();
-        if self.idle.is_new() {
-            return start(&mut self.parts, &mut self.idle, side);
+        // The ways copy the waker under the lock.
+        if !S::copies_under_lock() {
+            return self.parts.by_machine(&mut self.idle, side);
         }
-        later(&mut self.parts, &mut self.idle, side)
+        if self.idle.is_new() {
+            return self.parts.at_start(&mut self.idle, side);
+        }
+        self.parts.later(&mut self.idle, side)
     }
 
     /// A whole drop of a task that is not finished. It may wait as [`poll`](Self::poll), and as much is said of
@@ -231,7 +434,7 @@ impl<'a, 'r, T, W: TaskWaker + Drop, R: Wait + AllocGlobal> Task<'a, 'r, T, W, R
     /// self.side.begin();
     /// self.task.leave(&mut self.side);
     /// ```
-    pub fn leave<S: TaskSide<W, Value = T, Right = Hand>>(&mut self, side: &mut S)
+    pub fn leave<S: TaskSide<W, Value = T>>(&mut self, side: &mut S)
         requires live { self.old.finished ≡ false }
         requires number { (S.state side.old).number ≡ self.old.number }
         requires none { (S.state side.old).woke ≡ [] }
@@ -262,4 +465,60 @@ fn answered_where_set(seen: &Record)
         → (e ≡ Ending.Dropped → ⊥) → e ≡ Ending.Value }
 {
     seen.again().learn(seen);
+}
+
+/// Makes one step of the call that is under way. It may wait as [`Task::poll`](crate::task::Task::poll). `told` is
+/// what the last step told, for the contract alone.
+///
+/// ```
+/// while step.left() > 0 {
+///     told = one_step(parts, step, side, told);
+/// }
+/// ```
+#[inline(always)]
+pub fn one_step<T, W: TaskWaker + Drop, R: Wait + AllocGlobal, S: TaskSide<W, Value = T>>(
+    parts: &mut Shared<'_, '_, T, W, R>,
+    step: &mut Step<W, ()>,
+    side: &mut S,
+    told: Progress,
+) -> Progress
+    requires call { in_call step.old ≡ true }
+    requires stands { (drops : Bool) × Stands W.whose drops (S.state side.old) (own parts.old) told step.old }
+    ensures cell { cell_of parts.new ≡ cell_of parts.old }
+    ensures lower { left_of step.new < left_of step.old }
+    ensures walked { (x : Sided) → (v : Own) → Walked x v told (S.state side.old) (own parts.old)
+        → Walked x v result (S.state side.new) (own parts.new) }
+    ensures stands { (drops : Bool) → Stands W.whose drops (S.state side.old) (own parts.old) told step.old
+        → Stands W.whose drops (S.state side.new) (own parts.new) result step.new }
+    ensures stays { S.stays side.old side.new }
+{
+    let _ = told;
+    step.advance(parts, side)
+}
+
+/// Makes the steps that are left of the call, and answers how it ended. There are at most sixteen. `told` is what
+/// the last step so far told.
+#[inline(always)]
+pub(crate) fn go_on<T, W: TaskWaker + Drop, R: Wait + AllocGlobal, S: TaskSide<W, Value = T>>(
+    parts: &mut Shared<'_, '_, T, W, R>,
+    step: &mut Step<W, ()>,
+    side: &mut S,
+    mut told: Progress,
+) -> Ending
+    requires stands { (drops : Bool) × Stands W.whose drops (S.state side.old) (own parts.old) told step.old }
+    ensures cell { cell_of parts.new ≡ cell_of parts.old }
+    ensures over { in_call step.new ≡ false }
+    ensures walked { (x : Sided) → (v : Own) → Walked x v told (S.state side.old) (own parts.old)
+        → Walked x v (Progress.Ended result) (S.state side.new) (own parts.new) }
+    ensures stands { (drops : Bool) → Stands W.whose drops (S.state side.old) (own parts.old) told step.old
+        → Stands W.whose drops (S.state side.new) (own parts.new) (Progress.Ended result) step.new }
+    ensures stays { S.stays side.old side.new }
+{
+    while step.left() > 0 {
+        told = one_step(parts, step, side, told);
+    }
+    let Progress::Ended(ending) = told else {
+        unreachable!()
+    };
+    ending
 }

@@ -4,34 +4,37 @@
 //! poll that meets others.
 //!
 //! [`Step::advance`](once_core::step::Step::advance) stays the one machine. A way may leave to it at any place, by
-//! [`steps_left`](crate::calls::steps_left), and each step of a way is the line of the table that `advance` has for
-//! its place.
+//! `steps_left`, and each step of a way is the line of the table that `advance` has for its place.
 //!
 //! While the lock is held, nothing of the caller's own is dropped or called: such a function answers how far it came,
 //! as [`Reached`], and puts the wakers that it took aside, as [`Spent`]. Who let the lock go then closes the init.
 ghost use Rattle.std.specs.Prelude.{◌≡◌, false};
-ghost use Rattle.once_core.specs.Steps.{leave_place, step_of_poll};
+ghost use Rattle.once_core.specs.Steps.{is_value, leave_place, release_place};
 ghost use Rattle.once_parts.specs.Idle.{is_over, step_of};
 ghost use Rattle.once_parts.specs.Shares.{cell_of, own};
 ghost use Rattle.once_parts.specs.Own.{Own};
 ghost use Rattle.once_parts.specs.Sides.{Sided};
 ghost use Rattle.once_parts.specs.Walks.{Stands};
-ghost use Rattle.once_parts.specs.Ways.{Leads, LeadsBy, StandsBy, next_by};
+ghost use Rattle.once_parts.specs.Ways.{Ends, IsAt, IsBegun, IsUnder, Leads, LeadsBy, StandsBy, next_by};
+ghost use Rattle.std.specs.Option.{MatchOption};
+ghost use Rattle.once_queue.specs.declared.waiters.Answer.{Answer};
+ghost use Rattle.once_queue.specs.declared.waiters.Op.{Op};
+ghost use Rattle.once_core.specs.Table.{Section, Was};
+ghost use Rattle.once_parts.specs.Hands.{own_of};
+ghost use Rattle.once_parts.specs.Parts.{CanCall, DidCall};
 
-mod door;
-mod holder;
-mod quick;
 mod waiter;
 
-use crate::calls::steps_left;
-use crate::hand::Hand;
-use crate::idle::Idle;
-use crate::mark::TaskWaker;
-use crate::shared::Shared;
-use crate::side::TaskSide;
-use once_core::step::{Ending, Place, Progress, Rest, Step};
-pub(crate) use quick::start;
+use crate::hand::{Hand, TaskWaker};
+use crate::shared::{Inner, Shared};
+use crate::task::{Idle, TaskSide, go_on};
+use once_core::parts::Parts;
+use once_core::step::{Ending, Place, Polled, Progress, Rest, Step};
+use once_queue::waiters::Out;
+use once_queue::word::Word;
+use pagebook::Key;
 use std::alloc::AllocGlobal;
+use std::marker::Brand;
 use std::mem;
 use std::sync::Wait;
 
@@ -69,70 +72,328 @@ impl<W: Drop> Spent<W> {
     }
 }
 
-/// A poll of a task that was polled before.
-#[inline(never)]
-pub(crate) fn later<
-    T,
-    W: TaskWaker + Drop,
-    R: Wait + AllocGlobal,
-    S: TaskSide<W, Value = T, Right = Hand>,
->(parts: &mut Shared<'_, '_, T, W, R>, idle: &mut Idle, side: &mut S) -> Ending
-    requires live { is_over idle.old ≡ false }
-    requires stands { Stands W.whose false (S.state side.old) (own parts.old) Progress.More
-        (step_of_poll (step_of idle.old)) }
-    ensures cell { cell_of parts.new ≡ cell_of parts.old }
-    ensures leads { Leads W.whose (S.state side.old) (own parts.old) (Progress.Ended result) (step_of idle.new)
-        (S.state side.new) (own parts.new) }
-    ensures stays { S.stays side.old side.new }
-{
-    match *idle {
-        Idle::Listed(ticket) => waiter::wait(parts, idle, Some(ticket), side),
-        Idle::Unlisted => waiter::wait(parts, idle, None, side),
-        Idle::Quick => holder::hold(parts, idle, None, side),
-        Idle::Queued => holder::hold(parts, idle, Some(()), side),
-        _ => {
-            let mut step = idle.step();
-            step.begin();
-            steps_left(parts, idle, step, side)
-        }
-    }
-}
-
-// Goes on, with the lock free, from where the steps under it led.
-#[inline(always)]
-fn go_on_from<
-    T,
-    W: TaskWaker + Drop,
-    R: Wait + AllocGlobal,
-    S: TaskSide<W, Value = T, Right = Hand>,
->(parts: &mut Shared<'_, '_, T, W, R>, idle: &mut Idle, reached: Reached, side: &mut S) -> Ending
-    requires stands { StandsBy W.whose (next_by reached) (S.state side.old) (own parts.old) }
-    ensures cell { cell_of parts.new ≡ cell_of parts.old }
-    ensures leads { (x : Sided) → (v : Own)
-        → LeadsBy W.whose x v (next_by reached) (S.state side.old) (own parts.old)
-        → Leads W.whose x v (Progress.Ended result) (step_of idle.new) (S.state side.new) (own parts.new) }
-    ensures stays { S.stays side.old side.new }
-{
-    match reached {
-        Reached::Ready => {
-            side.close();
-            waiter::count_out(parts, idle, Ending::Value, side)
-        }
-        Reached::Claimed => holder::hold(parts, idle, Some(()), side),
-        Reached::Waits(ticket) => {
-            *idle = Idle::of(Step::<W, ()>::Resting(Rest::Wait((), ticket)));
-            Ending::Pending
-        }
-        Reached::Ended(ending) => {
+impl<T, W: TaskWaker + Drop, R: Wait + AllocGlobal> Shared<'_, '_, T, W, R> {
+    /// A first poll, from its load on.
+    #[inline(always)]
+    pub(crate) fn at_start<S: TaskSide<W, Value = T>>(
+        &mut self,
+        idle: &mut Idle,
+        side: &mut S,
+    ) -> Ending
+        requires stands { IsAt W.whose S.state Place.Start self.old side.old }
+        ensures cell { cell_of self.new ≡ cell_of self.old }
+        ensures leads { Ends W.whose S.state self.old side.old result idle.new self.new side.new }
+        ensures stays { S.stays side.old side.new }
+    {
+        let word = Word::from_bits(self.load());
+        if word.is_ready() {
             side.close();
             *idle = Idle::Finished;
-            ending
+            return Ending::Value;
         }
-        Reached::Refused(ticket) => {
-            side.close();
-            steps_left(parts, idle, Step::UnderWay(leaving(ticket)), side)
+        if !word.is_new() {
+            return self.at_door_get(idle, side);
         }
-        Reached::NoQueue => steps_left(parts, idle, Step::UnderWay(Place::DoorPut), side),
+        self.at_try_quick(idle, side)
+    }
+
+    // The quick claim.
+    #[inline(always)]
+    fn at_try_quick<S: TaskSide<W, Value = T>>(&mut self, idle: &mut Idle, side: &mut S) -> Ending
+        requires stands { IsAt W.whose S.state Place.TryQuick self.old side.old }
+        ensures cell { cell_of self.new ≡ cell_of self.old }
+        ensures leads { Ends W.whose S.state self.old side.old result idle.new self.new side.new }
+        ensures stays { S.stays side.old side.new }
+    {
+        if !self.quick() {
+            return self.at_door_get(idle, side);
+        }
+        self.at_run(idle, None, side)
+    }
+
+    /// A poll of a task that was polled before.
+    #[inline(never)]
+    pub(crate) fn later<S: TaskSide<W, Value = T>>(
+        &mut self,
+        idle: &mut Idle,
+        side: &mut S,
+    ) -> Ending
+        requires live { is_over idle.old ≡ false }
+        requires stands { IsBegun W.whose S.state idle.old self.old side.old }
+        ensures cell { cell_of self.new ≡ cell_of self.old }
+        ensures leads { Ends W.whose S.state self.old side.old result idle.new self.new side.new }
+        ensures stays { S.stays side.old side.new }
+    {
+        match *idle {
+            Idle::Listed(ticket) => self.at_wait_load(idle, Some(ticket), side),
+            Idle::Unlisted => self.at_wait_load(idle, None, side),
+            Idle::Quick => self.hold(idle, None, side),
+            Idle::Queued => self.hold(idle, Some(()), side),
+            _ => self.by_machine(idle, side),
+        }
+    }
+
+    /// A whole poll by the machine.
+    #[inline(never)]
+    pub(crate) fn by_machine<S: TaskSide<W, Value = T>>(
+        &mut self,
+        idle: &mut Idle,
+        side: &mut S,
+    ) -> Ending
+        requires live { is_over idle.old ≡ false }
+        requires stands { IsBegun W.whose S.state idle.old self.old side.old }
+        ensures cell { cell_of self.new ≡ cell_of self.old }
+        ensures leads { Ends W.whose S.state self.old side.old result idle.new self.new side.new }
+        ensures stays { S.stays side.old side.new }
+    {
+        let mut step = idle.step();
+        step.begin();
+        self.steps_left(idle, step, side)
+    }
+
+    // Makes the steps that are left of a poll, and keeps where the next call begins.
+    #[inline(never)]
+    fn steps_left<S: TaskSide<W, Value = T>>(
+        &mut self,
+        idle: &mut Idle,
+        mut step: Step<W, ()>,
+        side: &mut S,
+    ) -> Ending
+        requires stands { Stands W.whose false (S.state side.old) (own self.old) Progress.More step }
+        ensures cell { cell_of self.new ≡ cell_of self.old }
+        ensures leads { Ends W.whose S.state self.old side.old result idle.new self.new side.new }
+        ensures stays { S.stays side.old side.new }
+    {
+        let ending = go_on(self, &mut step, side, Progress::More);
+        *idle = Idle::of(step);
+        ending
+    }
+
+    // Goes on, with the lock free, from where the steps under it led.
+    #[inline(always)]
+    fn go_on_from<S: TaskSide<W, Value = T>>(
+        &mut self,
+        idle: &mut Idle,
+        reached: Reached,
+        side: &mut S,
+    ) -> Ending
+        requires stands { StandsBy W.whose (next_by reached) (S.state side.old) (own self.old) }
+        ensures cell { cell_of self.new ≡ cell_of self.old }
+        ensures leads { (x : Sided) → (v : Own)
+            → LeadsBy W.whose x v (next_by reached) (S.state side.old) (own self.old)
+            → Leads W.whose x v (Progress.Ended result) (step_of idle.new) (S.state side.new) (own self.new) }
+        ensures stays { S.stays side.old side.new }
+    {
+        match reached {
+            Reached::Ready => {
+                side.close();
+                self.at_count_out(idle, Ending::Value, side)
+            }
+            Reached::Claimed => self.hold(idle, Some(()), side),
+            Reached::Waits(ticket) => {
+                *idle = Idle::of(Step::<W, ()>::Resting(Rest::Wait((), ticket)));
+                Ending::Pending
+            }
+            Reached::Ended(ending) => {
+                side.close();
+                *idle = Idle::Finished;
+                ending
+            }
+            Reached::Refused(ticket) => {
+                side.close();
+                self.steps_left(idle, Step::UnderWay(leaving(ticket)), side)
+            }
+            Reached::NoQueue => self.steps_left(idle, Step::UnderWay(Place::DoorPut), side),
+        }
+    }
+
+    /// A holder that has not claimed by the first steps of this poll: it held before, or claimed under the lock.
+    #[inline(never)]
+    fn hold<S: TaskSide<W, Value = T>>(
+        &mut self,
+        idle: &mut Idle,
+        by: Option<()>,
+        side: &mut S,
+    ) -> Ending
+        requires stands { IsAt W.whose S.state (Place.Run by) self.old side.old }
+        ensures cell { cell_of self.new ≡ cell_of self.old }
+        ensures leads { Ends W.whose S.state self.old side.old result idle.new self.new side.new }
+        ensures stays { S.stays side.old side.new }
+    {
+        self.at_run(idle, by, side)
+    }
+
+    /// The poll of the init.
+    #[inline(always)]
+    fn at_run<S: TaskSide<W, Value = T>>(
+        &mut self,
+        idle: &mut Idle,
+        by: Option<()>,
+        side: &mut S,
+    ) -> Ending
+        requires stands { IsAt W.whose S.state (Place.Run by) self.old side.old }
+        ensures cell { cell_of self.new ≡ cell_of self.old }
+        ensures leads { Ends W.whose S.state self.old side.old result idle.new self.new side.new }
+        ensures stays { S.stays side.old side.new }
+    {
+        match self.run(side) {
+            Polled::Pending => {
+                *idle = Idle::of(Step::<W, ()>::Resting(Rest::Run(by)));
+                Ending::Pending
+            }
+            Polled::Value => {
+                side.close();
+                self.at_put(idle, by, side)
+            }
+            Polled::Error => {
+                side.close();
+                self.give_back(idle, by, Ending::Error, side)
+            }
+        }
+    }
+
+    // The value is set.
+    #[inline(always)]
+    fn at_put<S: TaskSide<W, Value = T>>(
+        &mut self,
+        idle: &mut Idle,
+        by: Option<()>,
+        side: &mut S,
+    ) -> Ending
+        requires stands { IsAt W.whose S.state (Place.Put by) self.old side.old }
+        ensures cell { cell_of self.new ≡ cell_of self.old }
+        ensures leads { Ends W.whose S.state self.old side.old result idle.new self.new side.new }
+        ensures stays { S.stays side.old side.new }
+    {
+        self.put(side.put());
+        self.give_back(idle, by, Ending::Value, side)
+    }
+
+    // The right is given back.
+    #[inline(always)]
+    fn give_back<S: TaskSide<W, Value = T>>(
+        &mut self,
+        idle: &mut Idle,
+        by: Option<()>,
+        ending: Ending,
+        side: &mut S,
+    ) -> Ending
+        requires stands { IsAt W.whose S.state (release_place by ending) self.old side.old }
+        ensures cell { cell_of self.new ≡ cell_of self.old }
+        ensures leads { Ends W.whose S.state self.old side.old result idle.new self.new side.new }
+        ensures stays { S.stays side.old side.new }
+    {
+        match by {
+            None => self.at_fast(idle, ending, side),
+            Some(()) => self.at_release(idle, ending, side),
+        }
+    }
+
+    // The fast release.
+    #[inline(always)]
+    fn at_fast<S: TaskSide<W, Value = T>>(
+        &mut self,
+        idle: &mut Idle,
+        ending: Ending,
+        side: &mut S,
+    ) -> Ending
+        requires stands { IsAt W.whose S.state (Place.Fast ending) self.old side.old }
+        ensures cell { cell_of self.new ≡ cell_of self.old }
+        ensures leads { Ends W.whose S.state self.old side.old result idle.new self.new side.new }
+        ensures stays { S.stays side.old side.new }
+    {
+        let filled = ending.is_value();
+        if !self.fast(filled) {
+            return self.at_add_one(idle, ending, side);
+        }
+        if filled {
+            return self.at_door_take(idle, ending, side);
+        }
+        *idle = Idle::Finished;
+        ending
+    }
+
+    // A quick holder that met others counts in. It gives the right back under the lock, if their queue is at the door.
+    #[inline(never)]
+    fn at_add_one<S: TaskSide<W, Value = T>>(
+        &mut self,
+        idle: &mut Idle,
+        ending: Ending,
+        side: &mut S,
+    ) -> Ending
+        requires stands { IsAt W.whose S.state (Place.AddOne ending) self.old side.old }
+        ensures cell { cell_of self.new ≡ cell_of self.old }
+        ensures leads { Ends W.whose S.state self.old side.old result idle.new self.new side.new }
+        ensures stays { S.stays side.old side.new }
+    {
+        self.add_one();
+        match self
+            .inner
+            .released_again::<Brand, R, S>(self.rt, &mut self.hand, ending, side)
+        {
+            Some(out) => {
+                side.wake(out);
+                self.at_count_out(idle, ending, side)
+            }
+            None => self.at_count_out(idle, ending, side),
+        }
+    }
+
+    // A holder that has the queue gives the right back under the lock.
+    #[inline(always)]
+    fn at_release<S: TaskSide<W, Value = T>>(
+        &mut self,
+        idle: &mut Idle,
+        ending: Ending,
+        side: &mut S,
+    ) -> Ending
+        requires stands { IsAt W.whose S.state (Place.Release tt ending) self.old side.old }
+        ensures cell { cell_of self.new ≡ cell_of self.old }
+        ensures leads { Ends W.whose S.state self.old side.old result idle.new self.new side.new }
+        ensures stays { S.stays side.old side.new }
+    {
+        let out = self
+            .inner
+            .released::<Brand, R>(self.rt, &mut self.hand, ending.is_value());
+        side.wake(out);
+        self.at_count_out(idle, ending, side)
+    }
+
+    /// The task counts out, and where it is the last at a cell that is set, it takes the queue away.
+    #[inline(always)]
+    fn at_count_out<S: TaskSide<W, Value = T>>(
+        &mut self,
+        idle: &mut Idle,
+        ending: Ending,
+        side: &S,
+    ) -> Ending
+        requires stands { IsAt W.whose S.state (Place.CountOut ending) self.old side.now }
+        ensures cell { cell_of self.new ≡ cell_of self.old }
+        ensures leads { Ends W.whose S.state self.old side.now result idle.new self.new side.now }
+    {
+        if Word::from_bits(self.count_out()).is_ready_alone() {
+            return self.at_door_take(idle, ending, side);
+        }
+        *idle = Idle::Finished;
+        ending
+    }
+
+    /// The queue is taken out of the door, and the poll ends so.
+    #[inline(always)]
+    fn at_door_take<S: TaskSide<W, Value = T>>(
+        &mut self,
+        idle: &mut Idle,
+        ending: Ending,
+        side: &S,
+    ) -> Ending
+        requires stands { IsAt W.whose S.state (Place.DoorTake ending) self.old side.now }
+        ensures cell { cell_of self.new ≡ cell_of self.old }
+        ensures leads { Ends W.whose S.state self.old side.now result idle.new self.new side.now }
+    {
+        let _ = side;
+        self.door_take();
+        *idle = Idle::Finished;
+        ending
     }
 }
 
@@ -144,5 +405,52 @@ fn leaving<W>(ticket: Option<u64>) -> Place<W, ()>
     match ticket {
         None => Place::CountOut(Ending::Memory),
         Some(ticket) => Place::Leave((), ticket, Ending::Memory),
+    }
+}
+
+impl<T, W: TaskWaker + Drop> Inner<T, W> {
+    // The release of a holder that has the queue.
+    #[inline(always)]
+    fn released<J: Key, R: Wait>(&self, rt: &R, hand: &mut Hand, ready: bool) -> Out<W>
+        requires key { self.now.desk ≡ J.key }
+        requires book { hand.old.seen.book ≡ J.key }
+        requires can { CanCall W.whose (own_of hand.old).task.step (Section tt (Op.Release ready)) }
+        ensures book { hand.new.seen.book ≡ hand.old.seen.book }
+        ensures did { DidCall W.whose (own_of hand.old)
+            (Was tt (Op.Release ready) (Answer.Released result) (Op.Release ready)) (own_of hand.new) }
+    {
+        let mut tied = self.desk.lock::<J, R>(rt);
+        tied.value.release(&self.word, hand, ready)
+    }
+
+    // The second look at the door, and the release in the same hold of the lock, if a queue stands there.
+    #[inline(always)]
+    fn released_again<J: Key, R: Wait, S: TaskSide<W, Value = T>>(
+        &self,
+        rt: &R,
+        hand: &mut Hand,
+        ending: Ending,
+        side: &S,
+    ) -> Option<Out<W>>
+        requires key { self.now.desk ≡ J.key }
+        requires book { hand.old.seen.book ≡ J.key }
+        requires stands { IsUnder W.whose S.state (Place.DoorAgain ending) hand.old side.now }
+        ensures book { hand.new.seen.book ≡ hand.old.seen.book }
+        ensures leads { MatchOption result
+            (Leads W.whose (S.state side.now) (own_of hand.old) Progress.More (Step.UnderWay (Place.CountOut ending))
+            (S.state side.now) (own_of hand.new))
+            (λ out. (mid : Own)
+            × Leads W.whose (S.state side.now) (own_of hand.old) Progress.More
+            (Step.UnderWay (Place.Release tt ending)) (S.state side.now) mid
+            × DidCall W.whose mid
+            (Was tt (Op.Release (is_value ending)) (Answer.Released out) (Op.Release (is_value ending)))
+            (own_of hand.new)) }
+    {
+        let _ = side;
+        let mut tied = self.desk.lock::<J, R>(rt);
+        if !tied.value.get(hand) {
+            return None;
+        }
+        Some(tied.value.release(&self.word, hand, ending.is_value()))
     }
 }

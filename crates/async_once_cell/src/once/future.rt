@@ -25,7 +25,7 @@ use crate::init::Init;
 use crate::waiting::Waiting;
 use futures::Future;
 use futures::task::{Context, Poll};
-use once_parts::record::{is_run, polls_once};
+use once_parts::book::{is_run, polls_once};
 use once_parts::{Pollable, Record};
 use std::alloc::AllocGlobal;
 use std::fmt;

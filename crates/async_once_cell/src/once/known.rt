@@ -13,7 +13,7 @@ ghost use Rattle.async_once_cell.specs.Tokens.{IsSetIn, Learns, Lends, Looks};
 use super::OnceCell;
 use super::value::Value;
 use once_parts::Record;
-use once_parts::record::{is_run, polls_once, stays_set};
+use once_parts::book::{is_run, polls_once, stays_set};
 use pagebook::Written;
 use std::fmt;
 use std::marker::Model;

@@ -1,17 +1,19 @@
 -- What a whole poll of a task leaves.
 use Rattle.std.proofs.Common.{◌≡◌, ℕ, false, true, List, [], ◌∷◌, ◌++◌, append_assoc, refl, sym, ap, ◌∙◌, subst}
-use Rattle.std.specs.Prelude.{◌↔◌, ⊤}
+use Rattle.std.specs.Prelude.{Bool, ⊤}
+use Rattle.pagebook.specs.Slot.{Placed}
 use Rattle.std.proofs.lemmas.Bool.{false≢true}
 use Rattle.once_core.specs.Steps.{step_of_poll}
-use Rattle.once_world.specs.Places.{EndDropped, EndError, EndPending, Ended, Ending, Finished, More, Step}
+use Rattle.once_world.specs.Places.{EndPending, Ended, Ending, Finished, More, Step}
 use Rattle.once_world.specs.Record.{Begin, Entry}
-use Rattle.once_parts.specs.declared.idle.Idle.{Idle}
+use Rattle.once_parts.specs.declared.task.Idle.{Idle}
 use Rattle.once_parts.specs.Idle.{is_over, step_of}
 use Rattle.once_parts.specs.Kept.{Grew, entries_of}
 use Rattle.once_parts.specs.Own.{Own, Turned}
 use Rattle.once_parts.specs.Places.{task_begun}
 use Rattle.once_parts.specs.Sides.{Sided}
-use Rattle.once_parts.specs.Walks.{IsCall, Spans, Stands, StandsOn, Walked, end_of, handed}
+use Rattle.once_parts.specs.Tasks.{HasPolled}
+use Rattle.once_parts.specs.Walks.{Spans, Stands, StandsOn, Walked, end_of, handed}
 use Rattle.once_parts.proofs.Idles.{live, not_in_call, over, rests}
 use Rattle.once_parts.proofs.Walk.Begins.{grew_from, poll_begins}
 use Rattle.once_parts.proofs.Walk.Ends.{poll_ended}
@@ -40,23 +42,11 @@ spans_of t e u v w began ended = record {
       ∙ append_assoc (began.0 ++ Begin t t ∷ []) ended.1.0 (e ∷ []) ∙ append_assoc began.0 (Begin t t ∷ []) (ended.1.0 ++ e ∷ []);
 }
 
--- a poll ended so, and the task is at this
-pub record Polled {W : Type 0} (whose : W → ℕ) (y : Sided) (u w : Own) (e : Ending) (i : Idle) : Type 0 where
-  pub number : w.number ≡ u.number
-  pub end : Grew (end_of w.number e ∷ []) u.log w.log
-  pub spans : Spans w.number (end_of w.number e) u.log w.log
-  pub call : (mid : List Entry) × IsCall w.number (Begin w.number w.number) (end_of w.number e) mid u.log w.log × (y.woke ≡ handed mid)
-  pub error : e ≡ EndError → y.has_error ≡ true
-  pub init : e ≡ EndPending → y.has_init ≡ true
-  pub finished : (e ≡ EndPending) ↔ (is_over i ≡ false)
-  pub poll : e ≡ EndDropped → ⊥
-  pub stands : StandsOn whose w (step_of i)
-
--- it began, and its steps were made
-pub polled : {W : Type 0} {whose : W → ℕ} {x y : Sided} {u v w : Own} {e : Ending} (i : Idle) → x.woke ≡ []
-    → Turned u (task_begun u.number u.task) (Begin u.number u.number ∷ []) v → Walked x v (Ended e) y w
-    → Stands whose false y w (Ended e) (step_of i) → Polled whose y u w e i
-polled {u = u} {v = v} {w = w} {e = e} i none begun walked stands =
+-- it began, and its steps were made: so it ended
+pub polled : {W : Type 0} {whose : W → ℕ} {x y : Sided} {u v w : Own} {e : Ending} (c d : Placed) (before : Bool) (i : Idle) → x.woke ≡ []
+    → Turned u (task_begun u.number u.task) (Begin u.number u.number ∷ []) v → Walked x v (Ended e) y w → Stands whose false y w (Ended e) (step_of i)
+    → HasPolled y e (record { cell = c; number = u.number; log = u.log; finished = before }) (record { cell = d; number = w.number; log = w.log; finished = is_over i })
+polled {u = u} {v = v} {w = w} {e = e} c d before i none begun walked stands =
     let seen = grew_on _ _ _ begun.log in
     let ended = poll_ended refl (step_of i) walked stands (not_in_call _ i) in
     record {
@@ -75,6 +65,5 @@ polled {u = u} {v = v} {w = w} {e = e} i none begun walked stands =
       error = ended.error;
       init = ended.init;
       finished = (λ p. live _ i (ended.pending p).0, told_pending e i ended.finished);
-      poll = ended.poll;
-      stands = stands.step;
+      not_dropped = ended.poll;
     }

@@ -1,5 +1,5 @@
 -- Each step of a straight way is its line of the table, whether it is made under the lock or not.
-use Rattle.std.proofs.Common.{◌≡◌, ℕ, Bool, true, false, [], Option, None, refl, sym, ap, subst}
+use Rattle.std.proofs.Common.{◌≡◌, ℕ, Bool, true, false, [], Option, None, Some, refl, sym, ap, subst}
 use Rattle.std.specs.Prelude.{⊤}
 use Rattle.std.proofs.lemmas.Bool.{false≢true}
 use Rattle.pagebook.specs.Slot.{Placed}
@@ -10,13 +10,15 @@ use Rattle.once_queue.specs.declared.waiters.Op.{Op}
 use Rattle.once_queue.specs.declared.waiters.Out.{Out}
 use Rattle.once_queue.specs.declared.waiters.Op.TheVariants.{Look, List as ListOwn, Release, Leave}
 use Rattle.once_core.specs.declared.step.Polled.{Polled}
-use Rattle.once_core.specs.Steps.{MayClose, is_value, release_place}
+use Rattle.once_core.specs.Steps.{MayClose, is_value, release_place, step_of_poll}
 use Rattle.once_core.specs.Table.{Call, Load, Quick, Fast, CountIn, AddOne, CountOut, DoorGet, DoorPut, DoorTake, Section, Refuse, Run, Put}
 use Rattle.once_core.specs.Table.{Told, Loaded, TriedQuick, TriedFast, CountedIn, Added, CountedOut, Got, PutQueue, Taken, Was, Refused, Ran, PutValue}
 use Rattle.once_core.specs.Table.{GoesOn, Line, Looked, MayRefuse, Next, SideDid, Tells, after, after_copy, after_fast, after_list, after_run, call_at, next_at, next_rest, wants_copy}
 use Rattle.once_world.specs.Places.{EndValue, Ending, More, Progress, RestWait, Step, UnderWay}
-use Rattle.once_world.specs.Places.{Place, AtLook}
+use Rattle.once_world.specs.Places.{Place, AtList, AtLook}
 use Rattle.once_world.specs.Places.{AtRun, AtPut, AtFast, AtAddOne, AtDoorAgain, AtRelease, AtCountOut}
+use Rattle.once_parts.specs.declared.task.Idle.{Idle}
+use Rattle.once_parts.specs.Idle.{step_of}
 use Rattle.once_parts.specs.Own.{Own}
 use Rattle.once_parts.specs.Parts.{DidCall, parts_did}
 use Rattle.once_parts.specs.Sides.{HasClosed, HasCopied, HasPut, HasRun, HasWoken, Sided, sided_tells}
@@ -128,6 +130,11 @@ module _ {W : Type 0} (whose : W → ℕ) where
           subst (λ b. Looked Tell (sided_tells whose (λ (z : Sided). z)) b (AtLook tt k) e w x n.progress n.step w y) (sym calm) (refl, goes),
         )
 
+    -- a listing
+    pub listed : (k k' : Option ℕ) (u : W) (a : Answer W) (o : Option W) (n : Next W ⊤) → Stands whose false x v More (UnderWay (AtList tt k u))
+        → DidCall whose v (Was tt (ListOwn k (Some u)) a (ListOwn k' o)) w → after_list a tt k' ≡ n → y ≡ closed_if n.closes x → Leads whose x v n.progress n.step y w
+    listed k k' u a o n is did leads closed = led (AtList tt k u) (Was tt (ListOwn k (Some u)) a (ListOwn k' o)) n refl refl (a, ListOwn k' o, refl) is did leads closed
+
     -- the init is polled, and answers so
     pub ran : (by : Option ⊤) (a : Polled) (m : Sided) → Stands whose false x v More (UnderWay (AtRun by)) → DidCall whose v (Ran a) w
         → HasRun x a m → y ≡ closed_if (after_run {W = W} a by).closes m → Leads whose x v (after_run {W = W} a by).progress (after_run a by).step y w
@@ -155,6 +162,10 @@ module _ {W : Type 0} (whose : W → ℕ) where
     copied k Listed o c r l i is did copy may closed = absurd (i refl)
     copied k a o c r l i is did copy may closed = led_by x y v w (AtLook tt k) (after_copy c tt (ticket_in o)) is
         (a, o, n, (refl, did), (c, m, copy, may, (closes (after_copy {W = W} c tt (ticket_in o)).closes m y closed, refl, refl)))
+
+  -- a poll begins at the place of the rest that was found
+  pub begun : {x : Sided} {v : Own} {i j : Idle} → i ≡ j → Stands whose false x v More (step_of_poll (step_of i)) → Stands whose false x v More (step_of_poll (step_of j))
+  begun {x} {v} is stands = subst (λ (i : Idle). Stands whose false x v More (step_of_poll (step_of i))) is stands
 
   -- one step, or some, after others
   pub onward : {x y z : Sided} {u v w : Own} {at s : Step W ⊤} {r : Progress} → Leads whose x u More at y v → Leads whose y v r s z w → Leads whose x u r s z w

@@ -1,191 +1,341 @@
-//! The way of a waiter: its later poll, and what it does under the lock, where a new waiter goes on too.
-ghost use Rattle.std.specs.Prelude.{◌≡◌, false};
+//! The way of a waiter: of a new task that met others, from the door to its listing, in one hold of the lock, or in two
+//! if it has to bring the queue; and of its later poll.
+ghost use Rattle.std.specs.Prelude.{◌≡◌, false, None, []};
 ghost use Rattle.once_parts.specs.Hands.{own_of};
 ghost use Rattle.once_parts.specs.Idle.{step_of};
 ghost use Rattle.once_parts.specs.Shares.{cell_of, own};
 ghost use Rattle.once_parts.specs.Walks.{Stands, StandsOn};
-ghost use Rattle.once_parts.specs.Ways.{Leads, LeadsBy, next_by};
+ghost use Rattle.once_parts.specs.Ways.{Ends, IsAt, IsUnder, Reaches};
+ghost use Rattle.once_queue.specs.Room.{listings_of};
 
-use super::{Reached, Spent, go_on_from};
-use crate::calls::steps_left;
+use super::{Reached, Spent};
 use crate::desk::Desk;
-use crate::hand::Hand;
-use crate::idle::Idle;
-use crate::inner::Inner;
-use crate::mark::TaskWaker;
-use crate::shared::Shared;
-use crate::side::TaskSide;
-use once_core::parts::Parts;
+use crate::hand::{Hand, TaskWaker};
+use crate::shared::{Inner, Shared};
+use crate::task::{Idle, TaskSide};
+use once_core::parts::{Counted, Parts};
 use once_core::step::{Ending, Place, Progress, Rest, Step};
-use once_queue::waiters::Answer;
+use once_queue::waiters::{Answer, Lists};
 use once_queue::word::Word;
 use pagebook::Key;
 use std::alloc::AllocGlobal;
 use std::marker::Brand;
 use std::sync::Wait;
 
-/// A later poll, from its load on.
-#[inline(always)]
-pub(super) fn wait<
-    T,
-    W: TaskWaker + Drop,
-    R: Wait + AllocGlobal,
-    S: TaskSide<W, Value = T, Right = Hand>,
->(parts: &mut Shared<'_, '_, T, W, R>, idle: &mut Idle, ticket: Option<u64>, side: &mut S) -> Ending
-    requires stands { Stands W.whose false (S.state side.old) (own parts.old) Progress.More
-        (Step.UnderWay (Place.WaitLoad tt ticket)) }
-    ensures cell { cell_of parts.new ≡ cell_of parts.old }
-    ensures leads { Leads W.whose (S.state side.old) (own parts.old) (Progress.Ended result) (step_of idle.new)
-        (S.state side.new) (own parts.new) }
-    ensures stays { S.stays side.old side.new }
-{
-    if Word::from_bits(parts.load()).is_ready() {
-        side.close();
-        return count_out(parts, idle, Ending::Value, side);
-    }
-    look_again(parts, idle, ticket, side)
-}
-
-/// The task counts out, and where it is the last at a cell that is set, it takes the queue away.
-#[inline(always)]
-pub(super) fn count_out<
-    T,
-    W: TaskWaker + Drop,
-    R: Wait + AllocGlobal,
-    S: TaskSide<W, Value = T, Right = Hand>,
->(parts: &mut Shared<'_, '_, T, W, R>, idle: &mut Idle, ending: Ending, side: &S) -> Ending
-    requires stands { Stands W.whose false (S.state side.now) (own parts.old) Progress.More
-        (Step.UnderWay (Place.CountOut ending)) }
-    ensures cell { cell_of parts.new ≡ cell_of parts.old }
-    ensures leads { Leads W.whose (S.state side.now) (own parts.old) (Progress.Ended result) (step_of idle.new)
-        (S.state side.now) (own parts.new) }
-{
-    if Word::from_bits(parts.count_out()).is_ready_alone() {
-        return door_take(parts, idle, ending, side);
-    }
-    *idle = Idle::Finished;
-    ending
-}
-
-/// The queue is taken out of the door, and the poll ends so.
-#[inline(always)]
-pub(super) fn door_take<
-    T,
-    W: TaskWaker + Drop,
-    R: Wait + AllocGlobal,
-    S: TaskSide<W, Value = T, Right = Hand>,
->(parts: &mut Shared<'_, '_, T, W, R>, idle: &mut Idle, ending: Ending, side: &S) -> Ending
-    requires stands { Stands W.whose false (S.state side.now) (own parts.old) Progress.More
-        (Step.UnderWay (Place.DoorTake ending)) }
-    ensures cell { cell_of parts.new ≡ cell_of parts.old }
-    ensures leads { Leads W.whose (S.state side.now) (own parts.old) (Progress.Ended result) (step_of idle.new)
-        (S.state side.now) (own parts.new) }
-{
-    let _ = side;
-    parts.door_take();
-    *idle = Idle::Finished;
-    ending
-}
-
-// The look of a later poll, and its listing, in one hold of the lock.
-#[inline(always)]
-fn look_again<
-    T,
-    W: TaskWaker + Drop,
-    R: Wait + AllocGlobal,
-    S: TaskSide<W, Value = T, Right = Hand>,
->(parts: &mut Shared<'_, '_, T, W, R>, idle: &mut Idle, ticket: Option<u64>, side: &mut S) -> Ending
-    requires stands { Stands W.whose false (S.state side.old) (own parts.old) Progress.More
-        (Step.UnderWay (Place.Look tt ticket)) }
-    ensures cell { cell_of parts.new ≡ cell_of parts.old }
-    ensures leads { Leads W.whose (S.state side.old) (own parts.old) (Progress.Ended result) (step_of idle.new)
-        (S.state side.new) (own parts.new) }
-    ensures stays { S.stays side.old side.new }
-{
-    if !S::copies_under_lock() {
-        return steps_left(parts, idle, Step::UnderWay(Place::Look((), ticket)), side);
-    }
-    let mut spent = None;
-    let reached = held::<Brand, T, W, R, S>(
-        parts.rt,
-        parts.inner,
-        &mut parts.hand,
-        ticket,
-        &mut spent,
-        side,
-    );
-    go_on_from(parts, idle, reached, side)
-}
-
-// Takes the lock for the look.
-#[inline(always)]
-fn held<J: Key, T, W: TaskWaker + Drop, R: Wait, S: TaskSide<W, Value = T, Right = Hand>>(
-    rt: &R,
-    inner: &Inner<T, W>,
-    hand: &mut Hand,
-    ticket: Option<u64>,
-    spent: &mut Option<Spent<W>>,
-    side: &mut S,
-) -> Reached
-    requires key { inner.now.desk ≡ J.key }
-    requires book { hand.old.seen.book ≡ J.key }
-    requires stands { Stands W.whose false (S.state side.old) (own_of hand.old) Progress.More
-        (Step.UnderWay (Place.Look tt ticket)) }
-    ensures book { hand.new.seen.book ≡ hand.old.seen.book }
-    ensures leads { LeadsBy W.whose (S.state side.old) (own_of hand.old) (next_by result)
-        (S.state side.new) (own_of hand.new) }
-    ensures stays { S.stays side.old side.new }
-{
-    let mut tied = inner.desk.lock::<J, R>(rt);
-    look(inner, &mut tied.value, hand, ticket, spent, side)
-}
-
-/// The look of a waiter under the lock. Who claims takes its waker out of the list. Who is listed renews the waker
-/// there. Where another task holds, the waiter copies its waker, and is listed.
-#[inline(always)]
-pub(super) fn look<T, W: TaskWaker + Drop, S: TaskSide<W, Value = T, Right = Hand>>(
-    inner: &Inner<T, W>,
-    desk: &mut Desk<W>,
-    hand: &mut Hand,
-    mut ticket: Option<u64>,
-    spent: &mut Option<Spent<W>>,
-    side: &mut S,
-) -> Reached
-    requires book { hand.old.seen.book ≡ inner.now.front.book }
-    requires desk { desk.old ≡ hand.old.seen.book }
-    requires stands { Stands W.whose false (S.state side.old) (own_of hand.old) Progress.More
-        (Step.UnderWay (Place.Look tt ticket)) }
-    ensures book { hand.new.seen.book ≡ hand.old.seen.book }
-    ensures desk { desk.new ≡ desk.old }
-    ensures leads { LeadsBy W.whose (S.state side.old) (own_of hand.old) (next_by result)
-        (S.state side.new) (own_of hand.new) }
-    ensures stays { S.stays side.old side.new }
-{
-    let (answer, taken) = desk.look(&inner.word, hand, &mut ticket);
-    match answer {
-        Answer::Ready => {
-            Spent::keep(spent, taken, None);
-            Reached::Ready
+impl<T, W: TaskWaker + Drop, R: Wait + AllocGlobal> Shared<'_, '_, T, W, R> {
+    /// A new task that met others, from the door on.
+    #[inline(never)]
+    pub(super) fn at_door_get<S: TaskSide<W, Value = T>>(
+        &mut self,
+        idle: &mut Idle,
+        side: &mut S,
+    ) -> Ending
+        requires stands { IsAt W.whose S.state Place.DoorGet self.old side.old }
+        ensures cell { cell_of self.new ≡ cell_of self.old }
+        ensures leads { Ends W.whose S.state self.old side.old result idle.new self.new side.new }
+        ensures stays { S.stays side.old side.new }
+    {
+        let mut spent = None;
+        let reached = self
+            .inner
+            .lock_at_door_get::<Brand, R, S>(self.rt, &mut self.hand, &mut spent, side);
+        if let Reached::NoQueue = reached {
+            return self.at_door_put(idle, side);
         }
-        Answer::Claimed => {
-            Spent::keep(spent, taken, None);
-            Reached::Claimed
+        self.go_on_from(idle, reached, side)
+    }
+
+    // A queue is put to the door. It is made with the lock free: that is for the allocator of the handle, which may be
+    // any code. So another task may put one meanwhile, and this one is let go then, with the lock free.
+    #[inline(always)]
+    fn at_door_put<S: TaskSide<W, Value = T>>(&mut self, idle: &mut Idle, side: &mut S) -> Ending
+        requires stands { IsAt W.whose S.state Place.DoorPut self.old side.old }
+        ensures cell { cell_of self.new ≡ cell_of self.old }
+        ensures leads { Ends W.whose S.state self.old side.old result idle.new self.new side.new }
+        ensures stays { S.stays side.old side.new }
+    {
+        let alloc = self.rt.alloc();
+        let Ok(queue) = Box::new(alloc, Lists::new(alloc)) else {
+            self.hand.unput();
+            side.close();
+            *idle = Idle::Finished;
+            return Ending::Memory;
+        };
+        let mut spent = None;
+        let (reached, _spare) = self
+            .inner
+            .lock_at_door_put::<Brand, R, S>(self.rt, &mut self.hand, queue, &mut spent, side);
+        self.go_on_from(idle, reached, side)
+    }
+
+    /// A later poll, from its load on.
+    #[inline(always)]
+    pub(super) fn at_wait_load<S: TaskSide<W, Value = T>>(
+        &mut self,
+        idle: &mut Idle,
+        ticket: Option<u64>,
+        side: &mut S,
+    ) -> Ending
+        requires stands { IsAt W.whose S.state (Place.WaitLoad tt ticket) self.old side.old }
+        ensures cell { cell_of self.new ≡ cell_of self.old }
+        ensures leads { Ends W.whose S.state self.old side.old result idle.new self.new side.new }
+        ensures stays { S.stays side.old side.new }
+    {
+        if Word::from_bits(self.load()).is_ready() {
+            side.close();
+            return self.at_count_out(idle, Ending::Value, side);
         }
-        // Only a claim takes a waker out. So there is none to put aside here, and below.
-        Answer::Listed => {
-            drop(taken);
-            renew(desk, hand, ticket, side);
-            Reached::Waits(ticket)
+        self.at_look(idle, ticket, side)
+    }
+
+    // The look of a later poll, and its listing, in one hold of the lock.
+    #[inline(always)]
+    fn at_look<S: TaskSide<W, Value = T>>(
+        &mut self,
+        idle: &mut Idle,
+        ticket: Option<u64>,
+        side: &mut S,
+    ) -> Ending
+        requires stands { IsAt W.whose S.state (Place.Look tt ticket) self.old side.old }
+        ensures cell { cell_of self.new ≡ cell_of self.old }
+        ensures leads { Ends W.whose S.state self.old side.old result idle.new self.new side.new }
+        ensures stays { S.stays side.old side.new }
+    {
+        let mut spent = None;
+        let reached = self
+            .inner
+            .lock_at_look::<Brand, R, S>(self.rt, &mut self.hand, ticket, &mut spent, side);
+        self.go_on_from(idle, reached, side)
+    }
+}
+
+impl<T, W: TaskWaker + Drop> Inner<T, W> {
+    // Takes the lock.
+    #[inline(always)]
+    fn lock_at_door_get<J: Key, R: Wait, S: TaskSide<W, Value = T>>(
+        &self,
+        rt: &R,
+        hand: &mut Hand,
+        spent: &mut Option<Spent<W>>,
+        side: &mut S,
+    ) -> Reached
+        requires key { self.now.desk ≡ J.key }
+        requires book { hand.old.seen.book ≡ J.key }
+        requires stands { IsUnder W.whose S.state Place.DoorGet hand.old side.old }
+        ensures book { hand.new.seen.book ≡ hand.old.seen.book }
+        ensures leads { Reaches W.whose S.state hand.old side.old result hand.new side.new }
+        ensures stays { S.stays side.old side.new }
+    {
+        let mut tied = self.desk.lock::<J, R>(rt);
+        self.locked_door_get(rt, &mut tied.value, hand, spent, side)
+    }
+
+    // The look at the door.
+    #[inline(always)]
+    fn locked_door_get<R: Wait, S: TaskSide<W, Value = T>>(
+        &self,
+        rt: &R,
+        desk: &mut Desk<W>,
+        hand: &mut Hand,
+        spent: &mut Option<Spent<W>>,
+        side: &mut S,
+    ) -> Reached
+        requires book { hand.old.seen.book ≡ self.now.front.book }
+        requires desk { desk.old ≡ hand.old.seen.book }
+        requires stands { IsUnder W.whose S.state Place.DoorGet hand.old side.old }
+        ensures book { hand.new.seen.book ≡ hand.old.seen.book }
+        ensures desk { desk.new ≡ desk.old }
+        ensures leads { Reaches W.whose S.state hand.old side.old result hand.new side.new }
+        ensures stays { S.stays side.old side.new }
+    {
+        if desk.get(hand) {
+            return self.locked_count_in(rt, desk, hand, spent, side);
         }
-        held => {
-            drop(held);
-            drop(taken);
-            match side.copy() {
-                Some(waker) => list(inner, desk, hand, ticket, waker, spent, side),
-                None => {
-                    hand.refused();
-                    Reached::Refused(ticket)
+        Reached::NoQueue
+    }
+
+    // Takes the lock, and puts this queue. Where one stood there, this comes back.
+    #[inline(always)]
+    fn lock_at_door_put<J: Key, R: Wait, S: TaskSide<W, Value = T>>(
+        &self,
+        rt: &R,
+        hand: &mut Hand,
+        queue: Box<Lists<W>>,
+        spent: &mut Option<Spent<W>>,
+        side: &mut S,
+    ) -> (Reached, Option<Box<Lists<W>>>)
+        requires key { self.now.desk ≡ J.key }
+        requires book { hand.old.seen.book ≡ J.key }
+        requires queue { (queue.value.head ≡ false) × (listings_of queue.value ≡ []) }
+        requires stands { IsUnder W.whose S.state Place.DoorPut hand.old side.old }
+        ensures book { hand.new.seen.book ≡ hand.old.seen.book }
+        ensures leads { Reaches W.whose S.state hand.old side.old result.0 hand.new side.new }
+        ensures stays { S.stays side.old side.new }
+    {
+        let mut tied = self.desk.lock::<J, R>(rt);
+        let spare = tied.value.put(&self.has_put, hand, queue);
+        (
+            self.locked_count_in(rt, &mut tied.value, hand, spent, side),
+            spare,
+        )
+    }
+
+    // The task counts in.
+    #[inline(always)]
+    fn locked_count_in<R: Wait, S: TaskSide<W, Value = T>>(
+        &self,
+        rt: &R,
+        desk: &mut Desk<W>,
+        hand: &mut Hand,
+        spent: &mut Option<Spent<W>>,
+        side: &mut S,
+    ) -> Reached
+        requires book { hand.old.seen.book ≡ self.now.front.book }
+        requires desk { desk.old ≡ hand.old.seen.book }
+        requires stands { IsUnder W.whose S.state (Place.CountIn tt) hand.old side.old }
+        ensures book { hand.new.seen.book ≡ hand.old.seen.book }
+        ensures desk { desk.new ≡ desk.old }
+        ensures leads { Reaches W.whose S.state hand.old side.old result hand.new side.new }
+        ensures stays { S.stays side.old side.new }
+    {
+        match self.counted(rt, hand) {
+            Counted::In(word) if Word::from_bits(word).is_ready() => Reached::Ready,
+            Counted::In(_) => self.locked_wait_load(desk, hand, spent, side),
+            Counted::Full => Reached::Ended(Ending::Full),
+            Counted::SeenReady => Reached::Ended(Ending::Value),
+        }
+    }
+
+    // The load of a new waiter.
+    #[inline(always)]
+    fn locked_wait_load<S: TaskSide<W, Value = T>>(
+        &self,
+        desk: &mut Desk<W>,
+        hand: &mut Hand,
+        spent: &mut Option<Spent<W>>,
+        side: &mut S,
+    ) -> Reached
+        requires book { hand.old.seen.book ≡ self.now.front.book }
+        requires desk { desk.old ≡ hand.old.seen.book }
+        requires stands { IsUnder W.whose S.state (Place.WaitLoad tt None) hand.old side.old }
+        ensures book { hand.new.seen.book ≡ hand.old.seen.book }
+        ensures desk { desk.new ≡ desk.old }
+        ensures leads { Reaches W.whose S.state hand.old side.old result hand.new side.new }
+        ensures stays { S.stays side.old side.new }
+    {
+        if Word::from_bits(self.loaded(hand)).is_ready() {
+            return Reached::Ready;
+        }
+        self.locked_look(desk, hand, None, spent, side)
+    }
+
+    // Takes the lock for the look.
+    #[inline(always)]
+    fn lock_at_look<J: Key, R: Wait, S: TaskSide<W, Value = T>>(
+        &self,
+        rt: &R,
+        hand: &mut Hand,
+        ticket: Option<u64>,
+        spent: &mut Option<Spent<W>>,
+        side: &mut S,
+    ) -> Reached
+        requires key { self.now.desk ≡ J.key }
+        requires book { hand.old.seen.book ≡ J.key }
+        requires stands { IsUnder W.whose S.state (Place.Look tt ticket) hand.old side.old }
+        ensures book { hand.new.seen.book ≡ hand.old.seen.book }
+        ensures leads { Reaches W.whose S.state hand.old side.old result hand.new side.new }
+        ensures stays { S.stays side.old side.new }
+    {
+        let mut tied = self.desk.lock::<J, R>(rt);
+        self.locked_look(&mut tied.value, hand, ticket, spent, side)
+    }
+
+    /// The look of a waiter under the lock. Who claims takes its waker out of the list. Who is listed renews the waker
+    /// there. Where another task holds, the waiter copies its waker, and is listed.
+    #[inline(always)]
+    fn locked_look<S: TaskSide<W, Value = T>>(
+        &self,
+        desk: &mut Desk<W>,
+        hand: &mut Hand,
+        mut ticket: Option<u64>,
+        spent: &mut Option<Spent<W>>,
+        side: &mut S,
+    ) -> Reached
+        requires book { hand.old.seen.book ≡ self.now.front.book }
+        requires desk { desk.old ≡ hand.old.seen.book }
+        requires stands { IsUnder W.whose S.state (Place.Look tt ticket) hand.old side.old }
+        ensures book { hand.new.seen.book ≡ hand.old.seen.book }
+        ensures desk { desk.new ≡ desk.old }
+        ensures leads { Reaches W.whose S.state hand.old side.old result hand.new side.new }
+        ensures stays { S.stays side.old side.new }
+    {
+        let (answer, taken) = desk.look(&self.word, hand, &mut ticket);
+        match answer {
+            Answer::Ready => {
+                Spent::keep(spent, taken, None);
+                Reached::Ready
+            }
+            Answer::Claimed => {
+                Spent::keep(spent, taken, None);
+                Reached::Claimed
+            }
+            // Only a claim takes a waker out. So there is none to put aside here, and below.
+            Answer::Listed => {
+                drop(taken);
+                renew(desk, hand, ticket, side);
+                Reached::Waits(ticket)
+            }
+            held => {
+                drop(held);
+                drop(taken);
+                match side.copy() {
+                    Some(waker) => self.locked_list(desk, hand, ticket, waker, spent, side),
+                    None => {
+                        hand.refused();
+                        Reached::Refused(ticket)
+                    }
                 }
+            }
+        }
+    }
+
+    // The listing of a waiter under the lock. Who is listed has its waker in the list now, and took none out.
+    #[inline(always)]
+    fn locked_list<S: TaskSide<W, Value = T>>(
+        &self,
+        desk: &mut Desk<W>,
+        hand: &mut Hand,
+        mut ticket: Option<u64>,
+        waker: W,
+        spent: &mut Option<Spent<W>>,
+        side: &S,
+    ) -> Reached
+        requires book { hand.old.seen.book ≡ self.now.front.book }
+        requires desk { desk.old ≡ hand.old.seen.book }
+        requires stands { IsUnder W.whose S.state (Place.List tt ticket waker) hand.old side.now }
+        ensures book { hand.new.seen.book ≡ hand.old.seen.book }
+        ensures desk { desk.new ≡ desk.old }
+        ensures leads { Reaches W.whose S.state hand.old side.now result hand.new side.now }
+    {
+        let _ = side;
+        let mut copy = Some(waker);
+        let (answer, taken) = desk.list(&self.word, hand, &mut ticket, &mut copy);
+        match answer {
+            Answer::Ready => {
+                Spent::keep(spent, taken, copy);
+                Reached::Ready
+            }
+            Answer::Claimed => {
+                Spent::keep(spent, taken, copy);
+                Reached::Claimed
+            }
+            Answer::Memory => {
+                Spent::keep(spent, taken, copy);
+                Reached::Refused(ticket)
+            }
+            waits => {
+                drop(waits);
+                Reached::Waits(ticket)
             }
         }
     }
@@ -194,7 +344,7 @@ pub(super) fn look<T, W: TaskWaker + Drop, S: TaskSide<W, Value = T, Right = Han
 // The waker of a waiter that is listed becomes that of this poll.
 // With this one inlined too, the ways are so large that the kit inlines less of them.
 #[inline(never)]
-fn renew<T, W: TaskWaker + Drop, S: TaskSide<W, Value = T, Right = Hand>>(
+fn renew<T, W: TaskWaker + Drop, S: TaskSide<W, Value = T>>(
     desk: &mut Desk<W>,
     hand: &mut Hand,
     ticket: Option<u64>,
@@ -212,47 +362,4 @@ fn renew<T, W: TaskWaker + Drop, S: TaskSide<W, Value = T, Right = Hand>>(
         return;
     };
     let _is_renewed = desk.renew(hand, ticket, side);
-}
-
-// The listing of a waiter under the lock. Who is listed has its waker in the list now, and took none out.
-#[inline(always)]
-fn list<T, W: TaskWaker + Drop, S: TaskSide<W, Value = T, Right = Hand>>(
-    inner: &Inner<T, W>,
-    desk: &mut Desk<W>,
-    hand: &mut Hand,
-    mut ticket: Option<u64>,
-    waker: W,
-    spent: &mut Option<Spent<W>>,
-    side: &S,
-) -> Reached
-    requires book { hand.old.seen.book ≡ inner.now.front.book }
-    requires desk { desk.old ≡ hand.old.seen.book }
-    requires stands { Stands W.whose false (S.state side.now) (own_of hand.old) Progress.More
-        (Step.UnderWay (Place.List tt ticket waker)) }
-    ensures book { hand.new.seen.book ≡ hand.old.seen.book }
-    ensures desk { desk.new ≡ desk.old }
-    ensures leads { LeadsBy W.whose (S.state side.now) (own_of hand.old) (next_by result)
-        (S.state side.now) (own_of hand.new) }
-{
-    let _ = side;
-    let mut copy = Some(waker);
-    let (answer, taken) = desk.list(&inner.word, hand, &mut ticket, &mut copy);
-    match answer {
-        Answer::Ready => {
-            Spent::keep(spent, taken, copy);
-            Reached::Ready
-        }
-        Answer::Claimed => {
-            Spent::keep(spent, taken, copy);
-            Reached::Claimed
-        }
-        Answer::Memory => {
-            Spent::keep(spent, taken, copy);
-            Reached::Refused(ticket)
-        }
-        waits => {
-            drop(waits);
-            Reached::Waits(ticket)
-        }
-    }
 }

@@ -4,7 +4,7 @@ use Rattle.std.proofs.Common.{◌≡◌, ℕ, true, false, refl, sym, ap, ◌∙
 use Rattle.once_core.specs.Steps.{in_call, is_resting}
 use Rattle.once_world.specs.Places.{Ended, Step}
 use Rattle.once_parts.specs.Own.{Own}
-use Rattle.once_parts.specs.declared.idle.Idle.{Idle}
+use Rattle.once_parts.specs.declared.task.Idle.{Idle}
 use Rattle.once_parts.specs.Idle.{is_over, step_of}
 use Rattle.once_world.specs.Record.{DropBegin, DropEnd, Entry}
 use Rattle.once_parts.specs.Kept.{Grew, entries_of}

@@ -10,4 +10,4 @@ returns-clause-set g c = λ set.
     let number = c.poll_steps-ending.new.self.number in
     let did = c.poll_steps-ending.ensures in
     c.answered_where_set.ensures number ending c.args.self.now.log set
-    (subst (λ (l : List Entry). Spans number (end_of number ending) c.args.self.now.log l) (sym c.record.ensures.1) did.spans) did.not_dropped
+    (subst (λ (l : List Entry). Spans number (end_of number ending) c.args.self.now.log l) (sym c.record.ensures.1) did.polled.spans) did.polled.not_dropped

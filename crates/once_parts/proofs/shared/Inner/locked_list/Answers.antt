@@ -1,0 +1,32 @@
+-- The listing is its line of the table.
+use Rattle.std.proofs.Common.{refl, ap}
+use Rattle.once_core.specs.Table.{after_list}
+use Rattle.once_parts.specs.Ways.{next_by}
+use Rattle.once_parts.specs.declared.ways.Reached.TheVariants.{Claimed, Ready, Refused, Waits}
+use Rattle.once_parts.proofs.Walk.Ways.{listed, rests}
+use Rattle.once_parts.proofs.shared.Inner.locked_list.Goals as goal
+
+pub returns-in-Ready-clause-leads : goal.returns-in-Ready-clause-leads
+returns-in-Ready-clause-leads g c =
+    let s = c.list-answer in
+    listed g.W.TaskWaker.whose c.args.ticket s.new.ticket c.args.waker s.result.0 s.new.waker (next_by Ready) c.requires.stands s.ensures.did (ap (λ a. after_list a tt s.new.ticket) c.in-Ready.is) refl
+
+pub returns-in-Claimed-clause-leads : goal.returns-in-Claimed-clause-leads
+returns-in-Claimed-clause-leads g c =
+    let s = c.list-answer in
+    listed g.W.TaskWaker.whose c.args.ticket s.new.ticket c.args.waker s.result.0 s.new.waker (next_by Claimed) c.requires.stands s.ensures.did (ap (λ a. after_list a tt s.new.ticket) c.in-Claimed.is) refl
+
+pub returns-in-Memory-clause-leads : goal.returns-in-Memory-clause-leads
+returns-in-Memory-clause-leads g c =
+    let s = c.list-answer in
+    listed g.W.TaskWaker.whose c.args.ticket s.new.ticket c.args.waker s.result.0 s.new.waker (next_by (Refused s.new.ticket)) c.requires.stands s.ensures.did (ap (λ a. after_list a tt s.new.ticket) c.in-Memory.is) refl
+
+pub returns-in_default : goal.returns-in_default
+returns-in_default g c =
+    let s = c.list-answer in
+    record {
+      book = s.ensures.book;
+      desk = s.ensures.desk;
+      leads = listed g.W.TaskWaker.whose c.args.ticket s.new.ticket c.args.waker s.result.0 s.new.waker (next_by (Waits s.new.ticket)) c.requires.stands s.ensures.did
+          (rests s.result.0 s.new.ticket c.in_default.not-Ready c.in_default.not-Claimed c.in_default.not-Memory) refl;
+    }

@@ -1,0 +1,14 @@
+-- Counting out is its line of the table.
+use Rattle.std.proofs.Common.{◌≡◌, false, refl, sym, ap, ◌∙◌}
+use Rattle.once_queue.specs.Word.{flags_of, is_ready_bit}
+use Rattle.once_core.specs.Table.{CountedOut, after_count_out, next_end}
+use Rattle.once_world.specs.Places.{AtCountOut}
+use Rattle.once_parts.proofs.Walk.Ways.{led}
+use Rattle.once_parts.proofs.shared.Shared.at_count_out.Goals as goal
+
+pub returns-clause-leads : goal.returns-clause-leads
+returns-clause-leads g c =
+    let e = c.args.ending in
+    let word = flags_of c.count_out.result in
+    let alone : is_ready_bit word ≡ false = ap is_ready_bit (sym c.from_bits.ensures) ∙ sym c.is_ready_alone.ensures ∙ c.if-is_ready_alone.false in
+    led g.W.TaskWaker.whose (AtCountOut e) (CountedOut word) (next_end e) refl refl (_, refl) c.requires.stands c.count_out.ensures.1 (ap (λ b. after_count_out b e) alone) refl

@@ -1,0 +1,32 @@
+-- The fast release is its line of the table.
+use Rattle.std.proofs.Common.{◌≡◌, true, false, refl, sym, ap, ◌∙◌}
+use Rattle.once_core.specs.Steps.{is_value}
+use Rattle.once_core.specs.Table.{after_fast, next_at, next_end}
+use Rattle.once_world.specs.Places.{AtAddOne, AtDoorTake}
+use Rattle.once_parts.proofs.Walk.Ways.{freed, onward}
+use Rattle.once_parts.proofs.shared.Shared.at_fast.Goals as goal
+
+pub returns-then-not-fast-clause-leads : goal.returns-then-not-fast-clause-leads
+returns-then-not-fast-clause-leads g c =
+    let e = c.args.ending in
+    let won = c.fast.result in
+    let at = freed g.W.TaskWaker.whose e c.is_value-filled.result won (next_at (AtAddOne e))
+    c.requires.stands c.fast.ensures.1 c.is_value-filled.ensures (ap (λ b. after_fast b (is_value e) e) c.if-not-fast.true) refl in
+    onward g.W.TaskWaker.whose at c.at_add_one.ensures.leads
+
+pub returns-then-filled-clause-leads : goal.returns-then-filled-clause-leads
+returns-then-filled-clause-leads g c =
+    let e = c.args.ending in
+    let won = c.fast.result in
+    let fills : is_value e ≡ true = sym c.is_value-filled.ensures ∙ c.if-filled.true in
+    let at = freed g.W.TaskWaker.whose e c.is_value-filled.result won (next_at (AtDoorTake e))
+    c.requires.stands c.fast.ensures.1 c.is_value-filled.ensures (λ i. after_fast (c.if-not-fast.false i) (fills i) e) refl in
+    onward g.W.TaskWaker.whose at c.at_door_take.ensures.leads
+
+pub returns-clause-leads : goal.returns-clause-leads
+returns-clause-leads g c =
+    let e = c.args.ending in
+    let won = c.fast.result in
+    let fills : is_value e ≡ false = sym c.is_value-filled.ensures ∙ c.if-filled.false in
+    freed g.W.TaskWaker.whose e c.is_value-filled.result won (next_end e)
+    c.requires.stands c.fast.ensures.1 c.is_value-filled.ensures (λ i. after_fast (c.if-not-fast.false i) (fills i) e) refl

@@ -1,0 +1,20 @@
+-- The release is its line of the table, and then the task counts out.
+use Rattle.std.proofs.Common.{subst}
+use Rattle.once_queue.specs.declared.waiters.Answer.TheVariants.{Released}
+use Rattle.once_queue.specs.declared.waiters.Op.TheVariants.{Release}
+use Rattle.once_core.specs.Steps.{is_value}
+use Rattle.once_core.specs.Table.{Was}
+use Rattle.once_parts.specs.Hands.{own_of}
+use Rattle.once_parts.specs.Parts.{DidCall}
+use Rattle.once_parts.specs.Shares.{own}
+use Rattle.once_parts.proofs.Walk.Ways.{onward, released}
+use Rattle.once_parts.proofs.shared.Shared.at_release.Goals as goal
+
+pub returns-clause-leads : goal.returns-clause-leads
+returns-clause-leads g c =
+    let out = c.released-out.result in
+    let did = subst (λ b. DidCall g.W.TaskWaker.whose (own c.args.self.now) (Was tt (Release b) (Released out) (Release b)) (own_of c.released-out.new.hand))
+    c.is_value.ensures c.released-out.ensures.did in
+    onward g.W.TaskWaker.whose
+    (released g.W.TaskWaker.whose c.args.ending out (Release (is_value c.args.ending)) c.requires.stands did (g.met.S.TaskSide.tells.wake _ _ _ c.wake.ensures.did))
+    c.at_count_out.ensures.leads

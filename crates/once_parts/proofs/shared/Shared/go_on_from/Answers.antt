@@ -1,0 +1,42 @@
+-- The init is closed where the table says so, and the poll goes on from there.
+use Rattle.std.proofs.Common.{sym, subst}
+use Rattle.once_core.specs.Steps.{leave_place}
+use Rattle.once_world.specs.Places.{AtCountOut, EndMemory, EndValue, More, UnderWay}
+use Rattle.once_parts.specs.Shares.{own}
+use Rattle.once_parts.specs.Ways.{Leads, LeadsBy, StandsBy, next_by}
+use Rattle.once_parts.proofs.Walk.Ways.{onward}
+use Rattle.once_parts.proofs.shared.Shared.go_on_from.Goals as goal
+
+pub hold-requires : goal.hold-requires
+hold-requires g c = record {
+  stands = subst (λ r. StandsBy g.W.TaskWaker.whose (next_by r) (g.S.TaskSide.state c.args.side.now) (own c.args.self.now)) c.in-Claimed.is c.requires.stands;
+}
+
+pub returns-in-Ready-clause-leads : goal.returns-in-Ready-clause-leads
+returns-in-Ready-clause-leads g c = λ x v so_far.
+    let at = subst (λ r. LeadsBy g.W.TaskWaker.whose x v (next_by r) (g.S.TaskSide.state c.args.side.now) (own c.args.self.now)) c.in-Ready.is so_far in
+    onward g.W.TaskWaker.whose
+    (subst (λ y. Leads g.W.TaskWaker.whose x v More (UnderWay (AtCountOut EndValue)) y (own c.args.self.now)) (sym (g.met.S.TaskSide.tells.close _ _ c.close.ensures.did)) at)
+    c.at_count_out.ensures.leads
+
+pub returns-in-Claimed-clause-leads : goal.returns-in-Claimed-clause-leads
+returns-in-Claimed-clause-leads g c = λ x v so_far.
+    let at = subst (λ r. LeadsBy g.W.TaskWaker.whose x v (next_by r) (g.S.TaskSide.state c.args.side.now) (own c.args.self.now)) c.in-Claimed.is so_far in
+    onward g.W.TaskWaker.whose at c.hold.ensures.leads
+
+pub returns-in-Refused-clause-leads : goal.returns-in-Refused-clause-leads
+returns-in-Refused-clause-leads g c = λ x v so_far.
+    let at = subst (λ r. LeadsBy g.W.TaskWaker.whose x v (next_by r) (g.S.TaskSide.state c.args.side.now) (own c.args.self.now)) c.in-Refused.is so_far in
+    let free = subst (λ y. Leads g.W.TaskWaker.whose x v More (UnderWay (leave_place tt c.in-Refused.ticket EndMemory)) y (own c.args.self.now))
+    (sym (g.met.S.TaskSide.tells.close _ _ c.close-in-Refused.ensures.did)) at in
+    onward g.W.TaskWaker.whose free c.steps_left.ensures.leads
+
+pub steps_left-requires-in-NoQueue : goal.steps_left-requires-in-NoQueue
+steps_left-requires-in-NoQueue g c = record {
+  stands = subst (λ r. StandsBy g.W.TaskWaker.whose (next_by r) (g.S.TaskSide.state c.args.side.now) (own c.args.self.now)) c.in-NoQueue.is c.requires.stands;
+}
+
+pub returns-in-NoQueue-clause-leads : goal.returns-in-NoQueue-clause-leads
+returns-in-NoQueue-clause-leads g c = λ x v so_far.
+    let at = subst (λ r. LeadsBy g.W.TaskWaker.whose x v (next_by r) (g.S.TaskSide.state c.args.side.now) (own c.args.self.now)) c.in-NoQueue.is so_far in
+    onward g.W.TaskWaker.whose at c.steps_left-in-NoQueue.ensures.leads
