@@ -1,5 +1,6 @@
 -- What a straight way of a poll tells of the steps that it made.
-use Rattle.std.specs.Prelude.{ℕ, Bool, true, false, Some, ⊤}
+use Rattle.std.specs.Prelude.{◌≡◌, ℕ, Bool, true, false, Some, ⊤}
+use Rattle.pagebook.specs.Pages.{Book}
 use Rattle.once_core.specs.Steps.{leave_place, step_of_poll}
 use Rattle.once_core.specs.Table.{Next, closing_at, closing_end, next_at, next_rest}
 use Rattle.once_world.specs.Places.{AtCountOut, AtDoorPut, AtRun, Ended as CallEnded, EndMemory, EndValue, Ending}
@@ -12,7 +13,7 @@ use Rattle.once_parts.specs.declared.task.Idle.{Idle}
 use Rattle.once_parts.specs.Hands.{own_of}
 use Rattle.once_parts.specs.Idle.{step_of}
 use Rattle.once_parts.specs.Own.{Own}
-use Rattle.once_parts.specs.Shares.{own}
+use Rattle.once_parts.specs.Shares.{cell_of, own}
 use Rattle.once_parts.specs.Sides.{Sided}
 use Rattle.once_parts.specs.Walks.{Stands, Walked}
 
@@ -45,6 +46,10 @@ module _ {W : Type 0} (whose : W → ℕ) where
   abbrev pub LeadsBy : Sided → Own → Next W ⊤ → Sided → Own → Type 0
   LeadsBy x v n y w = Leads whose x v n.progress n.step (closed_if n.closes y) w
 
+-- the lock of the cell with the book b is held: the desk there and the task's hand are of that book
+abbrev pub IsHeld : Book → Book → Hand → Type 0
+IsHeld b d h = (h.seen.book ≡ b) × (d ≡ b)
+
 module _ {W S : Type 0} (whose : W → ℕ) (state : S → Sided) where
   -- the task whose hand this is stands at this place of a poll, and the side is its own
   abbrev pub IsUnder : Place W ⊤ → Hand → S → Type 0
@@ -63,6 +68,9 @@ module _ {T W R S : Type 0} {g : _} {h : _} (whose : W → ℕ) (state : S → S
   abbrev pub IsBegun : Idle → Shared T W R g h → S → Type 0
   IsBegun i p s = Stands whose false (state s) (own p) More (step_of_poll (step_of i))
 
-  -- its poll made its steps and ended so, and the next call begins where the task rests now
-  abbrev pub Ends : Shared T W R g h → S → Ending → Idle → Shared T W R g h → S → Type 0
-  Ends p s e i q t = Leads whose (state s) (own p) (CallEnded e) (step_of i) (state t) (own q)
+  -- its poll made its steps and ended so, and where it rests now the next call begins
+  pub record Polls (keeps : S → S → Type 0) (p : Shared T W R g h) (s : S) (e : Ending) (i : Idle)
+      (q : Shared T W R g h) (t : S) : Type 0 where
+    pub cell : cell_of q ≡ cell_of p  -- the cell is the same
+    pub leads : Leads whose (state s) (own p) (CallEnded e) (step_of i) (state t) (own q)  -- by the table of places
+    pub stays : keeps s t  -- the side keeps what each of its calls keeps

@@ -166,7 +166,8 @@ impl<W: TaskWaker + Drop> Desk<W> {
             unreachable!()
         };
         let lists = &mut **queue;
-        let found = see(word, &mut self.pens, hand, true);
+        let room = true; // a look lists no waker
+        let found = see(word, &mut self.pens, hand, room);
         lists.look_own(ticket, found)
     }
 
@@ -264,7 +265,8 @@ impl<W: TaskWaker + Drop> Desk<W> {
             unreachable!()
         };
         let lists = &mut **queue;
-        let found = see(word, &mut self.pens, hand, true);
+        let room = true; // nor does one that leaves
+        let found = see(word, &mut self.pens, hand, room);
         lists.leave_own(ticket, found)
     }
 }

@@ -186,20 +186,20 @@ impl<T, W: TaskWaker + Drop> Inner<T, W> {
     /// }
     /// ```
     pub fn into_inner(self) -> Option<T> {
-        let Inner {
-            word: _word,
-            has_put: _has_put,
-            slot,
-            front: _front,
-            desk: _desk,
-        } = self;
-        slot.into_inner()
+        self.into_slot().into_inner()
     }
 
     /// The value, for a caller that has what shows it. The record ends.
     pub fn into_value(self, written: &Written<T>) -> T
         requires { written.now.of ≡ self.slot.id }
         ensures { result ≡ written.now.value }
+    {
+        self.into_slot().into_value(written)
+    }
+
+    // The slot, of a cell whose record ends.
+    fn into_slot(self) -> CellSlot<T>
+        ensures { result ≡ self.slot }
     {
         let Inner {
             word: _word,
@@ -208,7 +208,7 @@ impl<T, W: TaskWaker + Drop> Inner<T, W> {
             front: _front,
             desk: _desk,
         } = self;
-        slot.into_value(written)
+        slot
     }
 
     /// Whether a queue stands at the door. `None` says that the lock could not be had at once. It waits for

@@ -1,10 +1,11 @@
-//! Straight ways of a poll: chains of small functions, one for each place of the machine. Each makes the step of its
-//! place, has the place in the text of its contract, and goes on to the next by its last call. The compiler puts a
-//! chain together, so that no step is handed through memory, and the cell's lock is taken once for all sections of a
-//! poll that meets others.
+//! Straight ways of a poll: chains of small functions, one for each place of the machine, whose name and contract have
+//! the place: `at_..` with the lock free, and `locked_..` under it. Each makes the step of its place, and goes on to the
+//! next by its last call. The compiler puts a chain together, so that no step is handed through memory, and the cell's
+//! lock is taken once for all sections of a poll that meets others.
 //!
 //! [`Step::advance`](once_core::step::Step::advance) stays the one machine. A way may leave to it at any place, by
-//! `steps_left`, and each step of a way is the line of the table that `advance` has for its place.
+//! `steps_left`, and each step of a way is the line of the table that `advance` has for its place. A side whose waker
+//! is not copied under the lock has whole polls by the machine.
 //!
 //! While the lock is held, nothing of the caller's own is dropped or called: such a function answers how far it came,
 //! as [`Reached`], and puts the wakers that it took aside, as [`Spent`]. Who let the lock go then closes the init.
@@ -15,7 +16,7 @@ ghost use Rattle.once_parts.specs.Shares.{cell_of, own};
 ghost use Rattle.once_parts.specs.Own.{Own};
 ghost use Rattle.once_parts.specs.Sides.{Sided};
 ghost use Rattle.once_parts.specs.Walks.{Stands};
-ghost use Rattle.once_parts.specs.Ways.{Ends, IsAt, IsBegun, IsUnder, Leads, LeadsBy, StandsBy, next_by};
+ghost use Rattle.once_parts.specs.Ways.{IsAt, IsBegun, IsUnder, Leads, LeadsBy, Polls, StandsBy, next_by};
 ghost use Rattle.std.specs.Option.{MatchOption};
 ghost use Rattle.once_queue.specs.declared.waiters.Answer.{Answer};
 ghost use Rattle.once_queue.specs.declared.waiters.Op.{Op};
@@ -81,9 +82,7 @@ impl<T, W: TaskWaker + Drop, R: Wait + AllocGlobal> Shared<'_, '_, T, W, R> {
         side: &mut S,
     ) -> Ending
         requires stands { IsAt W.whose S.state Place.Start self.old side.old }
-        ensures cell { cell_of self.new ≡ cell_of self.old }
-        ensures leads { Ends W.whose S.state self.old side.old result idle.new self.new side.new }
-        ensures stays { S.stays side.old side.new }
+        ensures { Polls W.whose S.state S.stays self.old side.old result idle.new self.new side.new }
     {
         let word = Word::from_bits(self.load());
         if word.is_ready() {
@@ -101,9 +100,7 @@ impl<T, W: TaskWaker + Drop, R: Wait + AllocGlobal> Shared<'_, '_, T, W, R> {
     #[inline(always)]
     fn at_try_quick<S: TaskSide<W, Value = T>>(&mut self, idle: &mut Idle, side: &mut S) -> Ending
         requires stands { IsAt W.whose S.state Place.TryQuick self.old side.old }
-        ensures cell { cell_of self.new ≡ cell_of self.old }
-        ensures leads { Ends W.whose S.state self.old side.old result idle.new self.new side.new }
-        ensures stays { S.stays side.old side.new }
+        ensures { Polls W.whose S.state S.stays self.old side.old result idle.new self.new side.new }
     {
         if !self.quick() {
             return self.at_door_get(idle, side);
@@ -120,9 +117,7 @@ impl<T, W: TaskWaker + Drop, R: Wait + AllocGlobal> Shared<'_, '_, T, W, R> {
     ) -> Ending
         requires live { is_over idle.old ≡ false }
         requires stands { IsBegun W.whose S.state idle.old self.old side.old }
-        ensures cell { cell_of self.new ≡ cell_of self.old }
-        ensures leads { Ends W.whose S.state self.old side.old result idle.new self.new side.new }
-        ensures stays { S.stays side.old side.new }
+        ensures { Polls W.whose S.state S.stays self.old side.old result idle.new self.new side.new }
     {
         match *idle {
             Idle::Listed(ticket) => self.at_wait_load(idle, Some(ticket), side),
@@ -142,9 +137,7 @@ impl<T, W: TaskWaker + Drop, R: Wait + AllocGlobal> Shared<'_, '_, T, W, R> {
     ) -> Ending
         requires live { is_over idle.old ≡ false }
         requires stands { IsBegun W.whose S.state idle.old self.old side.old }
-        ensures cell { cell_of self.new ≡ cell_of self.old }
-        ensures leads { Ends W.whose S.state self.old side.old result idle.new self.new side.new }
-        ensures stays { S.stays side.old side.new }
+        ensures { Polls W.whose S.state S.stays self.old side.old result idle.new self.new side.new }
     {
         let mut step = idle.step();
         step.begin();
@@ -160,9 +153,7 @@ impl<T, W: TaskWaker + Drop, R: Wait + AllocGlobal> Shared<'_, '_, T, W, R> {
         side: &mut S,
     ) -> Ending
         requires stands { Stands W.whose false (S.state side.old) (own self.old) Progress.More step }
-        ensures cell { cell_of self.new ≡ cell_of self.old }
-        ensures leads { Ends W.whose S.state self.old side.old result idle.new self.new side.new }
-        ensures stays { S.stays side.old side.new }
+        ensures { Polls W.whose S.state S.stays self.old side.old result idle.new self.new side.new }
     {
         let ending = go_on(self, &mut step, side, Progress::More);
         *idle = Idle::of(step);
@@ -216,9 +207,7 @@ impl<T, W: TaskWaker + Drop, R: Wait + AllocGlobal> Shared<'_, '_, T, W, R> {
         side: &mut S,
     ) -> Ending
         requires stands { IsAt W.whose S.state (Place.Run by) self.old side.old }
-        ensures cell { cell_of self.new ≡ cell_of self.old }
-        ensures leads { Ends W.whose S.state self.old side.old result idle.new self.new side.new }
-        ensures stays { S.stays side.old side.new }
+        ensures { Polls W.whose S.state S.stays self.old side.old result idle.new self.new side.new }
     {
         self.at_run(idle, by, side)
     }
@@ -232,9 +221,7 @@ impl<T, W: TaskWaker + Drop, R: Wait + AllocGlobal> Shared<'_, '_, T, W, R> {
         side: &mut S,
     ) -> Ending
         requires stands { IsAt W.whose S.state (Place.Run by) self.old side.old }
-        ensures cell { cell_of self.new ≡ cell_of self.old }
-        ensures leads { Ends W.whose S.state self.old side.old result idle.new self.new side.new }
-        ensures stays { S.stays side.old side.new }
+        ensures { Polls W.whose S.state S.stays self.old side.old result idle.new self.new side.new }
     {
         match self.run(side) {
             Polled::Pending => {
@@ -261,9 +248,7 @@ impl<T, W: TaskWaker + Drop, R: Wait + AllocGlobal> Shared<'_, '_, T, W, R> {
         side: &mut S,
     ) -> Ending
         requires stands { IsAt W.whose S.state (Place.Put by) self.old side.old }
-        ensures cell { cell_of self.new ≡ cell_of self.old }
-        ensures leads { Ends W.whose S.state self.old side.old result idle.new self.new side.new }
-        ensures stays { S.stays side.old side.new }
+        ensures { Polls W.whose S.state S.stays self.old side.old result idle.new self.new side.new }
     {
         self.put(side.put());
         self.give_back(idle, by, Ending::Value, side)
@@ -279,9 +264,7 @@ impl<T, W: TaskWaker + Drop, R: Wait + AllocGlobal> Shared<'_, '_, T, W, R> {
         side: &mut S,
     ) -> Ending
         requires stands { IsAt W.whose S.state (release_place by ending) self.old side.old }
-        ensures cell { cell_of self.new ≡ cell_of self.old }
-        ensures leads { Ends W.whose S.state self.old side.old result idle.new self.new side.new }
-        ensures stays { S.stays side.old side.new }
+        ensures { Polls W.whose S.state S.stays self.old side.old result idle.new self.new side.new }
     {
         match by {
             None => self.at_fast(idle, ending, side),
@@ -298,9 +281,7 @@ impl<T, W: TaskWaker + Drop, R: Wait + AllocGlobal> Shared<'_, '_, T, W, R> {
         side: &mut S,
     ) -> Ending
         requires stands { IsAt W.whose S.state (Place.Fast ending) self.old side.old }
-        ensures cell { cell_of self.new ≡ cell_of self.old }
-        ensures leads { Ends W.whose S.state self.old side.old result idle.new self.new side.new }
-        ensures stays { S.stays side.old side.new }
+        ensures { Polls W.whose S.state S.stays self.old side.old result idle.new self.new side.new }
     {
         let filled = ending.is_value();
         if !self.fast(filled) {
@@ -322,9 +303,7 @@ impl<T, W: TaskWaker + Drop, R: Wait + AllocGlobal> Shared<'_, '_, T, W, R> {
         side: &mut S,
     ) -> Ending
         requires stands { IsAt W.whose S.state (Place.AddOne ending) self.old side.old }
-        ensures cell { cell_of self.new ≡ cell_of self.old }
-        ensures leads { Ends W.whose S.state self.old side.old result idle.new self.new side.new }
-        ensures stays { S.stays side.old side.new }
+        ensures { Polls W.whose S.state S.stays self.old side.old result idle.new self.new side.new }
     {
         self.add_one();
         match self
@@ -348,9 +327,7 @@ impl<T, W: TaskWaker + Drop, R: Wait + AllocGlobal> Shared<'_, '_, T, W, R> {
         side: &mut S,
     ) -> Ending
         requires stands { IsAt W.whose S.state (Place.Release tt ending) self.old side.old }
-        ensures cell { cell_of self.new ≡ cell_of self.old }
-        ensures leads { Ends W.whose S.state self.old side.old result idle.new self.new side.new }
-        ensures stays { S.stays side.old side.new }
+        ensures { Polls W.whose S.state S.stays self.old side.old result idle.new self.new side.new }
     {
         let out = self
             .inner
@@ -368,8 +345,7 @@ impl<T, W: TaskWaker + Drop, R: Wait + AllocGlobal> Shared<'_, '_, T, W, R> {
         side: &S,
     ) -> Ending
         requires stands { IsAt W.whose S.state (Place.CountOut ending) self.old side.now }
-        ensures cell { cell_of self.new ≡ cell_of self.old }
-        ensures leads { Ends W.whose S.state self.old side.now result idle.new self.new side.now }
+        ensures { Polls W.whose S.state S.stays self.old side.now result idle.new self.new side.now }
     {
         if Word::from_bits(self.count_out()).is_ready_alone() {
             return self.at_door_take(idle, ending, side);
@@ -387,8 +363,7 @@ impl<T, W: TaskWaker + Drop, R: Wait + AllocGlobal> Shared<'_, '_, T, W, R> {
         side: &S,
     ) -> Ending
         requires stands { IsAt W.whose S.state (Place.DoorTake ending) self.old side.now }
-        ensures cell { cell_of self.new ≡ cell_of self.old }
-        ensures leads { Ends W.whose S.state self.old side.now result idle.new self.new side.now }
+        ensures { Polls W.whose S.state S.stays self.old side.now result idle.new self.new side.now }
     {
         let _ = side;
         self.door_take();

@@ -2,10 +2,8 @@
 //! if it has to bring the queue; and of its later poll.
 ghost use Rattle.std.specs.Prelude.{◌≡◌, false, None, []};
 ghost use Rattle.once_parts.specs.Hands.{own_of};
-ghost use Rattle.once_parts.specs.Idle.{step_of};
-ghost use Rattle.once_parts.specs.Shares.{cell_of, own};
-ghost use Rattle.once_parts.specs.Walks.{Stands, StandsOn};
-ghost use Rattle.once_parts.specs.Ways.{Ends, IsAt, IsUnder, Reaches};
+ghost use Rattle.once_parts.specs.Walks.{StandsOn};
+ghost use Rattle.once_parts.specs.Ways.{IsAt, IsHeld, IsUnder, Polls, Reaches};
 ghost use Rattle.once_queue.specs.Room.{listings_of};
 
 use super::{Reached, Spent};
@@ -14,7 +12,7 @@ use crate::hand::{Hand, TaskWaker};
 use crate::shared::{Inner, Shared};
 use crate::task::{Idle, TaskSide};
 use once_core::parts::{Counted, Parts};
-use once_core::step::{Ending, Place, Progress, Rest, Step};
+use once_core::step::{Ending, Place, Rest, Step};
 use once_queue::waiters::{Answer, Lists};
 use once_queue::word::Word;
 use pagebook::Key;
@@ -31,9 +29,7 @@ impl<T, W: TaskWaker + Drop, R: Wait + AllocGlobal> Shared<'_, '_, T, W, R> {
         side: &mut S,
     ) -> Ending
         requires stands { IsAt W.whose S.state Place.DoorGet self.old side.old }
-        ensures cell { cell_of self.new ≡ cell_of self.old }
-        ensures leads { Ends W.whose S.state self.old side.old result idle.new self.new side.new }
-        ensures stays { S.stays side.old side.new }
+        ensures { Polls W.whose S.state S.stays self.old side.old result idle.new self.new side.new }
     {
         let mut spent = None;
         let reached = self
@@ -50,9 +46,7 @@ impl<T, W: TaskWaker + Drop, R: Wait + AllocGlobal> Shared<'_, '_, T, W, R> {
     #[inline(always)]
     fn at_door_put<S: TaskSide<W, Value = T>>(&mut self, idle: &mut Idle, side: &mut S) -> Ending
         requires stands { IsAt W.whose S.state Place.DoorPut self.old side.old }
-        ensures cell { cell_of self.new ≡ cell_of self.old }
-        ensures leads { Ends W.whose S.state self.old side.old result idle.new self.new side.new }
-        ensures stays { S.stays side.old side.new }
+        ensures { Polls W.whose S.state S.stays self.old side.old result idle.new self.new side.new }
     {
         let alloc = self.rt.alloc();
         let Ok(queue) = Box::new(alloc, Lists::new(alloc)) else {
@@ -77,9 +71,7 @@ impl<T, W: TaskWaker + Drop, R: Wait + AllocGlobal> Shared<'_, '_, T, W, R> {
         side: &mut S,
     ) -> Ending
         requires stands { IsAt W.whose S.state (Place.WaitLoad tt ticket) self.old side.old }
-        ensures cell { cell_of self.new ≡ cell_of self.old }
-        ensures leads { Ends W.whose S.state self.old side.old result idle.new self.new side.new }
-        ensures stays { S.stays side.old side.new }
+        ensures { Polls W.whose S.state S.stays self.old side.old result idle.new self.new side.new }
     {
         if Word::from_bits(self.load()).is_ready() {
             side.close();
@@ -97,9 +89,7 @@ impl<T, W: TaskWaker + Drop, R: Wait + AllocGlobal> Shared<'_, '_, T, W, R> {
         side: &mut S,
     ) -> Ending
         requires stands { IsAt W.whose S.state (Place.Look tt ticket) self.old side.old }
-        ensures cell { cell_of self.new ≡ cell_of self.old }
-        ensures leads { Ends W.whose S.state self.old side.old result idle.new self.new side.new }
-        ensures stays { S.stays side.old side.new }
+        ensures { Polls W.whose S.state S.stays self.old side.old result idle.new self.new side.new }
     {
         let mut spent = None;
         let reached = self
@@ -110,7 +100,7 @@ impl<T, W: TaskWaker + Drop, R: Wait + AllocGlobal> Shared<'_, '_, T, W, R> {
 }
 
 impl<T, W: TaskWaker + Drop> Inner<T, W> {
-    // Takes the lock.
+    // Takes the lock, and goes on if a queue stands at the door.
     #[inline(always)]
     fn lock_at_door_get<J: Key, R: Wait, S: TaskSide<W, Value = T>>(
         &self,
@@ -127,31 +117,10 @@ impl<T, W: TaskWaker + Drop> Inner<T, W> {
         ensures stays { S.stays side.old side.new }
     {
         let mut tied = self.desk.lock::<J, R>(rt);
-        self.locked_door_get(rt, &mut tied.value, hand, spent, side)
-    }
-
-    // The look at the door.
-    #[inline(always)]
-    fn locked_door_get<R: Wait, S: TaskSide<W, Value = T>>(
-        &self,
-        rt: &R,
-        desk: &mut Desk<W>,
-        hand: &mut Hand,
-        spent: &mut Option<Spent<W>>,
-        side: &mut S,
-    ) -> Reached
-        requires book { hand.old.seen.book ≡ self.now.front.book }
-        requires desk { desk.old ≡ hand.old.seen.book }
-        requires stands { IsUnder W.whose S.state Place.DoorGet hand.old side.old }
-        ensures book { hand.new.seen.book ≡ hand.old.seen.book }
-        ensures desk { desk.new ≡ desk.old }
-        ensures leads { Reaches W.whose S.state hand.old side.old result hand.new side.new }
-        ensures stays { S.stays side.old side.new }
-    {
-        if desk.get(hand) {
-            return self.locked_count_in(rt, desk, hand, spent, side);
+        if !tied.value.get(hand) {
+            return Reached::NoQueue;
         }
-        Reached::NoQueue
+        self.locked_count_in(rt, &mut tied.value, hand, spent, side)
     }
 
     // Takes the lock, and puts this queue. Where one stood there, this comes back.
@@ -190,11 +159,9 @@ impl<T, W: TaskWaker + Drop> Inner<T, W> {
         spent: &mut Option<Spent<W>>,
         side: &mut S,
     ) -> Reached
-        requires book { hand.old.seen.book ≡ self.now.front.book }
-        requires desk { desk.old ≡ hand.old.seen.book }
+        requires held { IsHeld self.now.front.book desk.old hand.old }
         requires stands { IsUnder W.whose S.state (Place.CountIn tt) hand.old side.old }
-        ensures book { hand.new.seen.book ≡ hand.old.seen.book }
-        ensures desk { desk.new ≡ desk.old }
+        ensures held { IsHeld self.now.front.book desk.new hand.new }
         ensures leads { Reaches W.whose S.state hand.old side.old result hand.new side.new }
         ensures stays { S.stays side.old side.new }
     {
@@ -215,11 +182,9 @@ impl<T, W: TaskWaker + Drop> Inner<T, W> {
         spent: &mut Option<Spent<W>>,
         side: &mut S,
     ) -> Reached
-        requires book { hand.old.seen.book ≡ self.now.front.book }
-        requires desk { desk.old ≡ hand.old.seen.book }
+        requires held { IsHeld self.now.front.book desk.old hand.old }
         requires stands { IsUnder W.whose S.state (Place.WaitLoad tt None) hand.old side.old }
-        ensures book { hand.new.seen.book ≡ hand.old.seen.book }
-        ensures desk { desk.new ≡ desk.old }
+        ensures held { IsHeld self.now.front.book desk.new hand.new }
         ensures leads { Reaches W.whose S.state hand.old side.old result hand.new side.new }
         ensures stays { S.stays side.old side.new }
     {
@@ -261,11 +226,9 @@ impl<T, W: TaskWaker + Drop> Inner<T, W> {
         spent: &mut Option<Spent<W>>,
         side: &mut S,
     ) -> Reached
-        requires book { hand.old.seen.book ≡ self.now.front.book }
-        requires desk { desk.old ≡ hand.old.seen.book }
+        requires held { IsHeld self.now.front.book desk.old hand.old }
         requires stands { IsUnder W.whose S.state (Place.Look tt ticket) hand.old side.old }
-        ensures book { hand.new.seen.book ≡ hand.old.seen.book }
-        ensures desk { desk.new ≡ desk.old }
+        ensures held { IsHeld self.now.front.book desk.new hand.new }
         ensures leads { Reaches W.whose S.state hand.old side.old result hand.new side.new }
         ensures stays { S.stays side.old side.new }
     {
@@ -310,11 +273,9 @@ impl<T, W: TaskWaker + Drop> Inner<T, W> {
         spent: &mut Option<Spent<W>>,
         side: &S,
     ) -> Reached
-        requires book { hand.old.seen.book ≡ self.now.front.book }
-        requires desk { desk.old ≡ hand.old.seen.book }
+        requires held { IsHeld self.now.front.book desk.old hand.old }
         requires stands { IsUnder W.whose S.state (Place.List tt ticket waker) hand.old side.now }
-        ensures book { hand.new.seen.book ≡ hand.old.seen.book }
-        ensures desk { desk.new ≡ desk.old }
+        ensures held { IsHeld self.now.front.book desk.new hand.new }
         ensures leads { Reaches W.whose S.state hand.old side.now result hand.new side.now }
     {
         let _ = side;

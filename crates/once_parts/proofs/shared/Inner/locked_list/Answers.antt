@@ -1,5 +1,5 @@
 -- The listing is its line of the table.
-use Rattle.std.proofs.Common.{refl, ap}
+use Rattle.std.proofs.Common.{◌∙◌, refl, ap}
 use Rattle.once_core.specs.Table.{after_list}
 use Rattle.once_parts.specs.Ways.{next_by}
 use Rattle.once_parts.specs.declared.ways.Reached.TheVariants.{Claimed, Ready, Refused, Waits}
@@ -25,8 +25,7 @@ pub returns-in_default : goal.returns-in_default
 returns-in_default g c =
     let s = c.list-answer in
     record {
-      book = s.ensures.book;
-      desk = s.ensures.desk;
+      held = (s.ensures.book ∙ c.requires.held.0, s.ensures.desk ∙ c.requires.held.1);
       leads = listed g.W.TaskWaker.whose c.args.ticket s.new.ticket c.args.waker s.result.0 s.new.waker (next_by (Waits s.new.ticket)) c.requires.stands s.ensures.did
           (rests s.result.0 s.new.ticket c.in_default.not-Ready c.in_default.not-Claimed c.in_default.not-Memory) refl;
     }

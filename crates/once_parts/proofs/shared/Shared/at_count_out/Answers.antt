@@ -6,9 +6,13 @@ use Rattle.once_world.specs.Places.{AtCountOut}
 use Rattle.once_parts.proofs.Walk.Ways.{led}
 use Rattle.once_parts.proofs.shared.Shared.at_count_out.Goals as goal
 
-pub returns-clause-leads : goal.returns-clause-leads
-returns-clause-leads g c =
+pub returns : goal.returns
+returns g c =
     let e = c.args.ending in
     let word = flags_of c.count_out.result in
     let alone : is_ready_bit word ≡ false = ap is_ready_bit (sym c.from_bits.ensures) ∙ sym c.is_ready_alone.ensures ∙ c.if-is_ready_alone.false in
-    led g.W.TaskWaker.whose (AtCountOut e) (CountedOut word) (next_end e) refl refl (_, refl) c.requires.stands c.count_out.ensures.1 (ap (λ b. after_count_out b e) alone) refl
+    record {
+      cell = c.count_out.ensures.0;
+      leads = led g.W.TaskWaker.whose (AtCountOut e) (CountedOut word) (next_end e) refl refl (_, refl) c.requires.stands c.count_out.ensures.1 (ap (λ b. after_count_out b e) alone) refl;
+      stays = g.met.S.Side.stays_same _;
+    }

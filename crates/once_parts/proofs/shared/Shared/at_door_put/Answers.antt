@@ -5,10 +5,19 @@ use Rattle.once_world.specs.Places.{AtDoorPut, EndMemory}
 use Rattle.once_parts.proofs.Walk.Ways.{led}
 use Rattle.once_parts.proofs.shared.Shared.at_door_put.Goals as goal
 
-pub returns-in_default-clause-leads : goal.returns-in_default-clause-leads
-returns-in_default-clause-leads g c =
-    led g.W.TaskWaker.whose AtDoorPut (PutQueue None) (closing_end EndMemory) refl refl (None, refl) c.requires.stands (0, c.unput.ensures.did)
-    refl (g.met.S.TaskSide.tells.close _ _ c.close.ensures.did)
+pub returns-in_default : goal.returns-in_default
+returns-in_default g c =
+    record {
+      cell = refl;
+      leads = led g.W.TaskWaker.whose AtDoorPut (PutQueue None) (closing_end EndMemory) refl refl (None, refl) c.requires.stands (0, c.unput.ensures.did)
+          refl (g.met.S.TaskSide.tells.close _ _ c.close.ensures.did);
+      stays = c.close.ensures.stays;
+    }
 
-pub returns-clause-leads : goal.returns-clause-leads
-returns-clause-leads g c = c.go_on_from.ensures.leads _ _ c.lock_at_door_put-reached.ensures.leads
+pub returns : goal.returns
+returns g c =
+    record {
+      cell = c.go_on_from.ensures.cell;
+      leads = c.go_on_from.ensures.leads _ _ c.lock_at_door_put-reached.ensures.leads;
+      stays = g.met.S.Side.stays_on _ _ _ c.lock_at_door_put-reached.ensures.stays c.go_on_from.ensures.stays;
+    }

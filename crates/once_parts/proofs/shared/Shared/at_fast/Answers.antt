@@ -6,27 +6,39 @@ use Rattle.once_world.specs.Places.{AtAddOne, AtDoorTake}
 use Rattle.once_parts.proofs.Walk.Ways.{freed, onward}
 use Rattle.once_parts.proofs.shared.Shared.at_fast.Goals as goal
 
-pub returns-then-not-fast-clause-leads : goal.returns-then-not-fast-clause-leads
-returns-then-not-fast-clause-leads g c =
+pub returns-then-not-fast : goal.returns-then-not-fast
+returns-then-not-fast g c =
     let e = c.args.ending in
     let won = c.fast.result in
     let at = freed g.W.TaskWaker.whose e c.is_value-filled.result won (next_at (AtAddOne e))
     c.requires.stands c.fast.ensures.1 c.is_value-filled.ensures (ap (λ b. after_fast b (is_value e) e) c.if-not-fast.true) refl in
-    onward g.W.TaskWaker.whose at c.at_add_one.ensures.leads
+    record {
+      cell = c.at_add_one.ensures.cell ∙ c.fast.ensures.0;
+      leads = onward g.W.TaskWaker.whose at c.at_add_one.ensures.leads;
+      stays = c.at_add_one.ensures.stays;
+    }
 
-pub returns-then-filled-clause-leads : goal.returns-then-filled-clause-leads
-returns-then-filled-clause-leads g c =
+pub returns-then-filled : goal.returns-then-filled
+returns-then-filled g c =
     let e = c.args.ending in
     let won = c.fast.result in
     let fills : is_value e ≡ true = sym c.is_value-filled.ensures ∙ c.if-filled.true in
     let at = freed g.W.TaskWaker.whose e c.is_value-filled.result won (next_at (AtDoorTake e))
     c.requires.stands c.fast.ensures.1 c.is_value-filled.ensures (λ i. after_fast (c.if-not-fast.false i) (fills i) e) refl in
-    onward g.W.TaskWaker.whose at c.at_door_take.ensures.leads
+    record {
+      cell = c.at_door_take.ensures.cell ∙ c.fast.ensures.0;
+      leads = onward g.W.TaskWaker.whose at c.at_door_take.ensures.leads;
+      stays = g.met.S.Side.stays_same _;
+    }
 
-pub returns-clause-leads : goal.returns-clause-leads
-returns-clause-leads g c =
+pub returns : goal.returns
+returns g c =
     let e = c.args.ending in
     let won = c.fast.result in
     let fills : is_value e ≡ false = sym c.is_value-filled.ensures ∙ c.if-filled.false in
-    freed g.W.TaskWaker.whose e c.is_value-filled.result won (next_end e)
-    c.requires.stands c.fast.ensures.1 c.is_value-filled.ensures (λ i. after_fast (c.if-not-fast.false i) (fills i) e) refl
+    record {
+      cell = c.fast.ensures.0;
+      leads = freed g.W.TaskWaker.whose e c.is_value-filled.result won (next_end e)
+          c.requires.stands c.fast.ensures.1 c.is_value-filled.ensures (λ i. after_fast (c.if-not-fast.false i) (fills i) e) refl;
+      stays = g.met.S.Side.stays_same _;
+    }

@@ -10,11 +10,15 @@ use Rattle.once_parts.specs.Shares.{own}
 use Rattle.once_parts.proofs.Walk.Ways.{onward, released}
 use Rattle.once_parts.proofs.shared.Shared.at_release.Goals as goal
 
-pub returns-clause-leads : goal.returns-clause-leads
-returns-clause-leads g c =
+pub returns : goal.returns
+returns g c =
     let out = c.released-out.result in
     let did = subst (λ b. DidCall g.W.TaskWaker.whose (own c.args.self.now) (Was tt (Release b) (Released out) (Release b)) (own_of c.released-out.new.hand))
     c.is_value.ensures c.released-out.ensures.did in
-    onward g.W.TaskWaker.whose
-    (released g.W.TaskWaker.whose c.args.ending out (Release (is_value c.args.ending)) c.requires.stands did (g.met.S.TaskSide.tells.wake _ _ _ c.wake.ensures.did))
-    c.at_count_out.ensures.leads
+    record {
+      cell = c.at_count_out.ensures.cell;
+      leads = onward g.W.TaskWaker.whose
+          (released g.W.TaskWaker.whose c.args.ending out (Release (is_value c.args.ending)) c.requires.stands did (g.met.S.TaskSide.tells.wake _ _ _ c.wake.ensures.did))
+          c.at_count_out.ensures.leads;
+      stays = c.wake.ensures.stays;
+    }

@@ -6,11 +6,15 @@ use Rattle.once_world.specs.Places.{AtCountOut, AtWaitLoad, EndValue}
 use Rattle.once_parts.proofs.Walk.Ways.{led, onward}
 use Rattle.once_parts.proofs.shared.Shared.at_wait_load.Goals as goal
 
-pub returns-then-is_ready-clause-leads : goal.returns-then-is_ready-clause-leads
-returns-then-is_ready-clause-leads g c =
+pub returns-then-is_ready : goal.returns-then-is_ready
+returns-then-is_ready g c =
     let word = flags_of c.load.result in
     let ready : word.ready ≡ true = ap (λ (w : Flags). w.ready) (sym c.from_bits.ensures) ∙ sym c.is_ready.ensures ∙ c.if-is_ready.true in
-    onward g.W.TaskWaker.whose
-    (led g.W.TaskWaker.whose (AtWaitLoad tt c.args.ticket) (Loaded word) (closing_at (AtCountOut EndValue)) refl refl (_, refl) c.requires.stands c.load.ensures.1
-    (ap (λ b. after_load b tt c.args.ticket) ready) (g.met.S.TaskSide.tells.close _ _ c.close.ensures.did))
-    c.at_count_out.ensures.leads
+    record {
+      cell = c.at_count_out.ensures.cell ∙ c.load.ensures.0;
+      leads = onward g.W.TaskWaker.whose
+          (led g.W.TaskWaker.whose (AtWaitLoad tt c.args.ticket) (Loaded word) (closing_at (AtCountOut EndValue)) refl refl (_, refl) c.requires.stands c.load.ensures.1
+          (ap (λ b. after_load b tt c.args.ticket) ready) (g.met.S.TaskSide.tells.close _ _ c.close.ensures.did))
+          c.at_count_out.ensures.leads;
+      stays = c.close.ensures.stays;
+    }

@@ -9,10 +9,15 @@ use Rattle.once_parts.proofs.shared.Shared.steps_left.Goals as goal
 pub go_on-ending-requires : goal.go_on-ending-requires
 go_on-ending-requires g c = record { stands = (false, c.requires.stands) }
 
-pub returns-clause-leads : goal.returns-clause-leads
-returns-clause-leads g c = record {
-  walked = c.go_on-ending.ensures.walked _ _ (walked_none _ _);
-  stands = subst
-      (λ s. Stands g.W.TaskWaker.whose false (g.S.TaskSide.state c.go_on-ending.new.side) (own c.go_on-ending.new.parts) (Ended c.go_on-ending.result) s)
-      (sym c.of.ensures.is) (c.go_on-ending.ensures.stands false c.requires.stands);
-}
+pub returns : goal.returns
+returns g c =
+    record {
+      cell = c.go_on-ending.ensures.cell;
+      leads = record {
+        walked = c.go_on-ending.ensures.walked _ _ (walked_none _ _);
+        stands = subst
+            (λ s. Stands g.W.TaskWaker.whose false (g.S.TaskSide.state c.go_on-ending.new.side) (own c.go_on-ending.new.parts) (Ended c.go_on-ending.result) s)
+            (sym c.of.ensures.is) (c.go_on-ending.ensures.stands false c.requires.stands);
+      };
+      stays = c.go_on-ending.ensures.stays;
+    }
