@@ -168,17 +168,16 @@ def bits_of(text):
 
 
 def lines_with_bits(code, bits):
-    """Yields the number of each line of code that names a bit, and whether it compares or calculates with it. The
-    number of a bit, and a shift by its place, are read as its name."""
+    """Yields each line of code that compares or calculates with a bit, with its number. The number of a bit, and a
+    shift by its place, are read as its name."""
     names = {number: name for name, number in bits.items() if number > 1}
     places = {number.bit_length() - 1: name for number, name in names.items()}
     bit = rf"(?:\w+::)*\b(?:{'|'.join(bits)})\b"
     decodes = re.compile(rf"{SIGN}\s*{bit}|{bit}\s*(?:{SIGN}|=>)|\bassert_(?:eq|ne)!.*{bit}")
     for number, line in enumerate(code.split("\n"), 1):
-        line = SHIFT.sub(lambda found: f"{found[1]} {places.get(int(found[2]), found[2])}", line)
-        line = NUMBER.sub(lambda found: names.get(number_of(found[0]), found[0]), line)
-        if re.search(bit, line):
-            yield number, bool(decodes.search(line))
+        said = SHIFT.sub(lambda found: f"{found[1]} {places.get(int(found[2]), found[2])}", line)
+        if decodes.search(NUMBER.sub(lambda found: names.get(number_of(found[0]), found[0]), said)):
+            yield number, line
 
 
 # In .antt files.
@@ -187,7 +186,6 @@ IMPORTS = re.compile(r"^ *(?:pub )?use .*$", re.M)
 # A line within a module that begins an item: a name with its type, or with patterns and what they give.
 BEGINS = re.compile(r"\s+(?!let |in )((?:(?:pub|abbrev|unfoldable|pattern) )*"
                     r"[^\s(){}\[\].,;:=]+(?: [^:={}→λ]*)?) [:=](?: |$)")
-CONDITION = re.compile(r"(?<![\w'-])cond(?![\w'-])")
 LINE_END = "⏎"
 # A group in brackets with none inside. What it becomes is an argument, but for braces, which hold an argument by name.
 INSIDE = r"([^{}()\[\]]*)"
@@ -204,7 +202,7 @@ def is_argument(token):
 
 
 def calls_in(flat):
-    """Yields the calls of a text without brackets: the name, how many arguments follow it on its line, and in all."""
+    """Yields the calls of a text without brackets: the name, and how many arguments follow it on its line."""
     flat = re.sub(r"[,;@]", " , ", LAMBDA.sub("● | ", flat))
     run, before = [], None
     for token in [*flat.split(), "|"]:
@@ -216,8 +214,7 @@ def calls_in(flat):
         binds = token == ":" or before == "module" or (token == "=" and before in (None, "let", ","))
         if terms and not binds and re.search(r"[^\W\d_]", terms[0]):
             begun = run[run.index(terms[0]):]
-            here = begun.index(LINE_END) if LINE_END in begun else len(begun)
-            yield terms[0], here - 1, len(terms) - 1
+            yield terms[0], (begun.index(LINE_END) if LINE_END in begun else len(begun)) - 1
         run, before = [], token
 
 
@@ -247,7 +244,7 @@ def without_patterns(item):
 
 
 def calls(text):
-    """Yields the calls of a .antt file: the name, how many arguments follow it on its line, and how many in all."""
+    """Yields the calls of a .antt file: the name, and how many arguments follow it on its line."""
     for item in items(text.replace("[]", "⊤").replace("⟦", "(").replace("⟧", ")")):
         flat = without_patterns(item)
         while found := GROUP.search(flat):

@@ -1,25 +1,17 @@
 """What bench/house sees in the pages: their sentences, and how many words each has.
 
-It is not run by itself.
+It is not run by itself, and bench/house says where `pages` of tools/ is.
 """
 import collections
-import os
 import re
-import sys
 
-sys.dont_write_bytecode = True
-sys.path.insert(0, os.path.join(os.path.dirname(os.path.dirname(os.path.abspath(__file__))), "tools"))
 import pages
 
 LONG = 35
 Page = collections.namedtuple("Page", "path size lengths")
 LIST_MARK = re.compile(r"^\s*(?:[-*+]|\d+\.)\s+")
 TABLE_RULE = re.compile(r"\s*\|[\s:|-]+\|\s*$")
-
-
-def cells(line):
-    """Returns the cells of a line of a table."""
-    return re.split(r"(?<!\\)\|", line.strip().strip("|"))
+UNSEEN = ("    ", "#", "<!--")
 
 
 def parts(text):
@@ -28,14 +20,14 @@ def parts(text):
     part, last = [], 0
     for number, line in pages.split(text)[1].items():
         is_table = line.lstrip().startswith("|")
-        apart = is_table or not line.strip() or line.startswith(("    ", "#", "<!--")) or LIST_MARK.match(line)
-        if part and (apart or number != last + 1):
+        is_apart = is_table or not line.strip() or line.startswith(UNSEEN) or LIST_MARK.match(line)
+        if part and (is_apart or number != last + 1):
             yield " ".join(part)
             part = []
         last = number
         if is_table:
-            yield from [] if TABLE_RULE.match(line) else cells(line)
-        elif line.strip() and not line.startswith(("    ", "#", "<!--")):
+            yield from [] if TABLE_RULE.match(line) else re.split(r"(?<!\\)\|", line.strip().strip("|"))
+        elif line.strip() and not line.startswith(UNSEEN):
             part.append(LIST_MARK.sub("", line, count=1).strip())
     yield " ".join(part)
 
@@ -52,13 +44,10 @@ def lengths(text):
                 yield len(words)
 
 
-def read_all(top):
+def read_all():
     """Returns all pages, with the bytes of each and the lengths of its sentences."""
-    found = []
-    for path in pages.pages(top):
-        text = pages.read(top, path)
-        found.append(Page(path, len(text.encode()), list(lengths(text))))
-    return found
+    texts = {path: pages.read(pages.TOP, path) for path in pages.pages(pages.TOP)}
+    return [Page(path, len(text.encode()), list(lengths(text))) for path, text in texts.items()]
 
 
 def rows(all_pages):
@@ -66,7 +55,6 @@ def rows(all_pages):
     yield f"{'page':<24}{'bytes':>8}{'sentences':>11}{'average':>9}{'longest':>9}{f'over {LONG}':>9}"
     whole = Page("all", sum(it.size for it in all_pages), [length for it in all_pages for length in it.lengths])
     for page in [*all_pages, whole]:
-        count = len(page.lengths)
-        average = sum(page.lengths) / count if count else 0.0
-        longest, over = max(page.lengths, default=0), sum(length > LONG for length in page.lengths)
-        yield f"{page.path:<24}{page.size:>8}{count:>11}{average:>9.1f}{longest:>9}{over:>9}"
+        average, longest = sum(page.lengths) / max(len(page.lengths), 1), max(page.lengths, default=0)
+        over = sum(length > LONG for length in page.lengths)
+        yield f"{page.path:<24}{page.size:>8}{len(page.lengths):>11}{average:>9.1f}{longest:>9}{over:>9}"
