@@ -5,6 +5,7 @@ It is not run by itself, and bench/house says where `pages` of tools/ is.
 import collections
 import re
 
+import kit
 import pages
 
 LONG = 35
@@ -46,7 +47,7 @@ def lengths(text):
 
 def read_all():
     """Returns all pages, with the bytes of each and the lengths of its sentences."""
-    texts = {path: pages.read(pages.TOP, path) for path in pages.pages(pages.TOP)}
+    texts = {path: kit.read(kit.TOP, path) for path in pages.pages(kit.TOP)}
     return [Page(path, len(text.encode()), list(lengths(text))) for path, text in texts.items()]
 
 

@@ -16,9 +16,9 @@ TOP = os.path.dirname(os.path.dirname(os.path.abspath(__file__)))
 CRATES = os.path.join(TOP, "crates")
 
 
-def refuse(why, status=2):
-    """Ends the script with one line that says why."""
-    print(f"{os.path.basename(sys.argv[0])}: {why}", file=sys.stderr)
+def refuse(why, status=2, script=os.path.basename(sys.argv[0])):
+    """Ends the script with a line that says why."""
+    print(f"{script}: {why}", file=sys.stderr)
     sys.exit(status)
 
 

@@ -2,11 +2,16 @@
 
 It is not run by itself.
 """
+import collections
 import glob
 import os
 import re
 
-TOP = os.path.dirname(os.path.dirname(os.path.abspath(__file__)))
+import kit
+
+TOP = kit.TOP
+# A block of code between fences: its first line's number, what stands behind the fence, its text, and the line before.
+Block = collections.namedtuple("Block", "line word text before")
 
 
 def pages(top):
@@ -15,41 +20,26 @@ def pages(top):
     return sorted(os.path.relpath(path, top) for path in found)
 
 
-def read(top, path):
-    with open(os.path.join(top, path), encoding="utf-8") as file:
-        return file.read()
-
-
-class Block:
-    """A block of code between fences: its first line's number, what stands behind the fence, its text, and the
-    line before it."""
-
-    def __init__(self, line, word, text, before):
-        self.line, self.word, self.text, self.before = line, word, text, before
-
-
 def split(text):
     """Returns the blocks of a page, and its other lines by number."""
-    blocks, prose, lines = [], {}, text.split("\n")
-    at = 0
+    blocks, prose, lines, at = [], {}, text.split("\n"), 0
     while at < len(lines):
         fence = re.match(r"(```+|~~~+)(.*)$", lines[at])
         if not fence:
             prose[at + 1] = lines[at]
             at += 1
             continue
-        end = at + 1
-        while end < len(lines) and lines[end].rstrip() != fence[1]:
-            end += 1
+        end = next((it for it in range(at + 1, len(lines)) if lines[it].rstrip() == fence[1]), len(lines))
         code = "".join(line + "\n" for line in lines[at + 1:end])
         blocks.append(Block(at + 1, fence[2].strip(), code, lines[at - 1] if at else ""))
         at = end + 1
     return blocks, prose
 
 
-def report(tool, faults, said):
-    """Prints the faults, or what was seen, and returns the status."""
-    for fault in faults:
-        print(fault)
-    print(f"tools/{tool}: {len(faults)} faults" if faults else f"tools/{tool}: {said}")
+def look(tool, said, look_at):
+    """Looks at the pages of the repository that is named, prints the faults, or what was seen, and returns the status."""
+    options = kit.options(said)
+    options.add_argument("--top", default=TOP, metavar="FOLDER", help="the repository, if not this one")
+    faults, seen = look_at(options.parse_args().top)
+    print(*faults, f"tools/{tool}: {f'{len(faults)} faults' if faults else seen}", sep="\n")
     return 1 if faults else 0
