@@ -19,10 +19,6 @@ PART_NAMES = {"enum": "case", "struct": "field", "trait": "item"}
 # A line of a doc comment, and what ends a line of code.
 DOC = re.compile(r"\s*//[/!] ?(.*)")
 REMARK = re.compile(r"(?:^|\s)//.*")
-# What compares two numbers, or makes one of two; and no arrow.
-SIGN = r"(?:==|!=|<=|>=|<<|>>|<|(?<![=-])>|[%&|^+*/]|-(?!>))"
-NUMBER = re.compile(r"\b(?:0x[0-9a-fA-F_]+|\d[\d_]*)(?:u64)?\b")
-SHIFT = re.compile(r"(<<|>>)\s*(\d+)\b")
 
 
 def blank(found):
@@ -81,10 +77,6 @@ def examples(text):
             if is_code:
                 yield start, lines_of(block)
             block = None
-
-
-def words(text):
-    return sum(1 for token in text.split() if re.search(r"\w", token))
 
 
 def without_comments(text):
@@ -153,31 +145,6 @@ def undocumented(text, code):
             for part, further in parts_of("\n".join(code_lines[number:]), kind):
                 if not has_doc(lines, number + further):
                     yield number + further + 1, PART_NAMES[kind], f"{name}::{part}"
-
-
-def number_of(said):
-    """Returns the number that is written so."""
-    digits = said.removesuffix("u64").replace("_", "")
-    return int(digits, 16) if digits.startswith("0x") else int(digits)
-
-
-def bits_of(text):
-    """Returns the constants that the file of the word gives as numbers."""
-    found = re.findall(rf"^(?:pub )?const (\w+): u64 = ({NUMBER.pattern});", text, re.M)
-    return {name: number_of(said) for name, said in found}
-
-
-def lines_with_bits(code, bits):
-    """Yields each line of code that compares or calculates with a bit, with its number. The number of a bit, and a
-    shift by its place, are read as its name."""
-    names = {number: name for name, number in bits.items() if number > 1}
-    places = {number.bit_length() - 1: name for number, name in names.items()}
-    bit = rf"(?:\w+::)*\b(?:{'|'.join(bits)})\b"
-    decodes = re.compile(rf"{SIGN}\s*{bit}|{bit}\s*(?:{SIGN}|=>)|\bassert_(?:eq|ne)!.*{bit}")
-    for number, line in enumerate(code.split("\n"), 1):
-        said = SHIFT.sub(lambda found: f"{found[1]} {places.get(int(found[2]), found[2])}", line)
-        if decodes.search(NUMBER.sub(lambda found: names.get(number_of(found[0]), found[0]), said)):
-            yield number, line
 
 
 # In .antt files.

@@ -1,4 +1,4 @@
-"""What tools/quotes and tools/links share: which pages there are, and how their text is taken apart.
+"""What tools/quotes, tools/links and bench/house share: which pages there are, and how their text is taken apart.
 
 It is not run by itself.
 """
@@ -12,6 +12,9 @@ import kit
 TOP = kit.TOP
 # A block of code between fences: its first line's number, what stands behind the fence, its text, and the line before.
 Block = collections.namedtuple("Block", "line word text before")
+LIST_MARK = re.compile(r"^\s*(?:[-*+]|\d+\.)\s+")
+TABLE_RULE = re.compile(r"\s*\|[\s:|-]+\|\s*$")
+UNSEEN = ("    ", "#", "<!--")
 
 
 def pages(top):
@@ -34,6 +37,37 @@ def split(text):
         blocks.append(Block(at + 1, fence[2].strip(), code, lines[at - 1] if at else ""))
         at = end + 1
     return blocks, prose
+
+
+def parts(text):
+    """Yields what stands by itself in a page: paragraphs, points of lists and cells of tables. Code, headings and what
+    a reader does not see are left out."""
+    part, last = [], 0
+    for number, line in split(text)[1].items():
+        is_table = line.lstrip().startswith("|")
+        is_apart = is_table or not line.strip() or line.startswith(UNSEEN) or LIST_MARK.match(line)
+        if part and (is_apart or number != last + 1):
+            yield " ".join(part)
+            part = []
+        last = number
+        if is_table:
+            yield from [] if TABLE_RULE.match(line) else re.split(r"(?<!\\)\|", line.strip().strip("|"))
+        elif line.strip() and not line.startswith(UNSEEN):
+            part.append(LIST_MARK.sub("", line, count=1).strip())
+    yield " ".join(part)
+
+
+def sentences(text):
+    """Yields how many words each sentence of a page has, and the sentence. What stands between marks of code is one
+    word."""
+    for part in parts(text):
+        said = re.sub(r"(`+).+?\1", "code", part)
+        said = re.sub(r"!\[[^\]]*\]\([^)]*\)", "", said)
+        said = re.sub(r"\[([^\]]*)\]\([^)]*\)", r"\1", said)
+        for sentence in re.split(r"(?<=[.!?])[*_)\"]*\s+", said):
+            words = [word for word in sentence.split() if re.search(r"\w", word)]
+            if any(re.search(r"[^\W\d]", word) for word in words):
+                yield len(words), sentence
 
 
 def look(tool, said, look_at):
