@@ -9,7 +9,8 @@ import re
 NO_CODE = re.compile(r"""//[^\n]*|/\*.*?\*/|\bb?r(\#*)".*?"\1|"(?:\\.|[^"\\])*"|"""
                      r"""(?<![\w'])'(?:\\.[^']*|[^\\'\n])'""", re.S)
 USES = re.compile(r"^[ ]*(?:pub(?:\([^)]*\))? |ghost )?use [^;]*;", re.M)
-CONTRACTS = re.compile(r"\b(?:requires|ensures)\b\*?\s*[\w-]*\s*\{|\bghost\b[^{};]*\{")
+CLAUSE = re.compile(r"\b(?:requires|ensures)\b\*?\s*[\w-]*\s*\{")
+CONTRACTS = re.compile(rf"{CLAUSE.pattern}|\bghost\b[^{{}};]*\{{")
 FUNCTION = re.compile(r"\bfn\s+(\w+)")
 ITEM = re.compile(r"\s*pub (?:const |unsafe )*(fn|struct|enum|trait|const|type|mod) (\w+)")
 # What stands right inside the braces of a public item, and is public with it.
@@ -98,13 +99,23 @@ def line_at(text, place):
     return text.count("\n", 0, place) + 1
 
 
+def end_of_head(code, at):
+    """Returns where the head of a function ends, with its clauses: at its body, or where it has none."""
+    depth = 0
+    while depth or code[at] not in "{;":
+        clause = None if depth else CLAUSE.match(code, at)
+        if clause:
+            at = closing(code, clause.end() - 1)
+            continue
+        depth += {"(": 1, "[": 1, ")": -1, "]": -1}.get(code[at], 0)
+        at += 1
+    return at
+
+
 def bodies(code):
     """Yields the name of each function that has a body, its line, and how many lines stand between its braces."""
     for found in FUNCTION.finditer(code):
-        at, depth = found.end(), 0
-        while depth or code[at] not in "{;":
-            depth += {"(": 1, "[": 1, ")": -1, "]": -1}.get(code[at], 0)
-            at += 1
+        at = end_of_head(code, found.end())
         if code[at] == "{":
             inside = code.count("\n", at, closing(code, at)) - 1
             yield found[1], line_at(code, found.start()), max(inside, 0)

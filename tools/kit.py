@@ -5,6 +5,8 @@ It is not run by itself.
 import argparse
 import contextlib
 import glob
+import importlib.machinery
+import importlib.util
 import os
 import re
 import shutil
@@ -48,6 +50,14 @@ def need(*commands):
     for name in commands:
         if shutil.which(name) is None:
             refuse(f"there is no command {name} on the path")
+
+
+def script(path):
+    """Returns another script as a module."""
+    loader = importlib.machinery.SourceFileLoader(os.path.basename(path), path)
+    module = importlib.util.module_from_spec(importlib.util.spec_from_loader(loader.name, loader))
+    loader.exec_module(module)
+    return module
 
 
 def sources(crate):
