@@ -103,7 +103,7 @@ def optional(folder, name):
 
 
 class Tried:
-    """What `rt try` says of a crate: its status, what stands on its two streams, and whether the code came to its end."""
+    """What `rt try` says of a crate: its status, its two streams, and whether the code came to its end."""
 
     def __init__(self, crate, *words, given=b""):
         """Tries the crate in this folder, with these words and this standard input."""
@@ -186,7 +186,7 @@ def rustc(*words):
 
 
 def rust_program(folder, source, crate=None, *words):
-    """Builds a Rust program, over the Rust crate async-once-cell if its file src/lib.rs is given, and returns its path."""
+    """Builds a Rust program, over async-once-cell if its file src/lib.rs is given, and returns its path."""
     program, over = os.path.join(folder, "over_crate" if crate else "alone"), []
     if crate:
         library = os.path.join(folder, "libasync_once_cell.rlib")

@@ -71,7 +71,7 @@ def sentences(text):
 
 
 def look(tool, said, look_at):
-    """Looks at the pages of the repository that is named, prints the faults, or what was seen, and returns the status."""
+    """Looks at the pages of a repository, prints the faults, or what was seen, and returns the status."""
     options = kit.options(said)
     options.add_argument("--top", default=TOP, metavar="FOLDER", help="the repository, if not this one")
     faults, seen = look_at(options.parse_args().top)
