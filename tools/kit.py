@@ -167,11 +167,12 @@ def count(said):
     return number
 
 
-def build(crate, *words, given=None):
-    """Builds a program by `rt run`, which proves it first if it changed, and returns its path."""
+def build(crate, given=None):
+    """Builds a program by `rt run`, which proves it first if it changed, and runs it once, on its `stdin` if nothing is
+    given. Returns its path."""
     folder = os.path.join(CRATES, crate)
     stdin = optional(folder, "stdin") if given is None else given
-    ran = subprocess.run(["rt", "run", *words], cwd=folder, input=stdin, capture_output=True)
+    ran = subprocess.run(["rt", "run"], cwd=folder, input=stdin, capture_output=True)
     program = os.path.join(folder, "out", crate)
     if ran.returncode or not os.path.exists(program):
         refuse(f"rt run could not build {crate}:\n{ran.stderr.decode(errors='replace')[-3000:]}")
