@@ -29,6 +29,14 @@ def options(said):
     return argparse.ArgumentParser(description=said, formatter_class=argparse.RawDescriptionHelpFormatter)
 
 
+def count(said):
+    """The type of an option that is a number from 1."""
+    number = int(said)
+    if number < 1:
+        raise ValueError
+    return number
+
+
 def read(*path):
     """Returns the text of a file, or refuses."""
     try:
@@ -157,14 +165,6 @@ def take_out(crate, tests):
 
 
 # What is built.
-
-
-def count(said):
-    """The type of an option that is a number from 1."""
-    number = int(said)
-    if number < 1:
-        raise ValueError
-    return number
 
 
 def build(crate, given=None):
