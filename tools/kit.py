@@ -29,6 +29,14 @@ def options(said):
     return argparse.ArgumentParser(description=said, formatter_class=argparse.RawDescriptionHelpFormatter)
 
 
+def count(said):
+    """The type of an option that is a number from 1."""
+    number = int(said)
+    if number < 1:
+        raise ValueError
+    return number
+
+
 def read(*path):
     """Returns the text of a file, or refuses."""
     try:
@@ -126,13 +134,13 @@ def try_tests(crate, *words):
     return {name: said if word == "FAILED" else word for name, word, said in ended}
 
 
-def try_program(crate, *words):
-    """Tries the program in this folder, with its `stdin`, `args` and `data`."""
+def try_program(crate, *words, given=None):
+    """Tries the program in this folder, with its `args`, `data` and `stdin`, or what is given in the place of that."""
     data = os.path.join(crate, "data")
     for path in sorted(glob.glob(os.path.join(data, "**"), recursive=True)):
         words += ("--data", f"{os.path.relpath(path, data)}={path}") if os.path.isfile(path) else ()
     args = optional(crate, "args").decode().splitlines()
-    return Tried(crate, *words, "--", *args, given=optional(crate, "stdin"))
+    return Tried(crate, *words, "--", *args, given=optional(crate, "stdin") if given is None else given)
 
 
 def tests_of(crate):
@@ -157,14 +165,6 @@ def take_out(crate, tests):
 
 
 # What is built.
-
-
-def count(said):
-    """The type of an option that is a number from 1."""
-    number = int(said)
-    if number < 1:
-        raise ValueError
-    return number
 
 
 def build(crate, given=None):
