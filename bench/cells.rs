@@ -1,107 +1,93 @@
 //! Makes operations of a cell, each as often as it is told to: the like of crates/cell_bench.
 //!
-//! Built with `--cfg async_cells` it uses the crate async_once_cell, and without it
-//! std::sync::OnceLock, which knows `get` and `init` alone, of one thread and of several. The lines of standard input and
-//! of standard output are those of crates/cell_bench. The status is 3 at an operation that is not
-//! there.
+//! Built with `--cfg async_cells` it uses the crate async_once_cell, and without it std::sync::OnceLock, which knows
+//! `get` and `init` alone, of one thread and of several. The lines of standard input and of standard output are those
+//! of crates/cell_bench, but that `lost_wake` prints two numbers. The status is 3 at an operation that is not there.
 
 use std::hint::black_box;
-use std::io::{self, BufRead};
+use std::io;
 use std::process::ExitCode;
 
-mod threads {
-    /// The sum of what so many threads give, of which this is one.
-    pub fn sum_of(threads: usize, work: impl Fn() -> u64 + Sync) -> u64 {
-        std::thread::scope(|scope| {
-            let others: Vec<_> = (1..threads).map(|_| scope.spawn(&work)).collect();
-            let mine = work();
-            others.into_iter().fold(mine, |sum, it| sum.wrapping_add(it.join().unwrap()))
-        })
-    }
+/// The sum of what so many operations give.
+#[inline(always)]
+fn sum(count: u64, mut one: impl FnMut() -> u64) -> u64 {
+    (0..count).fold(0, |sum: u64, _| sum.wrapping_add(one()))
+}
+
+/// The sum of what so many threads give, of which this is one.
+fn sum_of(threads: usize, work: impl Fn() -> u64 + Sync) -> u64 {
+    std::thread::scope(|scope| {
+        let others: Vec<_> = (1..threads).map(|_| scope.spawn(&work)).collect();
+        let mine = work();
+        others.into_iter().fold(mine, |sum, it| sum.wrapping_add(it.join().unwrap()))
+    })
 }
 
 #[cfg(not(async_cells))]
 mod rounds {
-    use crate::threads::sum_of;
-    use std::hint::black_box;
+    use super::{black_box, sum, sum_of};
     use std::sync::OnceLock;
 
-    pub fn perform(operation: &str, count: u64) -> Option<u64> {
-        match operation {
-            "get" => Some(get(black_box(&OnceLock::from(1)), count)),
-            "init" => Some(init(count)),
-            "get_threads2" => Some(looks(2, count)),
-            "get_threads4" => Some(looks(4, count)),
-            "init_threads2" => Some(fills(2, count)),
-            "init_threads4" => Some(fills(4, count)),
-            _ => None,
-        }
-    }
-
-    fn looks(threads: usize, count: u64) -> u64 {
-        let cell = OnceLock::from(1);
-        sum_of(threads, || get(black_box(&cell), count))
-    }
-
-    fn fills(threads: usize, count: u64) -> u64 {
-        let cells: Vec<OnceLock<u64>> = (0..count).map(|_| OnceLock::new()).collect();
-        sum_of(threads, || cells.iter().map(|cell| *cell.get_or_init(|| 1)).sum())
+    pub fn perform(operation: &str, number: usize, count: u64) -> Option<u64> {
+        Some(match operation {
+            "get" => get(black_box(&OnceLock::from(1)), count),
+            "init" => init(count),
+            "get_threads" => {
+                let cell = OnceLock::from(1);
+                sum_of(number, || get(black_box(&cell), count))
+            }
+            "init_threads" => {
+                let cells: Vec<OnceLock<u64>> = (0..count).map(|_| OnceLock::new()).collect();
+                sum_of(number, || cells.iter().map(|cell| *cell.get_or_init(|| 1)).sum())
+            }
+            _ => return None,
+        })
     }
 
     #[inline(never)]
     fn get(cell: &OnceLock<u64>, count: u64) -> u64 {
-        let mut sum: u64 = 0;
-        for _ in 0..count {
-            sum = sum.wrapping_add(cell.get().copied().unwrap_or(0));
-        }
-        sum
+        sum(count, || cell.get().copied().unwrap_or(0))
     }
 
     #[inline(never)]
     fn init(count: u64) -> u64 {
-        let mut sum: u64 = 0;
-        for _ in 0..count {
-            let cell = OnceLock::new();
-            let value = black_box(&cell).get_or_init(|| 1);
-            sum = sum.wrapping_add(*value);
-        }
-        sum
+        sum(count, || *black_box(&OnceLock::new()).get_or_init(|| 1))
     }
 }
 
 #[cfg(async_cells)]
 mod rounds {
-    use crate::threads::sum_of;
+    use super::{black_box, sum, sum_of};
     use async_once_cell::{Lazy, OnceCell};
     use std::cell::Cell;
     use std::future::{Future, Ready, ready};
-    use std::hint::black_box;
+    use std::hint::spin_loop;
+    use std::ops::Deref;
     use std::pin::{Pin, pin};
     use std::sync::Arc;
-    use std::sync::atomic::{AtomicU64, Ordering};
+    use std::sync::atomic::{AtomicU64, AtomicUsize, Ordering::SeqCst};
     use std::task::{Context, Poll, Wake, Waker};
     use std::thread::{self, Thread};
 
     /// Counts how often it was called.
+    #[derive(Default)]
     struct Calls(AtomicU64);
 
     impl Calls {
         /// Whether it was called since this was last asked.
         fn were_made(&self) -> bool {
-            self.0.swap(0, Ordering::Relaxed) > 0
+            self.0.swap(0, SeqCst) > 0
         }
     }
 
     impl Wake for Calls {
         fn wake(self: Arc<Self>) {
-            self.0.fetch_add(1, Ordering::Relaxed);
+            self.0.fetch_add(1, SeqCst);
         }
     }
 
-    fn wakers(number: usize) -> Vec<Waker> {
-        (0..number)
-            .map(|_| Waker::from(Arc::new(Calls(AtomicU64::new(0)))))
-            .collect()
+    fn waker() -> Waker {
+        Waker::from(Arc::new(Calls::default()))
     }
 
     /// Is pending while its switch is off, and gives 1 once it is on.
@@ -111,11 +97,7 @@ mod rounds {
         type Output = u64;
 
         fn poll(self: Pin<&mut Self>, _cx: &mut Context<'_>) -> Poll<u64> {
-            if self.0.get() {
-                Poll::Ready(1)
-            } else {
-                Poll::Pending
-            }
+            if self.0.get() { Poll::Ready(1) } else { Poll::Pending }
         }
     }
 
@@ -134,36 +116,30 @@ mod rounds {
         }
     }
 
-    pub fn perform(operation: &str, count: u64) -> Option<u64> {
-        match operation {
-            "get" => Some(get(black_box(&OnceCell::new_with(1)), count)),
-            "init" => Some(init(count)),
-            "late" => Some(late(black_box(&OnceCell::new_with(1)), count)),
-            "listed" => Some(listed(count)),
-            "waiters1" => Some(waiters(1, count)),
-            "waiters10" => Some(waiters(10, count)),
-            "waiters100" => Some(waiters(100, count)),
-            "waiters1000" => Some(waiters(1_000, count)),
-            "waiters10000" => Some(waiters(10_000, count)),
-            "drops10000" => Some(drops(10_000, count)),
-            "failure1" => Some(failures(1, count)),
-            "failure10" => Some(failures(10, count)),
-            "failure100" => Some(failures(100, count)),
-            "turns10" => Some(turns(10, count)),
-            "turns100" => Some(turns(100, count)),
-            "get_threads2" => Some(looks(2, count)),
-            "get_threads4" => Some(looks(4, count)),
-            "init_threads2" => Some(fills(2, count)),
-            "init_threads4" => Some(fills(4, count)),
-            "lazy_first" => Some(lazy_first(count)),
-            "lazy_later" => Some(lazy_later(black_box(&Lazy::with_value(1)), count)),
-            _ => None,
-        }
-    }
-
-    fn looks(threads: usize, count: u64) -> u64 {
-        let cell = OnceCell::new_with(1);
-        sum_of(threads, || get(black_box(&cell), count))
+    pub fn perform(operation: &str, number: usize, count: u64) -> Option<u64> {
+        let wakers: Vec<_> = (0..=number).map(|_| waker()).collect();
+        let cx = &mut Context::from_waker(&wakers[number]);
+        Some(match operation {
+            "get" => get(black_box(&OnceCell::new_with(1)), count),
+            "init" => init(count, cx),
+            "late" => late(black_box(&OnceCell::new_with(1)), count, cx),
+            "listed" => listed(count, cx),
+            "waiters" => waiters(&wakers[..number], count, cx),
+            "drops" => drops(&wakers[..number], count, cx),
+            "failure" => failures(number, count, cx),
+            "turns" => turns(number, count),
+            "get_threads" => {
+                let cell = OnceCell::new_with(1);
+                sum_of(number, || get(black_box(&cell), count))
+            }
+            "init_threads" => {
+                let cells: Vec<OnceCell<u64>> = (0..count).map(|_| OnceCell::new()).collect();
+                sum_of(number, || cells.iter().map(|cell| *block_on(cell.get_or_init(ready(1)))).sum())
+            }
+            "lazy_first" => lazy_first(count, cx),
+            "lazy_later" => lazy_later(black_box(&Lazy::with_value(1)), count, cx),
+            _ => return None,
+        })
     }
 
     /// Wakes a thread that parked.
@@ -186,124 +162,60 @@ mod rounds {
         }
     }
 
-    fn fills(threads: usize, count: u64) -> u64 {
-        let cells: Vec<OnceCell<u64>> = (0..count).map(|_| OnceCell::new()).collect();
-        sum_of(threads, || cells.iter().map(|cell| *block_on(cell.get_or_init(ready(1)))).sum())
-    }
-
     #[inline(never)]
     fn get(cell: &OnceCell<u64>, count: u64) -> u64 {
-        let mut sum: u64 = 0;
-        for _ in 0..count {
-            sum = sum.wrapping_add(cell.get().copied().unwrap_or(0));
-        }
-        sum
+        sum(count, || cell.get().copied().unwrap_or(0))
     }
 
     #[inline(never)]
-    fn init(count: u64) -> u64 {
-        let wakers = wakers(1);
-        let mut cx = Context::from_waker(&wakers[0]);
-        let mut sum: u64 = 0;
-        for _ in 0..count {
+    fn init(count: u64, cx: &mut Context<'_>) -> u64 {
+        sum(count, || {
             let cell = OnceCell::new();
-            let future = pin!(black_box(&cell).get_or_init(ready(1)));
-            sum = sum.wrapping_add(value_of(future.poll(&mut cx)));
-        }
-        sum
+            value_of(pin!(black_box(&cell).get_or_init(ready(1))), cx)
+        })
     }
 
     #[inline(never)]
-    fn late(cell: &OnceCell<u64>, count: u64) -> u64 {
-        let wakers = wakers(1);
-        let mut cx = Context::from_waker(&wakers[0]);
-        let mut sum: u64 = 0;
-        for _ in 0..count {
-            let future = pin!(cell.get_or_init(ready(1)));
-            sum = sum.wrapping_add(value_of(future.poll(&mut cx)));
-        }
-        sum
+    fn late(cell: &OnceCell<u64>, count: u64, cx: &mut Context<'_>) -> u64 {
+        sum(count, || value_of(pin!(cell.get_or_init(ready(1))), cx))
     }
 
     #[inline(never)]
-    fn listed(count: u64) -> u64 {
-        let wakers = wakers(2);
-        let (cell, switch) = (OnceCell::new(), Cell::new(false));
+    fn listed(count: u64, holding: &mut Context<'_>) -> u64 {
+        let (cell, switch, waker) = (OnceCell::new(), Cell::new(false), waker());
+        let cx = &mut Context::from_waker(&waker);
         let mut holder = pin!(cell.get_or_init(Switched(&switch)));
         let mut waiter = pin!(cell.get_or_init(Switched(&switch)));
-        let mut holding = Context::from_waker(&wakers[0]);
-        let mut cx = Context::from_waker(&wakers[1]);
-        let mut sum = value_of(holder.as_mut().poll(&mut holding));
-        for _ in 0..=count {
-            sum = sum.wrapping_add(value_of(waiter.as_mut().poll(&mut cx)));
-        }
+        let pending = value_of(holder.as_mut(), holding) + sum(count + 1, || value_of(waiter.as_mut(), cx));
         switch.set(true);
-        sum = sum.wrapping_add(value_of(holder.as_mut().poll(&mut holding)));
-        sum.wrapping_add(value_of(waiter.as_mut().poll(&mut cx)))
-    }
-
-    #[inline(never)]
-    fn waiters(waiting: usize, count: u64) -> u64 {
-        let wakers = wakers(waiting + 1);
-        let mut sum: u64 = 0;
-        for _ in 0..count {
-            sum = sum.wrapping_add(round(&wakers));
-        }
-        sum
+        pending + value_of(holder, holding) + value_of(waiter, cx)
     }
 
     // The crate knows a waker that is listed already, so each future has one of its own.
-    fn round(wakers: &[Waker]) -> u64 {
-        let waiting = wakers.len() - 1;
-        let (cell, switch) = (OnceCell::new(), Cell::new(false));
-        let mut holder = pin!(cell.get_or_init(Switched(&switch)));
-        let mut cx = Context::from_waker(&wakers[waiting]);
-        let mut sum = value_of(holder.as_mut().poll(&mut cx));
-        let mut waiters = Vec::with_capacity(waiting);
-        for _ in 0..waiting {
-            waiters.push(cell.get_or_init(Switched(&switch)));
-        }
-        for (waiter, waker) in waiters.iter_mut().zip(wakers) {
-            // Safety: it stays where it lies until it is dropped there.
-            let waiter = unsafe { Pin::new_unchecked(waiter) };
-            sum = sum.wrapping_add(value_of(waiter.poll(&mut Context::from_waker(waker))));
-        }
-        switch.set(true);
-        sum = sum.wrapping_add(value_of(holder.as_mut().poll(&mut cx)));
-        for (waiter, waker) in waiters.iter_mut().zip(wakers) {
-            // Safety: as above.
-            let waiter = unsafe { Pin::new_unchecked(waiter) };
-            sum = sum.wrapping_add(value_of(waiter.poll(&mut Context::from_waker(waker))));
-        }
-        sum
+    #[inline(never)]
+    fn waiters(wakers: &[Waker], count: u64, holding: &mut Context<'_>) -> u64 {
+        sum(count, || {
+            let (cell, switch) = (OnceCell::new(), Cell::new(false));
+            let mut holder = pin!(cell.get_or_init(Switched(&switch)));
+            let mut sum = value_of(holder.as_mut(), holding);
+            let mut waiters: Vec<_> = wakers.iter().map(|_| cell.get_or_init(Switched(&switch))).collect();
+            sum = sum.wrapping_add(value_of_each(&mut waiters, wakers));
+            switch.set(true);
+            sum = sum.wrapping_add(value_of(holder, holding));
+            sum.wrapping_add(value_of_each(&mut waiters, wakers))
+        })
     }
 
     // Nobody gets a value, so the sum is 0. Those who wait are dropped first, the oldest first.
     #[inline(never)]
-    fn drops(waiting: usize, count: u64) -> u64 {
-        let wakers = wakers(waiting + 1);
-        let mut sum: u64 = 0;
-        for _ in 0..count {
-            sum = sum.wrapping_add(all_dropped(&wakers));
-        }
-        sum
-    }
-
-    fn all_dropped(wakers: &[Waker]) -> u64 {
-        let waiting = wakers.len() - 1;
-        let (cell, switch) = (OnceCell::new(), Cell::new(false));
-        let mut holder = pin!(cell.get_or_init(Switched(&switch)));
-        let mut sum = value_of(holder.as_mut().poll(&mut Context::from_waker(&wakers[waiting])));
-        let mut waiters = Vec::with_capacity(waiting);
-        for _ in 0..waiting {
-            waiters.push(cell.get_or_init(Switched(&switch)));
-        }
-        for (waiter, waker) in waiters.iter_mut().zip(wakers) {
-            // Safety: it stays where it lies until it is dropped there.
-            let waiter = unsafe { Pin::new_unchecked(waiter) };
-            sum = sum.wrapping_add(value_of(waiter.poll(&mut Context::from_waker(waker))));
-        }
-        sum
+    fn drops(wakers: &[Waker], count: u64, holding: &mut Context<'_>) -> u64 {
+        sum(count, || {
+            let (cell, switch) = (OnceCell::new(), Cell::new(false));
+            let holder = pin!(cell.get_or_init(Switched(&switch)));
+            let sum = value_of(holder, holding);
+            let mut waiters: Vec<_> = wakers.iter().map(|_| cell.get_or_init(Switched(&switch))).collect();
+            sum.wrapping_add(value_of_each(&mut waiters, wakers))
+        })
     }
 
     /// A future that waits, and the waker of its task.
@@ -314,105 +226,110 @@ mod rounds {
         has_ended: bool,
     }
 
-    impl<F> Waiter<F> {
+    impl<'a, F: Future<Output = Result<&'a u64, u64>>> Waiter<F> {
         fn new(future: F) -> Self {
-            let calls = Arc::new(Calls(AtomicU64::new(0)));
-            let waker = Waker::from(calls.clone());
-            let future = Box::pin(future);
-            Waiter { future, calls, waker, has_ended: false }
+            let calls = Arc::new(Calls::default());
+            Waiter { future: Box::pin(future), waker: calls.clone().into(), calls, has_ended: false }
         }
 
         /// Polls it: the value or the error, and 0 where it is pending.
-        fn poll<'a>(&mut self) -> u64
-        where
-            F: Future<Output = Result<&'a u64, u64>>,
-        {
+        fn poll(&mut self) -> u64 {
             let answer = self.future.as_mut().poll(&mut Context::from_waker(&self.waker));
             self.has_ended = answer.is_ready();
             number_of(answer)
+        }
+
+        /// The same if it was called since.
+        fn poll_if_called(&mut self) -> u64 {
+            if self.calls.were_made() && !self.has_ended { self.poll() } else { 0 }
         }
     }
 
     // A new holder gets the right, whoever was called waits again, and the holder fails.
     #[inline(never)]
-    fn failures(waiting: usize, count: u64) -> u64 {
+    fn failures(waiting: usize, count: u64, cx: &mut Context<'_>) -> u64 {
         let cell = OnceCell::new();
         let new = || black_box(&cell).get_or_try_init(Failing(false));
-        let wakers = wakers(1);
-        let mut cx = Context::from_waker(&wakers[0]);
         let mut first = Waiter::new(new());
-        let mut sum = first.poll();
+        let pending = first.poll();
         let mut waiters: Vec<_> = (0..waiting).map(|_| Waiter::new(new())).collect();
-        for waiter in &mut waiters {
-            sum = sum.wrapping_add(waiter.poll());
-        }
+        let pending = waiters.iter_mut().fold(pending, |sum, waiter| sum.wrapping_add(waiter.poll()));
         drop(first);
-        for _ in 0..count {
+        pending.wrapping_add(sum(count, || {
             let mut holder = pin!(new());
-            sum = sum.wrapping_add(number_of(holder.as_mut().poll(&mut cx)));
-            for waiter in &mut waiters {
-                if waiter.calls.were_made() {
-                    sum = sum.wrapping_add(waiter.poll());
-                }
-            }
-            sum = sum.wrapping_add(number_of(holder.as_mut().poll(&mut cx)));
-        }
-        sum
-    }
-
-    #[inline(never)]
-    fn turns(waiting: usize, count: u64) -> u64 {
-        let mut sum: u64 = 0;
-        for _ in 0..count {
-            sum = sum.wrapping_add(all_turns(waiting));
-        }
-        sum
+            let held = number_of(holder.as_mut().poll(cx));
+            let called = waiters.iter_mut().fold(held, |sum, waiter| sum.wrapping_add(waiter.poll_if_called()));
+            called.wrapping_add(number_of(holder.as_mut().poll(cx)))
+        }))
     }
 
     // A holder fails, and then each who waits. Whoever was called is polled, in turn, until all ended.
-    fn all_turns(waiting: usize) -> u64 {
-        let cell = OnceCell::new();
-        let new = || Waiter::new(black_box(&cell).get_or_try_init(Failing(false)));
-        let mut holder = new();
-        let mut sum = holder.poll();
-        let mut waiters: Vec<_> = (0..waiting).map(|_| new()).collect();
-        for waiter in &mut waiters {
-            sum = sum.wrapping_add(waiter.poll());
-        }
-        sum = sum.wrapping_add(holder.poll());
-        while waiters.iter().any(|waiter| !waiter.has_ended) {
-            for waiter in &mut waiters {
-                if waiter.calls.were_made() && !waiter.has_ended {
-                    sum = sum.wrapping_add(waiter.poll());
-                }
+    #[inline(never)]
+    fn turns(waiting: usize, count: u64) -> u64 {
+        sum(count, || {
+            let cell = OnceCell::new();
+            let new = || Waiter::new(black_box(&cell).get_or_try_init(Failing(false)));
+            let mut holder = new();
+            let mut sum = holder.poll();
+            let mut waiters: Vec<_> = (0..waiting).map(|_| new()).collect();
+            sum = waiters.iter_mut().fold(sum, |sum, waiter| sum.wrapping_add(waiter.poll()));
+            sum = sum.wrapping_add(holder.poll());
+            while waiters.iter().any(|waiter| !waiter.has_ended) {
+                sum = waiters.iter_mut().fold(sum, |sum, waiter| sum.wrapping_add(waiter.poll_if_called()));
             }
-        }
-        sum
+            sum
+        })
     }
 
     #[inline(never)]
-    fn lazy_first(count: u64) -> u64 {
-        let wakers = wakers(1);
-        let mut cx = Context::from_waker(&wakers[0]);
-        let mut sum: u64 = 0;
-        for _ in 0..count {
+    fn lazy_first(count: u64, cx: &mut Context<'_>) -> u64 {
+        sum(count, || {
             let lazy = pin!(Lazy::new(ready(1)));
-            let future = pin!(black_box(lazy.as_ref()).get());
-            sum = sum.wrapping_add(value_of(future.poll(&mut cx)));
-        }
-        sum
+            value_of(pin!(black_box(lazy.as_ref()).get()), cx)
+        })
     }
 
     #[inline(never)]
-    fn lazy_later(lazy: &Lazy<u64, Ready<u64>>, count: u64) -> u64 {
-        let wakers = wakers(1);
-        let mut cx = Context::from_waker(&wakers[0]);
-        let mut sum: u64 = 0;
-        for _ in 0..count {
-            let future = pin!(Pin::new(lazy).get());
-            sum = sum.wrapping_add(value_of(future.poll(&mut cx)));
+    fn lazy_later(lazy: &Lazy<u64, Ready<u64>>, count: u64, cx: &mut Context<'_>) -> u64 {
+        sum(count, || value_of(pin!(Pin::new(lazy).get()), cx))
+    }
+
+    /// Waits until two threads are here, and a little longer.
+    fn meet(arrived: &AtomicUsize, delay: u64) {
+        arrived.fetch_add(1, SeqCst);
+        while arrived.load(SeqCst) < 2 {
+            spin_loop();
         }
-        sum
+        (0..delay).for_each(|_| spin_loop());
+    }
+
+    /// In how many rounds a waiter is pending and was not woken while nobody holds, and in how many of these a later
+    /// caller waits as well.
+    pub fn lost_wake(count: u64) -> (u64, u64) {
+        let both = (0..count).map(|number| lost_and_stuck(number % 64));
+        both.fold((0, 0), |sum, (is_lost, is_stuck)| (sum.0 + u64::from(is_lost), sum.1 + u64::from(is_stuck)))
+    }
+
+    fn lost_and_stuck(delay: u64) -> (bool, bool) {
+        let (cell, arrived) = (OnceCell::new(), AtomicUsize::new(0));
+        let ready = |value| cell.get_or_try_init(ready(Ok::<u64, u64>(value)));
+        let mut holder = Waiter::new(cell.get_or_try_init(Failing(false)));
+        holder.poll();
+        let holds = !holder.has_ended;
+        Waiter::new(ready(2)).poll();
+        let mut waiter = Waiter::new(ready(3));
+        std::thread::scope(|scope| {
+            let other = scope.spawn(|| {
+                meet(&arrived, 0);
+                waiter.poll();
+            });
+            meet(&arrived, delay);
+            holder.poll();
+            other.join().unwrap();
+        });
+        let is_lost = holds && holder.has_ended && !waiter.has_ended && !waiter.calls.were_made();
+        let mut later = Waiter::new(ready(4));
+        (is_lost, is_lost && later.poll() == 0 && !later.calls.were_made())
     }
 
     /// The value or the error of a poll, and 0 where it is pending.
@@ -424,29 +341,39 @@ mod rounds {
         }
     }
 
-    /// The value of a poll, and 0 where it is pending.
-    fn value_of<P: std::ops::Deref<Target = u64>>(polled: Poll<P>) -> u64 {
-        match polled {
+    /// The value that a poll gives, and 0 where it is pending.
+    fn value_of<F: Future<Output: Deref<Target = u64>>>(future: Pin<&mut F>, cx: &mut Context<'_>) -> u64 {
+        match future.poll(cx) {
             Poll::Ready(value) => *value,
             Poll::Pending => 0,
         }
     }
+
+    /// The sum of the values that a poll of each gives.
+    fn value_of_each<F: Future<Output: Deref<Target = u64>>>(futures: &mut [F], wakers: &[Waker]) -> u64 {
+        futures.iter_mut().zip(wakers).fold(0, |sum: u64, (future, waker)| {
+            // Safety: each stays where it lies until it is dropped there.
+            let future = unsafe { Pin::new_unchecked(future) };
+            sum.wrapping_add(value_of(future, &mut Context::from_waker(waker)))
+        })
+    }
 }
 
 fn main() -> ExitCode {
-    for line in io::stdin().lock().lines() {
-        let Ok(line) = line else {
+    for line in io::stdin().lines() {
+        let Ok(line) = line else { return ExitCode::from(2) };
+        let Some((name, Ok(count))) = line.split_once(' ').map(|(name, count)| (name, count.parse())) else {
             return ExitCode::from(2);
         };
-        let Some((name, Ok(count))) = line
-            .split_once(' ')
-            .map(|(name, count)| (name, count.parse::<u64>()))
-        else {
-            return ExitCode::from(2);
-        };
-        let Some(sum) = rounds::perform(name, black_box(count)) else {
-            return ExitCode::from(3);
-        };
+        #[cfg(async_cells)]
+        if name == "lost_wake" {
+            let (lost, stuck) = rounds::lost_wake(count);
+            println!("{line} {lost} {stuck}");
+            continue;
+        }
+        let operation = name.trim_end_matches(|it: char| it.is_ascii_digit());
+        let number = name[operation.len()..].parse().unwrap_or(0);
+        let Some(sum) = rounds::perform(operation, number, black_box(count)) else { return ExitCode::from(3) };
         println!("{line} {sum}");
     }
     ExitCode::SUCCESS

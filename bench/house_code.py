@@ -9,7 +9,8 @@ import re
 NO_CODE = re.compile(r"""//[^\n]*|/\*.*?\*/|\bb?r(\#*)".*?"\1|"(?:\\.|[^"\\])*"|"""
                      r"""(?<![\w'])'(?:\\.[^']*|[^\\'\n])'""", re.S)
 USES = re.compile(r"^[ ]*(?:pub(?:\([^)]*\))? |ghost )?use [^;]*;", re.M)
-CONTRACTS = re.compile(r"\b(?:requires|ensures)\b\*?\s*[\w-]*\s*\{|\bghost\b[^{};]*\{")
+CLAUSE = re.compile(r"\b(?:requires|ensures)\b\*?\s*[\w-]*\s*\{")
+CONTRACTS = re.compile(rf"{CLAUSE.pattern}|\bghost\b[^{{}};]*\{{")
 FUNCTION = re.compile(r"\bfn\s+(\w+)")
 ITEM = re.compile(r"\s*pub (?:const |unsafe )*(fn|struct|enum|trait|const|type|mod) (\w+)")
 # What stands right inside the braces of a public item, and is public with it.
@@ -19,10 +20,6 @@ PART_NAMES = {"enum": "case", "struct": "field", "trait": "item"}
 # A line of a doc comment, and what ends a line of code.
 DOC = re.compile(r"\s*//[/!] ?(.*)")
 REMARK = re.compile(r"(?:^|\s)//.*")
-# What compares two numbers, or makes one of two; and no arrow.
-SIGN = r"(?:==|!=|<=|>=|<<|>>|<|(?<![=-])>|[%&|^+*/]|-(?!>))"
-NUMBER = re.compile(r"\b(?:0x[0-9a-fA-F_]+|\d[\d_]*)(?:u64)?\b")
-SHIFT = re.compile(r"(<<|>>)\s*(\d+)\b")
 
 
 def blank(found):
@@ -83,10 +80,6 @@ def examples(text):
             block = None
 
 
-def words(text):
-    return sum(1 for token in text.split() if re.search(r"\w", token))
-
-
 def without_comments(text):
     """Returns the text of a .rt file without comments, texts and `use` lines."""
     return USES.sub(blank, NO_CODE.sub(blank, text))
@@ -106,13 +99,23 @@ def line_at(text, place):
     return text.count("\n", 0, place) + 1
 
 
+def end_of_head(code, at):
+    """Returns where the head of a function ends, with its clauses: at its body, or where it has none."""
+    depth = 0
+    while depth or code[at] not in "{;":
+        clause = None if depth else CLAUSE.match(code, at)
+        if clause:
+            at = closing(code, clause.end() - 1)
+            continue
+        depth += {"(": 1, "[": 1, ")": -1, "]": -1}.get(code[at], 0)
+        at += 1
+    return at
+
+
 def bodies(code):
     """Yields the name of each function that has a body, its line, and how many lines stand between its braces."""
     for found in FUNCTION.finditer(code):
-        at, depth = found.end(), 0
-        while depth or code[at] not in "{;":
-            depth += {"(": 1, "[": 1, ")": -1, "]": -1}.get(code[at], 0)
-            at += 1
+        at = end_of_head(code, found.end())
         if code[at] == "{":
             inside = code.count("\n", at, closing(code, at)) - 1
             yield found[1], line_at(code, found.start()), max(inside, 0)
@@ -155,39 +158,12 @@ def undocumented(text, code):
                     yield number + further + 1, PART_NAMES[kind], f"{name}::{part}"
 
 
-def number_of(said):
-    """Returns the number that is written so."""
-    digits = said.removesuffix("u64").replace("_", "")
-    return int(digits, 16) if digits.startswith("0x") else int(digits)
-
-
-def bits_of(text):
-    """Returns the constants that the file of the word gives as numbers."""
-    found = re.findall(rf"^(?:pub )?const (\w+): u64 = ({NUMBER.pattern});", text, re.M)
-    return {name: number_of(said) for name, said in found}
-
-
-def lines_with_bits(code, bits):
-    """Yields the number of each line of code that names a bit, and whether it compares or calculates with it. The
-    number of a bit, and a shift by its place, are read as its name."""
-    names = {number: name for name, number in bits.items() if number > 1}
-    places = {number.bit_length() - 1: name for number, name in names.items()}
-    bit = rf"(?:\w+::)*\b(?:{'|'.join(bits)})\b"
-    decodes = re.compile(rf"{SIGN}\s*{bit}|{bit}\s*(?:{SIGN}|=>)|\bassert_(?:eq|ne)!.*{bit}")
-    for number, line in enumerate(code.split("\n"), 1):
-        line = SHIFT.sub(lambda found: f"{found[1]} {places.get(int(found[2]), found[2])}", line)
-        line = NUMBER.sub(lambda found: names.get(number_of(found[0]), found[0]), line)
-        if re.search(bit, line):
-            yield number, bool(decodes.search(line))
-
-
 # In .antt files.
 COMMENT = re.compile(r"(?:^|(?<=\s))--.*$", re.M)
 IMPORTS = re.compile(r"^ *(?:pub )?use .*$", re.M)
 # A line within a module that begins an item: a name with its type, or with patterns and what they give.
 BEGINS = re.compile(r"\s+(?!let |in )((?:(?:pub|abbrev|unfoldable|pattern) )*"
                     r"[^\s(){}\[\].,;:=]+(?: [^:={}→λ]*)?) [:=](?: |$)")
-CONDITION = re.compile(r"(?<![\w'-])cond(?![\w'-])")
 LINE_END = "⏎"
 # A group in brackets with none inside. What it becomes is an argument, but for braces, which hold an argument by name.
 INSIDE = r"([^{}()\[\]]*)"
@@ -204,7 +180,7 @@ def is_argument(token):
 
 
 def calls_in(flat):
-    """Yields the calls of a text without brackets: the name, how many arguments follow it on its line, and in all."""
+    """Yields the calls of a text without brackets: the name, and how many arguments follow it on its line."""
     flat = re.sub(r"[,;@]", " , ", LAMBDA.sub("● | ", flat))
     run, before = [], None
     for token in [*flat.split(), "|"]:
@@ -216,8 +192,7 @@ def calls_in(flat):
         binds = token == ":" or before == "module" or (token == "=" and before in (None, "let", ","))
         if terms and not binds and re.search(r"[^\W\d_]", terms[0]):
             begun = run[run.index(terms[0]):]
-            here = begun.index(LINE_END) if LINE_END in begun else len(begun)
-            yield terms[0], here - 1, len(terms) - 1
+            yield terms[0], (begun.index(LINE_END) if LINE_END in begun else len(begun)) - 1
         run, before = [], token
 
 
@@ -247,7 +222,7 @@ def without_patterns(item):
 
 
 def calls(text):
-    """Yields the calls of a .antt file: the name, how many arguments follow it on its line, and how many in all."""
+    """Yields the calls of a .antt file: the name, and how many arguments follow it on its line."""
     for item in items(text.replace("[]", "⊤").replace("⟦", "(").replace("⟧", ")")):
         flat = without_patterns(item)
         while found := GROUP.search(flat):

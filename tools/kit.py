@@ -1,0 +1,198 @@
+"""What the scripts of tools/ and bench/ share: the repository's files, and how `rt` and `rustc` are run.
+
+It is not run by itself.
+"""
+import argparse
+import contextlib
+import glob
+import importlib.machinery
+import importlib.util
+import os
+import re
+import shutil
+import subprocess
+import sys
+import tempfile
+
+TOP = os.path.dirname(os.path.dirname(os.path.abspath(__file__)))
+CRATES = os.path.join(TOP, "crates")
+
+
+def refuse(why, status=2, script=os.path.basename(sys.argv[0])):
+    """Ends the script with a line that says why."""
+    print(f"{script}: {why}", file=sys.stderr)
+    sys.exit(status)
+
+
+def options(said):
+    """Returns a parser of options, whose help is what the head of the script says."""
+    return argparse.ArgumentParser(description=said, formatter_class=argparse.RawDescriptionHelpFormatter)
+
+
+def count(said):
+    """The type of an option that is a number from 1."""
+    number = int(said)
+    if number < 1:
+        raise ValueError
+    return number
+
+
+def read(*path):
+    """Returns the text of a file, or refuses."""
+    try:
+        with open(os.path.join(*path), encoding="utf-8") as file:
+            return file.read()
+    except (OSError, UnicodeDecodeError) as why:
+        refuse(f"{os.path.join(*path)} can't be read: {why}")
+
+
+def write(text, *path):
+    """Writes a file, and makes the folders that it lies in."""
+    os.makedirs(os.path.dirname(os.path.join(*path)), exist_ok=True)
+    with open(os.path.join(*path), "w", encoding="utf-8") as file:
+        file.write(text)
+
+
+def need(*commands):
+    """Refuses if a command is not there."""
+    for name in commands:
+        if shutil.which(name) is None:
+            refuse(f"there is no command {name} on the path")
+
+
+def script(path):
+    """Returns another script as a module."""
+    loader = importlib.machinery.SourceFileLoader(os.path.basename(path), path)
+    module = importlib.util.module_from_spec(importlib.util.spec_from_loader(loader.name, loader))
+    loader.exec_module(module)
+    return module
+
+
+def sources(crate):
+    """Returns the paths of all files of code of a crate, which is given by its name or its folder."""
+    return sorted(glob.glob(os.path.join(CRATES, crate, "src", "**", "*.rt"), recursive=True))
+
+
+def named_crates():
+    """Returns what each crate of crates.txt stands on."""
+    lines = [line.split("#")[0].partition(":") for line in read(TOP, "crates.txt").splitlines()]
+    return {name.split()[0]: rest.replace(",", " ").split() for name, _, rest in lines if name.strip()}
+
+
+@contextlib.contextmanager
+def copied():
+    """Gives the folder of the crates of a copy of the repository, without what was built."""
+    with tempfile.TemporaryDirectory() as room:
+        copy = os.path.join(room, "copy")
+        shutil.copytree(TOP, copy, ignore=shutil.ignore_patterns("out", ".git"))
+        yield os.path.join(copy, "crates")
+
+
+def change(path, pairs):
+    """Puts a text in the place of another that has to stand in the file once, for each pair."""
+    text = read(path)
+    for old, new in pairs:
+        if text.count(old) != 1:
+            refuse(f"{path} has this {text.count(old)} times, and not once: {old}")
+        text = text.replace(old, new)
+    write(text, path)
+
+
+def optional(folder, name):
+    """Returns the bytes of a file beside src/, and none where it is not there."""
+    path = os.path.join(folder, name)
+    if not os.path.exists(path):
+        return b""
+    with open(path, "rb") as file:
+        return file.read()
+
+
+# What is run without a proof, by `rt try`.
+
+
+class Tried:
+    """What `rt try` says of a crate: its status, its two streams, and whether the code came to its end."""
+
+    def __init__(self, crate, *words, given=b""):
+        """Tries the crate in this folder, with these words and this standard input."""
+        ran = subprocess.run(["rt", "try", *words], cwd=crate, input=given, capture_output=True)
+        self.status, self.printed, self.said = ran.returncode, ran.stdout, ran.stderr
+        self.has_ended = b"run=ended" in ran.stderr
+
+    def end(self):
+        """Returns the last of what was said."""
+        return (self.printed + self.said).decode(errors="replace")[-3000:]
+
+
+def try_tests(crate, *words):
+    """Returns for each test of the crate in this folder `ok`, or what is said of its failure."""
+    tried = Tried(crate, "--test", *words)
+    text = tried.printed.decode(errors="replace")
+    ended = re.findall(r"^test (\S+) \.\.\. (ok|FAILED)\n((?: +.*\n|\n)*)", text, re.M)
+    if not ended:
+        refuse(f"{crate}: no test was run\n{tried.end()}")
+    return {name: said if word == "FAILED" else word for name, word, said in ended}
+
+
+def try_program(crate, *words, given=None):
+    """Tries the program in this folder, with its `args`, `data` and `stdin`, or what is given in the place of that."""
+    data = os.path.join(crate, "data")
+    for path in sorted(glob.glob(os.path.join(data, "**"), recursive=True)):
+        words += ("--data", f"{os.path.relpath(path, data)}={path}") if os.path.isfile(path) else ()
+    args = optional(crate, "args").decode().splitlines()
+    return Tried(crate, *words, "--", *args, given=optional(crate, "stdin") if given is None else given)
+
+
+def tests_of(crate):
+    """Returns the names of the tests of the crate in this folder, each with its file."""
+    source, found = os.path.join(crate, "src"), {}
+    for path in sources(crate):
+        module = os.path.relpath(path, source)[:-len(".rt")].replace(os.sep, "::")
+        for test in re.findall(r"^#\[test\]\nfn (\w+)", read(path), re.M):
+            found[f"{module}::{test}"] = path
+    return found
+
+
+def take_out(crate, tests):
+    """Takes these tests out of the crate in this folder; one that is not there is refused."""
+    there = tests_of(crate)
+    for test in tests:
+        if test not in there:
+            refuse(f"{os.path.basename(crate)} has no test {test}")
+        name = test.split("::")[-1]
+        pattern = rf"^(?:///?[^\n]*\n)*#\[test\]\nfn {name}\(.*?^}}\n"
+        write(re.sub(pattern, "", read(there[test]), flags=re.M | re.S), there[test])
+
+
+# What is built.
+
+
+def build(crate, given=None):
+    """Builds a program by `rt run`, which proves it first if it changed, and runs it once, on its `stdin` if nothing is
+    given. Returns its path."""
+    folder = os.path.join(CRATES, crate)
+    stdin = optional(folder, "stdin") if given is None else given
+    ran = subprocess.run(["rt", "run"], cwd=folder, input=stdin, capture_output=True)
+    program = os.path.join(folder, "out", crate)
+    if ran.returncode or not os.path.exists(program):
+        refuse(f"rt run could not build {crate}:\n{ran.stderr.decode(errors='replace')[-3000:]}")
+    return program
+
+
+def rustc(*words):
+    """Runs rustc, or refuses what it refuses."""
+    built = subprocess.run(["rustc", "-O", *words], capture_output=True, text=True)
+    if built.returncode:
+        refuse(f"rustc failed:\n{built.stderr}")
+
+
+def rust_program(folder, source, crate=None, *words):
+    """Builds a Rust program, over async-once-cell if its file src/lib.rs is given, and returns its path."""
+    program, over = os.path.join(folder, "over_crate" if crate else "alone"), []
+    if crate:
+        library = os.path.join(folder, "libasync_once_cell.rlib")
+        kind = ["--crate-name", "async_once_cell", "--crate-type", "rlib", "--cfg", 'feature="std"']
+        rustc("--edition", "2021", *kind, "--cap-lints", "allow", "-o", library, crate)
+        over = ["--extern", f"async_once_cell={library}"]
+    rustc("--edition", "2024", *over, *words, "-o", program, source)
+    return program
