@@ -1,7 +1,7 @@
-//! Straight ways of a poll: chains of small functions, one for each place of the machine, whose name and contract have
-//! the place: `at_..` with the lock free, and `locked_..` under it. Each makes the step of its place, and goes on to the
-//! next by its last call. The compiler puts a chain together, so that no step is handed through memory, and the cell's
-//! lock is taken once for all sections of a poll that meets others.
+//! Straight ways of a poll: chains of small functions, one for each place of the machine, named after it: `at_..` with
+//! the lock free, and `locked_..` under it. Each has the place in the text of its contract, makes the step of its
+//! place, and goes on to the next by its last call. The compiler puts a chain together, so that no step is handed
+//! through memory, and the cell's lock is taken once for all sections of a poll that meets others.
 //!
 //! [`Step::advance`](once_core::step::Step::advance) stays the one machine. A way may leave to it at any place, by
 //! `steps_left`, and each step of a way is the line of the table that `advance` has for its place. A side whose waker
