@@ -1,10 +1,10 @@
 -- The poll begins, its steps are made, and so it ends.
-use Rattle.std.proofs.Common.{◌≡◌, false, rules, refl, sym, ap, ◌∙◌}
+use Rattle.std.proofs.Common.{◌≡◌, rules, refl, sym, ap, ◌∙◌}
 use Rattle.once_core.specs.Steps.{step_of_poll}
 use Rattle.once_parts.specs.declared.task.Idle.{Idle}
 use Rattle.once_parts.specs.declared.task.Idle.TheVariants.{New}
 use Rattle.once_parts.specs.Idle.{step_of}
-use Rattle.once_parts.specs.Shares.{cell_of, own}
+use Rattle.once_parts.specs.Shares.{own}
 use Rattle.once_parts.specs.Tasks.{TaskView}
 use Rattle.once_parts.proofs.Idles.{rests}
 use Rattle.once_parts.proofs.Walk.Begins.{rests_there}
