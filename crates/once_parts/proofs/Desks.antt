@@ -152,7 +152,8 @@ module _ {W : Type 0} {g : _} (whose : W → ℕ) (l : Lists W g) (d : Desked) (
       → IsShown whose l' (record d { listings = left_list (passing n k d) k d.listings }) × (named_one whose o ≡ option_to_list (next_waker (passing n k d) k d.listings))
   leave_fits n k l' o handed listings flag =
       let f : Bool = is_free (sees (flags_of n) l.head) in
-      subst (λ (e : Desked). IsShown whose l' (record e { listings = left_list (passing n k e) k e.listings }) × (named_one whose o ≡ option_to_list (next_waker (passing n k e) k e.listings))) shown_is
+      subst (λ (e : Desked). IsShown whose l' (record e { listings = left_list (passing n k e) k e.listings })
+      × (named_one whose o ≡ option_to_list (next_waker (passing n k e) k e.listings))) shown_is
       ((fits.0, flag, left_shown whose f k (listings_of l) (listings_of l') listings), left_out whose f k (listings_of l) o handed)
 
 -- each section, from the page's words to the code's: what lies there after it shows the pages, and the task went on so

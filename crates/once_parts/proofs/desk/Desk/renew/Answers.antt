@@ -9,8 +9,11 @@ use Rattle.once_parts.proofs.desk.Desk.renew.Goals as goal
 pub invariant_of-self-2 : goal.invariant_of-self-2
 invariant_of-self-2 g c =
     let whose = g.W.TaskWaker.whose in
-    let fits = found_shown whose c.self.invariant.1 c.note.ensures.told.0 c.in-Some.is c.deref_mut-lists.ensures.value in
-    (c.note.ensures.desk, renew_fits whose c.deref_mut-lists.result.now (desked c.note.new.desk.held) fits g.N.Renews.renewed c.requires.owner c.args.ticket _ _ c.renew.new.self c.renew.result c.renew.ensures.renewed (λ f. (c.renew.ensures.not f).0) c.renew.ensures.head)
+    let fits = found_shown whose c.self.invariant.1 c.note.ensures.told.0 c.in-Some.is c.deref_mut-lists.ensures.value in (
+      c.note.ensures.desk,
+      renew_fits whose c.deref_mut-lists.result.now (desked c.note.new.desk.held) fits g.N.Renews.renewed c.requires.owner
+          c.args.ticket _ _ c.renew.new.self c.renew.result c.renew.ensures.renewed (λ f. (c.renew.ensures.not f).0) c.renew.ensures.head,
+    )
 
 pub returns-clause-renewed : goal.returns-clause-renewed
 returns-clause-renewed g c = λ r.

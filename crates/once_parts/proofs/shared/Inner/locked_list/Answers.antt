@@ -9,17 +9,20 @@ use Rattle.once_parts.proofs.shared.Inner.locked_list.Goals as goal
 pub returns-in-Ready-clause-leads : goal.returns-in-Ready-clause-leads
 returns-in-Ready-clause-leads g c =
     let s = c.list-answer in
-    listed g.W.TaskWaker.whose c.args.ticket s.new.ticket c.args.waker s.result.0 s.new.waker (next_by Ready) c.requires.stands s.ensures.did (ap (λ a. after_list a tt s.new.ticket) c.in-Ready.is) refl
+    listed g.W.TaskWaker.whose c.args.ticket s.new.ticket c.args.waker s.result.0 s.new.waker (next_by Ready)
+    c.requires.stands s.ensures.did (ap (λ a. after_list a tt s.new.ticket) c.in-Ready.is) refl
 
 pub returns-in-Claimed-clause-leads : goal.returns-in-Claimed-clause-leads
 returns-in-Claimed-clause-leads g c =
     let s = c.list-answer in
-    listed g.W.TaskWaker.whose c.args.ticket s.new.ticket c.args.waker s.result.0 s.new.waker (next_by Claimed) c.requires.stands s.ensures.did (ap (λ a. after_list a tt s.new.ticket) c.in-Claimed.is) refl
+    listed g.W.TaskWaker.whose c.args.ticket s.new.ticket c.args.waker s.result.0 s.new.waker (next_by Claimed)
+    c.requires.stands s.ensures.did (ap (λ a. after_list a tt s.new.ticket) c.in-Claimed.is) refl
 
 pub returns-in-Memory-clause-leads : goal.returns-in-Memory-clause-leads
 returns-in-Memory-clause-leads g c =
     let s = c.list-answer in
-    listed g.W.TaskWaker.whose c.args.ticket s.new.ticket c.args.waker s.result.0 s.new.waker (next_by (Refused s.new.ticket)) c.requires.stands s.ensures.did (ap (λ a. after_list a tt s.new.ticket) c.in-Memory.is) refl
+    listed g.W.TaskWaker.whose c.args.ticket s.new.ticket c.args.waker s.result.0 s.new.waker (next_by (Refused s.new.ticket))
+    c.requires.stands s.ensures.did (ap (λ a. after_list a tt s.new.ticket) c.in-Memory.is) refl
 
 pub returns-in_default : goal.returns-in_default
 returns-in_default g c =
