@@ -1,13 +1,16 @@
--- A poll that came after what was learned came after what was seen before that.
-use Rattle.std.proofs.Common.{◌≡◌, ℕ, List, [], ◌∷◌, ◌++◌, ap, ◌∙◌, refl, subst}
+-- A poll or a leave that came after what was learned came after what was seen before that.
+use Rattle.std.proofs.Common.{◌≡◌, ℕ, List, [], ◌∷◌, ◌++◌, true, false, Option, Some, None, ap, ◌∙◌, refl, subst, sym}
+use Rattle.std.proofs.lemmas.Bool.{false≢true}
+use Rattle.std.specs.Option.{is_some}
 use mathlib.Core.List.{IsPrefix, cons-ne-nil}
 use Rattle.futures.specs.declared.task.context.Context.{Context}
-use Rattle.once_world.specs.Record.{Begin, Entry}
+use Rattle.futures.specs.Task.{Keeps}
+use Rattle.once_world.specs.Record.{Begin, DropBegin, DropEnd, Entry}
 use Rattle.once_parts.specs.Kept.{entries_of}
-use Rattle.once_world.specs.Places.{Ending}
+use Rattle.once_world.specs.Places.{EndDropped, Ending}
 use Rattle.once_parts.specs.Walks.{end_of}
 use Rattle.once_parts.proofs.Desks.{prefix_on}
-use Rattle.async_once_cell.specs.Polls.{CallIn, DidPoll, Ends, SpansIn}
+use Rattle.async_once_cell.specs.Polls.{CallIn, DidPoll, Ends, HasLeft, PollsAs, SpansIn}
 use Rattle.async_once_cell.specs.Views.{CellView, FutureView, Owned, Shared}
 
 -- what begins nothing is nothing
@@ -35,7 +38,7 @@ module _ {T : Type 0} where
   }
 
   -- a future's poll, since all that it learned
-  pub spans_after : {F : Type 0} (old mid new : FutureView T F) (before after : Context) (e : Ending) (seen : List Entry) → mid.cell ≡ old.cell → mid.task ≡ old.task → IsPrefix seen mid.log
+  spans_after : {F : Type 0} (old mid new : FutureView T F) (before after : Context) (e : Ending) (seen : List Entry) → mid.cell ≡ old.cell → mid.task ≡ old.task → IsPrefix seen mid.log
       → DidPoll mid new before after e → SpansIn old.cell old.task (end_of old.task e) seen new.log
   spans_after old mid new before after e seen cell task grown did =
       spans_later old.cell old.task (end_of old.task e) seen mid.log new.log grown
@@ -59,3 +62,28 @@ module _ {T : Type 0} where
     armed = did.armed;
     kept = did.kept;
   }
+
+  -- what a future does by leaving is the same since longer ago
+  pub left_later : {F : Type 0} (old mid new : FutureView T F) → mid.cell ≡ old.cell → mid.task ≡ old.task → IsPrefix old.log mid.log
+      → entries_of old.task mid.log ≡ entries_of old.task old.log → HasLeft mid new → HasLeft old new
+  left_later old mid new cell task grown mine left = record {
+    cell = left.cell ∙ cell;
+    task = left.task ∙ task;
+    gone = ends_later old.cell (end_of old.task EndDropped) old.log mid.log new.log grown
+        (subst (λ (c : CellView T). Ends c (end_of old.task EndDropped) mid.log new.log) cell (subst (λ (t : ℕ). Ends mid.cell (end_of t EndDropped) mid.log new.log) task left.gone));
+    call = call_later old.cell old.task (DropBegin old.task) (DropEnd old.task) old.log mid.log new.log mine
+        (subst (λ (c : CellView T). CallIn c old.task (DropBegin old.task) (DropEnd old.task) mid.log new.log) cell
+        (subst (λ (t : ℕ). CallIn mid.cell t (DropBegin t) (DropEnd t) mid.log new.log) task left.call));
+    finished = left.finished;
+  }
+
+  -- with a token that knows a value a future leaves, and with another one it is polled
+  pub polls_known : {F : Type 0} (k : Option T) (old new : FutureView T F) (before after : Context) (e : Ending) → is_some k ≡ true
+      → HasLeft old new × Keeps before after → PollsAs k old new before after e
+  polls_known (Some x) old new before after e known left = left
+  polls_known None old new before after e known left = absurd (false≢true known)
+
+  pub polls_unknown : {F : Type 0} (k : Option T) (old new : FutureView T F) (before after : Context) (e : Ending) → is_some k ≡ false
+      → DidPoll old new before after e → PollsAs k old new before after e
+  polls_unknown None old new before after e unknown did = did
+  polls_unknown (Some x) old new before after e unknown did = absurd (false≢true (sym unknown))

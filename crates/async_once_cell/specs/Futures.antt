@@ -1,6 +1,5 @@
 -- How a clause sees a future, by what it is made of.
 use Rattle.std.specs.Prelude.{◌≡◌, ℕ, ⊤, Bool, true, false, List, [], Option, Some, None}
-use Rattle.pagebook.specs.Pages.{Book}
 use Rattle.once_world.specs.Record.{Entry}
 use Rattle.async_once_cell.specs.declared.once.future.Asked.{Asked}
 use Rattle.async_once_cell.specs.declared.once.future.Asked.TheVariants.{Owned as AskedOwned, Answered as AskedAnswered}
@@ -26,18 +25,7 @@ module _ {T I R : Type 0} where
   seen_of (AskedAnswered r) = []
   seen_of (AskedShared w) = w.log
 
-  -- its task's cell has this book
-  abbrev pub HasBook : Asked T I R → Book → Type 0
-  HasBook (AskedOwned r init) book = ⊥
-  HasBook (AskedAnswered r) book = ⊥
-  HasBook (AskedShared w) book = book ≡ w.cell.book
-
-  -- its cell has its owner's value
-  abbrev pub is_of_owned : Asked T I R → Bool
-  is_of_owned (AskedShared w) = false
-  is_of_owned _ = true
-
-  -- whether it answered, or left
+  -- whether it answered
   abbrev pub is_done : Asked T I R → Bool
   is_done (AskedOwned r init) = false
   is_done (AskedAnswered r) = true
@@ -50,6 +38,20 @@ module _ {T I R : Type 0} where
   IsAsked (Shared s) (AskedShared w) = w.cell ≡ s
   IsAsked (Shared s) _ = ⊥
 
+  -- the value that it answered. One of a cell that has its owner's value answers that value
+  abbrev pub answer_of : CellView T → Asked T I R → Option T
+  answer_of c (AskedOwned r init) = None
+  answer_of (Owned x) (AskedAnswered r) = Some x
+  answer_of (Shared s) (AskedAnswered r) = None
+  answer_of c (AskedShared w) = w.value
+
   -- what a clause sees of a future of this cell
   abbrev pub view_of_future : CellView T → Asked T I R → FutureView T I
-  view_of_future c a = record { cell = c; init = init_of a; task = task_of a; log = seen_of a; finished = is_done a }
+  view_of_future c a = record {
+    cell = c;
+    init = init_of a;
+    task = task_of a;
+    log = seen_of a;
+    finished = is_done a;
+    value = answer_of c a;
+  }

@@ -1,8 +1,8 @@
 -- With which errors the init of a future may fail.
 use Rattle.std.specs.Prelude.{⊤, Option, IfErr, IsSomeAnd, Result, ◌≡◌}
 use Rattle.once_world.specs.Places.{EndError, Ending}
-use Rattle.async_once_cell.specs.declared.once.refused.InitError.{InitError}
-use Rattle.async_once_cell.specs.declared.once.refused.InitError.TheVariants.{Init}
+use Rattle.async_once_cell.specs.declared.init.InitError.{InitError}
+use Rattle.async_once_cell.specs.declared.init.InitError.TheVariants.{Init}
 
 module _ {I X : Type 0} (may_fail : I → X → Type 0) where
   -- the init is there, and may fail with this error

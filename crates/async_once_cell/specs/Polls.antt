@@ -5,10 +5,10 @@ use Rattle.futures.specs.declared.task.Poll.{Poll}
 use Rattle.futures.specs.declared.task.Poll.TheVariants.{Ready, Pending}
 use Rattle.futures.specs.declared.task.context.Context.{Context}
 use Rattle.futures.specs.Task.{IsArmed, Keeps}
-use Rattle.async_once_cell.specs.declared.once.refused.InitError.{InitError}
-use Rattle.async_once_cell.specs.declared.once.refused.InitError.TheVariants.{Init, Memory, Full}
-use Rattle.async_once_cell.specs.declared.once.refused.Refused.{Refused}
-use Rattle.async_once_cell.specs.declared.once.refused.Refused.TheVariants.{Memory as NoMemory, Full as TooMany}
+use Rattle.async_once_cell.specs.declared.init.InitError.{InitError}
+use Rattle.async_once_cell.specs.declared.init.InitError.TheVariants.{Init, Memory, Full}
+use Rattle.async_once_cell.specs.declared.init.Refused.{Refused}
+use Rattle.async_once_cell.specs.declared.init.Refused.TheVariants.{Memory as NoMemory, Full as TooMany}
 use Rattle.once_world.specs.Record.{Begin, DropBegin, DropEnd, Entry, Made}
 use Rattle.once_world.specs.Places.{EndDropped, EndError, EndFull, EndMemory, EndPending, EndValue, Ending}
 use Rattle.once_parts.specs.Kept.{Grew}
@@ -89,22 +89,24 @@ PollsAs None old new before after e = DidPoll old new before after e
 PollsAs (Some x) old new before after e = HasLeft old new × Keeps before after
 
 -- of a cell that has its owner's value a poll answers that value
-abbrev pub AnswersBy : {T A E : Type 0} → (A → T) → CellView T → Poll (Result A E) → Type 0
-AnswersBy value (Owned x) (Ready (Ok a)) = value a ≡ x
-AnswersBy value (Owned x) _ = ⊥
-AnswersBy value (Shared s) r = ⊤
+abbrev pub Answers : {T E : Type 0} → CellView T → Poll (Result (Bor T) E) → Type 0
+Answers (Owned x) (Ready (Ok v)) = v.now ≡ x
+Answers (Owned x) _ = ⊥
+Answers (Shared s) r = ⊤
 
 -- the answer is a value
 abbrev pub IsValue : {A E : Type 0} → Poll (Result A E) → Type 0
 IsValue (Ready (Ok x)) = ⊤
 IsValue _ = ⊥
 
-abbrev pub Answers : {T E : Type 0} → CellView T → Poll (Result (Bor T) E) → Type 0
-Answers c r = AnswersBy (λ (v : Bor _). v.now) c r
-
--- the future is new: in the record of a cell that tasks share its newest entry made its task
+-- the future is new: it answered no value, and in the record of a cell that tasks share the newest entry made its task
 abbrev pub IsMade : {T I : Type 0} → FutureView T I → Type 0
-IsMade f = MadeIn f.cell f.task f.log
+IsMade f = MadeIn f.cell f.task f.log × (f.value ≡ None)
+
+-- the value of an answer, if it is one
+abbrev pub value_of : {T E : Type 0} → Poll (Result (Bor T) E) → Option T
+value_of (Ready (Ok v)) = Some v.now
+value_of _ = None
 
 -- what a token knew before a poll and knows after it: if a value was answered, that, which is the known one if
 -- there was one; else nothing, as before

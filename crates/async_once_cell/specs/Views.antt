@@ -1,13 +1,14 @@
 -- What a clause sees of a cell, of a token and of a future, and how they are made.
 use Rattle.std.specs.Prelude.{◌≡◌, ℕ, ⊤, Bool, true, false, List, [], Option, Some, None, IfSome, IsSomeAnd}
 use Rattle.std.specs.Option.{is_some}
-use Rattle.pagebook.specs.Pages.{Book}
 use Rattle.pagebook.specs.Slot.{Placed}
 use Rattle.pagebook.specs.declared.slot.Written.{Written}
 use Rattle.once_world.specs.Record.{Entry}
 use Rattle.once_parts.specs.Record.{IsSet}
-use Rattle.async_once_cell.specs.declared.once.value.Value.{Value}
-use Rattle.async_once_cell.specs.declared.once.value.Value.TheVariants.{Owned as OwnedValue, Shared as SharedValue}
+use Rattle.async_once_cell.specs.declared.init.Kept.{Kept}
+use Rattle.async_once_cell.specs.declared.init.Kept.TheVariants.{Init as KeptInit, Answered as KeptAnswered}
+use Rattle.async_once_cell.specs.declared.once.Value.{Value}
+use Rattle.async_once_cell.specs.declared.once.Value.TheVariants.{Owned as OwnedValue, Shared as SharedValue}
 use Rattle.async_once_cell.specs.declared.once.known.Seen.{Seen}
 use Rattle.async_once_cell.specs.declared.once.known.Seen.TheVariants.{Owned as SeenOwned, Shared as SeenShared}
 
@@ -29,14 +30,16 @@ pub record FutureView (T I : Type 0) : Type 0 where
   pub task : ℕ  -- its task's number
   pub log : List Entry  -- the record as far as it was seen; a cell that has its owner's value has none
   pub finished : Bool  -- whether it is finished
+  pub value : Option T  -- the value that it answered, if it answered one
 
 -- what a clause sees of a task with its init
-pub record WaitingView (I : Type 0) : Type 0 where
+pub record WaitingView (T I : Type 0) : Type 0 where
   pub cell : Placed  -- its cell
   pub number : ℕ  -- its number
   pub log : List Entry  -- the record as far as it has seen it
   pub finished : Bool  -- whether it is finished
   pub init : Option I  -- its init, if it is there still
+  pub value : Option T  -- the value that it answered, if it answered one
 
 -- what a clause sees of what was told of a cell
 pub record ToldView (T : Type 0) : Type 0 where
@@ -58,10 +61,24 @@ abbrev pub view_of : {T : Type 0} → Value T → CellView T
 view_of (OwnedValue x) = Owned x
 view_of (SharedValue inner) = Shared inner.slot
 
--- what was written
+-- the value that was written, if this shows one
 abbrev pub value_in : {T : Type 0} → Option (Written T) → Option T
 value_in None = None
 value_in (Some w) = Some w.value
+
+-- the init that a task keeps
+abbrev pub init_in : {T I : Type 0} → Kept T I → Option I
+init_in (KeptInit i) = Some i
+init_in _ = None
+
+-- what shows the value that a task answered
+abbrev pub shown_in : {T I : Type 0} → Kept T I → Option (Written T)
+shown_in (KeptAnswered w) = Some w
+shown_in _ = None
+
+-- if this shows a value, it is that of this cell. Its task is finished, and saw that the cell is set
+abbrev pub IsAnswered : {T : Type 0} → Placed → Bool → List Entry → Option (Written T) → Type 0
+IsAnswered s finished log w = IfSome w (λ y. (y.of ≡ s.id) × (finished ≡ true) × IsSet log)
 
 -- what a token of a cell knows
 abbrev pub known_of : {T : Type 0} → CellView T → Seen T → Option T
@@ -82,11 +99,6 @@ IsOf (Owned x) (SeenOwned b) = ⊤
 IsOf (Owned x) (SeenShared r w) = ⊥
 IsOf (Shared s) (SeenOwned b) = ⊥
 IsOf (Shared s) (SeenShared r w) = (r.book ≡ s.book) × IfSome w (λ y. y.of ≡ s.id) × (is_some w ≡ true → IsSet r.log)
-
--- a record of this book is of the cell, which tasks share
-abbrev pub IsBookOf : {T : Type 0} → CellView T → Book → Type 0
-IsBookOf (Owned x) book = ⊥
-IsBookOf (Shared s) book = book ≡ s.book
 
 -- this shows the value that tasks put into the cell
 abbrev pub IsWritten : {T : Type 0} → CellView T → Written T → Type 0

@@ -1,17 +1,24 @@
-//! What a task polls while it has the right: an init of its own, or the future of a lazy cell.
-ghost use Rattle.std.specs.Prelude.{◌≡◌, IfErr, IsSome};
+//! What a task polls while it has the right: an init of its own, or the future of a lazy cell. And what its caller is
+//! told in place of a value: the error of its init, or a refusal.
+ghost use Rattle.std.specs.Prelude.{◌≡◌, IfErr, IsSome, None, Option, Some};
 ghost use Rattle.futures.specs.Poll.{IfReady, OnPending};
 ghost use Rattle.futures.specs.Task.{IsArmed, Keeps};
 ghost use Rattle.once_parts.specs.Hands.{HasRight, HasRun};
 ghost use Rattle.once_parts.specs.Inits.{polled_in};
 ghost use Rattle.once_core.specs.declared.step.Ending.{Ending};
 ghost use Rattle.async_once_cell.specs.Inits.{FailsNoOther, MayFail};
+ghost use Rattle.async_once_cell.specs.Polls.{ending_of_refusal};
+ghost use Rattle.async_once_cell.specs.Refused.{own_error};
+ghost use Rattle.async_once_cell.specs.Views.{init_in, shown_in};
 
-use crate::once::{Failure, Gives};
 use futures::Future;
 use futures::task::{Context, Poll};
 use once_core::step::Ending;
 use once_parts::{Hand, Pollable, Splits, poll_init};
+use pagebook::Written;
+use std::error::Error;
+use std::io::ErrorKind;
+use std::{fmt, io, mem};
 
 /// What a task polls while it has the right. `T` is its value, and `X` says why there is none.
 ///
@@ -82,6 +89,230 @@ impl<O: Gives<T, X>, T, X: Failure> Splits<O, T, Failed<X>> for Given {
         match output.given() {
             Ok(value) => Ok(value),
             Err(error) => Err(Failed { error }),
+        }
+    }
+}
+
+/// What a task keeps between two calls.
+#[derive(Drop)]
+pub(crate) enum Kept<T, I: Drop> {
+    /// Its init, until it is finished.
+    Init(I),
+    /// What shows the value that it answered.
+    Answered(Written<T>),
+    /// Nothing: it answered an error or a refusal.
+    Nothing,
+}
+
+impl<T, I: Drop> Kept<T, I> {
+    /// With this init, if there is one.
+    #[inline(always)]
+    pub(crate) fn from_init(init: Option<I>) -> Self
+        ensures init { init_in result ≡ init }
+        ensures none { shown_in result ≡ None }
+    {
+        match init {
+            Some(init) => Kept::Init(init),
+            None => Kept::Nothing,
+        }
+    }
+
+    /// The init, which is taken out.
+    #[inline(always)]
+    pub(crate) fn take(&mut self) -> Option<I>
+        ensures { result ≡ init_in self.old }
+    {
+        match mem::replace(self, Kept::Nothing) {
+            Kept::Init(init) => Some(init),
+            Kept::Answered(_) | Kept::Nothing => None,
+        }
+    }
+}
+
+/// Why a poll ended without a value, as a future tells it: [`Refused`], or an [`InitError`] if the init may fail.
+pub trait Failure: Drop {
+    // How the poll ended.
+    ghost ending: { Self → Ending };
+
+    /// The poll was refused.
+    fn refused(refused: Refused) -> Self
+        ensures { ending result ≡ ending_of_refusal refused };
+}
+
+impl Failure for Refused {
+    ghost use Rattle.async_once_cell.specs.Polls.{ending_of_refusal};
+
+    ghost ending = { ending_of_refusal };
+
+    #[inline(always)]
+    fn refused(refused: Refused) -> Self
+        ensures { ending_of_refusal result ≡ ending_of_refusal refused }
+    {
+        refused
+    }
+}
+
+impl<E: Drop> Failure for InitError<E> {
+    ghost use Rattle.async_once_cell.specs.Polls.{ending_of_error};
+
+    ghost ending = { ending_of_error };
+
+    #[inline(always)]
+    fn refused(refused: Refused) -> Self
+        ensures { ending_of_error result ≡ ending_of_refusal refused }
+    {
+        InitError::from(refused)
+    }
+}
+
+/// What an init gives: the value, or a result with the value or an error.
+pub trait Gives<T, X: Failure> {
+    // What the init gave, if a poll tells this error of its own init.
+    ghost given_as: { X → Option Self };
+
+    /// The value, or the error as a future tells it.
+    fn given(self) -> Result<T, X>
+        ensures error { IfErr result (λ x. X.ending x ≡ Ending.Error) }
+        ensures own { IfErr result (λ x. given_as x ≡ Some self) };
+}
+
+impl<T> Gives<T, Refused> for T {
+    ghost given_as = { λ _. None };
+
+    #[inline(always)]
+    fn given(self) -> Result<T, Refused> {
+        Ok(self)
+    }
+}
+
+impl<T, E: Drop> Gives<T, InitError<E>> for Result<T, E> {
+    ghost use Rattle.async_once_cell.specs.Refused.{given_error};
+
+    ghost given_as = { given_error };
+
+    #[inline(always)]
+    fn given(self) -> Result<T, InitError<E>> {
+        match self {
+            Ok(value) => Ok(value),
+            Err(error) => Err(InitError::Init(error)),
+        }
+    }
+}
+
+/// Why a poll ended without a value, though no init failed. Its future is finished, and all else is
+/// as if the future had been dropped. A new future may be tried. By `?` this becomes the [`InitError`]
+/// of the same name, or an `io::Error` that prints the same.
+///
+/// An init that asks another cell may be refused there. This one passes the refusal on:
+///
+/// ```
+/// match Future::poll(&mut self.base, cx) {
+///     Poll::Ready(Ok(value)) => Poll::Ready(Ok(value.wrapping_mul(2))),
+///     Poll::Ready(Err(refused)) => Poll::Ready(Err(refused)),
+///     Poll::Pending => Poll::Pending,
+/// }
+/// ```
+#[derive(Clone, Copy, Debug, PartialEq, Eq)]
+pub enum Refused {
+    /// Memory was refused: for the queue of those who wait, or for the task's place in it.
+    Memory,
+    /// As many tasks are counted in as may be, 2^62 - 2. Counted are those that wait, those in a call that came to
+    /// the queue, and a holder that claimed there.
+    Full,
+}
+
+impl fmt::Display for Refused {
+    ghost use Rattle.async_once_cell.specs.Refused.{message};
+
+    ghost output = { λ refused. Some (message refused) };
+
+    fn fmt<W: fmt::Write>(&self, f: &mut fmt::Formatter<W>) -> fmt::Result {
+        match self {
+            Refused::Memory => f.write_str("out of memory"),
+            Refused::Full => f.write_str("too many waiters"),
+        }
+    }
+}
+
+impl Error for Refused {}
+
+/// Why a poll ended without a value: the caller's own init failed, or the poll was refused. [`InitError::own`] tells
+/// the two apart.
+#[derive(Clone, Copy, Debug, Drop, PartialEq, Eq)]
+pub enum InitError<E> {
+    /// The caller's init answered this error. The right was given back, and another caller may fill
+    /// the cell.
+    Init(E),
+    /// As [`Refused::Memory`].
+    Memory,
+    /// As [`Refused::Full`].
+    Full,
+}
+
+impl<E> InitError<E> {
+    /// The error of the caller's init, or else the refusal.
+    ///
+    /// ```
+    /// match cell.get_or_try_init(rt, load).wait_as(token)? {
+    ///     Ok(value) => Ok(*value),
+    ///     Err(error) => match error.own() {
+    ///         Ok(own) => Err(Fault::NotLoaded(own)), // the caller's own load failed
+    ///         Err(refused) => Err(Fault::Refused(refused)),
+    ///     },
+    /// }
+    /// ```
+    pub fn own(self) -> Result<E, Refused>
+        ensures { result ≡ own_error self }
+    {
+        match self {
+            InitError::Init(error) => Ok(error),
+            InitError::Memory => Err(Refused::Memory),
+            InitError::Full => Err(Refused::Full),
+        }
+    }
+}
+
+impl<E: fmt::Display> fmt::Display for InitError<E> {
+    ghost use Rattle.async_once_cell.specs.Refused.{message_of};
+
+    ghost output = { message_of E.output };
+
+    fn fmt<W: fmt::Write>(&self, f: &mut fmt::Formatter<W>) -> fmt::Result {
+        match self {
+            InitError::Init(error) => fmt::Display::fmt(error, f),
+            InitError::Memory => fmt::Display::fmt(&Refused::Memory, f),
+            InitError::Full => fmt::Display::fmt(&Refused::Full, f),
+        }
+    }
+}
+
+impl<E: fmt::Debug + fmt::Display + Drop> Error for InitError<E> {}
+
+/// Lets `future.wait()??` stand in a function whose error is an `io::Error`. Its kind is `OutOfMemory` for
+/// [`Refused::Memory`], and `Other` for [`Refused::Full`].
+impl From<Refused> for io::Error {
+    ghost use Rattle.std.specs.IoError.{error_kind};
+    ghost use Rattle.async_once_cell.specs.Refused.{kind_of};
+
+    ghost from_gives = { λ refused error. error_kind error ≡ kind_of refused };
+
+    fn from(refused: Refused) -> Self {
+        match refused {
+            Refused::Memory => io::Error::from(ErrorKind::OutOfMemory),
+            Refused::Full => io::Error::other("too many waiters"),
+        }
+    }
+}
+
+impl<E> From<Refused> for InitError<E> {
+    ghost use Rattle.async_once_cell.specs.Refused.{error_of};
+
+    ghost from_gives = { λ refused error. error ≡ error_of refused };
+
+    fn from(refused: Refused) -> Self {
+        match refused {
+            Refused::Memory => InitError::Memory,
+            Refused::Full => InitError::Full,
         }
     }
 }

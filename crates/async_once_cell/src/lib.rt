@@ -77,24 +77,37 @@
 //!
 //! This says nothing of a call that does not return, of fairness, progress or time. Tests alone show that the
 //! init which is polled is the task's own, or the future of its lazy cell, that a task that is called is woken,
-//! and that each value and init is dropped. The tokens say which value was set, see [`Known`]. The definitions
-//! in `specs/` and the kit have to be trusted. `docs/PROVED.md` of the repository says what no clause says, and
-//! `docs/THREADS.md` what is proved of threads.
+//! and that each value and init is dropped. Futures and tokens say which value was set, see [`Initializing::tell`]
+//! and [`Known`]. The definitions in `specs/` and the kit have to be trusted. `docs/PROVED.md` of the repository says
+//! what no clause says, and `docs/THREADS.md` what is proved of threads.
 #![tactic(auto)]
 
 mod init;
-pub mod inner;
 pub mod lazy;
 pub mod once;
-pub mod queue;
 mod waiting;
 mod waker;
 
-pub use init::{Failed, Init};
+pub use init::{Failed, Failure, Gives, Init, InitError, Refused};
 pub use lazy::{Lazy, LazyFuturePin, LazyFutureUnpin};
-pub use once::{
-    Failure, Gives, InitError, InitFuture, Initializing, Known, OnceCell, Parker, Refused, Told,
-    TryInitFuture,
-};
+pub use once::{InitFuture, Initializing, Known, OnceCell, Parker, Told, TryInitFuture};
 pub use once_core::step;
 pub use once_world::{laws, world};
+
+/// What all tasks of a cell share: the word, the door and the queue behind it, with the record of the cell.
+pub mod inner {
+    pub use once_core::parts::{Counted, Parts, QueueLine};
+    pub use once_core::plain::Core;
+    pub use once_parts::{
+        CopiesWaker, Hand, Inner, Mark, Pollable, Record, Shared, Splits, Task, TaskSide,
+        TaskWaker, book as record, poll_init,
+    };
+    pub use once_queue::waiters::{Answer, Listing, Op, Out};
+    pub use once_queue::word::{MAX_WAITERS, NEW, QINIT_BIT, READY_BIT};
+}
+
+/// Who waits: the flag and the list behind a queue's lock, and what a section does with them.
+pub mod queue {
+    pub use once_queue::waiters::{Answer, Listing, Lists, Op, Out, Renews, WakerId};
+    pub use once_queue::word::{MAX_WAITERS, NEW, QINIT_BIT, READY_BIT};
+}

@@ -1,30 +1,27 @@
-//! A cell that is filled once, by the init of one of the calls that ask for its value.
-ghost use Rattle.std.specs.Prelude.{◌≡◌, IsSome, None, Some, true, false};
+//! A cell that is filled once, by the init of one of the calls that ask for its value. And where it keeps that value.
+ghost use Rattle.std.specs.Prelude.{◌≡◌, IfSome, IsSome, None, Some, true, false};
 ghost use Rattle.std.specs.Option.{is_some};
-ghost use Rattle.async_once_cell.specs.Views.{CellView, Owned, is_shared};
+ghost use Rattle.async_once_cell.specs.Views.{CellView, IsWritten, Owned, Settled, is_shared, view_of};
 ghost use Rattle.async_once_cell.specs.Polls.{IsMade};
 ghost use Rattle.async_once_cell.specs.Tokens.{Gives, IsSetIn, Learns, Lends, LendsMut, Looks};
 
 mod future;
 mod known;
-mod parker;
-mod refused;
-mod told;
-mod value;
 mod waits;
 
+pub use crate::init::{Failure, Gives, InitError, Refused};
+use crate::waker::ListedWaker;
+use core::mem::replace_with;
 pub use future::{InitFuture, Initializing, TryInitFuture};
 use futures::Future;
-pub use known::Known;
+pub use known::{Known, Told};
 use once_parts::{Inner, Pollable};
-pub use parker::Parker;
-pub use refused::{Failure, Gives, InitError, Refused};
+use pagebook::Written;
 use std::alloc::AllocGlobal;
 use std::marker::Model;
 use std::sync::Wait;
 use std::{fmt, mem};
-pub use told::Told;
-use value::Value;
+pub use waits::Parker;
 
 /// A cell that is empty or has one value, and is filled by a future.
 ///
@@ -238,6 +235,38 @@ impl<T> OnceCell<T> {
     }
 }
 
+impl<T> OnceCell<T> {
+    /// As [`OnceCell::into_inner`], for a caller that was told the value.
+    pub fn into_inner_as(self, told: &Told<T>) -> T
+        requires { told.now.cell ≡ self }
+        ensures { result ≡ told.now.value }
+    {
+        let OnceCell { value } = self;
+        value.into_told(told)
+    }
+
+    /// As [`OnceCell::take`], for a caller that was told the value.
+    pub fn take_as(&mut self, told: &Told<T>) -> T
+        requires { told.now.cell ≡ self.old }
+        ensures taken { result ≡ told.now.value }
+        ensures fresh { is_shared self.new ≡ true }
+    {
+        mem::replace(self, OnceCell::new()).into_inner_as(told)
+    }
+}
+
+impl<T: Drop> OnceCell<T> {
+    /// Makes the value the owner's, for a caller that was told it. From then on the clauses of all calls say which
+    /// value that is.
+    pub fn own_as(&mut self, told: &Told<T>)
+        requires { told.now.cell ≡ self.old }
+        ensures { self.new ≡ Owned told.now.value }
+    {
+        let value = self.take_as(told);
+        drop(mem::replace(self, OnceCell::new_with(value)));
+    }
+}
+
 /// An empty cell, as [`OnceCell::new`] makes it.
 impl<T> Default for OnceCell<T> {
     ghost is_default = { λ cell. is_shared cell ≡ true };
@@ -281,5 +310,90 @@ impl<T: fmt::Debug> OnceCell<T> {
 impl<T: fmt::Debug> fmt::Debug for OnceCell<T> {
     fn fmt<W: fmt::Write>(&self, f: &mut fmt::Formatter<W>) -> fmt::Result {
         self.fmt_as("OnceCell", f)
+    }
+}
+
+/// The value of a cell, if there is one.
+#[derive(Drop)]
+pub(crate) enum Value<T> {
+    /// Put there by whoever had the cell alone. It has no record.
+    Owned(T),
+    /// In what tasks share. They set it once at most.
+    Shared(Inner<T, ListedWaker>),
+}
+
+impl<T> Value<T> {
+    ghost use Rattle.std.specs.Borrow.{LendsIf, sem};
+    ghost use Rattle.async_once_cell.specs.contracts.once.Value.{the_row};
+    ghost use Rattle.async_once_cell.specs.declared.once.Value.TheVariants.{Owned as OwnedValue};
+
+    fn into_inner(self) -> Option<T>
+        ensures { Gives (view_of self) result }
+    {
+        match self {
+            Value::Owned(value) => Some(value),
+            Value::Shared(inner) => inner.into_inner(),
+        }
+    }
+
+    // What shows the value that tasks put, if they did.
+    fn witness(&self) -> Option<Written<T>>
+        ensures { IfSome result (λ w. IsWritten (view_of self.now) w) }
+    {
+        match self {
+            Value::Owned(_) => None,
+            Value::Shared(inner) => inner.witness(),
+        }
+    }
+
+    // The value that this shows, as the owner's.
+    fn into_owned(self, written: &Written<T>) -> Self
+        requires { IsWritten (view_of self) written.now }
+        ensures { view_of result ≡ Owned written.now.value }
+    {
+        match self {
+            Value::Owned(value) => Value::Owned(value),
+            Value::Shared(inner) => Value::Owned(inner.into_value(written)),
+        }
+    }
+
+    // Makes a value that tasks put the owner's.
+    fn settle(&mut self)
+        ensures { Settled self.old self.new }
+    {
+        if let Some(written) = self.witness() {
+            replace_with(
+                self,
+                written,
+                |value, written|
+                    requires { IsWritten (view_of value) written }
+                    ensures { view_of result.0 ≡ Owned written.value }
+                { (value.into_owned(&written), ()) },
+            );
+        }
+    }
+
+    // A slot lends its value for reading alone, since what a token says of it holds for good. So a value
+    // that lies in a slot is taken out of it first, and the slot goes.
+    fn get_mut(&mut self) -> Option<&mut T>
+        ensures* writes_back { sem 𝓛 (LendsIf (the_row T.row) T.row self.entry result OwnedValue self.old) }
+        ensures value { LendsMut (view_of self.old) result }
+    {
+        self.settle();
+        match self {
+            Value::Owned(value) => Some(value),
+            Value::Shared(_) => None,
+        }
+    }
+
+    // The value, for whoever was told it.
+    fn into_told(self, told: &Told<T>) -> T
+        requires { told.now.cell ≡ view_of self }
+        ensures { result ≡ told.now.value }
+    {
+        match self {
+            Value::Owned(value) => value,
+            Value::Shared(inner) => inner.into_value(told.written.as_ref().unwrap()),
+        }
     }
 }

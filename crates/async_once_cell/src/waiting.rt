@@ -1,6 +1,6 @@
 //! A task of a cell that brings an init, and is called while it waits.
 ghost use Rattle.std.specs.Prelude.{◌≡◌, ◌≢◌, ◌∷◌, [], List, true, false, ⊤};
-ghost use Rattle.std.specs.Prelude.{IfErr, IfOk, IsSome, IsSomeAnd, None, Some};
+ghost use Rattle.std.specs.Prelude.{IfErr, IfSome, IsSome, IsSomeAnd, None, Some};
 ghost use Rattle.std.specs.Option.{is_some};
 ghost use Rattle.once_queue.specs.declared.waiters.Out.{Out};
 ghost use mathlib.Core.List.{IsPrefix};
@@ -12,14 +12,14 @@ ghost use Rattle.once_parts.specs.Kept.{Grew, entries_of};
 ghost use Rattle.once_parts.specs.Record.{EndsSet, IsSet};
 ghost use Rattle.once_parts.specs.Walks.{IsOneCall, Spans, end_of};
 ghost use Rattle.async_once_cell.specs.Inits.{FailsNoOther, TellsOwn};
-ghost use Rattle.async_once_cell.specs.Polls.{IsValue, ending_by, is_over};
+ghost use Rattle.async_once_cell.specs.Polls.{IsValue, ending_by, is_over, value_of};
+ghost use Rattle.async_once_cell.specs.Views.{init_in, shown_in, value_in};
 
-use crate::init::{Failed, Init};
-use crate::once::{Failure, Refused};
+use crate::init::{Failed, Failure, Init, Kept, Refused};
 use crate::waker::ListedWaker;
 use futures::task::{Context, Poll};
 use once_core::step::{Ending, Polled, Side};
-use once_parts::book::is_set_where_answered;
+use once_parts::book::{is_set_where_answered, stays_set};
 use once_parts::{CopiesWaker, Hand, Inner, Mark, Record, Task, TaskSide};
 use once_queue::waiters::{Out, Renews};
 use pagebook::Written;
@@ -32,23 +32,27 @@ use std::sync::Wait;
 #[derive(Drop)]
 pub(crate) struct Waiting<'a, T, I: Drop, R: Wait + AllocGlobal> {
     task: Task<'a, 'a, T, ListedWaker, R>,
-    init: Option<I>,
+    kept: Kept<T, I>,
     // The init is there until the task is finished.
-    ghost has_init: { task.finished ≡ false → is_some init ≡ true },
+    ghost has_init: { task.finished ≡ false → is_some (init_in kept) ≡ true },
 }
 
 impl<'a, T, I: Drop, R: Wait + AllocGlobal> Model for Waiting<'a, T, I, R> {
-    ghost use Rattle.async_once_cell.specs.Views.{WaitingView};
+    ghost use Rattle.async_once_cell.specs.Views.{IsAnswered, WaitingView, init_in, shown_in, value_in};
 
-    ghost Value = { WaitingView I };
+    ghost Value = { WaitingView T I };
 
     ghost view = { λ f. record {
       cell = f.task.cell;
       number = f.task.number;
       log = f.task.log;
       finished = f.task.finished;
-      init = f.init;
+      init = init_in f.kept;
+      value = value_in (shown_in f.kept);
     } };
+
+    // Only a finished task answered a value, and it saw that the cell is set.
+    ghost invariant = { λ f. IsAnswered f.task.cell f.task.finished f.task.log (shown_in f.kept) };
 }
 
 impl<'a, T, I: Drop, R: Wait + AllocGlobal> Waiting<'a, T, I, R> {
@@ -58,11 +62,12 @@ impl<'a, T, I: Drop, R: Wait + AllocGlobal> Waiting<'a, T, I, R> {
         ensures cell { result.cell ≡ inner.now.slot }
         ensures live { result.finished ≡ false }
         ensures init { result.init ≡ Some init }
+        ensures value { result.value ≡ None }
         ensures made { (seen : List Entry) × Grew (Made result.number ∷ []) seen result.log }
     {
         Waiting {
             task: Task::new(inner, rt),
-            init: Some(init),
+            kept: Kept::Init(init),
         }
     }
 
@@ -88,6 +93,19 @@ impl<'a, T, I: Drop, R: Wait + AllocGlobal> Waiting<'a, T, I, R> {
         self.task.record()
     }
 
+    /// What shows the value, if the task answered it. Then the cell is set in the record that it has seen.
+    #[inline(always)]
+    pub(crate) fn written(&self) -> Option<Written<T>>
+        ensures value { value_in result ≡ self.now.value }
+        ensures of { IfSome result (λ w. w.of ≡ self.now.cell.id) }
+        ensures set { is_some result ≡ true → IsSet self.now.log }
+    {
+        match &self.kept {
+            Kept::Answered(written) => Some(written.again()),
+            Kept::Init(_) | Kept::Nothing => None,
+        }
+    }
+
     /// The task learns what a record of its cell has.
     #[inline(always)]
     pub(crate) fn learn(&mut self, seen: &Record)
@@ -96,6 +114,7 @@ impl<'a, T, I: Drop, R: Wait + AllocGlobal> Waiting<'a, T, I, R> {
         ensures number { self.new.number ≡ self.old.number }
         ensures finished { self.new.finished ≡ self.old.finished }
         ensures init { self.new.init ≡ self.old.init }
+        ensures value { self.new.value ≡ self.old.value }
         ensures log { IsPrefix self.old.log self.new.log × IsPrefix seen.now.log self.new.log }
         ensures mine { entries_of self.old.number self.new.log ≡ entries_of self.old.number self.old.log }
         ensures own_set { IsSet self.old.log → IsSet self.new.log }
@@ -112,6 +131,7 @@ impl<'a, T, I: Drop, R: Wait + AllocGlobal> Waiting<'a, T, I, R> {
         ensures number { a.new.number ≡ a.old.number }
         ensures finished { a.new.finished ≡ a.old.finished }
         ensures init { a.new.init ≡ a.old.init }
+        ensures value { a.new.value ≡ a.old.value }
         ensures log { IsPrefix a.old.log a.new.log }
         ensures set { IsSet a.old.log → IsSet a.new.log }
         ensures other { b.new ≡ b.old }
@@ -125,25 +145,32 @@ impl<'a, T, I: Drop, R: Wait + AllocGlobal> Waiting<'a, T, I, R> {
     pub(crate) fn discard(self)
         requires live { self.finished ≡ false }
     {
-        let Waiting { task, init } = self;
-        drop(init);
+        let Waiting { task, kept } = self;
+        drop(kept);
         leave_unfinished(task);
     }
 
-    /// The same for a future that lives on: the task gives the right back, or leaves those who wait.
+    /// The same for a future that lives on, and answers the value that this shows: the task gives the right back, or
+    /// leaves those who wait.
     #[inline(never)]
-    pub(crate) fn leave(&mut self)
+    pub(crate) fn leave(&mut self, written: &Written<T>)
         requires live { self.old.finished ≡ false }
+        requires of { written.now.of ≡ self.old.cell.id }
+        requires set { IsSet self.old.log }
         ensures cell { self.new.cell ≡ self.old.cell }
         ensures number { self.new.number ≡ self.old.number }
         ensures gone { Grew (DropEnd self.new.number ∷ []) self.old.log self.new.log }
         ensures call { IsOneCall self.new.number (DropBegin self.new.number) (DropEnd self.new.number)
             self.old.log self.new.log }
         ensures finished { self.new.finished ≡ true }
+        ensures value { self.new.value ≡ Some written.now.value }
     {
-        drop(self.init.take());
+        let before = self.task.record();
+        drop(self.kept.take());
         let mut side = Leaving::<T, R>::new(self.task.rt(), self.task.mark());
         self.task.leave(&mut side);
+        stays_set(&before, &self.task.record());
+        self.kept = Kept::Answered(written.again());
     }
 }
 
@@ -159,10 +186,7 @@ fn leave_unfinished<T, R: Wait + AllocGlobal>(mut task: Task<'_, '_, T, ListedWa
 impl<'a, T: Drop, I: Drop, R: Wait + AllocGlobal> Waiting<'a, T, I, R> {
     /// Polls the task once.
     #[inline(always)]
-    pub(crate) fn poll<X: Failure>(
-        &mut self,
-        cx: &mut Context<'_>,
-    ) -> Poll<Result<(&'a T, Written<T>), X>>
+    pub(crate) fn poll<X: Failure>(&mut self, cx: &mut Context<'_>) -> Poll<Result<&'a T, X>>
     where
         I: Init<T, X>,
         requires live { self.old.finished ≡ false }
@@ -178,15 +202,16 @@ impl<'a, T: Drop, I: Drop, R: Wait + AllocGlobal> Waiting<'a, T, I, R> {
         ensures finished { self.new.finished ≡ is_over (ending_by X.ending result) }
         ensures armed { ending_by X.ending result ≡ Ending.Pending → IsArmed cx.new }
         ensures kept { Keeps cx.old cx.new }
-        ensures value { IfReady result (λ a. IfOk a (λ r. (r.0.now ≡ r.1.value) × (r.1.of ≡ self.new.cell.id))) }
+        ensures value { self.new.value ≡ value_of result }
         ensures own { IfReady result (TellsOwn I.may_fail X.ending self.old.init) }
         ensures same { FailsNoOther I.may_fail self.old.init self.new.init }
     {
+        let init = self.kept.take();
         let mut side = Polling {
-            first: Snapshot::of(&self.init),
+            first: Snapshot::of(&init),
             mark: self.task.mark(),
             cx,
-            init: self.init.take(),
+            init,
             value: None,
             error: None,
             is_armed: false,
@@ -203,7 +228,7 @@ impl<'a, T: Drop, I: Drop, R: Wait + AllocGlobal> Waiting<'a, T, I, R> {
             is_armed,
             woke: _woke,
         } = side;
-        self.init = init;
+        self.kept = Kept::from_init(init);
         if ending == Ending::Pending && !is_armed {
             // No clause says that who is told of its listing has one to renew. Without one it asks for a poll.
             let _: Poll<()> = cx.yield_now();
@@ -215,17 +240,26 @@ impl<'a, T: Drop, I: Drop, R: Wait + AllocGlobal> Waiting<'a, T, I, R> {
     // The answer of a poll that ended in this way. `error` is what its init gave, if it gave an error.
     #[inline(always)]
     fn answer<X: Failure>(
-        &self,
+        &mut self,
         ending: Ending,
         error: Option<Failed<X>>,
-    ) -> Poll<Result<(&'a T, Written<T>), X>>
-        requires value { ending ≡ Ending.Value → EndsSet self.now.number self.now.log }
+    ) -> Poll<Result<&'a T, X>>
+    where
+        I: Init<T, X>,
+        requires value { ending ≡ Ending.Value → EndsSet self.old.number self.old.log }
+        requires finished { ending ≡ Ending.Value → self.old.finished ≡ true }
+        requires unanswered { self.old.value ≡ None }
         requires error { ending ≡ Ending.Error → IsSome error }
         requires not_dropped { ending ≡ Ending.Dropped → ⊥ }
         ensures ending { ending_by X.ending result ≡ ending }
         ensures is_value { ending ≡ Ending.Value → IsValue result }
-        ensures set { ending ≡ Ending.Value → IsSet self.now.log }
-        ensures value { IfReady result (λ a. IfOk a (λ r. (r.0.now ≡ r.1.value) × (r.1.of ≡ self.now.cell.id))) }
+        ensures cell { self.new.cell ≡ self.old.cell }
+        ensures number { self.new.number ≡ self.old.number }
+        ensures log { self.new.log ≡ self.old.log }
+        ensures finished { self.new.finished ≡ self.old.finished }
+        ensures same { FailsNoOther I.may_fail self.old.init self.new.init }
+        ensures set { ending ≡ Ending.Value → IsSet self.new.log }
+        ensures value { self.new.value ≡ value_of result }
         ensures own { IfReady result (λ a. IfErr a
             (λ x. X.ending x ≡ Ending.Error → IsSomeAnd error (λ e. e.error ≡ x))) }
     {
@@ -233,7 +267,9 @@ impl<'a, T: Drop, I: Drop, R: Wait + AllocGlobal> Waiting<'a, T, I, R> {
             Ending::Pending => Poll::Pending,
             Ending::Value => {
                 is_set_where_answered(&self.task.record());
-                Poll::Ready(Ok(self.task.value()))
+                let (value, written) = self.task.value();
+                self.kept = Kept::Answered(written);
+                Poll::Ready(Ok(value))
             }
             Ending::Error => Poll::Ready(Err(error.unwrap().into_inner())),
             Ending::Memory => Poll::Ready(Err(X::refused(Refused::Memory))),

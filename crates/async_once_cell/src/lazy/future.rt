@@ -1,12 +1,13 @@
 //! The future of a cell that owns its init.
-ghost use Rattle.std.specs.Prelude.{◌≡◌, ◌≢◌, ⊤, IsSome, None, Result, false, true, reverse};
+ghost use Rattle.std.specs.Prelude.{◌≡◌, ◌≢◌, ⊤, IfSome, IsSome, None, Result, false, true, reverse};
+ghost use Rattle.std.specs.Option.{option_or};
 ghost use Rattle.std.specs.Borrow.{Bor};
 ghost use Rattle.futures.specs.Poll.{IfReady, OnPending};
 ghost use Rattle.futures.specs.Task.{Covers, Keeps};
 ghost use mathlib.Core.List.{IsPrefix};
 ghost use Rattle.async_once_cell.specs.Polls.{Answers, DidPoll, IsMade, IsValue, IsValueAtOnce, Polls, PollsAs};
-ghost use Rattle.async_once_cell.specs.Polls.{SpansIn, Waits, ending_by, ending_of_refusal};
-ghost use Rattle.async_once_cell.specs.Tokens.{IsSetIn};
+ghost use Rattle.async_once_cell.specs.Polls.{SpansIn, Waits, ending_by, ending_of_refusal, value_of};
+ghost use Rattle.async_once_cell.specs.Tokens.{Agrees, IsSetIn};
 ghost use Rattle.async_once_cell.specs.Views.{is_shared};
 ghost use Rattle.once_parts.specs.Kept.{entries_of, most};
 ghost use Rattle.once_parts.specs.Record.{IsSet, PollsOnce, WasFilled};
@@ -15,8 +16,8 @@ ghost use Rattle.once_world.specs.Called.{SomebodyCalled};
 ghost use Rattle.once_world.specs.Record.{Once};
 ghost use Rattle.once_world.specs.Run.{AtEvery, IsRun, NobodyForgotten};
 
-use crate::init::{Failed, Init};
-use crate::once::{Initializing, Known, OnceCell, Parker, Refused};
+use crate::init::{Failed, Init, Refused};
+use crate::once::{Initializing, Known, OnceCell, Parker};
 use futures::Future;
 use futures::task::{Context, Poll};
 use once_parts::{Hand, Pollable};
@@ -95,7 +96,8 @@ impl<'a, T, F: Future, R: Wait + AllocGlobal> LazyFuturePin<'a, T, F, R> {
     pub fn tell(&self, token: &mut Known<'a, T>)
         requires token_of_this_cell { token.old.cell ≡ self.now.cell }
         ensures cell { token.new.cell ≡ token.old.cell }
-        ensures value { token.new.value ≡ token.old.value }
+        ensures value { token.new.value ≡ option_or token.old.value self.now.value }
+        ensures agrees { IfSome self.now.value (Agrees token.old.value) }
         ensures own { IsPrefix token.old.log token.new.log }
         ensures other { IsPrefix self.now.log token.new.log }
         ensures set { IsSetIn self.now.cell self.now.log → IsSetIn token.new.cell token.new.log }
@@ -110,6 +112,7 @@ impl<'a, T, F: Future, R: Wait + AllocGlobal> LazyFuturePin<'a, T, F, R> {
         ensures cell { self.new.cell ≡ self.old.cell }
         ensures task { self.new.task ≡ self.old.task }
         ensures finished { self.new.finished ≡ self.old.finished }
+        ensures value { self.new.value ≡ self.old.value }
         ensures own { IsPrefix self.old.log self.new.log }
         ensures other { IsPrefix token.now.log self.new.log }
         ensures mine { entries_of self.old.task self.new.log ≡ entries_of self.old.task self.old.log }
@@ -126,6 +129,7 @@ impl<'a, T, F: Future, R: Wait + AllocGlobal> LazyFuturePin<'a, T, F, R> {
         ensures cell { a.new.cell ≡ a.old.cell }
         ensures task { a.new.task ≡ a.old.task }
         ensures finished { a.new.finished ≡ a.old.finished }
+        ensures value { a.new.value ≡ a.old.value }
         ensures log { IsPrefix a.old.log a.new.log }
         ensures set { IsSetIn a.old.cell a.old.log → IsSetIn a.new.cell a.new.log }
         ensures other { b.new ≡ b.old }
@@ -142,6 +146,7 @@ impl<'a, T: Drop, F: Future<Output = T>, R: Wait + AllocGlobal> LazyFuturePin<'a
         requires unfinished { self.old.finished ≡ false }
         ensures call { DidPoll self.old self.new cx.old cx.new (ending_by ending_of_refusal result) }
         ensures value { Answers self.old.cell result }
+        ensures answered { self.new.value ≡ value_of result }
         ensures late { IsSetIn self.old.cell self.old.log → IsValue result }
     {
         self.inner.poll(cx)
@@ -159,6 +164,7 @@ impl<'a, T: Drop, F: Future<Output = T>, R: Wait + AllocGlobal> LazyFuturePin<'a
             (ending_by ending_of_refusal result) }
         ensures cell { token.new.cell ≡ token.old.cell }
         ensures value { Polls token.old.value token.new.value result }
+        ensures answered { self.new.value ≡ value_of result }
         ensures log { IsPrefix token.old.log token.new.log }
         ensures spans { token.old.value ≡ None
             → SpansIn self.old.cell self.old.task (end_of self.old.task (ending_by ending_of_refusal result))
@@ -231,6 +237,7 @@ impl<'a, T: Drop, F: Future<Output = T>, R: Wait + AllocGlobal> Future
         ensures call { self.old.finished ≡ false
             → DidPoll self.old self.new cx.old cx.new (ending_by ending_of_refusal result) }
         ensures answers { self.old.finished ≡ false → Answers self.old.cell result }
+        ensures answered { self.old.finished ≡ false → self.new.value ≡ value_of result }
         ensures late { self.old.finished ≡ false → IsSetIn self.old.cell self.old.log → IsValue result }
         ensures over { self.old.finished ≡ true → (result ≡ Poll.Pending) × (self.new ≡ self.old) }
     {

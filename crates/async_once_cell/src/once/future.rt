@@ -1,16 +1,15 @@
 //! The future of a cell. Three names stand for it, by what its init gives and what it answers.
-ghost use Rattle.std.specs.Prelude.{◌≡◌, ◌≢◌, None, IfOk, ⊤, [], false, true, MatchOption, Result, Some, reverse};
+ghost use Rattle.std.specs.Prelude.{◌≡◌, ◌≢◌, ⊤, IfSome, IsSome, None, Result, Some, false, true, reverse};
+ghost use Rattle.std.specs.Option.{option_or};
 ghost use Rattle.std.specs.Borrow.{Bor};
 ghost use Rattle.futures.specs.Poll.{IfReady, OnPending};
 ghost use Rattle.futures.specs.Task.{Covers, Keeps};
 ghost use mathlib.Core.List.{IsPrefix};
-ghost use Rattle.async_once_cell.specs.Futures.{HasBook, IsAsked, init_of, is_of_owned, view_of_future};
-ghost use Rattle.async_once_cell.specs.Futures.{is_done, task_of, seen_of};
 ghost use Rattle.async_once_cell.specs.Inits.{FailsNoOther, TellsOwn};
-ghost use Rattle.async_once_cell.specs.Polls.{Answers, AnswersBy, DidPoll, HasLeft, IsMade, IsValue};
-ghost use Rattle.async_once_cell.specs.Polls.{Polls, PollsAs, SpansIn, ending_by};
-ghost use Rattle.async_once_cell.specs.Tokens.{IsSetIn};
-ghost use Rattle.async_once_cell.specs.Views.{CellView, IsOf, is_shared, known_of, log_of};
+ghost use Rattle.async_once_cell.specs.Polls.{Answers, DidPoll, HasLeft, IsMade, IsValue};
+ghost use Rattle.async_once_cell.specs.Polls.{Polls, PollsAs, SpansIn, ending_by, value_of};
+ghost use Rattle.async_once_cell.specs.Tokens.{Agrees, IsSetIn};
+ghost use Rattle.async_once_cell.specs.Views.{IsOf, is_shared, known_of, log_of};
 ghost use Rattle.once_world.specs.Record.{Once};
 ghost use Rattle.once_world.specs.Run.{AtEvery, IsRun, NobodyForgotten};
 ghost use Rattle.once_world.specs.Called.{SomebodyCalled};
@@ -19,14 +18,13 @@ ghost use Rattle.once_parts.specs.Walks.{end_of};
 ghost use Rattle.once_parts.specs.Record.{IsSet, PollsOnce, WasFilled};
 
 use super::known::Seen;
-use super::value::Value;
-use super::{Failure, InitError, Known, OnceCell, Refused};
-use crate::init::Init;
+use super::{Known, OnceCell, Value};
+use crate::init::{Failure, Init, InitError, Refused};
 use crate::waiting::Waiting;
 use futures::Future;
 use futures::task::{Context, Poll};
+use once_parts::Pollable;
 use once_parts::book::{is_run, polls_once};
-use once_parts::{Pollable, Record};
 use std::alloc::AllocGlobal;
 use std::fmt;
 use std::marker::{Model, PhantomData};
@@ -37,7 +35,7 @@ use std::sync::Wait;
 enum Asked<'a, T, I: Drop, R: Wait + AllocGlobal> {
     // A cell with its owner's value: the next poll drops the init and answers that value.
     Owned(&'a R, I),
-    // Such a cell, which the future has answered or left.
+    // Such a cell, whose value the future has answered.
     Answered(&'a R),
     // A cell that tasks share, of which the future is one.
     Shared(Waiting<'a, T, I, R>),
@@ -63,8 +61,8 @@ pub type TryInitFuture<'a, T, E, F, R> = Initializing<'a, T, InitError<E>, Polla
 /// dropped. A poll may take memory while another task holds or is in a call.
 ///
 /// A clause sees the future's cell, its init if that is there still, the number of its task, the cell's record as far
-/// as the task has seen it, and whether the future is finished. [`Initializing::is_run`] says of the record that it is
-/// a run of the cell, and that somebody was called wherever somebody had to be.
+/// as the task has seen it, whether the future is finished, and the value that it answered. [`Initializing::is_run`]
+/// says of the record that it is a run of the cell, and that somebody was called wherever somebody had to be.
 pub struct Initializing<'a, T, X, I: Drop, R: Wait + AllocGlobal> {
     failure: PhantomData<X>,
     cell: &'a OnceCell<T>,
@@ -132,7 +130,24 @@ impl<'a, T, X, I: Drop, R: Wait + AllocGlobal> Initializing<'a, T, X, I, R> {
     pub fn is_finished(&self) -> bool
         ensures { result ≡ self.now.finished }
     {
-        self.asked.is_finished()
+        match &self.asked {
+            Asked::Owned(_, _) => false,
+            Asked::Answered(_) => true,
+            Asked::Shared(waiting) => waiting.is_finished(),
+        }
+    }
+
+    // What a token learns from it.
+    fn seen(&self) -> Seen<T>
+        ensures of { IsOf self.now.cell result }
+        ensures value { known_of self.now.cell result ≡ self.now.value }
+        ensures log { log_of result ≡ self.now.log }
+    {
+        match &self.asked {
+            Asked::Owned(_, _) => Seen::Owned(false),
+            Asked::Answered(_) => Seen::Owned(true),
+            Asked::Shared(waiting) => Seen::Shared(waiting.record(), waiting.written()),
+        }
     }
 
     /// Shows that the record of a cell that tasks share is a run of the cell, and that at each of its beginnings
@@ -149,33 +164,33 @@ impl<'a, T, X, I: Drop, R: Wait + AllocGlobal> Initializing<'a, T, X, I, R> {
             → AtEvery (NobodyForgotten Once) (reverse self.now.log) }
         ensures once { is_shared self.now.cell ≡ true → PollsOnce self.now.log }
     {
-        if let Some(record) = self.asked.record() {
+        if let Seen::Shared(record, _) = self.seen() {
             is_run(&record);
             polls_once(&record);
         }
     }
 
-    /// Tells a token of the cell what this future has seen of the record. It waits for nobody, and what its clauses
-    /// say holds if it returns, as at [`is_run`](Self::is_run).
+    /// Tells a token of the cell what this future has seen of the record, and the value that it answered, if it
+    /// answered one. If the token knows a value, it is that. It waits for nobody, and what its clauses say holds if it
+    /// returns, as at [`is_run`](Self::is_run).
     ///
     /// ```
     /// let Poll::Ready(Ok(first)) = future.poll(cx) else {
     ///     return None;
     /// };
     /// future.tell(token);
-    /// let second = cell.get_as(token).unwrap(); // never None: the token has seen that the cell is set
+    /// let second = cell.get_as(token).unwrap(); // never None, and the same value: both are proved
     /// ```
     pub fn tell(&self, token: &mut Known<'a, T>)
         requires token_of_this_cell { token.old.cell ≡ self.now.cell }
         ensures cell { token.new.cell ≡ token.old.cell }
-        ensures value { token.new.value ≡ token.old.value }
+        ensures value { token.new.value ≡ option_or token.old.value self.now.value }
+        ensures agrees { IfSome self.now.value (Agrees token.old.value) }
         ensures own { IsPrefix token.old.log token.new.log }
         ensures other { IsPrefix self.now.log token.new.log }
         ensures set { IsSetIn self.now.cell self.now.log → IsSetIn token.new.cell token.new.log }
     {
-        if let Some(record) = self.asked.record() {
-            token.learn_record(&record);
-        }
+        token.learn_seen(&self.seen());
     }
 
     /// The future takes over what a token of its cell has seen of the record: its next poll comes after that. It waits
@@ -194,13 +209,18 @@ impl<'a, T, X, I: Drop, R: Wait + AllocGlobal> Initializing<'a, T, X, I, R> {
         ensures task { self.new.task ≡ self.old.task }
         ensures finished { self.new.finished ≡ self.old.finished }
         ensures init { self.new.init ≡ self.old.init }
+        ensures value { self.new.value ≡ self.old.value }
         ensures own { IsPrefix self.old.log self.new.log }
         ensures other { IsPrefix token.now.log self.new.log }
         ensures mine { entries_of self.old.task self.new.log ≡ entries_of self.old.task self.old.log }
         ensures own_set { IsSetIn self.old.cell self.old.log → IsSetIn self.new.cell self.new.log }
         ensures other_set { IsSetIn token.now.cell token.now.log → IsSetIn self.new.cell self.new.log }
     {
-        self.asked.learn(token.seen());
+        match (&mut self.asked, token.seen()) {
+            (Asked::Shared(waiting), Seen::Shared(record, _)) => waiting.learn(record),
+            (Asked::Owned(_, _) | Asked::Answered(_), Seen::Owned(_)) => {}
+            _ => unreachable!(),
+        }
     }
 
     /// Shows that two futures of one cell are two tasks of it. It does nothing, but that the first may learn more of
@@ -212,6 +232,7 @@ impl<'a, T, X, I: Drop, R: Wait + AllocGlobal> Initializing<'a, T, X, I, R> {
         ensures task { a.new.task ≡ a.old.task }
         ensures finished { a.new.finished ≡ a.old.finished }
         ensures init { a.new.init ≡ a.old.init }
+        ensures value { a.new.value ≡ a.old.value }
         ensures log { IsPrefix a.old.log a.new.log }
         ensures set { IsSetIn a.old.cell a.old.log → IsSetIn a.new.cell a.new.log }
         ensures other { b.new ≡ b.old }
@@ -222,126 +243,25 @@ impl<'a, T, X, I: Drop, R: Wait + AllocGlobal> Initializing<'a, T, X, I, R> {
         }
     }
 
-    // As by a drop: the init is dropped, and then the task gives the right back, or leaves those who wait.
-    pub(super) fn leave(&mut self)
+    // As by a drop: the init is dropped, and then the task gives the right back, or leaves those who wait. It answers
+    // the value that the token knows.
+    fn leave(&mut self, token: &Known<'a, T>)
         requires live { self.old.finished ≡ false }
-        ensures { HasLeft self.old self.new }
+        requires token_of_this_cell { token.now.cell ≡ self.old.cell }
+        requires knows { IsSome token.now.value }
+        requires set { IsSetIn self.old.cell self.old.log }
+        ensures left { HasLeft self.old self.new }
+        ensures value { self.new.value ≡ token.now.value }
     {
-        self.asked.leave();
-    }
-}
-
-impl<'a, T, I: Drop, R: Wait + AllocGlobal> Asked<'a, T, I, R> {
-    #[inline(always)]
-    fn is_finished(&self) -> bool
-        ensures { result ≡ is_done self.now }
-    {
-        match self {
-            Asked::Owned(_, _) => false,
-            Asked::Answered(_) => true,
-            Asked::Shared(waiting) => waiting.is_finished(),
-        }
-    }
-
-    // The record as far as the task has seen it, of a cell that tasks share.
-    fn record(&self) -> Option<Record>
-        ensures { MatchOption result ((is_of_owned self.now ≡ true) × (seen_of self.now ≡ []))
-            (λ r. (r.log ≡ seen_of self.now) × HasBook self.now r.book) }
-    {
-        match self {
-            Asked::Owned(_, _) | Asked::Answered(_) => None,
-            Asked::Shared(waiting) => Some(waiting.record()),
-        }
-    }
-
-    #[inline(always)]
-    fn learn(&mut self, seen: &Seen<T>)
-        requires of { (c : CellView T) × IsAsked c self.old × IsOf c seen.now }
-        ensures of { (c : CellView T) → IsAsked c self.old → IsAsked c self.new }
-        ensures task { task_of self.new ≡ task_of self.old }
-        ensures finished { is_done self.new ≡ is_done self.old }
-        ensures init { init_of self.new ≡ init_of self.old }
-        ensures own { IsPrefix (seen_of self.old) (seen_of self.new) }
-        ensures other { IsPrefix (log_of seen.now) (seen_of self.new) }
-        ensures mine { entries_of (task_of self.old) (seen_of self.new)
-            ≡ entries_of (task_of self.old) (seen_of self.old) }
-        ensures own_set { IsSet (seen_of self.old) → IsSet (seen_of self.new) }
-        ensures other_set { IsSet (log_of seen.now) → IsSet (seen_of self.new) }
-    {
-        match (self, seen) {
-            (Asked::Shared(waiting), Seen::Shared(record, _)) => waiting.learn(record),
-            (Asked::Owned(_, _) | Asked::Answered(_), Seen::Owned(_)) => {}
+        match (&mut self.asked, token.seen()) {
+            (Asked::Shared(waiting), Seen::Shared(_, Some(written))) => waiting.leave(written),
+            (Asked::Owned(rt, _), Seen::Owned(true)) => self.asked = Asked::Answered(*rt),
             _ => unreachable!(),
-        }
-    }
-
-    fn leave(&mut self)
-        requires live { is_done self.old ≡ false }
-        ensures left { (c : CellView T) → IsAsked c self.old
-            → IsAsked c self.new × HasLeft (view_of_future c self.old) (view_of_future c self.new) }
-    {
-        match self {
-            Asked::Owned(rt, _) => *self = Asked::Answered(*rt),
-            Asked::Answered(_) => unreachable!(),
-            Asked::Shared(waiting) => waiting.leave(),
         }
     }
 }
 
 impl<'a, T: Drop, X: Failure, I: Init<T, X>, R: Wait + AllocGlobal> Initializing<'a, T, X, I, R> {
-    // Polls once, and tells with the value what a token learns by it.
-    #[inline(always)]
-    fn poll_found(&mut self, cx: &mut Context<'_>) -> Poll<Result<(&'a T, Seen<T>), X>>
-        requires live { self.old.finished ≡ false }
-        ensures did { DidPoll self.old self.new cx.old cx.new (ending_by X.ending result) }
-        ensures value { AnswersBy (λ r. r.0.now) self.old.cell result }
-        ensures late { IsSetIn self.old.cell self.old.log → IsValue result }
-        ensures own { IfReady result (TellsOwn I.may_fail X.ending self.old.init) }
-        ensures same { FailsNoOther I.may_fail self.old.init self.new.init }
-        ensures found { IfReady result (λ a. IfOk a (λ r.
-            IsOf self.old.cell r.1 × (known_of self.old.cell r.1 ≡ Some r.0.now))) }
-    {
-        let cell = self.cell;
-        match (&mut self.asked, &cell.value) {
-            (Asked::Shared(waiting), _) => match waiting.poll(cx) {
-                Poll::Pending => Poll::Pending,
-                Poll::Ready(Err(failure)) => Poll::Ready(Err(failure)),
-                Poll::Ready(Ok((value, written))) => {
-                    Poll::Ready(Ok((value, Seen::Shared(waiting.record(), Some(written)))))
-                }
-            },
-            (Asked::Owned(rt, _), Value::Owned(value)) => {
-                self.asked = Asked::Answered(*rt);
-                Poll::Ready(Ok((value, Seen::Owned(true))))
-            }
-            _ => unreachable!(),
-        }
-    }
-
-    // The same, after all that the token has seen.
-    #[inline(always)]
-    fn poll_after(
-        &mut self,
-        cx: &mut Context<'_>,
-        token: &Known<'a, T>,
-    ) -> Poll<Result<(&'a T, Seen<T>), X>>
-        requires live { self.old.finished ≡ false }
-        requires token_of_this_cell { token.now.cell ≡ self.old.cell }
-        ensures did { DidPoll self.old self.new cx.old cx.new (ending_by X.ending result) }
-        ensures value { AnswersBy (λ r. r.0.now) self.old.cell result }
-        ensures spans { SpansIn self.old.cell self.old.task (end_of self.old.task (ending_by X.ending result))
-            token.now.log self.new.log }
-        ensures late { IsSetIn token.now.cell token.now.log → IsValue result }
-        ensures future_late { IsSetIn self.old.cell self.old.log → IsValue result }
-        ensures own { IfReady result (TellsOwn I.may_fail X.ending self.old.init) }
-        ensures same { FailsNoOther I.may_fail self.old.init self.new.init }
-        ensures found { IfReady result (λ a. IfOk a (λ r.
-            IsOf self.old.cell r.1 × (known_of self.old.cell r.1 ≡ Some r.0.now))) }
-    {
-        self.learn(token);
-        self.poll_found(cx)
-    }
-
     /// Polls the future once.
     ///
     /// It answers the value that is set, the error that its own init gave, or a refusal: `Memory`
@@ -349,7 +269,8 @@ impl<'a, T: Drop, X: Failure, I: Init<T, X>, R: Wait + AllocGlobal> Initializing
     /// these it is finished. After an error or a refusal the cell is as if the future had been dropped.
     ///
     /// A poll that is Pending has registered its task somewhere, or asked for another poll. The newest entry of the
-    /// record is the end of this poll, with what it answers.
+    /// record is the end of this poll, with what it answers. The future keeps the value that it answers, for whoever
+    /// asks it to [`tell`](Self::tell).
     ///
     /// ```
     /// let polled = future.poll(cx);
@@ -364,17 +285,14 @@ impl<'a, T: Drop, X: Failure, I: Init<T, X>, R: Wait + AllocGlobal> Initializing
         requires unfinished { self.old.finished ≡ false }
         ensures call { DidPoll self.old self.new cx.old cx.new (ending_by X.ending result) }
         ensures value { Answers self.old.cell result }
+        ensures answered { self.new.value ≡ value_of result }
         ensures late { IsSetIn self.old.cell self.old.log → IsValue result }
         ensures own { IfReady result (TellsOwn I.may_fail X.ending self.old.init) }
         ensures same { FailsNoOther I.may_fail self.old.init self.new.init }
     {
         let cell = self.cell;
         match (&mut self.asked, &cell.value) {
-            (Asked::Shared(waiting), _) => match waiting.poll(cx) {
-                Poll::Pending => Poll::Pending,
-                Poll::Ready(Err(failure)) => Poll::Ready(Err(failure)),
-                Poll::Ready(Ok((value, _))) => Poll::Ready(Ok(value)),
-            },
+            (Asked::Shared(waiting), _) => waiting.poll(cx),
             (Asked::Owned(rt, _), Value::Owned(value)) => {
                 self.asked = Asked::Answered(*rt);
                 Poll::Ready(Ok(value))
@@ -409,6 +327,7 @@ impl<'a, T: Drop, X: Failure, I: Init<T, X>, R: Wait + AllocGlobal> Initializing
         ensures call { PollsAs token.old.value self.old self.new cx.old cx.new (ending_by X.ending result) }
         ensures cell { token.new.cell ≡ token.old.cell }
         ensures value { Polls token.old.value token.new.value result }
+        ensures answered { self.new.value ≡ value_of result }
         ensures log { IsPrefix token.old.log token.new.log }
         ensures spans { token.old.value ≡ None
             → SpansIn self.old.cell self.old.task (end_of self.old.task (ending_by X.ending result))
@@ -418,18 +337,14 @@ impl<'a, T: Drop, X: Failure, I: Init<T, X>, R: Wait + AllocGlobal> Initializing
         ensures own { IfReady result (TellsOwn I.may_fail X.ending self.old.init) }
         ensures same { result ≡ Poll.Pending → FailsNoOther I.may_fail self.old.init self.new.init }
     {
+        self.learn(token);
         if token.knows_value() {
-            self.leave();
+            self.leave(token);
             return Poll::Ready(Ok(token.learn(self.cell).unwrap()));
         }
-        match self.poll_after(cx, token) {
-            Poll::Pending => Poll::Pending,
-            Poll::Ready(Err(failure)) => Poll::Ready(Err(failure)),
-            Poll::Ready(Ok((value, found))) => {
-                token.learn_found(&found);
-                Poll::Ready(Ok(value))
-            }
-        }
+        let polled = self.poll(cx);
+        self.tell(token);
+        polled
     }
 }
 
@@ -453,6 +368,7 @@ impl<'a, T: Drop, X: Failure, I: Init<T, X>, R: Wait + AllocGlobal> Future
         ensures kept { Keeps cx.old cx.new }
         ensures call { self.old.finished ≡ false → DidPoll self.old self.new cx.old cx.new (ending_by X.ending result) }
         ensures answers { self.old.finished ≡ false → Answers self.old.cell result }
+        ensures answered { self.old.finished ≡ false → self.new.value ≡ value_of result }
         ensures late { self.old.finished ≡ false → IsSetIn self.old.cell self.old.log → IsValue result }
         ensures over { self.old.finished ≡ true → (result ≡ Poll.Pending) × (self.new ≡ self.old) }
     {

@@ -1,5 +1,5 @@
-//! Tokens: what their holder has learned of one cell.
-ghost use Rattle.std.specs.Prelude.{◌≡◌, ◌↔◌, ◌⊎◌, IsSome, IsTrue, MatchOption, None, Some, true, reverse};
+//! Tokens: what their holder has learned of one cell. And what was told of it, for its owner.
+ghost use Rattle.std.specs.Prelude.{◌≡◌, ◌↔◌, ◌⊎◌, IfSome, IsSome, IsTrue, MatchOption, None, Some, true, reverse};
 ghost use Rattle.std.specs.Option.{is_some, option_or};
 ghost use mathlib.Core.List.{IsPrefix};
 ghost use Rattle.once_world.specs.Record.{Once};
@@ -7,16 +7,16 @@ ghost use Rattle.once_world.specs.Run.{AtEvery, IsRun, NobodyForgotten};
 ghost use Rattle.once_world.specs.Called.{SomebodyCalled};
 ghost use Rattle.once_parts.specs.Kept.{most};
 ghost use Rattle.once_parts.specs.Record.{IsSet, PollsOnce, WasFilled};
-ghost use Rattle.async_once_cell.specs.Views.{CellView, IsBookOf, IsOf, Shows, is_shared, known_of, log_of};
-ghost use Rattle.async_once_cell.specs.Tokens.{IsSetIn, Learns, Lends, Looks};
+ghost use Rattle.async_once_cell.specs.Views.{CellView, IsOf, Shows, is_shared, known_of, log_of};
+ghost use Rattle.async_once_cell.specs.Tokens.{Agrees, IsSetIn, Learns, Lends, Looks};
 
-use super::OnceCell;
-use super::value::Value;
+use super::{OnceCell, Value};
 use once_parts::Record;
 use once_parts::book::{is_run, polls_once, stays_set};
 use pagebook::Written;
 use std::fmt;
 use std::marker::Model;
+use std::snapshot::Snapshot;
 use std::sync::OnceToken;
 
 // What a token saw of its cell.
@@ -31,8 +31,9 @@ pub(super) enum Seen<T> {
 /// What its holder has learned of one cell: the cell's value, if it knows it, and the record as far as it was seen.
 ///
 /// A token learns the value from a call that answers it: [`OnceCell::get_as`], or the `poll_as` of a
-/// future. From then on each such call answers that value: the contracts say so. Whoever passes a
-/// token on passes on what it knows. A token borrows its cell, so the cell's owner makes no call meanwhile.
+/// future. Or a future tells it the value that it answered. From then on each such call answers that value: the
+/// contracts say so. Whoever passes a token on passes on what it knows. A token borrows its cell, so the cell's owner
+/// makes no call meanwhile.
 #[derive(Drop)]
 pub struct Known<'a, T> {
     cell: &'a OnceCell<T>,
@@ -82,7 +83,8 @@ impl<'a, T> Known<'a, T> {
     }
 
     pub(super) fn knows_value(&self) -> bool
-        ensures { result ≡ is_some self.now.value }
+        ensures knows { result ≡ is_some self.now.value }
+        ensures set { result ≡ true → IsSetIn self.now.cell self.now.log }
     {
         match &self.seen {
             Seen::Owned(knows) => *knows,
@@ -91,7 +93,7 @@ impl<'a, T> Known<'a, T> {
     }
 
     // The cell, its value if the token knows it, and what shows it.
-    pub(super) fn shown(&self) -> Option<(&'a OnceCell<T>, &'a T, Option<Written<T>>)>
+    fn shown(&self) -> Option<(&'a OnceCell<T>, &'a T, Option<Written<T>>)>
         ensures { MatchOption result (self.now.value ≡ None)
             (λ r. (r.0.now ≡ self.now.cell) × (self.now.value ≡ Some r.1.now) × Shows r.0.now r.1.now r.2) }
     {
@@ -115,41 +117,32 @@ impl<'a, T> Known<'a, T> {
         }
     }
 
-    // Learns what a task of its cell has seen.
-    pub(super) fn learn_record(&mut self, seen: &Record)
-        requires of { IsBookOf self.old.cell seen.now.book }
-        ensures cell { self.new.cell ≡ self.old.cell }
-        ensures value { self.new.value ≡ self.old.value }
-        ensures own { IsPrefix self.old.log self.new.log }
-        ensures other { IsPrefix seen.now.log self.new.log }
-        ensures set { IsSet seen.now.log → IsSet self.new.log }
-    {
-        self.seen.learn_record(seen);
-    }
-
     // What it has seen.
     #[inline(always)]
     pub(super) fn seen(&self) -> &Seen<T>
         ensures of { IsOf self.now.cell result.now }
+        ensures value { known_of self.now.cell result.now ≡ self.now.value }
         ensures log { log_of result.now ≡ self.now.log }
     {
         &self.seen
     }
 
-    // Learns a value, and the record in which it was found.
+    // Learns what another token or a future of the cell has seen.
     #[inline(always)]
-    pub(super) fn learn_found(&mut self, found: &Seen<T>)
-        requires of { IsOf self.old.cell found.now }
+    pub(super) fn learn_seen(&mut self, other: &Seen<T>)
+        requires of { IsOf self.old.cell other.now }
         ensures cell { self.new.cell ≡ self.old.cell }
-        ensures value { self.new.value ≡ option_or self.old.value (known_of self.old.cell found.now) }
+        ensures value { self.new.value ≡ option_or self.old.value (known_of self.old.cell other.now) }
+        ensures agrees { IfSome (known_of self.old.cell other.now) (Agrees self.old.value) }
         ensures own { IsPrefix self.old.log self.new.log }
-        ensures other { IsPrefix (log_of found.now) self.new.log }
+        ensures other { IsPrefix (log_of other.now) self.new.log }
+        ensures set { IsSetIn self.old.cell (log_of other.now) → IsSetIn self.new.cell self.new.log }
     {
-        self.seen.learn_from(found);
+        self.seen.learn_from(other);
     }
 
     /// Takes over what another token of the cell has seen: its record, and its value if this one knows
-    /// none. It waits for nobody.
+    /// none. If both know a value, it is one. It waits for nobody.
     ///
     /// Here `other` knows the value, and so `token` does then:
     ///
@@ -161,10 +154,12 @@ impl<'a, T> Known<'a, T> {
         requires tokens_of_one_cell { self.old.cell ≡ other.now.cell }
         ensures cell { self.new.cell ≡ self.old.cell }
         ensures value { self.new.value ≡ option_or self.old.value other.now.value }
+        ensures agrees { IfSome other.now.value (Agrees self.old.value) }
         ensures own { IsPrefix self.old.log self.new.log }
         ensures other { IsPrefix other.now.log self.new.log }
+        ensures set { IsSetIn other.now.cell other.now.log → IsSetIn self.new.cell self.new.log }
     {
-        self.seen.learn_from(&other.seen);
+        self.learn_seen(&other.seen);
     }
 
     /// It does nothing. Its contract is about the record of a cell that tasks share. The record is a run of
@@ -238,34 +233,59 @@ impl<'a, T> Known<'a, T> {
     }
 }
 
-impl<T> Seen<T> {
-    fn learn_record(&mut self, seen: &Record)
-        requires of { (c : CellView T) × IsOf c self.old × IsBookOf c seen.now.book }
-        ensures of { (c : CellView T) → IsOf c self.old → (IsBookOf c seen.now.book)
-            → IsOf c self.new × (known_of c self.new ≡ known_of c self.old) }
-        ensures own { IsPrefix (log_of self.old) (log_of self.new) }
-        ensures other { IsPrefix seen.now.log (log_of self.new) }
-        ensures set { IsSet seen.now.log → IsSet (log_of self.new) }
-    {
-        match self {
-            Seen::Owned(_) => unreachable!(),
-            Seen::Shared(own, _) => take_over(own, seen),
-        }
-    }
+/// What shows which value a cell has. It does not borrow the cell, so the cell's owner may have it: a call of the owner
+/// that is given it answers that value.
+#[derive(Drop)]
+pub struct Told<T> {
+    cell: Snapshot<OnceCell<T>>,
+    value: Snapshot<T>,
+    pub(super) written: Option<Written<T>>,
+}
 
+impl<T> Model for Told<T> {
+    ghost use Rattle.async_once_cell.specs.Views.{Shows, ToldView};
+
+    ghost Value = { ToldView T };
+
+    ghost view = { λ t. record { cell = t.cell.value; value = t.value.value } };
+
+    ghost invariant = { λ t. Shows t.cell.value t.value.value t.written };
+}
+
+impl<'a, T> Known<'a, T> {
+    /// What this token knows, for the time when its loan of the cell is over.
+    pub fn told(&self) -> Option<Told<T>>
+        ensures { MatchOption result (self.now.value ≡ None)
+            (λ t. (t.cell ≡ self.now.cell) × (self.now.value ≡ Some t.value)) }
+    {
+        let (cell, value, written) = self.shown()?;
+        Some(Told {
+            cell: Snapshot::of(cell),
+            value: Snapshot::of(value),
+            written,
+        })
+    }
+}
+
+impl<T> Seen<T> {
     fn learn_from(&mut self, other: &Seen<T>)
         requires of { (c : CellView T) × IsOf c self.old × IsOf c other.now }
         ensures of { (c : CellView T) → IsOf c self.old → IsOf c other.now
-            → IsOf c self.new × (known_of c self.new ≡ option_or (known_of c self.old) (known_of c other.now)) }
+            → IsOf c self.new × (known_of c self.new ≡ option_or (known_of c self.old) (known_of c other.now))
+            × IfSome (known_of c other.now) (Agrees (known_of c self.old)) }
         ensures own { IsPrefix (log_of self.old) (log_of self.new) }
         ensures other { IsPrefix (log_of other.now) (log_of self.new) }
+        ensures set { IsSet (log_of other.now) → IsSet (log_of self.new) }
     {
         match (self, other) {
             (Seen::Owned(knows), Seen::Owned(others)) => *knows |= *others,
             (Seen::Shared(own, known), Seen::Shared(record, found)) => {
                 take_over(own, record);
-                if known.is_none() {
-                    *known = found.as_ref().map(Written::again);
+                if let Some(found) = found {
+                    match known {
+                        Some(known) => known.agrees(found),
+                        None => *known = Some(found.again()),
+                    }
                 }
             }
             _ => unreachable!(),
