@@ -8,7 +8,7 @@ use Rattle.once_world.specs.declared.record.Ran.{Ran as Answer}
 use Rattle.once_world.specs.declared.record.Reply.TheVariants.{Pending}
 use Rattle.once_world.specs.Record.{Kind, Entry, Made, Begin, Claim, Ran, Free, Fill, Pass, End, DropBegin, DropEnd, Look, Own, is_of, made_in, handed_by}
 use Rattle.once_world.specs.Cell.{Cell, Empty, Held, SetTo, cell}
-use Rattle.once_world.specs.Tasks.{Status, Unmade, Fresh, Polling, Dropping, Waiting, Holding, Gone, LastCall, status, status_after, pending_status, last_call, last_call_after}
+use Rattle.once_world.specs.Tasks.{Status, Unmade, Fresh, Waiting, Holding, Gone, LastCall, status, status_after, pending_status, last_call, last_call_after}
 use Rattle.once_world.specs.Wakers.{is_end_of}
 use Rattle.once_world.specs.Run.{IsLegal, MayBegin, MayFree, MayPass}
 use Rattle.once_queue.proofs.Listing.Members.{eqb_self}

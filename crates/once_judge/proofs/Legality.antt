@@ -1,5 +1,5 @@
 -- What is kept decides which entry may come next; and a reason that is true by it is true.
-use Rattle.std.proofs.Common.{◌≡◌, ◌<◌, ℕ, Bool, true, false, ◌⊎◌, inl, inr, ⊎_elim, List, [], Option, Some, None, length, refl, sym, ap, ◌∙◌, subst, arith}
+use Rattle.std.proofs.Common.{◌≡◌, ◌<◌, ℕ, true, false, ◌⊎◌, inl, inr, ⊎_elim, List, Option, Some, None, length, refl, sym, ap, ◌∙◌, subst, arith}
 use Rattle.std.proofs.lemmas.Bool.{false≢true, cases_Bool}
 use Rattle.once_queue.specs.Numbers.{member}
 use Rattle.once_world.specs.declared.record.Ran.{Ran as Answer}
@@ -7,10 +7,10 @@ use Rattle.once_world.specs.declared.record.Ran.TheVariants.{Pending as RanPendi
 use Rattle.once_world.specs.declared.record.Ran.TheVariants.{Error as RanError}
 use Rattle.once_world.specs.declared.record.Reply.{Reply}
 use Rattle.once_world.specs.declared.record.Reply.TheVariants.{Pending, Value, Error, Memory, Full}
-use Rattle.once_world.specs.Record.{Kind, Once, OnceWith, Lazy, LazyWith, OwnerCall, Take, Write, Parts, ReplaceValue, ReplaceAnswers, is_lazy, has_call, made_in}
+use Rattle.once_world.specs.Record.{Kind, Once, OnceWith, Lazy, LazyWith, OwnerCall, is_lazy, has_call, made_in}
 use Rattle.once_world.specs.Record.{Entry, Made, Begin, Claim, Ran, Free, Fill, Pass, End, DropBegin, DropEnd, Look, Own}
 use Rattle.once_world.specs.Cell.{Cell, Empty, Held, SetTo, is_set, value_in, cell, answers_left, next_answer, got, IsNext}
-use Rattle.once_world.specs.Tasks.{Status, Unmade, Fresh, Polling, Dropping, Waiting, Holding, Gone, LastCall, status, last_call, is_gone, all_gone}
+use Rattle.once_world.specs.Tasks.{Status, Unmade, Fresh, Polling, Dropping, Waiting, Gone, status, last_call, is_gone, all_gone}
 use Rattle.once_world.specs.Wakers.{IsDue, IsOpen, HandsOut, CallsOne, handed_since}
 use Rattle.once_world.specs.Refusals.{MemoryFrom}
 use Rattle.once_world.specs.Run.{IsLegal, MayBegin, MayFree, MayPass, MayEnd}
@@ -20,7 +20,7 @@ use Rattle.once_judge.specs.declared.reason.Reason.TheVariants.{TaskIs, CellIs, 
 use Rattle.once_judge.specs.declared.reason.Reason.TheVariants.{NextAnswer, AnswersLeft, NotOpen, Twice, Due, HandsOut as HandsOutSo}
 use Rattle.once_judge.specs.declared.reason.Reason.TheVariants.{NoCauseForMemory, NoCrowd, NotFirstPoll, NoSuchCall}
 use Rattle.once_judge.specs.Seen.{Seen}
-use Rattle.once_judge.specs.Legal.{IsLegalIn, IsDueFor, IsDueIn, HandsOutIn, CallsOneIn, MemoryFromIn, MayEndIn, IsNextIn, AllGoneIn, kind_by, has_call_in}
+use Rattle.once_judge.specs.Legal.{IsLegalIn, IsDueFor, IsDueIn, HandsOutIn, CallsOneIn, MemoryFromIn, MayEndIn, IsNextIn, AllGoneIn, has_call_in}
 use Rattle.once_judge.specs.SeenOf.{Basics, IsSeenOf, is_made}
 use Rattle.once_judge.specs.Reasons.{IsTrueIn}
 use Rattle.once_judge.specs.Verdict.{IsTrue}

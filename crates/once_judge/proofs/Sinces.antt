@@ -4,10 +4,10 @@ use Rattle.std.proofs.lemmas.Bool.{false≢true, ne_eqb, eqb-false, ltb-true, lt
 use Rattle.std.proofs.lemmas.Bool.Decides.{nat_tests, Decides-or, Decides-like}
 use Rattle.once_queue.specs.Numbers.{member, bit, how_many}
 use Rattle.once_world.specs.declared.record.Reply.{Reply}
-use Rattle.once_world.specs.declared.record.Reply.TheVariants.{Pending, Value, Error, Memory, Full}
-use Rattle.once_world.specs.Record.{Kind, Entry, Made, Begin, Claim, Ran, Free, Fill, Pass, End, DropBegin, DropEnd, Look, Own, is_of, made_in}
+use Rattle.once_world.specs.declared.record.Reply.TheVariants.{Pending}
+use Rattle.once_world.specs.Record.{Kind, Entry, End, Look, Own, is_of, made_in}
 use Rattle.once_world.specs.Cell.{Cell, Empty, Held, SetTo, cell, cell_after}
-use Rattle.once_world.specs.Tasks.{Status, Unmade, Fresh, Polling, Dropping, Waiting, Holding, Gone, status, status_after, pending_status, is_under_way}
+use Rattle.once_world.specs.Tasks.{Status, Unmade, Polling, status, status_after, pending_status, is_under_way}
 use Rattle.once_world.specs.Wakers.{is_held_by_other}
 use Rattle.once_world.specs.Refusals.{is_about, is_begin_of, Since, OtherHolds, OtherActs, IsCrowded, crowd}
 use Rattle.once_world.specs.Run.{IsRun}

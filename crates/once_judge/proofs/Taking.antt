@@ -1,13 +1,13 @@
 -- `take` makes of what is kept what one more entry makes of it.
-use Rattle.std.proofs.Common.{◌≡◌, ◌≤◌, ◌<◌, ◌+◌, ◌-◌, ℕ, zero, suc, Bool, true, false, cond, ◌==◌, List, [], ◌∷◌, ◌++◌, Option, Some, None, length, drop, take, get_or, refl, sym, ap, ◌∙◌, arith, ltb}
+use Rattle.std.proofs.Common.{◌≡◌, ◌≤◌, ◌<◌, ◌+◌, ◌-◌, ℕ, zero, suc, Bool, true, false, cond, ◌==◌, List, [], ◌∷◌, Option, Some, None, length, drop, take, get_or, refl, sym, ap, ◌∙◌, arith, ltb}
 use Rattle.std.proofs.lemmas.Bool.{eqb-true}
 use Rattle.once_queue.specs.Numbers.{member, bit, times_in}
 use Rattle.once_world.specs.declared.record.Reply.TheVariants.{Pending}
-use Rattle.once_world.specs.Record.{Entry, End, Look, Own, is_of, handed_by, is_replacing}
-use Rattle.once_world.specs.Cell.{rest_of, cell_after, answers_after}
+use Rattle.once_world.specs.Record.{Entry, End, is_of, handed_by, is_replacing}
+use Rattle.once_world.specs.Cell.{rest_of}
 use Rattle.once_world.specs.Tasks.{Status, is_under_way}
 use Rattle.once_world.specs.Refusals.{is_about}
-use Rattle.once_judge.specs.Seen.{Seen, TaskSeen, after, moved, counted, count_after, opens_in, opens_with, task_of, holder_after, held_after, other_after}
+use Rattle.once_judge.specs.Seen.{Seen, TaskSeen, after, moved, counted, count_after, opens_in, opens_with, task_of}
 use Rattle.std.specs.Prelude.{unwrap_or}
 use Rattle.std.specs.Ordering.{nat_cmp}
 use Rattle.std.specs.Cmp.{unsigned_tied}

@@ -2,7 +2,7 @@
 use Rattle.std.proofs.Common.{◌≡◌, ℕ, true, inl, inr, ⊎_elim, List, refl, sym, ap, ◌∙◌, ltb}
 use Rattle.once_queue.specs.Numbers.{member}
 use Rattle.once_world.specs.Record.{Kind, Entry}
-use Rattle.once_world.specs.Tasks.{Status, Unmade, Fresh, Polling, Dropping, Waiting, Holding, Gone, status, last_call, is_under_way}
+use Rattle.once_world.specs.Tasks.{Status, Polling, Dropping, Waiting, status, last_call, is_under_way}
 use Rattle.once_world.specs.Wakers.{handed_since}
 use Rattle.once_world.specs.Called.{IsCalled, SomebodyCalled}
 use Rattle.once_world.specs.Crowd.{is_waiting}

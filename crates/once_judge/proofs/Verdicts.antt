@@ -15,7 +15,7 @@ use Rattle.once_world.proofs.Listing.Counting.{count_within}
 use Rattle.once_judge.specs.declared.reason.Reason.{Reason}
 use Rattle.once_judge.specs.declared.verdict.Forgotten.{Forgotten}
 use Rattle.once_judge.specs.Seen.{Seen, after}
-use Rattle.once_judge.specs.Legal.{IsLegalIn, IsForgottenIn, SomebodyCalledIn}
+use Rattle.once_judge.specs.Legal.{IsLegalIn}
 use Rattle.once_judge.specs.SeenOf.{IsSeenOf}
 use Rattle.once_judge.specs.Shown.{Within}
 use Rattle.once_judge.specs.Reasons.{IsTrueIn}

@@ -1,5 +1,5 @@
 -- Which reason is true, by what is kept; and what an answer of a test says, which is a reason or none.
-use Rattle.std.specs.Prelude.{◌≡◌, ◌≢◌, ◌≤◌, ℕ, Bool, true, false, length, Result, Ok, Err}
+use Rattle.std.specs.Prelude.{◌≡◌, ◌≢◌, ◌≤◌, Bool, true, false, length, Result, Ok, Err}
 use Rattle.once_queue.specs.Numbers.{member, times_in}
 use Rattle.once_world.specs.Record.{Entry, Own, handed_by}
 use Rattle.once_world.specs.Cell.{next_answer}

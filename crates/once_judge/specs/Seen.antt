@@ -7,7 +7,7 @@ use Rattle.once_world.specs.declared.record.Reply.TheVariants.{Pending}
 use Rattle.once_world.specs.Record.{Kind, Entry, Made, Begin, Claim, Ran, Free, Fill, Pass, End}
 use Rattle.once_world.specs.Record.{DropBegin, DropEnd, Look, Own, is_of, handed_by, is_replacing}
 use Rattle.once_world.specs.Cell.{Cell, Held, cell_after, answers_after, first_cell, first_answers}
-use Rattle.once_world.specs.Tasks.{Status, Unmade, Gone, LastCall, status_after, last_call_after, is_under_way}
+use Rattle.once_world.specs.Tasks.{Status, Unmade, LastCall, status_after, last_call_after, is_under_way}
 use Rattle.once_world.specs.Wakers.{is_held_by_other}
 use Rattle.once_world.specs.Refusals.{is_about}
 

@@ -3,8 +3,8 @@
 //!
 //! `judge` goes along the record once. What it keeps of the entries so far is a `Seen`: the cell, each task with its
 //! last call, and some numbers for what was so since a poll began. `rules` decides by it whether the next entry may
-//! come, and gives the reason if not. `report` and `last_calls` have the words of a verdict, and `program` is all that the
-//! program `judge_record` does: that crate has its `main` alone, so that tests can call what it does.
+//! come, and gives the reason if not. `report` and `last_calls` have the words of a verdict, and `program` is all that
+//! the program `judge_record` does: that crate has its `main` alone, so that tests can call what it does.
 #![tactic(auto)]
 
 mod last_calls;

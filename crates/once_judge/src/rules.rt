@@ -173,7 +173,8 @@ impl Seen {
     // init.
     fn passes(&self, t: u64) -> Result<(), Reason>
         ensures rule { Tests result ((MayPass ((seen_of self.now).task t).status
-            ((seen_of self.now).task t).call.claimed ((seen_of self.now).task t).call.ran) × (((seen_of self.now).task t).call.passed ≡ false)) }
+            ((seen_of self.now).task t).call.claimed ((seen_of self.now).task t).call.ran)
+            × (((seen_of self.now).task t).call.passed ≡ false)) }
         ensures reason { (e : Told) → IfErr result (λ r. IsTrueIn self.now.lazy r e (seen_of self.now)) }
     {
         let task = self.task(t);

@@ -53,8 +53,8 @@ loop-number-preserved c =
     let told : Tests c.in_ok-reason.field-0 (IsLegalIn c.loop-number.seen.lazy (entry_of x) S) = c.in_ok-reason.ensures.rule in
     let fits : IsLegalIn c.loop-number.seen.lazy (entry_of x) S = rw c.in_default.is at told in
     let judged = judged_step K c.args.limit c.args.entries.now c.loop-number.number x S T (omega arith) c.index-entries-number.is c.loop-number.invariant.0
-        (subst (λ b. IsLegalIn b (entry_of x) S) c.loop-number.invariant.2 fits)
-        (c.in_ok-take.ensures.seen ∙ ap (λ n. after n (entry_of x) S) c.loop-number.invariant.1) in (
+    (subst (λ b. IsLegalIn b (entry_of x) S) c.loop-number.invariant.2 fits)
+    (c.in_ok-take.ensures.seen ∙ ap (λ n. after n (entry_of x) S) c.loop-number.invariant.1) in (
       judged,
       c.in_ok-take.ensures.limit ∙ c.loop-number.invariant.1,
       c.in_ok-take.ensures.lazy ∙ c.loop-number.invariant.2,

@@ -1,5 +1,5 @@
 -- Each task that lives is looked at.
-use Rattle.std.proofs.Common.{◌≡◌, Some, sym, ap, ◌∙◌, subst, nat_cmp}
+use Rattle.std.proofs.Common.{sym, ap, ◌∙◌, subst, nat_cmp}
 use Rattle.std.specs.Prelude.{IfSome}
 use Rattle.std.specs.List.{All}
 use Rattle.std.specs.Cmp.{nat_cmp_total}
