@@ -16,14 +16,16 @@ pub mod print;
 use crate::fault::Fault;
 use crate::parse::{Script, parse_script};
 use crate::play::replay_lines;
-use crate::print::print_record;
+use crate::print::{FirstLine, print_full, print_record};
 use std::alloc::{AllocGlobal, Global};
+use std::env::{self, Env};
 use std::io;
 use std::io::{BufReader, Read, Write};
 use std::process::ExitCode;
 
-/// Runs the program `once_replay`: replays the script that the input has, and prints its record to standard output. If
-/// that fails, one line on standard error says why, and the status is that of the fault.
+/// Runs the program `once_replay`: replays the script that the input has, and prints its record to standard output.
+/// With the word `--full` first on the command line it prints the text of the record. If that fails, one line on
+/// standard error says why, and the status is that of the fault.
 ///
 /// ```
 /// fn main(rt: HostRuntime) -> ExitCode {
@@ -32,16 +34,30 @@ use std::process::ExitCode;
 /// ```
 pub fn replay<R, I>(rt: &R, input: I) -> ExitCode
 where
-    R: Print + Eprint + AllocGlobal,
+    R: Print + Eprint + Env + AllocGlobal,
     I: Read + Drop,
     ensures { (exit_status result ≡ 0) ⊎ ((fault : Fault) × (exit_status result ≡ status_of fault)) }
 {
-    match run(rt.alloc(), input, io::writer(rt)) {
+    match run_as_asked(rt, input) {
         Ok(()) => ExitCode::from(0u8),
         Err(fault) => {
             let _ = rt.eprintln(fault);
             ExitCode::from(fault.status())
         }
+    }
+}
+
+// Prints a record as the command line asks for it.
+fn run_as_asked<R, I>(rt: &R, input: I) -> Result<(), Fault>
+where
+    R: Print + Env + AllocGlobal,
+    I: Read + Drop,
+{
+    let words: Vec<String> = env::args(rt)?.collect(rt.alloc())?;
+    if words.get(1).map_or(false, |word| word.as_str() == "--full") {
+        run_full(rt.alloc(), input, io::writer(rt))
+    } else {
+        run(rt.alloc(), input, io::writer(rt))
     }
 }
 
@@ -51,13 +67,7 @@ where
 /// of the record.
 ///
 /// ```
-/// match run(rt.alloc(), input, io::writer(rt)) {
-///     Ok(()) => ExitCode::from(0u8),
-///     Err(fault) => {
-///         let _ = rt.eprintln(fault);
-///         ExitCode::from(fault.status())
-///     }
-/// }
+/// run(rt.alloc(), input, io::writer(rt))
 /// ```
 pub fn run<I, O>(alloc: Global, input: I, output: O) -> Result<(), Fault>
 where
@@ -68,6 +78,24 @@ where
     let Script { kind, limit, lines } = parse_script(alloc, text.as_slice())?;
     let record = replay_lines(alloc, kind, limit, &lines)?;
     print_record(alloc, &record, output)?;
+    Ok(())
+}
+
+/// Does the same as `run`, and prints the text of a record.
+///
+/// ```
+/// run_full(rt.alloc(), input, io::writer(rt))
+/// ```
+pub fn run_full<I, O>(alloc: Global, input: I, output: O) -> Result<(), Fault>
+where
+    I: Read + Drop,
+    O: Write + Drop,
+{
+    let text = read(alloc, input)?;
+    let Script { kind, limit, lines } = parse_script(alloc, text.as_slice())?;
+    let first = format!(in alloc; "{}", FirstLine(&kind, limit))?;
+    let record = replay_lines(alloc, kind, limit, &lines)?;
+    print_full(alloc, first.as_str(), &record, output)?;
     Ok(())
 }
 

@@ -20,8 +20,10 @@ use once_world::record::{Call, Input, Kind, Ran};
 use std::alloc::{AllocError, Global};
 
 mod answers;
+pub mod entries;
 mod lines;
 mod number;
+pub mod record;
 
 /// How many steps a `run` line makes.
 pub const RUN_STEPS: u64 = 16;

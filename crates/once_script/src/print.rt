@@ -1,5 +1,5 @@
 //! The text of a record.
-use once_world::world::{Call, Entry, Got, Ran, Record, Reply};
+use once_world::world::{Call, Entry, Got, Kind, Ran, Record, Reply};
 use std::alloc::Global;
 use std::io::{BufWriter, Write};
 use std::{fmt, io};
@@ -17,6 +17,90 @@ pub fn print_record<O: Write + Drop>(alloc: Global, record: &Record, output: O) 
     }
     writeln!(output, "{}", QueueText(record.queue))?;
     output.flush()
+}
+
+/// Prints the same as the text of a record: the first line of its script stands before it, and the lines of the owner's
+/// calls tell what the calls bring. `parse_record` reads it.
+///
+/// ```
+/// let first = format!(in alloc; "{}", FirstLine(&kind, limit))?; // the kind is for the replay
+/// let record = replay_lines(alloc, kind, limit, &lines)?;
+/// print_full(alloc, first.as_str(), &record, output)?;
+/// ```
+pub fn print_full<O: Write + Drop>(
+    alloc: Global,
+    first: &str,
+    record: &Record,
+    output: O,
+) -> io::Result<()> {
+    let mut output = BufWriter::new(alloc, output)?;
+    writeln!(output, "{first}")?;
+    for entry in &record.entries {
+        writeln!(output, "{}", FullLine(entry))?;
+    }
+    writeln!(output, "{}", QueueText(record.queue))?;
+    output.flush()
+}
+
+/// The first line of a script of a cell of this kind, with this limit, without its end.
+///
+/// ```
+/// let first = format!(in alloc; "{}", FirstLine(&kind, limit))?; // `once 8 with 4`
+/// ```
+#[derive(Clone, Copy)]
+pub struct FirstLine<'a>(pub &'a Kind, pub u64);
+
+impl fmt::Display for FirstLine<'_> {
+    fn fmt<W: fmt::Write>(&self, f: &mut fmt::Formatter<W>) -> fmt::Result {
+        let limit = self.1;
+        match self.0 {
+            Kind::Once => write!(f, "once {limit}"),
+            Kind::OnceWith(value) => write!(f, "once {limit} with {value}"),
+            Kind::Lazy(answers) => {
+                write!(f, "lazy {limit}")?;
+                for answer in answers {
+                    write!(f, " {}", AnswerText(*answer))?;
+                }
+                Ok(())
+            }
+            Kind::LazyWith(value) => write!(f, "lazy {limit} with {value}"),
+        }
+    }
+}
+
+/// The line of an entry, without its end, in which a call of the owner tells what it brings.
+///
+/// ```
+/// for entry in &record.entries {
+///     writeln!(output, "{}", FullLine(entry))?; // `own write 7 v4`, for which `EntryLine` has `own write v4`
+/// }
+/// ```
+#[derive(Clone, Copy)]
+pub struct FullLine<'a>(pub &'a Entry);
+
+impl fmt::Display for FullLine<'_> {
+    fn fmt<W: fmt::Write>(&self, f: &mut fmt::Formatter<W>) -> fmt::Result {
+        match self.0 {
+            Entry::Own(call, got) => write!(f, "own {} {}", CallText(call), GotText(got)),
+            _ => write!(f, "{}", EntryLine(self.0)),
+        }
+    }
+}
+
+/// A call of the owner, with what it brings.
+#[derive(Clone, Copy)]
+struct CallText<'a>(&'a Call);
+
+impl fmt::Display for CallText<'_> {
+    fn fmt<W: fmt::Write>(&self, f: &mut fmt::Formatter<W>) -> fmt::Result {
+        f.write_str(call_word(self.0))?;
+        match self.0 {
+            Call::Take | Call::Parts => Ok(()),
+            Call::Write(value) => write!(f, " {value}"),
+            Call::ReplaceValue(value) => write!(f, " with {value}"),
+            Call::ReplaceAnswers(answers) => write!(f, " {}", Answers(answers)),
+        }
+    }
 }
 
 /// The line of an entry, without its end.
@@ -169,6 +253,19 @@ impl fmt::Display for Wakers<'_> {
     }
 }
 
+/// One of an init's answers.
+#[derive(Clone, Copy)]
+struct AnswerText(Option<u64>);
+
+impl fmt::Display for AnswerText {
+    fn fmt<W: fmt::Write>(&self, f: &mut fmt::Formatter<W>) -> fmt::Result {
+        match self.0 {
+            None => f.write_str("p"),
+            Some(value) => write!(f, "v{value}"),
+        }
+    }
+}
+
 /// A list of an init's answers, in brackets.
 #[derive(Clone, Copy)]
 struct Answers<'a>(&'a [Option<u64>]);
@@ -178,8 +275,7 @@ impl fmt::Display for Answers<'_> {
         f.write_str("[")?;
         for (index, answer) in self.0.iter().enumerate() {
             let gap = if index == 0 { "" } else { " " };
-            let answer = RanText(answer.map_or(Ran::Pending, Ran::Value));
-            write!(f, "{gap}{answer}")?;
+            write!(f, "{gap}{}", AnswerText(*answer))?;
         }
         f.write_str("]")
     }

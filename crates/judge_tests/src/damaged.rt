@@ -1,0 +1,191 @@
+//! Records of replays at random, whole and with one entry dropped, doubled or exchanged: the judge and the plain
+//! definitions say the same of each.
+
+ghost use Rattle.std.specs.Prelude.{◌<◌, ◌≤◌, ◌-◌, ◌^◌};
+
+use crate::plain::Rules;
+use once_judge::judge;
+use once_world::world::{Call, Entry, Got, Input, Kind, Ran, Reply, replay};
+use rand_core::{Rng, SeedableRng};
+use rand_xoshiro::Xoshiro256PlusPlus;
+use std::alloc::{AllocError, Global};
+use std::process::Abort;
+use std::test::Fail;
+
+/// Draws what comes next.
+#[derive(Drop)]
+struct Chance {
+    rng: Xoshiro256PlusPlus,
+}
+
+impl Chance {
+    fn new(seed: u64) -> Chance {
+        Chance {
+            rng: Xoshiro256PlusPlus::seed_from_u64(seed),
+        }
+    }
+
+    // A number below this one, which is not 0.
+    fn draw(&mut self, below: u64) -> u64 {
+        self.rng.next_u64().checked_rem(below).unwrap_or(0)
+    }
+
+    fn limit(&mut self) -> u64
+        ensures some { 0 < result }
+        ensures within { result ≤ 3 }
+    {
+        match self.draw(3) {
+            0 => 1,
+            1 => 2,
+            _ => 3,
+        }
+    }
+
+    fn kind(&mut self, alloc: Global) -> Result<Kind, AllocError> {
+        match self.draw(5) {
+            0 => Ok(Kind::OnceWith(4)),
+            1 => Ok(Kind::Lazy(vec![in alloc; None, Some(9)]?)),
+            2 => Ok(Kind::LazyWith(3)),
+            _ => Ok(Kind::Once),
+        }
+    }
+
+    fn answer(&mut self) -> Ran {
+        match self.draw(4) {
+            0 => Ran::Value(6),
+            1 => Ran::Error(5),
+            _ => Ran::Pending,
+        }
+    }
+
+    fn input(&mut self, alloc: Global) -> Result<Input, AllocError> {
+        let task = self.draw(3).saturating_add(1);
+        Ok(match self.draw(24) {
+            0 => Input::Make(task),
+            1..=4 => Input::Poll(task, self.draw(3).saturating_add(7)),
+            5 | 6 => Input::Drop(task),
+            7 => Input::Look,
+            8 => Input::Own(self.call(alloc)?),
+            _ => Input::Go(task, self.answer(), self.draw(6) != 0),
+        })
+    }
+
+    fn call(&mut self, alloc: Global) -> Result<Call, AllocError> {
+        Ok(match self.draw(5) {
+            0 => Call::Take,
+            1 => Call::Write(8),
+            2 => Call::Parts,
+            3 => Call::ReplaceValue(2),
+            _ => Call::ReplaceAnswers(vec![in alloc; Some(1)]?),
+        })
+    }
+
+    // Another entry of the same task, or one that is read from nowhere.
+    fn entry(&mut self, alloc: Global) -> Result<Entry, AllocError> {
+        let task = self.draw(3).saturating_add(1);
+        let waker = self.draw(3).saturating_add(7);
+        Ok(match self.draw(14) {
+            0 => Entry::Made(task),
+            1 => Entry::Begin(task, waker),
+            2 => Entry::Claim(task),
+            3 => Entry::Ran(task, self.answer()),
+            4 => Entry::Free(task, Vec::new(alloc)),
+            5 => Entry::Free(task, vec![in alloc; waker]?),
+            6 => Entry::Fill(task, 6, vec![in alloc; waker]?),
+            7 => Entry::Pass(task, vec![in alloc; waker]?),
+            8 => Entry::End(task, Reply::Memory),
+            9 => Entry::End(task, Reply::Full),
+            10 => Entry::End(task, Reply::Pending),
+            11 => Entry::DropBegin(task),
+            12 => Entry::Look(None),
+            _ => Entry::Own(self.call(alloc)?, Got::None),
+        })
+    }
+}
+
+// The record of a replay at random.
+fn record(alloc: Global, chance: &mut Chance, limit: u64) -> Result<(Kind, Vec<Entry>), AllocError>
+    requires some { 0 < limit }
+    requires within { limit ≤ 2 ^ 62 - 2 }
+{
+    let kind = chance.kind(alloc)?;
+    let mut inputs = Vec::new(alloc);
+    for task in 1..4u64 {
+        inputs.push(Input::Make(task))?;
+    }
+    for _ in 0..45 {
+        inputs.push(chance.input(alloc)?)?;
+    }
+    let record = replay(alloc, copied(alloc, &kind)?, limit, &inputs)?;
+    Ok((kind, record.entries))
+}
+
+fn copied(alloc: Global, kind: &Kind) -> Result<Kind, AllocError> {
+    Ok(match kind {
+        Kind::Once => Kind::Once,
+        Kind::OnceWith(v) => Kind::OnceWith(*v),
+        Kind::Lazy(answers) => Kind::Lazy(Vec::from_slice(alloc, answers)?),
+        Kind::LazyWith(v) => Kind::LazyWith(*v),
+    })
+}
+
+// The record with one entry dropped, put elsewhere once more, or exchanged.
+fn damage(alloc: Global, chance: &mut Chance, entries: &mut Vec<Entry>) -> Result<(), AllocError> {
+    let at = chance.draw((entries.len() as u64).max(1)) as usize;
+    match chance.draw(4) {
+        0 if at < entries.len() => {
+            let _ = entries.remove(at);
+        }
+        1 if at.saturating_add(1) < entries.len() => entries.swap(at, at.saturating_add(1)),
+        2 if at < entries.len() => {
+            let other = chance.entry(alloc)?;
+            entries[at] = other;
+        }
+        _ => {
+            let more = chance.entry(alloc)?;
+            entries.insert(at.min(entries.len()), more)?;
+        }
+    }
+    Ok(())
+}
+
+// Compares what the judge says of a record with what the definitions do.
+fn compare(
+    rt: &impl Abort,
+    alloc: Global,
+    seed: u64,
+    rules: Rules<'_>,
+    entries: &[Entry],
+) -> Result<bool, AllocError> {
+    let verdict = judge(alloc, rules.kind, rules.limit, entries)?;
+    let fault = rules.first_fault(entries);
+    let end = fault.unwrap_or(entries.len()).min(entries.len());
+    assert_eq!(rt; verdict.fault.map(|f| f.entry), fault, "of the seed {seed}");
+    assert_eq!(rt;
+        verdict.forgotten.map(|f| f.entry),
+        rules.first_forgotten(&entries[..end]),
+        "of the seed {seed}"
+    );
+    Ok(fault.is_none())
+}
+
+#[test]
+fn judge_and_definitions_say_the_same(rt: HostRuntime) -> Result<(), Fail> {
+    let mut runs = 0u64;
+    for seed in 0..2_000 {
+        let mut chance = Chance::new(seed);
+        let limit = chance.limit();
+        let (kind, mut entries) = record(rt.alloc(), &mut chance, limit)?;
+        let rules = Rules { kind: &kind, limit };
+        let is_run = compare(&rt, rt.alloc(), seed, rules, &entries)?;
+        assert!(rt; is_run, "of the seed {seed}");
+        for _ in 0..5 {
+            damage(rt.alloc(), &mut chance, &mut entries)?;
+            if compare(&rt, rt.alloc(), seed, rules, &entries)? {
+                runs = runs.saturating_add(1);
+            }
+        }
+    }
+    assert!(rt; runs > 500, "{runs} damaged records are runs");
+    Ok(())
+}

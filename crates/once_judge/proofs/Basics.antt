@@ -1,0 +1,184 @@
+-- What is kept of the cell, of tasks and of wakers is right after one more entry.
+use Rattle.std.proofs.Common.{◌≡◌, ◌≢◌, ◌≤◌, ◌+◌, ℕ, suc, Bool, true, false, cond, ◌==◌, List, ◌∷◌, Option, Some, None, refl, sym, ap, ◌∙◌, arith, ltb}
+use Rattle.std.proofs.lemmas.Bool.{false≢true, ne_eqb}
+use Rattle.std.proofs.lemmas.Bool.Decides.{nat_tests}
+use Rattle.once_queue.specs.Numbers.{member, is_distinct, bit, how_many, times_in}
+use Rattle.once_world.specs.declared.record.Reply.TheVariants.{Pending}
+use Rattle.once_world.specs.Record.{Kind, Entry, Made, End, Look, Own, is_of, made_in, handed_by, is_replacing}
+use Rattle.once_world.specs.Cell.{Cell, Empty, Held, SetTo, cell, cell_after, answers_after}
+use Rattle.once_world.specs.Tasks.{Status, Unmade, Fresh, status, status_after, last_call, last_call_after, is_under_way}
+use Rattle.once_world.specs.Wakers.{handed_since, is_end_of, opens, times_opened, times_handed, is_held_by_other}
+use Rattle.once_world.specs.Refusals.{is_about}
+use Rattle.once_world.specs.Run.{IsLegal, IsRun}
+use Rattle.once_queue.proofs.Listing.Members.{eqb_self, member-append}
+use Rattle.once_world.proofs.Listing.Counting.{count_same}
+use Rattle.once_world.proofs.Law.Wakes.{handed_within}
+use Rattle.once_judge.specs.Seen.{Seen, after, ends_poll, opens_in, count_after, counted, task_of, held_after, other_after}
+use Rattle.once_judge.specs.SeenOf.{Basics, is_made, stands}
+use Rattle.once_judge.proofs.Entries.{fits_before, is_live, legal_before, live_made, made_after, count_moved, its_task, of_its_task, of_none, end_is, end_hands, stood_at}
+
+-- only a Made makes a task
+abbrev is_making : Entry → Bool
+is_making (Made t) = true
+is_making _ = false
+
+made_same : (e : Entry) (h : List Entry) → is_making e ≡ false → made_in (e ∷ h) ≡ made_in h
+made_same (Made t) h n = absurd (false≢true (sym n))
+made_same _ h n = refl
+
+-- the task of another entry is live
+live_before : (e : Entry) (s : Status) (t : ℕ) → is_making e ≡ false → task_of e ≡ Some t → fits_before e s ≡ true → is_live s ≡ true
+live_before (Made u) s t n i f = absurd (false≢true (sym n))
+live_before (Look r) s t n i f = grind arith
+live_before (Own o g) s t n i f = grind arith
+live_before _ s t n i f = f
+
+module _ (kind : Kind) (limit : ℕ) (e : Entry) (h : List Entry) (S : Seen) (run : IsRun kind limit (e ∷ h)) (k : Basics kind h S) where
+  l : IsLegal kind limit e h
+  l = run.0
+
+  status_by : (t : ℕ) (b : Bool) → is_of t e ≡ b → ((after limit e S).task t).status ≡ status kind t (e ∷ h)
+  status_by t true is = rw is (ap (λ c. status_after e c (S.task t).status) k.cell_is ∙ ap (status_after e (cell kind h)) (k.status_is t))
+  status_by t false is = rw is (k.status_is t)
+
+  call_by : (t : ℕ) (b : Bool) → is_of t e ≡ b → ((after limit e S).task t).call ≡ last_call kind t (e ∷ h)
+  call_by t true is = rw is (ap (λ c. last_call_after e c (S.task t).status (S.task t).call) k.cell_is
+      ∙ ap (λ s. last_call_after e (cell kind h) s (S.task t).call) (k.status_is t)
+      ∙ ap (last_call_after e (cell kind h) (status kind t h)) (k.call_is t))
+  call_by t false is = rw is (k.call_is t)
+
+  -- no moment is later than now
+  ended_now : (t : ℕ) → ((after limit e S).task t).ended ≡ cond (is_end_of t e) (suc S.now) (S.task t).ended
+  ended_now t = let m = end_is t e in grind arith
+
+  ended_within : (t : ℕ) → ((after limit e S).task t).ended ≤ suc S.now
+  ended_within t = let a = k.ended_by t in rw (ended_now t) (grind arith)
+
+  begun_within : (t : ℕ) → ((after limit e S).task t).begun ≤ suc S.now
+  begun_within t = let a = k.begun_by t in grind arith
+
+  handed_within_now : (w : ℕ) → (after limit e S).handed w ≤ suc S.now
+  handed_within_now w = let a = k.handed_by w in grind arith
+
+  held_within : (c : Cell) → held_after c (suc S.now) S.held_at ≤ suc S.now
+  held_within Empty = let a = k.held_by in omega arith
+  held_within (Held t) = omega arith
+  held_within (SetTo v) = let a = k.held_by in omega arith
+
+  other_within : (c : Cell) → other_after c S.holder S.held_at S.other_held_at ≤ suc S.now
+  other_within Empty = let a = k.other_by in omega arith
+  other_within (Held t) = let a = k.held_by in let b = k.other_by in grind arith
+  other_within (SetTo v) = let a = k.other_by in omega arith
+
+  -- the wakers that are open
+  opens_now : (w : ℕ) (e' : Entry) → opens_in S w e' ≡ opens kind w e' h
+  opens_now w (End t Pending) =
+      let a = k.call_is t in let b = k.cell_is in
+      ap (λ x. cond (x == w) (is_held_by_other t S.cell) false) (ap (λ y. y.waker) a) ∙ ap (λ c. cond ((last_call kind t h).waker == w) (is_held_by_other t c) false) b
+  opens_now w _ = refl
+
+  times_by : (w : ℕ) (b : Bool) → is_replacing e ≡ b → times_opened kind w (e ∷ h) ≡ times_handed w (e ∷ h) + (after limit e S).times w
+  times_by w true is = rw is (omega arith)
+  times_by w false is =
+      let within : times_in w (handed_by e) + times_handed w h ≤ bit (opens kind w e h) + times_opened kind w h = rw is at (handed_within kind limit w (e ∷ h) run) in
+      let o = ap bit (opens_now w e) in let q = k.times_is w in
+      rw is (omega arith)
+
+  -- whose waker was handed out
+  stood_before : (t : ℕ) (b : Bool) → is_of t e ≡ b → is_end_of t e ≡ false
+      → stands (status kind t (e ∷ h)) (last_call kind t (e ∷ h)).began ≡ true
+      → stands (status kind t h) (last_call kind t h).began ≡ true
+  stood_before t true is n s =
+      let ends : ends_poll e ≡ false = let m = end_is t e in grind arith in
+      let s' : stands (status_after e (cell kind h) (status kind t h)) (last_call_after e (cell kind h) (status kind t h) (last_call kind t h)).began ≡ true = rw is at s in
+      stood_at e (cell kind h) (status kind t h) (last_call kind t h) ends s'
+  stood_before t false is n s = rw is at s
+
+  stood_by : (t w : ℕ) (b : Bool) → is_end_of t e ≡ b
+      → stands (status kind t (e ∷ h)) (last_call kind t (e ∷ h)).began ≡ true
+      → member w (handed_since t (e ∷ h)) ≡ ltb ((after limit e S).task t).ended ((after limit e S).handed w)
+  stood_by t w true is s =
+      let none = end_hands t e is in let a = k.handed_by w in
+      rw (ended_now t, is, none) (grind (arith, nat_tests))
+  stood_by t w false is s =
+      let before = k.stood t w (stood_before t (is_of t e) refl is s) in let a = k.ended_by t in
+      rw (ended_now t, is, member-append, before) (grind (arith, nat_tests))
+
+  -- an entry that makes nobody: who was made
+  was_made : (t : ℕ) → is_making e ≡ false → is_of t e ≡ true → is_made (status kind t h) ≡ true
+  was_made t n is = live_made (status kind t h) (live_before e (status kind t h) t n (its_task t e is) (legal_before kind limit t e h l is))
+
+  made_by : (t : ℕ) (b : Bool) → is_of t e ≡ b → is_making e ≡ false → member t (made_in (e ∷ h)) ≡ is_made (status kind t (e ∷ h))
+  made_by t true is n =
+      let m = was_made t n is in
+      rw (is, made_same e h n) (k.made_is t ∙ m ∙ sym (made_after e (cell kind h) (status kind t h) m))
+  made_by t false is n = rw (is, made_same e h n) (k.made_is t)
+
+  -- and how many pass a test
+  count_by : (p : Status → Bool) (n : ℕ) (o : Option ℕ) → task_of e ≡ o → is_making e ≡ false
+      → n ≡ how_many (λ u. p (status kind u h)) (made_in h)
+      → count_after p e S o n ≡ how_many (λ u. p (status kind u (e ∷ h))) (made_in (e ∷ h))
+  count_by p n None none makes is = rw (made_same e h makes) (is ∙ ap (λ (q : ℕ → Status). how_many (λ u. p (q u)) (made_in h)) (λ i u. sym (other u) i)) where
+    other : (u : ℕ) → status kind u (e ∷ h) ≡ status kind u h
+    other u = rw (of_none u e none) refl
+  count_by p n (Some t) its makes is =
+      let of : is_of t e ≡ true = of_its_task t t e its ∙ eqb_self t in
+      sym (count_moved p kind t n e h S.cell (S.task t).status (made_same e h makes) k.distinct
+      (k.made_is t ∙ was_made t makes of) (λ u. of_its_task t u e its) is k.cell_is (k.status_is t))
+
+-- who was made
+made_first : (K : Kind) (t u : ℕ) (h : List Entry) (S : Seen) → Basics K h S → (b : Bool) → (t == u) ≡ b
+    → member u (made_in (Made t ∷ h)) ≡ is_made (status K u (Made t ∷ h))
+made_first K t u h S k true is = rw is refl
+made_first K t u h S k false is = rw is (k.made_is u)
+
+made_now : (K : Kind) (limit : ℕ) (e : Entry) (h : List Entry) (S : Seen) → IsRun K limit (e ∷ h) → Basics K h S
+    → (u : ℕ) → member u (made_in (e ∷ h)) ≡ is_made (status K u (e ∷ h))
+made_now K limit (Made t) h S run k u = made_first K t u h S k (t == u) refl
+made_now K limit e h S run k u = made_by K limit e h S run k u (is_of u e) refl refl
+
+unmade_out : (K : Kind) (limit t : ℕ) (h : List Entry) (S : Seen) → IsLegal K limit (Made t) h → Basics K h S → member t (made_in h) ≡ false
+unmade_out K limit t h S l k = k.made_is t ∙ ap is_made l
+
+distinct_now : (K : Kind) (limit : ℕ) (e : Entry) (h : List Entry) (S : Seen) → IsLegal K limit e h → Basics K h S → is_distinct (made_in (e ∷ h)) ≡ true
+distinct_now K limit (Made t) h S l k = rw (unmade_out K limit t h S l k) k.distinct
+distinct_now K limit e h S l k = k.distinct
+
+-- how many pass a test that none passes who was not made
+count_made : (p : Status → Bool) (n : ℕ) (K : Kind) (limit t : ℕ) (h : List Entry) (S : Seen) → IsLegal K limit (Made t) h → Basics K h S → p Unmade ≡ false
+    → n ≡ how_many (λ u. p (status K u h)) (made_in h)
+    → how_many (λ u. p (status K u (Made t ∷ h))) (made_in (Made t ∷ h)) ≡ counted n (p (S.task t).status) (p Fresh)
+count_made p n K limit t h S l k pu is =
+    let apart : (u : ℕ) → t ≢ u → p (status K u h) ≡ p (status K u (Made t ∷ h)) = λ u ne. rw (ne_eqb t u ne) refl in
+    let rest = count_same t (made_in h) (λ u. p (status K u h)) (λ u. p (status K u (Made t ∷ h))) (unmade_out K limit t h S l k) apart in
+    let before : p (S.task t).status ≡ false = ap p (k.status_is t) ∙ ap p l ∙ pu in
+    rw (rest, before, eqb_self t) (omega (arith, is))
+
+count_now : (p : Status → Bool) (n : ℕ) (K : Kind) (limit : ℕ) (e : Entry) (h : List Entry) (S : Seen) → IsRun K limit (e ∷ h) → Basics K h S → p Unmade ≡ false
+    → n ≡ how_many (λ u. p (status K u h)) (made_in h)
+    → count_after p e S (task_of e) n ≡ how_many (λ u. p (status K u (e ∷ h))) (made_in (e ∷ h))
+count_now p n K limit (Made t) h S run k pu is = sym (count_made p n K limit t h S run.0 k pu is)
+count_now p n K limit e h S run k pu is = count_by K limit e h S run k p n (task_of e) refl refl is
+
+-- all of it
+pub basics_after : (K : Kind) (limit : ℕ) (e : Entry) (h : List Entry) (S : Seen) → IsRun K limit (e ∷ h) → Basics K h S → Basics K (e ∷ h) (after limit e S)
+basics_after K limit e h S run k = record {
+  now_is = ap suc k.now_is;
+  cell_is = ap (cell_after e) k.cell_is;
+  answers_are = ap (answers_after e) k.answers_are;
+  status_is = λ t. status_by K limit e h S run k t (is_of t e) refl;
+  call_is = λ t. call_by K limit e h S run k t (is_of t e) refl;
+  ended_by = ended_within K limit e h S run k;
+  begun_by = begun_within K limit e h S run k;
+  handed_by = handed_within_now K limit e h S run k;
+  crowded_by = let a = k.crowded_by in grind arith;
+  acting_by = let a = k.acting_by in grind arith;
+  held_by = held_within K limit e h S run k (cell_after e S.cell);
+  other_by = other_within K limit e h S run k (cell_after e S.cell);
+  times_is = λ w. times_by K limit e h S run k w (is_replacing e) refl;
+  stood = λ t w. stood_by K limit e h S run k t w (is_end_of t e) refl;
+  made_is = made_now K limit e h S run k;
+  distinct = distinct_now K limit e h S run.0 k;
+  about_is = count_now is_about S.about K limit e h S run k refl k.about_is;
+  acting_is = count_now is_under_way S.acting K limit e h S run k refl k.acting_is;
+}

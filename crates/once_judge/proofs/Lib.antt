@@ -1,0 +1,24 @@
+-- The order in which to read the proofs. Each module stands on those above it.
+--   Entries   what an entry that may come next tells of its task, and how it moves counts
+--   Basics    what is kept of the cell, of tasks and of wakers is right after one more entry
+--   Sinces    what was so since a poll began is right after it; so all that is kept is (`seen_after`)
+--   Legality  what is kept decides which entry may come next, and a reason that is true by it is true
+--   Turns     what is kept tells whether somebody was called
+--   Lists     lists of numbers, and a walk along one
+--   Taking    `take` makes of what is kept what one more entry makes of it
+--   Handing   which lists of wakers may be handed out
+--   Dues      which tasks are due, wait or were called, from a walk over those that live
+--   Verdicts  one more entry, and what a verdict says
+--
+-- The other folders are named after files and functions of src. `Answers` has the proofs of goals that are left open
+-- there, and `Invariants` what a loop keeps.
+mod Entries
+mod Basics
+mod Sinces
+mod Legality
+mod Turns
+mod Lists
+mod Taking
+mod Handing
+mod Dues
+mod Verdicts

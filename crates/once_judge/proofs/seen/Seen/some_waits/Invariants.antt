@@ -1,0 +1,9 @@
+-- Of the tasks so far none waits.
+use Rattle.std.specs.List.{All}
+use Rattle.std.proofs.Common.{◌≡◌}
+use Rattle.once_world.specs.Tasks.{Waiting}
+use Rattle.once_judge.specs.Shown.{task_in}
+use Rattle.once_judge.proofs.seen.Seen.some_waits.Given as goal
+
+abbrev pub invariant-loop-t : goal.invariant-loop-t
+invariant-loop-t l = All (λ p. (task_in p.1.now).status ≡ Waiting → ⊥) l.yielded

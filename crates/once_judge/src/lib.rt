@@ -1,0 +1,23 @@
+//! Judges records: whether a record is a run of a cell, and whether in it somebody is called whenever somebody has to
+//! be.
+//!
+//! `judge` goes along the record once. What it keeps of the entries so far is a `Seen`: the cell, each task with its
+//! last call, and some numbers for what was so since a poll began. `rules` decides by it whether the next entry may
+//! come, and gives the reason if not. `report` and `last_calls` have the words of a verdict, and `program` is all that
+//! the program `judge_record` does: that crate has its `main` alone, so that tests can call what it does.
+#![tactic(auto)]
+
+mod last_calls;
+pub mod program;
+mod reason;
+mod report;
+mod rules;
+mod seen;
+mod task;
+mod verdict;
+
+pub use last_calls::LastCalls;
+pub use reason::Reason;
+pub use report::VerdictLine;
+pub use task::{Cell, Status};
+pub use verdict::{Fault, Forgotten, Verdict, judge};

@@ -1,0 +1,345 @@
+//! Which entry may come next. Each function answers a reason if its entry may not.
+ghost use Rattle.std.specs.Prelude.{◌≡◌, Some, false, IfOk, IfErr};
+ghost use Rattle.std.specs.Bool.{Decides};
+ghost use Rattle.once_world.specs.Cell.{Empty, Held, value_in as value_of};
+ghost use Rattle.once_world.specs.Tasks.{Polling};
+ghost use Rattle.once_world.specs.Run.{MayFree, MayPass};
+ghost use Rattle.once_judge.specs.Values.{status_of, cell_of};
+
+mod ends;
+mod wakers;
+
+use crate::reason::Reason;
+use crate::seen::Seen;
+use crate::task::{Cell, Status, is_over};
+use once_world::record::{Call, Entry, Got, Ran};
+use std::alloc::AllocError;
+
+impl Seen {
+    ghost use Rattle.once_world.specs.Record.{Made, Begin, Claim, Ran as RanEntry, Free, Fill, Pass, DropEnd, Look};
+    ghost use Rattle.once_world.specs.Record.{Own, Entry as Told};
+    ghost use Rattle.once_world.specs.declared.record.Ran.TheVariants.{Value as RanValue};
+    ghost use Rattle.once_world.specs.Cell.{next_answer as next_of, got as got_by};
+    ghost use Rattle.once_world.specs.Shown.{entry_of, call_of, got_of};
+    ghost use Rattle.once_judge.specs.Legal.{IsLegalIn, AllGoneIn, has_call_in};
+    ghost use Rattle.once_judge.specs.Reasons.{Tests, IsTrueIn};
+    ghost use Rattle.once_judge.specs.Shown.{seen_of, task_in};
+
+    /// Whether this entry may come next.
+    pub fn may_follow(&self, entry: &Entry) -> Result<Result<(), Reason>, AllocError>
+        ensures rule { IfOk result (λ answer. Tests answer
+            (IsLegalIn self.now.lazy (entry_of entry.now) (seen_of self.now))) }
+        ensures reason { IfOk result (λ answer. IfErr answer (λ r.
+            IsTrueIn self.now.lazy r (entry_of entry.now) (seen_of self.now))) }
+    {
+        match entry {
+            Entry::Made(t) => Ok(self.may_be_made(*t)),
+            Entry::Begin(t, waker) => Ok(self.may_begin(*t, *waker)),
+            Entry::Claim(t) => Ok(self.may_claim(*t)),
+            Entry::Ran(t, answer) => Ok(self.may_run(*t, *answer)),
+            Entry::Free(t, wakers) => Ok(self.may_free(*t, wakers)),
+            Entry::Fill(t, v, wakers) => self.may_fill(*t, *v, wakers),
+            Entry::Pass(t, wakers) => Ok(self.may_pass(*t, wakers)),
+            Entry::End(t, reply) => Ok(self.may_end(*t, *reply)),
+            Entry::DropBegin(t) => Ok(self.may_begin(*t, 0)),
+            Entry::DropEnd(t) => Ok(self.may_end_drop(*t)),
+            Entry::Look(found) => Ok(self.may_look(*found)),
+            Entry::Own(call, got) => Ok(self.may_own(call, got)),
+        }
+    }
+
+    fn may_be_made(&self, t: u64) -> Result<(), Reason>
+        ensures rule { Tests result (IsLegalIn self.now.lazy (Made t) (seen_of self.now)) }
+        ensures reason { IfErr result (λ r. IsTrueIn self.now.lazy r (Made t) (seen_of self.now)) }
+    {
+        match self.task(t).status {
+            Status::Unmade => Ok(()),
+            status => Err(Reason::TaskIs(t, status)),
+        }
+    }
+
+    // A drop begins as a poll does, whatever the waker is.
+    fn may_begin(&self, t: u64, waker: u64) -> Result<(), Reason>
+        ensures rule { Tests result (IsLegalIn self.now.lazy (Begin t waker) (seen_of self.now)) }
+        ensures reason { (e : Told) → IfErr result (λ r. IsTrueIn self.now.lazy r e (seen_of self.now)) }
+    {
+        match self.task(t).status {
+            Status::Fresh | Status::Waiting | Status::Holding => Ok(()),
+            status => Err(Reason::TaskIs(t, status)),
+        }
+    }
+
+    fn may_claim(&self, t: u64) -> Result<(), Reason>
+        ensures rule { Tests result (IsLegalIn self.now.lazy (Claim t) (seen_of self.now)) }
+        ensures reason { IfErr result (λ r. IsTrueIn self.now.lazy r (Claim t) (seen_of self.now)) }
+    {
+        self.is_empty()?;
+        let task = self.task(t);
+        if !matches!(task.status, Status::Polling) {
+            return Err(Reason::TaskIs(t, task.status));
+        }
+        if task.ran.is_some() {
+            return Err(Reason::InitAnswered(t, task.ran));
+        }
+        if task.passed {
+            return Err(Reason::Passed(t));
+        }
+        Ok(())
+    }
+
+    fn may_run(&self, t: u64, answer: Ran) -> Result<(), Reason>
+        ensures rule { Tests result (IsLegalIn self.now.lazy (RanEntry t answer) (seen_of self.now)) }
+        ensures reason { IfErr result (λ r. IsTrueIn self.now.lazy r (RanEntry t answer) (seen_of self.now)) }
+    {
+        self.holds(t)?;
+        let task = self.task(t);
+        if !matches!(task.status, Status::Polling) {
+            return Err(Reason::TaskIs(t, task.status));
+        }
+        if task.ran.is_some() {
+            return Err(Reason::InitAnswered(t, task.ran));
+        }
+        let next = self.next_answer();
+        if self.lazy && answer != next {
+            return Err(Reason::NextAnswer(next));
+        }
+        Ok(())
+    }
+
+    fn may_free(&self, t: u64, wakers: &[u64]) -> Result<(), Reason>
+        ensures rule { Tests result (IsLegalIn self.now.lazy (Free t wakers.now) (seen_of self.now)) }
+        ensures reason { IfErr result (λ r. IsTrueIn self.now.lazy r (Free t wakers.now) (seen_of self.now)) }
+    {
+        self.holds(t)?;
+        self.frees(t)?;
+        self.calls_one(t, wakers)
+    }
+
+    // Whether the task frees the cell: in a drop, or in a poll whose init failed.
+    fn frees(&self, t: u64) -> Result<(), Reason>
+        ensures rule { Tests result (MayFree ((seen_of self.now).task t).status ((seen_of self.now).task t).call.ran) }
+        ensures reason { (e : Told) → IfErr result (λ r. IsTrueIn self.now.lazy r e (seen_of self.now)) }
+    {
+        let task = self.task(t);
+        match task.status {
+            Status::Dropping => Ok(()),
+            Status::Polling => match task.ran {
+                Some(Ran::Error(_)) => Ok(()),
+                _ => Err(Reason::InitAnswered(t, task.ran)),
+            },
+            _ => Err(Reason::TaskIs(t, task.status)),
+        }
+    }
+
+    fn may_fill(&self, t: u64, v: u64, wakers: &[u64]) -> Result<Result<(), Reason>, AllocError>
+        ensures rule { IfOk result (λ answer. Tests answer
+            (IsLegalIn self.now.lazy (Fill t v wakers.now) (seen_of self.now))) }
+        ensures reason { IfOk result (λ answer. IfErr answer (λ r.
+            IsTrueIn self.now.lazy r (Fill t v wakers.now) (seen_of self.now))) }
+    {
+        if let Err(reason) = self.fills(t, v) {
+            return Ok(Err(reason));
+        }
+        self.hands_out(t, v, wakers)
+    }
+
+    // Whether the task holds, is in a poll, and its init gave this value in it.
+    fn fills(&self, t: u64, v: u64) -> Result<(), Reason>
+        ensures rule { Tests result (((seen_of self.now).cell ≡ Held t) × (((seen_of self.now).task t).status ≡ Polling)
+            × (((seen_of self.now).task t).call.ran ≡ Some (RanValue v))) }
+        ensures reason { (e : Told) → IfErr result (λ r. IsTrueIn self.now.lazy r e (seen_of self.now)) }
+    {
+        self.holds(t)?;
+        let task = self.task(t);
+        if !matches!(task.status, Status::Polling) {
+            return Err(Reason::TaskIs(t, task.status));
+        }
+        if task.ran != Some(Ran::Value(v)) {
+            return Err(Reason::InitAnswered(t, task.ran));
+        }
+        Ok(())
+    }
+
+    fn may_pass(&self, t: u64, wakers: &[u64]) -> Result<(), Reason>
+        ensures rule { Tests result (IsLegalIn self.now.lazy (Pass t wakers.now) (seen_of self.now)) }
+        ensures reason { IfErr result (λ r. IsTrueIn self.now.lazy r (Pass t wakers.now) (seen_of self.now)) }
+    {
+        self.is_empty()?;
+        self.passes(t)?;
+        self.passes_to(t, wakers)
+    }
+
+    // Whether the task may pass its turn on, and did not yet: in a drop, or in a poll that neither claimed nor ran the
+    // init.
+    fn passes(&self, t: u64) -> Result<(), Reason>
+        ensures rule { Tests result ((MayPass ((seen_of self.now).task t).status
+            ((seen_of self.now).task t).call.claimed ((seen_of self.now).task t).call.ran)
+            × (((seen_of self.now).task t).call.passed ≡ false)) }
+        ensures reason { (e : Told) → IfErr result (λ r. IsTrueIn self.now.lazy r e (seen_of self.now)) }
+    {
+        let task = self.task(t);
+        match task.status {
+            Status::Dropping => {}
+            Status::Polling => {
+                if task.claimed {
+                    return Err(Reason::Claimed(t));
+                }
+                if task.ran.is_some() {
+                    return Err(Reason::InitAnswered(t, task.ran));
+                }
+            }
+            _ => return Err(Reason::TaskIs(t, task.status)),
+        }
+        if task.passed {
+            return Err(Reason::Passed(t));
+        }
+        Ok(())
+    }
+
+    fn may_end_drop(&self, t: u64) -> Result<(), Reason>
+        ensures rule { Tests result (IsLegalIn self.now.lazy (DropEnd t) (seen_of self.now)) }
+        ensures reason { IfErr result (λ r. IsTrueIn self.now.lazy r (DropEnd t) (seen_of self.now)) }
+    {
+        let task = self.task(t);
+        if !matches!(task.status, Status::Dropping) {
+            return Err(Reason::TaskIs(t, task.status));
+        }
+        match self.holds(t) {
+            Ok(()) => Err(Reason::CellIs(self.cell)),
+            Err(_) => Ok(()),
+        }
+    }
+
+    fn may_look(&self, found: Option<u64>) -> Result<(), Reason>
+        ensures rule { Tests result (IsLegalIn self.now.lazy (Look found) (seen_of self.now)) }
+        ensures reason { IfErr result (λ r. IsTrueIn self.now.lazy r (Look found) (seen_of self.now)) }
+    {
+        if found == value_in(self.cell) {
+            Ok(())
+        } else {
+            Err(Reason::CellIs(self.cell))
+        }
+    }
+
+    fn may_own(&self, call: &Call, got: &Got) -> Result<(), Reason>
+        ensures rule { Tests result
+            (IsLegalIn self.now.lazy (Own (call_of call.now) (got_of got.now)) (seen_of self.now)) }
+        ensures reason { IfErr result (λ r.
+            IsTrueIn self.now.lazy r (Own (call_of call.now) (got_of got.now)) (seen_of self.now)) }
+    {
+        self.all_gone()?;
+        if !self.has_call(call) {
+            return Err(Reason::NoSuchCall);
+        }
+        if self.gives(call, got) {
+            return Ok(());
+        }
+        match self.cell {
+            Cell::SetTo(_) => Err(Reason::CellIs(self.cell)),
+            _ => Err(self.answers_left()),
+        }
+    }
+
+    // Whether every task that was made is gone.
+    fn all_gone(&self) -> Result<(), Reason>
+        ensures rule { Tests result (AllGoneIn (seen_of self.now)) }
+        ensures reason { (e : Told) → IfErr result (λ r. IsTrueIn self.now.lazy r e (seen_of self.now)) }
+    {
+        for (t, task) in &self.tasks {
+            if !is_over(task.status) {
+                return Err(Reason::TaskIs(*t, task.status));
+            }
+        }
+        Ok(())
+    }
+
+    // Whether a cell of this kind has the call.
+    fn has_call(&self, call: &Call) -> bool
+        ensures { result ≡ has_call_in self.now.lazy (call_of call.now) }
+    {
+        match call {
+            Call::Take => !self.lazy,
+            Call::Write(_) => true,
+            Call::Parts | Call::ReplaceValue(_) | Call::ReplaceAnswers(_) => self.lazy,
+        }
+    }
+
+    // Whether this is what the call is given.
+    fn gives(&self, call: &Call, got: &Got) -> bool
+        ensures { Decides result (got_of got.now
+            ≡ got_by (call_of call.now) (seen_of self.now).cell (seen_of self.now).answers) }
+    {
+        match self.cell {
+            Cell::SetTo(v) => match got {
+                Got::Value(u) => *u == v,
+                _ => false,
+            },
+            _ => match (call, got) {
+                (Call::Parts, Got::Answers(answers)) => self.are_left(answers),
+                (Call::Parts, _) => false,
+                (_, Got::None) => true,
+                _ => false,
+            },
+        }
+    }
+
+    // Whether these are the answers that a lazy init has left.
+    fn are_left(&self, answers: &[Option<u64>]) -> bool
+        ensures { Decides result (answers.now ≡ (seen_of self.now).answers) }
+    {
+        if self.used <= self.answers.len() {
+            answers == &self.answers[self.used..]
+        } else {
+            answers.is_empty()
+        }
+    }
+
+    // How many answers it has left.
+    fn answers_left(&self) -> Reason
+        ensures { (e : Told) → IsTrueIn self.now.lazy result e (seen_of self.now) }
+    {
+        Reason::AnswersLeft(self.answers.len().saturating_sub(self.used))
+    }
+
+    // The next answer of a lazy init.
+    fn next_answer(&self) -> Ran
+        ensures { result ≡ next_of (seen_of self.now).answers }
+    {
+        match self.answers.get(self.used) {
+            Some(Some(v)) => Ran::Value(*v),
+            _ => Ran::Pending,
+        }
+    }
+
+    // Whether the cell is empty.
+    fn is_empty(&self) -> Result<(), Reason>
+        ensures rule { Tests result ((seen_of self.now).cell ≡ Empty) }
+        ensures reason { (e : Told) → IfErr result (λ r. IsTrueIn self.now.lazy r e (seen_of self.now)) }
+    {
+        match self.cell {
+            Cell::Empty => Ok(()),
+            _ => Err(Reason::CellIs(self.cell)),
+        }
+    }
+
+    // Whether the task holds.
+    fn holds(&self, t: u64) -> Result<(), Reason>
+        ensures rule { Tests result ((seen_of self.now).cell ≡ Held t) }
+        ensures reason { (e : Told) → IfErr result (λ r. IsTrueIn self.now.lazy r e (seen_of self.now)) }
+    {
+        match self.cell {
+            Cell::Held(u) if u == t => Ok(()),
+            _ => Err(Reason::CellIs(self.cell)),
+        }
+    }
+}
+
+// What a look finds.
+fn value_in(cell: Cell) -> Option<u64>
+    ensures { result ≡ value_of (cell_of cell) }
+{
+    match cell {
+        Cell::SetTo(v) => Some(v),
+        _ => None,
+    }
+}

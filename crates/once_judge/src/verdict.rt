@@ -1,0 +1,108 @@
+//! The verdicts on a record.
+ghost use Rattle.std.specs.Prelude.{◌<◌, length, take, IfOk, IfSome, MatchOption};
+ghost use Rattle.once_world.specs.Called.{SomebodyCalled};
+ghost use Rattle.once_world.specs.Run.{IsRun, AtEvery};
+ghost use Rattle.once_world.specs.Shown.{kind_of, history_in};
+ghost use Rattle.once_judge.specs.Verdict.{StopsAt, IsTrueAt, IsForgottenAt, judged};
+ghost use Rattle.once_judge.specs.Shown.{seen_of};
+ghost use Rattle.once_judge.specs.Moments.{FirstForgotten};
+
+use crate::reason::Reason;
+use crate::seen::Seen;
+use once_world::record::{Entry, Kind};
+use std::alloc::{AllocError, Global};
+
+/// The first entry that may not come next.
+#[derive(Clone, Copy, Debug, Drop, PartialEq, Eq)]
+pub struct Fault {
+    /// How many entries stand before it.
+    pub entry: usize,
+    /// Why it may not come next.
+    pub reason: Reason,
+}
+
+/// The first moment at which the cell is empty and some task waits, and nobody was called.
+#[derive(Clone, Copy, Debug, Drop, PartialEq, Eq)]
+pub struct Forgotten {
+    /// It comes after the entry before which so many stand.
+    pub entry: usize,
+    /// A task that waits then.
+    pub task: u64,
+}
+
+/// Both verdicts on a record.
+#[derive(Clone, Copy, Debug, Drop, PartialEq, Eq)]
+pub struct Verdict {
+    /// Where the record stops to be a run, or `None` if it is one.
+    pub fault: Option<Fault>,
+    /// Where somebody is forgotten in the entries before the fault, or in all; `None` if at each moment somebody was
+    /// called who had to be.
+    pub forgotten: Option<Forgotten>,
+}
+
+/// Judges a record, the oldest entry first: whether it is a run of a cell of this kind, in which at most `limit` tasks
+/// may be counted in, and whether somebody is called in it whenever somebody has to be.
+///
+/// A run alone may still lose a wake: only both verdicts together say of a record what `replay` promises of its own.
+///
+/// `AllocError` says that memory was refused. Then there is no verdict.
+///
+/// ```
+/// let verdict = judge(rt.alloc(), &kind, limit, &entries)?;
+/// rt.println(VerdictLine(&verdict, &entries))?; // `run, 12 entries, nobody forgotten`
+/// ```
+pub fn judge(
+    alloc: Global,
+    kind: &Kind,
+    limit: u64,
+    entries: &[Entry],
+) -> Result<Verdict, AllocError>
+    // With no fault the record is a run. Else it is one up to the entry that the fault names, and no record that begins
+    // as this one up to and with that entry is a run.
+    ensures run { IfOk result (λ v. MatchOption v.fault
+        (IsRun (kind_of kind.now) limit (history_in entries.now))
+        (λ f. StopsAt (kind_of kind.now) limit entries.now f.entry)) }
+
+    // The reason that a fault gives is true.
+    ensures reason { IfOk result (λ v. IfSome v.fault (λ f.
+        IsTrueAt (kind_of kind.now) limit f.reason f.entry entries.now)) }
+
+    // At each moment of the run somebody was called who had to be; or there is a first at which nobody was.
+    ensures called { IfOk result (λ v. MatchOption v.forgotten
+        (AtEvery (SomebodyCalled (kind_of kind.now)) (history_in (judged v.fault entries.now)))
+        (λ f. IsForgottenAt (kind_of kind.now) entries.now f.entry f.task)) }
+
+    // That moment comes before the fault.
+    ensures before { IfOk result (λ v. IfSome v.forgotten (λ f. f.entry < length (judged v.fault entries.now))) }
+{
+    let mut seen = Seen::new(alloc, kind, limit)?;
+    let mut forgotten = None;
+    for (number, entry) in entries.iter().enumerate() {
+        if let Err(reason) = seen.may_follow(entry)? {
+            let fault = Some(Fault {
+                entry: number,
+                reason,
+            });
+            return Ok(Verdict { fault, forgotten });
+        }
+        seen.take(entry)?;
+        forgotten = first_forgotten(forgotten, &seen, number);
+    }
+    Ok(Verdict {
+        fault: None,
+        forgotten,
+    })
+}
+
+// The first moment at which somebody is forgotten, after the entry before which so many stand: an earlier one, or now.
+fn first_forgotten(earlier: Option<Forgotten>, seen: &Seen, entry: usize) -> Option<Forgotten>
+    ensures { FirstForgotten earlier result entry (seen_of seen.now) }
+{
+    if earlier.is_some() {
+        return earlier;
+    }
+    match seen.forgotten() {
+        Some(task) => Some(Forgotten { entry, task }),
+        None => None,
+    }
+}
