@@ -7,6 +7,7 @@ use Rattle.once_world.specs.Refusals.{is_about}
 use Rattle.once_judge.specs.Seen.{moved, counted}
 use Rattle.once_judge.specs.Shown.{seen_of, task_in, task_at, count_at}
 use Rattle.once_judge.proofs.Taking.{tasked_is}
+use Rattle.once_judge.proofs.Entries.{moved_gone}
 use Rattle.once_judge.proofs.seen.Seen.take_task.Goals as goal
 
 pub returns-clause-seen : goal.returns-clause-seen
@@ -37,3 +38,8 @@ returns-clause-seen c =
     (ap (λ k. k.held_at) r ∙ ap (λ k. k.held_at) o)
     (ap (λ k. k.other_held_at) r ∙ ap (λ k. k.other_held_at) o))
     c.put.ensures.task
+
+pub put-requires : goal.put-requires
+put-requires c =
+    let S = seen_of c.args.self.now in
+    record { settled = moved_gone (entry_of c.args.entry.now) S.cell c.args.number (task_in c.task-old.result) (task_in c.moved-new.result) c.moved-new.ensures }
