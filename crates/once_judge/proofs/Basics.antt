@@ -15,7 +15,8 @@ use Rattle.once_world.proofs.Listing.Counting.{count_same}
 use Rattle.once_world.proofs.Law.Wakes.{handed_within}
 use Rattle.once_judge.specs.Seen.{Seen, after, ends_poll, opens_in, count_after, counted, task_of, held_after, other_after}
 use Rattle.once_judge.specs.SeenOf.{Basics, is_made, stands}
-use Rattle.once_judge.proofs.Entries.{fits_before, is_live, legal_before, live_made, made_after, count_moved, its_task, of_its_task, of_none, end_is, end_hands, stood_at, before_stays, stands_stays, moved_status, moved_stays, moved_ended, moved_begun}
+use Rattle.once_judge.proofs.Entries.{fits_before, is_live, legal_before, live_made, made_after, count_moved, its_task, of_its_task, of_none}
+use Rattle.once_judge.proofs.Entries.{end_is, end_hands, stood_at, before_stays, stands_stays, moved_status, moved_stays, moved_ended, moved_begun}
 
 -- only a Made makes a task
 abbrev is_making : Entry → Bool

@@ -194,7 +194,10 @@ module _ (K : Kind) (limit : ℕ) (h : List Entry) (S : Seen) (seen : IsSeenOf K
   legal_in (Free t X) l = (cell_in (Held t) l.0, free_in t l.1, calls_in X l.2)
   legal_in (Fill t v X) l = (cell_in (Held t) l.0, status_in t Polling l.1, ran_in t (Some (RanValue v)) (ap is_gone l.1) l.2, hands_in X l.3)
   legal_in (Pass t X) l = (cell_in Empty l.0, pass_in t l.1, passed_in t (pass_stays (status K t h) (last_call K t h).claimed (last_call K t h).ran l.1) l.2, (l.3.0, l.3.1, open_in l.3.0 l.3.2))
-  legal_in (End t r) l = (status_in t Polling l.0, (let m = end_in t r (last_call K t h).ran l.0 l.1 in let P : Option Answer → Type 0 = λ a. MayEndIn t r a S in subst P (ap (λ c. c.ran) (sym (call_of t l.0))) m), ⊎_elim (λ p. inl (passed_in t (ap is_gone l.0) p)) (λ m. inr m) l.2)
+  legal_in (End t r) l =
+      let m = end_in t r (last_call K t h).ran l.0 l.1 in
+      let P : Option Answer → Type 0 = λ a. MayEndIn t r a S in
+      (status_in t Polling l.0, subst P (ap (λ c. c.ran) (sym (call_of t l.0))) m, ⊎_elim (λ p. inl (passed_in t (ap is_gone l.0) p)) (λ m. inr m) l.2)
   legal_in (DropBegin t) l = subst MayBegin (sym (seen.basics.status_is t)) l
   legal_in (DropEnd t) l = (status_in t Dropping l.0, λ e. l.1 (cell_out (Held t) e))
   legal_in (Look r) l = l ∙ ap value_in (sym seen.basics.cell_is)
@@ -205,13 +208,18 @@ module _ (K : Kind) (limit : ℕ) (h : List Entry) (S : Seen) (seen : IsSeenOf K
   legal_out (Made t) l = status_out t Unmade l
   legal_out (Begin t w) l = subst MayBegin (seen.basics.status_is t) l
   legal_out (Claim t) l = let g = ap is_gone (status_out t Polling l.1) in (cell_out Empty l.0, status_out t Polling l.1, ran_out t None g l.2, passed_out t g l.3)
-  legal_out (Ran t a) l = (cell_out (Held t) l.0, status_out t Polling l.1, ran_out t None (ap is_gone (status_out t Polling l.1)) l.2, next_out K a (answers_left K h) S.answers seen.basics.answers_are l.3)
+  legal_out (Ran t a) l =
+      let p = status_out t Polling l.1 in
+      (cell_out (Held t) l.0, p, ran_out t None (ap is_gone p) l.2, next_out K a (answers_left K h) S.answers seen.basics.answers_are l.3)
   legal_out (Free t X) l = (cell_out (Held t) l.0, free_out t l.1, calls_out X l.2)
   legal_out (Fill t v X) l = (cell_out (Held t) l.0, status_out t Polling l.1, ran_out t (Some (RanValue v)) (ap is_gone (status_out t Polling l.1)) l.2, hands_out X l.3)
-  legal_out (Pass t X) l = (cell_out Empty l.0, pass_out t l.1, passed_out t (stays_out t (pass_stays (S.task t).status (S.task t).call.claimed (S.task t).call.ran l.1)) l.2, (l.3.0, l.3.1, open_out l.3.0 l.3.2))
+  legal_out (Pass t X) l =
+      let g = stays_out t (pass_stays (S.task t).status (S.task t).call.claimed (S.task t).call.ran l.1) in
+      (cell_out Empty l.0, pass_out t l.1, passed_out t g l.2, (l.3.0, l.3.1, open_out l.3.0 l.3.2))
   legal_out (End t r) l =
       let p = status_out t Polling l.0 in
-      (p, end_out t r (last_call K t h).ran p (let P : Option Answer → Type 0 = λ a. MayEndIn t r a S in subst P (ap (λ c. c.ran) (call_of t p)) l.1), ⊎_elim (λ m. inl (passed_out t (ap is_gone p) m)) (λ m. inr m) l.2)
+      let P : Option Answer → Type 0 = λ a. MayEndIn t r a S in
+      (p, end_out t r (last_call K t h).ran p (subst P (ap (λ c. c.ran) (call_of t p)) l.1), ⊎_elim (λ m. inl (passed_out t (ap is_gone p) m)) (λ m. inr m) l.2)
   legal_out (DropBegin t) l = subst MayBegin (seen.basics.status_is t) l
   legal_out (DropEnd t) l = (status_out t Dropping l.0, λ e. l.1 (cell_in (Held t) e))
   legal_out (Look r) l = l ∙ ap value_in seen.basics.cell_is

@@ -103,13 +103,15 @@ module _ (kind : Kind) (limit : ℕ) (e : Entry) (h : List Entry) (S : Seen) (k 
   stamp_goes_on true begun at w = grind (arith, nat_tests)
   stamp_goes_on false begun at w = refl
 
-  held_by_begin : (t : ℕ) (b : Bool) → is_begin_of t e ≡ b → status kind t (e ∷ h) ≡ Polling → held_since t (after limit e S) ≡ cond b (is_held_by_other t (cell_after e S.cell)) (is_held_by_other t (cell_after e S.cell) || held_since t S)
+  held_by_begin : (t : ℕ) (b : Bool) → is_begin_of t e ≡ b → status kind t (e ∷ h) ≡ Polling
+      → held_since t (after limit e S) ≡ cond b (is_held_by_other t (cell_after e S.cell)) (is_held_by_other t (cell_after e S.cell) || held_since t S)
   held_by_begin t true is polled = rw (other_now t, begun_by t true is polled) (stamp_begins (is_held_by_other t (cell_after e S.cell)) (other_held t S) (other_within t))
   held_by_begin t false is polled = rw (other_now t, begun_by t false is polled) (stamp_goes_on (is_held_by_other t (cell_after e S.cell)) (S.task t).begun (other_held t S) (k.begun_by t))
 
   held_since_now : (s : Sinces kind limit h S) (t : ℕ) (b : Bool) → is_begin_of t e ≡ b → status kind t (e ∷ h) ≡ Polling
       → Decides (held_since t (after limit e S)) (Since t (OtherHolds kind t) (e ∷ h))
-  held_since_now s t true is polled = since_begins t (OtherHolds kind t) e h (is_held_by_other t (cell_after e S.cell)) (held_since t (after limit e S)) is (holds_decides t) (held_by_begin t true is polled)
+  held_since_now s t true is polled =
+      since_begins t (OtherHolds kind t) e h (is_held_by_other t (cell_after e S.cell)) (held_since t (after limit e S)) is (holds_decides t) (held_by_begin t true is polled)
   held_since_now s t false is polled = since_goes_on t (OtherHolds kind t) e h (held_since t S) (is_held_by_other t (cell_after e S.cell)) (held_since t (after limit e S)) is
       (s.held t (polled_before kind t e h is polled)) (holds_decides t) (held_by_begin t false is polled)
 
@@ -165,18 +167,23 @@ module _ (kind : Kind) (limit : ℕ) (e : Entry) (h : List Entry) (S : Seen) (k 
       ((is_held_by_other t (cell_after e S.cell) || ltb 1 (after limit e S).acting) || acted_since t S)
   acted_by_begin t true is polled =
       let a = held_by_begin t true is polled in
-      let c : leb ((after limit e S).task t).begun (after limit e S).acting_at ≡ ltb 1 (after limit e S).acting = rw (begun_by t true is polled) (stamp_begins (ltb 1 (after limit e S).acting) S.acting_at k.acting_by) in
+      let c : leb ((after limit e S).task t).begun (after limit e S).acting_at ≡ ltb 1 (after limit e S).acting =
+      rw (begun_by t true is polled) (stamp_begins (ltb 1 (after limit e S).acting) S.acting_at k.acting_by) in
       ap (λ x. x || leb ((after limit e S).task t).begun (after limit e S).acting_at) a ∙ ap (λ x. is_held_by_other t (cell_after e S.cell) || x) c
   acted_by_begin t false is polled =
       let a = held_by_begin t false is polled in
-      let c : leb ((after limit e S).task t).begun (after limit e S).acting_at ≡ (ltb 1 (after limit e S).acting || leb (S.task t).begun S.acting_at) = rw (begun_by t false is polled) (stamp_goes_on (ltb 1 (after limit e S).acting) (S.task t).begun S.acting_at (k.begun_by t)) in
+      let c : leb ((after limit e S).task t).begun (after limit e S).acting_at ≡ (ltb 1 (after limit e S).acting || leb (S.task t).begun S.acting_at) =
+      rw (begun_by t false is polled) (stamp_goes_on (ltb 1 (after limit e S).acting) (S.task t).begun S.acting_at (k.begun_by t)) in
       ap (λ x. x || leb ((after limit e S).task t).begun (after limit e S).acting_at) a ∙ ap (λ x. (is_held_by_other t (cell_after e S.cell) || held_since t S) || x) c
       ∙ four (is_held_by_other t (cell_after e S.cell)) (held_since t S) (ltb 1 (after limit e S).acting) (leb (S.task t).begun S.acting_at)
 
   acted_since_now : (s : Sinces kind limit h S) (t : ℕ) (b : Bool) → is_begin_of t e ≡ b → status kind t (e ∷ h) ≡ Polling
       → Decides (acted_since t (after limit e S)) (Since t (OtherActs kind t) (e ∷ h))
-  acted_since_now s t true is polled = since_begins t (OtherActs kind t) e h (is_held_by_other t (cell_after e S.cell) || ltb 1 (after limit e S).acting) (acted_since t (after limit e S)) is (acts_decides t polled) (acted_by_begin t true is polled)
-  acted_since_now s t false is polled = since_goes_on t (OtherActs kind t) e h (acted_since t S) (is_held_by_other t (cell_after e S.cell) || ltb 1 (after limit e S).acting) (acted_since t (after limit e S)) is
+  acted_since_now s t true is polled =
+      since_begins t (OtherActs kind t) e h (is_held_by_other t (cell_after e S.cell) || ltb 1 (after limit e S).acting)
+      (acted_since t (after limit e S)) is (acts_decides t polled) (acted_by_begin t true is polled)
+  acted_since_now s t false is polled =
+      since_goes_on t (OtherActs kind t) e h (acted_since t S) (is_held_by_other t (cell_after e S.cell) || ltb 1 (after limit e S).acting) (acted_since t (after limit e S)) is
       (s.acted t (polled_before kind t e h is polled)) (acts_decides t polled) (acted_by_begin t false is polled)
 
   -- the crowd
@@ -204,7 +211,8 @@ module _ (kind : Kind) (limit : ℕ) (e : Entry) (h : List Entry) (S : Seen) (k 
 
   crowded_since_now : (s : Sinces kind limit h S) (t : ℕ) (b : Bool) → is_begin_of t e ≡ b → status kind t (e ∷ h) ≡ Polling
       → Decides (crowded_since t (after limit e S)) (Since t (IsCrowded kind limit t) (e ∷ h))
-  crowded_since_now s t true is polled = since_begins t (IsCrowded kind limit t) e h (ltb limit (after limit e S).about) (crowded_since t (after limit e S)) is (crowd_decides t polled) (crowded_by_begin t true is polled)
+  crowded_since_now s t true is polled =
+      since_begins t (IsCrowded kind limit t) e h (ltb limit (after limit e S).about) (crowded_since t (after limit e S)) is (crowd_decides t polled) (crowded_by_begin t true is polled)
   crowded_since_now s t false is polled = since_goes_on t (IsCrowded kind limit t) e h (crowded_since t S) (ltb limit (after limit e S).about) (crowded_since t (after limit e S)) is
       (s.crowded t (polled_before kind t e h is polled)) (crowd_decides t polled) (crowded_by_begin t false is polled)
 

@@ -22,7 +22,8 @@ module _ (K : Kind) (limit : ℕ) (h : List Entry) (S : Seen) (seen : IsSeenOf K
   -- whether the waker of a task that stands was handed out
   handed_is : (t : ℕ) → stands (status K t h) (last_call K t h).began ≡ true
       → member (last_call K t h).listed (handed_since t h) ≡ ltb (S.task t).ended (S.handed (S.task t).call.listed)
-  handed_is t s = seen.basics.stood t (last_call K t h).listed s ∙ ap (λ c. ltb (S.task t).ended (S.handed c.listed)) (sym (seen.basics.call_is t (stands_stays (status K t h) (last_call K t h).began s)))
+  handed_is t s = seen.basics.stood t (last_call K t h).listed s
+      ∙ ap (λ c. ltb (S.task t).ended (S.handed c.listed)) (sym (seen.basics.call_is t (stands_stays (status K t h) (last_call K t h).began s)))
 
   -- who was called by the history was called by what is kept, and the other way round
   pub called_in : (t : ℕ) → IsCalled K t h → IsCalledIn t S
