@@ -6,7 +6,7 @@ use Rattle.once_queue.specs.Numbers.{member, is_distinct, bit, how_many, times_i
 use Rattle.once_world.specs.declared.record.Reply.TheVariants.{Pending}
 use Rattle.once_world.specs.Record.{Kind, Entry, Made, End, Look, Own, is_of, made_in, handed_by, is_replacing}
 use Rattle.once_world.specs.Cell.{Cell, Empty, Held, SetTo, cell, cell_after, answers_after}
-use Rattle.once_world.specs.Tasks.{Status, Unmade, Fresh, status, status_after, last_call, last_call_after, is_under_way}
+use Rattle.once_world.specs.Tasks.{Status, Unmade, Fresh, status, status_after, last_call, last_call_after, is_gone, is_under_way}
 use Rattle.once_world.specs.Wakers.{handed_since, is_end_of, opens, times_opened, times_handed, is_held_by_other}
 use Rattle.once_world.specs.Refusals.{is_about}
 use Rattle.once_world.specs.Run.{IsLegal, IsRun}
@@ -15,7 +15,8 @@ use Rattle.once_world.proofs.Listing.Counting.{count_same}
 use Rattle.once_world.proofs.Law.Wakes.{handed_within}
 use Rattle.once_judge.specs.Seen.{Seen, after, ends_poll, opens_in, count_after, counted, task_of, held_after, other_after}
 use Rattle.once_judge.specs.SeenOf.{Basics, is_made, stands}
-use Rattle.once_judge.proofs.Entries.{fits_before, is_live, legal_before, live_made, made_after, count_moved, its_task, of_its_task, of_none, end_is, end_hands, stood_at}
+use Rattle.once_judge.proofs.Entries.{fits_before, is_live, legal_before, live_made, made_after, count_moved, its_task, of_its_task, of_none}
+use Rattle.once_judge.proofs.Entries.{end_is, end_hands, stood_at, before_stays, stands_stays, moved_status, moved_stays, moved_ended, moved_begun}
 
 -- only a Made makes a task
 abbrev is_making : Entry → Bool
@@ -37,25 +38,47 @@ module _ (kind : Kind) (limit : ℕ) (e : Entry) (h : List Entry) (S : Seen) (ru
   l : IsLegal kind limit e h
   l = run.0
 
+  -- what its task is at after the entry
+  status_is_after : (t : ℕ) → status_after e S.cell (S.task t).status ≡ status_after e (cell kind h) (status kind t h)
+  status_is_after t = ap (λ c. status_after e c (S.task t).status) k.cell_is ∙ ap (status_after e (cell kind h)) (k.status_is t)
+
   status_by : (t : ℕ) (b : Bool) → is_of t e ≡ b → ((after limit e S).task t).status ≡ status kind t (e ∷ h)
-  status_by t true is = rw is (ap (λ c. status_after e c (S.task t).status) k.cell_is ∙ ap (status_after e (cell kind h)) (k.status_is t))
+  status_by t true is = rw is (moved_status e S.cell (suc S.now) (S.task t) ∙ status_is_after t)
   status_by t false is = rw is (k.status_is t)
 
-  call_by : (t : ℕ) (b : Bool) → is_of t e ≡ b → ((after limit e S).task t).call ≡ last_call kind t (e ∷ h)
-  call_by t true is = rw is (ap (λ c. last_call_after e c (S.task t).status (S.task t).call) k.cell_is
+  call_by : (t : ℕ) (b : Bool) → is_of t e ≡ b → is_gone (status kind t (e ∷ h)) ≡ false → ((after limit e S).task t).call ≡ last_call kind t (e ∷ h)
+  call_by t true is g =
+      let g' : is_gone (status_after e S.cell (S.task t).status) ≡ false = ap is_gone (status_is_after t) ∙ (rw is at g) in
+      let n = before_stays t e (status kind t h) is (legal_before kind limit t e h l is) in
+      rw is (ap (λ x. x.call) (moved_stays e S.cell (suc S.now) (S.task t) g')
+      ∙ ap (λ c. last_call_after e c (S.task t).status (S.task t).call) k.cell_is
       ∙ ap (λ s. last_call_after e (cell kind h) s (S.task t).call) (k.status_is t)
-      ∙ ap (last_call_after e (cell kind h) (status kind t h)) (k.call_is t))
-  call_by t false is = rw is (k.call_is t)
+      ∙ ap (last_call_after e (cell kind h) (status kind t h)) (k.call_is t n))
+  call_by t false is g = rw is (k.call_is t (rw is at g))
 
   -- no moment is later than now
-  ended_now : (t : ℕ) → ((after limit e S).task t).ended ≡ cond (is_end_of t e) (suc S.now) (S.task t).ended
-  ended_now t = let m = end_is t e in grind arith
+  ended_within : (t : ℕ) (b : Bool) → is_of t e ≡ b → ((after limit e S).task t).ended ≤ suc S.now
+  ended_within t true is = rw is (moved_ended e S.cell (suc S.now) (S.task t) (let a = k.ended_by t in omega arith))
+  ended_within t false is = rw is (let a = k.ended_by t in omega arith)
 
-  ended_within : (t : ℕ) → ((after limit e S).task t).ended ≤ suc S.now
-  ended_within t = let a = k.ended_by t in rw (ended_now t) (grind arith)
+  begun_within : (t : ℕ) (b : Bool) → is_of t e ≡ b → ((after limit e S).task t).begun ≤ suc S.now
+  begun_within t true is = rw is (moved_begun e S.cell (suc S.now) (S.task t) (let a = k.begun_by t in omega arith))
+  begun_within t false is = rw is (let a = k.begun_by t in omega arith)
 
-  begun_within : (t : ℕ) → ((after limit e S).task t).begun ≤ suc S.now
-  begun_within t = let a = k.begun_by t in grind arith
+  -- when the last poll ended of a task that is not gone
+  ended_by_end : (t : ℕ) (b : Bool) → is_of t e ≡ b → is_gone (status kind t (e ∷ h)) ≡ false
+      → ((after limit e S).task t).ended ≡ cond (is_end_of t e) (suc S.now) (S.task t).ended
+  ended_by_end t true is g =
+      let g' : is_gone (status_after e S.cell (S.task t).status) ≡ false = ap is_gone (status_is_after t) ∙ (rw is at g) in
+      let m : is_end_of t e ≡ ends_poll e = end_is t e ∙ ap (λ b. cond b (ends_poll e) false) is in
+      rw (is, m) (ap (λ x. x.ended) (moved_stays e S.cell (suc S.now) (S.task t) g'))
+  ended_by_end t false is g =
+      let m : is_end_of t e ≡ false = end_is t e ∙ ap (λ b. cond b (ends_poll e) false) is in
+      rw (is, m) refl
+
+  ended_now : (t : ℕ) → stands (status kind t (e ∷ h)) (last_call kind t (e ∷ h)).began ≡ true
+      → ((after limit e S).task t).ended ≡ cond (is_end_of t e) (suc S.now) (S.task t).ended
+  ended_now t s = ended_by_end t (is_of t e) refl (stands_stays (status kind t (e ∷ h)) (last_call kind t (e ∷ h)).began s)
 
   handed_within_now : (w : ℕ) → (after limit e S).handed w ≤ suc S.now
   handed_within_now w = let a = k.handed_by w in grind arith
@@ -71,17 +94,17 @@ module _ (kind : Kind) (limit : ℕ) (e : Entry) (h : List Entry) (S : Seen) (ru
   other_within (SetTo v) = let a = k.other_by in omega arith
 
   -- the wakers that are open
-  opens_now : (w : ℕ) (e' : Entry) → opens_in S w e' ≡ opens kind w e' h
-  opens_now w (End t Pending) =
-      let a = k.call_is t in let b = k.cell_is in
+  opens_now : (w : ℕ) (e' : Entry) → IsLegal kind limit e' h → opens_in S w e' ≡ opens kind w e' h
+  opens_now w (End t Pending) l' =
+      let a = k.call_is t (ap is_gone l'.0) in let b = k.cell_is in
       ap (λ x. cond (x == w) (is_held_by_other t S.cell) false) (ap (λ y. y.waker) a) ∙ ap (λ c. cond ((last_call kind t h).waker == w) (is_held_by_other t c) false) b
-  opens_now w _ = refl
+  opens_now w _ l' = refl
 
   times_by : (w : ℕ) (b : Bool) → is_replacing e ≡ b → times_opened kind w (e ∷ h) ≡ times_handed w (e ∷ h) + (after limit e S).times w
   times_by w true is = rw is (omega arith)
   times_by w false is =
       let within : times_in w (handed_by e) + times_handed w h ≤ bit (opens kind w e h) + times_opened kind w h = rw is at (handed_within kind limit w (e ∷ h) run) in
-      let o = ap bit (opens_now w e) in let q = k.times_is w in
+      let o = ap bit (opens_now w e l) in let q = k.times_is w in
       rw is (omega arith)
 
   -- whose waker was handed out
@@ -99,10 +122,10 @@ module _ (kind : Kind) (limit : ℕ) (e : Entry) (h : List Entry) (S : Seen) (ru
       → member w (handed_since t (e ∷ h)) ≡ ltb ((after limit e S).task t).ended ((after limit e S).handed w)
   stood_by t w true is s =
       let none = end_hands t e is in let a = k.handed_by w in
-      rw (ended_now t, is, none) (grind (arith, nat_tests))
+      rw (ended_now t s, is, none) (grind (arith, nat_tests))
   stood_by t w false is s =
       let before = k.stood t w (stood_before t (is_of t e) refl is s) in let a = k.ended_by t in
-      rw (ended_now t, is, member-append, before) (grind (arith, nat_tests))
+      rw (ended_now t s, is, member-append, before) (grind (arith, nat_tests))
 
   -- an entry that makes nobody: who was made
   was_made : (t : ℕ) → is_making e ≡ false → is_of t e ≡ true → is_made (status kind t h) ≡ true
@@ -168,8 +191,8 @@ basics_after K limit e h S run k = record {
   answers_are = ap (answers_after e) k.answers_are;
   status_is = λ t. status_by K limit e h S run k t (is_of t e) refl;
   call_is = λ t. call_by K limit e h S run k t (is_of t e) refl;
-  ended_by = ended_within K limit e h S run k;
-  begun_by = begun_within K limit e h S run k;
+  ended_by = λ t. ended_within K limit e h S run k t (is_of t e) refl;
+  begun_by = λ t. begun_within K limit e h S run k t (is_of t e) refl;
   handed_by = handed_within_now K limit e h S run k;
   crowded_by = let a = k.crowded_by in grind arith;
   acting_by = let a = k.acting_by in grind arith;

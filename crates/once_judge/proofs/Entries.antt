@@ -1,5 +1,5 @@
 -- What an entry that may come next tells of its task, and how it moves counts.
-use Rattle.std.proofs.Common.{◌≡◌, ◌≢◌, ℕ, Bool, true, false, cond, ◌==◌, List, [], ◌∷◌, Option, Some, None, refl, sym, ap, ◌∙◌, subst, arith}
+use Rattle.std.proofs.Common.{◌≡◌, ◌≢◌, ◌≤◌, ℕ, Bool, true, false, cond, ◌==◌, List, [], ◌∷◌, Option, Some, None, refl, sym, ap, ◌∙◌, subst, arith}
 use Rattle.std.specs.Prelude.{not}
 use Rattle.std.proofs.lemmas.Bool.{false≢true, eqb-true, ne_eqb}
 use Rattle.std.proofs.lemmas.Bool.Decides.{nat_tests}
@@ -8,12 +8,12 @@ use Rattle.once_world.specs.declared.record.Ran.{Ran as Answer}
 use Rattle.once_world.specs.declared.record.Reply.TheVariants.{Pending}
 use Rattle.once_world.specs.Record.{Kind, Entry, Made, Begin, Claim, Ran, Free, Fill, Pass, End, DropBegin, DropEnd, Look, Own, is_of, made_in, handed_by}
 use Rattle.once_world.specs.Cell.{Cell, Empty, Held, SetTo, cell}
-use Rattle.once_world.specs.Tasks.{Status, Unmade, Fresh, Waiting, Holding, Gone, LastCall, status, status_after, pending_status, last_call, last_call_after}
+use Rattle.once_world.specs.Tasks.{Status, Unmade, Fresh, Waiting, Holding, Gone, LastCall, status, status_after, pending_status, last_call, last_call_after, is_gone, is_under_way}
 use Rattle.once_world.specs.Wakers.{is_end_of}
 use Rattle.once_world.specs.Run.{IsLegal, MayBegin, MayFree, MayPass}
 use Rattle.once_queue.proofs.Listing.Members.{eqb_self}
 use Rattle.once_world.proofs.Listing.Counting.{count_change}
-use Rattle.once_judge.specs.Seen.{task_of, counted, ends_poll}
+use Rattle.once_judge.specs.Seen.{TaskSeen, task_of, counted, ends_poll, begins_poll, changed, moved, settled, gone_task}
 use Rattle.once_judge.specs.SeenOf.{is_made, stands}
 
 -- made and not gone
@@ -147,3 +147,71 @@ stood_at (DropBegin t) c Waiting k n w = refl
 stood_at (DropBegin t) c _ k n w = absurd (false≢true w)
 stood_at (DropEnd t) c s k n w = absurd (false≢true w)
 stood_at _ c s k n w = w
+
+-- who is live is not gone; so who stands is not, who is in a call, and who may free or pass
+pub live_stays : (s : Status) → is_live s ≡ true → is_gone s ≡ false
+live_stays Gone l = absurd (false≢true l)
+live_stays _ l = refl
+
+pub stands_stays : (s b : Status) → stands s b ≡ true → is_gone s ≡ false
+stands_stays Gone b l = absurd (false≢true l)
+stands_stays _ b l = refl
+
+pub acts_stays : (s : Status) → is_under_way s ≡ true → is_gone s ≡ false
+acts_stays Gone l = absurd (false≢true l)
+acts_stays _ l = refl
+
+pub free_stays : (s : Status) (r : Option Answer) → MayFree s r → is_gone s ≡ false
+free_stays s r m = live_stays s (free_live s r m)
+
+pub pass_stays : (s : Status) (b : Bool) (r : Option Answer) → MayPass s b r → is_gone s ≡ false
+pass_stays s b r m = live_stays s (pass_live s b r m)
+
+unmade_stays : (s : Status) → not (is_made s) ≡ true → is_gone s ≡ false
+unmade_stays Unmade m = refl
+unmade_stays _ m = absurd (false≢true m)
+
+-- the task of an entry that may come next is not gone
+pub before_stays : (t : ℕ) (e : Entry) (s : Status) → is_of t e ≡ true → fits_before e s ≡ true → is_gone s ≡ false
+before_stays t (Made u) s o f = unmade_stays s f
+before_stays t (Look r) s o f = absurd (false≢true o)
+before_stays t (Own o' g) s o f = absurd (false≢true o)
+before_stays t _ s o f = live_stays s f
+
+-- what is kept of a task after an entry of it
+pub gone_so : (s : Status) → is_gone s ≡ true → s ≡ Gone
+gone_so Gone g = refl
+gone_so _ g = absurd (false≢true g)
+
+settled_status : (x : TaskSeen) (b : Bool) → is_gone x.status ≡ b → (settled x).status ≡ x.status
+settled_status x true is = rw is (sym (gone_so x.status is))
+settled_status x false is = rw is refl
+
+pub moved_status : (e : Entry) (c : Cell) (n : ℕ) (x : TaskSeen) → (moved e c n x).status ≡ status_after e c x.status
+moved_status e c n x = settled_status (changed e c n x) (is_gone (status_after e c x.status)) refl
+
+pub moved_stays : (e : Entry) (c : Cell) (n : ℕ) (x : TaskSeen) → is_gone (status_after e c x.status) ≡ false → moved e c n x ≡ changed e c n x
+moved_stays e c n x g = rw g refl
+
+pub moved_gone : (e : Entry) (c : Cell) (n : ℕ) (x y : TaskSeen) → y ≡ moved e c n x → is_gone y.status ≡ true → y ≡ gone_task
+moved_gone e c n x y is g =
+    let s : is_gone (status_after e c x.status) ≡ true = ap is_gone (sym (moved_status e c n x)) ∙ ap (λ z. is_gone z.status) (sym is) ∙ g in
+    is ∙ rw s refl
+
+within_by : (b : Bool) (n m : ℕ) → m ≤ n → cond b n m ≤ n
+within_by true n m l = omega arith
+within_by false n m l = l
+
+settled_ended : (x : TaskSeen) (n : ℕ) (b : Bool) → is_gone x.status ≡ b → x.ended ≤ n → (settled x).ended ≤ n
+settled_ended x n true is l = rw is (omega arith)
+settled_ended x n false is l = rw is l
+
+settled_begun : (x : TaskSeen) (n : ℕ) (b : Bool) → is_gone x.status ≡ b → x.begun ≤ n → (settled x).begun ≤ n
+settled_begun x n true is l = rw is (omega arith)
+settled_begun x n false is l = rw is l
+
+pub moved_ended : (e : Entry) (c : Cell) (n : ℕ) (x : TaskSeen) → x.ended ≤ n → (moved e c n x).ended ≤ n
+moved_ended e c n x l = settled_ended (changed e c n x) n (is_gone (status_after e c x.status)) refl (within_by (ends_poll e) n x.ended l)
+
+pub moved_begun : (e : Entry) (c : Cell) (n : ℕ) (x : TaskSeen) → x.begun ≤ n → (moved e c n x).begun ≤ n
+moved_begun e c n x l = settled_begun (changed e c n x) n (is_gone (status_after e c x.status)) refl (within_by (begins_poll e) n x.begun l)

@@ -24,15 +24,12 @@ use Rattle.once_judge.specs.Legal.{IsLegalIn, IsDueFor, IsDueIn, HandsOutIn, Cal
 use Rattle.once_judge.specs.SeenOf.{Basics, IsSeenOf, is_made}
 use Rattle.once_judge.specs.Reasons.{IsTrueIn}
 use Rattle.once_judge.specs.Verdict.{IsTrue}
+use Rattle.once_judge.proofs.Entries.{gone_so, free_stays, pass_stays}
 
 -- a task that was not made, or one that is gone
 unmade_or : (s : Status) → is_made s ≡ false → s ≡ Unmade
 unmade_or Unmade m = refl
 unmade_or _ m = absurd (false≢true (sym m))
-
-gone_so : (s : Status) → is_gone s ≡ true → s ≡ Gone
-gone_so Gone g = refl
-gone_so _ g = absurd (false≢true g)
 
 made_gone : (s : Status) → is_made s ≡ true → (s ≡ Unmade) ⊎ (s ≡ Gone) → is_gone s ≡ true
 made_gone s m o = ⊎_elim (λ u. absurd (false≢true (ap is_made (sym u) ∙ m))) (λ g. ap is_gone g) o
@@ -58,16 +55,25 @@ module _ (K : Kind) (limit : ℕ) (h : List Entry) (S : Seen) (seen : IsSeenOf K
   k : Basics K h S
   k = seen.basics
 
-  call_at : (t : ℕ) → (S.task t).call ≡ last_call K t h
-  call_at t = seen.basics.call_is t
+  -- the last call of a task that is not gone
+  call_at : (t : ℕ) → is_gone (status K t h) ≡ false → (S.task t).call ≡ last_call K t h
+  call_at t g = seen.basics.call_is t g
+
+  -- of one that polls
+  call_of : (t : ℕ) → status K t h ≡ Polling → (S.task t).call ≡ last_call K t h
+  call_of t p = call_at t (ap is_gone p)
+
+  -- what is kept tells who is gone
+  stays_out : (t : ℕ) → is_gone (S.task t).status ≡ false → is_gone (status K t h) ≡ false
+  stays_out t g = ap is_gone (sym (seen.basics.status_is t)) ∙ g
 
   due_in : (w : ℕ) → IsDue K w h → IsDueIn w S
-  due_in w d = (d.0, (seen.basics.status_is d.0 ∙ d.1, ap (λ c. c.waker) (call_at d.0) ∙ d.2, sym (seen.basics.stood d.0 w (rw d.1 refl)) ∙ d.3))
+  due_in w d = (d.0, (seen.basics.status_is d.0 ∙ d.1, ap (λ c. c.waker) (call_at d.0 (ap is_gone d.1)) ∙ d.2, sym (seen.basics.stood d.0 w (rw d.1 refl)) ∙ d.3))
 
   due_for : (t w : ℕ) → IsDueFor t w S → (status K t h ≡ Waiting) × ((last_call K t h).waker ≡ w) × (member w (handed_since t h) ≡ false)
   due_for t w d =
       let s : status K t h ≡ Waiting = sym (seen.basics.status_is t) ∙ d.0 in
-      (s, ap (λ c. c.waker) (sym (call_at t)) ∙ d.1, seen.basics.stood t w (rw s refl) ∙ d.2)
+      (s, ap (λ c. c.waker) (sym (call_at t (ap is_gone s))) ∙ d.1, seen.basics.stood t w (rw s refl) ∙ d.2)
 
   due_out : (w : ℕ) → IsDueIn w S → IsDue K w h
   due_out w d = let e = due_for d.0 w d.1 in (d.0, e.0, e.1, e.2)
@@ -104,12 +110,12 @@ module _ (K : Kind) (limit : ℕ) (h : List Entry) (S : Seen) (seen : IsSeenOf K
 
   -- refusals
   memory_in : (t : ℕ) (s : Status) → status K t h ≡ Polling → MemoryFrom K s t h → MemoryFromIn s t S
-  memory_in t Fresh p m = (ap (λ c. c.set_then) (call_at t) ∙ m.0, (seen.sinces.acted t p).1 m.1)
+  memory_in t Fresh p m = (ap (λ c. c.set_then) (call_of t p) ∙ m.0, (seen.sinces.acted t p).1 m.1)
   memory_in t Waiting p m = (seen.sinces.held t p).1 m
   memory_in t _ p m = m
 
   memory_out : (t : ℕ) (s : Status) → status K t h ≡ Polling → MemoryFromIn s t S → MemoryFrom K s t h
-  memory_out t Fresh p m = (ap (λ c. c.set_then) (sym (call_at t)) ∙ m.0, (seen.sinces.acted t p).0 m.1)
+  memory_out t Fresh p m = (ap (λ c. c.set_then) (sym (call_of t p)) ∙ m.0, (seen.sinces.acted t p).0 m.1)
   memory_out t Waiting p m = (seen.sinces.held t p).0 m
   memory_out t _ p m = m
 
@@ -118,12 +124,12 @@ module _ (K : Kind) (limit : ℕ) (h : List Entry) (S : Seen) (seen : IsSeenOf K
   end_in t Pending None p m = (m.0, m.1, cell_in (Held m.0) m.2)
   end_in t (Value v) (Some (RanValue u)) p m = (m.0, cell_in (SetTo v) m.1)
   end_in t (Value v) None p m = cell_in (SetTo v) m
-  end_in t (Error e) (Some (RanError f)) p m = (m.0, ap (λ c. c.freed) (call_at t) ∙ m.1)
+  end_in t (Error e) (Some (RanError f)) p m = (m.0, ap (λ c. c.freed) (call_of t p) ∙ m.1)
   end_in t Memory None p m =
-      let b = call_at t in
+      let b = call_of t p in
       (ap (λ c. c.claimed) b ∙ m.0, let P : Status → Type 0 = λ s. MemoryFromIn s t S in subst P (ap (λ c. c.began) (sym b)) (memory_in t (last_call K t h).began p m.1))
   end_in t Full None p m =
-      let b = call_at t in
+      let b = call_of t p in
       (ap (λ c. c.began) b ∙ m.0, ap (λ c. c.claimed) b ∙ m.1, (seen.sinces.crowded t p).1 m.2, ap is_set seen.basics.cell_is ∙ m.3)
   end_in t _ _ p m = m
 
@@ -132,12 +138,12 @@ module _ (K : Kind) (limit : ℕ) (h : List Entry) (S : Seen) (seen : IsSeenOf K
   end_out t Pending None p m = (m.0, m.1, cell_out (Held m.0) m.2)
   end_out t (Value v) (Some (RanValue u)) p m = (m.0, cell_out (SetTo v) m.1)
   end_out t (Value v) None p m = cell_out (SetTo v) m
-  end_out t (Error e) (Some (RanError f)) p m = (m.0, ap (λ c. c.freed) (sym (call_at t)) ∙ m.1)
+  end_out t (Error e) (Some (RanError f)) p m = (m.0, ap (λ c. c.freed) (sym (call_of t p)) ∙ m.1)
   end_out t Memory None p m =
-      let b = call_at t in
+      let b = call_of t p in
       (ap (λ c. c.claimed) (sym b) ∙ m.0, memory_out t (last_call K t h).began p (let P : Status → Type 0 = λ s. MemoryFromIn s t S in subst P (ap (λ c. c.began) b) m.1))
   end_out t Full None p m =
-      let b = call_at t in
+      let b = call_of t p in
       (ap (λ c. c.began) (sym b) ∙ m.0, ap (λ c. c.claimed) (sym b) ∙ m.1, (seen.sinces.crowded t p).0 m.2, ap is_set (sym seen.basics.cell_is) ∙ m.3)
   end_out t _ _ p m = m
 
@@ -156,39 +162,42 @@ module _ (K : Kind) (limit : ℕ) (h : List Entry) (S : Seen) (seen : IsSeenOf K
   got_is o = ap (λ c. got o c S.answers) seen.basics.cell_is ∙ ap (got o (cell K h)) seen.basics.answers_are
 
   free_in : (t : ℕ) → MayFree (status K t h) (last_call K t h).ran → MayFree (S.task t).status (S.task t).call.ran
-  free_in t m = rw (seen.basics.status_is t, call_at t) m
+  free_in t m = rw (seen.basics.status_is t, call_at t (free_stays (status K t h) (last_call K t h).ran m)) m
 
   free_out : (t : ℕ) → MayFree (S.task t).status (S.task t).call.ran → MayFree (status K t h) (last_call K t h).ran
-  free_out t m = rw (seen.basics.status_is t, call_at t) at m
+  free_out t m = rw (seen.basics.status_is t, call_at t (stays_out t (free_stays (S.task t).status (S.task t).call.ran m))) at m
 
   pass_in : (t : ℕ) → MayPass (status K t h) (last_call K t h).claimed (last_call K t h).ran → MayPass (S.task t).status (S.task t).call.claimed (S.task t).call.ran
-  pass_in t m = rw (seen.basics.status_is t, call_at t) m
+  pass_in t m = rw (seen.basics.status_is t, call_at t (pass_stays (status K t h) (last_call K t h).claimed (last_call K t h).ran m)) m
 
   pass_out : (t : ℕ) → MayPass (S.task t).status (S.task t).call.claimed (S.task t).call.ran → MayPass (status K t h) (last_call K t h).claimed (last_call K t h).ran
-  pass_out t m = rw (seen.basics.status_is t, call_at t) at m
+  pass_out t m = rw (seen.basics.status_is t, call_at t (stays_out t (pass_stays (S.task t).status (S.task t).call.claimed (S.task t).call.ran m))) at m
 
-  ran_in : (t : ℕ) (r : Option Answer) → (last_call K t h).ran ≡ r → (S.task t).call.ran ≡ r
-  ran_in t r e = ap (λ c. c.ran) (call_at t) ∙ e
+  ran_in : (t : ℕ) (r : Option Answer) → is_gone (status K t h) ≡ false → (last_call K t h).ran ≡ r → (S.task t).call.ran ≡ r
+  ran_in t r g e = ap (λ c. c.ran) (call_at t g) ∙ e
 
-  ran_out : (t : ℕ) (r : Option Answer) → (S.task t).call.ran ≡ r → (last_call K t h).ran ≡ r
-  ran_out t r e = ap (λ c. c.ran) (sym (call_at t)) ∙ e
+  ran_out : (t : ℕ) (r : Option Answer) → is_gone (status K t h) ≡ false → (S.task t).call.ran ≡ r → (last_call K t h).ran ≡ r
+  ran_out t r g e = ap (λ c. c.ran) (sym (call_at t g)) ∙ e
 
-  passed_in : (t : ℕ) → (last_call K t h).passed ≡ false → (S.task t).call.passed ≡ false
-  passed_in t e = ap (λ c. c.passed) (call_at t) ∙ e
+  passed_in : (t : ℕ) → is_gone (status K t h) ≡ false → (last_call K t h).passed ≡ false → (S.task t).call.passed ≡ false
+  passed_in t g e = ap (λ c. c.passed) (call_at t g) ∙ e
 
-  passed_out : (t : ℕ) → (S.task t).call.passed ≡ false → (last_call K t h).passed ≡ false
-  passed_out t e = ap (λ c. c.passed) (sym (call_at t)) ∙ e
+  passed_out : (t : ℕ) → is_gone (status K t h) ≡ false → (S.task t).call.passed ≡ false → (last_call K t h).passed ≡ false
+  passed_out t g e = ap (λ c. c.passed) (sym (call_at t g)) ∙ e
 
   -- what may come next fits
   pub legal_in : (e : Entry) → IsLegal K limit e h → IsLegalIn (is_lazy K) e S
   legal_in (Made t) l = status_in t Unmade l
   legal_in (Begin t w) l = subst MayBegin (sym (seen.basics.status_is t)) l
-  legal_in (Claim t) l = (cell_in Empty l.0, status_in t Polling l.1, ran_in t None l.2, passed_in t l.3)
-  legal_in (Ran t a) l = (cell_in (Held t) l.0, status_in t Polling l.1, ran_in t None l.2, next_in K a (answers_left K h) S.answers seen.basics.answers_are l.3)
+  legal_in (Claim t) l = (cell_in Empty l.0, status_in t Polling l.1, ran_in t None (ap is_gone l.1) l.2, passed_in t (ap is_gone l.1) l.3)
+  legal_in (Ran t a) l = (cell_in (Held t) l.0, status_in t Polling l.1, ran_in t None (ap is_gone l.1) l.2, next_in K a (answers_left K h) S.answers seen.basics.answers_are l.3)
   legal_in (Free t X) l = (cell_in (Held t) l.0, free_in t l.1, calls_in X l.2)
-  legal_in (Fill t v X) l = (cell_in (Held t) l.0, status_in t Polling l.1, ran_in t (Some (RanValue v)) l.2, hands_in X l.3)
-  legal_in (Pass t X) l = (cell_in Empty l.0, pass_in t l.1, passed_in t l.2, (l.3.0, l.3.1, open_in l.3.0 l.3.2))
-  legal_in (End t r) l = (status_in t Polling l.0, (let m = end_in t r (last_call K t h).ran l.0 l.1 in let P : Option Answer → Type 0 = λ a. MayEndIn t r a S in subst P (ap (λ c. c.ran) (sym (call_at t))) m), ⊎_elim (λ p. inl (passed_in t p)) (λ m. inr m) l.2)
+  legal_in (Fill t v X) l = (cell_in (Held t) l.0, status_in t Polling l.1, ran_in t (Some (RanValue v)) (ap is_gone l.1) l.2, hands_in X l.3)
+  legal_in (Pass t X) l = (cell_in Empty l.0, pass_in t l.1, passed_in t (pass_stays (status K t h) (last_call K t h).claimed (last_call K t h).ran l.1) l.2, (l.3.0, l.3.1, open_in l.3.0 l.3.2))
+  legal_in (End t r) l =
+      let m = end_in t r (last_call K t h).ran l.0 l.1 in
+      let P : Option Answer → Type 0 = λ a. MayEndIn t r a S in
+      (status_in t Polling l.0, subst P (ap (λ c. c.ran) (sym (call_of t l.0))) m, ⊎_elim (λ p. inl (passed_in t (ap is_gone l.0) p)) (λ m. inr m) l.2)
   legal_in (DropBegin t) l = subst MayBegin (sym (seen.basics.status_is t)) l
   legal_in (DropEnd t) l = (status_in t Dropping l.0, λ e. l.1 (cell_out (Held t) e))
   legal_in (Look r) l = l ∙ ap value_in (sym seen.basics.cell_is)
@@ -198,14 +207,19 @@ module _ (K : Kind) (limit : ℕ) (h : List Entry) (S : Seen) (seen : IsSeenOf K
   pub legal_out : (e : Entry) → IsLegalIn (is_lazy K) e S → IsLegal K limit e h
   legal_out (Made t) l = status_out t Unmade l
   legal_out (Begin t w) l = subst MayBegin (seen.basics.status_is t) l
-  legal_out (Claim t) l = (cell_out Empty l.0, status_out t Polling l.1, ran_out t None l.2, passed_out t l.3)
-  legal_out (Ran t a) l = (cell_out (Held t) l.0, status_out t Polling l.1, ran_out t None l.2, next_out K a (answers_left K h) S.answers seen.basics.answers_are l.3)
+  legal_out (Claim t) l = let g = ap is_gone (status_out t Polling l.1) in (cell_out Empty l.0, status_out t Polling l.1, ran_out t None g l.2, passed_out t g l.3)
+  legal_out (Ran t a) l =
+      let p = status_out t Polling l.1 in
+      (cell_out (Held t) l.0, p, ran_out t None (ap is_gone p) l.2, next_out K a (answers_left K h) S.answers seen.basics.answers_are l.3)
   legal_out (Free t X) l = (cell_out (Held t) l.0, free_out t l.1, calls_out X l.2)
-  legal_out (Fill t v X) l = (cell_out (Held t) l.0, status_out t Polling l.1, ran_out t (Some (RanValue v)) l.2, hands_out X l.3)
-  legal_out (Pass t X) l = (cell_out Empty l.0, pass_out t l.1, passed_out t l.2, (l.3.0, l.3.1, open_out l.3.0 l.3.2))
+  legal_out (Fill t v X) l = (cell_out (Held t) l.0, status_out t Polling l.1, ran_out t (Some (RanValue v)) (ap is_gone (status_out t Polling l.1)) l.2, hands_out X l.3)
+  legal_out (Pass t X) l =
+      let g = stays_out t (pass_stays (S.task t).status (S.task t).call.claimed (S.task t).call.ran l.1) in
+      (cell_out Empty l.0, pass_out t l.1, passed_out t g l.2, (l.3.0, l.3.1, open_out l.3.0 l.3.2))
   legal_out (End t r) l =
       let p = status_out t Polling l.0 in
-      (p, end_out t r (last_call K t h).ran p (let P : Option Answer → Type 0 = λ a. MayEndIn t r a S in subst P (ap (λ c. c.ran) (call_at t)) l.1), ⊎_elim (λ m. inl (passed_out t m)) (λ m. inr m) l.2)
+      let P : Option Answer → Type 0 = λ a. MayEndIn t r a S in
+      (p, end_out t r (last_call K t h).ran p (subst P (ap (λ c. c.ran) (call_of t p)) l.1), ⊎_elim (λ m. inl (passed_out t (ap is_gone p) m)) (λ m. inr m) l.2)
   legal_out (DropBegin t) l = subst MayBegin (seen.basics.status_is t) l
   legal_out (DropEnd t) l = (status_out t Dropping l.0, λ e. l.1 (cell_in (Held t) e))
   legal_out (Look r) l = l ∙ ap value_in seen.basics.cell_is
@@ -215,19 +229,19 @@ module _ (K : Kind) (limit : ℕ) (h : List Entry) (S : Seen) (seen : IsSeenOf K
   pub true_out : (r : Reason) (e : Entry) → IsTrueIn (is_lazy K) r e S → IsTrue K limit r e h
   true_out (TaskIs t s) e i = status_out t _ i
   true_out (CellIs c) e i = cell_out _ i
-  true_out (InitAnswered t r) e i = ran_out t r i
-  true_out (Claimed t) e i = ap (λ c. c.claimed) (sym (call_at t)) ∙ i
-  true_out (Passed t) e i = ap (λ c. c.passed) (sym (call_at t)) ∙ i
-  true_out (NotFreed t) e i = ap (λ c. c.freed) (sym (call_at t)) ∙ i
+  true_out (InitAnswered t r) e i = ran_out t r (stays_out t i.0) i.1
+  true_out (Claimed t) e i = ap (λ c. c.claimed) (sym (call_at t (stays_out t i.0))) ∙ i.1
+  true_out (Passed t) e i = ap (λ c. c.passed) (sym (call_at t (stays_out t i.0))) ∙ i.1
+  true_out (NotFreed t) e i = ap (λ c. c.freed) (sym (call_at t (stays_out t i.0))) ∙ i.1
   true_out (NextAnswer a) e i = ap next_answer (sym seen.basics.answers_are) ∙ i
   true_out (AnswersLeft n) e i = ap length (sym seen.basics.answers_are) ∙ i
   true_out (NotOpen w) e i = (i.0, λ o. let p = open_in w o in let n = i.1 in omega arith)
   true_out (Twice w) e i = i
   true_out (Due t w) e i = let d = due_for t w i.0 in (d.0, d.1, d.2, i.1)
   true_out (HandsOutSo n) e i = i
-  true_out (NoCauseForMemory t) e i = λ m. i.1 (subst (λ b. MemoryFromIn b t S) (ap (λ c. c.began) (sym (call_at t)))
+  true_out (NoCauseForMemory t) e i = λ m. i.1 (subst (λ b. MemoryFromIn b t S) (ap (λ c. c.began) (sym (call_of t (status_out t Polling i.0))))
       (memory_in t (last_call K t h).began (status_out t Polling i.0) m))
   true_out (NoCrowd t) e i = λ c. false≢true (sym i.1 ∙ (seen.sinces.crowded t (status_out t Polling i.0)).1 c)
-  true_out (NotFirstPoll t) e i = λ f. i (ap (λ c. c.began) (call_at t) ∙ f)
+  true_out (NotFirstPoll t) e i = λ f. i.1 (ap (λ c. c.began) (call_at t (stays_out t i.0)) ∙ f)
   true_out NoSuchCall (Own o g) i = call_by K o ∙ i
   true_out NoSuchCall e i = i

@@ -7,7 +7,7 @@ use Rattle.once_world.specs.declared.record.Reply.{Reply}
 use Rattle.once_world.specs.declared.record.Reply.TheVariants.{Pending}
 use Rattle.once_world.specs.Record.{Kind, Entry, End, Look, Own, is_of, made_in}
 use Rattle.once_world.specs.Cell.{Cell, Empty, Held, SetTo, cell, cell_after}
-use Rattle.once_world.specs.Tasks.{Status, Unmade, Polling, status, status_after, pending_status, is_under_way}
+use Rattle.once_world.specs.Tasks.{Status, Unmade, Polling, status, status_after, pending_status, is_gone, is_under_way}
 use Rattle.once_world.specs.Wakers.{is_held_by_other}
 use Rattle.once_world.specs.Refusals.{is_about, is_begin_of, Since, OtherHolds, OtherActs, IsCrowded, crowd}
 use Rattle.once_world.specs.Run.{IsRun}
@@ -16,6 +16,7 @@ use Rattle.once_world.proofs.Listing.Counting.{count_change, count_some, count_p
 use Rattle.once_judge.specs.Seen.{Seen, after, begins_poll, holder_after, held_after, other_after, other_held, nothing_seen}
 use Rattle.once_judge.specs.Legal.{held_since, acted_since, crowded_since}
 use Rattle.once_judge.specs.SeenOf.{Basics, Sinces, IsSeenOf, is_made}
+use Rattle.once_judge.proofs.Entries.{moved_stays}
 use Rattle.once_judge.proofs.Basics.{basics_after}
 
 -- an entry that begins no poll of t
@@ -57,12 +58,18 @@ begun_at : (t : ℕ) (n at : ℕ) (e : Entry) (b : Bool) → is_begin_of t e ≡
 begun_at t n at e b is = grind arith
 
 module _ (kind : Kind) (limit : ℕ) (e : Entry) (h : List Entry) (S : Seen) (k : Basics kind h S) (k' : Basics kind (e ∷ h) (after limit e S)) where
-  begun_of : (t : ℕ) (b : Bool) → is_begin_of t e ≡ b → (o : Bool) → is_of t e ≡ o → ((after limit e S).task t).begun ≡ cond b (suc S.now) (S.task t).begun
-  begun_of t b is true o = rw o (let a = begun_at t (suc S.now) (S.task t).begun e b is in rw o at a)
-  begun_of t b is false o = rw o (let a = begun_at t (suc S.now) (S.task t).begun e b is in rw o at a)
+  begun_of : (t : ℕ) (b : Bool) → is_begin_of t e ≡ b → (o : Bool) → is_of t e ≡ o → status kind t (e ∷ h) ≡ Polling
+      → ((after limit e S).task t).begun ≡ cond b (suc S.now) (S.task t).begun
+  begun_of t b is true o polled =
+      let s : status_after e (cell kind h) (status kind t h) ≡ Polling = rw o at polled in
+      let g : is_gone (status_after e S.cell (S.task t).status) ≡ false =
+      ap is_gone (ap (λ c. status_after e c (S.task t).status) k.cell_is ∙ ap (status_after e (cell kind h)) (k.status_is t) ∙ s) in
+      let a = begun_at t (suc S.now) (S.task t).begun e b is in
+      rw o (ap (λ x. x.begun) (moved_stays e S.cell (suc S.now) (S.task t) g) ∙ (rw o at a))
+  begun_of t b is false o polled = rw o (let a = begun_at t (suc S.now) (S.task t).begun e b is in rw o at a)
 
-  begun_by : (t : ℕ) (b : Bool) → is_begin_of t e ≡ b → ((after limit e S).task t).begun ≡ cond b (suc S.now) (S.task t).begun
-  begun_by t b is = begun_of t b is (is_of t e) refl
+  begun_by : (t : ℕ) (b : Bool) → is_begin_of t e ≡ b → status kind t (e ∷ h) ≡ Polling → ((after limit e S).task t).begun ≡ cond b (suc S.now) (S.task t).begun
+  begun_by t b is polled = begun_of t b is (is_of t e) refl polled
 
   -- another task holds now
   held_decides : (t : ℕ) (c : Cell) → Decides (is_held_by_other t c) ((u : ℕ) × (t ≢ u) × (c ≡ Held u))
@@ -96,15 +103,17 @@ module _ (kind : Kind) (limit : ℕ) (e : Entry) (h : List Entry) (S : Seen) (k 
   stamp_goes_on true begun at w = grind (arith, nat_tests)
   stamp_goes_on false begun at w = refl
 
-  held_by_begin : (t : ℕ) (b : Bool) → is_begin_of t e ≡ b → held_since t (after limit e S) ≡ cond b (is_held_by_other t (cell_after e S.cell)) (is_held_by_other t (cell_after e S.cell) || held_since t S)
-  held_by_begin t true is = rw (other_now t, begun_by t true is) (stamp_begins (is_held_by_other t (cell_after e S.cell)) (other_held t S) (other_within t))
-  held_by_begin t false is = rw (other_now t, begun_by t false is) (stamp_goes_on (is_held_by_other t (cell_after e S.cell)) (S.task t).begun (other_held t S) (k.begun_by t))
+  held_by_begin : (t : ℕ) (b : Bool) → is_begin_of t e ≡ b → status kind t (e ∷ h) ≡ Polling
+      → held_since t (after limit e S) ≡ cond b (is_held_by_other t (cell_after e S.cell)) (is_held_by_other t (cell_after e S.cell) || held_since t S)
+  held_by_begin t true is polled = rw (other_now t, begun_by t true is polled) (stamp_begins (is_held_by_other t (cell_after e S.cell)) (other_held t S) (other_within t))
+  held_by_begin t false is polled = rw (other_now t, begun_by t false is polled) (stamp_goes_on (is_held_by_other t (cell_after e S.cell)) (S.task t).begun (other_held t S) (k.begun_by t))
 
   held_since_now : (s : Sinces kind limit h S) (t : ℕ) (b : Bool) → is_begin_of t e ≡ b → status kind t (e ∷ h) ≡ Polling
       → Decides (held_since t (after limit e S)) (Since t (OtherHolds kind t) (e ∷ h))
-  held_since_now s t true is polled = since_begins t (OtherHolds kind t) e h (is_held_by_other t (cell_after e S.cell)) (held_since t (after limit e S)) is (holds_decides t) (held_by_begin t true is)
+  held_since_now s t true is polled =
+      since_begins t (OtherHolds kind t) e h (is_held_by_other t (cell_after e S.cell)) (held_since t (after limit e S)) is (holds_decides t) (held_by_begin t true is polled)
   held_since_now s t false is polled = since_goes_on t (OtherHolds kind t) e h (held_since t S) (is_held_by_other t (cell_after e S.cell)) (held_since t (after limit e S)) is
-      (s.held t (polled_before kind t e h is polled)) (holds_decides t) (held_by_begin t false is)
+      (s.held t (polled_before kind t e h is polled)) (holds_decides t) (held_by_begin t false is polled)
 
   -- another is in a call
   acting_change : (t : ℕ) → status kind t (e ∷ h) ≡ Polling
@@ -153,24 +162,29 @@ module _ (kind : Kind) (limit : ℕ) (e : Entry) (h : List Entry) (S : Seen) (k 
   four false true false d = refl
   four false false c d = refl
 
-  acted_by_begin : (t : ℕ) (b : Bool) → is_begin_of t e ≡ b
+  acted_by_begin : (t : ℕ) (b : Bool) → is_begin_of t e ≡ b → status kind t (e ∷ h) ≡ Polling
       → acted_since t (after limit e S) ≡ cond b (is_held_by_other t (cell_after e S.cell) || ltb 1 (after limit e S).acting)
       ((is_held_by_other t (cell_after e S.cell) || ltb 1 (after limit e S).acting) || acted_since t S)
-  acted_by_begin t true is =
-      let a = held_by_begin t true is in
-      let c : leb ((after limit e S).task t).begun (after limit e S).acting_at ≡ ltb 1 (after limit e S).acting = rw (begun_by t true is) (stamp_begins (ltb 1 (after limit e S).acting) S.acting_at k.acting_by) in
+  acted_by_begin t true is polled =
+      let a = held_by_begin t true is polled in
+      let c : leb ((after limit e S).task t).begun (after limit e S).acting_at ≡ ltb 1 (after limit e S).acting =
+      rw (begun_by t true is polled) (stamp_begins (ltb 1 (after limit e S).acting) S.acting_at k.acting_by) in
       ap (λ x. x || leb ((after limit e S).task t).begun (after limit e S).acting_at) a ∙ ap (λ x. is_held_by_other t (cell_after e S.cell) || x) c
-  acted_by_begin t false is =
-      let a = held_by_begin t false is in
-      let c : leb ((after limit e S).task t).begun (after limit e S).acting_at ≡ (ltb 1 (after limit e S).acting || leb (S.task t).begun S.acting_at) = rw (begun_by t false is) (stamp_goes_on (ltb 1 (after limit e S).acting) (S.task t).begun S.acting_at (k.begun_by t)) in
+  acted_by_begin t false is polled =
+      let a = held_by_begin t false is polled in
+      let c : leb ((after limit e S).task t).begun (after limit e S).acting_at ≡ (ltb 1 (after limit e S).acting || leb (S.task t).begun S.acting_at) =
+      rw (begun_by t false is polled) (stamp_goes_on (ltb 1 (after limit e S).acting) (S.task t).begun S.acting_at (k.begun_by t)) in
       ap (λ x. x || leb ((after limit e S).task t).begun (after limit e S).acting_at) a ∙ ap (λ x. (is_held_by_other t (cell_after e S.cell) || held_since t S) || x) c
       ∙ four (is_held_by_other t (cell_after e S.cell)) (held_since t S) (ltb 1 (after limit e S).acting) (leb (S.task t).begun S.acting_at)
 
   acted_since_now : (s : Sinces kind limit h S) (t : ℕ) (b : Bool) → is_begin_of t e ≡ b → status kind t (e ∷ h) ≡ Polling
       → Decides (acted_since t (after limit e S)) (Since t (OtherActs kind t) (e ∷ h))
-  acted_since_now s t true is polled = since_begins t (OtherActs kind t) e h (is_held_by_other t (cell_after e S.cell) || ltb 1 (after limit e S).acting) (acted_since t (after limit e S)) is (acts_decides t polled) (acted_by_begin t true is)
-  acted_since_now s t false is polled = since_goes_on t (OtherActs kind t) e h (acted_since t S) (is_held_by_other t (cell_after e S.cell) || ltb 1 (after limit e S).acting) (acted_since t (after limit e S)) is
-      (s.acted t (polled_before kind t e h is polled)) (acts_decides t polled) (acted_by_begin t false is)
+  acted_since_now s t true is polled =
+      since_begins t (OtherActs kind t) e h (is_held_by_other t (cell_after e S.cell) || ltb 1 (after limit e S).acting)
+      (acted_since t (after limit e S)) is (acts_decides t polled) (acted_by_begin t true is polled)
+  acted_since_now s t false is polled =
+      since_goes_on t (OtherActs kind t) e h (acted_since t S) (is_held_by_other t (cell_after e S.cell) || ltb 1 (after limit e S).acting) (acted_since t (after limit e S)) is
+      (s.acted t (polled_before kind t e h is polled)) (acts_decides t polled) (acted_by_begin t false is polled)
 
   -- the crowd
   crowd_change : (t : ℕ) → status kind t (e ∷ h) ≡ Polling → (after limit e S).about ≡ suc (crowd kind t (e ∷ h))
@@ -190,16 +204,17 @@ module _ (kind : Kind) (limit : ℕ) (e : Entry) (h : List Entry) (S : Seen) (k 
       let change = crowd_change t polled in
       (λ n. let more = ltb-true limit (after limit e S).about n in omega arith, λ w. lt-ltb limit (after limit e S).about (omega arith))
 
-  crowded_by_begin : (t : ℕ) (b : Bool) → is_begin_of t e ≡ b
+  crowded_by_begin : (t : ℕ) (b : Bool) → is_begin_of t e ≡ b → status kind t (e ∷ h) ≡ Polling
       → crowded_since t (after limit e S) ≡ cond b (ltb limit (after limit e S).about) (ltb limit (after limit e S).about || crowded_since t S)
-  crowded_by_begin t true is = rw (begun_by t true is) (stamp_begins (ltb limit (after limit e S).about) S.crowded_at k.crowded_by)
-  crowded_by_begin t false is = rw (begun_by t false is) (stamp_goes_on (ltb limit (after limit e S).about) (S.task t).begun S.crowded_at (k.begun_by t))
+  crowded_by_begin t true is polled = rw (begun_by t true is polled) (stamp_begins (ltb limit (after limit e S).about) S.crowded_at k.crowded_by)
+  crowded_by_begin t false is polled = rw (begun_by t false is polled) (stamp_goes_on (ltb limit (after limit e S).about) (S.task t).begun S.crowded_at (k.begun_by t))
 
   crowded_since_now : (s : Sinces kind limit h S) (t : ℕ) (b : Bool) → is_begin_of t e ≡ b → status kind t (e ∷ h) ≡ Polling
       → Decides (crowded_since t (after limit e S)) (Since t (IsCrowded kind limit t) (e ∷ h))
-  crowded_since_now s t true is polled = since_begins t (IsCrowded kind limit t) e h (ltb limit (after limit e S).about) (crowded_since t (after limit e S)) is (crowd_decides t polled) (crowded_by_begin t true is)
+  crowded_since_now s t true is polled =
+      since_begins t (IsCrowded kind limit t) e h (ltb limit (after limit e S).about) (crowded_since t (after limit e S)) is (crowd_decides t polled) (crowded_by_begin t true is polled)
   crowded_since_now s t false is polled = since_goes_on t (IsCrowded kind limit t) e h (crowded_since t S) (ltb limit (after limit e S).about) (crowded_since t (after limit e S)) is
-      (s.crowded t (polled_before kind t e h is polled)) (crowd_decides t polled) (crowded_by_begin t false is)
+      (s.crowded t (polled_before kind t e h is polled)) (crowd_decides t polled) (crowded_by_begin t false is polled)
 
 -- what is kept stays right after one more entry of a run
 pub seen_after : (kind : Kind) (limit : ℕ) (e : Entry) (h : List Entry) (S : Seen) → IsRun kind limit (e ∷ h) → IsSeenOf kind limit h S → IsSeenOf kind limit (e ∷ h) (after limit e S)
@@ -221,7 +236,7 @@ seen_none kind limit = record {
     cell_is = refl;
     answers_are = refl;
     status_is = λ t. refl;
-    call_is = λ t. refl;
+    call_is = λ t g. refl;
     ended_by = λ t. omega arith;
     begun_by = λ t. omega arith;
     handed_by = λ w. omega arith;

@@ -5,7 +5,7 @@ use Rattle.once_queue.specs.Numbers.{member, bit, times_in}
 use Rattle.once_world.specs.declared.record.Reply.TheVariants.{Pending}
 use Rattle.once_world.specs.Record.{Entry, End, is_of, handed_by, is_replacing}
 use Rattle.once_world.specs.Cell.{rest_of}
-use Rattle.once_world.specs.Tasks.{Status, is_under_way}
+use Rattle.once_world.specs.Tasks.{Status, status_after, is_under_way}
 use Rattle.once_world.specs.Refusals.{is_about}
 use Rattle.once_judge.specs.Seen.{Seen, TaskSeen, after, moved, counted, count_after, opens_in, opens_with, task_of}
 use Rattle.std.specs.Prelude.{unwrap_or}
@@ -15,7 +15,7 @@ use Rattle.std.specs.BTreeMap.{BTreeMap, get, is_at}
 use Rattle.std.proofs.lemmas.Grind.{take_at_read}
 use Rattle.once_queue.proofs.Listing.Members.{member-push}
 use Rattle.once_judge.specs.Shown.{count_at, tasked, tasked_by, handed_out, celled, noted}
-use Rattle.once_judge.proofs.Entries.{of_its_task, of_none}
+use Rattle.once_judge.proofs.Entries.{of_its_task, of_none, moved_status}
 use Rattle.once_judge.proofs.Lists.{times_push}
 
 -- the answers after the first of those that are left
@@ -82,9 +82,12 @@ tasked_is S S' e t x y opens its old new op now cell answers task times handed a
     (λ u. task u ∙ task_by S e t u x y (t == u) refl old new)
     (λ w. times w ∙ ap (λ b. S.times w + bit b) (ap (λ z. cond (z.call.waker == w) opens false) old ∙ ap (λ o. cond ((S.task t).call.waker == w) o false) op ∙ sym (opens_is S t w e its)))
     handed
-    (about ∙ ap (λ z. counted S.about (is_about x.status) (is_about z.status)) new ∙ ap (λ z. counted S.about (is_about z.status) (is_about (moved e S.cell (suc S.now) z).status)) old)
-    (acting ∙ ap (λ z. counted S.acting (is_under_way x.status) (is_under_way z.status)) new ∙ ap (λ z. counted S.acting (is_under_way z.status) (is_under_way (moved e S.cell (suc S.now) z).status)) old)
-    crowded acted holder held other
+    (about ∙ counts is_about S.about) (acting ∙ counts is_under_way S.acting)
+    crowded acted holder held other where
+      -- what the task is at now follows from what it was at
+      counts : (p : Status → Bool) (n : ℕ) → counted n (p x.status) (p y.status) ≡ counted n (p (S.task t).status) (p (status_after e S.cell (S.task t).status))
+      counts p n = ap (λ z. counted n (p x.status) (p z.status)) new ∙ ap (λ s. counted n (p x.status) (p s)) (moved_status e S.cell (suc S.now) x)
+          ∙ ap (λ z. counted n (p z.status) (p (status_after e S.cell z.status))) old
 
 -- the parts of one entry, by its task
 parts_task : (S : Seen) (e : Entry) (u : ℕ) (o : Option ℕ) → task_of e ≡ o

@@ -9,6 +9,7 @@ use Rattle.once_world.specs.Crowd.{is_waiting}
 use Rattle.once_judge.specs.Seen.{Seen}
 use Rattle.once_judge.specs.Legal.{IsCalledIn, SomebodyCalledIn}
 use Rattle.once_judge.specs.SeenOf.{IsSeenOf, stands}
+use Rattle.once_judge.proofs.Entries.{stands_stays, acts_stays}
 
 -- a task in a call that it began while waiting stands
 turn_stands : (s began : Status) → is_under_way s ≡ true → began ≡ Waiting → stands s began ≡ true
@@ -21,7 +22,8 @@ module _ (K : Kind) (limit : ℕ) (h : List Entry) (S : Seen) (seen : IsSeenOf K
   -- whether the waker of a task that stands was handed out
   handed_is : (t : ℕ) → stands (status K t h) (last_call K t h).began ≡ true
       → member (last_call K t h).listed (handed_since t h) ≡ ltb (S.task t).ended (S.handed (S.task t).call.listed)
-  handed_is t s = seen.basics.stood t (last_call K t h).listed s ∙ ap (λ c. ltb (S.task t).ended (S.handed c.listed)) (sym (seen.basics.call_is t))
+  handed_is t s = seen.basics.stood t (last_call K t h).listed s
+      ∙ ap (λ c. ltb (S.task t).ended (S.handed c.listed)) (sym (seen.basics.call_is t (stands_stays (status K t h) (last_call K t h).began s)))
 
   -- who was called by the history was called by what is kept, and the other way round
   pub called_in : (t : ℕ) → IsCalled K t h → IsCalledIn t S
@@ -30,9 +32,9 @@ module _ (K : Kind) (limit : ℕ) (h : List Entry) (S : Seen) (seen : IsSeenOf K
       (λ w. (
         inr (
           ap is_under_way (seen.basics.status_is t) ∙ w.under_way,
-          ap (λ x. x.began) (seen.basics.call_is t) ∙ w.began,
-          ap (λ x. x.claimed) (seen.basics.call_is t) ∙ w.unclaimed,
-          ap (λ x. x.passed) (seen.basics.call_is t) ∙ w.unpassed,
+          ap (λ x. x.began) (seen.basics.call_is t (acts_stays (status K t h) w.under_way)) ∙ w.began,
+          ap (λ x. x.claimed) (seen.basics.call_is t (acts_stays (status K t h) w.under_way)) ∙ w.unclaimed,
+          ap (λ x. x.passed) (seen.basics.call_is t (acts_stays (status K t h) w.under_way)) ∙ w.unpassed,
         ),
         sym (handed_is t (turn_stands (status K t h) (last_call K t h).began w.under_way w.began)) ∙ c.1,
       )) c.0
@@ -41,12 +43,12 @@ module _ (K : Kind) (limit : ℕ) (h : List Entry) (S : Seen) (seen : IsSeenOf K
   called_out t c = ⊎_elim
       (λ w. let s : status K t h ≡ Waiting = sym (seen.basics.status_is t) ∙ w in (inl s, handed_is t (rw s refl) ∙ c.1))
       (λ w. let a : is_under_way (status K t h) ≡ true = ap is_under_way (sym (seen.basics.status_is t)) ∙ w.0 in
-      let b : (last_call K t h).began ≡ Waiting = ap (λ x. x.began) (sym (seen.basics.call_is t)) ∙ w.1 in (
+      let b : (last_call K t h).began ≡ Waiting = ap (λ x. x.began) (sym (seen.basics.call_is t (acts_stays (status K t h) a))) ∙ w.1 in (
         inr (record {
           under_way = a;
           began = b;
-          unclaimed = ap (λ x. x.claimed) (sym (seen.basics.call_is t)) ∙ w.2;
-          unpassed = ap (λ x. x.passed) (sym (seen.basics.call_is t)) ∙ w.3;
+          unclaimed = ap (λ x. x.claimed) (sym (seen.basics.call_is t (acts_stays (status K t h) a))) ∙ w.2;
+          unpassed = ap (λ x. x.passed) (sym (seen.basics.call_is t (acts_stays (status K t h) a))) ∙ w.3;
         }),
         handed_is t (turn_stands (status K t h) (last_call K t h).began a b) ∙ c.1,
       )) c.0

@@ -3,7 +3,7 @@ use Rattle.std.specs.Prelude.{◌≡◌, ◌≢◌, ◌≤◌, Bool, true, false
 use Rattle.once_queue.specs.Numbers.{member, times_in}
 use Rattle.once_world.specs.Record.{Entry, Own, handed_by}
 use Rattle.once_world.specs.Cell.{next_answer}
-use Rattle.once_world.specs.Tasks.{Fresh, Polling}
+use Rattle.once_world.specs.Tasks.{Fresh, Polling, is_gone}
 use Rattle.once_judge.specs.declared.reason.Reason.{Reason}
 use Rattle.once_judge.specs.declared.reason.Reason.TheVariants.{TaskIs, CellIs, InitAnswered, Claimed, Passed, NotFreed}
 use Rattle.once_judge.specs.declared.reason.Reason.TheVariants.{NextAnswer, AnswersLeft, NotOpen, Twice, Due, HandsOut}
@@ -21,10 +21,10 @@ has_its_call_in lazy _ = true
 abbrev pub IsTrueIn : Bool → Reason → Entry → Seen → Type 0
 IsTrueIn lazy (TaskIs t s) e S = (S.task t).status ≡ status_of s
 IsTrueIn lazy (CellIs c) e S = S.cell ≡ cell_of c
-IsTrueIn lazy (InitAnswered t r) e S = (S.task t).call.ran ≡ r
-IsTrueIn lazy (Claimed t) e S = (S.task t).call.claimed ≡ true
-IsTrueIn lazy (Passed t) e S = (S.task t).call.passed ≡ true
-IsTrueIn lazy (NotFreed t) e S = (S.task t).call.freed ≡ false
+IsTrueIn lazy (InitAnswered t r) e S = (is_gone (S.task t).status ≡ false) × ((S.task t).call.ran ≡ r)
+IsTrueIn lazy (Claimed t) e S = (is_gone (S.task t).status ≡ false) × ((S.task t).call.claimed ≡ true)
+IsTrueIn lazy (Passed t) e S = (is_gone (S.task t).status ≡ false) × ((S.task t).call.passed ≡ true)
+IsTrueIn lazy (NotFreed t) e S = (is_gone (S.task t).status ≡ false) × ((S.task t).call.freed ≡ false)
 IsTrueIn lazy (NextAnswer a) e S = next_answer S.answers ≡ a
 IsTrueIn lazy (AnswersLeft n) e S = length S.answers ≡ n
 IsTrueIn lazy (NotOpen w) e S = (member w (handed_by e) ≡ true) × (S.times w ≡ 0)
@@ -34,7 +34,7 @@ IsTrueIn lazy (HandsOut n) e S = length (handed_by e) ≡ n
 IsTrueIn lazy (NoCauseForMemory t) e S =
     ((S.task t).status ≡ Polling) × (MemoryFromIn (S.task t).call.began t S → ⊥)
 IsTrueIn lazy (NoCrowd t) e S = ((S.task t).status ≡ Polling) × (crowded_since t S ≡ false)
-IsTrueIn lazy (NotFirstPoll t) e S = (S.task t).call.began ≢ Fresh
+IsTrueIn lazy (NotFirstPoll t) e S = (is_gone (S.task t).status ≡ false) × ((S.task t).call.began ≢ Fresh)
 IsTrueIn lazy NoSuchCall e S = has_its_call_in lazy e ≡ false
 
 -- an answer of a test of P: P holds, or it does not

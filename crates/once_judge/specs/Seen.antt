@@ -7,7 +7,8 @@ use Rattle.once_world.specs.declared.record.Reply.TheVariants.{Pending}
 use Rattle.once_world.specs.Record.{Kind, Entry, Made, Begin, Claim, Ran, Free, Fill, Pass, End}
 use Rattle.once_world.specs.Record.{DropBegin, DropEnd, Look, Own, is_of, handed_by, is_replacing}
 use Rattle.once_world.specs.Cell.{Cell, Held, cell_after, answers_after, first_cell, first_answers}
-use Rattle.once_world.specs.Tasks.{Status, Unmade, LastCall, status_after, last_call_after, is_under_way}
+use Rattle.once_world.specs.Tasks.{Status, Unmade, Gone, LastCall, status_after, last_call_after}
+use Rattle.once_world.specs.Tasks.{is_gone, is_under_way}
 use Rattle.once_world.specs.Wakers.{is_held_by_other}
 use Rattle.once_world.specs.Refusals.{is_about}
 
@@ -50,6 +51,10 @@ first_call = record {
 -- a task that was not made
 abbrev pub unmade_task : TaskSeen
 unmade_task = record { status = Unmade; call = first_call; begun = 0; ended = 0 }
+
+-- of a task that is gone nothing else is kept
+abbrev pub gone_task : TaskSeen
+gone_task = record unmade_task { status = Gone }
 
 -- of a history without entries
 abbrev pub nothing_seen : Kind → Seen
@@ -94,14 +99,22 @@ abbrev pub ends_poll : Entry → Bool
 ends_poll (End t r) = true
 ends_poll _ = false
 
--- a task after an entry of it with the number n, where the cell was c
-abbrev pub moved : Entry → Cell → ℕ → TaskSeen → TaskSeen
-moved e c n x = record {
+-- a task after an entry of it with the number n, where the cell was c, if it is not gone then
+abbrev pub changed : Entry → Cell → ℕ → TaskSeen → TaskSeen
+changed e c n x = record {
   status = status_after e c x.status;
   call = last_call_after e c x.status x.call;
   begun = if begins_poll e then n else x.begun;
   ended = if ends_poll e then n else x.ended;
 }
+
+-- what is kept of a task: nothing but its status, if it is gone
+abbrev pub settled : TaskSeen → TaskSeen
+settled x = if is_gone x.status then gone_task else x
+
+-- what is kept of a task after such an entry
+abbrev pub moved : Entry → Cell → ℕ → TaskSeen → TaskSeen
+moved e c n x = settled (changed e c n x)
 
 -- a count of tasks after one of them changed: whether it was counted, and whether it is now
 abbrev pub counted : ℕ → Bool → Bool → ℕ

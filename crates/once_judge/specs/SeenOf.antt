@@ -4,7 +4,8 @@ use Rattle.std.specs.Bool.{Decides}
 use Rattle.once_queue.specs.Numbers.{member, is_distinct, how_many}
 use Rattle.once_world.specs.Record.{Kind, Entry, made_in}
 use Rattle.once_world.specs.Cell.{cell, answers_left}
-use Rattle.once_world.specs.Tasks.{Status, Unmade, Polling, Dropping, Waiting, status, last_call, is_under_way}
+use Rattle.once_world.specs.Tasks.{Status, Unmade, Polling, Dropping, Waiting, status, last_call}
+use Rattle.once_world.specs.Tasks.{is_gone, is_under_way}
 use Rattle.once_world.specs.Crowd.{is_waiting}
 use Rattle.once_world.specs.Wakers.{handed_since, times_opened, times_handed}
 use Rattle.once_world.specs.Refusals.{Since, OtherHolds, OtherActs, IsCrowded, is_about}
@@ -29,7 +30,7 @@ pub record Basics (kind : Kind) (h : List Entry) (S : Seen) : Type 0 where
   pub cell_is : S.cell ≡ cell kind h
   pub answers_are : S.answers ≡ answers_left kind h
   pub status_is : (t : ℕ) → (S.task t).status ≡ status kind t h
-  pub call_is : (t : ℕ) → (S.task t).call ≡ last_call kind t h
+  pub call_is : (t : ℕ) → is_gone (status kind t h) ≡ false → (S.task t).call ≡ last_call kind t h
   -- no moment is later than now
   pub ended_by : (t : ℕ) → (S.task t).ended ≤ S.now
   pub begun_by : (t : ℕ) → (S.task t).begun ≤ S.now

@@ -1,14 +1,15 @@
 -- What the program keeps, as the definitions see it; and what each part of `take` makes of it.
-use Rattle.std.specs.Prelude.{◌≤◌, ◌-◌, ◌+◌, ℕ, if◌then◌else◌, ◌==◌, suc, drop, nat_lt, unwrap_or}
+use Rattle.std.specs.Prelude.{◌≤◌, ◌-◌, ◌+◌, ℕ, if◌then◌else◌, ◌==◌, Bool, true, false, suc, drop, nat_lt, unwrap_or}
 use Rattle.std.specs.Prelude.{List, Option, Some, None}
 use Rattle.std.specs.Ordering.{nat_cmp}
 use Rattle.std.specs.BTreeMap.{BTreeMap, get}
+use Rattle.std.specs.BTreeSet.{BTreeSet, contains}
 use Rattle.once_queue.specs.Numbers.{member, bit, times_in}
 use Rattle.once_world.specs.Record.{Entry, is_replacing}
 use Rattle.once_world.specs.Cell.{cell_after, answers_after}
-use Rattle.once_world.specs.Tasks.{Gone, status_after, is_under_way}
+use Rattle.once_world.specs.Tasks.{status_after, is_under_way}
 use Rattle.once_world.specs.Refusals.{is_about}
-use Rattle.once_judge.specs.Seen.{TaskSeen, Seen, unmade_task, moved, counted, opens_in}
+use Rattle.once_judge.specs.Seen.{TaskSeen, Seen, unmade_task, gone_task, moved, counted, opens_in}
 use Rattle.once_judge.specs.Seen.{holder_after, held_after, other_after}
 use Rattle.once_judge.specs.declared.task.Task.{Task}
 pub use Rattle.once_judge.specs.Values.{cell_of}
@@ -16,14 +17,14 @@ pub use Rattle.once_judge.specs.TaskShown.{task_in}
 use Rattle.once_judge.specs.declared.seen.Seen.{Seen as GivenSeen}
 
 -- a task that lives, is gone, or was not made
-abbrev pub found : Option Task → Option Task → TaskSeen
+abbrev pub found : Option Task → Bool → TaskSeen
 found (Some x) _ = task_in x
-found None (Some x) = record (task_in x) { status = Gone }
-found None None = unmade_task
+found None true = gone_task
+found None false = unmade_task
 
 -- the task t, from those that live and those that are gone
-abbrev pub task_at : BTreeMap ℕ Task → BTreeMap ℕ Task → ℕ → TaskSeen
-task_at tasks gone t = found (get nat_cmp tasks t) (get nat_cmp gone t)
+abbrev pub task_at : BTreeMap ℕ Task → BTreeSet ℕ → ℕ → TaskSeen
+task_at tasks gone t = found (get nat_cmp tasks t) (contains nat_cmp gone t)
 
 -- the count of w, which is 0 where none stands
 abbrev pub count_at : BTreeMap ℕ ℕ → ℕ → ℕ

@@ -1,12 +1,12 @@
 //! What is kept of the entries so far. A moment is told by the number of the entry after which it comes.
-ghost use Rattle.std.specs.Prelude.{◌≡◌, ◌<◌, ◌+◌, ◌-◌, ◌^◌, ◌==◌, ℕ, if◌then◌else◌, suc, Some, None, false};
+ghost use Rattle.std.specs.Prelude.{◌≡◌, ◌<◌, ◌+◌, ◌-◌, ◌^◌, ◌==◌, ℕ, if◌then◌else◌, suc, Some, None, true, false};
 ghost use Rattle.std.specs.Prelude.{OnOk, IfOk, MatchOption, nat_lt};
 ghost use Rattle.std.specs.Bool.{Decides};
 ghost use Rattle.once_queue.specs.Numbers.{member, times_in, bit};
 ghost use Rattle.once_world.specs.Shown.{entry_of};
 ghost use Rattle.once_judge.specs.Seen.{counted as count_of, task_of as whose};
 ghost use Rattle.once_judge.specs.Legal.{HasWaited};
-ghost use Rattle.once_judge.specs.Values.{cell_of};
+ghost use Rattle.once_judge.specs.Values.{cell_of, status_of};
 ghost use Rattle.once_judge.specs.TaskShown.{task_in};
 
 use crate::task::{
@@ -14,7 +14,7 @@ use crate::task::{
 };
 use once_world::record::{Call, Entry, Kind};
 use std::alloc::{AllocError, Global};
-use std::collections::BTreeMap;
+use std::collections::{BTreeMap, BTreeSet};
 
 /// What is kept of the entries so far: all that decides which entry may come next.
 #[derive(Drop)]
@@ -36,7 +36,7 @@ pub struct Seen {
     /// The tasks that were made and are not gone.
     pub tasks: BTreeMap<u64, Task>,
     /// Those that are gone.
-    pub gone: BTreeMap<u64, Task>,
+    pub gone: BTreeSet<u64>,
     /// How often each waker may still be handed out.
     pub times: BTreeMap<u64, u64>,
     /// When each waker was handed out last.
@@ -59,11 +59,12 @@ pub struct Seen {
 
 impl Seen {
     ghost use Rattle.std.specs.BTreeMap.{get};
+    ghost use Rattle.std.specs.BTreeSet.{contains};
     ghost use Rattle.std.specs.Ordering.{nat_cmp};
     ghost use Rattle.once_world.specs.Record.{Got, Own, is_lazy as lazy_of};
     ghost use Rattle.once_world.specs.Shown.{call_of, kind_of};
-    ghost use Rattle.once_world.specs.Tasks.{Waiting as WaitingStatus};
-    ghost use Rattle.once_judge.specs.Seen.{nothing_seen, after, other_held};
+    ghost use Rattle.once_world.specs.Tasks.{Waiting as WaitingStatus, is_gone};
+    ghost use Rattle.once_judge.specs.Seen.{nothing_seen, gone_task, after, other_held};
     ghost use Rattle.once_judge.specs.Legal.{SomebodyCalledIn, IsCalledIn, WasCalled, IsForgottenIn};
     ghost use Rattle.once_judge.specs.Shown.{found, tasked_by, seen_of, task_at, count_at, tasked, handed_out, celled};
     ghost use Rattle.once_judge.specs.Shown.{noted, Within};
@@ -89,7 +90,7 @@ impl Seen {
             answers,
             used: 0,
             tasks: BTreeMap::new(alloc),
-            gone: BTreeMap::new(alloc),
+            gone: BTreeSet::new(alloc),
             times: BTreeMap::new(alloc),
             handed: BTreeMap::new(alloc),
             about: 0,
@@ -114,14 +115,12 @@ impl Seen {
 
     // What is known of a task that does not live.
     fn gone_task(&self, t: u64) -> Task
-        ensures { task_in result ≡ found None (get nat_cmp self.now.gone t) }
+        ensures { task_in result ≡ found None (contains nat_cmp self.now.gone t) }
     {
-        match self.gone.get(&t) {
-            Some(task) => Task {
-                status: Status::Gone,
-                ..*task
-            },
-            None => Task::new(Status::Unmade),
+        if self.gone.contains(&t) {
+            Task::new(Status::Gone)
+        } else {
+            Task::new(Status::Unmade)
         }
     }
 
@@ -196,13 +195,14 @@ impl Seen {
 
     // Keeps a task.
     fn put(&mut self, t: u64, task: Task) -> Result<(), AllocError>
+        requires settled { is_gone (status_of task.status) ≡ true → task_in task ≡ gone_task }
         ensures task { OnOk result ((u : ℕ) → task_at self.new.tasks self.new.gone u
             ≡ (if t == u then task_in task else task_at self.old.tasks self.old.gone u)) }
         ensures rest { self.new ≡ record self.old { tasks = self.new.tasks; gone = self.new.gone } }
     {
         if matches!(task.status, Status::Gone) {
             let _ = self.tasks.remove(&t);
-            self.gone.insert(t, task)?;
+            self.gone.insert(t)?;
         } else {
             self.tasks.insert(t, task)?;
         }

@@ -8,7 +8,7 @@ ghost use Rattle.once_world.specs.Cell.{is_set as set_of};
 ghost use Rattle.once_world.specs.Tasks.{is_under_way as under_way_of, pending_status as pending_of, begins};
 ghost use Rattle.once_world.specs.Wakers.{is_held_by_other as held_by_other};
 ghost use Rattle.once_world.specs.Refusals.{is_about as about_of};
-ghost use Rattle.once_judge.specs.Seen.{task_of as whose, moved as moved_to, opens_with};
+ghost use Rattle.once_judge.specs.Seen.{task_of as whose, changed as changed_to, moved as moved_to, opens_with};
 ghost use Rattle.once_judge.specs.Values.{status_of, cell_of};
 ghost use Rattle.once_judge.specs.TaskShown.{task_in};
 
@@ -175,6 +175,17 @@ pub fn handed_by<'a>(entry: &'a Entry) -> &'a [u64]
 pub fn moved(entry: &Entry, cell: Cell, number: u64, task: Task) -> Task
     ensures { task_in result ≡ moved_to (entry_of entry.now) (cell_of cell) number (task_in task) }
 {
+    let new = changed(entry, cell, number, task);
+    match new.status {
+        Status::Gone => Task::new(Status::Gone),
+        _ => new,
+    }
+}
+
+// The same, with all that was known of one that is gone.
+fn changed(entry: &Entry, cell: Cell, number: u64, task: Task) -> Task
+    ensures { task_in result ≡ changed_to (entry_of entry.now) (cell_of cell) number (task_in task) }
+{
     match entry {
         Entry::Made(_) => Task {
             status: Status::Fresh,
@@ -234,7 +245,7 @@ fn begun(waker: u64, cell: Cell, task: Task) -> Task
 
 // A task whose poll ended.
 fn ended(t: u64, reply: Reply, cell: Cell, number: u64, task: Task) -> Task
-    ensures { task_in result ≡ moved_to (End t reply) (cell_of cell) number (task_in task) }
+    ensures { task_in result ≡ changed_to (End t reply) (cell_of cell) number (task_in task) }
 {
     match reply {
         Reply::Pending => Task {

@@ -36,6 +36,7 @@ impl Seen {
 
     // Whether a poll whose init answered this may end so.
     fn ends_as_it_ran(&self, t: u64, reply: Reply, answer: Ran) -> Result<(), Reason>
+        requires polling { ((seen_of self.now).task t).status ≡ Polling }
         requires ran { ((seen_of self.now).task t).call.ran ≡ Some answer }
         ensures rule { Tests result (MayEndIn t reply (Some answer) (seen_of self.now)) }
         ensures reason { (e : Told) → IfErr result (λ r. IsTrueIn self.now.lazy r e (seen_of self.now)) }

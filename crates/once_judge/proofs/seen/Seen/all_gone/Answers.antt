@@ -4,7 +4,8 @@ use Rattle.std.specs.Prelude.{IfSome}
 use Rattle.std.specs.List.{All}
 use Rattle.std.specs.Cmp.{nat_cmp_total}
 use Rattle.std.specs.Map.Iter.{deref_pair}
-use Rattle.std.specs.BTreeMap.{get, is_at}
+use Rattle.std.specs.BTreeMap.{is_at}
+use Rattle.std.specs.BTreeSet.{contains}
 use Rattle.std.proofs.lemmas.Bool.{false≢true}
 use Rattle.std.proofs.lemmas.List.Elements.{All-push, All-map}
 use Rattle.std.proofs.lemmas.Map.Entries.{All-lookup}
@@ -26,7 +27,7 @@ returns-then-not-is_over-clause-reason c =
     let h = c.into_iter-t-iterator.ensures.into_iter_gives in
     let turn = btree_map_turn deref_pair c.loop-t.yielded c.into_iter-t-iterator.result c.loop-t.t-iterator c.next.new.self c.next.result
     (c.in-Some.t, c.in-Some.task) c.loop-t.yielded_by c.in-Some.is c.next.ensures.steps nat_cmp_total c.args.self.now.tasks h.0 h.5 in
-    λ e. ap (λ o. (found o (get nat_cmp c.args.self.now.gone c.in-Some.t.now)).status) turn.1
+    λ e. ap (λ o. (found o (contains nat_cmp c.args.self.now.gone c.in-Some.t.now)).status) turn.1
 
 pub returns-clause-rule : goal.returns-clause-rule
 returns-clause-rule c =

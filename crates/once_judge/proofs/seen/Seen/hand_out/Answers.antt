@@ -12,7 +12,8 @@ loop-waker-preserved c =
     let i = c.loop-waker.waker-index in
     let times : c.unwrap_or-times.result ≡ count_at c.loop-waker.self.times (get_or X i 0) = search rules in (
       λ w. times_handed_out c.loop-waker.self.times c.args.self.now.times c.insert.new.self X i w (omega arith) (c.loop-waker.invariant.0 w)
-          (λ q. c.in_ok-insert.ensures.updates.0 q ∙ ap (λ n. cond (is_at (nat_cmp (get_or X i 0)) q) (Some n) (get nat_cmp c.loop-waker.self.times q)) (c.saturating_sub.ensures ∙ ap (λ n. n - 1) times)),
+          (λ q. c.in_ok-insert.ensures.updates.0 q
+          ∙ ap (λ n. cond (is_at (nat_cmp (get_or X i 0)) q) (Some n) (get nat_cmp c.loop-waker.self.times q)) (c.saturating_sub.ensures ∙ ap (λ n. n - 1) times)),
       λ w. stamp_handed_out c.loop-waker.self.handed c.args.self.now.handed c.insert-in-loop-waker.new.self X i w c.args.number (omega arith) (c.loop-waker.invariant.1 w)
           (λ q. c.in_ok-insert-2.ensures.updates.0 q),
       ap {A = GivenSeen} (λ k. record k { times = c.insert.new.self; handed = c.insert-in-loop-waker.new.self }) c.loop-waker.invariant.2,
