@@ -54,10 +54,9 @@ const FIRST_FORM: &'static str =
 /// line feed, which the last may lack.
 ///
 /// ```
-/// let Ok(record) = parse_record(alloc, text.as_slice()) else {
-///     return Ok(String::from_utf8_lossy(alloc, text.as_slice())?);
+/// let Ok(record) = parse_record(alloc, printed.as_slice()) else {
+///     return Err(Fail::new(script));
 /// };
-/// let verdict = judge(alloc, &record.kind, record.limit, &record.entries)?;
 /// ```
 pub fn parse_record(alloc: Global, text: &[u8]) -> Result<RecordText, BadRecord> {
     let lines = split_lines(alloc, text)?;
