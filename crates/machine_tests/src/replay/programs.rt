@@ -1,5 +1,7 @@
-//! The programs `once_replay` and `once_show`: with which status they end, and what stands on which stream.
+//! The programs `once_replay`, `once_show` and `judge_record`: with which status they end, and what stands on which
+//! stream.
 use super::host::{Given, Host};
+use once_judge::program::judge_record;
 use once_script::replay;
 use once_view::program::show_script;
 use std::alloc::{AllocError, AllocGlobal, Global};
@@ -59,6 +61,21 @@ fn shown<F: Files + AllocGlobal>(files: &F, run: Run<'_>) -> Left {
         failure: run.read,
     };
     let status = show_script(&host, files, input);
+    let (printed, said) = host.into_texts();
+    Left {
+        status,
+        printed,
+        said,
+    }
+}
+
+fn judged<F: Files + AllocGlobal>(files: &F, run: Run<'_>) -> Left {
+    let host = Host::new(files.alloc(), run.words, run.write);
+    let input = Given {
+        text: run.input.as_bytes(),
+        failure: run.read,
+    };
+    let status = judge_record(&host, files, input);
     let (printed, said) = host.into_texts();
     Left {
         status,
@@ -147,6 +164,16 @@ const REPLAYS: [(&str, Option<ErrorKind>, Option<ErrorKind>, u8, &str, &str); 9]
         "once_replay: line 2 is unreadable\n",
     ),
 ];
+
+const FULL: &[&str] = &["--full"];
+
+#[test]
+fn once_replay_prints_the_text_of_a_record(rt: HostRuntime) -> Result<(), Fail> {
+    let run = plain(FULL, "once 8 with 4\nwrite 7\ntake\n");
+    let text = "once 8 with 4\nown write 7 v4\nown take v7\nqueue none\n";
+    assert_eq!(rt; replayed(rt.alloc(), run), ended(rt.alloc(), 0, text, "")?);
+    Ok(())
+}
 
 #[test]
 fn once_replay_ends_with_the_status_of_its_fault(rt: HostRuntime) -> Result<(), Fail> {
@@ -298,4 +325,166 @@ fn once_show_tells_how_it_is_called(rt: HostRuntime) {
     let unknown = shown(&rt, plain(UNKNOWN, ""));
     assert!(rt; unknown.status == ExitCode::from(2) && unknown.said.contains("--table"));
     assert_eq!(rt; unknown.printed.as_str(), "");
+}
+
+// A run, one that stops to be one, and one in which a wake is lost.
+const RUN: &str =
+    "once 8\nmade 1\nbegin 1 5\nclaim 1\nran 1 v4\nfill 1 4 []\nend 1 v4\nqueue none\n";
+
+const TWO_HOLD: &str = "once 8\nmade 1\nbegin 1 5\nclaim 1\nmade 2\nbegin 2 7\nclaim 2\n";
+
+const LOST: &str =
+    "once 8\nmade 1\nbegin 1 5\nclaim 1\nran 1 p\nend 1 p\nmade 2\nbegin 2 7\nend 2 p\n\
+    made 3\nbegin 3 8\nend 3 p\ndropbegin 1\nfree 1 [7]\ndropend 1\ndropbegin 2\ndropend 2\n";
+
+const WHY: &[&str] = &["--why"];
+
+const INPUT: &[&str] = &["-"];
+
+const TWO_FILES: &[&str] = &["a", "b"];
+
+const NO_FILE: &[&str] = &["/nowhere/record"];
+
+// Runs of judge_record: its words, its input, how a read and a write fail, the status, and the two streams.
+const JUDGED: [(
+    &[&str],
+    &str,
+    Option<ErrorKind>,
+    Option<ErrorKind>,
+    u8,
+    &str,
+    &str,
+); 13] = [
+    (
+        NONE,
+        RUN,
+        None,
+        None,
+        0,
+        "run, 6 entries, nobody forgotten\n",
+        "",
+    ),
+    (
+        INPUT,
+        RUN,
+        None,
+        None,
+        0,
+        "run, 6 entries, nobody forgotten\n",
+        "",
+    ),
+    (
+        WHY,
+        RUN,
+        None,
+        None,
+        0,
+        "run, 6 entries, nobody forgotten\n",
+        "",
+    ),
+    (
+        NONE,
+        TWO_HOLD,
+        None,
+        None,
+        1,
+        "entry 6, claim 2: task 1 holds\n",
+        "",
+    ),
+    (
+        WHY,
+        TWO_HOLD,
+        None,
+        None,
+        1,
+        "entry 6, claim 2: task 1 holds\ntask 2: entry 5, begin 2 7\ntask 1: entry 2, begin 1 5; entry 3, claim 1\n",
+        "",
+    ),
+    (
+        NONE,
+        LOST,
+        None,
+        None,
+        1,
+        "run, but after entry 16 task 3 waits and nobody was called\n",
+        "",
+    ),
+    (
+        WHY,
+        LOST,
+        None,
+        None,
+        1,
+        "run, but after entry 16 task 3 waits and nobody was called\ntask 3: entry 10, begin 3 8; entry 11, end 3 p\n",
+        "",
+    ),
+    (
+        NONE,
+        "once 8\nmade 1\nbegin 1\n",
+        None,
+        None,
+        2,
+        "",
+        "judge_record: line 3 is unreadable; expected: begin TASK WAKER\n",
+    ),
+    (
+        TWO_FILES,
+        RUN,
+        None,
+        None,
+        2,
+        "",
+        "judge_record: usage: judge_record [--why] [FILE]\n",
+    ),
+    (
+        NO_FILE,
+        RUN,
+        None,
+        None,
+        3,
+        "",
+        "judge_record: input or output failed\n",
+    ),
+    (
+        NONE,
+        RUN,
+        Some(ErrorKind::ConnectionReset),
+        None,
+        3,
+        "",
+        "judge_record: input or output failed\n",
+    ),
+    (
+        NONE,
+        RUN,
+        None,
+        Some(ErrorKind::StorageFull),
+        3,
+        "",
+        "judge_record: input or output failed\n",
+    ),
+    (
+        NONE,
+        RUN,
+        None,
+        Some(ErrorKind::OutOfMemory),
+        3,
+        "",
+        "judge_record: out of memory\n",
+    ),
+];
+
+#[test]
+fn judge_record_ends_with_the_status_of_its_verdict(rt: HostRuntime) -> Result<(), Fail> {
+    for (words, input, read, write, status, printed, said) in &JUDGED {
+        let run = Run {
+            words: *words,
+            input: *input,
+            read: *read,
+            write: *write,
+        };
+        let wanted = ended(rt.alloc(), *status, printed, said)?;
+        assert_eq!(rt; judged(&rt, run), wanted);
+    }
+    Ok(())
 }

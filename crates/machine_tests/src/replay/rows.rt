@@ -3,8 +3,11 @@
 use super::runs::printed_by;
 use crate::doubles::rows::{CALLS, DROPS, OWNER, PLAIN, REFUSALS};
 use crate::doubles::schedule::{Schedule, schedules_in};
+use once_judge::{VerdictLine, judge};
 use once_script::fault::Fault;
+use once_script::parse::record::parse_record;
 use once_script::print::EntryLine;
+use once_script::run_full;
 use once_view::play::{Moment, Watcher, play};
 use once_view::reading::read_script;
 use std::alloc::{AllocError, Global};
@@ -69,12 +72,29 @@ fn mistake(
     }
 }
 
+// What the judge says of the record of a schedule, whose text is read back.
+fn judged(alloc: Global, schedule: &Schedule<'_>) -> Result<String, Fault> {
+    let mut text = Vec::new(alloc);
+    run_full(alloc, schedule.script(alloc)?.as_bytes(), &mut text)?;
+    let Ok(record) = parse_record(alloc, text.as_slice()) else {
+        return Ok(String::from_utf8_lossy(alloc, text.as_slice())?);
+    };
+    let verdict = judge(alloc, &record.kind, record.limit, &record.entries)?;
+    Ok(format!(in alloc; "{}", VerdictLine(&verdict, &record.entries))?)
+}
+
+// The line of a run in which nobody is forgotten. The last line of what is printed is of the queue.
+fn run_line(alloc: Global, printed: &str) -> Result<String, AllocError> {
+    let entries = printed.lines().count().saturating_sub(1);
+    format!(in alloc; "run, {entries} entries, nobody forgotten")
+}
+
 // What a replay of a schedule prints.
 fn printed(alloc: Global, schedule: &Schedule<'_>) -> Result<String, Fault> {
     printed_by(alloc, schedule.script(alloc)?.as_str())
 }
 
-/// Plays each schedule of a text: line by line, and whole.
+/// Plays each schedule of a text: line by line, and whole. Each record is a run in which nobody is forgotten.
 fn run_rows(rt: &(impl AllocGlobal + Abort), text: &str) -> Result<(), Fail> {
     let alloc = rt.alloc();
     for schedule in &schedules_in(alloc, text)? {
@@ -88,6 +108,8 @@ fn run_rows(rt: &(impl AllocGlobal + Abort), text: &str) -> Result<(), Fail> {
         }
         let (name, wanted) = (format!(in alloc; "{schedule}")?, schedule.record(alloc)?);
         compare(rt, name.as_str(), printed, wanted.as_str());
+        let run = run_line(alloc, wanted.as_str())?;
+        compare(rt, name.as_str(), judged(alloc, schedule), run.as_str());
     }
     Ok(())
 }
