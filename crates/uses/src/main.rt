@@ -1,7 +1,8 @@
 //! What such cells are for: what a Rust programmer writes with `async`, the examples of doc comments, settings that
 //! are read once, a connection, a graph of values, a pool of tasks, a table, settings that threads load anew, a cell
 //! that threads own together, many threads, tasks that give up, and a value whose type has a fact. Besides, what a
-//! caller can say of order, whose error it is told, and what the owner of a cell gets, also of a lazy one.
+//! caller can say of order, which value a poll answered, whose error it is told, and what the owner of a cell gets,
+//! also of a lazy one.
 #![tactic(auto)]
 
 mod ask;
@@ -23,6 +24,7 @@ mod reload;
 mod settings;
 mod table;
 mod told;
+mod values;
 
 use fault::Fault;
 use std::alloc::AllocGlobal;
@@ -54,6 +56,7 @@ where
     giving_up::show(rt, output)?;
     by_type::show(rt, output)?;
     order::show(rt, output)?;
+    values::show(rt, output)?;
     errors::show(rt, output)?;
     owner::show(rt, output)?;
     lazy::show(rt, output)
