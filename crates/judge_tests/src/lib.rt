@@ -2,7 +2,11 @@
 //! computed plainly (`damaged`, `plain`), and texts that are no record (`texts`).
 #![tactic(auto)]
 
+#[cfg(test)]
 mod damaged;
+#[cfg(test)]
 mod plain;
+#[cfg(test)]
 mod spoilt;
+#[cfg(test)]
 mod texts;
