@@ -1,16 +1,21 @@
-//! Makes the records, pictures and tables of the scripts in data/ anew, and compares each with its file there.
+//! Makes the records, pictures and tables of the scripts in data/ anew, and the picture of a record that is judged; and
+//! compares each with its file there.
 
+use once_judge::drawn::draw_verdict;
+use once_judge::{Calls, judge};
+use once_script::parse::record::{BadRecord, RecordText, parse_record};
 use once_view::{Format, show};
 use std::alloc::AllocGlobal;
 use std::fs::{self, Files};
 use std::{fmt, io};
 
-// What is made of a script.
+// What is made of a script; or of a record, which is judged.
 #[derive(Clone, Copy)]
 enum Product {
     Record,
     Picture,
     Table,
+    Judged,
 }
 
 impl Product {
@@ -18,14 +23,14 @@ impl Product {
     fn ending(self) -> &'static str {
         match self {
             Product::Record => "record",
-            Product::Picture => "svg",
+            Product::Picture | Product::Judged => "svg",
             Product::Table => "table",
         }
     }
 }
 
-// The scripts, and what is made of each.
-static SCRIPTS: [(&str, &[Product]); 9] = [
+// The scripts and the record, and what is made of each.
+static SCRIPTS: [(&str, &[Product]); 10] = [
     ("late_queue", &[Product::Record, Product::Picture]),
     ("lazy_apart", &[Product::Record]),
     ("lost_wake", &[Product::Record, Product::Picture]),
@@ -35,6 +40,7 @@ static SCRIPTS: [(&str, &[Product]); 9] = [
     ),
     ("queue_refused", &[Product::Record]),
     ("release_beyond_the_limit", &[Product::Record]),
+    ("rust_lost_wake", &[Product::Judged]),
     ("slow_path", &[Product::Record, Product::Picture]),
     ("turn_passed_on", &[Product::Record]),
     ("waker_copy_refused", &[Product::Record]),
@@ -49,6 +55,8 @@ enum Failure {
     Replay(once_script::fault::Fault),
     // There is no picture or table of it.
     Show(once_view::fault::Fault),
+    // It is no record.
+    Judge(BadRecord),
 }
 
 impl fmt::Display for Failure {
@@ -57,6 +65,7 @@ impl fmt::Display for Failure {
             Failure::File(error) => write!(f, "{error}"),
             Failure::Replay(fault) => write!(f, "{fault}"),
             Failure::Show(fault) => write!(f, "{fault}"),
+            Failure::Judge(bad) => write!(f, "{bad:?}"),
         }
     }
 }
@@ -79,6 +88,12 @@ impl From<once_view::fault::Fault> for Failure {
     }
 }
 
+impl From<BadRecord> for Failure {
+    fn from(bad: BadRecord) -> Failure {
+        Failure::Judge(bad)
+    }
+}
+
 // All the bytes of a script, or of what was made of it.
 fn read<R: Files + AllocGlobal>(rt: &R, name: &str, ending: &str) -> io::Result<Vec<u8>> {
     let path = format!(in rt.alloc(); "{name}.{ending}")?;
@@ -93,6 +108,16 @@ fn is_same<R: Files + AllocGlobal>(rt: &R, name: &str, product: Product) -> Resu
         Product::Record => once_script::run(rt.alloc(), script.as_slice(), &mut made)?,
         Product::Picture => show(rt.alloc(), Format::Picture, &script, &mut made)?,
         Product::Table => show(rt.alloc(), Format::Table, &script, &mut made)?,
+        Product::Judged => {
+            let RecordText {
+                kind,
+                limit,
+                entries,
+            } = parse_record(rt.alloc(), &script)?;
+            let judged = judge(rt.alloc(), &kind, limit, Calls::All, &entries);
+            let verdict = judged.map_err(io::Error::from)?;
+            draw_verdict(rt.alloc(), &kind, &entries, &verdict, &mut made)?;
+        }
     }
     Ok(read(rt, name, product.ending())? == made)
 }

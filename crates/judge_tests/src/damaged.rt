@@ -1,10 +1,10 @@
 //! Records of replays at random, whole and with one entry dropped, doubled or exchanged: the judge and the plain
-//! definitions say the same of each.
+//! definitions say the same of each, by the rule that a failure calls one, and by the rule that it calls all.
 
 ghost use Rattle.std.specs.Prelude.{◌<◌, ◌≤◌, ◌-◌, ◌^◌};
 
 use crate::plain::Rules;
-use once_judge::judge;
+use once_judge::{Calls, judge};
 use once_world::world::{Call, Entry, Got, Input, Kind, Ran, Reply, replay};
 use rand_core::{Rng, SeedableRng};
 use rand_xoshiro::Xoshiro256PlusPlus;
@@ -12,14 +12,14 @@ use std::alloc::{AllocError, Global};
 use std::process::Abort;
 use std::test::Fail;
 
-/// Draws what comes next.
+//// Draws what comes next.
 #[derive(Drop)]
-struct Chance {
+pub struct Chance {
     rng: Xoshiro256PlusPlus,
 }
 
 impl Chance {
-    fn new(seed: u64) -> Chance {
+    pub fn new(seed: u64) -> Chance {
         Chance {
             rng: Xoshiro256PlusPlus::seed_from_u64(seed),
         }
@@ -30,7 +30,7 @@ impl Chance {
         self.rng.next_u64().checked_rem(below).unwrap_or(0)
     }
 
-    fn limit(&mut self) -> u64
+    pub fn limit(&mut self) -> u64
         ensures some { 0 < result }
         ensures within { result ≤ 3 }
     {
@@ -103,8 +103,32 @@ impl Chance {
     }
 }
 
-// The record of a replay at random.
-fn record(alloc: Global, chance: &mut Chance, limit: u64) -> Result<(Kind, Vec<Entry>), AllocError>
+/// Inputs that have the tasks polled one after another until each holds or waits, and then the first one fail or leave.
+pub fn crowd(alloc: Global, chance: &mut Chance) -> Result<Vec<Input>, AllocError> {
+    let mut inputs = Vec::new(alloc);
+    for task in 1..4u64 {
+        inputs.push(Input::Poll(task, chance.draw(3).saturating_add(7)))?;
+        for _ in 0..15 {
+            inputs.push(Input::Go(task, Ran::Pending, true))?;
+        }
+    }
+    inputs.push(match chance.draw(2) {
+        0 => Input::Poll(1, 7),
+        _ => Input::Drop(1),
+    })?;
+    for _ in 0..9 {
+        inputs.push(Input::Go(1, Ran::Error(5), true))?;
+    }
+    Ok(inputs)
+}
+
+/// The record of a replay at random, after these inputs.
+pub fn record(
+    alloc: Global,
+    chance: &mut Chance,
+    limit: u64,
+    first: Vec<Input>,
+) -> Result<(Kind, Vec<Entry>), AllocError>
     requires some { 0 < limit }
     requires within { limit ≤ 2 ^ 62 - 2 }
 {
@@ -112,6 +136,9 @@ fn record(alloc: Global, chance: &mut Chance, limit: u64) -> Result<(Kind, Vec<E
     let mut inputs = Vec::new(alloc);
     for task in 1..4u64 {
         inputs.push(Input::Make(task))?;
+    }
+    for input in first {
+        inputs.push(input)?;
     }
     for _ in 0..45 {
         inputs.push(chance.input(alloc)?)?;
@@ -149,6 +176,27 @@ fn damage(alloc: Global, chance: &mut Chance, entries: &mut Vec<Entry>) -> Resul
     Ok(())
 }
 
+// The record as a cell makes it whose releases without a value call all, up to where it can't: each release hands out
+// every waker that is due.
+fn to_all(alloc: Global, rules: Rules<'_>, entries: Vec<Entry>) -> Result<Vec<Entry>, AllocError> {
+    let mut to_all = Vec::new(alloc);
+    for entry in entries {
+        let mut due = Vec::new(alloc);
+        for waker in 7..10u64 {
+            if rules.is_due(waker, &to_all) {
+                due.push(waker)?;
+            }
+        }
+        to_all.push(match entry {
+            Entry::Free(t, _) => Entry::Free(t, due),
+            Entry::Fill(t, v, _) => Entry::Fill(t, v, due),
+            _ => entry,
+        })?;
+    }
+    to_all.truncate(rules.first_fault(&to_all).unwrap_or(to_all.len()));
+    Ok(to_all)
+}
+
 // Compares what the judge says of a record with what the definitions do.
 fn compare(
     rt: &impl Abort,
@@ -157,7 +205,12 @@ fn compare(
     rules: Rules<'_>,
     entries: &[Entry],
 ) -> Result<bool, AllocError> {
-    let verdict = judge(alloc, rules.kind, rules.limit, entries)?;
+    let calls = if rules.calls_all {
+        Calls::All
+    } else {
+        Calls::One
+    };
+    let verdict = judge(alloc, rules.kind, rules.limit, calls, entries)?;
     let fault = rules.first_fault(entries);
     let end = fault.unwrap_or(entries.len()).min(entries.len());
     assert_eq!(rt; verdict.fault.map(|f| f.entry), fault, "of the seed {seed}");
@@ -175,8 +228,12 @@ fn judge_and_definitions_say_the_same(rt: HostRuntime) -> Result<(), Fail> {
     for seed in 0..2_000 {
         let mut chance = Chance::new(seed);
         let limit = chance.limit();
-        let (kind, mut entries) = record(rt.alloc(), &mut chance, limit)?;
-        let rules = Rules { kind: &kind, limit };
+        let (kind, mut entries) = record(rt.alloc(), &mut chance, limit, Vec::new(rt.alloc()))?;
+        let rules = Rules {
+            kind: &kind,
+            limit,
+            calls_all: false,
+        };
         let is_run = compare(&rt, rt.alloc(), seed, rules, &entries)?;
         assert!(rt; is_run, "of the seed {seed}");
         for _ in 0..5 {
@@ -187,5 +244,40 @@ fn judge_and_definitions_say_the_same(rt: HostRuntime) -> Result<(), Fail> {
         }
     }
     assert!(rt; runs > 500, "{runs} damaged records are runs");
+    Ok(())
+}
+
+#[test]
+fn they_say_the_same_of_cells_that_call_all(rt: HostRuntime) -> Result<(), Fail> {
+    let (mut apart, mut runs) = (0u64, 0u64);
+    for seed in 0..400 {
+        let mut chance = Chance::new(seed);
+        let limit = chance.limit();
+        let first = crowd(rt.alloc(), &mut chance)?;
+        let (kind, entries) = record(rt.alloc(), &mut chance, limit, first)?;
+        let rules = Rules {
+            kind: &kind,
+            limit,
+            calls_all: true,
+        };
+        let mut entries = to_all(rt.alloc(), rules, entries)?;
+        let is_run = compare(&rt, rt.alloc(), seed, rules, &entries)?;
+        assert!(rt; is_run, "of the seed {seed}");
+        let one = Rules {
+            calls_all: false,
+            ..rules
+        };
+        if !compare(&rt, rt.alloc(), seed, one, &entries)? {
+            apart = apart.saturating_add(1);
+        }
+        for _ in 0..5 {
+            damage(rt.alloc(), &mut chance, &mut entries)?;
+            if compare(&rt, rt.alloc(), seed, rules, &entries)? {
+                runs = runs.saturating_add(1);
+            }
+        }
+    }
+    assert!(rt; apart > 50, "{apart} records are runs by one rule alone");
+    assert!(rt; runs > 100, "{runs} damaged records are runs");
     Ok(())
 }

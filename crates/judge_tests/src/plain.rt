@@ -38,11 +38,13 @@ struct LastCall {
     ran: Option<Ran>,
 }
 
-/// A cell of this kind, in which so many tasks may be counted in.
+/// A cell of this kind, in which so many tasks may be counted in, and whose releases without a value call one task or
+/// all.
 #[derive(Clone, Copy)]
 pub struct Rules<'a> {
     pub kind: &'a Kind,
     pub limit: u64,
+    pub calls_all: bool,
 }
 
 fn task_of(entry: &Entry) -> Option<u64> {
@@ -198,7 +200,8 @@ impl<'a> Rules<'a> {
         false
     }
 
-    fn is_due(self, waker: u64, h: &[Entry]) -> bool {
+    /// Whether the waker is due.
+    pub fn is_due(self, waker: u64, h: &[Entry]) -> bool {
         h.iter().filter_map(task_of).any(|t| {
             self.status(t, h) == Status::Waiting
                 && self.last_call(t, h).waker == waker
@@ -234,6 +237,15 @@ impl<'a> Rules<'a> {
     fn hands_out(self, wakers: &[u64], h: &[Entry]) -> bool {
         wakers.iter().all(|waker| times_in(*waker, wakers) == 1 && self.is_open(*waker, h))
             && !self.is_due_outside(wakers, h)
+    }
+
+    // Whether a release without a value may hand these out.
+    fn frees_to(self, wakers: &[u64], h: &[Entry]) -> bool {
+        if self.calls_all {
+            self.hands_out(wakers, h)
+        } else {
+            self.calls_one(wakers, h)
+        }
     }
 
     fn calls_one(self, wakers: &[u64], h: &[Entry]) -> bool {

@@ -1,7 +1,7 @@
 //! Records with one thing wrong: those of the proofs, `Spoilt` of `once_world`, as text. Each is refused at its last
 //! entry, for the reason that stands below it.
 
-use once_judge::{VerdictLine, judge};
+use once_judge::{Calls, VerdictLine, judge};
 use once_script::parse::record::{BadRecord, RecordText, parse_record};
 use std::alloc::{AllocError, Global};
 use std::process::Abort;
@@ -193,14 +193,14 @@ once 8, made 1, made 2, begin 1 5, claim 1, ran 1 p, end 1 p, begin 2 7, end 2 p
 dropbegin 1, free 1 [], dropend 1, own take none, made 3, begin 3 6, claim 3, ran 3 e9, free 3 [7]
 => waker 7 is not open";
 
-// The line that is told of a record.
-fn told(alloc: Global, record: &RecordText) -> Result<String, AllocError> {
-    let verdict = judge(alloc, &record.kind, record.limit, &record.entries)?;
+/// The line that is told of a record by this rule.
+pub fn told(alloc: Global, record: &RecordText, calls: Calls) -> Result<String, AllocError> {
+    let verdict = judge(alloc, &record.kind, record.limit, calls, &record.entries)?;
     format!(in alloc; "{}", VerdictLine(&verdict, &record.entries))
 }
 
-// Reads a record in which commas end the lines.
-fn read(alloc: Global, text: &str) -> Result<RecordText, BadRecord> {
+/// Reads a record in which commas end the lines.
+pub fn read(alloc: Global, text: &str) -> Result<RecordText, BadRecord> {
     let lines = text
         .replace(alloc, ",\n", "\n")?
         .replace(alloc, ", ", "\n")?;
@@ -226,7 +226,7 @@ fn spoilt_records_are_refused(rt: HostRuntime) -> Result<(), Fail> {
             .unwrap_or("")
             .trim_start();
         let wanted = format!(in alloc; "entry {}, {last}: {reason}", read.entries.len())?;
-        assert_eq!(rt; told(alloc, &read)?.as_str(), wanted.as_str());
+        assert_eq!(rt; told(alloc, &read, Calls::One)?.as_str(), wanted.as_str());
         record = String::new(alloc);
     }
     Ok(())

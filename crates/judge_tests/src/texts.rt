@@ -1,6 +1,6 @@
 //! Texts of records: what is printed is read back, and each text that is no record is told by its first bad line.
 
-use once_judge::judge;
+use once_judge::{Calls, judge};
 use once_script::parse::record::{BadRecord, RecordText, parse_record};
 use once_script::print::{FirstLine, FullLine};
 use once_script::run_full;
@@ -109,7 +109,13 @@ fn what_is_printed_is_read_back(rt: HostRuntime) -> Result<(), Fail> {
             String::from_utf8_lossy(alloc, printed.as_slice())?,
         );
         assert!(rt; whole.starts_with(text.as_str()), "{whole}");
-        let verdict = judge(alloc, &record.kind, record.limit, &record.entries)?;
+        let verdict = judge(
+            alloc,
+            &record.kind,
+            record.limit,
+            Calls::One,
+            &record.entries,
+        )?;
         assert!(rt;
             verdict.fault.is_none() && verdict.forgotten.is_none(),
             "{whole}"

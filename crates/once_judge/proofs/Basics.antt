@@ -9,14 +9,14 @@ use Rattle.once_world.specs.Cell.{Cell, Empty, Held, SetTo, cell, cell_after, an
 use Rattle.once_world.specs.Tasks.{Status, Unmade, Fresh, status, status_after, last_call, last_call_after, is_gone, is_under_way}
 use Rattle.once_world.specs.Wakers.{handed_since, is_end_of, opens, times_opened, times_handed, is_held_by_other}
 use Rattle.once_world.specs.Refusals.{is_about}
-use Rattle.once_world.specs.Run.{IsLegal, IsRun}
 use Rattle.once_queue.proofs.Listing.Members.{eqb_self, member-append}
 use Rattle.once_world.proofs.Listing.Counting.{count_same}
-use Rattle.once_world.proofs.Law.Wakes.{handed_within}
 use Rattle.once_judge.specs.Seen.{Seen, after, ends_poll, opens_in, count_after, counted, task_of, held_after, other_after}
 use Rattle.once_judge.specs.SeenOf.{Basics, is_made, stands}
-use Rattle.once_judge.proofs.Entries.{fits_before, is_live, legal_before, live_made, made_after, count_moved, its_task, of_its_task, of_none}
+use Rattle.once_judge.proofs.Entries.{fits_before, is_live, live_stays, unmade_so, live_made, made_after, count_moved, its_task, of_its_task, of_none}
 use Rattle.once_judge.proofs.Entries.{end_is, end_hands, stood_at, before_stays, stands_stays, moved_status, moved_stays, moved_ended, moved_begun}
+use Rattle.once_judge.proofs.Either.{Fits}
+use Rattle.once_judge.proofs.Lists.{times_once}
 
 -- only a Made makes a task
 abbrev is_making : Entry → Bool
@@ -34,10 +34,7 @@ live_before (Look r) s t n i f = grind arith
 live_before (Own o g) s t n i f = grind arith
 live_before _ s t n i f = f
 
-module _ (kind : Kind) (limit : ℕ) (e : Entry) (h : List Entry) (S : Seen) (run : IsRun kind limit (e ∷ h)) (k : Basics kind h S) where
-  l : IsLegal kind limit e h
-  l = run.0
-
+module _ (kind : Kind) (limit : ℕ) (e : Entry) (h : List Entry) (S : Seen) (f : Fits kind e h) (k : Basics kind h S) where
   -- what its task is at after the entry
   status_is_after : (t : ℕ) → status_after e S.cell (S.task t).status ≡ status_after e (cell kind h) (status kind t h)
   status_is_after t = ap (λ c. status_after e c (S.task t).status) k.cell_is ∙ ap (status_after e (cell kind h)) (k.status_is t)
@@ -49,7 +46,7 @@ module _ (kind : Kind) (limit : ℕ) (e : Entry) (h : List Entry) (S : Seen) (ru
   call_by : (t : ℕ) (b : Bool) → is_of t e ≡ b → is_gone (status kind t (e ∷ h)) ≡ false → ((after limit e S).task t).call ≡ last_call kind t (e ∷ h)
   call_by t true is g =
       let g' : is_gone (status_after e S.cell (S.task t).status) ≡ false = ap is_gone (status_is_after t) ∙ (rw is at g) in
-      let n = before_stays t e (status kind t h) is (legal_before kind limit t e h l is) in
+      let n = before_stays t e (status kind t h) is (f.task t is) in
       rw is (ap (λ x. x.call) (moved_stays e S.cell (suc S.now) (S.task t) g')
       ∙ ap (λ c. last_call_after e c (S.task t).status (S.task t).call) k.cell_is
       ∙ ap (λ s. last_call_after e (cell kind h) s (S.task t).call) (k.status_is t)
@@ -94,17 +91,23 @@ module _ (kind : Kind) (limit : ℕ) (e : Entry) (h : List Entry) (S : Seen) (ru
   other_within (SetTo v) = let a = k.other_by in omega arith
 
   -- the wakers that are open
-  opens_now : (w : ℕ) (e' : Entry) → IsLegal kind limit e' h → opens_in S w e' ≡ opens kind w e' h
+  opens_now : (w : ℕ) (e' : Entry) → ((t : ℕ) → is_of t e' ≡ true → fits_before e' (status kind t h) ≡ true) → opens_in S w e' ≡ opens kind w e' h
   opens_now w (End t Pending) l' =
-      let a = k.call_is t (ap is_gone l'.0) in let b = k.cell_is in
+      let a = k.call_is t (live_stays (status kind t h) (l' t (eqb_self t))) in let b = k.cell_is in
       ap (λ x. cond (x == w) (is_held_by_other t S.cell) false) (ap (λ y. y.waker) a) ∙ ap (λ c. cond ((last_call kind t h).waker == w) (is_held_by_other t c) false) b
   opens_now w _ l' = refl
+
+  -- it hands out none that is not open
+  handed_open : (w : ℕ) (b : Bool) → member w (handed_by e) ≡ b → times_in w (handed_by e) ≤ S.times w
+  handed_open w true is =
+      let once = times_once w (handed_by e) f.once in let o = f.open_alone w is in let q = k.times_is w in let one = ap bit is in omega arith
+  handed_open w false is = let once = times_once w (handed_by e) f.once in let none = ap bit is in omega arith
 
   times_by : (w : ℕ) (b : Bool) → is_replacing e ≡ b → times_opened kind w (e ∷ h) ≡ times_handed w (e ∷ h) + (after limit e S).times w
   times_by w true is = rw is (omega arith)
   times_by w false is =
-      let within : times_in w (handed_by e) + times_handed w h ≤ bit (opens kind w e h) + times_opened kind w h = rw is at (handed_within kind limit w (e ∷ h) run) in
-      let o = ap bit (opens_now w e l) in let q = k.times_is w in
+      let within = handed_open w (member w (handed_by e)) refl in
+      let o = ap bit (opens_now w e f.task) in let q = k.times_is w in
       rw is (omega arith)
 
   -- whose waker was handed out
@@ -129,7 +132,7 @@ module _ (kind : Kind) (limit : ℕ) (e : Entry) (h : List Entry) (S : Seen) (ru
 
   -- an entry that makes nobody: who was made
   was_made : (t : ℕ) → is_making e ≡ false → is_of t e ≡ true → is_made (status kind t h) ≡ true
-  was_made t n is = live_made (status kind t h) (live_before e (status kind t h) t n (its_task t e is) (legal_before kind limit t e h l is))
+  was_made t n is = live_made (status kind t h) (live_before e (status kind t h) t n (its_task t e is) (f.task t is))
 
   made_by : (t : ℕ) (b : Bool) → is_of t e ≡ b → is_making e ≡ false → member t (made_in (e ∷ h)) ≡ is_made (status kind t (e ∷ h))
   made_by t true is n =
@@ -155,53 +158,53 @@ made_first : (K : Kind) (t u : ℕ) (h : List Entry) (S : Seen) → Basics K h S
 made_first K t u h S k true is = rw is refl
 made_first K t u h S k false is = rw is (k.made_is u)
 
-made_now : (K : Kind) (limit : ℕ) (e : Entry) (h : List Entry) (S : Seen) → IsRun K limit (e ∷ h) → Basics K h S
+made_now : (K : Kind) (limit : ℕ) (e : Entry) (h : List Entry) (S : Seen) → Fits K e h → Basics K h S
     → (u : ℕ) → member u (made_in (e ∷ h)) ≡ is_made (status K u (e ∷ h))
-made_now K limit (Made t) h S run k u = made_first K t u h S k (t == u) refl
-made_now K limit e h S run k u = made_by K limit e h S run k u (is_of u e) refl refl
+made_now K limit (Made t) h S f k u = made_first K t u h S k (t == u) refl
+made_now K limit e h S f k u = made_by K limit e h S f k u (is_of u e) refl refl
 
-unmade_out : (K : Kind) (limit t : ℕ) (h : List Entry) (S : Seen) → IsLegal K limit (Made t) h → Basics K h S → member t (made_in h) ≡ false
-unmade_out K limit t h S l k = k.made_is t ∙ ap is_made l
+unmade_out : (K : Kind) (limit t : ℕ) (h : List Entry) (S : Seen) → Fits K (Made t) h → Basics K h S → member t (made_in h) ≡ false
+unmade_out K limit t h S f k = k.made_is t ∙ ap is_made (unmade_so (status K t h) (f.task t (eqb_self t)))
 
-distinct_now : (K : Kind) (limit : ℕ) (e : Entry) (h : List Entry) (S : Seen) → IsLegal K limit e h → Basics K h S → is_distinct (made_in (e ∷ h)) ≡ true
-distinct_now K limit (Made t) h S l k = rw (unmade_out K limit t h S l k) k.distinct
-distinct_now K limit e h S l k = k.distinct
+distinct_now : (K : Kind) (limit : ℕ) (e : Entry) (h : List Entry) (S : Seen) → Fits K e h → Basics K h S → is_distinct (made_in (e ∷ h)) ≡ true
+distinct_now K limit (Made t) h S f k = rw (unmade_out K limit t h S f k) k.distinct
+distinct_now K limit e h S f k = k.distinct
 
 -- how many pass a test that none passes who was not made
-count_made : (p : Status → Bool) (n : ℕ) (K : Kind) (limit t : ℕ) (h : List Entry) (S : Seen) → IsLegal K limit (Made t) h → Basics K h S → p Unmade ≡ false
+count_made : (p : Status → Bool) (n : ℕ) (K : Kind) (limit t : ℕ) (h : List Entry) (S : Seen) → Fits K (Made t) h → Basics K h S → p Unmade ≡ false
     → n ≡ how_many (λ u. p (status K u h)) (made_in h)
     → how_many (λ u. p (status K u (Made t ∷ h))) (made_in (Made t ∷ h)) ≡ counted n (p (S.task t).status) (p Fresh)
-count_made p n K limit t h S l k pu is =
+count_made p n K limit t h S f k pu is =
     let apart : (u : ℕ) → t ≢ u → p (status K u h) ≡ p (status K u (Made t ∷ h)) = λ u ne. rw (ne_eqb t u ne) refl in
-    let rest = count_same t (made_in h) (λ u. p (status K u h)) (λ u. p (status K u (Made t ∷ h))) (unmade_out K limit t h S l k) apart in
-    let before : p (S.task t).status ≡ false = ap p (k.status_is t) ∙ ap p l ∙ pu in
+    let rest = count_same t (made_in h) (λ u. p (status K u h)) (λ u. p (status K u (Made t ∷ h))) (unmade_out K limit t h S f k) apart in
+    let before : p (S.task t).status ≡ false = ap p (k.status_is t) ∙ ap p (unmade_so (status K t h) (f.task t (eqb_self t))) ∙ pu in
     rw (rest, before, eqb_self t) (omega (arith, is))
 
-count_now : (p : Status → Bool) (n : ℕ) (K : Kind) (limit : ℕ) (e : Entry) (h : List Entry) (S : Seen) → IsRun K limit (e ∷ h) → Basics K h S → p Unmade ≡ false
+count_now : (p : Status → Bool) (n : ℕ) (K : Kind) (limit : ℕ) (e : Entry) (h : List Entry) (S : Seen) → Fits K e h → Basics K h S → p Unmade ≡ false
     → n ≡ how_many (λ u. p (status K u h)) (made_in h)
     → count_after p e S (task_of e) n ≡ how_many (λ u. p (status K u (e ∷ h))) (made_in (e ∷ h))
-count_now p n K limit (Made t) h S run k pu is = sym (count_made p n K limit t h S run.0 k pu is)
-count_now p n K limit e h S run k pu is = count_by K limit e h S run k p n (task_of e) refl refl is
+count_now p n K limit (Made t) h S f k pu is = sym (count_made p n K limit t h S f k pu is)
+count_now p n K limit e h S f k pu is = count_by K limit e h S f k p n (task_of e) refl refl is
 
 -- all of it
-pub basics_after : (K : Kind) (limit : ℕ) (e : Entry) (h : List Entry) (S : Seen) → IsRun K limit (e ∷ h) → Basics K h S → Basics K (e ∷ h) (after limit e S)
-basics_after K limit e h S run k = record {
+pub basics_after : (K : Kind) (limit : ℕ) (e : Entry) (h : List Entry) (S : Seen) → Fits K e h → Basics K h S → Basics K (e ∷ h) (after limit e S)
+basics_after K limit e h S f k = record {
   now_is = ap suc k.now_is;
   cell_is = ap (cell_after e) k.cell_is;
   answers_are = ap (answers_after e) k.answers_are;
-  status_is = λ t. status_by K limit e h S run k t (is_of t e) refl;
-  call_is = λ t. call_by K limit e h S run k t (is_of t e) refl;
-  ended_by = λ t. ended_within K limit e h S run k t (is_of t e) refl;
-  begun_by = λ t. begun_within K limit e h S run k t (is_of t e) refl;
-  handed_by = handed_within_now K limit e h S run k;
+  status_is = λ t. status_by K limit e h S f k t (is_of t e) refl;
+  call_is = λ t. call_by K limit e h S f k t (is_of t e) refl;
+  ended_by = λ t. ended_within K limit e h S f k t (is_of t e) refl;
+  begun_by = λ t. begun_within K limit e h S f k t (is_of t e) refl;
+  handed_by = handed_within_now K limit e h S f k;
   crowded_by = let a = k.crowded_by in grind arith;
   acting_by = let a = k.acting_by in grind arith;
-  held_by = held_within K limit e h S run k (cell_after e S.cell);
-  other_by = other_within K limit e h S run k (cell_after e S.cell);
-  times_is = λ w. times_by K limit e h S run k w (is_replacing e) refl;
-  stood = λ t w. stood_by K limit e h S run k t w (is_end_of t e) refl;
-  made_is = made_now K limit e h S run k;
-  distinct = distinct_now K limit e h S run.0 k;
-  about_is = count_now is_about S.about K limit e h S run k refl k.about_is;
-  acting_is = count_now is_under_way S.acting K limit e h S run k refl k.acting_is;
+  held_by = held_within K limit e h S f k (cell_after e S.cell);
+  other_by = other_within K limit e h S f k (cell_after e S.cell);
+  times_is = λ w. times_by K limit e h S f k w (is_replacing e) refl;
+  stood = λ t w. stood_by K limit e h S f k t w (is_end_of t e) refl;
+  made_is = made_now K limit e h S f k;
+  distinct = distinct_now K limit e h S f k;
+  about_is = count_now is_about S.about K limit e h S f k refl k.about_is;
+  acting_is = count_now is_under_way S.acting K limit e h S f k refl k.acting_is;
 }

@@ -28,7 +28,7 @@ begin_live Waiting m = refl
 begin_live Holding m = refl
 begin_live _ m = absurd m
 
-free_live : (s : Status) (r : Option Answer) → MayFree s r → is_live s ≡ true
+pub free_live : (s : Status) (r : Option Answer) → MayFree s r → is_live s ≡ true
 free_live Unmade r m = absurd m
 free_live Gone r m = absurd m
 free_live _ r m = refl
@@ -166,6 +166,10 @@ free_stays s r m = live_stays s (free_live s r m)
 
 pub pass_stays : (s : Status) (b : Bool) (r : Option Answer) → MayPass s b r → is_gone s ≡ false
 pass_stays s b r m = live_stays s (pass_live s b r m)
+
+pub unmade_so : (s : Status) → not (is_made s) ≡ true → s ≡ Unmade
+unmade_so Unmade m = refl
+unmade_so _ m = absurd (false≢true m)
 
 unmade_stays : (s : Status) → not (is_made s) ≡ true → is_gone s ≡ false
 unmade_stays Unmade m = refl

@@ -15,16 +15,20 @@ use Rattle.once_world.specs.Wakers.{IsDue, IsOpen, HandsOut, CallsOne, handed_si
 use Rattle.once_world.specs.Refusals.{MemoryFrom}
 use Rattle.once_world.specs.Run.{IsLegal, MayBegin, MayFree, MayPass, MayEnd}
 use Rattle.once_world.proofs.Input.Gone.{made_there, gone_list}
+use Rattle.once_judge.specs.declared.calls.Calls.{Calls}
+use Rattle.once_judge.specs.declared.calls.Calls.TheVariants.{One as ToOne, All as ToAll}
 use Rattle.once_judge.specs.declared.reason.Reason.{Reason}
 use Rattle.once_judge.specs.declared.reason.Reason.TheVariants.{TaskIs, CellIs, InitAnswered, Claimed, Passed, NotFreed}
 use Rattle.once_judge.specs.declared.reason.Reason.TheVariants.{NextAnswer, AnswersLeft, NotOpen, Twice, Due, HandsOut as HandsOutSo}
 use Rattle.once_judge.specs.declared.reason.Reason.TheVariants.{NoCauseForMemory, NoCrowd, NotFirstPoll, NoSuchCall}
+use Rattle.once_judge.specs.Calls.{IsLegalToAll}
 use Rattle.once_judge.specs.Seen.{Seen}
 use Rattle.once_judge.specs.Legal.{IsLegalIn, IsDueFor, IsDueIn, HandsOutIn, CallsOneIn, MemoryFromIn, MayEndIn, IsNextIn, AllGoneIn, has_call_in}
 use Rattle.once_judge.specs.SeenOf.{Basics, IsSeenOf, is_made}
 use Rattle.once_judge.specs.Reasons.{IsTrueIn}
 use Rattle.once_judge.specs.Verdict.{IsTrue}
 use Rattle.once_judge.proofs.Entries.{gone_so, free_stays, pass_stays}
+use Rattle.once_judge.proofs.Either.{IsLegalBy}
 
 -- a task that was not made, or one that is gone
 unmade_or : (s : Status) → is_made s ≡ false → s ≡ Unmade
@@ -186,44 +190,61 @@ module _ (K : Kind) (limit : ℕ) (h : List Entry) (S : Seen) (seen : IsSeenOf K
   passed_out t g e = ap (λ c. c.passed) (sym (call_at t g)) ∙ e
 
   -- what may come next fits
-  pub legal_in : (e : Entry) → IsLegal K limit e h → IsLegalIn (is_lazy K) e S
-  legal_in (Made t) l = status_in t Unmade l
-  legal_in (Begin t w) l = subst MayBegin (sym (seen.basics.status_is t)) l
-  legal_in (Claim t) l = (cell_in Empty l.0, status_in t Polling l.1, ran_in t None (ap is_gone l.1) l.2, passed_in t (ap is_gone l.1) l.3)
-  legal_in (Ran t a) l = (cell_in (Held t) l.0, status_in t Polling l.1, ran_in t None (ap is_gone l.1) l.2, next_in K a (answers_left K h) S.answers seen.basics.answers_are l.3)
-  legal_in (Free t X) l = (cell_in (Held t) l.0, free_in t l.1, calls_in X l.2)
-  legal_in (Fill t v X) l = (cell_in (Held t) l.0, status_in t Polling l.1, ran_in t (Some (RanValue v)) (ap is_gone l.1) l.2, hands_in X l.3)
-  legal_in (Pass t X) l = (cell_in Empty l.0, pass_in t l.1, passed_in t (pass_stays (status K t h) (last_call K t h).claimed (last_call K t h).ran l.1) l.2, (l.3.0, l.3.1, open_in l.3.0 l.3.2))
-  legal_in (End t r) l =
+  one_in : (e : Entry) → IsLegal K limit e h → IsLegalIn ToOne (is_lazy K) e S
+  one_in (Made t) l = status_in t Unmade l
+  one_in (Begin t w) l = subst MayBegin (sym (seen.basics.status_is t)) l
+  one_in (Claim t) l = (cell_in Empty l.0, status_in t Polling l.1, ran_in t None (ap is_gone l.1) l.2, passed_in t (ap is_gone l.1) l.3)
+  one_in (Ran t a) l = (cell_in (Held t) l.0, status_in t Polling l.1, ran_in t None (ap is_gone l.1) l.2, next_in K a (answers_left K h) S.answers seen.basics.answers_are l.3)
+  one_in (Free t X) l = (cell_in (Held t) l.0, free_in t l.1, calls_in X l.2)
+  one_in (Fill t v X) l = (cell_in (Held t) l.0, status_in t Polling l.1, ran_in t (Some (RanValue v)) (ap is_gone l.1) l.2, hands_in X l.3)
+  one_in (Pass t X) l = (cell_in Empty l.0, pass_in t l.1, passed_in t (pass_stays (status K t h) (last_call K t h).claimed (last_call K t h).ran l.1) l.2, (l.3.0, l.3.1, open_in l.3.0 l.3.2))
+  one_in (End t r) l =
       let m = end_in t r (last_call K t h).ran l.0 l.1 in
       let P : Option Answer → Type 0 = λ a. MayEndIn t r a S in
       (status_in t Polling l.0, subst P (ap (λ c. c.ran) (sym (call_of t l.0))) m, ⊎_elim (λ p. inl (passed_in t (ap is_gone l.0) p)) (λ m. inr m) l.2)
-  legal_in (DropBegin t) l = subst MayBegin (sym (seen.basics.status_is t)) l
-  legal_in (DropEnd t) l = (status_in t Dropping l.0, λ e. l.1 (cell_out (Held t) e))
-  legal_in (Look r) l = l ∙ ap value_in (sym seen.basics.cell_is)
-  legal_in (Own o g) l = (gone_in l.0, sym (call_by K o) ∙ l.1, l.2 ∙ sym (got_is o))
+  one_in (DropBegin t) l = subst MayBegin (sym (seen.basics.status_is t)) l
+  one_in (DropEnd t) l = (status_in t Dropping l.0, λ e. l.1 (cell_out (Held t) e))
+  one_in (Look r) l = l ∙ ap value_in (sym seen.basics.cell_is)
+  one_in (Own o g) l = (gone_in l.0, sym (call_by K o) ∙ l.1, l.2 ∙ sym (got_is o))
 
   -- and what fits may come next
-  pub legal_out : (e : Entry) → IsLegalIn (is_lazy K) e S → IsLegal K limit e h
-  legal_out (Made t) l = status_out t Unmade l
-  legal_out (Begin t w) l = subst MayBegin (seen.basics.status_is t) l
-  legal_out (Claim t) l = let g = ap is_gone (status_out t Polling l.1) in (cell_out Empty l.0, status_out t Polling l.1, ran_out t None g l.2, passed_out t g l.3)
-  legal_out (Ran t a) l =
+  one_out : (e : Entry) → IsLegalIn ToOne (is_lazy K) e S → IsLegal K limit e h
+  one_out (Made t) l = status_out t Unmade l
+  one_out (Begin t w) l = subst MayBegin (seen.basics.status_is t) l
+  one_out (Claim t) l = let g = ap is_gone (status_out t Polling l.1) in (cell_out Empty l.0, status_out t Polling l.1, ran_out t None g l.2, passed_out t g l.3)
+  one_out (Ran t a) l =
       let p = status_out t Polling l.1 in
       (cell_out (Held t) l.0, p, ran_out t None (ap is_gone p) l.2, next_out K a (answers_left K h) S.answers seen.basics.answers_are l.3)
-  legal_out (Free t X) l = (cell_out (Held t) l.0, free_out t l.1, calls_out X l.2)
-  legal_out (Fill t v X) l = (cell_out (Held t) l.0, status_out t Polling l.1, ran_out t (Some (RanValue v)) (ap is_gone (status_out t Polling l.1)) l.2, hands_out X l.3)
-  legal_out (Pass t X) l =
+  one_out (Free t X) l = (cell_out (Held t) l.0, free_out t l.1, calls_out X l.2)
+  one_out (Fill t v X) l = (cell_out (Held t) l.0, status_out t Polling l.1, ran_out t (Some (RanValue v)) (ap is_gone (status_out t Polling l.1)) l.2, hands_out X l.3)
+  one_out (Pass t X) l =
       let g = stays_out t (pass_stays (S.task t).status (S.task t).call.claimed (S.task t).call.ran l.1) in
       (cell_out Empty l.0, pass_out t l.1, passed_out t g l.2, (l.3.0, l.3.1, open_out l.3.0 l.3.2))
-  legal_out (End t r) l =
+  one_out (End t r) l =
       let p = status_out t Polling l.0 in
       let P : Option Answer → Type 0 = λ a. MayEndIn t r a S in
       (p, end_out t r (last_call K t h).ran p (subst P (ap (λ c. c.ran) (call_of t p)) l.1), ⊎_elim (λ m. inl (passed_out t (ap is_gone p) m)) (λ m. inr m) l.2)
-  legal_out (DropBegin t) l = subst MayBegin (seen.basics.status_is t) l
-  legal_out (DropEnd t) l = (status_out t Dropping l.0, λ e. l.1 (cell_in (Held t) e))
-  legal_out (Look r) l = l ∙ ap value_in seen.basics.cell_is
-  legal_out (Own o g) l = (gone_out l.0, call_by K o ∙ l.1, l.2 ∙ got_is o)
+  one_out (DropBegin t) l = subst MayBegin (seen.basics.status_is t) l
+  one_out (DropEnd t) l = (status_out t Dropping l.0, λ e. l.1 (cell_in (Held t) e))
+  one_out (Look r) l = l ∙ ap value_in seen.basics.cell_is
+  one_out (Own o g) l = (gone_out l.0, call_by K o ∙ l.1, l.2 ∙ got_is o)
+
+  -- by either rule
+  all_in : (e : Entry) → IsLegalToAll K limit e h → IsLegalIn ToAll (is_lazy K) e S
+  all_in (Free t X) l = (cell_in (Held t) l.0, free_in t l.1, hands_in X l.2)
+  all_in e l = one_in e l
+
+  all_out : (e : Entry) → IsLegalIn ToAll (is_lazy K) e S → IsLegalToAll K limit e h
+  all_out (Free t X) l = (cell_out (Held t) l.0, free_out t l.1, hands_out X l.2)
+  all_out e l = one_out e l
+
+  pub legal_in : (c : Calls) (e : Entry) → IsLegalBy c K limit e h → IsLegalIn c (is_lazy K) e S
+  legal_in ToOne e l = one_in e l
+  legal_in ToAll e l = all_in e l
+
+  pub legal_out : (c : Calls) (e : Entry) → IsLegalIn c (is_lazy K) e S → IsLegalBy c K limit e h
+  legal_out ToOne e l = one_out e l
+  legal_out ToAll e l = all_out e l
 
   -- a reason that is true by what is kept is true
   pub true_out : (r : Reason) (e : Entry) → IsTrueIn (is_lazy K) r e S → IsTrue K limit r e h

@@ -39,6 +39,11 @@ times_take zero w X = omega arith
 times_take (suc n) w [] = omega arith
 times_take (suc n) w (x ∷ X) = let ih = times_take n w X in omega arith
 
+-- once, if they are distinct
+pub times_once : (w : ℕ) (X : List ℕ) → is_distinct X ≡ true → times_in w X ≤ bit (member w X)
+times_once w [] d = omega arith
+times_once w (x ∷ X) d = grind (arith, nat_tests, times_once w X)
+
 member_times : (w : ℕ) (X : List ℕ) → member w X ≡ true → 1 ≤ times_in w X
 member_times w [] m = absurd (false≢true m)
 member_times w (x ∷ X) m = let ih = member_times w X in grind (arith, nat_tests)

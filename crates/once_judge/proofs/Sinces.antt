@@ -10,13 +10,13 @@ use Rattle.once_world.specs.Cell.{Cell, Empty, Held, SetTo, cell, cell_after}
 use Rattle.once_world.specs.Tasks.{Status, Unmade, Polling, status, status_after, pending_status, is_gone, is_under_way}
 use Rattle.once_world.specs.Wakers.{is_held_by_other}
 use Rattle.once_world.specs.Refusals.{is_about, is_begin_of, Since, OtherHolds, OtherActs, IsCrowded, crowd}
-use Rattle.once_world.specs.Run.{IsRun}
 use Rattle.once_queue.proofs.Listing.Members.{eqb_self}
 use Rattle.once_world.proofs.Listing.Counting.{count_change, count_some, count_positive}
 use Rattle.once_judge.specs.Seen.{Seen, after, begins_poll, holder_after, held_after, other_after, other_held, nothing_seen}
 use Rattle.once_judge.specs.Legal.{held_since, acted_since, crowded_since}
 use Rattle.once_judge.specs.SeenOf.{Basics, Sinces, IsSeenOf, is_made}
 use Rattle.once_judge.proofs.Entries.{moved_stays}
+use Rattle.once_judge.proofs.Either.{Fits}
 use Rattle.once_judge.proofs.Basics.{basics_after}
 
 -- an entry that begins no poll of t
@@ -216,10 +216,10 @@ module _ (kind : Kind) (limit : ℕ) (e : Entry) (h : List Entry) (S : Seen) (k 
   crowded_since_now s t false is polled = since_goes_on t (IsCrowded kind limit t) e h (crowded_since t S) (ltb limit (after limit e S).about) (crowded_since t (after limit e S)) is
       (s.crowded t (polled_before kind t e h is polled)) (crowd_decides t polled) (crowded_by_begin t false is polled)
 
--- what is kept stays right after one more entry of a run
-pub seen_after : (kind : Kind) (limit : ℕ) (e : Entry) (h : List Entry) (S : Seen) → IsRun kind limit (e ∷ h) → IsSeenOf kind limit h S → IsSeenOf kind limit (e ∷ h) (after limit e S)
-seen_after kind limit e h S run k =
-    let k' = basics_after kind limit e h S run k.basics in record {
+-- what is kept stays right after one more entry that may come next
+pub seen_after : (kind : Kind) (limit : ℕ) (e : Entry) (h : List Entry) (S : Seen) → Fits kind e h → IsSeenOf kind limit h S → IsSeenOf kind limit (e ∷ h) (after limit e S)
+seen_after kind limit e h S f k =
+    let k' = basics_after kind limit e h S f k.basics in record {
       basics = k';
       sinces = record {
         held = λ t polled. held_since_now kind limit e h S k.basics k' k.sinces t (is_begin_of t e) refl polled;

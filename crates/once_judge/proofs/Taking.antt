@@ -173,7 +173,17 @@ member_step X i w n a b h0 l before now =
 
 pub stamp_handed_out : (m m0 n : BTreeMap ℕ ℕ) (X : List ℕ) (i w number : ℕ) → i < length X
     → count_at m w ≡ cond (member w (take i X)) number (count_at m0 w)
-    → ((q : ℕ) → get nat_cmp n q ≡ cond (is_at (nat_cmp (get_or X i 0)) q) (Some number) (get nat_cmp m q))
+    → count_at n w ≡ cond (get_or X i 0 == w) number (count_at m w)
     → count_at n w ≡ cond (member w (take (i + 1) X)) number (count_at m0 w)
 stamp_handed_out m m0 n X i w number l before put =
-    member_step X i w number (count_at m w) (count_at n w) (count_at m0 w) l before (count_put m n (get_or X i 0) number w put)
+    member_step X i w number (count_at m w) (count_at n w) (count_at m0 w) l before put
+
+-- no waker was handed out later
+pub stamp_within : (b : Bool) (n a h : ℕ) → a ≡ cond b n h → h ≤ n → a ≤ n
+stamp_within true n a h is l = omega arith
+stamp_within false n a h is l = omega arith
+
+-- what an entry changes of its task leaves that
+pub parts_handed : (S : Seen) (e : Entry) (w : ℕ) (o : Option ℕ) → (tasked_by o e S).handed w ≡ S.handed w
+parts_handed S e w None = refl
+parts_handed S e w (Some t) = refl

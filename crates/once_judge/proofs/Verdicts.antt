@@ -9,11 +9,13 @@ use Rattle.once_world.specs.Tasks.{status, is_under_way}
 use Rattle.once_world.specs.Wakers.{times_opened}
 use Rattle.once_world.specs.Refusals.{is_about}
 use Rattle.once_world.specs.Called.{IsCalled, SomebodyCalled}
-use Rattle.once_world.specs.Run.{IsRun, AtEvery}
+use Rattle.once_world.specs.Run.{AtEvery}
 use Rattle.once_world.specs.Shown.{entry_of, history_in}
 use Rattle.once_world.proofs.Listing.Counting.{count_within}
+use Rattle.once_judge.specs.declared.calls.Calls.{Calls}
 use Rattle.once_judge.specs.declared.reason.Reason.{Reason}
 use Rattle.once_judge.specs.declared.verdict.Forgotten.{Forgotten}
+use Rattle.once_judge.specs.Calls.{IsRunBy}
 use Rattle.once_judge.specs.Seen.{Seen, after}
 use Rattle.once_judge.specs.Legal.{IsLegalIn}
 use Rattle.once_judge.specs.SeenOf.{IsSeenOf}
@@ -21,6 +23,7 @@ use Rattle.once_judge.specs.Shown.{Within}
 use Rattle.once_judge.specs.Reasons.{IsTrueIn}
 use Rattle.once_judge.specs.Moments.{FirstForgotten}
 use Rattle.once_judge.specs.Verdict.{StopsAt, IsTrue, IsTrueAt, IsForgottenAt}
+use Rattle.once_judge.proofs.Either.{run_last, run_more, fits}
 use Rattle.once_judge.proofs.Sinces.{seen_after}
 use Rattle.once_judge.proofs.Legality.{legal_in, legal_out, true_out}
 use Rattle.once_judge.proofs.Turns.{called_in, somebody_out}
@@ -33,9 +36,9 @@ pub history_step : (xs : List Written) (i : ℕ) (x : Written) → i < length xs
 history_step xs i x l is = rw ((take_at_read xs i x l).1 ∙ ap (λ y. take i xs ++ y ∷ []) (sym is)) (history_push (take i xs) x)
 
 -- the beginning of a run is one
-run_begins : (K : Kind) (limit : ℕ) (e h : List Entry) → IsRun K limit (e ++ h) → IsRun K limit h
-run_begins K limit [] h r = r
-run_begins K limit (x ∷ e) h r = run_begins K limit e h r.1
+run_begins : (c : Calls) (K : Kind) (limit : ℕ) (e h : List Entry) → IsRunBy c K limit (e ++ h) → IsRunBy c K limit h
+run_begins c K limit [] h r = r
+run_begins c K limit (x ∷ e) h r = run_begins c K limit e h (run_last c K limit x (e ++ h) r).1
 
 history_append : (xs ys : List Written) → history_in (xs ++ ys) ≡ history_in ys ++ history_in xs
 history_append xs ys = grind (arith, common_steps)
@@ -56,40 +59,42 @@ within K limit h S k =
       about = let c = count_within (made_in h) (λ u. is_about (status K u h)) in let i = k.basics.about_is in omega arith;
       acting = let c = count_within (made_in h) (λ u. is_under_way (status K u h)) in let i = k.basics.acting_is in omega arith;
       times = λ w. let o = opened_within K w h in let i = k.basics.times_is w in omega arith;
+      handed = λ w. k.basics.handed_by w;
     }
 
 -- the judge after so many entries
-pub record Judged (K : Kind) (limit : ℕ) (h : List Entry) (S : Seen) : Type 0 where
-  pub run : IsRun K limit h
+pub record Judged (c : Calls) (K : Kind) (limit : ℕ) (h : List Entry) (S : Seen) : Type 0 where
+  pub run : IsRunBy c K limit h
   pub seen : IsSeenOf K limit h S
 
-pub judged_step : (K : Kind) (limit : ℕ) (xs : List Written) (i : ℕ) (x : Written) (S S' : Seen) → i < length xs → x ≡ get_or xs i x
-    → Judged K limit (history_in (take i xs)) S → IsLegalIn (is_lazy K) (entry_of x) S → S' ≡ after limit (entry_of x) S
-    → Judged K limit (history_in (take (i + 1) xs)) S'
-judged_step K limit xs i x S S' l is j f a =
-    let run : IsRun K limit (entry_of x ∷ history_in (take i xs)) = (legal_out K limit (history_in (take i xs)) S j.seen (entry_of x) f, j.run) in
-    let seen = seen_after K limit (entry_of x) (history_in (take i xs)) S run j.seen in
-    let both : Judged K limit (entry_of x ∷ history_in (take i xs)) S' = record { run = run; seen = subst (IsSeenOf K limit (entry_of x ∷ history_in (take i xs))) (sym a) seen } in
-    subst (λ h. Judged K limit h S') (sym (history_step xs i x l is)) both
+pub judged_step : (c : Calls) (K : Kind) (limit : ℕ) (xs : List Written) (i : ℕ) (x : Written) (S S' : Seen) → i < length xs → x ≡ get_or xs i x
+    → Judged c K limit (history_in (take i xs)) S → IsLegalIn c (is_lazy K) (entry_of x) S → S' ≡ after limit (entry_of x) S
+    → Judged c K limit (history_in (take (i + 1) xs)) S'
+judged_step c K limit xs i x S S' l is j f a =
+    let legal = legal_out K limit (history_in (take i xs)) S j.seen c (entry_of x) f in
+    let run = run_more c K limit (entry_of x) (history_in (take i xs)) legal j.run in
+    let seen = seen_after K limit (entry_of x) (history_in (take i xs)) S (fits c K limit (entry_of x) (history_in (take i xs)) legal) j.seen in
+    let both : Judged c K limit (entry_of x ∷ history_in (take i xs)) S' = record { run = run; seen = subst (IsSeenOf K limit (entry_of x ∷ history_in (take i xs))) (sym a) seen } in
+    subst (λ h. Judged c K limit h S') (sym (history_step xs i x l is)) both
 
 -- the first that does not fit
-pub stops : (K : Kind) (limit : ℕ) (xs : List Written) (i : ℕ) (x : Written) (S : Seen) → i < length xs → x ≡ get_or xs i x
-    → Judged K limit (history_in (take i xs)) S → (IsLegalIn (is_lazy K) (entry_of x) S → ⊥) → StopsAt K limit xs i
-stops K limit xs i x S l is j n = record {
+pub stops : (c : Calls) (K : Kind) (limit : ℕ) (xs : List Written) (i : ℕ) (x : Written) (S : Seen) → i < length xs → x ≡ get_or xs i x
+    → Judged c K limit (history_in (take i xs)) S → (IsLegalIn c (is_lazy K) (entry_of x) S → ⊥) → StopsAt c K limit xs i
+stops c K limit xs i x S l is j n = record {
   within = l;
   run = j.run;
   no_run = λ more r.
       let one : suc i ≡ i + 1 = omega arith in
       let split : history_in (take (suc i) xs ++ more) ≡ history_in more ++ (entry_of x ∷ history_in (take i xs)) =
       history_append (take (suc i) xs) more ∙ ap (λ k. history_in more ++ history_in (take k xs)) one ∙ ap (λ h. history_in more ++ h) (history_step xs i x l is) in
-      let r' = run_begins K limit (history_in more) (entry_of x ∷ history_in (take i xs)) (subst (IsRun K limit) split r) in
-      n (legal_in K limit (history_in (take i xs)) S j.seen (entry_of x) r'.0);
+      let r' = run_begins c K limit (history_in more) (entry_of x ∷ history_in (take i xs)) (subst (IsRunBy c K limit) split r) in
+      n (legal_in K limit (history_in (take i xs)) S j.seen c (entry_of x) (run_last c K limit (entry_of x) (history_in (take i xs)) r').0);
 }
 
 -- a reason that is true by what is kept is true of the entry
-pub true_at : (K : Kind) (limit : ℕ) (xs : List Written) (i : ℕ) (x : Written) (S : Seen) (r : Reason) → i < length xs → x ≡ get_or xs i x
-    → Judged K limit (history_in (take i xs)) S → IsTrueIn (is_lazy K) r (entry_of x) S → IsTrueAt K limit r i xs
-true_at K limit xs i x S r l is j t = λ e split.
+pub true_at : (c : Calls) (K : Kind) (limit : ℕ) (xs : List Written) (i : ℕ) (x : Written) (S : Seen) (r : Reason) → i < length xs → x ≡ get_or xs i x
+    → Judged c K limit (history_in (take i xs)) S → IsTrueIn (is_lazy K) r (entry_of x) S → IsTrueAt K limit r i xs
+true_at c K limit xs i x S r l is j t = λ e split.
     let one : suc i ≡ i + 1 = omega arith in
     let same : x ∷ [] ≡ e ∷ [] = append_cancel_left (take i xs) (x ∷ []) (e ∷ [])
     (ap (λ y. take i xs ++ y ∷ []) is ∙ sym ((take_at_read xs i x l).1) ∙ ap (λ k. take k xs) (sym one) ∙ split) in
@@ -107,15 +112,15 @@ pub none_forgotten : (K : Kind) (xs : List Written) → Watched K xs 0 None
 none_forgotten K xs = λ e u w. let z : ⊥ = cc in absurd z
 
 -- and one moment more
-pub watched_more : (K : Kind) (limit : ℕ) (xs : List Written) (i : ℕ) (x : Written) (S : Seen) (o o' : Option Forgotten) → i < length xs → x ≡ get_or xs i x
-    → Judged K limit (history_in (take (i + 1) xs)) S → Watched K xs i o → FirstForgotten o o' i S → Watched K xs (i + 1) o'
-watched_more K limit xs i x S (Some f) o' l is j w r = rw r (w.0, let b = w.1 in omega arith)
-watched_more K limit xs i x S None None l is j w r =
+pub watched_more : (c : Calls) (K : Kind) (limit : ℕ) (xs : List Written) (i : ℕ) (x : Written) (S : Seen) (o o' : Option Forgotten) → i < length xs → x ≡ get_or xs i x
+    → Judged c K limit (history_in (take (i + 1) xs)) S → Watched K xs i o → FirstForgotten o o' i S → Watched K xs (i + 1) o'
+watched_more c K limit xs i x S (Some f) o' l is j w r = rw r (w.0, let b = w.1 in omega arith)
+watched_more c K limit xs i x S None None l is j w r =
     let here : SomebodyCalled K (history_in (take (i + 1) xs)) = somebody_out K limit (history_in (take (i + 1) xs)) S j.seen r in
     let P : List Entry → Type 0 = λ h. AtEvery (SomebodyCalled K) h in
     let step = history_step xs i x l is in
     subst P (sym step) (subst (SomebodyCalled K) step here, w)
-watched_more K limit xs i x S None (Some f) l is j w r =
+watched_more c K limit xs i x S None (Some f) l is j w r =
     let one : i + 1 ≡ suc i = omega arith in
     let at : IsForgottenAt K xs i f.task = record {
       within = l;

@@ -13,6 +13,8 @@ use Rattle.once_world.specs.Record.{DropBegin, DropEnd, Look, Own, OwnerCall, ha
 use Rattle.once_world.specs.Cell.{Empty, Held, SetTo, is_set, value_in, next_answer, got}
 use Rattle.once_world.specs.Tasks.{Status, Unmade, Fresh, Polling, Dropping, Waiting, Gone, is_under_way}
 use Rattle.once_world.specs.Run.{MayBegin, MayFree, MayPass}
+use Rattle.once_judge.specs.declared.calls.Calls.{Calls}
+use Rattle.once_judge.specs.declared.calls.Calls.TheVariants.{One as ToOne, All as ToAll}
 use Rattle.once_judge.specs.Seen.{TaskSeen, Seen, other_held}
 
 -- t waits, w is the waker of its last poll, and was not handed out since that poll ended
@@ -35,6 +37,11 @@ pub record CallsOneIn (X : List ℕ) (S : Seen) : Type 0 where
   pub one : length X ≤ 1
   pub due : (w : ℕ) → IsDueIn w S → X ≢ []
   pub open_alone : (w : ℕ) → member w X ≡ true → 0 < S.times w
+
+-- the same, by either rule
+abbrev pub CallsIn : Calls → List ℕ → Seen → Type 0
+CallsIn ToOne X S = CallsOneIn X S
+CallsIn ToAll X S = HandsOutIn X S
 
 -- another task holds
 abbrev pub OtherHoldsIn : ℕ → Seen → Type 0
@@ -90,29 +97,29 @@ abbrev pub AllGoneIn : Seen → Type 0
 AllGoneIn S = (t : ℕ) → ((S.task t).status ≡ Unmade) ⊎ ((S.task t).status ≡ Gone)
 
 -- the entry may come next
-abbrev pub IsLegalIn : Bool → Entry → Seen → Type 0
-IsLegalIn lazy (Made t) S = (S.task t).status ≡ Unmade
-IsLegalIn lazy (Begin t w) S = MayBegin (S.task t).status
-IsLegalIn lazy (Claim t) S =
+abbrev pub IsLegalIn : Calls → Bool → Entry → Seen → Type 0
+IsLegalIn calls lazy (Made t) S = (S.task t).status ≡ Unmade
+IsLegalIn calls lazy (Begin t w) S = MayBegin (S.task t).status
+IsLegalIn calls lazy (Claim t) S =
     (S.cell ≡ Empty) × ((S.task t).status ≡ Polling) × ((S.task t).call.ran ≡ None)
     × ((S.task t).call.passed ≡ false)
-IsLegalIn lazy (Ran t a) S =
+IsLegalIn calls lazy (Ran t a) S =
     (S.cell ≡ Held t) × ((S.task t).status ≡ Polling) × ((S.task t).call.ran ≡ None)
     × IsNextIn lazy a S.answers
-IsLegalIn lazy (Free t X) S =
-    (S.cell ≡ Held t) × MayFree (S.task t).status (S.task t).call.ran × CallsOneIn X S
-IsLegalIn lazy (Fill t v X) S =
+IsLegalIn calls lazy (Free t X) S =
+    (S.cell ≡ Held t) × MayFree (S.task t).status (S.task t).call.ran × CallsIn calls X S
+IsLegalIn calls lazy (Fill t v X) S =
     (S.cell ≡ Held t) × ((S.task t).status ≡ Polling) × ((S.task t).call.ran ≡ Some (RanValue v)) × HandsOutIn X S
-IsLegalIn lazy (Pass t X) S =
+IsLegalIn calls lazy (Pass t X) S =
     (S.cell ≡ Empty) × MayPass (S.task t).status (S.task t).call.claimed (S.task t).call.ran
     × ((S.task t).call.passed ≡ false) × ((w : ℕ) × (X ≡ w ∷ []) × (0 < S.times w))
-IsLegalIn lazy (End t r) S =
+IsLegalIn calls lazy (End t r) S =
     ((S.task t).status ≡ Polling) × MayEndIn t r (S.task t).call.ran S
     × (((S.task t).call.passed ≡ false) ⊎ (r ≡ Memory))
-IsLegalIn lazy (DropBegin t) S = MayBegin (S.task t).status
-IsLegalIn lazy (DropEnd t) S = ((S.task t).status ≡ Dropping) × (S.cell ≢ Held t)
-IsLegalIn lazy (Look found) S = found ≡ value_in S.cell
-IsLegalIn lazy (Own o g) S = AllGoneIn S × (has_call_in lazy o ≡ true) × (g ≡ got o S.cell S.answers)
+IsLegalIn calls lazy (DropBegin t) S = MayBegin (S.task t).status
+IsLegalIn calls lazy (DropEnd t) S = ((S.task t).status ≡ Dropping) × (S.cell ≢ Held t)
+IsLegalIn calls lazy (Look found) S = found ≡ value_in S.cell
+IsLegalIn calls lazy (Own o g) S = AllGoneIn S × (has_call_in lazy o ≡ true) × (g ≡ got o S.cell S.answers)
 
 -- the task waits, or is in a call that it began while waiting, and in which it neither claimed nor passed its turn on
 abbrev pub HasWaited : TaskSeen → Type 0

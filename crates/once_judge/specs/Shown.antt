@@ -1,5 +1,5 @@
 -- What the program keeps, as the definitions see it; and what each part of `take` makes of it.
-use Rattle.std.specs.Prelude.{◌≤◌, ◌-◌, ◌+◌, ℕ, if◌then◌else◌, ◌==◌, Bool, true, false, suc, drop, nat_lt, unwrap_or}
+use Rattle.std.specs.Prelude.{◌≤◌, ◌-◌, ◌+◌, ℕ, if◌then◌else◌, ◌==◌, Bool, true, false, suc, drop, nat_lt}
 use Rattle.std.specs.Prelude.{List, Option, Some, None}
 use Rattle.std.specs.Ordering.{nat_cmp}
 use Rattle.std.specs.BTreeMap.{BTreeMap, get}
@@ -14,6 +14,7 @@ use Rattle.once_judge.specs.Seen.{holder_after, held_after, other_after}
 use Rattle.once_judge.specs.declared.task.Task.{Task}
 pub use Rattle.once_judge.specs.Values.{cell_of}
 pub use Rattle.once_judge.specs.TaskShown.{task_in}
+pub use Rattle.once_judge.specs.Living.{count_at}
 use Rattle.once_judge.specs.declared.seen.Seen.{Seen as GivenSeen}
 
 -- a task that lives, is gone, or was not made
@@ -26,19 +27,15 @@ found None false = unmade_task
 abbrev pub task_at : BTreeMap ℕ Task → BTreeSet ℕ → ℕ → TaskSeen
 task_at tasks gone t = found (get nat_cmp tasks t) (contains nat_cmp gone t)
 
--- the count of w, which is 0 where none stands
-abbrev pub count_at : BTreeMap ℕ ℕ → ℕ → ℕ
-count_at m w = unwrap_or (get nat_cmp m w) 0
-
 -- what is kept
 abbrev pub seen_of : GivenSeen → Seen
 seen_of k = record {
   now = k.entries;
   cell = cell_of k.cell;
   answers = drop k.used k.answers.items;
-  task = task_at k.tasks k.gone;
+  task = task_at k.tasks.all k.gone;
   times = count_at k.times;
-  handed = count_at k.handed;
+  handed = count_at k.tasks.handed;
   about = k.about;
   acting = k.acting;
   crowded_at = k.crowded_at;
@@ -48,11 +45,12 @@ seen_of k = record {
   other_held_at = k.other_held_at;
 }
 
--- no count is beyond the number of entries
+-- no count, and no moment of a waker, is beyond the number of entries
 pub record Within (S : Seen) : Type 0 where
   pub about : S.about ≤ S.now
   pub acting : S.acting ≤ S.now
   pub times : (w : ℕ) → S.times w ≤ S.now
+  pub handed : (w : ℕ) → S.handed w ≤ S.now
 
 -- what an entry changes of its task t
 abbrev pub tasked : Entry → ℕ → Seen → Seen

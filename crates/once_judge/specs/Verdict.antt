@@ -9,20 +9,22 @@ use Rattle.once_world.specs.Tasks.{Fresh, Waiting, status, last_call}
 use Rattle.once_world.specs.Wakers.{IsOpen, handed_since}
 use Rattle.once_world.specs.Refusals.{Since, IsCrowded, MemoryFrom}
 use Rattle.once_world.specs.Called.{IsCalled, SomebodyCalled}
-use Rattle.once_world.specs.Run.{IsRun, AtEvery}
+use Rattle.once_world.specs.Run.{AtEvery}
 use Rattle.once_world.specs.Shown.{entry_of, history_in}
+use Rattle.once_judge.specs.declared.calls.Calls.{Calls}
 use Rattle.once_judge.specs.declared.reason.Reason.{Reason}
 use Rattle.once_judge.specs.declared.reason.Reason.TheVariants.{TaskIs, CellIs, InitAnswered, Claimed, Passed, NotFreed}
 use Rattle.once_judge.specs.declared.reason.Reason.TheVariants.{NextAnswer, AnswersLeft, NotOpen, Twice, Due, HandsOut}
 use Rattle.once_judge.specs.declared.reason.Reason.TheVariants.{NoCauseForMemory, NoCrowd, NotFirstPoll, NoSuchCall}
 use Rattle.once_judge.specs.declared.verdict.Fault.{Fault}
 use Rattle.once_judge.specs.Values.{status_of, cell_of}
+use Rattle.once_judge.specs.Calls.{IsRunBy}
 
 -- the record is a run up to its entry n, and no record is one that begins with its entries up to n and with that one
-pub record StopsAt (kind : Kind) (limit : ℕ) (entries : List Written) (n : ℕ) : Type 0 where
+pub record StopsAt (calls : Calls) (kind : Kind) (limit : ℕ) (entries : List Written) (n : ℕ) : Type 0 where
   pub within : n < length entries
-  pub run : IsRun kind limit (history_in (take n entries))
-  pub no_run : (more : List Written) → IsRun kind limit (history_in (take (suc n) entries ++ more)) → ⊥
+  pub run : IsRunBy calls kind limit (history_in (take n entries))
+  pub no_run : (more : List Written) → IsRunBy calls kind limit (history_in (take (suc n) entries ++ more)) → ⊥
 
 -- the kind has the call, if the entry is one of the owner
 abbrev pub has_its_call : Kind → Entry → Bool

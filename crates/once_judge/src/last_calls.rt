@@ -10,7 +10,7 @@ use std::fmt;
 /// A line for each task that a verdict names: its entries since its last call began, up to the moment of the verdict.
 ///
 /// ```
-/// rt.print(LastCalls(&verdict, &entries))?; // `task 1: entry 2, begin 1 5; entry 3, claim 1`
+/// rt.print(LastCalls(&verdict, entries))?; // `task 1: entry 2, begin 1 5; entry 3, claim 1`
 /// ```
 #[derive(Clone, Copy)]
 pub struct LastCalls<'a>(pub &'a Verdict, pub &'a [Entry]);

@@ -1,23 +1,32 @@
 //! What the program `judge_record` does: its command line, its streams and its status.
 
+use crate::calls::Calls;
+use crate::drawn::draw_verdict;
 use crate::last_calls::LastCalls;
+use crate::observed::{Answer, BadEvents, Stop, StopLine, linearize, parse_observed};
 use crate::report::VerdictLine;
 use crate::verdict::{Verdict, judge};
 use once_script::parse::record::{BadRecord, RecordText, parse_record};
+use once_script::print::{FirstLine, FullLine};
+use once_world::record::{Entry, Kind};
 use std::alloc::{AllocError, AllocGlobal};
 use std::env::{self, Env};
 use std::fmt;
 use std::fs::{self, Files};
-use std::io::{self, BufReader, ErrorKind, Read};
+use std::io::{self, BufReader, BufWriter, ErrorKind, Read, Write};
 use std::process::ExitCode;
 
 /// Why there is no verdict.
 #[derive(Clone, Copy, Debug, Drop, PartialEq, Eq)]
 pub enum Failure {
-    /// The command line has a word too much.
+    /// The command line has a word too much, or too little.
     Usage,
     /// The text is no record.
     Text(BadRecord),
+    /// This event does not fit those before it.
+    Event(usize),
+    /// The search for a run was ended at this event.
+    GaveUp(usize),
     /// Memory was refused.
     Memory,
     /// A read or a write failed.
@@ -28,8 +37,9 @@ impl Failure {
     /// The status that the process ends with.
     fn status(&self) -> u8 {
         match self {
-            Failure::Usage | Failure::Text(BadRecord::Line(_, _)) => 2,
-            Failure::Text(BadRecord::Memory) | Failure::Memory | Failure::Io => 3,
+            Failure::Usage | Failure::Text(BadRecord::Line(_, _)) | Failure::Event(_) => 2,
+            Failure::Text(BadRecord::Memory) | Failure::Memory | Failure::GaveUp(_) | Failure::Io =>
+                3,
         }
     }
 }
@@ -37,9 +47,25 @@ impl Failure {
 impl fmt::Display for Failure {
     fn fmt<W: fmt::Write>(&self, f: &mut fmt::Formatter<W>) -> fmt::Result {
         match self {
-            Failure::Usage => f.write_str("usage: judge_record [--why] [FILE]"),
+            Failure::Usage => f.write_str(
+                "usage: judge_record [--seen] [--calls one|all] [--why | --text | --svg] [FILE]",
+            ),
             Failure::Text(BadRecord::Line(number, form)) => {
                 write!(f, "line {number} is unreadable; expected: {form}")
+            }
+            Failure::Event(event) => {
+                let number = event.saturating_add(1);
+                write!(
+                    f,
+                    "event {number} does not fit those before it, or its call does not end"
+                )
+            }
+            Failure::GaveUp(event) => {
+                let number = event.saturating_add(1);
+                write!(
+                    f,
+                    "no run was found in so many steps; the farthest event was {number}"
+                )
             }
             Failure::Text(BadRecord::Memory) | Failure::Memory => f.write_str("out of memory"),
             Failure::Io => f.write_str("input or output failed"),
@@ -59,6 +85,15 @@ impl From<BadRecord> for Failure {
     }
 }
 
+impl From<BadEvents> for Failure {
+    fn from(bad: BadEvents) -> Failure {
+        match bad {
+            BadEvents::At(event) => Failure::Event(event),
+            BadEvents::Memory => Failure::Memory,
+        }
+    }
+}
+
 impl From<io::Error> for Failure {
     fn from(error: io::Error) -> Failure {
         if error.kind() == ErrorKind::OutOfMemory {
@@ -69,11 +104,31 @@ impl From<io::Error> for Failure {
     }
 }
 
+// How many choices a search may try.
+const STEPS: u64 = 1_000_000;
+
+/// What is printed.
+#[derive(Clone, Copy)]
+enum Form {
+    /// The line of the verdict.
+    Verdict,
+    /// That line, and the last calls of the tasks that it names.
+    Why,
+    /// The text of the record.
+    Text,
+    /// A picture of it, as SVG.
+    Picture,
+}
+
 /// What the command line asks for.
 #[derive(Clone, Copy)]
 struct Asked<'a> {
-    /// The last calls of the tasks that the verdict names, too.
-    why: bool,
+    /// What is printed.
+    form: Form,
+    /// The text is what was seen from outside.
+    seen: bool,
+    /// Whom a release without a value calls.
+    calls: Calls,
     /// The file, or the standard input.
     file: Option<&'a str>,
 }
@@ -114,15 +169,54 @@ where
     let words: Vec<String> = env::args(rt)?.collect(rt.alloc())?;
     let asked = asked_by(&words).ok_or(Failure::Usage)?;
     let text = read(asked.file, files, input)?;
+    if asked.seen {
+        let observed = parse_observed(rt.alloc(), text.as_slice())?;
+        return match linearize(rt.alloc(), &observed, asked.calls, STEPS)? {
+            Answer::Run(entries) => tell(rt, asked, &observed.kind, observed.limit, &entries),
+            Answer::NoRun(stop) => {
+                rt.println(StopLine(&stop, &observed.events))?;
+                Ok(false)
+            }
+            Answer::GaveUp(Stop { event, .. }) => Err(Failure::GaveUp(event)),
+        };
+    }
     let RecordText {
         kind,
         limit,
         entries,
     } = parse_record(rt.alloc(), text.as_slice())?;
-    let verdict = judge(rt.alloc(), &kind, limit, &entries)?;
-    rt.println(VerdictLine(&verdict, &entries))?;
-    if asked.why {
-        rt.print(LastCalls(&verdict, &entries))?;
+    tell(rt, asked, &kind, limit, &entries)
+}
+
+// Judges these entries, prints the verdict, and answers whether they are a run in which nobody is forgotten.
+fn tell<R>(
+    rt: &R,
+    asked: Asked<'_>,
+    kind: &Kind,
+    limit: u64,
+    entries: &[Entry],
+) -> Result<bool, Failure>
+where
+    R: Print + AllocGlobal,
+{
+    let verdict = judge(rt.alloc(), kind, limit, asked.calls, entries)?;
+    match asked.form {
+        Form::Verdict => rt.println(VerdictLine(&verdict, entries))?,
+        Form::Why => {
+            rt.println(VerdictLine(&verdict, entries))?;
+            rt.print(LastCalls(&verdict, entries))?;
+        }
+        Form::Text => {
+            rt.println(FirstLine(kind, limit))?;
+            for entry in entries {
+                rt.println(FullLine(entry))?;
+            }
+        }
+        Form::Picture => {
+            let mut output = BufWriter::new(rt.alloc(), io::writer(rt))?;
+            draw_verdict(rt.alloc(), kind, entries, &verdict, &mut output)?;
+            output.flush()?;
+        }
     }
     Ok(matches!(
         verdict,
@@ -135,18 +229,41 @@ where
 
 // What these words ask for, of which the first is the name of the program.
 fn asked_by(words: &[String]) -> Option<Asked<'_>> {
-    let mut asked = Asked {
-        why: false,
-        file: None,
-    };
+    let (mut form, mut seen, mut calls, mut file) = (Form::Verdict, false, None, None);
+    let mut names_rule = false;
     for word in words.iter().skip(1) {
-        match word.as_str() {
-            "--why" if !asked.why => asked.why = true,
-            path if asked.file.is_none() && !path.starts_with("--") => asked.file = Some(path),
+        match (word.as_str(), form) {
+            (rule, _) if names_rule => {
+                calls = Some(calls_in(rule)?);
+                names_rule = false;
+            }
+            ("--calls", _) if calls.is_none() => names_rule = true,
+            ("--why", Form::Verdict) => form = Form::Why,
+            ("--text", Form::Verdict) => form = Form::Text,
+            ("--svg", Form::Verdict) => form = Form::Picture,
+            ("--seen", _) if !seen => seen = true,
+            (path, _) if file.is_none() && !path.starts_with("--") => file = Some(path),
             _ => return None,
         }
     }
-    Some(asked)
+    if names_rule {
+        return None;
+    }
+    Some(Asked {
+        form,
+        seen,
+        calls: calls.unwrap_or(Calls::One),
+        file,
+    })
+}
+
+// Whom a release without a value calls, by its word on the command line.
+fn calls_in(word: &str) -> Option<Calls> {
+    match word {
+        "one" => Some(Calls::One),
+        "all" => Some(Calls::All),
+        _ => None,
+    }
 }
 
 // All the bytes of the file, or of the input if there is none or it is `-`.

@@ -10,8 +10,7 @@ use std::fmt;
 /// The line of a verdict on these entries, without its end.
 ///
 /// ```
-/// let verdict = judge(rt.alloc(), &kind, limit, &entries)?;
-/// rt.println(VerdictLine(&verdict, &entries))?; // `run, 12 entries, nobody forgotten`
+/// rt.println(VerdictLine(&verdict, entries))?; // `run, 12 entries, nobody forgotten`
 /// ```
 #[derive(Clone, Copy)]
 pub struct VerdictLine<'a>(pub &'a Verdict, pub &'a [Entry]);
@@ -64,7 +63,7 @@ impl fmt::Display for FaultText<'_> {
 
 /// Why an entry may not come next.
 #[derive(Clone, Copy)]
-struct ReasonText(Reason);
+pub(crate) struct ReasonText(pub Reason);
 
 impl fmt::Display for ReasonText {
     fn fmt<W: fmt::Write>(&self, f: &mut fmt::Formatter<W>) -> fmt::Result {

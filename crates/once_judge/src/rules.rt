@@ -9,6 +9,7 @@ ghost use Rattle.once_judge.specs.Values.{status_of, cell_of};
 mod ends;
 mod wakers;
 
+use crate::calls::Calls;
 use crate::reason::Reason;
 use crate::seen::Seen;
 use crate::task::{Cell, Status, is_over};
@@ -28,7 +29,7 @@ impl Seen {
     /// Whether this entry may come next.
     pub fn may_follow(&self, entry: &Entry) -> Result<Result<(), Reason>, AllocError>
         ensures rule { IfOk result (λ answer. Tests answer
-            (IsLegalIn self.now.lazy (entry_of entry.now) (seen_of self.now))) }
+            (IsLegalIn self.now.calls self.now.lazy (entry_of entry.now) (seen_of self.now))) }
         ensures reason { IfOk result (λ answer. IfErr answer (λ r.
             IsTrueIn self.now.lazy r (entry_of entry.now) (seen_of self.now))) }
     {
@@ -37,7 +38,7 @@ impl Seen {
             Entry::Begin(t, waker) => Ok(self.may_begin(*t, *waker)),
             Entry::Claim(t) => Ok(self.may_claim(*t)),
             Entry::Ran(t, answer) => Ok(self.may_run(*t, *answer)),
-            Entry::Free(t, wakers) => Ok(self.may_free(*t, wakers)),
+            Entry::Free(t, wakers) => self.may_free(*t, wakers),
             Entry::Fill(t, v, wakers) => self.may_fill(*t, *v, wakers),
             Entry::Pass(t, wakers) => Ok(self.may_pass(*t, wakers)),
             Entry::End(t, reply) => Ok(self.may_end(*t, *reply)),
@@ -49,7 +50,7 @@ impl Seen {
     }
 
     fn may_be_made(&self, t: u64) -> Result<(), Reason>
-        ensures rule { Tests result (IsLegalIn self.now.lazy (Made t) (seen_of self.now)) }
+        ensures rule { Tests result (IsLegalIn self.now.calls self.now.lazy (Made t) (seen_of self.now)) }
         ensures reason { IfErr result (λ r. IsTrueIn self.now.lazy r (Made t) (seen_of self.now)) }
     {
         match self.task(t).status {
@@ -60,7 +61,7 @@ impl Seen {
 
     // A drop begins as a poll does, whatever the waker is.
     fn may_begin(&self, t: u64, waker: u64) -> Result<(), Reason>
-        ensures rule { Tests result (IsLegalIn self.now.lazy (Begin t waker) (seen_of self.now)) }
+        ensures rule { Tests result (IsLegalIn self.now.calls self.now.lazy (Begin t waker) (seen_of self.now)) }
         ensures reason { (e : Told) → IfErr result (λ r. IsTrueIn self.now.lazy r e (seen_of self.now)) }
     {
         match self.task(t).status {
@@ -70,7 +71,7 @@ impl Seen {
     }
 
     fn may_claim(&self, t: u64) -> Result<(), Reason>
-        ensures rule { Tests result (IsLegalIn self.now.lazy (Claim t) (seen_of self.now)) }
+        ensures rule { Tests result (IsLegalIn self.now.calls self.now.lazy (Claim t) (seen_of self.now)) }
         ensures reason { IfErr result (λ r. IsTrueIn self.now.lazy r (Claim t) (seen_of self.now)) }
     {
         self.is_empty()?;
@@ -88,7 +89,7 @@ impl Seen {
     }
 
     fn may_run(&self, t: u64, answer: Ran) -> Result<(), Reason>
-        ensures rule { Tests result (IsLegalIn self.now.lazy (RanEntry t answer) (seen_of self.now)) }
+        ensures rule { Tests result (IsLegalIn self.now.calls self.now.lazy (RanEntry t answer) (seen_of self.now)) }
         ensures reason { IfErr result (λ r. IsTrueIn self.now.lazy r (RanEntry t answer) (seen_of self.now)) }
     {
         self.holds(t)?;
@@ -106,20 +107,28 @@ impl Seen {
         Ok(())
     }
 
-    fn may_free(&self, t: u64, wakers: &[u64]) -> Result<(), Reason>
-        ensures rule { Tests result (IsLegalIn self.now.lazy (Free t wakers.now) (seen_of self.now)) }
-        ensures reason { IfErr result (λ r. IsTrueIn self.now.lazy r (Free t wakers.now) (seen_of self.now)) }
+    fn may_free(&self, t: u64, wakers: &[u64]) -> Result<Result<(), Reason>, AllocError>
+        ensures rule { IfOk result (λ answer. Tests answer
+            (IsLegalIn self.now.calls self.now.lazy (Free t wakers.now) (seen_of self.now))) }
+        ensures reason { IfOk result (λ answer. IfErr answer (λ r.
+            IsTrueIn self.now.lazy r (Free t wakers.now) (seen_of self.now))) }
     {
-        self.holds(t)?;
-        self.frees(t)?;
-        self.calls_one(t, wakers)
+        if let Err(reason) = self.frees(t) {
+            return Ok(Err(reason));
+        }
+        match self.calls {
+            Calls::One => Ok(self.calls_one(t, wakers)),
+            Calls::All => self.hands_out(wakers),
+        }
     }
 
-    // Whether the task frees the cell: in a drop, or in a poll whose init failed.
+    // Whether the task holds, and frees the cell: in a drop, or in a poll whose init failed.
     fn frees(&self, t: u64) -> Result<(), Reason>
-        ensures rule { Tests result (MayFree ((seen_of self.now).task t).status ((seen_of self.now).task t).call.ran) }
+        ensures rule { Tests result (((seen_of self.now).cell ≡ Held t)
+            × MayFree ((seen_of self.now).task t).status ((seen_of self.now).task t).call.ran) }
         ensures reason { (e : Told) → IfErr result (λ r. IsTrueIn self.now.lazy r e (seen_of self.now)) }
     {
+        self.holds(t)?;
         let task = self.task(t);
         match task.status {
             Status::Dropping => Ok(()),
@@ -133,14 +142,14 @@ impl Seen {
 
     fn may_fill(&self, t: u64, v: u64, wakers: &[u64]) -> Result<Result<(), Reason>, AllocError>
         ensures rule { IfOk result (λ answer. Tests answer
-            (IsLegalIn self.now.lazy (Fill t v wakers.now) (seen_of self.now))) }
+            (IsLegalIn self.now.calls self.now.lazy (Fill t v wakers.now) (seen_of self.now))) }
         ensures reason { IfOk result (λ answer. IfErr answer (λ r.
             IsTrueIn self.now.lazy r (Fill t v wakers.now) (seen_of self.now))) }
     {
         if let Err(reason) = self.fills(t, v) {
             return Ok(Err(reason));
         }
-        self.hands_out(t, v, wakers)
+        self.hands_out(wakers)
     }
 
     // Whether the task holds, is in a poll, and its init gave this value in it.
@@ -161,7 +170,7 @@ impl Seen {
     }
 
     fn may_pass(&self, t: u64, wakers: &[u64]) -> Result<(), Reason>
-        ensures rule { Tests result (IsLegalIn self.now.lazy (Pass t wakers.now) (seen_of self.now)) }
+        ensures rule { Tests result (IsLegalIn self.now.calls self.now.lazy (Pass t wakers.now) (seen_of self.now)) }
         ensures reason { IfErr result (λ r. IsTrueIn self.now.lazy r (Pass t wakers.now) (seen_of self.now)) }
     {
         self.is_empty()?;
@@ -197,7 +206,7 @@ impl Seen {
     }
 
     fn may_end_drop(&self, t: u64) -> Result<(), Reason>
-        ensures rule { Tests result (IsLegalIn self.now.lazy (DropEnd t) (seen_of self.now)) }
+        ensures rule { Tests result (IsLegalIn self.now.calls self.now.lazy (DropEnd t) (seen_of self.now)) }
         ensures reason { IfErr result (λ r. IsTrueIn self.now.lazy r (DropEnd t) (seen_of self.now)) }
     {
         let task = self.task(t);
@@ -211,7 +220,7 @@ impl Seen {
     }
 
     fn may_look(&self, found: Option<u64>) -> Result<(), Reason>
-        ensures rule { Tests result (IsLegalIn self.now.lazy (Look found) (seen_of self.now)) }
+        ensures rule { Tests result (IsLegalIn self.now.calls self.now.lazy (Look found) (seen_of self.now)) }
         ensures reason { IfErr result (λ r. IsTrueIn self.now.lazy r (Look found) (seen_of self.now)) }
     {
         if found == value_in(self.cell) {
@@ -223,7 +232,7 @@ impl Seen {
 
     fn may_own(&self, call: &Call, got: &Got) -> Result<(), Reason>
         ensures rule { Tests result
-            (IsLegalIn self.now.lazy (Own (call_of call.now) (got_of got.now)) (seen_of self.now)) }
+            (IsLegalIn self.now.calls self.now.lazy (Own (call_of call.now) (got_of got.now)) (seen_of self.now)) }
         ensures reason { IfErr result (λ r.
             IsTrueIn self.now.lazy r (Own (call_of call.now) (got_of got.now)) (seen_of self.now)) }
     {
@@ -245,7 +254,7 @@ impl Seen {
         ensures rule { Tests result (AllGoneIn (seen_of self.now)) }
         ensures reason { (e : Told) → IfErr result (λ r. IsTrueIn self.now.lazy r e (seen_of self.now)) }
     {
-        for (t, task) in &self.tasks {
+        for (t, task) in &self.tasks.all {
             if !is_over(task.status) {
                 return Err(Reason::TaskIs(*t, task.status));
             }

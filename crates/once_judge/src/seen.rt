@@ -1,5 +1,5 @@
 //! What is kept of the entries so far. A moment is told by the number of the entry after which it comes.
-ghost use Rattle.std.specs.Prelude.{◌≡◌, ◌<◌, ◌+◌, ◌-◌, ◌^◌, ◌==◌, ℕ, if◌then◌else◌, suc, Some, None, true, false};
+ghost use Rattle.std.specs.Prelude.{◌≡◌, ◌<◌, ◌≤◌, ◌+◌, ◌-◌, ◌^◌, ◌==◌, ℕ, if◌then◌else◌, suc, Some, None, true, false};
 ghost use Rattle.std.specs.Prelude.{OnOk, IfOk, MatchOption, nat_lt};
 ghost use Rattle.std.specs.Bool.{Decides};
 ghost use Rattle.once_queue.specs.Numbers.{member, times_in, bit};
@@ -9,6 +9,8 @@ ghost use Rattle.once_judge.specs.Legal.{HasWaited};
 ghost use Rattle.once_judge.specs.Values.{cell_of, status_of};
 ghost use Rattle.once_judge.specs.TaskShown.{task_in};
 
+use crate::calls::Calls;
+use crate::living::Living;
 use crate::task::{
     Cell, Status, Task, handed_by, is_about, is_under_way, is_waiting, moved, opens, task_of,
 };
@@ -21,6 +23,8 @@ use std::collections::{BTreeMap, BTreeSet};
 pub struct Seen {
     /// What gives the memory.
     pub alloc: Global,
+    /// Whom a release without a value calls.
+    pub calls: Calls,
     /// Whether the kind is lazy.
     pub lazy: bool,
     /// How many tasks may be counted in.
@@ -33,14 +37,16 @@ pub struct Seen {
     pub answers: Vec<Option<u64>>,
     /// How many of them it gave.
     pub used: usize,
-    /// The tasks that were made and are not gone.
-    pub tasks: BTreeMap<u64, Task>,
+    /// The tasks that were made and are not gone, and when each waker was handed out last.
+    pub tasks: Living,
     /// Those that are gone.
     pub gone: BTreeSet<u64>,
     /// How often each waker may still be handed out.
     pub times: BTreeMap<u64, u64>,
-    /// When each waker was handed out last.
-    pub handed: BTreeMap<u64, u64>,
+    /// Which task was listed with each waker last.
+    pub listed: BTreeMap<u64, u64>,
+    /// The one of them whose waker was handed out last.
+    pub called: u64,
     /// How many tasks are about.
     pub about: u64,
     /// How many are in a call.
@@ -70,9 +76,10 @@ impl Seen {
     ghost use Rattle.once_judge.specs.Shown.{noted, Within};
 
     /// Nothing was seen of a cell of this kind.
-    pub fn new(alloc: Global, kind: &Kind, limit: u64) -> Result<Seen, AllocError>
+    pub fn new(alloc: Global, kind: &Kind, limit: u64, calls: Calls) -> Result<Seen, AllocError>
         ensures seen { IfOk result (λ k. seen_of k ≡ nothing_seen (kind_of kind.now)) }
         ensures limit { IfOk result (λ k. k.limit ≡ limit) }
+        ensures calls { IfOk result (λ k. k.calls ≡ calls) }
         ensures lazy { IfOk result (λ k. k.lazy ≡ lazy_of (kind_of kind.now)) }
     {
         let (lazy, cell, answers) = match kind {
@@ -83,16 +90,18 @@ impl Seen {
         };
         Ok(Seen {
             alloc,
+            calls,
             lazy,
             limit,
             entries: 0,
             cell,
             answers,
             used: 0,
-            tasks: BTreeMap::new(alloc),
+            tasks: Living::new(alloc),
             gone: BTreeSet::new(alloc),
             times: BTreeMap::new(alloc),
-            handed: BTreeMap::new(alloc),
+            listed: BTreeMap::new(alloc),
+            called: 0,
             about: 0,
             acting: 0,
             crowded_at: 0,
@@ -107,7 +116,7 @@ impl Seen {
     pub fn task(&self, t: u64) -> Task
         ensures { task_in result ≡ (seen_of self.now).task t }
     {
-        match self.tasks.get(&t) {
+        match self.tasks.all.get(&t) {
             Some(task) => *task,
             None => self.gone_task(t),
         }
@@ -130,6 +139,7 @@ impl Seen {
         requires small { self.old.entries < 2 ^ 63 }
         ensures seen { OnOk result (seen_of self.new ≡ after self.old.limit (entry_of entry.now) (seen_of self.old)) }
         ensures limit { OnOk result (self.new.limit ≡ self.old.limit) }
+        ensures calls { OnOk result (self.new.calls ≡ self.old.calls) }
         ensures lazy { OnOk result (self.new.lazy ≡ self.old.lazy) }
     {
         let number = self.entries + 1;
@@ -137,6 +147,7 @@ impl Seen {
         self.hand_out(handed_by(entry), number)?;
         self.take_cell(entry)?;
         self.note(number);
+        self.settle(entry)?;
         Ok(())
     }
 
@@ -148,6 +159,7 @@ impl Seen {
         ensures seen { OnOk result (seen_of self.new
             ≡ tasked_by (whose (entry_of entry.now)) (entry_of entry.now) (seen_of self.old)) }
         ensures limit { OnOk result (self.new.limit ≡ self.old.limit) }
+        ensures calls { OnOk result (self.new.calls ≡ self.old.calls) }
         ensures lazy { OnOk result (self.new.lazy ≡ self.old.lazy) }
     {
         match task_of(entry) {
@@ -164,6 +176,7 @@ impl Seen {
         requires its { whose (entry_of entry.now) ≡ Some t }
         ensures seen { OnOk result (seen_of self.new ≡ tasked (entry_of entry.now) t (seen_of self.old)) }
         ensures limit { OnOk result (self.new.limit ≡ self.old.limit) }
+        ensures calls { OnOk result (self.new.calls ≡ self.old.calls) }
         ensures lazy { OnOk result (self.new.lazy ≡ self.old.lazy) }
     {
         let old = self.task(t);
@@ -175,20 +188,21 @@ impl Seen {
             is_under_way(new.status),
         );
         let opens = opens(entry, t, self.cell);
-        self.open(opens, old.waker)?;
+        self.open(opens, old.waker, t)?;
         self.put(t, new)
     }
 
-    // A poll with this waker may have ended Pending, so that the waker may be handed out once more.
-    fn open(&mut self, opens: bool, waker: u64) -> Result<(), AllocError>
+    // A poll of the task with this waker may have ended Pending, so that the waker may be handed out once more.
+    fn open(&mut self, opens: bool, waker: u64, t: u64) -> Result<(), AllocError>
         requires { count_at self.old.times waker < 2 ^ 63 }
         ensures times { OnOk result ((w : ℕ) → count_at self.new.times w
             ≡ count_at self.old.times w + bit (if waker == w then opens else false)) }
-        ensures rest { self.new ≡ record self.old { times = self.new.times } }
+        ensures rest { self.new ≡ record self.old { times = self.new.times; listed = self.new.listed } }
     {
         if opens {
             let times = self.times.get(&waker).copied().unwrap_or(0);
             self.times.insert(waker, times + 1)?;
+            self.listed.insert(waker, t)?;
         }
         Ok(())
     }
@@ -196,12 +210,13 @@ impl Seen {
     // Keeps a task.
     fn put(&mut self, t: u64, task: Task) -> Result<(), AllocError>
         requires settled { is_gone (status_of task.status) ≡ true → task_in task ≡ gone_task }
-        ensures task { OnOk result ((u : ℕ) → task_at self.new.tasks self.new.gone u
-            ≡ (if t == u then task_in task else task_at self.old.tasks self.old.gone u)) }
+        ensures task { OnOk result ((u : ℕ) → task_at self.new.tasks.all self.new.gone u
+            ≡ (if t == u then task_in task else task_at self.old.tasks.all self.old.gone u)) }
+        ensures handed { self.new.tasks.handed ≡ self.old.tasks.handed }
         ensures rest { self.new ≡ record self.old { tasks = self.new.tasks; gone = self.new.gone } }
     {
         if matches!(task.status, Status::Gone) {
-            let _ = self.tasks.remove(&t);
+            self.tasks.remove(t);
             self.gone.insert(t)?;
         } else {
             self.tasks.insert(t, task)?;
@@ -211,16 +226,20 @@ impl Seen {
 
     // Wakers that the entry of this number hands out.
     fn hand_out(&mut self, wakers: &[u64], number: u64) -> Result<(), AllocError>
+        requires later { (w : ℕ) → count_at self.old.tasks.handed w ≤ number }
         ensures times { OnOk result ((w : ℕ) → count_at self.new.times w
             ≡ count_at self.old.times w - times_in w wakers.now) }
-        ensures handed { OnOk result ((w : ℕ) → count_at self.new.handed w
-            ≡ (if member w wakers.now then number else count_at self.old.handed w)) }
-        ensures rest { self.new ≡ record self.old { times = self.new.times; handed = self.new.handed } }
+        ensures handed { OnOk result ((w : ℕ) → count_at self.new.tasks.handed w
+            ≡ (if member w wakers.now then number else count_at self.old.tasks.handed w)) }
+        ensures all { self.new.tasks.all ≡ self.old.tasks.all }
+        ensures rest { self.new
+            ≡ record self.old { times = self.new.times; tasks = self.new.tasks; called = self.new.called } }
     {
         for waker in wakers {
             let times = self.times.get(waker).copied().unwrap_or(0);
             self.times.insert(*waker, times.saturating_sub(1))?;
-            self.handed.insert(*waker, number)?;
+            self.tasks.hand(*waker, number)?;
+            self.called = self.listed.get(waker).copied().unwrap_or(self.called);
         }
         Ok(())
     }
@@ -229,6 +248,7 @@ impl Seen {
     fn take_cell(&mut self, entry: &Entry) -> Result<(), AllocError>
         ensures seen { OnOk result (seen_of self.new ≡ celled (entry_of entry.now) (seen_of self.old)) }
         ensures limit { self.new.limit ≡ self.old.limit }
+        ensures calls { self.new.calls ≡ self.old.calls }
         ensures lazy { self.new.lazy ≡ self.old.lazy }
     {
         match entry {
@@ -251,6 +271,7 @@ impl Seen {
         ensures seen { (g : Got) → OnOk result (seen_of self.new
             ≡ celled (Own (call_of call.now) g) (seen_of self.old)) }
         ensures limit { self.new.limit ≡ self.old.limit }
+        ensures calls { self.new.calls ≡ self.old.calls }
         ensures lazy { self.new.lazy ≡ self.old.lazy }
     {
         match call {
@@ -292,6 +313,7 @@ impl Seen {
     fn note(&mut self, number: u64)
         ensures seen { seen_of self.new ≡ noted self.old.limit number (seen_of self.old) }
         ensures limit { self.new.limit ≡ self.old.limit }
+        ensures calls { self.new.calls ≡ self.old.calls }
         ensures lazy { self.new.lazy ≡ self.old.lazy }
     {
         self.entries = number;
@@ -310,6 +332,24 @@ impl Seen {
         }
     }
 
+    // After a release that looked at all that ask, those that were called ask no more.
+    fn settle(&mut self, entry: &Entry) -> Result<(), AllocError>
+        ensures seen { seen_of self.new ≡ seen_of self.old }
+        ensures limit { self.new.limit ≡ self.old.limit }
+        ensures calls { self.new.calls ≡ self.old.calls }
+        ensures lazy { self.new.lazy ≡ self.old.lazy }
+    {
+        let looks = match (entry, self.calls) {
+            (Entry::Free(_, wakers), Calls::One) => wakers.is_empty(),
+            (Entry::Free(_, _), Calls::All) | (Entry::Fill(_, _, _), _) => true,
+            _ => false,
+        };
+        if looks {
+            self.tasks.settle(self.alloc)?;
+        }
+        Ok(())
+    }
+
     /// When another task than this one held last.
     pub fn other_held_at(&self, t: u64) -> u64
         ensures { result ≡ other_held t (seen_of self.now) }
@@ -325,7 +365,7 @@ impl Seen {
     pub fn was_handed(&self, waker: u64, task: Task) -> bool
         ensures { result ≡ nat_lt (task_in task).ended ((seen_of self.now).handed waker) }
     {
-        task.ended < self.handed.get(&waker).copied().unwrap_or(0)
+        task.ended < self.tasks.handed.get(&waker).copied().unwrap_or(0)
     }
 
     // Whether the task was called.
@@ -335,11 +375,31 @@ impl Seen {
         stands(task) && self.was_handed(task.listed, task)
     }
 
-    // Whether some task was called.
-    fn some_called(&self) -> bool
+    // Whether this task was called.
+    fn was_called(&self, t: u64) -> bool
+        ensures { Decides result (IsCalledIn t (seen_of self.now)) }
+    {
+        self.is_called(self.task(t))
+    }
+
+    // Whether some task was called: most often this one, which waits, or the one that is noted.
+    fn some_called(&self, likely: u64) -> bool
         ensures { Decides result ((t : ℕ) × IsCalledIn t (seen_of self.now)) }
     {
-        for (_, task) in &self.tasks {
+        if self.was_called(likely) {
+            return true;
+        }
+        if self.was_called(self.called) {
+            return true;
+        }
+        self.any_called()
+    }
+
+    // The same, by a look at all that live.
+    fn any_called(&self) -> bool
+        ensures { Decides result ((t : ℕ) × IsCalledIn t (seen_of self.now)) }
+    {
+        for (_, task) in &self.tasks.all {
             if self.is_called(*task) {
                 return true;
             }
@@ -352,8 +412,8 @@ impl Seen {
         ensures { MatchOption result ((t : ℕ) → ((seen_of self.now).task t).status ≡ WaitingStatus → ⊥)
             (λ t. ((seen_of self.now).task t).status ≡ WaitingStatus) }
     {
-        for (t, task) in &self.tasks {
-            if is_waiting(task.status) {
+        for t in &self.tasks.waiting {
+            if is_waiting(self.task(*t).status) {
                 return Some(*t);
             }
         }
@@ -368,7 +428,7 @@ impl Seen {
             return None;
         }
         let waits = self.some_waits()?;
-        if self.some_called() {
+        if self.some_called(waits) {
             None
         } else {
             Some(waits)

@@ -1,12 +1,14 @@
 //! The verdicts on a record.
 ghost use Rattle.std.specs.Prelude.{◌<◌, length, take, IfOk, IfSome, MatchOption};
 ghost use Rattle.once_world.specs.Called.{SomebodyCalled};
-ghost use Rattle.once_world.specs.Run.{IsRun, AtEvery};
+ghost use Rattle.once_world.specs.Run.{AtEvery};
 ghost use Rattle.once_world.specs.Shown.{kind_of, history_in};
+ghost use Rattle.once_judge.specs.Calls.{IsRunBy};
 ghost use Rattle.once_judge.specs.Verdict.{StopsAt, IsTrueAt, IsForgottenAt, judged};
 ghost use Rattle.once_judge.specs.Shown.{seen_of};
 ghost use Rattle.once_judge.specs.Moments.{FirstForgotten};
 
+use crate::calls::Calls;
 use crate::reason::Reason;
 use crate::seen::Seen;
 use once_world::record::{Entry, Kind};
@@ -41,27 +43,28 @@ pub struct Verdict {
 }
 
 /// Judges a record, the oldest entry first: whether it is a run of a cell of this kind, in which at most `limit` tasks
-/// may be counted in, and whether somebody is called in it whenever somebody has to be.
+/// may be counted in, and whose releases without a value call one task or all; and whether somebody is called in it
+/// whenever somebody has to be.
 ///
 /// A run alone may still lose a wake: only both verdicts together say of a record what `replay` promises of its own.
 ///
 /// `AllocError` says that memory was refused. Then there is no verdict.
 ///
 /// ```
-/// let verdict = judge(rt.alloc(), &kind, limit, &entries)?;
-/// rt.println(VerdictLine(&verdict, &entries))?; // `run, 12 entries, nobody forgotten`
+/// let verdict = judge(rt.alloc(), &Kind::Once, MOST, Calls::One, &entries)?;
 /// ```
 pub fn judge(
     alloc: Global,
     kind: &Kind,
     limit: u64,
+    calls: Calls,
     entries: &[Entry],
 ) -> Result<Verdict, AllocError>
     // With no fault the record is a run. Else it is one up to the entry that the fault names, and no record that begins
     // as this one up to and with that entry is a run.
     ensures run { IfOk result (λ v. MatchOption v.fault
-        (IsRun (kind_of kind.now) limit (history_in entries.now))
-        (λ f. StopsAt (kind_of kind.now) limit entries.now f.entry)) }
+        (IsRunBy calls (kind_of kind.now) limit (history_in entries.now))
+        (λ f. StopsAt calls (kind_of kind.now) limit entries.now f.entry)) }
 
     // The reason that a fault gives is true.
     ensures reason { IfOk result (λ v. IfSome v.fault (λ f.
@@ -75,7 +78,7 @@ pub fn judge(
     // That moment comes before the fault.
     ensures before { IfOk result (λ v. IfSome v.forgotten (λ f. f.entry < length (judged v.fault entries.now))) }
 {
-    let mut seen = Seen::new(alloc, kind, limit)?;
+    let mut seen = Seen::new(alloc, kind, limit, calls)?;
     let mut forgotten = None;
     for (number, entry) in entries.iter().enumerate() {
         if let Err(reason) = seen.may_follow(entry)? {

@@ -22,7 +22,7 @@ use std::alloc::{AllocError, Global};
 mod answers;
 pub mod entries;
 mod lines;
-mod number;
+pub mod number;
 pub mod record;
 
 /// How many steps a `run` line makes.

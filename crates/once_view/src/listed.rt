@@ -115,6 +115,21 @@ impl Listed {
         }
     }
 
+    /// Takes the end of an entry of a record, after the entry: its task may be listed now, or not any more. The task
+    /// that holds is not. A record has no tickets, so each listing has the ticket 0.
+    pub fn settle_entry(&mut self, entry: &Entry, holder: Option<u64>) -> Result<(), AllocError> {
+        match entry {
+            Entry::End(task, Reply::Pending) if holder != Some(*task) => self.list(*task, 0),
+            Entry::End(_, Reply::Pending) => Ok(()),
+            Entry::End(task, _) | Entry::DropEnd(task) => {
+                self.take_out(*task);
+                self.polled.remove(task);
+                Ok(())
+            }
+            _ => Ok(()),
+        }
+    }
+
     fn begin(&mut self, task: u64, waker: u64) -> Result<(), AllocError> {
         match self.polled.get_mut(&task) {
             Some(polled) => polled.waker = waker,

@@ -30,19 +30,41 @@ pub fn write_picture<O: Write>(
 ) -> io::Result<()> {
     let title = script.first.text;
     let lines = lines_in(alloc, &script, range)?;
-    let mut picture = Picture {
-        alloc,
-        range,
-        columns: 0,
-        listed: Listed::new(alloc),
-        lanes: Lanes::new(alloc),
-        cell: first_state(&script.opening.kind),
-        cell_from: 0,
-        shapes: Vec::new(alloc),
-    };
+    let mut picture = Picture::new(alloc, range, &script.opening.kind);
     play(alloc, script, &mut picture)?;
     picture.close()?;
     let drawing = Drawing::new(alloc, title, &lines, &picture.lanes)?;
+    drawing.write(&picture.shapes, output)
+}
+
+/// Writes a picture of a record of a cell of this kind, as SVG. It has a column for each of these lines, and shows the
+/// entries, of which there may be fewer.
+///
+/// ```
+/// write_record(alloc, title, kind, before, &lines, output)
+/// ```
+pub fn write_record<'a, O: Write>(
+    alloc: Global,
+    title: &'a str,
+    kind: &Kind,
+    entries: &[Entry],
+    lines: &'a [String],
+    output: &mut O,
+) -> io::Result<()> {
+    let mut columns = Vec::new(alloc);
+    for (number, text) in (1u64..).zip(lines) {
+        columns.push(TextLine { number, text })?;
+    }
+    let mut picture = Picture::new(alloc, LineRange::all(), kind);
+    for (column, entry) in entries.iter().enumerate() {
+        let at = (column as u64).saturating_mul(TICKS).saturating_add(1);
+        picture.take(at, entry)?;
+        let holder = picture.holder();
+        picture.listed.settle_entry(entry, holder)?;
+    }
+    picture.columns = columns.len() as u64;
+    picture.close()?;
+    let drawing = Drawing::new(alloc, title, &columns, &picture.lanes)?;
     drawing.write(&picture.shapes, output)
 }
 
@@ -103,6 +125,27 @@ impl Watcher for Picture {
 }
 
 impl Picture {
+    fn new(alloc: Global, range: LineRange, kind: &Kind) -> Picture {
+        Picture {
+            alloc,
+            range,
+            columns: 0,
+            listed: Listed::new(alloc),
+            lanes: Lanes::new(alloc),
+            cell: first_state(kind),
+            cell_from: 0,
+            shapes: Vec::new(alloc),
+        }
+    }
+
+    /// The task that holds, if one does.
+    fn holder(&self) -> Option<u64> {
+        match self.cell {
+            CellState::Held(task) => Some(task),
+            CellState::Empty | CellState::Set(_) => None,
+        }
+    }
+
     /// A new column for the line.
     fn draw(&mut self, moment: Moment<'_>) -> Result<(), AllocError> {
         if self.columns == 0 {

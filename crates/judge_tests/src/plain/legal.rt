@@ -31,7 +31,7 @@ impl Rules<'_> {
             }
             Entry::Claim(_) => cell == Cell::Empty && unrun && !call.passed,
             Entry::Ran(_, answer) => holds && unrun && self.is_next(*answer, h),
-            Entry::Free(_, wakers) => holds && may_free(status, call) && self.calls_one(wakers, h),
+            Entry::Free(_, wakers) => holds && may_free(status, call) && self.frees_to(wakers, h),
             Entry::Fill(_, v, wakers) => {
                 let gave = call.ran == Some(Ran::Value(*v));
                 holds && polls && gave && self.hands_out(wakers, h)

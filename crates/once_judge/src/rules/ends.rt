@@ -17,7 +17,7 @@ impl Seen {
 
     /// Whether the poll of the task may end so.
     pub fn may_end(&self, t: u64, reply: Reply) -> Result<(), Reason>
-        ensures rule { Tests result (IsLegalIn self.now.lazy (End t reply) (seen_of self.now)) }
+        ensures rule { Tests result (IsLegalIn self.now.calls self.now.lazy (End t reply) (seen_of self.now)) }
         ensures reason { IfErr result (λ r. IsTrueIn self.now.lazy r (End t reply) (seen_of self.now)) }
     {
         let task = self.task(t);

@@ -12,13 +12,13 @@ use std::collections::BTreeSet;
 impl Seen {
     ghost use Rattle.std.specs.BTreeSet.{contains};
     ghost use Rattle.std.specs.Ordering.{nat_cmp};
-    ghost use Rattle.once_world.specs.Record.{Free, Fill, Pass};
+    ghost use Rattle.once_world.specs.Record.{Free, Pass, Entry as Told, handed_by as wakers_of};
     ghost use Rattle.once_world.specs.Tasks.{Waiting};
     ghost use Rattle.once_judge.specs.Legal.{IsDueFor, IsDueIn, HandsOutIn, CallsOneIn};
     ghost use Rattle.once_judge.specs.Reasons.{Tests, IsTrueIn};
     ghost use Rattle.once_judge.specs.Shown.{seen_of, task_in};
 
-    /// Whether a release without a value may hand these out: at most one, and one if any is due.
+    /// Whether a release that calls one may hand these out: at most one, and one if any is due.
     pub fn calls_one(&self, t: u64, wakers: &[u64]) -> Result<(), Reason>
         ensures rule { Tests result (CallsOneIn wakers.now (seen_of self.now)) }
         ensures reason { IfErr result (λ r. IsTrueIn self.now.lazy r (Free t wakers.now) (seen_of self.now)) }
@@ -46,16 +46,11 @@ impl Seen {
         }
     }
 
-    /// Whether a release with a value may hand these out: all that are due, each once, and none that is not open.
-    pub fn hands_out(
-        &self,
-        t: u64,
-        v: u64,
-        wakers: &[u64],
-    ) -> Result<Result<(), Reason>, AllocError>
+    /// Whether a release that calls all may hand these out: all that are due, each once, and none that is not open.
+    pub fn hands_out(&self, wakers: &[u64]) -> Result<Result<(), Reason>, AllocError>
         ensures rule { IfOk result (λ answer. Tests answer (HandsOutIn wakers.now (seen_of self.now))) }
-        ensures reason { IfOk result (λ answer. IfErr answer (λ r.
-            IsTrueIn self.now.lazy r (Fill t v wakers.now) (seen_of self.now))) }
+        ensures reason { (e : Told) → wakers_of e ≡ wakers.now → IfOk result (λ answer. IfErr answer (λ r.
+            IsTrueIn self.now.lazy r e (seen_of self.now))) }
     {
         let mut among = BTreeSet::new(self.alloc);
         for waker in wakers {
@@ -91,8 +86,9 @@ impl Seen {
         ensures { MatchOption result ((w : ℕ) → IsDueIn w (seen_of self.now) → contains nat_cmp wakers.now w ≡ true)
             (λ d. IsDueFor d.0 d.1 (seen_of self.now) × (contains nat_cmp wakers.now d.1 ≡ false)) }
     {
-        for (t, task) in &self.tasks {
-            if self.is_due(*task) && !wakers.contains(&task.waker) {
+        for t in &self.tasks.asking {
+            let task = self.task(*t);
+            if self.is_due(task) && !wakers.contains(&task.waker) {
                 return Some((*t, task.waker));
             }
         }

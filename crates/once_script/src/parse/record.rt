@@ -59,14 +59,10 @@ const FIRST_FORM: &'static str =
 /// };
 /// ```
 pub fn parse_record(alloc: Global, text: &[u8]) -> Result<RecordText, BadRecord> {
-    let lines = split_lines(alloc, text)?;
-    let (first, later) = lines.split_first().ok_or(BadRecord::Line(1, FIRST_FORM))?;
-    let Some(Opening { kind, limit }) = opening_in(alloc, first)? else {
-        return Err(BadRecord::Line(1, FIRST_FORM));
-    };
+    let (opening, lines) = parse_first(alloc, text)?;
     let mut entries = Vec::new(alloc);
     let mut number = 1u64;
-    for bytes in later {
+    for bytes in lines.iter().skip(1) {
         number = number.saturating_add(1);
         let text = str::from_utf8(bytes).map_err(|_| BadRecord::Line(number, entry_form("")))?;
         if !is_of_queue(text) {
@@ -75,10 +71,24 @@ pub fn parse_record(alloc: Global, text: &[u8]) -> Result<RecordText, BadRecord>
         }
     }
     Ok(RecordText {
-        kind,
-        limit,
+        kind: opening.kind,
+        limit: opening.limit,
         entries,
     })
+}
+
+/// Reads the first line of a text, and cuts the text into lines, of which the first is that one.
+///
+/// ```
+/// let (opening, lines) = parse_first(alloc, text)?;
+/// ```
+pub fn parse_first(alloc: Global, text: &[u8]) -> Result<(Opening, Vec<&[u8]>), BadRecord> {
+    let lines = split_lines(alloc, text)?;
+    let first = lines.first().ok_or(BadRecord::Line(1, FIRST_FORM))?;
+    match opening_in(alloc, first)? {
+        Some(opening) => Ok((opening, lines)),
+        None => Err(BadRecord::Line(1, FIRST_FORM)),
+    }
 }
 
 // Whether a line is the one of the queue.

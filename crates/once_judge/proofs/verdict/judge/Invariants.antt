@@ -8,6 +8,6 @@ use Rattle.once_judge.proofs.verdict.judge.Given as goal
 
 abbrev pub invariant-loop-number : goal.invariant-loop-number
 invariant-loop-number l =
-    Judged (kind_of l.kind) l.limit (history_in (take l.number l.entries)) (seen_of l.seen)
-    × (l.seen.limit ≡ l.limit) × (l.seen.lazy ≡ is_lazy (kind_of l.kind))
+    Judged l.fn.calls (kind_of l.kind) l.limit (history_in (take l.number l.entries)) (seen_of l.seen)
+    × (l.seen.limit ≡ l.limit) × (l.seen.calls ≡ l.fn.calls) × (l.seen.lazy ≡ is_lazy (kind_of l.kind))
     × Watched (kind_of l.kind) l.entries l.number l.forgotten

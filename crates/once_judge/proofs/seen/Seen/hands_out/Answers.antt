@@ -1,10 +1,10 @@
 -- Each waker is new and open; and then each that is due stands among them.
-use Rattle.std.proofs.Common.{◌≡◌, ◌<◌, ◌+◌, ℕ, Bool, true, false, cond, ◌==◌, List, length, take, get_or, refl, sym, ap, ◌∙◌, subst, arith, nat_cmp}
+use Rattle.std.proofs.Common.{◌≡◌, ◌≤◌, ◌<◌, ◌+◌, ℕ, Bool, true, false, cond, ◌==◌, List, length, take, get_or, refl, sym, ap, ◌∙◌, subst, arith, nat_cmp}
 use Rattle.std.specs.Cmp.{unsigned_tied}
 use Rattle.std.specs.BTreeSet.{contains}
 use Rattle.std.proofs.lemmas.Bool.{false≢true, not-true, not-false, eqb-true}
 use Rattle.std.proofs.lemmas.List.{take_all}
-use Rattle.once_queue.specs.Numbers.{member, is_distinct}
+use Rattle.once_queue.specs.Numbers.{member, is_distinct, times_in}
 use Rattle.once_judge.specs.Seen.{Seen}
 use Rattle.once_judge.specs.Shown.{seen_of}
 use Rattle.once_judge.proofs.Lists.{twice, twice_in, member_get, distinct_step, member_more}
@@ -23,7 +23,7 @@ returns-then-not-branch-clause-reason c =
     let X = c.args.wakers.now in
     let i = c.loop-waker.waker-index in
     let there : contains nat_cmp c.loop-waker.among (get_or X i 0) ≡ true = not-false _ (sym c.in_ok-insert.ensures.added ∙ c.if-not-branch.true) in
-    twice_in X i (omega arith) (sym (c.loop-waker.invariant.0 (get_or X i 0)) ∙ there)
+    λ e same. subst (λ Y. 2 ≤ times_in (get_or X i 0) Y) (sym same) (twice_in X i (omega arith) (sym (c.loop-waker.invariant.0 (get_or X i 0)) ∙ there))
 
 pub returns-then-not-is_open-clause-rule : goal.returns-then-not-is_open-clause-rule
 returns-then-not-is_open-clause-rule c =
@@ -35,7 +35,10 @@ pub returns-then-not-is_open-clause-reason : goal.returns-then-not-is_open-claus
 returns-then-not-is_open-clause-reason c =
     let X = c.args.wakers.now in
     let i = c.loop-waker.waker-index in
-    (member_get X i (omega arith), shut ((seen_of c.args.self.now).times (get_or X i 0)) (λ o. false≢true (sym c.if-not-is_open.true ∙ c.is_open.ensures.1 o)))
+    λ e same. (
+      ap (member (get_or X i 0)) same ∙ member_get X i (omega arith),
+      shut ((seen_of c.args.self.now).times (get_or X i 0)) (λ o. false≢true (sym c.if-not-is_open.true ∙ c.is_open.ensures.1 o)),
+    )
 
 swap : (a b : Bool) → cond a true b ≡ cond b true a
 swap true true = refl
@@ -86,4 +89,4 @@ returns-in-Some-clause-reason c =
     let i = c.loop-waker.waker-index in
     let w = c.in-Some.waker in
     let out : member w X ≡ false = sym (ap (member w) (take_all i X (omega arith))) ∙ sym (c.loop-waker.invariant.0 w) ∙ c.in-Some.ensures.1 in
-    (c.in-Some.ensures.0, out)
+    λ e same. (c.in-Some.ensures.0, ap (member w) same ∙ out)

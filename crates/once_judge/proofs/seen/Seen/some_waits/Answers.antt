@@ -1,41 +1,29 @@
--- Each task that lives is looked at.
-use Rattle.std.proofs.Common.{◌≡◌, sym, ◌∙◌, subst, nat_cmp}
-use Rattle.std.specs.Prelude.{IfSome}
+-- Each task that waits is looked at.
+use Rattle.std.proofs.Common.{◌≡◌, ℕ, sym, ap, ◌∙◌, subst}
 use Rattle.std.specs.List.{All}
-use Rattle.std.specs.Cmp.{nat_cmp_total}
-use Rattle.std.specs.Map.Iter.{deref_pair}
-use Rattle.std.specs.BTreeMap.{is_at}
+use Rattle.std.specs.Map.Iter.{deref}
 use Rattle.std.proofs.lemmas.Bool.{false≢true}
 use Rattle.std.proofs.lemmas.List.Elements.{All-push, All-map}
-use Rattle.std.proofs.lemmas.Map.Entries.{All-lookup}
-use Rattle.std.proofs.lemmas.Map.Iter.{btree_map_turn, iter_end}
-use Rattle.once_judge.specs.declared.task.Task.{Task}
+use Rattle.std.proofs.lemmas.Map.Iter.{iter_end}
 use Rattle.once_world.specs.Tasks.{Waiting}
-use Rattle.once_judge.specs.Shown.{task_in}
-use Rattle.once_judge.proofs.Dues.{waits_at, none_waits}
+use Rattle.once_judge.specs.Shown.{seen_of}
+use Rattle.once_judge.proofs.Dues.{all_stand}
 use Rattle.once_judge.proofs.seen.Seen.some_waits.Goals as goal
 
 pub returns-then-is_waiting : goal.returns-then-is_waiting
-returns-then-is_waiting c =
-    let h = c.into_iter-t-iterator.ensures.into_iter_gives in
-    let turn = btree_map_turn deref_pair c.loop-t.yielded c.into_iter-t-iterator.result c.loop-t.t-iterator c.next.new.self c.next.result
-    (c.in-Some.t, c.in-Some.task) c.loop-t.yielded_by c.in-Some.is c.next.ensures.steps nat_cmp_total c.args.self.now.tasks h.0 h.5 in
-    let called = c.is_waiting.ensures.0 c.if-is_waiting.true in
-    waits_at c.args.self.now c.in-Some.t.now c.in-Some.task.now turn.1 called
+returns-then-is_waiting c = ap (λ z. z.status) (sym c.task.ensures) ∙ c.is_waiting.ensures.0 c.if-is_waiting.true
 
 pub returns : goal.returns
 returns c =
     let h = c.into_iter-t-iterator.ensures.into_iter_gives in
-    let all = iter_end deref_pair c.args.self.now.tasks.entries c.loop-t.yielded c.into_iter-t-iterator.result c.loop-t.t-iterator c.next.new.self c.next.result
+    let among = c.args.self.now.tasks.waiting in
+    let all = iter_end deref among.keys c.loop-t.yielded c.into_iter-t-iterator.result c.loop-t.t-iterator c.next.new.self c.next.result
     h.0 c.loop-t.yielded_by c.in-None.is c.next.ensures.steps in
-    let P : Task → Type 0 = λ x. (task_in x).status ≡ Waiting → ⊥ in
-    let each : All (λ e. P e.1) c.args.self.now.tasks.entries =
-    subst (λ es. All (λ e. P e.1) es) all.0 (All-map (λ e. P e.1) deref_pair c.loop-t.yielded c.loop-t.invariant) in
-    none_waits c.args.self.now (λ t x g.
-    let found = All-lookup P (is_at (nat_cmp t)) c.args.self.now.tasks.entries each in
-    subst (λ o. IfSome o P) g found)
+    let P : ℕ → Type 0 = λ t. ((seen_of c.args.self.now).task t).status ≡ Waiting → ⊥ in
+    let each : All P among.keys = subst (All P) all.0 (All-map P deref c.loop-t.yielded c.loop-t.invariant) in
+    λ t w. all_stand c.args.self.now P each t w w
 
 pub loop-t-preserved : goal.loop-t-preserved
 loop-t-preserved c =
-    All-push (λ p. (task_in p.1.now).status ≡ Waiting → ⊥) c.loop-t.yielded (c.in-Some.t, c.in-Some.task) c.loop-t.invariant
-    (λ w. false≢true (sym c.if-is_waiting.false ∙ c.is_waiting.ensures.1 w))
+    All-push (λ p. ((seen_of c.args.self.now).task p.now).status ≡ Waiting → ⊥) c.loop-t.yielded c.in-Some.t c.loop-t.invariant
+    (λ w. false≢true (sym c.if-is_waiting.false ∙ c.is_waiting.ensures.1 (ap (λ z. z.status) c.task.ensures ∙ w)))

@@ -2,8 +2,8 @@
 use Rattle.std.specs.List.{All}
 use Rattle.std.proofs.Common.{◌≡◌}
 use Rattle.once_world.specs.Tasks.{Waiting}
-use Rattle.once_judge.specs.Shown.{task_in}
+use Rattle.once_judge.specs.Shown.{seen_of}
 use Rattle.once_judge.proofs.seen.Seen.some_waits.Given as goal
 
 abbrev pub invariant-loop-t : goal.invariant-loop-t
-invariant-loop-t l = All (λ p. (task_in p.1.now).status ≡ Waiting → ⊥) l.yielded
+invariant-loop-t l = All (λ p. ((seen_of l.self).task p.now).status ≡ Waiting → ⊥) l.yielded

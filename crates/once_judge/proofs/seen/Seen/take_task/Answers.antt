@@ -30,9 +30,9 @@ returns-clause-seen c =
     (ap (λ k. k.entries) r ∙ ap (λ k. k.entries) o)
     (ap (λ k. (seen_of k).cell) r ∙ ap (λ k. (seen_of k).cell) o)
     (ap (λ k. (seen_of k).answers) r ∙ ap (λ k. (seen_of k).answers) o)
-    (λ u. h u ∙ ap (λ k. cond (c.args.t == u) y (task_at k.tasks k.gone u)) o)
+    (λ u. h u ∙ ap (λ k. cond (c.args.t == u) y (task_at k.tasks.all k.gone u)) o)
     (λ w. ap (λ k. count_at k.times w) r ∙ c.in_ok-open.ensures.times w)
-    (λ w. ap (λ k. count_at k.handed w) r ∙ ap (λ k. count_at k.handed w) o)
+    (λ w. ap (λ m. count_at m w) c.put.ensures.handed ∙ ap (λ k. count_at k.tasks.handed w) o)
     about acting
     (ap (λ k. k.crowded_at) r ∙ ap (λ k. k.crowded_at) o)
     (ap (λ k. k.acting_at) r ∙ ap (λ k. k.acting_at) o)

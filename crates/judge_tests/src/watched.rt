@@ -1,0 +1,120 @@
+//! Replays at random, of which is told what can be seen from outside: a run is found that has it.
+
+use crate::damaged::{Chance, crowd, record};
+use once_judge::observed::{Answer, Event, Observed, StopLine, linearize};
+use once_judge::{Calls, Verdict, judge};
+use once_script::print::FullLine;
+use once_world::world::{Entry, Kind};
+use std::alloc::{AllocError, Global};
+use std::process::Abort;
+use std::test::Fail;
+
+// The task of an entry that can be seen, or 0 of one that has none; and no number of one that can't be seen.
+fn seen_of(entry: &Entry) -> Option<u64> {
+    match entry {
+        Entry::Claim(_) | Entry::Free(_, _) | Entry::Fill(_, _, _) | Entry::Pass(_, _) => None,
+        Entry::Look(_) | Entry::Own(_, _) => Some(0),
+        Entry::Made(task)
+        | Entry::Begin(task, _)
+        | Entry::Ran(task, _)
+        | Entry::End(task, _)
+        | Entry::DropBegin(task)
+        | Entry::DropEnd(task) => Some(*task),
+    }
+}
+
+// What can be seen of each task, and of all else: the lines of its entries in their order.
+fn told(alloc: Global, entries: &[Entry]) -> Result<Vec<String>, AllocError> {
+    let mut told = Vec::new(alloc);
+    for task in 0..4u64 {
+        let mut lines = String::new(alloc);
+        for entry in entries {
+            if seen_of(entry) == Some(task) {
+                lines.push_str(format!(in alloc; "{}\n", FullLine(entry))?.as_str())?;
+            }
+        }
+        told.push(lines)?;
+    }
+    Ok(told)
+}
+
+// What is seen of these entries, with their wakes or without.
+fn events(
+    alloc: Global,
+    entries: Vec<Entry>,
+    are_wakes_seen: bool,
+) -> Result<Vec<Event>, AllocError> {
+    let mut events = Vec::new(alloc);
+    for entry in entries {
+        match &entry {
+            Entry::Free(task, wakers) | Entry::Fill(task, _, wakers) | Entry::Pass(task, wakers)
+                if are_wakes_seen => {
+                for waker in wakers {
+                    events.push(Event::Woke(*task, *waker))?;
+                }
+            }
+            _ => {}
+        }
+        if seen_of(&entry).is_some() {
+            events.push(Event::Entry(entry))?;
+        }
+    }
+    Ok(events)
+}
+
+// A run is found that has what is seen of the record of a replay at random.
+fn is_found(
+    rt: &impl Abort,
+    alloc: Global,
+    seed: u64,
+    are_wakes_seen: bool,
+) -> Result<(), AllocError> {
+    let mut chance = Chance::new(seed);
+    let limit = chance.limit();
+    let first = if seed.is_multiple_of(2) {
+        crowd(alloc, &mut chance)?
+    } else {
+        Vec::new(alloc)
+    };
+    let (kind, entries) = record(alloc, &mut chance, limit, first)?;
+    let wanted = told(alloc, &entries)?;
+    let observed = Observed {
+        kind,
+        limit,
+        are_wakes_seen,
+        events: events(alloc, entries, are_wakes_seen)?,
+    };
+    match linearize(alloc, &observed, Calls::One, 100_000) {
+        Ok(Answer::Run(found)) => {
+            let verdict = judge(alloc, &observed.kind, limit, Calls::One, &found)?;
+            let good = Verdict {
+                fault: None,
+                forgotten: None,
+            };
+            assert_eq!(rt; verdict, good, "of the seed {seed}");
+            assert!(rt; told(alloc, &found)? == wanted, "of the seed {seed}");
+        }
+        Ok(Answer::NoRun(stop) | Answer::GaveUp(stop)) => {
+            let line = StopLine(&stop, &observed.events);
+            assert!(rt; false, "of the seed {seed}: {line}");
+        }
+        Err(bad) => assert!(rt; false, "of the seed {seed}: {bad:?}"),
+    }
+    Ok(())
+}
+
+#[test]
+fn runs_of_replays_are_found(rt: HostRuntime) -> Result<(), Fail> {
+    for seed in 0..300 {
+        is_found(&rt, rt.alloc(), seed, true)?;
+    }
+    Ok(())
+}
+
+#[test]
+fn they_are_found_without_the_wakes(rt: HostRuntime) -> Result<(), Fail> {
+    for seed in 0..300 {
+        is_found(&rt, rt.alloc(), seed, false)?;
+    }
+    Ok(())
+}

@@ -1,0 +1,155 @@
+//! A judge of entries that come one by one.
+ghost use Rattle.std.specs.Prelude.{◌≡◌, length};
+ghost use Rattle.once_judge.specs.Shown.{Within, seen_of};
+
+use crate::calls::Calls;
+use crate::reason::Reason;
+use crate::seen::Seen;
+use crate::task::{Cell, Status, Task};
+use once_world::record::{Entry, Kind, Ran};
+use std::alloc::{AllocError, Global};
+
+/// A judge of entries that come one by one: what it took is a run.
+#[derive(Drop)]
+pub struct Judge {
+    seen: Seen,
+    taken: Vec<Entry>,
+    // What is kept is of so many entries.
+    ghost within: { Within (seen_of seen) },
+    ghost counts: { seen.entries ≡ length taken.items },
+}
+
+impl Judge {
+    /// A judge that took nothing yet.
+    pub fn new(alloc: Global, kind: &Kind, limit: u64, calls: Calls) -> Result<Judge, AllocError> {
+        Ok(Judge {
+            seen: Seen::new(alloc, kind, limit, calls)?,
+            taken: Vec::new(alloc),
+        })
+    }
+
+    /// Takes an entry if it may come next, and else tells why not.
+    pub fn take(mut self, entry: Entry) -> Result<(Judge, Option<Reason>), AllocError> {
+        if let Err(reason) = self.seen.may_follow(&entry)? {
+            return Ok((self, Some(reason)));
+        }
+        self.seen.take(&entry)?;
+        self.taken.push(entry)?;
+        Ok((self, None))
+    }
+
+    /// A task that waits for an empty cell while nobody was called.
+    pub fn forgotten(&self) -> Option<u64> {
+        self.seen.forgotten()
+    }
+
+    /// What it took, the oldest entry first.
+    pub fn into_taken(self) -> Vec<Entry> {
+        self.taken
+    }
+
+    /// Whether the waker of the task's last poll was handed out since that poll ended.
+    pub fn was_woken(&self, task: u64) -> bool {
+        let task = self.seen.task(task);
+        self.seen.was_handed(task.listed, task)
+    }
+
+    /// The wakers that a call may have woken: those of the tasks that wait and were not called, and also of those in
+    /// a call that they began so, unless only what is due is asked for.
+    pub fn listed(&self, alloc: Global, due_alone: bool) -> Result<Vec<u64>, AllocError> {
+        let mut wakers = Vec::new(alloc);
+        for (_, task) in &self.seen.tasks.all {
+            if is_listed(task, due_alone)
+                && !self.seen.was_handed(task.listed, *task)
+                && !wakers.contains(&task.listed)
+            {
+                wakers.push(task.listed)?;
+            }
+        }
+        Ok(wakers)
+    }
+
+    /// Numbers that tell all of what may come from here on: two judges with the same numbers take the same.
+    pub fn digest(&self, alloc: Global) -> Result<Vec<u64>, AllocError> {
+        let mut numbers = Vec::new(alloc);
+        numbers.extend_from_slice(&cell_numbers(self.seen.cell))?;
+        numbers.push(self.seen.used as u64)?;
+        for (number, task) in &self.seen.tasks.all {
+            numbers.extend_from_slice(&[
+                *number,
+                task.waker,
+                task.listed,
+                self.flags(*number, task),
+            ])?;
+            numbers.extend_from_slice(&[status_number(task.status), status_number(task.began)])?;
+            numbers.extend_from_slice(&answer_numbers(task.ran))?;
+        }
+        for (waker, times) in &self.seen.times {
+            if *times > 0 {
+                numbers.extend_from_slice(&[*waker, *times])?;
+            }
+        }
+        Ok(numbers)
+    }
+
+    // What is so of a task or not, a bit for each.
+    fn flags(&self, number: u64, task: &Task) -> u64 {
+        let seen = &self.seen;
+        let flags = [
+            task.set_then,
+            task.claimed,
+            task.freed,
+            task.passed,
+            seen.was_handed(task.waker, *task),
+            seen.was_handed(task.listed, *task),
+            task.begun <= seen.other_held_at(number),
+            task.begun <= seen.acting_at,
+            task.begun <= seen.crowded_at,
+        ];
+        let mut sum = 0;
+        for flag in flags {
+            sum = (sum & 0xFFFF) * 2 + u64::from(flag);
+        }
+        sum
+    }
+}
+
+fn cell_numbers(cell: Cell) -> [u64; 2] {
+    match cell {
+        Cell::Empty => [0, 0],
+        Cell::Held(task) => [1, task],
+        Cell::SetTo(value) => [2, value],
+    }
+}
+
+fn answer_numbers(answer: Option<Ran>) -> [u64; 2] {
+    match answer {
+        None => [0, 0],
+        Some(Ran::Pending) => [1, 0],
+        Some(Ran::Value(value)) => [2, value],
+        Some(Ran::Error(error)) => [3, error],
+    }
+}
+
+fn status_number(status: Status) -> u64 {
+    match status {
+        Status::Unmade => 0,
+        Status::Fresh => 1,
+        Status::Polling => 2,
+        Status::Dropping => 3,
+        Status::Waiting => 4,
+        Status::Holding => 5,
+        Status::Gone => 6,
+    }
+}
+
+// Whether a task waits, or is in a call that it began so and in which it did not claim.
+fn is_listed(task: &Task, due_alone: bool) -> bool {
+    match task.status {
+        Status::Waiting => true,
+        Status::Polling | Status::Dropping => {
+            !due_alone && matches!(task.began, Status::Waiting) && !task.claimed
+        }
+        _ => false,
+    }
+}

@@ -1,0 +1,40 @@
+//! What was seen of a cell from outside, and whether a run has it.
+//!
+//! `calls` makes calls of the events, each with what it did and between which events; `search` looks for an order of
+//! all that, in which each entry may come next.
+
+mod calls;
+mod search;
+mod text;
+
+use crate::report::ReasonText;
+pub use calls::BadEvents;
+use once_script::print::FullLine;
+pub use search::{Answer, Stop, linearize};
+use std::fmt;
+pub use text::{Event, Observed, parse_observed};
+
+/// The line of a search that found no run, without its end.
+#[derive(Clone, Copy)]
+pub struct StopLine<'a>(pub &'a Stop, pub &'a [Event]);
+
+impl fmt::Display for StopLine<'_> {
+    fn fmt<W: fmt::Write>(&self, f: &mut fmt::Formatter<W>) -> fmt::Result {
+        let Stop { event, reason } = *self.0;
+        write!(
+            f,
+            "no run has what was seen: event {}",
+            event.saturating_add(1)
+        )?;
+        match self.1.get(event) {
+            Some(Event::Entry(entry)) => write!(f, ", {}", FullLine(entry))?,
+            Some(Event::Woke(task, waker)) => write!(f, ", woke {task} {waker}")?,
+            Some(Event::Woken(task)) => write!(f, ", woken {task}")?,
+            None => {}
+        }
+        match reason {
+            Some(reason) => write!(f, ": {}", ReasonText(reason)),
+            None => Ok(()),
+        }
+    }
+}

@@ -1,0 +1,101 @@
+//! The text of what was seen of a cell from outside: the first line of a script, and then a line for each event.
+
+use once_script::parse::entries::{entry_form, parse_entry};
+use once_script::parse::number::parse_number;
+use once_script::parse::record::{BadRecord, parse_first};
+use once_world::record::{Entry, Kind};
+use std::alloc::{AllocError, Global};
+
+/// Something that was seen of a cell from outside: by code that calls the cell, by an init that it polls, or by a waker
+/// that it wakes.
+#[derive(Debug, Drop, PartialEq, Eq)]
+pub enum Event {
+    /// An entry of the record that can be seen: a task was made, a call began or ended, an init was polled, somebody
+    /// looked, or the owner called. Where in its call it stands in the record is not seen, if it is an end.
+    Entry(Entry),
+    /// A call of this task woke this waker.
+    Woke(u64, u64),
+    /// The waker of the task's last poll has been woken since that poll ended, whoever woke it.
+    Woken(u64),
+}
+
+/// What was seen of a cell, and of which cell.
+#[derive(Debug, Drop)]
+pub struct Observed {
+    /// The kind of the cell, as it was when nothing was seen of it yet.
+    pub kind: Kind,
+    /// How many tasks may be counted in.
+    pub limit: u64,
+    /// Whether each wake was seen, with the call that made it.
+    pub are_wakes_seen: bool,
+    /// The events, the oldest first.
+    pub events: Vec<Event>,
+}
+
+/// Reads a whole text. If its second line is `wakes unseen`, no `woke` may stand in it, and any call may have woken
+/// somebody. Each line ends with a line feed, which the last may lack.
+///
+/// ```
+/// let observed = parse_observed(rt.alloc(), text.as_slice())?;
+/// ```
+pub fn parse_observed(alloc: Global, text: &[u8]) -> Result<Observed, BadRecord> {
+    let (opening, lines) = parse_first(alloc, text)?;
+    let are_wakes_seen = lines.get(1) != Some(&"wakes unseen".as_bytes());
+    let mut events = Vec::new(alloc);
+    let mut number = 1u64;
+    for bytes in lines.iter().skip(1) {
+        number = number.saturating_add(1);
+        let text = str::from_utf8(bytes).map_err(|_| BadRecord::Line(number, event_form("")))?;
+        if number == 2 && !are_wakes_seen {
+            continue;
+        }
+        match parse_event(alloc, text)? {
+            Some(Event::Woke(_, _)) if !are_wakes_seen => {
+                return Err(BadRecord::Line(number, "no wake, since wakes are unseen"));
+            }
+            Some(event) => events.push(event)?,
+            None => return Err(BadRecord::Line(number, event_form(text))),
+        }
+    }
+    Ok(Observed {
+        kind: opening.kind,
+        limit: opening.limit,
+        are_wakes_seen,
+        events,
+    })
+}
+
+// Reads the line of an event. A claim and a release are no events.
+fn parse_event(alloc: Global, text: &str) -> Result<Option<Event>, AllocError> {
+    if let Some(given) = text.strip_prefix("woke ") {
+        let Some((task, waker)) = given.split_once(' ') else {
+            return Ok(None);
+        };
+        let (Some(task), Some(waker)) = (parse_number(task), parse_number(waker)) else {
+            return Ok(None);
+        };
+        return Ok(Some(Event::Woke(task, waker)));
+    }
+    if let Some(task) = text.strip_prefix("woken ") {
+        return Ok(parse_number(task).map(Event::Woken));
+    }
+    match parse_entry(alloc, text)? {
+        None
+        | Some(Entry::Claim(_) | Entry::Free(_, _) | Entry::Fill(_, _, _) | Entry::Pass(_, _)) => {
+            Ok(None)
+        }
+        Some(entry) => Ok(Some(Event::Entry(entry))),
+    }
+}
+
+// The form of the lines that begin with the same word as this one, or of all lines.
+fn event_form(text: &str) -> &'static str {
+    match text.split_once(' ').map_or(text, |parts| parts.0) {
+        "woke" => "woke TASK WAKER",
+        "woken" => "woken TASK",
+        "made" | "begin" | "ran" | "end" | "dropbegin" | "dropend" | "look" | "own" => {
+            entry_form(text)
+        }
+        _ => "made, begin, ran, woke, woken, end, dropbegin, dropend, look or own",
+    }
+}
