@@ -1,6 +1,7 @@
--- With which errors the init of a future may fail.
-use Rattle.std.specs.Prelude.{⊤, Option, IfErr, IsSomeAnd, Result, ◌≡◌}
+-- With which errors the init of a future may fail, and which values it may give.
+use Rattle.std.specs.Prelude.{◌≡◌, ℕ, ⊤, List, Option, IfErr, IsSomeAnd, Result}
 use Rattle.once_world.specs.Places.{EndError, Ending}
+use Rattle.once_parts.specs.Inits.{MayGive}
 use Rattle.async_once_cell.specs.declared.init.InitError.{InitError}
 use Rattle.async_once_cell.specs.declared.init.InitError.TheVariants.{Init}
 
@@ -21,3 +22,12 @@ module _ {I X : Type 0} (may_fail : I → X → Type 0) where
 abbrev pub IfInit : {E : Type 0} → InitError E → (E → Type 0) → Type 0
 IfInit (Init e) P = P e
 IfInit _ P = ⊤
+
+module _ {I T : Type 0} (may_give : I → T → Type 0) where
+  -- what is left of an init gives no value that it could not give before
+  abbrev pub GivesNoOther : Option I → Option I → Type 0
+  GivesNoOther old new = (x : T) → MayGive may_give new x → MayGive may_give old x
+
+  -- each value that the init may give fits what is promised about these numbers
+  abbrev pub InitFits : (List ℕ → T → Type 0) → Option I → List ℕ → Type 0
+  InitFits fits init about = (x : T) → MayGive may_give init x → fits about x

@@ -1,5 +1,6 @@
 -- What a polling task's side tells, and what each of its calls keeps.
--- The context's poll goes on, a side that says that its task is to be called is right, and an error is the init's own.
+-- The context's poll goes on, a side that says that its task is to be called is right, and an error or a value is the
+-- init's own.
 use Rattle.std.specs.Prelude.{◌≡◌, true, false, IfSome}
 use Rattle.std.specs.Option.{is_some}
 use Rattle.futures.specs.Task.{IsArmed, Keeps}
@@ -7,7 +8,8 @@ use Rattle.once_parts.specs.Named.{named_out}
 use Rattle.once_parts.specs.Sides.{Sided}
 use Rattle.async_once_cell.specs.declared.waiting.Polling.{Polling}
 use Rattle.async_once_cell.specs.declared.waiting.Leaving.{Leaving}
-use Rattle.async_once_cell.specs.Inits.{FailsNoOther, MayFail}
+use Rattle.once_parts.specs.Inits.{MayGive}
+use Rattle.async_once_cell.specs.Inits.{FailsNoOther, GivesNoOther, MayFail}
 use Rattle.async_once_cell.specs.declared.waker.ListedWaker.{ListedWaker}
 use Rattle.async_once_cell.specs.Listed.{WakesTask, number_on, whose}
 
@@ -22,13 +24,18 @@ module _ {T E H : Type 0} where
     woke = named_out whose s.woke.value;
   }
 
--- by the errors with which an init may fail, and by which error a side has
-module _ {T E H X : Type 0} (may_fail : H → X → Type 0) (error_of : E → X) where
+-- by the errors with which an init may fail, by the values that it may give, and by which error a side has
+module _ {T E H X : Type 0} (may_fail : H → X → Type 0) (may_give : H → T → Type 0) (error_of : E → X) where
   -- a side that says that its task is to be called is right, its init fails with no other error than when the poll
-  -- began, and the error that is there is one of these
+  -- began and gives no other value, and the error or the value that is there is one of these
   abbrev pub Tied : Polling T E H → Type 0
   Tied s = (s.is_armed ≡ true → IsArmed s.cx.now) × FailsNoOther may_fail s.first.value s.init
       × IfSome s.error (λ e. MayFail may_fail s.first.value (error_of e))
+      × GivesNoOther may_give s.first.value s.init × IfSome s.value (MayGive may_give s.first.value)
+
+  -- the value that a side hands over is one that the init might give when the poll began, if the side is right
+  abbrev pub Hands : Polling T E H → T → Type 0
+  Hands s v = Tied s → MayGive may_give s.first.value v
 
   -- from one moment of a side to a later one: the context is the same, what was armed stays so, the poll began with the
   -- same init, and the side is as right as before

@@ -56,8 +56,13 @@ abbrev pub is_shared : {T : Type 0} → CellView T → Bool
 is_shared (Owned x) = false
 is_shared (Shared s) = true
 
+-- the numbers about which something is promised of the value that tasks put; of an owner's value nothing is
+abbrev pub about_of : {T : Type 0} → CellView T → List ℕ
+about_of (Owned x) = []
+about_of (Shared s) = s.about
+
 -- a cell, by where it keeps its value
-abbrev pub view_of : {T : Type 0} → Value T → CellView T
+abbrev pub view_of : {T V : Type 0} {g : _} → Value T V g → CellView T
 view_of (OwnedValue x) = Owned x
 view_of (SharedValue inner) = Shared inner.slot
 
@@ -111,6 +116,6 @@ OwnsStill (Owned x) y = y ≡ x
 OwnsStill (Shared s) y = ⊤
 
 -- a value of the owner stays, and a cell that tasks share still is the same
-abbrev pub Settled : {T : Type 0} → Value T → Value T → Type 0
+abbrev pub Settled : {T V : Type 0} {g : _} → Value T V g → Value T V g → Type 0
 Settled old (OwnedValue x) = OwnsStill (view_of old) x
 Settled old (SharedValue inner) = old ≡ SharedValue inner

@@ -1,12 +1,12 @@
 //! What a task polls while it has the right: an init of its own, or the future of a lazy cell. And what its caller is
 //! told in place of a value: the error of its init, or a refusal.
-ghost use Rattle.std.specs.Prelude.{◌≡◌, IfErr, IsSome, None, Option, Some};
+ghost use Rattle.std.specs.Prelude.{◌≡◌, IfErr, IfOk, IsSome, None, Option, Some};
 ghost use Rattle.futures.specs.Poll.{IfReady, OnPending};
 ghost use Rattle.futures.specs.Task.{IsArmed, Keeps};
 ghost use Rattle.once_parts.specs.Hands.{HasRight, HasRun};
-ghost use Rattle.once_parts.specs.Inits.{polled_in};
+ghost use Rattle.once_parts.specs.Inits.{MayGive, polled_in};
 ghost use Rattle.once_core.specs.declared.step.Ending.{Ending};
-ghost use Rattle.async_once_cell.specs.Inits.{FailsNoOther, MayFail};
+ghost use Rattle.async_once_cell.specs.Inits.{FailsNoOther, GivesNoOther, MayFail};
 ghost use Rattle.async_once_cell.specs.Polls.{ending_of_refusal};
 ghost use Rattle.async_once_cell.specs.Refused.{own_error};
 ghost use Rattle.async_once_cell.specs.Views.{init_in, shown_in};
@@ -20,10 +20,16 @@ use std::error::Error;
 use std::io::ErrorKind;
 use std::{fmt, io, mem};
 
+/// Which values an init may give. `X` says why there is none.
+pub trait Yields<T, X>: Drop {
+    // The init may give this value.
+    ghost may_give: { Self → T → Type 0 };
+}
+
 /// What a task polls while it has the right. `T` is its value, and `X` says why there is none.
 ///
 /// Only a call that is lent the task's hand can poll it, and a hand says whether its task has the right.
-pub trait Init<T, X: Failure>: Drop {
+pub trait Init<T, X: Failure>: Yields<T, X> {
     // The init may fail with this error.
     ghost may_fail: { Self → X → Type 0 };
 
@@ -38,9 +44,17 @@ pub trait Init<T, X: Failure>: Drop {
         ensures ran { HasRun right.old (polled_in result) right.new }
         ensures init { OnPending result (IsSome init.new) }
         ensures own { IfReady result (λ a. IfErr a (λ e. MayFail may_fail init.old e.error)) }
+        ensures given { IfReady result (λ a. IfOk a (MayGive Self.may_give init.old)) }
         ensures same { FailsNoOther may_fail init.old init.new }
+        ensures same_values { GivesNoOther Self.may_give init.old init.new }
         ensures armed { OnPending result (IsArmed cx.new) }
         ensures kept { Keeps cx.old cx.new };
+}
+
+impl<T, X: Failure, F: Future<Output: Gives<T, X>>> Yields<T, X> for Pollable<F> {
+    ghost use Rattle.std.specs.Prelude.{IsSomeAnd};
+
+    ghost may_give = { λ f v. IsSomeAnd (F.Output.given_with v) (F.gives f) };
 }
 
 /// An init of the task's own.
@@ -84,6 +98,8 @@ struct Given;
 impl<O: Gives<T, X>, T, X: Failure> Splits<O, T, Failed<X>> for Given {
     ghost output_of = { λ e. O.given_as e.error };
 
+    ghost output_with = { λ v. O.given_with v };
+
     #[inline(always)]
     fn split(output: O) -> Result<T, Failed<X>> {
         match output.given() {
@@ -117,10 +133,11 @@ impl<T, I: Drop> Kept<T, I> {
         }
     }
 
-    /// The init, which is taken out.
+    /// The init, which is taken out. Nothing is left.
     #[inline(always)]
     pub(crate) fn take(&mut self) -> Option<I>
-        ensures { result ≡ init_in self.old }
+        ensures taken { result ≡ init_in self.old }
+        ensures nothing { (init_in self.new ≡ None) × (shown_in self.new ≡ None) }
     {
         match mem::replace(self, Kept::Nothing) {
             Kept::Init(init) => Some(init),
@@ -170,14 +187,20 @@ pub trait Gives<T, X: Failure> {
     // What the init gave, if a poll tells this error of its own init.
     ghost given_as: { X → Option Self };
 
+    // What it gave, if this is its value.
+    ghost given_with: { T → Option Self };
+
     /// The value, or the error as a future tells it.
     fn given(self) -> Result<T, X>
         ensures error { IfErr result (λ x. X.ending x ≡ Ending.Error) }
-        ensures own { IfErr result (λ x. given_as x ≡ Some self) };
+        ensures own { IfErr result (λ x. given_as x ≡ Some self) }
+        ensures value { IfOk result (λ v. given_with v ≡ Some self) };
 }
 
 impl<T> Gives<T, Refused> for T {
     ghost given_as = { λ _. None };
+
+    ghost given_with = { λ v. Some v };
 
     #[inline(always)]
     fn given(self) -> Result<T, Refused> {
@@ -186,9 +209,12 @@ impl<T> Gives<T, Refused> for T {
 }
 
 impl<T, E: Drop> Gives<T, InitError<E>> for Result<T, E> {
+    ghost use Rattle.std.specs.Prelude.{Ok};
     ghost use Rattle.async_once_cell.specs.Refused.{given_error};
 
     ghost given_as = { given_error };
+
+    ghost given_with = { λ v. Some (Ok v) };
 
     #[inline(always)]
     fn given(self) -> Result<T, InitError<E>> {

@@ -88,7 +88,7 @@ pub mod once;
 mod waiting;
 mod waker;
 
-pub use init::{Failed, Failure, Gives, Init, InitError, Refused};
+pub use init::{Failed, Failure, Gives, Init, InitError, Refused, Yields};
 pub use lazy::{Lazy, LazyFuturePin, LazyFutureUnpin};
 pub use once::{InitFuture, Initializing, Known, OnceCell, Parker, Told, TryInitFuture};
 pub use once_core::step;

@@ -1,7 +1,7 @@
 //! A cell that is filled once, by the init of one of the calls that ask for its value. And where it keeps that value.
-ghost use Rattle.std.specs.Prelude.{◌≡◌, IfSome, IsSome, None, Some, true, false};
+ghost use Rattle.std.specs.Prelude.{◌≡◌, IfSome, IsSome, None, Ok, Some, true, false};
 ghost use Rattle.std.specs.Option.{is_some};
-ghost use Rattle.async_once_cell.specs.Views.{CellView, IsWritten, Owned, Settled, is_shared, view_of};
+ghost use Rattle.async_once_cell.specs.Views.{CellView, IsWritten, Owned, Settled, about_of, is_shared, view_of};
 ghost use Rattle.async_once_cell.specs.Polls.{IsMade};
 ghost use Rattle.async_once_cell.specs.Tokens.{Gives, IsSetIn, Learns, Lends, LendsMut, Looks};
 
@@ -11,12 +11,13 @@ mod waits;
 
 pub use crate::init::{Failure, Gives, InitError, Refused};
 use crate::waker::ListedWaker;
+use boxcar::tag::{Names, Tag};
 use core::mem::replace_with;
 pub use future::{InitFuture, Initializing, TryInitFuture};
 use futures::Future;
 pub use known::{Known, Told};
 use once_parts::{Inner, Pollable};
-use pagebook::Written;
+use pagebook::{Anything, Fits, Written};
 use std::alloc::AllocGlobal;
 use std::marker::Model;
 use std::sync::Wait;
@@ -38,7 +39,8 @@ pub use waits::Parker;
 ///
 /// The contracts say that a cell made with a value lends that value and gives it back, until its owner
 /// asks for it to write it. Any other cell has a record of all that tasks do with it. Each of its futures
-/// and tokens has seen a beginning of the record, see [`Initializing`] and [`Known`].
+/// and tokens has seen a beginning of the record, see [`Initializing`] and [`Known`]. `V` says what is promised of
+/// the value, see [`OnceCell::promised`].
 ///
 /// Memory is taken only when tasks meet: for the queue of those who wait, and for the place of each in it.
 ///
@@ -46,12 +48,12 @@ pub use waits::Parker;
 /// there like any other task, and may give its own value all the same. A cell may be sent to another
 /// thread if `T: Send`, and shared between threads if `T: Send + Sync`.
 #[derive(Drop)]
-pub struct OnceCell<T> {
-    pub(crate) value: Value<T>,
+pub struct OnceCell<T, V: Fits<T> = Anything> {
+    pub(crate) value: Value<T, V>,
 }
 
 /// A clause sees a cell as the value that its owner put there, or else as the slot into which tasks put one.
-impl<T> Model for OnceCell<T> {
+impl<T, V: Fits<T>> Model for OnceCell<T, V> {
     ghost use Rattle.async_once_cell.specs.Views.{CellView, view_of};
 
     ghost Value = { CellView T };
@@ -60,9 +62,6 @@ impl<T> Model for OnceCell<T> {
 }
 
 impl<T> OnceCell<T> {
-    ghost use Rattle.std.specs.Borrow.{LendsIf, sem};
-    ghost use Rattle.async_once_cell.specs.contracts.once.OnceCell.{the_row};
-
     /// An empty cell, with a new record. It takes no memory. The clause says that tasks share it; none says
     /// that it is empty.
     #[inline(always)]
@@ -82,12 +81,36 @@ impl<T> OnceCell<T> {
             value: Value::Owned(value),
         }
     }
+}
+
+impl<T, V: Fits<T>> OnceCell<T, V> {
+    ghost use Rattle.std.specs.Borrow.{LendsIf, sem};
+    ghost use Rattle.async_once_cell.specs.contracts.once.OnceCell.{the_row};
+
+    /// An empty cell, as by [`new`](OnceCell::new), that promises its value: each value that tasks put fits, as `V`
+    /// says of it and of the numbers of the tag. So whoever is answered the value knows that it fits, on any thread
+    /// and without a token. Each future of the cell asks that its init gives no other value.
+    ///
+    /// ```
+    /// let mut cell = OnceCell::<u64, TenTimes>::promised(&Tag::of::<u64, Key>(&key));
+    /// ```
+    #[inline(always)]
+    pub fn promised(tag: &Tag) -> Self
+        ensures shared { is_shared result ≡ true }
+        ensures about { about_of result ≡ tag.now.numbers }
+    {
+        OnceCell {
+            value: Value::Shared(Inner::promised(tag)),
+        }
+    }
 
     /// The value, if it is set; None if the cell is empty or being filled. It waits for
     /// nobody. Of a cell that tasks share no clause says what it answers: [`OnceCell::get_as`] has such clauses.
     #[inline(always)]
     pub fn get(&self) -> Option<&T>
-        ensures { Lends self.now result }
+        ensures lends { Lends self.now result }
+        ensures promise { is_shared self.now ≡ true
+            → IfSome result (λ value. V.fits (about_of self.now) value.now) }
     {
         match &self.value {
             Value::Owned(value) => Some(value),
@@ -111,7 +134,7 @@ impl<T> OnceCell<T> {
     /// let taken = cell.take(); // Some(6), and the cell is empty
     /// ```
     pub fn get_mut(&mut self) -> Option<&mut T>
-        ensures* writes_back { sem 𝓛 (LendsIf (the_row T.row) T.row self.entry result Owned self.old) }
+        ensures* writes_back { sem 𝓛 (LendsIf (the_row T.row V.row V.Fits) T.row self.entry result Owned self.old) }
         ensures value { LendsMut self.old result }
     {
         self.value.get_mut()
@@ -121,15 +144,27 @@ impl<T> OnceCell<T> {
     /// futures left there goes as well. It waits for nobody.
     pub fn take(&mut self) -> Option<T>
         ensures taken { Gives self.old result }
+        ensures promise { is_shared self.old ≡ true → IfSome result (V.fits (about_of self.old)) }
         ensures fresh { is_shared self.new ≡ true }
+        ensures about { about_of self.new ≡ about_of self.old }
     {
-        mem::replace(self, OnceCell::new()).into_inner()
+        let fresh = self.fresh();
+        mem::replace(self, fresh).into_inner()
+    }
+
+    // An empty cell that promises the same of its value.
+    fn fresh(&self) -> Self
+        ensures shared { is_shared result ≡ true }
+        ensures about { about_of result ≡ about_of self.now }
+    {
+        OnceCell::promised(&Tag::of::<Self, About>(self))
     }
 
     /// The value, if it was set. All else of the cell goes with it, its record and a queue that futures left there
     /// too. It waits for nobody.
     pub fn into_inner(self) -> Option<T>
-        ensures { Gives self result }
+        ensures gives { Gives self result }
+        ensures promise { is_shared self ≡ true → IfSome result (V.fits (about_of self)) }
     {
         let OnceCell { value } = self;
         value.into_inner()
@@ -149,11 +184,12 @@ impl<T> OnceCell<T> {
     /// let is_made = task.poll(&mut waiter).is_ready(); // true: it polled its own init
     /// ```
     #[inline(always)]
-    pub fn get_or_init<'a, F, R>(&'a self, rt: &'a R, init: F) -> InitFuture<'a, T, F, R>
+    pub fn get_or_init<'a, F, R>(&'a self, rt: &'a R, init: F) -> InitFuture<'a, T, F, R, V>
     where
         F: Future<Output = T>,
         R: Wait + AllocGlobal,
-        requires { F.can_poll init }
+        requires can { F.can_poll init }
+        requires fits { (v : T) → F.gives init v → V.fits (about_of self.now) v }
         ensures cell { result.cell ≡ self.now }
         ensures live { result.finished ≡ false }
         ensures made { IsMade result }
@@ -182,11 +218,13 @@ impl<T> OnceCell<T> {
         &'a self,
         rt: &'a R,
         init: F,
-    ) -> TryInitFuture<'a, T, E, F, R>
+    ) -> TryInitFuture<'a, T, E, F, R, V>
     where
+        E: Drop,
         F: Future<Output = Result<T, E>>,
         R: Wait + AllocGlobal,
-        requires { F.can_poll init }
+        requires can { F.can_poll init }
+        requires fits { (v : T) → F.gives init (Ok v) → V.fits (about_of self.now) v }
         ensures cell { result.cell ≡ self.now }
         ensures live { result.finished ≡ false }
         ensures made { IsMade result }
@@ -205,7 +243,7 @@ impl<T> OnceCell<T> {
     /// let first = *value(rt, &cell, &mut token)?; // 6, and the token knows it
     /// let second = *value(rt, &cell, &mut token)?; // the same number, which is proved
     /// ```
-    pub fn token(&self) -> Known<'_, T>
+    pub fn token(&self) -> Known<'_, T, V>
         ensures cell { result.cell ≡ self.now }
         ensures knows { result.value ≡ None }
     {
@@ -222,11 +260,12 @@ impl<T> OnceCell<T> {
     /// let first = cell.get_as(token)?; // from here on the token knows the value
     /// let second = cell.get_as(token).unwrap(); // never None, and the same value: both are proved
     /// ```
-    pub fn get_as<'a>(&'a self, token: &mut Known<'a, T>) -> Option<&'a T>
+    pub fn get_as<'a>(&'a self, token: &mut Known<'a, T, V>) -> Option<&'a T>
         requires token_of_this_cell { token.old.cell ≡ self.now }
         ensures cell { token.new.cell ≡ token.old.cell }
         ensures value { Learns token.old.value token.new.value result }
         ensures lends { Lends self.now result }
+        ensures promise { is_shared self.now ≡ true → IfSome result (λ v. V.fits (about_of self.now) v.now) }
         ensures look { Looks self.now token.old.value (is_some result) token.old.log token.new.log }
         ensures set { IsSome result → IsSetIn self.now token.new.log }
         ensures stays { IsSetIn self.now token.old.log → IsSome result }
@@ -235,9 +274,18 @@ impl<T> OnceCell<T> {
     }
 }
 
-impl<T> OnceCell<T> {
+// The numbers about which a cell promises something of its value.
+struct About;
+
+impl<T, V: Fits<T>> Names<OnceCell<T, V>> for About {
+    ghost use Rattle.async_once_cell.specs.Views.{about_of};
+
+    ghost numbers = { about_of };
+}
+
+impl<T, V: Fits<T>> OnceCell<T, V> {
     /// As [`OnceCell::into_inner`], for a caller that was told the value.
-    pub fn into_inner_as(self, told: &Told<T>) -> T
+    pub fn into_inner_as(self, told: &Told<T, V>) -> T
         requires { told.now.cell ≡ self }
         ensures { result ≡ told.now.value }
     {
@@ -246,24 +294,29 @@ impl<T> OnceCell<T> {
     }
 
     /// As [`OnceCell::take`], for a caller that was told the value.
-    pub fn take_as(&mut self, told: &Told<T>) -> T
+    pub fn take_as(&mut self, told: &Told<T, V>) -> T
         requires { told.now.cell ≡ self.old }
         ensures taken { result ≡ told.now.value }
         ensures fresh { is_shared self.new ≡ true }
+        ensures about { about_of self.new ≡ about_of self.old }
     {
-        mem::replace(self, OnceCell::new()).into_inner_as(told)
+        let fresh = self.fresh();
+        mem::replace(self, fresh).into_inner_as(told)
     }
 }
 
-impl<T: Drop> OnceCell<T> {
+impl<T: Drop, V: Fits<T>> OnceCell<T, V> {
     /// Makes the value the owner's, for a caller that was told it. From then on the clauses of all calls say which
     /// value that is.
-    pub fn own_as(&mut self, told: &Told<T>)
+    pub fn own_as(&mut self, told: &Told<T, V>)
         requires { told.now.cell ≡ self.old }
         ensures { self.new ≡ Owned told.now.value }
     {
         let value = self.take_as(told);
-        drop(mem::replace(self, OnceCell::new_with(value)));
+        let owned = OnceCell {
+            value: Value::Owned(value),
+        };
+        drop(mem::replace(self, owned));
     }
 }
 
@@ -285,7 +338,7 @@ impl<T> From<T> for OnceCell<T> {
     }
 }
 
-impl<T: fmt::Debug> OnceCell<T> {
+impl<T: fmt::Debug, V: Fits<T>> OnceCell<T, V> {
     // What a cell of this name shows. A cell with its owner's value shows the same as one that was filled
     // while nobody else was there.
     pub(crate) fn fmt_as<W: fmt::Write>(
@@ -307,7 +360,7 @@ impl<T: fmt::Debug> OnceCell<T> {
     }
 }
 
-impl<T: fmt::Debug> fmt::Debug for OnceCell<T> {
+impl<T: fmt::Debug, V: Fits<T>> fmt::Debug for OnceCell<T, V> {
     fn fmt<W: fmt::Write>(&self, f: &mut fmt::Formatter<W>) -> fmt::Result {
         self.fmt_as("OnceCell", f)
     }
@@ -315,20 +368,21 @@ impl<T: fmt::Debug> fmt::Debug for OnceCell<T> {
 
 /// The value of a cell, if there is one.
 #[derive(Drop)]
-pub(crate) enum Value<T> {
+pub(crate) enum Value<T, V: Fits<T> = Anything> {
     /// Put there by whoever had the cell alone. It has no record.
     Owned(T),
     /// In what tasks share. They set it once at most.
-    Shared(Inner<T, ListedWaker>),
+    Shared(Inner<T, ListedWaker, V>),
 }
 
-impl<T> Value<T> {
+impl<T, V: Fits<T>> Value<T, V> {
     ghost use Rattle.std.specs.Borrow.{LendsIf, sem};
     ghost use Rattle.async_once_cell.specs.contracts.once.Value.{the_row};
     ghost use Rattle.async_once_cell.specs.declared.once.Value.TheVariants.{Owned as OwnedValue};
 
     fn into_inner(self) -> Option<T>
-        ensures { Gives (view_of self) result }
+        ensures gives { Gives (view_of self) result }
+        ensures promise { is_shared (view_of self) ≡ true → IfSome result (V.fits (about_of (view_of self))) }
     {
         match self {
             Value::Owned(value) => Some(value),
@@ -376,7 +430,8 @@ impl<T> Value<T> {
     // A slot lends its value for reading alone, since what a token says of it holds for good. So a value
     // that lies in a slot is taken out of it first, and the slot goes.
     fn get_mut(&mut self) -> Option<&mut T>
-        ensures* writes_back { sem 𝓛 (LendsIf (the_row T.row) T.row self.entry result OwnedValue self.old) }
+        ensures* writes_back { sem 𝓛
+            (LendsIf (the_row T.row V.row V.Fits) T.row self.entry result OwnedValue self.old) }
         ensures value { LendsMut (view_of self.old) result }
     {
         self.settle();
@@ -387,7 +442,7 @@ impl<T> Value<T> {
     }
 
     // The value, for whoever was told it.
-    fn into_told(self, told: &Told<T>) -> T
+    fn into_told(self, told: &Told<T, V>) -> T
         requires { told.now.cell ≡ view_of self }
         ensures { result ≡ told.now.value }
     {

@@ -11,7 +11,7 @@ ghost use Rattle.once_world.specs.Record.{Begin, DropBegin, DropEnd, Entry, Made
 ghost use Rattle.once_parts.specs.Kept.{Grew, entries_of};
 ghost use Rattle.once_parts.specs.Record.{EndsSet, IsSet};
 ghost use Rattle.once_parts.specs.Walks.{IsOneCall, Spans, end_of};
-ghost use Rattle.async_once_cell.specs.Inits.{FailsNoOther, TellsOwn};
+ghost use Rattle.async_once_cell.specs.Inits.{FailsNoOther, GivesNoOther, InitFits, TellsOwn};
 ghost use Rattle.async_once_cell.specs.Polls.{IsValue, ending_by, is_over, value_of};
 ghost use Rattle.async_once_cell.specs.Views.{init_in, shown_in, value_in};
 
@@ -22,7 +22,7 @@ use once_core::step::{Ending, Polled, Side};
 use once_parts::book::{is_set_where_answered, stays_set};
 use once_parts::{CopiesWaker, Hand, Inner, Mark, Record, Task, TaskSide};
 use once_queue::waiters::{Out, Renews};
-use pagebook::Written;
+use pagebook::{Anything, Fits, Written};
 use std::alloc::AllocGlobal;
 use std::marker::{Model, PhantomData};
 use std::snapshot::Snapshot;
@@ -30,14 +30,14 @@ use std::sync::Wait;
 
 /// A task of a cell with its init. A clause sees both.
 #[derive(Drop)]
-pub(crate) struct Waiting<'a, T, I: Drop, R: Wait + AllocGlobal> {
-    task: Task<'a, 'a, T, ListedWaker, R>,
+pub(crate) struct Waiting<'a, T, I: Drop, R: Wait + AllocGlobal, V: Fits<T> = Anything> {
+    task: Task<'a, 'a, T, ListedWaker, R, V>,
     kept: Kept<T, I>,
     // The init is there until the task is finished.
     ghost has_init: { task.finished ≡ false → is_some (init_in kept) ≡ true },
 }
 
-impl<'a, T, I: Drop, R: Wait + AllocGlobal> Model for Waiting<'a, T, I, R> {
+impl<'a, T, I: Drop, R: Wait + AllocGlobal, V: Fits<T>> Model for Waiting<'a, T, I, R, V> {
     ghost use Rattle.async_once_cell.specs.Views.{IsAnswered, WaitingView, init_in, shown_in, value_in};
 
     ghost Value = { WaitingView T I };
@@ -55,10 +55,10 @@ impl<'a, T, I: Drop, R: Wait + AllocGlobal> Model for Waiting<'a, T, I, R> {
     ghost invariant = { λ f. IsAnswered f.task.cell f.task.finished f.task.log (shown_in f.kept) };
 }
 
-impl<'a, T, I: Drop, R: Wait + AllocGlobal> Waiting<'a, T, I, R> {
+impl<'a, T, I: Drop, R: Wait + AllocGlobal, V: Fits<T>> Waiting<'a, T, I, R, V> {
     /// A new task.
     #[inline(always)]
-    pub(crate) fn new(inner: &'a Inner<T, ListedWaker>, rt: &'a R, init: I) -> Self
+    pub(crate) fn new(inner: &'a Inner<T, ListedWaker, V>, rt: &'a R, init: I) -> Self
         ensures cell { result.cell ≡ inner.now.slot }
         ensures live { result.finished ≡ false }
         ensures init { result.init ≡ Some init }
@@ -125,7 +125,7 @@ impl<'a, T, I: Drop, R: Wait + AllocGlobal> Waiting<'a, T, I, R> {
 
     /// Shows that two tasks of a cell have two numbers.
     #[inline(always)]
-    pub(crate) fn are_two<J: Drop>(a: &mut Self, b: &mut Waiting<'a, T, J, R>)
+    pub(crate) fn are_two<J: Drop>(a: &mut Self, b: &mut Waiting<'a, T, J, R, V>)
         requires book { b.old.cell.book ≡ a.old.cell.book }
         ensures cell { a.new.cell ≡ a.old.cell }
         ensures number { a.new.number ≡ a.old.number }
@@ -150,46 +150,63 @@ impl<'a, T, I: Drop, R: Wait + AllocGlobal> Waiting<'a, T, I, R> {
         leave_unfinished(task);
     }
 
-    /// The same for a future that lives on, and answers the value that this shows: the task gives the right back, or
-    /// leaves those who wait.
+    /// The same for a future that lives on: the task gives the right back, or leaves those who wait.
     #[inline(never)]
-    pub(crate) fn leave(&mut self, written: &Written<T>)
+    pub(crate) fn leave(&mut self)
         requires live { self.old.finished ≡ false }
-        requires of { written.now.of ≡ self.old.cell.id }
-        requires set { IsSet self.old.log }
         ensures cell { self.new.cell ≡ self.old.cell }
         ensures number { self.new.number ≡ self.old.number }
         ensures gone { Grew (DropEnd self.new.number ∷ []) self.old.log self.new.log }
         ensures call { IsOneCall self.new.number (DropBegin self.new.number) (DropEnd self.new.number)
             self.old.log self.new.log }
+        ensures set { IsSet self.old.log → IsSet self.new.log }
         ensures finished { self.new.finished ≡ true }
-        ensures value { self.new.value ≡ Some written.now.value }
+        ensures init { self.new.init ≡ None }
+        ensures value { self.new.value ≡ None }
     {
         let before = self.task.record();
         drop(self.kept.take());
         let mut side = Leaving::<T, R>::new(self.task.rt(), self.task.mark());
         self.task.leave(&mut side);
         stays_set(&before, &self.task.record());
+    }
+
+    /// A task that left takes over the value that this shows as the one that it answered.
+    #[inline(always)]
+    pub(crate) fn take_over(&mut self, written: &Written<T>)
+        requires finished { self.old.finished ≡ true }
+        requires of { written.now.of ≡ self.old.cell.id }
+        requires set { IsSet self.old.log }
+        ensures cell { self.new.cell ≡ self.old.cell }
+        ensures number { self.new.number ≡ self.old.number }
+        ensures log { self.new.log ≡ self.old.log }
+        ensures finished { self.new.finished ≡ true }
+        ensures init { self.new.init ≡ None }
+        ensures value { self.new.value ≡ Some written.now.value }
+    {
         self.kept = Kept::Answered(written.again());
     }
 }
 
 // A task that is not finished, and whose init is gone, leaves.
 #[inline(never)]
-fn leave_unfinished<T, R: Wait + AllocGlobal>(mut task: Task<'_, '_, T, ListedWaker, R>)
+fn leave_unfinished<T, R: Wait + AllocGlobal, V: Fits<T>>(
+    mut task: Task<'_, '_, T, ListedWaker, R, V>,
+)
     requires live { task.finished ≡ false }
 {
     let mut side = Leaving::<T, R>::new(task.rt(), task.mark());
     task.leave(&mut side);
 }
 
-impl<'a, T: Drop, I: Drop, R: Wait + AllocGlobal> Waiting<'a, T, I, R> {
+impl<'a, T: Drop, I: Drop, R: Wait + AllocGlobal, V: Fits<T>> Waiting<'a, T, I, R, V> {
     /// Polls the task once.
     #[inline(always)]
     pub(crate) fn poll<X: Failure>(&mut self, cx: &mut Context<'_>) -> Poll<Result<&'a T, X>>
     where
         I: Init<T, X>,
         requires live { self.old.finished ≡ false }
+        requires fits { InitFits I.may_give V.fits self.old.init self.old.cell.about }
         ensures cell { self.new.cell ≡ self.old.cell }
         ensures number { self.new.number ≡ self.old.number }
         ensures end { Grew (end_of self.new.number (ending_by X.ending result) ∷ []) self.old.log self.new.log }
@@ -203,8 +220,10 @@ impl<'a, T: Drop, I: Drop, R: Wait + AllocGlobal> Waiting<'a, T, I, R> {
         ensures armed { ending_by X.ending result ≡ Ending.Pending → IsArmed cx.new }
         ensures kept { Keeps cx.old cx.new }
         ensures value { self.new.value ≡ value_of result }
+        ensures promise { IfSome (value_of result) (V.fits self.old.cell.about) }
         ensures own { IfReady result (TellsOwn I.may_fail X.ending self.old.init) }
         ensures same { FailsNoOther I.may_fail self.old.init self.new.init }
+        ensures same_values { GivesNoOther I.may_give self.old.init self.new.init }
     {
         let init = self.kept.take();
         let mut side = Polling {
@@ -228,16 +247,19 @@ impl<'a, T: Drop, I: Drop, R: Wait + AllocGlobal> Waiting<'a, T, I, R> {
             is_armed,
             woke: _woke,
         } = side;
-        self.kept = Kept::from_init(init);
-        if ending == Ending::Pending && !is_armed {
-            // No clause says that who is told of its listing has one to renew. Without one it asks for a poll.
-            let _: Poll<()> = cx.yield_now();
+        if ending == Ending::Pending {
+            self.kept = Kept::from_init(init);
+            if !is_armed {
+                // No clause says that who is told of its listing has one to renew. Without one it asks for a poll.
+                let _: Poll<()> = cx.yield_now();
+            }
             return Poll::Pending;
         }
         self.answer(ending, error)
     }
 
-    // The answer of a poll that ended in this way. `error` is what its init gave, if it gave an error.
+    // The answer of a poll that ended in this way, and left no init. `error` is what its init gave, if it gave an
+    // error.
     #[inline(always)]
     fn answer<X: Failure>(
         &mut self,
@@ -248,7 +270,8 @@ impl<'a, T: Drop, I: Drop, R: Wait + AllocGlobal> Waiting<'a, T, I, R> {
         I: Init<T, X>,
         requires value { ending ≡ Ending.Value → EndsSet self.old.number self.old.log }
         requires finished { ending ≡ Ending.Value → self.old.finished ≡ true }
-        requires unanswered { self.old.value ≡ None }
+        requires nothing { (self.old.value ≡ None) × (self.old.init ≡ None) }
+        requires not_pending { ending ≡ Ending.Pending → ⊥ }
         requires error { ending ≡ Ending.Error → IsSome error }
         requires not_dropped { ending ≡ Ending.Dropped → ⊥ }
         ensures ending { ending_by X.ending result ≡ ending }
@@ -257,14 +280,14 @@ impl<'a, T: Drop, I: Drop, R: Wait + AllocGlobal> Waiting<'a, T, I, R> {
         ensures number { self.new.number ≡ self.old.number }
         ensures log { self.new.log ≡ self.old.log }
         ensures finished { self.new.finished ≡ self.old.finished }
-        ensures same { FailsNoOther I.may_fail self.old.init self.new.init }
+        ensures init { self.new.init ≡ None }
         ensures set { ending ≡ Ending.Value → IsSet self.new.log }
         ensures value { self.new.value ≡ value_of result }
+        ensures promise { IfSome (value_of result) (V.fits self.old.cell.about) }
         ensures own { IfReady result (λ a. IfErr a
             (λ x. X.ending x ≡ Ending.Error → IsSomeAnd error (λ e. e.error ≡ x))) }
     {
         match ending {
-            Ending::Pending => Poll::Pending,
             Ending::Value => {
                 is_set_where_answered(&self.task.record());
                 let (value, written) = self.task.value();
@@ -274,7 +297,7 @@ impl<'a, T: Drop, I: Drop, R: Wait + AllocGlobal> Waiting<'a, T, I, R> {
             Ending::Error => Poll::Ready(Err(error.unwrap().into_inner())),
             Ending::Memory => Poll::Ready(Err(X::refused(Refused::Memory))),
             Ending::Full => Poll::Ready(Err(X::refused(Refused::Full))),
-            Ending::Dropped => unreachable!(),
+            Ending::Pending | Ending::Dropped => unreachable!(),
         }
     }
 }
@@ -299,7 +322,7 @@ impl<T: Drop, X: Failure, I: Init<T, X>> Side<ListedWaker> for Polling<'_, '_, T
     ghost use Rattle.std.proofs.Common.{rules};
     ghost use Rattle.std.specs.Prelude.{IsSomeAnd};
     ghost use Rattle.once_parts.specs.Sides.{HasCopied, HasWoken, sided_tells};
-    ghost use Rattle.async_once_cell.specs.Stays.{Stays, told};
+    ghost use Rattle.async_once_cell.specs.Stays.{Hands, Stays, told};
     ghost use Rattle.async_once_cell.specs.Listed.{WakesTask, whose};
 
     type Value = T;
@@ -312,7 +335,9 @@ impl<T: Drop, X: Failure, I: Init<T, X>> Side<ListedWaker> for Polling<'_, '_, T
 
     ghost can_put = { λ s. (told s).has_value ≡ true };
 
-    ghost stays = { Stays I.may_fail (λ e. e.error) };
+    ghost hands = { Hands I.may_fail I.may_give (λ e. e.error) };
+
+    ghost stays = { Stays I.may_fail I.may_give (λ e. e.error) };
 
     #[inline(always)]
     fn run(&mut self, right: &mut Hand) -> Polled {
@@ -345,7 +370,7 @@ impl<T: Drop, X: Failure, I: Init<T, X>> Side<ListedWaker> for Polling<'_, '_, T
     #[inline(always)]
     fn copy(&mut self) -> Option<ListedWaker>
         ensures did { HasCopied whose (told self.old) result (told self.new) }
-        ensures stays { Stays I.may_fail (λ e. e.error) self.old self.new }
+        ensures stays { Stays I.may_fail I.may_give (λ e. e.error) self.old self.new }
         ensures wakes { IsSomeAnd result (λ s. WakesTask s self.new.cx.now) }
     {
         self.is_armed = true;
@@ -355,7 +380,7 @@ impl<T: Drop, X: Failure, I: Init<T, X>> Side<ListedWaker> for Polling<'_, '_, T
     #[inline(always)]
     fn wake(&mut self, out: Out<ListedWaker>)
         ensures did { HasWoken whose (told self.old) out (told self.new) }
-        ensures stays { Stays I.may_fail (λ e. e.error) self.old self.new }
+        ensures stays { Stays I.may_fail I.may_give (λ e. e.error) self.old self.new }
     {
         self.woke = Snapshot::of(&out);
         drop(out);
@@ -369,7 +394,7 @@ impl<T: Drop, X: Failure, I: Init<T, X>> Side<ListedWaker> for Polling<'_, '_, T
 impl<T: Drop, X: Failure, I: Init<T, X>> Renews<ListedWaker> for Polling<'_, '_, T, Failed<X>, I> {
     ghost use Rattle.async_once_cell.specs.Stays.{IsRenewed};
 
-    ghost renewed = { IsRenewed I.may_fail (λ e. e.error) };
+    ghost renewed = { IsRenewed I.may_fail I.may_give (λ e. e.error) };
 
     // An earlier poll listed the task. Its waker there becomes that of this poll.
     #[inline(always)]
@@ -381,6 +406,8 @@ impl<T: Drop, X: Failure, I: Init<T, X>> Renews<ListedWaker> for Polling<'_, '_,
 
 impl<T: Drop, X: Failure, I: Init<T, X>> TaskSide<ListedWaker>
     for Polling<'_, '_, T, Failed<X>, I> {
+    ghost use Rattle.std.proofs.Common.{subst};
+    ghost use Rattle.once_parts.specs.Inits.{MayGive};
     ghost use Rattle.async_once_cell.specs.Stays.{told};
     ghost use Rattle.once_parts.proofs.Sides.{sided_told};
     ghost use Rattle.async_once_cell.specs.Listed.{whose};
@@ -396,6 +423,8 @@ impl<T: Drop, X: Failure, I: Init<T, X>> TaskSide<ListedWaker>
     ghost owner = { λ s v t w r. r.whose };
 
     ghost renews = { λ s v t w r. (r.told, r.stays) };
+
+    ghost hands_on = { λ s t k v h tied. subst (λ first. MayGive I.may_give first v) k.2 (h (k.3 tied)) };
 }
 
 impl<T: Drop, X: Failure, I: Init<T, X>> CopiesWaker for Polling<'_, '_, T, Failed<X>, I> {
@@ -442,6 +471,8 @@ impl<T, R: Wait> Side<ListedWaker> for Leaving<'_, T, R> {
     type Right = Hand;
 
     ghost did = { sided_tells whose leaving };
+
+    ghost hands = { λ _ _. ⊥ };
 
     ghost stays = { λ _ _. ⊤ };
 
@@ -502,6 +533,8 @@ impl<T, R: Wait> TaskSide<ListedWaker> for Leaving<'_, T, R> {
     ghost owner = { λ s v t w r. ap whose r.1 };
 
     ghost renews = { λ s v t w r. (ap leaving r.0, tt) };
+
+    ghost hands_on = { λ s t k v h. h };
 }
 
 impl<T, R: Wait> CopiesWaker for Leaving<'_, T, R> {

@@ -38,9 +38,11 @@ pub fn init_that_answers(answer: Polled) -> Pollable<Scripted> {
 struct AsGiven;
 
 impl Splits<Result<(), ()>, (), ()> for AsGiven {
-    ghost use Rattle.std.specs.Prelude.{Err, Some};
+    ghost use Rattle.std.specs.Prelude.{Err, Ok, Some};
 
     ghost output_of = { λ e. Some (Err e) };
+
+    ghost output_with = { λ v. Some (Ok v) };
 
     fn split(output: Result<(), ()>) -> Result<(), ()> {
         output

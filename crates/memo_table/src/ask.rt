@@ -1,11 +1,13 @@
 //! Threads that ask a table for the values of its keys.
-ghost use Rattle.std.specs.Prelude.{◌≡◌, ◌≢◌, ◌*◌, ◌^◌, ◌<◌, false, IfOk, IfErr, map};
+ghost use Rattle.std.specs.Prelude.{◌≡◌, ◌≢◌, ◌*◌, ◌^◌, ◌<◌, false, true, [], ◌∷◌, IfOk, IfErr, map};
+ghost use Rattle.async_once_cell.specs.Views.{about_of, is_shared};
 
 use crate::fault::Fault;
 use crate::fetch::Fetch;
 use crate::memo::Memo;
 use async_once_cell::once::InitFuture;
 use futures::task::{Doorbell, Poll, Solo};
+use pagebook::Fits;
 use std::alloc::AllocGlobal;
 use std::random::RandomSource;
 use std::sync::Wait;
@@ -28,14 +30,15 @@ pub struct Answer {
 
 /// What a future answers within so many turns. After each turn at which it is Pending the thread
 /// pauses for a millisecond. A turn may wait for the locks of the cell, which no init is run under.
-pub fn answer_within<R>(
+pub fn answer_within<R, V: Fits<u64>>(
     rt: &R,
-    mut future: InitFuture<'_, u64, Fetch<'_>, R>,
+    mut future: InitFuture<'_, u64, Fetch<'_>, R, V>,
     turns: u64,
 ) -> Result<u64, Fault>
 where
     R: Wait + RandomSource + AllocGlobal + Clock,
     requires { future.finished ≡ false }
+    ensures { is_shared future.entry.cell ≡ true → IfOk result (V.fits (about_of future.entry.cell)) }
 {
     let task = Solo::new(rt, Doorbell::parking())?;
     for _ in 0..turns {
@@ -52,17 +55,22 @@ where
 
 /// Asks for the value of a key within so many turns, with a fetch that is polled where no other was.
 /// It may wait as [`answer_within`] does.
-pub fn ask<R>(
+///
+/// Asked for: what is fetched is as the table promises. So a table whose promise is
+/// [`TenTimes`](crate::fetch::TenTimes) answers ten times the key.
+pub fn ask<R, V: Fits<u64>>(
     rt: &R,
-    memo: &Memo<u64>,
+    memo: &Memo<u64, V>,
     fetches: &AtomicU64,
     key: u64,
     turns: u64,
 ) -> Result<Answer, Fault>
 where
     R: Wait + RandomSource + AllocGlobal + Clock,
-    requires { key * 10 < 2 ^ 64 }
-    ensures { IfOk result (λ answer. answer.key ≡ key) }
+    requires small { key * 10 < 2 ^ 64 }
+    requires fits { V.fits (key ∷ []) (key * 10) }
+    ensures key { IfOk result (λ answer. answer.key ≡ key) }
+    ensures promise { IfOk result (λ answer. V.fits (key ∷ []) answer.value) }
 {
     let cell = memo.cell(key).ok_or(Fault::NoKey(key))?;
     let future = cell.get_or_init(rt, Fetch::new(key, fetches));

@@ -3,6 +3,7 @@ ghost use Rattle.std.specs.Prelude.{◌≡◌, ℕ, ◌*◌, ◌^◌, ◌<◌};
 
 use futures::Future;
 use futures::task::{Context, Poll};
+use pagebook::Fits;
 use std::sync::atomic::{AtomicU64, Ordering};
 
 /// A fetch of a key: it counts itself, and gives ten times the key at its first poll. It waits for
@@ -28,6 +29,15 @@ impl<'a> Fetch<'a> {
     {
         Fetch { key, fetches }
     }
+}
+
+/// The promise of a table whose values are fetched so: a value is ten times its key.
+pub struct TenTimes;
+
+impl Fits<u64> for TenTimes {
+    ghost use Rattle.memo_table.specs.Memo.{IsTenTimes};
+
+    ghost fits = { IsTenTimes };
 }
 
 impl Future for Fetch<'_> {

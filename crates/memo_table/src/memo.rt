@@ -1,12 +1,13 @@
 //! A table with one fetch a key.
-ghost use Rattle.std.specs.Prelude.{◌≡◌, ◌↔◌, ℕ, List, IsSome, IsNone, IfSome, IfOk, Contains};
+ghost use Rattle.std.specs.Prelude.{◌≡◌, ◌↔◌, ℕ, IsSome, IsNone, IfSome, IfOk, Contains};
 ghost use Rattle.std.specs.Option.{ForSome, option_copied, option_map};
 ghost use Rattle.async_once_cell.specs.Tokens.{Learns};
-ghost use Rattle.async_once_cell.specs.Views.{CellView};
-ghost use Rattle.memo_table.specs.Memo.{cell_of};
+ghost use Rattle.memo_table.specs.Memo.{IsAbout, cell_of};
 
 use async_once_cell::OnceCell;
 use async_once_cell::once::Known;
+use boxcar::tag::{Names, Tag};
+use pagebook::{Anything, Fits};
 use std::alloc::{AllocError, Global};
 use std::collections::BTreeMap;
 use std::marker::Model;
@@ -23,16 +24,33 @@ use std::marker::Model;
 /// let first = block_on(rt, cell.get_or_init(rt, ready(10)))?; // Ok(&10)
 /// let second = block_on(rt, cell.get_or_init(rt, ready(11)))?; // Ok(&10): this fetch is not polled
 /// ```
+///
+/// `V` says what is promised of each value, by its key, see [`Memo::promised`].
 #[derive(Drop)]
-pub struct Memo<T> {
-    cells: BTreeMap<u64, OnceCell<T>>,
+pub struct Memo<T, V: Fits<T> = Anything> {
+    cells: BTreeMap<u64, OnceCell<T, V>>,
+}
+
+/// What a promise is about: the key.
+pub struct Key;
+
+impl Names<u64> for Key {
+    ghost use Rattle.std.specs.Prelude.{[], ◌∷◌};
+
+    ghost numbers = { λ key. key ∷ [] };
 }
 
 /// A clause sees a table as its keys, each with its cell.
-impl<T> Model for Memo<T> {
+impl<T, V: Fits<T>> Model for Memo<T, V> {
+    ghost use Rattle.std.specs.Prelude.{ℕ, List};
+    ghost use Rattle.async_once_cell.specs.Views.{CellView};
+    ghost use Rattle.memo_table.specs.Memo.{AreAboutKeys};
+
     ghost Value = { List (ℕ × CellView T) };
 
     ghost view = { λ memo. memo.cells.entries };
+
+    ghost invariant = { λ memo. AreAboutKeys memo.cells.entries };
 }
 
 impl<T> Memo<T> {
@@ -48,22 +66,43 @@ impl<T> Memo<T> {
         ensures keys { IfOk result
             (λ memo. (key : ℕ) → IsSome (cell_of memo key) ↔ Contains keys.items key) }
     {
+        Memo::promised(alloc, keys)
+    }
+}
+
+impl<T, V: Fits<T>> Memo<T, V> {
+    /// A table as by [`new`](Memo::new), each of whose values is promised: it fits its key, as `V` says. A fetch of
+    /// a key gives no other value, and whoever asks for the key knows that of what is answered. Where memory is
+    /// refused, all is given back. It waits for nobody.
+    ///
+    /// ```
+    /// let keys = Vec::from_array(rt.alloc(), KEYS)?;
+    /// let memo = Memo::<u64, TenTimes>::promised(rt.alloc(), keys)?;
+    /// ```
+    pub fn promised(alloc: Global, keys: Vec<u64>) -> Result<Self, AllocError>
+    where
+        T: Drop,
+        ensures keys { IfOk result
+            (λ memo. (key : ℕ) → IsSome (cell_of memo key) ↔ Contains keys.items key) }
+    {
         let mut cells = BTreeMap::new(alloc);
         for key in keys {
             if !cells.contains_key(&key) {
-                cells.insert(key, OnceCell::new())?;
+                cells.insert(key, OnceCell::promised(&Tag::of::<u64, Key>(&key)))?;
             }
         }
         Ok(Memo { cells })
     }
 
-    /// The cell of a key; None where the table was made without the key. It waits for nobody.
+    /// The cell of a key; None where the table was made without the key. What the cell promises is about the key. It
+    /// waits for nobody.
     ///
     /// ```
     /// let value = memo.cell(7).and_then(|cell| cell.get()); // None until a fetch gave a value
     /// ```
-    pub fn cell(&self, key: u64) -> Option<&OnceCell<T>>
-        ensures { option_copied result ≡ cell_of self.now key }
+    pub fn cell(&self, key: u64) -> Option<&OnceCell<T, V>>
+        ensures cell { option_copied result ≡ cell_of self.now key }
+        ensures about { IfSome result (λ cell. IsAbout key cell.now) }
     {
         self.cells.get(&key)
     }
@@ -75,7 +114,7 @@ impl<T> Memo<T> {
     /// let token = memo.token(7); // Some
     /// let missing = memo.token(6); // None
     /// ```
-    pub fn token(&self, key: u64) -> Option<Known<'_, T>>
+    pub fn token(&self, key: u64) -> Option<Known<'_, T, V>>
         ensures cell { option_map (λ token. token.cell) result ≡ cell_of self.now key }
         ensures knows { IfSome result (λ token. token.value ≡ None) }
     {
@@ -93,7 +132,7 @@ impl<T> Memo<T> {
     /// let _ = block_on(rt, memo.cell(7).unwrap().get_or_init(rt, ready(70)))?; // Ok(&70)
     /// let value = memo.get_as(7, &mut token); // Some(&70), and so at each later call
     /// ```
-    pub fn get_as<'a>(&'a self, key: u64, token: &mut Known<'a, T>) -> Option<&'a T>
+    pub fn get_as<'a>(&'a self, key: u64, token: &mut Known<'a, T, V>) -> Option<&'a T>
         requires token_of_this_cell { ForSome (cell_of self.now key) (λ cell. token.old.cell ≡ cell) }
 
         // A key of the table.

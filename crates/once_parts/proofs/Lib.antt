@@ -11,6 +11,7 @@
 --   Once      a task polls its init once at most in each call: `polls_once`
 --   Refusals  after a look the refusal of the copy may be told: `section` of the parts of `Shared`
 --   Sides     what the calls of a side tell, by what is told of the side; those who write sides cite it
+--   Promise   what a side may hand over fits, after its calls too: `fits` of the ways, and of `Task::poll`
 --   Idles     what a task is at between two calls, and the step that stands for it
 --   Walk      a whole call, step by step along the table: `end`, `spans` and `call` of `Task::poll` and `Task::leave`.
 --             Its Ways has the steps of the straight ways, whose functions cite it
@@ -30,6 +31,7 @@ pub mod TwoTasks
 pub mod Once
 pub mod Refusals
 pub mod Sides
+pub mod Promise
 pub mod Idles
 pub mod Walk
 pub mod Late

@@ -16,6 +16,6 @@ module _ {F O : Type 0} (gives : F → O → Type 0) where
   abbrev pub MayGive : Option F → O → Type 0
   MayGive init o = IsSomeAnd init (λ f. gives f o)
 
-  -- the error stands for an output that the init may give
+  -- the error, or the value, stands for an output that the init may give
   abbrev pub StandsFor : {E : Type 0} → (E → Option O) → Option F → E → Type 0
   StandsFor output_of init e = IsSomeAnd (output_of e) (MayGive init)

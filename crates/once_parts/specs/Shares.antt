@@ -5,9 +5,9 @@ use Rattle.once_parts.specs.Hands.{own_of}
 use Rattle.once_parts.specs.Own.{Own}
 
 -- its cell: the book, and the name of the slot
-abbrev pub cell_of : {T W R : Type 0} {g : _} {h : _} → Shared T W R g h → Placed
+abbrev pub cell_of : {T W R V : Type 0} {g : _} {h : _} {i : _} → Shared T W R V g h i → Placed
 cell_of s = s.inner.now.slot
 
 -- what it knows of itself and of the record
-abbrev pub own : {T W R : Type 0} {g : _} {h : _} → Shared T W R g h → Own
+abbrev pub own : {T W R V : Type 0} {g : _} {h : _} {i : _} → Shared T W R V g h i → Own
 own s = own_of s.hand

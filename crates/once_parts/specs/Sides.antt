@@ -1,5 +1,6 @@
 -- What is told of a task's own side: whether its init is there and gave something, and who was handed to it.
 use Rattle.std.specs.Prelude.{◌≡◌, ℕ, Bool, true, false, List, [], Option, IfSome}
+use Rattle.pagebook.specs.Slot.{Placed}
 use Rattle.once_core.specs.declared.step.Polled.{Polled}
 use Rattle.once_core.specs.declared.step.Polled.TheVariants.{Pending, Value, Error}
 use Rattle.once_queue.specs.declared.waiters.Out.{Out}
@@ -40,6 +41,10 @@ module _ {W : Type 0} (whose : W → ℕ) where
   -- the first to be handed to it in this call were these
   abbrev pub HasWoken : Sided → Out W → Sided → Type 0
   HasWoken x out y = x.woke ≡ [] → y ≡ record x { woke = named_out whose out }
+
+-- each value that the side may hand over fits what is promised of the value of the cell
+abbrev pub GivesFit : {S T : Type 0} → (S → T → Type 0) → (List ℕ → T → Type 0) → S → Placed → Type 0
+GivesFit hands fits side cell = (value : _) → hands side value → fits cell.about value
 
 module _ {S W : Type 0} (whose : W → ℕ) (state : S → Sided) where
   -- what the calls of such a side tell

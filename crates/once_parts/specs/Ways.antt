@@ -59,18 +59,18 @@ module _ {W S : Type 0} (whose : W → ℕ) (state : S → Sided) where
   abbrev pub Reaches : Hand → S → Reached → Hand → S → Type 0
   Reaches h s r k t = LeadsBy whose (state s) (own_of h) (next_by r) (state t) (own_of k)
 
-module _ {T W R S : Type 0} {g : _} {h : _} (whose : W → ℕ) (state : S → Sided) where
+module _ {T W R V S : Type 0} {g : _} {h : _} {j : _} (whose : W → ℕ) (state : S → Sided) where
   -- a task stands at this place of a poll
-  abbrev pub IsAt : Place W ⊤ → Shared T W R g h → S → Type 0
+  abbrev pub IsAt : Place W ⊤ → Shared T W R V g h j → S → Type 0
   IsAt at p s = Stands whose false (state s) (own p) More (UnderWay at)
 
   -- its poll began where it rested
-  abbrev pub IsBegun : Idle → Shared T W R g h → S → Type 0
+  abbrev pub IsBegun : Idle → Shared T W R V g h j → S → Type 0
   IsBegun i p s = Stands whose false (state s) (own p) More (step_of_poll (step_of i))
 
   -- its poll made its steps and ended so, and where it rests now the next call begins
-  pub record Polls (keeps : S → S → Type 0) (p : Shared T W R g h) (s : S) (e : Ending) (i : Idle)
-      (q : Shared T W R g h) (t : S) : Type 0 where
+  pub record Polls (keeps : S → S → Type 0) (p : Shared T W R V g h j) (s : S) (e : Ending) (i : Idle)
+      (q : Shared T W R V g h j) (t : S) : Type 0 where
     pub cell : cell_of q ≡ cell_of p  -- the cell is the same
     pub leads : Leads whose (state s) (own p) (CallEnded e) (step_of i) (state t) (own q)  -- by the table of places
     pub stays : keeps s t  -- the side keeps what each of its calls keeps

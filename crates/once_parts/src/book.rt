@@ -59,8 +59,8 @@ impl Opening<(), Line, Leaf> for CellRule {
 /// A word of a cell.
 pub type CellWord = Word<Line, Leaf, CellRule>;
 
-/// Where the value of a cell lies.
-pub type CellSlot<T> = Slot<T, Line, Leaf, CellRule>;
+/// Where the value of a cell lies. `V` says what is promised of it.
+pub type CellSlot<T, V> = Slot<T, Line, Leaf, CellRule, V>;
 
 /// What was seen of a cell's log, which is the record of the machine. A clause sees its `book` and its `log`.
 pub type Record = Seen<Line, Leaf, CellRule>;

@@ -21,7 +21,7 @@ use crate::hand::{Hand, TaskWaker};
 use crate::shared::Inner;
 use once_queue::waiters::{Answer, Lists, Op, Out, Renews, WakerId};
 use once_queue::word::{QINIT_BIT, READY_BIT, Sees, Word};
-use pagebook::{Key, Keyed, Play};
+use pagebook::{Fits, Key, Keyed, Play};
 use std::marker::Model;
 use std::sync::Wait;
 
@@ -411,7 +411,7 @@ fn release(word: &CellWord, desk: &mut CellPens, hand: &mut Hand, ready: bool, m
     hand.pens = desk.split_off(2);
 }
 
-impl<T, W: TaskWaker + Drop> Inner<T, W> {
+impl<T, W: TaskWaker + Drop, V: Fits<T>> Inner<T, W, V> {
     // What is at the door, under the lock.
     #[inline(always)]
     pub(crate) fn got<J: Key, R: Wait>(&self, rt: &R, hand: &mut Hand) -> bool

@@ -16,11 +16,12 @@ ghost use Rattle.once_parts.specs.Hands.{own_of};
 use crate::book::{CellRule, CellSlot, CellWord, Leaf, Line, Record};
 use crate::desk::Desk;
 use crate::hand::{Act, Hand, Mark, TaskWaker};
+use boxcar::tag::Tag;
 use once_core::parts::{Counted, Parts};
 use once_core::step::{Polled, Side};
 use once_queue::waiters::{Answer, Lists, Op};
 use once_queue::word::{NEW, QINIT_BIT, READY_BIT, Word as Flags};
-use pagebook::{KeyedMutex, Play, Slot, Word, Written};
+use pagebook::{Anything, Fits, KeyedMutex, Play, Slot, Word, Written};
 use std::alloc::AllocGlobal;
 use std::fmt;
 use std::marker::Brand;
@@ -63,12 +64,12 @@ impl Play<(), Line, Leaf> for Puts {
 }
 
 /// What all tasks of a cell share: the word, whether a queue was ever put to the door, the slot of the value,
-/// and under one lock the door with the queue.
+/// and under one lock the door with the queue. `V` says what is promised of the value.
 #[derive(Drop)]
-pub struct Inner<T, W: TaskWaker> {
+pub struct Inner<T, W: TaskWaker, V: Fits<T> = Anything> {
     pub(crate) word: CellWord,
     pub(crate) has_put: CellWord,
-    pub(crate) slot: CellSlot<T>,
+    pub(crate) slot: CellSlot<T, V>,
     // What each new task has seen of the log.
     pub(crate) front: Record,
     pub(crate) desk: KeyedMutex<Desk<W>>,
@@ -79,24 +80,36 @@ pub struct Inner<T, W: TaskWaker> {
 }
 
 impl<T, W: TaskWaker + Drop> Inner<T, W> {
-    ghost use Rattle.std.specs.Prelude.{true, IfSome, IsSome};
-    ghost use Rattle.std.specs.Option.{is_some};
-    ghost use Rattle.once_queue.specs.Word.{flags_of};
-    ghost use Rattle.once_parts.specs.Record.{Looked, WasFilled};
-
-    /// A new cell. It takes no memory. No clause says that it is empty.
+    /// A new cell, of whose value nothing is promised. It takes no memory. No clause says that it is empty.
     ///
     /// ```
     /// let cell = Inner::<u64, Bell>::new();
     /// assert_eq!(rt; cell.has_queue(), Some(false));
     /// ```
     #[inline(always)]
-    pub fn new() -> Self {
+    pub fn new() -> Self
+        ensures about { result.slot.about ≡ [] }
+    {
+        Inner::promised(&Tag::empty())
+    }
+}
+
+impl<T, W: TaskWaker + Drop, V: Fits<T>> Inner<T, W, V> {
+    ghost use Rattle.std.specs.Prelude.{true, IfSome, IsSome};
+    ghost use Rattle.std.specs.Option.{is_some};
+    ghost use Rattle.once_queue.specs.Word.{flags_of};
+    ghost use Rattle.once_parts.specs.Record.{Looked, WasFilled};
+
+    /// A new cell, as by [`new`](Self::new). What `V` promises of its value is about the numbers of the tag.
+    #[inline(always)]
+    pub fn promised(tag: &Tag) -> Self
+        ensures about { result.slot.about ≡ tag.now.numbers }
+    {
         let (mut blanks, front, pens) = Word::open::<(), CellRule>(&());
         Inner {
             word: Word::new(0, &mut blanks),
             has_put: Word::new(0, &mut blanks),
-            slot: Slot::new(&mut blanks),
+            slot: Slot::promised(&mut blanks, tag),
             front,
             desk: KeyedMutex::new(Desk::new(pens)),
         }
@@ -128,6 +141,7 @@ impl<T, W: TaskWaker + Drop> Inner<T, W> {
         ensures look { Looked (is_some result) seen.old.log seen.new.log }
         ensures filled { IsSome result → WasFilled seen.new.log }
         ensures value { IfSome result (λ r. (r.0.now ≡ r.1.value) × (r.1.of ≡ self.now.slot.id)) }
+        ensures promise { IfSome result (λ r. V.fits self.now.slot.about r.0.now) }
     {
         if Flags::from_bits(self.load(seen)).is_ready() {
             return Some(self.slot.get(seen));
@@ -157,7 +171,8 @@ impl<T, W: TaskWaker + Drop> Inner<T, W> {
     #[inline(always)]
     pub fn value<'a>(&'a self, written: &Written<T>) -> &'a T
         requires { written.now.of ≡ self.now.slot.id }
-        ensures { result.now ≡ written.now.value }
+        ensures value { result.now ≡ written.now.value }
+        ensures promise { V.fits self.now.slot.about result.now }
     {
         self.slot.value(written)
     }
@@ -185,20 +200,23 @@ impl<T, W: TaskWaker + Drop> Inner<T, W> {
     ///     Value::Shared(inner) => inner.into_inner(),
     /// }
     /// ```
-    pub fn into_inner(self) -> Option<T> {
+    pub fn into_inner(self) -> Option<T>
+        ensures promise { IfSome result (V.fits self.slot.about) }
+    {
         self.into_slot().into_inner()
     }
 
     /// The value, for a caller that has what shows it. The record ends.
     pub fn into_value(self, written: &Written<T>) -> T
         requires { written.now.of ≡ self.slot.id }
-        ensures { result ≡ written.now.value }
+        ensures value { result ≡ written.now.value }
+        ensures promise { V.fits self.slot.about result }
     {
         self.into_slot().into_value(written)
     }
 
     // The slot, of a cell whose record ends.
-    fn into_slot(self) -> CellSlot<T>
+    fn into_slot(self) -> CellSlot<T, V>
         ensures { result ≡ self.slot }
     {
         let Inner {
@@ -222,7 +240,7 @@ impl<T, W: TaskWaker + Drop> Inner<T, W> {
     }
 }
 
-impl<T, W: TaskWaker + Drop> fmt::Debug for Inner<T, W> {
+impl<T, W: TaskWaker + Drop, V: Fits<T>> fmt::Debug for Inner<T, W, V> {
     fn fmt<F: fmt::Write>(&self, f: &mut fmt::Formatter<F>) -> fmt::Result {
         let flags = Flags::from_bits(self.load(&mut self.record()));
         let queue = match self.has_queue() {
@@ -238,20 +256,20 @@ impl<T, W: TaskWaker + Drop> fmt::Debug for Inner<T, W> {
     }
 }
 
-unsafe impl<T: Send, W: TaskWaker + Send> Send for Inner<T, W> {}
+unsafe impl<T: Send, W: TaskWaker + Send, V: Fits<T>> Send for Inner<T, W, V> {}
 
-unsafe impl<T: Send + Sync, W: TaskWaker + Send> Sync for Inner<T, W> {}
+unsafe impl<T: Send + Sync, W: TaskWaker + Send, V: Fits<T>> Sync for Inner<T, W, V> {}
 
 /// What the tasks of a cell share, as one task uses it that has a page in the book.
 #[derive(Drop)]
-pub struct Shared<'a, 'r, T, W: TaskWaker, R> {
-    pub(crate) inner: &'a Inner<T, W>,
+pub struct Shared<'a, 'r, T, W: TaskWaker, R, V: Fits<T> = Anything> {
+    pub(crate) inner: &'a Inner<T, W, V>,
     pub(crate) rt: &'r R,
     pub(crate) hand: Hand,
     ghost fits: { hand.seen.book ≡ inner.now.front.book },
 }
 
-impl<T, W: TaskWaker + Drop> Inner<T, W> {
+impl<T, W: TaskWaker + Drop, V: Fits<T>> Inner<T, W, V> {
     ghost use Rattle.std.specs.Prelude.{List, ◌∷◌, []};
     ghost use Rattle.once_world.specs.Record.{Entry, Made};
     ghost use Rattle.once_world.specs.Machine.{fresh_task};
@@ -266,7 +284,7 @@ impl<T, W: TaskWaker + Drop> Inner<T, W> {
     /// let word = task.load();
     /// ```
     #[inline(always)]
-    pub fn task<'a, 'r, R>(&'a self, rt: &'r R) -> Shared<'a, 'r, T, W, R>
+    pub fn task<'a, 'r, R>(&'a self, rt: &'r R) -> Shared<'a, 'r, T, W, R, V>
         ensures cell { cell_of result ≡ self.now.slot }
         ensures task { (own result).task ≡ fresh_task }
         ensures log { (seen : List Entry) × Grew (Made (own result).number ∷ []) seen (own result).log }
@@ -279,7 +297,7 @@ impl<T, W: TaskWaker + Drop> Inner<T, W> {
     }
 }
 
-impl<'a, 'r, T, W: TaskWaker, R> Shared<'a, 'r, T, W, R> {
+impl<'a, 'r, T, W: TaskWaker, R, V: Fits<T>> Shared<'a, 'r, T, W, R, V> {
     ghost use Rattle.std.specs.Prelude.{true, List, [], ◌∷◌, reverse};
     ghost use Rattle.once_core.specs.Steps.{is_resting, step_of_drop};
     ghost use Rattle.once_world.specs.Record.{Begin};
@@ -333,6 +351,7 @@ impl<'a, 'r, T, W: TaskWaker, R> Shared<'a, 'r, T, W, R> {
     pub fn value(&self) -> (&'a T, Written<T>)
         requires ended { EndsSet (own self.now).number (own self.now).log }
         ensures value { (result.0.now ≡ result.1.value) × (result.1.of ≡ (cell_of self.now).id) }
+        ensures promise { V.fits (cell_of self.now).about result.0.now }
     {
         let inner = self.inner;
         inner.slot.get(&self.hand.seen)
@@ -352,7 +371,8 @@ impl<'a, 'r, T, W: TaskWaker, R> Shared<'a, 'r, T, W, R> {
 }
 
 /// Each call is one moment of the cell's book. There is one queue, which lies with the door, so a waiter keeps none.
-impl<T, W: TaskWaker + Drop, R: Wait + AllocGlobal> Parts<W> for Shared<'_, '_, T, W, R> {
+impl<T, W: TaskWaker + Drop, R: Wait + AllocGlobal, V: Fits<T>> Parts<W>
+    for Shared<'_, '_, T, W, R, V> {
     ghost use Rattle.once_parts.specs.Parts.{parts_can, parts_did};
     ghost use Rattle.once_parts.specs.Shares.{cell_of, own};
 
@@ -365,6 +385,8 @@ impl<T, W: TaskWaker + Drop, R: Wait + AllocGlobal> Parts<W> for Shared<'_, '_, 
     ghost can = { parts_can cell_of own W.whose };
 
     ghost did = { parts_did cell_of own W.whose };
+
+    ghost takes = { λ p. V.fits (cell_of p).about };
 
     #[inline(always)]
     fn load(&mut self) -> u64 {
@@ -482,7 +504,7 @@ fn freed(ready: bool) -> u64
     if ready { READY_BIT } else { NEW }
 }
 
-impl<T, W: TaskWaker> Inner<T, W> {
+impl<T, W: TaskWaker, V: Fits<T>> Inner<T, W, V> {
     /// The word, for a task that stands where it loads it.
     #[inline(always)]
     pub(crate) fn loaded(&self, hand: &mut Hand) -> u64

@@ -1,7 +1,7 @@
 //! A task of a cell, with its whole polls and drops: its side and its init, what it keeps between two calls, and its
 //! steps.
 ghost use Rattle.std.specs.Prelude.{◌≡◌, ◌≢◌, ◌<◌, ◌↔◌, IsTrue, ℕ, Bool, true, false, List, [], ◌∷◌};
-ghost use Rattle.std.specs.Prelude.{IfErr, IsSome, Option, Some};
+ghost use Rattle.std.specs.Prelude.{IfErr, IfOk, IsSome, Option, Some};
 ghost use mathlib.Core.List.{IsPrefix};
 ghost use Rattle.once_world.specs.Record.{Begin, DropBegin, DropEnd, Entry, Made};
 ghost use Rattle.once_parts.specs.Kept.{Grew, entries_of};
@@ -13,7 +13,7 @@ ghost use Rattle.once_parts.specs.Walks.{IsCall, Spans, StandsOn, end_of, handed
 ghost use Rattle.once_core.specs.Steps.{in_call, is_resting};
 ghost use Rattle.once_core.specs.Table.{left_of};
 ghost use Rattle.once_parts.specs.Own.{Own};
-ghost use Rattle.once_parts.specs.Sides.{Sided, IsTold};
+ghost use Rattle.once_parts.specs.Sides.{GivesFit, Sided, IsTold};
 ghost use Rattle.once_parts.specs.Named.{KeepsOwner};
 ghost use Rattle.once_parts.specs.Hands.{HasRight, HasRun};
 ghost use Rattle.once_parts.specs.Inits.{MayGive, StandsFor, polled_in};
@@ -27,7 +27,7 @@ use futures::Future;
 use futures::task::{Context, Poll};
 use once_core::step::{Ending, Polled, Progress, Rest, Side, Step};
 use once_queue::waiters::Renews;
-use pagebook::Written;
+use pagebook::{Anything, Fits, Written};
 use std::alloc::AllocGlobal;
 use std::marker::Model;
 use std::sync::Wait;
@@ -62,6 +62,9 @@ pub trait TaskSide<W: TaskWaker>: Side<W, Right = Hand> + Renews<W> + CopiesWake
     // A renewal changes nothing that is told of the side, and keeps what each of its calls keeps.
     ghost renews: { (s : Self) (v : W) (t : Self) (w : W) → Self.renewed s v t w
         → (state t ≡ state s) × Self.stays s t };
+
+    // What it may hand over after some of its calls, it might have handed over before them.
+    ghost hands_on: { (s t : Self) → Self.stays s t → (v : Self.Value) → Self.hands t v → Self.hands s v };
 }
 
 /// How what an init gives is told apart: the value, or an error as its task tells it.
@@ -69,9 +72,13 @@ pub trait Splits<O, T, E> {
     // The output for which this error stands, if it stands for one.
     ghost output_of: { E → Option O };
 
+    // The same for a value.
+    ghost output_with: { T → Option O };
+
     /// The one or the other.
     fn split(output: O) -> Result<T, E>
-        ensures { IfErr result (λ e. output_of e ≡ Some output) };
+        ensures error { IfErr result (λ e. output_of e ≡ Some output) }
+        ensures value { IfOk result (λ v. output_with v ≡ Some output) };
 }
 
 /// A future that may be polled, by a task that has the right alone. A clause sees the future.
@@ -119,8 +126,8 @@ impl<F: Future> Pollable<F> {
 }
 
 /// Polls the init of the task whose hand this is, and writes its answer into the record. The task has the right. The
-/// box is kept if the init is Pending. An error stands for an output that the init may give, and an init that is left
-/// may give no other output than before.
+/// box is kept if the init is Pending. An error or a value stands for an output that the init may give, and an init
+/// that is left may give no other output than before.
 #[inline(always)]
 pub fn poll_init<T, E, F, G>(
     init: &mut Option<Pollable<F>>,
@@ -135,6 +142,7 @@ where
     ensures ran { HasRun right.old (polled_in result) right.new }
     ensures init { OnPending result (IsSome init.new) }
     ensures own { IfReady result (λ a. IfErr a (StandsFor F.gives G.output_of init.old)) }
+    ensures given { IfReady result (λ a. IfOk a (StandsFor F.gives G.output_with init.old)) }
     ensures same { (o : F.Output) → MayGive F.gives init.new o → MayGive F.gives init.old o }
     ensures armed { OnPending result (IsArmed cx.new) }
     ensures kept { Keeps cx.old cx.new }
@@ -235,14 +243,14 @@ impl Idle {
 /// A clause sees its cell, its number in the record, the record as far as the task has seen it, and whether
 /// it is finished.
 #[derive(Drop)]
-pub struct Task<'a, 'r, T, W: TaskWaker, R> {
-    parts: Shared<'a, 'r, T, W, R>,
+pub struct Task<'a, 'r, T, W: TaskWaker, R, V: Fits<T> = Anything> {
+    parts: Shared<'a, 'r, T, W, R, V>,
     idle: Idle,
     // Where its next call begins, it stands as its page says.
     ghost stands: { is_over idle ≡ false → StandsOn W.whose (own parts) (step_of idle) },
 }
 
-impl<'a, 'r, T, W: TaskWaker, R> Model for Task<'a, 'r, T, W, R> {
+impl<'a, 'r, T, W: TaskWaker, R, V: Fits<T>> Model for Task<'a, 'r, T, W, R, V> {
     ghost use Rattle.once_parts.specs.Shares.{cell_of, own};
     ghost use Rattle.once_parts.specs.Idle.{is_over};
     ghost use Rattle.once_parts.specs.Tasks.{TaskView};
@@ -257,7 +265,7 @@ impl<'a, 'r, T, W: TaskWaker, R> Model for Task<'a, 'r, T, W, R> {
     } };
 }
 
-impl<'a, 'r, T, W: TaskWaker + Drop, R> Task<'a, 'r, T, W, R> {
+impl<'a, 'r, T, W: TaskWaker + Drop, R, V: Fits<T>> Task<'a, 'r, T, W, R, V> {
     /// A new task.
     ///
     /// ```
@@ -265,7 +273,7 @@ impl<'a, 'r, T, W: TaskWaker + Drop, R> Task<'a, 'r, T, W, R> {
     /// let side = TestSide::new(rt, name, task.mark(), answer)?;
     /// ```
     #[inline(always)]
-    pub fn new(inner: &'a Inner<T, W>, rt: &'r R) -> Self
+    pub fn new(inner: &'a Inner<T, W, V>, rt: &'r R) -> Self
         ensures cell { result.cell ≡ inner.now.slot }
         ensures live { result.finished ≡ false }
         ensures log { (seen : List Entry) × Grew (Made result.number ∷ []) seen result.log }
@@ -300,6 +308,7 @@ impl<'a, 'r, T, W: TaskWaker + Drop, R> Task<'a, 'r, T, W, R> {
     pub fn value(&self) -> (&'a T, Written<T>)
         requires ended { EndsSet self.now.number self.now.log }
         ensures value { (result.0.now ≡ result.1.value) × (result.1.of ≡ self.now.cell.id) }
+        ensures promise { V.fits self.now.cell.about result.0.now }
     {
         self.parts.value()
     }
@@ -364,7 +373,7 @@ impl<'a, 'r, T, W: TaskWaker + Drop, R> Task<'a, 'r, T, W, R> {
     }
 }
 
-impl<'a, 'r, T, W: TaskWaker + Drop, R: Wait + AllocGlobal> Task<'a, 'r, T, W, R> {
+impl<'a, 'r, T, W: TaskWaker + Drop, R: Wait + AllocGlobal, V: Fits<T>> Task<'a, 'r, T, W, R, V> {
     ghost use Rattle.once_parts.specs.Tasks.{HasPolled};
 
     /// A whole poll. It may wait for the cell's lock, and for whatever the side waits for.
@@ -386,6 +395,7 @@ impl<'a, 'r, T, W: TaskWaker + Drop, R: Wait + AllocGlobal> Task<'a, 'r, T, W, R
         requires number { (S.state side.old).number ≡ self.old.number }
         requires none { (S.state side.old).woke ≡ [] }
         requires init { (S.state side.old).has_init ≡ true }
+        requires fits { GivesFit S.hands V.fits side.old self.old.cell }
         ensures cell { self.new.cell ≡ self.old.cell }
         ensures number { self.new.number ≡ self.old.number }
         ensures init { result ≡ Ending.Pending → (S.state side.new).has_init ≡ true }
@@ -412,6 +422,7 @@ impl<'a, 'r, T, W: TaskWaker + Drop, R: Wait + AllocGlobal> Task<'a, 'r, T, W, R
         requires number { (S.state side.old).number ≡ self.old.number }
         requires none { (S.state side.old).woke ≡ [] }
         requires init { (S.state side.old).has_init ≡ true }
+        requires fits { GivesFit S.hands V.fits side.old self.old.cell }
         ensures cell { self.new.cell ≡ self.old.cell }
         ensures polled { HasPolled (S.state side.new) result self.old self.new }
         ensures stays { S.stays side.old side.new }
@@ -438,6 +449,7 @@ impl<'a, 'r, T, W: TaskWaker + Drop, R: Wait + AllocGlobal> Task<'a, 'r, T, W, R
         requires live { self.old.finished ≡ false }
         requires number { (S.state side.old).number ≡ self.old.number }
         requires none { (S.state side.old).woke ≡ [] }
+        requires fits { GivesFit S.hands V.fits side.old self.old.cell }
         ensures cell { self.new.cell ≡ self.old.cell }
         ensures number { self.new.number ≡ self.old.number }
         ensures end { Grew (end_of self.new.number Ending.Dropped ∷ []) self.old.log self.new.log }
@@ -476,14 +488,21 @@ fn answered_where_set(seen: &Record)
 /// }
 /// ```
 #[inline(always)]
-pub fn one_step<T, W: TaskWaker + Drop, R: Wait + AllocGlobal, S: TaskSide<W, Value = T>>(
-    parts: &mut Shared<'_, '_, T, W, R>,
+pub fn one_step<
+    T,
+    W: TaskWaker + Drop,
+    R: Wait + AllocGlobal,
+    V: Fits<T>,
+    S: TaskSide<W, Value = T>,
+>(
+    parts: &mut Shared<'_, '_, T, W, R, V>,
     step: &mut Step<W, ()>,
     side: &mut S,
     told: Progress,
 ) -> Progress
     requires call { in_call step.old ≡ true }
     requires stands { (drops : Bool) × Stands W.whose drops (S.state side.old) (own parts.old) told step.old }
+    requires fits { GivesFit S.hands V.fits side.old (cell_of parts.old) }
     ensures cell { cell_of parts.new ≡ cell_of parts.old }
     ensures lower { left_of step.new < left_of step.old }
     ensures walked { (x : Sided) → (v : Own) → Walked x v told (S.state side.old) (own parts.old)
@@ -499,13 +518,20 @@ pub fn one_step<T, W: TaskWaker + Drop, R: Wait + AllocGlobal, S: TaskSide<W, Va
 /// Makes the steps that are left of the call, and answers how it ended. There are at most sixteen. `told` is what
 /// the last step so far told.
 #[inline(always)]
-pub(crate) fn go_on<T, W: TaskWaker + Drop, R: Wait + AllocGlobal, S: TaskSide<W, Value = T>>(
-    parts: &mut Shared<'_, '_, T, W, R>,
+pub(crate) fn go_on<
+    T,
+    W: TaskWaker + Drop,
+    R: Wait + AllocGlobal,
+    V: Fits<T>,
+    S: TaskSide<W, Value = T>,
+>(
+    parts: &mut Shared<'_, '_, T, W, R, V>,
     step: &mut Step<W, ()>,
     side: &mut S,
     mut told: Progress,
 ) -> Ending
     requires stands { (drops : Bool) × Stands W.whose drops (S.state side.old) (own parts.old) told step.old }
+    requires fits { GivesFit S.hands V.fits side.old (cell_of parts.old) }
     ensures cell { cell_of parts.new ≡ cell_of parts.old }
     ensures over { in_call step.new ≡ false }
     ensures walked { (x : Sided) → (v : Own) → Walked x v told (S.state side.old) (own parts.old)

@@ -14,7 +14,7 @@ ghost use Rattle.once_core.specs.Steps.{is_value, leave_place, release_place};
 ghost use Rattle.once_parts.specs.Idle.{is_over, step_of};
 ghost use Rattle.once_parts.specs.Shares.{cell_of, own};
 ghost use Rattle.once_parts.specs.Own.{Own};
-ghost use Rattle.once_parts.specs.Sides.{Sided};
+ghost use Rattle.once_parts.specs.Sides.{GivesFit, Sided};
 ghost use Rattle.once_parts.specs.Walks.{Stands};
 ghost use Rattle.once_parts.specs.Ways.{IsAt, IsBegun, IsUnder, Leads, LeadsBy, Polls, StandsBy, next_by};
 ghost use Rattle.std.specs.Option.{MatchOption};
@@ -33,7 +33,7 @@ use once_core::parts::Parts;
 use once_core::step::{Ending, Place, Polled, Progress, Rest, Step};
 use once_queue::waiters::Out;
 use once_queue::word::Word;
-use pagebook::Key;
+use pagebook::{Fits, Key};
 use std::alloc::AllocGlobal;
 use std::marker::Brand;
 use std::mem;
@@ -73,7 +73,7 @@ impl<W: Drop> Spent<W> {
     }
 }
 
-impl<T, W: TaskWaker + Drop, R: Wait + AllocGlobal> Shared<'_, '_, T, W, R> {
+impl<T, W: TaskWaker + Drop, R: Wait + AllocGlobal, V: Fits<T>> Shared<'_, '_, T, W, R, V> {
     /// A first poll, from its load on.
     #[inline(always)]
     pub(crate) fn at_start<S: TaskSide<W, Value = T>>(
@@ -82,6 +82,7 @@ impl<T, W: TaskWaker + Drop, R: Wait + AllocGlobal> Shared<'_, '_, T, W, R> {
         side: &mut S,
     ) -> Ending
         requires stands { IsAt W.whose S.state Place.Start self.old side.old }
+        requires fits { GivesFit S.hands V.fits side.old (cell_of self.old) }
         ensures { Polls W.whose S.state S.stays self.old side.old result idle.new self.new side.new }
     {
         let word = Word::from_bits(self.load());
@@ -100,6 +101,7 @@ impl<T, W: TaskWaker + Drop, R: Wait + AllocGlobal> Shared<'_, '_, T, W, R> {
     #[inline(always)]
     fn at_try_quick<S: TaskSide<W, Value = T>>(&mut self, idle: &mut Idle, side: &mut S) -> Ending
         requires stands { IsAt W.whose S.state Place.TryQuick self.old side.old }
+        requires fits { GivesFit S.hands V.fits side.old (cell_of self.old) }
         ensures { Polls W.whose S.state S.stays self.old side.old result idle.new self.new side.new }
     {
         if !self.quick() {
@@ -117,6 +119,7 @@ impl<T, W: TaskWaker + Drop, R: Wait + AllocGlobal> Shared<'_, '_, T, W, R> {
     ) -> Ending
         requires live { is_over idle.old ≡ false }
         requires stands { IsBegun W.whose S.state idle.old self.old side.old }
+        requires fits { GivesFit S.hands V.fits side.old (cell_of self.old) }
         ensures { Polls W.whose S.state S.stays self.old side.old result idle.new self.new side.new }
     {
         match *idle {
@@ -137,6 +140,7 @@ impl<T, W: TaskWaker + Drop, R: Wait + AllocGlobal> Shared<'_, '_, T, W, R> {
     ) -> Ending
         requires live { is_over idle.old ≡ false }
         requires stands { IsBegun W.whose S.state idle.old self.old side.old }
+        requires fits { GivesFit S.hands V.fits side.old (cell_of self.old) }
         ensures { Polls W.whose S.state S.stays self.old side.old result idle.new self.new side.new }
     {
         let mut step = idle.step();
@@ -153,6 +157,7 @@ impl<T, W: TaskWaker + Drop, R: Wait + AllocGlobal> Shared<'_, '_, T, W, R> {
         side: &mut S,
     ) -> Ending
         requires stands { Stands W.whose false (S.state side.old) (own self.old) Progress.More step }
+        requires fits { GivesFit S.hands V.fits side.old (cell_of self.old) }
         ensures { Polls W.whose S.state S.stays self.old side.old result idle.new self.new side.new }
     {
         let ending = go_on(self, &mut step, side, Progress::More);
@@ -169,6 +174,7 @@ impl<T, W: TaskWaker + Drop, R: Wait + AllocGlobal> Shared<'_, '_, T, W, R> {
         side: &mut S,
     ) -> Ending
         requires stands { StandsBy W.whose (next_by reached) (S.state side.old) (own self.old) }
+        requires fits { GivesFit S.hands V.fits side.old (cell_of self.old) }
         ensures cell { cell_of self.new ≡ cell_of self.old }
         ensures leads { (x : Sided) → (v : Own)
             → LeadsBy W.whose x v (next_by reached) (S.state side.old) (own self.old)
@@ -207,6 +213,7 @@ impl<T, W: TaskWaker + Drop, R: Wait + AllocGlobal> Shared<'_, '_, T, W, R> {
         side: &mut S,
     ) -> Ending
         requires stands { IsAt W.whose S.state (Place.Run by) self.old side.old }
+        requires fits { GivesFit S.hands V.fits side.old (cell_of self.old) }
         ensures { Polls W.whose S.state S.stays self.old side.old result idle.new self.new side.new }
     {
         self.at_run(idle, by, side)
@@ -221,6 +228,7 @@ impl<T, W: TaskWaker + Drop, R: Wait + AllocGlobal> Shared<'_, '_, T, W, R> {
         side: &mut S,
     ) -> Ending
         requires stands { IsAt W.whose S.state (Place.Run by) self.old side.old }
+        requires fits { GivesFit S.hands V.fits side.old (cell_of self.old) }
         ensures { Polls W.whose S.state S.stays self.old side.old result idle.new self.new side.new }
     {
         match self.run(side) {
@@ -248,6 +256,7 @@ impl<T, W: TaskWaker + Drop, R: Wait + AllocGlobal> Shared<'_, '_, T, W, R> {
         side: &mut S,
     ) -> Ending
         requires stands { IsAt W.whose S.state (Place.Put by) self.old side.old }
+        requires fits { GivesFit S.hands V.fits side.old (cell_of self.old) }
         ensures { Polls W.whose S.state S.stays self.old side.old result idle.new self.new side.new }
     {
         self.put(side.put());
@@ -383,7 +392,7 @@ fn leaving<W>(ticket: Option<u64>) -> Place<W, ()>
     }
 }
 
-impl<T, W: TaskWaker + Drop> Inner<T, W> {
+impl<T, W: TaskWaker + Drop, V: Fits<T>> Inner<T, W, V> {
     // The release of a holder that has the queue.
     #[inline(always)]
     fn released<J: Key, R: Wait>(&self, rt: &R, hand: &mut Hand, ready: bool) -> Out<W>

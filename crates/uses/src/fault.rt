@@ -2,6 +2,7 @@
 
 use crate::from_rust;
 use async_once_cell::once::Refused;
+use once_judge::observed::BadEvents;
 use std::alloc::AllocError;
 use std::io;
 use thiserror::Error;
@@ -27,6 +28,9 @@ pub enum Fault {
     /// Memory was refused.
     #[error("out of memory")]
     Memory(#[from(alloc)] AllocError),
+    /// What was written down of a cell does not fit together.
+    #[error("what was seen does not fit together")]
+    Seen(#[from] BadEvents),
     /// A program of `from_rust` gave up.
     #[error("{0}")]
     FromRust(#[from] from_rust::Fault),

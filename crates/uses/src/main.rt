@@ -1,8 +1,8 @@
 //! What such cells are for: what a Rust programmer writes with `async`, the examples of doc comments, settings that
 //! are read once, a connection, a graph of values, a pool of tasks, a table, settings that threads load anew, a cell
 //! that threads own together, many threads, tasks that give up, and a value whose type has a fact. Besides, what a
-//! caller can say of order, which value a poll answered, whose error it is told, and what the owner of a cell gets,
-//! also of a lazy one.
+//! caller can say of order, which value a poll answered, whose error it is told, what the owner of a cell gets, also of
+//! a lazy one, and what a cell promises of its value; and how a program has judged what it sees of a cell.
 #![tactic(auto)]
 
 mod ask;
@@ -14,12 +14,14 @@ mod fault;
 mod from_rust;
 mod giving_up;
 mod graph;
+mod judged;
 mod lazy;
 mod many_threads;
 mod order;
 mod owned_together;
 mod owner;
 mod pool;
+mod promised;
 mod reload;
 mod settings;
 mod table;
@@ -59,7 +61,9 @@ where
     values::show(rt, output)?;
     errors::show(rt, output)?;
     owner::show(rt, output)?;
-    lazy::show(rt, output)
+    lazy::show(rt, output)?;
+    judged::show(rt, output)?;
+    promised::show(rt, output)
 }
 
 fn main(rt: HostRuntime) -> ExitCode {

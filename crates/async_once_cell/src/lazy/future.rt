@@ -16,7 +16,7 @@ ghost use Rattle.once_world.specs.Called.{SomebodyCalled};
 ghost use Rattle.once_world.specs.Record.{Once};
 ghost use Rattle.once_world.specs.Run.{AtEvery, IsRun, NobodyForgotten};
 
-use crate::init::{Failed, Init, Refused};
+use crate::init::{Failed, Init, Refused, Yields};
 use crate::once::{Initializing, Known, OnceCell, Parker};
 use futures::Future;
 use futures::task::{Context, Poll};
@@ -289,6 +289,13 @@ impl<F: Future, R: Wait> Driven<'_, F, R> {
             None => self.future.lock(self.rt),
         }
     }
+}
+
+// Nothing is asked of what the future gives.
+impl<T, F: Future, R> Yields<T, Refused> for Driven<'_, F, R> {
+    ghost use Rattle.std.specs.Prelude.{⊤};
+
+    ghost may_give = { λ _ _. ⊤ };
 }
 
 impl<T, F: Future<Output = T>, R: Wait> Init<T, Refused> for Driven<'_, F, R> {

@@ -9,7 +9,7 @@ ghost use Rattle.async_once_cell.specs.Inits.{FailsNoOther, TellsOwn};
 ghost use Rattle.async_once_cell.specs.Polls.{Answers, DidPoll, HasLeft, IsMade, IsValue};
 ghost use Rattle.async_once_cell.specs.Polls.{Polls, PollsAs, SpansIn, ending_by, value_of};
 ghost use Rattle.async_once_cell.specs.Tokens.{Agrees, IsSetIn};
-ghost use Rattle.async_once_cell.specs.Views.{IsOf, is_shared, known_of, log_of};
+ghost use Rattle.async_once_cell.specs.Views.{IsOf, about_of, is_shared, known_of, log_of};
 ghost use Rattle.once_world.specs.Record.{Once};
 ghost use Rattle.once_world.specs.Run.{AtEvery, IsRun, NobodyForgotten};
 ghost use Rattle.once_world.specs.Called.{SomebodyCalled};
@@ -19,12 +19,13 @@ ghost use Rattle.once_parts.specs.Record.{IsSet, PollsOnce, WasFilled};
 
 use super::known::Seen;
 use super::{Known, OnceCell, Value};
-use crate::init::{Failure, Init, InitError, Refused};
+use crate::init::{Failure, Init, InitError, Refused, Yields};
 use crate::waiting::Waiting;
 use futures::Future;
 use futures::task::{Context, Poll};
 use once_parts::Pollable;
 use once_parts::book::{is_run, polls_once};
+use pagebook::{Anything, Fits};
 use std::alloc::AllocGlobal;
 use std::fmt;
 use std::marker::{Model, PhantomData};
@@ -32,20 +33,29 @@ use std::sync::Wait;
 
 // What a future asks.
 #[derive(Drop)]
-enum Asked<'a, T, I: Drop, R: Wait + AllocGlobal> {
+enum Asked<'a, T, I: Drop, R: Wait + AllocGlobal, V: Fits<T> = Anything> {
     // A cell with its owner's value: the next poll drops the init and answers that value.
     Owned(&'a R, I),
     // Such a cell, whose value the future has answered.
     Answered(&'a R),
+    // Such a cell, which the future has left.
+    Left(&'a R),
     // A cell that tasks share, of which the future is one.
-    Shared(Waiting<'a, T, I, R>),
+    Shared(Waiting<'a, T, I, R, V>),
 }
 
 /// Future of [`OnceCell::get_or_init`]. Its init gives the value.
-pub type InitFuture<'a, T, F, R> = Initializing<'a, T, Refused, Pollable<F>, R>;
+pub type InitFuture<'a, T, F, R, V = Anything> = Initializing<'a, T, Refused, Pollable<F>, R, V>;
 
 /// Future of [`OnceCell::get_or_try_init`]. Its init gives the value or an error.
-pub type TryInitFuture<'a, T, E, F, R> = Initializing<'a, T, InitError<E>, Pollable<F>, R>;
+pub type TryInitFuture<'a, T, E, F, R, V = Anything> = Initializing<
+    'a,
+    T,
+    InitError<E>,
+    Pollable<F>,
+    R,
+    V,
+>;
 
 /// Future of a cell. `X` says why there is no value: [`Refused`], or an [`InitError`] if the init may fail.
 ///
@@ -63,26 +73,29 @@ pub type TryInitFuture<'a, T, E, F, R> = Initializing<'a, T, InitError<E>, Polla
 /// A clause sees the future's cell, its init if that is there still, the number of its task, the cell's record as far
 /// as the task has seen it, whether the future is finished, and the value that it answered. [`Initializing::is_run`]
 /// says of the record that it is a run of the cell, and that somebody was called wherever somebody had to be.
-pub struct Initializing<'a, T, X, I: Drop, R: Wait + AllocGlobal> {
+pub struct Initializing<'a, T, X, I: Yields<T, X>, R: Wait + AllocGlobal, V: Fits<T> = Anything> {
     failure: PhantomData<X>,
-    cell: &'a OnceCell<T>,
-    asked: Asked<'a, T, I, R>,
+    cell: &'a OnceCell<T, V>,
+    asked: Asked<'a, T, I, R, V>,
 }
 
-impl<'a, T, X, I: Drop, R: Wait + AllocGlobal> Model for Initializing<'a, T, X, I, R> {
-    ghost use Rattle.async_once_cell.specs.Futures.{IsAsked, view_of_future};
+impl<'a, T, X, I: Yields<T, X>, R: Wait + AllocGlobal, V: Fits<T>> Model
+    for Initializing<'a, T, X, I, R, V> {
+    ghost use Rattle.async_once_cell.specs.Futures.{IsAsked, KeepsPromise, view_of_future};
     ghost use Rattle.async_once_cell.specs.Views.{FutureView};
 
     ghost Value = { FutureView T I };
 
     ghost view = { λ f. view_of_future f.cell.now f.asked };
 
-    ghost invariant = { λ f. IsAsked f.cell.now f.asked };
+    ghost invariant = { λ f. IsAsked f.cell.now f.asked
+        × KeepsPromise I.may_give V.fits (view_of_future f.cell.now f.asked) };
 }
 
-impl<'a, T, X, I: Drop, R: Wait + AllocGlobal> Initializing<'a, T, X, I, R> {
+impl<'a, T, X, I: Yields<T, X>, R: Wait + AllocGlobal, V: Fits<T>> Initializing<'a, T, X, I, R, V> {
     #[inline(always)]
-    pub(crate) fn new(cell: &'a OnceCell<T>, rt: &'a R, init: I) -> Self
+    pub(crate) fn new(cell: &'a OnceCell<T, V>, rt: &'a R, init: I) -> Self
+        requires fits { (v : T) → I.may_give init v → V.fits (about_of cell.now) v }
         ensures cell { result.cell ≡ cell.now }
         ensures live { result.finished ≡ false }
         ensures made { IsMade result }
@@ -104,7 +117,7 @@ impl<'a, T, X, I: Drop, R: Wait + AllocGlobal> Initializing<'a, T, X, I, R> {
     }
 
     #[inline(always)]
-    pub(super) fn cell(&self) -> &'a OnceCell<T>
+    pub(super) fn cell(&self) -> &'a OnceCell<T, V>
         ensures { result.now ≡ self.now.cell }
     {
         self.cell
@@ -113,7 +126,7 @@ impl<'a, T, X, I: Drop, R: Wait + AllocGlobal> Initializing<'a, T, X, I, R> {
     #[inline(always)]
     pub(super) fn rt(&self) -> &'a R {
         match &self.asked {
-            Asked::Owned(rt, _) | Asked::Answered(rt) => rt,
+            Asked::Owned(rt, _) | Asked::Answered(rt) | Asked::Left(rt) => rt,
             Asked::Shared(waiting) => waiting.rt(),
         }
     }
@@ -132,7 +145,7 @@ impl<'a, T, X, I: Drop, R: Wait + AllocGlobal> Initializing<'a, T, X, I, R> {
     {
         match &self.asked {
             Asked::Owned(_, _) => false,
-            Asked::Answered(_) => true,
+            Asked::Answered(_) | Asked::Left(_) => true,
             Asked::Shared(waiting) => waiting.is_finished(),
         }
     }
@@ -144,7 +157,7 @@ impl<'a, T, X, I: Drop, R: Wait + AllocGlobal> Initializing<'a, T, X, I, R> {
         ensures log { log_of result ≡ self.now.log }
     {
         match &self.asked {
-            Asked::Owned(_, _) => Seen::Owned(false),
+            Asked::Owned(_, _) | Asked::Left(_) => Seen::Owned(false),
             Asked::Answered(_) => Seen::Owned(true),
             Asked::Shared(waiting) => Seen::Shared(waiting.record(), waiting.written()),
         }
@@ -181,7 +194,7 @@ impl<'a, T, X, I: Drop, R: Wait + AllocGlobal> Initializing<'a, T, X, I, R> {
     /// future.tell(token);
     /// let second = cell.get_as(token).unwrap(); // never None, and the same value: both are proved
     /// ```
-    pub fn tell(&self, token: &mut Known<'a, T>)
+    pub fn tell(&self, token: &mut Known<'a, T, V>)
         requires token_of_this_cell { token.old.cell ≡ self.now.cell }
         ensures cell { token.new.cell ≡ token.old.cell }
         ensures value { token.new.value ≡ option_or token.old.value self.now.value }
@@ -203,7 +216,7 @@ impl<'a, T, X, I: Drop, R: Wait + AllocGlobal> Initializing<'a, T, X, I, R> {
     /// future.poll(cx) // a value, which is proved
     /// ```
     #[inline(always)]
-    pub fn learn(&mut self, token: &Known<'a, T>)
+    pub fn learn(&mut self, token: &Known<'a, T, V>)
         requires token_of_this_cell { token.now.cell ≡ self.old.cell }
         ensures cell { self.new.cell ≡ self.old.cell }
         ensures task { self.new.task ≡ self.old.task }
@@ -218,7 +231,7 @@ impl<'a, T, X, I: Drop, R: Wait + AllocGlobal> Initializing<'a, T, X, I, R> {
     {
         match (&mut self.asked, token.seen()) {
             (Asked::Shared(waiting), Seen::Shared(record, _)) => waiting.learn(record),
-            (Asked::Owned(_, _) | Asked::Answered(_), Seen::Owned(_)) => {}
+            (Asked::Owned(_, _) | Asked::Answered(_) | Asked::Left(_), Seen::Owned(_)) => {}
             _ => unreachable!(),
         }
     }
@@ -226,7 +239,7 @@ impl<'a, T, X, I: Drop, R: Wait + AllocGlobal> Initializing<'a, T, X, I, R> {
     /// Shows that two futures of one cell are two tasks of it. It does nothing, but that the first may learn more of
     /// the record. A cell that has its owner's value has no tasks.
     #[inline(always)]
-    pub fn are_two<Y, J: Drop>(a: &mut Self, b: &mut Initializing<'a, T, Y, J, R>)
+    pub fn are_two<Y, J: Yields<T, Y>>(a: &mut Self, b: &mut Initializing<'a, T, Y, J, R, V>)
         requires one_cell { b.old.cell ≡ a.old.cell }
         ensures cell { a.new.cell ≡ a.old.cell }
         ensures task { a.new.task ≡ a.old.task }
@@ -243,9 +256,25 @@ impl<'a, T, X, I: Drop, R: Wait + AllocGlobal> Initializing<'a, T, X, I, R> {
         }
     }
 
-    // As by a drop: the init is dropped, and then the task gives the right back, or leaves those who wait. It answers
-    // the value that the token knows.
-    fn leave(&mut self, token: &Known<'a, T>)
+    /// Leaves the cell as by a drop: the init is dropped, and then the task gives the right back, or leaves those who
+    /// wait. A drop can have no contract; this is for callers who want one. Afterwards the future is finished, and
+    /// answered nothing. As a drop, it may wait for the lock of the cell.
+    pub fn leave(&mut self)
+        requires unfinished { self.old.finished ≡ false }
+        ensures left { HasLeft self.old self.new }
+        ensures set { IsSetIn self.old.cell self.old.log → IsSetIn self.new.cell self.new.log }
+        ensures init { self.new.init ≡ None }
+        ensures value { self.new.value ≡ None }
+    {
+        match &mut self.asked {
+            Asked::Shared(waiting) => waiting.leave(),
+            Asked::Owned(rt, _) => self.asked = Asked::Left(*rt),
+            Asked::Left(_) | Asked::Answered(_) => unreachable!(),
+        }
+    }
+
+    // Leaves it, and answers the value that the token knows.
+    fn leave_as(&mut self, token: &Known<'a, T, V>)
         requires live { self.old.finished ≡ false }
         requires token_of_this_cell { token.now.cell ≡ self.old.cell }
         requires knows { IsSome token.now.value }
@@ -254,14 +283,24 @@ impl<'a, T, X, I: Drop, R: Wait + AllocGlobal> Initializing<'a, T, X, I, R> {
         ensures value { self.new.value ≡ token.now.value }
     {
         match (&mut self.asked, token.seen()) {
-            (Asked::Shared(waiting), Seen::Shared(_, Some(written))) => waiting.leave(written),
+            (Asked::Shared(waiting), Seen::Shared(_, Some(written))) => {
+                waiting.leave();
+                waiting.take_over(written);
+            }
             (Asked::Owned(rt, _), Seen::Owned(true)) => self.asked = Asked::Answered(*rt),
             _ => unreachable!(),
         }
     }
 }
 
-impl<'a, T: Drop, X: Failure, I: Init<T, X>, R: Wait + AllocGlobal> Initializing<'a, T, X, I, R> {
+impl<'a, T: Drop, X: Failure, I: Init<T, X>, R: Wait + AllocGlobal, V: Fits<T>> Initializing<
+    'a,
+    T,
+    X,
+    I,
+    R,
+    V,
+> {
     /// Polls the future once.
     ///
     /// It answers the value that is set, the error that its own init gave, or a refusal: `Memory`
@@ -285,6 +324,8 @@ impl<'a, T: Drop, X: Failure, I: Init<T, X>, R: Wait + AllocGlobal> Initializing
         requires unfinished { self.old.finished ≡ false }
         ensures call { DidPoll self.old self.new cx.old cx.new (ending_by X.ending result) }
         ensures value { Answers self.old.cell result }
+        ensures promise { is_shared self.old.cell ≡ true
+            → IfSome (value_of result) (λ value. V.fits (about_of self.old.cell) value) }
         ensures answered { self.new.value ≡ value_of result }
         ensures late { IsSetIn self.old.cell self.old.log → IsValue result }
         ensures own { IfReady result (TellsOwn I.may_fail X.ending self.old.init) }
@@ -320,13 +361,14 @@ impl<'a, T: Drop, X: Failure, I: Init<T, X>, R: Wait + AllocGlobal> Initializing
     pub fn poll_as(
         &mut self,
         cx: &mut Context<'_>,
-        token: &mut Known<'a, T>,
+        token: &mut Known<'a, T, V>,
     ) -> Poll<Result<&'a T, X>>
         requires unfinished { self.old.finished ≡ false }
         requires token_of_this_cell { token.old.cell ≡ self.old.cell }
         ensures call { PollsAs token.old.value self.old self.new cx.old cx.new (ending_by X.ending result) }
         ensures cell { token.new.cell ≡ token.old.cell }
         ensures value { Polls token.old.value token.new.value result }
+        ensures promise { is_shared self.old.cell ≡ true → IfSome (value_of result) (V.fits (about_of self.old.cell)) }
         ensures answered { self.new.value ≡ value_of result }
         ensures log { IsPrefix token.old.log token.new.log }
         ensures spans { token.old.value ≡ None
@@ -339,7 +381,7 @@ impl<'a, T: Drop, X: Failure, I: Init<T, X>, R: Wait + AllocGlobal> Initializing
     {
         self.learn(token);
         if token.knows_value() {
-            self.leave(token);
+            self.leave_as(token);
             return Poll::Ready(Ok(token.learn(self.cell).unwrap()));
         }
         let polled = self.poll(cx);
@@ -349,8 +391,8 @@ impl<'a, T: Drop, X: Failure, I: Init<T, X>, R: Wait + AllocGlobal> Initializing
 }
 
 /// Polled when it is finished, it asks for another poll and changes nothing.
-impl<'a, T: Drop, X: Failure, I: Init<T, X>, R: Wait + AllocGlobal> Future
-    for Initializing<'a, T, X, I, R> {
+impl<'a, T: Drop, X: Failure, I: Init<T, X>, R: Wait + AllocGlobal, V: Fits<T>> Future
+    for Initializing<'a, T, X, I, R, V> {
     ghost use Rattle.async_once_cell.specs.Inits.{TellsOwn};
 
     type Output = Result<&'a T, X>;
@@ -368,6 +410,7 @@ impl<'a, T: Drop, X: Failure, I: Init<T, X>, R: Wait + AllocGlobal> Future
         ensures kept { Keeps cx.old cx.new }
         ensures call { self.old.finished ≡ false → DidPoll self.old self.new cx.old cx.new (ending_by X.ending result) }
         ensures answers { self.old.finished ≡ false → Answers self.old.cell result }
+        ensures promise { is_shared self.old.cell ≡ true → IfSome (value_of result) (V.fits (about_of self.old.cell)) }
         ensures answered { self.old.finished ≡ false → self.new.value ≡ value_of result }
         ensures late { self.old.finished ≡ false → IsSetIn self.old.cell self.old.log → IsValue result }
         ensures over { self.old.finished ≡ true → (result ≡ Poll.Pending) × (self.new ≡ self.old) }
@@ -380,7 +423,8 @@ impl<'a, T: Drop, X: Failure, I: Init<T, X>, R: Wait + AllocGlobal> Future
 }
 
 /// Whether the future is finished.
-impl<T, X, I: Drop, R: Wait + AllocGlobal> fmt::Debug for Initializing<'_, T, X, I, R> {
+impl<T, X, I: Yields<T, X>, R: Wait + AllocGlobal, V: Fits<T>> fmt::Debug
+    for Initializing<'_, T, X, I, R, V> {
     fn fmt<W: fmt::Write>(&self, f: &mut fmt::Formatter<W>) -> fmt::Result {
         let finished = self.is_finished();
         write!(f, "Initializing {{ finished: {finished} }}")
@@ -388,7 +432,8 @@ impl<T, X, I: Drop, R: Wait + AllocGlobal> fmt::Debug for Initializing<'_, T, X,
 }
 
 /// The init is dropped first. Then the task gives the right back, or leaves those who wait.
-impl<T, X, I: Drop, R: Wait + AllocGlobal> Drop for Initializing<'_, T, X, I, R> {
+impl<T, X, I: Yields<T, X>, R: Wait + AllocGlobal, V: Fits<T>> Drop
+    for Initializing<'_, T, X, I, R, V> {
     #[inline(always)]
     fn drop(self) {
         let Initializing {

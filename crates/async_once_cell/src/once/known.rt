@@ -7,13 +7,13 @@ ghost use Rattle.once_world.specs.Run.{AtEvery, IsRun, NobodyForgotten};
 ghost use Rattle.once_world.specs.Called.{SomebodyCalled};
 ghost use Rattle.once_parts.specs.Kept.{most};
 ghost use Rattle.once_parts.specs.Record.{IsSet, PollsOnce, WasFilled};
-ghost use Rattle.async_once_cell.specs.Views.{CellView, IsOf, Shows, is_shared, known_of, log_of};
+ghost use Rattle.async_once_cell.specs.Views.{CellView, IsOf, Shows, about_of, is_shared, known_of, log_of};
 ghost use Rattle.async_once_cell.specs.Tokens.{Agrees, IsSetIn, Learns, Lends, Looks};
 
 use super::{OnceCell, Value};
 use once_parts::Record;
 use once_parts::book::{is_run, polls_once, stays_set};
-use pagebook::Written;
+use pagebook::{Anything, Fits, Written};
 use std::fmt;
 use std::marker::Model;
 use std::snapshot::Snapshot;
@@ -35,15 +35,15 @@ pub(super) enum Seen<T> {
 /// contracts say so. Whoever passes a token on passes on what it knows. A token borrows its cell, so the cell's owner
 /// makes no call meanwhile.
 #[derive(Drop)]
-pub struct Known<'a, T> {
-    cell: &'a OnceCell<T>,
+pub struct Known<'a, T, V: Fits<T> = Anything> {
+    cell: &'a OnceCell<T, V>,
     seen: Seen<T>,
     // None always. It keeps `'a` at one lifetime, so that the borrow checker follows a token that is
     // handed on; a `PhantomData` does not do so yet.
     lifetime: Option<OnceToken<'a, T>>,
 }
 
-impl<'a, T> Model for Known<'a, T> {
+impl<'a, T, V: Fits<T>> Model for Known<'a, T, V> {
     ghost use Rattle.async_once_cell.specs.Views.{IsOf, TokenView, known_of, log_of};
 
     ghost Value = { TokenView T };
@@ -53,8 +53,8 @@ impl<'a, T> Model for Known<'a, T> {
     ghost invariant = { λ k. IsOf k.cell.now k.seen };
 }
 
-impl<'a, T> Known<'a, T> {
-    pub(super) fn new(cell: &'a OnceCell<T>) -> Self
+impl<'a, T, V: Fits<T>> Known<'a, T, V> {
+    pub(super) fn new(cell: &'a OnceCell<T, V>) -> Self
         ensures cell { result.cell ≡ cell.now }
         ensures knows { result.value ≡ None }
     {
@@ -70,11 +70,12 @@ impl<'a, T> Known<'a, T> {
     }
 
     // The value of the cell, if the token knows it or the cell shows it.
-    pub(super) fn learn(&mut self, cell: &'a OnceCell<T>) -> Option<&'a T>
+    pub(super) fn learn(&mut self, cell: &'a OnceCell<T, V>) -> Option<&'a T>
         requires token_of_this_cell { self.old.cell ≡ cell.now }
         ensures cell { self.new.cell ≡ self.old.cell }
         ensures value { Learns self.old.value self.new.value result }
         ensures lends { Lends cell.now result }
+        ensures promise { is_shared cell.now ≡ true → IfSome result (λ v. V.fits (about_of cell.now) v.now) }
         ensures look { Looks cell.now self.old.value (is_some result) self.old.log self.new.log }
         ensures set { IsSome result → IsSetIn cell.now self.new.log }
         ensures stays { IsSetIn cell.now self.old.log → IsSome result }
@@ -93,7 +94,7 @@ impl<'a, T> Known<'a, T> {
     }
 
     // The cell, its value if the token knows it, and what shows it.
-    fn shown(&self) -> Option<(&'a OnceCell<T>, &'a T, Option<Written<T>>)>
+    fn shown(&self) -> Option<(&'a OnceCell<T, V>, &'a T, Option<Written<T>>)>
         ensures { MatchOption result (self.now.value ≡ None)
             (λ r. (r.0.now ≡ self.now.cell) × (self.now.value ≡ Some r.1.now) × Shows r.0.now r.1.now r.2) }
     {
@@ -150,7 +151,7 @@ impl<'a, T> Known<'a, T> {
     /// token.learn_from(other);
     /// cell.get_as(token).unwrap() // never None, which is proved
     /// ```
-    pub fn learn_from(&mut self, other: &Known<'a, T>)
+    pub fn learn_from(&mut self, other: &Known<'a, T, V>)
         requires tokens_of_one_cell { self.old.cell ≡ other.now.cell }
         ensures cell { self.new.cell ≡ self.old.cell }
         ensures value { self.new.value ≡ option_or self.old.value other.now.value }
@@ -196,7 +197,7 @@ impl<'a, T> Known<'a, T> {
     /// let (second, as_known) = other?;
     /// Known::compare(&known, &as_known); // after this it is proved that `first` is `second`
     /// ```
-    pub fn compare(a: &Known<'a, T>, b: &Known<'a, T>) -> bool
+    pub fn compare(a: &Known<'a, T, V>, b: &Known<'a, T, V>) -> bool
         requires tokens_of_one_cell { a.now.cell ≡ b.now.cell }
         ensures both { IsTrue result ↔ (IsSome a.now.value × IsSome b.now.value) }
         ensures one { IsTrue result → a.now.value ≡ b.now.value }
@@ -219,7 +220,7 @@ impl<'a, T> Known<'a, T> {
     /// ```
     /// Known::compare_records(without, with); // so the first one's record is a beginning of the other's
     /// ```
-    pub fn compare_records(a: &Known<'a, T>, b: &Known<'a, T>)
+    pub fn compare_records(a: &Known<'a, T, V>, b: &Known<'a, T, V>)
         requires tokens_of_one_cell { a.now.cell ≡ b.now.cell }
         ensures begins { IsPrefix a.now.log b.now.log ⊎ IsPrefix b.now.log a.now.log }
         ensures on { IsPrefix a.now.log b.now.log → IsSetIn a.now.cell a.now.log → IsSetIn b.now.cell b.now.log }
@@ -236,13 +237,13 @@ impl<'a, T> Known<'a, T> {
 /// What shows which value a cell has. It does not borrow the cell, so the cell's owner may have it: a call of the owner
 /// that is given it answers that value.
 #[derive(Drop)]
-pub struct Told<T> {
-    cell: Snapshot<OnceCell<T>>,
+pub struct Told<T, V: Fits<T> = Anything> {
+    cell: Snapshot<OnceCell<T, V>>,
     value: Snapshot<T>,
     pub(super) written: Option<Written<T>>,
 }
 
-impl<T> Model for Told<T> {
+impl<T, V: Fits<T>> Model for Told<T, V> {
     ghost use Rattle.async_once_cell.specs.Views.{Shows, ToldView};
 
     ghost Value = { ToldView T };
@@ -252,9 +253,9 @@ impl<T> Model for Told<T> {
     ghost invariant = { λ t. Shows t.cell.value t.value.value t.written };
 }
 
-impl<'a, T> Known<'a, T> {
+impl<'a, T, V: Fits<T>> Known<'a, T, V> {
     /// What this token knows, for the time when its loan of the cell is over.
-    pub fn told(&self) -> Option<Told<T>>
+    pub fn told(&self) -> Option<Told<T, V>>
         ensures { MatchOption result (self.now.value ≡ None)
             (λ t. (t.cell ≡ self.now.cell) × (self.now.value ≡ Some t.value)) }
     {
@@ -309,13 +310,14 @@ fn take_over(own: &mut Record, seen: &Record)
     stays_set(seen, own);
 }
 
-impl<T> OnceCell<T> {
+impl<T, V: Fits<T>> OnceCell<T, V> {
     // The value, if this shows it or the cell does.
     fn look(&self, seen: &mut Seen<T>) -> Option<&T>
         requires { IsOf self.now seen.old }
         ensures of { IsOf self.now seen.new }
         ensures value { Learns (known_of self.now seen.old) (known_of self.now seen.new) result }
         ensures lends { Lends self.now result }
+        ensures promise { is_shared self.now ≡ true → IfSome result (λ v. V.fits (about_of self.now) v.now) }
         ensures look { Looks self.now (known_of self.now seen.old) (is_some result) (log_of seen.old)
             (log_of seen.new) }
         ensures set { IsSome result → IsSetIn self.now (log_of seen.new) }
@@ -343,7 +345,7 @@ impl<T> OnceCell<T> {
 }
 
 /// `Known(Some(V))` if the token knows the value, and `Known(None)` if it knows nothing.
-impl<T: fmt::Debug> fmt::Debug for Known<'_, T> {
+impl<T: fmt::Debug, V: Fits<T>> fmt::Debug for Known<'_, T, V> {
     fn fmt<W: fmt::Write>(&self, f: &mut fmt::Formatter<W>) -> fmt::Result {
         let Some(value) = self.known() else {
             return f.write_str("Known(None)");

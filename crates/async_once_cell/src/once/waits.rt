@@ -1,19 +1,28 @@
 //! The calls by which a thread waits for a value, and where it sleeps meanwhile.
-ghost use Rattle.std.specs.Prelude.{◌≡◌, IfOk, None, false};
+ghost use Rattle.std.specs.Prelude.{◌≡◌, IfOk, None, false, true};
 ghost use Rattle.async_once_cell.specs.Inits.{TellsOwn};
 ghost use mathlib.Core.List.{IsPrefix};
 ghost use Rattle.async_once_cell.specs.Polls.{IsValueAtOnce, Waits};
 ghost use Rattle.async_once_cell.specs.Tokens.{IsSetIn};
+ghost use Rattle.async_once_cell.specs.Views.{about_of, is_shared};
 
 use super::{Initializing, Known};
 use crate::init::{Failure, Init};
 use futures::task::{Context, Doorbell, Poll, Queue};
+use pagebook::Fits;
 use std::alloc::{AllocError, AllocGlobal};
 use std::io;
 use std::random::RandomSource;
 use std::sync::Wait;
 
-impl<'a, T: Drop, X: Failure, I: Init<T, X>, R: Wait + AllocGlobal> Initializing<'a, T, X, I, R> {
+impl<'a, T: Drop, X: Failure, I: Init<T, X>, R: Wait + AllocGlobal, V: Fits<T>> Initializing<
+    'a,
+    T,
+    X,
+    I,
+    R,
+    V,
+> {
     /// Polls the future on this thread until it answers. The thread sleeps while it has to wait: for its
     /// own init, or for the task that holds. So the call never returns if neither is driven on, for example
     /// because this thread itself keeps another future of the cell, which holds.
@@ -29,7 +38,9 @@ impl<'a, T: Drop, X: Failure, I: Init<T, X>, R: Wait + AllocGlobal> Initializing
     where
         R: RandomSource,
         requires unfinished { self.finished ≡ false }
-        ensures { IfOk result (TellsOwn I.may_fail X.ending self.entry.init) }
+        ensures own { IfOk result (TellsOwn I.may_fail X.ending self.entry.init) }
+        ensures promise { is_shared self.entry.cell ≡ true
+            → IfOk result (λ r. IfOk r (λ v. V.fits (about_of self.entry.cell) v.now)) }
     {
         let mut token = self.cell().token();
         self.wait_as(&mut token)
@@ -37,7 +48,7 @@ impl<'a, T: Drop, X: Failure, I: Init<T, X>, R: Wait + AllocGlobal> Initializing
 
     /// As [`wait`](Self::wait), and the token learns the value that is answered. A token that knows
     /// a value gets that value at once.
-    pub fn wait_as(mut self, token: &mut Known<'a, T>) -> io::Result<Result<&'a T, X>>
+    pub fn wait_as(mut self, token: &mut Known<'a, T, V>) -> io::Result<Result<&'a T, X>>
     where
         R: RandomSource,
         requires unfinished { self.finished ≡ false }
@@ -47,6 +58,8 @@ impl<'a, T: Drop, X: Failure, I: Init<T, X>, R: Wait + AllocGlobal> Initializing
         ensures log { IsPrefix token.old.log token.new.log }
         ensures late { IsSetIn token.old.cell token.old.log → IsValueAtOnce result }
         ensures own { IfOk result (TellsOwn I.may_fail X.ending self.entry.init) }
+        ensures promise { is_shared self.entry.cell ≡ true
+            → IfOk result (λ r. IfOk r (λ v. V.fits (about_of self.entry.cell) v.now)) }
     {
         if let Some(value) = self.cell().get_as(token) {
             return Ok(Ok(value));
@@ -59,7 +72,9 @@ impl<'a, T: Drop, X: Failure, I: Init<T, X>, R: Wait + AllocGlobal> Initializing
     /// memory to wait.
     pub fn wait_on(self, parker: &mut Parker) -> io::Result<Result<&'a T, X>>
         requires unfinished { self.finished ≡ false }
-        ensures { IfOk result (TellsOwn I.may_fail X.ending self.entry.init) }
+        ensures own { IfOk result (TellsOwn I.may_fail X.ending self.entry.init) }
+        ensures promise { is_shared self.entry.cell ≡ true
+            → IfOk result (λ r. IfOk r (λ v. V.fits (about_of self.entry.cell) v.now)) }
     {
         let mut token = self.cell().token();
         self.wait_as_on(&mut token, parker)
@@ -68,7 +83,7 @@ impl<'a, T: Drop, X: Failure, I: Init<T, X>, R: Wait + AllocGlobal> Initializing
     /// As [`wait_as`](Self::wait_as), by a parker that the caller keeps.
     pub fn wait_as_on(
         mut self,
-        token: &mut Known<'a, T>,
+        token: &mut Known<'a, T, V>,
         parker: &mut Parker,
     ) -> io::Result<Result<&'a T, X>>
         requires unfinished { self.finished ≡ false }
@@ -78,6 +93,8 @@ impl<'a, T: Drop, X: Failure, I: Init<T, X>, R: Wait + AllocGlobal> Initializing
         ensures log { IsPrefix token.old.log token.new.log }
         ensures late { IsSetIn token.old.cell token.old.log → IsValueAtOnce result }
         ensures own { IfOk result (TellsOwn I.may_fail X.ending self.entry.init) }
+        ensures promise { is_shared self.entry.cell ≡ true
+            → IfOk result (λ r. IfOk r (λ v. V.fits (about_of self.entry.cell) v.now)) }
     {
         if let Some(value) = self.cell().get_as(token) {
             return Ok(Ok(value));
@@ -88,7 +105,7 @@ impl<'a, T: Drop, X: Failure, I: Init<T, X>, R: Wait + AllocGlobal> Initializing
     // Begins to wait, and polls until the future answers, with a token that knows nothing.
     fn wait_begun(
         &mut self,
-        token: &mut Known<'a, T>,
+        token: &mut Known<'a, T, V>,
         parker: &mut Parker,
     ) -> io::Result<Result<&'a T, X>>
         requires unfinished { self.old.finished ≡ false }
@@ -98,6 +115,8 @@ impl<'a, T: Drop, X: Failure, I: Init<T, X>, R: Wait + AllocGlobal> Initializing
         ensures value { Waits token.old.value token.new.value result }
         ensures log { IsPrefix token.old.log token.new.log }
         ensures own { IfOk result (TellsOwn I.may_fail X.ending self.old.init) }
+        ensures promise { is_shared self.old.cell ≡ true
+            → IfOk result (λ r. IfOk r (λ v. V.fits (about_of self.old.cell) v.now)) }
     {
         parker.begin()?;
         let rt = self.rt();

@@ -193,6 +193,8 @@ impl<R: Wait> TaskSide<Bell> for TestSide<'_, R> {
     ghost owner = { λ s v t w r. ap (λ b. b.mark.value) r.1 };
 
     ghost renews = { λ s v t w r. (r.0, ap (λ x. x.number) r.0) };
+
+    ghost hands_on = { λ s t k v h. h };
 }
 
 impl<R: Wait> CopiesWaker for TestSide<'_, R> {

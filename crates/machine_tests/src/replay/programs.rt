@@ -434,7 +434,7 @@ const JUDGED: [(
         None,
         2,
         "",
-        "judge_record: usage: judge_record [--why] [FILE]\n",
+        "judge_record: usage: judge_record [--why] [--calls one|all] [FILE]\n",
     ),
     (
         NO_FILE,
@@ -482,6 +482,49 @@ fn judge_record_ends_with_the_status_of_its_verdict(rt: HostRuntime) -> Result<(
             input: *input,
             read: *read,
             write: *write,
+        };
+        let wanted = ended(rt.alloc(), *status, printed, said)?;
+        assert_eq!(rt; judged(&rt, run), wanted);
+    }
+    Ok(())
+}
+
+// A record in which a failure wakes both who wait.
+const WAKES_TWO: &str = "\
+once 8\nmade 1\nmade 2\nmade 3\nbegin 1 5\nclaim 1\nran 1 p\nend 1 p\nbegin 2 7\nend 2 p\nbegin 3 8\nend 3 p\n\
+begin 1 5\nran 1 e9\nfree 1 [7 8]\n";
+
+const IS_RUN: &str = "run, 14 entries, nobody forgotten\n";
+
+const IS_NONE: &str = "entry 14, free 1 [7 8]: it hands 2 wakers out, and not one\n";
+
+// Words of judge_record with commas between them, and the status and what is printed for that record.
+const BY_RULE: [(&str, u8, &str); 9] = [
+    ("--calls,all", 0, IS_RUN),
+    ("-,--calls,all", 0, IS_RUN),
+    ("--calls,all,--why,-", 0, IS_RUN),
+    ("--calls,one,-", 1, IS_NONE),
+    ("--calls", 2, ""),
+    ("--calls,both", 2, ""),
+    ("--calls,--why", 2, ""),
+    ("--calls,one,--calls,all", 2, ""),
+    ("all", 3, ""),
+];
+
+#[test]
+fn judge_record_judges_by_the_rule_that_is_named(rt: HostRuntime) -> Result<(), Fail> {
+    for (words, status, printed) in &BY_RULE {
+        let words: Vec<&str> = words.split(',').collect(rt.alloc())?;
+        let run = Run {
+            words: words.as_slice(),
+            input: WAKES_TWO,
+            read: None,
+            write: None,
+        };
+        let said = match status {
+            2 => "judge_record: usage: judge_record [--why] [--calls one|all] [FILE]\n",
+            3 => "judge_record: input or output failed\n",
+            _ => "",
         };
         let wanted = ended(rt.alloc(), *status, printed, said)?;
         assert_eq!(rt; judged(&rt, run), wanted);

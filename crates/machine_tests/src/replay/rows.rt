@@ -3,7 +3,7 @@
 use super::runs::printed_by;
 use crate::doubles::rows::{CALLS, DROPS, OWNER, PLAIN, REFUSALS};
 use crate::doubles::schedule::{Schedule, schedules_in};
-use once_judge::{VerdictLine, judge};
+use once_judge::{Calls, VerdictLine, judge};
 use once_script::fault::Fault;
 use once_script::parse::record::parse_record;
 use once_script::print::EntryLine;
@@ -79,7 +79,13 @@ fn judged(alloc: Global, schedule: &Schedule<'_>) -> Result<String, Fault> {
     let Ok(record) = parse_record(alloc, text.as_slice()) else {
         return Ok(String::from_utf8_lossy(alloc, text.as_slice())?);
     };
-    let verdict = judge(alloc, &record.kind, record.limit, &record.entries)?;
+    let verdict = judge(
+        alloc,
+        &record.kind,
+        record.limit,
+        Calls::One,
+        &record.entries,
+    )?;
     Ok(format!(in alloc; "{}", VerdictLine(&verdict, &record.entries))?)
 }
 

@@ -2,6 +2,8 @@
 //! if it has to bring the queue; and of its later poll.
 ghost use Rattle.std.specs.Prelude.{◌≡◌, false, None, []};
 ghost use Rattle.once_parts.specs.Hands.{own_of};
+ghost use Rattle.once_parts.specs.Shares.{cell_of};
+ghost use Rattle.once_parts.specs.Sides.{GivesFit};
 ghost use Rattle.once_parts.specs.Walks.{StandsOn};
 ghost use Rattle.once_parts.specs.Ways.{IsAt, IsHeld, IsUnder, Polls, Reaches};
 ghost use Rattle.once_queue.specs.Room.{listings_of};
@@ -15,12 +17,12 @@ use once_core::parts::{Counted, Parts};
 use once_core::step::{Ending, Place, Rest, Step};
 use once_queue::waiters::{Answer, Lists};
 use once_queue::word::Word;
-use pagebook::Key;
+use pagebook::{Fits, Key};
 use std::alloc::AllocGlobal;
 use std::marker::Brand;
 use std::sync::Wait;
 
-impl<T, W: TaskWaker + Drop, R: Wait + AllocGlobal> Shared<'_, '_, T, W, R> {
+impl<T, W: TaskWaker + Drop, R: Wait + AllocGlobal, V: Fits<T>> Shared<'_, '_, T, W, R, V> {
     /// A new task that met others, from the door on.
     #[inline(never)]
     pub(super) fn at_door_get<S: TaskSide<W, Value = T>>(
@@ -29,6 +31,7 @@ impl<T, W: TaskWaker + Drop, R: Wait + AllocGlobal> Shared<'_, '_, T, W, R> {
         side: &mut S,
     ) -> Ending
         requires stands { IsAt W.whose S.state Place.DoorGet self.old side.old }
+        requires fits { GivesFit S.hands V.fits side.old (cell_of self.old) }
         ensures { Polls W.whose S.state S.stays self.old side.old result idle.new self.new side.new }
     {
         let mut spent = None;
@@ -46,6 +49,7 @@ impl<T, W: TaskWaker + Drop, R: Wait + AllocGlobal> Shared<'_, '_, T, W, R> {
     #[inline(always)]
     fn at_door_put<S: TaskSide<W, Value = T>>(&mut self, idle: &mut Idle, side: &mut S) -> Ending
         requires stands { IsAt W.whose S.state Place.DoorPut self.old side.old }
+        requires fits { GivesFit S.hands V.fits side.old (cell_of self.old) }
         ensures { Polls W.whose S.state S.stays self.old side.old result idle.new self.new side.new }
     {
         let alloc = self.rt.alloc();
@@ -71,6 +75,7 @@ impl<T, W: TaskWaker + Drop, R: Wait + AllocGlobal> Shared<'_, '_, T, W, R> {
         side: &mut S,
     ) -> Ending
         requires stands { IsAt W.whose S.state (Place.WaitLoad tt ticket) self.old side.old }
+        requires fits { GivesFit S.hands V.fits side.old (cell_of self.old) }
         ensures { Polls W.whose S.state S.stays self.old side.old result idle.new self.new side.new }
     {
         if Word::from_bits(self.load()).is_ready() {
@@ -89,6 +94,7 @@ impl<T, W: TaskWaker + Drop, R: Wait + AllocGlobal> Shared<'_, '_, T, W, R> {
         side: &mut S,
     ) -> Ending
         requires stands { IsAt W.whose S.state (Place.Look tt ticket) self.old side.old }
+        requires fits { GivesFit S.hands V.fits side.old (cell_of self.old) }
         ensures { Polls W.whose S.state S.stays self.old side.old result idle.new self.new side.new }
     {
         let mut spent = None;
@@ -99,7 +105,7 @@ impl<T, W: TaskWaker + Drop, R: Wait + AllocGlobal> Shared<'_, '_, T, W, R> {
     }
 }
 
-impl<T, W: TaskWaker + Drop> Inner<T, W> {
+impl<T, W: TaskWaker + Drop, V: Fits<T>> Inner<T, W, V> {
     // Takes the lock, and goes on if a queue stands at the door.
     #[inline(always)]
     fn lock_at_door_get<J: Key, R: Wait, S: TaskSide<W, Value = T>>(

@@ -5,6 +5,8 @@ use Rattle.once_core.specs.declared.step.Ending.{Ending}
 use Rattle.once_world.specs.Record.{Entry}
 use Rattle.once_parts.specs.Kept.{Grew}
 use Rattle.once_parts.specs.Walks.{end_of}
+use Rattle.pagebook.specs.Slot.{Placed}
+use Rattle.once_parts.specs.Inits.{MayGive}
 use Rattle.async_once_cell.specs.Inits.{MayFail}
 use Rattle.async_once_cell.specs.Polls.{ending_by}
 use Rattle.async_once_cell.specs.Views.{init_in}
@@ -22,13 +24,24 @@ returns-clause-end g c =
     (subst (λ (e : Ending). Grew (end_of did.number e ∷ []) old did.log) (sym c.answer.ensures.ending)
     (subst (λ (l : List Entry). Grew (end_of did.number c.poll-ending.result ∷ []) l did.log) before c.poll-ending.ensures.end)))
 
+-- an init that answered is gone
 pub returns-clause-same : goal.returns-clause-same
-returns-clause-same g c = λ x m.
-    let may = MayFail g.I.Init.may_fail in
-    let stays = c.poll-ending.ensures.stays in
-    let side = c.poll-ending.new.side in
+returns-clause-same g c = λ x m. absurd (subst (λ (i : Option g.row.I.Denot). MayFail g.I.Init.may_fail i x) c.answer.ensures.init m)
+
+pub returns-clause-same_values : goal.returns-clause-same_values
+returns-clause-same_values g c = λ x m. absurd (subst (λ (i : Option g.row.I.Denot). MayGive g.I.Yields.may_give i x) c.answer.ensures.init m)
+
+-- a value that the side hands over is one that the init may give, and so it fits
+pub poll-ending-requires-clause-fits : goal.poll-ending-requires-clause-fits
+poll-ending-requires-clause-fits g c = λ v hands.
+    let may = MayGive g.I.Yields.may_give in
     let before : init_in c.self.inside.kept ≡ c.args.self.now.init = search rules in
-    let first : side.first.value ≡ c.args.self.now.init = stays.2 ∙ c.of.ensures ∙ c.take-init.ensures ∙ before in
-    let tied = stays.3 (λ armed. absurd (false≢true armed), λ y n. subst (λ (i : Option g.row.I.Denot). may i y) (sym c.of.ensures) n, tt) in
-    subst (λ (i : Option g.row.I.Denot). may i x) first
-    (tied.1 x (subst (λ (i : Option g.row.I.Denot). may i x) c.from_init.ensures.init (c.answer.ensures.same x m)))
+    let cell : c.self.inside.task.cell ≡ c.args.self.now.cell = search rules in
+    subst (λ (s : Placed). g.V.Fits.fits s.about v) (sym cell)
+    (c.requires.fits v (subst (λ (i : Option g.row.I.Denot). may i v) (c.of.ensures ∙ c.take-init.ensures.taken ∙ before) (hands (
+      λ armed. absurd (false≢true armed),
+      λ y n. subst (λ (i : Option g.row.I.Denot). MayFail g.I.Init.may_fail i y) (sym c.of.ensures) n,
+      tt,
+      λ y n. subst (λ (i : Option g.row.I.Denot). may i y) (sym c.of.ensures) n,
+      tt,
+    ))))

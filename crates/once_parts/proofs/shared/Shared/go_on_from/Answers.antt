@@ -10,6 +10,7 @@ use Rattle.once_parts.proofs.shared.Shared.go_on_from.Goals as goal
 pub hold-requires : goal.hold-requires
 hold-requires g c = record {
   stands = subst (λ r. StandsBy g.W.TaskWaker.whose (next_by r) (g.S.TaskSide.state c.args.side.now) (own c.args.self.now)) c.in-Claimed.is c.requires.stands;
+  fits = c.requires.fits;
 }
 
 pub returns-in-Ready-clause-leads : goal.returns-in-Ready-clause-leads
@@ -34,6 +35,7 @@ returns-in-Refused-clause-leads g c = λ x v so_far.
 pub steps_left-requires-in-NoQueue : goal.steps_left-requires-in-NoQueue
 steps_left-requires-in-NoQueue g c = record {
   stands = subst (λ r. StandsBy g.W.TaskWaker.whose (next_by r) (g.S.TaskSide.state c.args.side.now) (own c.args.self.now)) c.in-NoQueue.is c.requires.stands;
+  fits = c.requires.fits;
 }
 
 pub returns-in-NoQueue-clause-leads : goal.returns-in-NoQueue-clause-leads

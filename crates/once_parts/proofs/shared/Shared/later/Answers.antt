@@ -3,13 +3,13 @@ use Rattle.once_parts.proofs.Walk.Ways.{begun}
 use Rattle.once_parts.proofs.shared.Shared.later.Goals as goal
 
 pub at_wait_load-requires : goal.at_wait_load-requires
-at_wait_load-requires g c = record { stands = begun g.W.TaskWaker.whose c.in-Listed.is c.requires.stands }
+at_wait_load-requires g c = record { stands = begun g.W.TaskWaker.whose c.in-Listed.is c.requires.stands; fits = c.requires.fits }
 
 pub at_wait_load-requires-in-Unlisted : goal.at_wait_load-requires-in-Unlisted
-at_wait_load-requires-in-Unlisted g c = record { stands = begun g.W.TaskWaker.whose c.in-Unlisted.is c.requires.stands }
+at_wait_load-requires-in-Unlisted g c = record { stands = begun g.W.TaskWaker.whose c.in-Unlisted.is c.requires.stands; fits = c.requires.fits }
 
 pub hold-requires : goal.hold-requires
-hold-requires g c = record { stands = begun g.W.TaskWaker.whose c.in-Quick.is c.requires.stands }
+hold-requires g c = record { stands = begun g.W.TaskWaker.whose c.in-Quick.is c.requires.stands; fits = c.requires.fits }
 
 pub hold-requires-in-Queued : goal.hold-requires-in-Queued
-hold-requires-in-Queued g c = record { stands = begun g.W.TaskWaker.whose c.in-Queued.is c.requires.stands }
+hold-requires-in-Queued g c = record { stands = begun g.W.TaskWaker.whose c.in-Queued.is c.requires.stands; fits = c.requires.fits }

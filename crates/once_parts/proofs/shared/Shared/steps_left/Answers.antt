@@ -7,7 +7,7 @@ use Rattle.once_parts.proofs.Walk.Logs.{walked_none}
 use Rattle.once_parts.proofs.shared.Shared.steps_left.Goals as goal
 
 pub go_on-ending-requires : goal.go_on-ending-requires
-go_on-ending-requires g c = record { stands = (false, c.requires.stands) }
+go_on-ending-requires g c = record { stands = (false, c.requires.stands); fits = c.requires.fits }
 
 pub returns : goal.returns
 returns g c =

@@ -15,6 +15,7 @@ use Rattle.once_parts.specs.Tasks.{TaskView}
 use Rattle.once_parts.proofs.Walk.Logs.{called, grew_on, walked_none}
 use Rattle.once_world.specs.Machine.{progress_entries}
 use Rattle.once_parts.proofs.Walk.Begins.{drop_alone, drop_opens, grew_from, grew_last, stands_closed}
+use Rattle.once_parts.proofs.Promise.{fits_on}
 use Rattle.once_parts.proofs.Walk.Ends.{drop_ended}
 use Rattle.once_parts.proofs.task.Task.leave.Goals as goal
 
@@ -35,6 +36,8 @@ go_on-requires g c =
         stands_closed (g.S.TaskSide.state c.args.side.now) c.step-step.result (g.met.S.TaskSide.tells.close _ _ c.begin_drop-2.ensures.close) c.begin_drop-2.ensures.step
             (number, c.requires.none) rests c.begin_drop.ensures.did call,
       );
+      fits = fits_on g.V.Fits.fits g.met.S.TaskSide.hands_on c.requires.fits c.begin_drop-2.ensures.stays
+          (c.begin_drop.ensures.cell ∙ ap (λ (t : TaskView). t.cell) c.self.view_is);
     }
 
 pub returns-then-not-begin_drop-clause-end : goal.returns-then-not-begin_drop-clause-end

@@ -7,6 +7,7 @@ use Rattle.once_parts.specs.Idle.{step_of}
 use Rattle.once_parts.specs.Shares.{own}
 use Rattle.once_parts.specs.Tasks.{TaskView}
 use Rattle.once_parts.proofs.Idles.{rests}
+use Rattle.once_parts.proofs.Promise.{fits_there}
 use Rattle.once_parts.proofs.Walk.Begins.{rests_there}
 use Rattle.once_parts.proofs.Walk.Polls.{begins_at, polled}
 use Rattle.once_parts.proofs.task.Task.poll_steps.Goals as goal
@@ -23,6 +24,7 @@ by_machine-requires g c =
     record {
       live = live;
       stands = begins_at c.self.inside.idle (number, c.requires.none, c.requires.init) live (c.self.inside.stands live) c.begin.ensures.did refl;
+      fits = fits_there g.S.Side.hands g.V.Fits.fits c.requires.fits (c.begin.ensures.cell ∙ ap (λ (t : TaskView). t.cell) c.self.view_is);
     }
 
 pub at_start-requires : goal.at_start-requires
@@ -33,6 +35,7 @@ at_start-requires g c =
     record {
       stands = begins_at c.self.inside.idle (number, c.requires.none, c.requires.init) live (c.self.inside.stands live) c.begin.ensures.did
           (ap (λ (i : Idle). step_of_poll (step_of i)) new);
+      fits = fits_there g.S.Side.hands g.V.Fits.fits c.requires.fits (c.begin.ensures.cell ∙ ap (λ (t : TaskView). t.cell) c.self.view_is);
     }
 
 pub later-requires : goal.later-requires
@@ -42,6 +45,7 @@ later-requires g c =
     record {
       live = live;
       stands = begins_at c.self.inside.idle (number, c.requires.none, c.requires.init) live (c.self.inside.stands live) c.begin.ensures.did refl;
+      fits = fits_there g.S.Side.hands g.V.Fits.fits c.requires.fits (c.begin.ensures.cell ∙ ap (λ (t : TaskView). t.cell) c.self.view_is);
     }
 
 pub returns-then-not-copies_under_lock-clause-polled : goal.returns-then-not-copies_under_lock-clause-polled
