@@ -2,10 +2,9 @@
 //! it is there when the program runs.
 //!
 //! Threads change a few atomic words, and what a value in a word *means* lies in many places: how often somebody came,
-//! who may write next, which of two went first. A **book** holds these meanings for the proof. It has the values of its
-//! words, *pages* of any type, and a *log* which only grows; and a **rule**, which the author states, ties them
-//! together at each moment. Each atomic step of a word may change pages, add pages and add entries to the log, if the
-//! rule holds again after it.
+//! who may write next, which of two went first. A **book** holds these meanings for the proof: the values of its words,
+//! *pages* of any type, and a *log* that only grows. A **rule**, which the author states, ties them together at each
+//! moment. An atomic step of a word may change and add pages and add to the log, if the rule holds again after it.
 //!
 //! # The model in one picture
 //!
@@ -17,26 +16,24 @@
 //!       (8 bytes)  hand (Pens) may change the page      which stays true
 //! ```
 //!
-//! - `Word` is a `u64`. Threads share it, and step it: `load`, `store`, `swap`, `compare_exchange`, `fetch_add` and
+//! - `Word` is a `u64` that threads share and step: `load`, `store`, `swap`, `compare_exchange`, `fetch_add`,
 //!   `fetch_sub`.
 //! - `Word::open` makes a book. It gives `Blanks`, of which the words and slots of the book are made, in their order.
 //! - `Pens` is a hand of pens. A page whose pen is in a hand says what the hand says, until a step with this hand
-//!   changes it. Hands are put together (`append`) and cut (`split_off`), so that one step can change pages whose pens
-//!   lie in several places.
+//!   changes it. Hands are put together (`append`) and cut (`split_off`), so that one step can change pages of several
+//!   hands.
 //! - `Seen` is what a thread has seen of the log. It can be copied. Of two `Seen` of one book the one log is a
 //!   beginning of the other (`agrees`), and one can learn what the other knows.
 //! - `Seen::note` is a step that touches no word.
-//! - `Slot` is a place for one value, whose state is a word of the book, without bytes. By the rule nothing can refuse
-//!   to put the value, and whoever has seen that it was put gets it with no test. `Written` is a token that shows for
-//!   good what it is.
+//! - `Slot` is a place for one value, whose state is a word of the book, without bytes. By the rule no put is refused,
+//!   and whoever has seen the put gets the value with no test. `Written` is a token that shows for good what it is.
 //! - `Fits` says what is promised of a slot's value when the slot is made. Whoever puts the value shows it, and whoever
 //!   gets the value knows it, on any thread and without a token.
 //! - `KeyedMutex` is a lock whose content is of a book, as pens are. A clause can name that book, and no type has to.
 //!
 //! # How a structure is made of it
 //!
-//! 1. Choose what an entry and a page say: any types, of which no value is made. A page may be a type of a
-//!    specification.
+//! 1. Choose what an entry and a page say: any types, also of a specification, of which no value is made.
 //! 2. State the rule, `holds words pages log`, on a type of your own (`Rule`), and how a book begins (`Opening`).
 //! 3. For each kind of step state what its caller is told (`Play`), and prove that it keeps the rule: a `Moves` or
 //!    `Notes` of `specs/Pages.antt`, which gives the new values of the hand's pages, new pages and new entries.

@@ -1,10 +1,9 @@
 //! A lock whose content knows of which book it is, while no type names the book.
 //!
-//! What lies under a lock may own pens of a book, or know what was seen of it. Whoever takes the lock has to know
-//! that they are of the book that his own words and tokens are of. A type parameter could name the book, but then
-//! every struct around the lock has that parameter, and nobody can make a book while a program runs. So the name of
-//! the book is a value here: a clause sees a `KeyedMutex` as the `Book` that its content is of, and two locks of two
-//! books have one type.
+//! What lies under a lock may own pens of a book, or know what was seen of it. Whoever takes the lock has to know that
+//! this is the book of his own words and tokens. If a type parameter named the book, every struct around the lock would
+//! have it, and nobody could make a book while a program runs. So its name is a value here: a clause sees a
+//! `KeyedMutex` as the `Book` of its content, and the locks of two books have one type.
 //!
 //! ```text
 //! pub struct Desk { entered: u64, pens: Pens<Page> }
@@ -65,10 +64,8 @@ impl<T: Keyed> KeyedMutex<T> {
         opened::<T, Brand>(lock)
     }
 
-    /// Waits for the lock. The content has the key `J` while the guard is held, and has to have it when the
-    /// guard is let go.
-    ///
-    /// Asked for: `J` is the lock's key.
+    /// Waits for the lock, whose key is `J`. The content has that key, and has to have it again when the guard is let
+    /// go.
     #[inline(always)]
     pub fn lock<J: Key, R: Wait>(&self, rt: &R) -> MutexGuard<'_, Tied<T, J>>
         requires { self.now ≡ J.key }
@@ -82,8 +79,6 @@ impl<T: Keyed> KeyedMutex<T> {
     }
 
     /// Takes the lock if it is free.
-    ///
-    /// Asked for: `J` is the lock's key.
     #[inline(always)]
     pub fn try_lock<J: Key>(&self) -> Option<MutexGuard<'_, Tied<T, J>>>
         requires { self.now ≡ J.key }
@@ -91,10 +86,8 @@ impl<T: Keyed> KeyedMutex<T> {
         self.get::<J>().lock.try_lock()
     }
 
-    /// Changes the content by its owner, who takes no lock: it is handed to `change` with `about`, and what
-    /// comes back is the content from then on.
-    ///
-    /// Asked for: `change` takes any content with the lock's key, and gives one back that has it.
+    /// Changes the content by its owner, who takes no lock: it becomes what `change` gives back, which gets it and
+    /// `about`.
     pub fn get_mut<X, U, F: FnOnce(T, X) -> (T, U)>(&mut self, about: X, change: F) -> U
         requires takes { (t : T) → T.key_of t ≡ self.old → F.pre change t about }
         requires keeps { (t : T) (r : T × U) → T.key_of t ≡ self.old → F.post change t about r
@@ -119,7 +112,6 @@ impl<T: Keyed> KeyedMutex<T> {
         )
     }
 
-    // The same lock, for one who knows its key.
     #[inline(always)]
     fn get<J: Key>(&self) -> &LockOf<T, J>
         requires { self.now ≡ J.key }

@@ -2,9 +2,8 @@
 ghost use Rattle.core.specs.Prelude.{ℕ, List};
 ghost use Rattle.pagebook.specs.Pages.{View};
 
-/// The rule of a book. `E` is an entry of its log, and `P` is what a page says.
-///
-/// An author makes a type of his own for it, of which there is never a value.
+/// The rule of a book. `E` is an entry of its log, and `P` is what a page says. An author makes a type of his own for
+/// it, of which there is never a value.
 pub trait Rule<E, P> {
     // What holds between any two steps, of the values of all words, all pages, and the whole log.
     ghost holds: { List ℕ → List P → List E → Type 0 };
@@ -25,8 +24,7 @@ pub trait Play<X, E, P> {
     ghost then: { X → View E P → ℕ → View E P → Type 0 };
 }
 
-/// What is promised of the value of a slot, by the numbers about which it was promised when the slot was made. Whoever
-/// puts a value shows it, and whoever is given the value knows it, without any token.
+/// What is promised of a slot's value, by the numbers about which it was promised when the slot was made.
 pub trait Fits<T> {
     ghost fits: { List ℕ → T → Type 0 };
 }

@@ -1,11 +1,9 @@
 // A place for one value. Its state is a word of the book: 0 while the slot is empty, 1 while one thread writes the
-// value, and 2 from then on. So the rule can say when the value is there: no put is refused, and no get needs a test.
-//
-// The state has no bytes, so its steps are steps of the proof alone, and none of them orders the write of the value
-// before a read. What orders the two is how the reader came to know that the value is there: it stepped a `Word` and
-// found a number that says so, or it got a `Seen` or a `Written` from a thread that did, over a lock, say, or at a
-// join. Neither a note nor a put elsewhere can tell it (`proofs/Book/Untold.antt`), so whoever may call `get` or
-// `value` has such an order.
+// value, and 2 from then on. The state has no bytes, so its steps are steps of the proof alone, and none of them orders
+// the write of the value before a read. What orders the two is how the reader came to know that the value is there. It
+// stepped a `Word` and found a number that says so, or it got a `Seen` or a `Written` from a thread that did, over a
+// lock, say, or at a join. Neither a note nor a put elsewhere can tell it (`proofs/Book/Untold.antt`), so whoever may
+// call `get` or `value` has such an order.
 ghost use Rattle.core.specs.Prelude.{◌≡◌, ℕ, ◌+◌, [], drop, slice_get, IfSome};
 ghost use mathlib.Core.List.{IsPrefix};
 ghost use base.Fml.{fsep, fex};
@@ -35,8 +33,8 @@ impl<T> Model for Written<T> {
 }
 
 /// A place for one value, which is put once and then read by all. A clause sees its `book`, its `key`, which is the
-/// place of its state among the words of the book, its `id`, which a `Written` names, and `about`, the numbers about
-/// which `V` promises something of its value. `Anything` promises nothing.
+/// place of its state among the book's words, its `id`, which a `Written` names, and `about`, the numbers of what `V`
+/// promises.
 pub struct Slot<T, E, P, R: Rule<E, P>, V: Fits<T> = Anything> {
     value: Option<T>,
     marker: PhantomData<(E, P, R, V)>,
@@ -56,9 +54,7 @@ impl<T, E, P, R: Rule<E, P>, V: Fits<T>> Move for Slot<T, E, P, R, V> {
 }
 
 impl<T, E, P, R: Rule<E, P>, V: Fits<T>> Slot<T, E, P, R, V> {
-    /// An empty slot, whose state is the word of the first blank. What `V` promises of its value is about no numbers.
-    ///
-    /// Asked for: that word begins with 0.
+    /// An empty slot, whose state is the word of the first blank, which begins with 0. `V` promises about no numbers.
     #[inline(always)]
     pub fn new(blanks: &mut Blanks) -> Slot<T, E, P, R, V>
         requires { slice_get blanks.old.numbers 0 ≡ Some 0 }
@@ -70,8 +66,6 @@ impl<T, E, P, R: Rule<E, P>, V: Fits<T>> Slot<T, E, P, R, V> {
     }
 
     /// As `new`, but what `V` promises of the value is about the numbers of the tag.
-    ///
-    /// Asked for: as by `new`.
     #[inline(always)]
     pub fn promised(blanks: &mut Blanks, tag: &Tag) -> Slot<T, E, P, R, V>
         requires { slice_get blanks.old.numbers 0 ≡ Some 0 }
@@ -88,12 +82,9 @@ impl<T, E, P, R: Rule<E, P>, V: Fits<T>> Slot<T, E, P, R, V> {
     }
 
     /// Puts the value. It is two steps of the state, each of which may change pages and the log as a step of a `Word`
-    /// does: `B` says what the first tells, by which the state is 1, and `F` the second, by which it is 2. Neither of
-    /// them is in the machine code: all that runs is a plain write of the value.
-    ///
-    /// Asked for: `seen` and `pens` are of the slot's book; the first step keeps the rule, and by the rule finds 0,
-    /// which says that nobody began to put a value; the second keeps the rule wherever the first led; and the value
-    /// is as promised.
+    /// does: `B` says what the first tells, by which the state is 1, and `F` the second, by which it is 2. Neither is
+    /// in the machine code: all that runs is a plain write of the value. By the rule the first finds 0, because nobody
+    /// began to put a value, and the second keeps the rule wherever the first led.
     #[inline(always)]
     pub fn put<X, B: Play<X, E, P>, F: Play<X, E, P>>(
         &self,
@@ -124,10 +115,8 @@ impl<T, E, P, R: Rule<E, P>, V: Fits<T>> Slot<T, E, P, R, V> {
         }
     }
 
-    /// The value, and what shows that it is the slot's.
-    ///
-    /// Asked for: `seen` is of the slot's book, and whoever has seen so much of the log knows by the rule
-    /// that the state is 2 (`Sure`).
+    /// The value, and what shows that it is the slot's. By the rule the state is 2 whenever so much of the log was
+    /// seen.
     #[inline(always)]
     pub fn get<'a>(&'a self, seen: &Seen<E, P, R>) -> (&'a T, Written<T>)
         requires book { seen.now.book ≡ self.now.book }
@@ -139,7 +128,6 @@ impl<T, E, P, R: Rule<E, P>, V: Fits<T>> Slot<T, E, P, R, V> {
         (self.value(&written), written)
     }
 
-    // What shows the value, which by the rule is there. It does nothing.
     #[inline(always)]
     fn found(&self, seen: &Seen<E, P, R>) -> Written<T>
         requires book { seen.now.book ≡ self.now.book }
@@ -151,9 +139,7 @@ impl<T, E, P, R: Rule<E, P>, V: Fits<T>> Slot<T, E, P, R, V> {
         }
     }
 
-    /// The value, for whoever shows that there is one. No book is needed.
-    ///
-    /// Asked for: the token is of this slot.
+    /// The value, for whoever shows by a token that there is one. No book is needed.
     #[inline(always)]
     pub fn value<'a>(&'a self, written: &Written<T>) -> &'a T
         requires { written.now.of ≡ self.now.id }
@@ -176,9 +162,7 @@ impl<T, E, P, R: Rule<E, P>, V: Fits<T>> Slot<T, E, P, R, V> {
         value
     }
 
-    /// The value, for whoever shows that there is one.
-    ///
-    /// Asked for: the token is of this slot.
+    /// The value, for an owner that shows by a token that there is one.
     #[inline(always)]
     pub fn into_value(self, written: &Written<T>) -> T
         requires { written.now.of ≡ self.id }
@@ -190,7 +174,6 @@ impl<T, E, P, R: Rule<E, P>, V: Fits<T>> Slot<T, E, P, R, V> {
         }
     }
 
-    // What lies in the field, which by a token is full.
     #[inline(always)]
     fn taken(self, written: &Written<T>) -> Option<T>
         requires { written.now.of ≡ self.id }
@@ -213,9 +196,7 @@ impl<T> Written<T> {
         }
     }
 
-    /// A slot has one value, whatever two tokens of it say. It does nothing.
-    ///
-    /// Asked for: both are of one slot.
+    /// Two tokens of one slot show one value. It does nothing.
     #[inline(always)]
     pub fn agrees(&self, other: &Written<T>)
         requires { self.now.of ≡ other.now.of }

@@ -5,8 +5,7 @@ ghost use Rattle.pagebook.specs.Pages.{Book};
 use std::marker::{Brand, PhantomData};
 use std::sync::Mutex;
 
-/// A key, which is the name of a book. A function that takes a lock has one as a parameter, and the proof of its caller
-/// picks it.
+/// A key: the name of a book. A function that takes a lock has one as a parameter, and its caller's proof picks it.
 pub trait Key {
     ghost key: { Book };
 }

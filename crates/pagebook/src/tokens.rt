@@ -10,9 +10,8 @@ ghost use Rattle.pagebook.specs.Owned.{seen_owns, pens_own};
 use crate::rule::{Play, Rule};
 use std::marker::{Model, PhantomData};
 
-/// What a thread has seen of a book: the log began with `log` once, and so it does from then on.
-///
-/// It can be copied, and it stays true whatever others do.
+/// What a thread has seen of a book: the log began with `log` once, and so it does from then on. It can be copied, and
+/// it stays true whatever others do.
 pub struct Seen<E, P, R: Rule<E, P>> {
     pub(crate) marker: PhantomData<(E, P, R)>,
     pub ghost book: { Book } by { book_coded },
@@ -26,9 +25,7 @@ impl<E, P, R: Rule<E, P>> Model for Seen<E, P, R> {
 }
 
 /// A hand of pens: the right to change the pages in `held`, each by its number in the book, with what it says now.
-///
-/// Nobody else changes these pages, and no page is in two hands. A hand that is dropped leaves its pages as they are,
-/// for good.
+/// Nobody else changes these pages, and no page is in two hands. If a hand is dropped, its pages stay as they are.
 pub struct Pens<P> {
     pub(crate) marker: PhantomData<P>,
     pub ghost book: { Book } by { book_coded },
@@ -50,10 +47,7 @@ impl<E, P, R: Rule<E, P>> Seen<E, P, R> {
         }
     }
 
-    /// Learns what another of the same book knows. Afterwards its log begins with both, so that one of the two is a
-    /// beginning of the other, and the rule holds of that log with some words and pages.
-    ///
-    /// Asked for: `other` is of the same book.
+    /// Learns what another of the same book knows: its log then begins with both, and the rule holds of that log.
     #[inline(always)]
     pub fn learn(&mut self, other: &Seen<E, P, R>)
         requires { other.now.book ≡ self.old.book }
@@ -63,8 +57,6 @@ impl<E, P, R: Rule<E, P>> Seen<E, P, R> {
     {}
 
     /// Of two logs that were seen of one book, one is a beginning of the other. It does nothing.
-    ///
-    /// Asked for: `other` is of the same book.
     #[inline(always)]
     pub fn agrees(&self, other: &Seen<E, P, R>)
         requires { other.now.book ≡ self.now.book }
@@ -84,11 +76,9 @@ impl<E, P, R: Rule<E, P>> Seen<E, P, R> {
         }
     }
 
-    /// A step that touches no word, and costs nothing: pages of the hand change, pages are added, entries are added.
-    /// The pens of new pages come before the others in the hand. `M` says what the caller is told, of `about`.
-    ///
-    /// Asked for: the hand is of the same book, and wherever the rule holds and book, log and hand fit what is known
-    /// here, it can be kept so (`Notes`).
+    /// A step that touches no word, and costs nothing. It may change pages of the hand, and add pages and entries, if
+    /// it keeps the rule (`Notes`). New pens come before the others in the hand. `M` says what the caller is told, of
+    /// `about`.
     #[inline(always)]
     pub fn note<X, M: Play<X, E, P>>(&mut self, pens: &mut Pens<P>, about: &X)
         requires pens { pens.old.book ≡ self.old.book }
@@ -101,9 +91,7 @@ impl<E, P, R: Rule<E, P>> Seen<E, P, R> {
 }
 
 impl<P> Pens<P> {
-    /// Takes all pens of another hand behind its own, and leaves that hand with none.
-    ///
-    /// Asked for: both hands are of one book.
+    /// Takes all pens of another hand of the book behind its own, and leaves that hand with none.
     #[inline(always)]
     pub fn append(&mut self, other: &mut Pens<P>)
         requires { other.old.book ≡ self.old.book }

@@ -15,13 +15,10 @@ use std::marker::{Brand, Model, Move, Owns, PhantomData};
 use std::sync::atomic::Ordering::SeqCst;
 use std::sync::atomic::raw;
 
-/// A `u64` that threads change in single atomic steps. A clause sees its `book`, and its `key`, which is its place
-/// among the words of that book.
-///
-/// Each of its steps may change pages and add to the log as well, and the rule holds before and after it. A step asks
-/// for three things: `seen` and `pens` are of the word's book, and the step keeps the rule (`Moves`), whatever the
-/// words, the pages and the log are then, as long as they fit what `seen` and `pens` say. `M` says what the caller is
-/// told, of the data `about`. Afterwards `seen` knows at least what it knew. Each step is sequentially consistent.
+/// A `u64` that threads change in single atomic steps, which are sequentially consistent. A clause sees its `book`, and
+/// its `key`, which is its place among the words of that book. A step may change pages and add to the log too. It has
+/// to keep the rule (`Moves`), whatever words, pages and log fit what `seen` and `pens` say. `M` says what the caller
+/// is told, of the data `about`. Afterwards `seen` knows at least what it knew.
 pub struct Word<E, P, R: Rule<E, P>> {
     bits: u64,
     marker: PhantomData<(E, P, R)>,
@@ -55,9 +52,7 @@ impl<E, P, R: Rule<E, P>> Move for Word<E, P, R> {
 
 impl<E, P, R: Rule<E, P>> Word<E, P, R> {
     /// A new book: the blanks of all its words, what was seen of the log, and the pens of the first pages, in their
-    /// order. `M` says how the book begins, by `about`.
-    ///
-    /// Asked for: the rule holds of how it begins.
+    /// order. `M` says how the book begins, by `about`, and the rule has to hold of that.
     ///
     /// ```
     /// let (mut blanks, front, _) = Word::open::<(), OneMedal>(&());
@@ -83,9 +78,7 @@ impl<E, P, R: Rule<E, P>> Word<E, P, R> {
         )
     }
 
-    /// The word of the first blank.
-    ///
-    /// Asked for: `bits` is the number with which it begins.
+    /// The word of the first blank, which begins with `bits`.
     #[inline(always)]
     pub fn new(bits: u64, blanks: &mut Blanks) -> Word<E, P, R>
         requires { slice_get blanks.old.numbers 0 ≡ Some bits }
