@@ -16,13 +16,10 @@ use std::mem;
 // The ticket of a slot that its listing left.
 const HOLE: u64 = u64::MAX;
 
-/// Listings in their order, each in a slot.
-///
-/// A listing that is taken out leaves a hole in its slot. If the last slot is taken when a listing is to
-/// be put there, either the holes are more than half of the slots and are closed, or there is room for
-/// twice as many slots from then on. So a listing is found, taken out and put to the end without a look
-/// at the others, and listings that come and go take no memory without end. The least free ticket and the
-/// first listing with a waker are looked for from where they were found last.
+/// Listings in their order, each in a slot. One that is taken out leaves a hole. If the last slot is taken when a
+/// listing is to be put there, the holes are closed if they are more than half of the slots; else the room is doubled.
+/// So a listing is found, taken out and put to the end without a look at the others, and listings that come and go take
+/// no memory without end. The least free ticket and the first waker are looked for from where they were found last.
 #[derive(Drop)]
 pub struct Slots<W> {
     slots: Vec<Listing<W>>,
@@ -246,7 +243,6 @@ impl<W: Drop> Slots<W> {
         mem::replace(&mut self.slots, Vec::new(alloc))
     }
 
-    // Where the listing with this ticket stands.
     #[inline(always)]
     fn place(&self, ticket: u64) -> Option<usize>
         ensures some { IfSome result (λ i. (i < length self.now.slots.items)
@@ -263,7 +259,6 @@ impl<W: Drop> Slots<W> {
         }
     }
 
-    // Where a listing with this ticket was put, if it stands there.
     #[inline(always)]
     fn noted(&self, ticket: u64) -> Option<usize>
         ensures { IfSome result (λ i. (i < length self.now.slots.items)
@@ -278,14 +273,12 @@ impl<W: Drop> Slots<W> {
         }
     }
 
-    // The first slot with this ticket.
     fn searched(&self, ticket: u64) -> Option<usize>
         ensures { result ≡ position (λ x. x.ticket == ticket) self.now.slots.items }
     {
         self.slots.iter().position(|slot| slot.ticket == ticket)
     }
 
-    // Where the first listing stands that has a waker, or the end.
     fn first_open(&self) -> usize
         ensures within { result ≤ vec_len self.now.slots }
         ensures before { (n : ℕ) → n < result
@@ -300,7 +293,7 @@ impl<W: Drop> Slots<W> {
         first
     }
 
-    // Closes the holes if the last slot is taken and more than half of all are holes.
+    // Closes the holes, in the order of the listings, if the last slot is taken and more than half of all are holes.
     #[inline(always)]
     fn close_many_holes(&mut self)
         ensures room { HasSlot self.old → self.new ≡ self.old }
@@ -316,7 +309,6 @@ impl<W: Drop> Slots<W> {
         }
     }
 
-    // Closes the holes: each listing goes to the next slot, in their order.
     fn close_holes(&mut self)
         ensures slots { self.new.slots.items ≡ listings_in self.old }
         ensures memory { capacity_in self.new ≡ capacity_in self.old }
@@ -330,7 +322,7 @@ impl<W: Drop> Slots<W> {
     }
 }
 
-// Makes room for one more. If there is none, the room doubles, and is for four at first.
+// Makes room for one more: four at first, and then twice as much.
 #[inline(always)]
 fn reserve_one<T>(slots: &mut Vec<T>) -> Result<(), AllocError>
     ensures items { slots.new.items ≡ slots.old.items }
@@ -364,14 +356,12 @@ fn double<T>(slots: &mut Vec<T>) -> Result<(), AllocError>
     slots.reserve_exact(slots.len())
 }
 
-// Notes where each ticket stands.
 fn note_all<W>(places: &mut Vec<usize>, slots: &[Listing<W>]) {
     for (place, slot) in slots.iter().enumerate() {
         note(places, slot.ticket as usize, place);
     }
 }
 
-// Whether a listing stands in the slot and has a waker.
 #[inline(always)]
 fn has_waker<W>(slot: &Listing<W>) -> bool
     ensures { result ≡ is_open slot.now }
@@ -379,8 +369,7 @@ fn has_waker<W>(slot: &Listing<W>) -> bool
     slot.ticket != HOLE && slot.waker.is_some()
 }
 
-// Notes a place by this number. Without memory it is not noted, and a later one may then lie at the number of
-// another: `noted` looks whether the listing stands there.
+// Without memory a place is not noted. A later one may then lie at the number of another, so `noted` checks it.
 #[inline(always)]
 fn note(places: &mut Vec<usize>, number: usize, place: usize) {
     match places.get_mut(number) {
@@ -391,7 +380,7 @@ fn note(places: &mut Vec<usize>, number: usize, place: usize) {
     }
 }
 
-// Marks this number, which is within the marks, or the next, for which there is room.
+// Marks this number, which is within the marks or the next one.
 #[inline(always)]
 fn mark(marks: &mut Vec<bool>, number: u64)
     requires { (number < vec_len marks.old)
@@ -405,7 +394,6 @@ fn mark(marks: &mut Vec<bool>, number: u64)
     }
 }
 
-// Takes the mark of this number away, if it has one.
 #[inline(always)]
 fn unmark(marks: &mut Vec<bool>, number: u64)
     ensures marks { (n : ℕ) → is_marked n marks.new.items
@@ -417,7 +405,7 @@ fn unmark(marks: &mut Vec<bool>, number: u64)
     }
 }
 
-// The first number without a mark, where each before this one has one.
+// The first number without a mark. Each before `from` has one.
 fn first_unmarked(marks: &[bool], from: usize) -> usize
     requires { (n : ℕ) → n < from → is_marked n marks.now ≡ true }
     ensures first { is_marked result marks.now ≡ false }

@@ -16,7 +16,7 @@ use std::mem;
 
 /// Tells whether two wakers are the same.
 pub trait WakerId {
-    // What the answers true and false tell of the two wakers.
+    // What each answer tells of the two wakers.
     ghost tells_same: { Self → Self → Type 0 };
 
     ghost tells_other: { Self → Self → Type 0 };
@@ -47,7 +47,7 @@ impl WakerId for u64 {
 
 /// Puts the task's waker of today in the place of one that is listed.
 pub trait Renews<W> {
-    // What a call leaves: who renews and the listed waker, as they were, and both after it.
+    // Who renews and the listed waker, before the call and after it.
     ghost renewed: { Self → W → Self → W → Type 0 };
 
     /// Renews the waker.
@@ -69,22 +69,21 @@ pub struct Listing<W> {
 pub enum Out<W> {
     /// One who waits, or nobody.
     One(Option<W>),
-    /// All who wait: their listings, the oldest first. A waker that is the same as one before it
-    /// is not there.
+    /// All who wait: their listings, the oldest first, without a waker that is the same as one before it.
     All(Vec<Listing<W>>),
 }
 
-/// What one section under the queue's lock is to do. A `Look` and a `List` carry the ticket of the
-/// waiting task, if it has one; the section leaves there the ticket that the task has after it.
+/// What one section under the queue's lock is to do. A `Look` and a `List` carry the ticket of the waiting task, if it
+/// has one; the section leaves there the ticket that the task has after it.
 #[derive(Debug, Drop, PartialEq, Eq)]
 pub enum Op<W> {
-    /// Claim the right where it is free, else say whether the current waker is listed.
+    /// Claim the right if it is free, else say whether the current waker is listed.
     Look(Option<u64>),
-    /// Claim the right where it is free, else list this waker.
+    /// Claim the right if it is free, else list this waker.
     List(Option<u64>, Option<W>),
     /// Give the right back: with the value set, and call all; or without, and call one.
     Release(bool),
-    /// Take the listing with this ticket out. Where it was called and nobody holds, call the next.
+    /// Take the listing with this ticket out. If it was called and nobody holds, call the next.
     Leave(u64),
 }
 
@@ -123,25 +122,18 @@ pub enum Answer<W> {
     Gone,
 }
 
-/// The flag of a holder that took the right under the lock, and the listings of those who wait.
-///
-/// No ticket stands in the list twice. On average over many calls, a look, a listing, a leave and a
-/// release without the value take the same time however many are listed. But where two wakers may be
-/// the same, the waker of a new listing is compared with each. A release with the value takes time in
-/// proportion to the listings. But if two listed wakers may be the same, each is compared with all
-/// before it.
-///
-/// There is memory for four listings from the first one on, and for four times as many as were ever listed
-/// at one time, at most: listings that come and go take no more.
+/// The flag of a holder that claimed under the lock, and the listings of those who wait. No ticket stands in the list
+/// twice. On average over many calls, a look, a listing, a leave and a release without the value take the same time
+/// however many are listed; a release with the value takes time in proportion to them. If two wakers may be the same, a
+/// new one is compared with each, and a release with the value compares each with all before it. From the first listing
+/// on there is memory for four, and at most for four times as many as were ever listed at one time.
 #[derive(Drop)]
 pub struct Lists<W: WakerId> {
     /// The flag: whether a task holds that claimed under the lock.
     pub head: bool,
     slots: Slots<W>,
-    // Whether, since the value was last released, some waker was told to be the same as one listed before it, or was
-    // renewed, and so compared with none.
+    // Whether, since the value was last released, a waker was the same as one before it, or was renewed uncompared.
     mixed: bool,
-    // Else each two wakers were told to be other.
     ghost apart: { mixed ≡ false → ∥ AllPairs (AreApart W.tells_other) (listings_in slots) ∥₁ },
 }
 
@@ -169,9 +161,8 @@ impl<W: WakerId + Drop> Lists<W> {
         }
     }
 
-    /// Claims the right where the word and the flag leave it free: the own listing is taken out, and
-    /// the ticket given up. Else says whether the own listing has this waker. It has not where there
-    /// is no waker or no ticket, or where the listing was called.
+    /// Claims the right if the word and the flag leave it free: the own listing is taken out, and the ticket given up.
+    /// Else says whether the own listing has this waker: not if it was called, or there is no waker or ticket.
     #[inline(always)]
     pub fn look(&mut self, ticket: &mut Option<u64>, waker: Option<&W>, word: u64) -> Answer<W>
         ensures claims { Claims (sees (flags_of word) self.old.head)
@@ -192,9 +183,8 @@ impl<W: WakerId + Drop> Lists<W> {
         }
     }
 
-    /// Claims the right where the word and the flag leave it free, as [`look`](Self::look). Else says
-    /// whether the own listing is there and was not called. It compares no wakers: it is for a caller
-    /// whose tickets stand for one waker each. Beside the answer stands the waker that a claim took out of the list.
+    /// As [`look`](Self::look), but if the right is taken, says whether the own listing is there and was not called. It
+    /// compares no wakers, because each ticket of its caller stands for one. A claim answers the listed waker too.
     #[inline(always)]
     pub fn look_own(&mut self, ticket: &mut Option<u64>, word: u64) -> (Answer<W>, Option<W>)
         ensures claims { Claims (sees (flags_of word) self.old.head)
@@ -218,13 +208,9 @@ impl<W: WakerId + Drop> Lists<W> {
         }
     }
 
-    /// Claims the right where the word and the flag leave it free, as [`look`](Self::look). Else lists
-    /// the waker at the end: with the own ticket, whose listing is taken out, or with the least one
-    /// that no listing has. A ticket whose listing is gone counts as none. A waker that was not listed
-    /// stays in the option.
-    ///
-    /// `Memory` says that the list could not grow; it is as it was then. That comes only where the
-    /// own ticket has no listing, and the list had no room.
+    /// As [`look`](Self::look), but if the right is taken, lists the waker at the end: with the own ticket, whose old
+    /// listing is taken out, or if that has none, with the least free ticket. A waker that was not listed stays in the
+    /// option. `Memory` says that the own ticket has no listing and the list, which is as it was, could not grow.
     #[inline(always)]
     pub fn list(&mut self, ticket: &mut Option<u64>, waker: &mut Option<W>, word: u64) -> Answer<W>
         requires { IsSome waker.old }
@@ -244,7 +230,7 @@ impl<W: WakerId + Drop> Lists<W> {
         answer
     }
 
-    /// As [`list`](Self::list). Beside the answer stands the waker that a claim took out of the list.
+    /// As [`list`](Self::list). A claim answers the waker of its listing too.
     #[inline(always)]
     pub fn list_own(
         &mut self,
@@ -281,8 +267,8 @@ impl<W: WakerId + Drop> Lists<W> {
         (Answer::Listed, None)
     }
 
-    /// Lowers the flag. With the value set all listings leave; without it the first that was not
-    /// called yet gives its waker, and stays. It takes no memory.
+    /// Lowers the flag. With the value set all listings leave; without it the first that was not called yet gives its
+    /// waker, and stays. It takes no memory.
     #[inline(always)]
     pub fn release(&mut self, ready: bool) -> Out<W>
         ensures listings { Releases W.tells_same W.tells_other ready
@@ -300,9 +286,8 @@ impl<W: WakerId + Drop> Lists<W> {
         Out::All(listings)
     }
 
-    /// Takes the listing with this ticket out. Where it was called, and neither word nor flag says
-    /// that a task holds, and the value is not set, the first that was not called yet gives its waker,
-    /// and stays. It takes no memory.
+    /// Takes the listing with this ticket out. If it was called, the value is not set and nobody holds, the first that
+    /// was not called yet gives its waker, and stays. It takes no memory.
     #[inline(always)]
     pub fn leave(&mut self, ticket: u64, word: u64) -> Option<W>
         ensures waker { result
@@ -320,7 +305,7 @@ impl<W: WakerId + Drop> Lists<W> {
         next
     }
 
-    /// As [`leave`](Self::leave). Beside the waker that is called stands the one that the own listing had.
+    /// As [`leave`](Self::leave). It answers the waker that the own listing had too.
     #[inline(always)]
     pub fn leave_own(&mut self, ticket: u64, word: u64) -> (Option<W>, Option<W>)
         ensures waker { result.0
@@ -344,7 +329,7 @@ impl<W: WakerId + Drop> Lists<W> {
         }
     }
 
-    /// Makes room for one more listing. Where that is refused all is as it was.
+    /// Makes room for one more listing. If that is refused all is as it was.
     #[inline(always)]
     pub fn reserve(&mut self) -> Result<(), AllocError>
         ensures room { OnOk result (HasSpace self.new) }
@@ -378,8 +363,7 @@ impl<W: WakerId + Drop> Lists<W> {
         self.slots.len()
     }
 
-    // The right where it is free, and None where some task holds it. Beside the answer stands the waker that the
-    // own listing had, which is let go with the lock free.
+    // The right if it is free, with the waker that the own listing had, which is let go with the lock free.
     #[inline(always)]
     fn claim(&mut self, ticket: &mut Option<u64>, word: u64) -> Option<(Answer<W>, Option<W>)>
         ensures claims { IfSome result (λ r. Claims (sees (flags_of word) self.old.head)
@@ -402,7 +386,6 @@ impl<W: WakerId + Drop> Lists<W> {
         }
     }
 
-    // Gives the ticket up, and takes its listing out: the waker there.
     #[inline(always)]
     fn spend(&mut self, ticket: &mut Option<u64>) -> Option<W>
         ensures spent { result ≡ option_flatten (own_listing ticket.old (listings_of self.old)) }
@@ -427,8 +410,7 @@ impl<W: WakerId + Drop> Lists<W> {
         }
     }
 
-    /// Lets the waker of the listing with this ticket be renewed. The answer says whether there is one: there is none
-    /// if the listing was called.
+    /// Lets the waker of the listing with this ticket be renewed, and answers whether it has one.
     #[inline(always)]
     pub fn renew<N: Renews<W>>(&mut self, ticket: u64, by: &mut N) -> bool
         ensures renewed { result ≡ true
@@ -437,12 +419,10 @@ impl<W: WakerId + Drop> Lists<W> {
         ensures head { self.new.head ≡ self.old.head }
         ensures memory { capacity_of self.new ≡ capacity_of self.old }
     {
-        // If wakers may be the same, nobody has compared the new one.
         self.mixed |= !W::are_all_other();
         self.slots.renew(ticket, by)
     }
 
-    // The waker of the own listing.
     #[inline(always)]
     fn own(&self, ticket: Option<u64>) -> Option<&W>
         ensures { option_copied result
@@ -451,7 +431,7 @@ impl<W: WakerId + Drop> Lists<W> {
         self.slots.find(ticket?)?.waker.as_ref()
     }
 
-    // Takes the own listing out; where there is none, makes room for one. Answers the ticket to list by.
+    // Takes the own listing out, or makes room for one. Answers the ticket to list by.
     #[inline(always)]
     fn make_place(&mut self, ticket: Option<u64>) -> Result<u64, AllocError>
         ensures ticket { IfOk result (λ n. n ≡ ticket_for ticket (listings_of self.old)) }
@@ -476,7 +456,6 @@ impl<W: WakerId + Drop> Lists<W> {
         Ok(self.slots.free_ticket())
     }
 
-    // Takes the own listing out, if the ticket has one, and answers the ticket then.
     #[inline(always)]
     fn take_own(&mut self, ticket: Option<u64>) -> Option<u64>
         ensures kept { result ≡ kept_ticket ticket (listings_of self.old) }
@@ -494,7 +473,6 @@ impl<W: WakerId + Drop> Lists<W> {
         Some(mine)
     }
 
-    // Takes the listing with this ticket out, if one has it.
     #[inline(always)]
     fn take_out(&mut self, ticket: u64) -> Option<Listing<W>>
         ensures waker { option_map (λ x. x.waker) result
@@ -511,7 +489,6 @@ impl<W: WakerId + Drop> Lists<W> {
         self.slots.take_out(ticket)
     }
 
-    // Puts a listing to the end, for which there is room, and whose ticket no listing has.
     #[inline(always)]
     fn push(&mut self, listing: Listing<W>)
         requires new { member listing.ticket (tickets (listings_of self.old)) ≡ false }
@@ -526,7 +503,6 @@ impl<W: WakerId + Drop> Lists<W> {
         self.slots.push(listing);
     }
 
-    // The first listing that has a waker gives it.
     #[inline(always)]
     fn call_first(&mut self) -> Option<W>
         ensures waker { result ≡ first_waker (listings_of self.old) }
@@ -538,8 +514,7 @@ impl<W: WakerId + Drop> Lists<W> {
     }
 }
 
-// Takes each waker away that is the same as one before it. Where there is none, nothing is to be
-// done. Else each listing is compared with all before it.
+// Takes each waker away that is the same as one before it. Unless `mixed`, there is none.
 fn once_each<W: WakerId + Drop>(listings: &mut Vec<Listing<W>>, mixed: bool)
     requires apart { mixed ≡ false → ∥ AllPairs (AreApart W.tells_other) listings.old.items ∥₁ }
     ensures { ∥ HandsAll W.tells_same W.tells_other [] listings.old.items listings.new.items ∥₁ }
@@ -556,7 +531,6 @@ fn once_each<W: WakerId + Drop>(listings: &mut Vec<Listing<W>>, mixed: bool)
     }
 }
 
-// Whether the listing has a waker that may be the same as one of those before it.
 #[inline(always)]
 fn may_repeat<W: WakerId>(listing: &Listing<W>, before: &[Listing<W>]) -> bool
     ensures { result ≡ false
@@ -566,7 +540,6 @@ fn may_repeat<W: WakerId>(listing: &Listing<W>, before: &[Listing<W>]) -> bool
     !W::are_all_other() && repeats(listing, before)
 }
 
-// Whether the listing has a waker that is the same as one of those before it.
 fn repeats<W: WakerId>(listing: &Listing<W>, before: &[Listing<W>]) -> bool
     ensures yes { result ≡ true
         → MatchOption listing.now.waker ⊥ (λ w. (k : ℕ) × (k < length before.now)
@@ -581,7 +554,6 @@ fn repeats<W: WakerId>(listing: &Listing<W>, before: &[Listing<W>]) -> bool
     }
 }
 
-// Whether the listing has a waker, and that is the same.
 #[inline(always)]
 fn has<W: WakerId>(listing: &Listing<W>, waker: &W) -> bool
     ensures yes { result ≡ true → MatchOption listing.now.waker ⊥ (λ w. W.tells_same w waker.now) }
