@@ -17,9 +17,7 @@ pub enum Counted {
 }
 
 /// The word, the door and the queue of a cell, and the place of its value. Each call is one step, but for
-/// [`refuse`](Self::refuse), which tells the parts what the side answered in a step.
-/// `can` says what a call asks, `did` what it told and left, and `takes` which values may be set; if they are left out,
-/// they say nothing.
+/// [`refuse`](Self::refuse), which belongs to the step before it. A ghost item that is left out says nothing.
 pub trait Parts<W> {
     /// A queue, as a waiter keeps it.
     type Queue;
@@ -41,10 +39,10 @@ pub trait Parts<W> {
     // What a call asks.
     ghost can: { Self → Call W Self.Queue → Type 0 } = { λ _ _. ⊤ };
 
-    // What a call told and left.
+    // What it told and left.
     ghost did: { Self → Told W Self.Queue → Self → Type 0 } = { λ _ _ _. ⊤ };
 
-    // Which values they take.
+    // Which values may be set.
     ghost takes: { Self → Self.Value → Type 0 } = { λ _ _. ⊤ };
 
     /// The word.
@@ -52,13 +50,12 @@ pub trait Parts<W> {
         requires { can self.old Load }
         ensures { did self.old (Loaded (flags_of result)) self.new };
 
-    /// Exchanges `NEW` for `QINIT_BIT`, where the word is `NEW`. The answer says whether it did.
+    /// Exchanges `NEW` for `QINIT_BIT`. The answer says whether the word was `NEW`.
     fn quick(&mut self) -> bool
         requires { can self.old Quick }
         ensures { did self.old (TriedQuick result) self.new };
 
-    /// Exchanges `QINIT_BIT` for `READY_BIT` or for `NEW`, where the word is exactly `QINIT_BIT`. The
-    /// answer says whether it did.
+    /// Exchanges `QINIT_BIT` for `READY_BIT` or for `NEW`. The answer says whether the word was exactly `QINIT_BIT`.
     fn fast(&mut self, ready: bool) -> bool
         requires { can self.old (Fast ready) }
         ensures { did self.old (TriedFast ready result) self.new };
@@ -93,8 +90,7 @@ pub trait Parts<W> {
         requires { can self.old DoorTake }
         ensures { did self.old (Taken result) self.new };
 
-    /// One section under the queue's lock. After a look that wants a copy of the waker, the parts may be
-    /// told that it was refused.
+    /// One section under the queue's lock.
     fn section(&mut self, queue: &Self::Queue, op: &mut Op<W>) -> Answer<W>
         requires can { can self.old (Section queue.now op.old) }
         requires waker { HasWaker op.old }

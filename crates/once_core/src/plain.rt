@@ -31,7 +31,6 @@ pub struct Core<W: WakerId> {
     pub log: Vec<QueueLine>,
     ghost within: { limit ≤ 2 ^ 62 - 2 },
     ghost counted: { made ≤ vec_len log },
-    // Where no queue stands at the door, nobody holds by its flag and nobody is listed.
     ghost bare: { door ≡ None → (lists.head ≡ false) × (listings_of lists ≡ []) },
 }
 
@@ -43,8 +42,7 @@ impl<W: WakerId + Drop> Core<W> {
     ghost use Rattle.once_queue.specs.Room.{HasSpace};
     ghost use Rattle.once_queue.specs.Sections.{Releases};
 
-    /// A core that nobody used, made with a value or not, in which at most `limit` tasks may be counted in. It
-    /// takes no memory.
+    /// A core that nobody used, made with a value or not, for `limit` counted tasks at most. It takes no memory.
     pub fn new(alloc: Global, ready: bool, limit: u64) -> Self
         requires { limit ≤ 2 ^ 62 - 2 }
         ensures { state_of result
@@ -88,8 +86,7 @@ impl<W: WakerId + Drop> Core<W> {
         self.granted = granted;
     }
 
-    /// Makes room for one more listing and for one more line of the log. Where that is refused all is
-    /// as it was.
+    /// Makes room for one more listing and one more line of the log. If that is refused all is as it was.
     pub fn reserve(&mut self) -> Result<(), AllocError>
         ensures room { OnOk result (HasRoom self.new) }
         ensures state { state_of self.new ≡ state_of self.old }
@@ -115,7 +112,6 @@ impl<W: WakerId + Drop> Core<W> {
         self.log
     }
 
-    // The section of a look, on the queue at the door.
     fn look(&mut self, ticket: &mut Option<u64>) -> Answer<W>
         requires door { IsSome self.old.door }
         ensures { Found W.tells_same W.tells_other
@@ -125,7 +121,7 @@ impl<W: WakerId + Drop> Core<W> {
         self.lists.look(ticket, self.current.as_ref(), word)
     }
 
-    // The section of a `List`: where memory is not given, a task without a listing is refused.
+    // If memory is not given, a task without a listing is refused.
     fn list(&mut self, ticket: &mut Option<u64>, waker: &mut Option<W>) -> Answer<W>
         requires door { IsSome self.old.door }
         requires waker { IsSome waker.old }
@@ -144,7 +140,7 @@ impl<W: WakerId + Drop> Core<W> {
         }
     }
 
-    // The section of a release: clears the quick bit if it is set, else the flag beside the list.
+    // Clears the quick bit if it is set, else the flag beside the list.
     fn release(&mut self, ready: bool) -> Out<W>
         requires door { IsSome self.old.door }
         requires unset { self.old.word.ready ≡ false }
@@ -158,7 +154,6 @@ impl<W: WakerId + Drop> Core<W> {
         self.lists.release(ready)
     }
 
-    // The section of one who leaves.
     fn leave(&mut self, ticket: u64) -> Option<W>
         requires door { IsSome self.old.door }
         ensures waker { result
@@ -169,7 +164,6 @@ impl<W: WakerId + Drop> Core<W> {
         self.lists.leave(ticket, word)
     }
 
-    // Takes the queue out of the door, with all that was listed in it, where one stands.
     fn take_out(&mut self) -> bool
         requires { HasRoom self.old }
         ensures stood { IsTrue result ↔ IsSome self.old.door }
@@ -184,7 +178,7 @@ impl<W: WakerId + Drop> Core<W> {
         true
     }
 
-    // Writes a line of the log, for which there is room.
+    // There is room for the line.
     fn write(&mut self, line: QueueLine)
         requires { vec_len self.old.log < vec_capacity self.old.log }
         ensures state { state_of self.new
@@ -227,7 +221,6 @@ impl<W: WakerId + Drop> Parts<W> for Core<W> {
         self.word.fast(ready)
     }
 
-    // A caller that is counted is told the word as it was.
     fn count_in(&mut self) -> Counted
         ensures did { DidCall W.tells_same W.tells_other (state_of self.old) (counted result) (state_of self.new) }
         ensures word { (w : ℕ) → result ≡ Counted.In w → flags_of w ≡ self.old.word }

@@ -56,16 +56,14 @@ pub enum Progress {
     Ended(Ending),
 }
 
-/// What shows that whoever has it has the right to run its init, and what takes down how the init answered.
+/// What shows the right to run an init, and takes down how the init answered.
 pub trait RunRight {
-    // The init may be run.
     ghost can: { Self → Type 0 };
 
-    // The init was polled, and its answer was taken down.
     ghost ran: { Self → Polled → Self → Type 0 };
 }
 
-/// The right of a task that one caller steps: nothing has to be shown or taken down.
+/// One caller steps the task, so nothing has to be shown or taken down.
 impl RunRight for () {
     ghost use Rattle.std.specs.Prelude.{⊤};
 
@@ -74,9 +72,7 @@ impl RunRight for () {
     ghost ran = { λ _ _ _. ⊤ };
 }
 
-/// What a call brings of its own: its init, the value or error that this gave, and its waker. `did` has for each
-/// call what it answers and leaves; where it is left out, it says nothing of any call. All of these calls keep
-/// `stays`.
+/// What a call brings of its own: its init, the value or error that this gave, and its waker.
 pub trait Side<W> {
     /// What the init gives, where the parts keep it.
     type Value;
@@ -87,13 +83,11 @@ pub trait Side<W> {
     ghost use Rattle.std.specs.Prelude.{⊤};
     ghost use Rattle.once_core.specs.Steps.{SideTells, side_tells_nothing};
 
-    // What each call answers and leaves.
+    // What each call answers and leaves. If it is left out, it says nothing.
     ghost did: { SideTells Self W } = { side_tells_nothing };
 
-    // What `run` asks.
     ghost can_run: { Self → Type 0 } = { λ _. ⊤ };
 
-    // What `put` asks.
     ghost can_put: { Self → Type 0 } = { λ _. ⊤ };
 
     // Which values `put` may hand over.
@@ -132,10 +126,8 @@ pub trait Side<W> {
         ensures did { did.wake self.old out self.new }
         ensures stays { stays self.old self.new };
 
-    // A side keeps it with itself.
     ghost stays_same: { (a : Self) → stays a a };
 
-    // It goes on from call to call.
     ghost stays_on: { (a b c : Self) → stays a b → stays b c → stays a c };
 }
 
@@ -193,7 +185,6 @@ impl<W, Q> Place<W, Q> {
     ghost use Rattle.once_core.specs.Steps.{release_place};
     ghost use Rattle.once_core.specs.Table.{left_at};
 
-    // How many steps a call here may still take.
     #[inline(always)]
     fn left(&self) -> u32
         ensures left { result ≡ left_at self.now }
@@ -220,7 +211,6 @@ impl<W, Q> Place<W, Q> {
         }
     }
 
-    // Where a holder gives the right back.
     #[inline(always)]
     fn giving_back(by: Option<Q>, ending: Ending) -> Self
         ensures { result ≡ release_place by ending }
@@ -235,7 +225,6 @@ impl<W, Q> Place<W, Q> {
 impl<W, Q: Drop> Place<W, Q> {
     ghost use Rattle.once_core.specs.Steps.{leave_place};
 
-    // Where a waiter leaves that is dropped or refused.
     #[inline(always)]
     fn leaving(queue: Q, ticket: Option<u64>, ending: Ending) -> Self
         ensures { result ≡ leave_place queue ticket ending }
@@ -353,8 +342,7 @@ impl<W: Drop, Q: Drop> Step<W, Q> {
         self.set(next);
     }
 
-    /// Begins a drop: the init is closed first. `false` says that there is no step to do, because
-    /// the task was never polled.
+    /// Begins a drop: the init is closed first. `false` says that the task was never polled, so there is no step to do.
     #[inline(always)]
     pub fn begin_drop<S: Side<W>>(&mut self, side: &mut S) -> bool
         requires { is_resting self.old ≡ true }
@@ -376,8 +364,8 @@ impl<W: Drop, Q: Drop> Step<W, Q> {
         matches!(self, Step::UnderWay(_))
     }
 
-    // Puts a step in place of one that has nothing to drop: `Finished`, where the place was taken out, or
-    // one that keeps no queue. Without `forget` each assignment would first test which variant it replaces.
+    // Puts a step in place of one that has nothing to drop. Without `forget` an assignment would first test which it
+    // is.
     #[inline(always)]
     fn set(&mut self, step: Step<W, Q>)
         ensures { self.new ≡ step }

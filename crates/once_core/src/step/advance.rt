@@ -13,11 +13,9 @@ impl<W: Drop, Q: Drop> Step<W, Q> {
     ghost use Rattle.once_core.specs.Table.{Advances, Asks, AsksAt, Follows, Line, MayRefuse, Refuse, Refused};
     ghost use Rattle.once_core.specs.Table.{after_copy, left_of};
 
-    /// Makes one step of the call that is under way.
-    ///
-    /// Asked for: what the place's call asks, and that the parts take whatever value the side may hand over.
-    // A queue is taken out first. A place that keeps none is only looked at. A holder's place stays: its queue
-    // alone is taken out of it.
+    /// Makes one step of the call that is under way. It asks what the place's call asks, and that the parts take
+    /// whatever value the side may hand over.
+    // A queue is taken out first. A place that keeps none is only looked at, and a holder's gives its queue alone.
     #[inline(always)]
     pub fn advance<P: Parts<W, Queue = Q>, S: Side<W, Value = P::Value, Right = P::Right>>(
         &mut self,
@@ -63,7 +61,6 @@ impl<W: Drop, Q: Drop> Step<W, Q> {
         }
     }
 
-    // Takes the place out of a step that is under way, so that what it keeps can be moved.
     #[inline(always)]
     fn take_place(&mut self) -> Place<W, Q>
         requires { in_call self.old ≡ true }
@@ -76,7 +73,6 @@ impl<W: Drop, Q: Drop> Step<W, Q> {
         }
     }
 
-    // The call goes on at this place.
     #[inline(always)]
     fn on(&mut self, place: Place<W, Q>) -> Progress
         ensures more { result ≡ Progress.More }
@@ -86,7 +82,6 @@ impl<W: Drop, Q: Drop> Step<W, Q> {
         Progress::More
     }
 
-    // The call ends so, and the task is finished.
     #[inline(always)]
     fn end(&mut self, ending: Ending) -> Progress
         ensures ended { result ≡ Progress.Ended ending }
@@ -96,7 +91,6 @@ impl<W: Drop, Q: Drop> Step<W, Q> {
         Progress::Ended(ending)
     }
 
-    // The poll ends Pending, and the next call begins here.
     #[inline(always)]
     fn rest(&mut self, rest: Rest<Q>) -> Progress
         ensures ended { result ≡ Progress.Ended Ending.Pending }
@@ -247,7 +241,6 @@ impl<W: Drop, Q: Drop> Step<W, Q> {
         }
     }
 
-    // Copies the waker, while another task holds.
     #[inline(always)]
     fn copy<P: Parts<W, Queue = Q>, S: Side<W>>(
         &mut self,
@@ -464,7 +457,7 @@ impl<W: Drop, Q: Drop> Step<W, Q> {
     }
 }
 
-// Calls whom a section handed out. An answer of another kind hands nothing out.
+// Calls whom a section handed out.
 #[inline(always)]
 fn wake<W: Drop, S: Side<W>>(answer: Answer<W>, side: &mut S)
     ensures wakes { Wakes S.did.wake (out_of answer) side.old side.new }
