@@ -1,7 +1,5 @@
-//! Laws of every run of a cell, for those who build on it.
-//!
-//! These functions do nothing: the contract of each is a law, and it follows from "the record is a
-//! run" alone, which `replay` ensures. In the contracts the newest entry stands first.
+//! Laws of every run of a cell, for those who build on it. These functions do nothing: the contract of each is a law
+//! that follows from "the record is a run" alone, which `replay` ensures. The newest entry stands first there.
 ghost use Rattle.std.specs.Prelude.{◌≡◌, ◌≢◌, ◌≤◌, ◌⊎◌, ℕ, true, false, List, [], ◌∷◌, Some, None, length};
 ghost use Rattle.once_world.specs.Record.{Answer, RanError, Kind, Reply, Value, Error, Memory, Full};
 ghost use Rattle.once_world.specs.Record.{Entry, Claim, Ran, Free, Pass, End, DropEnd, is_own};
@@ -28,8 +26,7 @@ pub fn one_task_holds()
         → IsRun kind limit (Ran t a ∷ h) → cell kind h ≡ Held t }
 {}
 
-/// A poll that ends with a value answers the one that is set, and that one lasts until the owner
-/// changes it.
+/// A poll that ends with a value answers the one that is set, which lasts until the owner changes it.
 pub fn value_set_is_answered()
     ensures answered { (kind : Kind) (limit t v : ℕ) (h : List Entry)
         → IsRun kind limit (End t (Value v) ∷ h) → cell kind h ≡ SetTo v }
@@ -48,8 +45,8 @@ pub fn error_is_ones_own()
         → IsRun kind limit (End t (Error e) ∷ h) → Since t (HasFreed kind t) h }
 {}
 
-/// While a task that holds is dropped, the cell stays held or becomes empty, and a lazy init keeps
-/// the answers that it has left. When the drop ends the task does not hold.
+/// While a holder is dropped, the cell stays held or becomes empty, and a lazy init keeps the answers that it has left.
+/// When the drop ends the task does not hold.
 pub fn dropped_holder_frees()
     ensures ended { (kind : Kind) (limit t : ℕ) (h : List Entry) → IsRun kind limit (DropEnd t ∷ h)
         → cell kind (DropEnd t ∷ h) ≢ Held t }
@@ -66,8 +63,8 @@ pub fn set_value_is_answered_at_once()
         → ((last_call kind t h).ran ≡ None) × ((v : ℕ) × (cell kind h ≡ SetTo v) × (r ≡ Value v)) }
 {}
 
-/// A poll ends for want of memory only where another task held or was in a call since it began. Where
-/// none did, it ends as full only where at least `limit` other tasks waited at a moment since it began.
+/// A poll ends for want of memory only if another task held or was in a call since it began. If none did, it ends as
+/// full only if at least `limit` other tasks waited at a moment since it began.
 pub fn refusals_need_others()
     ensures memory { (kind : Kind) (limit t : ℕ) (h : List Entry)
         → IsRun kind limit (End t Memory ∷ h) → Since t (OtherActs kind t) h }
@@ -75,15 +72,14 @@ pub fn refusals_need_others()
         → (Since t (OtherActs kind t) h → ⊥) → Since t (AreWaiting kind limit t) h }
 {}
 
-/// While the value is set nobody who waits is forgotten: the waker of each task that waits then was handed
-/// out since its last poll ended.
+/// While the value is set nobody who waits is forgotten: each one's waker was handed out since its last poll ended.
 pub fn set_value_calls_all()
     ensures { (kind : Kind) (limit : ℕ) (h : List Entry) → IsRun kind limit h
         → AtEvery (NobodyForgotten kind) h }
 {}
 
-/// A release without a value hands out one waker at most, and not those of all who wait. Where some
-/// task waits and was not called since its last poll ended, it hands out one, which is open.
+/// A release without a value hands out one waker at most, and not those of all who wait. If some task waits and was not
+/// called since its last poll ended, it hands out one, which is open.
 pub fn failed_release_calls_one()
     ensures at_most_one { (kind : Kind) (limit t : ℕ) (X : List ℕ) (h : List Entry)
         → IsRun kind limit (Free t X ∷ h) → length X ≤ 1 }
@@ -92,9 +88,8 @@ pub fn failed_release_calls_one()
         → (w : ℕ) × (X ≡ w ∷ []) × IsOpen kind w h }
 {}
 
-/// A task that passes its turn on leaves. It finds the cell empty and hands out one waker, which is
-/// open. It does so once in its call, and claims nothing later in that call. If the call is a poll, it
-/// ends for want of memory. No call of the task begins after it: the task is in this one, or gone.
+/// A task that passes its turn on finds the cell empty and hands out one waker, which is open. It does so once in its
+/// call, which claims nothing later and is its last. If the call is a poll, it ends for want of memory.
 pub fn leaver_passes_its_turn_on()
     ensures to_one { (kind : Kind) (limit t : ℕ) (X : List ℕ) (h : List Entry)
         → IsRun kind limit (Pass t X ∷ h)

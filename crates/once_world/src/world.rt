@@ -18,12 +18,9 @@ mod side;
 
 pub use play::World;
 
-/// Replays these inputs over a cell of this kind, in which at most `limit` tasks may be counted in.
-///
-/// The record tells each call, each answer and each waker handed out, in the order in which they
-/// came, and the queue log beside it. An input that does not fit is passed over.
-///
-/// `AllocError` says that the record or the world could not grow; nothing else is refused.
+/// Replays these inputs over a cell of this kind, in which at most `limit` tasks may be counted in. The record tells
+/// each call, each answer and each waker handed out in their order, with the queue log beside it. An input that does
+/// not fit is passed over. `AllocError` says that the record or the world could not grow; nothing else is refused.
 pub fn replay(alloc: Global, kind: Kind, limit: u64, inputs: &[Input]) -> Result<Record, AllocError>
     requires some { 0 < limit }
     requires within { limit ≤ 2 ^ 62 - 2 }
@@ -36,10 +33,8 @@ pub fn replay(alloc: Global, kind: Kind, limit: u64, inputs: &[Input]) -> Result
     ensures exact_queue { IfOk result (λ r.
         r.queue ≡ queue_of (kind_of kind) limit (inputs_in inputs.now)) }
 
-    // The record is a run of the cell. Nobody who waits is forgotten once the value is set. While
-    // the cell is empty and a task waits, some task was called; one that waits, where no call is
-    // under way. Every poll that is answered a value is answered the one that is set until the owner
-    // changes it.
+    // The record is a run of the cell, of which the laws say more. While the cell is empty and a task waits, some task
+    // was called; one that waits, if no call is under way.
     ensures run { IfOk result (λ r. IsRun (kind_of kind) limit (record_entries r)) }
     ensures nobody_forgotten { IfOk result (λ r.
         AtEvery (NobodyForgotten (kind_of kind)) (record_entries r)) }

@@ -9,8 +9,7 @@ use once_queue::waiters::Out;
 use std::alloc::{AllocError, Global};
 use std::mem::replace;
 
-/// A task of a replay: the waker of its last poll, what its init gave, and the step at which it
-/// stands.
+/// A task of a replay: the waker of its last poll, what its init gave, and its step.
 #[derive(Drop)]
 pub(super) struct Task {
     pub waker: u64,
@@ -18,23 +17,21 @@ pub(super) struct Task {
     pub step: Step<u64, u64>,
 }
 
-/// What all tasks of a replay share.
 #[derive(Drop)]
 pub(super) struct ReplayCell {
     pub core: Core<u64>,
     pub side: ReplaySide,
 }
 
-/// What one step of a task was seen to do. `step_entries` of `specs/Shown` reads its fields.
+/// What one step of a task was seen to do, for `step_entries` of `specs/Shown`.
 #[derive(Drop)]
 pub(super) struct StepSeen {
     pub claimed: bool,
     pub ran: Option<Ran>,
-    /// Whether the right was given back by the fast release, which hands nobody out.
+    /// By the fast release.
     pub freed: bool,
-    /// Whom a release under the lock handed out, or one who left.
+    /// By a release under the lock, or by one who left.
     pub handed: Option<Out<u64>>,
-    /// Whether the step took the task's listing out.
     pub leaving: bool,
     pub progress: Progress,
 }
@@ -94,7 +91,7 @@ impl ReplayCell {
         }
     }
 
-    /// Makes the room that one step may need. Where that is refused all is as it was.
+    /// Makes the room that one step may need. If that is refused all is as it was.
     pub fn reserve(&mut self) -> Result<(), AllocError>
         ensures room { OnOk result (HasRoom self.new.core) }
         ensures shared { shared_of self.new ≡ shared_of self.old }
@@ -105,8 +102,8 @@ impl ReplayCell {
         self.core.reserve()
     }
 
-    /// Makes one step of a task with a call under way. If the step polls the init, the init gives
-    /// `answer`; that of a lazy cell gives its own. `granted` says whether the step is given memory.
+    /// Makes one step of a task with a call under way. An init that it polls gives `answer`, but that of a lazy cell
+    /// gives its own. `granted` says whether the step is given memory.
     pub fn advance(&mut self, task: &mut Task, answer: Ran, granted: bool) -> StepSeen
         requires call { in_call task.old.step ≡ true }
         requires room { HasRoom self.old.core }
@@ -213,7 +210,6 @@ impl ReplayCell {
         }
     }
 
-    // Puts a new cell with this value or none in the place of this one.
     fn renew(&mut self, value: Option<u64>)
         requires room { HasRoom self.old.core }
         ensures shared { shared_of self.new

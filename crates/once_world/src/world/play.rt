@@ -15,10 +15,8 @@ use once_queue::waiters::Out;
 use std::alloc::{AllocError, Global};
 use std::collections::BTreeMap;
 
-/// A cell and its tasks under replay, which take one input at a time.
-///
-/// `replay` is the loop over it. Between two inputs it shows its record so far, what all tasks share,
-/// and where each task stands:
+/// A cell and its tasks under replay, which take one input at a time. `replay` is the loop over it. Between two inputs
+/// it shows its record so far, what all tasks share, and where each task stands:
 ///
 /// ```
 /// let mut world = World::new(alloc, Kind::Once, 8);
@@ -31,7 +29,6 @@ use std::collections::BTreeMap;
 pub struct World {
     shared: ReplayCell,
     tasks: BTreeMap<u64, Task>,
-    /// How many tasks are not finished.
     unfinished: u64,
     entries: Vec<Entry>,
 }
@@ -49,8 +46,7 @@ impl World {
     ghost use Rattle.once_core.specs.Core.{state_of};
     ghost use Rattle.once_queue.specs.Room.{listings_of};
 
-    /// A cell of this kind that nobody used, in which at most `limit` tasks may be counted in. It takes
-    /// no memory.
+    /// A cell of this kind that nobody used, in which at most `limit` tasks may be counted in. It takes no memory.
     pub fn new(alloc: Global, kind: Kind, limit: u64) -> Self
         requires some { 0 < limit }
         requires within { limit ≤ 2 ^ 62 - 2 }
@@ -65,10 +61,8 @@ impl World {
         }
     }
 
-    /// Takes one input. One that does not fit is passed over, and changes nothing.
-    ///
-    /// `AllocError` says that the record or the world could not grow. Then nothing is said of the
-    /// world: the input may have been taken in part.
+    /// Takes one input. One that does not fit is passed over, and changes nothing. `AllocError` says that the record or
+    /// the world could not grow. Then the input may have been taken in part.
     pub fn take(&mut self, input: &Input) -> Result<(), AllocError>
         requires reached { IsReached self.old }
         ensures reached { OnOk result (IsReached self.new) }
@@ -79,10 +73,8 @@ impl World {
         self.apply(input)
     }
 
-    /// Takes so many `Go` inputs of a task, with this answer, and with memory or not. Where no call of the
-    /// task is under way any more it passes the rest over at once.
-    ///
-    /// `AllocError` says what it says of [`take`](Self::take).
+    /// Takes so many `Go` inputs of a task, with this answer, and with memory or not. Once no call of the task is under
+    /// way it passes the rest over. `AllocError` is as in [`take`](Self::take).
     pub fn run(
         &mut self,
         task: u64,
@@ -105,7 +97,6 @@ impl World {
         Ok(())
     }
 
-    // Whether no call of the task is under way.
     fn is_idle(&self, task: u64) -> bool
         ensures { result ≡ true → IsIdle ((world_in self.now).tasks task) }
     {
@@ -138,7 +129,6 @@ impl World {
         Some(&self.tasks.get(&task)?.step)
     }
 
-    // Takes one input, which the machine may take.
     fn apply(&mut self, input: &Input) -> Result<(), AllocError>
         requires may { MayTake self.old.shared.core.limit (world_in self.old) (input_of input.now) }
         ensures world { (kind : RecordedKind) → is_lazy kind ≡ self.old.shared.side.lazy
@@ -277,7 +267,6 @@ impl World {
     }
 }
 
-// The same call, to be recorded.
 fn copied(call: &Call) -> Result<Call, AllocError>
     ensures { IfOk result (λ c. call_of c ≡ call_of call.now) }
 {
@@ -292,7 +281,6 @@ fn copied(call: &Call) -> Result<Call, AllocError>
     })
 }
 
-// How many tasks are not finished, where one of so many came to this step.
 fn still_unfinished(step: &Step<u64, u64>, unfinished: u64) -> u64
     ensures { result ≡ unfinished_after step.now unfinished }
 {
@@ -303,7 +291,6 @@ fn still_unfinished(step: &Step<u64, u64>, unfinished: u64) -> u64
     }
 }
 
-// Records what a step of the task was seen to do, where its init gave `kept` and this value is set.
 fn record_step(
     entries: &mut Vec<Entry>,
     t: u64,
@@ -336,7 +323,6 @@ fn record_step(
     Ok(())
 }
 
-// Records that the task got the right, and what its init answered.
 fn record_init(
     entries: &mut Vec<Entry>,
     t: u64,
@@ -355,7 +341,6 @@ fn record_init(
     Ok(())
 }
 
-// Records whom the task called, as one who leaves or as one who gives the right back.
 fn record_out(
     entries: &mut Vec<Entry>,
     t: u64,
@@ -375,7 +360,6 @@ fn record_out(
     Ok(())
 }
 
-// The wakers that were handed out, in their order.
 fn wakers_out(alloc: Global, out: Out<u64>) -> Result<Vec<u64>, AllocError>
     ensures { IfOk result (λ X. X.items ≡ wakers_in out) }
 {
@@ -388,7 +372,6 @@ fn wakers_out(alloc: Global, out: Out<u64>) -> Result<Vec<u64>, AllocError>
     }
 }
 
-// The release of a task whose init gave this: a value fills the cell.
 fn release_entry(t: u64, kept: Ran, wakers: Vec<u64>) -> Entry
     ensures { entry_of result ≡ release_of kept t wakers.items }
 {
@@ -398,7 +381,6 @@ fn release_entry(t: u64, kept: Ran, wakers: Vec<u64>) -> Entry
     }
 }
 
-// How a call ends, where its init gave this and this value is set.
 fn end_entry(t: u64, ending: Ending, kept: Ran, value: u64) -> Entry
     ensures { entry_of result ≡ end_of ending t value kept }
 {
@@ -412,7 +394,6 @@ fn end_entry(t: u64, ending: Ending, kept: Ran, value: u64) -> Entry
     }
 }
 
-// The error that an init gave.
 fn error_in(kept: Ran) -> u64
     ensures { result ≡ error_of kept }
 {

@@ -1,25 +1,22 @@
-//! The side of a replayed task.
+//! The side of a replayed task: its init answers as the inputs or the kind say.
 ghost use Rattle.std.specs.Prelude.{◌≡◌};
 
 use super::Ran;
 use once_core::step::{Polled, Side};
 use once_queue::waiters::Out;
 
-/// The side of a replayed task: its init answers as the inputs or the kind say.
 #[derive(Drop)]
 pub(super) struct ReplaySide {
     pub lazy: bool,
     /// What a lazy init will still answer, the next one last.
     pub answers: Vec<Option<u64>>,
-    /// The value that was put last.
     pub value: u64,
-    // What the task under way brings: the answer for its init, whether memory is given, its waker,
-    // and what its init gave.
+    // What the task brings to a step, and what its init gave.
     pub answer: Ran,
     pub granted: bool,
     pub waker: u64,
     pub kept: Ran,
-    // What was seen in this step: what the init answered, and whom a section handed out.
+    // What was seen in this step.
     pub ran: Option<Ran>,
     pub handed: Option<Out<u64>>,
 }
@@ -28,13 +25,12 @@ impl ReplaySide {
     ghost use Rattle.once_world.specs.Cell.{rest_of};
     ghost use Rattle.once_world.specs.Side.{answers_in, next_of};
 
-    // What the init answers now.
     fn next_answer(&mut self) -> Ran
         ensures answer { result ≡ next_of self.old }
         ensures answers { answers_in self.new ≡ rest_of (answers_in self.old) }
         ensures others { self.new ≡ record self.old { answers = self.new.answers } }
     {
-        // Popped in either case, as `answers` says: a cell that is not lazy has none.
+        // A cell that is not lazy has none.
         match self.answers.pop() {
             _ if !self.lazy => self.answer,
             Some(Some(v)) => Ran::Value(v),
@@ -47,7 +43,6 @@ impl Side<u64> for ReplaySide {
     ghost use Rattle.std.proofs.Common.{rules};
     ghost use Rattle.once_world.specs.Side.{DidRun, DidClose, DidPut, DidCopy, DidWake, Stays};
 
-    // The side keeps the value.
     type Value = ();
 
     type Right = ();
