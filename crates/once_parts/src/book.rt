@@ -1,5 +1,6 @@
-//! The book of a cell, and what is known of a record that was seen. What a line of its log and a page say are types of
-//! a specification, so the two types here are for clauses alone: nobody makes a value of them.
+//! The book of a cell, and what is known of a record that was seen. A line of its log and a page are types of a
+//! specification, so the two types here are for clauses alone: nobody makes a value of them. The functions here do
+//! nothing.
 ghost use Rattle.std.specs.Prelude.{ℕ, reverse};
 ghost use mathlib.Core.List.{IsPrefix};
 ghost use Rattle.once_world.specs.Record.{Once};
@@ -68,8 +69,7 @@ pub type Record = Seen<Line, Leaf, CellRule>;
 /// Pens of a cell's pages.
 pub type CellPens = Pens<Leaf>;
 
-/// Shows that what was seen of a record is a run of the cell, that at each of its beginnings somebody was
-/// called if somebody had to be, and that a Fill stands in it if the cell is set. It does nothing.
+/// A record that was seen is a run of the cell. At each of its beginnings somebody was called if somebody had to be.
 #[inline(always)]
 pub fn is_run(seen: &Record)
     ensures run { IsRun Once most (reverse seen.now.log) }
@@ -79,7 +79,7 @@ pub fn is_run(seen: &Record)
     seen.again().learn(seen);
 }
 
-/// Shows that in what was seen of a record each task polls its init once at most in each call. It does nothing.
+/// In what was seen of a record each task polls its init once at most in each call.
 #[inline(always)]
 pub fn polls_once(seen: &Record)
     ensures { PollsOnce seen.now.log }
@@ -87,7 +87,7 @@ pub fn polls_once(seen: &Record)
     seen.again().learn(seen);
 }
 
-/// Shows that a cell that was set in a record is set in each later one. It does nothing.
+/// A cell that was set in a record is set in each later one.
 #[inline(always)]
 pub fn stays_set(earlier: &Record, later: &Record)
     ensures { IsPrefix earlier.now.log later.now.log → IsSet earlier.now.log → IsSet later.now.log }
@@ -95,7 +95,7 @@ pub fn stays_set(earlier: &Record, later: &Record)
     later.again().learn(later);
 }
 
-/// Shows that the cell is set in a record whose newest entry is the end of a call with the value. It does nothing.
+/// The cell is set in a record whose newest entry is the end of a call with the value.
 #[inline(always)]
 pub fn is_set_where_answered(seen: &Record)
     requires { (t : ℕ) × EndsSet t seen.now.log }

@@ -38,7 +38,7 @@ pub(crate) enum Section {
     Found,
     /// Takes the queue out of the door.
     Take,
-    /// Makes the section that is the call of its place; and whether there is room to list its waker.
+    /// Makes the section that is the call of its place, with or without room to list its waker.
     ByTable(bool),
     /// Is at rest, and comes to its listing, which has this ticket.
     Rest(u64),
@@ -50,8 +50,7 @@ impl Play<Section, Line, Leaf> for Section {
     ghost then = { Tells };
 }
 
-/// The door, with the queue if one stands there, and the pens of the door's page and of the queue's. A clause
-/// sees of which book they are.
+/// The door, with its queue if there is one, and the pens of the pages of both, which are of `book`.
 pub struct Desk<W: TaskWaker> {
     lists: Option<Box<Lists<W>>>,
     pens: CellPens,
@@ -106,7 +105,7 @@ impl<W: TaskWaker + Drop> Desk<W> {
         self.lists.is_some()
     }
 
-    /// Puts this queue to the door, where none stands. Else it comes back.
+    /// Puts this queue to the door. If one stands there, this comes back.
     #[inline(always)]
     pub fn put(
         &mut self,
@@ -144,8 +143,8 @@ impl<W: TaskWaker + Drop> Desk<W> {
         self.lists.take()
     }
 
-    /// Claims the right if it is free, else says whether the own listing is there and was not called. Beside the answer
-    /// stands the waker that a claim took out of the list.
+    /// Claims the right if it is free, else says whether the own listing is there and was not called. It answers the
+    /// waker that a claim took out of the list too.
     #[inline(always)]
     pub fn look(
         &mut self,
@@ -171,8 +170,7 @@ impl<W: TaskWaker + Drop> Desk<W> {
         lists.look_own(ticket, found)
     }
 
-    /// Claims the right if it is free, else lists this waker, which is the task's. Beside the answer stands the waker
-    /// that a claim took out of the list.
+    /// Claims the right if it is free, else lists this waker, which is the task's. A claim's waker is answered too.
     #[inline(always)]
     pub fn list(
         &mut self,
@@ -202,8 +200,7 @@ impl<W: TaskWaker + Drop> Desk<W> {
         (list_without_room(lists, ticket, found), None)
     }
 
-    /// Lets the waker of the listing of a task at rest be renewed. The answer says whether there is one. No page
-    /// changes, since the waker is the task's and stays so.
+    /// Lets the listed waker of a task at rest be renewed, if there is one. No page changes, since it stays the task's.
     #[inline(always)]
     pub fn renew<N: Renews<W>>(&mut self, hand: &mut Hand, ticket: u64, by: &mut N) -> bool
         requires owner { KeepsOwner W.whose N.renewed }
@@ -217,7 +214,6 @@ impl<W: TaskWaker + Drop> Desk<W> {
     {
         let seen = hand.seen.again();
         note(&mut self.pens, hand, &Section::Rest(ticket));
-        // What the task knows of the record stays as it was at the end of its call.
         hand.seen = seen;
         let Some(queue) = &mut self.lists else {
             return false;
@@ -247,8 +243,8 @@ impl<W: TaskWaker + Drop> Desk<W> {
         lists.release(ready)
     }
 
-    /// Takes the listing with this ticket out. If it was called and nobody holds, calls the next. Beside the waker that
-    /// is called stands the one that the own listing had.
+    /// Takes the listing with this ticket out. If it was called and nobody holds, calls the next. It answers that
+    /// waker, and the one that the own listing had.
     // With this one inlined too, a section is so large that the kit inlines none.
     #[inline(never)]
     pub fn leave(&mut self, word: &CellWord, hand: &mut Hand, ticket: u64) -> (Option<W>, Option<W>)
@@ -300,8 +296,7 @@ fn given_back(ready: bool, head: bool) -> u64
     }
 }
 
-// Whether a waker can be listed: the own listing is there, or there is room for one more, which is made where
-// it can be.
+// Whether a waker can be listed: the own listing is there, or there is room for one more, which is made if need be.
 #[inline(always)]
 fn has_room<W: WakerId + Drop>(lists: &mut Lists<W>, ticket: Option<u64>) -> bool
     ensures room { result ≡ true → (is_some (kept_ticket ticket (listings_of lists.new)) ≡ true) ⊎ HasSpace lists.new }
@@ -312,8 +307,7 @@ fn has_room<W: WakerId + Drop>(lists: &mut Lists<W>, ticket: Option<u64>) -> boo
     lists.is_listed(ticket) || lists.reserve().is_ok()
 }
 
-// A `List` where there was no room, and the own ticket has no listing: claims the right if it is free.
-// A claim then takes no listing out. With `look_own` in this place, a section is so large that the kit inlines none.
+// Claims the right if it is free. With `look_own` in this place, a section is so large that the kit inlines none.
 #[inline(always)]
 fn list_without_room<W: WakerId + Drop>(
     lists: &mut Lists<W>,
@@ -338,7 +332,7 @@ fn list_without_room<W: WakerId + Drop>(
     }
 }
 
-/// A moment that no word marks: the task comes to its queue, looks at the door, finds a queue there, or takes it out.
+/// A moment that no word marks.
 #[inline(always)]
 fn note(desk: &mut CellPens, hand: &mut Hand, section: &Section)
     requires book { desk.old.book ≡ hand.old.seen.book }
@@ -354,8 +348,7 @@ fn note(desk: &mut CellPens, hand: &mut Hand, section: &Section)
     hand.pens = desk.split_off(2);
 }
 
-/// A moment that a load of the word marks: a look, a `List`, or the leaving of a waiter. `room` says whether the
-/// waker of a `List` can be listed; the others list none.
+/// A moment that a load of the word marks. `room` says whether the waker of a `List` can be listed.
 #[inline(always)]
 fn see(word: &CellWord, desk: &mut CellPens, hand: &mut Hand, room: bool) -> u64
     requires word { IsWord word.now hand.old.seen.book 0 }
@@ -373,7 +366,6 @@ fn see(word: &CellWord, desk: &mut CellPens, hand: &mut Hand, room: bool) -> u64
     found
 }
 
-/// A queue is put to the door, where none stands.
 #[inline(always)]
 fn put(has_put: &CellWord, desk: &mut CellPens, hand: &mut Hand)
     requires word { IsWord has_put.now hand.old.seen.book 1 }
@@ -391,7 +383,6 @@ fn put(has_put: &CellWord, desk: &mut CellPens, hand: &mut Hand)
     hand.pens = desk.split_off(2);
 }
 
-/// The right is given back, with the value or without, by this addition.
 #[inline(always)]
 fn release(word: &CellWord, desk: &mut CellPens, hand: &mut Hand, ready: bool, more: u64)
     requires word { IsWord word.now hand.old.seen.book 0 }
@@ -412,7 +403,6 @@ fn release(word: &CellWord, desk: &mut CellPens, hand: &mut Hand, ready: bool, m
 }
 
 impl<T, W: TaskWaker + Drop, V: Fits<T>> Inner<T, W, V> {
-    // What is at the door, under the lock.
     #[inline(always)]
     pub(crate) fn got<J: Key, R: Wait>(&self, rt: &R, hand: &mut Hand) -> bool
         requires key { self.now.desk ≡ J.key }
@@ -425,7 +415,7 @@ impl<T, W: TaskWaker + Drop, V: Fits<T>> Inner<T, W, V> {
         self.desk.lock::<J, R>(rt).value.get(hand)
     }
 
-    // This queue, put under the lock; where one stood there, this comes back.
+    // If a queue stood there, this comes back.
     #[inline(always)]
     pub(crate) fn put<J: Key, R: Wait>(
         &self,
@@ -446,7 +436,6 @@ impl<T, W: TaskWaker + Drop, V: Fits<T>> Inner<T, W, V> {
             .put(&self.has_put, hand, queue)
     }
 
-    // The queue, taken out under the lock.
     #[inline(never)]
     pub(crate) fn taken<J: Key, R: Wait>(&self, rt: &R, hand: &mut Hand) -> Option<Box<Lists<W>>>
         requires key { self.now.desk ≡ J.key }
@@ -458,7 +447,7 @@ impl<T, W: TaskWaker + Drop, V: Fits<T>> Inner<T, W, V> {
         self.desk.lock::<J, R>(rt).value.take(hand)
     }
 
-    // A section, under the lock, and the waker that it took out of the list and hands to nobody.
+    // Answers the waker that it took out of the list and hands to nobody, too.
     #[inline(always)]
     pub(crate) fn entered<J: Key, R: Wait>(
         &self,
@@ -487,7 +476,7 @@ impl<T, W: TaskWaker + Drop, V: Fits<T>> Inner<T, W, V> {
         }
     }
 
-    // Whether a queue stands at the door, if the lock is free.
+    // If the lock is free.
     pub(crate) fn stands<J: Key>(&self) -> Option<bool>
         requires { self.now.desk ≡ J.key }
     {

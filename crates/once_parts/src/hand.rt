@@ -1,5 +1,4 @@
-//! A task's pen, with what the task has seen of the log, and the moments that the task makes by itself; and whose a
-//! waker is.
+//! A task's pen, with what the task has seen of the log, and the moments that it makes by itself; and whose a waker is.
 ghost use Rattle.std.specs.Prelude.{◌≡◌, ◌≢◌, ℕ};
 ghost use Rattle.once_parts.specs.Own.{IsHand, number_in};
 ghost use mathlib.Core.List.{IsPrefix};
@@ -19,7 +18,7 @@ use std::snapshot::Snapshot;
 pub enum Act {
     /// Loads the word, to count itself in: it may find as many counted as may be.
     Full,
-    /// Counts itself in, where the word is still this one.
+    /// Counts itself in, if the word is still this one.
     Enter(u64),
     /// Sees whether a queue was ever put to the door.
     NonePut,
@@ -41,7 +40,6 @@ impl Play<Act, Line, Leaf> for Act {
     ghost then = { Tells };
 }
 
-/// A task is made.
 pub(crate) struct Makes;
 
 impl Play<(), Line, Leaf> for Makes {
@@ -50,7 +48,7 @@ impl Play<(), Line, Leaf> for Makes {
     ghost then = { λ _ v n w. Made v w };
 }
 
-/// The number of a task. It has no bytes. A clause sees the number.
+/// The number of a task, as a clause sees it. It has no bytes.
 #[derive(Drop)]
 pub struct Mark {
     pens: Snapshot<CellPens>,
@@ -83,9 +81,8 @@ impl Mark {
 /// What a task has of its cell's book. It has no bytes.
 #[derive(Drop)]
 pub struct Hand {
-    // What the task has seen of the log.
     pub(crate) seen: Record,
-    // The pen of its page. Whoever has it may turn the page, so nobody outside of this crate has.
+    // Whoever has the pen may turn the page, so nobody outside of this crate has it.
     pub(crate) pens: CellPens,
     pub ghost book_is: { pens.book ≡ seen.book },
     pub ghost is_hand: { IsHand seen.log pens.held },
@@ -117,8 +114,8 @@ impl Hand {
         Hand { seen, pens }
     }
 
-    /// Counts the task in, or answers that as many are counted as may be. `None` says that another task
-    /// changed the word between the load and the exchange: then nothing was done.
+    /// Counts the task in, or answers that as many are counted as may be. `None` says that nothing was done, because
+    /// another task changed the word between the load and the exchange.
     #[inline(always)]
     pub fn try_count_in(&mut self, word: &CellWord) -> Option<Counted>
         requires word { IsWord word.now self.old.seen.book 0 }
@@ -147,7 +144,7 @@ impl Hand {
         None
     }
 
-    /// Sees whether no queue was ever put: then there is none to take, and that was the step.
+    /// Sees whether no queue was ever put. If so, there is none to take, and that was the step.
     #[inline(always)]
     pub fn finds_none_put(&mut self, has_put: &CellWord) -> bool
         requires word { IsWord has_put.now self.old.seen.book 1 }
@@ -159,7 +156,7 @@ impl Hand {
         has_put.load::<Act, Act>(&Act::NonePut, &mut self.seen, &mut self.pens) == 0
     }
 
-    // The init was polled, and answered so. Who polls it says this: see `pollable`.
+    // Called by whoever polled the init: see `poll_init`.
     #[inline(always)]
     pub(crate) fn ran(&mut self, answer: Polled)
         requires right { HasRight self.old }
@@ -218,8 +215,7 @@ impl Hand {
         stays_set(seen, &self.seen);
     }
 
-    /// Shows that two hands of one book are of two tasks. It does nothing, but that the first may learn more of the
-    /// record.
+    /// Shows that two hands of one book are of two tasks. The first may learn more of the record.
     #[inline(always)]
     pub fn are_two(a: &mut Hand, b: &mut Hand)
         requires book { b.old.seen.book ≡ a.old.seen.book }
@@ -237,7 +233,6 @@ impl Hand {
     }
 }
 
-/// A hand shows the right where its task stands at the place where it polls its init.
 impl RunRight for Hand {
     ghost use Rattle.once_parts.specs.Hands.{HasRight, HasRun};
 
@@ -246,7 +241,7 @@ impl RunRight for Hand {
     ghost ran = { HasRun };
 }
 
-// Nothing is done, and the page of a task is seen to have all of the task's entries.
+// The page of a task has all of its entries.
 struct Learned;
 
 impl Play<(), Line, Leaf> for Learned {
@@ -255,7 +250,7 @@ impl Play<(), Line, Leaf> for Learned {
     ghost then = { λ _ v n w. HasLearned v w };
 }
 
-// Nothing is done, and two pens are seen to be of two pages.
+// Two pens are of two pages.
 struct Apart;
 
 impl Play<(), Line, Leaf> for Apart {
@@ -264,8 +259,7 @@ impl Play<(), Line, Leaf> for Apart {
     ghost then = { λ _ v n w. AreTwo v w };
 }
 
-/// Shows that a task has seen all of its own entries, however much it has learned of the log. It does nothing, but that
-/// more of the log may be seen.
+/// Shows that a task has seen all of its own entries, however much it has learned of the log.
 #[inline(always)]
 fn has_learned(seen: &mut Record, pens: &mut CellPens)
     requires book { pens.old.book ≡ seen.old.book }
@@ -278,7 +272,7 @@ fn has_learned(seen: &mut Record, pens: &mut CellPens)
     seen.note::<(), Learned>(pens, &());
 }
 
-/// Shows that two pens of one book are of two tasks. It does nothing, but that more of the log may be seen.
+/// Shows that two pens of one book are of two tasks.
 #[inline(always)]
 fn are_two(seen: &mut Record, a: &mut CellPens, b: &mut CellPens)
     requires book { (a.old.book ≡ seen.old.book) × (b.old.book ≡ seen.old.book) }
@@ -297,9 +291,8 @@ fn are_two(seen: &mut Record, a: &mut CellPens, b: &mut CellPens)
 
 /// A waker that is known to be a task's.
 pub trait TaskWaker: WakerId {
-    // The task's number.
     ghost whose: { Self → ℕ };
 
-    // No two wakers are told to be the same: a task is listed once.
+    // A task is listed once.
     ghost apart: { (a b : Self) → Self.tells_same a b → ⊥ };
 }

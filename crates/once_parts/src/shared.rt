@@ -1,11 +1,9 @@
-//! What the tasks of a cell share, and that as one task uses it.
+//! What the tasks of a cell share, and that as one task uses it. Each load, store, exchange and addition of its words
+//! is sequentially consistent, as all atomics of the kit are: they stand in one order, on which all threads agree. A
+//! task that takes the lock receives all that was done before it was last let go.
 //!
-//! Each load, store, exchange and addition of its words is sequentially consistent, as all atomics of the kit are:
-//! they stand in one order, on which all threads agree. A task that takes the lock receives all that was done
-//! before it was last let go.
-//!
-//! The value lies beside them, and is written and read plainly. It is written before the step that makes the
-//! word ready, and read after a step that found the word ready, or with a token that came from such a step.
+//! The value lies beside them, and is written and read plainly: written before the step that makes the word ready, and
+//! read after a step that found it ready, or with a token that came from such a step.
 ghost use Rattle.std.specs.Prelude.{◌≡◌, ◌^◌, if◌then◌else◌, []};
 ghost use Rattle.once_parts.specs.Own.{IsWord};
 ghost use Rattle.once_queue.specs.Word.{flags_of};
@@ -36,7 +34,6 @@ impl Play<(), Line, Leaf> for Looks {
     ghost then = { λ _. Looked };
 }
 
-/// A step of the word by a task alone, which is the call of its place.
 pub(crate) struct ByTable;
 
 impl Play<(), Line, Leaf> for ByTable {
@@ -45,7 +42,6 @@ impl Play<(), Line, Leaf> for ByTable {
     ghost then = { λ _. WordTells };
 }
 
-/// A task begins to write the value.
 pub(crate) struct Writes;
 
 impl Play<(), Line, Leaf> for Writes {
@@ -54,7 +50,6 @@ impl Play<(), Line, Leaf> for Writes {
     ghost then = { λ _ v n w. Wrote v w };
 }
 
-/// A task puts the value into the slot.
 pub(crate) struct Puts;
 
 impl Play<(), Line, Leaf> for Puts {
@@ -63,8 +58,8 @@ impl Play<(), Line, Leaf> for Puts {
     ghost then = { λ _ v n w. HasPut v w };
 }
 
-/// What all tasks of a cell share: the word, whether a queue was ever put to the door, the slot of the value,
-/// and under one lock the door with the queue. `V` says what is promised of the value.
+/// What all tasks of a cell share: the word, whether a queue was ever put to the door, the slot of the value, and under
+/// one lock the door with the queue. `V` says what is promised of the value.
 #[derive(Drop)]
 pub struct Inner<T, W: TaskWaker, V: Fits<T> = Anything> {
     pub(crate) word: CellWord,
@@ -100,7 +95,7 @@ impl<T, W: TaskWaker + Drop, V: Fits<T>> Inner<T, W, V> {
     ghost use Rattle.once_queue.specs.Word.{flags_of};
     ghost use Rattle.once_parts.specs.Record.{Looked, WasFilled};
 
-    /// A new cell, as by [`new`](Self::new). What `V` promises of its value is about the numbers of the tag.
+    /// As [`new`](Self::new). What `V` promises of the value is about the numbers of the tag.
     #[inline(always)]
     pub fn promised(tag: &Tag) -> Self
         ensures about { result.slot.about ≡ tag.now.numbers }
@@ -149,7 +144,6 @@ impl<T, W: TaskWaker + Drop, V: Fits<T>> Inner<T, W, V> {
         None
     }
 
-    // One load of the word.
     #[inline(always)]
     fn load(&self, seen: &mut Record) -> u64
         requires book { seen.old.book ≡ self.now.slot.book }
@@ -215,7 +209,6 @@ impl<T, W: TaskWaker + Drop, V: Fits<T>> Inner<T, W, V> {
         self.into_slot().into_value(written)
     }
 
-    // The slot, of a cell whose record ends.
     fn into_slot(self) -> CellSlot<T, V>
         ensures { result ≡ self.slot }
     {
@@ -229,8 +222,8 @@ impl<T, W: TaskWaker + Drop, V: Fits<T>> Inner<T, W, V> {
         slot
     }
 
-    /// Whether a queue stands at the door. `None` says that the lock could not be had at once. It waits for
-    /// nobody. It is for Debug: no clause says what it answers.
+    /// Whether a queue stands at the door, for Debug. `None` says that the lock could not be had at once, because it
+    /// waits for nobody. No clause says what it answers.
     ///
     /// ```
     /// assert_eq!(rt; cell.has_queue(), Some(false)); // nobody had to wait yet
@@ -446,8 +439,7 @@ impl<T, W: TaskWaker + Drop, R: Wait + AllocGlobal, V: Fits<T>> Parts<W>
         None
     }
 
-    // The queue is made with the lock free, since that takes memory. The look under the lock decides: where
-    // two tasks found no queue, the second finds the queue of the first there, and lets its own go.
+    // The queue takes memory, so it is made with the lock free. If another task put one meanwhile, this one is let go.
     fn door_put(&mut self) -> Option<()> {
         let alloc = self.rt.alloc();
         let Ok(queue) = Box::new(alloc, Lists::new(alloc)) else {
@@ -458,7 +450,7 @@ impl<T, W: TaskWaker + Drop, R: Wait + AllocGlobal, V: Fits<T>> Parts<W>
         Some(())
     }
 
-    // Where no queue was ever put, the load that finds so is the step. What was listed is let go with the lock free.
+    // If no queue was ever put, the load that finds so is the step. What was listed is let go with the lock free.
     #[inline(always)]
     fn door_take(&mut self) -> bool {
         if self.hand.finds_none_put(&self.inner.has_put) {
@@ -496,7 +488,6 @@ impl<T, W: TaskWaker + Drop, R: Wait + AllocGlobal, V: Fits<T>> Parts<W>
     }
 }
 
-// The word that a fast release leaves.
 #[inline(always)]
 fn freed(ready: bool) -> u64
     ensures { result ≡ (if ready then 2 ^ 63 else 0) }
@@ -505,7 +496,6 @@ fn freed(ready: bool) -> u64
 }
 
 impl<T, W: TaskWaker, V: Fits<T>> Inner<T, W, V> {
-    /// The word, for a task that stands where it loads it.
     #[inline(always)]
     pub(crate) fn loaded(&self, hand: &mut Hand) -> u64
         requires book { hand.old.seen.book ≡ self.now.front.book }
@@ -517,7 +507,7 @@ impl<T, W: TaskWaker, V: Fits<T>> Inner<T, W, V> {
             .load::<(), ByTable>(&(), &mut hand.seen, &mut hand.pens)
     }
 
-    /// Counts the task in. It is tried again while others change the word between the load and the exchange.
+    /// Tries again while others change the word between the load and the exchange.
     #[inline(always)]
     pub(crate) fn counted<R: Wait>(&self, rt: &R, hand: &mut Hand) -> Counted
         requires book { hand.old.seen.book ≡ self.now.front.book }

@@ -1,5 +1,4 @@
-//! A task of a cell, with its whole polls and drops: its side and its init, what it keeps between two calls, and its
-//! steps.
+//! A task of a cell, with its whole polls and drops: its side and init, what it keeps between two calls, and its steps.
 ghost use Rattle.std.specs.Prelude.{◌≡◌, ◌≢◌, ◌<◌, ◌↔◌, IsTrue, ℕ, Bool, true, false, List, [], ◌∷◌};
 ghost use Rattle.std.specs.Prelude.{IfErr, IfOk, IsSome, Option, Some};
 ghost use mathlib.Core.List.{IsPrefix};
@@ -34,45 +33,38 @@ use std::sync::Wait;
 
 /// Where the waker of a task is copied.
 pub trait CopiesWaker {
-    /// Whether the waker may be copied while the cell's lock is held. It may if no code runs there that could use the
-    /// cell: such code would wait for the lock for ever. No clause says so. Else each copy is made with the lock free,
-    /// between two sections.
+    /// Whether the waker may be copied while the cell's lock is held: only if no code runs there that could use the
+    /// cell, because it would wait for the lock for ever. No clause says so. Else it is copied between two sections.
     fn copies_under_lock() -> bool;
 }
 
-/// A side that says which task it is of, whether its init is there and gave something, and who was handed to it in
-/// this call. In a poll by which it may copy its waker under the cell's lock, and that finds the task listed, the side
-/// renews the waker there.
+/// A side that says which task it is of, whether its init is there and gave something, and who was handed to it in this
+/// call. If it may copy its waker under the cell's lock, it renews its listed waker there in a poll.
 pub trait TaskSide<W: TaskWaker>: Side<W, Right = Hand> + Renews<W> + CopiesWaker {
-    // What is told of it.
     ghost state: { Self → Sided };
 
     // What each of its calls makes of that.
     ghost tells: { IsTold W.whose state Self.did };
 
-    // An init that is there may be run.
     ghost runs: { (s : Self) → (state s).has_init ≡ true → Self.can_run s };
 
-    // A value that is there may be put.
     ghost puts: { (s : Self) → (state s).has_value ≡ true → Self.can_put s };
 
     // A listed waker that it renews stays the same task's.
     ghost owner: { KeepsOwner W.whose Self.renewed };
 
-    // A renewal changes nothing that is told of the side, and keeps what each of its calls keeps.
     ghost renews: { (s : Self) (v : W) (t : Self) (w : W) → Self.renewed s v t w
         → (state t ≡ state s) × Self.stays s t };
 
-    // What it may hand over after some of its calls, it might have handed over before them.
+    // What it may hand over after a call, it might have handed over before.
     ghost hands_on: { (s t : Self) → Self.stays s t → (v : Self.Value) → Self.hands t v → Self.hands s v };
 }
 
 /// How what an init gives is told apart: the value, or an error as its task tells it.
 pub trait Splits<O, T, E> {
-    // The output for which this error stands, if it stands for one.
+    // The output for which this error or value stands, if it stands for one.
     ghost output_of: { E → Option O };
 
-    // The same for a value.
     ghost output_with: { T → Option O };
 
     /// The one or the other.
@@ -114,7 +106,6 @@ impl<F: Future> Pollable<F> {
         future
     }
 
-    // The future, to be polled.
     #[inline(always)]
     fn opened(self) -> F
         ensures is { result ≡ self }
@@ -125,9 +116,8 @@ impl<F: Future> Pollable<F> {
     }
 }
 
-/// Polls the init of the task whose hand this is, and writes its answer into the record. The task has the right. The
-/// box is kept if the init is Pending. An error or a value stands for an output that the init may give, and an init
-/// that is left may give no other output than before.
+/// Polls the init of the task whose hand this is, which has the right, and writes its answer into the record. The box
+/// is kept if the init is Pending. An init that is left may give no other output than before.
 #[inline(always)]
 pub fn poll_init<T, E, F, G>(
     init: &mut Option<Pollable<F>>,
@@ -173,7 +163,6 @@ where
 /// Where the next call of a task begins, if there is to be one. It has fewer bytes than the step of a call.
 #[derive(Drop)]
 pub(crate) enum Idle {
-    /// The task was not polled yet.
     New,
     /// It waits, and its listing has this ticket.
     Listed(u64),
@@ -183,12 +172,10 @@ pub(crate) enum Idle {
     Quick,
     /// It holds by the queue.
     Queued,
-    /// Its last call ended with anything but Pending.
     Finished,
 }
 
 impl Idle {
-    /// By the step with which a call ended.
     #[inline(always)]
     pub(crate) fn of<W: Drop>(step: Step<W, ()>) -> Idle
         requires over { in_call step ≡ false }
@@ -205,7 +192,6 @@ impl Idle {
         }
     }
 
-    /// The step with which the next call begins.
     #[inline(always)]
     pub(crate) fn step<W: Drop>(&self) -> Step<W, ()>
         ensures is { result ≡ step_of self.now }
@@ -221,7 +207,6 @@ impl Idle {
         }
     }
 
-    /// Whether the task was not polled yet.
     #[inline(always)]
     pub(crate) fn is_new(&self) -> bool
         ensures { IsTrue result ↔ (self.now ≡ Idle.New) }
@@ -229,7 +214,6 @@ impl Idle {
         matches!(self, Idle::New)
     }
 
-    /// Whether the last call ended with anything but Pending.
     #[inline(always)]
     pub(crate) fn is_over(&self) -> bool
         ensures { result ≡ is_over self.now }
@@ -238,15 +222,12 @@ impl Idle {
     }
 }
 
-/// A task of a cell, between two of its calls: its share of the cell, and where its next call begins.
-///
-/// A clause sees its cell, its number in the record, the record as far as the task has seen it, and whether
-/// it is finished.
+/// A task of a cell, between two of its calls: its share of the cell, and where its next call begins. A clause sees its
+/// cell, its number in the record, the record as far as the task has seen it, and whether it is finished.
 #[derive(Drop)]
 pub struct Task<'a, 'r, T, W: TaskWaker, R, V: Fits<T> = Anything> {
     parts: Shared<'a, 'r, T, W, R, V>,
     idle: Idle,
-    // Where its next call begins, it stands as its page says.
     ghost stands: { is_over idle ≡ false → StandsOn W.whose (own parts) (step_of idle) },
 }
 
@@ -284,8 +265,7 @@ impl<'a, 'r, T, W: TaskWaker + Drop, R, V: Fits<T>> Task<'a, 'r, T, W, R, V> {
         }
     }
 
-    /// Whether the last call ended with anything but Pending, or the task was dropped. It may not be polled
-    /// after that.
+    /// Whether the last call ended with anything but Pending, or the task was dropped. It may not be polled after that.
     ///
     /// ```
     /// if self.task.is_finished() {
@@ -347,8 +327,7 @@ impl<'a, 'r, T, W: TaskWaker + Drop, R, V: Fits<T>> Task<'a, 'r, T, W, R, V> {
         parts.hand.learn(seen);
     }
 
-    /// Shows that two tasks of a cell have two numbers. It does nothing, but that the first may learn more of the
-    /// record.
+    /// Shows that two tasks of a cell have two numbers. The first may learn more of the record.
     #[inline(always)]
     pub fn are_two(a: &mut Self, b: &mut Self)
         requires book { b.old.cell.book ≡ a.old.cell.book }
@@ -376,14 +355,9 @@ impl<'a, 'r, T, W: TaskWaker + Drop, R, V: Fits<T>> Task<'a, 'r, T, W, R, V> {
 impl<'a, 'r, T, W: TaskWaker + Drop, R: Wait + AllocGlobal, V: Fits<T>> Task<'a, 'r, T, W, R, V> {
     ghost use Rattle.once_parts.specs.Tasks.{HasPolled};
 
-    /// A whole poll. It may wait for the cell's lock, and for whatever the side waits for.
-    ///
-    /// The record grew, and its newest entry is the end of this poll with what is answered here. The task's own entries
-    /// since the poll before are the beginning of this poll, what it did, and that end. The wakers that were handed to
-    /// the side are those of the tasks that these entries name, in their order. If the poll finds the task listed, the
-    /// side renews the waker there, under the cell's lock.
-    ///
-    /// The poll began after all that the task had seen before. So if the cell was set in that, it answers the value.
+    /// A whole poll. It may wait for the cell's lock, and for whatever the side waits for. The wakers that were handed
+    /// to the side are those of the tasks that its entries name, in their order. It began after all that the task had
+    /// seen before, so if the cell was set in that, it answers the value.
     ///
     /// ```
     /// self.side.begin();
@@ -415,7 +389,6 @@ impl<'a, 'r, T, W: TaskWaker + Drop, R: Wait + AllocGlobal, V: Fits<T>> Task<'a,
         ending
     }
 
-    // Begins the poll, and makes its steps.
     #[inline(always)]
     fn poll_steps<S: TaskSide<W, Value = T>>(&mut self, side: &mut S) -> Ending
         requires live { self.old.finished ≡ false }
@@ -428,7 +401,6 @@ impl<'a, 'r, T, W: TaskWaker + Drop, R: Wait + AllocGlobal, V: Fits<T>> Task<'a,
         ensures stays { S.stays side.old side.new }
     {
         self.parts.begin();
-        // The ways copy the waker under the lock.
         if !S::copies_under_lock() {
             return self.parts.by_machine(&mut self.idle, side);
         }
@@ -438,8 +410,7 @@ impl<'a, 'r, T, W: TaskWaker + Drop, R: Wait + AllocGlobal, V: Fits<T>> Task<'a,
         self.parts.later(&mut self.idle, side)
     }
 
-    /// A whole drop of a task that is not finished. It may wait as [`poll`](Self::poll), and as much is said of
-    /// the wakers that were handed to the side.
+    /// A whole drop of a task that is not finished. It may wait, and hands wakers to the side, as [`poll`](Self::poll).
     ///
     /// ```
     /// self.side.begin();
@@ -461,7 +432,6 @@ impl<'a, 'r, T, W: TaskWaker + Drop, R: Wait + AllocGlobal, V: Fits<T>> Task<'a,
     {
         self.parts.begin_drop();
         let mut step = self.idle.step();
-        // Whichever way the drop ends, nothing comes after it.
         self.idle = Idle::Finished;
         if !step.begin_drop(side) {
             return;
@@ -470,7 +440,7 @@ impl<'a, 'r, T, W: TaskWaker + Drop, R: Wait + AllocGlobal, V: Fits<T>> Task<'a,
     }
 }
 
-// Shows that a poll that began after the cell was set answered the value. It does nothing.
+// A poll that began after the cell was set answered the value.
 #[inline(always)]
 fn answered_where_set(seen: &Record)
     ensures { (t : ℕ) (e : Ending) (old : List Entry) → IsSet old → Spans t (end_of t e) old seen.now.log
@@ -479,8 +449,8 @@ fn answered_where_set(seen: &Record)
     seen.again().learn(seen);
 }
 
-/// Makes one step of the call that is under way. It may wait as [`Task::poll`](crate::task::Task::poll). `told` is
-/// what the last step told, for the contract alone.
+/// Makes one step of the call that is under way. It may wait as [`Task::poll`](crate::task::Task::poll). `told` is what
+/// the last step told, for the contract alone.
 ///
 /// ```
 /// while step.left() > 0 {
@@ -515,8 +485,7 @@ pub fn one_step<
     step.advance(parts, side)
 }
 
-/// Makes the steps that are left of the call, and answers how it ended. There are at most sixteen. `told` is what
-/// the last step so far told.
+/// Makes the steps that are left of the call, sixteen at most. `told` is what the last step told.
 #[inline(always)]
 pub(crate) fn go_on<
     T,

@@ -4,11 +4,9 @@
 //! through memory, and the cell's lock is taken once for all sections of a poll that meets others.
 //!
 //! [`Step::advance`](once_core::step::Step::advance) stays the one machine. A way may leave to it at any place, by
-//! `steps_left`, and each step of a way is the line of the table that `advance` has for its place. A side whose waker
-//! is not copied under the lock has whole polls by the machine.
-//!
-//! While the lock is held, nothing of the caller's own is dropped or called: such a function answers how far it came,
-//! as [`Reached`], and puts the wakers that it took aside, as [`Spent`]. Who let the lock go then closes the init.
+//! `steps_left`, and each of its steps is the line of the table for its place. A side whose waker is not copied under
+//! the lock polls by the machine alone. While the lock is held, nothing of the caller's own is dropped or called: such
+//! a function answers how far it came, as [`Reached`], and puts the wakers that it took aside, as [`Spent`].
 ghost use Rattle.std.specs.Prelude.{◌≡◌, false};
 ghost use Rattle.once_core.specs.Steps.{is_value, leave_place, release_place};
 ghost use Rattle.once_parts.specs.Idle.{is_over, step_of};
@@ -55,18 +53,14 @@ pub(crate) enum Reached {
     Refused(Option<u64>),
 }
 
-/// The wakers that were taken while the lock was held, and given to nobody. They lie in a place of whoever took the
-/// lock, and are let go where that ends. They are the task's own.
+/// The task's own wakers that were taken under the lock. They lie with whoever took it, and are let go when that ends.
 #[derive(Drop)]
 pub(crate) struct Spent<W> {
-    /// Out of the list, by a claim.
     taken: Option<W>,
-    /// The copy that was not listed.
     copy: Option<W>,
 }
 
 impl<W: Drop> Spent<W> {
-    /// Keeps these in a place where nothing lies yet. What lies there is not looked at.
     #[inline(always)]
     pub(crate) fn keep(place: &mut Option<Self>, taken: Option<W>, copy: Option<W>) {
         mem::forget(mem::replace(place, Some(Spent { taken, copy })));
@@ -74,7 +68,6 @@ impl<W: Drop> Spent<W> {
 }
 
 impl<T, W: TaskWaker + Drop, R: Wait + AllocGlobal, V: Fits<T>> Shared<'_, '_, T, W, R, V> {
-    /// A first poll, from its load on.
     #[inline(always)]
     pub(crate) fn at_start<S: TaskSide<W, Value = T>>(
         &mut self,
@@ -97,7 +90,6 @@ impl<T, W: TaskWaker + Drop, R: Wait + AllocGlobal, V: Fits<T>> Shared<'_, '_, T
         self.at_try_quick(idle, side)
     }
 
-    // The quick claim.
     #[inline(always)]
     fn at_try_quick<S: TaskSide<W, Value = T>>(&mut self, idle: &mut Idle, side: &mut S) -> Ending
         requires stands { IsAt W.whose S.state Place.TryQuick self.old side.old }
@@ -110,7 +102,6 @@ impl<T, W: TaskWaker + Drop, R: Wait + AllocGlobal, V: Fits<T>> Shared<'_, '_, T
         self.at_run(idle, None, side)
     }
 
-    /// A poll of a task that was polled before.
     #[inline(never)]
     pub(crate) fn later<S: TaskSide<W, Value = T>>(
         &mut self,
@@ -131,7 +122,6 @@ impl<T, W: TaskWaker + Drop, R: Wait + AllocGlobal, V: Fits<T>> Shared<'_, '_, T
         }
     }
 
-    /// A whole poll by the machine.
     #[inline(never)]
     pub(crate) fn by_machine<S: TaskSide<W, Value = T>>(
         &mut self,
@@ -165,7 +155,7 @@ impl<T, W: TaskWaker + Drop, R: Wait + AllocGlobal, V: Fits<T>> Shared<'_, '_, T
         ending
     }
 
-    // Goes on, with the lock free, from where the steps under it led.
+    // With the lock free, from where the steps under it led.
     #[inline(always)]
     fn go_on_from<S: TaskSide<W, Value = T>>(
         &mut self,
@@ -204,7 +194,7 @@ impl<T, W: TaskWaker + Drop, R: Wait + AllocGlobal, V: Fits<T>> Shared<'_, '_, T
         }
     }
 
-    /// A holder that has not claimed by the first steps of this poll: it held before, or claimed under the lock.
+    /// A holder that held before this poll, or claimed in it under the lock.
     #[inline(never)]
     fn hold<S: TaskSide<W, Value = T>>(
         &mut self,
@@ -219,7 +209,6 @@ impl<T, W: TaskWaker + Drop, R: Wait + AllocGlobal, V: Fits<T>> Shared<'_, '_, T
         self.at_run(idle, by, side)
     }
 
-    /// The poll of the init.
     #[inline(always)]
     fn at_run<S: TaskSide<W, Value = T>>(
         &mut self,
@@ -247,7 +236,6 @@ impl<T, W: TaskWaker + Drop, R: Wait + AllocGlobal, V: Fits<T>> Shared<'_, '_, T
         }
     }
 
-    // The value is set.
     #[inline(always)]
     fn at_put<S: TaskSide<W, Value = T>>(
         &mut self,
@@ -263,7 +251,6 @@ impl<T, W: TaskWaker + Drop, R: Wait + AllocGlobal, V: Fits<T>> Shared<'_, '_, T
         self.give_back(idle, by, Ending::Value, side)
     }
 
-    // The right is given back.
     #[inline(always)]
     fn give_back<S: TaskSide<W, Value = T>>(
         &mut self,
@@ -281,7 +268,6 @@ impl<T, W: TaskWaker + Drop, R: Wait + AllocGlobal, V: Fits<T>> Shared<'_, '_, T
         }
     }
 
-    // The fast release.
     #[inline(always)]
     fn at_fast<S: TaskSide<W, Value = T>>(
         &mut self,
@@ -303,7 +289,7 @@ impl<T, W: TaskWaker + Drop, R: Wait + AllocGlobal, V: Fits<T>> Shared<'_, '_, T
         ending
     }
 
-    // A quick holder that met others counts in. It gives the right back under the lock, if their queue is at the door.
+    // A quick holder that met others counts in, and gives the right back under the lock if their queue is at the door.
     #[inline(never)]
     fn at_add_one<S: TaskSide<W, Value = T>>(
         &mut self,
@@ -345,7 +331,7 @@ impl<T, W: TaskWaker + Drop, R: Wait + AllocGlobal, V: Fits<T>> Shared<'_, '_, T
         self.at_count_out(idle, ending, side)
     }
 
-    /// The task counts out, and where it is the last at a cell that is set, it takes the queue away.
+    /// The task counts out, and if it is the last at a cell that is set, it takes the queue away.
     #[inline(always)]
     fn at_count_out<S: TaskSide<W, Value = T>>(
         &mut self,
@@ -363,7 +349,6 @@ impl<T, W: TaskWaker + Drop, R: Wait + AllocGlobal, V: Fits<T>> Shared<'_, '_, T
         ending
     }
 
-    /// The queue is taken out of the door, and the poll ends so.
     #[inline(always)]
     fn at_door_take<S: TaskSide<W, Value = T>>(
         &mut self,
@@ -381,7 +366,7 @@ impl<T, W: TaskWaker + Drop, R: Wait + AllocGlobal, V: Fits<T>> Shared<'_, '_, T
     }
 }
 
-// Where a waiter leaves to whom memory was refused.
+// Memory was refused to this waiter.
 #[inline(always)]
 fn leaving<W>(ticket: Option<u64>) -> Place<W, ()>
     ensures { result ≡ leave_place tt ticket Ending.Memory }
@@ -393,7 +378,6 @@ fn leaving<W>(ticket: Option<u64>) -> Place<W, ()>
 }
 
 impl<T, W: TaskWaker + Drop, V: Fits<T>> Inner<T, W, V> {
-    // The release of a holder that has the queue.
     #[inline(always)]
     fn released<J: Key, R: Wait>(&self, rt: &R, hand: &mut Hand, ready: bool) -> Out<W>
         requires key { self.now.desk ≡ J.key }

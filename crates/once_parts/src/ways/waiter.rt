@@ -23,7 +23,6 @@ use std::marker::Brand;
 use std::sync::Wait;
 
 impl<T, W: TaskWaker + Drop, R: Wait + AllocGlobal, V: Fits<T>> Shared<'_, '_, T, W, R, V> {
-    /// A new task that met others, from the door on.
     #[inline(never)]
     pub(super) fn at_door_get<S: TaskSide<W, Value = T>>(
         &mut self,
@@ -44,8 +43,8 @@ impl<T, W: TaskWaker + Drop, R: Wait + AllocGlobal, V: Fits<T>> Shared<'_, '_, T
         self.go_on_from(idle, reached, side)
     }
 
-    // A queue is put to the door. It is made with the lock free: that is for the allocator of the handle, which may be
-    // any code. So another task may put one meanwhile, and this one is let go then, with the lock free.
+    // The queue is made with the lock free, because the allocator of the handle may be any code. If another task put
+    // one meanwhile, this one is let go.
     #[inline(always)]
     fn at_door_put<S: TaskSide<W, Value = T>>(&mut self, idle: &mut Idle, side: &mut S) -> Ending
         requires stands { IsAt W.whose S.state Place.DoorPut self.old side.old }
@@ -66,7 +65,6 @@ impl<T, W: TaskWaker + Drop, R: Wait + AllocGlobal, V: Fits<T>> Shared<'_, '_, T
         self.go_on_from(idle, reached, side)
     }
 
-    /// A later poll, from its load on.
     #[inline(always)]
     pub(super) fn at_wait_load<S: TaskSide<W, Value = T>>(
         &mut self,
@@ -85,7 +83,7 @@ impl<T, W: TaskWaker + Drop, R: Wait + AllocGlobal, V: Fits<T>> Shared<'_, '_, T
         self.at_look(idle, ticket, side)
     }
 
-    // The look of a later poll, and its listing, in one hold of the lock.
+    // The look and the listing, in one hold of the lock.
     #[inline(always)]
     fn at_look<S: TaskSide<W, Value = T>>(
         &mut self,
@@ -106,7 +104,6 @@ impl<T, W: TaskWaker + Drop, R: Wait + AllocGlobal, V: Fits<T>> Shared<'_, '_, T
 }
 
 impl<T, W: TaskWaker + Drop, V: Fits<T>> Inner<T, W, V> {
-    // Takes the lock, and goes on if a queue stands at the door.
     #[inline(always)]
     fn lock_at_door_get<J: Key, R: Wait, S: TaskSide<W, Value = T>>(
         &self,
@@ -129,7 +126,7 @@ impl<T, W: TaskWaker + Drop, V: Fits<T>> Inner<T, W, V> {
         self.locked_count_in(rt, &mut tied.value, hand, spent, side)
     }
 
-    // Takes the lock, and puts this queue. Where one stood there, this comes back.
+    // If a queue stands at the door, this one comes back.
     #[inline(always)]
     fn lock_at_door_put<J: Key, R: Wait, S: TaskSide<W, Value = T>>(
         &self,
@@ -155,7 +152,6 @@ impl<T, W: TaskWaker + Drop, V: Fits<T>> Inner<T, W, V> {
         )
     }
 
-    // The task counts in.
     #[inline(always)]
     fn locked_count_in<R: Wait, S: TaskSide<W, Value = T>>(
         &self,
@@ -179,7 +175,6 @@ impl<T, W: TaskWaker + Drop, V: Fits<T>> Inner<T, W, V> {
         }
     }
 
-    // The load of a new waiter.
     #[inline(always)]
     fn locked_wait_load<S: TaskSide<W, Value = T>>(
         &self,
@@ -200,7 +195,6 @@ impl<T, W: TaskWaker + Drop, V: Fits<T>> Inner<T, W, V> {
         self.locked_look(desk, hand, None, spent, side)
     }
 
-    // Takes the lock for the look.
     #[inline(always)]
     fn lock_at_look<J: Key, R: Wait, S: TaskSide<W, Value = T>>(
         &self,
@@ -221,8 +215,8 @@ impl<T, W: TaskWaker + Drop, V: Fits<T>> Inner<T, W, V> {
         self.locked_look(&mut tied.value, hand, ticket, spent, side)
     }
 
-    /// The look of a waiter under the lock. Who claims takes its waker out of the list. Who is listed renews the waker
-    /// there. Where another task holds, the waiter copies its waker, and is listed.
+    /// Whoever claims takes its waker out of the list, and whoever is listed renews it there. If another task holds,
+    /// the waiter copies its waker, and is listed.
     #[inline(always)]
     fn locked_look<S: TaskSide<W, Value = T>>(
         &self,
@@ -268,7 +262,7 @@ impl<T, W: TaskWaker + Drop, V: Fits<T>> Inner<T, W, V> {
         }
     }
 
-    // The listing of a waiter under the lock. Who is listed has its waker in the list now, and took none out.
+    // Whoever is listed has its waker in the list now, and took none out.
     #[inline(always)]
     fn locked_list<S: TaskSide<W, Value = T>>(
         &self,
@@ -308,7 +302,6 @@ impl<T, W: TaskWaker + Drop, V: Fits<T>> Inner<T, W, V> {
     }
 }
 
-// The waker of a waiter that is listed becomes that of this poll.
 // With this one inlined too, the ways are so large that the kit inlines less of them.
 #[inline(never)]
 fn renew<T, W: TaskWaker + Drop, S: TaskSide<W, Value = T>>(
