@@ -22,15 +22,12 @@ use std::{fmt, io, mem};
 
 /// Which values an init may give. `X` says why there is none.
 pub trait Yields<T, X>: Drop {
-    // The init may give this value.
     ghost may_give: { Self → T → Type 0 };
 }
 
-/// What a task polls while it has the right. `T` is its value, and `X` says why there is none.
-///
-/// Only a call that is lent the task's hand can poll it, and a hand says whether its task has the right.
+/// What a task polls while it has the right. `T` is its value, and `X` says why there is none. Only a call that is lent
+/// the task's hand can poll it, and a hand says whether its task has the right.
 pub trait Init<T, X: Failure>: Yields<T, X> {
-    // The init may fail with this error.
     ghost may_fail: { Self → X → Type 0 };
 
     /// Polls the init, which stays there if it is Pending, and writes the answer into the record.
@@ -81,7 +78,6 @@ pub struct Failed<X: Failure> {
 }
 
 impl<X: Failure> Failed<X> {
-    /// The error.
     #[inline(always)]
     pub(crate) fn into_inner(self) -> X
         ensures own { X.ending result ≡ Ending.Error }
@@ -112,16 +108,13 @@ impl<O: Gives<T, X>, T, X: Failure> Splits<O, T, Failed<X>> for Given {
 /// What a task keeps between two calls.
 #[derive(Drop)]
 pub(crate) enum Kept<T, I: Drop> {
-    /// Its init, until it is finished.
     Init(I),
-    /// What shows the value that it answered.
     Answered(Written<T>),
-    /// Nothing: it answered an error or a refusal.
+    /// It answered an error or a refusal.
     Nothing,
 }
 
 impl<T, I: Drop> Kept<T, I> {
-    /// With this init, if there is one.
     #[inline(always)]
     pub(crate) fn from_init(init: Option<I>) -> Self
         ensures init { init_in result ≡ init }
@@ -133,7 +126,6 @@ impl<T, I: Drop> Kept<T, I> {
         }
     }
 
-    /// The init, which is taken out. Nothing is left.
     #[inline(always)]
     pub(crate) fn take(&mut self) -> Option<I>
         ensures taken { result ≡ init_in self.old }
@@ -148,7 +140,6 @@ impl<T, I: Drop> Kept<T, I> {
 
 /// Why a poll ended without a value, as a future tells it: [`Refused`], or an [`InitError`] if the init may fail.
 pub trait Failure: Drop {
-    // How the poll ended.
     ghost ending: { Self → Ending };
 
     /// The poll was refused.
@@ -184,10 +175,9 @@ impl<E: Drop> Failure for InitError<E> {
 
 /// What an init gives: the value, or a result with the value or an error.
 pub trait Gives<T, X: Failure> {
-    // What the init gave, if a poll tells this error of its own init.
+    // What the init gave, if a poll tells this error of its own init, or if this is its value.
     ghost given_as: { X → Option Self };
 
-    // What it gave, if this is its value.
     ghost given_with: { T → Option Self };
 
     /// The value, or the error as a future tells it.
@@ -225,11 +215,9 @@ impl<T, E: Drop> Gives<T, InitError<E>> for Result<T, E> {
     }
 }
 
-/// Why a poll ended without a value, though no init failed. Its future is finished, and all else is
-/// as if the future had been dropped. A new future may be tried. By `?` this becomes the [`InitError`]
-/// of the same name, or an `io::Error` that prints the same.
-///
-/// An init that asks another cell may be refused there. This one passes the refusal on:
+/// Why a poll ended without a value, though no init failed. Its future is finished, and all else is as if the future
+/// had been dropped. A new future may be tried. By `?` this becomes the [`InitError`] of the same name, or an
+/// `io::Error` that prints the same. An init that asks another cell may be refused there. This one passes it on:
 ///
 /// ```
 /// match Future::poll(&mut self.base, cx) {
@@ -262,12 +250,10 @@ impl fmt::Display for Refused {
 
 impl Error for Refused {}
 
-/// Why a poll ended without a value: the caller's own init failed, or the poll was refused. [`InitError::own`] tells
-/// the two apart.
+/// Why a poll ended without a value: its own init failed, or it was refused. [`InitError::own`] tells which.
 #[derive(Clone, Copy, Debug, Drop, PartialEq, Eq)]
 pub enum InitError<E> {
-    /// The caller's init answered this error. The right was given back, and another caller may fill
-    /// the cell.
+    /// The caller's init answered this error. The right was given back, and another caller may fill the cell.
     Init(E),
     /// As [`Refused::Memory`].
     Memory,
@@ -314,8 +300,7 @@ impl<E: fmt::Display> fmt::Display for InitError<E> {
 
 impl<E: fmt::Debug + fmt::Display + Drop> Error for InitError<E> {}
 
-/// Lets `future.wait()??` stand in a function whose error is an `io::Error`. Its kind is `OutOfMemory` for
-/// [`Refused::Memory`], and `Other` for [`Refused::Full`].
+/// Lets `future.wait()??` give an `io::Error`: of kind `OutOfMemory` for [`Refused::Memory`], `Other` for `Full`.
 impl From<Refused> for io::Error {
     ghost use Rattle.std.specs.IoError.{error_kind};
     ghost use Rattle.async_once_cell.specs.Refused.{kind_of};

@@ -17,13 +17,9 @@ use std::marker::Model;
 use std::sync::{Mutex, Wait};
 use std::{fmt, mem};
 
-/// A cell that is filled by one future of its own.
-///
-/// The task that holds the right drives that future on. The future is never restarted, even if the task
-/// that drives it is dropped. Once it has given its value it is dropped, and then the value is set.
-///
-/// A cell may be sent to another thread if `T: Send` and `F: Send`, and shared between threads if
-/// besides `T: Sync`.
+/// A cell that is filled by one future of its own. The task that holds the right drives that future on. It is never
+/// restarted, even if that task is dropped. Once it has given its value it is dropped, and then the value is set. A
+/// cell may be sent to another thread if `T: Send` and `F: Send`, and shared between threads if besides `T: Sync`.
 ///
 /// ```
 /// let lazy = Lazy::new(ready(3));
@@ -37,7 +33,6 @@ pub struct Lazy<T, F: Future> {
     future: Mutex<Option<Pollable<F>>>,
 }
 
-/// A clause sees a cell as the value that its owner put there, or else as the slot into which tasks put one.
 impl<T, F: Future> Model for Lazy<T, F> {
     ghost use Rattle.async_once_cell.specs.Views.{CellView};
 
@@ -66,11 +61,8 @@ impl<T, F: Future<Output = T>> Lazy<T, F> {
         Lazy::new(future)
     }
 
-    /// A future of the value: the one that is set, or the one that the cell's future gives.
-    ///
-    /// Nothing happens before the first poll, see [`LazyFuturePin`].
-    ///
-    /// Here `Sum` is a future that adds the numbers below `end`, one at each poll, and `end` is 5:
+    /// A future of the value: the one that is set, or the one that the cell's future gives. Nothing happens before the
+    /// first poll, see [`LazyFuturePin`]. Here `Sum` adds the numbers below `end`, which is 5, one at each poll:
     ///
     /// ```
     /// let lazy = Lazy::new(Sum {
@@ -123,10 +115,8 @@ impl<T, F: Future> Lazy<T, F> {
         }
     }
 
-    /// The value, if it is set. It polls nothing, and waits for nobody. Of a cell that tasks share no clause says
-    /// what it answers: [`Lazy::try_get_as`] has such clauses.
-    ///
-    /// With the cell that stands at [`Lazy::get`]:
+    /// The value, if it is set. It polls nothing, and waits for nobody. Of a cell that tasks share no clause says what
+    /// it answers: [`Lazy::try_get_as`] has such clauses. With the cell that stands at [`Lazy::get`]:
     ///
     /// ```
     /// let before = lazy.try_get().copied(); // None: nobody polled the cell's future yet
@@ -163,11 +153,9 @@ impl<T, F: Future> Lazy<T, F> {
         self.into_parts().ok()
     }
 
-    /// The value, if it was set; else the future in the state that it is in. `Err(None)` would say
-    /// that there is neither; no schedule of calls is known to lead there. A queue that futures left
-    /// goes as well. It waits for nobody.
-    ///
-    /// Here the cell's future is Pending at its first poll, and gives 9 at the second:
+    /// The value, if it was set; else the future in the state that it is in. `Err(None)` would say that there is
+    /// neither; no schedule of calls is known to lead there. A queue that futures left goes as well. It waits for
+    /// nobody. Here the cell's future is Pending at its first poll, and gives 9 at the second:
     ///
     /// ```
     /// let is_pending = task.poll(&mut held).is_pending(); // true; `held` is a future of `lazy`
@@ -187,8 +175,7 @@ impl<T, F: Future> Lazy<T, F> {
         }
     }
 
-    /// Puts another cell in place of this one, and answers what [`Lazy::into_inner`] would have
-    /// answered before.
+    /// Puts another cell in place of this one, and answers what [`Lazy::into_inner`] would have answered before.
     ///
     /// ```
     /// let mut lazy: Lazy<u64, Ready<u64>> = Lazy::with_value(7);
@@ -224,8 +211,7 @@ impl<T, F: Future> Lazy<T, F> {
         mem::replace(self, replacement).into_inner_as(told)
     }
 
-    /// Makes the value the owner's, for a caller that was told it. From then on the clauses of all calls say which
-    /// value that is.
+    /// Makes the value, which the caller was told, the owner's. From then on the clauses of all calls say which it is.
     pub fn own_as(&mut self, told: &Told<T>)
     where
         T: Drop,
@@ -243,8 +229,7 @@ impl<T, F: Future> Lazy<T, F> {
         self.cell.token()
     }
 
-    /// As [`Lazy::try_get`], and the token learns the value that is answered. A token that knows a
-    /// value gets that value, always. It waits for nobody.
+    /// As [`Lazy::try_get`], and the token learns the value that is answered. A token that knows one gets it, always.
     pub fn try_get_as<'a>(&'a self, token: &mut Known<'a, T>) -> Option<&'a T>
         requires token_of_this_cell { token.old.cell ≡ self.now }
         ensures cell { token.new.cell ≡ token.old.cell }

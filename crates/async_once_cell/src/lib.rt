@@ -20,37 +20,33 @@
 //!
 //! # How it works
 //!
-//! **The right.** One task at a time has the right to run its init: the holder. While its init is
-//! Pending it keeps the right.
+//! **The right.** One task at a time has the right to run its init: the holder. It keeps it while its init is Pending.
 //!
-//! **The word.** The tasks of a cell share one number, the word. Its low 62 bits are the count: how
-//! many tasks are counted in. The next bit is the quick bit: a quick holder has the right. The top bit
-//! is the ready bit: the value is set. The word of a new cell is 0.
+//! **The word.** The tasks of a cell share one number, the word, which is 0 at first. Its low 62 bits count the tasks
+//! that are counted in. The next bit is the quick bit: a quick holder has the right. The top one is the ready bit: the
+//! value is set.
 //!
 //! **The quick claim.** A task that finds the word 0 tries to exchange it for the quick bit. If that is
 //! done, the task has the right, and is called a quick holder. This takes no memory and no lock.
 //!
-//! **The door and the queue.** A task that finds neither the value nor the right goes to the door. The
-//! door is the place of the cell's queue; if it has none, the task puts one there. Both lie behind one
-//! lock. A queue is a flag and a list. The flag says that a task holds which claimed under this lock.
-//! The list has a listing for each task that waits: a ticket, by which the task finds it again, and a waker.
+//! **The door and the queue.** A task that finds neither the value nor the right goes to the door, which is the place
+//! of the cell's queue. If it has none, the task puts one there. Both lie behind one lock. A queue is a flag and a
+//! list. The flag says that a task holds which claimed under this lock. The list has a listing for each task that
+//! waits: a ticket, by which the task finds it again, and a waker.
 //!
-//! **Counting in.** A task that has found the queue counts in: the count grows by one. The quick claim
-//! needs the word 0, and the fast release (below) needs the quick bit alone. So neither is done while
-//! anybody is counted.
+//! **Counting in.** A task that has found the queue counts in: the count grows by one. The quick claim needs the word
+//! 0, and the fast release (below) needs the quick bit alone. So neither is done while anybody is counted.
 //!
-//! **Waiting.** A task that is counted loads the word again, and then takes the lock and looks. If the
-//! value is set, it counts out and answers the value. If nobody holds, it raises the flag and has the
-//! right. Else it makes a waker, looks again, and lists the waker at the end. All of that is one hold of
-//! the lock, from the door on, or two if the task has to bring the queue. Now its poll is Pending: the
-//! task waits. At its next poll it looks again. If it is listed still, its waker there becomes that of
-//! this poll. Else it is listed anew.
+//! **Waiting.** A task that is counted loads the word again, and then takes the lock and looks. If the value is set, it
+//! counts out and answers the value. If nobody holds, it raises the flag and has the right. Else it makes a waker,
+//! looks again, and lists the waker at the end. From the door on that is one hold of the lock, or two if the task has
+//! to bring the queue. Now its poll is Pending: the task waits. At its next poll it looks again. If it is listed still,
+//! its waker there becomes that of this poll, and else it is listed anew.
 //!
-//! **The release.** A holder whose init gave a value puts it into the cell, and takes the lock. It gives
-//! the right back, sets the ready bit, and takes all listings out. Their wakers are handed out, and are
-//! called with the lock free. A holder whose init failed, or that is dropped, gives the right back
-//! without a value, and one waiter is called: the first listing that still has a waker gives it, and
-//! stays in the list. Its task has the turn.
+//! **The release.** A holder whose init gave a value puts it into the cell, and takes the lock. It gives the right
+//! back, sets the ready bit, and takes all listings out. Their wakers are called with the lock free. A holder whose
+//! init failed, or that is dropped, gives the right back without a value, and one waiter is called: the first listing
+//! that still has a waker gives it, and stays in the list. Its task has the turn.
 //!
 //! **The fast release.** A quick holder is not counted. It first tries to exchange the quick bit for the
 //! ready bit, or for 0 if it has no value. If that is done, nobody is counted, and there is nobody to
@@ -65,12 +61,11 @@
 //!
 //! # What is proved
 //!
-//! A call makes sixteen steps of [`step::Step`] at most. What all tasks did with a cell is its record. It
-//! has no bytes, and it only grows. Whatever threads do, it is a run of a cell that is empty, held by one
-//! task or set. Besides, at each of its beginnings somebody was called if somebody had to be, so nobody who
-//! waits is forgotten. A clause sees what a future or a token has seen of the record. After a poll the newest
-//! entry is what it answered. A look finds the value exactly when the cell is set at that moment.
-//! [`world::replay`] is the same machine for one caller, over plain data.
+//! A call makes sixteen steps of [`step::Step`] at most. What all tasks did with a cell is its record, which has no
+//! bytes, and only grows. Whatever threads do, it is a run of a cell that is empty, held by one task or set. Besides,
+//! at each of its beginnings somebody was called if somebody had to be, so nobody who waits is forgotten. A clause sees
+//! what a future or a token has seen of the record. After a poll the newest entry is what it answered. A look finds the
+//! value exactly when the cell is set then. [`world::replay`] is the same machine for one caller, over plain data.
 //!
 //! Only a task that holds polls an init, and the record has each such poll and no other. In the record a call of a
 //! future is one call of its task: it begins after all that the future had seen, and what it did stands between.

@@ -26,10 +26,8 @@ pub use waits::Parker;
 
 /// A cell that is empty or has one value, and is filled by a future.
 ///
-/// Each call brings its own init. One task at a time has the right to run its init; the others wait,
-/// and are woken when the cell is filled. An init that fails, or whose future is dropped, leaves the
-/// cell empty and wakes one task that waits, which runs its own init. If that task is dropped or refused
-/// instead, and nobody holds then, it wakes the next.
+/// Each call brings its own init, and one task at a time may run its own. The others wait, and are woken when the cell
+/// is filled. An init that fails, or whose future is dropped, leaves the cell empty and wakes one of them.
 ///
 /// ```
 /// let cell = OnceCell::new();
@@ -37,16 +35,13 @@ pub use waits::Parker;
 /// let second = cell.get_or_init(rt, ready(5)).wait()?; // Ok(&4): this init is not polled
 /// ```
 ///
-/// The contracts say that a cell made with a value lends that value and gives it back, until its owner
-/// asks for it to write it. Any other cell has a record of all that tasks do with it. Each of its futures
-/// and tokens has seen a beginning of the record, see [`Initializing`] and [`Known`]. `V` says what is promised of
-/// the value, see [`OnceCell::promised`].
+/// The contracts say that a cell made with a value lends it and gives it back, until its owner asks to write it. Any
+/// other cell has a record of all that tasks do with it. Each of its futures and tokens has seen a beginning of it, see
+/// [`Initializing`] and [`Known`]. `V` says what is promised of the value, see [`OnceCell::promised`].
 ///
-/// Memory is taken only when tasks meet: for the queue of those who wait, and for the place of each in it.
-///
-/// An init may borrow whatever outlives its future. One that asks its own cell for the value waits
-/// there like any other task, and may give its own value all the same. A cell may be sent to another
-/// thread if `T: Send`, and shared between threads if `T: Send + Sync`.
+/// Memory is taken only when tasks meet: for the queue of those who wait, and for the place of each in it. An init may
+/// borrow whatever outlives its future. One that asks its own cell waits like any other task, and may give its own
+/// value all the same. A cell may be sent to another thread if `T: Send`, and shared if `T: Send + Sync`.
 #[derive(Drop)]
 pub struct OnceCell<T, V: Fits<T> = Anything> {
     pub(crate) value: Value<T, V>,
@@ -62,8 +57,7 @@ impl<T, V: Fits<T>> Model for OnceCell<T, V> {
 }
 
 impl<T> OnceCell<T> {
-    /// An empty cell, with a new record. It takes no memory. The clause says that tasks share it; none says
-    /// that it is empty.
+    /// An empty cell with a new record. It takes no memory. Its clause says that tasks share it, not that it is empty.
     #[inline(always)]
     pub fn new() -> Self
         ensures { is_shared result ≡ true }
@@ -87,10 +81,9 @@ impl<T, V: Fits<T>> OnceCell<T, V> {
     ghost use Rattle.std.specs.Borrow.{LendsIf, sem};
     ghost use Rattle.async_once_cell.specs.contracts.once.OnceCell.{the_row};
 
-    /// An empty cell, as by [`new`](OnceCell::new), that promises its value: each value that tasks put fits, as `V`
-    /// says of it and of the numbers of the tag. So whoever is answered the value knows that it fits, on any thread
-    /// and without a token. Each future of the cell asks that its init gives no other value.
-    ///
+    /// An empty cell that promises its value: what tasks put fits, as `V` says of it and of the numbers of the tag. So
+    /// it does for whoever is answered it, on any thread and without a token. Each future asks that its init gives no
+    /// other.
     /// ```
     /// let mut cell = OnceCell::<u64, TenTimes>::promised(&Tag::of::<u64, Key>(&key));
     /// ```
@@ -104,8 +97,8 @@ impl<T, V: Fits<T>> OnceCell<T, V> {
         }
     }
 
-    /// The value, if it is set; None if the cell is empty or being filled. It waits for
-    /// nobody. Of a cell that tasks share no clause says what it answers: [`OnceCell::get_as`] has such clauses.
+    /// The value, if it is set; None if the cell is empty or being filled. It waits for nobody. Of a cell that tasks
+    /// share no clause says what it answers: [`OnceCell::get_as`] has such clauses.
     #[inline(always)]
     pub fn get(&self) -> Option<&T>
         ensures lends { Lends self.now result }
@@ -121,9 +114,8 @@ impl<T, V: Fits<T>> OnceCell<T, V> {
         }
     }
 
-    /// The value for writing, if it is set. A value that tasks set becomes the owner's, and its record ends. It waits
-    /// for nobody. A value that the owner put there is lent, and what is written to what is lent is what the cell has
-    /// afterwards. Which value tasks set is told by [`OnceCell::own_as`].
+    /// The value for writing, if it is set. It waits for nobody. A value that tasks set becomes the owner's, and its
+    /// record ends: [`OnceCell::own_as`] tells which value that is. A value that the owner put there is lent.
     ///
     /// ```
     /// let mut cell = OnceCell::new_with(5u64);
@@ -160,8 +152,7 @@ impl<T, V: Fits<T>> OnceCell<T, V> {
         OnceCell::promised(&Tag::of::<Self, About>(self))
     }
 
-    /// The value, if it was set. All else of the cell goes with it, its record and a queue that futures left there
-    /// too. It waits for nobody.
+    /// The value, if it was set. The record, and a queue that futures left, go with the cell. It waits for nobody.
     pub fn into_inner(self) -> Option<T>
         ensures gives { Gives self result }
         ensures promise { is_shared self ≡ true → IfSome result (V.fits (about_of self)) }
@@ -170,9 +161,7 @@ impl<T, V: Fits<T>> OnceCell<T, V> {
         value.into_inner()
     }
 
-    /// A future of the value: the one that is set, or the one that `init` gives.
-    ///
-    /// Nothing happens before the first poll, see [`Initializing`].
+    /// A future of the value: the one that is set, or that `init` gives. Nothing happens before its first poll.
     ///
     /// ```
     /// let (cell, task) = (OnceCell::new(), MockTask::new(rt)?);
@@ -198,10 +187,8 @@ impl<T, V: Fits<T>> OnceCell<T, V> {
         Initializing::new(self, rt, Pollable::new(init))
     }
 
-    /// As [`OnceCell::get_or_init`], with an init that may fail. An error goes to its own caller
-    /// alone, and leaves the cell empty.
-    ///
-    /// Here `Dial` is one try to connect, which may fail with the error `Down`, and `tried` is what
+    /// As [`OnceCell::get_or_init`], with an init that may fail. An error goes to its own caller alone, and leaves the
+    /// cell empty. Here `Dial` is one try to connect, which may fail with the error `Down`, and `tried` is what
     /// `cell.get_or_try_init(rt, Dial { server }).wait()?` answers. Whether the other side is down:
     ///
     /// ```
@@ -233,9 +220,8 @@ impl<T, V: Fits<T>> OnceCell<T, V> {
         Initializing::new(self, rt, Pollable::new(init))
     }
 
-    /// A token that knows nothing yet. See [`Known`]. It takes no memory, and waits for nobody.
-    ///
-    /// Here `value` is a function that answers `cell.get_or_init(rt, ready(6)).wait_as(token)??`:
+    /// A token that knows nothing yet, see [`Known`]. It takes no memory, and waits for nobody. Here `value` is a
+    /// function that answers `cell.get_or_init(rt, ready(6)).wait_as(token)??`:
     ///
     /// ```
     /// let cell = OnceCell::new();
@@ -250,11 +236,9 @@ impl<T, V: Fits<T>> OnceCell<T, V> {
         Known::new(self)
     }
 
-    /// As [`OnceCell::get`], and the token learns the value that is answered. A token that knows a
-    /// value gets that value, always. It waits for nobody.
-    ///
-    /// Of a cell that tasks share it is one look in the record: it answers a value exactly when the cell is
-    /// set at that moment. So a token gets the value if the cell is set in the record that it has seen.
+    /// As [`OnceCell::get`], and the token learns the value that is answered. A token that knows a value gets it,
+    /// always. Of a cell that tasks share it is one look in the record: it answers a value exactly when the cell is set
+    /// at that moment. So a token gets the value if the cell is set in the record that it has seen.
     ///
     /// ```
     /// let first = cell.get_as(token)?; // from here on the token knows the value
@@ -306,8 +290,7 @@ impl<T, V: Fits<T>> OnceCell<T, V> {
 }
 
 impl<T: Drop, V: Fits<T>> OnceCell<T, V> {
-    /// Makes the value the owner's, for a caller that was told it. From then on the clauses of all calls say which
-    /// value that is.
+    /// Makes the value, which the caller was told, the owner's. From then on the clauses of all calls say which it is.
     pub fn own_as(&mut self, told: &Told<T, V>)
         requires { told.now.cell ≡ self.old }
         ensures { self.new ≡ Owned told.now.value }
@@ -320,7 +303,6 @@ impl<T: Drop, V: Fits<T>> OnceCell<T, V> {
     }
 }
 
-/// An empty cell, as [`OnceCell::new`] makes it.
 impl<T> Default for OnceCell<T> {
     ghost is_default = { λ cell. is_shared cell ≡ true };
 
@@ -329,7 +311,6 @@ impl<T> Default for OnceCell<T> {
     }
 }
 
-/// A cell with this value, as [`OnceCell::new_with`] makes it.
 impl<T> From<T> for OnceCell<T> {
     ghost from_gives = { λ value cell. cell ≡ Owned value };
 
@@ -339,8 +320,7 @@ impl<T> From<T> for OnceCell<T> {
 }
 
 impl<T: fmt::Debug, V: Fits<T>> OnceCell<T, V> {
-    // What a cell of this name shows. A cell with its owner's value shows the same as one that was filled
-    // while nobody else was there.
+    // A cell with its owner's value shows the same as one that was filled while nobody else was there.
     pub(crate) fn fmt_as<W: fmt::Write>(
         &self,
         name: &str,
@@ -390,7 +370,6 @@ impl<T, V: Fits<T>> Value<T, V> {
         }
     }
 
-    // What shows the value that tasks put, if they did.
     fn witness(&self) -> Option<Written<T>>
         ensures { IfSome result (λ w. IsWritten (view_of self.now) w) }
     {
@@ -400,7 +379,6 @@ impl<T, V: Fits<T>> Value<T, V> {
         }
     }
 
-    // The value that this shows, as the owner's.
     fn into_owned(self, written: &Written<T>) -> Self
         requires { IsWritten (view_of self) written.now }
         ensures { view_of result ≡ Owned written.now.value }
@@ -427,8 +405,7 @@ impl<T, V: Fits<T>> Value<T, V> {
         }
     }
 
-    // A slot lends its value for reading alone, since what a token says of it holds for good. So a value
-    // that lies in a slot is taken out of it first, and the slot goes.
+    // A slot lends its value for reading alone, since what tokens say holds for good. So the value is taken out.
     fn get_mut(&mut self) -> Option<&mut T>
         ensures* writes_back { sem 𝓛
             (LendsIf (the_row T.row V.row V.Fits) T.row self.entry result OwnedValue self.old) }
@@ -441,7 +418,6 @@ impl<T, V: Fits<T>> Value<T, V> {
         }
     }
 
-    // The value, for whoever was told it.
     fn into_told(self, told: &Told<T, V>) -> T
         requires { told.now.cell ≡ view_of self }
         ensures { result ≡ told.now.value }

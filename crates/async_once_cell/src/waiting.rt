@@ -56,7 +56,6 @@ impl<'a, T, I: Drop, R: Wait + AllocGlobal, V: Fits<T>> Model for Waiting<'a, T,
 }
 
 impl<'a, T, I: Drop, R: Wait + AllocGlobal, V: Fits<T>> Waiting<'a, T, I, R, V> {
-    /// A new task.
     #[inline(always)]
     pub(crate) fn new(inner: &'a Inner<T, ListedWaker, V>, rt: &'a R, init: I) -> Self
         ensures cell { result.cell ≡ inner.now.slot }
@@ -71,7 +70,6 @@ impl<'a, T, I: Drop, R: Wait + AllocGlobal, V: Fits<T>> Waiting<'a, T, I, R, V> 
         }
     }
 
-    /// Whether the task answered, or left.
     #[inline(always)]
     pub(crate) fn is_finished(&self) -> bool
         ensures { result ≡ self.now.finished }
@@ -79,13 +77,11 @@ impl<'a, T, I: Drop, R: Wait + AllocGlobal, V: Fits<T>> Waiting<'a, T, I, R, V> 
         self.task.is_finished()
     }
 
-    /// The handle that the task was made with.
     #[inline(always)]
     pub(crate) fn rt(&self) -> &'a R {
         self.task.rt()
     }
 
-    /// The record as far as the task has seen it.
     #[inline(always)]
     pub(crate) fn record(&self) -> Record
         ensures { (result.book ≡ self.now.cell.book) × (result.log ≡ self.now.log) }
@@ -93,7 +89,7 @@ impl<'a, T, I: Drop, R: Wait + AllocGlobal, V: Fits<T>> Waiting<'a, T, I, R, V> 
         self.task.record()
     }
 
-    /// What shows the value, if the task answered it. Then the cell is set in the record that it has seen.
+    /// If the task answered it. Then the cell is set in the record that it has seen.
     #[inline(always)]
     pub(crate) fn written(&self) -> Option<Written<T>>
         ensures value { value_in result ≡ self.now.value }
@@ -106,7 +102,6 @@ impl<'a, T, I: Drop, R: Wait + AllocGlobal, V: Fits<T>> Waiting<'a, T, I, R, V> 
         }
     }
 
-    /// The task learns what a record of its cell has.
     #[inline(always)]
     pub(crate) fn learn(&mut self, seen: &Record)
         requires book { seen.now.book ≡ self.old.cell.book }
@@ -123,7 +118,6 @@ impl<'a, T, I: Drop, R: Wait + AllocGlobal, V: Fits<T>> Waiting<'a, T, I, R, V> 
         self.task.learn(seen);
     }
 
-    /// Shows that two tasks of a cell have two numbers.
     #[inline(always)]
     pub(crate) fn are_two<J: Drop>(a: &mut Self, b: &mut Waiting<'a, T, J, R, V>)
         requires book { b.old.cell.book ≡ a.old.cell.book }
@@ -150,7 +144,7 @@ impl<'a, T, I: Drop, R: Wait + AllocGlobal, V: Fits<T>> Waiting<'a, T, I, R, V> 
         leave_unfinished(task);
     }
 
-    /// The same for a future that lives on: the task gives the right back, or leaves those who wait.
+    /// The same for a future that lives on.
     #[inline(never)]
     pub(crate) fn leave(&mut self)
         requires live { self.old.finished ≡ false }
@@ -171,7 +165,6 @@ impl<'a, T, I: Drop, R: Wait + AllocGlobal, V: Fits<T>> Waiting<'a, T, I, R, V> 
         stays_set(&before, &self.task.record());
     }
 
-    /// A task that left takes over the value that this shows as the one that it answered.
     #[inline(always)]
     pub(crate) fn take_over(&mut self, written: &Written<T>)
         requires finished { self.old.finished ≡ true }
@@ -200,7 +193,6 @@ fn leave_unfinished<T, R: Wait + AllocGlobal, V: Fits<T>>(
 }
 
 impl<'a, T: Drop, I: Drop, R: Wait + AllocGlobal, V: Fits<T>> Waiting<'a, T, I, R, V> {
-    /// Polls the task once.
     #[inline(always)]
     pub(crate) fn poll<X: Failure>(&mut self, cx: &mut Context<'_>) -> Poll<Result<&'a T, X>>
     where
@@ -258,8 +250,7 @@ impl<'a, T: Drop, I: Drop, R: Wait + AllocGlobal, V: Fits<T>> Waiting<'a, T, I, 
         self.answer(ending, error)
     }
 
-    // The answer of a poll that ended in this way, and left no init. `error` is what its init gave, if it gave an
-    // error.
+    // The answer of a poll that ended in this way, and left no init.
     #[inline(always)]
     fn answer<X: Failure>(
         &mut self,
@@ -302,9 +293,7 @@ impl<'a, T: Drop, I: Drop, R: Wait + AllocGlobal, V: Fits<T>> Waiting<'a, T, I, 
     }
 }
 
-// What a poll brings.
 struct Polling<'c, 'd, T, E, H> {
-    // The init as the poll began.
     first: Snapshot<Option<H>>,
     mark: Mark,
     cx: &'c mut Context<'d>,
@@ -313,7 +302,6 @@ struct Polling<'c, 'd, T, E, H> {
     error: Option<E>,
     // The init was Pending, and saw to it that the task is called; or the task is listed with the waker of this poll.
     is_armed: bool,
-    // Whom the cell handed out in this poll.
     woke: Snapshot<Out<ListedWaker>>,
 }
 
@@ -396,7 +384,6 @@ impl<T: Drop, X: Failure, I: Init<T, X>> Renews<ListedWaker> for Polling<'_, '_,
 
     ghost renewed = { IsRenewed I.may_fail I.may_give (λ e. e.error) };
 
-    // An earlier poll listed the task. Its waker there becomes that of this poll.
     #[inline(always)]
     fn renew(&mut self, listed: &mut ListedWaker) {
         self.is_armed = true;
@@ -428,15 +415,13 @@ impl<T: Drop, X: Failure, I: Init<T, X>> TaskSide<ListedWaker>
 }
 
 impl<T: Drop, X: Failure, I: Init<T, X>> CopiesWaker for Polling<'_, '_, T, Failed<X>, I> {
-    // A waker is the kit's, and so is the code that makes one.
     #[inline(always)]
     fn copies_under_lock() -> bool {
         true
     }
 }
 
-// What a drop brings, when the init is gone. It does not name the init's type, so that a program has
-// the code of a drop once for all inits.
+// A drop, when the init is gone. It does not name the init's type, so that a program has its code once for all inits.
 #[derive(Drop)]
 struct Leaving<'r, T, R> {
     rt: &'r R,

@@ -8,19 +8,15 @@ use futures::task::{Context, Poll, Source, Waker};
 use once_parts::{Mark, TaskWaker};
 use once_queue::waiters::WakerId;
 
-/// The waker of a task, with the number of the task. Two of these are never compared, since a task is listed once.
-///
-/// It wakes its task when it is let go. So a task whose waker is handed out is called when the answer is dropped, and
-/// no waker that is listed can be lost.
+/// The waker of a task, with its number. Two are never compared, since a task is listed once. It wakes its task when it
+/// is let go, so a task whose waker is handed out is called when the answer is dropped, and no listed waker is lost.
 #[derive(Drop)]
 pub struct ListedWaker {
     // None if no waker could be made. Then the task asked for another poll.
     waker: Option<Waker>,
-    // The task's number. It has no bytes.
     tag: Tag,
 }
 
-// How a task's number is read off its mark.
 struct Number;
 
 impl Names<Mark> for Number {

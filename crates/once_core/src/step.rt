@@ -364,8 +364,7 @@ impl<W: Drop, Q: Drop> Step<W, Q> {
         matches!(self, Step::UnderWay(_))
     }
 
-    // Puts a step in place of one that has nothing to drop. Without `forget` an assignment would first test which it
-    // is.
+    // Puts a step in place of one that has nothing to drop. Without `forget` an assignment would test which it is.
     #[inline(always)]
     fn set(&mut self, step: Step<W, Q>)
         ensures { self.new ≡ step }

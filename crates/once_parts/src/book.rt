@@ -1,6 +1,5 @@
 //! The book of a cell, and what is known of a record that was seen. A line of its log and a page are types of a
-//! specification, so the two types here are for clauses alone: nobody makes a value of them. The functions here do
-//! nothing.
+//! specification, so the two types here are for clauses alone: nobody makes a value of them. The functions do nothing.
 ghost use Rattle.std.specs.Prelude.{ℕ, reverse};
 ghost use mathlib.Core.List.{IsPrefix};
 ghost use Rattle.once_world.specs.Record.{Once};

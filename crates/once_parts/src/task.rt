@@ -449,8 +449,7 @@ fn answered_where_set(seen: &Record)
     seen.again().learn(seen);
 }
 
-/// Makes one step of the call that is under way. It may wait as [`Task::poll`](crate::task::Task::poll). `told` is what
-/// the last step told, for the contract alone.
+/// Makes one step of the call that is under way. It may wait as [`Task::poll`]. `told` is what the last step told.
 ///
 /// ```
 /// while step.left() > 0 {

@@ -16,12 +16,10 @@
 //!       (8 bytes)  hand (Pens) may change the page      which stays true
 //! ```
 //!
-//! - `Word` is a `u64` that threads share and step: `load`, `store`, `swap`, `compare_exchange`, `fetch_add`,
-//!   `fetch_sub`.
+//! - `Word` is a shared `u64`, with the steps `load`, `store`, `swap`, `compare_exchange`, `fetch_add`, `fetch_sub`.
 //! - `Word::open` makes a book. It gives `Blanks`, of which the words and slots of the book are made, in their order.
-//! - `Pens` is a hand of pens. A page whose pen is in a hand says what the hand says, until a step with this hand
-//!   changes it. Hands are put together (`append`) and cut (`split_off`), so that one step can change pages of several
-//!   hands.
+//! - `Pens` is a hand of pens. A page whose pen is in a hand says what that says, until a step with the hand changes
+//!   it. Hands are put together (`append`) and cut (`split_off`), so one step can change pages of several hands.
 //! - `Seen` is what a thread has seen of the log. It can be copied. Of two `Seen` of one book the one log is a
 //!   beginning of the other (`agrees`), and one can learn what the other knows.
 //! - `Seen::note` is a step that touches no word.

@@ -64,8 +64,7 @@ impl<T: Keyed> KeyedMutex<T> {
         opened::<T, Brand>(lock)
     }
 
-    /// Waits for the lock, whose key is `J`. The content has that key, and has to have it again when the guard is let
-    /// go.
+    /// Waits for the lock, whose key is `J`. The content has that key, and has to have it when the guard is let go.
     #[inline(always)]
     pub fn lock<J: Key, R: Wait>(&self, rt: &R) -> MutexGuard<'_, Tied<T, J>>
         requires { self.now ≡ J.key }
@@ -86,8 +85,7 @@ impl<T: Keyed> KeyedMutex<T> {
         self.get::<J>().lock.try_lock()
     }
 
-    /// Changes the content by its owner, who takes no lock: it becomes what `change` gives back, which gets it and
-    /// `about`.
+    /// Changes the content by its owner, who takes no lock: it becomes what `change` makes of it and of `about`.
     pub fn get_mut<X, U, F: FnOnce(T, X) -> (T, U)>(&mut self, about: X, change: F) -> U
         requires takes { (t : T) → T.key_of t ≡ self.old → F.pre change t about }
         requires keeps { (t : T) (r : T × U) → T.key_of t ≡ self.old → F.post change t about r

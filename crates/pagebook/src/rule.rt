@@ -2,8 +2,7 @@
 ghost use Rattle.core.specs.Prelude.{ℕ, List};
 ghost use Rattle.pagebook.specs.Pages.{View};
 
-/// The rule of a book. `E` is an entry of its log, and `P` is what a page says. An author makes a type of his own for
-/// it, of which there is never a value.
+/// The rule of a book, on a type of the author's that has no value. `E` is an entry, and `P` is what a page says.
 pub trait Rule<E, P> {
     // What holds between any two steps, of the values of all words, all pages, and the whole log.
     ghost holds: { List ℕ → List P → List E → Type 0 };

@@ -32,9 +32,8 @@ impl<T> Model for Written<T> {
     ghost also_shares = { λ w _ κ. said (written T.row w.of w.value) κ };
 }
 
-/// A place for one value, which is put once and then read by all. A clause sees its `book`, its `key`, which is the
-/// place of its state among the book's words, its `id`, which a `Written` names, and `about`, the numbers of what `V`
-/// promises.
+/// A place for one value, put once and read by all. A clause sees its `book`, its `key`, which is the place of its
+/// state among the book's words, its `id`, which a `Written` names, and `about`, the numbers of what `V` promises.
 pub struct Slot<T, E, P, R: Rule<E, P>, V: Fits<T> = Anything> {
     value: Option<T>,
     marker: PhantomData<(E, P, R, V)>,
@@ -115,8 +114,7 @@ impl<T, E, P, R: Rule<E, P>, V: Fits<T>> Slot<T, E, P, R, V> {
         }
     }
 
-    /// The value, and what shows that it is the slot's. By the rule the state is 2 whenever so much of the log was
-    /// seen.
+    /// The value, and what shows that it is the slot's. By the rule the state is 2 if so much of the log was seen.
     #[inline(always)]
     pub fn get<'a>(&'a self, seen: &Seen<E, P, R>) -> (&'a T, Written<T>)
         requires book { seen.now.book ≡ self.now.book }

@@ -10,8 +10,7 @@ ghost use Rattle.pagebook.specs.Owned.{seen_owns, pens_own};
 use crate::rule::{Play, Rule};
 use std::marker::{Model, PhantomData};
 
-/// What a thread has seen of a book: the log began with `log` once, and so it does from then on. It can be copied, and
-/// it stays true whatever others do.
+/// What a thread has seen of a book: its log begins with `log`, and stays so whatever others do. It can be copied.
 pub struct Seen<E, P, R: Rule<E, P>> {
     pub(crate) marker: PhantomData<(E, P, R)>,
     pub ghost book: { Book } by { book_coded },
@@ -77,8 +76,7 @@ impl<E, P, R: Rule<E, P>> Seen<E, P, R> {
     }
 
     /// A step that touches no word, and costs nothing. It may change pages of the hand, and add pages and entries, if
-    /// it keeps the rule (`Notes`). New pens come before the others in the hand. `M` says what the caller is told, of
-    /// `about`.
+    /// it keeps the rule (`Notes`). New pens come first in the hand. `M` says what the caller is told, of `about`.
     #[inline(always)]
     pub fn note<X, M: Play<X, E, P>>(&mut self, pens: &mut Pens<P>, about: &X)
         requires pens { pens.old.book ≡ self.old.book }

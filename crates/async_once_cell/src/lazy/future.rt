@@ -27,26 +27,22 @@ use std::random::RandomSource;
 use std::sync::{Mutex, MutexGuard, Wait};
 use std::{fmt, io};
 
-/// Future of [`Lazy::get`](crate::Lazy::get).
-///
-/// A poll answers the value that is set. While none is set, the task that gets the right polls the
-/// cell's future; the others are Pending until they are woken. To drop one of these leaves the
+/// Future of [`Lazy::get`](crate::Lazy::get). A poll answers the value that is set. While none is set, the task that
+/// gets the right polls the cell's future; the others are Pending until they are woken. To drop one of these leaves the
 /// cell's future as it is, and another task drives it on.
 ///
-/// It has the calls of [`Initializing`], where most of them have an example. What a poll or a drop may wait for is said
-/// there too. Besides, a poll may wait for the lock in which the cell keeps its future. Nobody has that lock while the
-/// future is polled.
+/// It has the calls of [`Initializing`], with most of their examples, and a clause sees of it the same. What a poll or
+/// a drop may wait for is said there too. Besides, a poll may wait for the lock in which the cell keeps its future.
+/// Nobody has that lock while the future is polled.
 #[derive(Drop)]
 pub struct LazyFuturePin<'a, T, F: Future, R: Wait + AllocGlobal> {
     inner: Initializing<'a, T, Refused, Driven<'a, F, R>, R>,
 }
 
-/// Future of [`Lazy::get_unpin`](crate::Lazy::get_unpin) and of
-/// [`Lazy::into_future`](crate::Lazy::into_future). All futures of a cell may be moved between their
-/// polls, so it is the same type.
+/// Future of [`Lazy::get_unpin`](crate::Lazy::get_unpin) and of [`Lazy::into_future`](crate::Lazy::into_future). It is
+/// the same type, because all futures of a cell may be moved between their polls.
 pub type LazyFutureUnpin<'a, T, F, R> = LazyFuturePin<'a, T, F, R>;
 
-/// A clause sees of it what it sees of an [`Initializing`].
 impl<'a, T, F: Future, R: Wait + AllocGlobal> Model for LazyFuturePin<'a, T, F, R> {
     ghost use Rattle.async_once_cell.specs.Views.{FutureView};
     ghost use Rattle.async_once_cell.specs.declared.lazy.future.Driven.{Driven};
@@ -291,7 +287,6 @@ impl<F: Future, R: Wait> Driven<'_, F, R> {
     }
 }
 
-// Nothing is asked of what the future gives.
 impl<T, F: Future, R> Yields<T, Refused> for Driven<'_, F, R> {
     ghost use Rattle.std.specs.Prelude.{⊤};
 
@@ -299,11 +294,9 @@ impl<T, F: Future, R> Yields<T, Refused> for Driven<'_, F, R> {
 }
 
 impl<T, F: Future<Output = T>, R: Wait> Init<T, Refused> for Driven<'_, F, R> {
-    // The future cannot fail.
     ghost may_fail = { λ _ _. ⊥ };
 
-    // The future is polled with the lock free. When it gave its value it is dropped, before the
-    // value is set.
+    // The future is polled with the lock free. When it gave its value it is dropped, before the value is set.
     #[inline(always)]
     fn poll_init(
         init: &mut Option<Self>,

@@ -31,14 +31,11 @@ use std::fmt;
 use std::marker::{Model, PhantomData};
 use std::sync::Wait;
 
-// What a future asks.
 #[derive(Drop)]
 enum Asked<'a, T, I: Drop, R: Wait + AllocGlobal, V: Fits<T> = Anything> {
     // A cell with its owner's value: the next poll drops the init and answers that value.
     Owned(&'a R, I),
-    // Such a cell, whose value the future has answered.
     Answered(&'a R),
-    // Such a cell, which the future has left.
     Left(&'a R),
     // A cell that tasks share, of which the future is one.
     Shared(Waiting<'a, T, I, R, V>),
@@ -59,20 +56,17 @@ pub type TryInitFuture<'a, T, E, F, R, V = Anything> = Initializing<
 
 /// Future of a cell. `X` says why there is no value: [`Refused`], or an [`InitError`] if the init may fail.
 ///
-/// A poll answers the value that is set. While the cell is empty, the task that gets the right polls
-/// its init, and the others are Pending until they are woken. The value wakes all of them. An error, or
-/// the drop of a future that had the right, wakes one. If that one is dropped or refused instead, and
-/// nobody holds then, it wakes the next.
+/// A poll answers the value that is set. While the cell is empty, the task that gets the right polls its init, and the
+/// others are Pending until they are woken. The value wakes all of them. An error, or the drop of a future that had the
+/// right, wakes one. If that one is dropped or refused instead, and nobody holds then, it wakes the next.
 ///
-/// The init is kept until the first poll, whatever the cell has. It is dropped in the poll that answers, before
-/// the task gives the right or its place back; or else with the future.
-///
-/// A poll or a drop may wait for the locks of the cell. None of them is held while an init is polled or
-/// dropped. A poll may take memory while another task holds or is in a call.
+/// The init is kept until the first poll, whatever the cell has. It is dropped in the poll that answers, before the
+/// task gives the right or its place back; or with the future. A poll or a drop may wait for the locks of the cell, of
+/// which none is held while an init is polled or dropped. A poll may take memory while another task holds or is in a
+/// call.
 ///
 /// A clause sees the future's cell, its init if that is there still, the number of its task, the cell's record as far
-/// as the task has seen it, whether the future is finished, and the value that it answered. [`Initializing::is_run`]
-/// says of the record that it is a run of the cell, and that somebody was called wherever somebody had to be.
+/// as the task has seen it, whether the future is finished, and the value that it answered.
 pub struct Initializing<'a, T, X, I: Yields<T, X>, R: Wait + AllocGlobal, V: Fits<T> = Anything> {
     failure: PhantomData<X>,
     cell: &'a OnceCell<T, V>,
@@ -150,7 +144,6 @@ impl<'a, T, X, I: Yields<T, X>, R: Wait + AllocGlobal, V: Fits<T>> Initializing<
         }
     }
 
-    // What a token learns from it.
     fn seen(&self) -> Seen<T>
         ensures of { IsOf self.now.cell result }
         ensures value { known_of self.now.cell result ≡ self.now.value }
@@ -163,12 +156,9 @@ impl<'a, T, X, I: Yields<T, X>, R: Wait + AllocGlobal, V: Fits<T>> Initializing<
         }
     }
 
-    /// Shows that the record of a cell that tasks share is a run of the cell, and that at each of its beginnings
-    /// somebody was called if somebody had to be. If the cell is set in it, it has a Fill, and nobody who waits is
-    /// forgotten. Each task polls its init once at most in each of its calls. It does nothing else.
-    ///
-    /// It waits for nobody. But the kit counts each function of a type with a bound `Wait` among those that may wait,
-    /// and asks no proof that they return. So what the clauses say holds if it returns.
+    /// It does nothing. Its contract is about the record that the future has seen, and says what that of
+    /// [`Known::is_run`] says. It waits for nobody. But the kit counts each function of a type with a bound `Wait`
+    /// among those that may wait, and asks no proof that they return. So what the clauses say holds if it returns.
     pub fn is_run(&self)
         ensures run { is_shared self.now.cell ≡ true → IsRun Once most (reverse self.now.log) }
         ensures called { is_shared self.now.cell ≡ true → AtEvery (SomebodyCalled Once) (reverse self.now.log) }
@@ -183,9 +173,9 @@ impl<'a, T, X, I: Yields<T, X>, R: Wait + AllocGlobal, V: Fits<T>> Initializing<
         }
     }
 
-    /// Tells a token of the cell what this future has seen of the record, and the value that it answered, if it
-    /// answered one. If the token knows a value, it is that. It waits for nobody, and what its clauses say holds if it
-    /// returns, as at [`is_run`](Self::is_run).
+    /// Tells a token of the cell what this future has seen of the record, and the value that it answered, if any. If
+    /// the token knows a value, it is that. It waits for nobody. What its clauses say holds if it returns, as at
+    /// `is_run`.
     ///
     /// ```
     /// let Poll::Ready(Ok(first)) = future.poll(cx) else {
@@ -207,9 +197,7 @@ impl<'a, T, X, I: Yields<T, X>, R: Wait + AllocGlobal, V: Fits<T>> Initializing<
     }
 
     /// The future takes over what a token of its cell has seen of the record: its next poll comes after that. It waits
-    /// for nobody.
-    ///
-    /// Here the token has seen that the cell is set:
+    /// for nobody. Here the token has seen that the cell is set:
     ///
     /// ```
     /// future.learn(token);
@@ -236,8 +224,7 @@ impl<'a, T, X, I: Yields<T, X>, R: Wait + AllocGlobal, V: Fits<T>> Initializing<
         }
     }
 
-    /// Shows that two futures of one cell are two tasks of it. It does nothing, but that the first may learn more of
-    /// the record. A cell that has its owner's value has no tasks.
+    /// Shows that two futures of one cell that tasks share are two tasks. The first may learn more of the record.
     #[inline(always)]
     pub fn are_two<Y, J: Yields<T, Y>>(a: &mut Self, b: &mut Initializing<'a, T, Y, J, R, V>)
         requires one_cell { b.old.cell ≡ a.old.cell }
@@ -256,9 +243,8 @@ impl<'a, T, X, I: Yields<T, X>, R: Wait + AllocGlobal, V: Fits<T>> Initializing<
         }
     }
 
-    /// Leaves the cell as by a drop: the init is dropped, and then the task gives the right back, or leaves those who
-    /// wait. A drop can have no contract; this is for callers who want one. Afterwards the future is finished, and
-    /// answered nothing. As a drop, it may wait for the lock of the cell.
+    /// Leaves the cell as by a drop, which can have no contract: the init is dropped, and then the task gives the right
+    /// back, or leaves those who wait. It may wait for the lock of the cell.
     pub fn leave(&mut self)
         requires unfinished { self.old.finished ≡ false }
         ensures left { HasLeft self.old self.new }
@@ -273,7 +259,6 @@ impl<'a, T, X, I: Yields<T, X>, R: Wait + AllocGlobal, V: Fits<T>> Initializing<
         }
     }
 
-    // Leaves it, and answers the value that the token knows.
     fn leave_as(&mut self, token: &Known<'a, T, V>)
         requires live { self.old.finished ≡ false }
         requires token_of_this_cell { token.now.cell ≡ self.old.cell }
@@ -301,15 +286,11 @@ impl<'a, T: Drop, X: Failure, I: Init<T, X>, R: Wait + AllocGlobal, V: Fits<T>> 
     R,
     V,
 > {
-    /// Polls the future once.
-    ///
-    /// It answers the value that is set, the error that its own init gave, or a refusal: `Memory`
-    /// if memory to wait was refused, `Full` if as many tasks are counted in as may be. After any of
-    /// these it is finished. After an error or a refusal the cell is as if the future had been dropped.
-    ///
-    /// A poll that is Pending has registered its task somewhere, or asked for another poll. The newest entry of the
-    /// record is the end of this poll, with what it answers. The future keeps the value that it answers, for whoever
-    /// asks it to [`tell`](Self::tell).
+    /// Polls the future once. It answers the value that is set, the error that its own init gave, or a refusal:
+    /// `Memory` if memory to wait was refused, `Full` if as many tasks are counted in as may be. After any of these it
+    /// is finished. After an error or a refusal the cell is as if the future had been dropped. A Pending poll has
+    /// registered its task, or asked for another poll. The future keeps the value that it answers, for
+    /// [`tell`](Self::tell).
     ///
     /// ```
     /// let polled = future.poll(cx);
@@ -342,10 +323,9 @@ impl<'a, T: Drop, X: Failure, I: Init<T, X>, R: Wait + AllocGlobal, V: Fits<T>> 
         }
     }
 
-    /// As [`poll`](Self::poll), and the token learns the value that is answered. A token that knows
-    /// a value gets that value; the future leaves its cell as by a drop, and is finished.
-    ///
-    /// In a future that keeps this one and a token, and gives the token with the answer:
+    /// As [`poll`](Self::poll), and the token learns the value that is answered. A token that knows one gets it; the
+    /// future leaves its cell as by a drop, and is finished. Here a future that keeps both gives the token with the
+    /// answer:
     ///
     /// ```
     /// match self.future.poll_as(cx, &mut self.token) {
@@ -431,7 +411,6 @@ impl<T, X, I: Yields<T, X>, R: Wait + AllocGlobal, V: Fits<T>> fmt::Debug
     }
 }
 
-/// The init is dropped first. Then the task gives the right back, or leaves those who wait.
 impl<T, X, I: Yields<T, X>, R: Wait + AllocGlobal, V: Fits<T>> Drop
     for Initializing<'_, T, X, I, R, V> {
     #[inline(always)]

@@ -28,18 +28,15 @@ pub(super) enum Seen<T> {
     Shared(Record, Option<Written<T>>),
 }
 
-/// What its holder has learned of one cell: the cell's value, if it knows it, and the record as far as it was seen.
-///
-/// A token learns the value from a call that answers it: [`OnceCell::get_as`], or the `poll_as` of a
-/// future. Or a future tells it the value that it answered. From then on each such call answers that value: the
-/// contracts say so. Whoever passes a token on passes on what it knows. A token borrows its cell, so the cell's owner
-/// makes no call meanwhile.
+/// What its holder has learned of one cell: the cell's value, if it knows it, and the record as far as it was seen. A
+/// token learns the value from a call that answers it, [`OnceCell::get_as`] or the `poll_as` of a future, or a future
+/// tells it the value that it answered. From then on each such call answers that value: the contracts say so. Whoever
+/// passes a token on passes on what it knows. A token borrows its cell, so the cell's owner makes no call meanwhile.
 #[derive(Drop)]
 pub struct Known<'a, T, V: Fits<T> = Anything> {
     cell: &'a OnceCell<T, V>,
     seen: Seen<T>,
-    // None always. It keeps `'a` at one lifetime, so that the borrow checker follows a token that is
-    // handed on; a `PhantomData` does not do so yet.
+    // None always. It keeps `'a` at one lifetime for the borrow checker, which a `PhantomData` does not do yet.
     lifetime: Option<OnceToken<'a, T>>,
 }
 
@@ -93,7 +90,6 @@ impl<'a, T, V: Fits<T>> Known<'a, T, V> {
         }
     }
 
-    // The cell, its value if the token knows it, and what shows it.
     fn shown(&self) -> Option<(&'a OnceCell<T, V>, &'a T, Option<Written<T>>)>
         ensures { MatchOption result (self.now.value ≡ None)
             (λ r. (r.0.now ≡ self.now.cell) × (self.now.value ≡ Some r.1.now) × Shows r.0.now r.1.now r.2) }
@@ -108,7 +104,6 @@ impl<'a, T, V: Fits<T>> Known<'a, T, V> {
         }
     }
 
-    // The value, if the token knows it.
     fn known(&self) -> Option<&T> {
         let cell = self.cell;
         match (&cell.value, &self.seen) {
@@ -118,7 +113,6 @@ impl<'a, T, V: Fits<T>> Known<'a, T, V> {
         }
     }
 
-    // What it has seen.
     #[inline(always)]
     pub(super) fn seen(&self) -> &Seen<T>
         ensures of { IsOf self.now.cell result.now }
@@ -128,7 +122,6 @@ impl<'a, T, V: Fits<T>> Known<'a, T, V> {
         &self.seen
     }
 
-    // Learns what another token or a future of the cell has seen.
     #[inline(always)]
     pub(super) fn learn_seen(&mut self, other: &Seen<T>)
         requires of { IsOf self.old.cell other.now }
@@ -142,10 +135,8 @@ impl<'a, T, V: Fits<T>> Known<'a, T, V> {
         self.seen.learn_from(other);
     }
 
-    /// Takes over what another token of the cell has seen: its record, and its value if this one knows
-    /// none. If both know a value, it is one. It waits for nobody.
-    ///
-    /// Here `other` knows the value, and so `token` does then:
+    /// Takes over what another token of the cell has seen: its record, and its value if this one knows none. If both
+    /// know a value, it is one. It waits for nobody. Here `other` knows the value, and so `token` does then:
     ///
     /// ```
     /// token.learn_from(other);
@@ -163,10 +154,9 @@ impl<'a, T, V: Fits<T>> Known<'a, T, V> {
         self.learn_seen(&other.seen);
     }
 
-    /// It does nothing. Its contract is about the record of a cell that tasks share. The record is a run of
-    /// the cell, and at each of its beginnings somebody was called if somebody had to be. If the cell is set
-    /// in it, it has a Fill, and nobody who waits is forgotten. Each task polls its init once at most in each of its
-    /// calls.
+    /// It does nothing. Its contract is about the record of a cell that tasks share. The record is a run of the cell,
+    /// and at each of its beginnings somebody was called if somebody had to be. If the cell is set in it, it has a
+    /// Fill, and nobody who waits is forgotten. Each task polls its init once at most in each of its calls.
     ///
     /// ```
     /// token.is_run();
@@ -186,10 +176,8 @@ impl<'a, T, V: Fits<T>> Known<'a, T, V> {
         }
     }
 
-    /// Whether both tokens, which are of one cell, know a value. Then the two values are one. It waits
-    /// for nobody.
-    ///
-    /// Here two threads ask one cell. By its contract each gives the value and a token that knows it:
+    /// Whether both tokens, which are of one cell, know a value. Then the two values are one. It waits for nobody. Here
+    /// two threads ask one cell. By its contract each gives the value and a token that knows it:
     ///
     /// ```
     /// let (one, other) = thread::join(rt, one, other);
@@ -212,10 +200,9 @@ impl<'a, T, V: Fits<T>> Known<'a, T, V> {
         }
     }
 
-    /// It does nothing. Its contract is about two tokens of one cell: the record of one is a beginning of
-    /// the other's record, and if the cell is set in that beginning it is set in the other too.
-    ///
-    /// Here only the second token has seen that the cell is set:
+    /// It does nothing. Its contract is about two tokens of one cell: the record of one is a beginning of the other's,
+    /// and if the cell is set in it, it is set in the other's. Here only the second token has seen that the cell is
+    /// set:
     ///
     /// ```
     /// Known::compare_records(without, with); // so the first one's record is a beginning of the other's
@@ -234,8 +221,7 @@ impl<'a, T, V: Fits<T>> Known<'a, T, V> {
     }
 }
 
-/// What shows which value a cell has. It does not borrow the cell, so the cell's owner may have it: a call of the owner
-/// that is given it answers that value.
+/// What shows which value a cell has. It borrows no cell, so an owner can give it to calls that answer that value.
 #[derive(Drop)]
 pub struct Told<T, V: Fits<T> = Anything> {
     cell: Snapshot<OnceCell<T, V>>,
@@ -294,8 +280,7 @@ impl<T> Seen<T> {
     }
 }
 
-// Adds to a record what another one of its cell has. If the cell is set in one of the two, it is set in what
-// comes of them.
+// Adds to a record what another of its cell has. If the cell is set in one of the two, it is set in the outcome.
 fn take_over(own: &mut Record, seen: &Record)
     requires book { seen.now.book ≡ own.old.book }
     ensures book { own.new.book ≡ own.old.book }
@@ -311,7 +296,6 @@ fn take_over(own: &mut Record, seen: &Record)
 }
 
 impl<T, V: Fits<T>> OnceCell<T, V> {
-    // The value, if this shows it or the cell does.
     fn look(&self, seen: &mut Seen<T>) -> Option<&T>
         requires { IsOf self.now seen.old }
         ensures of { IsOf self.now seen.new }

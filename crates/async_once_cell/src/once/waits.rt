@@ -23,13 +23,11 @@ impl<'a, T: Drop, X: Failure, I: Init<T, X>, R: Wait + AllocGlobal, V: Fits<T>> 
     R,
     V,
 > {
-    /// Polls the future on this thread until it answers. The thread sleeps while it has to wait: for its
-    /// own init, or for the task that holds. So the call never returns if neither is driven on, for example
-    /// because this thread itself keeps another future of the cell, which holds.
-    ///
-    /// The answer is that of the last poll. `io::Error` says that the thread could not be made ready to
-    /// wait, since memory or random bytes were refused. Then the future was dropped, as it is after an
-    /// answer, and the cell is as after any drop. A cell that is set answers without any of that.
+    /// Polls the future on this thread until it answers, and gives that answer. The thread sleeps while it has to wait:
+    /// for its own init, or for the task that holds. So the call never returns if neither is driven on, for example
+    /// because this thread itself keeps another future of the cell, which holds. `io::Error` says that the thread could
+    /// not be made ready to wait, since memory or random bytes were refused. Then the future was dropped, as it is
+    /// after an answer, and the cell is as after any drop. A cell that is set answers without any of that.
     ///
     /// ```
     /// let value = cell.get_or_try_init(rt, ok::<u64, u64>(7)).wait()?; // Ok(&7)
@@ -46,8 +44,7 @@ impl<'a, T: Drop, X: Failure, I: Init<T, X>, R: Wait + AllocGlobal, V: Fits<T>> 
         self.wait_as(&mut token)
     }
 
-    /// As [`wait`](Self::wait), and the token learns the value that is answered. A token that knows
-    /// a value gets that value at once.
+    /// As [`wait`](Self::wait), and the token learns the value. A token that knows one gets it at once.
     pub fn wait_as(mut self, token: &mut Known<'a, T, V>) -> io::Result<Result<&'a T, X>>
     where
         R: RandomSource,
@@ -68,8 +65,7 @@ impl<'a, T: Drop, X: Failure, I: Init<T, X>, R: Wait + AllocGlobal, V: Fits<T>> 
         self.wait_begun(token, &mut parker)
     }
 
-    /// As [`wait`](Self::wait), by a parker that the caller keeps. `io::Error` says that there was no
-    /// memory to wait.
+    /// As [`wait`](Self::wait), by a parker that the caller keeps. `io::Error` says that there was no memory to wait.
     pub fn wait_on(self, parker: &mut Parker) -> io::Result<Result<&'a T, X>>
         requires unfinished { self.finished ≡ false }
         ensures own { IfOk result (TellsOwn I.may_fail X.ending self.entry.init) }
@@ -132,10 +128,9 @@ impl<'a, T: Drop, X: Failure, I: Init<T, X>, R: Wait + AllocGlobal, V: Fits<T>> 
     }
 }
 
-/// Where a thread sleeps while it waits for the value of a cell. One wait at a time uses it.
-///
-/// `wait` and `wait_as` of a future make one for themselves. A thread that waits again and again makes
-/// its own, and gives it to `wait_on` and `wait_as_on`: that spares two thirds of a short wait.
+/// Where a thread sleeps while it waits for the value of a cell. One wait at a time uses it. `wait` and `wait_as` of a
+/// future make one for themselves. A thread that waits again and again makes its own, and gives it to `wait_on` and
+/// `wait_as_on`: that spares two thirds of a short wait.
 ///
 /// ```
 /// let mut parker = Parker::new(rt)?;
@@ -150,22 +145,19 @@ pub struct Parker {
 }
 
 impl Parker {
-    /// It takes memory, and eight random bytes as its name among those whom a waker can wake. `Err`
-    /// says that either was refused.
+    /// It takes memory, and eight random bytes as its name among wakers. `Err` says that either was refused.
     pub fn new<R: RandomSource + AllocGlobal>(rt: &R) -> io::Result<Self> {
         Ok(Parker {
             tasks: Queue::new(rt, Doorbell::parking())?,
         })
     }
 
-    // Begins a wait: the thread's task is to be polled.
     fn begin(&self) -> Result<(), AllocError> {
         self.tasks.add()?.schedule();
         Ok(())
     }
 
-    // Sleeps until the thread's task is to be polled. There always is one: `begin` adds it, and one wait at a time
-    // uses the parker.
+    // Sleeps until the task is to be polled. There always is one: `begin` adds it, and one wait at a time uses this.
     fn next<R: Wait>(&self, rt: &R) -> io::Result<Context<'_>> {
         match self.tasks.next(rt) {
             Some(cx) => Ok(cx),

@@ -43,8 +43,7 @@ impl<T, W: TaskWaker + Drop, R: Wait + AllocGlobal, V: Fits<T>> Shared<'_, '_, T
         self.go_on_from(idle, reached, side)
     }
 
-    // The queue is made with the lock free, because the allocator of the handle may be any code. If another task put
-    // one meanwhile, this one is let go.
+    // The queue is made with the lock free, because the allocator may be any code. One that came too late is let go.
     #[inline(always)]
     fn at_door_put<S: TaskSide<W, Value = T>>(&mut self, idle: &mut Idle, side: &mut S) -> Ending
         requires stands { IsAt W.whose S.state Place.DoorPut self.old side.old }
