@@ -22,9 +22,9 @@
 //!
 //! **The right.** One task at a time has the right to run its init: the holder. It keeps it while its init is Pending.
 //!
-//! **The word.** The tasks of a cell share one number, the word, which is 0 at first. Its low 62 bits count the tasks
-//! that are counted in. The next bit is the quick bit: a quick holder has the right. The top one is the ready bit: the
-//! value is set.
+//! **The word.** The tasks of a cell share one number, the word. Its low 62 bits are the count: how many tasks are
+//! counted in. The next bit is the quick bit: a quick holder has the right. The top bit is the ready bit: the value is
+//! set. The word of a new cell is 0.
 //!
 //! **The quick claim.** A task that finds the word 0 tries to exchange it for the quick bit. If that is
 //! done, the task has the right, and is called a quick holder. This takes no memory and no lock.
@@ -45,7 +45,7 @@
 //!
 //! **The release.** A holder whose init gave a value puts it into the cell, and takes the lock. It gives the right
 //! back, sets the ready bit, and takes all listings out. Their wakers are called with the lock free. A holder whose
-//! init failed, or that is dropped, gives the right back without a value, and one waiter is called: the first listing
+//! init failed, or that is dropped, gives the right back without a value, and one waiter is called. The first listing
 //! that still has a waker gives it, and stays in the list. Its task has the turn.
 //!
 //! **The fast release.** A quick holder is not counted. It first tries to exchange the quick bit for the
@@ -70,11 +70,11 @@
 //! Only a task that holds polls an init, and the record has each such poll and no other. In the record a call of a
 //! future is one call of its task: it begins after all that the future had seen, and what it did stands between.
 //!
-//! This says nothing of a call that does not return, of fairness, progress or time. Tests alone show that the
-//! init which is polled is the task's own, or the future of its lazy cell, that a task that is called is woken,
-//! and that each value and init is dropped. Futures and tokens say which value was set, see [`Initializing::tell`]
-//! and [`Known`]. The definitions in `specs/` and the kit have to be trusted. `docs/PROVED.md` of the repository says
-//! what no clause says, and `docs/THREADS.md` what is proved of threads.
+//! This says nothing of a call that does not return, of fairness, progress or time. Tests alone show that a task polls
+//! its own init, or the future of its lazy cell, that a task that is called is woken, and that each value and init is
+//! dropped. Futures and tokens say which value was set, see [`Initializing::tell`] and [`Known`]. The definitions in
+//! `specs/` and the kit have to be trusted. `docs/PROVED.md` of the repository says what no clause says, and
+//! `docs/THREADS.md` what is proved of threads.
 #![tactic(auto)]
 
 mod init;

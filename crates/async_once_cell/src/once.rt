@@ -81,9 +81,8 @@ impl<T, V: Fits<T>> OnceCell<T, V> {
     ghost use Rattle.std.specs.Borrow.{LendsIf, sem};
     ghost use Rattle.async_once_cell.specs.contracts.once.OnceCell.{the_row};
 
-    /// An empty cell that promises its value: what tasks put fits, as `V` says of it and of the numbers of the tag. So
-    /// it does for whoever is answered it, on any thread and without a token. Each future asks that its init gives no
-    /// other.
+    /// An empty cell that promises its value: what tasks put fits, as `V` says of it and of the numbers of the tag.
+    /// Whoever is answered it knows so, on any thread, without a token. Each future asks that its init gives no other.
     /// ```
     /// let mut cell = OnceCell::<u64, TenTimes>::promised(&Tag::of::<u64, Key>(&key));
     /// ```

@@ -461,7 +461,7 @@ impl<T, R: Wait> Side<ListedWaker> for Leaving<'_, T, R> {
 
     ghost stays = { λ _ _. ⊤ };
 
-    // Nobody calls this: a task that leaves has no init. A poll that is none could not be written down.
+    // Nobody calls this, `put` or `renew`: a task that leaves has no init. A poll that is none cannot be recorded.
     fn run(&mut self, _right: &mut Hand) -> Polled {
         for _ in self.rt.forever() {}
         unreachable!()
@@ -469,7 +469,6 @@ impl<T, R: Wait> Side<ListedWaker> for Leaving<'_, T, R> {
 
     fn close(&mut self) {}
 
-    // Nobody calls this: a task that leaves has no value to give.
     fn put(&mut self) -> T {
         for _ in self.rt.forever() {}
         unreachable!()
@@ -495,7 +494,6 @@ impl<T, R: Wait> Side<ListedWaker> for Leaving<'_, T, R> {
 impl<T, R: Wait> Renews<ListedWaker> for Leaving<'_, T, R> {
     ghost renewed = { λ s v t w. (t ≡ s) × (w ≡ v) };
 
-    // Nobody calls this: a task that leaves does not wait.
     fn renew(&mut self, listed: &mut ListedWaker) {
         let _ = listed;
     }

@@ -178,7 +178,6 @@ impl<W: WakerId + Drop> Core<W> {
         true
     }
 
-    // There is room for the line.
     fn write(&mut self, line: QueueLine)
         requires { vec_len self.old.log < vec_capacity self.old.log }
         ensures state { state_of self.new
@@ -199,10 +198,8 @@ impl<W: WakerId + Drop> Parts<W> for Core<W> {
 
     type Queue = u64;
 
-    // The side of a task keeps the value.
     type Value = ();
 
-    // One caller steps all tasks, so nothing shows the right.
     type Right = ();
 
     ghost can = { λ s c. CanCall s c };

@@ -2,8 +2,8 @@
 //! is sequentially consistent, as all atomics of the kit are: they stand in one order, on which all threads agree. A
 //! task that takes the lock receives all that was done before it was last let go.
 //!
-//! The value lies beside them, and is written and read plainly: written before the step that makes the word ready, and
-//! read after a step that found it ready, or with a token that came from such a step.
+//! The value lies beside them, and is written and read plainly. It is written before the step that makes the word
+//! ready, and read after a step that found it ready, or with a token that came from such a step.
 ghost use Rattle.std.specs.Prelude.{◌≡◌, ◌^◌, if◌then◌else◌, []};
 ghost use Rattle.once_parts.specs.Own.{IsWord};
 ghost use Rattle.once_queue.specs.Word.{flags_of};

@@ -313,7 +313,6 @@ impl<T, W: TaskWaker + Drop, R: Wait + AllocGlobal, V: Fits<T>> Shared<'_, '_, T
         }
     }
 
-    // A holder that has the queue gives the right back under the lock.
     #[inline(always)]
     fn at_release<S: TaskSide<W, Value = T>>(
         &mut self,

@@ -124,7 +124,7 @@ pub enum Answer<W> {
 
 /// The flag of a holder that claimed under the lock, and the listings of those who wait. No ticket stands in the list
 /// twice. On average over many calls, a look, a listing, a leave and a release without the value take the same time
-/// however many are listed; a release with the value takes time in proportion to them. If two wakers may be the same, a
+/// however many are listed. A release with the value takes time in proportion to them. If two wakers may be the same, a
 /// new one is compared with each, and a release with the value compares each with all before it. From the first listing
 /// on there is memory for four, and at most for four times as many as were ever listed at one time.
 #[derive(Drop)]

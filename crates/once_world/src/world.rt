@@ -48,7 +48,7 @@ pub fn replay(alloc: Global, kind: Kind, limit: u64, inputs: &[Input]) -> Result
         × FallsInto (kind_of kind) (inputs_in inputs.now) (record_entries r) parts
         × IsLogOf (kind_of kind) (record_lines r) parts) }
 
-    // Where every step is given memory no call ends for want of it.
+    // If every step is given memory no call ends for want of it.
     ensures ample { all_granted (inputs_in inputs.now) ≡ true
         → IfOk result (λ r. (t : ℕ) → ends_for_memory t (record_entries r) ≡ false) }
 

@@ -33,8 +33,8 @@
 //!
 //! 1. Choose what an entry and a page say: any types, also of a specification, of which no value is made.
 //! 2. State the rule, `holds words pages log`, on a type of your own (`Rule`), and how a book begins (`Opening`).
-//! 3. For each kind of step state what its caller is told (`Play`), and prove that it keeps the rule: a `Moves` or
-//!    `Notes` of `specs/Pages.antt`, which gives the new values of the hand's pages, new pages and new entries.
+//! 3. For each kind of step state what its caller is told (`Play`), and prove that it keeps the rule. The proof is a
+//!    `Moves` or `Notes` of `specs/Pages.antt`, which gives new values of the hand's pages, new pages and new entries.
 //!
 //! # A whole program
 //!

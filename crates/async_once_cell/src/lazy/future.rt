@@ -218,7 +218,6 @@ impl<'a, T: Drop, F: Future<Output = T>, R: Wait + AllocGlobal> LazyFuturePin<'a
     }
 }
 
-/// Polled when it is finished, it asks for another poll and changes nothing.
 impl<'a, T: Drop, F: Future<Output = T>, R: Wait + AllocGlobal> Future
     for LazyFuturePin<'a, T, F, R> {
     type Output = Result<&'a T, Refused>;
@@ -241,7 +240,6 @@ impl<'a, T: Drop, F: Future<Output = T>, R: Wait + AllocGlobal> Future
     }
 }
 
-/// Whether the future is finished.
 impl<T, F: Future, R: Wait + AllocGlobal> fmt::Debug for LazyFuturePin<'_, T, F, R> {
     fn fmt<W: fmt::Write>(&self, f: &mut fmt::Formatter<W>) -> fmt::Result {
         let finished = self.is_finished();

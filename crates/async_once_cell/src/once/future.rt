@@ -60,13 +60,12 @@ pub type TryInitFuture<'a, T, E, F, R, V = Anything> = Initializing<
 /// others are Pending until they are woken. The value wakes all of them. An error, or the drop of a future that had the
 /// right, wakes one. If that one is dropped or refused instead, and nobody holds then, it wakes the next.
 ///
-/// The init is kept until the first poll, whatever the cell has. It is dropped in the poll that answers, before the
-/// task gives the right or its place back; or with the future. A poll or a drop may wait for the locks of the cell, of
-/// which none is held while an init is polled or dropped. A poll may take memory while another task holds or is in a
-/// call.
+/// The init is kept until the first poll. It is dropped in the poll that answers, before the task gives the right or
+/// its place back; or else with the future. A poll or a drop may wait for the locks of the cell, of which none is held
+/// while an init is polled or dropped. A poll may take memory while another task holds or is in a call.
 ///
-/// A clause sees the future's cell, its init if that is there still, the number of its task, the cell's record as far
-/// as the task has seen it, whether the future is finished, and the value that it answered.
+/// A clause sees the future's cell, its init if that is there still, the number of its task, and the cell's record as
+/// far as the task has seen it. It sees also whether the future is finished, and the value that it answered.
 pub struct Initializing<'a, T, X, I: Yields<T, X>, R: Wait + AllocGlobal, V: Fits<T> = Anything> {
     failure: PhantomData<X>,
     cell: &'a OnceCell<T, V>,
@@ -174,8 +173,7 @@ impl<'a, T, X, I: Yields<T, X>, R: Wait + AllocGlobal, V: Fits<T>> Initializing<
     }
 
     /// Tells a token of the cell what this future has seen of the record, and the value that it answered, if any. If
-    /// the token knows a value, it is that. It waits for nobody. What its clauses say holds if it returns, as at
-    /// `is_run`.
+    /// the token knows a value, it is that. It waits for nobody. Its clauses hold if it returns, as at `is_run`.
     ///
     /// ```
     /// let Poll::Ready(Ok(first)) = future.poll(cx) else {
@@ -286,11 +284,10 @@ impl<'a, T: Drop, X: Failure, I: Init<T, X>, R: Wait + AllocGlobal, V: Fits<T>> 
     R,
     V,
 > {
-    /// Polls the future once. It answers the value that is set, the error that its own init gave, or a refusal:
-    /// `Memory` if memory to wait was refused, `Full` if as many tasks are counted in as may be. After any of these it
-    /// is finished. After an error or a refusal the cell is as if the future had been dropped. A Pending poll has
-    /// registered its task, or asked for another poll. The future keeps the value that it answers, for
-    /// [`tell`](Self::tell).
+    /// Polls the future once. It answers the value that is set, the error of its own init, or a refusal: `Memory` if
+    /// memory to wait was refused, `Full` if as many tasks are counted in as may be. After any of these it is finished.
+    /// After an error or a refusal the cell is as if the future had been dropped. A Pending poll has registered its
+    /// task, or asked for another poll. The future keeps the value that it answers, for [`tell`](Self::tell).
     ///
     /// ```
     /// let polled = future.poll(cx);
@@ -323,9 +320,8 @@ impl<'a, T: Drop, X: Failure, I: Init<T, X>, R: Wait + AllocGlobal, V: Fits<T>> 
         }
     }
 
-    /// As [`poll`](Self::poll), and the token learns the value that is answered. A token that knows one gets it; the
-    /// future leaves its cell as by a drop, and is finished. Here a future that keeps both gives the token with the
-    /// answer:
+    /// As [`poll`](Self::poll), and the token learns the value. A token that knows one gets it; the future leaves its
+    /// cell as by a drop, and is finished. Here a future that keeps both gives the token with the answer:
     ///
     /// ```
     /// match self.future.poll_as(cx, &mut self.token) {

@@ -201,8 +201,7 @@ impl<'a, T, V: Fits<T>> Known<'a, T, V> {
     }
 
     /// It does nothing. Its contract is about two tokens of one cell: the record of one is a beginning of the other's,
-    /// and if the cell is set in it, it is set in the other's. Here only the second token has seen that the cell is
-    /// set:
+    /// and if the cell is set in it, it is set in the other's. Here only the second has seen that the cell is set:
     ///
     /// ```
     /// Known::compare_records(without, with); // so the first one's record is a beginning of the other's

@@ -457,7 +457,6 @@ impl<W: Drop, Q: Drop> Step<W, Q> {
     }
 }
 
-// Calls whom a section handed out.
 #[inline(always)]
 fn wake<W: Drop, S: Side<W>>(answer: Answer<W>, side: &mut S)
     ensures wakes { Wakes S.did.wake (out_of answer) side.old side.new }

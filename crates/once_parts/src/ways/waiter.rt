@@ -1,5 +1,5 @@
-//! The way of a waiter: of a new task that met others, from the door to its listing, in one hold of the lock, or in two
-//! if it has to bring the queue; and of its later poll.
+//! The way of a waiter, and of its later poll. A new task that met others goes from the door to its listing in one hold
+//! of the lock, or in two if it has to bring the queue.
 ghost use Rattle.std.specs.Prelude.{◌≡◌, false, None, []};
 ghost use Rattle.once_parts.specs.Hands.{own_of};
 ghost use Rattle.once_parts.specs.Shares.{cell_of};
@@ -82,7 +82,6 @@ impl<T, W: TaskWaker + Drop, R: Wait + AllocGlobal, V: Fits<T>> Shared<'_, '_, T
         self.at_look(idle, ticket, side)
     }
 
-    // The look and the listing, in one hold of the lock.
     #[inline(always)]
     fn at_look<S: TaskSide<W, Value = T>>(
         &mut self,
