@@ -82,7 +82,9 @@ impl<T, V: Fits<T>> OnceCell<T, V> {
     ghost use Rattle.async_once_cell.specs.contracts.once.OnceCell.{the_row};
 
     /// An empty cell that promises its value: what tasks put fits, as `V` says of it and of the numbers of the tag.
-    /// Whoever is answered it knows so, on any thread, without a token. Each future asks that its init gives no other.
+    /// Whoever is answered it knows so, on any thread, without a token. Each future asks that its init gives nothing
+    /// else.
+    ///
     /// ```
     /// let mut cell = OnceCell::<u64, TenTimes>::promised(&Tag::of::<u64, Key>(&key));
     /// ```

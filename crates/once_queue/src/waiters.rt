@@ -514,7 +514,7 @@ impl<W: WakerId + Drop> Lists<W> {
     }
 }
 
-// Takes each waker away that is the same as one before it. Unless `mixed`, there is none.
+// Takes each waker away that is the same as one before it. Unless `mixed` is set there is none.
 fn once_each<W: WakerId + Drop>(listings: &mut Vec<Listing<W>>, mixed: bool)
     requires apart { mixed ≡ false → ∥ AllPairs (AreApart W.tells_other) listings.old.items ∥₁ }
     ensures { ∥ HandsAll W.tells_same W.tells_other [] listings.old.items listings.new.items ∥₁ }

@@ -1,5 +1,5 @@
 //! Laws of every run of a cell, for those who build on it. These functions do nothing: the contract of each is a law
-//! that follows from "the record is a run" alone, which `replay` ensures. The newest entry stands first there.
+//! that follows from "the record is a run" alone, which `replay` ensures. In them the newest entry stands first.
 ghost use Rattle.std.specs.Prelude.{◌≡◌, ◌≢◌, ◌≤◌, ◌⊎◌, ℕ, true, false, List, [], ◌∷◌, Some, None, length};
 ghost use Rattle.once_world.specs.Record.{Answer, RanError, Kind, Reply, Value, Error, Memory, Full};
 ghost use Rattle.once_world.specs.Record.{Entry, Claim, Ran, Free, Pass, End, DropEnd, is_own};

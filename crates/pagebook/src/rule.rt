@@ -2,7 +2,7 @@
 ghost use Rattle.core.specs.Prelude.{ℕ, List};
 ghost use Rattle.pagebook.specs.Pages.{View};
 
-/// The rule of a book, on a type of the author's that has no value. `E` is an entry, and `P` is what a page says.
+/// The rule of a book, on a type of the author's that never has a value. `E` is an entry, and `P` what a page says.
 pub trait Rule<E, P> {
     // What holds between any two steps, of the values of all words, all pages, and the whole log.
     ghost holds: { List ℕ → List P → List E → Type 0 };

@@ -33,7 +33,7 @@ impl<T> Model for Written<T> {
 }
 
 /// A place for one value, put once and read by all. A clause sees its `book`, its `key`, which is the place of its
-/// state among the book's words, its `id`, which a `Written` names, and `about`, the numbers of what `V` promises.
+/// state among the book's words, its `id`, which a `Written` names, and `about`, the numbers that `V` promises about.
 pub struct Slot<T, E, P, R: Rule<E, P>, V: Fits<T> = Anything> {
     value: Option<T>,
     marker: PhantomData<(E, P, R, V)>,
@@ -53,7 +53,7 @@ impl<T, E, P, R: Rule<E, P>, V: Fits<T>> Move for Slot<T, E, P, R, V> {
 }
 
 impl<T, E, P, R: Rule<E, P>, V: Fits<T>> Slot<T, E, P, R, V> {
-    /// An empty slot, whose state is the word of the first blank, which begins with 0. `V` promises about no numbers.
+    /// An empty slot, whose state is the word of the first blank, a 0. What `V` promises is about no numbers.
     #[inline(always)]
     pub fn new(blanks: &mut Blanks) -> Slot<T, E, P, R, V>
         requires { slice_get blanks.old.numbers 0 ≡ Some 0 }

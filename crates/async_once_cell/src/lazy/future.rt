@@ -31,8 +31,8 @@ use std::{fmt, io};
 /// gets the right polls the cell's future; the others are Pending until they are woken. To drop one of these leaves the
 /// cell's future as it is, and another task drives it on.
 ///
-/// It has the calls of [`Initializing`], with most of their examples, and a clause sees of it the same. What a poll or
-/// a drop may wait for is said there too. Besides, a poll may wait for the lock in which the cell keeps its future.
+/// It has the calls of [`Initializing`], where most have an example, and a clause sees the same of it. What a poll or a
+/// drop may wait for is said there too. Besides, a poll may wait for the lock in which the cell keeps its future.
 /// Nobody has that lock while the future is polled.
 #[derive(Drop)]
 pub struct LazyFuturePin<'a, T, F: Future, R: Wait + AllocGlobal> {

@@ -155,9 +155,9 @@ impl<'a, T, X, I: Yields<T, X>, R: Wait + AllocGlobal, V: Fits<T>> Initializing<
         }
     }
 
-    /// It does nothing. Its contract is about the record that the future has seen, and says what that of
-    /// [`Known::is_run`] says. It waits for nobody. But the kit counts each function of a type with a bound `Wait`
-    /// among those that may wait, and asks no proof that they return. So what the clauses say holds if it returns.
+    /// It does nothing. Its contract says of the record that the future has seen what [`Known::is_run`] says of a
+    /// token's. It waits for nobody. But the kit counts each function of a type with a bound `Wait` among those that
+    /// may wait, and asks no proof that they return. So what the clauses say holds if it returns.
     pub fn is_run(&self)
         ensures run { is_shared self.now.cell ≡ true → IsRun Once most (reverse self.now.log) }
         ensures called { is_shared self.now.cell ≡ true → AtEvery (SomebodyCalled Once) (reverse self.now.log) }
