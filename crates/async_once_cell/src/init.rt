@@ -22,12 +22,14 @@ use std::{fmt, io, mem};
 
 /// Which values an init may give. `X` says why there is none.
 pub trait Yields<T, X>: Drop {
+    // The init may give this value.
     ghost may_give: { Self → T → Type 0 };
 }
 
 /// What a task polls while it has the right. `T` is its value, and `X` says why there is none. Only a call that is lent
 /// the task's hand can poll it, and a hand says whether its task has the right.
 pub trait Init<T, X: Failure>: Yields<T, X> {
+    // The init may fail with this error.
     ghost may_fail: { Self → X → Type 0 };
 
     /// Polls the init, which stays there if it is Pending, and writes the answer into the record.
@@ -140,6 +142,7 @@ impl<T, I: Drop> Kept<T, I> {
 
 /// Why a poll ended without a value, as a future tells it: [`Refused`], or an [`InitError`] if the init may fail.
 pub trait Failure: Drop {
+    // How the poll ended.
     ghost ending: { Self → Ending };
 
     /// The poll was refused.
@@ -175,9 +178,10 @@ impl<E: Drop> Failure for InitError<E> {
 
 /// What an init gives: the value, or a result with the value or an error.
 pub trait Gives<T, X: Failure> {
-    // What the init gave, if a poll tells this error of its own init, or if this is its value.
+    // What the init gave, if a poll tells this error of its own init.
     ghost given_as: { X → Option Self };
 
+    // What it gave, if this is its value.
     ghost given_with: { T → Option Self };
 
     /// The value, or the error as a future tells it.
