@@ -1,8 +1,8 @@
 //! Makes the records, pictures and tables of the scripts in data/ anew, and the picture of a record that is judged; and
 //! compares each with its file there.
 
-use once_judge::drawn::draw_verdict;
 use once_judge::{Calls, judge};
+use once_observed::drawn::draw_verdict;
 use once_script::parse::record::{BadRecord, RecordText, parse_record};
 use once_view::{Format, show};
 use std::alloc::AllocGlobal;

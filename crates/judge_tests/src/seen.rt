@@ -1,7 +1,7 @@
 //! What is seen of a cell from outside: a run is found that has it, or the event is told at which none has.
 
-use once_judge::observed::{Answer, BadEvents, StopLine, linearize, parse_observed};
 use once_judge::{Calls, VerdictLine, judge};
+use once_observed::{Answer, BadEvents, StopLine, linearize, parse_observed};
 use once_script::parse::record::BadRecord;
 use once_script::print::FullLine;
 use std::alloc::{AllocError, Global};

@@ -1,8 +1,8 @@
 //! Replays at random, of which is told what can be seen from outside: a run is found that has it.
 
 use crate::damaged::{Chance, crowd, record};
-use once_judge::observed::{Answer, Event, Observed, StopLine, linearize};
 use once_judge::{Calls, Verdict, judge};
+use once_observed::{Answer, Event, Observed, StopLine, linearize};
 use once_script::print::FullLine;
 use once_world::world::{Entry, Kind};
 use std::alloc::{AllocError, Global};

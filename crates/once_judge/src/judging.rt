@@ -29,6 +29,11 @@ impl Judge {
     }
 
     /// Takes an entry if it may come next, and else tells why not.
+    ///
+    /// ```
+    /// let (judge, refused) = self.judge.take(entry)?;
+    /// self.judge = judge;
+    /// ```
     pub fn take(mut self, entry: Entry) -> Result<(Judge, Option<Reason>), AllocError> {
         if let Err(reason) = self.seen.may_follow(&entry)? {
             return Ok((self, Some(reason)));

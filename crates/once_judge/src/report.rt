@@ -61,9 +61,9 @@ impl fmt::Display for FaultText<'_> {
     }
 }
 
-/// Why an entry may not come next.
+/// Why an entry may not come next, in words: what is so, and forbids it.
 #[derive(Clone, Copy)]
-pub(crate) struct ReasonText(pub Reason);
+pub struct ReasonText(pub Reason);
 
 impl fmt::Display for ReasonText {
     fn fmt<W: fmt::Write>(&self, f: &mut fmt::Formatter<W>) -> fmt::Result {

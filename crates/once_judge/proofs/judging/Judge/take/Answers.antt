@@ -1,5 +1,5 @@
 -- One entry more was taken.
-use Rattle.std.proofs.Common.{suc, length, sym, ap, ◌∙◌, subst, arith}
+use Rattle.std.proofs.Common.{sym, ap, ◌∙◌, subst, arith}
 use Rattle.std.proofs.lemmas.Grind.{common_steps}
 use Rattle.once_world.specs.Shown.{entry_of}
 use Rattle.once_judge.specs.Seen.{Seen}

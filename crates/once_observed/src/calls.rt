@@ -1,6 +1,6 @@
 //! The calls of what was seen: what each did, and between which events.
 
-use crate::observed::text::Event;
+use crate::text::Event;
 use once_world::record::{Entry, Ran};
 use std::alloc::{AllocError, AllocFailed, Global};
 use std::collections::{BTreeMap, BTreeSet};
@@ -175,12 +175,7 @@ impl Gathered {
         let open = self.open.get_mut(&task).ok_or(BadEvents::At(at))?;
         if !self.holders.contains(&task) {
             let from = open.call.from;
-            open.call.effects.push(Effect {
-                deed: Deed::Claim,
-                from,
-                to: at,
-                is_sure: true,
-            })?;
+            open.call.effects.push(Effect::claim(from, at, true))?;
             self.holders.insert(task)?;
         }
         open.has_run = true;
@@ -212,12 +207,7 @@ impl Gathered {
         for (task, mut open) in mem::replace(&mut self.open, none) {
             if !open.has_run && !open.is_drop && !self.holders.contains(&task) {
                 let from = open.call.from;
-                open.call.effects.push(Effect {
-                    deed: Deed::Claim,
-                    from,
-                    to: last,
-                    is_sure: false,
-                })?;
+                open.call.effects.push(Effect::claim(from, last, false))?;
             }
             let call = self.released(open, last, false)?;
             self.ended.push(call)?;
@@ -258,6 +248,16 @@ impl Effect {
             from,
             to: event,
             is_sure: true,
+        }
+    }
+
+    // That it got the right, at a moment between these two events.
+    fn claim(from: usize, to: usize, is_sure: bool) -> Effect {
+        Effect {
+            deed: Deed::Claim,
+            from,
+            to,
+            is_sure,
         }
     }
 }

@@ -1,11 +1,8 @@
 //! What the program `judge_record` does: its command line, its streams and its status.
 
-use crate::calls::Calls;
 use crate::drawn::draw_verdict;
-use crate::last_calls::LastCalls;
-use crate::observed::{Answer, BadEvents, Stop, StopLine, linearize, parse_observed};
-use crate::report::VerdictLine;
-use crate::verdict::{Verdict, judge};
+use crate::{Answer, BadEvents, Stop, StopLine, linearize, parse_observed};
+use once_judge::{Calls, LastCalls, Verdict, VerdictLine, judge};
 use once_script::parse::record::{BadRecord, RecordText, parse_record};
 use once_script::print::{FirstLine, FullLine};
 use once_world::record::{Entry, Kind};

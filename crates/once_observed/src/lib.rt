@@ -1,14 +1,19 @@
-//! What was seen of a cell from outside, and whether a run has it.
+//! What was seen of a cell from outside, and whether a run has it; and all that the program `judge_record` does.
 //!
-//! `calls` makes calls of the events, each with what it did and between which events; `search` looks for an order of
-//! all that, in which each entry may come next.
+//! `calls` makes calls of the events, each with what it did and between which events. `search` looks for an order of
+//! all that, in which each entry may come next. `drawn` makes pictures of records that were judged. The crate
+//! `judge_record` has the `main` of `program` alone, so that tests can call what it does.
+#![tactic(auto)]
 
 mod calls;
+mod copies;
+pub mod drawn;
+pub mod program;
 mod search;
 mod text;
 
-use crate::report::ReasonText;
 pub use calls::BadEvents;
+use once_judge::ReasonText;
 use once_script::print::FullLine;
 pub use search::{Answer, Stop, linearize};
 use std::fmt;

@@ -1,7 +1,6 @@
 //! A record as a picture, with the verdict on it.
 
-use crate::report::VerdictLine;
-use crate::verdict::Verdict;
+use once_judge::{Verdict, VerdictLine};
 use once_script::print::EntryLine;
 use once_view::picture::write_record;
 use once_world::record::{Entry, Kind};

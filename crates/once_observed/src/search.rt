@@ -1,11 +1,10 @@
 //! The search for a run that has what was seen.
 
-use crate::calls::Calls;
-use crate::judging::Judge;
-use crate::observed::calls::{BadEvents, Call, Deed, Effect, Gathered};
-use crate::observed::text::{Event, Observed};
-use crate::reason::Reason;
-use once_world::record::{Call as OwnersCall, Entry, Got};
+use crate::calls::{BadEvents, Call, Deed, Effect, Gathered};
+use crate::copies::copy_of;
+use crate::text::{Event, Observed};
+use once_judge::{Calls, Judge, Reason};
+use once_world::record::Entry;
 use std::alloc::{AllocError, Global};
 use std::collections::BTreeSet;
 
@@ -31,8 +30,11 @@ pub struct Stop {
 
 /// Looks for a run of the cell that has these events: all that a call did lies between its beginning and its end, in
 /// its order, and whatever it did is put where an entry may come next. A call that does not end may have done more than
-/// was seen. At most `steps` choices are tried. A run in which somebody is forgotten is answered only if there is no
-/// other.
+/// was seen.
+///
+/// First it looks for a run in which nobody is forgotten, and then, if that found none, for any. Each of the two
+/// searches tries at most `steps` choices. So a run in which somebody is forgotten is answered if there is no other, or
+/// if the first search was given up.
 ///
 /// `BadEvents` says that memory was refused, or which event does not fit those before it.
 ///
@@ -358,48 +360,5 @@ impl<'a> State<'a> {
                 _ => Ok(None),
             },
         }
-    }
-}
-
-// A copy of an entry that was seen.
-fn copy_of(alloc: Global, entry: &Entry) -> Result<Entry, AllocError> {
-    match entry {
-        Entry::Made(task) => Ok(Entry::Made(*task)),
-        Entry::Begin(task, waker) => Ok(Entry::Begin(*task, *waker)),
-        Entry::Claim(task) => Ok(Entry::Claim(*task)),
-        Entry::Ran(task, answer) => Ok(Entry::Ran(*task, *answer)),
-        Entry::Free(task, wakers) => Ok(Entry::Free(*task, Vec::from_slice(alloc, wakers)?)),
-        Entry::Fill(task, v, wakers) => {
-            Ok(Entry::Fill(*task, *v, Vec::from_slice(alloc, wakers)?))
-        }
-        Entry::Pass(task, wakers) => Ok(Entry::Pass(*task, Vec::from_slice(alloc, wakers)?)),
-        Entry::End(task, reply) => Ok(Entry::End(*task, *reply)),
-        Entry::DropBegin(task) => Ok(Entry::DropBegin(*task)),
-        Entry::DropEnd(task) => Ok(Entry::DropEnd(*task)),
-        Entry::Look(found) => Ok(Entry::Look(*found)),
-        Entry::Own(call, got) => Ok(Entry::Own(
-            copy_of_call(alloc, call)?,
-            copy_of_got(alloc, got)?,
-        )),
-    }
-}
-
-fn copy_of_call(alloc: Global, call: &OwnersCall) -> Result<OwnersCall, AllocError> {
-    match call {
-        OwnersCall::Take => Ok(OwnersCall::Take),
-        OwnersCall::Write(value) => Ok(OwnersCall::Write(*value)),
-        OwnersCall::Parts => Ok(OwnersCall::Parts),
-        OwnersCall::ReplaceValue(value) => Ok(OwnersCall::ReplaceValue(*value)),
-        OwnersCall::ReplaceAnswers(answers) => {
-            Ok(OwnersCall::ReplaceAnswers(Vec::from_slice(alloc, answers)?))
-        }
-    }
-}
-
-fn copy_of_got(alloc: Global, got: &Got) -> Result<Got, AllocError> {
-    match got {
-        Got::None => Ok(Got::None),
-        Got::Value(value) => Ok(Got::Value(*value)),
-        Got::Answers(answers) => Ok(Got::Answers(Vec::from_slice(alloc, answers)?)),
     }
 }
