@@ -259,6 +259,13 @@ impl<'a, T, X, I: Yields<T, X>, R: Wait + AllocGlobal, V: Fits<T>> Initializing<
     /// Leaves the cell as by a drop: the init is dropped, and then the task gives the right back, or leaves those who
     /// wait. A drop can have no contract; this is for callers who want one. Afterwards the future is finished, and
     /// answered nothing. As a drop, it may wait for the lock of the cell.
+    ///
+    /// ```
+    /// holder.leave();
+    /// let Poll::Ready(Ok(value)) = waiter.poll(cx) else { // it waited, and may now poll its own init
+    ///     return None;
+    /// };
+    /// ```
     pub fn leave(&mut self)
         requires unfinished { self.old.finished ≡ false }
         ensures left { HasLeft self.old self.new }
