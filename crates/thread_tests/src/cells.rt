@@ -6,6 +6,7 @@ mod failing;
 mod gathered;
 mod pairs;
 mod rounds;
+mod seen;
 mod stress;
 mod together;
 mod told;

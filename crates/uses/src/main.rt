@@ -2,7 +2,8 @@
 //! are read once, a connection, a graph of values, a pool of tasks, a table, settings that threads load anew, a cell
 //! that threads own together, many threads, tasks that give up, and a value whose type has a fact. Besides, what a
 //! caller can say of order, which value a poll answered, whose error it is told, what the owner of a cell gets, also of
-//! a lazy one, and what a cell promises of its value; and how a program has judged what it sees of a cell.
+//! a lazy one, what a cell promises of its value, and what is left by a call; and how a program has judged what it sees
+//! of a cell.
 #![tactic(auto)]
 
 mod ask;
@@ -16,6 +17,7 @@ mod giving_up;
 mod graph;
 mod judged;
 mod lazy;
+mod leaves;
 mod many_threads;
 mod order;
 mod owned_together;
@@ -63,7 +65,8 @@ where
     owner::show(rt, output)?;
     lazy::show(rt, output)?;
     judged::show(rt, output)?;
-    promised::show(rt, output)
+    promised::show(rt, output)?;
+    leaves::show(rt, output)
 }
 
 fn main(rt: HostRuntime) -> ExitCode {

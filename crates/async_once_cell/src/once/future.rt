@@ -242,7 +242,14 @@ impl<'a, T, X, I: Yields<T, X>, R: Wait + AllocGlobal, V: Fits<T>> Initializing<
     }
 
     /// Leaves the cell as by a drop, which can have no contract: the init is dropped, and then the task gives the right
-    /// back, or leaves those who wait. It may wait for the lock of the cell.
+    /// back, or leaves those who wait. Then the future is finished. It may wait for the lock of the cell.
+    ///
+    /// ```
+    /// holder.leave();
+    /// let Poll::Ready(Ok(value)) = waiter.poll(cx) else { // it waited, and may now poll its own init
+    ///     return None;
+    /// };
+    /// ```
     pub fn leave(&mut self)
         requires unfinished { self.old.finished ≡ false }
         ensures left { HasLeft self.old self.new }
