@@ -222,26 +222,68 @@ fn compare(
     Ok(fault.is_none())
 }
 
+// Compares a record that is a run, and then damages it five times and compares each time. The answer is how many of
+// the damaged ones are runs.
+fn compare_damaged(
+    rt: &impl Abort,
+    alloc: Global,
+    seed: u64,
+    chance: &mut Chance,
+    rules: Rules<'_>,
+    mut entries: Vec<Entry>,
+) -> Result<u64, AllocError> {
+    let is_run = compare(rt, alloc, seed, rules, &entries)?;
+    assert!(rt; is_run, "of the seed {seed}");
+    let mut runs = 0u64;
+    for _ in 0..5 {
+        damage(alloc, chance, &mut entries)?;
+        if compare(rt, alloc, seed, rules, &entries)? {
+            runs = runs.saturating_add(1);
+        }
+    }
+    Ok(runs)
+}
+
+// One record by the rule that a failure calls one.
+fn compare_one(rt: &impl Abort, alloc: Global, seed: u64) -> Result<u64, AllocError> {
+    let mut chance = Chance::new(seed);
+    let limit = chance.limit();
+    let (kind, entries) = record(alloc, &mut chance, limit, Vec::new(alloc))?;
+    let rules = Rules {
+        kind: &kind,
+        limit,
+        calls_all: false,
+    };
+    compare_damaged(rt, alloc, seed, &mut chance, rules, entries)
+}
+
+// One record by the rule that a failure calls all: whether it is a run by that rule alone, and how many of the damaged
+// ones are runs.
+fn compare_all(rt: &impl Abort, alloc: Global, seed: u64) -> Result<(bool, u64), AllocError> {
+    let mut chance = Chance::new(seed);
+    let limit = chance.limit();
+    let first = crowd(alloc, &mut chance)?;
+    let (kind, entries) = record(alloc, &mut chance, limit, first)?;
+    let rules = Rules {
+        kind: &kind,
+        limit,
+        calls_all: true,
+    };
+    let entries = to_all(alloc, rules, entries)?;
+    let one = Rules {
+        calls_all: false,
+        ..rules
+    };
+    let is_apart = !compare(rt, alloc, seed, one, &entries)?;
+    let runs = compare_damaged(rt, alloc, seed, &mut chance, rules, entries)?;
+    Ok((is_apart, runs))
+}
+
 #[test]
 fn judge_and_definitions_say_the_same(rt: HostRuntime) -> Result<(), Fail> {
     let mut runs = 0u64;
     for seed in 0..2_000 {
-        let mut chance = Chance::new(seed);
-        let limit = chance.limit();
-        let (kind, mut entries) = record(rt.alloc(), &mut chance, limit, Vec::new(rt.alloc()))?;
-        let rules = Rules {
-            kind: &kind,
-            limit,
-            calls_all: false,
-        };
-        let is_run = compare(&rt, rt.alloc(), seed, rules, &entries)?;
-        assert!(rt; is_run, "of the seed {seed}");
-        for _ in 0..5 {
-            damage(rt.alloc(), &mut chance, &mut entries)?;
-            if compare(&rt, rt.alloc(), seed, rules, &entries)? {
-                runs = runs.saturating_add(1);
-            }
-        }
+        runs = runs.saturating_add(compare_one(&rt, rt.alloc(), seed)?);
     }
     assert!(rt; runs > 500, "{runs} damaged records are runs");
     Ok(())
@@ -251,31 +293,9 @@ fn judge_and_definitions_say_the_same(rt: HostRuntime) -> Result<(), Fail> {
 fn they_say_the_same_of_cells_that_call_all(rt: HostRuntime) -> Result<(), Fail> {
     let (mut apart, mut runs) = (0u64, 0u64);
     for seed in 0..400 {
-        let mut chance = Chance::new(seed);
-        let limit = chance.limit();
-        let first = crowd(rt.alloc(), &mut chance)?;
-        let (kind, entries) = record(rt.alloc(), &mut chance, limit, first)?;
-        let rules = Rules {
-            kind: &kind,
-            limit,
-            calls_all: true,
-        };
-        let mut entries = to_all(rt.alloc(), rules, entries)?;
-        let is_run = compare(&rt, rt.alloc(), seed, rules, &entries)?;
-        assert!(rt; is_run, "of the seed {seed}");
-        let one = Rules {
-            calls_all: false,
-            ..rules
-        };
-        if !compare(&rt, rt.alloc(), seed, one, &entries)? {
-            apart = apart.saturating_add(1);
-        }
-        for _ in 0..5 {
-            damage(rt.alloc(), &mut chance, &mut entries)?;
-            if compare(&rt, rt.alloc(), seed, rules, &entries)? {
-                runs = runs.saturating_add(1);
-            }
-        }
+        let (is_apart, more) = compare_all(&rt, rt.alloc(), seed)?;
+        apart = apart.saturating_add(u64::from(is_apart));
+        runs = runs.saturating_add(more);
     }
     assert!(rt; apart > 50, "{apart} records are runs by one rule alone");
     assert!(rt; runs > 100, "{runs} damaged records are runs");

@@ -81,6 +81,25 @@ fn times_in(waker: u64, wakers: &[u64]) -> usize {
     wakers.iter().filter(|w| **w == waker).count()
 }
 
+// What an entry makes of the cell.
+fn cell_after(entry: &Entry, cell: Cell) -> Cell {
+    match entry {
+        Entry::Claim(t) => Cell::Held(*t),
+        Entry::Free(_, _) => Cell::Empty,
+        Entry::Fill(_, v, _) => Cell::SetTo(*v),
+        Entry::Own(call, _) => cell_after_call(call, cell),
+        _ => cell,
+    }
+}
+
+fn cell_after_call(call: &Call, cell: Cell) -> Cell {
+    match (call, cell) {
+        (Call::Write(v), Cell::SetTo(_)) | (Call::ReplaceValue(v), _) => Cell::SetTo(*v),
+        (Call::Write(_), _) => cell,
+        _ => Cell::Empty,
+    }
+}
+
 impl<'a> Rules<'a> {
     fn cell(self, h: &[Entry]) -> Cell {
         let mut cell = match self.kind {
@@ -88,18 +107,7 @@ impl<'a> Rules<'a> {
             Kind::OnceWith(v) | Kind::LazyWith(v) => Cell::SetTo(*v),
         };
         for entry in h {
-            cell = match entry {
-                Entry::Claim(t) => Cell::Held(*t),
-                Entry::Free(_, _) => Cell::Empty,
-                Entry::Fill(_, v, _) => Cell::SetTo(*v),
-                Entry::Own(Call::Write(v), _) => match cell {
-                    Cell::SetTo(_) => Cell::SetTo(*v),
-                    _ => cell,
-                },
-                Entry::Own(Call::ReplaceValue(v), _) => Cell::SetTo(*v),
-                Entry::Own(_, _) => Cell::Empty,
-                _ => cell,
-            };
+            cell = cell_after(entry, cell);
         }
         cell
     }
@@ -133,16 +141,21 @@ impl<'a> Rules<'a> {
                 Entry::Made(_) => Status::Fresh,
                 Entry::Begin(_, _) => Status::Polling,
                 Entry::DropBegin(_) => Status::Dropping,
-                Entry::End(_, Reply::Pending) => match self.cell(&h[..index]) {
-                    Cell::Held(u) if u == t => Status::Holding,
-                    Cell::Held(_) => Status::Waiting,
-                    _ => Status::Gone,
-                },
+                Entry::End(_, Reply::Pending) => self.rests(t, &h[..index]),
                 Entry::End(_, _) | Entry::DropEnd(_) => Status::Gone,
                 _ => status,
             };
         }
         status
+    }
+
+    // What a task is at whose poll ends Pending after the entries `h`.
+    fn rests(self, t: u64, h: &[Entry]) -> Status {
+        match self.cell(h) {
+            Cell::Held(u) if u == t => Status::Holding,
+            Cell::Held(_) => Status::Waiting,
+            _ => Status::Gone,
+        }
     }
 
     fn last_call(self, t: u64, h: &[Entry]) -> LastCall {

@@ -1,9 +1,10 @@
 //! What is seen of a cell from outside: a run is found that has it, or the event is told at which none has.
 
 use once_judge::{Calls, VerdictLine, judge};
-use once_observed::{Answer, BadEvents, StopLine, linearize, parse_observed};
+use once_observed::{Answer, BadEvents, Observed, StopLine, linearize, parse_observed};
 use once_script::parse::record::BadRecord;
 use once_script::print::FullLine;
+use once_world::record::Entry;
 use std::alloc::{AllocError, Global};
 use std::test::Fail;
 
@@ -39,7 +40,8 @@ once 8/made 1/made 3/begin 1 5/begin 3 7/ran 1 e1/end 3 p/end 1 e1/made 4
 event 6, ran 2 p: task 1 holds|once 8/made 1/made 2/begin 1 5/begin 2 7/ran 1 p/ran 2 p/end 1 p/end 2 p
 event 3, end 1 v3: the cell is empty|once 8/made 1/begin 1 5/end 1 v3
 event 5, woken 2|once 8/wakes unseen/made 1/made 2/begin 1 5/ran 1 p/woken 2
-event 2, look v4: the cell is empty|once 8/made 1/look v4";
+event 2, look v4: the cell is empty|once 8/made 1/look v4
+event 3, look v4: task 1 holds|once 8/made 1/begin 1 5/look v4/ran 1 v4/end 1 v4";
 
 // The event that does not fit those before it, and the text.
 const UNFIT: &str = "\
@@ -61,6 +63,20 @@ const BAD: &str = "\
 2,woken TASK|once 8/woken x
 2,begin TASK|once 8/begin 1";
 
+// The lines of a run that was found, with slashes between them, or the line of the verdict if that is bad.
+fn run_lines(alloc: Global, observed: &Observed, run: &[Entry]) -> Result<String, AllocError> {
+    let verdict = judge(alloc, &observed.kind, observed.limit, Calls::One, run)?;
+    if verdict.fault.is_some() || verdict.forgotten.is_some() {
+        return format!(in alloc; "{}", VerdictLine(&verdict, run));
+    }
+    let mut told = String::new(alloc);
+    for entry in run {
+        let gap = if told.is_empty() { "" } else { "/" };
+        told.push_str(format!(in alloc; "{gap}{}", FullLine(entry))?.as_str())?;
+    }
+    Ok(told)
+}
+
 // The lines of a run, with slashes between them, or the line that tells why there is none.
 fn found(alloc: Global, text: &str, steps: u64) -> Result<Result<String, BadEvents>, AllocError> {
     let text = text.replace(alloc, '/', "\n")?;
@@ -68,20 +84,7 @@ fn found(alloc: Global, text: &str, steps: u64) -> Result<Result<String, BadEven
         return Ok(Ok(String::from_str(alloc, "unreadable")?));
     };
     match linearize(alloc, &observed, Calls::One, steps) {
-        Ok(Answer::Run(entries)) => {
-            let mut told = String::new(alloc);
-            for entry in &entries {
-                if !told.is_empty() {
-                    told.push('/')?;
-                }
-                told.push_str(format!(in alloc; "{}", FullLine(entry))?.as_str())?;
-            }
-            let verdict = judge(alloc, &observed.kind, observed.limit, Calls::One, &entries)?;
-            if verdict.fault.is_some() || verdict.forgotten.is_some() {
-                return Ok(Ok(format!(in alloc; "{}", VerdictLine(&verdict, &entries))?));
-            }
-            Ok(Ok(told))
-        }
+        Ok(Answer::Run(entries)) => Ok(Ok(run_lines(alloc, &observed, &entries)?)),
         Ok(Answer::NoRun(stop)) => {
             Ok(Ok(format!(in alloc; "{}", StopLine(&stop, &observed.events))?))
         }

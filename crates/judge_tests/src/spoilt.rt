@@ -207,6 +207,28 @@ pub fn read(alloc: Global, text: &str) -> Result<RecordText, BadRecord> {
     parse_record(alloc, lines.as_bytes())
 }
 
+// The last entry of a record in which commas end the lines.
+fn last_of(record: &str) -> &str {
+    record.rsplit([',', '\n']).next().unwrap_or("").trim_start()
+}
+
+// The record is refused at its last entry for this reason.
+fn is_refused(
+    rt: &impl Abort,
+    alloc: Global,
+    record: &str,
+    reason: &str,
+) -> Result<(), AllocError> {
+    let Ok(read) = read(alloc, record) else {
+        assert!(rt; false, "unreadable: {record}");
+        return Ok(());
+    };
+    let number = read.entries.len();
+    let wanted = format!(in alloc; "entry {number}, {}: {reason}", last_of(record))?;
+    assert_eq!(rt; told(alloc, &read, Calls::One)?, wanted);
+    Ok(())
+}
+
 #[test]
 fn spoilt_records_are_refused(rt: HostRuntime) -> Result<(), Fail> {
     let alloc = rt.alloc();
@@ -216,17 +238,7 @@ fn spoilt_records_are_refused(rt: HostRuntime) -> Result<(), Fail> {
             writeln!(record, "{line}")?;
             continue;
         };
-        let Ok(read) = read(alloc, record.trim_end()) else {
-            return Err(Fail::new(record));
-        };
-        let last = record
-            .trim_end()
-            .rsplit([',', '\n'])
-            .next()
-            .unwrap_or("")
-            .trim_start();
-        let wanted = format!(in alloc; "entry {}, {last}: {reason}", read.entries.len())?;
-        assert_eq!(rt; told(alloc, &read, Calls::One)?.as_str(), wanted.as_str());
+        is_refused(&rt, alloc, record.trim_end(), reason)?;
         record = String::new(alloc);
     }
     Ok(())

@@ -4,7 +4,7 @@ use once_judge::{Calls, judge};
 use once_script::parse::record::{BadRecord, RecordText, parse_record};
 use once_script::print::{FirstLine, FullLine};
 use once_script::run_full;
-use std::alloc::Global;
+use std::alloc::{AllocError, Global};
 use std::test::Fail;
 
 // Texts in which a slash ends a line: the number of the first bad line, and a part of what should stand there.
@@ -91,35 +91,41 @@ fn written(alloc: Global, record: &RecordText) -> Result<String, Fail> {
     Ok(text)
 }
 
+// Whether the record is a run in which nobody is forgotten.
+fn is_good(alloc: Global, record: &RecordText) -> Result<bool, AllocError> {
+    let RecordText {
+        kind,
+        limit,
+        entries,
+    } = record;
+    let verdict = judge(alloc, kind, *limit, Calls::One, entries)?;
+    Ok(verdict.fault.is_none() && verdict.forgotten.is_none())
+}
+
+// What is printed of a script.
+fn printed(alloc: Global, script: &str) -> Result<Vec<u8>, Fail> {
+    let script = script.replace(alloc, '/', "\n")?;
+    let mut printed = Vec::new(alloc);
+    match run_full(alloc, script.as_bytes(), &mut printed) {
+        Ok(_) => Ok(printed),
+        Err(_) => Err(Fail::new(script)),
+    }
+}
+
+// Whether what is printed of a script is the text of the record that is read back, and that is good.
+fn is_read_back(alloc: Global, script: &str) -> Result<bool, Fail> {
+    let printed = printed(alloc, script)?;
+    let Ok(record) = parse_record(alloc, printed.as_slice()) else {
+        return Err(Fail::new(script));
+    };
+    let text = written(alloc, &record)?;
+    Ok(printed.starts_with(text.as_bytes()) && is_good(alloc, &record)?)
+}
+
 #[test]
 fn what_is_printed_is_read_back(rt: HostRuntime) -> Result<(), Fail> {
-    let alloc = rt.alloc();
     for script in SCRIPTS {
-        let script = script.replace(alloc, '/', "\n")?;
-        let mut printed = Vec::new(alloc);
-        assert!(rt;
-            run_full(alloc, script.as_bytes(), &mut printed).is_ok(),
-            "{script}"
-        );
-        let Ok(record) = parse_record(alloc, printed.as_slice()) else {
-            return Err(Fail::new(script));
-        };
-        let (text, whole) = (
-            written(alloc, &record)?,
-            String::from_utf8_lossy(alloc, printed.as_slice())?,
-        );
-        assert!(rt; whole.starts_with(text.as_str()), "{whole}");
-        let verdict = judge(
-            alloc,
-            &record.kind,
-            record.limit,
-            Calls::One,
-            &record.entries,
-        )?;
-        assert!(rt;
-            verdict.fault.is_none() && verdict.forgotten.is_none(),
-            "{whole}"
-        );
+        assert!(rt; is_read_back(rt.alloc(), script)?, "{script}");
     }
     Ok(())
 }

@@ -62,13 +62,12 @@ fn events(
     Ok(events)
 }
 
-// A run is found that has what is seen of the record of a replay at random.
-fn is_found(
-    rt: &impl Abort,
+// What is seen of the record of a replay at random, and what is told of it.
+fn observed(
     alloc: Global,
     seed: u64,
     are_wakes_seen: bool,
-) -> Result<(), AllocError> {
+) -> Result<(Observed, Vec<String>), AllocError> {
     let mut chance = Chance::new(seed);
     let limit = chance.limit();
     let first = if seed.is_multiple_of(2) {
@@ -84,16 +83,39 @@ fn is_found(
         are_wakes_seen,
         events: events(alloc, entries, are_wakes_seen)?,
     };
+    Ok((observed, wanted))
+}
+
+// What was found is a run in which nobody is forgotten, and this is told of it.
+fn has_it(
+    rt: &impl Abort,
+    alloc: Global,
+    observed: &Observed,
+    found: &[Entry],
+    wanted: &[String],
+    seed: u64,
+) -> Result<(), AllocError> {
+    let verdict = judge(alloc, &observed.kind, observed.limit, Calls::One, found)?;
+    let good = Verdict {
+        fault: None,
+        forgotten: None,
+    };
+    assert_eq!(rt; verdict, good, "of the seed {seed}");
+    let told = told(alloc, found)?;
+    assert!(rt; told.as_slice() == wanted, "of the seed {seed}");
+    Ok(())
+}
+
+// A run is found that has what is seen of the record of a replay at random.
+fn is_found(
+    rt: &impl Abort,
+    alloc: Global,
+    seed: u64,
+    are_wakes_seen: bool,
+) -> Result<(), AllocError> {
+    let (observed, wanted) = observed(alloc, seed, are_wakes_seen)?;
     match linearize(alloc, &observed, Calls::One, 100_000) {
-        Ok(Answer::Run(found)) => {
-            let verdict = judge(alloc, &observed.kind, limit, Calls::One, &found)?;
-            let good = Verdict {
-                fault: None,
-                forgotten: None,
-            };
-            assert_eq!(rt; verdict, good, "of the seed {seed}");
-            assert!(rt; told(alloc, &found)? == wanted, "of the seed {seed}");
-        }
+        Ok(Answer::Run(found)) => has_it(rt, alloc, &observed, &found, &wanted, seed)?,
         Ok(Answer::NoRun(stop) | Answer::GaveUp(stop)) => {
             let line = StopLine(&stop, &observed.events);
             assert!(rt; false, "of the seed {seed}: {line}");

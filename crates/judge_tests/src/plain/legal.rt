@@ -33,21 +33,22 @@ impl Rules<'_> {
             Entry::Ran(_, answer) => holds && unrun && self.is_next(*answer, h),
             Entry::Free(_, wakers) => holds && may_free(status, call) && self.frees_to(wakers, h),
             Entry::Fill(_, v, wakers) => {
-                let gave = call.ran == Some(Ran::Value(*v));
-                holds && polls && gave && self.hands_out(wakers, h)
+                holds && polls && call.ran == Some(Ran::Value(*v)) && self.hands_out(wakers, h)
             }
             Entry::Pass(_, wakers) => {
-                let to_open = matches!(wakers.as_slice(), [w] if self.is_open(*w, h));
-                cell == Cell::Empty && may_pass(status, call) && to_open
+                cell == Cell::Empty && may_pass(status, call) && self.passes_to(wakers, h)
             }
             Entry::End(_, reply) => {
-                let passes = call.passed && *reply != Reply::Memory;
-                polls && self.may_end(t, *reply, call, h) && !passes
+                polls && self.may_end(t, *reply, call, h) && may_answer(*reply, call)
             }
             Entry::DropEnd(_) => status == Status::Dropping && !holds,
             Entry::Look(found) => *found == value_in(cell),
             Entry::Own(call, got) => self.may_own(call, got, h),
         }
+    }
+
+    fn passes_to(self, wakers: &[u64], h: &[Entry]) -> bool {
+        matches!(wakers, [waker] if self.is_open(*waker, h))
     }
 
     fn is_next(self, answer: Ran, h: &[Entry]) -> bool {
@@ -128,24 +129,32 @@ impl Rules<'_> {
     }
 
     fn may_own(self, call: &Call, got: &Got, h: &[Entry]) -> bool {
-        let lazy = matches!(self.kind, Kind::Lazy(_) | Kind::LazyWith(_));
-        let has_call = match call {
-            Call::Take => !lazy,
-            Call::Write(_) => true,
-            _ => lazy,
-        };
         let all_gone = h.iter().all(|entry| match entry {
             Entry::Made(t) => self.status(*t, h) == Status::Gone,
             _ => true,
         });
-        let is_got = match (self.cell(h), call, got) {
+        all_gone && self.has_call(call) && self.gives(call, got, h)
+    }
+
+    // Whether a cell of this kind has the call.
+    fn has_call(self, call: &Call) -> bool {
+        let lazy = matches!(self.kind, Kind::Lazy(_) | Kind::LazyWith(_));
+        match call {
+            Call::Take => !lazy,
+            Call::Write(_) => true,
+            _ => lazy,
+        }
+    }
+
+    // Whether this is what the call is given after these entries.
+    fn gives(self, call: &Call, got: &Got, h: &[Entry]) -> bool {
+        match (self.cell(h), call, got) {
             (Cell::SetTo(v), _, Got::Value(u)) => v == *u,
             (Cell::SetTo(_), _, _) => false,
             (_, Call::Parts, Got::Answers(answers)) => answers.as_slice() == self.answers_left(h),
             (_, Call::Parts, _) => false,
             (_, _, got) => *got == Got::None,
-        };
-        all_gone && has_call && is_got
+        }
     }
 
     // Whether somebody was called after these entries, if somebody has to be.
@@ -181,6 +190,11 @@ enum Fact {
     OtherHolds,
     OtherActs,
     Crowded,
+}
+
+// Whether a call may end so that may have passed its turn on.
+fn may_answer(reply: Reply, call: LastCall) -> bool {
+    !call.passed || reply == Reply::Memory
 }
 
 fn may_free(status: Status, call: LastCall) -> bool {
