@@ -1,5 +1,5 @@
 //! A future that leaves its cell by a call. A drop can have no contract, and this call has one.
-ghost use Rattle.std.specs.Prelude.{◌≡◌, ◌×◌, IfSome, None, false, true};
+ghost use Rattle.std.specs.Prelude.{◌≡◌, IfSome, None, false, true};
 ghost use Rattle.async_once_cell.specs.Polls.{HasLeft};
 
 use crate::fault::Fault;
