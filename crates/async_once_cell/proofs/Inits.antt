@@ -2,7 +2,7 @@
 use Rattle.std.proofs.Common.{Option, Some, None, Result, Ok, Err}
 use Rattle.std.specs.Prelude.{IsSomeAnd}
 use Rattle.once_parts.specs.Inits.{MayGive}
-use Rattle.once_world.specs.Places.{Ending}
+use Rattle.once_machine.specs.declared.step.Ending.{Ending}
 use Rattle.async_once_cell.specs.Inits.{FailsNoOther, TellsOwn}
 
 pub tells_on : {I X A : Type 0} (may_fail : I → X → Type 0) (ending : X → Ending) (old new : Option I) → FailsNoOther may_fail old new

@@ -1,6 +1,6 @@
 -- How a clause sees a future, by what it is made of.
 use Rattle.std.specs.Prelude.{◌≡◌, ℕ, ⊤, Bool, true, false, List, [], Option, Some, None}
-use Rattle.once_world.specs.Record.{Entry}
+use Rattle.once_machine.specs.Record.{Entry}
 use Rattle.async_once_cell.specs.declared.once.future.Asked.{Asked}
 use Rattle.async_once_cell.specs.declared.once.future.Asked.TheVariants.{Owned as AskedOwned, Answered as AskedAnswered}
 use Rattle.async_once_cell.specs.declared.once.future.Asked.TheVariants.{Left as AskedLeft}

@@ -1,6 +1,7 @@
 -- With which errors the init of a future may fail, and which values it may give.
 use Rattle.std.specs.Prelude.{◌≡◌, ℕ, ⊤, List, Option, IfErr, IsSomeAnd, Result}
-use Rattle.once_world.specs.Places.{EndError, Ending}
+use Rattle.once_machine.specs.declared.step.Ending.TheVariants.{Error as EndError}
+use Rattle.once_machine.specs.declared.step.Ending.{Ending}
 use Rattle.once_parts.specs.Inits.{MayGive}
 use Rattle.async_once_cell.specs.declared.init.InitError.{InitError}
 use Rattle.async_once_cell.specs.declared.init.InitError.TheVariants.{Init}

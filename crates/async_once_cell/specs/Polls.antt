@@ -9,8 +9,11 @@ use Rattle.async_once_cell.specs.declared.init.InitError.{InitError}
 use Rattle.async_once_cell.specs.declared.init.InitError.TheVariants.{Init, Memory, Full}
 use Rattle.async_once_cell.specs.declared.init.Refused.{Refused}
 use Rattle.async_once_cell.specs.declared.init.Refused.TheVariants.{Memory as NoMemory, Full as TooMany}
-use Rattle.once_world.specs.Record.{Begin, DropBegin, DropEnd, Entry, Made}
-use Rattle.once_world.specs.Places.{EndDropped, EndError, EndFull, EndMemory, EndPending, EndValue, Ending}
+use Rattle.once_machine.specs.Record.{Begin, DropBegin, DropEnd, Entry, Made}
+use Rattle.once_machine.specs.declared.step.Ending.TheVariants.{Dropped as EndDropped, Error as EndError}
+use Rattle.once_machine.specs.declared.step.Ending.TheVariants.{Full as EndFull, Memory as EndMemory}
+use Rattle.once_machine.specs.declared.step.Ending.TheVariants.{Pending as EndPending, Value as EndValue}
+use Rattle.once_machine.specs.declared.step.Ending.{Ending}
 use Rattle.once_parts.specs.Kept.{Grew}
 use Rattle.once_parts.specs.Walks.{IsOneCall, Spans, end_of}
 use Rattle.async_once_cell.specs.Tokens.{Agrees, IsSetIn}

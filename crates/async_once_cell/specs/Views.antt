@@ -3,7 +3,7 @@ use Rattle.std.specs.Prelude.{◌≡◌, ℕ, ⊤, Bool, true, false, List, [], 
 use Rattle.std.specs.Option.{is_some}
 use Rattle.pagebook.specs.Slot.{Placed}
 use Rattle.pagebook.specs.declared.slot.Written.{Written}
-use Rattle.once_world.specs.Record.{Entry}
+use Rattle.once_machine.specs.Record.{Entry}
 use Rattle.once_parts.specs.Record.{IsSet}
 use Rattle.async_once_cell.specs.declared.init.Kept.{Kept}
 use Rattle.async_once_cell.specs.declared.init.Kept.TheVariants.{Init as KeptInit, Answered as KeptAnswered}

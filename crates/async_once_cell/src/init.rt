@@ -5,7 +5,7 @@ ghost use Rattle.futures.specs.Poll.{IfReady, OnPending};
 ghost use Rattle.futures.specs.Task.{IsArmed, Keeps};
 ghost use Rattle.once_parts.specs.Hands.{HasRight, HasRun};
 ghost use Rattle.once_parts.specs.Inits.{MayGive, polled_in};
-ghost use Rattle.once_core.specs.declared.step.Ending.{Ending};
+ghost use Rattle.once_machine.specs.declared.step.Ending.{Ending};
 ghost use Rattle.async_once_cell.specs.Inits.{FailsNoOther, GivesNoOther, MayFail};
 ghost use Rattle.async_once_cell.specs.Polls.{ending_of_refusal};
 ghost use Rattle.async_once_cell.specs.Refused.{own_error};
@@ -13,7 +13,7 @@ ghost use Rattle.async_once_cell.specs.Views.{init_in, shown_in};
 
 use futures::Future;
 use futures::task::{Context, Poll};
-use once_core::step::Ending;
+use once_machine::step::Ending;
 use once_parts::{Hand, Pollable, Splits, poll_init};
 use pagebook::Written;
 use std::error::Error;

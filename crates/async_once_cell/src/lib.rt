@@ -65,7 +65,7 @@
 //! bytes, and only grows. Whatever threads do, it is a run of a cell that is empty, held by one task or set. Besides,
 //! at each of its beginnings somebody was called if somebody had to be, so nobody who waits is forgotten. A clause sees
 //! what a future or a token has seen of the record. After a poll the newest entry is what it answered. A look finds the
-//! value exactly when the cell is set then. [`world::replay`] is the same machine for one caller, over plain data.
+//! value exactly when the cell is set then.
 //!
 //! Only a task that holds polls an init, and the record has each such poll and no other. In the record a call of a
 //! future is one call of its task: it begins after all that the future had seen, and what it did stands between.
@@ -86,23 +86,21 @@ mod waker;
 pub use init::{Failed, Failure, Gives, Init, InitError, Refused, Yields};
 pub use lazy::{Lazy, LazyFuturePin, LazyFutureUnpin};
 pub use once::{InitFuture, Initializing, Known, OnceCell, Parker, Told, TryInitFuture};
-pub use once_core::step;
-pub use once_world::{laws, world};
+pub use once_machine::{laws, record, step};
 
 /// What all tasks of a cell share: the word, the door and the queue behind it, with the record of the cell.
 pub mod inner {
-    pub use once_core::parts::{Counted, Parts, QueueLine};
-    pub use once_core::plain::Core;
+    pub use once_machine::parts::{Counted, Parts, QueueLine};
+    pub use once_machine::waiters::{Answer, Listing, Op, Out};
+    pub use once_machine::word::{MAX_WAITERS, NEW, QINIT_BIT, READY_BIT};
     pub use once_parts::{
         CopiesWaker, Hand, Inner, Mark, Pollable, Record, Shared, Splits, Task, TaskSide,
-        TaskWaker, book as record, poll_init,
+        TaskWaker, book, poll_init,
     };
-    pub use once_queue::waiters::{Answer, Listing, Op, Out};
-    pub use once_queue::word::{MAX_WAITERS, NEW, QINIT_BIT, READY_BIT};
 }
 
 /// Who waits: the flag and the list behind a queue's lock, and what a section does with them.
 pub mod queue {
-    pub use once_queue::waiters::{Answer, Listing, Lists, Op, Out, Renews, WakerId};
-    pub use once_queue::word::{MAX_WAITERS, NEW, QINIT_BIT, READY_BIT};
+    pub use once_machine::waiters::{Answer, Listing, Lists, Op, Out, Renews, WakerId};
+    pub use once_machine::word::{MAX_WAITERS, NEW, QINIT_BIT, READY_BIT};
 }

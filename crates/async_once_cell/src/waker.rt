@@ -5,8 +5,8 @@ ghost use Rattle.async_once_cell.specs.Listed.{WakesTask, whose};
 
 use boxcar::tag::{Names, Tag};
 use futures::task::{Context, Poll, Source, Waker};
+use once_machine::waiters::WakerId;
 use once_parts::{Mark, TaskWaker};
-use once_queue::waiters::WakerId;
 
 /// The waker of a task, with its number. Two are never compared, since a task is listed once. It wakes its task when it
 /// is let go, so a task whose waker is handed out is called when the answer is dropped, and no listed waker is lost.

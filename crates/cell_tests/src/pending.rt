@@ -1,7 +1,7 @@
 //! Holders whose inits are Pending and ask for nothing.
 
 use crate::doubles::poll::polled_once;
-use async_once_cell::world::Reply;
+use async_once_cell::record::Reply;
 use async_once_cell::{Lazy, OnceCell};
 use futures::future::pending;
 use futures::test::MockTask;

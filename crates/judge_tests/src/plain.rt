@@ -1,9 +1,9 @@
 //! The definitions of a run, computed plainly: each word anew from the entries, with nothing kept from one entry to the
-//! next. A history has the oldest entry first here. The words are those of `once_world`, where they are explained.
+//! next. A history has the oldest entry first here. The words are those of `once_machine`, where they are explained.
 
 mod legal;
 
-use once_world::record::{Call, Entry, Kind, Ran, Reply};
+use once_machine::record::{Call, Entry, Kind, Ran, Reply};
 
 /// What a cell is.
 #[derive(Clone, Copy, PartialEq, Eq)]

@@ -1,10 +1,10 @@
 //! What is seen of a cell from outside: a run is found that has it, or the event is told at which none has.
 
 use once_judge::{Calls, VerdictLine, judge};
+use once_machine::record::Entry;
 use once_observed::{Answer, BadEvents, Observed, StopLine, linearize, parse_observed};
 use once_script::parse::record::BadRecord;
 use once_script::print::FullLine;
-use once_world::record::Entry;
 use std::alloc::{AllocError, Global};
 use std::test::Fail;
 

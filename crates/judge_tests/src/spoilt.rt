@@ -1,4 +1,4 @@
-//! Records with one thing wrong: those of the proofs, `Spoilt` of `once_world`, as text. Each is refused at its last
+//! Records with one thing wrong: those of the proofs, `Spoilt` of `once_machine`, as text. Each is refused at its last
 //! entry, for the reason that stands below it.
 
 use once_judge::{Calls, VerdictLine, judge};

@@ -3,12 +3,24 @@ use Rattle.std.specs.Prelude.{◌≡◌, ℕ, Bool, true, false, ⊤}
 use Rattle.std.specs.Coded.{Π_prop}
 use Rattle.std.proofs.Props.{props}
 use Rattle.std.proofs.lemmas.Bool.{false≢true}
-use Rattle.once_core.specs.Steps.{in_call}
-use Rattle.once_world.specs.Places.{Ending, EndDropped, EndError, EndFull, EndMemory, EndPending, EndValue}
-use Rattle.once_world.specs.Places.{Finished, Place, Progress, Resting, Step, UnderWay}
-use Rattle.once_world.specs.Places.{AtAddOne, AtCountIn, AtCountOut, AtDoorAgain, AtDoorGet}
-use Rattle.once_world.specs.Places.{AtDoorPut, AtDoorTake, AtFast}
-use Rattle.once_world.specs.Places.{AtLeave, AtList, AtLook, AtPut, AtRelease, AtRun, AtStart, AtTryQuick, AtWaitLoad}
+use Rattle.once_machine.specs.Steps.{in_call}
+use Rattle.once_machine.specs.declared.step.Ending.{Ending}
+use Rattle.once_machine.specs.declared.step.Ending.TheVariants.{Dropped as EndDropped, Error as EndError}
+use Rattle.once_machine.specs.declared.step.Ending.TheVariants.{Full as EndFull, Memory as EndMemory}
+use Rattle.once_machine.specs.declared.step.Ending.TheVariants.{Pending as EndPending, Value as EndValue}
+use Rattle.once_machine.specs.declared.step.Step.TheVariants.{Finished, Resting, UnderWay}
+use Rattle.once_machine.specs.declared.step.Place.{Place}
+use Rattle.once_machine.specs.declared.step.Progress.{Progress}
+use Rattle.once_machine.specs.declared.step.Step.{Step}
+use Rattle.once_machine.specs.declared.step.Place.TheVariants.{AddOne as AtAddOne, CountIn as AtCountIn}
+use Rattle.once_machine.specs.declared.step.Place.TheVariants.{CountOut as AtCountOut, DoorAgain as AtDoorAgain}
+use Rattle.once_machine.specs.declared.step.Place.TheVariants.{DoorGet as AtDoorGet}
+use Rattle.once_machine.specs.declared.step.Place.TheVariants.{DoorPut as AtDoorPut, DoorTake as AtDoorTake}
+use Rattle.once_machine.specs.declared.step.Place.TheVariants.{Fast as AtFast}
+use Rattle.once_machine.specs.declared.step.Place.TheVariants.{Leave as AtLeave, List as AtList, Look as AtLook}
+use Rattle.once_machine.specs.declared.step.Place.TheVariants.{Put as AtPut, Release as AtRelease, Run as AtRun}
+use Rattle.once_machine.specs.declared.step.Place.TheVariants.{Start as AtStart, TryQuick as AtTryQuick}
+use Rattle.once_machine.specs.declared.step.Place.TheVariants.{WaitLoad as AtWaitLoad}
 use Rattle.once_parts.specs.Own.{Own}
 use Rattle.once_parts.specs.Sides.{Sided}
 use Rattle.once_parts.specs.Walks.{FitsAt, MayEnd, Stands}

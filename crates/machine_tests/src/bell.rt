@@ -1,8 +1,8 @@
 //! The waker of a task under test.
 ghost use Rattle.std.specs.Prelude.{◌≡◌};
 
+use once_machine::waiters::{Listing, Out, WakerId};
 use once_parts::{Mark, TaskWaker};
-use once_queue::waiters::{Listing, Out, WakerId};
 use std::alloc::{AllocError, Global};
 use std::snapshot::Snapshot;
 

@@ -1,10 +1,10 @@
 //! A side that notes what a call asks of it.
 ghost use Rattle.std.specs.Prelude.{◌≡◌, ⊤, Some};
 ghost use Rattle.std.proofs.Common.{rules};
-ghost use Rattle.once_core.specs.Steps.{side_tells_nothing};
+ghost use Rattle.once_machine.specs.Steps.{side_tells_nothing};
 
-use once_core::step::{Polled, Side};
-use once_queue::waiters::Out;
+use once_machine::step::{Polled, Side};
+use once_machine::waiters::Out;
 use std::alloc::Global;
 
 /// A side whose init answers this, and which counts what is asked of it.

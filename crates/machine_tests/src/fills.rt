@@ -1,8 +1,8 @@
 //! A fill asks for no memory, also where the list could not note where a listing was put.
 
 use crate::doubles::memory::hoard;
-use once_queue::waiters::{Answer, Lists, Out};
-use once_queue::word::NEW;
+use once_machine::waiters::{Answer, Lists, Out};
+use once_machine::word::NEW;
 use std::alloc::{AllocError, Global};
 use std::test::Fail;
 

@@ -1,11 +1,11 @@
 //! The calls of `Lists`, `Step` and `Core`, one by one.
 
 use crate::counting::{Counting, Listed, all_called};
-use once_core::parts::{Counted, Parts, QueueLine};
-use once_core::plain::Core;
-use once_core::step::{Ending, Polled, Progress, Side, Step};
-use once_queue::waiters::{Answer, Lists, Op, Out};
-use once_queue::word::{NEW, QINIT_BIT, READY_BIT};
+use once_machine::parts::{Counted, Parts, QueueLine};
+use once_machine::step::{Ending, Polled, Progress, Side, Step};
+use once_machine::waiters::{Answer, Lists, Op, Out};
+use once_machine::word::{NEW, QINIT_BIT, READY_BIT};
+use once_world::plain::Core;
 use std::alloc::Global;
 use std::test::Fail;
 

@@ -4,7 +4,7 @@ ghost use Rattle.once_parts.specs.Hands.{HasRight, HasRun};
 
 use futures::Future;
 use futures::task::{Context, Doorbell, Poll, Queue};
-use once_core::step::Polled;
+use once_machine::step::Polled;
 use once_parts::{Hand, Pollable, Splits, poll_init};
 use std::alloc::AllocGlobal;
 use std::io;

@@ -1,8 +1,8 @@
 //! How much memory a list takes whose listings come and go: no more than for four times as many as ever wait at once.
 
 use crate::doubles::memory::hoard;
-use once_queue::waiters::{Answer, Lists};
-use once_queue::word::{NEW, QINIT_BIT};
+use once_machine::waiters::{Answer, Lists};
+use once_machine::word::{NEW, QINIT_BIT};
 use rand_core::{Rng, SeedableRng};
 use rand_xoshiro::Xoshiro256PlusPlus;
 use std::alloc::{AllocError, Global};

@@ -2,15 +2,15 @@
 use Rattle.std.proofs.Common.{◌≡◌, ◌≢◌, ◌≤◌, ◌+◌, ℕ, suc, Bool, true, false, cond, ◌==◌, List, ◌∷◌, Option, Some, None, refl, sym, ap, ◌∙◌, arith, ltb}
 use Rattle.std.proofs.lemmas.Bool.{false≢true, ne_eqb}
 use Rattle.std.proofs.lemmas.Bool.Decides.{nat_tests}
-use Rattle.once_queue.specs.Numbers.{member, is_distinct, bit, how_many, times_in}
-use Rattle.once_world.specs.declared.record.Reply.TheVariants.{Pending}
-use Rattle.once_world.specs.Record.{Kind, Entry, Made, End, Look, Own, is_of, made_in, handed_by, is_replacing}
-use Rattle.once_world.specs.Cell.{Cell, Empty, Held, SetTo, cell, cell_after, answers_after}
-use Rattle.once_world.specs.Tasks.{Status, Unmade, Fresh, status, status_after, last_call, last_call_after, is_gone, is_under_way}
-use Rattle.once_world.specs.Wakers.{handed_since, is_end_of, opens, times_opened, times_handed, is_held_by_other}
-use Rattle.once_world.specs.Refusals.{is_about}
-use Rattle.once_queue.proofs.Listing.Members.{eqb_self, member-append}
-use Rattle.once_world.proofs.Listing.Counting.{count_same}
+use Rattle.once_machine.specs.Numbers.{member, is_distinct, bit, how_many, times_in}
+use Rattle.once_machine.specs.declared.record.Reply.TheVariants.{Pending}
+use Rattle.once_machine.specs.Record.{Kind, Entry, Made, End, Look, Own, is_of, made_in, handed_by, is_replacing}
+use Rattle.once_machine.specs.Cell.{Cell, Empty, Held, SetTo, cell, cell_after, answers_after}
+use Rattle.once_machine.specs.Tasks.{Status, Unmade, Fresh, status, status_after, last_call, last_call_after, is_gone, is_under_way}
+use Rattle.once_machine.specs.Wakers.{handed_since, is_end_of, opens, times_opened, times_handed, is_held_by_other}
+use Rattle.once_machine.specs.Refusals.{is_about}
+use Rattle.once_machine.proofs.Listing.Members.{eqb_self, member-append}
+use Rattle.once_machine.proofs.Listing.Counting.{count_same}
 use Rattle.once_judge.specs.Seen.{Seen, after, ends_poll, opens_in, count_after, counted, task_of, held_after, other_after}
 use Rattle.once_judge.specs.SeenOf.{Basics, is_made, stands}
 use Rattle.once_judge.proofs.Entries.{fits_before, is_live, live_stays, unmade_so, live_made, made_after, count_moved, its_task, of_its_task, of_none}

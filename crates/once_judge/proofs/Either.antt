@@ -1,11 +1,11 @@
 -- What both rules for a release without a value want of an entry, and in which records they say the same.
 use Rattle.std.proofs.Common.{◌≡◌, ◌≢◌, ◌≤◌, ℕ, true, ◌==◌, List, [], ◌∷◌, length, refl, sym, ap, ◌∙◌, subst, arith}
 use Rattle.std.proofs.lemmas.Bool.{false≢true, eqb-true}
-use Rattle.once_queue.specs.Numbers.{member, is_distinct}
-use Rattle.once_world.specs.Record.{Kind, Entry, Free, Fill, Pass, is_of, handed_by}
-use Rattle.once_world.specs.Tasks.{status, last_call}
-use Rattle.once_world.specs.Wakers.{IsDue, IsOpen, HandsOut, CallsOne}
-use Rattle.once_world.specs.Run.{IsLegal, IsRun}
+use Rattle.once_machine.specs.Numbers.{member, is_distinct}
+use Rattle.once_machine.specs.Record.{Kind, Entry, Free, Fill, Pass, is_of, handed_by}
+use Rattle.once_machine.specs.Tasks.{status, last_call}
+use Rattle.once_machine.specs.Wakers.{IsDue, IsOpen, HandsOut, CallsOne}
+use Rattle.once_machine.specs.Run.{IsLegal, IsRun}
 use Rattle.once_judge.specs.declared.calls.Calls.{Calls}
 use Rattle.once_judge.specs.declared.calls.Calls.TheVariants.{One as ToOne, All as ToAll}
 use Rattle.once_judge.specs.Calls.{IsLegalToAll, IsRunToAll, IsRunBy, CalledOne, CalledAll}

@@ -3,16 +3,16 @@ use Rattle.std.proofs.Common.{◌≡◌, ◌≢◌, ◌≤◌, ℕ, Bool, true, 
 use Rattle.std.specs.Prelude.{not}
 use Rattle.std.proofs.lemmas.Bool.{false≢true, eqb-true, ne_eqb}
 use Rattle.std.proofs.lemmas.Bool.Decides.{nat_tests}
-use Rattle.once_queue.specs.Numbers.{member, is_distinct, bit, how_many}
-use Rattle.once_world.specs.declared.record.Ran.{Ran as Answer}
-use Rattle.once_world.specs.declared.record.Reply.TheVariants.{Pending}
-use Rattle.once_world.specs.Record.{Kind, Entry, Made, Begin, Claim, Ran, Free, Fill, Pass, End, DropBegin, DropEnd, Look, Own, is_of, made_in, handed_by}
-use Rattle.once_world.specs.Cell.{Cell, Empty, Held, SetTo, cell}
-use Rattle.once_world.specs.Tasks.{Status, Unmade, Fresh, Waiting, Holding, Gone, LastCall, status, status_after, pending_status, last_call, last_call_after, is_gone, is_under_way}
-use Rattle.once_world.specs.Wakers.{is_end_of}
-use Rattle.once_world.specs.Run.{IsLegal, MayBegin, MayFree, MayPass}
-use Rattle.once_queue.proofs.Listing.Members.{eqb_self}
-use Rattle.once_world.proofs.Listing.Counting.{count_change}
+use Rattle.once_machine.specs.Numbers.{member, is_distinct, bit, how_many}
+use Rattle.once_machine.specs.declared.record.Ran.{Ran as Answer}
+use Rattle.once_machine.specs.declared.record.Reply.TheVariants.{Pending}
+use Rattle.once_machine.specs.Record.{Kind, Entry, Made, Begin, Claim, Ran, Free, Fill, Pass, End, DropBegin, DropEnd, Look, Own, is_of, made_in, handed_by}
+use Rattle.once_machine.specs.Cell.{Cell, Empty, Held, SetTo, cell}
+use Rattle.once_machine.specs.Tasks.{Status, Unmade, Fresh, Waiting, Holding, Gone, LastCall, status, status_after, pending_status, last_call, last_call_after, is_gone, is_under_way}
+use Rattle.once_machine.specs.Wakers.{is_end_of}
+use Rattle.once_machine.specs.Run.{IsLegal, MayBegin, MayFree, MayPass}
+use Rattle.once_machine.proofs.Listing.Members.{eqb_self}
+use Rattle.once_machine.proofs.Listing.Counting.{count_change}
 use Rattle.once_judge.specs.Seen.{TaskSeen, task_of, counted, ends_poll, begins_poll, changed, moved, settled, gone_task}
 use Rattle.once_judge.specs.SeenOf.{is_made, stands}
 

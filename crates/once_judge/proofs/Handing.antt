@@ -2,7 +2,7 @@
 use Rattle.std.proofs.Common.{◌≡◌, ◌≢◌, ◌≤◌, ◌<◌, ℕ, zero, suc, true, false, ◌==◌, List, [], ◌∷◌, length, get_or, refl, sym, ap, ◌∙◌, subst, arith, nat_cmp}
 use Rattle.std.specs.BTreeSet.{BTreeSet, contains}
 use Rattle.std.proofs.lemmas.Bool.{false≢true, eqb-true}
-use Rattle.once_queue.specs.Numbers.{member, is_distinct}
+use Rattle.once_machine.specs.Numbers.{member, is_distinct}
 use Rattle.once_judge.specs.Seen.{Seen}
 use Rattle.once_judge.specs.Legal.{IsDueFor, IsDueIn, HandsOutIn, CallsOneIn}
 use Rattle.once_judge.proofs.Lists.{member_get}

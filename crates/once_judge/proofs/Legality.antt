@@ -1,20 +1,20 @@
 -- What is kept decides which entry may come next; and a reason that is true by it is true.
 use Rattle.std.proofs.Common.{◌≡◌, ◌<◌, ℕ, true, false, ◌⊎◌, inl, inr, ⊎_elim, List, Option, Some, None, length, refl, sym, ap, ◌∙◌, subst, arith}
 use Rattle.std.proofs.lemmas.Bool.{false≢true, cases_Bool}
-use Rattle.once_queue.specs.Numbers.{member}
-use Rattle.once_world.specs.declared.record.Ran.{Ran as Answer}
-use Rattle.once_world.specs.declared.record.Ran.TheVariants.{Pending as RanPending, Value as RanValue}
-use Rattle.once_world.specs.declared.record.Ran.TheVariants.{Error as RanError}
-use Rattle.once_world.specs.declared.record.Reply.{Reply}
-use Rattle.once_world.specs.declared.record.Reply.TheVariants.{Pending, Value, Error, Memory, Full}
-use Rattle.once_world.specs.Record.{Kind, Once, OnceWith, Lazy, LazyWith, OwnerCall, is_lazy, has_call, made_in}
-use Rattle.once_world.specs.Record.{Entry, Made, Begin, Claim, Ran, Free, Fill, Pass, End, DropBegin, DropEnd, Look, Own}
-use Rattle.once_world.specs.Cell.{Cell, Empty, Held, SetTo, is_set, value_in, cell, answers_left, next_answer, got, IsNext}
-use Rattle.once_world.specs.Tasks.{Status, Unmade, Fresh, Polling, Dropping, Waiting, Gone, status, last_call, is_gone, all_gone}
-use Rattle.once_world.specs.Wakers.{IsDue, IsOpen, HandsOut, CallsOne, handed_since}
-use Rattle.once_world.specs.Refusals.{MemoryFrom}
-use Rattle.once_world.specs.Run.{IsLegal, MayBegin, MayFree, MayPass, MayEnd}
-use Rattle.once_world.proofs.Input.Gone.{made_there, gone_list}
+use Rattle.once_machine.specs.Numbers.{member}
+use Rattle.once_machine.specs.declared.record.Ran.{Ran as Answer}
+use Rattle.once_machine.specs.declared.record.Ran.TheVariants.{Pending as RanPending, Value as RanValue}
+use Rattle.once_machine.specs.declared.record.Ran.TheVariants.{Error as RanError}
+use Rattle.once_machine.specs.declared.record.Reply.{Reply}
+use Rattle.once_machine.specs.declared.record.Reply.TheVariants.{Pending, Value, Error, Memory, Full}
+use Rattle.once_machine.specs.Record.{Kind, Once, OnceWith, Lazy, LazyWith, OwnerCall, is_lazy, has_call, made_in}
+use Rattle.once_machine.specs.Record.{Entry, Made, Begin, Claim, Ran, Free, Fill, Pass, End, DropBegin, DropEnd, Look, Own}
+use Rattle.once_machine.specs.Cell.{Cell, Empty, Held, SetTo, is_set, value_in, cell, answers_left, next_answer, got, IsNext}
+use Rattle.once_machine.specs.Tasks.{Status, Unmade, Fresh, Polling, Dropping, Waiting, Gone, status, last_call, is_gone, all_gone}
+use Rattle.once_machine.specs.Wakers.{IsDue, IsOpen, HandsOut, CallsOne, handed_since}
+use Rattle.once_machine.specs.Refusals.{MemoryFrom}
+use Rattle.once_machine.specs.Run.{IsLegal, MayBegin, MayFree, MayPass, MayEnd}
+use Rattle.once_machine.proofs.Input.Gone.{made_there, gone_list}
 use Rattle.once_judge.specs.declared.calls.Calls.{Calls}
 use Rattle.once_judge.specs.declared.calls.Calls.TheVariants.{One as ToOne, All as ToAll}
 use Rattle.once_judge.specs.declared.reason.Reason.{Reason}

@@ -4,8 +4,8 @@ use Rattle.std.proofs.lemmas.Bool.{false≢true}
 use Rattle.std.proofs.lemmas.Bool.Decides.{nat_tests, Decides-eqb}
 use Rattle.std.proofs.lemmas.Grind.{take_at_read}
 use Rattle.std.specs.Option.{option_eq}
-use Rattle.once_queue.specs.Numbers.{member, is_distinct, bit, times_in}
-use Rattle.once_queue.proofs.Listing.Members.{eqb_self, member-push, is_distinct-push}
+use Rattle.once_machine.specs.Numbers.{member, is_distinct, bit, times_in}
+use Rattle.once_machine.proofs.Listing.Members.{eqb_self, member-push, is_distinct-push}
 
 member_take : (n x : ℕ) (X : List ℕ) → member x X ≡ false → member x (take n X) ≡ false
 member_take zero x X m = refl

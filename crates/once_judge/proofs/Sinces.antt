@@ -2,16 +2,16 @@
 use Rattle.std.proofs.Common.{◌≡◌, ◌≢◌, ◌≤◌, ℕ, suc, Bool, true, false, cond, ◌==◌, ◌||◌, ◌⊎◌, inl, ⊎_elim, List, [], ◌∷◌, refl, sym, ap, ◌∙◌, subst, arith, ltb, leb, Decides}
 use Rattle.std.proofs.lemmas.Bool.{false≢true, ne_eqb, eqb-false, ltb-true, lt-ltb}
 use Rattle.std.proofs.lemmas.Bool.Decides.{nat_tests, Decides-or, Decides-like}
-use Rattle.once_queue.specs.Numbers.{member, bit, how_many}
-use Rattle.once_world.specs.declared.record.Reply.{Reply}
-use Rattle.once_world.specs.declared.record.Reply.TheVariants.{Pending}
-use Rattle.once_world.specs.Record.{Kind, Entry, End, Look, Own, is_of, made_in}
-use Rattle.once_world.specs.Cell.{Cell, Empty, Held, SetTo, cell, cell_after}
-use Rattle.once_world.specs.Tasks.{Status, Unmade, Polling, status, status_after, pending_status, is_gone, is_under_way}
-use Rattle.once_world.specs.Wakers.{is_held_by_other}
-use Rattle.once_world.specs.Refusals.{is_about, is_begin_of, Since, OtherHolds, OtherActs, IsCrowded, crowd}
-use Rattle.once_queue.proofs.Listing.Members.{eqb_self}
-use Rattle.once_world.proofs.Listing.Counting.{count_change, count_some, count_positive}
+use Rattle.once_machine.specs.Numbers.{member, bit, how_many}
+use Rattle.once_machine.specs.declared.record.Reply.{Reply}
+use Rattle.once_machine.specs.declared.record.Reply.TheVariants.{Pending}
+use Rattle.once_machine.specs.Record.{Kind, Entry, End, Look, Own, is_of, made_in}
+use Rattle.once_machine.specs.Cell.{Cell, Empty, Held, SetTo, cell, cell_after}
+use Rattle.once_machine.specs.Tasks.{Status, Unmade, Polling, status, status_after, pending_status, is_gone, is_under_way}
+use Rattle.once_machine.specs.Wakers.{is_held_by_other}
+use Rattle.once_machine.specs.Refusals.{is_about, is_begin_of, Since, OtherHolds, OtherActs, IsCrowded, crowd}
+use Rattle.once_machine.proofs.Listing.Members.{eqb_self}
+use Rattle.once_machine.proofs.Listing.Counting.{count_change, count_some, count_positive}
 use Rattle.once_judge.specs.Seen.{Seen, after, begins_poll, holder_after, held_after, other_after, other_held, nothing_seen}
 use Rattle.once_judge.specs.Legal.{held_since, acted_since, crowded_since}
 use Rattle.once_judge.specs.SeenOf.{Basics, Sinces, IsSeenOf, is_made}

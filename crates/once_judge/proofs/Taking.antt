@@ -1,19 +1,19 @@
 -- `take` makes of what is kept what one more entry makes of it.
 use Rattle.std.proofs.Common.{◌≡◌, ◌≤◌, ◌<◌, ◌+◌, ◌-◌, ℕ, zero, suc, Bool, true, false, cond, ◌==◌, List, [], ◌∷◌, Option, Some, None, length, drop, take, get_or, refl, sym, ap, ◌∙◌, arith, ltb}
 use Rattle.std.proofs.lemmas.Bool.{eqb-true}
-use Rattle.once_queue.specs.Numbers.{member, bit, times_in}
-use Rattle.once_world.specs.declared.record.Reply.TheVariants.{Pending}
-use Rattle.once_world.specs.Record.{Entry, End, is_of, handed_by, is_replacing}
-use Rattle.once_world.specs.Cell.{rest_of}
-use Rattle.once_world.specs.Tasks.{Status, status_after, is_under_way}
-use Rattle.once_world.specs.Refusals.{is_about}
+use Rattle.once_machine.specs.Numbers.{member, bit, times_in}
+use Rattle.once_machine.specs.declared.record.Reply.TheVariants.{Pending}
+use Rattle.once_machine.specs.Record.{Entry, End, is_of, handed_by, is_replacing}
+use Rattle.once_machine.specs.Cell.{rest_of}
+use Rattle.once_machine.specs.Tasks.{Status, status_after, is_under_way}
+use Rattle.once_machine.specs.Refusals.{is_about}
 use Rattle.once_judge.specs.Seen.{Seen, TaskSeen, after, moved, counted, count_after, opens_in, opens_with, task_of}
 use Rattle.std.specs.Prelude.{unwrap_or}
 use Rattle.std.specs.Ordering.{nat_cmp}
 use Rattle.std.specs.Cmp.{unsigned_tied}
 use Rattle.std.specs.BTreeMap.{BTreeMap, get, is_at}
 use Rattle.std.proofs.lemmas.Grind.{take_at_read}
-use Rattle.once_queue.proofs.Listing.Members.{member-push}
+use Rattle.once_machine.proofs.Listing.Members.{member-push}
 use Rattle.once_judge.specs.Shown.{count_at, tasked, tasked_by, handed_out, celled, noted}
 use Rattle.once_judge.proofs.Entries.{of_its_task, of_none, moved_status}
 use Rattle.once_judge.proofs.Lists.{times_push}

@@ -1,11 +1,11 @@
 -- What is kept tells whether somebody was called.
 use Rattle.std.proofs.Common.{◌≡◌, ℕ, true, inl, inr, ⊎_elim, List, refl, sym, ap, ◌∙◌, ltb}
-use Rattle.once_queue.specs.Numbers.{member}
-use Rattle.once_world.specs.Record.{Kind, Entry}
-use Rattle.once_world.specs.Tasks.{Status, Polling, Dropping, Waiting, status, last_call, is_under_way}
-use Rattle.once_world.specs.Wakers.{handed_since}
-use Rattle.once_world.specs.Called.{IsCalled, SomebodyCalled}
-use Rattle.once_world.specs.Crowd.{is_waiting}
+use Rattle.once_machine.specs.Numbers.{member}
+use Rattle.once_machine.specs.Record.{Kind, Entry}
+use Rattle.once_machine.specs.Tasks.{Status, Polling, Dropping, Waiting, status, last_call, is_under_way}
+use Rattle.once_machine.specs.Wakers.{handed_since}
+use Rattle.once_machine.specs.Called.{IsCalled, SomebodyCalled}
+use Rattle.once_machine.specs.Crowd.{is_waiting}
 use Rattle.once_judge.specs.Seen.{Seen}
 use Rattle.once_judge.specs.Legal.{IsCalledIn, SomebodyCalledIn}
 use Rattle.once_judge.specs.SeenOf.{IsSeenOf, stands}

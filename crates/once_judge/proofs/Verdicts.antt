@@ -2,16 +2,16 @@
 use Rattle.std.proofs.Common.{◌≡◌, ◌≤◌, ◌<◌, ◌+◌, ℕ, suc, List, [], ◌∷◌, ◌++◌, Option, Some, None, length, take, get_or, sym, ap, ◌∙◌, subst, arith}
 use Rattle.std.proofs.lemmas.List.{append_cancel_left}
 use Rattle.std.proofs.lemmas.Grind.{take_at_read, common_steps}
-use Rattle.once_world.specs.declared.record.Entry.{Entry as Written}
-use Rattle.once_world.specs.Record.{Kind, Entry, Made, made_in, is_lazy}
-use Rattle.once_world.specs.Cell.{cell}
-use Rattle.once_world.specs.Tasks.{status, is_under_way}
-use Rattle.once_world.specs.Wakers.{times_opened}
-use Rattle.once_world.specs.Refusals.{is_about}
-use Rattle.once_world.specs.Called.{IsCalled, SomebodyCalled}
-use Rattle.once_world.specs.Run.{AtEvery}
-use Rattle.once_world.specs.Shown.{entry_of, history_in}
-use Rattle.once_world.proofs.Listing.Counting.{count_within}
+use Rattle.once_machine.specs.declared.record.Entry.{Entry as Written}
+use Rattle.once_machine.specs.Record.{Kind, Entry, Made, made_in, is_lazy}
+use Rattle.once_machine.specs.Cell.{cell}
+use Rattle.once_machine.specs.Tasks.{status, is_under_way}
+use Rattle.once_machine.specs.Wakers.{times_opened}
+use Rattle.once_machine.specs.Refusals.{is_about}
+use Rattle.once_machine.specs.Called.{IsCalled, SomebodyCalled}
+use Rattle.once_machine.specs.Run.{AtEvery}
+use Rattle.once_machine.specs.Shown.{entry_of, history_in}
+use Rattle.once_machine.proofs.Listing.Counting.{count_within}
 use Rattle.once_judge.specs.declared.calls.Calls.{Calls}
 use Rattle.once_judge.specs.declared.reason.Reason.{Reason}
 use Rattle.once_judge.specs.declared.verdict.Forgotten.{Forgotten}

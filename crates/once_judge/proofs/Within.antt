@@ -1,9 +1,9 @@
 -- No count is beyond the number of entries, and so it stays.
 use Rattle.std.proofs.Common.{◌≤◌, ◌+◌, ◌-◌, ℕ, suc, Bool, true, false, if◌then◌else◌, Option, Some, None, arith}
-use Rattle.once_queue.specs.Numbers.{member, bit, times_in}
-use Rattle.once_world.specs.Record.{Kind, Entry, handed_by, is_replacing}
-use Rattle.once_world.specs.Tasks.{Status, is_under_way, status_after}
-use Rattle.once_world.specs.Refusals.{is_about}
+use Rattle.once_machine.specs.Numbers.{member, bit, times_in}
+use Rattle.once_machine.specs.Record.{Kind, Entry, handed_by, is_replacing}
+use Rattle.once_machine.specs.Tasks.{Status, is_under_way, status_after}
+use Rattle.once_machine.specs.Refusals.{is_about}
 use Rattle.once_judge.specs.Seen.{Seen, nothing_seen, after, count_after, opens_in, task_of}
 use Rattle.once_judge.specs.Shown.{Within}
 

@@ -1,11 +1,11 @@
 -- What a run is by either rule for a release without a value: it calls one who waits, as `IsRun` says, or all.
 use Rattle.std.specs.Prelude.{◌≡◌, ◌≤◌, ℕ, true, List, [], ◌∷◌, length}
-use Rattle.once_queue.specs.Numbers.{member}
-use Rattle.once_world.specs.Record.{Kind, Entry, Free}
-use Rattle.once_world.specs.Cell.{Held, cell}
-use Rattle.once_world.specs.Tasks.{status, last_call}
-use Rattle.once_world.specs.Wakers.{IsDue, HandsOut}
-use Rattle.once_world.specs.Run.{MayFree, IsLegal, IsRun}
+use Rattle.once_machine.specs.Numbers.{member}
+use Rattle.once_machine.specs.Record.{Kind, Entry, Free}
+use Rattle.once_machine.specs.Cell.{Held, cell}
+use Rattle.once_machine.specs.Tasks.{status, last_call}
+use Rattle.once_machine.specs.Wakers.{IsDue, HandsOut}
+use Rattle.once_machine.specs.Run.{MayFree, IsLegal, IsRun}
 use Rattle.once_judge.specs.declared.calls.Calls.{Calls}
 use Rattle.once_judge.specs.declared.calls.Calls.TheVariants.{One as ToOne, All as ToAll}
 

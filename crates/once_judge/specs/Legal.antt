@@ -1,18 +1,18 @@
 -- Which entry may come next, by what is kept of those before it; and whether somebody was called. Each word is one of
--- `once_world` with "In" behind it, and is decided by a look at what is kept.
+-- `once_machine` with "In" behind it, and is decided by a look at what is kept.
 use Rattle.std.specs.Prelude.{◌≡◌, ◌≢◌, ◌≤◌, ◌<◌, ◌⊎◌, ◌||◌, ℕ, Bool, true, false, nat_lt, nat_le}
 use Rattle.std.specs.Prelude.{List, [], ◌∷◌, Option, Some, None, length}
-use Rattle.once_queue.specs.Numbers.{member, is_distinct}
-use Rattle.once_world.specs.declared.record.Ran.{Ran as Answer}
-use Rattle.once_world.specs.declared.record.Ran.TheVariants.{Pending as RanPending, Value as RanValue}
-use Rattle.once_world.specs.declared.record.Ran.TheVariants.{Error as RanError}
-use Rattle.once_world.specs.declared.record.Reply.{Reply}
-use Rattle.once_world.specs.declared.record.Reply.TheVariants.{Pending, Value, Error, Memory, Full}
-use Rattle.once_world.specs.Record.{Kind, Once, Lazy, Entry, Made, Begin, Claim, Ran, Free, Fill, Pass, End}
-use Rattle.once_world.specs.Record.{DropBegin, DropEnd, Look, Own, OwnerCall, has_call}
-use Rattle.once_world.specs.Cell.{Empty, Held, SetTo, is_set, value_in, next_answer, got}
-use Rattle.once_world.specs.Tasks.{Status, Unmade, Fresh, Polling, Dropping, Waiting, Gone, is_under_way}
-use Rattle.once_world.specs.Run.{MayBegin, MayFree, MayPass}
+use Rattle.once_machine.specs.Numbers.{member, is_distinct}
+use Rattle.once_machine.specs.declared.record.Ran.{Ran as Answer}
+use Rattle.once_machine.specs.declared.record.Ran.TheVariants.{Pending as RanPending, Value as RanValue}
+use Rattle.once_machine.specs.declared.record.Ran.TheVariants.{Error as RanError}
+use Rattle.once_machine.specs.declared.record.Reply.{Reply}
+use Rattle.once_machine.specs.declared.record.Reply.TheVariants.{Pending, Value, Error, Memory, Full}
+use Rattle.once_machine.specs.Record.{Kind, Once, Lazy, Entry, Made, Begin, Claim, Ran, Free, Fill, Pass, End}
+use Rattle.once_machine.specs.Record.{DropBegin, DropEnd, Look, Own, OwnerCall, has_call}
+use Rattle.once_machine.specs.Cell.{Empty, Held, SetTo, is_set, value_in, next_answer, got}
+use Rattle.once_machine.specs.Tasks.{Status, Unmade, Fresh, Polling, Dropping, Waiting, Gone, is_under_way}
+use Rattle.once_machine.specs.Run.{MayBegin, MayFree, MayPass}
 use Rattle.once_judge.specs.declared.calls.Calls.{Calls}
 use Rattle.once_judge.specs.declared.calls.Calls.TheVariants.{One as ToOne, All as ToAll}
 use Rattle.once_judge.specs.Seen.{TaskSeen, Seen, other_held}

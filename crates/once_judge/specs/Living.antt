@@ -3,7 +3,7 @@ use Rattle.std.specs.Prelude.{◌≡◌, ℕ, true, false, nat_lt, unwrap_or, So
 use Rattle.std.specs.Ordering.{nat_cmp}
 use Rattle.std.specs.BTreeMap.{BTreeMap, get}
 use Rattle.std.specs.BTreeSet.{BTreeSet, contains}
-use Rattle.once_world.specs.Tasks.{Waiting}
+use Rattle.once_machine.specs.Tasks.{Waiting}
 use Rattle.once_judge.specs.declared.task.Task.{Task}
 use Rattle.once_judge.specs.TaskShown.{task_in}
 

@@ -1,9 +1,9 @@
 -- Which reason is true, by what is kept; and what an answer of a test says, which is a reason or none.
 use Rattle.std.specs.Prelude.{◌≡◌, ◌≢◌, ◌≤◌, Bool, true, false, length, Result, Ok, Err}
-use Rattle.once_queue.specs.Numbers.{member, times_in}
-use Rattle.once_world.specs.Record.{Entry, Own, handed_by}
-use Rattle.once_world.specs.Cell.{next_answer}
-use Rattle.once_world.specs.Tasks.{Fresh, Polling, is_gone}
+use Rattle.once_machine.specs.Numbers.{member, times_in}
+use Rattle.once_machine.specs.Record.{Entry, Own, handed_by}
+use Rattle.once_machine.specs.Cell.{next_answer}
+use Rattle.once_machine.specs.Tasks.{Fresh, Polling, is_gone}
 use Rattle.once_judge.specs.declared.reason.Reason.{Reason}
 use Rattle.once_judge.specs.declared.reason.Reason.TheVariants.{TaskIs, CellIs, InitAnswered, Claimed, Passed, NotFreed}
 use Rattle.once_judge.specs.declared.reason.Reason.TheVariants.{NextAnswer, AnswersLeft, NotOpen, Twice, Due, HandsOut}

@@ -2,15 +2,15 @@
 -- after which it comes: the first entry has the number 1, and 0 is the beginning.
 use Rattle.std.specs.Prelude.{◌+◌, ◌-◌, ℕ, Bool, true, false, if◌then◌else◌, ◌==◌, nat_lt, suc}
 use Rattle.std.specs.Prelude.{List, Option, Some, None}
-use Rattle.once_queue.specs.Numbers.{member, bit, times_in}
-use Rattle.once_world.specs.declared.record.Reply.TheVariants.{Pending}
-use Rattle.once_world.specs.Record.{Kind, Entry, Made, Begin, Claim, Ran, Free, Fill, Pass, End}
-use Rattle.once_world.specs.Record.{DropBegin, DropEnd, Look, Own, is_of, handed_by, is_replacing}
-use Rattle.once_world.specs.Cell.{Cell, Held, cell_after, answers_after, first_cell, first_answers}
-use Rattle.once_world.specs.Tasks.{Status, Unmade, Gone, LastCall, status_after, last_call_after}
-use Rattle.once_world.specs.Tasks.{is_gone, is_under_way}
-use Rattle.once_world.specs.Wakers.{is_held_by_other}
-use Rattle.once_world.specs.Refusals.{is_about}
+use Rattle.once_machine.specs.Numbers.{member, bit, times_in}
+use Rattle.once_machine.specs.declared.record.Reply.TheVariants.{Pending}
+use Rattle.once_machine.specs.Record.{Kind, Entry, Made, Begin, Claim, Ran, Free, Fill, Pass, End}
+use Rattle.once_machine.specs.Record.{DropBegin, DropEnd, Look, Own, is_of, handed_by, is_replacing}
+use Rattle.once_machine.specs.Cell.{Cell, Held, cell_after, answers_after, first_cell, first_answers}
+use Rattle.once_machine.specs.Tasks.{Status, Unmade, Gone, LastCall, status_after, last_call_after}
+use Rattle.once_machine.specs.Tasks.{is_gone, is_under_way}
+use Rattle.once_machine.specs.Wakers.{is_held_by_other}
+use Rattle.once_machine.specs.Refusals.{is_about}
 
 -- what is kept of a task
 pub record TaskSeen : Type 0 where

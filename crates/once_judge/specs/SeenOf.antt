@@ -1,14 +1,14 @@
 -- That what is kept is what the history tells.
 use Rattle.std.specs.Prelude.{◌≡◌, ◌≤◌, ◌+◌, ℕ, Bool, true, false, nat_lt, List, length}
 use Rattle.std.specs.Bool.{Decides}
-use Rattle.once_queue.specs.Numbers.{member, is_distinct, how_many}
-use Rattle.once_world.specs.Record.{Kind, Entry, made_in}
-use Rattle.once_world.specs.Cell.{cell, answers_left}
-use Rattle.once_world.specs.Tasks.{Status, Unmade, Polling, Dropping, Waiting, status, last_call}
-use Rattle.once_world.specs.Tasks.{is_gone, is_under_way}
-use Rattle.once_world.specs.Crowd.{is_waiting}
-use Rattle.once_world.specs.Wakers.{handed_since, times_opened, times_handed}
-use Rattle.once_world.specs.Refusals.{Since, OtherHolds, OtherActs, IsCrowded, is_about}
+use Rattle.once_machine.specs.Numbers.{member, is_distinct, how_many}
+use Rattle.once_machine.specs.Record.{Kind, Entry, made_in}
+use Rattle.once_machine.specs.Cell.{cell, answers_left}
+use Rattle.once_machine.specs.Tasks.{Status, Unmade, Polling, Dropping, Waiting, status, last_call}
+use Rattle.once_machine.specs.Tasks.{is_gone, is_under_way}
+use Rattle.once_machine.specs.Crowd.{is_waiting}
+use Rattle.once_machine.specs.Wakers.{handed_since, times_opened, times_handed}
+use Rattle.once_machine.specs.Refusals.{Since, OtherHolds, OtherActs, IsCrowded, is_about}
 use Rattle.once_judge.specs.Seen.{Seen}
 use Rattle.once_judge.specs.Legal.{held_since, acted_since, crowded_since}
 

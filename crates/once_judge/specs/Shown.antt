@@ -4,11 +4,11 @@ use Rattle.std.specs.Prelude.{List, Option, Some, None}
 use Rattle.std.specs.Ordering.{nat_cmp}
 use Rattle.std.specs.BTreeMap.{BTreeMap, get}
 use Rattle.std.specs.BTreeSet.{BTreeSet, contains}
-use Rattle.once_queue.specs.Numbers.{member, bit, times_in}
-use Rattle.once_world.specs.Record.{Entry, is_replacing}
-use Rattle.once_world.specs.Cell.{cell_after, answers_after}
-use Rattle.once_world.specs.Tasks.{status_after, is_under_way}
-use Rattle.once_world.specs.Refusals.{is_about}
+use Rattle.once_machine.specs.Numbers.{member, bit, times_in}
+use Rattle.once_machine.specs.Record.{Entry, is_replacing}
+use Rattle.once_machine.specs.Cell.{cell_after, answers_after}
+use Rattle.once_machine.specs.Tasks.{status_after, is_under_way}
+use Rattle.once_machine.specs.Refusals.{is_about}
 use Rattle.once_judge.specs.Seen.{TaskSeen, Seen, unmade_task, gone_task, moved, counted, opens_in}
 use Rattle.once_judge.specs.Seen.{holder_after, held_after, other_after}
 use Rattle.once_judge.specs.declared.task.Task.{Task}

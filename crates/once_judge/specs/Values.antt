@@ -1,6 +1,6 @@
 -- The program's status and cell, as the definitions see them.
-use Rattle.once_world.specs.Cell.{Cell, Empty, Held, SetTo}
-use Rattle.once_world.specs.Tasks.{Status, Unmade, Fresh, Polling, Dropping, Waiting, Holding, Gone}
+use Rattle.once_machine.specs.Cell.{Cell, Empty, Held, SetTo}
+use Rattle.once_machine.specs.Tasks.{Status, Unmade, Fresh, Polling, Dropping, Waiting, Holding, Gone}
 use Rattle.once_judge.specs.declared.task.Status.{Status as GivenStatus}
 use Rattle.once_judge.specs.declared.task.Status.TheVariants.{Unmade as GivenUnmade, Fresh as GivenFresh}
 use Rattle.once_judge.specs.declared.task.Status.TheVariants.{Polling as GivenPolling, Dropping as GivenDropping}

@@ -1,16 +1,16 @@
 -- What a verdict says of a record.
 use Rattle.std.specs.Prelude.{◌≡◌, ◌≢◌, ◌≤◌, ◌<◌, ℕ, Bool, true, false, suc}
 use Rattle.std.specs.Prelude.{List, [], ◌∷◌, ◌++◌, take, length, Option, Some, None}
-use Rattle.once_queue.specs.Numbers.{member, times_in}
-use Rattle.once_world.specs.declared.record.Entry.{Entry as Written}
-use Rattle.once_world.specs.Record.{Kind, Entry, Own, handed_by, has_call}
-use Rattle.once_world.specs.Cell.{Empty, cell, answers_left, next_answer}
-use Rattle.once_world.specs.Tasks.{Fresh, Waiting, status, last_call}
-use Rattle.once_world.specs.Wakers.{IsOpen, handed_since}
-use Rattle.once_world.specs.Refusals.{Since, IsCrowded, MemoryFrom}
-use Rattle.once_world.specs.Called.{IsCalled, SomebodyCalled}
-use Rattle.once_world.specs.Run.{AtEvery}
-use Rattle.once_world.specs.Shown.{entry_of, history_in}
+use Rattle.once_machine.specs.Numbers.{member, times_in}
+use Rattle.once_machine.specs.declared.record.Entry.{Entry as Written}
+use Rattle.once_machine.specs.Record.{Kind, Entry, Own, handed_by, has_call}
+use Rattle.once_machine.specs.Cell.{Empty, cell, answers_left, next_answer}
+use Rattle.once_machine.specs.Tasks.{Fresh, Waiting, status, last_call}
+use Rattle.once_machine.specs.Wakers.{IsOpen, handed_since}
+use Rattle.once_machine.specs.Refusals.{Since, IsCrowded, MemoryFrom}
+use Rattle.once_machine.specs.Called.{IsCalled, SomebodyCalled}
+use Rattle.once_machine.specs.Run.{AtEvery}
+use Rattle.once_machine.specs.Shown.{entry_of, history_in}
 use Rattle.once_judge.specs.declared.calls.Calls.{Calls}
 use Rattle.once_judge.specs.declared.reason.Reason.{Reason}
 use Rattle.once_judge.specs.declared.reason.Reason.TheVariants.{TaskIs, CellIs, InitAnswered, Claimed, Passed, NotFreed}

@@ -1,6 +1,6 @@
 //! Whom a release without a value calls.
 ghost use Rattle.std.specs.Prelude.{ℕ, List};
-ghost use Rattle.once_world.specs.Record.{Kind, Entry};
+ghost use Rattle.once_machine.specs.Record.{Kind, Entry};
 ghost use Rattle.once_judge.specs.Calls.{IsRunBy, CalledOne, CalledAll};
 
 /// Whom a release without a value calls: the rule in which cells differ that are otherwise alike.

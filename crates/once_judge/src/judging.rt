@@ -6,7 +6,7 @@ use crate::calls::Calls;
 use crate::reason::Reason;
 use crate::seen::Seen;
 use crate::task::{Cell, Status, Task};
-use once_world::record::{Entry, Kind, Ran};
+use once_machine::record::{Entry, Kind, Ran};
 use std::alloc::{AllocError, Global};
 
 /// A judge of entries that come one by one: what it took is a run.

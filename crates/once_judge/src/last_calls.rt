@@ -3,8 +3,8 @@
 use crate::reason::Reason;
 use crate::task::{Cell, task_of};
 use crate::verdict::Verdict;
+use once_machine::record::Entry;
 use once_script::print::EntryLine;
-use once_world::record::Entry;
 use std::fmt;
 
 /// A line for each task that a verdict names: its entries since its last call began, up to the moment of the verdict.

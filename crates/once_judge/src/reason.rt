@@ -1,7 +1,7 @@
 //! Why an entry may not come next.
 
 use crate::task::{Cell, Status};
-use once_world::record::Ran;
+use once_machine::record::Ran;
 
 /// Why an entry may not come next: something that is so, and by which a rule forbids the entry.
 #[derive(Clone, Copy, Debug, Drop, PartialEq, Eq)]

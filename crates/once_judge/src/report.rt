@@ -3,8 +3,8 @@
 use crate::reason::Reason;
 use crate::task::{Cell, Status};
 use crate::verdict::{Fault, Forgotten, Verdict};
+use once_machine::record::{Entry, Ran};
 use once_script::print::EntryLine;
-use once_world::record::{Entry, Ran};
 use std::fmt;
 
 /// The line of a verdict on these entries, without its end.

@@ -1,9 +1,9 @@
 //! Which entry may come next. Each function answers a reason if its entry may not.
 ghost use Rattle.std.specs.Prelude.{◌≡◌, Some, false, IfOk, IfErr};
 ghost use Rattle.std.specs.Bool.{Decides};
-ghost use Rattle.once_world.specs.Cell.{Empty, Held, value_in as value_of};
-ghost use Rattle.once_world.specs.Tasks.{Polling};
-ghost use Rattle.once_world.specs.Run.{MayFree, MayPass};
+ghost use Rattle.once_machine.specs.Cell.{Empty, Held, value_in as value_of};
+ghost use Rattle.once_machine.specs.Tasks.{Polling};
+ghost use Rattle.once_machine.specs.Run.{MayFree, MayPass};
 ghost use Rattle.once_judge.specs.Values.{status_of, cell_of};
 
 mod ends;
@@ -13,15 +13,15 @@ use crate::calls::Calls;
 use crate::reason::Reason;
 use crate::seen::Seen;
 use crate::task::{Cell, Status, is_over};
-use once_world::record::{Call, Entry, Got, Ran};
+use once_machine::record::{Call, Entry, Got, Ran};
 use std::alloc::AllocError;
 
 impl Seen {
-    ghost use Rattle.once_world.specs.Record.{Made, Begin, Claim, Ran as RanEntry, Free, Fill, Pass, DropEnd, Look};
-    ghost use Rattle.once_world.specs.Record.{Own, Entry as Told};
-    ghost use Rattle.once_world.specs.declared.record.Ran.TheVariants.{Value as RanValue};
-    ghost use Rattle.once_world.specs.Cell.{next_answer as next_of, got as got_by};
-    ghost use Rattle.once_world.specs.Shown.{entry_of, call_of, got_of};
+    ghost use Rattle.once_machine.specs.Record.{Made, Begin, Claim, Ran as RanEntry, Free, Fill, Pass, DropEnd, Look};
+    ghost use Rattle.once_machine.specs.Record.{Own, Entry as Told};
+    ghost use Rattle.once_machine.specs.declared.record.Ran.TheVariants.{Value as RanValue};
+    ghost use Rattle.once_machine.specs.Cell.{next_answer as next_of, got as got_by};
+    ghost use Rattle.once_machine.specs.Shown.{entry_of, call_of, got_of};
     ghost use Rattle.once_judge.specs.Legal.{IsLegalIn, AllGoneIn, has_call_in};
     ghost use Rattle.once_judge.specs.Reasons.{Tests, IsTrueIn};
     ghost use Rattle.once_judge.specs.Shown.{seen_of, task_in};

@@ -2,8 +2,8 @@
 ghost use Rattle.std.specs.Prelude.{◌≡◌, ◌<◌, ◌≤◌, ◌+◌, ◌-◌, ◌^◌, ◌==◌, ℕ, if◌then◌else◌, suc, Some, None, true, false};
 ghost use Rattle.std.specs.Prelude.{OnOk, IfOk, MatchOption, nat_lt};
 ghost use Rattle.std.specs.Bool.{Decides};
-ghost use Rattle.once_queue.specs.Numbers.{member, times_in, bit};
-ghost use Rattle.once_world.specs.Shown.{entry_of};
+ghost use Rattle.once_machine.specs.Numbers.{member, times_in, bit};
+ghost use Rattle.once_machine.specs.Shown.{entry_of};
 ghost use Rattle.once_judge.specs.Seen.{counted as count_of, task_of as whose};
 ghost use Rattle.once_judge.specs.Legal.{HasWaited};
 ghost use Rattle.once_judge.specs.Values.{cell_of, status_of};
@@ -14,7 +14,7 @@ use crate::living::Living;
 use crate::task::{
     Cell, Status, Task, handed_by, is_about, is_under_way, is_waiting, moved, opens, task_of,
 };
-use once_world::record::{Call, Entry, Kind};
+use once_machine::record::{Call, Entry, Kind};
 use std::alloc::{AllocError, Global};
 use std::collections::{BTreeMap, BTreeSet};
 
@@ -67,9 +67,9 @@ impl Seen {
     ghost use Rattle.std.specs.BTreeMap.{get};
     ghost use Rattle.std.specs.BTreeSet.{contains};
     ghost use Rattle.std.specs.Ordering.{nat_cmp};
-    ghost use Rattle.once_world.specs.Record.{Got, Own, is_lazy as lazy_of};
-    ghost use Rattle.once_world.specs.Shown.{call_of, kind_of};
-    ghost use Rattle.once_world.specs.Tasks.{Waiting as WaitingStatus, is_gone};
+    ghost use Rattle.once_machine.specs.Record.{Got, Own, is_lazy as lazy_of};
+    ghost use Rattle.once_machine.specs.Shown.{call_of, kind_of};
+    ghost use Rattle.once_machine.specs.Tasks.{Waiting as WaitingStatus, is_gone};
     ghost use Rattle.once_judge.specs.Seen.{nothing_seen, gone_task, after, other_held};
     ghost use Rattle.once_judge.specs.Legal.{SomebodyCalledIn, IsCalledIn, WasCalled, IsForgottenIn};
     ghost use Rattle.once_judge.specs.Shown.{found, tasked_by, seen_of, task_at, count_at, tasked, handed_out, celled};

@@ -1,18 +1,18 @@
 //! What is kept of a task, and of the cell.
 ghost use Rattle.std.specs.Prelude.{◌≡◌, ◌⊎◌};
 ghost use Rattle.std.specs.Bool.{Decides};
-ghost use Rattle.once_world.specs.Tasks.{Unmade, Gone, Waiting as WaitingStatus};
-ghost use Rattle.once_world.specs.Shown.{entry_of};
-ghost use Rattle.once_world.specs.Record.{End, handed_by as wakers_of};
-ghost use Rattle.once_world.specs.Cell.{is_set as set_of};
-ghost use Rattle.once_world.specs.Tasks.{is_under_way as under_way_of, pending_status as pending_of, begins};
-ghost use Rattle.once_world.specs.Wakers.{is_held_by_other as held_by_other};
-ghost use Rattle.once_world.specs.Refusals.{is_about as about_of};
+ghost use Rattle.once_machine.specs.Tasks.{Unmade, Gone, Waiting as WaitingStatus};
+ghost use Rattle.once_machine.specs.Shown.{entry_of};
+ghost use Rattle.once_machine.specs.Record.{End, handed_by as wakers_of};
+ghost use Rattle.once_machine.specs.Cell.{is_set as set_of};
+ghost use Rattle.once_machine.specs.Tasks.{is_under_way as under_way_of, pending_status as pending_of, begins};
+ghost use Rattle.once_machine.specs.Wakers.{is_held_by_other as held_by_other};
+ghost use Rattle.once_machine.specs.Refusals.{is_about as about_of};
 ghost use Rattle.once_judge.specs.Seen.{task_of as whose, changed as changed_to, moved as moved_to, opens_with};
 ghost use Rattle.once_judge.specs.Values.{status_of, cell_of};
 ghost use Rattle.once_judge.specs.TaskShown.{task_in};
 
-use once_world::record::{Entry, Ran, Reply};
+use once_machine::record::{Entry, Ran, Reply};
 
 /// What a task is at.
 #[derive(Clone, Copy, Debug, PartialEq, Eq)]

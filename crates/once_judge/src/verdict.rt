@@ -1,8 +1,8 @@
 //! The verdicts on a record.
 ghost use Rattle.std.specs.Prelude.{◌<◌, length, take, IfOk, IfSome, MatchOption};
-ghost use Rattle.once_world.specs.Called.{SomebodyCalled};
-ghost use Rattle.once_world.specs.Run.{AtEvery};
-ghost use Rattle.once_world.specs.Shown.{kind_of, history_in};
+ghost use Rattle.once_machine.specs.Called.{SomebodyCalled};
+ghost use Rattle.once_machine.specs.Run.{AtEvery};
+ghost use Rattle.once_machine.specs.Shown.{kind_of, history_in};
 ghost use Rattle.once_judge.specs.Calls.{IsRunBy};
 ghost use Rattle.once_judge.specs.Verdict.{StopsAt, IsTrueAt, IsForgottenAt, judged};
 ghost use Rattle.once_judge.specs.Shown.{seen_of};
@@ -11,7 +11,7 @@ ghost use Rattle.once_judge.specs.Moments.{FirstForgotten};
 use crate::calls::Calls;
 use crate::reason::Reason;
 use crate::seen::Seen;
-use once_world::record::{Entry, Kind};
+use once_machine::record::{Entry, Kind};
 use std::alloc::{AllocError, Global};
 
 /// The first entry that may not come next.

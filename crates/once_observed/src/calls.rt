@@ -1,7 +1,7 @@
 //! The calls of what was seen: what each did, and between which events.
 
 use crate::text::Event;
-use once_world::record::{Entry, Ran};
+use once_machine::record::{Entry, Ran};
 use std::alloc::{AllocError, AllocFailed, Global};
 use std::collections::{BTreeMap, BTreeSet};
 use std::mem;

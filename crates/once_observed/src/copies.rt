@@ -1,6 +1,6 @@
 //! Copies of entries.
 
-use once_world::record::{Call, Entry, Got};
+use once_machine::record::{Call, Entry, Got};
 use std::alloc::{AllocError, Global};
 
 /// A copy of this entry.

@@ -1,9 +1,9 @@
 //! A record as a picture, with the verdict on it.
 
 use once_judge::{Verdict, VerdictLine};
+use once_machine::record::{Entry, Kind};
 use once_script::print::EntryLine;
 use once_view::picture::write_record;
-use once_world::record::{Entry, Kind};
 use std::alloc::Global;
 use std::io::{self, Write};
 

@@ -3,9 +3,9 @@
 use crate::drawn::draw_verdict;
 use crate::{Answer, BadEvents, Stop, StopLine, linearize, parse_observed};
 use once_judge::{Calls, LastCalls, Verdict, VerdictLine, judge};
+use once_machine::record::{Entry, Kind};
 use once_script::parse::record::{BadRecord, RecordText, parse_record};
 use once_script::print::{FirstLine, FullLine};
-use once_world::record::{Entry, Kind};
 use std::alloc::{AllocError, AllocGlobal};
 use std::env::{self, Env};
 use std::fmt;

@@ -4,7 +4,7 @@ use crate::calls::{BadEvents, Call, Deed, Effect, Gathered};
 use crate::copies::copy_of;
 use crate::text::{Event, Observed};
 use once_judge::{Calls, Judge, Reason};
-use once_world::record::Entry;
+use once_machine::record::Entry;
 use std::alloc::{AllocError, Global};
 use std::collections::BTreeSet;
 

@@ -1,9 +1,9 @@
 //! The text of what was seen of a cell from outside: the first line of a script, and then a line for each event.
 
+use once_machine::record::{Entry, Kind};
 use once_script::parse::entries::{entry_form, parse_entry};
 use once_script::parse::number::parse_number;
 use once_script::parse::record::{BadRecord, parse_first};
-use once_world::record::{Entry, Kind};
 use std::alloc::{AllocError, Global};
 
 /// Something that was seen of a cell from outside: by code that calls the cell, by an init that it polls, or by a waker

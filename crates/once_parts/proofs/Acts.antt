@@ -4,18 +4,24 @@ use Rattle.std.specs.Prelude.{nat_lt}
 use Rattle.std.proofs.lemmas.Bool.Decides.{nat_tests}
 use prog.Atomic.{either}
 use Rattle.pagebook.specs.Pages.{Held, Moves, Notes, View}
-use Rattle.once_queue.specs.Word.{flags_of}
-use Rattle.once_core.specs.declared.step.Polled.{Polled}
-use Rattle.once_core.specs.declared.step.Polled.TheVariants.{Pending, Value, Error}
-use Rattle.once_core.specs.Steps.{is_resting, step_of_drop}
-use Rattle.once_core.specs.Table.{Next, CountIn, CountedIn, DoorPut, DoorTake, PutQueue, Ran as PolledInit, Refused as RefusedCopy, Run, Taken}
-use Rattle.once_core.specs.Table.{Call, Load, Quick, Fast, AddOne, CountOut, Told, after, after_count_in, after_run, call_at, closing_end, next_end}
-use Rattle.once_world.specs.Record.{Begin, Entry, Ran}
-use Rattle.once_world.specs.declared.record.Ran.{Ran as InitAnswer}
-use Rattle.once_world.specs.declared.record.Ran.TheVariants.{Pending as RanPending, Value as RanValue, Error as RanError}
-use Rattle.once_world.specs.Book.{TaskState}
-use Rattle.once_world.specs.Machine.{AtCountIn, AtDoorPut, AtDoorTake, AtList, AtRun, EndMemory, Ending, Place, Step, UnderWay, keeps, kept_after, records}
-use Rattle.once_world.specs.Words.{IsFound, IsWordCall, found, word_after}
+use Rattle.once_machine.specs.Word.{flags_of}
+use Rattle.once_machine.specs.declared.step.Polled.{Polled}
+use Rattle.once_machine.specs.declared.step.Polled.TheVariants.{Pending, Value, Error}
+use Rattle.once_machine.specs.Steps.{is_resting, step_of_drop}
+use Rattle.once_machine.specs.Table.{Next, CountIn, CountedIn, DoorPut, DoorTake, PutQueue, Ran as PolledInit, Refused as RefusedCopy, Run, Taken}
+use Rattle.once_machine.specs.Table.{Call, Load, Quick, Fast, AddOne, CountOut, Told, after, after_count_in, after_run, call_at, closing_end, next_end}
+use Rattle.once_machine.specs.Record.{Begin, Entry, Ran}
+use Rattle.once_machine.specs.declared.record.Ran.{Ran as InitAnswer}
+use Rattle.once_machine.specs.declared.record.Ran.TheVariants.{Pending as RanPending, Value as RanValue, Error as RanError}
+use Rattle.once_machine.specs.Book.{TaskState}
+use Rattle.once_machine.specs.Machine.{keeps, kept_after, records}
+use Rattle.once_machine.specs.declared.step.Place.TheVariants.{CountIn as AtCountIn, DoorPut as AtDoorPut, DoorTake as AtDoorTake, List as AtList, Run as AtRun}
+use Rattle.once_machine.specs.declared.step.Ending.TheVariants.{Memory as EndMemory}
+use Rattle.once_machine.specs.declared.step.Ending.{Ending}
+use Rattle.once_machine.specs.declared.step.Place.{Place}
+use Rattle.once_machine.specs.declared.step.Step.{Step}
+use Rattle.once_machine.specs.declared.step.Step.TheVariants.{UnderWay}
+use Rattle.once_machine.specs.Words.{IsFound, IsWordCall, found, word_after}
 use Rattle.once_parts.specs.Kept.{Adds, Grew, IsKept, Leaves, Sheet, hand, most, sheets}
 use Rattle.once_parts.proofs.Moments.Moves.Words.{full_moves, full_page, full_told, in_moves, in_page, none_moves, none_page, none_told, word_moves, word_of_t}
 use Rattle.once_parts.proofs.Moments.Moves.Calls.{begun_notes, copy_notes, dropped_notes, made_notes, ran_notes, unput_notes}
@@ -25,7 +31,7 @@ use Rattle.once_parts.specs.Page.{Went, WordTells, call_in, given_in, next_of}
 use Rattle.once_parts.specs.Acts.{Goes, Makes, Stays, Tells}
 use Rattle.once_parts.specs.Places.{CanRefuse}
 use Rattle.once_parts.proofs.Moments.Mine.{AreOf, drop_of, one_of, told_of}
-use Rattle.once_queue.proofs.Listing.Members.{eqb_self}
+use Rattle.once_machine.proofs.Listing.Members.{eqb_self}
 use Rattle.once_parts.proofs.Tells.{leaves_stays, leaves_turns, moves_tell, notes_tell}
 
 module _ (seen : List Entry) (t : ℕ) (x : TaskState) where

@@ -4,24 +4,27 @@ use Rattle.std.specs.Prelude.{Box}
 use Rattle.std.specs.declared.alloc.Global.{Global}
 use Rattle.std.specs.Option.{is_some, option_flatten, option_map, option_to_list}
 use mathlib.Core.List.{IsPrefix}
-use Rattle.once_queue.specs.Numbers.{is_distinct}
-use Rattle.once_queue.specs.declared.word.Sees.{Sees}
-use Rattle.once_queue.specs.Word.{flags_of, sees, is_free}
-use Rattle.once_queue.specs.declared.waiters.Lists.{Lists}
-use Rattle.once_queue.specs.declared.waiters.Answer.{Answer}
-use Rattle.once_queue.specs.declared.waiters.Answer.TheVariants.{Listed, Held, Memory, Left}
-use Rattle.once_queue.specs.declared.waiters.Op.{Op}
-use Rattle.once_queue.specs.declared.waiters.Op.TheVariants.{Look, List as ListOwn, Release, Leave}
-use Rattle.once_queue.specs.declared.waiters.Out.{Out}
-use Rattle.once_queue.specs.Listings.{find_listing, kept_ticket, left_list, next_waker, own_listing, passes_turn, tickets}
-use Rattle.once_queue.specs.Claims.{Claims}
-use Rattle.once_queue.specs.Room.{listings_of, claimant}
-use Rattle.once_queue.specs.Sections.{DidList, Releases, Renewed}
-use Rattle.once_queue.proofs.Listing.Once.{tickets_once}
-use Rattle.once_core.specs.Table.{Call, Section, Told, Was}
-use Rattle.once_world.specs.Record.{Entry}
-use Rattle.once_world.specs.Book.{TaskState}
-use Rattle.once_world.specs.Machine.{AtList, Step, UnderWay, listed_ticket, looked_ticket, records, release_list, release_wakers}
+use Rattle.once_machine.specs.Numbers.{is_distinct}
+use Rattle.once_machine.specs.declared.word.Sees.{Sees}
+use Rattle.once_machine.specs.Word.{flags_of, sees, is_free}
+use Rattle.once_machine.specs.declared.waiters.Lists.{Lists}
+use Rattle.once_machine.specs.declared.waiters.Answer.{Answer}
+use Rattle.once_machine.specs.declared.waiters.Answer.TheVariants.{Listed, Held, Memory, Left}
+use Rattle.once_machine.specs.declared.waiters.Op.{Op}
+use Rattle.once_machine.specs.declared.waiters.Op.TheVariants.{Look, List as ListOwn, Release, Leave}
+use Rattle.once_machine.specs.declared.waiters.Out.{Out}
+use Rattle.once_machine.specs.Listings.{find_listing, kept_ticket, left_list, next_waker, own_listing, passes_turn, tickets}
+use Rattle.once_machine.specs.Claims.{Claims}
+use Rattle.once_machine.specs.Room.{listings_of, claimant}
+use Rattle.once_machine.specs.Sections.{DidList, Releases, Renewed}
+use Rattle.once_machine.proofs.Listing.Once.{tickets_once}
+use Rattle.once_machine.specs.Table.{Call, Section, Told, Was}
+use Rattle.once_machine.specs.Record.{Entry}
+use Rattle.once_machine.specs.Book.{TaskState}
+use Rattle.once_machine.specs.Machine.{listed_ticket, looked_ticket, records, release_list, release_wakers}
+use Rattle.once_machine.specs.declared.step.Place.TheVariants.{List as AtList}
+use Rattle.once_machine.specs.declared.step.Step.{Step}
+use Rattle.once_machine.specs.declared.step.Step.TheVariants.{UnderWay}
 use Rattle.once_parts.specs.Kept.{Grew, entries_of, has_passed, hands_out}
 use Rattle.once_parts.specs.Named.{HasRenewed, KeepsOwner, named, named_one, named_out}
 use Rattle.once_parts.specs.Steps.{answer_as}

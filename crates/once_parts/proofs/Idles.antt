@@ -1,8 +1,8 @@
 -- What a task is at between two calls, and the step that stands for it.
 use Rattle.std.proofs.Common.{◌≡◌, true, false, refl, sym}
 use Rattle.std.proofs.lemmas.Bool.{false≢true}
-use Rattle.once_core.specs.Steps.{in_call, is_resting}
-use Rattle.once_world.specs.Places.{Finished as Ended}
+use Rattle.once_machine.specs.Steps.{in_call, is_resting}
+use Rattle.once_machine.specs.declared.step.Step.TheVariants.{Finished as Ended}
 use Rattle.once_parts.specs.Idle.{is_over, step_of}
 use Rattle.once_parts.specs.declared.task.Idle.{Idle}
 use Rattle.once_parts.specs.declared.task.Idle.TheVariants.{New, Listed, Unlisted, Quick, Queued, Finished}

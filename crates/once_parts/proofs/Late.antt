@@ -2,17 +2,18 @@
 use Rattle.std.proofs.Common.{◌≡◌, ℕ, Bool, true, false, List, [], ◌∷◌, ◌++◌, append_assoc, reverse, refl, sym, ap, ◌∙◌, subst}
 use Rattle.std.proofs.lemmas.List.{reverse-append}
 use mathlib.Core.List.{IsPrefix}
-use Rattle.once_queue.proofs.Listing.Members.{eqb_self}
-use Rattle.once_world.specs.Record.{Begin, DropBegin, End, Entry, Once, is_of}
-use Rattle.once_world.specs.declared.record.Reply.TheVariants.{Error, Full, Memory, Pending, Value}
-use Rattle.once_world.specs.Cell.{cell, is_set}
-use Rattle.once_world.specs.Tasks.{last_call, last_call_after, status}
-use Rattle.once_world.specs.Run.{IsRun}
-use Rattle.once_world.specs.Places.{EndDropped, EndError, EndFull, EndMemory, EndPending, EndValue, Ending}
-use Rattle.once_world.proofs.Law.Answered.{set_answered}
-use Rattle.once_world.proofs.Shared.Worlds.{ArePlain}
-use Rattle.once_world.proofs.Told.Log.{log_is_plain}
-use Rattle.once_world.proofs.Told.Value.{set_to}
+use Rattle.once_machine.proofs.Listing.Members.{eqb_self}
+use Rattle.once_machine.specs.Record.{Begin, DropBegin, End, Entry, Once, is_of}
+use Rattle.once_machine.specs.declared.record.Reply.TheVariants.{Error, Full, Memory, Pending, Value}
+use Rattle.once_machine.specs.Cell.{cell, is_set}
+use Rattle.once_machine.specs.Tasks.{last_call, last_call_after, status}
+use Rattle.once_machine.specs.Run.{IsRun}
+use Rattle.once_machine.specs.declared.step.Ending.TheVariants.{Dropped as EndDropped, Error as EndError, Full as EndFull, Memory as EndMemory, Pending as EndPending, Value as EndValue}
+use Rattle.once_machine.specs.declared.step.Ending.{Ending}
+use Rattle.once_machine.proofs.Law.Answered.{set_answered}
+use Rattle.once_machine.proofs.Shared.Worlds.{ArePlain}
+use Rattle.once_machine.proofs.Told.Log.{log_is_plain}
+use Rattle.once_machine.proofs.Told.Value.{set_to}
 use Rattle.once_parts.specs.Kept.{IsKept, Sheet, most, pages_in}
 use Rattle.once_parts.specs.Record.{IsSet}
 use Rattle.once_parts.proofs.Desks.{prefix_on}

@@ -1,5 +1,5 @@
 -- The order in which to read the proofs. Each module stands on those above it, and most on Moment and Told of
--- once_world.
+-- once_machine.
 --   Moments   one move of the book for each moment, and the list of those who wait as the queue's page shows it
 --   Tells     from what a move leaves to what it tells of the task
 --   Acts      the moments of a task alone keep the rule of the book: the clauses of `Hand`, as `did`

@@ -3,11 +3,11 @@ use Rattle.std.proofs.Common.{◌≡◌, ℕ, Bool, true, false, List, [], ◌�
 use Rattle.std.proofs.lemmas.Bool.{eqb-true}
 use Rattle.std.proofs.lemmas.List.{append-nil, reverse-append}
 use Rattle.std.specs.Option.{is_some}
-use Rattle.once_world.specs.Record.{Entry, Begin, Ran, End, DropBegin, Once, is_of}
-use Rattle.once_world.specs.declared.record.Reply.TheVariants.{Pending}
-use Rattle.once_world.specs.Cell.{Cell, cell}
-use Rattle.once_world.specs.Tasks.{LastCall, Status, last_call, last_call_after, status}
-use Rattle.once_world.specs.Run.{IsRun}
+use Rattle.once_machine.specs.Record.{Entry, Begin, Ran, End, DropBegin, Once, is_of}
+use Rattle.once_machine.specs.declared.record.Reply.TheVariants.{Pending}
+use Rattle.once_machine.specs.Cell.{Cell, cell}
+use Rattle.once_machine.specs.Tasks.{LastCall, Status, last_call, last_call_after, status}
+use Rattle.once_machine.specs.Run.{IsRun}
 use Rattle.once_parts.specs.Kept.{entries_of, kept_if, most}
 use Rattle.once_parts.specs.Record.{AreOnce}
 use Rattle.once_parts.proofs.Moments.Mine.{entries_append}

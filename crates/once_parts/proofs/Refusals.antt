@@ -1,14 +1,16 @@
 -- After a look that wants a copy of the waker the task is about to list itself, and the refusal of that copy may be told.
 use Rattle.std.proofs.Common.{◌≡◌, ℕ, true, sym, ap, subst}
 use Rattle.std.proofs.lemmas.Bool.{false≢true}
-use Rattle.once_queue.specs.declared.waiters.Answer.{Answer}
-use Rattle.once_queue.specs.declared.waiters.Answer.TheVariants.{Ready, Claimed, Listed}
-use Rattle.once_queue.specs.declared.waiters.Op.{Op}
-use Rattle.once_queue.specs.declared.waiters.Op.TheVariants.{Look, List as ListOwn, Release, Leave}
+use Rattle.once_machine.specs.declared.waiters.Answer.{Answer}
+use Rattle.once_machine.specs.declared.waiters.Answer.TheVariants.{Ready, Claimed, Listed}
+use Rattle.once_machine.specs.declared.waiters.Op.{Op}
+use Rattle.once_machine.specs.declared.waiters.Op.TheVariants.{Look, List as ListOwn, Release, Leave}
 use Rattle.std.specs.Prelude.{Option}
-use Rattle.once_core.specs.Table.{Section, Was, wants_copy}
-use Rattle.once_world.specs.Book.{TaskState}
-use Rattle.once_world.specs.Machine.{AtLook, Step, UnderWay}
+use Rattle.once_machine.specs.Table.{Section, Was, wants_copy}
+use Rattle.once_machine.specs.Book.{TaskState}
+use Rattle.once_machine.specs.declared.step.Place.TheVariants.{Look as AtLook}
+use Rattle.once_machine.specs.declared.step.Step.{Step}
+use Rattle.once_machine.specs.declared.step.Step.TheVariants.{UnderWay}
 use Rattle.once_parts.specs.Steps.{answer_as, left_as}
 use Rattle.once_parts.specs.Own.{Own}
 use Rattle.once_parts.specs.Page.{call_in, next_of}

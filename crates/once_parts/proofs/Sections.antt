@@ -4,12 +4,17 @@ use Rattle.std.specs.Option.{is_some}
 use Rattle.std.proofs.lemmas.Bool.{false≢true}
 use Rattle.std.proofs.lemmas.List.{append-nil}
 use Rattle.pagebook.specs.Pages.{Held, Moves, Notes, View}
-use Rattle.once_queue.specs.declared.waiters.Op.TheVariants.{Look, Release}
-use Rattle.once_core.specs.Table.{Call, Next, Section as SectionCall, after_door_again, after_door_get, call_at, next_at, next_end}
-use Rattle.once_core.specs.Table.{DoorGet, DoorPut, DoorTake, Got, PutQueue, Taken, Told}
-use Rattle.once_world.specs.Record.{Entry}
-use Rattle.once_world.specs.Book.{TaskState}
-use Rattle.once_world.specs.Machine.{AtCountIn, AtDoorAgain, AtDoorGet, AtDoorPut, AtDoorTake, AtRelease, Ending, RestWait, Resting, Step, UnderWay, keeps, records}
+use Rattle.once_machine.specs.declared.waiters.Op.TheVariants.{Look, Release}
+use Rattle.once_machine.specs.Table.{Call, Next, Section as SectionCall, after_door_again, after_door_get, call_at, next_at, next_end}
+use Rattle.once_machine.specs.Table.{DoorGet, DoorPut, DoorTake, Got, PutQueue, Taken, Told}
+use Rattle.once_machine.specs.Record.{Entry}
+use Rattle.once_machine.specs.Book.{TaskState}
+use Rattle.once_machine.specs.Machine.{keeps, records}
+use Rattle.once_machine.specs.declared.step.Place.TheVariants.{CountIn as AtCountIn, DoorAgain as AtDoorAgain, DoorGet as AtDoorGet, DoorPut as AtDoorPut, DoorTake as AtDoorTake, Release as AtRelease}
+use Rattle.once_machine.specs.declared.step.Ending.{Ending}
+use Rattle.once_machine.specs.declared.step.Rest.TheVariants.{Wait as RestWait}
+use Rattle.once_machine.specs.declared.step.Step.TheVariants.{Resting, UnderWay}
+use Rattle.once_machine.specs.declared.step.Step.{Step}
 use Rattle.once_parts.specs.Kept.{IsKept, Leaves, Sheet, entries_of, locked, sheets}
 use Rattle.once_parts.specs.declared.desk.Section.{Section}
 use Rattle.once_parts.specs.declared.desk.Section.TheVariants.{Stand, Get, Put, Found, Take, ByTable, Rest}

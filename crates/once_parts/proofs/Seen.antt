@@ -3,16 +3,16 @@ use Rattle.std.proofs.Common.{◌≡◌, ℕ, true, List, [], ◌∷◌, ◌++�
 use Rattle.std.proofs.lemmas.Bool.{false≢true}
 use Rattle.std.proofs.lemmas.List.{reverse-append}
 use mathlib.Core.List.{IsPrefix}
-use Rattle.once_world.specs.Record.{End, Entry, Fill, Once}
-use Rattle.once_world.specs.declared.record.Reply.TheVariants.{Value}
-use Rattle.once_world.specs.Cell.{Cell, Empty, Held, SetTo, cell, is_set}
-use Rattle.once_world.specs.Run.{AtEvery, IsRun}
-use Rattle.once_world.specs.Called.{SomebodyCalled}
-use Rattle.once_world.proofs.Told.Beginnings.{every_of_beginning, run_of_beginning}
-use Rattle.once_world.proofs.Told.Value.{filled, ready_cell, ready_is_set, set_to, stands_back}
-use Rattle.once_world.proofs.Told.Log.{log_is_plain, log_is_run, somebody_called}
-use Rattle.once_world.proofs.Shared.Worlds.{ArePlain}
-use Rattle.once_world.proofs.Law.Crowded.{value_set}
+use Rattle.once_machine.specs.Record.{End, Entry, Fill, Once}
+use Rattle.once_machine.specs.declared.record.Reply.TheVariants.{Value}
+use Rattle.once_machine.specs.Cell.{Cell, Empty, Held, SetTo, cell, is_set}
+use Rattle.once_machine.specs.Run.{AtEvery, IsRun}
+use Rattle.once_machine.specs.Called.{SomebodyCalled}
+use Rattle.once_machine.proofs.Told.Beginnings.{every_of_beginning, run_of_beginning}
+use Rattle.once_machine.proofs.Told.Value.{filled, ready_cell, ready_is_set, set_to, stands_back}
+use Rattle.once_machine.proofs.Told.Log.{log_is_plain, log_is_run, somebody_called}
+use Rattle.once_machine.proofs.Shared.Worlds.{ArePlain}
+use Rattle.once_machine.proofs.Law.Crowded.{value_set}
 use Rattle.once_parts.specs.Kept.{IsKept, Sheet, most, pages_in}
 use Rattle.once_parts.proofs.Moments.Moves.Words.{some}
 use Rattle.once_parts.specs.Record.{EndsSet, IsSet, WasFilled}

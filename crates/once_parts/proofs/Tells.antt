@@ -3,8 +3,8 @@ use Rattle.std.proofs.Common.{◌≡◌, ℕ, List, [], ◌∷◌, ◌++◌, sym
 use Rattle.std.proofs.lemmas.List.{append-nil}
 use mathlib.Core.List.{IsPrefix}
 use Rattle.pagebook.specs.Pages.{Held, Moves, Notes, View}
-use Rattle.once_world.specs.Record.{Entry}
-use Rattle.once_world.specs.Book.{At, TaskState}
+use Rattle.once_machine.specs.Record.{Entry}
+use Rattle.once_machine.specs.Book.{At, TaskState}
 use Rattle.once_parts.specs.Kept.{Grew, Leaves, Sheet, entries_of, hand, sheets}
 use Rattle.once_parts.proofs.Moments.Mine.{AreOf, all_of}
 use Rattle.once_parts.specs.Own.{IsHand, number_in, task_in}

@@ -2,8 +2,8 @@
 use Rattle.std.proofs.Common.{◌≡◌, ℕ, suc, Some, List, [], ◌∷◌, ◌++◌, slice_get, refl, sym, ap, ◌∙◌, subst}
 use Rattle.std.proofs.lemmas.List.{append-nil}
 use Rattle.pagebook.specs.Pages.{Held, Notes}
-use Rattle.once_world.specs.Record.{Entry}
-use Rattle.once_world.specs.Book.{At, TaskState}
+use Rattle.once_machine.specs.Record.{Entry}
+use Rattle.once_machine.specs.Book.{At, TaskState}
 use Rattle.once_parts.specs.Kept.{IsKept, Sheet, entries_of, entries_on, hand, sheet, sheets}
 use Rattle.once_parts.specs.Own.{IsHand, number_in, task_in}
 use Rattle.once_parts.specs.TwoTasks.{AreTwo, HasLearned}

@@ -2,23 +2,26 @@
 use Rattle.std.proofs.Common.{◌≡◌, ℕ, zero, suc, Bool, true, false, inl, List, [], ◌∷◌, ◌++◌, append_assoc, Some, None, reverse, slice_get, refl, sym, ap, ◌∙◌, subst}
 use Rattle.std.proofs.lemmas.List.{reverse-append}
 use Rattle.pagebook.specs.Pages.{Held, Moves, Sure, View}
-use Rattle.once_queue.specs.Word.{flags_of}
-use Rattle.once_world.specs.Record.{End, Entry, Once, Own as OwnersCall, is_own}
-use Rattle.once_world.specs.declared.record.Reply.TheVariants.{Value}
-use Rattle.once_world.specs.Book.{Door, IsBook, Page, Queue, TaskState}
-use Rattle.once_world.specs.Cell.{SetTo, cell, is_set}
-use Rattle.once_world.specs.Run.{IsRun}
-use Rattle.once_world.specs.Machine.{AtPut, EndValue, Step, UnderWay}
-use Rattle.once_world.proofs.Moment.Step.{opens}
-use Rattle.once_world.proofs.Law.Rights.{value_lasts}
-use Rattle.once_world.proofs.Shared.Worlds.{ArePlain, IsPlain}
-use Rattle.once_world.proofs.Told.Laws.{value_set_is_answered_answered}
-use Rattle.once_world.proofs.Told.Log.{log_is_plain, log_is_run}
-use Rattle.once_world.proofs.Told.Value.{ready_is_set, ready_written}
+use Rattle.once_machine.specs.Word.{flags_of}
+use Rattle.once_machine.specs.Record.{End, Entry, Once, Own as OwnersCall, is_own}
+use Rattle.once_machine.specs.declared.record.Reply.TheVariants.{Value}
+use Rattle.once_machine.specs.Book.{Door, IsBook, Page, Queue, TaskState}
+use Rattle.once_machine.specs.Cell.{SetTo, cell, is_set}
+use Rattle.once_machine.specs.Run.{IsRun}
+use Rattle.once_machine.specs.declared.step.Place.TheVariants.{Put as AtPut}
+use Rattle.once_machine.specs.declared.step.Ending.TheVariants.{Value as EndValue}
+use Rattle.once_machine.specs.declared.step.Step.{Step}
+use Rattle.once_machine.specs.declared.step.Step.TheVariants.{UnderWay}
+use Rattle.once_machine.proofs.Moment.Step.{opens}
+use Rattle.once_machine.proofs.Law.Rights.{value_lasts}
+use Rattle.once_machine.proofs.Shared.Worlds.{ArePlain, IsPlain}
+use Rattle.once_machine.proofs.Told.Laws.{value_set_is_answered_answered}
+use Rattle.once_machine.proofs.Told.Log.{log_is_plain, log_is_run}
+use Rattle.once_machine.proofs.Told.Value.{ready_is_set, ready_written}
 use Rattle.once_parts.specs.Kept.{IsKept, IsState, Sheet, entries_on, hand, most, pages_in, sheet, sheets}
 use Rattle.once_parts.proofs.Moments.Mine.{told_of}
-use Rattle.once_core.specs.Steps.{release_place}
-use Rattle.once_core.specs.Table.{next_at, Put, PutValue}
+use Rattle.once_machine.specs.Steps.{release_place}
+use Rattle.once_machine.specs.Table.{next_at, Put, PutValue}
 use Rattle.once_parts.proofs.Moments.Moves.Words.{some}
 use Rattle.once_parts.proofs.Moments.Moves.Calls.{looked_moves}
 use Rattle.once_parts.proofs.Moments.Moves.Slots.{put_value_moves, state_at, write_moves, writing_hand, written_state}

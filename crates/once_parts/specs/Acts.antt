@@ -1,12 +1,12 @@
 -- What each moment of a task alone tells of it: of the number found in the word, from one view of the book to the next.
 use Rattle.std.specs.Prelude.{◌≡◌, ℕ, suc, ◌==◌, true, false, cond, nat_lt, List, [], ◌∷◌, reverse, None}
 use Rattle.pagebook.specs.Pages.{View}
-use Rattle.once_queue.specs.Word.{flags_of}
-use Rattle.once_core.specs.Steps.{step_of_drop}
-use Rattle.once_core.specs.Table.{Told, CountedIn, PutQueue, PutValue, Ran, Refused as RefusedCopy, Taken}
-use Rattle.once_world.specs.Record.{Begin, Entry, Made}
-use Rattle.once_world.specs.Book.{TaskState}
-use Rattle.once_world.specs.Machine.{drop_entries, fresh_task}
+use Rattle.once_machine.specs.Word.{flags_of}
+use Rattle.once_machine.specs.Steps.{step_of_drop}
+use Rattle.once_machine.specs.Table.{Told, CountedIn, PutQueue, PutValue, Ran, Refused as RefusedCopy, Taken}
+use Rattle.once_machine.specs.Record.{Begin, Entry, Made}
+use Rattle.once_machine.specs.Book.{TaskState}
+use Rattle.once_machine.specs.Machine.{drop_entries, fresh_task}
 use Rattle.once_parts.specs.Page.{Went}
 use Rattle.once_parts.specs.Places.{task_begun, task_dropping}
 use Rattle.once_parts.specs.Kept.{Grew, Sheet, entries_of, hand, most, sheets, writing_sheet}

@@ -2,10 +2,10 @@
 use Rattle.std.specs.Prelude.{◌≡◌, ℕ, Bool, false, List, [], ◌∷◌, drop, Option, Some, None, Box}
 use Rattle.std.specs.declared.alloc.Global.{Global}
 use Rattle.pagebook.specs.Pages.{Held}
-use Rattle.once_queue.specs.declared.waiters.Listing.{Listing}
-use Rattle.once_queue.specs.declared.waiters.Lists.{Lists}
-use Rattle.once_queue.specs.Room.{listings_of}
-use Rattle.once_world.specs.Book.{Door, Page, Queue}
+use Rattle.once_machine.specs.declared.waiters.Listing.{Listing}
+use Rattle.once_machine.specs.declared.waiters.Lists.{Lists}
+use Rattle.once_machine.specs.Room.{listings_of}
+use Rattle.once_machine.specs.Book.{Door, Page, Queue}
 use Rattle.once_parts.specs.Kept.{Sheet, sheet, sheets}
 use Rattle.once_parts.specs.Named.{named}
 

@@ -1,7 +1,7 @@
 -- What a task knows by the hand that it has, and what becomes of that where its init is polled.
 use Rattle.std.specs.Prelude.{◌≡◌, []}
-use Rattle.once_core.specs.declared.step.Polled.{Polled}
-use Rattle.once_core.specs.Table.{Ran, Run}
+use Rattle.once_machine.specs.declared.step.Polled.{Polled}
+use Rattle.once_machine.specs.Table.{Ran, Run}
 use Rattle.once_parts.specs.declared.hand.Hand.{Hand}
 use Rattle.once_parts.specs.Own.{Own, own_in}
 use Rattle.once_parts.specs.Page.{Went, call_in}

@@ -1,6 +1,8 @@
 -- What a task is at between two calls, and the step of the code that stands for it.
 use Rattle.std.specs.Prelude.{Bool, true, false, None, Some, ⊤}
-use Rattle.once_world.specs.Places.{Finished, RestRun, RestStart, RestWait, Resting, Step}
+use Rattle.once_machine.specs.declared.step.Step.TheVariants.{Finished, Resting}
+use Rattle.once_machine.specs.declared.step.Rest.TheVariants.{Run as RestRun, Start as RestStart, Wait as RestWait}
+use Rattle.once_machine.specs.declared.step.Step.{Step}
 use Rattle.once_parts.specs.declared.task.Idle.{Idle}
 use Rattle.once_parts.specs.declared.task.Idle.TheVariants.{New, Listed, Unlisted, Quick, Queued, Finished as Over}
 

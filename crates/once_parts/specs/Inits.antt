@@ -2,8 +2,8 @@
 use Rattle.std.specs.Prelude.{Option, Result, Ok, Err, IsSomeAnd}
 use Rattle.futures.specs.declared.task.Poll.{Poll}
 use Rattle.futures.specs.declared.task.Poll.TheVariants.{Pending as PollPending, Ready}
-use Rattle.once_core.specs.declared.step.Polled.{Polled}
-use Rattle.once_core.specs.declared.step.Polled.TheVariants.{Pending, Value, Error}
+use Rattle.once_machine.specs.declared.step.Polled.{Polled}
+use Rattle.once_machine.specs.declared.step.Polled.TheVariants.{Pending, Value, Error}
 
 -- the answer in the words of a step
 abbrev pub polled_in : {T E : Type 0} → Poll (Result T E) → Polled

@@ -3,11 +3,12 @@ use Rattle.std.specs.Prelude.{◌≡◌, ◌⊎◌, ◌-◌, ◌^◌, ℕ, suc, 
 use Rattle.std.specs.Prelude.{List, [], ◌∷◌, ◌++◌, map, Option, Some, reverse, slice_get}
 use mathlib.Core.List.{IsPrefix}
 use Rattle.pagebook.specs.Pages.{Held, View, rewritten}
-use Rattle.once_queue.specs.declared.waiters.Listing.{Listing}
-use Rattle.once_world.specs.Record.{Entry, Once, is_of}
-use Rattle.once_world.specs.Tasks.{last_call}
-use Rattle.once_world.specs.Book.{At, Door, IsBook, Page, Queue, TaskState}
-use Rattle.once_world.specs.Machine.{AtPut, UnderWay}
+use Rattle.once_machine.specs.declared.waiters.Listing.{Listing}
+use Rattle.once_machine.specs.Record.{Entry, Once, is_of}
+use Rattle.once_machine.specs.Tasks.{last_call}
+use Rattle.once_machine.specs.Book.{At, Door, IsBook, Page, Queue, TaskState}
+use Rattle.once_machine.specs.declared.step.Place.TheVariants.{Put as AtPut}
+use Rattle.once_machine.specs.declared.step.Step.TheVariants.{UnderWay}
 
 -- how many tasks may be counted in
 abbrev pub most : ℕ

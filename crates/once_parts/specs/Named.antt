@@ -2,12 +2,12 @@
 -- Each waker is told by the number of the task whose it is.
 use Rattle.std.specs.Prelude.{◌≡◌, ℕ, List, [], ◌∷◌, map, Option}
 use Rattle.std.specs.Option.{option_map, option_to_list}
-use Rattle.once_queue.specs.declared.waiters.Listing.{Listing}
-use Rattle.once_queue.specs.declared.waiters.Answer.{Answer}
-use Rattle.once_queue.specs.declared.waiters.Answer.TheVariants.{Released, Left}
-use Rattle.once_queue.specs.declared.waiters.Out.{Out}
-use Rattle.once_queue.specs.declared.waiters.Out.TheVariants.{One, All}
-use Rattle.once_queue.specs.Listings.{wakers_of}
+use Rattle.once_machine.specs.declared.waiters.Listing.{Listing}
+use Rattle.once_machine.specs.declared.waiters.Answer.{Answer}
+use Rattle.once_machine.specs.declared.waiters.Answer.TheVariants.{Released, Left}
+use Rattle.once_machine.specs.declared.waiters.Out.{Out}
+use Rattle.once_machine.specs.declared.waiters.Out.TheVariants.{One, All}
+use Rattle.once_machine.specs.Listings.{wakers_of}
 
 module _ {W : Type 0} (whose : W → ℕ) where
   -- one listing

@@ -2,11 +2,11 @@
 use Rattle.std.specs.Prelude.{◌≡◌, ℕ, suc, List, [], ◌∷◌, ◌++◌, reverse}
 use mathlib.Core.List.{IsPrefix}
 use Rattle.pagebook.specs.Pages.{Book, Held, Named, View}
-use Rattle.once_core.specs.Table.{Next}
-use Rattle.once_world.specs.Record.{Entry}
-use Rattle.once_world.specs.declared.record.Ran.{Ran as Answer}
-use Rattle.once_world.specs.Book.{At, Page, TaskState}
-use Rattle.once_world.specs.Machine.{fresh_task, progress_entries}
+use Rattle.once_machine.specs.Table.{Next}
+use Rattle.once_machine.specs.Record.{Entry}
+use Rattle.once_machine.specs.declared.record.Ran.{Ran as Answer}
+use Rattle.once_machine.specs.Book.{At, Page, TaskState}
+use Rattle.once_machine.specs.Machine.{fresh_task, progress_entries}
 use Rattle.once_parts.specs.Kept.{Grew, Sheet, entries_of, hand, sheets}
 
 -- what a task knows of itself and of the log

@@ -1,14 +1,16 @@
 -- What a call of the parts tells of a task's page: it goes on by the table of places.
 use Rattle.std.specs.Prelude.{ℕ, false, List, [], Some}
 use Rattle.pagebook.specs.Pages.{View}
-use Rattle.once_core.specs.declared.step.Polled.TheVariants.{Pending}
-use Rattle.once_core.specs.Table.{Call, Refuse, Section, Told, Ran, Next, after, call_at}
-use Rattle.once_world.specs.declared.record.Ran.{Ran as Answer}
-use Rattle.once_world.specs.Record.{Entry}
-use Rattle.once_world.specs.Book.{TaskState}
-use Rattle.once_world.specs.Machine.{Step, UnderWay, keeps, records}
-use Rattle.once_world.specs.Places.{More}
-use Rattle.once_world.specs.Words.{IsFound, found}
+use Rattle.once_machine.specs.declared.step.Polled.TheVariants.{Pending}
+use Rattle.once_machine.specs.Table.{Call, Refuse, Section, Told, Ran, Next, after, call_at}
+use Rattle.once_machine.specs.declared.record.Ran.{Ran as Answer}
+use Rattle.once_machine.specs.Record.{Entry}
+use Rattle.once_machine.specs.Book.{TaskState}
+use Rattle.once_machine.specs.Machine.{keeps, records}
+use Rattle.once_machine.specs.declared.step.Step.{Step}
+use Rattle.once_machine.specs.declared.step.Step.TheVariants.{UnderWay}
+use Rattle.once_machine.specs.declared.step.Progress.TheVariants.{More}
+use Rattle.once_machine.specs.Words.{IsFound, found}
 use Rattle.once_parts.specs.Kept.{Sheet}
 use Rattle.once_parts.specs.Own.{IsHand, Own, Turned, own_in, task_in, told}
 use Rattle.once_parts.specs.Places.{unnamed}

@@ -2,11 +2,11 @@
 use Rattle.std.specs.Prelude.{◌≡◌, ℕ, ⊤, []}
 use Rattle.std.specs.Option.{is_some}
 use Rattle.pagebook.specs.Slot.{Placed}
-use Rattle.once_queue.specs.declared.waiters.Answer.{Answer}
-use Rattle.once_queue.specs.declared.waiters.Op.{Op}
-use Rattle.once_queue.specs.declared.waiters.Op.TheVariants.{Leave}
-use Rattle.once_core.specs.Table.{Call, Refuse, Told, Got, PutQueue, Was}
-use Rattle.once_world.specs.Machine.{Step}
+use Rattle.once_machine.specs.declared.waiters.Answer.{Answer}
+use Rattle.once_machine.specs.declared.waiters.Op.{Op}
+use Rattle.once_machine.specs.declared.waiters.Op.TheVariants.{Leave}
+use Rattle.once_machine.specs.Table.{Call, Refuse, Told, Got, PutQueue, Was}
+use Rattle.once_machine.specs.declared.step.Step.{Step}
 use Rattle.once_parts.specs.Kept.{has_passed, hands_out}
 use Rattle.once_parts.specs.Named.{handed_in}
 use Rattle.once_parts.specs.Own.{Own}

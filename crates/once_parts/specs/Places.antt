@@ -1,13 +1,16 @@
 -- Where calls of a task begin, and what stands beside the table of places.
 use Rattle.std.specs.Prelude.{◌≡◌, ℕ, Bool, true, false, Option, Some, None}
-use Rattle.once_core.specs.declared.step.Polled.{Polled}
-use Rattle.once_core.specs.declared.step.Polled.TheVariants.{Pending, Value, Error}
-use Rattle.once_core.specs.Steps.{step_of_drop, step_of_poll}
-use Rattle.once_world.specs.declared.record.Ran.{Ran as Answer}
-use Rattle.once_world.specs.declared.record.Ran.TheVariants.{Pending as RanPending, Value as RanValue}
-use Rattle.once_world.specs.declared.record.Ran.TheVariants.{Error as RanError}
-use Rattle.once_world.specs.Book.{TaskState}
-use Rattle.once_world.specs.Machine.{AtList, RestWait, Resting, Step, UnderWay}
+use Rattle.once_machine.specs.declared.step.Polled.{Polled}
+use Rattle.once_machine.specs.declared.step.Polled.TheVariants.{Pending, Value, Error}
+use Rattle.once_machine.specs.Steps.{step_of_drop, step_of_poll}
+use Rattle.once_machine.specs.declared.record.Ran.{Ran as Answer}
+use Rattle.once_machine.specs.declared.record.Ran.TheVariants.{Pending as RanPending, Value as RanValue}
+use Rattle.once_machine.specs.declared.record.Ran.TheVariants.{Error as RanError}
+use Rattle.once_machine.specs.Book.{TaskState}
+use Rattle.once_machine.specs.declared.step.Place.TheVariants.{List as AtList}
+use Rattle.once_machine.specs.declared.step.Rest.TheVariants.{Wait as RestWait}
+use Rattle.once_machine.specs.declared.step.Step.TheVariants.{Resting, UnderWay}
+use Rattle.once_machine.specs.declared.step.Step.{Step}
 
 -- a waiter at rest has this ticket
 abbrev pub CanRest : ℕ → Step ℕ ℕ → Type 0

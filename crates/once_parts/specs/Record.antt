@@ -2,10 +2,10 @@
 use Rattle.std.specs.Prelude.{◌≡◌, ℕ, Bool, true, false, if◌then◌else◌, List, [], ◌∷◌, ◌++◌, Some, None, reverse}
 use mathlib.Core.List.{IsPrefix}
 use Rattle.pagebook.specs.Pages.{View}
-use Rattle.once_queue.specs.Word.{flags_of}
-use Rattle.once_world.specs.Record.{Begin, DropBegin, End, Entry, Fill, Look, Once, Ran}
-use Rattle.once_world.specs.declared.record.Reply.TheVariants.{Value}
-use Rattle.once_world.specs.Cell.{cell, is_set}
+use Rattle.once_machine.specs.Word.{flags_of}
+use Rattle.once_machine.specs.Record.{Begin, DropBegin, End, Entry, Fill, Look, Once, Ran}
+use Rattle.once_machine.specs.declared.record.Reply.TheVariants.{Value}
+use Rattle.once_machine.specs.Cell.{cell, is_set}
 use Rattle.once_parts.specs.Kept.{Sheet, entries_of}
 
 -- a Fill stands in it: the value was set

@@ -2,20 +2,21 @@
 use Rattle.std.specs.Prelude.{◌≡◌, ℕ, suc, ◌*◌, ◌^◌, ◌||◌, Bool, true, false, List, [], Option, Some, None}
 use Rattle.std.specs.Option.{is_some, option_flatten, option_to_list}
 use Rattle.pagebook.specs.Pages.{Held, View}
-use Rattle.once_queue.specs.Numbers.{is_distinct}
-use Rattle.once_queue.specs.Word.{flags_of, sees, is_free}
-use Rattle.once_queue.specs.declared.waiters.Listing.{Listing}
-use Rattle.once_queue.specs.declared.waiters.Answer.{Answer as SectionAnswer}
-use Rattle.once_queue.specs.declared.waiters.Answer.TheVariants.{Left}
-use Rattle.once_queue.specs.declared.waiters.Op.TheVariants.{Look, List as ListOwn, Release, Leave}
-use Rattle.once_queue.specs.Listings.{find_listing, kept_ticket, left_list, next_waker}
-use Rattle.once_queue.specs.Listings.{own_listing, passes_turn, tickets, wakers_of}
-use Rattle.once_core.specs.Table.{Call, DoorGet, DoorPut, DoorTake, Section as SectionCall}
-use Rattle.once_core.specs.Table.{Told, Got, PutQueue, Refused, Taken, Was}
-use Rattle.once_world.specs.Record.{Entry}
-use Rattle.once_world.specs.UnderLock.{head_after, list_answer, listed_list, listed_ticket}
-use Rattle.once_world.specs.UnderLock.{look_answer, looked_list, looked_ticket}
-use Rattle.once_world.specs.Machine.{Step, release_list, release_wakers}
+use Rattle.once_machine.specs.Numbers.{is_distinct}
+use Rattle.once_machine.specs.Word.{flags_of, sees, is_free}
+use Rattle.once_machine.specs.declared.waiters.Listing.{Listing}
+use Rattle.once_machine.specs.declared.waiters.Answer.{Answer as SectionAnswer}
+use Rattle.once_machine.specs.declared.waiters.Answer.TheVariants.{Left}
+use Rattle.once_machine.specs.declared.waiters.Op.TheVariants.{Look, List as ListOwn, Release, Leave}
+use Rattle.once_machine.specs.Listings.{find_listing, kept_ticket, left_list, next_waker}
+use Rattle.once_machine.specs.Listings.{own_listing, passes_turn, tickets, wakers_of}
+use Rattle.once_machine.specs.Table.{Call, DoorGet, DoorPut, DoorTake, Section as SectionCall}
+use Rattle.once_machine.specs.Table.{Told, Got, PutQueue, Refused, Taken, Was}
+use Rattle.once_machine.specs.Record.{Entry}
+use Rattle.once_machine.specs.UnderLock.{head_after, list_answer, listed_list, listed_ticket}
+use Rattle.once_machine.specs.UnderLock.{look_answer, looked_list, looked_ticket}
+use Rattle.once_machine.specs.Machine.{release_list, release_wakers}
+use Rattle.once_machine.specs.declared.step.Step.{Step}
 use Rattle.once_parts.specs.Kept.{Sheet, has_passed, hands_out, locked, sheets}
 use Rattle.once_parts.specs.declared.desk.Section.{Section}
 use Rattle.once_parts.specs.declared.desk.Section.TheVariants.{Stand, Get, Put, Found, Take, ByTable, Rest}

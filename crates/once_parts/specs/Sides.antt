@@ -1,10 +1,10 @@
 -- What is told of a task's own side: whether its init is there and gave something, and who was handed to it.
 use Rattle.std.specs.Prelude.{◌≡◌, ℕ, Bool, true, false, List, [], Option, IfSome}
 use Rattle.pagebook.specs.Slot.{Placed}
-use Rattle.once_core.specs.declared.step.Polled.{Polled}
-use Rattle.once_core.specs.declared.step.Polled.TheVariants.{Pending, Value, Error}
-use Rattle.once_queue.specs.declared.waiters.Out.{Out}
-use Rattle.once_core.specs.Steps.{SideTells}
+use Rattle.once_machine.specs.declared.step.Polled.{Polled}
+use Rattle.once_machine.specs.declared.step.Polled.TheVariants.{Pending, Value, Error}
+use Rattle.once_machine.specs.declared.waiters.Out.{Out}
+use Rattle.once_machine.specs.Steps.{SideTells}
 use Rattle.once_parts.specs.Named.{named_out}
 
 -- a side

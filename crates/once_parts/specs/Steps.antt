@@ -2,21 +2,31 @@
 -- The code's wakers are objects, and those of a page are numbers.
 use Rattle.std.specs.Prelude.{◌≡◌, ℕ, None}
 use Rattle.std.specs.Option.{option_map}
-use Rattle.once_queue.specs.declared.waiters.Answer.{Answer}
-use Rattle.once_queue.specs.declared.waiters.Answer.TheVariants.{Ready, Claimed, Listed, Held, Memory, Gone}
-use Rattle.once_queue.specs.declared.waiters.Answer.TheVariants.{Released, Left}
-use Rattle.once_queue.specs.Ops.{ticket_in}
-use Rattle.once_queue.specs.declared.waiters.Op.{Op}
-use Rattle.once_queue.specs.declared.waiters.Op.TheVariants.{Look, List as ListOwn, Release, Leave}
-use Rattle.once_core.specs.Table.{Next}
-use Rattle.once_core.specs.Table.{Call, Load, Quick, Fast, CountIn, AddOne, CountOut, DoorGet, DoorPut, DoorTake}
-use Rattle.once_core.specs.Table.{Section, Refuse, Run, Put}
-use Rattle.once_core.specs.Table.{Told, Loaded, TriedQuick, TriedFast, CountedIn, Added, CountedOut, Got, PutQueue}
-use Rattle.once_core.specs.Table.{Taken, Was, Refused, Ran, PutValue}
-use Rattle.once_world.specs.Machine.{Rest, RestStart, RestWait, RestRun, Step, Resting, UnderWay, Finished}
-use Rattle.once_world.specs.Machine.{Place, AtStart, AtTryQuick, AtDoorGet, AtDoorPut, AtCountIn}
-use Rattle.once_world.specs.Machine.{AtWaitLoad, AtLook, AtList, AtRun}
-use Rattle.once_world.specs.Machine.{AtPut, AtFast, AtAddOne, AtDoorAgain, AtRelease, AtLeave, AtCountOut, AtDoorTake}
+use Rattle.once_machine.specs.declared.waiters.Answer.{Answer}
+use Rattle.once_machine.specs.declared.waiters.Answer.TheVariants.{Ready, Claimed, Listed, Held, Memory, Gone}
+use Rattle.once_machine.specs.declared.waiters.Answer.TheVariants.{Released, Left}
+use Rattle.once_machine.specs.Ops.{ticket_in}
+use Rattle.once_machine.specs.declared.waiters.Op.{Op}
+use Rattle.once_machine.specs.declared.waiters.Op.TheVariants.{Look, List as ListOwn, Release, Leave}
+use Rattle.once_machine.specs.Table.{Next}
+use Rattle.once_machine.specs.Table.{Call, Load, Quick, Fast, CountIn, AddOne, CountOut, DoorGet, DoorPut, DoorTake}
+use Rattle.once_machine.specs.Table.{Section, Refuse, Run, Put}
+use Rattle.once_machine.specs.Table.{Told, Loaded, TriedQuick, TriedFast, CountedIn, Added, CountedOut, Got, PutQueue}
+use Rattle.once_machine.specs.Table.{Taken, Was, Refused, Ran, PutValue}
+use Rattle.once_machine.specs.declared.step.Rest.{Rest}
+use Rattle.once_machine.specs.declared.step.Rest.TheVariants.{Start as RestStart, Wait as RestWait, Run as RestRun}
+use Rattle.once_machine.specs.declared.step.Step.{Step}
+use Rattle.once_machine.specs.declared.step.Step.TheVariants.{Resting, UnderWay, Finished}
+use Rattle.once_machine.specs.declared.step.Place.{Place}
+use Rattle.once_machine.specs.declared.step.Place.TheVariants.{Start as AtStart, TryQuick as AtTryQuick}
+use Rattle.once_machine.specs.declared.step.Place.TheVariants.{DoorGet as AtDoorGet, DoorPut as AtDoorPut}
+use Rattle.once_machine.specs.declared.step.Place.TheVariants.{CountIn as AtCountIn}
+use Rattle.once_machine.specs.declared.step.Place.TheVariants.{WaitLoad as AtWaitLoad, Look as AtLook, List as AtList}
+use Rattle.once_machine.specs.declared.step.Place.TheVariants.{Run as AtRun}
+use Rattle.once_machine.specs.declared.step.Place.TheVariants.{Put as AtPut, Fast as AtFast, AddOne as AtAddOne}
+use Rattle.once_machine.specs.declared.step.Place.TheVariants.{DoorAgain as AtDoorAgain, Release as AtRelease}
+use Rattle.once_machine.specs.declared.step.Place.TheVariants.{Leave as AtLeave, CountOut as AtCountOut}
+use Rattle.once_machine.specs.declared.step.Place.TheVariants.{DoorTake as AtDoorTake}
 
 -- where a call begins
 abbrev pub rest_as : {Q P : Type 0} → (Q → P) → Rest Q → Rest P

@@ -1,8 +1,10 @@
 -- What a contract sees of a task of a cell, between two of its calls.
 use Rattle.std.specs.Prelude.{◌≡◌, ◌↔◌, ℕ, Bool, true, false, List, [], ◌∷◌}
 use Rattle.pagebook.specs.Slot.{Placed}
-use Rattle.once_world.specs.Places.{Ending, EndDropped, EndError, EndPending}
-use Rattle.once_world.specs.Record.{Begin, Entry}
+use Rattle.once_machine.specs.declared.step.Ending.{Ending}
+use Rattle.once_machine.specs.declared.step.Ending.TheVariants.{Dropped as EndDropped, Error as EndError}
+use Rattle.once_machine.specs.declared.step.Ending.TheVariants.{Pending as EndPending}
+use Rattle.once_machine.specs.Record.{Begin, Entry}
 use Rattle.once_parts.specs.Kept.{Grew}
 use Rattle.once_parts.specs.Sides.{Sided}
 use Rattle.once_parts.specs.Walks.{IsCall, Spans, end_of, handed}

@@ -1,7 +1,7 @@
 -- What a task knows by its hand, where it learns of others, and where two hands are of one book.
 use Rattle.std.specs.Prelude.{◌≡◌, ◌≢◌, List, drop, take}
 use Rattle.pagebook.specs.Pages.{Held, View}
-use Rattle.once_world.specs.Record.{Entry}
+use Rattle.once_machine.specs.Record.{Entry}
 use Rattle.once_parts.specs.Kept.{Sheet}
 use Rattle.once_parts.specs.Own.{IsHand, number_in}
 

@@ -1,15 +1,24 @@
 -- What a whole call of a task makes of the record.
 use Rattle.std.specs.Prelude.{◌≡◌, ℕ, Bool, true, false, List, [], ◌∷◌, ◌++◌, ⊤}
 use mathlib.Core.List.{IsPrefix}
-use Rattle.once_world.specs.Places.{Ending, EndPending, EndValue, EndError, EndMemory, EndFull, EndDropped}
-use Rattle.once_world.specs.Places.{Progress, More, Ended, Step, Resting, UnderWay, Finished}
-use Rattle.once_world.specs.Places.{Place, AtPut, AtFast, AtAddOne, AtDoorAgain, AtRelease, AtLeave}
-use Rattle.once_world.specs.Places.{AtCountOut, AtDoorTake}
-use Rattle.once_core.specs.Steps.{is_resting}
-use Rattle.once_world.specs.Record.{Begin, Claim, DropEnd, End, Entry, Fill, Free, Pass, Ran, handed_by}
-use Rattle.once_world.specs.declared.record.Ran.TheVariants.{Error as RanError}
-use Rattle.once_world.specs.declared.record.Reply.TheVariants.{Error, Full, Memory, Pending, Value}
-use Rattle.once_world.specs.Machine.{progress_entries}
+use Rattle.once_machine.specs.declared.step.Ending.{Ending}
+use Rattle.once_machine.specs.declared.step.Ending.TheVariants.{Pending as EndPending, Value as EndValue}
+use Rattle.once_machine.specs.declared.step.Ending.TheVariants.{Error as EndError, Memory as EndMemory, Full as EndFull}
+use Rattle.once_machine.specs.declared.step.Ending.TheVariants.{Dropped as EndDropped}
+use Rattle.once_machine.specs.declared.step.Progress.{Progress}
+use Rattle.once_machine.specs.declared.step.Progress.TheVariants.{More, Ended}
+use Rattle.once_machine.specs.declared.step.Step.{Step}
+use Rattle.once_machine.specs.declared.step.Step.TheVariants.{Resting, UnderWay, Finished}
+use Rattle.once_machine.specs.declared.step.Place.{Place}
+use Rattle.once_machine.specs.declared.step.Place.TheVariants.{Put as AtPut, Fast as AtFast, AddOne as AtAddOne}
+use Rattle.once_machine.specs.declared.step.Place.TheVariants.{DoorAgain as AtDoorAgain, Release as AtRelease}
+use Rattle.once_machine.specs.declared.step.Place.TheVariants.{Leave as AtLeave}
+use Rattle.once_machine.specs.declared.step.Place.TheVariants.{CountOut as AtCountOut, DoorTake as AtDoorTake}
+use Rattle.once_machine.specs.Steps.{is_resting}
+use Rattle.once_machine.specs.Record.{Begin, Claim, DropEnd, End, Entry, Fill, Free, Pass, Ran, handed_by}
+use Rattle.once_machine.specs.declared.record.Ran.TheVariants.{Error as RanError}
+use Rattle.once_machine.specs.declared.record.Reply.TheVariants.{Error, Full, Memory, Pending, Value}
+use Rattle.once_machine.specs.Machine.{progress_entries}
 use Rattle.once_parts.specs.Kept.{Grew, entries_of}
 use Rattle.once_parts.specs.Steps.{StandsForStep}
 use Rattle.once_parts.specs.Own.{Own}

@@ -1,10 +1,19 @@
 -- What a straight way of a poll tells of the steps that it made.
 use Rattle.std.specs.Prelude.{◌≡◌, ℕ, Bool, true, false, Some, ⊤}
 use Rattle.pagebook.specs.Pages.{Book}
-use Rattle.once_core.specs.Steps.{leave_place, step_of_poll}
-use Rattle.once_core.specs.Table.{Next, closing_at, closing_end, next_at, next_rest}
-use Rattle.once_world.specs.Places.{AtCountOut, AtDoorPut, AtRun, Ended as CallEnded, EndMemory, EndValue, Ending}
-use Rattle.once_world.specs.Places.{More, Place, Progress, RestWait, Step, UnderWay}
+use Rattle.once_machine.specs.Steps.{leave_place, step_of_poll}
+use Rattle.once_machine.specs.Table.{Next, closing_at, closing_end, next_at, next_rest}
+use Rattle.once_machine.specs.declared.step.Place.TheVariants.{CountOut as AtCountOut, DoorPut as AtDoorPut}
+use Rattle.once_machine.specs.declared.step.Place.TheVariants.{Run as AtRun}
+use Rattle.once_machine.specs.declared.step.Progress.TheVariants.{Ended as CallEnded}
+use Rattle.once_machine.specs.declared.step.Ending.TheVariants.{Memory as EndMemory, Value as EndValue}
+use Rattle.once_machine.specs.declared.step.Ending.{Ending}
+use Rattle.once_machine.specs.declared.step.Progress.TheVariants.{More}
+use Rattle.once_machine.specs.declared.step.Place.{Place}
+use Rattle.once_machine.specs.declared.step.Progress.{Progress}
+use Rattle.once_machine.specs.declared.step.Rest.TheVariants.{Wait as RestWait}
+use Rattle.once_machine.specs.declared.step.Step.{Step}
+use Rattle.once_machine.specs.declared.step.Step.TheVariants.{UnderWay}
 use Rattle.once_parts.specs.declared.ways.Reached.{Reached}
 use Rattle.once_parts.specs.declared.ways.Reached.TheVariants.{Claimed, Ended, NoQueue, Ready, Refused, Waits}
 use Rattle.once_parts.specs.declared.hand.Hand.{Hand}

@@ -2,9 +2,9 @@
 //! specification, so the two types here are for clauses alone: nobody makes a value of them. The functions do nothing.
 ghost use Rattle.std.specs.Prelude.{ℕ, reverse};
 ghost use mathlib.Core.List.{IsPrefix};
-ghost use Rattle.once_world.specs.Record.{Once};
-ghost use Rattle.once_world.specs.Run.{AtEvery, IsRun};
-ghost use Rattle.once_world.specs.Called.{SomebodyCalled};
+ghost use Rattle.once_machine.specs.Record.{Once};
+ghost use Rattle.once_machine.specs.Run.{AtEvery, IsRun};
+ghost use Rattle.once_machine.specs.Called.{SomebodyCalled};
 ghost use Rattle.once_parts.specs.Kept.{most};
 ghost use Rattle.once_parts.specs.Record.{EndsSet, IsSet, PollsOnce, WasFilled};
 
@@ -16,7 +16,7 @@ pub struct Line;
 
 impl Model for Line {
     ghost use Rattle.std.specs.Prelude.{None};
-    ghost use Rattle.once_world.specs.Record.{Entry, Look};
+    ghost use Rattle.once_machine.specs.Record.{Entry, Look};
 
     ghost Value = { Entry };
 
@@ -28,7 +28,7 @@ pub struct Leaf;
 
 impl Model for Leaf {
     ghost use Rattle.std.specs.Prelude.{false, []};
-    ghost use Rattle.once_world.specs.Book.{Queue};
+    ghost use Rattle.once_machine.specs.Book.{Queue};
     ghost use Rattle.once_parts.specs.Kept.{Sheet, sheet};
 
     ghost Value = { Sheet };

@@ -2,15 +2,16 @@
 ghost use Rattle.std.specs.Prelude.{◌≡◌, ◌*◌, ◌⊎◌, ℕ, Bool, true, false, List, [], Option, Some, None};
 ghost use Rattle.std.specs.Option.{is_some};
 ghost use Rattle.pagebook.specs.Pages.{Book};
-ghost use Rattle.once_queue.specs.Claims.{Claims};
-ghost use Rattle.once_queue.specs.Listings.{kept_ticket};
-ghost use Rattle.once_queue.specs.Room.{HasSpace, claimant, listings_of};
-ghost use Rattle.once_queue.specs.Word.{flags_of, sees};
+ghost use Rattle.once_machine.specs.Claims.{Claims};
+ghost use Rattle.once_machine.specs.Listings.{kept_ticket};
+ghost use Rattle.once_machine.specs.Room.{HasSpace, claimant, listings_of};
+ghost use Rattle.once_machine.specs.Word.{flags_of, sees};
 ghost use Rattle.once_parts.specs.Sections.{more_released, CanNote, IsLoading, Moment};
 ghost use Rattle.once_parts.specs.Own.{IsWord};
 ghost use Rattle.once_parts.specs.Desk.{IsDesk, desked};
-ghost use Rattle.once_core.specs.Table.{DoorPut, Section as SectionCall, DoorGet, DoorTake, Got, PutQueue, Taken, Was};
-ghost use Rattle.once_queue.specs.declared.waiters.Op.{Op};
+ghost use Rattle.once_machine.specs.Table.{DoorPut, Section as SectionCall, DoorGet, DoorTake, Got, PutQueue, Taken};
+ghost use Rattle.once_machine.specs.Table.{Was};
+ghost use Rattle.once_machine.specs.declared.waiters.Op.{Op};
 ghost use Rattle.once_parts.specs.Page.{call_in, queue_of, Went};
 ghost use Rattle.once_parts.specs.Hands.{own_of};
 ghost use Rattle.once_parts.specs.Places.{numbered};
@@ -19,8 +20,8 @@ ghost use Rattle.once_parts.specs.Parts.{CanCall, DidCall};
 use crate::book::{CellPens, CellWord, Leaf, Line};
 use crate::hand::{Hand, TaskWaker};
 use crate::shared::Inner;
-use once_queue::waiters::{Answer, Lists, Op, Out, Renews, WakerId};
-use once_queue::word::{QINIT_BIT, READY_BIT, Sees, Word};
+use once_machine::waiters::{Answer, Lists, Op, Out, Renews, WakerId};
+use once_machine::word::{QINIT_BIT, READY_BIT, Sees, Word};
 use pagebook::{Fits, Key, Keyed, Play};
 use std::marker::Model;
 use std::sync::Wait;
@@ -72,7 +73,7 @@ impl<W: TaskWaker> Keyed for Desk<W> {
 }
 
 impl<W: TaskWaker + Drop> Desk<W> {
-    ghost use Rattle.once_queue.specs.declared.waiters.Answer.{Answer};
+    ghost use Rattle.once_machine.specs.declared.waiters.Answer.{Answer};
     ghost use Rattle.once_parts.specs.Named.{HasRenewed, KeepsOwner};
     ghost use Rattle.once_parts.specs.Desk.{desk_sheets, first_desk};
     ghost use Rattle.once_parts.specs.Places.{CanRest};

@@ -5,10 +5,10 @@ ghost use mathlib.Core.List.{IsPrefix};
 ghost use Rattle.once_parts.specs.TwoTasks.{IsSomeHand};
 
 use crate::book::{CellPens, CellWord, Leaf, Line, Record, stays_set};
-use once_core::parts::Counted;
-use once_core::step::{Polled, RunRight};
-use once_queue::waiters::WakerId;
-use once_queue::word::{MAX_WAITERS, QINIT_BIT, READY_BIT};
+use once_machine::parts::Counted;
+use once_machine::step::{Polled, RunRight};
+use once_machine::waiters::WakerId;
+use once_machine::word::{MAX_WAITERS, QINIT_BIT, READY_BIT};
 use pagebook::Play;
 use std::marker::Model;
 use std::snapshot::Snapshot;
@@ -91,10 +91,10 @@ pub struct Hand {
 impl Hand {
     ghost use Rattle.std.specs.Prelude.{None, true, false, [], ◌∷◌};
     ghost use Rattle.std.specs.Option.{MatchOption};
-    ghost use Rattle.once_core.specs.Table.{CountIn, DoorPut, DoorTake, PutQueue, Refused};
-    ghost use Rattle.once_core.specs.Table.{Taken, counted};
-    ghost use Rattle.once_world.specs.Record.{Made};
-    ghost use Rattle.once_world.specs.Machine.{fresh_task};
+    ghost use Rattle.once_machine.specs.Table.{CountIn, DoorPut, DoorTake, PutQueue, Refused};
+    ghost use Rattle.once_machine.specs.Table.{Taken, counted};
+    ghost use Rattle.once_machine.specs.Record.{Made};
+    ghost use Rattle.once_machine.specs.Machine.{fresh_task};
     ghost use Rattle.once_parts.specs.Kept.{Grew};
     ghost use Rattle.once_parts.specs.Own.{IsWord, Stayed};
     ghost use Rattle.once_parts.specs.Page.{Went, call_in};

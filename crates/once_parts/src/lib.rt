@@ -1,7 +1,7 @@
 //! The parts of a cell as threads share them, and whole calls of its tasks.
 //!
 //! A cell's word, its door and its queue change by steps of threads. Behind them stands a ghost book, whose pages are
-//! what the machine of `once_world` keeps, and whose log is the record of that machine. A [`Hand`] is what one task
+//! what the machine of `once_machine` keeps, and whose log is the record of that machine. A [`Hand`] is what one task
 //! holds of the book, and a [`Desk`] what lies under the cell's one lock.
 //!
 //! [`Inner`] is what the tasks of a cell share. [`Shared`] is that as one task uses it: each of its calls is one moment

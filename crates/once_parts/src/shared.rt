@@ -6,8 +6,8 @@
 //! ready, and read after a step that found it ready, or with a token that came from such a step.
 ghost use Rattle.std.specs.Prelude.{◌≡◌, ◌^◌, if◌then◌else◌, []};
 ghost use Rattle.once_parts.specs.Own.{IsWord};
-ghost use Rattle.once_queue.specs.Word.{flags_of};
-ghost use Rattle.once_core.specs.Table.{CountIn, Load, Loaded, counted as count_told};
+ghost use Rattle.once_machine.specs.Word.{flags_of};
+ghost use Rattle.once_machine.specs.Table.{CountIn, Load, Loaded, counted as count_told};
 ghost use Rattle.once_parts.specs.Page.{Went, call_in};
 ghost use Rattle.once_parts.specs.Hands.{own_of};
 
@@ -15,10 +15,10 @@ use crate::book::{CellRule, CellSlot, CellWord, Leaf, Line, Record};
 use crate::desk::Desk;
 use crate::hand::{Act, Hand, Mark, TaskWaker};
 use boxcar::tag::Tag;
-use once_core::parts::{Counted, Parts};
-use once_core::step::{Polled, Side};
-use once_queue::waiters::{Answer, Lists, Op};
-use once_queue::word::{NEW, QINIT_BIT, READY_BIT, Word as Flags};
+use once_machine::parts::{Counted, Parts};
+use once_machine::step::{Polled, Side};
+use once_machine::waiters::{Answer, Lists, Op};
+use once_machine::word::{NEW, QINIT_BIT, READY_BIT, Word as Flags};
 use pagebook::{Anything, Fits, KeyedMutex, Play, Slot, Word, Written};
 use std::alloc::AllocGlobal;
 use std::fmt;
@@ -92,7 +92,7 @@ impl<T, W: TaskWaker + Drop> Inner<T, W> {
 impl<T, W: TaskWaker + Drop, V: Fits<T>> Inner<T, W, V> {
     ghost use Rattle.std.specs.Prelude.{true, IfSome, IsSome};
     ghost use Rattle.std.specs.Option.{is_some};
-    ghost use Rattle.once_queue.specs.Word.{flags_of};
+    ghost use Rattle.once_machine.specs.Word.{flags_of};
     ghost use Rattle.once_parts.specs.Record.{Looked, WasFilled};
 
     /// As [`new`](Self::new). What `V` promises of the value is about the numbers of the tag.
@@ -264,8 +264,8 @@ pub struct Shared<'a, 'r, T, W: TaskWaker, R, V: Fits<T> = Anything> {
 
 impl<T, W: TaskWaker + Drop, V: Fits<T>> Inner<T, W, V> {
     ghost use Rattle.std.specs.Prelude.{List, ◌∷◌, []};
-    ghost use Rattle.once_world.specs.Record.{Entry, Made};
-    ghost use Rattle.once_world.specs.Machine.{fresh_task};
+    ghost use Rattle.once_machine.specs.Record.{Entry, Made};
+    ghost use Rattle.once_machine.specs.Machine.{fresh_task};
     ghost use Rattle.once_parts.specs.Kept.{Grew};
     ghost use Rattle.once_parts.specs.Shares.{cell_of, own};
 
@@ -292,9 +292,9 @@ impl<T, W: TaskWaker + Drop, V: Fits<T>> Inner<T, W, V> {
 
 impl<'a, 'r, T, W: TaskWaker, R, V: Fits<T>> Shared<'a, 'r, T, W, R, V> {
     ghost use Rattle.std.specs.Prelude.{true, List, [], ◌∷◌, reverse};
-    ghost use Rattle.once_core.specs.Steps.{is_resting, step_of_drop};
-    ghost use Rattle.once_world.specs.Record.{Begin};
-    ghost use Rattle.once_world.specs.Machine.{drop_entries};
+    ghost use Rattle.once_machine.specs.Steps.{is_resting, step_of_drop};
+    ghost use Rattle.once_machine.specs.Record.{Begin};
+    ghost use Rattle.once_machine.specs.Machine.{drop_entries};
     ghost use Rattle.once_parts.specs.Own.{Turned};
     ghost use Rattle.once_parts.specs.Places.{task_begun, task_dropping};
     ghost use Rattle.once_parts.specs.Record.{EndsSet};

@@ -3,12 +3,12 @@
 //! place, and goes on to the next by its last call. The compiler puts a chain together, so that no step is handed
 //! through memory, and the cell's lock is taken once for all sections of a poll that meets others.
 //!
-//! [`Step::advance`](once_core::step::Step::advance) stays the one machine. A way may leave to it at any place, by
+//! [`Step::advance`](once_machine::step::Step::advance) stays the one machine. A way may leave to it at any place, by
 //! `steps_left`, and each of its steps is the line of the table for its place. A side whose waker is not copied under
 //! the lock polls by the machine alone. While the lock is held, nothing of the caller's own is dropped or called: such
 //! a function answers how far it came, as [`Reached`], and puts the wakers that it took aside, as [`Spent`].
 ghost use Rattle.std.specs.Prelude.{◌≡◌, false};
-ghost use Rattle.once_core.specs.Steps.{is_value, leave_place, release_place};
+ghost use Rattle.once_machine.specs.Steps.{is_value, leave_place, release_place};
 ghost use Rattle.once_parts.specs.Idle.{is_over, step_of};
 ghost use Rattle.once_parts.specs.Shares.{cell_of, own};
 ghost use Rattle.once_parts.specs.Own.{Own};
@@ -16,9 +16,9 @@ ghost use Rattle.once_parts.specs.Sides.{GivesFit, Sided};
 ghost use Rattle.once_parts.specs.Walks.{Stands};
 ghost use Rattle.once_parts.specs.Ways.{IsAt, IsBegun, IsUnder, Leads, LeadsBy, Polls, StandsBy, next_by};
 ghost use Rattle.std.specs.Option.{MatchOption};
-ghost use Rattle.once_queue.specs.declared.waiters.Answer.{Answer};
-ghost use Rattle.once_queue.specs.declared.waiters.Op.{Op};
-ghost use Rattle.once_core.specs.Table.{Section, Was};
+ghost use Rattle.once_machine.specs.declared.waiters.Answer.{Answer};
+ghost use Rattle.once_machine.specs.declared.waiters.Op.{Op};
+ghost use Rattle.once_machine.specs.Table.{Section, Was};
 ghost use Rattle.once_parts.specs.Hands.{own_of};
 ghost use Rattle.once_parts.specs.Parts.{CanCall, DidCall};
 
@@ -27,10 +27,10 @@ mod waiter;
 use crate::hand::{Hand, TaskWaker};
 use crate::shared::{Inner, Shared};
 use crate::task::{Idle, TaskSide, go_on};
-use once_core::parts::Parts;
-use once_core::step::{Ending, Place, Polled, Progress, Rest, Step};
-use once_queue::waiters::Out;
-use once_queue::word::Word;
+use once_machine::parts::Parts;
+use once_machine::step::{Ending, Place, Polled, Progress, Rest, Step};
+use once_machine::waiters::Out;
+use once_machine::word::Word;
 use pagebook::{Fits, Key};
 use std::alloc::AllocGlobal;
 use std::marker::Brand;

@@ -6,8 +6,8 @@ use Rattle.std.specs.List.{position_or_len, before_first, after_first}
 use Rattle.std.specs.Str.{all_ascii_digits}
 use Rattle.std.proofs.lemmas.Grind.{common_steps}
 use Rattle.std.proofs.lemmas.Bool.Decides.{nat_tests}
-use Rattle.once_world.specs.declared.record.Ran.{Ran}
-use Rattle.once_world.specs.declared.record.Ran.TheVariants.{Pending, Value, Error}
+use Rattle.once_machine.specs.declared.record.Ran.{Ran}
+use Rattle.once_machine.specs.declared.record.Ran.TheVariants.{Pending, Value, Error}
 use Rattle.once_script.specs.Number.{number_of, limit_of}
 use Rattle.once_script.specs.Answer.{IsAnswer, AreAnswers}
 use Rattle.once_script.specs.Text.{IsPair, IsStep, IsGiven, IsWith, IsWithAfter, IsListAfter}

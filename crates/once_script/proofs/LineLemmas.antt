@@ -1,12 +1,12 @@
 -- What stands after the first word of a line.
 use Rattle.std.proofs.Common.{◌≡◌, ◌≢◌, ◌∷◌, ◌++◌, ℕ, List, [], Bool, codes, get_or, ap, sym, ◌∙◌, refl, arith}
 use Rattle.std.specs.Prelude.{Option, IsSome}
-use Rattle.once_world.specs.declared.record.Call.{Call}
-use Rattle.once_world.specs.declared.record.Call.TheVariants.{Take, Write, Parts, ReplaceValue, ReplaceAnswers}
-use Rattle.once_world.specs.declared.record.Input.TheVariants.{Make, Poll, Drop, Go, Look, Own}
-use Rattle.once_world.specs.declared.record.Kind.{Kind}
-use Rattle.once_world.specs.declared.record.Kind.TheVariants.{Once, OnceWith, Lazy, LazyWith}
-use Rattle.once_world.specs.declared.record.Ran.{Ran}
+use Rattle.once_machine.specs.declared.record.Call.{Call}
+use Rattle.once_machine.specs.declared.record.Call.TheVariants.{Take, Write, Parts, ReplaceValue, ReplaceAnswers}
+use Rattle.once_machine.specs.declared.record.Input.TheVariants.{Make, Poll, Drop, Go, Look, Own}
+use Rattle.once_machine.specs.declared.record.Kind.{Kind}
+use Rattle.once_machine.specs.declared.record.Kind.TheVariants.{Once, OnceWith, Lazy, LazyWith}
+use Rattle.once_machine.specs.declared.record.Ran.{Ran}
 use Rattle.once_script.specs.declared.parse.Line.{Line}
 use Rattle.once_script.specs.declared.parse.Line.TheVariants.{Single, Run}
 use Rattle.once_script.specs.Answer.{AreAnswers}

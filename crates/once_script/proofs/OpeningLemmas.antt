@@ -1,8 +1,8 @@
 -- What a first line says of the kind and the limit.
 use Rattle.std.proofs.Common.{◌≡◌, ◌<◌, ◌∷◌, ℕ, List, [], length, arith, refl}
 use Rattle.std.specs.Prelude.{Option, Some, None, MatchOption, IfSome, IsSome}
-use Rattle.once_world.specs.declared.record.Kind.{Kind}
-use Rattle.once_world.specs.declared.record.Kind.TheVariants.{Once, OnceWith, Lazy, LazyWith}
+use Rattle.once_machine.specs.declared.record.Kind.{Kind}
+use Rattle.once_machine.specs.declared.record.Kind.TheVariants.{Once, OnceWith, Lazy, LazyWith}
 use Rattle.once_script.specs.declared.parse.Opening.{Opening}
 use Rattle.once_script.specs.Number.{limit_of}
 use Rattle.once_script.specs.Answer.{AreAnswers}

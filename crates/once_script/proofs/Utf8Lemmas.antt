@@ -8,12 +8,12 @@ use Rattle.std.proofs.lemmas.Bool.Decides.{nat_tests}
 use Rattle.std.proofs.lemmas.List.Splits.{join_with_byte-slice_split}
 use Rattle.std.proofs.lemmas.Str.{IsUtf8-nil, IsUtf8-append, IsUtf8-from_ascii}
 use Rattle.std.proofs.lemmas.Str.Ascii.{IsAscii-nil, IsAscii-cons}
-use Rattle.once_world.specs.declared.record.Call.TheVariants.{Take, Write, Parts, ReplaceValue, ReplaceAnswers}
-use Rattle.once_world.specs.declared.record.Input.TheVariants.{Make, Poll, Drop, Go, Look, Own}
-use Rattle.once_world.specs.declared.record.Kind.{Kind}
-use Rattle.once_world.specs.declared.record.Kind.TheVariants.{Once, OnceWith, Lazy, LazyWith}
-use Rattle.once_world.specs.declared.record.Ran.{Ran}
-use Rattle.once_world.specs.declared.record.Ran.TheVariants.{Pending, Value, Error}
+use Rattle.once_machine.specs.declared.record.Call.TheVariants.{Take, Write, Parts, ReplaceValue, ReplaceAnswers}
+use Rattle.once_machine.specs.declared.record.Input.TheVariants.{Make, Poll, Drop, Go, Look, Own}
+use Rattle.once_machine.specs.declared.record.Kind.{Kind}
+use Rattle.once_machine.specs.declared.record.Kind.TheVariants.{Once, OnceWith, Lazy, LazyWith}
+use Rattle.once_machine.specs.declared.record.Ran.{Ran}
+use Rattle.once_machine.specs.declared.record.Ran.TheVariants.{Pending, Value, Error}
 use Rattle.once_script.specs.declared.parse.Line.{Line}
 use Rattle.once_script.specs.declared.parse.Line.TheVariants.{Single, Run}
 use Rattle.once_script.specs.Number.{number_of, limit_of}

@@ -1,8 +1,8 @@
 -- The answers of an init, as text.
 use Rattle.std.specs.Prelude.{ℕ, List, [], ◌∷◌, ◌++◌, ◌≡◌, ◌==◌, codes, Option, Some, None}
 use Rattle.std.specs.List.{slice_split}
-use Rattle.once_world.specs.declared.record.Ran.{Ran}
-use Rattle.once_world.specs.declared.record.Ran.TheVariants.{Pending, Value, Error}
+use Rattle.once_machine.specs.declared.record.Ran.{Ran}
+use Rattle.once_machine.specs.declared.record.Ran.TheVariants.{Pending, Value, Error}
 use Rattle.once_script.specs.Number.{number_of}
 
 -- a text is this answer

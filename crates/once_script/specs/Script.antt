@@ -3,7 +3,7 @@ use Rattle.std.specs.Prelude.{ℕ, suc, ◌⊎◌, Bool, List, [], ◌∷◌, �
 use Rattle.std.specs.Borrow.{Bor}
 use Rattle.std.specs.List.{slice_split}
 use lib.Pointwise.{pointwise}
-use Rattle.once_world.specs.declared.record.Kind.{Kind}
+use Rattle.once_machine.specs.declared.record.Kind.{Kind}
 use Rattle.once_script.specs.declared.parse.Line.{Line}
 use Rattle.once_script.specs.Text.{IsLine, IsOpening}
 

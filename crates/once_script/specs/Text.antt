@@ -1,11 +1,11 @@
 -- What a line of a script says, and to which inputs it leads.
 use Rattle.std.specs.Prelude.{ℕ, Bool, true, false, List, [], ◌∷◌, ◌++◌, ◌≡◌, codes, Option, Some, replicate, flat_map}
-use Rattle.once_world.specs.declared.record.Call.TheVariants.{Take, Write, Parts, ReplaceValue, ReplaceAnswers}
-use Rattle.once_world.specs.declared.record.Kind.{Kind}
-use Rattle.once_world.specs.declared.record.Kind.TheVariants.{Once, OnceWith, Lazy, LazyWith}
-use Rattle.once_world.specs.declared.record.Ran.{Ran}
-use Rattle.once_world.specs.declared.record.Input.{Input}
-use Rattle.once_world.specs.declared.record.Input.TheVariants.{Make, Poll, Drop, Go, Look, Own}
+use Rattle.once_machine.specs.declared.record.Call.TheVariants.{Take, Write, Parts, ReplaceValue, ReplaceAnswers}
+use Rattle.once_machine.specs.declared.record.Kind.{Kind}
+use Rattle.once_machine.specs.declared.record.Kind.TheVariants.{Once, OnceWith, Lazy, LazyWith}
+use Rattle.once_machine.specs.declared.record.Ran.{Ran}
+use Rattle.once_machine.specs.declared.record.Input.{Input}
+use Rattle.once_machine.specs.declared.record.Input.TheVariants.{Make, Poll, Drop, Go, Look, Own}
 use Rattle.once_script.specs.Answer.{IsAnswer, AreAnswers}
 use Rattle.once_script.specs.Number.{number_of, limit_of}
 use Rattle.once_script.specs.declared.parse.Line.{Line}

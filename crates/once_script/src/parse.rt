@@ -1,14 +1,14 @@
 //! The text of a script, line by line.
 ghost use Rattle.std.specs.Prelude.{◌≡◌, ◌≢◌, ◌<◌, ◌≤◌, ◌-◌, ◌^◌, ◌++◌, Bool, ℕ, Option, codes};
 ghost use Rattle.std.specs.Prelude.{IfOk, IfSome, IsSome, MatchOption};
-ghost use Rattle.once_world.specs.declared.record.Ran.{Ran};
-ghost use Rattle.once_world.specs.declared.record.Call.{Call};
-ghost use Rattle.once_world.specs.declared.record.Kind.{Kind};
+ghost use Rattle.once_machine.specs.declared.record.Ran.{Ran};
+ghost use Rattle.once_machine.specs.declared.record.Call.{Call};
+ghost use Rattle.once_machine.specs.declared.record.Kind.{Kind};
 ghost use Rattle.once_script.specs.Number.{limit_of};
 ghost use Rattle.once_script.specs.Script.{lines_in, IsScript, IsFirstUnreadable};
 ghost use Rattle.once_script.specs.Text.{IsWith, IsOpening, IsOnce, IsLazy, IsPair, IsGiven, IsStep, IsLine};
-ghost use Rattle.once_world.specs.declared.record.Call.TheVariants.{Take, Write, Parts};
-ghost use Rattle.once_world.specs.declared.record.Input.TheVariants.{Make, Poll, Drop, Go, Look, Own};
+ghost use Rattle.once_machine.specs.declared.record.Call.TheVariants.{Take, Write, Parts};
+ghost use Rattle.once_machine.specs.declared.record.Input.TheVariants.{Make, Poll, Drop, Go, Look, Own};
 ghost use Rattle.once_script.specs.declared.parse.Line.{Line};
 ghost use Rattle.once_script.specs.declared.parse.Line.TheVariants.{Single, Run};
 
@@ -16,7 +16,7 @@ use crate::fault::Fault;
 use answers::{parse_answer, parse_answers};
 use lines::{opening_in, parse_lines, split_lines};
 use number::{parse_limit, parse_number};
-use once_world::record::{Call, Input, Kind, Ran};
+use once_machine::record::{Call, Input, Kind, Ran};
 use std::alloc::{AllocError, Global};
 
 mod answers;

@@ -3,7 +3,7 @@
 //! The list of the machine is not read whole after each line, since that takes time for each listing. What a line does
 //! to it follows from the entries that it adds, and from where its task stands then.
 use crate::play::Moment;
-use once_core::step::{Rest, Step};
+use once_machine::step::{Rest, Step};
 use once_world::world::{Entry, Reply};
 use std::alloc::{AllocError, Global};
 use std::collections::{BTreeMap, BTreeSet};

@@ -3,7 +3,7 @@ ghost use Rattle.std.specs.Prelude.{OnOk};
 ghost use Rattle.once_world.specs.Reached.{IsReached};
 
 use crate::reading::{Script, ScriptLine, TextLine};
-use once_core::step::Step;
+use once_machine::step::Step;
 use once_script::parse::{Line, Opening};
 use once_script::play::take_line;
 use once_script::print::call_word;

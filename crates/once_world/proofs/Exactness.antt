@@ -2,7 +2,5 @@
 pub mod Outcomes
 pub mod Calls
 pub mod Exact
-pub mod Unfinished
-pub mod Asked
 pub mod Worlds
 pub mod Idle

@@ -1,35 +1,15 @@
--- The order in which to read the proofs. Each module stands on those above it; only Listing.Apart stands on Invariant.
---   Steps      one step of the machine at the places where it is long, by what it finds there
---   Listing    lists of numbers and of listings: what calls, fills and sections hand out
---   History    what one more entry changes, and the listings against the history
---   Invariant  what stands for each task at each place, and what a step owes so that all of it stays
---   Place      one lemma a place: its step pays what it owes
---   Input      each input keeps the invariant: `run` and `one_is_called` of `replay`
---   Law        what follows of a run alone: src/laws.rt, and `nobody_forgotten`, `idle` and `one_value` of `replay`
+-- The order in which to read the proofs. Each module stands on those above it, and all on those of once_machine.
+--   Listing    which wakers a section hands out
 --   Door       the queue log is sound, and tells the queue at the door: `sound` and `stands` of `replay`
 --   Part       record and log fall into parts, one for each input: `belongs` and `ample` of `replay`
 --   Exactness  a step of the code is one of the machine: `after` of `World::take`, and so `exact` of `replay`
---   Rows       worked schedules, computed over the definitions. No clause stands on them
---   Spoilt     records and logs with one thing wrong are none. No clause stands on them
---   Shared     what holds of every world to which tasks lead that share a cell
---   Moment     one lemma a moment: the book before one step of one task, and after it. once_parts moves its book so
---   Told       what the book of a cell tells at every moment: `is_run` of once_parts stands on it
+-- The clauses of `Core` follow from specs/Table of once_machine and specs/Core with no lemma. One of its functions is
+-- proved by hand: `list`.
 --
 -- The other folders are named after files and functions of src. `Answers` has the proofs of goals that are left open
 -- there, and `Invariants` what a loop keeps. Where an answer has one tactic, it is there only so that an edit that
 -- breaks its clause is refused at once.
-pub mod Steps
 pub mod Listing
-pub mod History
-pub mod Invariant
-pub mod Place
-pub mod Input
-pub mod Law
 pub mod Door
 pub mod Part
 pub mod Exactness
-pub mod Rows
-pub mod Spoilt
-pub mod Shared
-pub mod Moment
-pub mod Told

@@ -1,10 +1,10 @@
 -- A replay under way, as the machine sees it.
 use Rattle.std.specs.Prelude.{◌≡◌, ◌<◌, ◌≤◌, ◌-◌, ◌^◌, ℕ, List}
 use Rattle.once_world.specs.declared.world.play.World.{World}
-use Rattle.once_world.specs.Record.{Kind, is_lazy}
-use Rattle.once_world.specs.Inputs.{Input}
-use Rattle.once_world.specs.Machine.{world_of}
-use Rattle.once_world.specs.Shown.{lazy_in, limit_in, world_in}
+use Rattle.once_machine.specs.Record.{Kind, is_lazy}
+use Rattle.once_machine.specs.Inputs.{Input}
+use Rattle.once_machine.specs.Machine.{world_of}
+use Rattle.once_world.specs.WorldShown.{lazy_in, limit_in, world_in}
 
 -- the world is the machine's after these inputs, the newest first, for a cell of this kind with this limit
 pub record IsAfter (kind : Kind) (limit : ℕ) (inputs : List Input) (w : World) : Type 0 where

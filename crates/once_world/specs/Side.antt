@@ -1,11 +1,11 @@
 -- What the side of a replayed task answers and leaves.
 use Rattle.std.specs.Prelude.{◌≡◌, ℕ, if◌then◌else◌, List, Option, Some, None, reverse, ⊤}
-use Rattle.once_queue.specs.declared.waiters.Out.{Out}
+use Rattle.once_machine.specs.declared.waiters.Out.{Out}
 use Rattle.once_world.specs.declared.world.side.ReplaySide.{ReplaySide}
-use Rattle.once_core.specs.declared.step.Polled.{Polled}
-use Rattle.once_world.specs.Record.{Answer}
-use Rattle.once_world.specs.Cell.{rest_of}
-use Rattle.once_world.specs.Machine.{init_answer, put_value, polled_of, kept_after}
+use Rattle.once_machine.specs.declared.step.Polled.{Polled}
+use Rattle.once_machine.specs.declared.record.Ran.{Ran as Answer}
+use Rattle.once_machine.specs.Cell.{rest_of}
+use Rattle.once_machine.specs.Machine.{init_answer, put_value, polled_of, kept_after}
 
 -- the answers of a lazy init that are left, the next one first
 abbrev pub answers_in : ReplaySide → List (Option ℕ)

@@ -1,6 +1,5 @@
-//! Replays of a cell, and the laws of every run.
+//! The machine for one caller, over plain data, and its replays.
 #![tactic(auto)]
 
-pub mod laws;
-pub mod record;
+pub mod plain;
 pub mod world;

@@ -1,15 +1,15 @@
 //! A cell and any number of tasks, replayed one step at a time.
 
 ghost use Rattle.std.specs.Prelude.{◌≡◌, ◌<◌, ◌≤◌, ◌-◌, ◌^◌, ℕ, List, IfOk, true, false};
-ghost use Rattle.once_world.specs.Run.{IsRun, AtEvery, NobodyForgotten};
-ghost use Rattle.once_world.specs.Called.{SomebodyCalled, WaiterCalled};
-ghost use Rattle.once_world.specs.Values.{IsOneValue};
-ghost use Rattle.once_world.specs.Inputs.{Part, FallsInto, all_granted, ends_for_memory};
-ghost use Rattle.once_world.specs.Log.{IsLogOf, IsSound, standing_queue};
-ghost use Rattle.once_world.specs.Machine.{history_of, log_of, queue_of};
-ghost use Rattle.once_world.specs.Shown.{kind_of, inputs_in, record_entries, record_lines};
+ghost use Rattle.once_machine.specs.Run.{IsRun, AtEvery, NobodyForgotten};
+ghost use Rattle.once_machine.specs.Called.{SomebodyCalled, WaiterCalled};
+ghost use Rattle.once_machine.specs.Values.{IsOneValue};
+ghost use Rattle.once_machine.specs.Inputs.{Part, FallsInto, all_granted, ends_for_memory};
+ghost use Rattle.once_machine.specs.Log.{IsLogOf, IsSound, standing_queue};
+ghost use Rattle.once_machine.specs.Machine.{history_of, log_of, queue_of};
+ghost use Rattle.once_machine.specs.Shown.{kind_of, inputs_in, record_entries, record_lines};
 
-pub use crate::record::{Call, Entry, Got, Input, Kind, QueueLine, Ran, Record, Reply};
+pub use once_machine::record::{Call, Entry, Got, Input, Kind, QueueLine, Ran, Record, Reply};
 use std::alloc::{AllocError, Global};
 
 mod cell;

@@ -1,7 +1,7 @@
 //! A program that writes down what it sees of a cell, and has that judged at its end: whether a run of the cell has it.
 
 use crate::fault::Fault;
-use async_once_cell::world::{Entry, Kind, Ran, Reply};
+use async_once_cell::record::{Entry, Kind, Ran, Reply};
 use async_once_cell::{InitFuture, OnceCell, Refused};
 use futures::Future;
 use futures::executor::block_on;

@@ -12,9 +12,9 @@ ghost use Rattle.async_once_cell.specs.Views.{is_shared};
 ghost use Rattle.once_parts.specs.Kept.{entries_of, most};
 ghost use Rattle.once_parts.specs.Record.{IsSet, PollsOnce, WasFilled};
 ghost use Rattle.once_parts.specs.Walks.{end_of};
-ghost use Rattle.once_world.specs.Called.{SomebodyCalled};
-ghost use Rattle.once_world.specs.Record.{Once};
-ghost use Rattle.once_world.specs.Run.{AtEvery, IsRun, NobodyForgotten};
+ghost use Rattle.once_machine.specs.Called.{SomebodyCalled};
+ghost use Rattle.once_machine.specs.Record.{Once};
+ghost use Rattle.once_machine.specs.Run.{AtEvery, IsRun, NobodyForgotten};
 
 use crate::init::{Failed, Init, Refused, Yields};
 use crate::once::{Initializing, Known, OnceCell, Parker};

@@ -10,9 +10,9 @@ ghost use Rattle.async_once_cell.specs.Polls.{Answers, DidPoll, HasLeft, IsMade,
 ghost use Rattle.async_once_cell.specs.Polls.{Polls, PollsAs, SpansIn, ending_by, value_of};
 ghost use Rattle.async_once_cell.specs.Tokens.{Agrees, IsSetIn};
 ghost use Rattle.async_once_cell.specs.Views.{IsOf, about_of, is_shared, known_of, log_of};
-ghost use Rattle.once_world.specs.Record.{Once};
-ghost use Rattle.once_world.specs.Run.{AtEvery, IsRun, NobodyForgotten};
-ghost use Rattle.once_world.specs.Called.{SomebodyCalled};
+ghost use Rattle.once_machine.specs.Record.{Once};
+ghost use Rattle.once_machine.specs.Run.{AtEvery, IsRun, NobodyForgotten};
+ghost use Rattle.once_machine.specs.Called.{SomebodyCalled};
 ghost use Rattle.once_parts.specs.Kept.{entries_of, most};
 ghost use Rattle.once_parts.specs.Walks.{end_of};
 ghost use Rattle.once_parts.specs.Record.{IsSet, PollsOnce, WasFilled};

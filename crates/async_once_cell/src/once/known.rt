@@ -2,9 +2,9 @@
 ghost use Rattle.std.specs.Prelude.{◌≡◌, ◌↔◌, ◌⊎◌, IfSome, IsSome, IsTrue, MatchOption, None, Some, true, reverse};
 ghost use Rattle.std.specs.Option.{is_some, option_or};
 ghost use mathlib.Core.List.{IsPrefix};
-ghost use Rattle.once_world.specs.Record.{Once};
-ghost use Rattle.once_world.specs.Run.{AtEvery, IsRun, NobodyForgotten};
-ghost use Rattle.once_world.specs.Called.{SomebodyCalled};
+ghost use Rattle.once_machine.specs.Record.{Once};
+ghost use Rattle.once_machine.specs.Run.{AtEvery, IsRun, NobodyForgotten};
+ghost use Rattle.once_machine.specs.Called.{SomebodyCalled};
 ghost use Rattle.once_parts.specs.Kept.{most};
 ghost use Rattle.once_parts.specs.Record.{IsSet, PollsOnce, WasFilled};
 ghost use Rattle.async_once_cell.specs.Views.{CellView, IsOf, Shows, about_of, is_shared, known_of, log_of};

@@ -4,7 +4,7 @@ use crate::doubles::expected::is_shown;
 use crate::doubles::poll::heard;
 use crate::doubles::stub::{Init, Stub, Tried, count};
 use async_once_cell::once::{InitFuture, TryInitFuture};
-use async_once_cell::world::Reply;
+use async_once_cell::record::Reply;
 use async_once_cell::{LazyFuturePin, OnceCell};
 use futures::Future;
 use futures::task::{Context, Poll};

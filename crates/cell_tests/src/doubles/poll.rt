@@ -1,7 +1,7 @@
 //! What a poll of a cell's future answered, without the borrow of the value; and the tasks that poll.
 
 use async_once_cell::once::{InitError, Refused};
-use async_once_cell::world::Reply;
+use async_once_cell::record::Reply;
 use futures::Future;
 use futures::future::TryOutput;
 use futures::task::Poll;

@@ -22,7 +22,7 @@ mod refusals;
 use crate::doubles::made::{Looks, Made, Within};
 use crate::doubles::poll::{calm, tasks};
 use crate::doubles::stub::{Init, Stub, Tried, count};
-use async_once_cell::world::Reply;
+use async_once_cell::record::Reply;
 use async_once_cell::{Lazy, OnceCell};
 use futures::test::MockTask;
 pub use little::run_in_little;

@@ -3,7 +3,7 @@
 use crate::doubles::poll::polled;
 use crate::doubles::stub::{Init, Stub};
 use async_once_cell::Lazy;
-use async_once_cell::world::Reply;
+use async_once_cell::record::Reply;
 use futures::future::{Ready, ready};
 use futures::task::Poll;
 use futures::test::MockTask;

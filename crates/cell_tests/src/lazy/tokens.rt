@@ -4,7 +4,7 @@ use crate::doubles::poll::heard;
 use crate::doubles::stub::{Init, Stub};
 use async_once_cell::Lazy;
 use async_once_cell::once::Known;
-use async_once_cell::world::Reply;
+use async_once_cell::record::Reply;
 use futures::future::{Pending, pending, ready};
 use futures::task::Context;
 use futures::test::MockTask;

@@ -4,7 +4,7 @@ use crate::doubles::poll::polled;
 use crate::doubles::stub::Stub;
 use async_once_cell::OnceCell;
 use async_once_cell::once::InitFuture;
-use async_once_cell::world::Reply;
+use async_once_cell::record::Reply;
 use futures::future::{Ready, ready};
 use futures::test::MockTask;
 use std::alloc::AllocGlobal;

@@ -5,7 +5,7 @@ use crate::doubles::stub::Tried;
 use crate::left::{has_text, is_filled};
 use async_once_cell::OnceCell;
 use async_once_cell::once::InitFuture;
-use async_once_cell::world::Reply;
+use async_once_cell::record::Reply;
 use futures::Future;
 use futures::task::{Context, Poll};
 use futures::test::MockTask;

@@ -4,7 +4,7 @@
 use crate::doubles::poll::{Refusal, heard, polled};
 use crate::doubles::stub::{Stub, Tried};
 use async_once_cell::OnceCell;
-use async_once_cell::world::Reply;
+use async_once_cell::record::Reply;
 use futures::Future;
 use futures::future::{TryOutput, ready};
 use futures::task::Context;

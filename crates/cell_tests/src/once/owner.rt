@@ -3,7 +3,7 @@
 use crate::doubles::poll::heard;
 use crate::doubles::stub::Stub;
 use async_once_cell::OnceCell;
-use async_once_cell::world::Reply;
+use async_once_cell::record::Reply;
 use futures::task::Context;
 use futures::test::MockTask;
 use machine_tests::doubles::text::shows;

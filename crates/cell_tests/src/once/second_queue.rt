@@ -4,7 +4,7 @@ use super::inside::{LATER, Other};
 use crate::doubles::poll::{polled, tasks};
 use crate::left::is_filled;
 use async_once_cell::OnceCell;
-use async_once_cell::world::Reply;
+use async_once_cell::record::Reply;
 use futures::test::MockTask;
 use machine_tests::doubles::memory::{hoard_most, hoard_rest};
 use std::alloc::{Alloc, AllocGlobal, Global};

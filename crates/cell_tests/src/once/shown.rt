@@ -3,7 +3,7 @@
 use crate::doubles::poll::{Refusal, polled};
 use async_once_cell::OnceCell;
 use async_once_cell::once::{InitError, Refused};
-use async_once_cell::world::Reply;
+use async_once_cell::record::Reply;
 use futures::future::ready;
 use futures::test::MockTask;
 use machine_tests::doubles::text::shows;

@@ -5,7 +5,7 @@ use crate::doubles::poll::heard;
 use crate::doubles::stub::{Init, Stub};
 use async_once_cell::OnceCell;
 use async_once_cell::once::{InitFuture, Known};
-use async_once_cell::world::Reply;
+use async_once_cell::record::Reply;
 use futures::future::pending;
 use futures::task::Context;
 use futures::test::MockTask;

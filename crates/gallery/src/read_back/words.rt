@@ -1,5 +1,5 @@
 //! The words of a table and of a script, as docs/SCRIPTS.md has them.
-use once_core::step::{Place, Rest, Step};
+use once_machine::step::{Place, Rest, Step};
 use once_world::world::Ran;
 use std::fmt;
 

@@ -1,7 +1,7 @@
 //! Which entry may come next, and where somebody is forgotten.
 
 use super::{Cell, LastCall, Rules, Status, task_of};
-use once_world::record::{Call, Entry, Got, Kind, Ran, Reply};
+use once_machine::record::{Call, Entry, Got, Kind, Ran, Reply};
 
 impl Rules<'_> {
     /// The number of the first entry that may not come next, where the first has 0.

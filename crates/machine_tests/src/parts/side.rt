@@ -4,9 +4,9 @@ ghost use Rattle.std.proofs.Common.{rules};
 
 use crate::bell::{Bell, task_of};
 use crate::poller::{Poller, Scripted, init_that_answers};
-use once_core::step::{Polled, Side};
+use once_machine::step::{Polled, Side};
+use once_machine::waiters::{Out, Renews};
 use once_parts::{CopiesWaker, Hand, Mark, Pollable, TaskSide};
-use once_queue::waiters::{Out, Renews};
 use std::alloc::AllocGlobal;
 use std::io;
 use std::marker::Model;

@@ -5,7 +5,7 @@ ghost use Rattle.once_parts.specs.Record.{EndsSet};
 use super::side::{Called, NOBODY, Seen, TestSide};
 use crate::bell::Bell;
 use crate::doubles::memory::hoard;
-use once_core::step::{Ending, Polled, Step};
+use once_machine::step::{Ending, Polled, Step};
 use once_parts::{Inner, Task};
 use std::alloc::{AllocError, AllocGlobal, Global};
 use std::io;

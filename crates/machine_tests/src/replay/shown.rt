@@ -2,7 +2,7 @@
 use crate::doubles::rows::{CALLS, DROPS, OWNER, PLAIN, REFUSALS};
 use crate::doubles::schedule::schedules_in;
 use crate::doubles::target::Target;
-use once_core::step::{Place, Step};
+use once_machine::step::{Place, Step};
 use once_view::fault::Fault;
 use once_view::play::{Moment, Watcher, play};
 use once_view::range::LineRange;

@@ -8,7 +8,7 @@
 
 use super::walker::{Cell, Walker};
 use crate::doubles::schedule::{Schedule, schedules_in};
-use once_core::step::{Ending, Polled, Progress};
+use once_machine::step::{Ending, Polled, Progress};
 use once_script::parse::{Line, RUN_STEPS, parse_line};
 use once_world::world::{Input, Ran};
 use std::alloc::{AllocGlobal, Global};

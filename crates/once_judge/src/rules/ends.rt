@@ -1,16 +1,16 @@
 //! How a poll may end.
 ghost use Rattle.std.specs.Prelude.{◌≡◌, ℕ, None, Some, false, IfErr};
 ghost use Rattle.std.specs.Bool.{Decides};
-ghost use Rattle.once_world.specs.Cell.{SetTo};
+ghost use Rattle.once_machine.specs.Cell.{SetTo};
 
 use crate::reason::Reason;
 use crate::seen::Seen;
 use crate::task::{Cell, Status, Task, is_set};
-use once_world::record::{Ran, Reply};
+use once_machine::record::{Ran, Reply};
 
 impl Seen {
-    ghost use Rattle.once_world.specs.Record.{End, Entry as Told};
-    ghost use Rattle.once_world.specs.Tasks.{Polling};
+    ghost use Rattle.once_machine.specs.Record.{End, Entry as Told};
+    ghost use Rattle.once_machine.specs.Tasks.{Polling};
     ghost use Rattle.once_judge.specs.Legal.{IsLegalIn, MayEndIn, OtherHoldsIn, MemoryFromIn};
     ghost use Rattle.once_judge.specs.Reasons.{Tests, IsTrueIn};
     ghost use Rattle.once_judge.specs.Shown.{seen_of, task_in};

@@ -1,7 +1,7 @@
 //! Which wakers an entry may hand out.
 ghost use Rattle.std.specs.Prelude.{◌≡◌, ◌<◌, ℕ, ◌∷◌, [], true, false, nat_lt, IfOk, IfErr, IfSome, MatchOption};
 ghost use Rattle.std.specs.Bool.{Decides};
-ghost use Rattle.once_queue.specs.Numbers.{member};
+ghost use Rattle.once_machine.specs.Numbers.{member};
 
 use crate::reason::Reason;
 use crate::seen::Seen;
@@ -12,8 +12,8 @@ use std::collections::BTreeSet;
 impl Seen {
     ghost use Rattle.std.specs.BTreeSet.{contains};
     ghost use Rattle.std.specs.Ordering.{nat_cmp};
-    ghost use Rattle.once_world.specs.Record.{Free, Pass, Entry as Told, handed_by as wakers_of};
-    ghost use Rattle.once_world.specs.Tasks.{Waiting};
+    ghost use Rattle.once_machine.specs.Record.{Free, Pass, Entry as Told, handed_by as wakers_of};
+    ghost use Rattle.once_machine.specs.Tasks.{Waiting};
     ghost use Rattle.once_judge.specs.Legal.{IsDueFor, IsDueIn, HandsOutIn, CallsOneIn};
     ghost use Rattle.once_judge.specs.Reasons.{Tests, IsTrueIn};
     ghost use Rattle.once_judge.specs.Shown.{seen_of, task_in};

@@ -2,25 +2,31 @@
 use Rattle.std.proofs.Common.{◌≡◌, ◌<◌, ℕ, suc, Bool, true, false, cond, ◌||◌, List, [], ◌∷◌, ◌++◌, Option, Some, None, slice_get, ◌⊎◌, inl, inr, ⊎_elim, refl, sym, ap, ◌∙◌, subst, arith}
 use Rattle.std.specs.Option.{is_some, option_flatten}
 use Rattle.std.proofs.lemmas.Option.{none-some, same_Some}
-use Rattle.once_queue.specs.Word.{Flags, flags_of, sees}
-use Rattle.once_queue.specs.declared.waiters.Listing.{Listing}
-use Rattle.once_queue.specs.Listings.{find_listing, is_waker, own_listing}
-use Rattle.once_world.specs.Record.{Entry, Once}
-use Rattle.once_world.specs.Cell.{cell}
-use Rattle.once_core.specs.Table.{call_at, next_at}
-use Rattle.once_world.specs.Tasks.{LastCall, last_call}
-use Rattle.once_queue.proofs.Listing.Members.{eqb_self}
+use Rattle.once_machine.specs.Word.{Flags, flags_of, sees}
+use Rattle.once_machine.specs.declared.waiters.Listing.{Listing}
+use Rattle.once_machine.specs.Listings.{find_listing, is_waker, own_listing}
+use Rattle.once_machine.specs.Record.{Entry, Once}
+use Rattle.once_machine.specs.Cell.{cell}
+use Rattle.once_machine.specs.Table.{call_at, next_at}
+use Rattle.once_machine.specs.Tasks.{LastCall, last_call}
+use Rattle.once_machine.proofs.Listing.Members.{eqb_self}
 use Rattle.once_parts.specs.Kept.{has_passed, hands_out}
-use Rattle.once_world.specs.Book.{At, Door, IsBook, Page, Queue, TaskState}
-use Rattle.once_world.specs.Machine.{AtCountOut, AtDoorTake, AtLeave, AtList, AtLook, AtRelease, EndDropped, EndMemory, Ending, Place, RestWait, Resting}
-use Rattle.once_world.specs.Machine.{SharedState, UnderWay, look_answer, pass_entries}
-use Rattle.once_world.proofs.History.Cells.{holder_unset, set_free}
-use Rattle.once_world.proofs.Input.Headline.{task_fits}
-use Rattle.once_world.proofs.Invariant.Facts.{AtPlace, AtStep, MayLeave}
-use Rattle.once_world.proofs.Invariant.Kept.{releasing_holds}
-use Rattle.once_world.proofs.Moment.Pages.{door_of, queue_of}
-use Rattle.once_world.proofs.Moment.Step.{Moment, grown, moment, stands, told}
-use Rattle.once_world.proofs.Told.Wakers.{look_own, own_wakers}
+use Rattle.once_machine.specs.Book.{At, Door, IsBook, Page, Queue, TaskState}
+use Rattle.once_machine.specs.declared.step.Place.TheVariants.{CountOut as AtCountOut, DoorTake as AtDoorTake, Leave as AtLeave, List as AtList, Look as AtLook, Release as AtRelease}
+use Rattle.once_machine.specs.declared.step.Ending.TheVariants.{Dropped as EndDropped, Memory as EndMemory}
+use Rattle.once_machine.specs.declared.step.Ending.{Ending}
+use Rattle.once_machine.specs.declared.step.Place.{Place}
+use Rattle.once_machine.specs.declared.step.Rest.TheVariants.{Wait as RestWait}
+use Rattle.once_machine.specs.declared.step.Step.TheVariants.{Resting}
+use Rattle.once_machine.specs.Machine.{SharedState, look_answer, pass_entries}
+use Rattle.once_machine.specs.declared.step.Step.TheVariants.{UnderWay}
+use Rattle.once_machine.proofs.History.Cells.{holder_unset, set_free}
+use Rattle.once_machine.proofs.Input.Headline.{task_fits}
+use Rattle.once_machine.proofs.Invariant.Facts.{AtPlace, AtStep, MayLeave}
+use Rattle.once_machine.proofs.Invariant.Kept.{releasing_holds}
+use Rattle.once_machine.proofs.Moment.Pages.{door_of, queue_of}
+use Rattle.once_machine.proofs.Moment.Step.{Moment, grown, moment, stands, told}
+use Rattle.once_machine.proofs.Told.Wakers.{look_own, own_wakers}
 use Rattle.once_parts.specs.Page.{queue_of as section_queue}
 use Rattle.once_parts.specs.Sections.{IsOwnListing, IsSection}
 

@@ -3,9 +3,9 @@ use Rattle.std.proofs.Common.{◌≡◌, ℕ, zero, suc, Bool, inl, inr, ⊎_eli
 use Rattle.std.proofs.lemmas.Bool.{cases_eq, false≢true}
 use Rattle.std.proofs.lemmas.List.{append-nil}
 use Rattle.pagebook.specs.Pages.{Agrees, Apart, Held, Moves, Notes, put, rewritten}
-use Rattle.once_world.specs.Record.{Entry}
-use Rattle.once_world.specs.Book.{IsBook, Page, TaskState}
-use Rattle.once_world.proofs.Moment.Pages.{set_here, set_other}
+use Rattle.once_machine.specs.Record.{Entry}
+use Rattle.once_machine.specs.Book.{IsBook, Page, TaskState}
+use Rattle.once_machine.proofs.Moment.Pages.{set_here, set_other}
 use Rattle.once_parts.specs.Kept.{Adds, IsKept, IsState, Leaves, Sheet, entries_on, most, pages_in, sheet, sheets, writing_sheet}
 use Rattle.once_parts.proofs.Moments.Mine.{OnlyOf, on_append}
 

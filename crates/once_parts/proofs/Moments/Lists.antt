@@ -2,14 +2,14 @@
 use Rattle.std.proofs.Common.{◌≡◌, ◌⊎◌, ℕ, Bool, true, false, ◌||◌, Option, Some, ⊎_elim, refl, sym, ap, ◌∙◌}
 use Rattle.std.specs.Option.{is_some}
 use Rattle.std.proofs.lemmas.Bool.{true≢false}
-use Rattle.once_queue.specs.declared.word.Sees.{Sees}
-use Rattle.once_queue.specs.declared.word.Sees.TheVariants.{Set, Free, Taken}
-use Rattle.once_queue.specs.declared.waiters.Answer.{Answer}
-use Rattle.once_queue.specs.declared.waiters.Answer.TheVariants.{Memory}
-use Rattle.once_queue.specs.Claims.{Claims, Claimant}
-use Rattle.once_queue.specs.Listings.{kept_ticket}
-use Rattle.once_queue.specs.Sections.{DidList}
-use Rattle.once_world.specs.Machine.{head_after, list_answer, listed_list, listed_ticket}
+use Rattle.once_machine.specs.declared.word.Sees.{Sees}
+use Rattle.once_machine.specs.declared.word.Sees.TheVariants.{Set, Free, Taken}
+use Rattle.once_machine.specs.declared.waiters.Answer.{Answer}
+use Rattle.once_machine.specs.declared.waiters.Answer.TheVariants.{Memory}
+use Rattle.once_machine.specs.Claims.{Claims, Claimant}
+use Rattle.once_machine.specs.Listings.{kept_ticket}
+use Rattle.once_machine.specs.Sections.{DidList}
+use Rattle.once_machine.specs.Machine.{head_after, list_answer, listed_list, listed_ticket}
 use Rattle.once_parts.specs.Named.{named}
 use Rattle.once_parts.specs.Steps.{answer_as}
 use Rattle.once_parts.proofs.Moments.Named.{kept_named, list_named, ticket_named, without_named}

@@ -1,13 +1,13 @@
 -- A look at the list is the look of the machine on the page: the same answer, flag, listings and ticket.
 use Rattle.std.proofs.Common.{◌≡◌, ℕ, Bool, true, false, cond, Some, refl, sym, ap, ◌∙◌}
 use Rattle.std.specs.Option.{is_some, option_flatten}
-use Rattle.once_queue.specs.declared.word.Sees.{Sees}
-use Rattle.once_queue.specs.declared.word.Sees.TheVariants.{Set, Free, Taken}
-use Rattle.once_queue.specs.declared.waiters.Answer.{Answer}
-use Rattle.once_queue.specs.declared.waiters.Answer.TheVariants.{Listed, Held}
-use Rattle.once_queue.specs.Claims.{Claims, Claimant}
-use Rattle.once_queue.specs.Listings.{own_listing}
-use Rattle.once_world.specs.Machine.{head_after, look_answer, looked_list, looked_ticket}
+use Rattle.once_machine.specs.declared.word.Sees.{Sees}
+use Rattle.once_machine.specs.declared.word.Sees.TheVariants.{Set, Free, Taken}
+use Rattle.once_machine.specs.declared.waiters.Answer.{Answer}
+use Rattle.once_machine.specs.declared.waiters.Answer.TheVariants.{Listed, Held}
+use Rattle.once_machine.specs.Claims.{Claims, Claimant}
+use Rattle.once_machine.specs.Listings.{own_listing}
+use Rattle.once_machine.specs.Machine.{head_after, look_answer, looked_list, looked_ticket}
 use Rattle.once_parts.specs.Named.{named}
 use Rattle.once_parts.specs.Steps.{answer_as}
 use Rattle.once_parts.proofs.Moments.Named.{uncalled_named, without_named}

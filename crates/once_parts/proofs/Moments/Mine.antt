@@ -4,16 +4,20 @@ use Rattle.std.proofs.lemmas.Bool.Decides.{nat_tests}
 use Rattle.std.proofs.lemmas.Grind.{common_steps}
 use Rattle.std.proofs.lemmas.List.{reverse-append}
 use Rattle.pagebook.specs.Pages.{Apart, Held}
-use Rattle.once_queue.specs.declared.waiters.Listing.{Listing}
-use Rattle.once_queue.proofs.Listing.Members.{eqb_self}
-use Rattle.once_core.specs.Table.{Next}
-use Rattle.once_world.specs.Places.{Progress, More, Ended, EndPending}
-use Rattle.once_world.specs.Record.{Entry, Look, is_of}
-use Rattle.once_world.specs.declared.record.Ran.{Ran as Answer}
-use Rattle.once_world.specs.declared.record.Ran.TheVariants.{Pending as RanPending}
-use Rattle.once_world.specs.Book.{Page, TaskState}
-use Rattle.once_world.specs.Machine.{Step, Resting, UnderWay, Finished, claim_entries, drop_entries, freed_entries, pass_entries, progress_entries, release_entry}
-use Rattle.once_world.proofs.Moment.Step.{told}
+use Rattle.once_machine.specs.declared.waiters.Listing.{Listing}
+use Rattle.once_machine.proofs.Listing.Members.{eqb_self}
+use Rattle.once_machine.specs.Table.{Next}
+use Rattle.once_machine.specs.declared.step.Progress.{Progress}
+use Rattle.once_machine.specs.declared.step.Progress.TheVariants.{More, Ended}
+use Rattle.once_machine.specs.declared.step.Ending.TheVariants.{Pending as EndPending}
+use Rattle.once_machine.specs.Record.{Entry, Look, is_of}
+use Rattle.once_machine.specs.declared.record.Ran.{Ran as Answer}
+use Rattle.once_machine.specs.declared.record.Ran.TheVariants.{Pending as RanPending}
+use Rattle.once_machine.specs.Book.{Page, TaskState}
+use Rattle.once_machine.specs.Machine.{claim_entries, drop_entries, freed_entries, pass_entries, progress_entries, release_entry}
+use Rattle.once_machine.specs.declared.step.Step.{Step}
+use Rattle.once_machine.specs.declared.step.Step.TheVariants.{Resting, UnderWay, Finished}
+use Rattle.once_machine.proofs.Moment.Step.{told}
 use Rattle.once_parts.specs.Kept.{entries_of, entries_on, hand, locked}
 
 -- the entries of the one list and then of the other

@@ -2,10 +2,10 @@
 use Rattle.std.proofs.Common.{◌≡◌, ℕ, Bool, cond, List, [], ◌∷◌, ◌++◌, map, Option, Some, None, refl, ap, ◌∙◌, arith}
 use Rattle.std.specs.Option.{is_some, option_flatten, option_map, unwrap_or}
 use Rattle.std.proofs.lemmas.Grind.{common_steps}
-use Rattle.once_queue.specs.Numbers.{member}
-use Rattle.once_queue.specs.declared.waiters.Listing.{Listing}
-use Rattle.once_queue.specs.Listings.{above_each, call_first, find_listing, first_waker, kept_ticket, least_from, left_list, list_with}
-use Rattle.once_queue.specs.Listings.{list_without, next_waker, own_listing, passes_turn, take_out, ticket_for, tickets, wakers_of, with_waker}
+use Rattle.once_machine.specs.Numbers.{member}
+use Rattle.once_machine.specs.declared.waiters.Listing.{Listing}
+use Rattle.once_machine.specs.Listings.{above_each, call_first, find_listing, first_waker, kept_ticket, least_from, left_list, list_with}
+use Rattle.once_machine.specs.Listings.{list_without, next_waker, own_listing, passes_turn, take_out, ticket_for, tickets, wakers_of, with_waker}
 use Rattle.once_parts.specs.Named.{named, named_listing}
 
 module _ {W : Type 0} (whose : W → ℕ) where

@@ -4,11 +4,11 @@ use Rattle.std.specs.Option.{option_to_list}
 use Rattle.std.specs.List.{cons_option}
 use mathlib.Core.Logic.{∥∥₁_elim}
 use base.Stored.{Coded-set, coded_list, coded_ℕ}
-use Rattle.once_queue.specs.declared.waiters.Listing.{Listing}
-use Rattle.once_queue.specs.declared.waiters.Out.{Out}
-use Rattle.once_queue.specs.Listings.{left_list, next_waker, passes_turn, wakers_of}
-use Rattle.once_queue.specs.Sections.{HandsAll, HandsBy, Releases}
-use Rattle.once_world.specs.Machine.{release_list, release_wakers}
+use Rattle.once_machine.specs.declared.waiters.Listing.{Listing}
+use Rattle.once_machine.specs.declared.waiters.Out.{Out}
+use Rattle.once_machine.specs.Listings.{left_list, next_waker, passes_turn, wakers_of}
+use Rattle.once_machine.specs.Sections.{HandsAll, HandsBy, Releases}
+use Rattle.once_machine.specs.Machine.{release_list, release_wakers}
 use Rattle.once_parts.specs.Named.{named, named_one, named_out}
 use Rattle.once_parts.proofs.Moments.Named.{call_named, first_named, left_named, next_named, passes_named, wakers_named}
 

@@ -2,18 +2,21 @@
 use Rattle.std.proofs.Common.{◌≡◌, ℕ, Option, Some, None, refl, sym, ap, ◌∙◌, arith}
 use Rattle.std.specs.Option.{option_map}
 use Rattle.std.proofs.lemmas.Grind.{common_steps}
-use Rattle.once_queue.specs.Ops.{ticket_in}
-use Rattle.once_queue.specs.declared.waiters.Answer.{Answer}
-use Rattle.once_queue.specs.declared.waiters.Answer.TheVariants.{Ready, Claimed, Listed, Memory}
-use Rattle.once_core.specs.declared.step.Polled.{Polled}
-use Rattle.once_core.specs.declared.step.Polled.TheVariants.{Error}
-use Rattle.once_core.specs.Table.{Next, Told, Was, Refused, Ran, PutValue}
-use Rattle.once_core.specs.Table.{after, after_copy, after_list, after_look}
-use Rattle.once_core.specs.Table.{after_run, call_at, closing_at, next_at}
-use Rattle.once_core.specs.Steps.{leave_place, release_place, step_of_drop, step_of_poll}
-use Rattle.once_world.specs.Machine.{EndMemory, EndError, EndValue, Ending, Step}
-use Rattle.once_world.specs.Machine.{Place, AtStart, AtLook, AtList, AtRun}
-use Rattle.once_world.specs.Machine.{AtPut}
+use Rattle.once_machine.specs.Ops.{ticket_in}
+use Rattle.once_machine.specs.declared.waiters.Answer.{Answer}
+use Rattle.once_machine.specs.declared.waiters.Answer.TheVariants.{Ready, Claimed, Listed, Memory}
+use Rattle.once_machine.specs.declared.step.Polled.{Polled}
+use Rattle.once_machine.specs.declared.step.Polled.TheVariants.{Error}
+use Rattle.once_machine.specs.Table.{Next, Told, Was, Refused, Ran, PutValue}
+use Rattle.once_machine.specs.Table.{after, after_copy, after_list, after_look}
+use Rattle.once_machine.specs.Table.{after_run, call_at, closing_at, next_at}
+use Rattle.once_machine.specs.Steps.{leave_place, release_place, step_of_drop, step_of_poll}
+use Rattle.once_machine.specs.declared.step.Ending.TheVariants.{Memory as EndMemory, Error as EndError, Value as EndValue}
+use Rattle.once_machine.specs.declared.step.Ending.{Ending}
+use Rattle.once_machine.specs.declared.step.Step.{Step}
+use Rattle.once_machine.specs.declared.step.Place.{Place}
+use Rattle.once_machine.specs.declared.step.Place.TheVariants.{Start as AtStart, Look as AtLook, List as AtList, Run as AtRun}
+use Rattle.once_machine.specs.declared.step.Place.TheVariants.{Put as AtPut}
 use Rattle.once_parts.specs.Steps.{StandsForStep, answer_as, call_as, next_as, place_as, step_as, told_as}
 
 module _ {W V Q P : Type 0} (f : W → V) (g : Q → P) where

@@ -4,17 +4,20 @@ use Rattle.std.proofs.lemmas.Grind.{common_steps}
 use Rattle.std.proofs.lemmas.List.{append-nil}
 use Rattle.std.specs.Prelude.{⊤}
 use Rattle.std.specs.Option.{is_some, option_map}
-use Rattle.once_queue.specs.declared.waiters.Answer.{Answer}
-use Rattle.once_queue.specs.declared.waiters.Answer.TheVariants.{Ready, Gone}
-use Rattle.once_queue.specs.Ops.{ticket_in}
-use Rattle.once_queue.specs.declared.waiters.Op.{Op}
-use Rattle.once_queue.specs.declared.waiters.Op.TheVariants.{Look, List as ListOwn, Release, Leave}
-use Rattle.once_core.specs.Table.{Call, Section, Told, Got, PutQueue, Ran as PolledInit, TriedFast, TriedQuick, Was, after, call_at}
-use Rattle.once_world.specs.Record.{Entry}
-use Rattle.once_world.specs.declared.record.Ran.{Ran as InitAnswer}
-use Rattle.once_world.specs.declared.record.Ran.TheVariants.{Pending as RanPending}
-use Rattle.once_world.specs.Machine.{claim_entries, is_claim, pass_entries, records, release_entry, unless_gone}
-use Rattle.once_world.specs.Places.{Place, AtStart, Step, Resting, UnderWay, Finished}
+use Rattle.once_machine.specs.declared.waiters.Answer.{Answer}
+use Rattle.once_machine.specs.declared.waiters.Answer.TheVariants.{Ready, Gone}
+use Rattle.once_machine.specs.Ops.{ticket_in}
+use Rattle.once_machine.specs.declared.waiters.Op.{Op}
+use Rattle.once_machine.specs.declared.waiters.Op.TheVariants.{Look, List as ListOwn, Release, Leave}
+use Rattle.once_machine.specs.Table.{Call, Section, Told, Got, PutQueue, Ran as PolledInit, TriedFast, TriedQuick, Was, after, call_at}
+use Rattle.once_machine.specs.Record.{Entry}
+use Rattle.once_machine.specs.declared.record.Ran.{Ran as InitAnswer}
+use Rattle.once_machine.specs.declared.record.Ran.TheVariants.{Pending as RanPending}
+use Rattle.once_machine.specs.Machine.{claim_entries, is_claim, pass_entries, records, release_entry, unless_gone}
+use Rattle.once_machine.specs.declared.step.Place.{Place}
+use Rattle.once_machine.specs.declared.step.Place.TheVariants.{Start as AtStart}
+use Rattle.once_machine.specs.declared.step.Step.{Step}
+use Rattle.once_machine.specs.declared.step.Step.TheVariants.{Resting, UnderWay, Finished}
 use Rattle.once_parts.specs.Named.{handed_in}
 use Rattle.once_parts.specs.Own.{Own}
 use Rattle.once_parts.specs.Page.{Went, call_in, next_of, queue_of}

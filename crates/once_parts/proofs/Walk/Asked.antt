@@ -2,8 +2,12 @@
 use Rattle.std.proofs.Common.{◌≡◌, ℕ, Bool, true}
 use Rattle.std.specs.Prelude.{⊤}
 use Rattle.pagebook.specs.Slot.{Placed}
-use Rattle.once_core.specs.Table.{Asks, SideCan, call_at}
-use Rattle.once_world.specs.Places.{Place, AtPut, AtRun, Progress, Step, Resting, UnderWay, Finished}
+use Rattle.once_machine.specs.Table.{Asks, SideCan, call_at}
+use Rattle.once_machine.specs.declared.step.Place.{Place}
+use Rattle.once_machine.specs.declared.step.Place.TheVariants.{Put as AtPut, Run as AtRun}
+use Rattle.once_machine.specs.declared.step.Progress.{Progress}
+use Rattle.once_machine.specs.declared.step.Step.{Step}
+use Rattle.once_machine.specs.declared.step.Step.TheVariants.{Resting, UnderWay, Finished}
 use Rattle.once_parts.specs.Own.{Own}
 use Rattle.once_parts.specs.Parts.{parts_can}
 use Rattle.once_parts.specs.Sides.{Sided}

@@ -4,11 +4,15 @@ use Rattle.std.specs.Prelude.{⊤}
 use Rattle.std.proofs.lemmas.Bool.{false≢true}
 use Rattle.std.proofs.lemmas.Grind.{common_steps}
 use mathlib.Core.List.{IsPrefix}
-use Rattle.once_core.specs.Steps.{in_call, is_resting, step_of_drop, step_of_poll}
-use Rattle.once_world.specs.Places.{EndDropped, More, RestRun, RestStart, RestWait, Resting, Step}
-use Rattle.once_world.specs.Record.{Begin, DropBegin, DropEnd, Entry}
-use Rattle.once_world.specs.Book.{TaskState}
-use Rattle.once_world.specs.Machine.{drop_entries}
+use Rattle.once_machine.specs.Steps.{in_call, is_resting, step_of_drop, step_of_poll}
+use Rattle.once_machine.specs.declared.step.Ending.TheVariants.{Dropped as EndDropped}
+use Rattle.once_machine.specs.declared.step.Progress.TheVariants.{More}
+use Rattle.once_machine.specs.declared.step.Rest.TheVariants.{Run as RestRun, Start as RestStart, Wait as RestWait}
+use Rattle.once_machine.specs.declared.step.Step.TheVariants.{Resting}
+use Rattle.once_machine.specs.declared.step.Step.{Step}
+use Rattle.once_machine.specs.Record.{Begin, DropBegin, DropEnd, Entry}
+use Rattle.once_machine.specs.Book.{TaskState}
+use Rattle.once_machine.specs.Machine.{drop_entries}
 use Rattle.once_parts.specs.Kept.{Grew, entries_of}
 use Rattle.once_parts.specs.Steps.{step_as}
 use Rattle.once_parts.proofs.Moments.Steps.{drop_as, poll_as}

@@ -2,9 +2,12 @@
 use Rattle.std.proofs.Common.{◌≡◌, ℕ, Bool}
 use Rattle.std.specs.Prelude.{⊤}
 use Rattle.pagebook.specs.Slot.{Placed}
-use Rattle.once_core.specs.Steps.{SideTells}
-use Rattle.once_core.specs.Table.{Advances}
-use Rattle.once_world.specs.Places.{More, Progress, Step, UnderWay}
+use Rattle.once_machine.specs.Steps.{SideTells}
+use Rattle.once_machine.specs.Table.{Advances}
+use Rattle.once_machine.specs.declared.step.Progress.TheVariants.{More}
+use Rattle.once_machine.specs.declared.step.Progress.{Progress}
+use Rattle.once_machine.specs.declared.step.Step.{Step}
+use Rattle.once_machine.specs.declared.step.Step.TheVariants.{UnderWay}
 use Rattle.once_parts.specs.Own.{Own}
 use Rattle.once_parts.specs.Walks.{Stands}
 use Rattle.once_parts.specs.Parts.{parts_did}

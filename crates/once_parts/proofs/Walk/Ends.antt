@@ -2,11 +2,16 @@
 use Rattle.std.proofs.Common.{◌≡◌, ℕ, Bool, true, false, [], ◌∷◌, refl, sym, ap, ◌∙◌, subst}
 use Rattle.std.specs.Prelude.{⊤}
 use Rattle.std.proofs.lemmas.Bool.{false≢true}
-use Rattle.once_core.specs.Steps.{in_call}
-use Rattle.once_world.specs.Places.{EndDropped, EndError, EndPending, Ended, Ending, Finished, Progress, Resting, Step, UnderWay}
-use Rattle.once_world.specs.Record.{Entry}
-use Rattle.once_world.specs.declared.record.Ran.{Ran as Answer}
-use Rattle.once_world.specs.Machine.{end_entry, progress_entries}
+use Rattle.once_machine.specs.Steps.{in_call}
+use Rattle.once_machine.specs.declared.step.Ending.TheVariants.{Dropped as EndDropped, Error as EndError, Pending as EndPending}
+use Rattle.once_machine.specs.declared.step.Progress.TheVariants.{Ended}
+use Rattle.once_machine.specs.declared.step.Ending.{Ending}
+use Rattle.once_machine.specs.declared.step.Step.TheVariants.{Finished, Resting, UnderWay}
+use Rattle.once_machine.specs.declared.step.Progress.{Progress}
+use Rattle.once_machine.specs.declared.step.Step.{Step}
+use Rattle.once_machine.specs.Record.{Entry}
+use Rattle.once_machine.specs.declared.record.Ran.{Ran as Answer}
+use Rattle.once_machine.specs.Machine.{end_entry, progress_entries}
 use Rattle.once_parts.specs.Kept.{Grew}
 use Rattle.once_parts.specs.Own.{Own}
 use Rattle.once_parts.specs.Sides.{Sided}

@@ -1,15 +1,16 @@
 -- What is known of a call holds at the place to which each line of the table leads.
 use Rattle.std.proofs.Common.{◌≡◌, ℕ, Bool, true, false, [], Option, Some, None, refl, sym, ◌∙◌, subst}
 use Rattle.std.specs.Prelude.{⊤}
-use Rattle.once_queue.specs.declared.waiters.Answer.{Answer}
-use Rattle.once_queue.specs.declared.waiters.Answer.TheVariants.{Ready, Claimed, Listed, Memory}
-use Rattle.once_core.specs.declared.step.Polled.{Polled}
-use Rattle.once_core.specs.declared.step.Polled.TheVariants.{Pending, Value, Error}
-use Rattle.once_core.specs.Table.{Next, after_copy, after_count_in, after_count_out, after_door_again, after_door_get, after_door_put, after_fast}
-use Rattle.once_world.specs.Places.{Ending, EndPending, EndValue, EndError, EndMemory, EndFull, EndDropped}
-use Rattle.once_core.specs.Steps.{leave_place, release_place}
-use Rattle.once_core.specs.Table.{after_list, after_load, after_look, after_quick, after_run, after_start, next_at}
-use Rattle.once_world.specs.declared.record.Ran.TheVariants.{Error as RanError}
+use Rattle.once_machine.specs.declared.waiters.Answer.{Answer}
+use Rattle.once_machine.specs.declared.waiters.Answer.TheVariants.{Ready, Claimed, Listed, Memory}
+use Rattle.once_machine.specs.declared.step.Polled.{Polled}
+use Rattle.once_machine.specs.declared.step.Polled.TheVariants.{Pending, Value, Error}
+use Rattle.once_machine.specs.Table.{Next, after_copy, after_count_in, after_count_out, after_door_again, after_door_get, after_door_put, after_fast}
+use Rattle.once_machine.specs.declared.step.Ending.{Ending}
+use Rattle.once_machine.specs.declared.step.Ending.TheVariants.{Pending as EndPending, Value as EndValue, Error as EndError, Memory as EndMemory, Full as EndFull, Dropped as EndDropped}
+use Rattle.once_machine.specs.Steps.{leave_place, release_place}
+use Rattle.once_machine.specs.Table.{after_list, after_load, after_look, after_quick, after_run, after_start, next_at}
+use Rattle.once_machine.specs.declared.record.Ran.TheVariants.{Error as RanError}
 use Rattle.once_parts.specs.Own.{Own}
 use Rattle.once_parts.specs.Sides.{Sided}
 use Rattle.once_parts.specs.Walks.{Fits, FitsAt, GoesOn, HasBegun, MayEnd}

@@ -6,26 +6,33 @@ use Rattle.std.proofs.lemmas.Grind.{common_steps}
 use Rattle.std.proofs.lemmas.List.{append-nil}
 use Rattle.std.specs.Option.{option_map}
 use Rattle.pagebook.specs.Slot.{Placed}
-use Rattle.once_queue.specs.Word.{is_ready_bit, is_zero}
-use Rattle.once_queue.specs.Ops.{ticket_in}
-use Rattle.once_queue.specs.declared.waiters.Op.{Op}
-use Rattle.once_queue.specs.declared.waiters.Op.TheVariants.{Look, List as ListOwn, Release, Leave}
-use Rattle.once_queue.specs.declared.waiters.Answer.{Answer}
-use Rattle.once_queue.specs.declared.waiters.Answer.TheVariants.{Ready, Claimed, Listed, Released, Left}
-use Rattle.once_core.specs.declared.step.Polled.{Polled}
-use Rattle.once_core.specs.declared.step.Polled.TheVariants.{Pending, Error}
-use Rattle.once_core.specs.Steps.{MayClose, SideTells, Wakes, out_of, is_value}
-use Rattle.once_core.specs.Table.{Follows, Line, Looked, MayRefuse, Next, Refused, Told, wants_copy}
-use Rattle.once_core.specs.Table.{Added, CountedIn, CountedOut, Got, Loaded, PutQueue, PutValue, Ran as PolledInit, Taken, TriedFast, TriedQuick, Was}
-use Rattle.once_core.specs.Table.{after, after_copy, after_run, next_at}
-use Rattle.once_world.specs.Places.{Ending, More, Progress, Step, UnderWay}
-use Rattle.once_world.specs.Places.{Place, AtStart, AtTryQuick, AtDoorGet, AtDoorPut, AtCountIn, AtWaitLoad, AtLook, AtList}
-use Rattle.once_world.specs.Places.{AtRun, AtPut, AtFast, AtAddOne, AtDoorAgain, AtRelease, AtLeave, AtCountOut, AtDoorTake}
-use Rattle.once_world.specs.declared.record.Ran.{Ran as InitAnswer}
-use Rattle.once_world.specs.declared.record.Ran.TheVariants.{Error as RanError}
-use Rattle.once_world.specs.Record.{Entry}
-use Rattle.once_world.specs.Book.{TaskState}
-use Rattle.once_world.specs.Machine.{keeps, kept_after, records}
+use Rattle.once_machine.specs.Word.{is_ready_bit, is_zero}
+use Rattle.once_machine.specs.Ops.{ticket_in}
+use Rattle.once_machine.specs.declared.waiters.Op.{Op}
+use Rattle.once_machine.specs.declared.waiters.Op.TheVariants.{Look, List as ListOwn, Release, Leave}
+use Rattle.once_machine.specs.declared.waiters.Answer.{Answer}
+use Rattle.once_machine.specs.declared.waiters.Answer.TheVariants.{Ready, Claimed, Listed, Released, Left}
+use Rattle.once_machine.specs.declared.step.Polled.{Polled}
+use Rattle.once_machine.specs.declared.step.Polled.TheVariants.{Pending, Error}
+use Rattle.once_machine.specs.Steps.{MayClose, SideTells, Wakes, out_of, is_value}
+use Rattle.once_machine.specs.Table.{Follows, Line, Looked, MayRefuse, Next, Refused, Told, wants_copy}
+use Rattle.once_machine.specs.Table.{Added, CountedIn, CountedOut, Got, Loaded, PutQueue, PutValue, Ran as PolledInit, Taken, TriedFast, TriedQuick, Was}
+use Rattle.once_machine.specs.Table.{after, after_copy, after_run, next_at}
+use Rattle.once_machine.specs.declared.step.Ending.{Ending}
+use Rattle.once_machine.specs.declared.step.Progress.TheVariants.{More}
+use Rattle.once_machine.specs.declared.step.Progress.{Progress}
+use Rattle.once_machine.specs.declared.step.Step.{Step}
+use Rattle.once_machine.specs.declared.step.Step.TheVariants.{UnderWay}
+use Rattle.once_machine.specs.declared.step.Place.{Place}
+use Rattle.once_machine.specs.declared.step.Place.TheVariants.{Start as AtStart, TryQuick as AtTryQuick, DoorGet as AtDoorGet, DoorPut as AtDoorPut}
+use Rattle.once_machine.specs.declared.step.Place.TheVariants.{CountIn as AtCountIn, WaitLoad as AtWaitLoad, Look as AtLook, List as AtList}
+use Rattle.once_machine.specs.declared.step.Place.TheVariants.{Run as AtRun, Put as AtPut, Fast as AtFast, AddOne as AtAddOne, DoorAgain as AtDoorAgain}
+use Rattle.once_machine.specs.declared.step.Place.TheVariants.{Release as AtRelease, Leave as AtLeave, CountOut as AtCountOut, DoorTake as AtDoorTake}
+use Rattle.once_machine.specs.declared.record.Ran.{Ran as InitAnswer}
+use Rattle.once_machine.specs.declared.record.Ran.TheVariants.{Error as RanError}
+use Rattle.once_machine.specs.Record.{Entry}
+use Rattle.once_machine.specs.Book.{TaskState}
+use Rattle.once_machine.specs.Machine.{keeps, kept_after, records}
 use Rattle.once_parts.specs.Kept.{entries_of}
 use Rattle.once_parts.specs.Named.{handed_in}
 use Rattle.once_parts.specs.Own.{Own, Turned, told}

@@ -2,12 +2,13 @@
 use Rattle.std.proofs.Common.{◌≡◌, ℕ, List, [], ◌∷◌, ◌++◌, append_assoc, reverse, refl, sym, ap, ◌∙◌}
 use Rattle.std.proofs.lemmas.List.{append-nil, reverse-append}
 use mathlib.Core.List.{IsPrefix}
-use Rattle.once_core.specs.Table.{Next}
-use Rattle.once_world.specs.Places.{Progress, More, Ended}
-use Rattle.once_world.specs.Record.{Entry, handed_by}
-use Rattle.once_world.specs.declared.record.Ran.{Ran as Answer}
-use Rattle.once_world.specs.Book.{TaskState}
-use Rattle.once_world.specs.Machine.{progress_entries}
+use Rattle.once_machine.specs.Table.{Next}
+use Rattle.once_machine.specs.declared.step.Progress.{Progress}
+use Rattle.once_machine.specs.declared.step.Progress.TheVariants.{More, Ended}
+use Rattle.once_machine.specs.Record.{Entry, handed_by}
+use Rattle.once_machine.specs.declared.record.Ran.{Ran as Answer}
+use Rattle.once_machine.specs.Book.{TaskState}
+use Rattle.once_machine.specs.Machine.{progress_entries}
 use Rattle.once_parts.specs.Kept.{Grew, entries_of}
 use Rattle.once_parts.specs.Own.{Own, Turned, told}
 use Rattle.once_parts.specs.Sides.{Sided}

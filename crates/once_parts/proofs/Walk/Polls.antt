@@ -3,9 +3,13 @@ use Rattle.std.proofs.Common.{◌≡◌, ℕ, false, true, List, [], ◌∷◌, 
 use Rattle.std.specs.Prelude.{Bool, ⊤}
 use Rattle.pagebook.specs.Slot.{Placed}
 use Rattle.std.proofs.lemmas.Bool.{false≢true}
-use Rattle.once_core.specs.Steps.{step_of_poll}
-use Rattle.once_world.specs.Places.{EndPending, Ended, Ending, Finished, More, Step}
-use Rattle.once_world.specs.Record.{Begin, Entry}
+use Rattle.once_machine.specs.Steps.{step_of_poll}
+use Rattle.once_machine.specs.declared.step.Ending.TheVariants.{Pending as EndPending}
+use Rattle.once_machine.specs.declared.step.Progress.TheVariants.{Ended, More}
+use Rattle.once_machine.specs.declared.step.Ending.{Ending}
+use Rattle.once_machine.specs.declared.step.Step.TheVariants.{Finished}
+use Rattle.once_machine.specs.declared.step.Step.{Step}
+use Rattle.once_machine.specs.Record.{Begin, Entry}
 use Rattle.once_parts.specs.declared.task.Idle.{Idle}
 use Rattle.once_parts.specs.Idle.{is_over, step_of}
 use Rattle.once_parts.specs.Kept.{Grew, entries_of}
@@ -17,7 +21,7 @@ use Rattle.once_parts.specs.Walks.{Spans, Stands, StandsOn, Walked, end_of, hand
 use Rattle.once_parts.proofs.Idles.{live, not_in_call, over, rests}
 use Rattle.once_parts.proofs.Walk.Begins.{grew_from, poll_begins}
 use Rattle.once_parts.proofs.Walk.Ends.{poll_ended}
-use Rattle.once_world.specs.Machine.{progress_entries}
+use Rattle.once_machine.specs.Machine.{progress_entries}
 use Rattle.once_parts.proofs.Walk.Logs.{called, grew_on}
 
 -- a task that is not finished after a poll was told Pending

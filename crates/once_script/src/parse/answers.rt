@@ -1,10 +1,10 @@
 //! What an init answers.
 ghost use Rattle.std.specs.Prelude.{MatchOption, IfOk, IfSome, IsSome, Option, List, ℕ};
-ghost use Rattle.once_world.specs.declared.record.Ran.{Ran};
+ghost use Rattle.once_machine.specs.declared.record.Ran.{Ran};
 ghost use Rattle.once_script.specs.Answer.{IsAnswer, IsListed, AreAnswers};
 
 use crate::parse::number::parse_number;
-use once_world::record::Ran;
+use once_machine::record::Ran;
 use std::alloc::{AllocError, Global};
 
 /// Reads what one poll of an init answers.

@@ -1,7 +1,7 @@
 //! The lines of a record after the first.
 use crate::parse::answers::{parse_answer, parse_answers};
 use crate::parse::number::parse_number;
-use once_world::record::{Call, Entry, Got, Ran, Reply};
+use once_machine::record::{Call, Entry, Got, Ran, Reply};
 use std::alloc::{AllocError, Global};
 
 /// Reads the line of an entry, as `EntryLine` and `FullLine` write it. The call of an owner has to be a full one.

@@ -1,6 +1,6 @@
 //! The lines of a text.
 ghost use Rattle.std.specs.Prelude.{◌≡◌, ◌≢◌, IfOk, MatchOption, ℕ};
-ghost use Rattle.once_world.specs.declared.record.Kind.{Kind};
+ghost use Rattle.once_machine.specs.declared.record.Kind.{Kind};
 ghost use Rattle.once_script.specs.Text.{IsLine, IsOpening};
 ghost use Rattle.once_script.specs.Script.{lines_in, texts_of, without_last_feed, AreLines, IsStop};
 ghost use Rattle.once_script.specs.declared.parse.Line.{Line};

@@ -2,7 +2,7 @@
 ghost use Rattle.std.specs.Prelude.{◌≡◌, ◌<◌, ◌≤◌, ◌-◌, ◌^◌, IfSome};
 ghost use Rattle.once_script.specs.Number.{is_plain, number_of, limit_of};
 
-use once_queue::word::MAX_WAITERS;
+use once_machine::word::MAX_WAITERS;
 
 /// Reads how many tasks may be counted in.
 ///

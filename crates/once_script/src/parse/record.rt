@@ -5,7 +5,7 @@ use crate::parse::Opening;
 use crate::parse::entries::{entry_form, parse_entry};
 use crate::parse::lines::{opening_in, split_lines};
 use crate::parse::number::parse_number;
-use once_world::record::{Entry, Kind};
+use once_machine::record::{Entry, Kind};
 use std::alloc::{AllocError, AllocFailed, Global};
 
 /// All that the text of a record says.

@@ -1,8 +1,8 @@
 //! The cells of a row.
 use crate::listed::Listed;
-use once_core::plain::Core;
-use once_core::step::{Place, Rest, Step};
+use once_machine::step::{Place, Rest, Step};
 use once_script::print::EntryLine;
+use once_world::plain::Core;
 use once_world::world::Entry;
 use std::alloc::{AllocError, Global};
 use std::fmt;

@@ -1,22 +1,26 @@
 -- A queue stands at the door while a task waits, and none is kept there once the set cell is left alone.
 use Rattle.std.proofs.Common.{◌≡◌, ◌≢◌, ◌<◌, ℕ, Bool, true, false, ◌==◌, ◌⊎◌, inl, inr, ⊎_elim, List, [], ◌∷◌, Option, Some, None, refl, sym, ap, ◌∙◌, subst}
 use Rattle.std.proofs.lemmas.Bool.{false≢true, cases_eq}
-use Rattle.once_world.specs.Record.{Answer, Entry, Kind, OwnerCall, Take, Write, has_call, is_lazy, made_in}
-use Rattle.once_world.specs.Cell.{cell, is_set}
-use Rattle.once_world.specs.Tasks.{Waiting, is_under_way, status}
-use Rattle.once_world.specs.Inputs.{Drop, Go, Input, Looks, Make, Owns, Poll}
-use Rattle.once_world.specs.Log.{standing_queue}
-use Rattle.once_world.specs.Machine.{Finished, SharedState, Outcome, Resting, Step, Task, UnderWay, World, advance, world_after, step_of_poll}
-use Rattle.once_world.specs.Machine.{poll_world_by, step_of_drop, drop_world_by, drop_world, fresh_task, go_world, go_world_by, history_of, in_call}
-use Rattle.once_world.specs.Machine.{is_resting, log_of, make_world, own_world_by, owner_shared, poll_world, put_task, write_shared, world_of}
-use Rattle.once_world.specs.Machine.{step_of}
-use Rattle.once_world.proofs.History.Cells.{holder_unset, none_some}
-use Rattle.once_world.proofs.Listing.Counting.{count_some}
-use Rattle.once_world.proofs.Invariant.Facts.{AtStep, IsSomeDoor, is_counted}
-use Rattle.once_world.proofs.Invariant.Fits.{Fits, StandsFor}
-use Rattle.once_world.proofs.Invariant.Moves.{Puts, puts}
-use Rattle.once_world.proofs.Invariant.Around.{around, place_acts, stands_counted, stands_waiting}
-use Rattle.once_world.proofs.Input.Headline.{task_fits, world_fits}
+use Rattle.once_machine.specs.Record.{Entry, Kind, OwnerCall, Take, Write, has_call, is_lazy, made_in}
+use Rattle.once_machine.specs.declared.record.Ran.{Ran as Answer}
+use Rattle.once_machine.specs.Cell.{cell, is_set}
+use Rattle.once_machine.specs.Tasks.{Waiting, is_under_way, status}
+use Rattle.once_machine.specs.Inputs.{Drop, Go, Input, Looks, Make, Owns, Poll}
+use Rattle.once_machine.specs.Log.{standing_queue}
+use Rattle.once_machine.specs.Machine.{SharedState, Outcome, World, advance, world_after, step_of_poll}
+use Rattle.once_machine.specs.declared.step.Step.TheVariants.{Finished, Resting, UnderWay}
+use Rattle.once_machine.specs.declared.step.Step.{Step}
+use Rattle.once_machine.specs.declared.task.Task.{Task}
+use Rattle.once_machine.specs.Machine.{poll_world_by, step_of_drop, drop_world_by, drop_world, fresh_task, go_world, go_world_by, history_of, in_call}
+use Rattle.once_machine.specs.Machine.{is_resting, log_of, make_world, own_world_by, owner_shared, poll_world, put_task, write_shared, world_of}
+use Rattle.once_machine.specs.Machine.{step_of}
+use Rattle.once_machine.proofs.History.Cells.{holder_unset, none_some}
+use Rattle.once_machine.proofs.Listing.Counting.{count_some}
+use Rattle.once_machine.proofs.Invariant.Facts.{AtStep, IsSomeDoor, is_counted}
+use Rattle.once_machine.proofs.Invariant.Fits.{Fits, StandsFor}
+use Rattle.once_machine.proofs.Invariant.Moves.{Puts, puts}
+use Rattle.once_machine.proofs.Invariant.Around.{around, place_acts, stands_counted, stands_waiting}
+use Rattle.once_machine.proofs.Input.Headline.{task_fits, world_fits}
 use Rattle.once_world.proofs.Door.Logged.{log_stands}
 use Rattle.once_world.proofs.Door.Late.{Clean, clean_step, is_late}
 

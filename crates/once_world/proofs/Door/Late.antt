@@ -2,11 +2,16 @@
 use Rattle.std.proofs.Common.{◌≡◌, ◌<◌, ℕ, Bool, true, false, ◌⊎◌, List, arith}
 use Rattle.std.proofs.lemmas.Bool.Decides.{nat_tests}
 use Rattle.std.proofs.lemmas.Grind.{common_steps}
-use Rattle.once_world.specs.Record.{Answer, Entry, Kind, is_lazy}
-use Rattle.once_world.specs.Machine.{AtCountIn, AtDoorTake, AtStart, SharedState, Place, Step, UnderWay, place_step, step_at}
-use Rattle.once_world.proofs.Invariant.Facts.{AtPlace, AtStep, IsSomeDoor, is_counted, is_counted_at, is_take, is_take_at}
-use Rattle.once_world.proofs.Invariant.Fits.{SharedFits}
-use Rattle.once_world.proofs.Invariant.Around.{Around}
+use Rattle.once_machine.specs.Record.{Entry, Kind, is_lazy}
+use Rattle.once_machine.specs.declared.record.Ran.{Ran as Answer}
+use Rattle.once_machine.specs.Machine.{SharedState, place_step, step_at}
+use Rattle.once_machine.specs.declared.step.Place.TheVariants.{CountIn as AtCountIn, DoorTake as AtDoorTake, Start as AtStart}
+use Rattle.once_machine.specs.declared.step.Place.{Place}
+use Rattle.once_machine.specs.declared.step.Step.{Step}
+use Rattle.once_machine.specs.declared.step.Step.TheVariants.{UnderWay}
+use Rattle.once_machine.proofs.Invariant.Facts.{AtPlace, AtStep, IsSomeDoor, is_counted, is_counted_at, is_take, is_take_at}
+use Rattle.once_machine.proofs.Invariant.Fits.{SharedFits}
+use Rattle.once_machine.proofs.Invariant.Around.{Around}
 
 -- the places whose task will see to the queue at the door of a set cell
 abbrev is_late_at : Place ℕ ℕ → Bool

@@ -1,13 +1,16 @@
 -- The queue log is sound, and tells the queue at the door, after all inputs.
 use Rattle.std.proofs.Common.{◌≡◌, ◌<◌, ℕ, Bool, true, false, ◌==◌, List, [], ◌∷◌, ◌++◌, Option, Some, None, refl}
-use Rattle.once_world.specs.Record.{Answer, Kind, OwnerCall, Parts, ReplaceAnswers, ReplaceValue, Take, Write, has_call, is_lazy, replaces}
-use Rattle.once_world.specs.Inputs.{Drop, Go, Input, Looks, Make, Owns, Poll}
-use Rattle.once_world.specs.Log.{IsSound, standing_queue, take_lines}
-use Rattle.once_world.specs.Machine.{SharedState, QueueLine, Task, World, world_after, poll_world_by, drop_world_by, drop_world, go_world, go_world_by, in_call}
-use Rattle.once_world.specs.Machine.{is_resting, log_of, make_world, own_world_by, owner_shared, owner_lines, poll_world, queue_of, reset_shared, write_shared}
-use Rattle.once_world.specs.Machine.{world_of}
-use Rattle.once_world.proofs.Invariant.Fits.{Fits}
-use Rattle.once_world.proofs.Input.Headline.{task_fits, world_fits}
+use Rattle.once_machine.specs.Record.{Kind, OwnerCall, Parts, ReplaceAnswers, ReplaceValue, Take, Write, has_call, is_lazy, replaces}
+use Rattle.once_machine.specs.declared.record.Ran.{Ran as Answer}
+use Rattle.once_machine.specs.Inputs.{Drop, Go, Input, Looks, Make, Owns, Poll}
+use Rattle.once_machine.specs.Log.{IsSound, standing_queue, take_lines}
+use Rattle.once_machine.specs.Machine.{SharedState, World, world_after, poll_world_by, drop_world_by, drop_world, go_world, go_world_by, in_call}
+use Rattle.once_machine.specs.declared.log.QueueLine.{QueueLine}
+use Rattle.once_machine.specs.declared.task.Task.{Task}
+use Rattle.once_machine.specs.Machine.{is_resting, log_of, make_world, own_world_by, owner_shared, owner_lines, poll_world, queue_of, reset_shared, write_shared}
+use Rattle.once_machine.specs.Machine.{world_of}
+use Rattle.once_machine.proofs.Invariant.Fits.{Fits}
+use Rattle.once_machine.proofs.Input.Headline.{task_fits, world_fits}
 use Rattle.once_world.proofs.Door.Logs.{LogFits, log_step, log_take}
 
 -- the inputs that log nothing

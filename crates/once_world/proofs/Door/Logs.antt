@@ -2,10 +2,15 @@
 use Rattle.std.proofs.Common.{◌≡◌, ◌<◌, ℕ, Bool, false, List, ◌++◌, Option, Some, None, refl, ◌∙◌, arith}
 use Rattle.std.proofs.lemmas.Bool.Decides.{nat_tests}
 use Rattle.std.proofs.lemmas.Grind.{common_steps}
-use Rattle.once_world.specs.Record.{Answer, Entry, Kind, is_lazy}
-use Rattle.once_world.specs.Log.{IsSound, standing_queue, take_lines, was_put}
-use Rattle.once_world.specs.Machine.{SharedState, Place, QueueLine, Step, UnderWay, take_shared, place_lines, place_step, step_at, step_lines}
-use Rattle.once_world.proofs.Invariant.Facts.{AtPlace, AtStep}
+use Rattle.once_machine.specs.Record.{Entry, Kind, is_lazy}
+use Rattle.once_machine.specs.declared.record.Ran.{Ran as Answer}
+use Rattle.once_machine.specs.Log.{IsSound, standing_queue, take_lines, was_put}
+use Rattle.once_machine.specs.Machine.{SharedState, take_shared, place_lines, place_step, step_at, step_lines}
+use Rattle.once_machine.specs.declared.step.Place.{Place}
+use Rattle.once_machine.specs.declared.log.QueueLine.{QueueLine}
+use Rattle.once_machine.specs.declared.step.Step.{Step}
+use Rattle.once_machine.specs.declared.step.Step.TheVariants.{UnderWay}
+use Rattle.once_machine.proofs.Invariant.Facts.{AtPlace, AtStep}
 
 -- the log against what is shared: a number that no queue was made with yet was never put
 pub record LogFits (c : SharedState) (log : List QueueLine) : Type 0 where

@@ -2,21 +2,21 @@
 use Rattle.std.proofs.Common.{◌≡◌, ℕ, Bool, true, false, List, ◌++◌, None, refl, arith, reverse}
 use Rattle.std.proofs.lemmas.Bool.Decides.{nat_tests}
 use Rattle.std.proofs.lemmas.Grind.{common_steps}
-use Rattle.once_queue.specs.Ops.{HasWaker}
-use Rattle.once_queue.specs.declared.log.QueueLine.{QueueLine}
-use Rattle.once_queue.specs.declared.waiters.Op.TheVariants.{Look as LookOp, List as ListOp}
-use Rattle.once_queue.specs.declared.waiters.Op.TheVariants.{Release as ReleaseOp, Leave as LeaveOp}
-use Rattle.once_queue.specs.declared.waiters.Answer.{Answer as SectionAnswer}
-use Rattle.once_queue.specs.declared.waiters.Answer.TheVariants.{Left, Gone}
+use Rattle.once_machine.specs.Ops.{HasWaker}
+use Rattle.once_machine.specs.declared.log.QueueLine.{QueueLine}
+use Rattle.once_machine.specs.declared.waiters.Op.TheVariants.{Look as LookOp, List as ListOp}
+use Rattle.once_machine.specs.declared.waiters.Op.TheVariants.{Release as ReleaseOp, Leave as LeaveOp}
+use Rattle.once_machine.specs.declared.waiters.Answer.{Answer as SectionAnswer}
+use Rattle.once_machine.specs.declared.waiters.Answer.TheVariants.{Left, Gone}
 use Rattle.once_world.specs.declared.world.side.ReplaySide.{ReplaySide}
-use Rattle.once_core.specs.Core.{CoreState}
-use Rattle.once_core.specs.Table.{Call, Load, Quick, Fast, CountIn, AddOne, CountOut, DoorGet, DoorPut, DoorTake}
-use Rattle.once_core.specs.Table.{Section, Refuse, Run, Put, SideDid, Tells}
-use Rattle.once_core.specs.Table.{Told, Loaded, TriedQuick, TriedFast, CountedIn, Added, CountedOut, Got, PutQueue, Taken}
-use Rattle.once_core.specs.Table.{Was, Refused, Ran, PutValue}
-use Rattle.once_world.specs.Machine.{answer, call_lines, hands, is_claim, keeps, left_by, records}
+use Rattle.once_world.specs.Core.{CoreState}
+use Rattle.once_machine.specs.Table.{Call, Load, Quick, Fast, CountIn, AddOne, CountOut, DoorGet, DoorPut, DoorTake}
+use Rattle.once_machine.specs.Table.{Section, Refuse, Run, Put, SideDid, Tells}
+use Rattle.once_machine.specs.Table.{Told, Loaded, TriedQuick, TriedFast, CountedIn, Added, CountedOut, Got, PutQueue, Taken}
+use Rattle.once_machine.specs.Table.{Was, Refused, Ran, PutValue}
+use Rattle.once_machine.specs.Machine.{answer, call_lines, hands, is_claim, keeps, left_by, records}
 use Rattle.once_world.specs.Side.{next_of}
-use Rattle.once_world.specs.Shown.{claim_entries, freed_entries, handed_entries, ran_entries}
+use Rattle.once_world.specs.WorldShown.{claim_entries, freed_entries, handed_entries, ran_entries}
 use Rattle.once_world.proofs.Listing.Handed.{released_list, released_wakers}
 use Rattle.once_world.proofs.Exactness.Outcomes.{IsSetUp, NumberCall, shared_by, side_tells}
 

@@ -3,15 +3,19 @@ use Rattle.std.proofs.Common.{◌≡◌, ℕ, Bool, true, false, Option, Some, N
 use Rattle.std.specs.Prelude.{if◌then◌else◌}
 use Rattle.std.proofs.lemmas.Grind.{common_steps}
 use Rattle.once_world.specs.declared.world.side.ReplaySide.{ReplaySide}
-use Rattle.once_queue.specs.Ops.{ticket_in}
-use Rattle.once_queue.specs.declared.waiters.Op.{Op}
-use Rattle.once_queue.specs.declared.waiters.Op.TheVariants.{Look as LookOp}
-use Rattle.once_queue.specs.declared.waiters.Answer.{Answer as SectionAnswer}
-use Rattle.once_core.specs.Core.{CoreState}
-use Rattle.once_core.specs.Steps.{is_leaving, is_running}
-use Rattle.once_core.specs.Table.{Advances, GoesOn, Line, Looked, Tells, Told, Was, after, after_look, call_at, wants_copy}
-use Rattle.once_world.specs.Places.{AtList, AtLook, Place, Progress, Step, UnderWay}
-use Rattle.once_world.specs.Machine.{place_lines, place_step, step_at, step_lines}
+use Rattle.once_machine.specs.Ops.{ticket_in}
+use Rattle.once_machine.specs.declared.waiters.Op.{Op}
+use Rattle.once_machine.specs.declared.waiters.Op.TheVariants.{Look as LookOp}
+use Rattle.once_machine.specs.declared.waiters.Answer.{Answer as SectionAnswer}
+use Rattle.once_world.specs.Core.{CoreState}
+use Rattle.once_machine.specs.Steps.{is_leaving, is_running}
+use Rattle.once_machine.specs.Table.{Advances, GoesOn, Line, Looked, Tells, Told, Was, after, after_look, call_at, wants_copy}
+use Rattle.once_machine.specs.declared.step.Place.TheVariants.{List as AtList, Look as AtLook}
+use Rattle.once_machine.specs.declared.step.Place.{Place}
+use Rattle.once_machine.specs.declared.step.Progress.{Progress}
+use Rattle.once_machine.specs.declared.step.Step.{Step}
+use Rattle.once_machine.specs.declared.step.Step.TheVariants.{UnderWay}
+use Rattle.once_machine.specs.Machine.{place_lines, place_step, step_at, step_lines}
 use Rattle.once_world.proofs.Exactness.Outcomes.{IsOutcome, IsSetUp, NumberCall, is_freed, shared_by, side_tells}
 use Rattle.once_world.proofs.Exactness.Calls.{Brings, nameless, claimed_by, freed_by, call_exact, leaving_by, says, told_exact, told_one}
 

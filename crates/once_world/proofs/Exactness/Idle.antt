@@ -3,11 +3,13 @@ use Rattle.std.proofs.Common.{◌≡◌, ◌≤◌, ◌+◌, ◌-◌, ◌++◌, 
 use Rattle.std.proofs.lemmas.List.{append_assoc, replicate-append-replicate}
 use Rattle.std.proofs.lemmas.Grind.{common_steps}
 use Rattle.once_world.specs.declared.world.play.World.{World as CodeWorld}
-use Rattle.once_world.specs.Inputs.{Go, Input}
-use Rattle.once_world.specs.Machine.{IsIdle, Task, World, go_world, world_of}
+use Rattle.once_machine.specs.Inputs.{Go, Input}
+use Rattle.once_machine.specs.Machine.{IsIdle, World, go_world, world_of}
+use Rattle.once_machine.specs.declared.task.Task.{Task}
 use Rattle.once_world.specs.Reached.{IsAfter}
-use Rattle.once_world.specs.Record.{Answer, Kind, is_lazy}
-use Rattle.once_world.specs.Shown.{world_in}
+use Rattle.once_machine.specs.Record.{Kind, is_lazy}
+use Rattle.once_machine.specs.declared.record.Ran.{Ran as Answer}
+use Rattle.once_world.specs.WorldShown.{world_in}
 
 passed_over : (lazy : Bool) (limit : ℕ) (w : World) (t : ℕ) (a : Answer) (granted : Bool) (x : Option Task) → IsIdle x → go_world lazy limit w t a granted x ≡ w
 passed_over lazy limit w t a granted x idle = grind (arith, common_steps)

@@ -1,16 +1,17 @@
 -- What a step over a core and a side is to be: the machine's outcome.
 use Rattle.std.proofs.Common.{◌≡◌, ◌≢◌, ℕ, Bool, false, List, [], ◌++◌, None, Some, reverse}
 use Rattle.std.specs.Prelude.{not, ◌&&◌}
-use Rattle.once_queue.specs.declared.log.QueueLine.{QueueLine}
+use Rattle.once_machine.specs.declared.log.QueueLine.{QueueLine}
 use Rattle.once_world.specs.declared.world.side.ReplaySide.{ReplaySide}
-use Rattle.once_core.specs.Core.{CoreState, DidCall}
-use Rattle.once_core.specs.Table.{Told}
-use Rattle.once_world.specs.Places.{Progress, Step}
-use Rattle.once_core.specs.Steps.{SideTells, is_adding, is_freeing, is_leaving, is_running}
-use Rattle.once_world.specs.Record.{Entry}
-use Rattle.once_world.specs.Machine.{SharedState, Outcome}
+use Rattle.once_world.specs.Core.{CoreState, DidCall}
+use Rattle.once_machine.specs.Table.{Told}
+use Rattle.once_machine.specs.declared.step.Progress.{Progress}
+use Rattle.once_machine.specs.declared.step.Step.{Step}
+use Rattle.once_machine.specs.Steps.{SideTells, is_adding, is_freeing, is_leaving, is_running}
+use Rattle.once_machine.specs.Record.{Entry}
+use Rattle.once_machine.specs.Machine.{SharedState, Outcome}
 use Rattle.once_world.specs.Side.{DidClose, DidCopy, DidPut, DidRun, DidWake, answers_in}
-use Rattle.once_world.specs.Shown.{claim_entries, freed_entries, handed_entries, progress_entries, ran_entries}
+use Rattle.once_world.specs.WorldShown.{claim_entries, freed_entries, handed_entries, progress_entries, ran_entries}
 
 -- what a call of a core tells and leaves, where wakers are numbers
 abbrev pub NumberCall : CoreState ℕ → Told ℕ ℕ → CoreState ℕ → Type 0

@@ -4,10 +4,14 @@ use Rattle.std.specs.Ordering.{nat_cmp}
 use Rattle.std.specs.Cmp.{unsigned_tied}
 use Rattle.std.specs.BTreeMap.{BTreeMap, get, WritesThrough}
 use Rattle.std.proofs.lemmas.Grind.{common_steps}
-use Rattle.once_world.specs.Record.{Answer, Begin, DropBegin}
-use Rattle.once_world.specs.Places.{Step, Finished}
-use Rattle.once_core.specs.Steps.{is_resting, in_call, step_of_poll, step_of_drop}
-use Rattle.once_world.specs.Machine.{Task, Outcome, World, QueueLine, put_task, poll_world, drop_world, drop_entries, unfinished_after, advance, step_lines, go_world}
+use Rattle.once_machine.specs.Record.{Begin, DropBegin}
+use Rattle.once_machine.specs.declared.record.Ran.{Ran as Answer}
+use Rattle.once_machine.specs.declared.step.Step.{Step}
+use Rattle.once_machine.specs.declared.step.Step.TheVariants.{Finished}
+use Rattle.once_machine.specs.Steps.{is_resting, in_call, step_of_poll, step_of_drop}
+use Rattle.once_machine.specs.Machine.{Outcome, World, put_task, poll_world, drop_world, drop_entries, unfinished_after, advance, step_lines, go_world}
+use Rattle.once_machine.specs.declared.task.Task.{Task}
+use Rattle.once_machine.specs.declared.log.QueueLine.{QueueLine}
 
 -- a map in which y was written over x at t, as a function from numbers to tasks
 pub tasks_written : (m n : BTreeMap ℕ Task) (t : ℕ) (x y : Task) → get nat_cmp m t ≡ Some x → WritesThrough nat_cmp (nat_cmp t) m y n

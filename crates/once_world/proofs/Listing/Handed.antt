@@ -3,13 +3,13 @@ use Rattle.std.proofs.Common.{◌≡◌, ◌≢◌, ℕ, ◌<◌, Bool, true, fa
 use Rattle.std.specs.List.{cons_option}
 use Rattle.std.proofs.lemmas.Bool.{ne_eqb}
 use Rattle.std.proofs.lemmas.Bool.Decides.{nat_tests}
-use Rattle.once_queue.specs.declared.waiters.Out.{Out}
-use Rattle.once_queue.specs.declared.waiters.Listing.{Listing}
-use Rattle.once_queue.specs.Listings.{all_out, out_by, wakers_of}
-use Rattle.once_queue.specs.Sections.{HandsAll, HandsBy, IsAmong, IsOther, Releases}
-use Rattle.once_queue.specs.Numbers.{member}
-use Rattle.once_world.specs.Machine.{release_wakers, release_list}
-use Rattle.once_world.specs.Shown.{wakers_in}
+use Rattle.once_machine.specs.declared.waiters.Out.{Out}
+use Rattle.once_machine.specs.declared.waiters.Listing.{Listing}
+use Rattle.once_machine.specs.Listings.{all_out, out_by, wakers_of}
+use Rattle.once_machine.specs.Sections.{HandsAll, HandsBy, IsAmong, IsOther, Releases}
+use Rattle.once_machine.specs.Numbers.{member}
+use Rattle.once_machine.specs.Machine.{release_wakers, release_list}
+use Rattle.once_world.specs.WorldShown.{wakers_in}
 use mathlib.Core.Logic.{∥∥₁_elim}
 use base.Stored.{Coded-set, coded_list, coded_ℕ}
 

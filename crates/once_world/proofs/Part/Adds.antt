@@ -2,9 +2,15 @@
 use Rattle.std.proofs.Common.{ℕ, Bool, List, Option, arith}
 use Rattle.std.proofs.lemmas.Bool.Decides.{nat_tests}
 use Rattle.std.proofs.lemmas.Grind.{common_steps}
-use Rattle.once_world.specs.Record.{Answer, Kind, is_lazy}
-use Rattle.once_world.specs.Inputs.{AreOfStep, IsAsked, IsOfStep}
-use Rattle.once_world.specs.Machine.{AtStart, Ending, Place, SharedState, Step, UnderWay, end_entry, init_answer, place_step, step_at}
+use Rattle.once_machine.specs.Record.{Kind, is_lazy}
+use Rattle.once_machine.specs.declared.record.Ran.{Ran as Answer}
+use Rattle.once_machine.specs.Inputs.{AreOfStep, IsAsked, IsOfStep}
+use Rattle.once_machine.specs.Machine.{SharedState, end_entry, init_answer, place_step, step_at}
+use Rattle.once_machine.specs.declared.step.Place.TheVariants.{Start as AtStart}
+use Rattle.once_machine.specs.declared.step.Ending.{Ending}
+use Rattle.once_machine.specs.declared.step.Place.{Place}
+use Rattle.once_machine.specs.declared.step.Step.{Step}
+use Rattle.once_machine.specs.declared.step.Step.TheVariants.{UnderWay}
 
 -- the last entry of a call is of its task
 last_part : (K : Kind) (t : ℕ) (a : Answer) (v : ℕ) (k : Answer) (e : Ending) → IsOfStep K t a (end_entry e t v k)

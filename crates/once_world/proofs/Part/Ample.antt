@@ -3,9 +3,9 @@ use Rattle.std.proofs.Common.{◌≡◌, ◌<◌, ℕ, Bool, true, false, cond, 
 use Rattle.std.proofs.lemmas.Grind.{common_steps}
 use Rattle.std.proofs.lemmas.Bool.{false≢true, cases_Bool}
 use Rattle.std.proofs.lemmas.Bool.Decides.{nat_tests}
-use Rattle.once_world.specs.Record.{Entry, Kind}
-use Rattle.once_world.specs.Inputs.{Always, FallsInto, Input, Part, WantsMemoryOnlyUngranted, all_granted, begins_call, ends_for_memory, entries_of, gos, inputs_of, is_fitting_go, is_ungranted}
-use Rattle.once_world.specs.Machine.{history_of}
+use Rattle.once_machine.specs.Record.{Entry, Kind}
+use Rattle.once_machine.specs.Inputs.{Always, FallsInto, Input, Part, WantsMemoryOnlyUngranted, all_granted, begins_call, ends_for_memory, entries_of, gos, inputs_of, is_fitting_go, is_ungranted}
+use Rattle.once_machine.specs.Machine.{history_of}
 use Rattle.once_world.proofs.Part.Belonging.{belongs}
 
 -- a poll ends for want of memory in the one part or the other

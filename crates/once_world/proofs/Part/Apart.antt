@@ -2,8 +2,9 @@
 use Rattle.std.proofs.Common.{◌≡◌, ◌≢◌, ℕ, false, List, [], ◌∷◌, refl, ◌∙◌, arith}
 use Rattle.std.proofs.lemmas.Bool.Decides.{nat_tests}
 use Rattle.std.proofs.lemmas.Grind.{common_steps}
-use Rattle.once_world.specs.Record.{Answer, Entry, Kind}
-use Rattle.once_world.specs.Inputs.{AreOfStep, IsOfStep, begins_call, ends_for_memory}
+use Rattle.once_machine.specs.Record.{Entry, Kind}
+use Rattle.once_machine.specs.declared.record.Ran.{Ran as Answer}
+use Rattle.once_machine.specs.Inputs.{AreOfStep, IsOfStep, begins_call, ends_for_memory}
 
 -- an entry of a step begins no call
 begins_step : (K : Kind) (n t : ℕ) (a : Answer) (e : Entry) (r : List Entry) → IsOfStep K n a e → begins_call t (e ∷ r) ≡ begins_call t r

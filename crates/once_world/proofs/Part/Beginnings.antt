@@ -2,12 +2,13 @@
 use Rattle.std.proofs.Common.{◌≡◌, ℕ, Bool, true, false, cond, ◌==◌, List, [], ◌∷◌, arith}
 use Rattle.std.proofs.lemmas.Bool.Decides.{nat_tests}
 use Rattle.std.proofs.lemmas.Grind.{common_steps}
-use Rattle.once_world.specs.Record.{Begin, Entry, Kind}
-use Rattle.once_world.specs.Tasks.{is_under_way, status}
-use Rattle.once_world.specs.Inputs.{begins_call, drop_part, ends_for_memory, make_part, poll_part}
-use Rattle.once_world.specs.Machine.{SharedState, Step, step_of_poll, drop_entries, step_of_drop, in_call, is_resting}
-use Rattle.once_world.proofs.Invariant.Facts.{AtStep}
-use Rattle.once_world.proofs.Invariant.Around.{place_acts}
+use Rattle.once_machine.specs.Record.{Begin, Entry, Kind}
+use Rattle.once_machine.specs.Tasks.{is_under_way, status}
+use Rattle.once_machine.specs.Inputs.{begins_call, drop_part, ends_for_memory, make_part, poll_part}
+use Rattle.once_machine.specs.Machine.{SharedState, step_of_poll, drop_entries, step_of_drop, in_call, is_resting}
+use Rattle.once_machine.specs.declared.step.Step.{Step}
+use Rattle.once_machine.proofs.Invariant.Facts.{AtStep}
+use Rattle.once_machine.proofs.Invariant.Around.{place_acts}
 use Rattle.once_world.proofs.Part.Tells.{is_refused}
 
 -- a test between true and false

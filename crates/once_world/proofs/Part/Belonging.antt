@@ -1,13 +1,15 @@
 -- The record and the queue log fall into parts, one for each input.
 use Rattle.std.proofs.Common.{◌≡◌, ◌≤◌, ◌<◌, ℕ, Bool, true, false, not, List, [], ◌∷◌, ◌++◌, length, Option, Some, None, refl, sym, ap, ◌∙◌, arith}
 use Rattle.std.proofs.lemmas.Bool.{false≢true}
-use Rattle.once_world.specs.Record.{Entry, Kind}
-use Rattle.once_world.specs.Tasks.{is_under_way, status}
-use Rattle.once_world.specs.Inputs.{Adds, FallsInto, Input, Part, SixteenEnd, WantsMemoryOnlyUngranted, all_granted, begins_call, entries_of, gos, is_fitting_go}
-use Rattle.once_world.specs.Log.{AddsLines, IsLogOf, NoneKept, WaitingStands, lines_of}
-use Rattle.once_world.specs.Machine.{SharedState, Step, Task, World, world_after, history_of, in_call, log_of, world_of, step_of}
-use Rattle.once_world.proofs.Invariant.Fits.{Fits, StandsFor}
-use Rattle.once_world.proofs.Input.Headline.{world_fits}
+use Rattle.once_machine.specs.Record.{Entry, Kind}
+use Rattle.once_machine.specs.Tasks.{is_under_way, status}
+use Rattle.once_machine.specs.Inputs.{Adds, FallsInto, Input, Part, SixteenEnd, WantsMemoryOnlyUngranted, all_granted, begins_call, entries_of, gos, is_fitting_go}
+use Rattle.once_machine.specs.Log.{AddsLines, IsLogOf, NoneKept, WaitingStands, lines_of}
+use Rattle.once_machine.specs.Machine.{SharedState, World, world_after, history_of, in_call, log_of, world_of, step_of}
+use Rattle.once_machine.specs.declared.step.Step.{Step}
+use Rattle.once_machine.specs.declared.task.Task.{Task}
+use Rattle.once_machine.proofs.Invariant.Fits.{Fits, StandsFor}
+use Rattle.once_machine.proofs.Input.Headline.{world_fits}
 use Rattle.once_world.proofs.Door.Logged.{log_stands}
 use Rattle.once_world.proofs.Door.Doors.{no_queue_kept, waits_stand}
 use Rattle.once_world.proofs.Part.Budget.{Budget, HasPart, gos_length, gos_ungranted}

@@ -1,11 +1,14 @@
 -- The part of one input: what it adds to the record and to the log, and what it changes for each task.
 use Rattle.std.proofs.Common.{◌≡◌, ◌≤◌, ◌+◌, ℕ, suc, Bool, true, false, cond, not, ◌==◌, ◌⊎◌, inl, ⊎_elim, List, [], ◌∷◌, ◌++◌, length, refl, sym, ap, ◌∙◌, arith}
 use Rattle.std.proofs.lemmas.Bool.{false≢true, cases_eq, ne_eqb, eq-eqb}
-use Rattle.once_world.specs.Record.{Entry, Kind}
-use Rattle.once_world.specs.Inputs.{Adds, Input, begins_call, all_granted, ends_for_memory, is_fitting_go, is_ungranted}
-use Rattle.once_world.specs.Log.{AddsLines}
-use Rattle.once_world.specs.Machine.{QueueLine, Step, Task, World, in_call, left_of, step_of}
-use Rattle.once_world.proofs.Invariant.Moves.{Puts}
+use Rattle.once_machine.specs.Record.{Entry, Kind}
+use Rattle.once_machine.specs.Inputs.{Adds, Input, begins_call, all_granted, ends_for_memory, is_fitting_go, is_ungranted}
+use Rattle.once_machine.specs.Log.{AddsLines}
+use Rattle.once_machine.specs.Machine.{World, in_call, left_of, step_of}
+use Rattle.once_machine.specs.declared.log.QueueLine.{QueueLine}
+use Rattle.once_machine.specs.declared.step.Step.{Step}
+use Rattle.once_machine.specs.declared.task.Task.{Task}
+use Rattle.once_machine.proofs.Invariant.Moves.{Puts}
 use Rattle.once_world.proofs.Part.Left.{left_most}
 use Rattle.once_world.proofs.Part.Tells.{is_refused}
 

@@ -3,10 +3,15 @@ use Rattle.std.proofs.Common.{◌≡◌, ℕ, Bool, true, List, arith}
 use Rattle.std.proofs.lemmas.Bool.{false≢true}
 use Rattle.std.proofs.lemmas.Bool.Decides.{nat_tests}
 use Rattle.std.proofs.lemmas.Grind.{common_steps}
-use Rattle.once_world.specs.Record.{Answer, Entry, Kind, is_lazy}
-use Rattle.once_world.specs.Log.{IsAtMostOne, has_entered, need_queue}
-use Rattle.once_world.specs.Machine.{AtStart, Place, SharedState, Step, UnderWay, place_lines, place_step, step_at, step_lines}
-use Rattle.once_world.proofs.Invariant.Facts.{AtPlace, AtStep}
+use Rattle.once_machine.specs.Record.{Entry, Kind, is_lazy}
+use Rattle.once_machine.specs.declared.record.Ran.{Ran as Answer}
+use Rattle.once_machine.specs.Log.{IsAtMostOne, has_entered, need_queue}
+use Rattle.once_machine.specs.Machine.{SharedState, place_lines, place_step, step_at, step_lines}
+use Rattle.once_machine.specs.declared.step.Place.TheVariants.{Start as AtStart}
+use Rattle.once_machine.specs.declared.step.Place.{Place}
+use Rattle.once_machine.specs.declared.step.Step.{Step}
+use Rattle.once_machine.specs.declared.step.Step.TheVariants.{UnderWay}
+use Rattle.once_machine.proofs.Invariant.Facts.{AtPlace, AtStep}
 
 module _ (K : Kind) (c : SharedState) (t : ℕ) (k : Answer) (h : List Entry) (limit w : ℕ) (a : Answer) (g : Bool) where
   -- one place after the other

@@ -4,11 +4,18 @@ use Rattle.std.proofs.Common.{◌≡◌, ◌<◌, ℕ, Bool, true, false, ◌⊎
 use Rattle.std.proofs.lemmas.Bool.{false≢true}
 use Rattle.std.proofs.lemmas.Bool.Decides.{nat_tests}
 use Rattle.std.proofs.lemmas.Grind.{common_steps}
-use Rattle.once_world.specs.Record.{Answer, Entry, Kind, is_lazy}
-use Rattle.once_world.specs.Inputs.{ends_for_memory}
-use Rattle.once_world.specs.Machine.{AtCountOut, AtDoorTake, AtLeave, AtStart, EndMemory, Ending, Outcome, Place, SharedState}
-use Rattle.once_world.specs.Machine.{Step, UnderWay, in_call, left_at, left_of, place_step, step_at}
-use Rattle.once_world.proofs.Invariant.Facts.{AtPlace, AtStep}
+use Rattle.once_machine.specs.Record.{Entry, Kind, is_lazy}
+use Rattle.once_machine.specs.declared.record.Ran.{Ran as Answer}
+use Rattle.once_machine.specs.Inputs.{ends_for_memory}
+use Rattle.once_machine.specs.Machine.{Outcome, SharedState}
+use Rattle.once_machine.specs.declared.step.Place.TheVariants.{CountOut as AtCountOut, DoorTake as AtDoorTake, Leave as AtLeave, Start as AtStart}
+use Rattle.once_machine.specs.declared.step.Ending.TheVariants.{Memory as EndMemory}
+use Rattle.once_machine.specs.declared.step.Ending.{Ending}
+use Rattle.once_machine.specs.declared.step.Place.{Place}
+use Rattle.once_machine.specs.Machine.{in_call, left_at, left_of, place_step, step_at}
+use Rattle.once_machine.specs.declared.step.Step.{Step}
+use Rattle.once_machine.specs.declared.step.Step.TheVariants.{UnderWay}
+use Rattle.once_machine.proofs.Invariant.Facts.{AtPlace, AtStep}
 
 -- the call ends for want of memory
 abbrev is_memory : Ending → Bool

@@ -2,19 +2,23 @@
 use Rattle.std.proofs.Common.{◌≡◌, ◌≢◌, ℕ, suc, Bool, true, false, cond, ◌==◌, ◌⊎◌, inl, inr, ⊎_elim, List, [], ◌∷◌, Option, Some, None, refl, sym, ap, ◌∙◌, subst, arith}
 use Rattle.std.specs.Prelude.{not}
 use Rattle.std.proofs.lemmas.Bool.{false≢true, cases_eq, ne_eqb, eq-eqb}
-use Rattle.once_world.specs.Record.{Answer, Begin, Entry, Kind, Look, Made, Own, OwnerCall, has_call, is_lazy, replaces}
-use Rattle.once_world.specs.Tasks.{Unmade, all_gone, is_under_way, status}
-use Rattle.once_world.specs.Inputs.{AreOfStep, Drop, Go, Input, Looks, Make, Owns, Poll, begins_call, ends_for_memory, is_fitting_go}
-use Rattle.once_world.specs.Log.{owned_lines, standing_queue}
-use Rattle.once_world.specs.Machine.{SharedState, Outcome, QueueLine, Step, Task, World, advance, world_after, step_of_poll, poll_world_by, drop_entries}
-use Rattle.once_world.specs.Machine.{step_of_drop, drop_world_by, drop_world, fresh_task, go_world, go_world_by, in_call, is_resting, look_value, make_world}
-use Rattle.once_world.specs.Machine.{own_world_by, owner_got, owner_lines, poll_world, put_task, step_lines, step_of}
-use Rattle.once_world.proofs.Invariant.Fits.{Fits, StandsFor}
-use Rattle.once_world.proofs.Invariant.Moves.{Puts, puts}
-use Rattle.once_world.proofs.Input.Gone.{gone_is}
-use Rattle.once_world.proofs.Input.Owner.{owner_is_got}
-use Rattle.once_world.proofs.Input.Makes.{looked_is}
-use Rattle.once_world.proofs.Input.Headline.{task_fits}
+use Rattle.once_machine.specs.Record.{Begin, Entry, Kind, Look, Made, Own, OwnerCall, has_call, is_lazy, replaces}
+use Rattle.once_machine.specs.declared.record.Ran.{Ran as Answer}
+use Rattle.once_machine.specs.Tasks.{Unmade, all_gone, is_under_way, status}
+use Rattle.once_machine.specs.Inputs.{AreOfStep, Drop, Go, Input, Looks, Make, Owns, Poll, begins_call, ends_for_memory, is_fitting_go}
+use Rattle.once_machine.specs.Log.{owned_lines, standing_queue}
+use Rattle.once_machine.specs.Machine.{SharedState, Outcome, World, advance, world_after, step_of_poll, poll_world_by, drop_entries}
+use Rattle.once_machine.specs.declared.log.QueueLine.{QueueLine}
+use Rattle.once_machine.specs.declared.step.Step.{Step}
+use Rattle.once_machine.specs.declared.task.Task.{Task}
+use Rattle.once_machine.specs.Machine.{step_of_drop, drop_world_by, drop_world, fresh_task, go_world, go_world_by, in_call, is_resting, look_value, make_world}
+use Rattle.once_machine.specs.Machine.{own_world_by, owner_got, owner_lines, poll_world, put_task, step_lines, step_of}
+use Rattle.once_machine.proofs.Invariant.Fits.{Fits, StandsFor}
+use Rattle.once_machine.proofs.Invariant.Moves.{Puts, puts}
+use Rattle.once_machine.proofs.Input.Gone.{gone_is}
+use Rattle.once_machine.proofs.Input.Owner.{owner_is_got}
+use Rattle.once_machine.proofs.Input.Makes.{looked_is}
+use Rattle.once_machine.proofs.Input.Headline.{task_fits}
 use Rattle.once_world.proofs.Part.Adds.{step_part}
 use Rattle.once_world.proofs.Part.Tells.{StepTells, is_refused, tells}
 use Rattle.once_world.proofs.Part.Needs.{need_step, one_line}

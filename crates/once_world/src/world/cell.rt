@@ -3,19 +3,12 @@ ghost use Rattle.std.specs.Prelude.{◌≡◌, ◌≤◌, ◌-◌, ◌^◌, ◌+
 
 use super::side::ReplaySide;
 use super::{Call, Got, Kind, Ran};
-use once_core::plain::Core;
-use once_core::step::{Progress, Step};
-use once_queue::waiters::Out;
+use crate::plain::Core;
+use once_machine::step::Progress;
+use once_machine::task::Task;
+use once_machine::waiters::Out;
 use std::alloc::{AllocError, Global};
 use std::mem::replace;
-
-/// A task of a replay: the waker of its last poll, what its init gave, and its step.
-#[derive(Drop)]
-pub(super) struct Task {
-    pub waker: u64,
-    pub kept: Ran,
-    pub step: Step<u64, u64>,
-}
 
 #[derive(Drop)]
 pub(super) struct ReplayCell {
@@ -37,14 +30,15 @@ pub(super) struct StepSeen {
 }
 
 impl ReplayCell {
-    ghost use Rattle.once_world.specs.Record.{Kind as RecordedKind, is_lazy, replaces, has_call as owner_has};
-    ghost use Rattle.once_world.specs.Log.{take_lines};
-    ghost use Rattle.once_world.specs.Can.{CanAdvance};
-    ghost use Rattle.once_core.specs.Core.{HasRoom};
-    ghost use Rattle.once_core.specs.Steps.{in_call};
-    ghost use Rattle.once_world.specs.Machine.{first_world, look_value, step_lines, reset_shared};
-    ghost use Rattle.once_world.specs.Machine.{owner_shared, owner_got, owner_lines, advance as outcome};
-    ghost use Rattle.once_world.specs.Shown.{kind_of, call_of, got_of, shared_of, log_in, step_entries};
+    ghost use Rattle.once_machine.specs.Record.{Kind as RecordedKind, is_lazy, replaces, has_call as owner_has};
+    ghost use Rattle.once_machine.specs.Log.{take_lines};
+    ghost use Rattle.once_machine.specs.Can.{CanAdvance};
+    ghost use Rattle.once_world.specs.Core.{HasRoom};
+    ghost use Rattle.once_machine.specs.Steps.{in_call};
+    ghost use Rattle.once_machine.specs.Machine.{first_world, look_value, step_lines, reset_shared};
+    ghost use Rattle.once_machine.specs.Machine.{owner_shared, owner_got, owner_lines, advance as outcome};
+    ghost use Rattle.once_machine.specs.Shown.{kind_of, call_of, got_of};
+    ghost use Rattle.once_world.specs.WorldShown.{shared_of, log_in, step_entries};
 
     /// A cell of this kind that nobody used, in which at most `limit` tasks may be counted in. It takes no memory.
     pub fn new(alloc: Global, kind: Kind, limit: u64) -> Self

@@ -2,16 +2,18 @@
 ghost use Rattle.std.specs.Prelude.{◌≡◌, ◌<◌, ◌≤◌, ◌+◌, ◌-◌, ◌^◌, ◌==◌, ℕ, true};
 ghost use Rattle.std.specs.Prelude.{List, [], ◌++◌, ◌∷◌, Some, OnOk, IfOk, length, replicate};
 ghost use Rattle.std.specs.Option.{option_copied, option_map};
-ghost use Rattle.once_world.specs.Machine.{unfinished_after, error_in as error_of};
-ghost use Rattle.once_world.specs.Machine.{release_entry as release_of, end_entry as end_of};
-ghost use Rattle.once_world.specs.Shown.{call_of, entry_of, history_in, wakers_in};
-ghost use Rattle.once_world.specs.Shown.{claim_entries, ran_entries, out_entries, step_entries};
+ghost use Rattle.once_machine.specs.Machine.{unfinished_after, error_in as error_of};
+ghost use Rattle.once_machine.specs.Machine.{release_entry as release_of, end_entry as end_of};
+ghost use Rattle.once_machine.specs.Shown.{call_of, entry_of, history_in};
+ghost use Rattle.once_world.specs.WorldShown.{wakers_in};
+ghost use Rattle.once_world.specs.WorldShown.{claim_entries, ran_entries, out_entries, step_entries};
 
-use super::cell::{ReplayCell, StepSeen, Task};
+use super::cell::{ReplayCell, StepSeen};
 use super::{Call, Entry, Input, Kind, Ran, Record, Reply};
-use once_core::plain::Core;
-use once_core::step::{Ending, Progress, Step};
-use once_queue::waiters::Out;
+use crate::plain::Core;
+use once_machine::step::{Ending, Progress, Step};
+use once_machine::task::Task;
+use once_machine::waiters::Out;
 use std::alloc::{AllocError, Global};
 use std::collections::BTreeMap;
 
@@ -34,17 +36,18 @@ pub struct World {
 }
 
 impl World {
-    ghost use Rattle.once_world.specs.Record.{Kind as RecordedKind, is_lazy, has_call as owner_has};
-    ghost use Rattle.once_world.specs.Machine.{world_after, word_of, IsIdle};
-    ghost use Rattle.once_world.specs.Machine.{make_world, poll_world, drop_world, go_world, own_world_by};
-    ghost use Rattle.once_world.specs.Can.{MayTake, TaskCan};
-    ghost use Rattle.once_world.specs.Run.{IsRun};
-    ghost use Rattle.once_world.specs.Shown.{kind_of, call_of, input_of};
-    ghost use Rattle.once_world.specs.Shown.{shared_of, world_in, record_entries, record_lines};
+    ghost use Rattle.once_machine.specs.Record.{Kind as RecordedKind, is_lazy, has_call as owner_has};
+    ghost use Rattle.once_machine.specs.Machine.{world_after, word_of, IsIdle};
+    ghost use Rattle.once_machine.specs.Machine.{make_world, poll_world, drop_world, go_world, own_world_by};
+    ghost use Rattle.once_machine.specs.Can.{MayTake, TaskCan};
+    ghost use Rattle.once_machine.specs.Run.{IsRun};
+    ghost use Rattle.once_machine.specs.Shown.{kind_of, call_of, input_of};
+    ghost use Rattle.once_machine.specs.Shown.{record_entries, record_lines};
+    ghost use Rattle.once_world.specs.WorldShown.{shared_of, world_in};
     ghost use Rattle.once_world.specs.Reached.{IsAfter, IsReached};
-    ghost use Rattle.once_world.specs.Inputs.{Input as Taken, Go};
-    ghost use Rattle.once_core.specs.Core.{state_of};
-    ghost use Rattle.once_queue.specs.Room.{listings_of};
+    ghost use Rattle.once_machine.specs.Inputs.{Input as Taken, Go};
+    ghost use Rattle.once_world.specs.Core.{state_of};
+    ghost use Rattle.once_machine.specs.Room.{listings_of};
 
     /// A cell of this kind that nobody used, in which at most `limit` tasks may be counted in. It takes no memory.
     pub fn new(alloc: Global, kind: Kind, limit: u64) -> Self

@@ -2,8 +2,8 @@
 ghost use Rattle.std.specs.Prelude.{◌≡◌};
 
 use super::Ran;
-use once_core::step::{Polled, Side};
-use once_queue::waiters::Out;
+use once_machine::step::{Polled, Side};
+use once_machine::waiters::Out;
 
 #[derive(Drop)]
 pub(super) struct ReplaySide {
@@ -22,7 +22,7 @@ pub(super) struct ReplaySide {
 }
 
 impl ReplaySide {
-    ghost use Rattle.once_world.specs.Cell.{rest_of};
+    ghost use Rattle.once_machine.specs.Cell.{rest_of};
     ghost use Rattle.once_world.specs.Side.{answers_in, next_of};
 
     fn next_answer(&mut self) -> Ran

@@ -3,7 +3,7 @@ ghost use Rattle.std.specs.Prelude.{◌≡◌, false};
 
 use crate::doubles::meeting::meet;
 use async_once_cell::once::TryInitFuture;
-use async_once_cell::world::Reply;
+use async_once_cell::record::Reply;
 use async_once_cell::{OnceCell, Parker};
 use cell_tests::doubles::poll::heard;
 use cell_tests::left::is_filled;

@@ -3,7 +3,7 @@
 
 use super::gathered::{CELLS, THREADS, Visited, alike, gathered};
 use crate::doubles::slow::{Driven, Failing, Slow, ended, left_midway};
-use async_once_cell::world::Reply;
+use async_once_cell::record::Reply;
 use async_once_cell::{Lazy, OnceCell};
 use cell_tests::left::FILLED;
 use futures::test::MockTask;

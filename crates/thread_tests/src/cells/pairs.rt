@@ -3,7 +3,7 @@ ghost use Rattle.std.specs.Prelude.{◌≡◌, IfSome};
 
 use crate::doubles::meeting::{Meeting, Spinning};
 use async_once_cell::once::Known;
-use async_once_cell::world::Reply;
+use async_once_cell::record::Reply;
 use async_once_cell::{Lazy, LazyFuturePin, OnceCell};
 use cell_tests::doubles::poll::heard;
 use cell_tests::left::FILLED;

@@ -2,7 +2,7 @@
 
 use crate::doubles::slow::{Slow, ended, left_midway};
 use async_once_cell::OnceCell;
-use async_once_cell::world::Reply;
+use async_once_cell::record::Reply;
 use cell_tests::doubles::poll::tasks;
 use cell_tests::doubles::stub::Tried;
 use cell_tests::left::{is_filled, is_free};

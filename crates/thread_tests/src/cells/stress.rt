@@ -3,7 +3,7 @@
 use super::gathered::{CELLS, THREADS, Visited, alike, gathered};
 use crate::doubles::slow::{Driven, Slow, ended};
 use async_once_cell::OnceCell;
-use async_once_cell::world::Reply;
+use async_once_cell::record::Reply;
 use cell_tests::doubles::stub::Tried;
 use cell_tests::left::FILLED;
 use futures::test::MockTask;

@@ -3,7 +3,7 @@
 use crate::doubles::meeting::meet;
 use crate::doubles::slow::Slow;
 use async_once_cell::OnceCell;
-use async_once_cell::world::Reply;
+use async_once_cell::record::Reply;
 use cell_tests::doubles::poll::{heard, polled, tasks};
 use cell_tests::doubles::stub::Tried;
 use cell_tests::left::{has_text, is_filled, is_free};

@@ -2,7 +2,7 @@
 
 use async_once_cell::LazyFuturePin;
 use async_once_cell::once::TryInitFuture;
-use async_once_cell::world::Reply;
+use async_once_cell::record::Reply;
 use cell_tests::doubles::poll::heard;
 use cell_tests::doubles::stub::Tried;
 use futures::Future;

@@ -3,12 +3,12 @@ ghost use Rattle.std.specs.Prelude.{◌≡◌, false};
 
 use crate::fault::Fault;
 use async_once_cell::once::{InitError, InitFuture, TryInitFuture};
-use async_once_cell::world::{Input, Kind, World};
 use async_once_cell::{Lazy, OnceCell};
 use futures::Future;
 use futures::future::{Ready, ok, pending, ready};
 use futures::task::{Context, Poll};
 use futures::test::MockTask;
+use once_world::world::{Input, Kind, World};
 use std::alloc::{AllocError, AllocGlobal, Global};
 use std::random::RandomSource;
 use std::sync::Wait;

@@ -4,7 +4,7 @@ use super::{Inits, Scene, Schedule, Tasks, most, named, turns_in};
 use crate::doubles::made::Made;
 use crate::doubles::poll::wake;
 use crate::doubles::stub::Init;
-use async_once_cell::world::Reply;
+use async_once_cell::record::Reply;
 use async_once_cell::{Lazy, OnceCell};
 use futures::test::MockTask;
 use machine_tests::doubles::memory::{Rations, Request, hoard_most};

@@ -1,6 +1,6 @@
 -- What is kept is of the entries so far; and so it decides the next, and tells who was called.
 use Rattle.std.proofs.Common.{[], IfErr, take, sym, ap, ◌∙◌, subst, arith}
-use Rattle.once_world.specs.Shown.{kind_of, entry_of, history_in}
+use Rattle.once_machine.specs.Shown.{kind_of, entry_of, history_in}
 use Rattle.once_judge.specs.Seen.{after}
 use Rattle.once_judge.specs.Legal.{IsLegalIn}
 use Rattle.once_judge.specs.SeenOf.{IsSeenOf}

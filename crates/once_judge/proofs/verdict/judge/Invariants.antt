@@ -1,7 +1,7 @@
 -- The entries so far are a run, of which the right things are kept; and the moments so far were watched.
 use Rattle.std.proofs.Common.{◌≡◌, take}
-use Rattle.once_world.specs.Record.{is_lazy}
-use Rattle.once_world.specs.Shown.{kind_of, history_in}
+use Rattle.once_machine.specs.Record.{is_lazy}
+use Rattle.once_machine.specs.Shown.{kind_of, history_in}
 use Rattle.once_judge.specs.Shown.{seen_of}
 use Rattle.once_judge.proofs.Verdicts.{Judged, Watched}
 use Rattle.once_judge.proofs.verdict.judge.Given as goal

@@ -3,21 +3,24 @@ use Rattle.std.proofs.Common.{◌≡◌, ◌⊎◌, ◌-◌, ℕ, zero, suc, pre
 use Rattle.std.proofs.Common.{Option, Some, None, reverse, slice_get, slice_set, refl, sym, ap, ◌∙◌, subst, arith}
 use Rattle.std.proofs.lemmas.List.{map-append, append-nil}
 use Rattle.pagebook.specs.Pages.{Held, Moves, Notes}
-use Rattle.once_queue.specs.Word.{flags_of}
-use Rattle.once_core.specs.Table.{after_run, closing_end}
-use Rattle.once_world.specs.Record.{Begin, Entry, Look, Made, Once, Ran}
-use Rattle.once_world.specs.declared.record.Ran.{Ran as Answer}
-use Rattle.once_world.specs.Cell.{cell, is_set}
-use Rattle.once_world.specs.Book.{At, IsBook, IsUnnamed, Page, TaskState}
-use Rattle.once_world.specs.Machine.{AtDoorPut, AtList, AtRun, EndMemory, UnderWay, drop_entries, fresh_task, is_resting, kept_after, leave_place, polled_of, step_of_drop, step_of_poll}
-use Rattle.once_world.proofs.Moment.Calls.{copy_refused, drop_begun, init_ran, looked, made, poll_begun}
-use Rattle.once_world.proofs.Moment.Doors.{put_refused}
-use Rattle.once_world.proofs.Moment.Step.{told}
-use Rattle.once_world.proofs.Told.Value.{WasFilled, ready_filled, ready_is_set}
+use Rattle.once_machine.specs.Word.{flags_of}
+use Rattle.once_machine.specs.Table.{after_run, closing_end}
+use Rattle.once_machine.specs.Record.{Begin, Entry, Look, Made, Once, Ran}
+use Rattle.once_machine.specs.declared.record.Ran.{Ran as Answer}
+use Rattle.once_machine.specs.Cell.{cell, is_set}
+use Rattle.once_machine.specs.Book.{At, IsBook, IsUnnamed, Page, TaskState}
+use Rattle.once_machine.specs.Machine.{drop_entries, fresh_task, is_resting, kept_after, leave_place, polled_of, step_of_drop, step_of_poll}
+use Rattle.once_machine.specs.declared.step.Place.TheVariants.{DoorPut as AtDoorPut, List as AtList, Run as AtRun}
+use Rattle.once_machine.specs.declared.step.Ending.TheVariants.{Memory as EndMemory}
+use Rattle.once_machine.specs.declared.step.Step.TheVariants.{UnderWay}
+use Rattle.once_machine.proofs.Moment.Calls.{copy_refused, drop_begun, init_ran, looked, made, poll_begun}
+use Rattle.once_machine.proofs.Moment.Doors.{put_refused}
+use Rattle.once_machine.proofs.Moment.Step.{told}
+use Rattle.once_machine.proofs.Told.Value.{WasFilled, ready_filled, ready_is_set}
 use Rattle.once_parts.specs.Kept.{Grew, IsKept, IsState, Leaves, Sheet, entries_of, entries_on, hand, most, pages_in, sheet, sheets, writing_sheet}
 use Rattle.once_parts.proofs.Moments.Forms.{notes, telling_moves}
 use Rattle.once_parts.proofs.Moments.Mine.{AreOf, drop_of, on_append, one_of, only_hand, only_look, told_of}
-use Rattle.once_queue.proofs.Listing.Members.{eqb_self}
+use Rattle.once_machine.proofs.Listing.Members.{eqb_self}
 use Rattle.once_parts.proofs.Moments.Moves.Words.{some}
 
 -- as many pages as sheets

@@ -2,21 +2,27 @@
 use Rattle.std.proofs.Common.{◌≡◌, ◌+◌, ◌%◌, ◌^◌, ℕ, suc, Bool, true, false, List, [], ◌∷◌, ◌++◌, Option, Some, None, slice_set, refl, sym, ◌∙◌, subst}
 use Rattle.std.proofs.lemmas.List.{append-nil}
 use Rattle.pagebook.specs.Pages.{Held, Moves, Notes, put as put_on}
-use Rattle.once_queue.specs.declared.waiters.Answer.{Answer as SectionAnswer}
-use Rattle.once_queue.specs.declared.waiters.Op.TheVariants.{Look, List as ListOwn, Release, Leave}
-use Rattle.once_core.specs.Table.{Call, Next, Section, after, after_door_get, after_look, call_at, next_at, next_end}
-use Rattle.once_world.specs.declared.record.Ran.TheVariants.{Pending as RanPending}
-use Rattle.once_world.specs.Record.{Entry}
-use Rattle.once_world.specs.Book.{At, Door, IsBook, Page, Queue, TaskState}
-use Rattle.once_world.specs.Machine.{AtCountIn, AtCountOut, AtDoorAgain, AtDoorGet, AtDoorPut, AtDoorTake, AtLeave, AtList, AtLook, AtRelease}
-use Rattle.once_world.specs.Machine.{Ending, Place, RestWait, Resting, UnderWay, claim_entries, head_after, is_claim, is_value, looked_list, records, release_list, release_wakers}
-use Rattle.once_world.proofs.Moment.Doors.{door_again, door_get, door_take, put_found, put_new}
-use Rattle.once_world.proofs.Moment.Numbers.{release_more}
-use Rattle.once_world.proofs.Moment.Pages.{set_other, zero_one}
-use Rattle.once_world.proofs.Moment.Sections.{leave_load, list_load, look_load, release_add}
-use Rattle.once_world.proofs.Moment.Step.{Stepped, told}
-use Rattle.once_world.proofs.Steps.{look_same}
-use Rattle.once_world.proofs.Told.Listings.{fill_hands_all}
+use Rattle.once_machine.specs.declared.waiters.Answer.{Answer as SectionAnswer}
+use Rattle.once_machine.specs.declared.waiters.Op.TheVariants.{Look, List as ListOwn, Release, Leave}
+use Rattle.once_machine.specs.Table.{Call, Next, Section, after, after_door_get, after_look, call_at, next_at, next_end}
+use Rattle.once_machine.specs.declared.record.Ran.TheVariants.{Pending as RanPending}
+use Rattle.once_machine.specs.Record.{Entry}
+use Rattle.once_machine.specs.Book.{At, Door, IsBook, Page, Queue, TaskState}
+use Rattle.once_machine.specs.declared.step.Place.TheVariants.{CountIn as AtCountIn, CountOut as AtCountOut, DoorAgain as AtDoorAgain, DoorGet as AtDoorGet}
+use Rattle.once_machine.specs.declared.step.Place.TheVariants.{DoorPut as AtDoorPut, DoorTake as AtDoorTake, Leave as AtLeave, List as AtList, Look as AtLook}
+use Rattle.once_machine.specs.declared.step.Place.TheVariants.{Release as AtRelease}
+use Rattle.once_machine.specs.Machine.{claim_entries, head_after, is_claim, is_value, looked_list, records, release_list, release_wakers}
+use Rattle.once_machine.specs.declared.step.Ending.{Ending}
+use Rattle.once_machine.specs.declared.step.Place.{Place}
+use Rattle.once_machine.specs.declared.step.Rest.TheVariants.{Wait as RestWait}
+use Rattle.once_machine.specs.declared.step.Step.TheVariants.{Resting, UnderWay}
+use Rattle.once_machine.proofs.Moment.Doors.{door_again, door_get, door_take, put_found, put_new}
+use Rattle.once_machine.proofs.Moment.Numbers.{release_more}
+use Rattle.once_machine.proofs.Moment.Pages.{set_other, zero_one}
+use Rattle.once_machine.proofs.Moment.Sections.{leave_load, list_load, look_load, release_add}
+use Rattle.once_machine.proofs.Moment.Step.{Stepped, told}
+use Rattle.once_machine.proofs.Steps.{look_same}
+use Rattle.once_machine.proofs.Told.Listings.{fill_hands_all}
 use Rattle.once_parts.specs.Kept.{IsKept, Leaves, locked, most, sheets}
 use Rattle.once_parts.specs.Desk.{Desked}
 use Rattle.once_parts.specs.Page.{queue_of}

@@ -4,16 +4,18 @@ use Rattle.std.proofs.lemmas.Bool.{cases_eq, false≢true}
 use Rattle.std.proofs.lemmas.List.{append-nil, append_assoc}
 use mathlib.Core.List.{IsPrefix}
 use Rattle.pagebook.specs.Pages.{Held, Moves, Sure}
-use Rattle.once_queue.specs.Word.{flags_of}
-use Rattle.once_core.specs.Steps.{release_place}
-use Rattle.once_core.specs.Table.{next_at}
-use Rattle.once_world.specs.Record.{Entry, Fill}
-use Rattle.once_world.specs.Book.{At, IsBook, Page, TaskState}
-use Rattle.once_world.specs.Machine.{AtPut, EndValue, UnderWay}
-use Rattle.once_world.proofs.Moment.Calls.{value_put}
-use Rattle.once_world.proofs.Moment.Pages.{set_here, set_other}
-use Rattle.once_world.proofs.Moment.Step.{told}
-use Rattle.once_world.proofs.Told.Value.{StandsIn, WasFilled, filled_ready, put_alone, ready_written}
+use Rattle.once_machine.specs.Word.{flags_of}
+use Rattle.once_machine.specs.Steps.{release_place}
+use Rattle.once_machine.specs.Table.{next_at}
+use Rattle.once_machine.specs.Record.{Entry, Fill}
+use Rattle.once_machine.specs.Book.{At, IsBook, Page, TaskState}
+use Rattle.once_machine.specs.declared.step.Place.TheVariants.{Put as AtPut}
+use Rattle.once_machine.specs.declared.step.Ending.TheVariants.{Value as EndValue}
+use Rattle.once_machine.specs.declared.step.Step.TheVariants.{UnderWay}
+use Rattle.once_machine.proofs.Moment.Calls.{value_put}
+use Rattle.once_machine.proofs.Moment.Pages.{set_here, set_other}
+use Rattle.once_machine.proofs.Moment.Step.{told}
+use Rattle.once_machine.proofs.Told.Value.{StandsIn, WasFilled, filled_ready, put_alone, ready_written}
 use Rattle.once_parts.specs.Kept.{Grew, IsKept, IsState, Leaves, Sheet, entries_of, entries_on, hand, most, pages_in, sheet, sheets, writing_sheet}
 use Rattle.once_parts.proofs.Moments.Forms.{apart, page_of, page_put, set_same}
 use Rattle.once_parts.proofs.Moments.Mine.{on_append, only_hand, told_of}

@@ -5,16 +5,20 @@ use Rattle.std.proofs.lemmas.Bool.{eqb-true, ltb-false}
 use Rattle.std.proofs.lemmas.List.{append-nil}
 use prog.Atomic.{either}
 use Rattle.pagebook.specs.Pages.{Moves, put as put_on}
-use Rattle.once_queue.specs.Word.{flags_of}
-use Rattle.once_core.specs.Table.{Call, Quick, Fast, Next, after, after_count_in, call_at, next_end}
-use Rattle.once_world.specs.declared.record.Ran.TheVariants.{Pending as RanPending}
-use Rattle.once_world.specs.Record.{Entry}
-use Rattle.once_world.specs.Words.{IsFound, IsWordCall, found, word_after}
-use Rattle.once_world.specs.Book.{At, IsBook, Page, TaskState}
-use Rattle.once_world.specs.Machine.{AtCountIn, AtDoorTake, Ending, Place, UnderWay, records}
-use Rattle.once_world.proofs.Moment.Doors.{take_none}
-use Rattle.once_world.proofs.Moment.Step.{Stepped, told}
-use Rattle.once_world.proofs.Moment.Words.{count_full, count_in, word_found, word_step}
+use Rattle.once_machine.specs.Word.{flags_of}
+use Rattle.once_machine.specs.Table.{Call, Quick, Fast, Next, after, after_count_in, call_at, next_end}
+use Rattle.once_machine.specs.declared.record.Ran.TheVariants.{Pending as RanPending}
+use Rattle.once_machine.specs.Record.{Entry}
+use Rattle.once_machine.specs.Words.{IsFound, IsWordCall, found, word_after}
+use Rattle.once_machine.specs.Book.{At, IsBook, Page, TaskState}
+use Rattle.once_machine.specs.Machine.{records}
+use Rattle.once_machine.specs.declared.step.Place.TheVariants.{CountIn as AtCountIn, DoorTake as AtDoorTake}
+use Rattle.once_machine.specs.declared.step.Ending.{Ending}
+use Rattle.once_machine.specs.declared.step.Place.{Place}
+use Rattle.once_machine.specs.declared.step.Step.TheVariants.{UnderWay}
+use Rattle.once_machine.proofs.Moment.Doors.{take_none}
+use Rattle.once_machine.proofs.Moment.Step.{Stepped, told}
+use Rattle.once_machine.proofs.Moment.Words.{count_full, count_in, word_found, word_step}
 use Rattle.once_parts.specs.Kept.{IsKept, Leaves, hand, most, sheets}
 use Rattle.once_parts.proofs.Moments.Forms.{moves, put_moves, set_same}
 use Rattle.once_parts.proofs.Moments.Mine.{AreOf, claim_of, freed_of, only_hand, told_of}

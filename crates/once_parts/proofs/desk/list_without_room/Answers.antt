@@ -1,15 +1,15 @@
 -- A claim gives up a ticket that no listing has, so the list stays as it was.
 use Rattle.std.proofs.Common.{◌≡◌, ℕ, Bool, true, false, cond, List, Option, Some, None, refl, sym, ap, ◌∙◌}
 use Rattle.std.specs.Option.{is_some}
-use Rattle.once_queue.specs.declared.word.Sees.{Sees}
-use Rattle.once_queue.specs.declared.waiters.Answer.TheVariants.{Claimed}
-use Rattle.once_queue.specs.Numbers.{member}
-use Rattle.once_queue.specs.declared.waiters.Listing.{Listing}
-use Rattle.once_queue.specs.Listings.{kept_ticket, list_without, tickets}
-use Rattle.once_queue.specs.Claims.{Claimant, Claims}
-use Rattle.once_queue.specs.Room.{claimant}
-use Rattle.once_queue.specs.Word.{flags_of, sees}
-use Rattle.once_queue.proofs.Listing.Tickets.{take_none}
+use Rattle.once_machine.specs.declared.word.Sees.{Sees}
+use Rattle.once_machine.specs.declared.waiters.Answer.TheVariants.{Claimed}
+use Rattle.once_machine.specs.Numbers.{member}
+use Rattle.once_machine.specs.declared.waiters.Listing.{Listing}
+use Rattle.once_machine.specs.Listings.{kept_ticket, list_without, tickets}
+use Rattle.once_machine.specs.Claims.{Claimant, Claims}
+use Rattle.once_machine.specs.Room.{claimant}
+use Rattle.once_machine.specs.Word.{flags_of, sees}
+use Rattle.once_machine.proofs.Listing.Tickets.{take_none}
 use Rattle.once_parts.proofs.desk.list_without_room.Goals as goal
 
 kept_none : (b : Bool) (n : ℕ) → is_some (cond b (Some n) None) ≡ false → b ≡ false

@@ -1,6 +1,6 @@
 -- After each step the task stands, so it may make the next one.
 use Rattle.std.proofs.Common.{◌≡◌, false, rules, arith, refl, ◌∙◌, subst}
-use Rattle.once_core.specs.Steps.{in_call}
+use Rattle.once_machine.specs.Steps.{in_call}
 use Rattle.once_parts.specs.Shares.{own}
 use Rattle.once_parts.specs.Walks.{Stands, Walked}
 use Rattle.once_parts.proofs.Walk.Ends.{told_end}

@@ -1,5 +1,5 @@
 use Rattle.std.proofs.Common.{◌≡◌, Bool}
-use Rattle.once_core.specs.Table.{left_of}
+use Rattle.once_machine.specs.Table.{left_of}
 use Rattle.once_parts.specs.Own.{Own}
 use Rattle.once_parts.specs.Shares.{cell_of, own}
 use Rattle.once_parts.specs.Sides.{Sided}

@@ -3,7 +3,7 @@ use Rattle.std.proofs.lemmas.Grind.{common_steps}
 use Rattle.std.proofs.lemmas.Str.Pattern.{split_once_first, split_parts}
 use Rattle.std.proofs.lemmas.Bool.Decides.{Decides-eqb}
 use Rattle.std.proofs.lemmas.Slice.Eq.{slice_eq-Decides}
-use Rattle.once_world.specs.declared.record.Ran.{Ran}
+use Rattle.once_machine.specs.declared.record.Ran.{Ran}
 use Rattle.once_script.specs.Answer.{IsAnswer}
 use Rattle.once_script.proofs.FieldLemmas.{no_given, no_given-first, no_given-mark}
 use Rattle.once_script.proofs.parse.parse_given.Goals as goal

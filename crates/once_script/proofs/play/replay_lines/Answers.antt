@@ -2,7 +2,7 @@
 use Rattle.std.proofs.Common.{◌≡◌, ◌++◌, ◌+◌, arith, take}
 use Rattle.std.proofs.lemmas.Grind.{common_steps}
 use Rattle.std.proofs.lemmas.List.{map-append, reverse-append, append-nil}
-use Rattle.once_world.specs.Shown.{kind_of, inputs_in}
+use Rattle.once_machine.specs.Shown.{kind_of, inputs_in}
 use Rattle.once_script.specs.Text.{inputs_of, all_inputs}
 use Rattle.once_script.proofs.play.replay_lines.Goals as goal
 

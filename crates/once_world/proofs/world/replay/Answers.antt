@@ -1,16 +1,16 @@
 -- What is proved of the machine holds of the replay.
 use Rattle.std.proofs.Common.{◌≡◌, ◌+◌, ◌∷◌, sym, subst, ap, ◌∙◌, arith, take}
 use Rattle.std.proofs.lemmas.Grind.{common_steps}
-use Rattle.once_world.specs.Run.{AtEvery, IsRun}
-use Rattle.once_world.specs.Called.{SomebodyCalled}
-use Rattle.once_world.specs.Inputs.{FallsInto, ends_for_memory}
-use Rattle.once_world.specs.Log.{IsLogOf, IsSound, standing_queue}
-use Rattle.once_world.specs.Machine.{history_of, log_of, queue_of}
-use Rattle.once_world.specs.Shown.{record_entries, record_lines, inputs_in, input_of, kind_of}
-use Rattle.once_world.proofs.Input.Headline.{every_run, one_is_called}
-use Rattle.once_world.proofs.Law.Nobody.{nobody_forgotten}
-use Rattle.once_world.proofs.Law.Called.{waiter_called}
-use Rattle.once_world.proofs.Law.Values.{one_value}
+use Rattle.once_machine.specs.Run.{AtEvery, IsRun}
+use Rattle.once_machine.specs.Called.{SomebodyCalled}
+use Rattle.once_machine.specs.Inputs.{FallsInto, ends_for_memory}
+use Rattle.once_machine.specs.Log.{IsLogOf, IsSound, standing_queue}
+use Rattle.once_machine.specs.Machine.{history_of, log_of, queue_of}
+use Rattle.once_machine.specs.Shown.{record_entries, record_lines, inputs_in, input_of, kind_of}
+use Rattle.once_machine.proofs.Input.Headline.{every_run, one_is_called}
+use Rattle.once_machine.proofs.Law.Nobody.{nobody_forgotten}
+use Rattle.once_machine.proofs.Law.Called.{waiter_called}
+use Rattle.once_machine.proofs.Law.Values.{one_value}
 use Rattle.once_world.proofs.Door.Logged.{log_sound, log_stands}
 use Rattle.once_world.proofs.Part.Belonging.{belongs}
 use Rattle.once_world.proofs.Part.Ample.{ample_memory}

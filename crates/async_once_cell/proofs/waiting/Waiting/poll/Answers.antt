@@ -1,8 +1,8 @@
 -- How the poll of the task ended. What its side kept: the init that is left fails with no other error than before.
 use Rattle.std.proofs.Common.{◌≡◌, ℕ, List, [], ◌∷◌, Option, sym, ◌∙◌, subst, rules}
 use Rattle.std.proofs.lemmas.Bool.{false≢true}
-use Rattle.once_core.specs.declared.step.Ending.{Ending}
-use Rattle.once_world.specs.Record.{Entry}
+use Rattle.once_machine.specs.declared.step.Ending.{Ending}
+use Rattle.once_machine.specs.Record.{Entry}
 use Rattle.once_parts.specs.Kept.{Grew}
 use Rattle.once_parts.specs.Walks.{end_of}
 use Rattle.pagebook.specs.Slot.{Placed}

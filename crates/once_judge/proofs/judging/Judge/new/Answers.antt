@@ -1,6 +1,6 @@
 -- Nothing was taken yet.
 use Rattle.std.proofs.Common.{length, sym, ap, ◌∙◌, subst}
-use Rattle.once_world.specs.Shown.{kind_of}
+use Rattle.once_machine.specs.Shown.{kind_of}
 use Rattle.once_judge.specs.Seen.{Seen}
 use Rattle.once_judge.specs.Shown.{Within}
 use Rattle.once_judge.proofs.Within.{within_nothing}

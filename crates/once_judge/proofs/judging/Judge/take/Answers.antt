@@ -1,7 +1,7 @@
 -- One entry more was taken.
 use Rattle.std.proofs.Common.{sym, ap, ◌∙◌, subst, arith}
 use Rattle.std.proofs.lemmas.Grind.{common_steps}
-use Rattle.once_world.specs.Shown.{entry_of}
+use Rattle.once_machine.specs.Shown.{entry_of}
 use Rattle.once_judge.specs.Seen.{Seen}
 use Rattle.once_judge.specs.Shown.{Within, seen_of}
 use Rattle.once_judge.proofs.Within.{within_after}

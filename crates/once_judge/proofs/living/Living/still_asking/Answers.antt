@@ -9,7 +9,7 @@ use Rattle.std.proofs.lemmas.List.Elements.{All-map, All-contains, All-push, All
 use Rattle.std.proofs.lemmas.Map.Iter.{iter_end}
 use Rattle.std.proofs.lemmas.Map.Lookups.{exact_unsigned}
 use Rattle.std.proofs.lemmas.Map.Views.{btree_set_contains_iff}
-use Rattle.once_queue.proofs.Listing.Members.{eqb_self}
+use Rattle.once_machine.proofs.Listing.Members.{eqb_self}
 use Rattle.once_judge.proofs.Dues.{AsksIn}
 use Rattle.once_judge.proofs.living.Living.still_asking.Goals as goal
 

@@ -3,7 +3,7 @@ use Rattle.std.proofs.Common.{◌≡◌, ◌-◌, Some, cond, take, get_or, ap, 
 use Rattle.std.specs.BTreeMap.{get, is_at}
 use Rattle.once_judge.specs.declared.seen.Seen.{Seen as GivenSeen}
 use Rattle.once_judge.specs.Shown.{count_at}
-use Rattle.once_queue.specs.Numbers.{member}
+use Rattle.once_machine.specs.Numbers.{member}
 use Rattle.once_judge.proofs.Taking.{times_handed_out, stamp_handed_out, stamp_within}
 use Rattle.once_judge.proofs.seen.Seen.hand_out.Goals as goal
 

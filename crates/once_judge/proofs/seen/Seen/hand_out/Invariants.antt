@@ -1,6 +1,6 @@
 -- The wakers so far are handed out.
 use Rattle.std.proofs.Common.{◌≡◌, ◌-◌, ℕ, cond, take}
-use Rattle.once_queue.specs.Numbers.{member, times_in}
+use Rattle.once_machine.specs.Numbers.{member, times_in}
 use Rattle.once_judge.specs.Shown.{count_at}
 use Rattle.once_judge.proofs.seen.Seen.hand_out.Given as goal
 

@@ -4,7 +4,7 @@ use Rattle.std.specs.Cmp.{unsigned_tied}
 use Rattle.std.specs.BTreeSet.{contains}
 use Rattle.std.proofs.lemmas.Bool.{false≢true, not-true, not-false, eqb-true}
 use Rattle.std.proofs.lemmas.List.{take_all}
-use Rattle.once_queue.specs.Numbers.{member, is_distinct, times_in}
+use Rattle.once_machine.specs.Numbers.{member, is_distinct, times_in}
 use Rattle.once_judge.specs.Seen.{Seen}
 use Rattle.once_judge.specs.Shown.{seen_of}
 use Rattle.once_judge.proofs.Lists.{twice, twice_in, member_get, distinct_step, member_more}

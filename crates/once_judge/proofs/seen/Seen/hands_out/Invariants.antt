@@ -1,7 +1,7 @@
 -- The wakers so far are distinct and open, and stand among those seen.
 use Rattle.std.proofs.Common.{◌≡◌, ◌<◌, ℕ, true, take, nat_cmp}
 use Rattle.std.specs.BTreeSet.{contains}
-use Rattle.once_queue.specs.Numbers.{member, is_distinct}
+use Rattle.once_machine.specs.Numbers.{member, is_distinct}
 use Rattle.once_judge.specs.Shown.{seen_of}
 use Rattle.once_judge.proofs.seen.Seen.hands_out.Given as goal
 

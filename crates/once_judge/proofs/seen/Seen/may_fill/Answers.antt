@@ -1,6 +1,6 @@
 -- The reason is true of each entry that hands these out.
 use Rattle.std.proofs.Common.{refl}
-use Rattle.once_world.specs.Record.{Fill}
+use Rattle.once_machine.specs.Record.{Fill}
 use Rattle.once_judge.proofs.seen.Seen.may_fill.Goals as goal
 
 pub returns-clause-reason : goal.returns-clause-reason

@@ -5,7 +5,7 @@ use Rattle.std.specs.Map.Iter.{deref}
 use Rattle.std.proofs.lemmas.Bool.{false≢true}
 use Rattle.std.proofs.lemmas.List.Elements.{All-push, All-map}
 use Rattle.std.proofs.lemmas.Map.Iter.{iter_end}
-use Rattle.once_world.specs.Tasks.{Waiting}
+use Rattle.once_machine.specs.Tasks.{Waiting}
 use Rattle.once_judge.specs.Shown.{seen_of}
 use Rattle.once_judge.proofs.Dues.{all_stand}
 use Rattle.once_judge.proofs.seen.Seen.some_waits.Goals as goal

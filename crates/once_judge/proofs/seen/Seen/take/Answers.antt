@@ -1,8 +1,8 @@
 -- An entry is taken in four parts.
 use Rattle.std.proofs.Common.{◌≡◌, ◌+◌, ◌-◌, suc, cond, ap, ◌∙◌, arith}
-use Rattle.once_queue.specs.Numbers.{member, times_in}
-use Rattle.once_world.specs.Shown.{entry_of}
-use Rattle.once_world.specs.Record.{handed_by}
+use Rattle.once_machine.specs.Numbers.{member, times_in}
+use Rattle.once_machine.specs.Shown.{entry_of}
+use Rattle.once_machine.specs.Record.{handed_by}
 use Rattle.once_judge.specs.Seen.{task_of}
 use Rattle.once_judge.specs.Shown.{seen_of, count_at, task_at, tasked_by, handed_out, celled, noted}
 use Rattle.once_judge.proofs.Taking.{same_seen, parts_are, parts_handed}

@@ -1,9 +1,9 @@
 -- What an entry changes of its task.
 use Rattle.std.proofs.Common.{◌≡◌, suc, cond, ◌==◌, ap, ◌∙◌}
 use Rattle.std.proofs.lemmas.Result.{on_ok_weaker}
-use Rattle.once_world.specs.Shown.{entry_of}
-use Rattle.once_world.specs.Tasks.{is_under_way}
-use Rattle.once_world.specs.Refusals.{is_about}
+use Rattle.once_machine.specs.Shown.{entry_of}
+use Rattle.once_machine.specs.Tasks.{is_under_way}
+use Rattle.once_machine.specs.Refusals.{is_about}
 use Rattle.once_judge.specs.Seen.{moved, counted}
 use Rattle.once_judge.specs.Shown.{seen_of, task_in, task_at, count_at}
 use Rattle.once_judge.proofs.Taking.{tasked_is}

@@ -1,6 +1,6 @@
 use Rattle.std.proofs.Common.{◌∙◌, inl, inr, ⊎_elim, ap}
 use Rattle.std.specs.Option.{is_some}
-use Rattle.once_queue.specs.Listings.{kept_ticket}
+use Rattle.once_machine.specs.Listings.{kept_ticket}
 use Rattle.once_parts.proofs.Desks.{in_section, list_ends, refusal_ends, roomed}
 use Rattle.once_parts.proofs.desk.Desk.list.Goals as goal
 

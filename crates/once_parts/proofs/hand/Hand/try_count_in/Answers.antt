@@ -1,9 +1,9 @@
 use Rattle.std.proofs.Common.{◌≡◌, ◌<◌, sym, subst, arith}
 use Rattle.std.proofs.lemmas.Bool.Decides.{nat_tests}
-use Rattle.once_queue.specs.Word.{flags_of}
-use Rattle.once_world.specs.Book.{TaskState}
+use Rattle.once_machine.specs.Word.{flags_of}
+use Rattle.once_machine.specs.Book.{TaskState}
 use Rattle.once_parts.specs.Kept.{most}
-use Rattle.once_core.specs.Table.{CountIn}
+use Rattle.once_machine.specs.Table.{CountIn}
 use Rattle.once_parts.specs.Page.{call_in}
 use Rattle.once_parts.proofs.Acts.{enter_keeps, full_keeps, room_stays}
 use Rattle.once_parts.proofs.hand.Hand.try_count_in.Goals as goal

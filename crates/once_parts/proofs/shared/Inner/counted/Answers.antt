@@ -1,6 +1,6 @@
 -- A task that was not counted in for another's sake stands where it stood, now as before.
 use Rattle.std.proofs.Common.{◌≡◌, ℕ, rules, [], ◌∙◌, subst}
-use Rattle.once_core.specs.Table.{counted}
+use Rattle.once_machine.specs.Table.{counted}
 use Rattle.once_parts.specs.Kept.{entries_of}
 use Rattle.once_parts.specs.Own.{Own, Stayed}
 use Rattle.once_parts.proofs.Desks.{prefix_on, went_after}

@@ -1,4 +1,4 @@
-use Rattle.once_core.specs.Table.{Load}
+use Rattle.once_machine.specs.Table.{Load}
 use Rattle.once_parts.proofs.Acts.{word_keeps, word_told}
 use Rattle.once_parts.proofs.shared.Inner.loaded.Goals as goal
 

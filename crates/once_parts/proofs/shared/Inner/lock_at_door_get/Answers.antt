@@ -1,7 +1,7 @@
 -- The look at the door is its line of the table, and the steps of a waiter follow if a queue stands there.
 use Rattle.std.proofs.Common.{refl, None, Some}
-use Rattle.once_core.specs.Table.{Got, next_at}
-use Rattle.once_world.specs.Places.{AtCountIn, AtDoorGet, AtDoorPut}
+use Rattle.once_machine.specs.Table.{Got, next_at}
+use Rattle.once_machine.specs.declared.step.Place.TheVariants.{CountIn as AtCountIn, DoorGet as AtDoorGet, DoorPut as AtDoorPut}
 use Rattle.once_parts.proofs.Walk.Ways.{led, onward}
 use Rattle.once_parts.proofs.shared.Inner.lock_at_door_get.Goals as goal
 

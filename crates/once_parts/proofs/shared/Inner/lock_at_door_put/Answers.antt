@@ -1,7 +1,7 @@
 -- The queue that is put to the door is its line of the table, and the steps of a waiter follow.
 use Rattle.std.proofs.Common.{refl, Some}
-use Rattle.once_core.specs.Table.{PutQueue, next_at}
-use Rattle.once_world.specs.Places.{AtCountIn, AtDoorPut}
+use Rattle.once_machine.specs.Table.{PutQueue, next_at}
+use Rattle.once_machine.specs.declared.step.Place.TheVariants.{CountIn as AtCountIn, DoorPut as AtDoorPut}
 use Rattle.once_parts.proofs.Walk.Ways.{led, onward}
 use Rattle.once_parts.proofs.shared.Inner.lock_at_door_put.Goals as goal
 

@@ -1,6 +1,6 @@
 -- The listing is its line of the table.
 use Rattle.std.proofs.Common.{◌∙◌, refl, ap}
-use Rattle.once_core.specs.Table.{after_list}
+use Rattle.once_machine.specs.Table.{after_list}
 use Rattle.once_parts.specs.Ways.{next_by}
 use Rattle.once_parts.specs.declared.ways.Reached.TheVariants.{Claimed, Ready, Refused, Waits}
 use Rattle.once_parts.proofs.Walk.Ways.{listed, rests}

@@ -1,9 +1,10 @@
 -- The look is its line of the table, with the copy of the waker or its refusal. Where there is a copy, the listing follows.
 use Rattle.std.proofs.Common.{◌≡◌, ℕ, refl, sym, ap, subst, None}
 use Rattle.std.specs.Prelude.{⊤}
-use Rattle.once_queue.specs.declared.waiters.Op.TheVariants.{Look}
-use Rattle.once_core.specs.Table.{after_look, wants_copy}
-use Rattle.once_world.specs.Places.{Progress, Step}
+use Rattle.once_machine.specs.declared.waiters.Op.TheVariants.{Look}
+use Rattle.once_machine.specs.Table.{after_look, wants_copy}
+use Rattle.once_machine.specs.declared.step.Progress.{Progress}
+use Rattle.once_machine.specs.declared.step.Step.{Step}
 use Rattle.once_parts.specs.Own.{Own}
 use Rattle.once_parts.specs.Sides.{Sided}
 use Rattle.once_parts.specs.Ways.{Leads, next_by}

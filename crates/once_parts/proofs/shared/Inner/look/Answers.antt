@@ -1,6 +1,6 @@
 -- Who loads a ready word has seen the Fill, so the slot is written.
 use Rattle.std.proofs.Common.{◌≡◌, true, arith}
-use Rattle.once_queue.specs.Word.{flags_of}
+use Rattle.once_machine.specs.Word.{flags_of}
 use Rattle.once_parts.proofs.Moments.Moves.Slots.{filled_sure}
 use Rattle.once_parts.proofs.shared.Inner.look.Goals as goal
 

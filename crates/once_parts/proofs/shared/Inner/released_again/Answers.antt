@@ -1,9 +1,9 @@
 -- The second look at the door is its line of the table.
 use Rattle.std.proofs.Common.{refl, None, Some, subst}
-use Rattle.once_queue.specs.declared.waiters.Answer.TheVariants.{Released}
-use Rattle.once_queue.specs.declared.waiters.Op.TheVariants.{Release}
-use Rattle.once_core.specs.Table.{Got, Was, next_at}
-use Rattle.once_world.specs.Places.{AtCountOut, AtDoorAgain, AtRelease}
+use Rattle.once_machine.specs.declared.waiters.Answer.TheVariants.{Released}
+use Rattle.once_machine.specs.declared.waiters.Op.TheVariants.{Release}
+use Rattle.once_machine.specs.Table.{Got, Was, next_at}
+use Rattle.once_machine.specs.declared.step.Place.TheVariants.{CountOut as AtCountOut, DoorAgain as AtDoorAgain, Release as AtRelease}
 use Rattle.once_parts.specs.Hands.{own_of}
 use Rattle.once_parts.specs.Parts.{DidCall}
 use Rattle.once_parts.proofs.Walk.Ways.{led}

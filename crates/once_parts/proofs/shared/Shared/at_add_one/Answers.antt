@@ -1,7 +1,7 @@
 -- Counting in is its line of the table. Where a queue was found, the release is the next, and then the task counts out.
 use Rattle.std.proofs.Common.{◌∙◌, refl}
-use Rattle.once_queue.specs.declared.waiters.Op.TheVariants.{Release}
-use Rattle.once_core.specs.Steps.{is_value}
+use Rattle.once_machine.specs.declared.waiters.Op.TheVariants.{Release}
+use Rattle.once_machine.specs.Steps.{is_value}
 use Rattle.once_parts.proofs.Walk.Ways.{added, onward, released}
 use Rattle.once_parts.proofs.shared.Shared.at_add_one.Goals as goal
 

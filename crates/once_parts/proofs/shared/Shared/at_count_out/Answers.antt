@@ -1,8 +1,8 @@
 -- Counting out is its line of the table.
 use Rattle.std.proofs.Common.{◌≡◌, false, refl, sym, ap, ◌∙◌}
-use Rattle.once_queue.specs.Word.{flags_of, is_ready_bit}
-use Rattle.once_core.specs.Table.{CountedOut, after_count_out, next_end}
-use Rattle.once_world.specs.Places.{AtCountOut}
+use Rattle.once_machine.specs.Word.{flags_of, is_ready_bit}
+use Rattle.once_machine.specs.Table.{CountedOut, after_count_out, next_end}
+use Rattle.once_machine.specs.declared.step.Place.TheVariants.{CountOut as AtCountOut}
 use Rattle.once_parts.proofs.Walk.Ways.{led}
 use Rattle.once_parts.proofs.shared.Shared.at_count_out.Goals as goal
 

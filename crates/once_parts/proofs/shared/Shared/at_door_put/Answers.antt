@@ -1,7 +1,8 @@
 -- A refusal of the queue's memory is its line of the table. Else the poll goes on from where its steps under the lock led.
 use Rattle.std.proofs.Common.{refl, None}
-use Rattle.once_core.specs.Table.{PutQueue, closing_end}
-use Rattle.once_world.specs.Places.{AtDoorPut, EndMemory}
+use Rattle.once_machine.specs.Table.{PutQueue, closing_end}
+use Rattle.once_machine.specs.declared.step.Place.TheVariants.{DoorPut as AtDoorPut}
+use Rattle.once_machine.specs.declared.step.Ending.TheVariants.{Memory as EndMemory}
 use Rattle.once_parts.proofs.Walk.Ways.{led}
 use Rattle.once_parts.proofs.shared.Shared.at_door_put.Goals as goal
 

@@ -1,8 +1,8 @@
 -- The fast release is its line of the table.
 use Rattle.std.proofs.Common.{◌≡◌, true, false, refl, sym, ap, ◌∙◌}
-use Rattle.once_core.specs.Steps.{is_value}
-use Rattle.once_core.specs.Table.{after_fast, next_at, next_end}
-use Rattle.once_world.specs.Places.{AtAddOne, AtDoorTake}
+use Rattle.once_machine.specs.Steps.{is_value}
+use Rattle.once_machine.specs.Table.{after_fast, next_at, next_end}
+use Rattle.once_machine.specs.declared.step.Place.TheVariants.{AddOne as AtAddOne, DoorTake as AtDoorTake}
 use Rattle.once_parts.proofs.Walk.Ways.{freed, onward}
 use Rattle.once_parts.proofs.shared.Shared.at_fast.Goals as goal
 

@@ -1,9 +1,9 @@
 -- The release is its line of the table, and then the task counts out.
 use Rattle.std.proofs.Common.{subst}
-use Rattle.once_queue.specs.declared.waiters.Answer.TheVariants.{Released}
-use Rattle.once_queue.specs.declared.waiters.Op.TheVariants.{Release}
-use Rattle.once_core.specs.Steps.{is_value}
-use Rattle.once_core.specs.Table.{Was}
+use Rattle.once_machine.specs.declared.waiters.Answer.TheVariants.{Released}
+use Rattle.once_machine.specs.declared.waiters.Op.TheVariants.{Release}
+use Rattle.once_machine.specs.Steps.{is_value}
+use Rattle.once_machine.specs.Table.{Was}
 use Rattle.once_parts.specs.Hands.{own_of}
 use Rattle.once_parts.specs.Parts.{DidCall}
 use Rattle.once_parts.specs.Shares.{own}

@@ -1,8 +1,10 @@
 -- The poll of the init is its line of the table. Where it is over, it is closed, and the value is put or the right given back.
 use Rattle.std.proofs.Common.{◌∙◌, refl, sym, subst}
 use Rattle.std.specs.Prelude.{⊤}
-use Rattle.once_core.specs.declared.step.Polled.TheVariants.{Pending, Value, Error}
-use Rattle.once_world.specs.Places.{EndPending, Ended, Step}
+use Rattle.once_machine.specs.declared.step.Polled.TheVariants.{Pending, Value, Error}
+use Rattle.once_machine.specs.declared.step.Ending.TheVariants.{Pending as EndPending}
+use Rattle.once_machine.specs.declared.step.Progress.TheVariants.{Ended}
+use Rattle.once_machine.specs.declared.step.Step.{Step}
 use Rattle.once_parts.specs.Shares.{own}
 use Rattle.once_parts.specs.Ways.{Leads}
 use Rattle.once_parts.proofs.Walk.Ways.{onward, ran}

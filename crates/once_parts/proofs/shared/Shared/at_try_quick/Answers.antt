@@ -1,7 +1,7 @@
 -- The quick claim is its line of the table. Where it was won, the init is polled.
 use Rattle.std.proofs.Common.{◌∙◌, refl, ap, None}
-use Rattle.once_core.specs.Table.{TriedQuick, after_quick, next_at}
-use Rattle.once_world.specs.Places.{AtRun, AtTryQuick}
+use Rattle.once_machine.specs.Table.{TriedQuick, after_quick, next_at}
+use Rattle.once_machine.specs.declared.step.Place.TheVariants.{Run as AtRun, TryQuick as AtTryQuick}
 use Rattle.once_parts.proofs.Walk.Ways.{led, onward}
 use Rattle.once_parts.proofs.shared.Shared.at_try_quick.Goals as goal
 

@@ -1,8 +1,9 @@
 -- The load is its line of the table. Where the word is ready, the init is closed, and the task counts out.
 use Rattle.std.proofs.Common.{◌≡◌, true, refl, sym, ap, ◌∙◌}
-use Rattle.once_queue.specs.Word.{Flags, flags_of}
-use Rattle.once_core.specs.Table.{Loaded, after_load, closing_at}
-use Rattle.once_world.specs.Places.{AtCountOut, AtWaitLoad, EndValue}
+use Rattle.once_machine.specs.Word.{Flags, flags_of}
+use Rattle.once_machine.specs.Table.{Loaded, after_load, closing_at}
+use Rattle.once_machine.specs.declared.step.Place.TheVariants.{CountOut as AtCountOut, WaitLoad as AtWaitLoad}
+use Rattle.once_machine.specs.declared.step.Ending.TheVariants.{Value as EndValue}
 use Rattle.once_parts.proofs.Walk.Ways.{led, onward}
 use Rattle.once_parts.proofs.shared.Shared.at_wait_load.Goals as goal
 

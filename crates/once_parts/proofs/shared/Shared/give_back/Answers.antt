@@ -1,7 +1,8 @@
 -- A holder with the queue releases under the lock, and one without tries the fast release.
 use Rattle.std.proofs.Common.{false, subst}
-use Rattle.once_core.specs.Steps.{release_place}
-use Rattle.once_world.specs.Places.{More, UnderWay}
+use Rattle.once_machine.specs.Steps.{release_place}
+use Rattle.once_machine.specs.declared.step.Progress.TheVariants.{More}
+use Rattle.once_machine.specs.declared.step.Step.TheVariants.{UnderWay}
 use Rattle.once_parts.specs.Shares.{own}
 use Rattle.once_parts.specs.Walks.{Stands}
 use Rattle.once_parts.proofs.shared.Shared.give_back.Goals as goal

@@ -1,7 +1,10 @@
 -- The init is closed where the table says so, and the poll goes on from there.
 use Rattle.std.proofs.Common.{sym, subst}
-use Rattle.once_core.specs.Steps.{leave_place}
-use Rattle.once_world.specs.Places.{AtCountOut, EndMemory, EndValue, More, UnderWay}
+use Rattle.once_machine.specs.Steps.{leave_place}
+use Rattle.once_machine.specs.declared.step.Place.TheVariants.{CountOut as AtCountOut}
+use Rattle.once_machine.specs.declared.step.Ending.TheVariants.{Memory as EndMemory, Value as EndValue}
+use Rattle.once_machine.specs.declared.step.Progress.TheVariants.{More}
+use Rattle.once_machine.specs.declared.step.Step.TheVariants.{UnderWay}
 use Rattle.once_parts.specs.Shares.{own}
 use Rattle.once_parts.specs.Ways.{Leads, LeadsBy, StandsBy, next_by}
 use Rattle.once_parts.proofs.Walk.Ways.{onward}

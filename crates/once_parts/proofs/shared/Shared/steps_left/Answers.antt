@@ -1,6 +1,6 @@
 -- The steps are made, and the step where the call ended is kept.
 use Rattle.std.proofs.Common.{false, sym, subst}
-use Rattle.once_world.specs.Places.{Ended}
+use Rattle.once_machine.specs.declared.step.Progress.TheVariants.{Ended}
 use Rattle.once_parts.specs.Shares.{own}
 use Rattle.once_parts.specs.Walks.{Stands}
 use Rattle.once_parts.proofs.Walk.Logs.{walked_none}

@@ -1,6 +1,6 @@
 use Rattle.std.proofs.Common.{refl, subst}
-use Rattle.once_core.specs.Table.{CountOut}
-use Rattle.once_world.specs.Words.{IsFound}
+use Rattle.once_machine.specs.Table.{CountOut}
+use Rattle.once_machine.specs.Words.{IsFound}
 use Rattle.once_parts.proofs.Acts.{word_keeps, word_told}
 use Rattle.once_parts.proofs.shared.SharedParts.count_out.Goals as goal
 

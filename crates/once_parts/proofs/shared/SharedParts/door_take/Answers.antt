@@ -1,6 +1,6 @@
 -- A task that found no queue left it where it was, so what it takes under the lock is all of its step.
 use Rattle.std.proofs.Common.{rules, []}
-use Rattle.once_core.specs.Table.{Taken}
+use Rattle.once_machine.specs.Table.{Taken}
 use Rattle.once_parts.proofs.Desks.{went_after}
 use Rattle.once_parts.proofs.shared.SharedParts.door_take.Goals as goal
 

@@ -1,5 +1,5 @@
 use Rattle.std.proofs.Common.{refl}
-use Rattle.once_core.specs.Table.{Fast}
+use Rattle.once_machine.specs.Table.{Fast}
 use Rattle.once_parts.proofs.Acts.{word_keeps, word_told}
 use Rattle.once_parts.proofs.shared.SharedParts.fast.Goals as goal
 

@@ -1,19 +1,20 @@
 -- The drop begins, its steps are made, and so it ends. A task that was never polled has none to make.
 use Rattle.std.specs.Prelude.{⊤}
 use Rattle.std.proofs.Common.{◌≡◌, ℕ, true, false, refl, sym, ap, ◌∙◌, ◌∷◌, [], ◌++◌, subst}
-use Rattle.once_core.specs.Steps.{in_call, is_resting}
-use Rattle.once_world.specs.Places.{Ended, Step}
+use Rattle.once_machine.specs.Steps.{in_call, is_resting}
+use Rattle.once_machine.specs.declared.step.Progress.TheVariants.{Ended}
+use Rattle.once_machine.specs.declared.step.Step.{Step}
 use Rattle.once_parts.specs.Own.{Own}
 use Rattle.once_parts.specs.declared.task.Idle.{Idle}
 use Rattle.once_parts.specs.Idle.{is_over, step_of}
-use Rattle.once_world.specs.Record.{DropBegin, DropEnd, Entry}
+use Rattle.once_machine.specs.Record.{DropBegin, DropEnd, Entry}
 use Rattle.once_parts.specs.Kept.{Grew, entries_of}
 use Rattle.once_parts.specs.Shares.{own}
 use Rattle.once_parts.specs.Sides.{Sided}
 use Rattle.once_parts.specs.Walks.{IsCall, Rests, StandsOn, handed}
 use Rattle.once_parts.specs.Tasks.{TaskView}
 use Rattle.once_parts.proofs.Walk.Logs.{called, grew_on, walked_none}
-use Rattle.once_world.specs.Machine.{progress_entries}
+use Rattle.once_machine.specs.Machine.{progress_entries}
 use Rattle.once_parts.proofs.Walk.Begins.{drop_alone, drop_opens, grew_from, grew_last, stands_closed}
 use Rattle.once_parts.proofs.Promise.{fits_on}
 use Rattle.once_parts.proofs.Walk.Ends.{drop_ended}

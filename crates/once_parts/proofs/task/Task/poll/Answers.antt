@@ -1,6 +1,6 @@
 -- The poll began after all that the task had seen, and ended with the newest entry.
 use Rattle.std.proofs.Common.{List, sym, subst}
-use Rattle.once_world.specs.Record.{Entry}
+use Rattle.once_machine.specs.Record.{Entry}
 use Rattle.once_parts.specs.Walks.{Spans, end_of}
 use Rattle.once_parts.proofs.task.Task.poll.Goals as goal
 

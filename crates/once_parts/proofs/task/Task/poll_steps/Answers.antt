@@ -1,6 +1,6 @@
 -- The poll begins, its steps are made, and so it ends.
 use Rattle.std.proofs.Common.{◌≡◌, rules, refl, sym, ap, ◌∙◌}
-use Rattle.once_core.specs.Steps.{step_of_poll}
+use Rattle.once_machine.specs.Steps.{step_of_poll}
 use Rattle.once_parts.specs.declared.task.Idle.{Idle}
 use Rattle.once_parts.specs.declared.task.Idle.TheVariants.{New}
 use Rattle.once_parts.specs.Idle.{step_of}

@@ -1,8 +1,8 @@
 use Rattle.std.proofs.Common.{◌≢◌, ◌∷◌, ℕ, List, None, arith, codes}
 use Rattle.std.proofs.lemmas.Grind.{common_steps}
 use Rattle.std.proofs.lemmas.Str.Pattern.{strip_prefix_char}
-use Rattle.once_world.specs.declared.record.Ran.{Ran}
-use Rattle.once_world.specs.declared.record.Ran.TheVariants.{Pending, Value, Error}
+use Rattle.once_machine.specs.declared.record.Ran.{Ran}
+use Rattle.once_machine.specs.declared.record.Ran.TheVariants.{Pending, Value, Error}
 use Rattle.once_script.specs.Answer.{IsAnswer}
 use Rattle.once_script.proofs.parse.answers.parse_answer.Goals as goal
 

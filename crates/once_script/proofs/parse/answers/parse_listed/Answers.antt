@@ -1,6 +1,6 @@
 use Rattle.std.specs.Prelude.{ℕ, List, Option, Some, None}
-use Rattle.once_world.specs.declared.record.Ran.{Ran}
-use Rattle.once_world.specs.declared.record.Ran.TheVariants.{Pending, Value}
+use Rattle.once_machine.specs.declared.record.Ran.{Ran}
+use Rattle.once_machine.specs.declared.record.Ran.TheVariants.{Pending, Value}
 use Rattle.once_script.specs.Answer.{IsAnswer, IsListed}
 use Rattle.once_script.proofs.parse.answers.parse_listed.Goals as goal
 

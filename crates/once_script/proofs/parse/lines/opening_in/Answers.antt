@@ -1,6 +1,6 @@
 use Rattle.std.proofs.Common.{List, ℕ, subst}
 use Rattle.std.specs.Prelude.{IfOk, MatchOption}
-use Rattle.once_world.specs.declared.record.Kind.{Kind}
+use Rattle.once_machine.specs.declared.record.Kind.{Kind}
 use Rattle.once_script.specs.Text.{IsOpening}
 use Rattle.once_script.proofs.ReadLemmas.{told}
 use Rattle.once_script.proofs.Utf8Lemmas.{opening_text}

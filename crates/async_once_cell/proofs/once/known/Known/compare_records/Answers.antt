@@ -1,7 +1,7 @@
 -- What is shown of two records is shown of what the tokens show of them.
 use Rattle.std.proofs.Common.{◌≡◌, ◌⊎◌, List, sym, ap, ◌∙◌, subst, rules}
 use mathlib.Core.List.{IsPrefix}
-use Rattle.once_world.specs.Record.{Entry}
+use Rattle.once_machine.specs.Record.{Entry}
 use Rattle.async_once_cell.specs.Views.{TokenView, log_of}
 use Rattle.async_once_cell.proofs.once.known.Known.compare_records.Goals as goal
 

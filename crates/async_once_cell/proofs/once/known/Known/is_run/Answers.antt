@@ -1,5 +1,5 @@
 use Rattle.std.proofs.Common.{rules}
-use Rattle.once_world.proofs.Law.Nobody.{nobody_forgotten}
+use Rattle.once_machine.proofs.Law.Nobody.{nobody_forgotten}
 use Rattle.async_once_cell.proofs.once.known.Known.is_run.Goals as goal
 
 pub returns-in-Shared-clause-nobody_forgotten : goal.returns-in-Shared-clause-nobody_forgotten

@@ -2,8 +2,10 @@
 use Rattle.std.proofs.Common.{◌≡◌, true, Some, None, ◌∙◌, ap, sym}
 use Rattle.std.proofs.lemmas.Bool.{false≢true}
 use Rattle.std.specs.Prelude.{⊤}
-use Rattle.once_core.specs.Steps.{is_resting, step_of_drop}
-use Rattle.once_world.specs.Places.{Finished, RestRun, RestStart, RestWait, Resting, Step, UnderWay}
+use Rattle.once_machine.specs.Steps.{is_resting, step_of_drop}
+use Rattle.once_machine.specs.declared.step.Step.TheVariants.{Finished, Resting, UnderWay}
+use Rattle.once_machine.specs.declared.step.Rest.TheVariants.{Run as RestRun, Start as RestStart, Wait as RestWait}
+use Rattle.once_machine.specs.declared.step.Step.{Step}
 use Rattle.once_parts.specs.Sides.{Sided}
 use Rattle.once_parts.proofs.Walk.Begins.{stands_closed}
 use Rattle.machine_tests.proofs.scenes.walker.Walker.begin_drop.Goals as goal

@@ -3,8 +3,10 @@ use Rattle.std.proofs.Common.{◌≡◌, Bool, true, arith, sym, subst}
 use Rattle.std.specs.Prelude.{⊤}
 use Rattle.std.proofs.lemmas.Bool.{false≢true}
 use Rattle.once_parts.specs.Own.{Own}
-use Rattle.once_core.specs.Steps.{in_call, is_resting}
-use Rattle.once_world.specs.Places.{Finished, Progress, Resting, Step, UnderWay}
+use Rattle.once_machine.specs.Steps.{in_call, is_resting}
+use Rattle.once_machine.specs.declared.step.Step.TheVariants.{Finished, Resting, UnderWay}
+use Rattle.once_machine.specs.declared.step.Progress.{Progress}
+use Rattle.once_machine.specs.declared.step.Step.{Step}
 use Rattle.once_parts.specs.Shares.{own}
 use Rattle.once_parts.specs.Sides.{Sided}
 use Rattle.once_parts.specs.Walks.{Fits, Stands}

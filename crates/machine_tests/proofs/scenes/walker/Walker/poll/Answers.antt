@@ -1,7 +1,7 @@
 -- A task that rests begins a poll, and stands at its beginning.
 use Rattle.std.proofs.Common.{◌≡◌, true, false, ◌∙◌, ap, sym, subst}
-use Rattle.once_core.specs.Steps.{is_resting}
-use Rattle.once_world.specs.Places.{More}
+use Rattle.once_machine.specs.Steps.{is_resting}
+use Rattle.once_machine.specs.declared.step.Progress.TheVariants.{More}
 use Rattle.once_parts.specs.Shares.{own}
 use Rattle.once_parts.specs.Sides.{Sided}
 use Rattle.once_parts.specs.Walks.{Stands}

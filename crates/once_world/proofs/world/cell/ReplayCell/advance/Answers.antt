@@ -1,8 +1,8 @@
 -- One step of a task is one step of the machine.
 use Rattle.std.proofs.Common.{◌≡◌, ℕ, refl, ap, ◌∙◌, ◌++◌, arith, reverse}
 use Rattle.std.proofs.lemmas.Grind.{common_steps}
-use Rattle.once_core.specs.Core.{CoreState, state_of}
-use Rattle.once_world.specs.Machine.{Outcome, advance as outcome, step_lines}
+use Rattle.once_world.specs.Core.{CoreState, state_of}
+use Rattle.once_machine.specs.Machine.{Outcome, advance as outcome, step_lines}
 use Rattle.once_world.proofs.Exactness.Outcomes.{IsSetUp, shared_by, is_freed}
 use Rattle.once_world.proofs.Exactness.Exact.{advance_exact}
 use Rattle.once_world.proofs.world.cell.ReplayCell.advance.Goals as goal

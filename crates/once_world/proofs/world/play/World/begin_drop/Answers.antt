@@ -2,8 +2,8 @@
 use Rattle.std.proofs.Common.{rules, ◌≡◌, Some, true, refl, sym, ap, ◌∙◌, arith, nat_cmp}
 use Rattle.std.specs.BTreeMap.{get}
 use Rattle.std.proofs.lemmas.Grind.{common_steps}
-use Rattle.once_core.specs.Steps.{is_resting, in_call}
-use Rattle.once_world.specs.Shown.{world_in, shared_of}
+use Rattle.once_machine.specs.Steps.{is_resting, in_call}
+use Rattle.once_world.specs.WorldShown.{world_in, shared_of}
 use Rattle.once_world.proofs.Exactness.Worlds.{tasks_written, dropped_world, drop_goes_on, drop_ends}
 use Rattle.once_world.proofs.world.play.World.begin_drop.Goals as goal
 

@@ -1,8 +1,8 @@
 -- The record so far is a run.
 use Rattle.std.proofs.Common.{◌≡◌, sym, ap, subst, rules}
-use Rattle.once_world.specs.Run.{IsRun}
-use Rattle.once_world.specs.Shown.{history_in}
-use Rattle.once_world.proofs.Input.Headline.{every_run}
+use Rattle.once_machine.specs.Run.{IsRun}
+use Rattle.once_machine.specs.Shown.{history_in}
+use Rattle.once_machine.proofs.Input.Headline.{every_run}
 use Rattle.once_world.proofs.world.play.World.entries.Goals as goal
 
 pub returns-clause-run : goal.returns-clause-run

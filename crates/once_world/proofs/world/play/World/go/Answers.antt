@@ -2,9 +2,10 @@
 use Rattle.std.proofs.Common.{rules, ◌≡◌, ℕ, Bool, Some, true, refl, ap, ◌∙◌, arith, nat_cmp, ◌++◌}
 use Rattle.std.specs.BTreeMap.{get}
 use Rattle.std.proofs.lemmas.Result.{on_ok_weaker}
-use Rattle.once_core.specs.Steps.{in_call}
-use Rattle.once_world.specs.Machine.{SharedState, Outcome, advance, unfinished_after, step_lines}
-use Rattle.once_world.specs.Shown.{world_in, shared_of, history_in, log_in}
+use Rattle.once_machine.specs.Steps.{in_call}
+use Rattle.once_machine.specs.Machine.{SharedState, Outcome, advance, unfinished_after, step_lines}
+use Rattle.once_machine.specs.Shown.{history_in}
+use Rattle.once_world.specs.WorldShown.{world_in, shared_of, log_in}
 use Rattle.once_world.proofs.Exactness.Worlds.{tasks_written, stepped_world}
 use Rattle.once_world.proofs.world.play.World.go.Goals as goal
 

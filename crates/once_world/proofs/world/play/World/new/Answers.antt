@@ -1,6 +1,6 @@
 -- No input led to a world that is new.
 use Rattle.std.proofs.Common.{[], rules}
-use Rattle.once_world.specs.Shown.{kind_of}
+use Rattle.once_machine.specs.Shown.{kind_of}
 use Rattle.once_world.proofs.world.play.World.new.Goals as goal
 
 pub returns-clause-after : goal.returns-clause-after

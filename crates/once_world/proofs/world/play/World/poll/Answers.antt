@@ -2,8 +2,8 @@
 use Rattle.std.proofs.Common.{rules, ◌≡◌, Some, true, refl, arith, nat_cmp}
 use Rattle.std.specs.BTreeMap.{get}
 use Rattle.std.proofs.lemmas.Grind.{common_steps}
-use Rattle.once_core.specs.Steps.{is_resting}
-use Rattle.once_world.specs.Shown.{world_in}
+use Rattle.once_machine.specs.Steps.{is_resting}
+use Rattle.once_world.specs.WorldShown.{world_in}
 use Rattle.once_world.proofs.Exactness.Worlds.{tasks_written, begun_world}
 use Rattle.once_world.proofs.world.play.World.poll.Goals as goal
 

@@ -1,7 +1,7 @@
 -- Where no call is under way the world stands after the other steps too.
 use Rattle.std.proofs.Common.{rules, ◌≤◌, arith}
-use Rattle.once_world.specs.Machine.{IsIdle}
-use Rattle.once_world.specs.Shown.{world_in}
+use Rattle.once_machine.specs.Machine.{IsIdle}
+use Rattle.once_world.specs.WorldShown.{world_in}
 use Rattle.once_world.proofs.Exactness.Idle.{rest_passed_over}
 use Rattle.once_world.proofs.world.play.World.run.Goals as goal
 

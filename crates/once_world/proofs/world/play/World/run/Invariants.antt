@@ -1,8 +1,8 @@
 -- The world was reached by the steps so far, and stands after them.
 use Rattle.std.proofs.Common.{◌++◌, ℕ, List, replicate}
-use Rattle.once_world.specs.Inputs.{Go, Input}
+use Rattle.once_machine.specs.Inputs.{Go, Input}
 use Rattle.once_world.specs.Reached.{IsAfter, IsReached}
-use Rattle.once_world.specs.Record.{Kind}
+use Rattle.once_machine.specs.Record.{Kind}
 use Rattle.once_world.proofs.world.play.World.run.Given as goal
 
 abbrev pub invariant-loop : goal.invariant-loop

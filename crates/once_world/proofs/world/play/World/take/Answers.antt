@@ -1,9 +1,10 @@
 -- What is applied is one input more.
 use Rattle.std.proofs.Common.{◌∷◌, sym, ap, ◌∙◌}
 use Rattle.std.proofs.lemmas.Result.{on_ok_weaker}
-use Rattle.once_world.specs.Machine.{world_after}
-use Rattle.once_world.specs.Shown.{input_of, world_in}
-use Rattle.once_world.proofs.Exactness.Asked.{may_take}
+use Rattle.once_machine.specs.Machine.{world_after}
+use Rattle.once_machine.specs.Shown.{input_of}
+use Rattle.once_world.specs.WorldShown.{world_in}
+use Rattle.once_machine.proofs.Shared.Asked.{may_take}
 use Rattle.once_world.proofs.world.play.World.take.Goals as goal
 
 pub apply-requires : goal.apply-requires

@@ -1,6 +1,0 @@
--- There is no module here. The clauses of `Step` and of `Core` follow from specs/Table and specs/Core with no lemma of
--- this crate. One function is proved by hand: `list` of `Core`.
---
--- The folders are named after files and functions of src. `Answers` has the proofs of goals that are left open there,
--- and `Invariants` what a loop keeps. Where an answer has one tactic, it is there only so that an edit that breaks its
--- clause is refused at once.

@@ -1,6 +1,0 @@
--- A poll goes on from the place at rest.
-use Rattle.std.proofs.Common.{rules}
-use Rattle.once_core.proofs.step.Step.begin.Goals as goal
-
-pub returns : goal.returns
-returns g c = search rules

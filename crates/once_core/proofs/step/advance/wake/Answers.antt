@@ -1,6 +1,0 @@
--- Who was handed out is called.
-use Rattle.std.proofs.Common.{rules}
-use Rattle.once_core.proofs.step.advance.wake.Goals as goal
-
-pub returns-in-Released-clause-wakes : goal.returns-in-Released-clause-wakes
-returns-in-Released-clause-wakes g c = search rules

@@ -1,3 +1,0 @@
-pub mod Core
-pub mod Steps
-pub mod Table

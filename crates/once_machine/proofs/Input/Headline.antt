@@ -1,0 +1,170 @@
+-- The record of every list of inputs is a run, and at every moment somebody was called if somebody had to be.
+use Rattle.std.proofs.Common.{◌≡◌, ◌<◌, ℕ, Bool, true, false, ◌==◌, List, [], ◌∷◌, Option, Some, None, refl, sym, arith}
+use Rattle.std.proofs.lemmas.Bool.{false≢true}
+use Rattle.once_machine.specs.Record.{Answer, Kind, Lazy, LazyWith, Once, OnceWith, has_call, is_lazy}
+use Rattle.once_machine.specs.Cell.{Cell, Empty, Held, SetTo, cell}
+use Rattle.once_machine.specs.Run.{AtEvery, IsRun}
+use Rattle.once_machine.specs.Called.{SomebodyCalled}
+use Rattle.once_machine.specs.Inputs.{Drop, Go, Input, Looks, Make, Owns, Poll}
+use Rattle.once_machine.specs.Machine.{Finished, Outcome, Resting, Step, Task, UnderWay, World, advance, world_after, step_of_poll, poll_world_by, step_of_drop}
+use Rattle.once_machine.specs.Machine.{drop_world_by, drop_world, go_world, go_world_by, history_of, in_call, is_finished, is_resting, first_world, poll_world}
+use Rattle.once_machine.specs.Machine.{unfinished_after, world_of}
+use Rattle.once_machine.proofs.History.Others.{holds}
+use Rattle.once_machine.proofs.History.Cells.{empty_not_set, is_held, same_value}
+use Rattle.once_machine.proofs.Invariant.Fits.{Fits, SharedFits, TaskFits}
+use Rattle.once_machine.proofs.Invariant.Listed.{none_not_some}
+use Rattle.once_machine.proofs.Place.Relisted.{no_listing}
+use Rattle.once_machine.proofs.Invariant.Moves.{moved_fits, puts}
+use Rattle.once_machine.proofs.Invariant.Around.{around}
+use Rattle.once_machine.proofs.Invariant.AroundLists.{around_list}
+use Rattle.once_machine.proofs.Input.Owner.{owned_fits}
+use Rattle.once_machine.proofs.Input.Begins.{begins, drop_begins}
+use Rattle.once_machine.proofs.Place.Builders.{Before}
+use Rattle.once_machine.proofs.Input.Advances.{advances}
+use Rattle.once_machine.proofs.Input.Makes.{look_fits, made_fits}
+
+-- the task x at the number t
+pub task_fits : (K : Kind) (limit t : ℕ) (w : World) (x : Task) → Fits K limit w → w.tasks t ≡ Some x → TaskFits K limit t w.shared w.history x
+task_fits K limit t w x f found = rw found at (f.tasks t)
+
+-- all that stands before a step of it
+pub task_before : (K : Kind) (limit t : ℕ) (w : World) (x : Task) → Fits K limit w → w.tasks t ≡ Some x
+    → Before K limit t x.waker x.kept w.shared w.history
+task_before K limit t w x f found =
+    let own = task_fits K limit t w x f found in
+    record { run = f.run; shared = f.shared; queue = f.queue; waker_is = own.waker_is; kept_is = own.kept_is }
+
+-- a task at rest is not finished
+resting_live : (s : Step ℕ ℕ) → is_resting s ≡ true → is_finished s ≡ false
+resting_live (Resting r) e = refl
+resting_live (UnderWay p) e = refl
+resting_live Finished e = absurd (false≢true e)
+
+-- nor is one with a call under way
+calling_live : (s : Step ℕ ℕ) → in_call s ≡ true → is_finished s ≡ false
+calling_live (Resting r) e = refl
+calling_live (UnderWay p) e = refl
+calling_live Finished e = absurd (false≢true e)
+
+-- a poll that begins finishes no task
+begun_live : (s : Step ℕ ℕ) (n : ℕ) → is_resting s ≡ true → n ≡ unfinished_after (step_of_poll s) n
+begun_live (Resting r) n e = refl
+begun_live (UnderWay p) n e = refl
+begun_live Finished n e = absurd (false≢true e)
+
+-- the beginning of a poll
+begun_fits : (K : Kind) (limit : ℕ) (w : World) (t k : ℕ) (x : Task) → Fits K limit w → w.tasks t ≡ Some x
+    → (r : Bool) → is_resting x.step ≡ r → Fits K limit (poll_world_by r w t k x)
+begun_fits K limit w t k x f found false r = f
+begun_fits K limit w t k x f found true r =
+    let y : Task = record x { waker = k; step = step_of_poll x.step } in
+    let own = task_fits K limit t w x f found in
+    moved_fits K limit t x y w (poll_world_by true w t k x) f found (resting_live x.step r) (puts t y w.tasks) (begun_live x.step w.unfinished r)
+    (begins K limit t k x.kept w.shared w.history f.run f.shared f.queue x.step own.kept_is r own.step)
+
+-- the beginning of a drop
+drop_fits : (K : Kind) (limit : ℕ) (w : World) (t : ℕ) (x : Task) → Fits K limit w → w.tasks t ≡ Some x → (r : Bool)
+    → is_resting x.step ≡ r → Fits K limit (drop_world_by r w t x)
+drop_fits K limit w t x f found false r = f
+drop_fits K limit w t x f found true r =
+    let y : Task = record x { step = step_of_drop x.step } in
+    let own = task_fits K limit t w x f found in
+    moved_fits K limit t x y w (drop_world_by true w t x) f found (resting_live x.step r) (puts t y w.tasks) refl
+    (drop_begins K limit t x.waker x.kept w.shared w.history f.run f.shared f.queue x.step own.waker_is own.kept_is r own.step)
+
+-- a step
+goes_fits : (K : Kind) (limit : ℕ) (w : World) (t : ℕ) (a : Answer) (g : Bool) (x : Task) → 0 < limit
+    → Fits K limit w → w.tasks t ≡ Some x → (r : Bool) → in_call x.step ≡ r
+    → Fits K limit (go_world_by r (is_lazy K) limit w t a g x)
+goes_fits K limit w t a g x some f found false r = f
+goes_fits K limit w t a g x some f found true r =
+    let o : Outcome = advance (is_lazy K) limit w.shared t x a g in
+    let y : Task = record x { step = o.step; kept = o.kept } in
+    let own = task_fits K limit t w x f found in
+    moved_fits K limit t x y w (go_world_by true (is_lazy K) limit w t a g x) f found (calling_live x.step r) (puts t y w.tasks) refl
+    (advances (task_before K limit t w x f found) a g some x.step r (around K limit t x w f found) (around_list K limit t x w f found) own.step)
+
+-- the inputs, by whether the task is there
+polled_fits : (K : Kind) (limit : ℕ) (w : World) (t k : ℕ) → Fits K limit w → (o : Option Task) → w.tasks t ≡ o → Fits K limit (poll_world w t k o)
+polled_fits K limit w t k f None is = f
+polled_fits K limit w t k f (Some x) is = begun_fits K limit w t k x f is (is_resting x.step) refl
+
+dropped_fits : (K : Kind) (limit : ℕ) (w : World) (t : ℕ) → Fits K limit w → (o : Option Task) → w.tasks t ≡ o → Fits K limit (drop_world w t o)
+dropped_fits K limit w t f None is = f
+dropped_fits K limit w t f (Some x) is = drop_fits K limit w t x f is (is_resting x.step) refl
+
+gone_fits : (K : Kind) (limit : ℕ) (w : World) (t : ℕ) (a : Answer) (g : Bool) → 0 < limit → Fits K limit w
+    → (o : Option Task) → w.tasks t ≡ o → Fits K limit (go_world (is_lazy K) limit w t a g o)
+gone_fits K limit w t a g some f None is = f
+gone_fits K limit w t a g some f (Some x) is = goes_fits K limit w t a g x some f is (in_call x.step) refl
+
+-- only a cell that is made with a value has one at the start
+value_at_start : (K : Kind) (v : ℕ) → cell K [] ≡ SetTo v → (first_world K).shared.value ≡ v
+value_at_start Once v e = absurd (empty_not_set v e)
+value_at_start (OnceWith k) v e = same_value k v e
+value_at_start (Lazy l) v e = absurd (empty_not_set v e)
+value_at_start (LazyWith k) v e = same_value k v e
+
+-- nobody holds at the start
+none_held : (K : Kind) → is_held (cell K []) ≡ false
+none_held Once = refl
+none_held (OnceWith v) = refl
+none_held (Lazy l) = refl
+none_held (LazyWith v) = refl
+
+unheld_by : (t : ℕ) (c : Cell) → is_held c ≡ false → holds t c ≡ false
+unheld_by t Empty e = refl
+unheld_by t (SetTo v) e = refl
+unheld_by t (Held u) e = absurd (false≢true (sym e))
+
+-- how what is shared starts
+starting : (K : Kind) (limit : ℕ) → SharedFits K limit (first_world K).shared []
+starting K limit = record {
+  ready_is = refl;
+  held_is = none_held K;
+  value_is = value_at_start K;
+  answers_is = refl;
+  within = omega arith;
+  stands = λ _ l. absurd (omega arith);
+  head_door = λ e. absurd (false≢true e);
+}
+
+-- all holds at the start
+pub opening_fits : (K : Kind) (limit : ℕ) → Fits K limit (first_world K)
+opening_fits K limit = record {
+  run = tt;
+  shared = starting K limit;
+  queue = record { counts = λ w. omega arith; called = λ e u s. grind arith };
+  tasks = λ t. (record { status_is = refl; holds_is = unheld_by t (cell K []) (none_held K) }, refl, refl);
+  count_is = refl;
+  unfinished_is = refl;
+  made_once = refl;
+  made_all = λ t e. refl;
+  made_only = λ t e. refl;
+  alone = λ t u e. absurd (false≢true e);
+  single = λ a b n e. absurd (none_not_some n e);
+  owned = λ r n o e. absurd (no_listing o e);
+  moments = λ e u s. grind arith;
+}
+
+-- each input keeps all that holds
+pub after_fits : (K : Kind) (limit : ℕ) (w : World) (i : Input) → 0 < limit → Fits K limit w → Fits K limit (world_after K limit w i)
+after_fits K limit w (Make t) some f = made_fits K limit w t f (w.tasks t) refl
+after_fits K limit w (Poll t k) some f = polled_fits K limit w t k f (w.tasks t) refl
+after_fits K limit w (Drop t) some f = dropped_fits K limit w t f (w.tasks t) refl
+after_fits K limit w (Go t a g) some f = gone_fits K limit w t a g some f (w.tasks t) refl
+after_fits K limit w (Owns o) some f = owned_fits K limit w o (w.unfinished == 0) (has_call K o) refl refl f
+after_fits K limit w Looks some f = look_fits K limit w f
+
+-- all holds after every list of inputs
+pub world_fits : (K : Kind) (limit : ℕ) (inputs : List Input) → 0 < limit → Fits K limit (world_of K limit inputs)
+world_fits K limit [] some = opening_fits K limit
+world_fits K limit (i ∷ before) some = after_fits K limit (world_of K limit before) i some (world_fits K limit before some)
+
+-- the record of every list of inputs is a run
+pub every_run : (kind : Kind) (limit : ℕ) (inputs : List Input) → 0 < limit → IsRun kind limit (history_of kind limit inputs)
+every_run kind limit inputs some = (world_fits kind limit inputs some).run
+
+-- where the cell is empty and some task waits, some task was called: at every moment
+pub one_is_called : (kind : Kind) (limit : ℕ) (inputs : List Input) → 0 < limit → AtEvery (SomebodyCalled kind) (history_of kind limit inputs)
+one_is_called kind limit inputs some = (world_fits kind limit inputs some).moments

@@ -1,0 +1,6 @@
+-- Who was called passes its turn on, where nobody holds.
+use Rattle.std.proofs.Common.{rules}
+use Rattle.once_machine.proofs.waiters.Lists.leave.Goals as goal
+
+pub returns-clause-waker : goal.returns-clause-waker
+returns-clause-waker g c = search rules

@@ -1,0 +1,15 @@
+-- The new waker is other than each that is listed, or the list is mixed.
+use Rattle.once_machine.proofs.Listing.AllOther.{apart_listed, other_kept}
+use Rattle.once_machine.specs.Kept.{is_kept}
+use Rattle.once_machine.specs.Slots.{listings_in}
+use Rattle.once_machine.proofs.waiters.Lists.push.Goals as goal
+
+pub invariant_of-self : goal.invariant_of-self
+invariant_of-self g c =
+    let lists = c.args.self.now in
+    let x = c.args.listing in
+    let other = g.W.WakerId.tells_other in
+    record {
+      apart = λ m. rw c.push.ensures.listings (apart_listed other lists.mixed c.may_repeat.result (listings_in lists.slots) x m lists.apart
+          (λ r. rw c.as_slice.ensures (other_kept other is_kept x.waker c.as_slice.result.now (c.may_repeat.ensures r))));
+    }

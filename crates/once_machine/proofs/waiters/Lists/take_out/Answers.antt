@@ -1,0 +1,10 @@
+-- What is left of listings that are apart is apart.
+use mathlib.Core.Logic.{∥∥₁_map}
+use Rattle.once_machine.proofs.Listing.AllOther.{apart_taken}
+use Rattle.once_machine.specs.Slots.{listings_in}
+use Rattle.once_machine.proofs.waiters.Lists.take_out.Goals as goal
+
+pub invariant_of-self : goal.invariant_of-self
+invariant_of-self g c =
+    let lists = c.args.self.now in
+    record { apart = λ m. ∥∥₁_map (lists.apart m) (λ apart. rw c.take_out.ensures.listings (apart_taken g.W.WakerId.tells_other c.args.ticket (listings_in lists.slots) apart)) }

@@ -1,0 +1,36 @@
+-- Somebody was called: what is promised of an empty cell for which some task waits. It does not follow from the
+-- record being a run: a record in which a call was lost may be a run too.
+use Rattle.std.specs.Prelude.{◌≡◌, ℕ, true, false, ◌⊎◌, List}
+use Rattle.once_machine.specs.Numbers.{member}
+use Rattle.once_machine.specs.Record.{Kind, Entry}
+use Rattle.once_machine.specs.Cell.{Empty, cell}
+use Rattle.once_machine.specs.Tasks.{Waiting, status, is_under_way, last_call}
+use Rattle.once_machine.specs.Wakers.{handed_since}
+
+-- t is in a call that it began while waiting, and in which it neither claimed nor passed its turn on
+pub record HasTurn (kind : Kind) (t : ℕ) (history : List Entry) : Type 0 where
+  pub under_way : is_under_way (status kind t history) ≡ true  -- t is in a call
+  pub began : (last_call kind t history).began ≡ Waiting  -- it waited as the call began
+  pub unclaimed : (last_call kind t history).claimed ≡ false  -- it did not claim in it
+  pub unpassed : (last_call kind t history).passed ≡ false  -- it did not pass its turn on in it
+
+-- t was called: it waits or is in such a call,
+-- and the waker of its last poll that ended Pending was handed out since that End
+abbrev pub IsCalled : Kind → ℕ → List Entry → Type 0
+IsCalled kind t history =
+    ((status kind t history ≡ Waiting) ⊎ HasTurn kind t history)
+    × (member (last_call kind t history).listed (handed_since t history) ≡ true)
+
+-- where the cell is empty and some task waits, some task was called
+abbrev pub SomebodyCalled : Kind → List Entry → Type 0
+SomebodyCalled kind history =
+    cell kind history ≡ Empty → (u : ℕ) → status kind u history ≡ Waiting → (t : ℕ) × IsCalled kind t history
+
+-- where besides no call is under way, some task that waits was called:
+-- the waker of its last poll was handed out since that poll ended
+abbrev pub WaiterCalled : Kind → List Entry → Type 0
+WaiterCalled kind history =
+    ((t : ℕ) → is_under_way (status kind t history) ≡ false) → cell kind history ≡ Empty → (u : ℕ)
+    → status kind u history ≡ Waiting
+    → (t : ℕ) × (status kind t history ≡ Waiting)
+    × (member (last_call kind t history).waker (handed_since t history) ≡ true)

@@ -1,6 +1,0 @@
--- Where a task holds nothing is claimed, and a claim takes the own listing out.
-use Rattle.std.proofs.Common.{rules}
-use Rattle.once_queue.proofs.waiters.Lists.claim.Goals as goal
-
-pub returns-in-Taken-clause-held : goal.returns-in-Taken-clause-held
-returns-in-Taken-clause-held g c = search rules

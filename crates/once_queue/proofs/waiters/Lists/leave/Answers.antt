@@ -1,6 +1,0 @@
--- Who was called passes its turn on, where nobody holds.
-use Rattle.std.proofs.Common.{rules}
-use Rattle.once_queue.proofs.waiters.Lists.leave.Goals as goal
-
-pub returns-clause-waker : goal.returns-clause-waker
-returns-clause-waker g c = search rules

@@ -1,6 +1,0 @@
--- Where a task holds the waker is listed.
-use Rattle.std.proofs.Common.{rules}
-use Rattle.once_queue.proofs.waiters.Lists.list.Goals as goal
-
-pub returns-clause-held : goal.returns-clause-held
-returns-clause-held g c = search rules

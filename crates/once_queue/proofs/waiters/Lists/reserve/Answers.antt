@@ -1,5 +1,0 @@
--- Room changes no listing.
-use Rattle.once_queue.proofs.waiters.Lists.reserve.Goals as goal
-
-pub invariant_of-self : goal.invariant_of-self
-invariant_of-self g c = record { apart = λ m. rw c.reserve.ensures.listings (c.args.self.now.apart m) }

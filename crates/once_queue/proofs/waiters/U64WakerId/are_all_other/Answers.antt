@@ -1,6 +1,0 @@
--- Of numbers this is never said.
-use Rattle.std.proofs.Common.{rules}
-use Rattle.once_queue.proofs.waiters.U64WakerId.are_all_other.Goals as goal
-
-pub returns : goal.returns
-returns c = search rules

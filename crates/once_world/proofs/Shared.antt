@@ -1,7 +1,0 @@
--- What holds of every world to which tasks lead that share a cell.
-pub mod Queue
-pub mod Slot
-pub mod Places
-pub mod Worlds
-pub mod Copy
-pub mod Reached

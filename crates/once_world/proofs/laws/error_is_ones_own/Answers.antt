@@ -1,6 +1,0 @@
-use Rattle.once_world.proofs.Law.Freed.{error_empties}
-use Rattle.once_world.proofs.Law.Rights.{own_error}
-use Rattle.once_world.proofs.laws.error_is_ones_own.Goals as goal
-
-pub returns : goal.returns
-returns c = record { own = own_error; empty = error_empties }

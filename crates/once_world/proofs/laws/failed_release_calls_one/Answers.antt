@@ -1,5 +1,0 @@
-use Rattle.once_world.proofs.Law.Passed.{at_most_one, one_called}
-use Rattle.once_world.proofs.laws.failed_release_calls_one.Goals as goal
-
-pub returns : goal.returns
-returns c = record { at_most_one = at_most_one; somebody = one_called }

@@ -1,5 +1,0 @@
-use Rattle.once_world.proofs.Law.Crowded.{memory_met, full_waits}
-use Rattle.once_world.proofs.laws.refusals_need_others.Goals as goal
-
-pub returns : goal.returns
-returns c = record { memory = memory_met; full = full_waits }

@@ -1,6 +1,0 @@
-use Rattle.once_world.proofs.Law.Rights.{value_lasts}
-use Rattle.once_world.proofs.Law.Crowded.{value_set}
-use Rattle.once_world.proofs.laws.value_set_is_answered.Goals as goal
-
-pub returns : goal.returns
-returns c = record { answered = value_set; lasts = value_lasts }

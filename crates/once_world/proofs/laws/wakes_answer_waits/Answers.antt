@@ -1,5 +1,0 @@
-use Rattle.once_world.proofs.Law.Wakes.{handed_within}
-use Rattle.once_world.proofs.laws.wakes_answer_waits.Goals as goal
-
-pub returns : goal.returns
-returns c = handed_within
