@@ -28,6 +28,10 @@ made 1/made 2/made 3/begin 1 5/claim 1/ran 1 p/end 1 p/begin 2 6/end 2 p/begin 3
 dropend 1/dropbegin 2/pass 2 [7]/dropend 2|\
 once 8/wakes unseen/made 1/made 2/made 3/begin 1 5/ran 1 p/end 1 p/begin 2 6/end 2 p/begin 3 7/end 3 p/dropbegin 1/\
 dropend 1/woken 2/dropbegin 2/dropend 2
+made 1/begin 1 5/claim 1/ran 1 p/end 1 p/made 2/begin 2 7/end 2 p/made 3/begin 3 8/end 3 p/begin 1 5/ran 1 e1/\
+free 1 [8]/end 1 e1|\
+once 8/wakes unseen/made 1/begin 1 5/ran 1 p/end 1 p/made 2/begin 2 7/end 2 p/made 3/begin 3 8/end 3 p/begin 1 5/\
+ran 1 e1/end 1 e1/woken 3
 made 1/begin 1 5/claim 1/ran 1 p/end 1 p/begin 1 5/ran 1 v9/fill 1 9 []/end 1 v9/look v9/own parts v9|\
 lazy 8 p v9/made 1/begin 1 5/ran 1 p/end 1 p/begin 1 5/ran 1 v9/end 1 v9/look v9/own parts v9";
 
