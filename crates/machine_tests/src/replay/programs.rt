@@ -345,6 +345,10 @@ const TWO_FILES: &[&str] = &["a", "b"];
 
 const NO_FILE: &[&str] = &["/nowhere/record"];
 
+// What judge_record says of words that it does not take.
+const USAGE: &str =
+    "judge_record: usage: judge_record [--seen] [--calls one|all] [--why | --text | --svg] [FILE]\n";
+
 // Runs of judge_record: its words, its input, how a read and a write fail, the status, and the two streams.
 const JUDGED: [(
     &[&str],
@@ -427,15 +431,7 @@ const JUDGED: [(
         "",
         "judge_record: line 3 is unreadable; expected: begin TASK WAKER\n",
     ),
-    (
-        TWO_FILES,
-        RUN,
-        None,
-        None,
-        2,
-        "",
-        "judge_record: usage: judge_record [--why] [--calls one|all] [FILE]\n",
-    ),
+    (TWO_FILES, RUN, None, None, 2, "", USAGE),
     (
         NO_FILE,
         RUN,
@@ -522,7 +518,7 @@ fn judge_record_judges_by_the_rule_that_is_named(rt: HostRuntime) -> Result<(), 
             write: None,
         };
         let said = match status {
-            2 => "judge_record: usage: judge_record [--why] [--calls one|all] [FILE]\n",
+            2 => USAGE,
             3 => "judge_record: input or output failed\n",
             _ => "",
         };
