@@ -65,8 +65,8 @@ where
     }
 }
 
-/// A task whose init is Pending has the right; and while a task has it, the next init that is polled is its own. It does
-/// nothing.
+/// A task whose init is Pending has the right; and while a task has it, the next init that is polled is its own. It
+/// does nothing.
 fn one_runs<T>(token: &Known<'_, T>)
     ensures holds { is_shared token.now.cell ≡ true → (t : ℕ) → status Once t (reverse token.now.log) ≡ Holding
         → cell_after Once (reverse token.now.log) ≡ Held t }
