@@ -27,6 +27,27 @@ where
     cell.get_or_try_init(rt, init).wait()
 }
 
+/// Tries once more if there is no value. If this tells the error of an init, it is one that the second init may give.
+fn own_error_by_second_try<'a, F, G, R>(
+    rt: &'a R,
+    cell: &'a OnceCell<u64>,
+    first: F,
+    second: G,
+) -> io::Result<Result<&'a u64, InitError<u64>>>
+where
+    F: Future<Output = Result<u64, u64>>,
+    G: Future<Output = Result<u64, u64>>,
+    R: Wait + RandomSource + AllocGlobal,
+    requires first { F.can_poll first }
+    requires second { G.can_poll second }
+    ensures { IfOk result (λ told. IfErr told (λ error. IfInit error (λ e. G.gives second (Err e)))) }
+{
+    if let Ok(value) = cell.get_or_try_init(rt, first).wait()? {
+        return Ok(Ok(value));
+    }
+    cell.get_or_try_init(rt, second).wait()
+}
+
 /// If this tells the error of an init, it is 7, since this init gives no other. The kit's `block_on` knows nothing of
 /// cells.
 fn own_error_by_block_on<'a, R>(
@@ -40,7 +61,7 @@ where
     block_on(rt, cell.get_or_try_init(rt, err::<u64, u64>(7)))
 }
 
-/// Has two inits fail on one cell, and prints what each caller was told.
+/// Has four inits fail on one cell, and prints what each caller was told.
 pub fn show<R, O>(rt: &R, output: &mut O) -> Result<(), Fault>
 where
     R: Wait + RandomSource + AllocGlobal,
@@ -49,6 +70,7 @@ where
     let cell = OnceCell::new();
     let first = own_error_by_wait(rt, &cell, err::<u64, u64>(6))?;
     let second = own_error_by_block_on(rt, &cell)?;
-    writeln!(output, "inits that fail: {first:?} {second:?}")?;
+    let third = own_error_by_second_try(rt, &cell, err::<u64, u64>(8), err::<u64, u64>(9))?;
+    writeln!(output, "inits that fail: {first:?} {second:?} {third:?}")?;
     Ok(())
 }

@@ -4,6 +4,19 @@
 //! caller can say of order, which value a poll answered, whose error it is told, what the owner of a cell gets, also of
 //! a lazy one, what a cell promises of its value, and what is left by a call; and how a program has judged what it sees
 //! of a cell.
+//!
+//! Ten contracts that a caller may want, each of a function that needs no proof file:
+//!
+//! - two callers are told the same without a token: `told_one_value` of `values`
+//! - a retry that tells an error tells one of its own: `own_error_by_second_try` of `errors`
+//! - a lazy cell over another has the value that its future gives: `told` of `layers`
+//! - a poll after a look that found the value answers a value: `polled_after_look` of `order`
+//! - an owner takes what a wait was told: `takes_what_it_waited_for` of `owner`
+//! - two futures of a cell in one task of an executor are two tasks of the cell: `two_tasks` of `told`
+//! - nobody is told a value before it is set: `looked` and `polled` of `refusals`
+//! - a table's value is ten times its key: `told` of `table`
+//! - while my init runs no other does: `one_runs` of `refusals`
+//! - what a refused poll leaves, and what its error says: `refusal_of` of `refusals`, `is_down` of `connection`
 #![tactic(auto)]
 
 mod ask;
@@ -16,6 +29,7 @@ mod from_rust;
 mod giving_up;
 mod graph;
 mod judged;
+mod layers;
 mod lazy;
 mod leaves;
 mod many_threads;
@@ -24,6 +38,7 @@ mod owned_together;
 mod owner;
 mod pool;
 mod promised;
+mod refusals;
 mod reload;
 mod settings;
 mod table;
@@ -66,7 +81,9 @@ where
     lazy::show(rt, output)?;
     judged::show(rt, output)?;
     promised::show(rt, output)?;
-    leaves::show(rt, output)
+    leaves::show(rt, output)?;
+    layers::show(rt, output)?;
+    refusals::show(rt, output)
 }
 
 fn main(rt: HostRuntime) -> ExitCode {

@@ -1,5 +1,5 @@
 //! What the owner of a cell gets after a token knew the value: that value.
-ghost use Rattle.std.specs.Prelude.{◌≡◌, IfSome, Some, true};
+ghost use Rattle.std.specs.Prelude.{◌≡◌, IfOk, IfSome, Some, true};
 ghost use Rattle.async_once_cell.specs.Views.{Owned};
 
 use crate::fault::Fault;
@@ -27,6 +27,29 @@ fn takes_what_it_saw(cell: &mut OnceCell<u64>) -> Option<(u64, u64)>
     let (saw, told) = seen(cell)?;
     let took = cell.take_as(&told);
     Some((saw, took))
+}
+
+/// What a wait was told, and what tells the owner so when the token is gone.
+fn waited<R>(rt: &R, cell: &OnceCell<u64>) -> Result<(u64, Told<u64>), Fault>
+where
+    R: Wait + RandomSource + AllocGlobal,
+    ensures { IfOk result (λ waited. (waited.1.cell ≡ cell.now) × (waited.1.value ≡ waited.0)) }
+{
+    let mut token = cell.token();
+    let value = *cell.get_or_init(rt, ready(5)).wait_as(&mut token)??;
+    let told = token.told().unwrap();
+    Ok((value, told))
+}
+
+/// What is taken is what the wait was told.
+fn takes_what_it_waited_for<R>(rt: &R, cell: &mut OnceCell<u64>) -> Result<(u64, u64), Fault>
+where
+    R: Wait + RandomSource + AllocGlobal,
+    ensures { IfOk result (λ values. values.0 ≡ values.1) }
+{
+    let (waited, told) = waited(rt, cell)?;
+    let took = cell.take_as(&told);
+    Ok((waited, took))
 }
 
 /// The same of a cell that goes.
@@ -77,7 +100,7 @@ where
     Ok(cell)
 }
 
-/// Prints what the owner of three cells sees and gets.
+/// Prints what the owner of four cells sees and gets.
 pub fn show<R, O>(rt: &R, output: &mut O) -> Result<(), Fault>
 where
     R: Wait + RandomSource + AllocGlobal,
@@ -88,9 +111,10 @@ where
     let is_written = writes(&mut one, 4);
     let took = takes_what_it_saw(&mut two);
     let ended = ends_with_what_it_saw(three);
+    let waited = takes_what_it_waited_for(rt, &mut OnceCell::new())?;
     writeln!(
         output,
-        "what an owner saw and got: {got:?} {is_written} {took:?} {ended:?}"
+        "what an owner saw and got: {got:?} {is_written} {took:?} {ended:?} {waited:?}"
     )?;
     Ok(())
 }

@@ -1,0 +1,94 @@
+//! A lazy cell over another. The types of the values say what the futures give, so whoever asks knows the value.
+ghost use Rattle.std.specs.Prelude.{◌≡◌, IfOk};
+
+use crate::fault::Fault;
+use async_once_cell::{Lazy, LazyFuturePin, Refused};
+use futures::Future;
+use futures::task::{Context, Poll};
+use std::alloc::AllocGlobal;
+use std::io::Write;
+use std::random::RandomSource;
+use std::sync::Wait;
+
+/// The lower value, which is 5.
+#[derive(Drop)]
+struct Base {
+    number: u64,
+    ghost five: { number ≡ 5 },
+}
+
+/// The upper value, twice the lower.
+#[derive(Drop)]
+struct Double {
+    number: u64,
+    ghost ten: { number ≡ 10 },
+}
+
+/// The init of the lower cell.
+#[derive(Drop)]
+struct MakesBase;
+
+impl Future for MakesBase {
+    type Output = Base;
+
+    fn poll(&mut self, _cx: &mut Context<'_>) -> Poll<Base> {
+        Poll::Ready(Base { number: 5 })
+    }
+}
+
+/// The init of the upper cell, which asks the lower.
+#[derive(Drop)]
+struct Doubles<'a, F: Future, R: Wait + AllocGlobal> {
+    base: LazyFuturePin<'a, Base, F, R>,
+}
+
+impl<F: Future<Output = Base>, R: Wait + AllocGlobal> Future for Doubles<'_, F, R> {
+    type Output = Result<Double, Refused>;
+
+    fn poll(&mut self, cx: &mut Context<'_>) -> Poll<Result<Double, Refused>> {
+        match Future::poll(&mut self.base, cx) {
+            Poll::Ready(Ok(base)) => {
+                let number = base.number * 2;
+                Poll::Ready(Ok(Double { number }))
+            }
+            Poll::Ready(Err(refused)) => Poll::Ready(Err(refused)),
+            Poll::Pending => Poll::Pending,
+        }
+    }
+}
+
+/// The number of the upper cell: twice that which the lower one's future gives.
+fn told<F, R>(rt: &R, double: &Lazy<Result<Double, Refused>, F>) -> Result<u64, Fault>
+where
+    F: Future<Output = Result<Double, Refused>>,
+    R: Wait + RandomSource + AllocGlobal,
+    ensures { IfOk result (λ number. number ≡ 10) }
+{
+    match double.get(rt).wait()?? {
+        Ok(double) => Ok(double.number),
+        Err(refused) => Err(Fault::Refused(*refused)),
+    }
+}
+
+/// The same of an upper cell that is made over this one.
+fn doubled<'a, F, R>(rt: &'a R, base: &'a Lazy<Base, F>) -> Result<u64, Fault>
+where
+    F: Future<Output = Base>,
+    R: Wait + RandomSource + AllocGlobal,
+    ensures { IfOk result (λ number. number ≡ 10) }
+{
+    let double = Lazy::new(Doubles { base: base.get(rt) });
+    told(rt, &double)
+}
+
+/// Prints the number of the upper cell.
+pub fn show<R, O>(rt: &R, output: &mut O) -> Result<(), Fault>
+where
+    R: Wait + RandomSource + AllocGlobal,
+    O: Write,
+{
+    let base = Lazy::new(MakesBase);
+    let number = doubled(rt, &base)?;
+    writeln!(output, "a lazy cell over another, by type: {number}")?;
+    Ok(())
+}
