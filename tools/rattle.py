@@ -1,45 +1,101 @@
-"""What bench/house sees in files of code: in .rt files what is code, what is contract and what has a doc comment, and
-in .antt files which calls stand there.
+"""How the scripts take files of code apart: functions, public items and examples of .rt files; rules, lemmas and calls of
+.antt files.
 
 It is not run by itself.
 """
+import collections
 import re
 
 # A comment, a text or a character. The mark of a lifetime and the prime of a name are neither.
 NO_CODE = re.compile(r"""//[^\n]*|/\*.*?\*/|\bb?r(\#*)".*?"\1|"(?:\\.|[^"\\])*"|"""
                      r"""(?<![\w'])'(?:\\.[^']*|[^\\'\n])'""", re.S)
-USES = re.compile(r"^[ ]*(?:pub(?:\([^)]*\))? |ghost )?use [^;]*;", re.M)
+OWNER = re.compile(r"^(?:impl\b(?:<.*?>)?(?=\s)|(?:pub(?:\([^)]*\))? )?trait\s)\s*([^{]*?)\s*(?:where[^{]*)?\{",
+                   re.M | re.S)
+FUNCTION = re.compile(r"^ *((?:pub(?:\([^)]*\))? )?)(?:const |unsafe )*fn (\w+)", re.M)
 CLAUSE = re.compile(r"\b(?:requires|ensures)\b\*?\s*[\w-]*\s*\{")
-CONTRACTS = re.compile(rf"{CLAUSE.pattern}|\bghost\b[^{{}};]*\{{")
-FUNCTION = re.compile(r"\bfn\s+(\w+)")
+# A function that is no ghost: the head of the trait or `impl` that it stands in, if any; its line; its parameters and
+# answer; its clauses; and how many lines stand between its braces.
+Function = collections.namedtuple("Function", "owner is_public name line head clauses inside")
 ITEM = re.compile(r"\s*pub (?:const |unsafe )*(fn|struct|enum|trait|const|type|mod) (\w+)")
-# What stands right inside the braces of a public item, and is public with it.
-PARTS = {"enum": re.compile(r"\s*([A-Z]\w*)"), "struct": re.compile(r"\s*pub (\w+):"),
-         "trait": re.compile(r"\s*(?:fn|type|const) (\w+)")}
-PART_NAMES = {"enum": "case", "struct": "field", "trait": "item"}
+# What stands right inside the braces of a public item, and is public with it: its name, and what it is.
+PARTS = {"enum": ("case", re.compile(r"\s*([A-Z]\w*)")), "struct": ("field", re.compile(r"\s*pub (\w+):")),
+         "trait": ("item", re.compile(r"\s*(?:fn|type|const) (\w+)"))}
 # A line of a doc comment, and what ends a line of code.
 DOC = re.compile(r"\s*//[/!] ?(.*)")
 REMARK = re.compile(r"(?:^|\s)//.*")
 
 
-def blank(found):
-    """What is put for something that is left out: each line of it stays a line, of the same length."""
-    return re.sub(r"[^\n]", " ", found[0])
+def without_comments(text):
+    """Returns the text of a .rt file with spaces in the place of comments and texts, so that each line stays a line."""
+    return NO_CODE.sub(lambda found: re.sub(r"[^\n]", " ", found[0]), text)
 
 
-def closing(code, at):
-    """Returns the place after the brace that closes the one at this place."""
+def closing(code, at, pair="{}"):
+    """Returns the place after the bracket that closes the one at this place. An arrow closes none."""
     depth = 0
     for place in range(at, len(code)):
-        depth += {"{": 1, "}": -1}.get(code[place], 0)
+        depth += (code[place] == pair[0]) - (code[place] == pair[1] and code[place - 1:place + 1] != "->")
         if depth == 0:
             return place + 1
-    raise ValueError("a brace is not closed")
+    raise ValueError("a bracket is not closed")
 
 
 def depth_of(text):
     """How many brackets this text opens and leaves open."""
     return sum(text.count(mark) for mark in "([{") - sum(text.count(mark) for mark in ")]}")
+
+
+def end_of_head(code, at):
+    """Returns where the head of a function ends, with its clauses: at its body, or where it has none."""
+    depth = 0
+    while depth or code[at] not in "{;":
+        clause = None if depth else CLAUSE.match(code, at)
+        if clause:
+            at = closing(code, clause.end() - 1)
+            continue
+        depth += {"(": 1, "[": 1, ")": -1, "]": -1}.get(code[at], 0)
+        at += 1
+    return at
+
+
+def functions(text):
+    """Yields each function of a .rt file. Those of a trait, and of its `impl` for a type, are public too."""
+    code = without_comments(text)
+    owners = [(found.start(), closing(code, found.end() - 1), found) for found in OWNER.finditer(code)]
+    for begun in FUNCTION.finditer(code):
+        owner = next((it for start, end, it in owners if start < begun.start() < end), None)
+        of_trait = owner and (" for " in owner[0] or "trait" in owner[0].split("{")[0])
+        at, body, clauses = begun.end(), end_of_head(code, begun.end()), []
+        first = CLAUSE.search(code, at, body)
+        while clause := CLAUSE.search(code, at, body):
+            at = closing(code, clause.end() - 1)
+            clauses.append(" ".join(re.sub(r"//[^\n]*", "", text[clause.start():at]).split()))
+        head = code[begun.end():first.start() if first else body]
+        inside = code.count("\n", body, closing(code, body)) - 1 if code[body] == "{" else 0
+        yield Function(" ".join(owner[1].split()) if owner else "", begun[1] == "pub " or bool(of_trait), begun[2],
+                       code.count("\n", 0, begun.start()) + 1, " ".join(head.split()), clauses, inside)
+
+
+def public_items(code):
+    """Yields line, kind and name of each public item, and of the cases, fields and trait items in it."""
+    kind, depth = None, 0
+    for number, line in enumerate(code.split("\n"), 1):
+        if item := ITEM.match(line):
+            (kind, name), depth = item.groups(), 0
+            yield number, kind, name
+        elif kind in PARTS and depth == 1 and (part := PARTS[kind][1].match(line)):
+            yield number, PARTS[kind][0], f"{name}::{part[1]}"
+        depth += depth_of(line)
+        if depth <= 0 and re.search(r"[;}]", line):
+            kind = None
+
+
+def has_doc(lines, number):
+    """Whether the item at this line has a doc comment, above its attributes and plain comments."""
+    above = number - 2
+    while above >= 0 and re.match(r"\s*(?:#\[|//(?!/))", lines[above]):
+        above -= 1
+    return above >= 0 and lines[above].lstrip().startswith("///")
 
 
 def lines_of(texts):
@@ -80,84 +136,6 @@ def examples(text):
             block = None
 
 
-def without_comments(text):
-    """Returns the text of a .rt file without comments, texts and `use` lines."""
-    return USES.sub(blank, NO_CODE.sub(blank, text))
-
-
-def without_contracts(code):
-    """Returns the code that runs: without clauses and ghost items too."""
-    parts, at = [], 0
-    while found := CONTRACTS.search(code, at):
-        end = closing(code, found.end() - 1)
-        parts += [code[at:found.start()], re.sub(r"[^\n]", " ", code[found.start():end])]
-        at = end
-    return "".join(parts) + code[at:]
-
-
-def line_at(text, place):
-    return text.count("\n", 0, place) + 1
-
-
-def end_of_head(code, at):
-    """Returns where the head of a function ends, with its clauses: at its body, or where it has none."""
-    depth = 0
-    while depth or code[at] not in "{;":
-        clause = None if depth else CLAUSE.match(code, at)
-        if clause:
-            at = closing(code, clause.end() - 1)
-            continue
-        depth += {"(": 1, "[": 1, ")": -1, "]": -1}.get(code[at], 0)
-        at += 1
-    return at
-
-
-def bodies(code):
-    """Yields the name of each function that has a body, its line, and how many lines stand between its braces."""
-    for found in FUNCTION.finditer(code):
-        at = end_of_head(code, found.end())
-        if code[at] == "{":
-            inside = code.count("\n", at, closing(code, at)) - 1
-            yield found[1], line_at(code, found.start()), max(inside, 0)
-
-
-def has_doc(lines, number):
-    """Whether the item at this line, counted from 0, has a doc comment, above its attributes and plain comments."""
-    above = number - 1
-    while above >= 0 and re.match(r"\s*(?:#\[|//(?!/))", lines[above]):
-        above -= 1
-    return above >= 0 and lines[above].lstrip().startswith("///")
-
-
-def parts_of(code, kind):
-    """Yields name and line, counted from 0 in this code, of what is public in the item that begins the code."""
-    depth = 0
-    for number, line in enumerate(code.split("\n")):
-        found = PARTS[kind].match(line) if depth == 1 else None
-        if found:
-            yield found[1], number
-        depth += depth_of(line)
-        if depth <= 0 and re.search(r"[;}]", line):
-            return
-
-
-def undocumented(text, code):
-    """Yields line, kind and name of each public item without a doc comment, also of cases, fields and trait items. A
-    module may have its comment in its own file, so `mod` is to be looked at again."""
-    lines, code_lines = text.split("\n"), code.split("\n")
-    for number, line in enumerate(code_lines):
-        item = ITEM.match(line)
-        if not item:
-            continue
-        kind, name = item.groups()
-        if not has_doc(lines, number):
-            yield number + 1, kind, name
-        if kind in PARTS:
-            for part, further in parts_of("\n".join(code_lines[number:]), kind):
-                if not has_doc(lines, number + further):
-                    yield number + further + 1, PART_NAMES[kind], f"{name}::{part}"
-
-
 # In .antt files.
 COMMENT = re.compile(r"(?:^|(?<=\s))--.*$", re.M)
 IMPORTS = re.compile(r"^ *(?:pub )?use .*$", re.M)
@@ -176,7 +154,7 @@ WORDS = set("let in elim as do where use open module data abbrev pub unfoldable 
 
 def is_argument(token):
     """Whether a token is a name, a number or a group, and no sign between two terms."""
-    return token not in WORDS and (any(it.isalpha() or it in "_●◌⊥⊤?" or it.isdecimal() for it in token))
+    return token not in WORDS and any(it.isalpha() or it in "_●◌⊥⊤?" or it.isdecimal() for it in token)
 
 
 def calls_in(flat):
@@ -196,16 +174,12 @@ def calls_in(flat):
         run, before = [], token
 
 
-def definitions(text):
-    """Returns the text of a .antt file without comments and `use` lines."""
-    return IMPORTS.sub("", COMMENT.sub("", text))
-
-
 def items(text):
     """Yields the items of a .antt file: declarations, and the clauses of functions."""
     item, depth = [], 0
-    for line in definitions(text).split("\n"):
-        if depth == 0 and (line[:1].strip() or (BEGINS.match(line) and depth_of(BEGINS.match(line)[1]) == 0)):
+    for line in IMPORTS.sub("", COMMENT.sub("", text)).split("\n"):
+        begins = BEGINS.match(line)
+        if depth == 0 and (line[:1].strip() or begins and depth_of(begins[1]) == 0):
             yield f" {LINE_END} ".join(item)
             item = []
         item.append(line)
