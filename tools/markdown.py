@@ -1,4 +1,4 @@
-"""What tools/quotes, tools/links and bench/house share: which pages there are, and how their text is taken apart.
+"""What tools/pages and bench/house share: which pages there are, and how their text is taken apart.
 
 It is not run by itself.
 """
@@ -7,9 +7,6 @@ import glob
 import os
 import re
 
-import kit
-
-TOP = kit.TOP
 # A block of code between fences: its first line's number, what stands behind the fence, its text, and the line before.
 Block = collections.namedtuple("Block", "line word text before")
 LIST_MARK = re.compile(r"^\s*(?:[-*+]|\d+\.)\s+")
@@ -68,12 +65,3 @@ def sentences(text):
             words = [word for word in sentence.split() if re.search(r"\w", word)]
             if any(re.search(r"[^\W\d]", word) for word in words):
                 yield len(words), sentence
-
-
-def look(tool, said, look_at):
-    """Looks at the pages of a repository, prints the faults, or what was seen, and returns the status."""
-    options = kit.options(said)
-    options.add_argument("--top", default=TOP, metavar="FOLDER", help="the repository, if not this one")
-    faults, seen = look_at(options.parse_args().top)
-    print(*faults, f"tools/{tool}: {f'{len(faults)} faults' if faults else seen}", sep="\n")
-    return 1 if faults else 0
