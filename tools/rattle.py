@@ -1,5 +1,4 @@
-"""How the scripts take files of code apart: functions, public items and examples of .rt files; rules, lemmas and calls of
-.antt files.
+"""How the scripts take code apart: functions, public items and examples of .rt files, and calls of .antt files.
 
 It is not run by itself.
 """
