@@ -79,6 +79,12 @@ def named_crates():
     return {name.split()[0]: rest.replace(",", " ").split() for name, _, rest in lines if name.strip()}
 
 
+def below(crate):
+    """Returns a crate and all crates of this repository that it stands on."""
+    named = named_crates()
+    return {crate}.union(*(below(name) for name in named[crate] if name in named))
+
+
 @contextlib.contextmanager
 def copied():
     """Gives the folder of the crates of a copy of the repository, without what was built."""
