@@ -19,8 +19,8 @@ ITEM = re.compile(r"\s*pub (?:const |unsafe )*(fn|struct|enum|trait|const|type|m
 # What stands right inside the braces of a public item, and is public with it: its name, and what it is.
 PARTS = {"enum": ("case", re.compile(r"\s*([A-Z]\w*)")), "struct": ("field", re.compile(r"\s*pub (\w+):")),
          "trait": ("item", re.compile(r"\s*(?:fn|type|const) (\w+)"))}
-# A line of a doc comment, and what ends a line of code.
-DOC = re.compile(r"\s*//[/!] ?(.*)")
+# A block in a doc comment, with the word behind its fence; and what ends a line of code.
+EXAMPLE = re.compile(r"^ *//[/!] ?```(.*)\n((?: *//[/!].*\n)*?) *//[/!] ?```", re.M)
 REMARK = re.compile(r"(?:^|\s)//.*")
 
 
@@ -97,42 +97,23 @@ def has_doc(lines, number):
     return above >= 0 and lines[above].lstrip().startswith("///")
 
 
-def lines_of(texts):
-    """Returns these lines of code, without comments and with single spaces; none that is empty then."""
-    lines = (" ".join(REMARK.sub("", text).split()) for text in texts)
+def lines_of(text):
+    """Returns the lines of code, without comments and with single spaces; none that is empty then."""
+    lines = (" ".join(REMARK.sub("", line).split()) for line in text.split("\n"))
     return [line for line in lines if line]
 
 
 def follow(lines, code, gap=2):
     """Whether the lines stand in the code in their order, with so many others between two of them at most."""
-    for start in (at for at, line in enumerate(code) if line == lines[0]):
-        at = start
-        for line in lines[1:]:
-            near = code[at + 1:at + 2 + gap]
-            if line not in near:
-                break
-            at += 1 + near.index(line)
-        else:
-            return True
-    return False
+    pattern = rf"(?:\n.*){{0,{gap}}}\n".join(map(re.escape, lines))
+    return lines[0] in code and re.search(f"^{pattern}$", code, re.M) is not None
 
 
 def examples(text):
-    """Yields the blocks of code in the doc comments of a .rt file: the number of the first line, and the code."""
-    block, start = None, 0
-    for number, line in enumerate(text.split("\n"), 1):
-        found = DOC.match(line)
-        if not found:
-            block = None
-        elif not found[1].startswith("```"):
-            if block is not None:
-                block.append(found[1])
-        elif block is None:
-            block, start, is_code = [], number + 1, found[1] == "```"
-        else:
-            if is_code:
-                yield start, lines_of(block)
-            block = None
+    """Yields the blocks of code in the doc comments of a .rt file: the number of the first line, and the lines."""
+    for found in EXAMPLE.finditer(text):
+        if not found[1]:
+            yield text.count("\n", 0, found.start()) + 2, lines_of(re.sub(r"^ *//[/!] ?", "", found[2], flags=re.M))
 
 
 # In .antt files.
