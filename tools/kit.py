@@ -104,12 +104,11 @@ def change(path, pairs):
     write(text, path)
 
 
-def optional(folder, name):
-    """Returns the bytes of a file beside src/, and none where it is not there."""
-    path = os.path.join(folder, name)
-    if not os.path.exists(path):
+def optional(*path):
+    """Returns the bytes of a file, and none if it is not there."""
+    if not os.path.exists(os.path.join(*path)):
         return b""
-    with open(path, "rb") as file:
+    with open(os.path.join(*path), "rb") as file:
         return file.read()
 
 
