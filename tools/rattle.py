@@ -118,15 +118,11 @@ def examples(text):
 
 # In .antt files.
 COMMENT = re.compile(r"(?:^|(?<=\s))--.*$", re.M)
-IMPORTS = re.compile(r"^ *(?:pub )?use .*$", re.M)
 # A line within a module that begins an item: a name with its type, or with patterns and what they give.
 BEGINS = re.compile(r"\s+(?!let |in )((?:(?:pub|abbrev|unfoldable|pattern) )*"
                     r"[^\s(){}\[\].,;:=]+(?: [^:={}→λ]*)?) [:=](?: |$)")
 LINE_END = "⏎"
-# A group in brackets with none inside. What it becomes is an argument, but for braces, which hold an argument by name.
-INSIDE = r"([^{}()\[\]]*)"
-GROUP = re.compile(rf"\brecord(?:\s+[^\s{{}}()\[\]]+)?\s*\{{{INSIDE}\}}|\({INSIDE}\)|\{{{INSIDE}\}}|\[{INSIDE}\]")
-FIELD = re.compile(r"(?:\.[^\s(){}\[\].,;:@]+)*")
+GROUP = re.compile(r"[({\[]([^{}()\[\]]*)[)}\]]")
 LAMBDA = re.compile(r"λ\s[^.]*?\.(?=\s)")
 WORDS = set("let in elim as do where use open module data abbrev pub unfoldable unfolding pattern mutual ruleset "
             "if then else".split())
@@ -138,26 +134,23 @@ def is_argument(token):
 
 
 def calls_in(flat):
-    """Yields the calls of a text without brackets: the name, and how many arguments follow it on its line."""
-    flat = re.sub(r"[,;@]", " , ", LAMBDA.sub("● | ", flat))
-    run, before = [], None
-    for token in [*flat.split(), "|"]:
+    """Yields the calls of a text without brackets: the name, and how many arguments follow it on its line. Names before a
+    colon are bound there."""
+    run = []
+    for token in [*re.sub(r"[,;@]", " , ", LAMBDA.sub("● | ", flat)).split(), "|"]:
         if token == LINE_END or is_argument(token):
             run.append(token)
             continue
-        terms = [it for it in run if it != LINE_END]
-        # Names before a colon are bound there, and so are names at the head before an equals sign.
-        binds = token == ":" or before == "module" or (token == "=" and before in (None, "let", ","))
-        if terms and not binds and re.search(r"[^\W\d_]", terms[0]):
-            begun = run[run.index(terms[0]):]
-            yield terms[0], (begun.index(LINE_END) if LINE_END in begun else len(begun)) - 1
-        run, before = [], token
+        call = " ".join(run).strip(f" {LINE_END}").partition(LINE_END)[0].split()
+        if call and token != ":" and re.search(r"[^\W\d_]", call[0]):
+            yield call[0], len(call) - 1
+        run = []
 
 
 def items(text):
     """Yields the items of a .antt file: declarations, and the clauses of functions."""
     item, depth = [], 0
-    for line in IMPORTS.sub("", COMMENT.sub("", text)).split("\n"):
+    for line in COMMENT.sub("", text).split("\n"):
         begins = BEGINS.match(line)
         if depth == 0 and (line[:1].strip() or begins and depth_of(begins[1]) == 0):
             yield f" {LINE_END} ".join(item)
@@ -176,14 +169,13 @@ def without_patterns(item):
 
 
 def calls(text):
-    """Yields the calls of a .antt file: the name, and how many arguments follow it on its line."""
+    """Yields the calls of a .antt file: the name, and how many arguments follow it on its line. A group in parentheses
+    is an argument, and one in braces is none, since it is given by name."""
     for item in items(text.replace("[]", "⊤").replace("⟦", "(").replace("⟧", ")")):
         flat = without_patterns(item)
         while found := GROUP.search(flat):
-            content = next(it for it in found.groups() if it is not None)
-            yield from calls_in(content)
-            field = FIELD.match(flat, found.end())
-            group = "●" + field[0] if found[0][0] in "(r" else " "
-            end = f" {LINE_END} " if LINE_END in content else ""
-            flat = flat[:found.start()] + group + end + flat[field.end():]
+            yield from calls_in(found[1])
+            group = "●" if found[0][0] == "(" else " "
+            end = f" {LINE_END} " if LINE_END in found[1] else ""
+            flat = flat[:found.start()] + group + end + flat[found.end():]
         yield from calls_in(flat)
