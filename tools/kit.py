@@ -8,6 +8,7 @@ import glob
 import importlib.machinery
 import importlib.util
 import os
+import pathlib
 import re
 import shutil
 import subprocess
@@ -106,10 +107,8 @@ def change(path, pairs):
 
 def optional(*path):
     """Returns the bytes of a file, and none if it is not there."""
-    if not os.path.exists(os.path.join(*path)):
-        return b""
-    with open(os.path.join(*path), "rb") as file:
-        return file.read()
+    file = pathlib.Path(*path)
+    return file.read_bytes() if file.exists() else b""
 
 
 # What is run without a proof, by `rt try`.
