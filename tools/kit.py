@@ -111,9 +111,6 @@ def optional(*path):
     return file.read_bytes() if file.exists() else b""
 
 
-# What is run without a proof, by `rt try`.
-
-
 class Tried:
     """What `rt try` says of a crate: its status, its two streams, and whether the code came to its end."""
 
@@ -166,9 +163,6 @@ def take_out(crate, tests):
         name = test.split("::")[-1]
         pattern = rf"^(?:///?[^\n]*\n)*#\[test\]\nfn {name}\(.*?^}}\n"
         write(re.sub(pattern, "", read(there[test]), flags=re.M | re.S), there[test])
-
-
-# What is built.
 
 
 def build(crate, given=None):
