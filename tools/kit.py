@@ -61,6 +61,15 @@ def need(*commands):
             refuse(f"there is no command {name} on the path")
 
 
+def git(*words):
+    """Returns what git says of this repository, and None if there is no git, or it refuses."""
+    try:
+        ran = subprocess.run(["git", "-C", TOP, *words], capture_output=True, text=True)
+    except OSError:
+        return None
+    return ran.stdout.strip() if ran.returncode == 0 else None
+
+
 def script(path):
     """Returns another script as a module."""
     loader = importlib.machinery.SourceFileLoader(os.path.basename(path), path)
