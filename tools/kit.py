@@ -1,7 +1,4 @@
-"""What the scripts of tools/ and bench/ share: the repository's files, and how `rt` and `rustc` are run.
-
-It is not run by itself.
-"""
+"""What the scripts of tools/ and bench/ share: the repository's files, and how `rt` and `rustc` are run."""
 import argparse
 import contextlib
 import glob
@@ -32,10 +29,9 @@ def options(said):
 
 def count(said):
     """The type of an option that is a number from 1."""
-    number = int(said)
-    if number < 1:
+    if int(said) < 1:
         raise ValueError
-    return number
+    return int(said)
 
 
 def read(*path):

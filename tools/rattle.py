@@ -1,7 +1,4 @@
-"""How the scripts take code apart: functions, public items and examples of .rt files, and calls of .antt files.
-
-It is not run by itself.
-"""
+"""How the scripts take code apart: functions, public items and examples of .rt files, and calls of .antt files."""
 import collections
 import re
 
