@@ -131,8 +131,8 @@ def is_argument(token):
 
 
 def calls_in(flat):
-    """Yields the calls of a text without brackets: the name, and how many arguments follow it on its line. Names before a
-    colon are bound there."""
+    """Yields the calls of a text without brackets: the name, and how many arguments follow it on its line. Names before
+    a colon are bound there."""
     run = []
     for token in [*re.sub(r"[,;@]", " , ", LAMBDA.sub("● | ", flat)).split(), "|"]:
         if token == LINE_END or is_argument(token):
