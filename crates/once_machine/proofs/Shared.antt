@@ -1,4 +1,5 @@
 -- What holds of every world to which tasks lead that share a cell.
+pub mod Adds
 pub mod Unfinished
 pub mod Asked
 pub mod Queue

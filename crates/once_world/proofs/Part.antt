@@ -1,5 +1,4 @@
 -- Record and log fall into parts, one for each input.
-pub mod Adds
 pub mod Tells
 pub mod Needs
 pub mod Apart

@@ -16,7 +16,7 @@ use Rattle.once_machine.proofs.Invariant.Facts.{AtPlace, AtStep, is_inside, tick
 use Rattle.once_machine.proofs.Invariant.Fits.{Fits}
 use Rattle.once_machine.proofs.Invariant.Moves.{in_count, inside_counted}
 use Rattle.once_machine.proofs.Input.Headline.{task_fits}
-use Rattle.once_world.proofs.Part.Adds.{step_part}
+use Rattle.once_machine.proofs.Shared.Adds.{step_part}
 use Rattle.once_machine.proofs.Shared.Places.{StepKeeps, place_keeps}
 use Rattle.once_machine.proofs.Shared.Queue.{EntersFirst, OneQueue}
 use Rattle.once_machine.proofs.Shared.Slot.{is_put_at}

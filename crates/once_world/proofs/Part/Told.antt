@@ -19,7 +19,7 @@ use Rattle.once_machine.proofs.Input.Gone.{gone_is}
 use Rattle.once_machine.proofs.Input.Owner.{owner_is_got}
 use Rattle.once_machine.proofs.Input.Makes.{looked_is}
 use Rattle.once_machine.proofs.Input.Headline.{task_fits}
-use Rattle.once_world.proofs.Part.Adds.{step_part}
+use Rattle.once_machine.proofs.Shared.Adds.{step_part}
 use Rattle.once_world.proofs.Part.Tells.{StepTells, is_refused, tells}
 use Rattle.once_world.proofs.Part.Needs.{need_step, one_line}
 use Rattle.once_world.proofs.Part.Apart.{step_begins, step_memory}
