@@ -42,6 +42,7 @@ where
 /// What a look finds. Nobody finds a value before it is set, and whoever finds none had not seen that it is set.
 fn looked<'a>(cell: &'a OnceCell<u64>, token: &mut Known<'a, u64>) -> Option<u64>
     requires token_of_this_cell { token.old.cell ≡ cell.now }
+    ensures cell { token.new.cell ≡ token.old.cell }
     ensures set { IsSome result → IsSetIn cell.now token.new.log }
     ensures unset { IsNone result → IsSetIn cell.now token.old.log → ⊥ }
 {
