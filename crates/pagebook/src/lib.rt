@@ -31,68 +31,9 @@
 //!
 //! # How a structure is made of it
 //!
-//! 1. Choose what an entry and a page say: any types, also of a specification, of which no value is made.
-//! 2. State the rule, `holds words pages log`, on a type of your own (`Rule`), and how a book begins (`Opening`).
-//! 3. For each kind of step state what its caller is told (`Play`), and prove that it keeps the rule. The proof is a
-//!    `Moves` or `Notes` of `specs/Pages.antt`, which gives new values of the hand's pages, new pages and new entries.
-//!
-//! # A whole program
-//!
-//! Of two threads one is told that it came first, and never both. Whoever finds 0 in the word adds a page and has its
-//! pen, and there is one such pen. (`first` in the crate `pagebook_uses`.)
-//!
-//! ```text
-//! pub struct Medal;                                        // what a page says: nothing
-//! pub struct OneMedal;                                     // the rule, and how a book begins
-//! impl Rule<(), Medal> for OneMedal { ghost holds = { λ ns ps log. IsGiven ns ps }; }
-//! impl Opening<(), (), Medal> for OneMedal {
-//!     ghost words = { λ x. 0 ∷ [] };                       // one word, which is 0
-//!     ghost pages = { λ x. [] };
-//!     ghost log = { λ x. [] };
-//! }
-//!
-//! struct Comes;                                            // what coming tells
-//! impl Play<(), (), Medal> for Comes { ghost then = { λ x. Came }; }
-//!
-//! impl Line {
-//!     pub fn new() -> Line {
-//!         let (mut blanks, front, _) = Word::open::<(), OneMedal>(&());
-//!         let medals = Word::new(0, &mut blanks);
-//!         Line { medals, front }
-//!     }
-//!
-//!     pub fn come(&self) -> Option<Winner>                 // Winner: a hand that holds the pen of page 0
-//!         ensures { IfSome result (λ w. w.pens.book ≡ self.now.medals.book) }
-//!     {
-//!         let mut seen = self.front.again();
-//!         let mut pens = seen.no_pens();
-//!         let found = self.medals.swap::<(), Comes>(1, &(), &mut seen, &mut pens);
-//!         if found == 0 { Some(Winner { pens, seen }) } else { None }
-//!     }
-//! }
-//!
-//! pub fn never_both(first: Winner, second: Winner)         // one hand with both pens: no page is in a hand twice
-//!     requires { second.pens.book ≡ first.pens.book }
-//!     ensures { ⊥ }
-//! {
-//!     let (Winner { mut pens, mut seen }, Winner { pens: mut others, .. }) = (first, second);
-//!     pens.append(&mut others);
-//!     seen.note::<(), Clashes>(&mut pens, &());
-//! }
-//! ```
-//!
-//! ```text
-//! -- specs: the word says how many medals there are, and that is one at most
-//! pub record IsGiven (ns : List ℕ) (ps : List Medal) : Type 0 where
-//!   pub words : ns ≡ length ps ∷ []
-//!   pub one : length ps ≤ 1
-//!
-//! -- whoever finds 0 has the pen of page 0
-//! Came v n w = n ≡ 0 → w.1 ≡ (0, medal) ∷ v.1
-//!
-//! -- proofs: coming keeps the rule. The first adds a page, and no other does
-//! comes : (seen : List E) (h : Held Medal) → Moves Given (seen, h) 0 (λ _. 1) (Came (seen, h))
-//! ```
+//! `CALLING.md` tells it step by step. A whole program is `first` in the crate `pagebook_uses`: of two threads one is
+//! told that it came first, and never both. Whoever finds 0 in the word adds a page and has its pen, and there is one
+//! such pen.
 //!
 //! # What is proved, and what is not said
 //!

@@ -1,5 +1,5 @@
 // What the author of a structure says about its book: the rule, how it begins, and what a step tells.
-ghost use Rattle.core.specs.Prelude.{ℕ, List};
+ghost use Rattle.core.specs.Prelude.{ℕ, List, ⊤};
 ghost use Rattle.pagebook.specs.Pages.{View};
 
 /// The rule of a book, on a type of the author's that never has a value. `E` is an entry, and `P` what a page says.
@@ -32,7 +32,5 @@ pub trait Fits<T> {
 pub struct Anything;
 
 impl<T> Fits<T> for Anything {
-    ghost use Rattle.core.specs.Prelude.{⊤};
-
     ghost fits = { λ _ _. ⊤ };
 }

@@ -119,8 +119,7 @@ impl<T, E, P, R: Rule<E, P>, V: Fits<T>> Slot<T, E, P, R, V> {
     pub fn get<'a>(&'a self, seen: &Seen<E, P, R>) -> (&'a T, Written<T>)
         requires book { seen.now.book ≡ self.now.book }
         requires sure { Sure R.holds seen.now.log self.now.key 2 }
-        ensures { (result.0.now ≡ result.1.value) × (result.1.of ≡ self.now.id)
-            × V.fits self.now.about result.0.now }
+        ensures { (result.0.now ≡ result.1.value) × (result.1.of ≡ self.now.id) × V.fits self.now.about result.0.now }
     {
         let written = self.found(seen);
         (self.value(&written), written)
