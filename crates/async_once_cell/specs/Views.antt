@@ -5,11 +5,10 @@ use Rattle.pagebook.specs.Slot.{Placed}
 use Rattle.pagebook.specs.declared.slot.Written.{Written}
 use Rattle.once_machine.specs.Record.{Entry}
 use Rattle.once_parts.specs.Record.{IsSet}
-use Rattle.async_once_cell.specs.declared.init.Kept.{Kept}
-use Rattle.async_once_cell.specs.declared.init.Kept.TheVariants.{Init as KeptInit, Answered as KeptAnswered}
 use Rattle.async_once_cell.specs.declared.once.Value.{Value}
 use Rattle.async_once_cell.specs.declared.once.Value.TheVariants.{Owned as OwnedValue, Shared as SharedValue}
 use Rattle.async_once_cell.specs.declared.once.known.Seen.{Seen}
+use Rattle.async_once_cell.specs.declared.waiting.Shown.{Shown}
 use Rattle.async_once_cell.specs.declared.once.known.Seen.TheVariants.{Owned as SeenOwned, Shared as SeenShared}
 
 -- what a clause sees of a cell
@@ -71,15 +70,10 @@ abbrev pub value_in : {T : Type 0} → Option (Written T) → Option T
 value_in None = None
 value_in (Some w) = Some w.value
 
--- the init that a task keeps
-abbrev pub init_in : {T I : Type 0} → Kept T I → Option I
-init_in (KeptInit i) = Some i
-init_in _ = None
-
 -- what shows the value that a task answered
-abbrev pub shown_in : {T I : Type 0} → Kept T I → Option (Written T)
-shown_in (KeptAnswered w) = Some w
-shown_in _ = None
+abbrev pub shown_in : {T : Type 0} → Option (Shown T) → Option (Written T)
+shown_in None = None
+shown_in (Some s) = Some s.0
 
 -- if this shows a value, it is that of this cell. Its task is finished, and saw that the cell is set
 abbrev pub IsAnswered : {T : Type 0} → Placed → Bool → List Entry → Option (Written T) → Type 0

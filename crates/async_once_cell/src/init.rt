@@ -1,24 +1,23 @@
 //! What a task polls while it has the right: an init of its own, or the future of a lazy cell. And what its caller is
 //! told in place of a value: the error of its init, or a refusal.
-ghost use Rattle.std.specs.Prelude.{◌≡◌, IfErr, IfOk, IsSome, None, Option, Some};
+ghost use Rattle.std.specs.Prelude.{◌≡◌, IfErr, IfOk, IsSome, None, Option, Some, IsSomeAnd, Ok};
 ghost use Rattle.futures.specs.Poll.{IfReady, OnPending};
 ghost use Rattle.futures.specs.Task.{IsArmed, Keeps};
 ghost use Rattle.once_parts.specs.Hands.{HasRight, HasRun};
 ghost use Rattle.once_parts.specs.Inits.{MayGive, polled_in};
 ghost use Rattle.once_machine.specs.declared.step.Ending.{Ending};
 ghost use Rattle.async_once_cell.specs.Inits.{FailsNoOther, GivesNoOther, MayFail};
-ghost use Rattle.async_once_cell.specs.Polls.{ending_of_refusal};
-ghost use Rattle.async_once_cell.specs.Refused.{own_error};
-ghost use Rattle.async_once_cell.specs.Views.{init_in, shown_in};
+ghost use Rattle.async_once_cell.specs.Polls.{ending_of_refusal, ending_of_error};
+ghost use Rattle.async_once_cell.specs.Refused.{own_error, given_error, message, message_of, kind_of, error_of};
+ghost use Rattle.std.specs.IoError.{error_kind};
 
 use futures::Future;
 use futures::task::{Context, Poll};
 use once_machine::step::Ending;
 use once_parts::{Hand, Pollable, Splits, poll_init};
-use pagebook::Written;
 use std::error::Error;
 use std::io::ErrorKind;
-use std::{fmt, io, mem};
+use std::{fmt, io};
 
 /// Which values an init may give. `X` says why there is none.
 pub trait Yields<T, X>: Drop {
@@ -51,15 +50,11 @@ pub trait Init<T, X: Failure>: Yields<T, X> {
 }
 
 impl<T, X: Failure, F: Future<Output: Gives<T, X>>> Yields<T, X> for Pollable<F> {
-    ghost use Rattle.std.specs.Prelude.{IsSomeAnd};
-
     ghost may_give = { λ f v. IsSomeAnd (F.Output.given_with v) (F.gives f) };
 }
 
 /// An init of the task's own.
 impl<T, X: Failure, F: Future<Output: Gives<T, X>>> Init<T, X> for Pollable<F> {
-    ghost use Rattle.std.specs.Prelude.{IsSomeAnd};
-
     ghost may_fail = { λ f x. IsSomeAnd (F.Output.given_as x) (F.gives f) };
 
     #[inline(always)]
@@ -107,39 +102,6 @@ impl<O: Gives<T, X>, T, X: Failure> Splits<O, T, Failed<X>> for Given {
     }
 }
 
-/// What a task keeps between two calls.
-#[derive(Drop)]
-pub(crate) enum Kept<T, I: Drop> {
-    Init(I),
-    Answered(Written<T>),
-    /// It answered an error or a refusal.
-    Nothing,
-}
-
-impl<T, I: Drop> Kept<T, I> {
-    #[inline(always)]
-    pub(crate) fn from_init(init: Option<I>) -> Self
-        ensures init { init_in result ≡ init }
-        ensures none { shown_in result ≡ None }
-    {
-        match init {
-            Some(init) => Kept::Init(init),
-            None => Kept::Nothing,
-        }
-    }
-
-    #[inline(always)]
-    pub(crate) fn take(&mut self) -> Option<I>
-        ensures taken { result ≡ init_in self.old }
-        ensures nothing { (init_in self.new ≡ None) × (shown_in self.new ≡ None) }
-    {
-        match mem::replace(self, Kept::Nothing) {
-            Kept::Init(init) => Some(init),
-            Kept::Answered(_) | Kept::Nothing => None,
-        }
-    }
-}
-
 /// Why a poll ended without a value, as a future tells it: [`Refused`], or an [`InitError`] if the init may fail.
 pub trait Failure: Drop {
     // How the poll ended.
@@ -151,8 +113,6 @@ pub trait Failure: Drop {
 }
 
 impl Failure for Refused {
-    ghost use Rattle.async_once_cell.specs.Polls.{ending_of_refusal};
-
     ghost ending = { ending_of_refusal };
 
     #[inline(always)]
@@ -164,8 +124,6 @@ impl Failure for Refused {
 }
 
 impl<E: Drop> Failure for InitError<E> {
-    ghost use Rattle.async_once_cell.specs.Polls.{ending_of_error};
-
     ghost ending = { ending_of_error };
 
     #[inline(always)]
@@ -203,9 +161,6 @@ impl<T> Gives<T, Refused> for T {
 }
 
 impl<T, E: Drop> Gives<T, InitError<E>> for Result<T, E> {
-    ghost use Rattle.std.specs.Prelude.{Ok};
-    ghost use Rattle.async_once_cell.specs.Refused.{given_error};
-
     ghost given_as = { given_error };
 
     ghost given_with = { λ v. Some (Ok v) };
@@ -240,8 +195,6 @@ pub enum Refused {
 }
 
 impl fmt::Display for Refused {
-    ghost use Rattle.async_once_cell.specs.Refused.{message};
-
     ghost output = { λ refused. Some (message refused) };
 
     fn fmt<W: fmt::Write>(&self, f: &mut fmt::Formatter<W>) -> fmt::Result {
@@ -289,8 +242,6 @@ impl<E> InitError<E> {
 }
 
 impl<E: fmt::Display> fmt::Display for InitError<E> {
-    ghost use Rattle.async_once_cell.specs.Refused.{message_of};
-
     ghost output = { message_of E.output };
 
     fn fmt<W: fmt::Write>(&self, f: &mut fmt::Formatter<W>) -> fmt::Result {
@@ -306,9 +257,6 @@ impl<E: fmt::Debug + fmt::Display + Drop> Error for InitError<E> {}
 
 /// Lets `future.wait()??` give an `io::Error`: of kind `OutOfMemory` for [`Refused::Memory`], `Other` for `Full`.
 impl From<Refused> for io::Error {
-    ghost use Rattle.std.specs.IoError.{error_kind};
-    ghost use Rattle.async_once_cell.specs.Refused.{kind_of};
-
     ghost from_gives = { λ refused error. error_kind error ≡ kind_of refused };
 
     fn from(refused: Refused) -> Self {
@@ -320,8 +268,6 @@ impl From<Refused> for io::Error {
 }
 
 impl<E> From<Refused> for InitError<E> {
-    ghost use Rattle.async_once_cell.specs.Refused.{error_of};
-
     ghost from_gives = { λ refused error. error ≡ error_of refused };
 
     fn from(refused: Refused) -> Self {

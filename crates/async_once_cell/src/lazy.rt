@@ -4,7 +4,7 @@ ghost use Rattle.std.specs.Result.{result_ok};
 ghost use Rattle.std.specs.Option.{is_some};
 ghost use Rattle.async_once_cell.specs.Polls.{IsMade};
 ghost use Rattle.async_once_cell.specs.Tokens.{Gives, IsSetIn, Learns, Lends, Looks};
-ghost use Rattle.async_once_cell.specs.Views.{Owned, is_shared};
+ghost use Rattle.async_once_cell.specs.Views.{Owned, is_shared, CellView};
 
 mod future;
 
@@ -34,8 +34,6 @@ pub struct Lazy<T, F: Future> {
 }
 
 impl<T, F: Future> Model for Lazy<T, F> {
-    ghost use Rattle.async_once_cell.specs.Views.{CellView};
-
     ghost Value = { CellView T };
 
     ghost view = { λ l. l.cell };

@@ -61,17 +61,16 @@
 //!
 //! # What is proved
 //!
-//! A call makes sixteen steps of [`step::Step`] at most. What all tasks did with a cell is its record, which has no
-//! bytes, and only grows. Whatever threads do, it is a run of a cell that is empty, held by one task or set. Besides,
-//! at each of its beginnings somebody was called if somebody had to be, so nobody who waits is forgotten. A clause sees
-//! what a future or a token has seen of the record. After a poll the newest entry is what it answered. A look finds the
-//! value exactly when the cell is set then.
+//! What all tasks did with a cell is its record, which has no bytes, and only grows. Whatever threads do, it is a run
+//! of a cell that is empty, held by one task or set. Besides, at each of its beginnings somebody was called if somebody
+//! had to be, so nobody who waits is forgotten. A clause sees what a future or a token has seen of the record. After a
+//! poll the newest entry is what it answered. A look finds the value exactly when the cell is set then.
 //!
 //! Only a task that holds polls an init, and the record has each such poll and no other. In the record a call of a
 //! future is one call of its task: it begins after all that the future had seen, and what it did stands between.
 //!
 //! This says nothing of a call that does not return, of fairness, progress or time. Tests alone show that a task polls
-//! its own init, or the future of its lazy cell, that a task that is called is woken, and that each value and init is
+//! its own init, or the future of its lazy cell, that a task that is called runs, and that each value and init is
 //! dropped. Futures and tokens say which value was set, see [`Initializing::tell`] and [`Known`]. The definitions in
 //! `specs/` and the kit have to be trusted. `docs/PROVED.md` of the repository says what no clause says, and
 //! `docs/THREADS.md` what is proved of threads.
@@ -91,7 +90,8 @@ pub use once_machine::{laws, record, step};
 /// What all tasks of a cell share: the word, the door and the queue behind it, with the record of the cell.
 pub mod inner {
     pub use once_machine::parts::{Counted, Parts, QueueLine};
-    pub use once_machine::waiters::{Answer, Listing, Op, Out};
+    pub use once_machine::step::Out;
+    pub use once_machine::waiters::{Answer, Listing, Op};
     pub use once_machine::word::{MAX_WAITERS, NEW, QINIT_BIT, READY_BIT};
     pub use once_parts::{
         CopiesWaker, Hand, Inner, Mark, Pollable, Record, Shared, Splits, Task, TaskSide,
@@ -101,6 +101,7 @@ pub mod inner {
 
 /// Who waits: the flag and the list behind a queue's lock, and what a section does with them.
 pub mod queue {
-    pub use once_machine::waiters::{Answer, Listing, Lists, Op, Out, Renews, WakerId};
+    pub use once_machine::step::Out;
+    pub use once_machine::waiters::{Answer, Listing, Lists, Op, Renews, WakerId};
     pub use once_machine::word::{MAX_WAITERS, NEW, QINIT_BIT, READY_BIT};
 }

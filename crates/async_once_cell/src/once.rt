@@ -4,6 +4,8 @@ ghost use Rattle.std.specs.Option.{is_some};
 ghost use Rattle.async_once_cell.specs.Views.{CellView, IsWritten, Owned, Settled, about_of, is_shared, view_of};
 ghost use Rattle.async_once_cell.specs.Polls.{IsMade};
 ghost use Rattle.async_once_cell.specs.Tokens.{Gives, IsSetIn, Learns, Lends, LendsMut, Looks};
+ghost use Rattle.std.specs.Borrow.{LendsIf, sem};
+ghost use Rattle.async_once_cell.specs.declared.once.Value.TheVariants.{Owned as OwnedValue};
 
 mod future;
 mod known;
@@ -49,8 +51,6 @@ pub struct OnceCell<T, V: Fits<T> = Anything> {
 
 /// A clause sees a cell as the value that its owner put there, or else as the slot into which tasks put one.
 impl<T, V: Fits<T>> Model for OnceCell<T, V> {
-    ghost use Rattle.async_once_cell.specs.Views.{CellView, view_of};
-
     ghost Value = { CellView T };
 
     ghost view = { λ c. view_of c.value };
@@ -78,7 +78,6 @@ impl<T> OnceCell<T> {
 }
 
 impl<T, V: Fits<T>> OnceCell<T, V> {
-    ghost use Rattle.std.specs.Borrow.{LendsIf, sem};
     ghost use Rattle.async_once_cell.specs.contracts.once.OnceCell.{the_row};
 
     /// An empty cell that promises its value: what tasks put fits, as `V` says of it and of the numbers of the tag.
@@ -103,8 +102,7 @@ impl<T, V: Fits<T>> OnceCell<T, V> {
     #[inline(always)]
     pub fn get(&self) -> Option<&T>
         ensures lends { Lends self.now result }
-        ensures promise { is_shared self.now ≡ true
-            → IfSome result (λ value. V.fits (about_of self.now) value.now) }
+        ensures promise { is_shared self.now ≡ true → IfSome result (λ value. V.fits (about_of self.now) value.now) }
     {
         match &self.value {
             Value::Owned(value) => Some(value),
@@ -160,6 +158,26 @@ impl<T, V: Fits<T>> OnceCell<T, V> {
     {
         let OnceCell { value } = self;
         value.into_inner()
+    }
+
+    /// As [`OnceCell::into_inner`], for a caller that was told the value.
+    pub fn into_inner_as(self, told: &Told<T, V>) -> T
+        requires { told.now.cell ≡ self }
+        ensures { result ≡ told.now.value }
+    {
+        let OnceCell { value } = self;
+        value.into_told(told)
+    }
+
+    /// As [`OnceCell::take`], for a caller that was told the value.
+    pub fn take_as(&mut self, told: &Told<T, V>) -> T
+        requires { told.now.cell ≡ self.old }
+        ensures taken { result ≡ told.now.value }
+        ensures fresh { is_shared self.new ≡ true }
+        ensures about { about_of self.new ≡ about_of self.old }
+    {
+        let fresh = self.fresh();
+        mem::replace(self, fresh).into_inner_as(told)
     }
 
     /// A future of the value: the one that is set, or that `init` gives. Nothing happens before its first poll.
@@ -263,31 +281,7 @@ impl<T, V: Fits<T>> OnceCell<T, V> {
 struct About;
 
 impl<T, V: Fits<T>> Names<OnceCell<T, V>> for About {
-    ghost use Rattle.async_once_cell.specs.Views.{about_of};
-
     ghost numbers = { about_of };
-}
-
-impl<T, V: Fits<T>> OnceCell<T, V> {
-    /// As [`OnceCell::into_inner`], for a caller that was told the value.
-    pub fn into_inner_as(self, told: &Told<T, V>) -> T
-        requires { told.now.cell ≡ self }
-        ensures { result ≡ told.now.value }
-    {
-        let OnceCell { value } = self;
-        value.into_told(told)
-    }
-
-    /// As [`OnceCell::take`], for a caller that was told the value.
-    pub fn take_as(&mut self, told: &Told<T, V>) -> T
-        requires { told.now.cell ≡ self.old }
-        ensures taken { result ≡ told.now.value }
-        ensures fresh { is_shared self.new ≡ true }
-        ensures about { about_of self.new ≡ about_of self.old }
-    {
-        let fresh = self.fresh();
-        mem::replace(self, fresh).into_inner_as(told)
-    }
 }
 
 impl<T: Drop, V: Fits<T>> OnceCell<T, V> {
@@ -357,9 +351,7 @@ pub(crate) enum Value<T, V: Fits<T> = Anything> {
 }
 
 impl<T, V: Fits<T>> Value<T, V> {
-    ghost use Rattle.std.specs.Borrow.{LendsIf, sem};
     ghost use Rattle.async_once_cell.specs.contracts.once.Value.{the_row};
-    ghost use Rattle.async_once_cell.specs.declared.once.Value.TheVariants.{Owned as OwnedValue};
 
     fn into_inner(self) -> Option<T>
         ensures gives { Gives (view_of self) result }

@@ -1,8 +1,8 @@
 //! A task of a cell that brings an init, and is called while it waits.
-ghost use Rattle.std.specs.Prelude.{◌≡◌, ◌≢◌, ◌∷◌, [], List, true, false, ⊤};
-ghost use Rattle.std.specs.Prelude.{IfErr, IfSome, IsSome, IsSomeAnd, None, Some};
+ghost use Rattle.std.specs.Prelude.{◌≡◌, ◌≢◌, ◌∷◌, [], List, true, false, ⊤, IfErr, IfSome, IsSome, IsSomeAnd, None};
+ghost use Rattle.std.specs.Prelude.{Some};
 ghost use Rattle.std.specs.Option.{is_some};
-ghost use Rattle.once_machine.specs.declared.waiters.Out.{Out};
+ghost use Rattle.once_machine.specs.declared.step.Out.{Out};
 ghost use mathlib.Core.List.{IsPrefix};
 ghost use Rattle.futures.specs.Poll.{IfReady};
 ghost use Rattle.futures.specs.Task.{IsArmed, Keeps};
@@ -13,13 +13,19 @@ ghost use Rattle.once_parts.specs.Record.{EndsSet, IsSet};
 ghost use Rattle.once_parts.specs.Walks.{IsOneCall, Spans, end_of};
 ghost use Rattle.async_once_cell.specs.Inits.{FailsNoOther, GivesNoOther, InitFits, TellsOwn};
 ghost use Rattle.async_once_cell.specs.Polls.{IsValue, ending_by, is_over, value_of};
-ghost use Rattle.async_once_cell.specs.Views.{init_in, shown_in, value_in};
+ghost use Rattle.async_once_cell.specs.Views.{IsAnswered, WaitingView, shown_in, value_in};
+ghost use Rattle.std.proofs.Common.{rules, subst, ap};
+ghost use Rattle.once_parts.specs.Sides.{HasCopied, HasWoken, sided_tells};
+ghost use Rattle.async_once_cell.specs.Stays.{Hands, Stays, told, IsRenewed, leaving};
+ghost use Rattle.async_once_cell.specs.Listed.{WakesTask, whose};
+ghost use Rattle.once_parts.specs.Inits.{MayGive};
+ghost use Rattle.once_parts.proofs.Sides.{sided_told};
 
-use crate::init::{Failed, Failure, Init, Kept, Refused};
+use crate::init::{Failed, Failure, Init, Refused};
 use crate::waker::ListedWaker;
 use futures::task::{Context, Poll};
-use once_machine::step::{Ending, Polled, Side};
-use once_machine::waiters::{Out, Renews};
+use once_machine::step::{Ending, Out, Polled, Side};
+use once_machine::waiters::Renews;
 use once_parts::book::{is_set_where_answered, stays_set};
 use once_parts::{CopiesWaker, Hand, Inner, Mark, Record, Task, TaskSide};
 use pagebook::{Anything, Fits, Written};
@@ -28,18 +34,22 @@ use std::marker::{Model, PhantomData};
 use std::snapshot::Snapshot;
 use std::sync::Wait;
 
+// What shows the value that a task answered. It is as wide as its neighbours: the bytes that a narrow field leaves
+// free would be copied one by one when a future is made.
+#[derive(Drop)]
+struct Shown<T>(Written<T>, [u64; 0]);
+
 /// A task of a cell with its init. A clause sees both.
 #[derive(Drop)]
 pub(crate) struct Waiting<'a, T, I: Drop, R: Wait + AllocGlobal, V: Fits<T> = Anything> {
-    task: Task<'a, 'a, T, ListedWaker, R, V>,
-    kept: Kept<T, I>,
+    pub(crate) task: Task<'a, 'a, T, ListedWaker, R, V>,
+    init: Option<I>,
+    shown: Option<Shown<T>>,
     // The init is there until the task is finished.
-    ghost has_init: { task.finished ≡ false → is_some (init_in kept) ≡ true },
+    ghost has_init: { task.finished ≡ false → is_some init ≡ true },
 }
 
 impl<'a, T, I: Drop, R: Wait + AllocGlobal, V: Fits<T>> Model for Waiting<'a, T, I, R, V> {
-    ghost use Rattle.async_once_cell.specs.Views.{IsAnswered, WaitingView, init_in, shown_in, value_in};
-
     ghost Value = { WaitingView T I };
 
     ghost view = { λ f. record {
@@ -47,12 +57,12 @@ impl<'a, T, I: Drop, R: Wait + AllocGlobal, V: Fits<T>> Model for Waiting<'a, T,
       number = f.task.number;
       log = f.task.log;
       finished = f.task.finished;
-      init = init_in f.kept;
-      value = value_in (shown_in f.kept);
+      init = f.init;
+      value = value_in (shown_in f.shown);
     } };
 
     // Only a finished task answered a value, and it saw that the cell is set.
-    ghost invariant = { λ f. IsAnswered f.task.cell f.task.finished f.task.log (shown_in f.kept) };
+    ghost invariant = { λ f. IsAnswered f.task.cell f.task.finished f.task.log (shown_in f.shown) };
 }
 
 impl<'a, T, I: Drop, R: Wait + AllocGlobal, V: Fits<T>> Waiting<'a, T, I, R, V> {
@@ -66,27 +76,9 @@ impl<'a, T, I: Drop, R: Wait + AllocGlobal, V: Fits<T>> Waiting<'a, T, I, R, V> 
     {
         Waiting {
             task: Task::new(inner, rt),
-            kept: Kept::Init(init),
+            init: Some(init),
+            shown: None,
         }
-    }
-
-    #[inline(always)]
-    pub(crate) fn is_finished(&self) -> bool
-        ensures { result ≡ self.now.finished }
-    {
-        self.task.is_finished()
-    }
-
-    #[inline(always)]
-    pub(crate) fn rt(&self) -> &'a R {
-        self.task.rt()
-    }
-
-    #[inline(always)]
-    pub(crate) fn record(&self) -> Record
-        ensures { (result.book ≡ self.now.cell.book) × (result.log ≡ self.now.log) }
-    {
-        self.task.record()
     }
 
     /// If the task answered it. Then the cell is set in the record that it has seen.
@@ -96,10 +88,8 @@ impl<'a, T, I: Drop, R: Wait + AllocGlobal, V: Fits<T>> Waiting<'a, T, I, R, V> 
         ensures of { IfSome result (λ w. w.of ≡ self.now.cell.id) }
         ensures set { is_some result ≡ true → IsSet self.now.log }
     {
-        match &self.kept {
-            Kept::Answered(written) => Some(written.again()),
-            Kept::Init(_) | Kept::Nothing => None,
-        }
+        let shown = self.shown.as_ref()?;
+        Some(shown.0.again())
     }
 
     #[inline(always)]
@@ -139,8 +129,8 @@ impl<'a, T, I: Drop, R: Wait + AllocGlobal, V: Fits<T>> Waiting<'a, T, I, R, V> 
     pub(crate) fn discard(self)
         requires live { self.finished ≡ false }
     {
-        let Waiting { task, kept } = self;
-        drop(kept);
+        let Waiting { task, init, .. } = self;
+        drop(init);
         leave_unfinished(task);
     }
 
@@ -159,7 +149,7 @@ impl<'a, T, I: Drop, R: Wait + AllocGlobal, V: Fits<T>> Waiting<'a, T, I, R, V> 
         ensures value { self.new.value ≡ None }
     {
         let before = self.task.record();
-        drop(self.kept.take());
+        drop(self.init.take());
         let mut side = Leaving::<T, R>::new(self.task.rt(), self.task.mark());
         self.task.leave(&mut side);
         stays_set(&before, &self.task.record());
@@ -168,6 +158,7 @@ impl<'a, T, I: Drop, R: Wait + AllocGlobal, V: Fits<T>> Waiting<'a, T, I, R, V> 
     #[inline(always)]
     pub(crate) fn take_over(&mut self, written: &Written<T>)
         requires finished { self.old.finished ≡ true }
+        requires nothing { self.old.init ≡ None }
         requires of { written.now.of ≡ self.old.cell.id }
         requires set { IsSet self.old.log }
         ensures cell { self.new.cell ≡ self.old.cell }
@@ -177,7 +168,7 @@ impl<'a, T, I: Drop, R: Wait + AllocGlobal, V: Fits<T>> Waiting<'a, T, I, R, V> 
         ensures init { self.new.init ≡ None }
         ensures value { self.new.value ≡ Some written.now.value }
     {
-        self.kept = Kept::Answered(written.again());
+        self.shown = Some(Shown(written.again(), []));
     }
 }
 
@@ -217,7 +208,7 @@ impl<'a, T: Drop, I: Drop, R: Wait + AllocGlobal, V: Fits<T>> Waiting<'a, T, I, 
         ensures same { FailsNoOther I.may_fail self.old.init self.new.init }
         ensures same_values { GivesNoOther I.may_give self.old.init self.new.init }
     {
-        let init = self.kept.take();
+        let init = self.init.take();
         let mut side = Polling {
             first: Snapshot::of(&init),
             mark: self.task.mark(),
@@ -240,7 +231,7 @@ impl<'a, T: Drop, I: Drop, R: Wait + AllocGlobal, V: Fits<T>> Waiting<'a, T, I, 
             woke: _woke,
         } = side;
         if ending == Ending::Pending {
-            self.kept = Kept::from_init(init);
+            self.init = init;
             if !is_armed {
                 // No clause says that who is told of its listing has one to renew. Without one it asks for a poll.
                 let _: Poll<()> = cx.yield_now();
@@ -282,7 +273,7 @@ impl<'a, T: Drop, I: Drop, R: Wait + AllocGlobal, V: Fits<T>> Waiting<'a, T, I, 
             Ending::Value => {
                 is_set_where_answered(&self.task.record());
                 let (value, written) = self.task.value();
-                self.kept = Kept::Answered(written);
+                self.shown = Some(Shown(written, []));
                 Poll::Ready(Ok(value))
             }
             Ending::Error => Poll::Ready(Err(error.unwrap().into_inner())),
@@ -306,13 +297,6 @@ struct Polling<'c, 'd, T, E, H> {
 }
 
 impl<T: Drop, X: Failure, I: Init<T, X>> Side<ListedWaker> for Polling<'_, '_, T, Failed<X>, I> {
-    ghost use Rattle.std.specs.Prelude.{true};
-    ghost use Rattle.std.proofs.Common.{rules};
-    ghost use Rattle.std.specs.Prelude.{IsSomeAnd};
-    ghost use Rattle.once_parts.specs.Sides.{HasCopied, HasWoken, sided_tells};
-    ghost use Rattle.async_once_cell.specs.Stays.{Hands, Stays, told};
-    ghost use Rattle.async_once_cell.specs.Listed.{WakesTask, whose};
-
     type Value = T;
 
     type Right = Hand;
@@ -380,8 +364,6 @@ impl<T: Drop, X: Failure, I: Init<T, X>> Side<ListedWaker> for Polling<'_, '_, T
 }
 
 impl<T: Drop, X: Failure, I: Init<T, X>> Renews<ListedWaker> for Polling<'_, '_, T, Failed<X>, I> {
-    ghost use Rattle.async_once_cell.specs.Stays.{IsRenewed};
-
     ghost renewed = { IsRenewed I.may_fail I.may_give (λ e. e.error) };
 
     #[inline(always)]
@@ -393,12 +375,6 @@ impl<T: Drop, X: Failure, I: Init<T, X>> Renews<ListedWaker> for Polling<'_, '_,
 
 impl<T: Drop, X: Failure, I: Init<T, X>> TaskSide<ListedWaker>
     for Polling<'_, '_, T, Failed<X>, I> {
-    ghost use Rattle.std.proofs.Common.{subst};
-    ghost use Rattle.once_parts.specs.Inits.{MayGive};
-    ghost use Rattle.async_once_cell.specs.Stays.{told};
-    ghost use Rattle.once_parts.proofs.Sides.{sided_told};
-    ghost use Rattle.async_once_cell.specs.Listed.{whose};
-
     ghost state = { told };
 
     ghost tells = { sided_told whose told };
@@ -446,11 +422,6 @@ impl<'r, T, R> Leaving<'r, T, R> {
 }
 
 impl<T, R: Wait> Side<ListedWaker> for Leaving<'_, T, R> {
-    ghost use Rattle.std.specs.Prelude.{⊤};
-    ghost use Rattle.once_parts.specs.Sides.{HasWoken, sided_tells};
-    ghost use Rattle.async_once_cell.specs.Stays.{leaving};
-    ghost use Rattle.async_once_cell.specs.Listed.{whose};
-
     type Value = T;
 
     type Right = Hand;
@@ -500,11 +471,6 @@ impl<T, R: Wait> Renews<ListedWaker> for Leaving<'_, T, R> {
 }
 
 impl<T, R: Wait> TaskSide<ListedWaker> for Leaving<'_, T, R> {
-    ghost use Rattle.std.proofs.Common.{ap};
-    ghost use Rattle.async_once_cell.specs.Stays.{leaving};
-    ghost use Rattle.once_parts.proofs.Sides.{sided_told};
-    ghost use Rattle.async_once_cell.specs.Listed.{whose};
-
     ghost state = { leaving };
 
     ghost tells = { sided_told whose leaving };

@@ -1,7 +1,7 @@
 //! The waker of a waiting task, as it lies in the list of the cell.
-ghost use Rattle.std.specs.Prelude.{◌≡◌};
+ghost use Rattle.std.specs.Prelude.{◌≡◌, ◌∷◌, [], ⊤};
 ghost use Rattle.futures.specs.Task.{IsArmed, Keeps};
-ghost use Rattle.async_once_cell.specs.Listed.{WakesTask, whose};
+ghost use Rattle.async_once_cell.specs.Listed.{WakesTask, whose, number_on};
 
 use boxcar::tag::{Names, Tag};
 use futures::task::{Context, Poll, Source, Waker};
@@ -20,14 +20,10 @@ pub struct ListedWaker {
 struct Number;
 
 impl Names<Mark> for Number {
-    ghost use Rattle.std.specs.Prelude.{◌∷◌, []};
-
     ghost numbers = { λ mark. mark ∷ [] };
 }
 
 impl WakerId for ListedWaker {
-    ghost use Rattle.std.specs.Prelude.{⊤};
-
     ghost tells_same = { λ _ _. ⊥ };
 
     ghost tells_other = { λ _ _. ⊤ };
@@ -44,8 +40,6 @@ impl WakerId for ListedWaker {
 }
 
 impl TaskWaker for ListedWaker {
-    ghost use Rattle.async_once_cell.specs.Listed.{number_on};
-
     ghost whose = { λ s. number_on s.tag.numbers };
 
     ghost apart = { λ a b e. e };

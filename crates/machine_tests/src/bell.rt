@@ -1,7 +1,8 @@
 //! The waker of a task under test.
 ghost use Rattle.std.specs.Prelude.{◌≡◌};
 
-use once_machine::waiters::{Listing, Out, WakerId};
+use once_machine::step::Out;
+use once_machine::waiters::{Listing, WakerId};
 use once_parts::{Mark, TaskWaker};
 use std::alloc::{AllocError, Global};
 use std::snapshot::Snapshot;

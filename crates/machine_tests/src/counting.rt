@@ -3,8 +3,7 @@ ghost use Rattle.std.specs.Prelude.{◌≡◌, ⊤, Some};
 ghost use Rattle.std.proofs.Common.{rules};
 ghost use Rattle.once_machine.specs.Steps.{side_tells_nothing};
 
-use once_machine::step::{Polled, Side};
-use once_machine::waiters::Out;
+use once_machine::step::{Out, Polled, Side};
 use std::alloc::Global;
 
 /// A side whose init answers this, and which counts what is asked of it.

@@ -1,7 +1,8 @@
 //! A fill asks for no memory, also where the list could not note where a listing was put.
 
 use crate::doubles::memory::hoard;
-use once_machine::waiters::{Answer, Lists, Out};
+use once_machine::step::Out;
+use once_machine::waiters::{Answer, Lists};
 use once_machine::word::NEW;
 use std::alloc::{AllocError, Global};
 use std::test::Fail;

@@ -2,8 +2,8 @@
 
 use crate::counting::{Counting, Listed, all_called};
 use once_machine::parts::{Counted, Parts, QueueLine};
-use once_machine::step::{Ending, Polled, Progress, Side, Step};
-use once_machine::waiters::{Answer, Lists, Op, Out};
+use once_machine::step::{Ending, Out, Place, Polled, Progress, Side, Step};
+use once_machine::waiters::{Answer, Lists, Op};
 use once_machine::word::{NEW, QINIT_BIT, READY_BIT};
 use once_world::plain::Core;
 use std::alloc::Global;
@@ -224,7 +224,8 @@ fn poll(step: &mut Step<u64, u64>, side: &mut Counting) -> Steps {
 
 // Whether the task rests, runs its init and is finished.
 fn state(step: &Step<u64, u64>) -> [bool; 3] {
-    [step.is_resting(), step.is_running(), step.is_finished()]
+    let runs = matches!(step, Step::UnderWay(Place::Run(_)));
+    [step.is_resting(), runs, step.is_finished()]
 }
 
 #[test]

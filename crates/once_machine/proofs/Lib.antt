@@ -5,7 +5,7 @@
 --   Invariant  what stands for each task at each place, and what a step owes so that all of it stays
 --   Place      one lemma a place: its step pays what it owes
 --   Input      each input keeps the invariant: `run` and `one_is_called` of `replay`
---   Law        what follows of a run alone: src/laws.rt, and `nobody_forgotten`, `idle` and `one_value` of `replay`
+--   Law        what follows of a run: src/laws.rt, `nobody_forgotten` and `one_value` of `replay`; and `idle`, of `one_is_called`
 --   Rows       worked schedules, computed over the definitions. No clause stands on them
 --   Spoilt     records and logs with one thing wrong are none. No clause stands on them
 --   Shared     what holds of every world to which tasks lead that share a cell

@@ -351,7 +351,7 @@ abbrev pub drop_entries : ℕ → Step ℕ ℕ → List Entry
 drop_entries t Finished = DropEnd t ∷ DropBegin t ∷ []
 drop_entries t _ = DropBegin t ∷ []
 
--- a replay under way. Of the clauses of `replay`, `exact` alone speaks of it
+-- a replay under way. Of the clauses of `replay`, only the `exact` ones speak of it
 pub record World : Type 0 where
   pub shared : SharedState
   pub tasks : ℕ → Option Task  -- the tasks by their numbers

@@ -5,7 +5,7 @@ use Rattle.std.specs.Prelude.{IfSome, All, HoldsAt, length}
 use Rattle.std.specs.declared.vec.Vec.{Vec}
 use Rattle.std.specs.declared.alloc.Global.{Global}
 use Rattle.once_machine.specs.declared.waiters.Answer.{Answer}
-use Rattle.once_machine.specs.declared.waiters.Out.{Out}
+use Rattle.once_machine.specs.declared.step.Out.{Out}
 use Rattle.once_machine.specs.Listings.{Listing, find_listing, kept_ticket, ticket_for}
 use Rattle.once_machine.specs.Listings.{list_with, first_waker, call_first, with_waker}
 

@@ -2,8 +2,8 @@
 use Rattle.std.specs.Prelude.{◌≡◌, ℕ, Bool, true, false, Option, Some, None}
 use Rattle.once_machine.specs.declared.waiters.Answer.{Answer as SectionAnswer}
 use Rattle.once_machine.specs.declared.waiters.Answer.TheVariants.{Released, Left}
-use Rattle.once_machine.specs.declared.waiters.Out.{Out}
-use Rattle.once_machine.specs.declared.waiters.Out.TheVariants.{One}
+use Rattle.once_machine.specs.declared.step.Out.{Out}
+use Rattle.once_machine.specs.declared.step.Out.TheVariants.{One}
 use Rattle.once_machine.specs.declared.step.Polled.{Polled}
 pub use Rattle.once_machine.specs.declared.step.Ending.{Ending}
 pub use Rattle.once_machine.specs.declared.step.Ending.TheVariants.{Pending as EndPending, Value as EndValue}

@@ -1,8 +1,8 @@
 //! Laws of every run of a cell, for those who build on it. These functions do nothing: the contract of each is a law
 //! that follows from "the record is a run" alone, which `replay` ensures. In them the newest entry stands first.
 ghost use Rattle.std.specs.Prelude.{◌≡◌, ◌≢◌, ◌≤◌, ◌⊎◌, ℕ, true, false, List, [], ◌∷◌, Some, None, length};
-ghost use Rattle.once_machine.specs.Record.{Answer, RanError, Kind, Reply, Value, Error, Memory, Full};
-ghost use Rattle.once_machine.specs.Record.{Entry, Claim, Ran, Free, Pass, End, DropEnd, is_own};
+ghost use Rattle.once_machine.specs.Record.{Answer, RanError, Kind, Reply, Value, Error, Memory, Full, Entry, Claim};
+ghost use Rattle.once_machine.specs.Record.{Ran, Free, Pass, End, DropEnd, is_own};
 ghost use Rattle.once_machine.specs.Cell.{Empty, Held, SetTo, cell, answers_left};
 ghost use Rattle.once_machine.specs.Tasks.{Dropping, Holding, Gone, status, is_under_way, last_call};
 ghost use Rattle.once_machine.specs.Wakers.{IsDue, IsOpen, times_opened, times_handed};
@@ -14,8 +14,7 @@ ghost use Rattle.once_machine.specs.Run.{AtEvery, IsRun, NobodyForgotten};
 /// At most one task holds the right, whether it rests or is in a call. Who claims the right finds the
 /// cell empty, and an init is polled by the task that holds.
 pub fn one_task_holds()
-    ensures holder { (kind : Kind) (t u : ℕ) (h : List Entry) → cell kind h ≡ Held t
-        → cell kind h ≡ Held u → t ≡ u }
+    ensures holder { (kind : Kind) (t u : ℕ) (h : List Entry) → cell kind h ≡ Held t → cell kind h ≡ Held u → t ≡ u }
     ensures rests { (kind : Kind) (limit t : ℕ) (h : List Entry) → IsRun kind limit h
         → status kind t h ≡ Holding → cell kind h ≡ Held t }
     ensures claims { (kind : Kind) (limit t : ℕ) (h : List Entry) → IsRun kind limit (Claim t ∷ h)
@@ -31,15 +30,13 @@ pub fn value_set_is_answered()
     ensures answered { (kind : Kind) (limit t v : ℕ) (h : List Entry)
         → IsRun kind limit (End t (Value v) ∷ h) → cell kind h ≡ SetTo v }
     ensures lasts { (kind : Kind) (limit : ℕ) (e : Entry) (h : List Entry) (v : ℕ)
-        → IsRun kind limit (e ∷ h) → is_own e ≡ false → cell kind h ≡ SetTo v
-        → cell kind (e ∷ h) ≡ SetTo v }
+        → IsRun kind limit (e ∷ h) → is_own e ≡ false → cell kind h ≡ SetTo v → cell kind (e ∷ h) ≡ SetTo v }
 {}
 
 /// A poll that ends with an error ends with the one that its own init gave, after it gave the right
 /// back. At that moment, since the poll began, the cell was empty.
 pub fn error_is_ones_own()
-    ensures own { (kind : Kind) (limit t e : ℕ) (h : List Entry)
-        → IsRun kind limit (End t (Error e) ∷ h)
+    ensures own { (kind : Kind) (limit t e : ℕ) (h : List Entry) → IsRun kind limit (End t (Error e) ∷ h)
         → ((last_call kind t h).ran ≡ Some (RanError e)) × ((last_call kind t h).freed ≡ true) }
     ensures empty { (kind : Kind) (limit t e : ℕ) (h : List Entry)
         → IsRun kind limit (End t (Error e) ∷ h) → Since t (HasFreed kind t) h }
@@ -74,8 +71,7 @@ pub fn refusals_need_others()
 
 /// While the value is set nobody who waits is forgotten: each one's waker was handed out since its last poll ended.
 pub fn set_value_calls_all()
-    ensures { (kind : Kind) (limit : ℕ) (h : List Entry) → IsRun kind limit h
-        → AtEvery (NobodyForgotten kind) h }
+    ensures { (kind : Kind) (limit : ℕ) (h : List Entry) → IsRun kind limit h → AtEvery (NobodyForgotten kind) h }
 {}
 
 /// A release without a value hands out one waker at most, and not those of all who wait. If some task waits and was not
@@ -84,15 +80,13 @@ pub fn failed_release_calls_one()
     ensures at_most_one { (kind : Kind) (limit t : ℕ) (X : List ℕ) (h : List Entry)
         → IsRun kind limit (Free t X ∷ h) → length X ≤ 1 }
     ensures somebody { (kind : Kind) (limit t d : ℕ) (X : List ℕ) (h : List Entry)
-        → IsRun kind limit (Free t X ∷ h) → IsDue kind d h
-        → (w : ℕ) × (X ≡ w ∷ []) × IsOpen kind w h }
+        → IsRun kind limit (Free t X ∷ h) → IsDue kind d h → (w : ℕ) × (X ≡ w ∷ []) × IsOpen kind w h }
 {}
 
 /// A task that passes its turn on finds the cell empty and hands out one waker, which is open. It does so once in its
 /// call, which claims nothing later and is its last. If the call is a poll, it ends for want of memory.
 pub fn leaver_passes_its_turn_on()
-    ensures to_one { (kind : Kind) (limit t : ℕ) (X : List ℕ) (h : List Entry)
-        → IsRun kind limit (Pass t X ∷ h)
+    ensures to_one { (kind : Kind) (limit t : ℕ) (X : List ℕ) (h : List Entry) → IsRun kind limit (Pass t X ∷ h)
         → (cell kind h ≡ Empty) × ((w : ℕ) × (X ≡ w ∷ []) × IsOpen kind w h) }
     ensures once { (kind : Kind) (limit t : ℕ) (X : List ℕ) (h : List Entry)
         → IsRun kind limit (Pass t X ∷ h) → (last_call kind t h).passed ≡ false }
@@ -101,8 +95,7 @@ pub fn leaver_passes_its_turn_on()
     ensures refused { (kind : Kind) (limit t : ℕ) (r : Reply) (h : List Entry)
         → IsRun kind limit (End t r ∷ h) → (last_call kind t h).passed ≡ true → r ≡ Memory }
     ensures leaves { (kind : Kind) (limit t : ℕ) (h : List Entry) → IsRun kind limit h
-        → (last_call kind t h).passed ≡ true
-        → (is_under_way (status kind t h) ≡ true) ⊎ (status kind t h ≡ Gone) }
+        → (last_call kind t h).passed ≡ true → (is_under_way (status kind t h) ≡ true) ⊎ (status kind t h ≡ Gone) }
 {}
 
 /// No waker is handed out more often than tasks waited with it. Since the owner last replaced the

@@ -1,5 +1,11 @@
 //! What a step touches of all that the tasks of a cell share.
-ghost use Rattle.std.specs.Prelude.{◌≡◌, true};
+ghost use Rattle.std.specs.Prelude.{◌≡◌, true, ⊤};
+ghost use Rattle.once_machine.specs.Table.{Call, Load, Quick, Fast, CountIn, AddOne, CountOut, DoorGet, DoorPut};
+ghost use Rattle.once_machine.specs.Table.{DoorTake, Section, Refuse, Run, Put, counted, wants_copy, Told, Loaded};
+ghost use Rattle.once_machine.specs.Table.{TriedQuick, TriedFast, Added, CountedOut, Got, PutQueue, Taken, Was};
+ghost use Rattle.once_machine.specs.Table.{Refused, Ran, PutValue};
+ghost use Rattle.once_machine.specs.Ops.{HasWaker};
+ghost use Rattle.once_machine.specs.Word.{flags_of};
 
 pub use crate::log::QueueLine;
 use crate::step::{Polled, RunRight, Side};
@@ -27,15 +33,6 @@ pub trait Parts<W> {
 
     /// What shows that a task has the right to run its init.
     type Right: RunRight;
-
-    ghost use Rattle.std.specs.Prelude.{⊤};
-    ghost use Rattle.once_machine.specs.Table.{Call, Load, Quick, Fast, CountIn, AddOne, CountOut};
-    ghost use Rattle.once_machine.specs.Table.{DoorGet, DoorPut, DoorTake, Section, Refuse, Run, Put, counted};
-    ghost use Rattle.once_machine.specs.Table.{wants_copy};
-    ghost use Rattle.once_machine.specs.Table.{Told, Loaded, TriedQuick, TriedFast, Added, CountedOut};
-    ghost use Rattle.once_machine.specs.Table.{Got, PutQueue, Taken, Was, Refused, Ran, PutValue};
-    ghost use Rattle.once_machine.specs.Ops.{HasWaker};
-    ghost use Rattle.once_machine.specs.Word.{flags_of};
 
     // What a call asks.
     ghost can: { Self → Call W Self.Queue → Type 0 } = { λ _ _. ⊤ };

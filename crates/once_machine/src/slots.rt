@@ -1,13 +1,15 @@
 //! The listings of those who wait, in their order, each found by its ticket without a search.
-ghost use Rattle.std.specs.Prelude.{◌≡◌, ◌==◌, ◌<◌, ◌≤◌, ◌+◌, ◌*◌, max, ◌⊎◌, ◌++◌, ◌∷◌, []};
-ghost use Rattle.std.specs.Prelude.{ℕ, true, false, if◌then◌else◌, Some, None, IsSome, IfSome};
-ghost use Rattle.std.specs.Prelude.{IfOk, IsOk, OnOk, length, vec_len, vec_capacity, HoldsAt, filter};
+ghost use Rattle.std.specs.Prelude.{◌≡◌, ◌==◌, ◌<◌, ◌≤◌, ◌+◌, ◌*◌, max, ◌⊎◌, ◌++◌, ◌∷◌, [], ℕ, true, false};
+ghost use Rattle.std.specs.Prelude.{if◌then◌else◌, Some, None, IsSome, IfSome, IfOk, IsOk, OnOk, length, vec_len};
+ghost use Rattle.std.specs.Prelude.{vec_capacity, HoldsAt, filter};
 ghost use Rattle.std.specs.List.{position};
 ghost use Rattle.std.specs.Option.{option_copied, option_map};
 ghost use Rattle.once_machine.specs.Numbers.{is_distinct, member};
 ghost use Rattle.once_machine.specs.Marks.{is_marked};
-ghost use Rattle.once_machine.specs.Listings.{tickets};
+ghost use Rattle.once_machine.specs.Listings.{tickets, find_listing, take_out, first_waker, call_first, new_ticket};
+ghost use Rattle.once_machine.specs.Listings.{lent_listings};
 ghost use Rattle.once_machine.specs.Kept.{hole, is_kept, is_open};
+ghost use Rattle.once_machine.specs.Sections.{Renewed};
 
 use crate::waiters::{Listing, Renews};
 use std::alloc::{AllocError, Global};
@@ -34,8 +36,7 @@ pub struct Slots<W> {
     // How many holes were made since they were closed.
     holes: usize,
     ghost once: { is_distinct (tickets (filter is_kept slots.items)) ≡ true },
-    ghost marks: { (n : ℕ) → is_marked n used.items
-        ≡ member n (tickets (filter is_kept slots.items)) },
+    ghost marks: { (n : ℕ) → is_marked n used.items ≡ member n (tickets (filter is_kept slots.items)) },
     ghost low: { (n : ℕ) → n < free → is_marked n used.items ≡ true },
     ghost within: { uncalled ≤ vec_len slots },
     ghost called: { (n : ℕ) → n < uncalled → HoldsAt (λ x. is_open x ≡ false) slots.items n },
@@ -44,10 +45,7 @@ pub struct Slots<W> {
 }
 
 impl<W: Drop> Slots<W> {
-    ghost use Rattle.once_machine.specs.Listings.{find_listing, take_out, first_waker};
-    ghost use Rattle.once_machine.specs.Listings.{call_first, new_ticket, lent_listings};
     ghost use Rattle.once_machine.specs.Slots.{HasMark, HasSlot, capacity_in, listings_in};
-    ghost use Rattle.once_machine.specs.Sections.{Renewed};
 
     /// No listing. It takes no memory.
     #[inline(always)]
@@ -98,8 +96,7 @@ impl<W: Drop> Slots<W> {
     /// The listing with this ticket.
     #[inline(always)]
     pub fn find(&self, ticket: u64) -> Option<&Listing<W>>
-        ensures { option_map (λ x. x.waker) (option_copied result)
-            ≡ find_listing ticket (listings_in self.now) }
+        ensures { option_map (λ x. x.waker) (option_copied result) ≡ find_listing ticket (listings_in self.now) }
     {
         let place = self.place(ticket)?;
         Some(&self.slots[place])
@@ -108,8 +105,7 @@ impl<W: Drop> Slots<W> {
     /// Takes the listing with this ticket out, if one has it.
     #[inline(always)]
     pub fn take_out(&mut self, ticket: u64) -> Option<Listing<W>>
-        ensures waker { option_map (λ x. x.waker) result
-            ≡ find_listing ticket (listings_in self.old) }
+        ensures waker { option_map (λ x. x.waker) result ≡ find_listing ticket (listings_in self.old) }
         ensures listings { listings_in self.new ≡ take_out ticket (listings_in self.old) }
         ensures none { result ≡ None → self.new ≡ self.old }
         ensures mark { IsSome result → ticket < vec_len self.new.used }
@@ -199,8 +195,7 @@ impl<W: Drop> Slots<W> {
         ensures mark { OnOk result (HasMark self.new) }
         ensures succeeds { HasSlot self.old → HasMark self.old → IsOk result }
         ensures listings { listings_in self.new ≡ listings_in self.old }
-        ensures memory { capacity_in self.new
-            ≤ max (capacity_in self.old) (4 * (length (listings_in self.old) + 1)) }
+        ensures memory { capacity_in self.new ≤ max (capacity_in self.old) (4 * (length (listings_in self.old) + 1)) }
     {
         self.close_many_holes();
         reserve_one(&mut self.slots)?;
@@ -217,8 +212,7 @@ impl<W: Drop> Slots<W> {
         ensures slot { HasSlot self.new }
         ensures used { self.new.used ≡ self.old.used }
         ensures listings { listings_in self.new ≡ listings_in self.old }
-        ensures memory { capacity_in self.new
-            ≤ max (capacity_in self.old) (4 * (length (listings_in self.old) + 1)) }
+        ensures memory { capacity_in self.new ≤ max (capacity_in self.old) (4 * (length (listings_in self.old) + 1)) }
     {
         self.close_many_holes();
         if reserve_one(&mut self.slots).is_err() {
@@ -246,8 +240,7 @@ impl<W: Drop> Slots<W> {
     #[inline(always)]
     fn place(&self, ticket: u64) -> Option<usize>
         ensures some { IfSome result (λ i. (i < length self.now.slots.items)
-            × HoldsAt (λ x. x.ticket ≡ ticket) self.now.slots.items i
-            × ((ticket == hole) ≡ false)) }
+            × HoldsAt (λ x. x.ticket ≡ ticket) self.now.slots.items i × ((ticket == hole) ≡ false)) }
         ensures none { result ≡ None → member ticket (tickets (listings_in self.now)) ≡ false }
     {
         if ticket == HOLE {
@@ -281,10 +274,8 @@ impl<W: Drop> Slots<W> {
 
     fn first_open(&self) -> usize
         ensures within { result ≤ vec_len self.now.slots }
-        ensures before { (n : ℕ) → n < result
-            → HoldsAt (λ x. is_open x ≡ false) self.now.slots.items n }
-        ensures found { result < vec_len self.now.slots
-            → HoldsAt (λ x. is_open x ≡ true) self.now.slots.items result }
+        ensures before { (n : ℕ) → n < result → HoldsAt (λ x. is_open x ≡ false) self.now.slots.items n }
+        ensures found { result < vec_len self.now.slots → HoldsAt (λ x. is_open x ≡ true) self.now.slots.items result }
     {
         let mut first = self.uncalled;
         while first < self.slots.len() && !has_waker(&self.slots[first]) {
@@ -330,8 +321,7 @@ fn reserve_one<T>(slots: &mut Vec<T>) -> Result<(), AllocError>
     ensures room { OnOk result (vec_len slots.new < vec_capacity slots.new) }
     ensures succeeds { vec_len slots.old < vec_capacity slots.old → IsOk result }
     ensures least { vec_capacity slots.old ≤ vec_capacity slots.new }
-    ensures most { (vec_capacity slots.new ≡ vec_capacity slots.old)
-        ⊎ ((vec_len slots.old ≡ vec_capacity slots.old)
+    ensures most { (vec_capacity slots.new ≡ vec_capacity slots.old) ⊎ ((vec_len slots.old ≡ vec_capacity slots.old)
         × (vec_capacity slots.new ≤ 2 * vec_len slots.old + 4)) }
 {
     if slots.len() < slots.capacity() {
@@ -385,8 +375,7 @@ fn note(places: &mut Vec<usize>, number: usize, place: usize) {
 fn mark(marks: &mut Vec<bool>, number: u64)
     requires { (number < vec_len marks.old)
         ⊎ ((number ≡ vec_len marks.old) × (vec_len marks.old < vec_capacity marks.old)) }
-    ensures { (n : ℕ) → is_marked n marks.new.items
-        ≡ (if number == n then true else is_marked n marks.old.items) }
+    ensures { (n : ℕ) → is_marked n marks.new.items ≡ (if number == n then true else is_marked n marks.old.items) }
 {
     match marks.get_mut(number as usize) {
         Some(mark) => *mark = true,

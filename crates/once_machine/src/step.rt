@@ -1,10 +1,13 @@
 //! One step of a call at a time, over any parts and any side.
-ghost use Rattle.std.specs.Prelude.{◌≡◌, ◌<◌, ◌≤◌, ◌↔◌, IsTrue, true, false};
+ghost use Rattle.std.specs.Prelude.{◌≡◌, ◌<◌, ◌≤◌, ◌↔◌, IsTrue, true, false, ⊤};
 ghost use Rattle.once_machine.specs.declared.step.Polled.{Polled};
+ghost use Rattle.once_machine.specs.Steps.{is_value as ends_with_value, SideTells, side_tells_nothing, release_place};
+ghost use Rattle.once_machine.specs.Steps.{leave_place, is_resting, in_call, step_of_poll, step_of_drop};
+ghost use Rattle.once_machine.specs.Table.{left_at, left_of};
 
 mod advance;
 
-use crate::waiters::Out;
+use crate::waiters::Listing;
 use std::mem;
 
 /// What one poll of an init answered. The side keeps the value or the error.
@@ -36,8 +39,6 @@ pub enum Ending {
 }
 
 impl Ending {
-    ghost use Rattle.once_machine.specs.Steps.{is_value as ends_with_value};
-
     /// Whether the call ends with the value: only then does its release set the ready bit.
     #[inline(always)]
     pub fn is_value(self) -> bool
@@ -65,11 +66,18 @@ pub trait RunRight {
 
 /// One caller steps the task, so nothing has to be shown or taken down.
 impl RunRight for () {
-    ghost use Rattle.std.specs.Prelude.{⊤};
-
     ghost can = { λ _. ⊤ };
 
     ghost ran = { λ _ _ _. ⊤ };
+}
+
+/// Whom a section calls. The wakers in it are handed out, in their order.
+#[derive(Debug, Drop, PartialEq, Eq)]
+pub enum Out<W> {
+    /// One who waits, or nobody.
+    One(Option<W>),
+    /// All who wait: their listings, the oldest first, without a waker that is the same as one before it.
+    All(Vec<Listing<W>>),
 }
 
 /// What a call brings of its own: its init, the value or error that this gave, and its waker.
@@ -79,9 +87,6 @@ pub trait Side<W> {
 
     /// What shows that the task has the right.
     type Right: RunRight;
-
-    ghost use Rattle.std.specs.Prelude.{⊤};
-    ghost use Rattle.once_machine.specs.Steps.{SideTells, side_tells_nothing};
 
     // What each call answers and leaves. If it is left out, it says nothing.
     ghost did: { SideTells Self W } = { side_tells_nothing };
@@ -181,10 +186,7 @@ pub enum Place<W, Q> {
     DoorTake(Ending),
 }
 
-impl<W, Q> Place<W, Q> {
-    ghost use Rattle.once_machine.specs.Steps.{release_place};
-    ghost use Rattle.once_machine.specs.Table.{left_at};
-
+impl<W, Q: Drop> Place<W, Q> {
     #[inline(always)]
     fn left(&self) -> u32
         ensures left { result ≡ left_at self.now }
@@ -220,13 +222,10 @@ impl<W, Q> Place<W, Q> {
             Some(queue) => Place::Release(queue, ending),
         }
     }
-}
 
-impl<W, Q: Drop> Place<W, Q> {
-    ghost use Rattle.once_machine.specs.Steps.{leave_place};
-
+    /// Where a waiter goes that leaves: it takes its listing out if it has a ticket, and else counts out.
     #[inline(always)]
-    fn leaving(queue: Q, ticket: Option<u64>, ending: Ending) -> Self
+    pub fn leaving(queue: Q, ticket: Option<u64>, ending: Ending) -> Self
         ensures { result ≡ leave_place queue ticket ending }
     {
         match ticket {
@@ -248,10 +247,6 @@ pub enum Step<W, Q> {
 }
 
 impl<W: Drop, Q: Drop> Step<W, Q> {
-    ghost use Rattle.once_machine.specs.Steps.{is_resting, in_call, is_running, is_leaving};
-    ghost use Rattle.once_machine.specs.Table.{left_of};
-    ghost use Rattle.once_machine.specs.Steps.{is_freeing, is_adding, step_of_poll, step_of_drop};
-
     /// A task that was not polled yet.
     #[inline(always)]
     pub fn new() -> Self
@@ -274,42 +269,6 @@ impl<W: Drop, Q: Drop> Step<W, Q> {
         ensures { result ≡ is_resting self.now }
     {
         matches!(self, Step::Resting(_))
-    }
-
-    /// Whether the task was not polled yet.
-    #[inline(always)]
-    pub fn is_new(&self) -> bool
-        ensures { IsTrue result ↔ (self.now ≡ Step.Resting Rest.Start) }
-    {
-        matches!(self, Step::Resting(Rest::Start))
-    }
-
-    /// Whether the next step polls the init.
-    pub fn is_running(&self) -> bool
-        ensures { result ≡ is_running self.now }
-    {
-        matches!(self, Step::UnderWay(Place::Run(_)))
-    }
-
-    /// Whether the next step takes the task's listing out.
-    pub fn is_leaving(&self) -> bool
-        ensures { result ≡ is_leaving self.now }
-    {
-        matches!(self, Step::UnderWay(Place::Leave(_, _, _)))
-    }
-
-    /// Whether the next step is the fast release.
-    pub fn is_freeing(&self) -> bool
-        ensures { result ≡ is_freeing self.now }
-    {
-        matches!(self, Step::UnderWay(Place::Fast(_)))
-    }
-
-    /// Whether the next step counts a holder in, because its fast release was not done.
-    pub fn is_adding(&self) -> bool
-        ensures { result ≡ is_adding self.now }
-    {
-        matches!(self, Step::UnderWay(Place::AddOne(_)))
     }
 
     /// How many steps the call may still take at most; 0 where none is under way.

@@ -3,7 +3,7 @@
 use crate::record::Ran;
 use crate::step::Step;
 
-/// A task of a replay: the waker of its last poll, what its init gave, and its step.
+/// A task: the waker of its last poll, what its init gave, and its step.
 #[derive(Drop)]
 pub struct Task {
     /// The waker of its last poll.

@@ -1,15 +1,21 @@
 //! Who waits: the flag and the list behind a queue's lock, and what a section does with them.
-ghost use Rattle.std.specs.Prelude.{◌≡◌, ◌≢◌, ◌↔◌, ◌+◌, ◌*◌, ◌<◌, ◌≤◌, max, ◌⊎◌, ◌++◌, ◌∷◌, []};
-ghost use Rattle.std.specs.Prelude.{ℕ, true, false, if◌then◌else◌};
-ghost use Rattle.std.specs.Prelude.{IsSome, IfSome, IsOk, IfOk, OnOk, OnErr, All, length, Some, None, vec_len};
+ghost use Rattle.std.specs.Prelude.{◌≡◌, ◌≢◌, ◌↔◌, ◌+◌, ◌*◌, ◌<◌, ◌≤◌, max, ◌⊎◌, ◌++◌, ◌∷◌, [], ℕ, true, false};
+ghost use Rattle.std.specs.Prelude.{if◌then◌else◌, IsSome, IfSome, IsOk, IfOk, OnOk, OnErr, All, length, Some, None};
+ghost use Rattle.std.specs.Prelude.{vec_len};
 ghost use Rattle.std.specs.List.{AllPairs, HoldsAt};
 ghost use Rattle.std.specs.Option.{MatchOption, option_copied, option_flatten, option_map, is_some};
 ghost use Rattle.once_machine.specs.Numbers.{member};
-ghost use Rattle.once_machine.specs.Slots.{listings_in};
-ghost use Rattle.once_machine.specs.Listings.{tickets};
-ghost use Rattle.once_machine.specs.Sections.{AreApart, HandsAll};
+ghost use Rattle.once_machine.specs.Slots.{listings_in, HasMark, HasSlot};
+ghost use Rattle.once_machine.specs.Listings.{tickets, Listing, find_listing, own_listing, take_out, list_without};
+ghost use Rattle.once_machine.specs.Listings.{first_waker, call_first, kept_ticket, ticket_for, passes_turn};
+ghost use Rattle.once_machine.specs.Listings.{next_waker, left_list, lent_listings};
+ghost use Rattle.once_machine.specs.Sections.{AreApart, HandsAll, DidLook, DidList, Releases, Renewed};
+ghost use Rattle.once_machine.specs.Ops.{ticket_in};
+ghost use Rattle.once_machine.specs.Word.{flags_of, sees, is_free};
+ghost use Rattle.once_machine.specs.Claims.{Claims, spent_by};
 
 use crate::slots::Slots;
+use crate::step::Out;
 use crate::word::{Sees, Word};
 use std::alloc::{AllocError, Global};
 use std::mem;
@@ -64,15 +70,6 @@ pub struct Listing<W> {
     pub waker: Option<W>,
 }
 
-/// Whom a section calls. The wakers in it are handed out, in their order.
-#[derive(Debug, Drop, PartialEq, Eq)]
-pub enum Out<W> {
-    /// One who waits, or nobody.
-    One(Option<W>),
-    /// All who wait: their listings, the oldest first, without a waker that is the same as one before it.
-    All(Vec<Listing<W>>),
-}
-
 /// What one section under the queue's lock is to do. A `Look` and a `List` carry the ticket of the waiting task, if it
 /// has one; the section leaves there the ticket that the task has after it.
 #[derive(Debug, Drop, PartialEq, Eq)]
@@ -88,8 +85,6 @@ pub enum Op<W> {
 }
 
 impl<W> Op<W> {
-    ghost use Rattle.once_machine.specs.Ops.{ticket_in};
-
     /// The ticket that a `Look` or a `List` carries.
     pub fn ticket(&self) -> Option<u64>
         ensures { result ≡ ticket_in self.now }
@@ -138,14 +133,7 @@ pub struct Lists<W: WakerId> {
 }
 
 impl<W: WakerId + Drop> Lists<W> {
-    ghost use Rattle.once_machine.specs.Word.{flags_of, sees, is_free};
-    ghost use Rattle.once_machine.specs.Listings.{Listing, find_listing, own_listing, take_out, list_without};
-    ghost use Rattle.once_machine.specs.Listings.{first_waker, call_first, kept_ticket, ticket_for, passes_turn};
-    ghost use Rattle.once_machine.specs.Listings.{next_waker, left_list, lent_listings};
-    ghost use Rattle.once_machine.specs.Slots.{HasMark, HasSlot};
-    ghost use Rattle.once_machine.specs.Claims.{Claims, spent_by};
     ghost use Rattle.once_machine.specs.Room.{HasSpace, capacity_of, listings_of, claimant};
-    ghost use Rattle.once_machine.specs.Sections.{DidLook, DidList, Releases, Renewed};
 
     /// No holder, and nobody listed. It takes no memory.
     #[inline(always)]
@@ -191,8 +179,7 @@ impl<W: WakerId + Drop> Lists<W> {
             (claimant self.old ticket.old) result.0 (claimant self.new ticket.new) }
         ensures spent { result.1
             ≡ spent_by (sees (flags_of word) self.old.head) (own_listing ticket.old (listings_of self.old)) }
-        ensures held { sees (flags_of word) self.old.head ≡ Sees.Taken
-            → result.0
+        ensures held { sees (flags_of word) self.old.head ≡ Sees.Taken → result.0
             ≡ (if is_some (option_flatten (own_listing ticket.old (listings_of self.old)))
             then Answer.Listed else Answer.Held) }
         ensures stays { sees (flags_of word) self.old.head ≡ Sees.Taken
@@ -216,15 +203,12 @@ impl<W: WakerId + Drop> Lists<W> {
         requires { IsSome waker.old }
         ensures claims { Claims (sees (flags_of word) self.old.head)
             (claimant self.old ticket.old) result (claimant self.new ticket.new) }
-        ensures held { sees (flags_of word) self.old.head ≡ Sees.Taken
-            → IfSome waker.old
-            (λ w. DidList ticket.old w (listings_of self.old)
-            result ticket.new waker.new (listings_of self.new)) }
+        ensures held { sees (flags_of word) self.old.head ≡ Sees.Taken → IfSome waker.old
+            (λ w. DidList ticket.old w (listings_of self.old) result ticket.new waker.new (listings_of self.new)) }
         ensures head { sees (flags_of word) self.old.head ≡ Sees.Taken → self.new.head ≡ self.old.head }
         ensures waker { sees (flags_of word) self.old.head ≢ Sees.Taken → waker.new ≡ waker.old }
         ensures room { HasSpace self.old → result ≢ Answer.Memory }
-        ensures memory { capacity_of self.new
-            ≤ max (capacity_of self.old) (4 * (length (listings_of self.old) + 1)) }
+        ensures memory { capacity_of self.new ≤ max (capacity_of self.old) (4 * (length (listings_of self.old) + 1)) }
     {
         let (answer, _) = self.list_own(ticket, waker, word);
         answer
@@ -243,15 +227,12 @@ impl<W: WakerId + Drop> Lists<W> {
             (claimant self.old ticket.old) result.0 (claimant self.new ticket.new) }
         ensures spent { result.1
             ≡ spent_by (sees (flags_of word) self.old.head) (own_listing ticket.old (listings_of self.old)) }
-        ensures held { sees (flags_of word) self.old.head ≡ Sees.Taken
-            → IfSome waker.old
-            (λ w. DidList ticket.old w (listings_of self.old)
-            result.0 ticket.new waker.new (listings_of self.new)) }
+        ensures held { sees (flags_of word) self.old.head ≡ Sees.Taken → IfSome waker.old
+            (λ w. DidList ticket.old w (listings_of self.old) result.0 ticket.new waker.new (listings_of self.new)) }
         ensures head { sees (flags_of word) self.old.head ≡ Sees.Taken → self.new.head ≡ self.old.head }
         ensures waker { sees (flags_of word) self.old.head ≢ Sees.Taken → waker.new ≡ waker.old }
         ensures room { HasSpace self.old → result.0 ≢ Answer.Memory }
-        ensures memory { capacity_of self.new
-            ≤ max (capacity_of self.old) (4 * (length (listings_of self.old) + 1)) }
+        ensures memory { capacity_of self.new ≤ max (capacity_of self.old) (4 * (length (listings_of self.old) + 1)) }
     {
         if let Some(claimed) = self.claim(ticket, word) {
             return claimed;
@@ -290,12 +271,10 @@ impl<W: WakerId + Drop> Lists<W> {
     /// was not called yet gives its waker, and stays. It takes no memory.
     #[inline(always)]
     pub fn leave(&mut self, ticket: u64, word: u64) -> Option<W>
-        ensures waker { result
-            ≡ next_waker
+        ensures waker { result ≡ next_waker
             (passes_turn (is_free (sees (flags_of word) self.old.head)) ticket (listings_of self.old))
             ticket (listings_of self.old) }
-        ensures listings { listings_of self.new
-            ≡ left_list
+        ensures listings { listings_of self.new ≡ left_list
             (passes_turn (is_free (sees (flags_of word) self.old.head)) ticket (listings_of self.old))
             ticket (listings_of self.old) }
         ensures head { self.new.head ≡ self.old.head }
@@ -308,13 +287,11 @@ impl<W: WakerId + Drop> Lists<W> {
     /// As [`leave`](Self::leave). It answers the waker that the own listing had too.
     #[inline(always)]
     pub fn leave_own(&mut self, ticket: u64, word: u64) -> (Option<W>, Option<W>)
-        ensures waker { result.0
-            ≡ next_waker
+        ensures waker { result.0 ≡ next_waker
             (passes_turn (is_free (sees (flags_of word) self.old.head)) ticket (listings_of self.old))
             ticket (listings_of self.old) }
         ensures own { result.1 ≡ option_flatten (find_listing ticket (listings_of self.old)) }
-        ensures listings { listings_of self.new
-            ≡ left_list
+        ensures listings { listings_of self.new ≡ left_list
             (passes_turn (is_free (sees (flags_of word) self.old.head)) ticket (listings_of self.old))
             ticket (listings_of self.old) }
         ensures head { self.new.head ≡ self.old.head }
@@ -336,8 +313,7 @@ impl<W: WakerId + Drop> Lists<W> {
         ensures succeeds { HasSpace self.old → IsOk result }
         ensures head { self.new.head ≡ self.old.head }
         ensures listings { listings_of self.new ≡ listings_of self.old }
-        ensures memory { capacity_of self.new
-            ≤ max (capacity_of self.old) (4 * (length (listings_of self.old) + 1)) }
+        ensures memory { capacity_of self.new ≤ max (capacity_of self.old) (4 * (length (listings_of self.old) + 1)) }
     {
         self.slots.reserve()
     }
@@ -425,8 +401,7 @@ impl<W: WakerId + Drop> Lists<W> {
 
     #[inline(always)]
     fn own(&self, ticket: Option<u64>) -> Option<&W>
-        ensures { option_copied result
-            ≡ option_flatten (own_listing ticket (listings_of self.now)) }
+        ensures { option_copied result ≡ option_flatten (own_listing ticket (listings_of self.now)) }
     {
         self.slots.find(ticket?)?.waker.as_ref()
     }
@@ -435,8 +410,7 @@ impl<W: WakerId + Drop> Lists<W> {
     #[inline(always)]
     fn make_place(&mut self, ticket: Option<u64>) -> Result<u64, AllocError>
         ensures ticket { IfOk result (λ n. n ≡ ticket_for ticket (listings_of self.old)) }
-        ensures listings { IfOk result (λ n. listings_of self.new
-            ≡ take_out n (listings_of self.old)) }
+        ensures listings { IfOk result (λ n. listings_of self.new ≡ take_out n (listings_of self.old)) }
         ensures new { IfOk result (λ n. member n (tickets (listings_of self.new)) ≡ false) }
         ensures slot { OnOk result (HasSlot self.new.slots) }
         ensures mark { IfOk result (λ n. (n < vec_len self.new.slots.used)
@@ -445,8 +419,7 @@ impl<W: WakerId + Drop> Lists<W> {
             × (listings_of self.new ≡ listings_of self.old)) }
         ensures room { HasSpace self.old → IsOk result }
         ensures head { self.new.head ≡ self.old.head }
-        ensures memory { capacity_of self.new
-            ≤ max (capacity_of self.old) (4 * (length (listings_of self.old) + 1)) }
+        ensures memory { capacity_of self.new ≤ max (capacity_of self.old) (4 * (length (listings_of self.old) + 1)) }
     {
         if let Some(kept) = self.take_own(ticket) {
             self.slots.make_room();
@@ -462,8 +435,7 @@ impl<W: WakerId + Drop> Lists<W> {
         ensures listings { listings_of self.new ≡ list_without ticket (listings_of self.old) }
         ensures head { self.new.head ≡ self.old.head }
         ensures mark { IfSome result (λ n. n < vec_len self.new.slots.used) }
-        ensures hole { IsSome result
-            → length (listings_of self.new) < vec_len self.new.slots.slots }
+        ensures hole { IsSome result → length (listings_of self.new) < vec_len self.new.slots.slots }
         ensures none { result ≡ None → listings_of self.new ≡ listings_of self.old }
         ensures room { result ≡ None → HasSpace self.old → HasSpace self.new }
         ensures memory { capacity_of self.new ≡ capacity_of self.old }
@@ -475,15 +447,13 @@ impl<W: WakerId + Drop> Lists<W> {
 
     #[inline(always)]
     fn take_out(&mut self, ticket: u64) -> Option<Listing<W>>
-        ensures waker { option_map (λ x. x.waker) result
-            ≡ find_listing ticket (listings_of self.old) }
+        ensures waker { option_map (λ x. x.waker) result ≡ find_listing ticket (listings_of self.old) }
         ensures listings { listings_of self.new ≡ take_out ticket (listings_of self.old) }
         ensures head { self.new.head ≡ self.old.head }
         ensures none { result ≡ None → listings_of self.new ≡ listings_of self.old }
         ensures room { result ≡ None → HasSpace self.old → HasSpace self.new }
         ensures mark { IsSome result → ticket < vec_len self.new.slots.used }
-        ensures hole { IsSome result
-            → length (listings_of self.new) < vec_len self.new.slots.slots }
+        ensures hole { IsSome result → length (listings_of self.new) < vec_len self.new.slots.slots }
         ensures memory { capacity_of self.new ≡ capacity_of self.old }
     {
         self.slots.take_out(ticket)
@@ -533,19 +503,16 @@ fn once_each<W: WakerId + Drop>(listings: &mut Vec<Listing<W>>, mixed: bool)
 
 #[inline(always)]
 fn may_repeat<W: WakerId>(listing: &Listing<W>, before: &[Listing<W>]) -> bool
-    ensures { result ≡ false
-        → IfSome listing.now.waker
+    ensures { result ≡ false → IfSome listing.now.waker
         (λ w. All (λ x. IfSome x.waker (λ v. W.tells_other v w)) before.now) }
 {
     !W::are_all_other() && repeats(listing, before)
 }
 
 fn repeats<W: WakerId>(listing: &Listing<W>, before: &[Listing<W>]) -> bool
-    ensures yes { result ≡ true
-        → MatchOption listing.now.waker ⊥ (λ w. (k : ℕ) × (k < length before.now)
+    ensures yes { result ≡ true → MatchOption listing.now.waker ⊥ (λ w. (k : ℕ) × (k < length before.now)
         × HoldsAt (λ x. MatchOption x.waker ⊥ (λ v. W.tells_same v w)) before.now k) }
-    ensures no { result ≡ false
-        → IfSome listing.now.waker
+    ensures no { result ≡ false → IfSome listing.now.waker
         (λ w. All (λ x. IfSome x.waker (λ v. W.tells_other v w)) before.now) }
 {
     match &listing.waker {

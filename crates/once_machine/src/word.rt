@@ -1,5 +1,6 @@
 //! The word of a cell: how many tasks are counted in, and two bits.
-ghost use Rattle.std.specs.Prelude.{◌≡◌, ◌<◌, ◌+◌, ◌-◌, ◌^◌, true, false, if◌then◌else◌};
+ghost use Rattle.std.specs.Prelude.{◌≡◌, false};
+ghost use Rattle.once_machine.specs.Word.{Flags, flags_of, flags_alone, is_zero, is_ready_bit, sees};
 
 use std::marker::Model;
 
@@ -33,16 +34,12 @@ pub struct Word {
 }
 
 impl Model for Word {
-    ghost use Rattle.once_machine.specs.Word.{Flags, flags_of};
-
     ghost Value = { Flags };
 
     ghost view = { λ w. flags_of w.bits };
 }
 
 impl Word {
-    ghost use Rattle.once_machine.specs.Word.{flags_of, flags_alone, is_zero, is_quick_bit, is_ready_bit, sees};
-
     /// The word of a new cell, which is made with a value or not. Nobody is counted in.
     #[inline(always)]
     pub fn new(ready: bool) -> Self
@@ -121,60 +118,5 @@ impl Word {
         ensures { result ≡ is_ready_bit self.now }
     {
         self.bits == READY_BIT
-    }
-
-    /// Exchanges `NEW` for the quick bit, and says whether it did. Any other word stays.
-    #[inline(always)]
-    pub fn quick(&mut self) -> bool
-        ensures won { result ≡ is_zero self.old }
-        ensures new { self.new ≡ (if result then flags_alone true false else self.old) }
-    {
-        if self.bits == NEW {
-            self.bits = QINIT_BIT;
-            return true;
-        }
-        false
-    }
-
-    /// Exchanges the quick bit for the ready bit or for `NEW`, and says whether it did. Any other word stays.
-    #[inline(always)]
-    pub fn fast(&mut self, ready: bool) -> bool
-        ensures won { result ≡ is_quick_bit self.old }
-        ensures new { self.new ≡ (if result then flags_alone false ready else self.old) }
-    {
-        if self.bits == QINIT_BIT {
-            self.bits = if ready { READY_BIT } else { NEW };
-            return true;
-        }
-        false
-    }
-
-    /// Counts one task in.
-    #[inline(always)]
-    pub fn count_in(&mut self)
-        requires { self.old.count < 2 ^ 62 - 1 }
-        ensures { self.new ≡ record self.old { count = self.old.count + 1 } }
-    {
-        self.bits += 1;
-    }
-
-    /// Counts one task out.
-    #[inline(always)]
-    pub fn count_out(&mut self)
-        requires { 0 < self.old.count }
-        ensures { self.new ≡ record self.old { count = self.old.count - 1 } }
-    {
-        self.bits -= 1;
-    }
-
-    /// Clears the quick bit, and sets the ready bit or not.
-    #[inline(always)]
-    pub fn give_back(&mut self, ready: bool)
-        ensures { self.new ≡ record self.old { quick = false; ready = ready } }
-    {
-        self.bits %= QINIT_BIT;
-        if ready {
-            self.bits += READY_BIT;
-        }
     }
 }

@@ -12,7 +12,7 @@ use Rattle.once_machine.specs.declared.waiters.Answer.{Answer}
 use Rattle.once_machine.specs.declared.waiters.Answer.TheVariants.{Listed, Held, Memory, Left}
 use Rattle.once_machine.specs.declared.waiters.Op.{Op}
 use Rattle.once_machine.specs.declared.waiters.Op.TheVariants.{Look, List as ListOwn, Release, Leave}
-use Rattle.once_machine.specs.declared.waiters.Out.{Out}
+use Rattle.once_machine.specs.declared.step.Out.{Out}
 use Rattle.once_machine.specs.Listings.{find_listing, kept_ticket, left_list, next_waker, own_listing, passes_turn, tickets}
 use Rattle.once_machine.specs.Claims.{Claims}
 use Rattle.once_machine.specs.Room.{listings_of, claimant}

@@ -8,7 +8,7 @@
 --   Values    a new book, and how the value is put and looked for: `put` of `Hand`, and `Inner`
 --   Seen      what holds of the whole log holds of what was seen of it: `is_run`, `stays_set`, `is_set_where_answered`
 --   TwoTasks  a task has seen all of its own entries, and two tasks of one cell have two pages: `learn`, `are_two`
---   Once      a task polls its init once at most in each call: `polls_once`
+--   Once      a task polls its init once at most in each call: `once` of `is_run`
 --   Refusals  after a look the refusal of the copy may be told: `section` of the parts of `Shared`
 --   Sides     what the calls of a side tell, by what is told of the side; those who write sides cite it
 --   Promise   what a side may hand over fits, after its calls too: `fits` of the ways, and of `Task::poll`

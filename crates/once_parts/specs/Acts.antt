@@ -1,4 +1,4 @@
--- What each moment of a task alone tells of it: of the number found in the word, from one view of the book to the next.
+-- What each moment without the lock tells: of the number found in the word, from one view of the book to the next.
 use Rattle.std.specs.Prelude.{◌≡◌, ℕ, suc, ◌==◌, true, false, cond, nat_lt, List, [], ◌∷◌, reverse, None}
 use Rattle.pagebook.specs.Pages.{View}
 use Rattle.once_machine.specs.Word.{flags_of}
@@ -7,12 +7,15 @@ use Rattle.once_machine.specs.Table.{Told, CountedIn, PutQueue, PutValue, Ran, R
 use Rattle.once_machine.specs.Record.{Begin, Entry, Made}
 use Rattle.once_machine.specs.Book.{TaskState}
 use Rattle.once_machine.specs.Machine.{drop_entries, fresh_task}
-use Rattle.once_parts.specs.Page.{Went}
+use Rattle.once_parts.specs.Page.{Went, WordTells}
+use Rattle.once_parts.specs.Record.{Looks}
+use Rattle.once_parts.specs.TwoTasks.{AreTwo, HasLearned}
 use Rattle.once_parts.specs.Places.{task_begun, task_dropping}
 use Rattle.once_parts.specs.Kept.{Grew, Sheet, entries_of, hand, most, sheets, writing_sheet}
 use Rattle.once_parts.specs.declared.hand.Act.{Act}
-use Rattle.once_parts.specs.declared.hand.Act.TheVariants.{Full, Enter, NonePut, Refused, Unput}
+use Rattle.once_parts.specs.declared.hand.Act.TheVariants.{ByTable, Enter, Full, Learn, Meet, NonePut, Refused, Unput}
 use Rattle.once_parts.specs.declared.hand.Act.TheVariants.{Begin as BeginPoll, BeginDrop, Ran as InitRan}
+use Rattle.once_parts.specs.declared.hand.Act.TheVariants.{Look as LookFor, Make as MakeTask}
 use Rattle.once_parts.specs.Own.{IsHand, Stayed, Turned, number_in, own_in, task_in}
 
 -- the hand is the task's still, whose page has turned so
@@ -27,8 +30,15 @@ Goes v e w = IsHand w.0 w.1 × Went (own_in v) e [] (own_in w)
 abbrev pub Stays : View Entry Sheet → View Entry Sheet → Type 0
 Stays v w = IsHand w.0 w.1 × Stayed (own_in v) (own_in w)
 
+-- a task is made, by a hand that has no page
+abbrev pub Makes : View Entry Sheet → View Entry Sheet → Type 0
+Makes v w = (t : ℕ) × (w.1 ≡ sheets w.0 (hand t fresh_task)) × Grew (Made t ∷ []) v.0 w.0
+
 -- each moment
 abbrev pub Tells : Act → View Entry Sheet → ℕ → View Entry Sheet → Type 0
+Tells LookFor v n w = Looks v n w
+Tells MakeTask v n w = Makes v w
+Tells ByTable v n w = WordTells v n w
 Tells Full v n w =
     cond (nat_lt (flags_of n).count most) (Stays v w) (Goes v (CountedIn false (flags_of n).ready) w)
 Tells (Enter m) v n w = cond (n == m) (Goes v (CountedIn true (flags_of m).ready) w) (Stays v w)
@@ -41,10 +51,8 @@ Tells BeginDrop v n w =
 Tells (InitRan a) v n w = Goes v (Ran a) w
 Tells Refused v n w = Goes v RefusedCopy w
 Tells Unput v n w = Goes v (PutQueue None) w
-
--- a task is made, by a hand that has no page
-abbrev pub Makes : View Entry Sheet → View Entry Sheet → Type 0
-Makes v w = (t : ℕ) × (w.1 ≡ sheets w.0 (hand t fresh_task)) × Grew (Made t ∷ []) v.0 w.0
+Tells Learn v n w = HasLearned v w
+Tells Meet v n w = AreTwo v w
 
 -- the slot is empty still, and the task begins to write it
 abbrev pub Writes : View Entry Sheet → View Entry Sheet → Type 0

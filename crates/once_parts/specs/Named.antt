@@ -5,8 +5,8 @@ use Rattle.std.specs.Option.{option_map, option_to_list}
 use Rattle.once_machine.specs.declared.waiters.Listing.{Listing}
 use Rattle.once_machine.specs.declared.waiters.Answer.{Answer}
 use Rattle.once_machine.specs.declared.waiters.Answer.TheVariants.{Released, Left}
-use Rattle.once_machine.specs.declared.waiters.Out.{Out}
-use Rattle.once_machine.specs.declared.waiters.Out.TheVariants.{One, All}
+use Rattle.once_machine.specs.declared.step.Out.{Out}
+use Rattle.once_machine.specs.declared.step.Out.TheVariants.{One, All}
 use Rattle.once_machine.specs.Listings.{wakers_of}
 
 module _ {W : Type 0} (whose : W → ℕ) where

@@ -3,7 +3,7 @@ use Rattle.std.specs.Prelude.{◌≡◌, ℕ, Bool, true, false, List, [], Optio
 use Rattle.pagebook.specs.Slot.{Placed}
 use Rattle.once_machine.specs.declared.step.Polled.{Polled}
 use Rattle.once_machine.specs.declared.step.Polled.TheVariants.{Pending, Value, Error}
-use Rattle.once_machine.specs.declared.waiters.Out.{Out}
+use Rattle.once_machine.specs.declared.step.Out.{Out}
 use Rattle.once_machine.specs.Steps.{SideTells}
 use Rattle.once_parts.specs.Named.{named_out}
 

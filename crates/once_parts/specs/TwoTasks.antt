@@ -1,13 +1,9 @@
 -- What a task knows by its hand, where it learns of others, and where two hands are of one book.
-use Rattle.std.specs.Prelude.{◌≡◌, ◌≢◌, List, drop, take}
-use Rattle.pagebook.specs.Pages.{Held, View}
+use Rattle.std.specs.Prelude.{◌≡◌, ◌≢◌, drop, take}
+use Rattle.pagebook.specs.Pages.{View}
 use Rattle.once_machine.specs.Record.{Entry}
 use Rattle.once_parts.specs.Kept.{Sheet}
 use Rattle.once_parts.specs.Own.{IsHand, number_in}
-
--- a hand is a task's, by some log that was seen
-abbrev pub IsSomeHand : Held Sheet → Type 0
-IsSomeHand h = (log : List Entry) × IsHand log h
 
 -- the page stays as it is, and the log as it is seen now has no entry of the task that was not seen before
 abbrev pub HasLearned : View Entry Sheet → View Entry Sheet → Type 0

@@ -1,12 +1,14 @@
 //! The book of a cell, and what is known of a record that was seen. A line of its log and a page are types of a
 //! specification, so the two types here are for clauses alone: nobody makes a value of them. The functions do nothing.
-ghost use Rattle.std.specs.Prelude.{ℕ, reverse};
+ghost use Rattle.std.specs.Prelude.{ℕ, reverse, None, false, [], ◌∷◌};
 ghost use mathlib.Core.List.{IsPrefix};
-ghost use Rattle.once_machine.specs.Record.{Once};
+ghost use Rattle.once_machine.specs.Record.{Once, Entry, Look};
 ghost use Rattle.once_machine.specs.Run.{AtEvery, IsRun};
 ghost use Rattle.once_machine.specs.Called.{SomebodyCalled};
-ghost use Rattle.once_parts.specs.Kept.{most};
+ghost use Rattle.once_parts.specs.Kept.{most, Sheet, sheet, IsKept};
 ghost use Rattle.once_parts.specs.Record.{EndsSet, IsSet, PollsOnce, WasFilled};
+ghost use Rattle.once_machine.specs.Book.{Queue};
+ghost use Rattle.once_parts.specs.Desk.{desk_pages, first_desk};
 
 use pagebook::{Opening, Pens, Rule, Seen, Slot, Word};
 use std::marker::Model;
@@ -15,9 +17,6 @@ use std::marker::Model;
 pub struct Line;
 
 impl Model for Line {
-    ghost use Rattle.std.specs.Prelude.{None};
-    ghost use Rattle.once_machine.specs.Record.{Entry, Look};
-
     ghost Value = { Entry };
 
     ghost view = { λ _. Look None };
@@ -27,10 +26,6 @@ impl Model for Line {
 pub struct Leaf;
 
 impl Model for Leaf {
-    ghost use Rattle.std.specs.Prelude.{false, []};
-    ghost use Rattle.once_machine.specs.Book.{Queue};
-    ghost use Rattle.once_parts.specs.Kept.{Sheet, sheet};
-
     ghost Value = { Sheet };
 
     ghost view = { λ _. sheet [] (Queue false []) };
@@ -40,15 +35,10 @@ impl Model for Leaf {
 pub struct CellRule;
 
 impl Rule<Line, Leaf> for CellRule {
-    ghost use Rattle.once_parts.specs.Kept.{IsKept};
-
     ghost holds = { λ ns ss log. IsKept ns ss log };
 }
 
 impl Opening<(), Line, Leaf> for CellRule {
-    ghost use Rattle.std.specs.Prelude.{[], ◌∷◌};
-    ghost use Rattle.once_parts.specs.Desk.{desk_pages, first_desk};
-
     ghost words = { λ _. 0 ∷ 0 ∷ 0 ∷ [] };
 
     ghost pages = { λ _. desk_pages first_desk };
@@ -69,19 +59,13 @@ pub type Record = Seen<Line, Leaf, CellRule>;
 pub type CellPens = Pens<Leaf>;
 
 /// A record that was seen is a run of the cell. At each of its beginnings somebody was called if somebody had to be.
+/// Each task polls its init once at most in each of its calls.
 #[inline(always)]
 pub fn is_run(seen: &Record)
     ensures run { IsRun Once most (reverse seen.now.log) }
     ensures called { AtEvery (SomebodyCalled Once) (reverse seen.now.log) }
     ensures filled { IsSet seen.now.log → WasFilled seen.now.log }
-{
-    seen.again().learn(seen);
-}
-
-/// In what was seen of a record each task polls its init once at most in each call.
-#[inline(always)]
-pub fn polls_once(seen: &Record)
-    ensures { PollsOnce seen.now.log }
+    ensures once { PollsOnce seen.now.log }
 {
     seen.again().learn(seen);
 }

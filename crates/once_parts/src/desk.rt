@@ -6,21 +6,24 @@ ghost use Rattle.once_machine.specs.Claims.{Claims};
 ghost use Rattle.once_machine.specs.Listings.{kept_ticket};
 ghost use Rattle.once_machine.specs.Room.{HasSpace, claimant, listings_of};
 ghost use Rattle.once_machine.specs.Word.{flags_of, sees};
-ghost use Rattle.once_parts.specs.Sections.{more_released, CanNote, IsLoading, Moment};
+ghost use Rattle.once_parts.specs.Sections.{more_released, CanNote, IsLoading, Moment, Tells};
 ghost use Rattle.once_parts.specs.Own.{IsWord};
-ghost use Rattle.once_parts.specs.Desk.{IsDesk, desked};
+ghost use Rattle.once_parts.specs.Desk.{IsDesk, desked, IsDesked, desk_sheets, first_desk};
 ghost use Rattle.once_machine.specs.Table.{DoorPut, Section as SectionCall, DoorGet, DoorTake, Got, PutQueue, Taken};
 ghost use Rattle.once_machine.specs.Table.{Was};
 ghost use Rattle.once_machine.specs.declared.waiters.Op.{Op};
 ghost use Rattle.once_parts.specs.Page.{call_in, queue_of, Went};
 ghost use Rattle.once_parts.specs.Hands.{own_of};
-ghost use Rattle.once_parts.specs.Places.{numbered};
+ghost use Rattle.once_parts.specs.Places.{numbered, CanRest};
 ghost use Rattle.once_parts.specs.Parts.{CanCall, DidCall};
+ghost use Rattle.once_machine.specs.declared.waiters.Answer.{Answer};
+ghost use Rattle.once_parts.specs.Named.{HasRenewed, KeepsOwner};
 
 use crate::book::{CellPens, CellWord, Leaf, Line};
 use crate::hand::{Hand, TaskWaker};
 use crate::shared::Inner;
-use once_machine::waiters::{Answer, Lists, Op, Out, Renews, WakerId};
+use once_machine::step::Out;
+use once_machine::waiters::{Answer, Lists, Op, Renews, WakerId};
 use once_machine::word::{QINIT_BIT, READY_BIT, Sees, Word};
 use pagebook::{Fits, Key, Keyed, Play};
 use std::marker::Model;
@@ -46,8 +49,6 @@ pub(crate) enum Section {
 }
 
 impl Play<Section, Line, Leaf> for Section {
-    ghost use Rattle.once_parts.specs.Sections.{Tells};
-
     ghost then = { Tells };
 }
 
@@ -58,9 +59,6 @@ pub struct Desk<W: TaskWaker> {
 }
 
 impl<W: TaskWaker> Model for Desk<W> {
-    ghost use Rattle.pagebook.specs.Pages.{Book};
-    ghost use Rattle.once_parts.specs.Desk.{IsDesk, IsDesked, desked};
-
     ghost Value = { Book };
 
     ghost view = { λ d. d.pens.book };
@@ -73,11 +71,6 @@ impl<W: TaskWaker> Keyed for Desk<W> {
 }
 
 impl<W: TaskWaker + Drop> Desk<W> {
-    ghost use Rattle.once_machine.specs.declared.waiters.Answer.{Answer};
-    ghost use Rattle.once_parts.specs.Named.{HasRenewed, KeepsOwner};
-    ghost use Rattle.once_parts.specs.Desk.{desk_sheets, first_desk};
-    ghost use Rattle.once_parts.specs.Places.{CanRest};
-
     /// No queue, and the first two pages of a new book.
     #[inline(always)]
     pub fn new(pens: CellPens) -> Self
@@ -87,11 +80,6 @@ impl<W: TaskWaker + Drop> Desk<W> {
         Desk { lists: None, pens }
     }
 
-    /// Whether a queue stands at the door, for Debug.
-    pub fn has_queue(&self) -> bool {
-        self.lists.is_some()
-    }
-
     /// Whether a queue stands at the door.
     #[inline(always)]
     pub fn get(&mut self, hand: &mut Hand) -> bool
@@ -99,8 +87,7 @@ impl<W: TaskWaker + Drop> Desk<W> {
         requires can { call_in (own_of hand.old).task.step ≡ DoorGet }
         ensures desk { self.new ≡ self.old }
         ensures book { hand.new.seen.book ≡ hand.old.seen.book }
-        ensures did { (q : ℕ)
-            × Went (own_of hand.old) (Got (numbered q result)) [] (own_of hand.new) }
+        ensures did { (q : ℕ) × Went (own_of hand.old) (Got (numbered q result)) [] (own_of hand.new) }
     {
         note(&mut self.pens, hand, &Section::Get);
         self.lists.is_some()
@@ -410,8 +397,7 @@ impl<T, W: TaskWaker + Drop, V: Fits<T>> Inner<T, W, V> {
         requires book { hand.old.seen.book ≡ J.key }
         requires can { call_in (own_of hand.old).task.step ≡ DoorGet }
         ensures book { hand.new.seen.book ≡ hand.old.seen.book }
-        ensures did { (q : ℕ)
-            × Went (own_of hand.old) (Got (numbered q result)) [] (own_of hand.new) }
+        ensures did { (q : ℕ) × Went (own_of hand.old) (Got (numbered q result)) [] (own_of hand.new) }
     {
         self.desk.lock::<J, R>(rt).value.get(hand)
     }
@@ -477,11 +463,11 @@ impl<T, W: TaskWaker + Drop, V: Fits<T>> Inner<T, W, V> {
         }
     }
 
-    // If the lock is free.
+    // Whether a queue stands at the door, if the lock is free.
     pub(crate) fn stands<J: Key>(&self) -> Option<bool>
         requires { self.now.desk ≡ J.key }
     {
         let tied = self.desk.try_lock::<J>()?;
-        Some(tied.value.has_queue())
+        Some(tied.value.lists.is_some())
     }
 }

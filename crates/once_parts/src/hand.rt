@@ -1,8 +1,16 @@
 //! A task's pen, with what the task has seen of the log, and the moments that it makes by itself; and whose a waker is.
-ghost use Rattle.std.specs.Prelude.{◌≡◌, ◌≢◌, ℕ};
-ghost use Rattle.once_parts.specs.Own.{IsHand, number_in};
+ghost use Rattle.std.specs.Prelude.{◌≡◌, ◌≢◌, ℕ, None, true, false, [], ◌∷◌};
+ghost use Rattle.once_parts.specs.Own.{IsHand, number_in, IsWord, Stayed};
 ghost use mathlib.Core.List.{IsPrefix};
-ghost use Rattle.once_parts.specs.TwoTasks.{IsSomeHand};
+ghost use Rattle.once_parts.specs.Acts.{Tells};
+ghost use Rattle.std.specs.Option.{MatchOption};
+ghost use Rattle.once_machine.specs.Table.{CountIn, DoorPut, DoorTake, PutQueue, Refused, Taken, counted};
+ghost use Rattle.once_machine.specs.Machine.{fresh_task};
+ghost use Rattle.once_machine.specs.Record.{Made};
+ghost use Rattle.once_parts.specs.Kept.{Grew, entries_of};
+ghost use Rattle.once_parts.specs.Page.{Went, call_in};
+ghost use Rattle.once_parts.specs.Places.{CanRefuse};
+ghost use Rattle.once_parts.specs.Record.{IsSet};
 
 use crate::book::{CellPens, CellWord, Leaf, Line, Record, stays_set};
 use once_machine::parts::Counted;
@@ -13,9 +21,15 @@ use pagebook::Play;
 use std::marker::Model;
 use std::snapshot::Snapshot;
 
-/// What a task does by itself, but for a step of the word that is the call of its place.
+/// What is done without the lock, but for a put of the value.
 #[derive(Drop)]
 pub enum Act {
+    /// Looks for the value, by no task.
+    Look,
+    /// Makes a task.
+    Make,
+    /// Makes the step of the word that is the call of its place.
+    ByTable,
     /// Loads the word, to count itself in: it may find as many counted as may be.
     Full,
     /// Counts itself in, if the word is still this one.
@@ -32,20 +46,14 @@ pub enum Act {
     Refused,
     /// Was refused the memory of a queue.
     Unput,
+    /// Learned more of the log, where it finds no entry of its own that it had not seen.
+    Learn,
+    /// Met another task's pen.
+    Meet,
 }
 
 impl Play<Act, Line, Leaf> for Act {
-    ghost use Rattle.once_parts.specs.Acts.{Tells};
-
     ghost then = { Tells };
-}
-
-pub(crate) struct Makes;
-
-impl Play<(), Line, Leaf> for Makes {
-    ghost use Rattle.once_parts.specs.Acts.{Makes as Made};
-
-    ghost then = { λ _ v n w. Made v w };
 }
 
 /// The number of a task, as a clause sees it. It has no bytes.
@@ -55,18 +63,12 @@ pub struct Mark {
 }
 
 impl Model for Mark {
-    ghost use Rattle.std.specs.Prelude.{ℕ};
-    ghost use Rattle.once_parts.specs.Own.{number_in};
-
     ghost Value = { ℕ };
 
     ghost view = { λ m. number_in m.pens.value.held };
 }
 
 impl Mark {
-    ghost use Rattle.std.specs.Prelude.{◌≡◌};
-    ghost use Rattle.once_parts.specs.Own.{number_in};
-
     /// The number of the task whose pen this is.
     #[inline(always)]
     pub fn of(pens: &CellPens) -> Mark
@@ -89,16 +91,6 @@ pub struct Hand {
 }
 
 impl Hand {
-    ghost use Rattle.std.specs.Prelude.{None, true, false, [], ◌∷◌};
-    ghost use Rattle.std.specs.Option.{MatchOption};
-    ghost use Rattle.once_machine.specs.Table.{CountIn, DoorPut, DoorTake, PutQueue, Refused};
-    ghost use Rattle.once_machine.specs.Table.{Taken, counted};
-    ghost use Rattle.once_machine.specs.Record.{Made};
-    ghost use Rattle.once_machine.specs.Machine.{fresh_task};
-    ghost use Rattle.once_parts.specs.Kept.{Grew};
-    ghost use Rattle.once_parts.specs.Own.{IsWord, Stayed};
-    ghost use Rattle.once_parts.specs.Page.{Went, call_in};
-    ghost use Rattle.once_parts.specs.Places.{CanRefuse};
     ghost use Rattle.once_parts.specs.Hands.{HasRight, HasRun, own_of};
 
     /// A new task's, by what was seen of the log before.
@@ -110,7 +102,7 @@ impl Hand {
     {
         let mut seen = front.again();
         let mut pens = seen.no_pens();
-        seen.note::<(), Makes>(&mut pens, &());
+        seen.note::<Act, Act>(&mut pens, &Act::Make);
         Hand { seen, pens }
     }
 
@@ -185,14 +177,6 @@ impl Hand {
     {
         self.seen.note::<Act, Act>(&mut self.pens, &Act::Unput);
     }
-}
-
-impl Hand {
-    ghost use Rattle.std.specs.Prelude.{◌≢◌};
-    ghost use mathlib.Core.List.{IsPrefix};
-    ghost use Rattle.once_parts.specs.Hands.{own_of};
-    ghost use Rattle.once_parts.specs.Kept.{entries_of};
-    ghost use Rattle.once_parts.specs.Record.{IsSet};
 
     /// The task learns what a record of its cell has.
     #[inline(always)]
@@ -210,7 +194,7 @@ impl Hand {
     {
         let before = self.seen.again();
         self.seen.learn(seen);
-        has_learned(&mut self.seen, &mut self.pens);
+        self.seen.note::<Act, Act>(&mut self.pens, &Act::Learn);
         stays_set(&before, &self.seen);
         stays_set(seen, &self.seen);
     }
@@ -228,7 +212,9 @@ impl Hand {
         ensures two { (own_of a.new).number ≢ (own_of b.new).number }
     {
         let before = a.seen.again();
-        are_two(&mut a.seen, &mut a.pens, &mut b.pens);
+        a.pens.append(&mut b.pens);
+        a.seen.note::<Act, Act>(&mut a.pens, &Act::Meet);
+        b.pens = a.pens.split_off(1);
         stays_set(&before, &a.seen);
     }
 }
@@ -239,54 +225,6 @@ impl RunRight for Hand {
     ghost can = { HasRight };
 
     ghost ran = { HasRun };
-}
-
-// The page of a task has all of its entries.
-struct Learned;
-
-impl Play<(), Line, Leaf> for Learned {
-    ghost use Rattle.once_parts.specs.TwoTasks.{HasLearned};
-
-    ghost then = { λ _ v n w. HasLearned v w };
-}
-
-// Two pens are of two pages.
-struct Apart;
-
-impl Play<(), Line, Leaf> for Apart {
-    ghost use Rattle.once_parts.specs.TwoTasks.{AreTwo};
-
-    ghost then = { λ _ v n w. AreTwo v w };
-}
-
-/// Shows that a task has seen all of its own entries, however much it has learned of the log.
-#[inline(always)]
-fn has_learned(seen: &mut Record, pens: &mut CellPens)
-    requires book { pens.old.book ≡ seen.old.book }
-    requires hand { IsSomeHand pens.old.held }
-    ensures book { (seen.new.book ≡ seen.old.book) × (pens.new.book ≡ pens.old.book) }
-    ensures log { IsPrefix seen.old.log seen.new.log }
-    ensures held { pens.new.held ≡ pens.old.held }
-    ensures hand { IsHand seen.new.log pens.new.held }
-{
-    seen.note::<(), Learned>(pens, &());
-}
-
-/// Shows that two pens of one book are of two tasks.
-#[inline(always)]
-fn are_two(seen: &mut Record, a: &mut CellPens, b: &mut CellPens)
-    requires book { (a.old.book ≡ seen.old.book) × (b.old.book ≡ seen.old.book) }
-    requires hands { IsSomeHand a.old.held × IsSomeHand b.old.held }
-    ensures book { (seen.new.book ≡ seen.old.book) × (a.new.book ≡ a.old.book) × (b.new.book ≡ b.old.book) }
-    ensures log { IsPrefix seen.old.log seen.new.log }
-    ensures first { a.new.held ≡ a.old.held }
-    ensures hand { IsHand seen.new.log a.new.held }
-    ensures other { b.new.held ≡ b.old.held }
-    ensures two { number_in a.old.held ≢ number_in b.old.held }
-{
-    a.append(b);
-    seen.note::<(), Apart>(a, &());
-    *b = a.split_off(1);
 }
 
 /// A waker that is known to be a task's.

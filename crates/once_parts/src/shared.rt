@@ -1,19 +1,25 @@
-//! What the tasks of a cell share, and that as one task uses it. Each load, store, exchange and addition of its words
-//! is sequentially consistent, as all atomics of the kit are: they stand in one order, on which all threads agree. A
-//! task that takes the lock receives all that was done before it was last let go.
-//!
-//! The value lies beside them, and is written and read plainly. It is written before the step that makes the word
-//! ready, and read after a step that found it ready, or with a token that came from such a step.
-ghost use Rattle.std.specs.Prelude.{◌≡◌, ◌^◌, if◌then◌else◌, []};
-ghost use Rattle.once_parts.specs.Own.{IsWord};
+//! What the tasks of a cell share, and that as one task uses it. Why the value, which lies beside the words, may be
+//! written and read plainly is said at the head of `slot.rt` in `pagebook`.
+ghost use Rattle.std.specs.Prelude.{◌≡◌, ◌^◌, if◌then◌else◌, [], true, IfSome, IsSome, List, ◌∷◌, reverse};
+ghost use Rattle.once_parts.specs.Own.{IsWord, Turned};
 ghost use Rattle.once_machine.specs.Word.{flags_of};
 ghost use Rattle.once_machine.specs.Table.{CountIn, Load, Loaded, counted as count_told};
 ghost use Rattle.once_parts.specs.Page.{Went, call_in};
 ghost use Rattle.once_parts.specs.Hands.{own_of};
+ghost use Rattle.once_parts.specs.Record.{EndsSet, Looked, WasFilled};
+ghost use Rattle.once_parts.specs.Acts.{Writes as Wrote, Puts as HasPut};
+ghost use Rattle.std.specs.Option.{is_some};
+ghost use Rattle.once_machine.specs.Record.{Entry, Made, Begin};
+ghost use Rattle.once_machine.specs.Machine.{fresh_task, drop_entries};
+ghost use Rattle.once_parts.specs.Kept.{Grew};
+ghost use Rattle.once_machine.specs.Steps.{is_resting, step_of_drop};
+ghost use Rattle.once_parts.specs.Places.{task_begun, task_dropping};
+ghost use Rattle.once_parts.specs.Parts.{parts_can, parts_did};
 
 use crate::book::{CellRule, CellSlot, CellWord, Leaf, Line, Record};
 use crate::desk::Desk;
 use crate::hand::{Act, Hand, Mark, TaskWaker};
+use crate::task::Idle;
 use boxcar::tag::Tag;
 use once_machine::parts::{Counted, Parts};
 use once_machine::step::{Polled, Side};
@@ -25,36 +31,15 @@ use std::fmt;
 use std::marker::Brand;
 use std::sync::Wait;
 
-/// The value is looked for.
-pub struct Looks;
-
-impl Play<(), Line, Leaf> for Looks {
-    ghost use Rattle.once_parts.specs.Record.{Looks as Looked};
-
-    ghost then = { λ _. Looked };
-}
-
-pub(crate) struct ByTable;
-
-impl Play<(), Line, Leaf> for ByTable {
-    ghost use Rattle.once_parts.specs.Page.{WordTells};
-
-    ghost then = { λ _. WordTells };
-}
-
 pub(crate) struct Writes;
 
 impl Play<(), Line, Leaf> for Writes {
-    ghost use Rattle.once_parts.specs.Acts.{Writes as Wrote};
-
     ghost then = { λ _ v n w. Wrote v w };
 }
 
 pub(crate) struct Puts;
 
 impl Play<(), Line, Leaf> for Puts {
-    ghost use Rattle.once_parts.specs.Acts.{Puts as HasPut};
-
     ghost then = { λ _ v n w. HasPut v w };
 }
 
@@ -90,10 +75,7 @@ impl<T, W: TaskWaker + Drop> Inner<T, W> {
 }
 
 impl<T, W: TaskWaker + Drop, V: Fits<T>> Inner<T, W, V> {
-    ghost use Rattle.std.specs.Prelude.{true, IfSome, IsSome};
-    ghost use Rattle.std.specs.Option.{is_some};
-    ghost use Rattle.once_machine.specs.Word.{flags_of};
-    ghost use Rattle.once_parts.specs.Record.{Looked, WasFilled};
+    ghost use Rattle.once_parts.specs.Shares.{cell_of, own};
 
     /// As [`new`](Self::new). What `V` promises of the value is about the numbers of the tag.
     #[inline(always)]
@@ -121,6 +103,27 @@ impl<T, W: TaskWaker + Drop, V: Fits<T>> Inner<T, W, V> {
         ensures { result.book ≡ self.now.slot.book }
     {
         self.front.again()
+    }
+
+    /// A new task.
+    ///
+    /// ```
+    /// let mut task = cell.task(&rt);
+    /// task.begin();
+    /// let word = task.load();
+    /// ```
+    #[inline(always)]
+    pub fn task<'a, 'r, R>(&'a self, rt: &'r R) -> Shared<'a, 'r, T, W, R, V>
+        ensures cell { cell_of result ≡ self.now.slot }
+        ensures task { (own result).task ≡ fresh_task }
+        ensures log { (seen : List Entry) × Grew (Made (own result).number ∷ []) seen (own result).log }
+    {
+        Shared {
+            inner: self,
+            rt,
+            hand: Hand::new(&self.front),
+            idle: Idle::New,
+        }
     }
 
     /// Looks for the value: one load of the word. If that is ready, the value is there.
@@ -152,7 +155,7 @@ impl<T, W: TaskWaker + Drop, V: Fits<T>> Inner<T, W, V> {
         ensures filled { (flags_of result).ready ≡ true → WasFilled seen.new.log }
     {
         let mut none = seen.no_pens();
-        self.word.load::<(), Looks>(&(), seen, &mut none)
+        self.word.load::<Act, Act>(&Act::Look, seen, &mut none)
     }
 
     /// The value, for whoever has what shows it.
@@ -259,45 +262,12 @@ pub struct Shared<'a, 'r, T, W: TaskWaker, R, V: Fits<T> = Anything> {
     pub(crate) inner: &'a Inner<T, W, V>,
     pub(crate) rt: &'r R,
     pub(crate) hand: Hand,
+    // Where the next call of a `Task` begins. Whoever makes single steps keeps that by itself.
+    pub(crate) idle: Idle,
     ghost fits: { hand.seen.book ≡ inner.now.front.book },
 }
 
-impl<T, W: TaskWaker + Drop, V: Fits<T>> Inner<T, W, V> {
-    ghost use Rattle.std.specs.Prelude.{List, ◌∷◌, []};
-    ghost use Rattle.once_machine.specs.Record.{Entry, Made};
-    ghost use Rattle.once_machine.specs.Machine.{fresh_task};
-    ghost use Rattle.once_parts.specs.Kept.{Grew};
-    ghost use Rattle.once_parts.specs.Shares.{cell_of, own};
-
-    /// A new task.
-    ///
-    /// ```
-    /// let mut task = cell.task(&rt);
-    /// task.begin();
-    /// let word = task.load();
-    /// ```
-    #[inline(always)]
-    pub fn task<'a, 'r, R>(&'a self, rt: &'r R) -> Shared<'a, 'r, T, W, R, V>
-        ensures cell { cell_of result ≡ self.now.slot }
-        ensures task { (own result).task ≡ fresh_task }
-        ensures log { (seen : List Entry) × Grew (Made (own result).number ∷ []) seen (own result).log }
-    {
-        Shared {
-            inner: self,
-            rt,
-            hand: Hand::new(&self.front),
-        }
-    }
-}
-
 impl<'a, 'r, T, W: TaskWaker, R, V: Fits<T>> Shared<'a, 'r, T, W, R, V> {
-    ghost use Rattle.std.specs.Prelude.{true, List, [], ◌∷◌, reverse};
-    ghost use Rattle.once_machine.specs.Steps.{is_resting, step_of_drop};
-    ghost use Rattle.once_machine.specs.Record.{Begin};
-    ghost use Rattle.once_machine.specs.Machine.{drop_entries};
-    ghost use Rattle.once_parts.specs.Own.{Turned};
-    ghost use Rattle.once_parts.specs.Places.{task_begun, task_dropping};
-    ghost use Rattle.once_parts.specs.Record.{EndsSet};
     ghost use Rattle.once_parts.specs.Shares.{cell_of, own};
 
     /// Begins a poll.
@@ -366,7 +336,6 @@ impl<'a, 'r, T, W: TaskWaker, R, V: Fits<T>> Shared<'a, 'r, T, W, R, V> {
 /// Each call is one moment of the cell's book. There is one queue, which lies with the door, so a waiter keeps none.
 impl<T, W: TaskWaker + Drop, R: Wait + AllocGlobal, V: Fits<T>> Parts<W>
     for Shared<'_, '_, T, W, R, V> {
-    ghost use Rattle.once_parts.specs.Parts.{parts_can, parts_did};
     ghost use Rattle.once_parts.specs.Shares.{cell_of, own};
 
     type Queue = ();
@@ -390,9 +359,13 @@ impl<T, W: TaskWaker + Drop, R: Wait + AllocGlobal, V: Fits<T>> Parts<W>
     fn quick(&mut self) -> bool {
         let inner = self.inner;
         let hand = &mut self.hand;
-        let found = inner
-            .word
-            .compare_exchange::<(), ByTable>(NEW, QINIT_BIT, &(), &mut hand.seen, &mut hand.pens);
+        let found = inner.word.compare_exchange::<Act, Act>(
+            NEW,
+            QINIT_BIT,
+            &Act::ByTable,
+            &mut hand.seen,
+            &mut hand.pens,
+        );
         found == NEW
     }
 
@@ -401,9 +374,13 @@ impl<T, W: TaskWaker + Drop, R: Wait + AllocGlobal, V: Fits<T>> Parts<W>
         let inner = self.inner;
         let hand = &mut self.hand;
         let to = freed(ready);
-        let found = inner
-            .word
-            .compare_exchange::<(), ByTable>(QINIT_BIT, to, &(), &mut hand.seen, &mut hand.pens);
+        let found = inner.word.compare_exchange::<Act, Act>(
+            QINIT_BIT,
+            to,
+            &Act::ByTable,
+            &mut hand.seen,
+            &mut hand.pens,
+        );
         found == QINIT_BIT
     }
 
@@ -418,7 +395,7 @@ impl<T, W: TaskWaker + Drop, R: Wait + AllocGlobal, V: Fits<T>> Parts<W>
         let hand = &mut self.hand;
         inner
             .word
-            .fetch_add::<(), ByTable>(1, &(), &mut hand.seen, &mut hand.pens);
+            .fetch_add::<Act, Act>(1, &Act::ByTable, &mut hand.seen, &mut hand.pens);
     }
 
     #[inline(always)]
@@ -427,7 +404,7 @@ impl<T, W: TaskWaker + Drop, R: Wait + AllocGlobal, V: Fits<T>> Parts<W>
         let hand = &mut self.hand;
         let found = inner
             .word
-            .fetch_sub::<(), ByTable>(1, &(), &mut hand.seen, &mut hand.pens);
+            .fetch_sub::<Act, Act>(1, &Act::ByTable, &mut hand.seen, &mut hand.pens);
         found - 1
     }
 
@@ -504,7 +481,7 @@ impl<T, W: TaskWaker, V: Fits<T>> Inner<T, W, V> {
         ensures did { Went (own_of hand.old) (Loaded (flags_of result)) [] (own_of hand.new) }
     {
         self.word
-            .load::<(), ByTable>(&(), &mut hand.seen, &mut hand.pens)
+            .load::<Act, Act>(&Act::ByTable, &mut hand.seen, &mut hand.pens)
     }
 
     /// Tries again while others change the word between the load and the exchange.

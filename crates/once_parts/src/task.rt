@@ -1,6 +1,6 @@
 //! A task of a cell, with its whole polls and drops: its side and init, what it keeps between two calls, and its steps.
-ghost use Rattle.std.specs.Prelude.{◌≡◌, ◌≢◌, ◌<◌, ◌↔◌, IsTrue, ℕ, Bool, true, false, List, [], ◌∷◌};
-ghost use Rattle.std.specs.Prelude.{IfErr, IfOk, IsSome, Option, Some};
+ghost use Rattle.std.specs.Prelude.{◌≡◌, ◌≢◌, ◌<◌, ◌↔◌, IsTrue, ℕ, Bool, true, false, List, [], ◌∷◌, IfErr, IfOk};
+ghost use Rattle.std.specs.Prelude.{IsSome, Option, Some};
 ghost use mathlib.Core.List.{IsPrefix};
 ghost use Rattle.once_machine.specs.Record.{Begin, DropBegin, DropEnd, Entry, Made};
 ghost use Rattle.once_parts.specs.Kept.{Grew, entries_of};
@@ -18,6 +18,7 @@ ghost use Rattle.once_parts.specs.Hands.{HasRight, HasRun};
 ghost use Rattle.once_parts.specs.Inits.{MayGive, StandsFor, polled_in};
 ghost use Rattle.futures.specs.Poll.{IfReady, OnPending};
 ghost use Rattle.futures.specs.Task.{IsArmed, Keeps};
+ghost use Rattle.once_parts.specs.Tasks.{TaskView, HasPolled};
 
 use crate::book::Record;
 use crate::hand::{Hand, Mark, TaskWaker};
@@ -161,7 +162,7 @@ where
 }
 
 /// Where the next call of a task begins, if there is to be one. It has fewer bytes than the step of a call.
-#[derive(Drop)]
+#[derive(Clone, Copy)]
 pub(crate) enum Idle {
     New,
     /// It waits, and its listing has this ticket.
@@ -213,13 +214,6 @@ impl Idle {
     {
         matches!(self, Idle::New)
     }
-
-    #[inline(always)]
-    pub(crate) fn is_over(&self) -> bool
-        ensures { result ≡ is_over self.now }
-    {
-        matches!(self, Idle::Finished)
-    }
 }
 
 /// A task of a cell, between two of its calls: its share of the cell, and where its next call begins. A clause sees its
@@ -227,22 +221,17 @@ impl Idle {
 #[derive(Drop)]
 pub struct Task<'a, 'r, T, W: TaskWaker, R, V: Fits<T> = Anything> {
     parts: Shared<'a, 'r, T, W, R, V>,
-    idle: Idle,
-    ghost stands: { is_over idle ≡ false → StandsOn W.whose (own parts) (step_of idle) },
+    ghost stands: { is_over parts.idle ≡ false → StandsOn W.whose (own parts) (step_of parts.idle) },
 }
 
 impl<'a, 'r, T, W: TaskWaker, R, V: Fits<T>> Model for Task<'a, 'r, T, W, R, V> {
-    ghost use Rattle.once_parts.specs.Shares.{cell_of, own};
-    ghost use Rattle.once_parts.specs.Idle.{is_over};
-    ghost use Rattle.once_parts.specs.Tasks.{TaskView};
-
     ghost Value = { TaskView };
 
     ghost view = { λ t. record {
       cell = cell_of t.parts;
       number = (own t.parts).number;
       log = (own t.parts).log;
-      finished = is_over t.idle;
+      finished = is_over t.parts.idle;
     } };
 }
 
@@ -260,8 +249,12 @@ impl<'a, 'r, T, W: TaskWaker + Drop, R, V: Fits<T>> Task<'a, 'r, T, W, R, V> {
         ensures log { (seen : List Entry) × Grew (Made result.number ∷ []) seen result.log }
     {
         Task {
-            parts: inner.task(rt),
-            idle: Idle::New,
+            parts: Shared {
+                inner,
+                rt,
+                hand: Hand::new(&inner.front),
+                idle: Idle::New,
+            },
         }
     }
 
@@ -276,7 +269,7 @@ impl<'a, 'r, T, W: TaskWaker + Drop, R, V: Fits<T>> Task<'a, 'r, T, W, R, V> {
     pub fn is_finished(&self) -> bool
         ensures { result ≡ self.now.finished }
     {
-        self.idle.is_over()
+        matches!(self.parts.idle, Idle::Finished)
     }
 
     /// The value, for a task whose last call ended with it.
@@ -353,8 +346,6 @@ impl<'a, 'r, T, W: TaskWaker + Drop, R, V: Fits<T>> Task<'a, 'r, T, W, R, V> {
 }
 
 impl<'a, 'r, T, W: TaskWaker + Drop, R: Wait + AllocGlobal, V: Fits<T>> Task<'a, 'r, T, W, R, V> {
-    ghost use Rattle.once_parts.specs.Tasks.{HasPolled};
-
     /// A whole poll. It may wait for the cell's lock, and for whatever the side waits for. The wakers that were handed
     /// to the side are those of the tasks that its entries name, in their order. It began after all that the task had
     /// seen before, so if the cell was set in that, it answers the value.
@@ -400,14 +391,15 @@ impl<'a, 'r, T, W: TaskWaker + Drop, R: Wait + AllocGlobal, V: Fits<T>> Task<'a,
         ensures polled { HasPolled (S.state side.new) result self.old self.new }
         ensures stays { S.stays side.old side.new }
     {
+        let idle = self.parts.idle;
         self.parts.begin();
         if !S::copies_under_lock() {
-            return self.parts.by_machine(&mut self.idle, side);
+            return self.parts.by_machine(idle, side);
         }
-        if self.idle.is_new() {
-            return self.parts.at_start(&mut self.idle, side);
+        if idle.is_new() {
+            return self.parts.at_start(side);
         }
-        self.parts.later(&mut self.idle, side)
+        self.parts.later(idle, side)
     }
 
     /// A whole drop of a task that is not finished. It may wait, and hands wakers to the side, as [`poll`](Self::poll).
@@ -430,13 +422,14 @@ impl<'a, 'r, T, W: TaskWaker + Drop, R: Wait + AllocGlobal, V: Fits<T>> Task<'a,
         ensures finished { self.new.finished ≡ true }
         ensures stays { S.stays side.old side.new }
     {
+        let mut step = self.parts.idle.step();
         self.parts.begin_drop();
-        let mut step = self.idle.step();
-        self.idle = Idle::Finished;
         if !step.begin_drop(side) {
+            self.parts.idle = Idle::Finished;
             return;
         }
-        go_on(&mut self.parts, &mut step, side, Progress::More);
+        self.parts.go_on(&mut step, side);
+        self.parts.idle = Idle::Finished;
     }
 }
 
@@ -453,7 +446,7 @@ fn answered_where_set(seen: &Record)
 ///
 /// ```
 /// while step.left() > 0 {
-///     told = one_step(parts, step, side, told);
+///     told = one_step(self, step, side, told);
 /// }
 /// ```
 #[inline(always)]
@@ -482,37 +475,4 @@ pub fn one_step<
 {
     let _ = told;
     step.advance(parts, side)
-}
-
-/// Makes the steps that are left of the call, sixteen at most. `told` is what the last step told.
-#[inline(always)]
-pub(crate) fn go_on<
-    T,
-    W: TaskWaker + Drop,
-    R: Wait + AllocGlobal,
-    V: Fits<T>,
-    S: TaskSide<W, Value = T>,
->(
-    parts: &mut Shared<'_, '_, T, W, R, V>,
-    step: &mut Step<W, ()>,
-    side: &mut S,
-    mut told: Progress,
-) -> Ending
-    requires stands { (drops : Bool) × Stands W.whose drops (S.state side.old) (own parts.old) told step.old }
-    requires fits { GivesFit S.hands V.fits side.old (cell_of parts.old) }
-    ensures cell { cell_of parts.new ≡ cell_of parts.old }
-    ensures over { in_call step.new ≡ false }
-    ensures walked { (x : Sided) → (v : Own) → Walked x v told (S.state side.old) (own parts.old)
-        → Walked x v (Progress.Ended result) (S.state side.new) (own parts.new) }
-    ensures stands { (drops : Bool) → Stands W.whose drops (S.state side.old) (own parts.old) told step.old
-        → Stands W.whose drops (S.state side.new) (own parts.new) (Progress.Ended result) step.new }
-    ensures stays { S.stays side.old side.new }
-{
-    while step.left() > 0 {
-        told = one_step(parts, step, side, told);
-    }
-    let Progress::Ended(ending) = told else {
-        unreachable!()
-    };
-    ending
 }

@@ -7,13 +7,13 @@
 //! `steps_left`, and each of its steps is the line of the table for its place. A side whose waker is not copied under
 //! the lock polls by the machine alone. While the lock is held, nothing of the caller's own is dropped or called: such
 //! a function answers how far it came, as [`Reached`], and puts the wakers that it took aside, as [`Spent`].
-ghost use Rattle.std.specs.Prelude.{◌≡◌, false};
-ghost use Rattle.once_machine.specs.Steps.{is_value, leave_place, release_place};
+ghost use Rattle.std.specs.Prelude.{◌≡◌, Bool, false};
+ghost use Rattle.once_machine.specs.Steps.{in_call, is_value, release_place};
 ghost use Rattle.once_parts.specs.Idle.{is_over, step_of};
 ghost use Rattle.once_parts.specs.Shares.{cell_of, own};
 ghost use Rattle.once_parts.specs.Own.{Own};
 ghost use Rattle.once_parts.specs.Sides.{GivesFit, Sided};
-ghost use Rattle.once_parts.specs.Walks.{Stands};
+ghost use Rattle.once_parts.specs.Walks.{Stands, Walked};
 ghost use Rattle.once_parts.specs.Ways.{IsAt, IsBegun, IsUnder, Leads, LeadsBy, Polls, StandsBy, next_by};
 ghost use Rattle.std.specs.Option.{MatchOption};
 ghost use Rattle.once_machine.specs.declared.waiters.Answer.{Answer};
@@ -26,10 +26,9 @@ mod waiter;
 
 use crate::hand::{Hand, TaskWaker};
 use crate::shared::{Inner, Shared};
-use crate::task::{Idle, TaskSide, go_on};
+use crate::task::{Idle, TaskSide, one_step};
 use once_machine::parts::Parts;
-use once_machine::step::{Ending, Place, Polled, Progress, Rest, Step};
-use once_machine::waiters::Out;
+use once_machine::step::{Ending, Out, Place, Polled, Progress, Rest, Step};
 use once_machine::word::Word;
 use pagebook::{Fits, Key};
 use std::alloc::AllocGlobal;
@@ -69,55 +68,47 @@ impl<W: Drop> Spent<W> {
 
 impl<T, W: TaskWaker + Drop, R: Wait + AllocGlobal, V: Fits<T>> Shared<'_, '_, T, W, R, V> {
     #[inline(always)]
-    pub(crate) fn at_start<S: TaskSide<W, Value = T>>(
-        &mut self,
-        idle: &mut Idle,
-        side: &mut S,
-    ) -> Ending
+    pub(crate) fn at_start<S: TaskSide<W, Value = T>>(&mut self, side: &mut S) -> Ending
         requires stands { IsAt W.whose S.state Place.Start self.old side.old }
         requires fits { GivesFit S.hands V.fits side.old (cell_of self.old) }
-        ensures { Polls W.whose S.state S.stays self.old side.old result idle.new self.new side.new }
+        ensures { Polls W.whose S.state S.stays self.old side.old result self.new.idle self.new side.new }
     {
         let word = Word::from_bits(self.load());
         if word.is_ready() {
             side.close();
-            *idle = Idle::Finished;
+            self.idle = Idle::Finished;
             return Ending::Value;
         }
         if !word.is_new() {
-            return self.at_door_get(idle, side);
+            return self.at_door_get(side);
         }
-        self.at_try_quick(idle, side)
+        self.at_try_quick(side)
     }
 
     #[inline(always)]
-    fn at_try_quick<S: TaskSide<W, Value = T>>(&mut self, idle: &mut Idle, side: &mut S) -> Ending
+    fn at_try_quick<S: TaskSide<W, Value = T>>(&mut self, side: &mut S) -> Ending
         requires stands { IsAt W.whose S.state Place.TryQuick self.old side.old }
         requires fits { GivesFit S.hands V.fits side.old (cell_of self.old) }
-        ensures { Polls W.whose S.state S.stays self.old side.old result idle.new self.new side.new }
+        ensures { Polls W.whose S.state S.stays self.old side.old result self.new.idle self.new side.new }
     {
         if !self.quick() {
-            return self.at_door_get(idle, side);
+            return self.at_door_get(side);
         }
-        self.at_run(idle, None, side)
+        self.at_run(None, side)
     }
 
     #[inline(never)]
-    pub(crate) fn later<S: TaskSide<W, Value = T>>(
-        &mut self,
-        idle: &mut Idle,
-        side: &mut S,
-    ) -> Ending
-        requires live { is_over idle.old ≡ false }
-        requires stands { IsBegun W.whose S.state idle.old self.old side.old }
+    pub(crate) fn later<S: TaskSide<W, Value = T>>(&mut self, idle: Idle, side: &mut S) -> Ending
+        requires live { is_over idle ≡ false }
+        requires stands { IsBegun W.whose S.state idle self.old side.old }
         requires fits { GivesFit S.hands V.fits side.old (cell_of self.old) }
-        ensures { Polls W.whose S.state S.stays self.old side.old result idle.new self.new side.new }
+        ensures { Polls W.whose S.state S.stays self.old side.old result self.new.idle self.new side.new }
     {
-        match *idle {
-            Idle::Listed(ticket) => self.at_wait_load(idle, Some(ticket), side),
-            Idle::Unlisted => self.at_wait_load(idle, None, side),
-            Idle::Quick => self.hold(idle, None, side),
-            Idle::Queued => self.hold(idle, Some(()), side),
+        match idle {
+            Idle::Listed(ticket) => self.at_wait_load(Some(ticket), side),
+            Idle::Unlisted => self.at_wait_load(None, side),
+            Idle::Quick => self.hold(None, side),
+            Idle::Queued => self.hold(Some(()), side),
             _ => self.by_machine(idle, side),
         }
     }
@@ -125,180 +116,177 @@ impl<T, W: TaskWaker + Drop, R: Wait + AllocGlobal, V: Fits<T>> Shared<'_, '_, T
     #[inline(never)]
     pub(crate) fn by_machine<S: TaskSide<W, Value = T>>(
         &mut self,
-        idle: &mut Idle,
+        idle: Idle,
         side: &mut S,
     ) -> Ending
-        requires live { is_over idle.old ≡ false }
-        requires stands { IsBegun W.whose S.state idle.old self.old side.old }
+        requires live { is_over idle ≡ false }
+        requires stands { IsBegun W.whose S.state idle self.old side.old }
         requires fits { GivesFit S.hands V.fits side.old (cell_of self.old) }
-        ensures { Polls W.whose S.state S.stays self.old side.old result idle.new self.new side.new }
+        ensures { Polls W.whose S.state S.stays self.old side.old result self.new.idle self.new side.new }
     {
         let mut step = idle.step();
         step.begin();
-        self.steps_left(idle, step, side)
+        self.steps_left(step, side)
     }
 
     // Makes the steps that are left of a poll, and keeps where the next call begins.
     #[inline(never)]
     fn steps_left<S: TaskSide<W, Value = T>>(
         &mut self,
-        idle: &mut Idle,
         mut step: Step<W, ()>,
         side: &mut S,
     ) -> Ending
         requires stands { Stands W.whose false (S.state side.old) (own self.old) Progress.More step }
         requires fits { GivesFit S.hands V.fits side.old (cell_of self.old) }
-        ensures { Polls W.whose S.state S.stays self.old side.old result idle.new self.new side.new }
+        ensures { Polls W.whose S.state S.stays self.old side.old result self.new.idle self.new side.new }
     {
-        let ending = go_on(self, &mut step, side, Progress::More);
-        *idle = Idle::of(step);
+        let ending = self.go_on(&mut step, side);
+        self.idle = Idle::of(step);
+        ending
+    }
+
+    /// Makes the steps that are left of a poll or a drop, sixteen at most.
+    #[inline(always)]
+    pub(crate) fn go_on<S: TaskSide<W, Value = T>>(
+        &mut self,
+        step: &mut Step<W, ()>,
+        side: &mut S,
+    ) -> Ending
+        requires stands { (drops : Bool)
+            × Stands W.whose drops (S.state side.old) (own self.old) Progress.More step.old }
+        requires fits { GivesFit S.hands V.fits side.old (cell_of self.old) }
+        ensures cell { cell_of self.new ≡ cell_of self.old }
+        ensures over { in_call step.new ≡ false }
+        ensures walked { (x : Sided) → (v : Own) → Walked x v Progress.More (S.state side.old) (own self.old)
+            → Walked x v (Progress.Ended result) (S.state side.new) (own self.new) }
+        ensures stands { (drops : Bool) → Stands W.whose drops (S.state side.old) (own self.old) Progress.More step.old
+            → Stands W.whose drops (S.state side.new) (own self.new) (Progress.Ended result) step.new }
+        ensures stays { S.stays side.old side.new }
+    {
+        let mut told = Progress::More;
+        while step.left() > 0 {
+            told = one_step(self, step, side, told);
+        }
+        let Progress::Ended(ending) = told else {
+            unreachable!()
+        };
         ending
     }
 
     // With the lock free, from where the steps under it led.
     #[inline(always)]
-    fn go_on_from<S: TaskSide<W, Value = T>>(
-        &mut self,
-        idle: &mut Idle,
-        reached: Reached,
-        side: &mut S,
-    ) -> Ending
+    fn go_on_from<S: TaskSide<W, Value = T>>(&mut self, reached: Reached, side: &mut S) -> Ending
         requires stands { StandsBy W.whose (next_by reached) (S.state side.old) (own self.old) }
         requires fits { GivesFit S.hands V.fits side.old (cell_of self.old) }
         ensures cell { cell_of self.new ≡ cell_of self.old }
         ensures leads { (x : Sided) → (v : Own)
             → LeadsBy W.whose x v (next_by reached) (S.state side.old) (own self.old)
-            → Leads W.whose x v (Progress.Ended result) (step_of idle.new) (S.state side.new) (own self.new) }
+            → Leads W.whose x v (Progress.Ended result) (step_of self.new.idle) (S.state side.new) (own self.new) }
         ensures stays { S.stays side.old side.new }
     {
         match reached {
             Reached::Ready => {
                 side.close();
-                self.at_count_out(idle, Ending::Value, side)
+                self.at_count_out(Ending::Value, side)
             }
-            Reached::Claimed => self.hold(idle, Some(()), side),
+            Reached::Claimed => self.hold(Some(()), side),
             Reached::Waits(ticket) => {
-                *idle = Idle::of(Step::<W, ()>::Resting(Rest::Wait((), ticket)));
+                self.idle = Idle::of(Step::<W, ()>::Resting(Rest::Wait((), ticket)));
                 Ending::Pending
             }
             Reached::Ended(ending) => {
                 side.close();
-                *idle = Idle::Finished;
+                self.idle = Idle::Finished;
                 ending
             }
             Reached::Refused(ticket) => {
                 side.close();
-                self.steps_left(idle, Step::UnderWay(leaving(ticket)), side)
+                let place = Place::leaving((), ticket, Ending::Memory);
+                self.steps_left(Step::UnderWay(place), side)
             }
-            Reached::NoQueue => self.steps_left(idle, Step::UnderWay(Place::DoorPut), side),
+            Reached::NoQueue => self.steps_left(Step::UnderWay(Place::DoorPut), side),
         }
     }
 
     /// A holder that held before this poll, or claimed in it under the lock.
     #[inline(never)]
-    fn hold<S: TaskSide<W, Value = T>>(
-        &mut self,
-        idle: &mut Idle,
-        by: Option<()>,
-        side: &mut S,
-    ) -> Ending
+    fn hold<S: TaskSide<W, Value = T>>(&mut self, by: Option<()>, side: &mut S) -> Ending
         requires stands { IsAt W.whose S.state (Place.Run by) self.old side.old }
         requires fits { GivesFit S.hands V.fits side.old (cell_of self.old) }
-        ensures { Polls W.whose S.state S.stays self.old side.old result idle.new self.new side.new }
+        ensures { Polls W.whose S.state S.stays self.old side.old result self.new.idle self.new side.new }
     {
-        self.at_run(idle, by, side)
+        self.at_run(by, side)
     }
 
     #[inline(always)]
-    fn at_run<S: TaskSide<W, Value = T>>(
-        &mut self,
-        idle: &mut Idle,
-        by: Option<()>,
-        side: &mut S,
-    ) -> Ending
+    fn at_run<S: TaskSide<W, Value = T>>(&mut self, by: Option<()>, side: &mut S) -> Ending
         requires stands { IsAt W.whose S.state (Place.Run by) self.old side.old }
         requires fits { GivesFit S.hands V.fits side.old (cell_of self.old) }
-        ensures { Polls W.whose S.state S.stays self.old side.old result idle.new self.new side.new }
+        ensures { Polls W.whose S.state S.stays self.old side.old result self.new.idle self.new side.new }
     {
         match self.run(side) {
             Polled::Pending => {
-                *idle = Idle::of(Step::<W, ()>::Resting(Rest::Run(by)));
+                self.idle = Idle::of(Step::<W, ()>::Resting(Rest::Run(by)));
                 Ending::Pending
             }
             Polled::Value => {
                 side.close();
-                self.at_put(idle, by, side)
+                self.at_put(by, side)
             }
             Polled::Error => {
                 side.close();
-                self.give_back(idle, by, Ending::Error, side)
+                self.give_back(by, Ending::Error, side)
             }
         }
     }
 
     #[inline(always)]
-    fn at_put<S: TaskSide<W, Value = T>>(
-        &mut self,
-        idle: &mut Idle,
-        by: Option<()>,
-        side: &mut S,
-    ) -> Ending
+    fn at_put<S: TaskSide<W, Value = T>>(&mut self, by: Option<()>, side: &mut S) -> Ending
         requires stands { IsAt W.whose S.state (Place.Put by) self.old side.old }
         requires fits { GivesFit S.hands V.fits side.old (cell_of self.old) }
-        ensures { Polls W.whose S.state S.stays self.old side.old result idle.new self.new side.new }
+        ensures { Polls W.whose S.state S.stays self.old side.old result self.new.idle self.new side.new }
     {
         self.put(side.put());
-        self.give_back(idle, by, Ending::Value, side)
+        self.give_back(by, Ending::Value, side)
     }
 
     #[inline(always)]
     fn give_back<S: TaskSide<W, Value = T>>(
         &mut self,
-        idle: &mut Idle,
         by: Option<()>,
         ending: Ending,
         side: &mut S,
     ) -> Ending
         requires stands { IsAt W.whose S.state (release_place by ending) self.old side.old }
-        ensures { Polls W.whose S.state S.stays self.old side.old result idle.new self.new side.new }
+        ensures { Polls W.whose S.state S.stays self.old side.old result self.new.idle self.new side.new }
     {
         match by {
-            None => self.at_fast(idle, ending, side),
-            Some(()) => self.at_release(idle, ending, side),
+            None => self.at_fast(ending, side),
+            Some(()) => self.at_release(ending, side),
         }
     }
 
     #[inline(always)]
-    fn at_fast<S: TaskSide<W, Value = T>>(
-        &mut self,
-        idle: &mut Idle,
-        ending: Ending,
-        side: &mut S,
-    ) -> Ending
+    fn at_fast<S: TaskSide<W, Value = T>>(&mut self, ending: Ending, side: &mut S) -> Ending
         requires stands { IsAt W.whose S.state (Place.Fast ending) self.old side.old }
-        ensures { Polls W.whose S.state S.stays self.old side.old result idle.new self.new side.new }
+        ensures { Polls W.whose S.state S.stays self.old side.old result self.new.idle self.new side.new }
     {
         let filled = ending.is_value();
         if !self.fast(filled) {
-            return self.at_add_one(idle, ending, side);
+            return self.at_add_one(ending, side);
         }
         if filled {
-            return self.at_door_take(idle, ending, side);
+            return self.at_door_take(ending, side);
         }
-        *idle = Idle::Finished;
+        self.idle = Idle::Finished;
         ending
     }
 
     // A quick holder that met others counts in, and gives the right back under the lock if their queue is at the door.
     #[inline(never)]
-    fn at_add_one<S: TaskSide<W, Value = T>>(
-        &mut self,
-        idle: &mut Idle,
-        ending: Ending,
-        side: &mut S,
-    ) -> Ending
+    fn at_add_one<S: TaskSide<W, Value = T>>(&mut self, ending: Ending, side: &mut S) -> Ending
         requires stands { IsAt W.whose S.state (Place.AddOne ending) self.old side.old }
-        ensures { Polls W.whose S.state S.stays self.old side.old result idle.new self.new side.new }
+        ensures { Polls W.whose S.state S.stays self.old side.old result self.new.idle self.new side.new }
     {
         self.add_one();
         match self
@@ -307,72 +295,46 @@ impl<T, W: TaskWaker + Drop, R: Wait + AllocGlobal, V: Fits<T>> Shared<'_, '_, T
         {
             Some(out) => {
                 side.wake(out);
-                self.at_count_out(idle, ending, side)
+                self.at_count_out(ending, side)
             }
-            None => self.at_count_out(idle, ending, side),
+            None => self.at_count_out(ending, side),
         }
     }
 
     #[inline(always)]
-    fn at_release<S: TaskSide<W, Value = T>>(
-        &mut self,
-        idle: &mut Idle,
-        ending: Ending,
-        side: &mut S,
-    ) -> Ending
+    fn at_release<S: TaskSide<W, Value = T>>(&mut self, ending: Ending, side: &mut S) -> Ending
         requires stands { IsAt W.whose S.state (Place.Release tt ending) self.old side.old }
-        ensures { Polls W.whose S.state S.stays self.old side.old result idle.new self.new side.new }
+        ensures { Polls W.whose S.state S.stays self.old side.old result self.new.idle self.new side.new }
     {
         let out = self
             .inner
             .released::<Brand, R>(self.rt, &mut self.hand, ending.is_value());
         side.wake(out);
-        self.at_count_out(idle, ending, side)
+        self.at_count_out(ending, side)
     }
 
     /// The task counts out, and if it is the last at a cell that is set, it takes the queue away.
     #[inline(always)]
-    fn at_count_out<S: TaskSide<W, Value = T>>(
-        &mut self,
-        idle: &mut Idle,
-        ending: Ending,
-        side: &S,
-    ) -> Ending
+    fn at_count_out<S: TaskSide<W, Value = T>>(&mut self, ending: Ending, side: &S) -> Ending
         requires stands { IsAt W.whose S.state (Place.CountOut ending) self.old side.now }
-        ensures { Polls W.whose S.state S.stays self.old side.now result idle.new self.new side.now }
+        ensures { Polls W.whose S.state S.stays self.old side.now result self.new.idle self.new side.now }
     {
         if Word::from_bits(self.count_out()).is_ready_alone() {
-            return self.at_door_take(idle, ending, side);
+            return self.at_door_take(ending, side);
         }
-        *idle = Idle::Finished;
+        self.idle = Idle::Finished;
         ending
     }
 
     #[inline(always)]
-    fn at_door_take<S: TaskSide<W, Value = T>>(
-        &mut self,
-        idle: &mut Idle,
-        ending: Ending,
-        side: &S,
-    ) -> Ending
+    fn at_door_take<S: TaskSide<W, Value = T>>(&mut self, ending: Ending, side: &S) -> Ending
         requires stands { IsAt W.whose S.state (Place.DoorTake ending) self.old side.now }
-        ensures { Polls W.whose S.state S.stays self.old side.now result idle.new self.new side.now }
+        ensures { Polls W.whose S.state S.stays self.old side.now result self.new.idle self.new side.now }
     {
         let _ = side;
         self.door_take();
-        *idle = Idle::Finished;
+        self.idle = Idle::Finished;
         ending
-    }
-}
-
-// Memory was refused to this waiter.
-#[inline(always)]
-fn leaving<W>(ticket: Option<u64>) -> Place<W, ()>
-    ensures { result ≡ leave_place tt ticket Ending.Memory }
-{
-    match ticket {
-        None => Place::CountOut(Ending::Memory),
-        Some(ticket) => Place::Leave((), ticket, Ending::Memory),
     }
 }
 
@@ -405,11 +367,9 @@ impl<T, W: TaskWaker + Drop, V: Fits<T>> Inner<T, W, V> {
         ensures book { hand.new.seen.book ≡ hand.old.seen.book }
         ensures leads { MatchOption result
             (Leads W.whose (S.state side.now) (own_of hand.old) Progress.More (Step.UnderWay (Place.CountOut ending))
-            (S.state side.now) (own_of hand.new))
-            (λ out. (mid : Own)
+            (S.state side.now) (own_of hand.new)) (λ out. (mid : Own)
             × Leads W.whose (S.state side.now) (own_of hand.old) Progress.More
-            (Step.UnderWay (Place.Release tt ending)) (S.state side.now) mid
-            × DidCall W.whose mid
+            (Step.UnderWay (Place.Release tt ending)) (S.state side.now) mid × DidCall W.whose mid
             (Was tt (Op.Release (is_value ending)) (Answer.Released out) (Op.Release (is_value ending)))
             (own_of hand.new)) }
     {

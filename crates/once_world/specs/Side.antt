@@ -1,6 +1,6 @@
 -- What the side of a replayed task answers and leaves.
 use Rattle.std.specs.Prelude.{◌≡◌, ℕ, if◌then◌else◌, List, Option, Some, None, reverse, ⊤}
-use Rattle.once_machine.specs.declared.waiters.Out.{Out}
+use Rattle.once_machine.specs.declared.step.Out.{Out}
 use Rattle.once_world.specs.declared.world.side.ReplaySide.{ReplaySide}
 use Rattle.once_machine.specs.declared.step.Polled.{Polled}
 use Rattle.once_machine.specs.declared.record.Ran.{Ran as Answer}

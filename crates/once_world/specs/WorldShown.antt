@@ -3,8 +3,8 @@ use Rattle.std.specs.Prelude.{ℕ, Bool, true, false, List, [], ◌∷◌, ◌++
 use Rattle.std.specs.Option.{option_to_list}
 use Rattle.std.specs.Ordering.{nat_cmp}
 use Rattle.std.specs.BTreeMap.{get}
-use Rattle.once_machine.specs.declared.waiters.Out.{Out}
-use Rattle.once_machine.specs.declared.waiters.Out.TheVariants.{One, All}
+use Rattle.once_machine.specs.declared.step.Out.{Out}
+use Rattle.once_machine.specs.declared.step.Out.TheVariants.{One, All}
 use Rattle.once_machine.specs.Listings.{wakers_of}
 use Rattle.once_machine.specs.Room.{listings_of}
 use Rattle.once_machine.specs.declared.log.QueueLine.{QueueLine}

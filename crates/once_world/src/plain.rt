@@ -5,9 +5,9 @@ ghost use Rattle.std.specs.Prelude.{◌≡◌, ◌<◌, ◌≤◌, ◌+◌, ◌-
 ghost use Rattle.std.specs.Prelude.{Some, None, Option, OnOk, IsSome, IsTrue, ◌↔◌, not, vec_len, vec_capacity};
 
 use once_machine::parts::{Counted, Parts, QueueLine};
-use once_machine::step::{Polled, Side};
-use once_machine::waiters::{Answer, Lists, Op, Out, WakerId};
-use once_machine::word::Word;
+use once_machine::step::{Out, Polled, Side};
+use once_machine::waiters::{Answer, Lists, Op, WakerId};
+use once_machine::word::{QINIT_BIT, READY_BIT, Word};
 use std::alloc::{AllocError, Global};
 
 /// The parts as plain data, lent to one caller at a time. Its queues are numbers, counted from 1.
@@ -150,7 +150,8 @@ impl<W: WakerId + Drop> Core<W> {
         ensures state { state_of self.new
             ≡ release_state ready (state_of self.new).listings (state_of self.old) }
     {
-        self.word.give_back(ready);
+        let count = self.word.bits() % QINIT_BIT;
+        self.word = Word::from_bits(if ready { READY_BIT + count } else { count });
         self.lists.release(ready)
     }
 
@@ -211,11 +212,19 @@ impl<W: WakerId + Drop> Parts<W> for Core<W> {
     }
 
     fn quick(&mut self) -> bool {
-        self.word.quick()
+        let is_free = self.word.is_new();
+        if is_free {
+            self.word = Word::from_bits(QINIT_BIT);
+        }
+        is_free
     }
 
     fn fast(&mut self, ready: bool) -> bool {
-        self.word.fast(ready)
+        let is_alone = self.word.bits() == QINIT_BIT;
+        if is_alone {
+            self.word = Word::new(ready);
+        }
+        is_alone
     }
 
     fn count_in(&mut self) -> Counted
@@ -224,7 +233,7 @@ impl<W: WakerId + Drop> Parts<W> for Core<W> {
     {
         if self.word.count() < self.limit {
             let before = self.word.bits();
-            self.word.count_in();
+            self.word = Word::from_bits(before + 1);
             Counted::In(before)
         } else if self.word.is_ready() {
             Counted::SeenReady
@@ -234,12 +243,13 @@ impl<W: WakerId + Drop> Parts<W> for Core<W> {
     }
 
     fn add_one(&mut self) {
-        self.word.count_in();
+        self.word = Word::from_bits(self.word.bits() + 1);
     }
 
     fn count_out(&mut self) -> u64 {
-        self.word.count_out();
-        self.word.bits()
+        let after = self.word.bits() - 1;
+        self.word = Word::from_bits(after);
+        after
     }
 
     fn door_get(&mut self) -> Option<u64> {

@@ -5,16 +5,17 @@ ghost use Rattle.std.specs.Borrow.{Bor};
 ghost use Rattle.futures.specs.Poll.{IfReady, OnPending};
 ghost use Rattle.futures.specs.Task.{Covers, Keeps};
 ghost use mathlib.Core.List.{IsPrefix};
-ghost use Rattle.async_once_cell.specs.Polls.{Answers, DidPoll, IsMade, IsValue, IsValueAtOnce, Polls, PollsAs};
-ghost use Rattle.async_once_cell.specs.Polls.{SpansIn, Waits, ending_by, ending_of_refusal, value_of};
+ghost use Rattle.async_once_cell.specs.Polls.{Answers, DidPoll, HasLeft, IsMade, IsValue, IsValueAtOnce, Polls};
+ghost use Rattle.async_once_cell.specs.Polls.{PollsAs, SpansIn, Waits, ending_by, ending_of_refusal, value_of};
 ghost use Rattle.async_once_cell.specs.Tokens.{Agrees, IsSetIn};
-ghost use Rattle.async_once_cell.specs.Views.{is_shared};
+ghost use Rattle.async_once_cell.specs.Views.{is_shared, FutureView};
 ghost use Rattle.once_parts.specs.Kept.{entries_of, most};
 ghost use Rattle.once_parts.specs.Record.{IsSet, PollsOnce, WasFilled};
 ghost use Rattle.once_parts.specs.Walks.{end_of};
 ghost use Rattle.once_machine.specs.Called.{SomebodyCalled};
 ghost use Rattle.once_machine.specs.Record.{Once};
 ghost use Rattle.once_machine.specs.Run.{AtEvery, IsRun, NobodyForgotten};
+ghost use Rattle.async_once_cell.specs.declared.lazy.future.Driven.{Driven};
 
 use crate::init::{Failed, Init, Refused, Yields};
 use crate::once::{Initializing, Known, OnceCell, Parker};
@@ -44,9 +45,6 @@ pub struct LazyFuturePin<'a, T, F: Future, R: Wait + AllocGlobal> {
 pub type LazyFutureUnpin<'a, T, F, R> = LazyFuturePin<'a, T, F, R>;
 
 impl<'a, T, F: Future, R: Wait + AllocGlobal> Model for LazyFuturePin<'a, T, F, R> {
-    ghost use Rattle.async_once_cell.specs.Views.{FutureView};
-    ghost use Rattle.async_once_cell.specs.declared.lazy.future.Driven.{Driven};
-
     ghost Value = { FutureView T (Driven F R F.Output) };
 
     ghost view = { λ f. f.inner };
@@ -118,6 +116,16 @@ impl<'a, T, F: Future, R: Wait + AllocGlobal> LazyFuturePin<'a, T, F, R> {
         self.inner.learn(token);
     }
 
+    /// As [`Initializing::leave`]. The cell's future stays as it is, and another task drives it on.
+    pub fn leave(&mut self)
+        requires unfinished { self.old.finished ≡ false }
+        ensures left { HasLeft self.old self.new }
+        ensures set { IsSetIn self.old.cell self.old.log → IsSetIn self.new.cell self.new.log }
+        ensures value { self.new.value ≡ None }
+    {
+        self.inner.leave();
+    }
+
     /// As [`Initializing::are_two`].
     #[inline(always)]
     pub fn are_two(a: &mut Self, b: &mut Self)
@@ -156,8 +164,7 @@ impl<'a, T: Drop, F: Future<Output = T>, R: Wait + AllocGlobal> LazyFuturePin<'a
     ) -> Poll<Result<&'a T, Refused>>
         requires unfinished { self.old.finished ≡ false }
         requires token_of_this_cell { token.old.cell ≡ self.old.cell }
-        ensures call { PollsAs token.old.value self.old self.new cx.old cx.new
-            (ending_by ending_of_refusal result) }
+        ensures call { PollsAs token.old.value self.old self.new cx.old cx.new (ending_by ending_of_refusal result) }
         ensures cell { token.new.cell ≡ token.old.cell }
         ensures value { Polls token.old.value token.new.value result }
         ensures answered { self.new.value ≡ value_of result }
@@ -286,8 +293,6 @@ impl<F: Future, R: Wait> Driven<'_, F, R> {
 }
 
 impl<T, F: Future, R> Yields<T, Refused> for Driven<'_, F, R> {
-    ghost use Rattle.std.specs.Prelude.{⊤};
-
     ghost may_give = { λ _ _. ⊤ };
 }
 

@@ -6,16 +6,17 @@ ghost use Rattle.futures.specs.Poll.{IfReady, OnPending};
 ghost use Rattle.futures.specs.Task.{Covers, Keeps};
 ghost use mathlib.Core.List.{IsPrefix};
 ghost use Rattle.async_once_cell.specs.Inits.{FailsNoOther, TellsOwn};
-ghost use Rattle.async_once_cell.specs.Polls.{Answers, DidPoll, HasLeft, IsMade, IsValue};
-ghost use Rattle.async_once_cell.specs.Polls.{Polls, PollsAs, SpansIn, ending_by, value_of};
+ghost use Rattle.async_once_cell.specs.Polls.{Answers, DidPoll, HasLeft, IsMade, IsValue, Polls, PollsAs, SpansIn};
+ghost use Rattle.async_once_cell.specs.Polls.{ending_by, value_of};
 ghost use Rattle.async_once_cell.specs.Tokens.{Agrees, IsSetIn};
-ghost use Rattle.async_once_cell.specs.Views.{IsOf, about_of, is_shared, known_of, log_of};
+ghost use Rattle.async_once_cell.specs.Views.{IsOf, about_of, is_shared, known_of, log_of, FutureView};
 ghost use Rattle.once_machine.specs.Record.{Once};
 ghost use Rattle.once_machine.specs.Run.{AtEvery, IsRun, NobodyForgotten};
 ghost use Rattle.once_machine.specs.Called.{SomebodyCalled};
 ghost use Rattle.once_parts.specs.Kept.{entries_of, most};
 ghost use Rattle.once_parts.specs.Walks.{end_of};
 ghost use Rattle.once_parts.specs.Record.{IsSet, PollsOnce, WasFilled};
+ghost use Rattle.async_once_cell.specs.Futures.{IsAsked, KeepsPromise, view_of_future};
 
 use super::known::Seen;
 use super::{Known, OnceCell, Value};
@@ -24,7 +25,7 @@ use crate::waiting::Waiting;
 use futures::Future;
 use futures::task::{Context, Poll};
 use once_parts::Pollable;
-use once_parts::book::{is_run, polls_once};
+use once_parts::book::is_run;
 use pagebook::{Anything, Fits};
 use std::alloc::AllocGlobal;
 use std::fmt;
@@ -74,9 +75,6 @@ pub struct Initializing<'a, T, X, I: Yields<T, X>, R: Wait + AllocGlobal, V: Fit
 
 impl<'a, T, X, I: Yields<T, X>, R: Wait + AllocGlobal, V: Fits<T>> Model
     for Initializing<'a, T, X, I, R, V> {
-    ghost use Rattle.async_once_cell.specs.Futures.{IsAsked, KeepsPromise, view_of_future};
-    ghost use Rattle.async_once_cell.specs.Views.{FutureView};
-
     ghost Value = { FutureView T I };
 
     ghost view = { λ f. view_of_future f.cell.now f.asked };
@@ -120,7 +118,7 @@ impl<'a, T, X, I: Yields<T, X>, R: Wait + AllocGlobal, V: Fits<T>> Initializing<
     pub(super) fn rt(&self) -> &'a R {
         match &self.asked {
             Asked::Owned(rt, _) | Asked::Answered(rt) | Asked::Left(rt) => rt,
-            Asked::Shared(waiting) => waiting.rt(),
+            Asked::Shared(waiting) => waiting.task.rt(),
         }
     }
 
@@ -139,7 +137,7 @@ impl<'a, T, X, I: Yields<T, X>, R: Wait + AllocGlobal, V: Fits<T>> Initializing<
         match &self.asked {
             Asked::Owned(_, _) => false,
             Asked::Answered(_) | Asked::Left(_) => true,
-            Asked::Shared(waiting) => waiting.is_finished(),
+            Asked::Shared(waiting) => waiting.task.is_finished(),
         }
     }
 
@@ -151,7 +149,7 @@ impl<'a, T, X, I: Yields<T, X>, R: Wait + AllocGlobal, V: Fits<T>> Initializing<
         match &self.asked {
             Asked::Owned(_, _) | Asked::Left(_) => Seen::Owned(false),
             Asked::Answered(_) => Seen::Owned(true),
-            Asked::Shared(waiting) => Seen::Shared(waiting.record(), waiting.written()),
+            Asked::Shared(waiting) => Seen::Shared(waiting.task.record(), waiting.written()),
         }
     }
 
@@ -168,7 +166,6 @@ impl<'a, T, X, I: Yields<T, X>, R: Wait + AllocGlobal, V: Fits<T>> Initializing<
     {
         if let Seen::Shared(record, _) = self.seen() {
             is_run(&record);
-            polls_once(&record);
         }
     }
 
@@ -283,14 +280,10 @@ impl<'a, T, X, I: Yields<T, X>, R: Wait + AllocGlobal, V: Fits<T>> Initializing<
     }
 }
 
-impl<'a, T: Drop, X: Failure, I: Init<T, X>, R: Wait + AllocGlobal, V: Fits<T>> Initializing<
-    'a,
-    T,
-    X,
-    I,
-    R,
-    V,
-> {
+impl<'a, T: Drop, X: Failure, I: Init<T, X>, R, V: Fits<T>> Initializing<'a, T, X, I, R, V>
+where
+    R: Wait + AllocGlobal,
+{
     /// Polls the future once. It answers the value that is set, the error of its own init, or a refusal: `Memory` if
     /// memory to wait was refused, `Full` if as many tasks are counted in as may be. After any of these it is finished.
     /// After an error or a refusal the cell is as if the future had been dropped. A Pending poll has registered its
@@ -376,8 +369,6 @@ impl<'a, T: Drop, X: Failure, I: Init<T, X>, R: Wait + AllocGlobal, V: Fits<T>> 
 /// Polled when it is finished, it asks for another poll and changes nothing.
 impl<'a, T: Drop, X: Failure, I: Init<T, X>, R: Wait + AllocGlobal, V: Fits<T>> Future
     for Initializing<'a, T, X, I, R, V> {
-    ghost use Rattle.async_once_cell.specs.Inits.{TellsOwn};
-
     type Output = Result<&'a T, X>;
 
     // An error that it tells of its init is one that the init may give.
@@ -425,7 +416,7 @@ impl<T, X, I: Yields<T, X>, R: Wait + AllocGlobal, V: Fits<T>> Drop
         } = self;
         // A finished future is not given to a call that may wait, which would cost it a test.
         if let Asked::Shared(waiting) = asked
-            && !waiting.is_finished()
+            && !waiting.task.is_finished()
         {
             waiting.discard();
         }

@@ -7,12 +7,13 @@ ghost use Rattle.once_machine.specs.Run.{AtEvery, IsRun, NobodyForgotten};
 ghost use Rattle.once_machine.specs.Called.{SomebodyCalled};
 ghost use Rattle.once_parts.specs.Kept.{most};
 ghost use Rattle.once_parts.specs.Record.{IsSet, PollsOnce, WasFilled};
-ghost use Rattle.async_once_cell.specs.Views.{CellView, IsOf, Shows, about_of, is_shared, known_of, log_of};
+ghost use Rattle.async_once_cell.specs.Views.{CellView, IsOf, Shows, about_of, is_shared, known_of, log_of, TokenView};
+ghost use Rattle.async_once_cell.specs.Views.{ToldView};
 ghost use Rattle.async_once_cell.specs.Tokens.{Agrees, IsSetIn, Learns, Lends, Looks};
 
 use super::{OnceCell, Value};
 use once_parts::Record;
-use once_parts::book::{is_run, polls_once, stays_set};
+use once_parts::book::{is_run, stays_set};
 use pagebook::{Anything, Fits, Written};
 use std::fmt;
 use std::marker::Model;
@@ -41,8 +42,6 @@ pub struct Known<'a, T, V: Fits<T> = Anything> {
 }
 
 impl<'a, T, V: Fits<T>> Model for Known<'a, T, V> {
-    ghost use Rattle.async_once_cell.specs.Views.{IsOf, TokenView, known_of, log_of};
-
     ghost Value = { TokenView T };
 
     ghost view = { λ k. record { cell = k.cell.now; value = known_of k.cell.now k.seen; log = log_of k.seen } };
@@ -100,15 +99,6 @@ impl<'a, T, V: Fits<T>> Known<'a, T, V> {
             (Value::Shared(inner), Seen::Shared(_, Some(written))) => {
                 Some((cell, inner.value(written), Some(written.again())))
             }
-            _ => None,
-        }
-    }
-
-    fn known(&self) -> Option<&T> {
-        let cell = self.cell;
-        match (&cell.value, &self.seen) {
-            (Value::Owned(value), Seen::Owned(true)) => Some(value),
-            (Value::Shared(inner), Seen::Shared(_, Some(written))) => Some(inner.value(written)),
             _ => None,
         }
     }
@@ -172,7 +162,6 @@ impl<'a, T, V: Fits<T>> Known<'a, T, V> {
     {
         if let Seen::Shared(record, _) = &self.seen {
             is_run(record);
-            polls_once(record);
         }
     }
 
@@ -218,27 +207,7 @@ impl<'a, T, V: Fits<T>> Known<'a, T, V> {
             stays_set(other, one);
         }
     }
-}
 
-/// What shows which value a cell has. It borrows no cell, so an owner can give it to calls that answer that value.
-#[derive(Drop)]
-pub struct Told<T, V: Fits<T> = Anything> {
-    cell: Snapshot<OnceCell<T, V>>,
-    value: Snapshot<T>,
-    pub(super) written: Option<Written<T>>,
-}
-
-impl<T, V: Fits<T>> Model for Told<T, V> {
-    ghost use Rattle.async_once_cell.specs.Views.{Shows, ToldView};
-
-    ghost Value = { ToldView T };
-
-    ghost view = { λ t. record { cell = t.cell.value; value = t.value.value } };
-
-    ghost invariant = { λ t. Shows t.cell.value t.value.value t.written };
-}
-
-impl<'a, T, V: Fits<T>> Known<'a, T, V> {
     /// What this token knows, for the time when its loan of the cell is over.
     pub fn told(&self) -> Option<Told<T, V>>
         ensures { MatchOption result (self.now.value ≡ None)
@@ -251,6 +220,22 @@ impl<'a, T, V: Fits<T>> Known<'a, T, V> {
             written,
         })
     }
+}
+
+/// What shows which value a cell has. It borrows no cell, so an owner can give it to calls that answer that value.
+#[derive(Drop)]
+pub struct Told<T, V: Fits<T> = Anything> {
+    cell: Snapshot<OnceCell<T, V>>,
+    value: Snapshot<T>,
+    pub(super) written: Option<Written<T>>,
+}
+
+impl<T, V: Fits<T>> Model for Told<T, V> {
+    ghost Value = { ToldView T };
+
+    ghost view = { λ t. record { cell = t.cell.value; value = t.value.value } };
+
+    ghost invariant = { λ t. Shows t.cell.value t.value.value t.written };
 }
 
 impl<T> Seen<T> {
@@ -330,7 +315,7 @@ impl<T, V: Fits<T>> OnceCell<T, V> {
 /// `Known(Some(V))` if the token knows the value, and `Known(None)` if it knows nothing.
 impl<T: fmt::Debug, V: Fits<T>> fmt::Debug for Known<'_, T, V> {
     fn fmt<W: fmt::Write>(&self, f: &mut fmt::Formatter<W>) -> fmt::Result {
-        let Some(value) = self.known() else {
+        let Some((_, value, _)) = self.shown() else {
             return f.write_str("Known(None)");
         };
         write!(f, "Known(Some({value:?}))")

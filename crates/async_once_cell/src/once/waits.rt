@@ -15,14 +15,10 @@ use std::io;
 use std::random::RandomSource;
 use std::sync::Wait;
 
-impl<'a, T: Drop, X: Failure, I: Init<T, X>, R: Wait + AllocGlobal, V: Fits<T>> Initializing<
-    'a,
-    T,
-    X,
-    I,
-    R,
-    V,
-> {
+impl<'a, T: Drop, X: Failure, I: Init<T, X>, R, V: Fits<T>> Initializing<'a, T, X, I, R, V>
+where
+    R: Wait + AllocGlobal,
+{
     /// Polls the future on this thread until it answers, and gives that answer. The thread sleeps while it has to wait:
     /// for its own init, or for the task that holds. So the call never returns if neither is driven on, for example
     /// because this thread itself keeps another future of the cell, which holds. `io::Error` says that the thread could

@@ -66,6 +66,18 @@ fn left_by_a_drop<'a, R: Wait + AllocGlobal>(
     Some([before, found.get()])
 }
 
+// What the init of a future that waits has noted once `leave` of the future was called.
+fn left_by_a_call<'a, R: Wait + AllocGlobal>(
+    rt: &'a R,
+    looks: Looks<'a>,
+    cx: &mut Context<'_>,
+) -> Option<Option<bool>> {
+    let (cell, found) = (looks.cell, looks.found);
+    let mut waiter = waiter(rt, cell, looks, cx)?;
+    waiter.leave();
+    Some(found.get())
+}
+
 // What a poll with a token that knows the value answers to a future that waits, and what its init has noted then.
 fn left_by_a_poll<'a, R: Wait + AllocGlobal>(
     rt: &'a R,
@@ -99,5 +111,16 @@ fn init_dropped_before_a_knowing_poll_leaves(rt: HostRuntime) -> Result<(), Fail
     let looks = looks(&cell, &found, &stub);
     let told = task.enter(|cx| left_by_a_poll(&rt, looks, cx));
     assert_eq!(rt; told, Some((Reply::Value(2), Some(true))));
+    Ok(())
+}
+
+/// So does one whose `leave` is called.
+#[test]
+fn init_dropped_before_a_call_leaves(rt: HostRuntime) -> Result<(), Fail> {
+    let (task, cell, found) = (MockTask::new(&rt)?, OnceCell::new(), Cell::new(None));
+    let stub = Stub::new();
+    let looks = looks(&cell, &found, &stub);
+    let noted = task.enter(|cx| left_by_a_call(&rt, looks, cx));
+    assert_eq!(rt; noted, Some(Some(true)));
     Ok(())
 }

@@ -4,8 +4,8 @@ ghost use Rattle.std.proofs.Common.{rules};
 
 use crate::bell::{Bell, task_of};
 use crate::poller::{Poller, Scripted, init_that_answers};
-use once_machine::step::{Polled, Side};
-use once_machine::waiters::{Out, Renews};
+use once_machine::step::{Out, Polled, Side};
+use once_machine::waiters::Renews;
 use once_parts::{CopiesWaker, Hand, Mark, Pollable, TaskSide};
 use std::alloc::AllocGlobal;
 use std::io;

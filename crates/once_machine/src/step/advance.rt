@@ -1,18 +1,16 @@
 //! One step: at each place its handler, whose clause is the line of the table of places.
 ghost use Rattle.std.specs.Prelude.{◌≡◌, ◌<◌, Option, true};
-ghost use Rattle.once_machine.specs.Steps.{Wakes, out_of};
+ghost use Rattle.once_machine.specs.Steps.{Wakes, out_of, in_call};
+ghost use Rattle.once_machine.specs.Table.{Advances, Asks, AsksAt, Follows, Line, MayRefuse, Refuse, Refused};
+ghost use Rattle.once_machine.specs.Table.{after_copy, left_of};
 
-use super::{Ending, Place, Polled, Progress, Rest, Side, Step};
+use super::{Ending, Out, Place, Polled, Progress, Rest, Side, Step};
 use crate::parts::{Counted, Parts};
-use crate::waiters::{Answer, Op, Out};
+use crate::waiters::{Answer, Op};
 use crate::word::Word;
 use std::mem;
 
 impl<W: Drop, Q: Drop> Step<W, Q> {
-    ghost use Rattle.once_machine.specs.Steps.{in_call};
-    ghost use Rattle.once_machine.specs.Table.{Advances, Asks, AsksAt, Follows, Line, MayRefuse, Refuse, Refused};
-    ghost use Rattle.once_machine.specs.Table.{after_copy, left_of};
-
     /// Makes one step of the call that is under way. It asks what the place's call asks, and that the parts take
     /// whatever value the side may hand over.
     // A queue is taken out first. A place that keeps none is only looked at, and a holder's gives its queue alone.

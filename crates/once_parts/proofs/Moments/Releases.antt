@@ -5,7 +5,7 @@ use Rattle.std.specs.List.{cons_option}
 use mathlib.Core.Logic.{∥∥₁_elim}
 use base.Stored.{Coded-set, coded_list, coded_ℕ}
 use Rattle.once_machine.specs.declared.waiters.Listing.{Listing}
-use Rattle.once_machine.specs.declared.waiters.Out.{Out}
+use Rattle.once_machine.specs.declared.step.Out.{Out}
 use Rattle.once_machine.specs.Listings.{left_list, next_waker, passes_turn, wakers_of}
 use Rattle.once_machine.specs.Sections.{HandsAll, HandsBy, Releases}
 use Rattle.once_machine.specs.Machine.{release_list, release_wakers}

@@ -7,7 +7,7 @@ use Rattle.once_machine.specs.Ops.{ticket_in}
 use Rattle.once_machine.specs.declared.waiters.Answer.{Answer}
 use Rattle.once_machine.specs.declared.waiters.Answer.TheVariants.{Ready, Claimed, Listed, Memory, Released}
 use Rattle.once_machine.specs.declared.waiters.Op.{Op}
-use Rattle.once_machine.specs.declared.waiters.Out.{Out}
+use Rattle.once_machine.specs.declared.step.Out.{Out}
 use Rattle.once_machine.specs.declared.waiters.Op.TheVariants.{Look, List as ListOwn, Release, Leave}
 use Rattle.once_machine.specs.declared.step.Polled.{Polled}
 use Rattle.once_machine.specs.Steps.{MayClose, is_value, release_place, step_of_poll}

@@ -24,80 +24,70 @@ use std::sync::Wait;
 
 impl<T, W: TaskWaker + Drop, R: Wait + AllocGlobal, V: Fits<T>> Shared<'_, '_, T, W, R, V> {
     #[inline(never)]
-    pub(super) fn at_door_get<S: TaskSide<W, Value = T>>(
-        &mut self,
-        idle: &mut Idle,
-        side: &mut S,
-    ) -> Ending
+    pub(super) fn at_door_get<S: TaskSide<W, Value = T>>(&mut self, side: &mut S) -> Ending
         requires stands { IsAt W.whose S.state Place.DoorGet self.old side.old }
         requires fits { GivesFit S.hands V.fits side.old (cell_of self.old) }
-        ensures { Polls W.whose S.state S.stays self.old side.old result idle.new self.new side.new }
+        ensures { Polls W.whose S.state S.stays self.old side.old result self.new.idle self.new side.new }
     {
         let mut spent = None;
         let reached = self
             .inner
             .lock_at_door_get::<Brand, R, S>(self.rt, &mut self.hand, &mut spent, side);
         if let Reached::NoQueue = reached {
-            return self.at_door_put(idle, side);
+            return self.at_door_put(side);
         }
-        self.go_on_from(idle, reached, side)
+        self.go_on_from(reached, side)
     }
 
     // The queue is made with the lock free, because the allocator may be any code. One that came too late is let go.
     #[inline(always)]
-    fn at_door_put<S: TaskSide<W, Value = T>>(&mut self, idle: &mut Idle, side: &mut S) -> Ending
+    fn at_door_put<S: TaskSide<W, Value = T>>(&mut self, side: &mut S) -> Ending
         requires stands { IsAt W.whose S.state Place.DoorPut self.old side.old }
         requires fits { GivesFit S.hands V.fits side.old (cell_of self.old) }
-        ensures { Polls W.whose S.state S.stays self.old side.old result idle.new self.new side.new }
+        ensures { Polls W.whose S.state S.stays self.old side.old result self.new.idle self.new side.new }
     {
         let alloc = self.rt.alloc();
         let Ok(queue) = Box::new(alloc, Lists::new(alloc)) else {
             self.hand.unput();
             side.close();
-            *idle = Idle::Finished;
+            self.idle = Idle::Finished;
             return Ending::Memory;
         };
         let mut spent = None;
         let (reached, _spare) = self
             .inner
             .lock_at_door_put::<Brand, R, S>(self.rt, &mut self.hand, queue, &mut spent, side);
-        self.go_on_from(idle, reached, side)
+        self.go_on_from(reached, side)
     }
 
     #[inline(always)]
     pub(super) fn at_wait_load<S: TaskSide<W, Value = T>>(
         &mut self,
-        idle: &mut Idle,
         ticket: Option<u64>,
         side: &mut S,
     ) -> Ending
         requires stands { IsAt W.whose S.state (Place.WaitLoad tt ticket) self.old side.old }
         requires fits { GivesFit S.hands V.fits side.old (cell_of self.old) }
-        ensures { Polls W.whose S.state S.stays self.old side.old result idle.new self.new side.new }
+        ensures { Polls W.whose S.state S.stays self.old side.old result self.new.idle self.new side.new }
     {
         if Word::from_bits(self.load()).is_ready() {
             side.close();
-            return self.at_count_out(idle, Ending::Value, side);
+            return self.at_count_out(Ending::Value, side);
         }
-        self.at_look(idle, ticket, side)
+        self.at_look(ticket, side)
     }
 
     #[inline(always)]
-    fn at_look<S: TaskSide<W, Value = T>>(
-        &mut self,
-        idle: &mut Idle,
-        ticket: Option<u64>,
-        side: &mut S,
-    ) -> Ending
+    fn at_look<S: TaskSide<W, Value = T>>(&mut self, ticket: Option<u64>, side: &mut S) -> Ending
         requires stands { IsAt W.whose S.state (Place.Look tt ticket) self.old side.old }
         requires fits { GivesFit S.hands V.fits side.old (cell_of self.old) }
-        ensures { Polls W.whose S.state S.stays self.old side.old result idle.new self.new side.new }
+        ensures { Polls W.whose S.state S.stays self.old side.old result self.new.idle self.new side.new }
     {
         let mut spent = None;
         let reached = self
             .inner
             .lock_at_look::<Brand, R, S>(self.rt, &mut self.hand, ticket, &mut spent, side);
-        self.go_on_from(idle, reached, side)
+        self.go_on_from(reached, side)
     }
 }
 

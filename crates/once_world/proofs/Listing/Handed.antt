@@ -3,7 +3,7 @@ use Rattle.std.proofs.Common.{◌≡◌, ◌≢◌, ℕ, ◌<◌, Bool, true, fa
 use Rattle.std.specs.List.{cons_option}
 use Rattle.std.proofs.lemmas.Bool.{ne_eqb}
 use Rattle.std.proofs.lemmas.Bool.Decides.{nat_tests}
-use Rattle.once_machine.specs.declared.waiters.Out.{Out}
+use Rattle.once_machine.specs.declared.step.Out.{Out}
 use Rattle.once_machine.specs.declared.waiters.Listing.{Listing}
 use Rattle.once_machine.specs.Listings.{all_out, out_by, wakers_of}
 use Rattle.once_machine.specs.Sections.{HandsAll, HandsBy, IsAmong, IsOther, Releases}

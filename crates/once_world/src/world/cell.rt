@@ -1,12 +1,12 @@
 //! What all tasks of a replay share, and one step of a task over it.
 ghost use Rattle.std.specs.Prelude.{◌≡◌, ◌≤◌, ◌-◌, ◌^◌, ◌++◌, ℕ, true, [], OnOk, IfOk};
+ghost use Rattle.once_machine.specs.Steps.{is_running, is_leaving, is_freeing, is_adding};
 
 use super::side::ReplaySide;
 use super::{Call, Got, Kind, Ran};
 use crate::plain::Core;
-use once_machine::step::Progress;
+use once_machine::step::{Out, Place, Progress, Step};
 use once_machine::task::Task;
-use once_machine::waiters::Out;
 use std::alloc::{AllocError, Global};
 use std::mem::replace;
 
@@ -128,14 +128,14 @@ impl ReplayCell {
         self.side.kept = task.kept;
         self.core.set_waker(task.waker);
         self.core.grant(granted);
-        let freeing = task.step.is_freeing();
-        let leaving = task.step.is_leaving();
+        let freeing = is_freeing(&task.step);
+        let leaving = is_leaving(&task.step);
         let progress = task.step.advance(&mut self.core, &mut self.side);
         task.kept = self.side.kept;
         StepSeen {
-            claimed: task.step.is_running(),
+            claimed: is_running(&task.step),
             ran: self.side.ran.take(),
-            freed: freeing && !task.step.is_adding(),
+            freed: freeing && !is_adding(&task.step),
             handed: self.side.handed.take(),
             leaving,
             progress,
@@ -217,4 +217,32 @@ impl ReplayCell {
             self.side.value = v;
         }
     }
+}
+
+// Whether the next step polls the init.
+fn is_running<W, Q>(step: &Step<W, Q>) -> bool
+    ensures { result ≡ is_running step.now }
+{
+    matches!(step, Step::UnderWay(Place::Run(_)))
+}
+
+// Whether the next step takes the task's listing out.
+fn is_leaving<W, Q>(step: &Step<W, Q>) -> bool
+    ensures { result ≡ is_leaving step.now }
+{
+    matches!(step, Step::UnderWay(Place::Leave(_, _, _)))
+}
+
+// Whether the next step is the fast release.
+fn is_freeing<W, Q>(step: &Step<W, Q>) -> bool
+    ensures { result ≡ is_freeing step.now }
+{
+    matches!(step, Step::UnderWay(Place::Fast(_)))
+}
+
+// Whether the next step counts a holder in, because its fast release was not done.
+fn is_adding<W, Q>(step: &Step<W, Q>) -> bool
+    ensures { result ≡ is_adding step.now }
+{
+    matches!(step, Step::UnderWay(Place::AddOne(_)))
 }

@@ -11,9 +11,8 @@ ghost use Rattle.once_world.specs.WorldShown.{claim_entries, ran_entries, out_en
 use super::cell::{ReplayCell, StepSeen};
 use super::{Call, Entry, Input, Kind, Ran, Record, Reply};
 use crate::plain::Core;
-use once_machine::step::{Ending, Progress, Step};
+use once_machine::step::{Ending, Out, Progress, Step};
 use once_machine::task::Task;
-use once_machine::waiters::Out;
 use std::alloc::{AllocError, Global};
 use std::collections::BTreeMap;
 

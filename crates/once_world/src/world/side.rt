@@ -2,8 +2,7 @@
 ghost use Rattle.std.specs.Prelude.{◌≡◌};
 
 use super::Ran;
-use once_machine::step::{Polled, Side};
-use once_machine::waiters::Out;
+use once_machine::step::{Out, Polled, Side};
 
 #[derive(Drop)]
 pub(super) struct ReplaySide {

@@ -1,3 +1,8 @@
+use Rattle.std.proofs.Common.{false, reverse, subst}
+use Rattle.std.proofs.lemmas.List.{reverse-reverse}
+use Rattle.once_parts.specs.Kept.{entries_of}
+use Rattle.once_parts.specs.Record.{AreOnce}
+use Rattle.once_parts.proofs.Once.{are_once}
 use Rattle.once_parts.proofs.Seen.{seen_called, seen_filled, seen_run}
 use Rattle.once_parts.proofs.book.is_run.Goals as goal
 
@@ -9,3 +14,8 @@ returns-clause-called c = seen_called c.args.seen.now.log c.learn.ensures.rule.2
 
 pub returns-clause-filled : goal.returns-clause-filled
 returns-clause-filled c = seen_filled c.args.seen.now.log c.learn.ensures.rule.2 c.learn.ensures.log.1
+
+pub returns-clause-once : goal.returns-clause-once
+returns-clause-once c = λ t. subst (λ l. AreOnce false (entries_of t l)) (reverse-reverse c.args.seen.now.log)
+    (are_once t (reverse c.args.seen.now.log)
+    (seen_run c.args.seen.now.log c.learn.ensures.rule.2 c.learn.ensures.log.1))

@@ -9,7 +9,6 @@ use Rattle.pagebook.specs.Slot.{Placed}
 use Rattle.once_parts.specs.Inits.{MayGive}
 use Rattle.async_once_cell.specs.Inits.{MayFail}
 use Rattle.async_once_cell.specs.Polls.{ending_by}
-use Rattle.async_once_cell.specs.Views.{init_in}
 use Rattle.async_once_cell.proofs.waiting.Waiting.poll.Goals as goal
 
 pub returns-clause-end : goal.returns-clause-end
@@ -35,10 +34,10 @@ returns-clause-same_values g c = λ x m. absurd (subst (λ (i : Option g.row.I.D
 pub poll-ending-requires-clause-fits : goal.poll-ending-requires-clause-fits
 poll-ending-requires-clause-fits g c = λ v hands.
     let may = MayGive g.I.Yields.may_give in
-    let before : init_in c.self.inside.kept ≡ c.args.self.now.init = search rules in
+    let before : c.self.inside.init ≡ c.args.self.now.init = search rules in
     let cell : c.self.inside.task.cell ≡ c.args.self.now.cell = search rules in
     subst (λ (s : Placed). g.V.Fits.fits s.about v) (sym cell)
-    (c.requires.fits v (subst (λ (i : Option g.row.I.Denot). may i v) (c.of.ensures ∙ c.take-init.ensures.taken ∙ before) (hands (
+    (c.requires.fits v (subst (λ (i : Option g.row.I.Denot). may i v) (c.of.ensures ∙ c.take-init.ensures.value ∙ before) (hands (
       λ armed. absurd (false≢true armed),
       λ y n. subst (λ (i : Option g.row.I.Denot). MayFail g.I.Init.may_fail i y) (sym c.of.ensures) n,
       tt,

@@ -15,7 +15,7 @@ returns-in-Pending g c =
     record {
       cell = c.in-Pending.ensures.did.0;
       leads = subst (λ (s : Step g.row.W.Denot ⊤). Leads g.W.TaskWaker.whose (g.S.TaskSide.state c.args.side.now) (own c.args.self.now) (Ended EndPending) s
-          (g.S.TaskSide.state c.run.new.side) (own c.run.new.self)) (sym c.of.ensures.is)
+          (g.S.TaskSide.state c.run.new.side) (own c.run.new.self)) (sym c.of-self.ensures.is)
           (ran g.W.TaskWaker.whose c.args.by Pending _ c.requires.stands c.in-Pending.ensures.did.1 (g.met.S.TaskSide.tells.run _ _ _ c.in-Pending.ensures.ran) refl);
       stays = c.in-Pending.ensures.stays;
     }

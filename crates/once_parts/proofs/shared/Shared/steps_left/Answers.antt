@@ -16,8 +16,8 @@ returns g c =
       leads = record {
         walked = c.go_on-ending.ensures.walked _ _ (walked_none _ _);
         stands = subst
-            (λ s. Stands g.W.TaskWaker.whose false (g.S.TaskSide.state c.go_on-ending.new.side) (own c.go_on-ending.new.parts) (Ended c.go_on-ending.result) s)
-            (sym c.of.ensures.is) (c.go_on-ending.ensures.stands false c.requires.stands);
+            (λ s. Stands g.W.TaskWaker.whose false (g.S.TaskSide.state c.go_on-ending.new.side) (own c.go_on-ending.new.self) (Ended c.go_on-ending.result) s)
+            (sym c.of-self.ensures.is) (c.go_on-ending.ensures.stands false c.requires.stands);
       };
       stays = c.go_on-ending.ensures.stays;
     }

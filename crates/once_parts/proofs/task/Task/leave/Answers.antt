@@ -29,7 +29,7 @@ pub go_on-requires : goal.go_on-requires
 go_on-requires g c =
     let number = c.requires.number ∙ sym (ap (λ (t : TaskView). t.number) c.self.view_is) in
     let live = ap (λ (t : TaskView). t.finished) c.self.view_is ∙ c.requires.live in
-    let rests = rests_at g.W.TaskWaker.whose (own c.self.inside.parts) c.self.inside.idle live c.step-step.ensures.rests c.step-step.ensures.is c.self.inside.stands in
+    let rests = rests_at g.W.TaskWaker.whose (own c.self.inside.parts) c.self.inside.parts.idle live c.step-step.ensures.rests c.step-step.ensures.is c.self.inside.stands in
     let call = sym c.begin_drop-2.ensures.more ∙ c.if-not-begin_drop.false in
     record {
       stands = (
@@ -44,7 +44,7 @@ go_on-requires g c =
 pub returns-then-not-begin_drop-clause-end : goal.returns-then-not-begin_drop-clause-end
 returns-then-not-begin_drop-clause-end g c =
     let live = ap (λ (t : TaskView). t.finished) c.self.view_is ∙ c.requires.live in
-    let rests = rests_at g.W.TaskWaker.whose (own c.self.inside.parts) c.self.inside.idle live c.step-step.ensures.rests c.step-step.ensures.is c.self.inside.stands in
+    let rests = rests_at g.W.TaskWaker.whose (own c.self.inside.parts) c.self.inside.parts.idle live c.step-step.ensures.rests c.step-step.ensures.is c.self.inside.stands in
     let over = ap in_call (sym c.begin_drop-2.ensures.step) ∙ sym c.begin_drop-2.ensures.more ∙ c.if-not-begin_drop.true in
     let grew = (drop_alone g.W.TaskWaker.whose (own c.self.inside.parts) (own c.begin_drop.new.self) c.step-step.result rests over c.begin_drop.ensures.did).0 in
     rw (← c.self.view_is)
@@ -54,7 +54,7 @@ returns-then-not-begin_drop-clause-end g c =
 pub returns-then-not-begin_drop-clause-call : goal.returns-then-not-begin_drop-clause-call
 returns-then-not-begin_drop-clause-call g c =
     let live = ap (λ (t : TaskView). t.finished) c.self.view_is ∙ c.requires.live in
-    let rests = rests_at g.W.TaskWaker.whose (own c.self.inside.parts) c.self.inside.idle live c.step-step.ensures.rests c.step-step.ensures.is c.self.inside.stands in
+    let rests = rests_at g.W.TaskWaker.whose (own c.self.inside.parts) c.self.inside.parts.idle live c.step-step.ensures.rests c.step-step.ensures.is c.self.inside.stands in
     let over = ap in_call (sym c.begin_drop-2.ensures.step) ∙ sym c.begin_drop-2.ensures.more ∙ c.if-not-begin_drop.true in
     let call = (drop_alone g.W.TaskWaker.whose (own c.self.inside.parts) (own c.begin_drop.new.self) c.step-step.result rests over c.begin_drop.ensures.did).1 in
     rw (← c.self.view_is) (
@@ -67,12 +67,12 @@ pub returns : goal.returns
 returns g c =
     let number = c.requires.number ∙ sym (ap (λ (t : TaskView). t.number) c.self.view_is) in
     let live = ap (λ (t : TaskView). t.finished) c.self.view_is ∙ c.requires.live in
-    let rests = rests_at g.W.TaskWaker.whose (own c.self.inside.parts) c.self.inside.idle live c.step-step.ensures.rests c.step-step.ensures.is c.self.inside.stands in
+    let rests = rests_at g.W.TaskWaker.whose (own c.self.inside.parts) c.self.inside.parts.idle live c.step-step.ensures.rests c.step-step.ensures.is c.self.inside.stands in
     let call = sym c.begin_drop-2.ensures.more ∙ c.if-not-begin_drop.false in
     let closed = g.met.S.TaskSide.tells.close _ _ c.begin_drop-2.ensures.close in
     let seen = grew_on _ _ _ c.begin_drop.ensures.did.log in
     let walked = c.go_on.ensures.walked _ _ (walked_none _ _) in
-    let last : Own = own c.go_on.new.parts in
+    let last : Own = own c.go_on.new.self in
     let opens = drop_opens g.W.TaskWaker.whose (own c.self.inside.parts) (own c.begin_drop.new.self) c.step-step.result rests (ap in_call (sym c.begin_drop-2.ensures.step) ∙ call)
     c.begin_drop.ensures.did in
     let stands = c.go_on.ensures.stands true
