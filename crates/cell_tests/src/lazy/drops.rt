@@ -1,8 +1,11 @@
 //! When the future of a cell and its value are dropped.
 
-use crate::doubles::stub::Stub;
+use crate::doubles::poll::heard;
+use crate::doubles::stub::{Init, Stub};
 use crate::doubles::value::Makes;
 use async_once_cell::Lazy;
+use async_once_cell::record::Reply;
+use futures::task::Context;
 use futures::test::MockTask;
 use std::alloc::AllocGlobal;
 use std::cell::Cell;
@@ -35,5 +38,32 @@ fn value_dropped_with_the_cell(rt: HostRuntime) -> Result<(), Fail> {
     let task = MockTask::new(&rt)?;
     let dropped = dropped(&rt, &task);
     assert_eq!(rt; dropped, (true, [0, 1]));
+    Ok(())
+}
+
+// Whether the holder's `leave` dropped the future of the cell, and what another is answered then.
+fn left_and_driven_on<'a, R: Wait + AllocGlobal>(
+    rt: &'a R,
+    cx: &mut Context<'_>,
+    lazy: &'a Lazy<u64, Init<'_, u64>>,
+    stub: &Stub<u64>,
+) -> Option<(u64, Reply)> {
+    let (mut holder, mut next) = (lazy.get(rt), lazy.get(rt));
+    if holder.poll(cx).is_ready() {
+        return None;
+    }
+    holder.leave();
+    let drops = stub.drops.get();
+    stub.answer.set(Some(4));
+    Some((drops, heard(next.poll(cx))))
+}
+
+/// A holder whose `leave` is called leaves the future of the cell as it is, and another task drives it on.
+#[test]
+fn driven_on_after_a_holder_left(rt: HostRuntime) -> Result<(), Fail> {
+    let (task, stub) = (MockTask::new(&rt)?, Stub::new());
+    let lazy = Lazy::new(stub.init());
+    let told = task.enter(|cx| left_and_driven_on(&rt, cx, &lazy, &stub));
+    assert_eq!(rt; (told, stub.counts()), (Some((0, Reply::Value(4))), (2, 1)));
     Ok(())
 }

@@ -213,7 +213,7 @@ fn starved(rt: HostRuntime) -> Result<(), Fail> {
 #[test]
 fn each_request_refused(rt: HostRuntime) -> Result<(), Fail> {
     let refused = refuse_each(&rt, TURNS)?;
-    assert!(rt; refused >= 60, "{refused}");
+    assert!(rt; refused >= 36, "{refused}");
     Ok(())
 }
 

@@ -108,6 +108,8 @@ impl Request {
 pub struct Held {
     rest: Vec<Vec<u8>>,
     blocks: Vec<Vec<u8>>,
+    // How many requests for a block of each kind are granted.
+    granted: [usize; KINDS],
 }
 
 impl Rations {
@@ -158,14 +160,34 @@ impl Rations {
             0x1000_0000,
         )?;
         for place in 0..KINDS * PLENTY {
-            if place % PLENTY < self.granted(place / PLENTY) {
-                give_back(self.alloc, &mut blocks, place);
-            }
+            give_back(self.alloc, &mut blocks, place);
         }
-        Ok(Some(Held { rest, blocks }))
+        blocks.clear();
+        let granted = self.grant(&mut blocks);
+        Ok(Some(Held {
+            rest,
+            blocks,
+            granted,
+        }))
     }
 
-    // How many requests for a block of this kind are granted in this act.
+    // Grants requests for blocks of each kind, and takes what else there is of it: how many are granted of each.
+    // A block may be larger than was asked for, and is of another kind then. So they are counted as they are found.
+    fn grant(&self, blocks: &mut Vec<Vec<u8>>) -> [usize; KINDS] {
+        let mut granted = [0usize; KINDS];
+        for (kind, granted) in granted.iter_mut().enumerate() {
+            let before = blocks.len();
+            take_all(self.alloc, blocks, size_of_kind(kind));
+            let found = blocks.len().saturating_sub(before);
+            *granted = found.min(self.granted(kind));
+            for place in 0..*granted {
+                give_back(self.alloc, blocks, before.saturating_add(place));
+            }
+        }
+        granted
+    }
+
+    // How many requests for a block of this kind are granted in this act at most.
     fn granted(&self, kind: usize) -> usize {
         match self.refused {
             Some(request) if request.kind == kind => request.before,
@@ -177,14 +199,18 @@ impl Rations {
     pub fn end(&mut self, held: Option<Held>) -> Result<(), AllocError> {
         let act = self.acts;
         self.acts = act.saturating_add(1);
-        let Some(Held { rest, mut blocks }) = held else {
+        let Some(held) = held else {
             return Ok(());
         };
-        let mut used = [0usize; KINDS];
+        let Held {
+            rest,
+            mut blocks,
+            granted: mut used,
+        } = held;
         for (kind, used) in used.iter_mut().enumerate() {
             let before = blocks.len();
             take_all(self.alloc, &mut blocks, size_of_kind(kind));
-            *used = PLENTY.saturating_sub(blocks.len().saturating_sub(before));
+            *used = used.saturating_sub(blocks.len().saturating_sub(before));
         }
         drop(blocks);
         drop(rest);

@@ -69,5 +69,5 @@ fn a_new_cell_has_nothing(rt: HostRuntime) {
 #[test]
 fn the_book_has_no_bytes(rt: HostRuntime) {
     assert_eq!(rt; size_of::<Mark>(), 0);
-    assert_eq!(rt; size_of::<Shared<u64, Bell, HostRuntime>>(), 16);
+    assert_eq!(rt; size_of::<Shared<u64, Bell, HostRuntime>>(), 32);
 }
