@@ -12,7 +12,7 @@ use std::alloc::{AllocError, Global};
 use std::process::Abort;
 use std::test::Fail;
 
-//// Draws what comes next.
+/// Draws what comes next.
 #[derive(Drop)]
 pub struct Chance {
     rng: Xoshiro256PlusPlus,
