@@ -5,7 +5,7 @@ import re
 # A comment, a text or a character. The mark of a lifetime and the prime of a name are neither.
 NO_CODE = re.compile(r"""//[^\n]*|/\*.*?\*/|\bb?r(\#*)".*?"\1|"(?:\\.|[^"\\])*"|"""
                      r"""(?<![\w'])'(?:\\.[^']*|[^\\'\n])'""", re.S)
-OWNER = re.compile(r"^(?:impl\b(?:<.*?>)?(?=\s)|(?:pub(?:\([^)]*\))? )?trait\s)\s*([^{]*?)\s*(?:where[^{]*)?\{",
+OWNER = re.compile(r"^(?:impl\b(?:<.*?>)?(?=\s[^+])|(?:pub(?:\([^)]*\))? )?trait\s)\s*([^{]*?)\s*(?:where[^{]*)?\{",
                    re.M | re.S)
 FUNCTION = re.compile(r"^ *((?:pub(?:\([^)]*\))? )?)(?:const |unsafe )*fn (\w+)", re.M)
 CLAUSE = re.compile(r"\b(?:requires|ensures)\b\*?\s*[\w-]*\s*\{")

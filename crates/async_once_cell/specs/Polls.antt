@@ -1,5 +1,5 @@
 -- What a poll of a cell's future answers and leaves, in the record too.
-use Rattle.std.specs.Prelude.{◌≡◌, ℕ, ⊤, Bool, true, false, List, [], ◌∷◌, Option, Some, None, Result, Ok, Err}
+use Rattle.std.specs.Prelude.{◌≡◌, ℕ, ⊤, Bool, true, false, List, [], ◌∷◌, Option, Some, None, Result, Ok, Err, IfOk}
 use Rattle.std.specs.Borrow.{Bor}
 use Rattle.futures.specs.declared.task.Poll.{Poll}
 use Rattle.futures.specs.declared.task.Poll.TheVariants.{Ready, Pending}
@@ -121,6 +121,10 @@ Polls old new _ = (old ≡ None) × (new ≡ None)
 abbrev pub Waits : {T E X : Type 0} → Option T → Option T → Result (Result (Bor T) E) X → Type 0
 Waits old new (Ok answer) = Polls old new (Ready answer)
 Waits old new (Err x) = (old ≡ None) × (new ≡ None)
+
+-- what holds of the value that a wait answers, if it answers one
+abbrev pub IfValue : {T E X : Type 0} → Result (Result (Bor T) E) X → (T → Type 0) → Type 0
+IfValue r P = IfOk r (λ answer. IfOk answer (λ value. P value.now))
 
 -- the answer of a wait is a value
 abbrev pub IsValueAtOnce : {A E X : Type 0} → Result (Result A E) X → Type 0

@@ -1,19 +1,22 @@
 //! A cell that owns the future that fills it.
-ghost use Rattle.std.specs.Prelude.{◌≡◌, IsSome, None, false, true};
+ghost use Rattle.std.specs.Prelude.{◌≡◌, ℕ, IfOk, IfSome, IsSome, List, None, false, true};
 ghost use Rattle.std.specs.Result.{result_ok};
 ghost use Rattle.std.specs.Option.{is_some};
 ghost use Rattle.async_once_cell.specs.Polls.{IsMade};
 ghost use Rattle.async_once_cell.specs.Tokens.{Gives, IsSetIn, Learns, Lends, Looks};
-ghost use Rattle.async_once_cell.specs.Views.{Owned, is_shared, CellView};
+ghost use Rattle.async_once_cell.specs.Views.{Owned, about_of, is_shared, CellView};
 
 mod future;
 
 use crate::once::{Known, OnceCell, Told};
+use boxcar::tag::Tag;
+use future::Promised;
 pub use future::{LazyFuturePin, LazyFutureUnpin};
 use futures::Future;
 use once_parts::Pollable;
+use pagebook::{Anything, Fits};
 use std::alloc::AllocGlobal;
-use std::marker::Model;
+use std::marker::{Model, PhantomData};
 use std::sync::{Mutex, Wait};
 use std::{fmt, mem};
 
@@ -27,13 +30,13 @@ use std::{fmt, mem};
 /// let set = lazy.try_get().copied(); // Some(3)
 /// ```
 #[derive(Drop)]
-pub struct Lazy<T, F: Future> {
-    pub(crate) cell: OnceCell<T>,
-    // None while it is polled, and once it gave its value.
-    future: Mutex<Option<Pollable<F>>>,
+pub struct Lazy<T, F: Future, V: Fits<T> + Fits<F::Output> = Anything> {
+    pub(crate) cell: OnceCell<T, V>,
+    // Without a future while that is polled, and once it gave its value.
+    future: Mutex<Promised<F, V>>,
 }
 
-impl<T, F: Future> Model for Lazy<T, F> {
+impl<T, F: Future, V: Fits<T> + Fits<F::Output>> Model for Lazy<T, F, V> {
     ghost Value = { CellView T };
 
     ghost view = { λ l. l.cell };
@@ -45,10 +48,7 @@ impl<T, F: Future<Output = T>> Lazy<T, F> {
         requires { F.can_poll future }
         ensures { is_shared result ≡ true }
     {
-        Lazy {
-            cell: OnceCell::new(),
-            future: Mutex::new(Some(Pollable::new(future))),
-        }
+        Lazy::promised(future)
     }
 
     /// As [`Lazy::new`].
@@ -57,6 +57,35 @@ impl<T, F: Future<Output = T>> Lazy<T, F> {
         ensures { is_shared result ≡ true }
     {
         Lazy::new(future)
+    }
+
+    /// A cell with this value, and no future.
+    pub fn with_value(value: T) -> Self
+        ensures { result ≡ Owned value }
+    {
+        Lazy {
+            cell: OnceCell::new_with(value),
+            future: Mutex::new(Promised(None, PhantomData)),
+        }
+    }
+}
+
+impl<T, F: Future<Output = T>, V: Fits<T>> Lazy<T, F, V> {
+    /// A cell that this future will fill, and that promises its value: it fits, as `V` says, whatever the numbers are
+    /// about which `V` speaks. Whoever is answered it knows so, on any thread, without a token.
+    ///
+    /// ```
+    /// let lazy = Lazy::<u64, Twice, IsEven>::promised(Twice { half: 21 });
+    /// ```
+    pub fn promised(future: F) -> Self
+        requires can { F.can_poll future }
+        requires fits { (about : List ℕ) → (v : T) → F.gives future v → V.fits about v }
+        ensures { is_shared result ≡ true }
+    {
+        Lazy {
+            cell: OnceCell::promised(&Tag::empty()),
+            future: Mutex::new(Promised(Some(Pollable::new(future)), PhantomData)),
+        }
     }
 
     /// A future of the value: the one that is set, or the one that the cell's future gives. Nothing happens before the
@@ -72,7 +101,7 @@ impl<T, F: Future<Output = T>> Lazy<T, F> {
     /// let second = *lazy.get(rt).wait()??; // 10, and nothing is polled
     /// ```
     #[inline(always)]
-    pub fn get<'a, R: Wait + AllocGlobal>(&'a self, rt: &'a R) -> LazyFuturePin<'a, T, F, R>
+    pub fn get<'a, R: Wait + AllocGlobal>(&'a self, rt: &'a R) -> LazyFuturePin<'a, T, F, R, V>
         ensures cell { result.cell ≡ self.now }
         ensures live { result.finished ≡ false }
         ensures made { IsMade result }
@@ -81,7 +110,10 @@ impl<T, F: Future<Output = T>> Lazy<T, F> {
     }
 
     /// As [`Lazy::get`].
-    pub fn get_unpin<'a, R: Wait + AllocGlobal>(&'a self, rt: &'a R) -> LazyFutureUnpin<'a, T, F, R>
+    pub fn get_unpin<'a, R: Wait + AllocGlobal>(
+        &'a self,
+        rt: &'a R,
+    ) -> LazyFutureUnpin<'a, T, F, R, V>
         ensures cell { result.cell ≡ self.now }
         ensures live { result.finished ≡ false }
         ensures made { IsMade result }
@@ -93,24 +125,12 @@ impl<T, F: Future<Output = T>> Lazy<T, F> {
     pub fn into_future<'a, R: Wait + AllocGlobal>(
         &'a self,
         rt: &'a R,
-    ) -> LazyFutureUnpin<'a, T, F, R>
+    ) -> LazyFutureUnpin<'a, T, F, R, V>
         ensures cell { result.cell ≡ self.now }
         ensures live { result.finished ≡ false }
         ensures made { IsMade result }
     {
         self.get(rt)
-    }
-}
-
-impl<T, F: Future> Lazy<T, F> {
-    /// A cell with this value, and no future.
-    pub fn with_value(value: T) -> Self
-        ensures { result ≡ Owned value }
-    {
-        Lazy {
-            cell: OnceCell::new_with(value),
-            future: Mutex::new(None),
-        }
     }
 
     /// The value, if it is set. It polls nothing, and waits for nobody. Of a cell that tasks share no clause says what
@@ -122,7 +142,8 @@ impl<T, F: Future> Lazy<T, F> {
     /// let still = lazy.try_get().copied(); // Some(10)
     /// ```
     pub fn try_get(&self) -> Option<&T>
-        ensures { Lends self.now result }
+        ensures lends { Lends self.now result }
+        ensures promise { is_shared self.now ≡ true → IfSome result (λ value. V.fits (about_of self.now) value.now) }
     {
         self.cell.get()
     }
@@ -146,7 +167,8 @@ impl<T, F: Future> Lazy<T, F> {
     /// The value, if it was set. Else the future is dropped, and the answer is None, even if one poll
     /// of the future would give the value. A queue that futures left goes as well. It waits for nobody.
     pub fn into_inner(self) -> Option<T>
-        ensures { Gives self result }
+        ensures gives { Gives self result }
+        ensures promise { is_shared self ≡ true → IfSome result (V.fits (about_of self)) }
     {
         self.into_parts().ok()
     }
@@ -164,12 +186,13 @@ impl<T, F: Future> Lazy<T, F> {
     /// let last = task.poll(&mut future); // Ready(9): it went on where it stood
     /// ```
     pub fn into_parts(self) -> Result<T, Option<F>>
-        ensures { Gives self (result_ok result) }
+        ensures gives { Gives self (result_ok result) }
+        ensures promise { is_shared self ≡ true → IfOk result (V.fits (about_of self)) }
     {
         let Lazy { cell, future } = self;
         match cell.into_inner() {
             Some(value) => Ok(value),
-            None => Err(future.into_inner().map(Pollable::into_inner)),
+            None => Err(future.into_inner().0.map(Pollable::into_inner)),
         }
     }
 
@@ -185,13 +208,14 @@ impl<T, F: Future> Lazy<T, F> {
     /// ```
     pub fn replace_and_take(&mut self, replacement: Self) -> Option<T>
         ensures taken { Gives self.old result }
+        ensures promise { is_shared self.old ≡ true → IfSome result (V.fits (about_of self.old)) }
         ensures replaced { self.new ≡ replacement }
     {
         mem::replace(self, replacement).into_inner()
     }
 
     /// As [`Lazy::into_inner`], for a caller that was told the value.
-    pub fn into_inner_as(self, told: &Told<T>) -> T
+    pub fn into_inner_as(self, told: &Told<T, V>) -> T
         requires { told.now.cell ≡ self }
         ensures { result ≡ told.now.value }
     {
@@ -201,7 +225,7 @@ impl<T, F: Future> Lazy<T, F> {
     }
 
     /// As [`Lazy::replace_and_take`], for a caller that was told the value.
-    pub fn replace_and_take_as(&mut self, replacement: Self, told: &Told<T>) -> T
+    pub fn replace_and_take_as(&mut self, replacement: Self, told: &Told<T, V>) -> T
         requires { told.now.cell ≡ self.old }
         ensures taken { result ≡ told.now.value }
         ensures replaced { self.new ≡ replacement }
@@ -210,7 +234,7 @@ impl<T, F: Future> Lazy<T, F> {
     }
 
     /// Makes the value, which the caller was told, the owner's. From then on the clauses of all calls say which it is.
-    pub fn own_as(&mut self, told: &Told<T>)
+    pub fn own_as(&mut self, told: &Told<T, V>)
     where
         T: Drop,
         requires { told.now.cell ≡ self.old }
@@ -220,7 +244,7 @@ impl<T, F: Future> Lazy<T, F> {
     }
 
     /// A token that knows nothing yet. See [`Known`]. It takes no memory, and waits for nobody.
-    pub fn token(&self) -> Known<'_, T>
+    pub fn token(&self) -> Known<'_, T, V>
         ensures cell { result.cell ≡ self.now }
         ensures knows { result.value ≡ None }
     {
@@ -228,11 +252,12 @@ impl<T, F: Future> Lazy<T, F> {
     }
 
     /// As [`Lazy::try_get`], and the token learns the value that is answered. A token that knows one gets it, always.
-    pub fn try_get_as<'a>(&'a self, token: &mut Known<'a, T>) -> Option<&'a T>
+    pub fn try_get_as<'a>(&'a self, token: &mut Known<'a, T, V>) -> Option<&'a T>
         requires token_of_this_cell { token.old.cell ≡ self.now }
         ensures cell { token.new.cell ≡ token.old.cell }
         ensures value { Learns token.old.value token.new.value result }
         ensures lends { Lends self.now result }
+        ensures promise { is_shared self.now ≡ true → IfSome result (λ v. V.fits (about_of self.now) v.now) }
         ensures look { Looks self.now token.old.value (is_some result) token.old.log token.new.log }
         ensures set { IsSome result → IsSetIn self.now token.new.log }
         ensures stays { IsSetIn self.now token.old.log → IsSome result }
@@ -241,7 +266,7 @@ impl<T, F: Future> Lazy<T, F> {
     }
 }
 
-impl<T: fmt::Debug, F: Future> fmt::Debug for Lazy<T, F> {
+impl<T: fmt::Debug, F: Future, V: Fits<T> + Fits<F::Output>> fmt::Debug for Lazy<T, F, V> {
     fn fmt<W: fmt::Write>(&self, f: &mut fmt::Formatter<W>) -> fmt::Result {
         self.cell.fmt_as("Lazy", f)
     }

@@ -273,7 +273,7 @@ impl<T, V: Fits<T>> OnceCell<T, V> {
         ensures set { IsSome result → IsSetIn self.now token.new.log }
         ensures stays { IsSetIn self.now token.old.log → IsSome result }
     {
-        token.learn(self)
+        self.look(&mut token.seen)
     }
 }
 

@@ -37,14 +37,14 @@ use std::sync::Wait;
 // What shows the value that a task answered. It is as wide as its neighbours: the bytes that a narrow field leaves
 // free would be copied one by one when a future is made.
 #[derive(Drop)]
-struct Shown<T>(Written<T>, [u64; 0]);
+pub(crate) struct Shown<T>(pub(crate) Written<T>, pub(crate) [u64; 0]);
 
 /// A task of a cell with its init. A clause sees both.
 #[derive(Drop)]
 pub(crate) struct Waiting<'a, T, I: Drop, R: Wait + AllocGlobal, V: Fits<T> = Anything> {
     pub(crate) task: Task<'a, 'a, T, ListedWaker, R, V>,
     init: Option<I>,
-    shown: Option<Shown<T>>,
+    pub(crate) shown: Option<Shown<T>>,
     // The init is there until the task is finished.
     ghost has_init: { task.finished ≡ false → is_some init ≡ true },
 }
@@ -153,22 +153,6 @@ impl<'a, T, I: Drop, R: Wait + AllocGlobal, V: Fits<T>> Waiting<'a, T, I, R, V> 
         let mut side = Leaving::<T, R>::new(self.task.rt(), self.task.mark());
         self.task.leave(&mut side);
         stays_set(&before, &self.task.record());
-    }
-
-    #[inline(always)]
-    pub(crate) fn take_over(&mut self, written: &Written<T>)
-        requires finished { self.old.finished ≡ true }
-        requires nothing { self.old.init ≡ None }
-        requires of { written.now.of ≡ self.old.cell.id }
-        requires set { IsSet self.old.log }
-        ensures cell { self.new.cell ≡ self.old.cell }
-        ensures number { self.new.number ≡ self.old.number }
-        ensures log { self.new.log ≡ self.old.log }
-        ensures finished { self.new.finished ≡ true }
-        ensures init { self.new.init ≡ None }
-        ensures value { self.new.value ≡ Some written.now.value }
-    {
-        self.shown = Some(Shown(written.again(), []));
     }
 }
 

@@ -1,13 +1,16 @@
 //! A cell that promises its value: ten times a key. So callers that have no token know what they are told, on any
-//! thread, and what the cell's owner takes out of it.
-ghost use Rattle.std.specs.Prelude.{◌≡◌, ◌*◌, ◌^◌, ◌<◌, [], ◌∷◌, true, IfOk, IfSome};
+//! thread, and what the cell's owner takes out of it. And a lazy cell that promises an even value.
+ghost use Rattle.std.specs.Prelude.{◌≡◌, ◌*◌, ◌^◌, ◌<◌, [], ◌∷◌, ℕ, true, IfOk, IfSome};
 ghost use Rattle.async_once_cell.specs.Views.{about_of, is_shared};
 
 use crate::fault::Fault;
-use async_once_cell::OnceCell;
+use async_once_cell::{Lazy, OnceCell};
 use boxcar::tag::Tag;
+use futures::Future;
+use futures::task::{Context, Poll};
 use memo_table::fetch::{Fetch, TenTimes};
 use memo_table::memo::Key;
+use pagebook::Fits;
 use std::alloc::AllocGlobal;
 use std::io::Write;
 use std::random::RandomSource;
@@ -89,7 +92,61 @@ where
     Ok((first, cell.take()))
 }
 
-/// Prints what the owner takes.
+/// Promises that a number is even.
+struct IsEven;
+
+impl Fits<u64> for IsEven {
+    ghost fits = { λ _ value. (half : ℕ) × (value ≡ half * 2) };
+}
+
+/// A future that gives twice a number.
+#[derive(Drop)]
+struct Twice {
+    half: u64,
+    ghost small: { half * 2 < 2 ^ 64 },
+}
+
+impl Future for Twice {
+    type Output = u64;
+
+    ghost gives = { λ twice value. value ≡ twice.half * 2 };
+
+    fn poll(&mut self, _cx: &mut Context<'_>) -> Poll<u64> {
+        Poll::Ready(self.half * 2)
+    }
+}
+
+/// The value of a lazy cell, for a caller without a token and over any future.
+fn even<F, R>(rt: &R, lazy: &Lazy<u64, F, IsEven>) -> Result<u64, Fault>
+where
+    F: Future<Output = u64>,
+    R: Wait + RandomSource + AllocGlobal,
+    requires { is_shared lazy.now ≡ true }
+    ensures { IfOk result (λ value. (half : ℕ) × (value ≡ half * 2)) }
+{
+    Ok(*lazy.get(rt).wait()??)
+}
+
+/// What two threads are told. Both numbers are even.
+fn both_even<R>(rt: &R) -> Result<(u64, u64), Fault>
+where
+    R: Threads + Wait + RandomSource + AllocGlobal + Sync,
+    ensures { IfOk result (λ told. ((half : ℕ) × (told.0 ≡ half * 2)) × ((half : ℕ) × (told.1 ≡ half * 2))) }
+{
+    let lazy = Lazy::<u64, Twice, IsEven>::promised(Twice { half: 21 });
+    let (here, there) = thread::join(
+        rt,
+        ||
+            requires { is_shared lazy ≡ true }
+        { even(rt, &lazy) },
+        ||
+            requires { is_shared lazy ≡ true }
+        { even(rt, &lazy) },
+    );
+    Ok((here?, there?))
+}
+
+/// Prints what the owner takes, and what the threads are told.
 pub fn show<R, O>(rt: &R, output: &mut O) -> Result<(), Fault>
 where
     R: Threads + Wait + RandomSource + AllocGlobal + Sync,
@@ -97,5 +154,7 @@ where
 {
     let (first, second) = taken_twice(rt, 7)?;
     writeln!(output, "as promised: {first:?} {second:?}")?;
+    let (here, there) = both_even(rt)?;
+    writeln!(output, "even: {here} {there}")?;
     Ok(())
 }

@@ -1,32 +1,33 @@
 //! The future of a cell that owns its init.
-ghost use Rattle.std.specs.Prelude.{◌≡◌, ◌≢◌, ⊤, IfSome, IsSome, None, Result, false, true, reverse};
+ghost use Rattle.std.specs.Prelude.{◌≡◌, ◌≢◌, ⊤, ℕ, IfSome, IsSome, List, None, Option, Result, false, true, reverse};
 ghost use Rattle.std.specs.Option.{option_or};
 ghost use Rattle.std.specs.Borrow.{Bor};
 ghost use Rattle.futures.specs.Poll.{IfReady, OnPending};
 ghost use Rattle.futures.specs.Task.{Covers, Keeps};
 ghost use mathlib.Core.List.{IsPrefix};
-ghost use Rattle.async_once_cell.specs.Polls.{Answers, DidPoll, HasLeft, IsMade, IsValue, IsValueAtOnce, Polls};
-ghost use Rattle.async_once_cell.specs.Polls.{PollsAs, SpansIn, Waits, ending_by, ending_of_refusal, value_of};
+ghost use Rattle.async_once_cell.specs.Polls.{Answers, DidPoll, HasLeft, IfValue, IsMade, IsValue, IsValueAtOnce};
+ghost use Rattle.async_once_cell.specs.Polls.{Polls, PollsAs, SpansIn, Waits, ending_by, ending_of_refusal, value_of};
 ghost use Rattle.async_once_cell.specs.Tokens.{Agrees, IsSetIn};
-ghost use Rattle.async_once_cell.specs.Views.{is_shared, FutureView};
+ghost use Rattle.async_once_cell.specs.Views.{about_of, is_shared};
+ghost use Rattle.once_parts.specs.Inits.{MayGive};
 ghost use Rattle.once_parts.specs.Kept.{entries_of, most};
 ghost use Rattle.once_parts.specs.Record.{IsSet, PollsOnce, WasFilled};
 ghost use Rattle.once_parts.specs.Walks.{end_of};
 ghost use Rattle.once_machine.specs.Called.{SomebodyCalled};
 ghost use Rattle.once_machine.specs.Record.{Once};
 ghost use Rattle.once_machine.specs.Run.{AtEvery, IsRun, NobodyForgotten};
-ghost use Rattle.async_once_cell.specs.declared.lazy.future.Driven.{Driven};
 
 use crate::init::{Failed, Init, Refused, Yields};
 use crate::once::{Initializing, Known, OnceCell, Parker};
 use futures::Future;
 use futures::task::{Context, Poll};
 use once_parts::{Hand, Pollable};
+use pagebook::{Anything, Fits};
 use std::alloc::AllocGlobal;
-use std::marker::Model;
+use std::marker::{Model, PhantomData};
 use std::random::RandomSource;
 use std::sync::{Mutex, MutexGuard, Wait};
-use std::{fmt, io};
+use std::{fmt, io, mem};
 
 /// Future of [`Lazy::get`](crate::Lazy::get). A poll answers the value that is set. While none is set, the task that
 /// gets the right polls the cell's future; the others are Pending until they are woken. To drop one of these leaves the
@@ -36,26 +37,36 @@ use std::{fmt, io};
 /// drop may wait for is said there too. Besides, a poll may wait for the lock in which the cell keeps its future.
 /// Nobody has that lock while the future is polled.
 #[derive(Drop)]
-pub struct LazyFuturePin<'a, T, F: Future, R: Wait + AllocGlobal> {
-    inner: Initializing<'a, T, Refused, Driven<'a, F, R>, R>,
+pub struct LazyFuturePin<'a, T, F: Future, R: Wait + AllocGlobal, V = Anything>
+where
+    V: Fits<T> + Fits<F::Output>,
+{
+    inner: Initializing<'a, T, Refused, Driven<'a, F, R, V>, R, V>,
 }
 
 /// Future of [`Lazy::get_unpin`](crate::Lazy::get_unpin) and of [`Lazy::into_future`](crate::Lazy::into_future). It is
 /// the same type, because all futures of a cell may be moved between their polls.
-pub type LazyFutureUnpin<'a, T, F, R> = LazyFuturePin<'a, T, F, R>;
+pub type LazyFutureUnpin<'a, T, F, R, V = Anything> = LazyFuturePin<'a, T, F, R, V>;
 
-impl<'a, T, F: Future, R: Wait + AllocGlobal> Model for LazyFuturePin<'a, T, F, R> {
-    ghost Value = { FutureView T (Driven F R F.Output) };
+impl<'a, T, F: Future, R: Wait + AllocGlobal, V: Fits<T> + Fits<F::Output>> Model
+    for LazyFuturePin<'a, T, F, R, V> {
+    ghost use Rattle.async_once_cell.specs.declared.lazy.future.Driven.{Driven};
+    ghost use Rattle.async_once_cell.specs.Views.{FutureView};
+
+    ghost Value = { FutureView T (Driven F R V F.Output) };
 
     ghost view = { λ f. f.inner };
 }
 
-impl<'a, T, F: Future, R: Wait + AllocGlobal> LazyFuturePin<'a, T, F, R> {
+impl<'a, T, F: Future, R, V: Fits<T> + Fits<F::Output>> LazyFuturePin<'a, T, F, R, V>
+where
+    R: Wait + AllocGlobal,
+{
     #[inline(always)]
     pub(super) fn new(
-        cell: &'a OnceCell<T>,
+        cell: &'a OnceCell<T, V>,
         rt: &'a R,
-        future: &'a Mutex<Option<Pollable<F>>>,
+        future: &'a Mutex<Promised<F, V>>,
     ) -> Self
         ensures cell { result.cell ≡ cell.now }
         ensures live { result.finished ≡ false }
@@ -87,7 +98,7 @@ impl<'a, T, F: Future, R: Wait + AllocGlobal> LazyFuturePin<'a, T, F, R> {
     }
 
     /// As [`Initializing::tell`].
-    pub fn tell(&self, token: &mut Known<'a, T>)
+    pub fn tell(&self, token: &mut Known<'a, T, V>)
         requires token_of_this_cell { token.old.cell ≡ self.now.cell }
         ensures cell { token.new.cell ≡ token.old.cell }
         ensures value { token.new.value ≡ option_or token.old.value self.now.value }
@@ -101,7 +112,7 @@ impl<'a, T, F: Future, R: Wait + AllocGlobal> LazyFuturePin<'a, T, F, R> {
 
     /// As [`Initializing::learn`].
     #[inline(always)]
-    pub fn learn(&mut self, token: &Known<'a, T>)
+    pub fn learn(&mut self, token: &Known<'a, T, V>)
         requires token_of_this_cell { token.now.cell ≡ self.old.cell }
         ensures cell { self.new.cell ≡ self.old.cell }
         ensures task { self.new.task ≡ self.old.task }
@@ -143,13 +154,18 @@ impl<'a, T, F: Future, R: Wait + AllocGlobal> LazyFuturePin<'a, T, F, R> {
     }
 }
 
-impl<'a, T: Drop, F: Future<Output = T>, R: Wait + AllocGlobal> LazyFuturePin<'a, T, F, R> {
+impl<'a, T: Drop, F: Future<Output = T>, R, V: Fits<T>> LazyFuturePin<'a, T, F, R, V>
+where
+    R: Wait + AllocGlobal,
+{
     /// As [`Initializing::poll`]. The cell's future has no error of its own to tell.
     #[inline(always)]
     pub fn poll(&mut self, cx: &mut Context<'_>) -> Poll<Result<&'a T, Refused>>
         requires unfinished { self.old.finished ≡ false }
         ensures call { DidPoll self.old self.new cx.old cx.new (ending_by ending_of_refusal result) }
         ensures value { Answers self.old.cell result }
+        ensures promise { is_shared self.old.cell ≡ true
+            → IfSome (value_of result) (λ value. V.fits (about_of self.old.cell) value) }
         ensures answered { self.new.value ≡ value_of result }
         ensures late { IsSetIn self.old.cell self.old.log → IsValue result }
     {
@@ -160,13 +176,14 @@ impl<'a, T: Drop, F: Future<Output = T>, R: Wait + AllocGlobal> LazyFuturePin<'a
     pub fn poll_as(
         &mut self,
         cx: &mut Context<'_>,
-        token: &mut Known<'a, T>,
+        token: &mut Known<'a, T, V>,
     ) -> Poll<Result<&'a T, Refused>>
         requires unfinished { self.old.finished ≡ false }
         requires token_of_this_cell { token.old.cell ≡ self.old.cell }
         ensures call { PollsAs token.old.value self.old self.new cx.old cx.new (ending_by ending_of_refusal result) }
         ensures cell { token.new.cell ≡ token.old.cell }
         ensures value { Polls token.old.value token.new.value result }
+        ensures promise { is_shared self.old.cell ≡ true → IfSome (value_of result) (V.fits (about_of self.old.cell)) }
         ensures answered { self.new.value ≡ value_of result }
         ensures log { IsPrefix token.old.log token.new.log }
         ensures spans { token.old.value ≡ None
@@ -183,12 +200,13 @@ impl<'a, T: Drop, F: Future<Output = T>, R: Wait + AllocGlobal> LazyFuturePin<'a
     where
         R: RandomSource,
         requires unfinished { self.finished ≡ false }
+        ensures promise { is_shared self.entry.cell ≡ true → IfValue result (V.fits (about_of self.entry.cell)) }
     {
         self.inner.wait()
     }
 
     /// As [`Initializing::wait_as`].
-    pub fn wait_as(self, token: &mut Known<'a, T>) -> io::Result<Result<&'a T, Refused>>
+    pub fn wait_as(self, token: &mut Known<'a, T, V>) -> io::Result<Result<&'a T, Refused>>
     where
         R: RandomSource,
         requires unfinished { self.finished ≡ false }
@@ -197,6 +215,7 @@ impl<'a, T: Drop, F: Future<Output = T>, R: Wait + AllocGlobal> LazyFuturePin<'a
         ensures value { Waits token.old.value token.new.value result }
         ensures log { IsPrefix token.old.log token.new.log }
         ensures late { IsSetIn token.old.cell token.old.log → IsValueAtOnce result }
+        ensures promise { is_shared self.entry.cell ≡ true → IfValue result (V.fits (about_of self.entry.cell)) }
     {
         self.inner.wait_as(token)
     }
@@ -204,6 +223,7 @@ impl<'a, T: Drop, F: Future<Output = T>, R: Wait + AllocGlobal> LazyFuturePin<'a
     /// As [`Initializing::wait_on`].
     pub fn wait_on(self, parker: &mut Parker) -> io::Result<Result<&'a T, Refused>>
         requires unfinished { self.finished ≡ false }
+        ensures promise { is_shared self.entry.cell ≡ true → IfValue result (V.fits (about_of self.entry.cell)) }
     {
         self.inner.wait_on(parker)
     }
@@ -211,7 +231,7 @@ impl<'a, T: Drop, F: Future<Output = T>, R: Wait + AllocGlobal> LazyFuturePin<'a
     /// As [`Initializing::wait_as_on`].
     pub fn wait_as_on(
         self,
-        token: &mut Known<'a, T>,
+        token: &mut Known<'a, T, V>,
         parker: &mut Parker,
     ) -> io::Result<Result<&'a T, Refused>>
         requires unfinished { self.finished ≡ false }
@@ -220,13 +240,14 @@ impl<'a, T: Drop, F: Future<Output = T>, R: Wait + AllocGlobal> LazyFuturePin<'a
         ensures value { Waits token.old.value token.new.value result }
         ensures log { IsPrefix token.old.log token.new.log }
         ensures late { IsSetIn token.old.cell token.old.log → IsValueAtOnce result }
+        ensures promise { is_shared self.entry.cell ≡ true → IfValue result (V.fits (about_of self.entry.cell)) }
     {
         self.inner.wait_as_on(token, parker)
     }
 }
 
-impl<'a, T: Drop, F: Future<Output = T>, R: Wait + AllocGlobal> Future
-    for LazyFuturePin<'a, T, F, R> {
+impl<'a, T: Drop, F: Future<Output = T>, R: Wait + AllocGlobal, V: Fits<T>> Future
+    for LazyFuturePin<'a, T, F, R, V> {
     type Output = Result<&'a T, Refused>;
 
     #[inline(always)]
@@ -239,52 +260,74 @@ impl<'a, T: Drop, F: Future<Output = T>, R: Wait + AllocGlobal> Future
         ensures call { self.old.finished ≡ false
             → DidPoll self.old self.new cx.old cx.new (ending_by ending_of_refusal result) }
         ensures answers { self.old.finished ≡ false → Answers self.old.cell result }
+        ensures promise { is_shared self.old.cell ≡ true → IfSome (value_of result) (V.fits (about_of self.old.cell)) }
         ensures answered { self.old.finished ≡ false → self.new.value ≡ value_of result }
         ensures late { self.old.finished ≡ false → IsSetIn self.old.cell self.old.log → IsValue result }
         ensures over { self.old.finished ≡ true → (result ≡ Poll.Pending) × (self.new ≡ self.old) }
     {
-        <Initializing<'a, T, Refused, Driven<'a, F, R>, R> as Future>::poll(&mut self.inner, cx)
+        <Initializing<'a, T, Refused, Driven<'a, F, R, V>, R, V> as Future>::poll(
+            &mut self.inner,
+            cx,
+        )
     }
 }
 
-impl<T, F: Future, R: Wait + AllocGlobal> fmt::Debug for LazyFuturePin<'_, T, F, R> {
+impl<T, F: Future, R: Wait + AllocGlobal, V: Fits<T> + Fits<F::Output>> fmt::Debug
+    for LazyFuturePin<'_, T, F, R, V> {
     fn fmt<W: fmt::Write>(&self, f: &mut fmt::Formatter<W>) -> fmt::Result {
         let finished = self.is_finished();
         write!(f, "LazyFuturePin {{ finished: {finished} }}")
     }
 }
 
-// The future of a cell, as whoever holds the right drives it on. To drop this leaves it as it is.
+/// What a cell keeps of its future, if that is there: it gives no value but such as fit what the cell promises.
 #[derive(Drop)]
-pub(crate) struct Driven<'a, F: Future, R> {
-    rt: &'a R,
-    future: &'a Mutex<Option<Pollable<F>>>,
+pub(super) struct Promised<F: Future, V: Fits<F::Output>>(
+    pub(super) Option<Pollable<F>>,
+    pub(super) PhantomData<V>,
+);
+
+impl<F: Future, V: Fits<F::Output>> Model for Promised<F, V> {
+    ghost Value = { Option F };
+
+    ghost view = { λ p. p.0 };
+
+    ghost invariant = { λ p. (v : F.Output) → MayGive F.gives p.0 v → (about : List ℕ) → V.fits about v };
 }
 
-impl<F: Future, R: Wait> Driven<'_, F, R> {
+// The future of a cell, as whoever holds the right drives it on. To drop this leaves it as it is.
+#[derive(Drop)]
+pub(crate) struct Driven<'a, F: Future, R, V: Fits<F::Output>> {
+    rt: &'a R,
+    future: &'a Mutex<Promised<F, V>>,
+}
+
+impl<F: Future, R: Wait, V: Fits<F::Output>> Driven<'_, F, R, V> {
     // Only the task that has the right takes the future out, and it puts it back before it gives the right back. So it
     // is there at the first look. No clause says so, and hence a look that missed it would look again.
     #[inline(always)]
-    fn take_out(&self) -> Option<Pollable<F>>
+    fn take_out(&self) -> Promised<F, V>
         ensures { IsSome result }
     {
         for _ in self.rt.forever() {
-            let future = self.locked().take();
-            if future.is_some() {
-                return future;
+            let kept = mem::replace(&mut *self.locked(), Promised(None, PhantomData));
+            if kept.0.is_some() {
+                return kept;
             }
         }
         unreachable!()
     }
 
     #[inline(always)]
-    fn put_back(&self, future: Option<Pollable<F>>) {
-        *self.locked() = future;
+    fn put_back(&self, future: Option<Pollable<F>>)
+        requires { (v : F.Output) → MayGive F.gives future v → (about : List ℕ) → V.fits about v }
+    {
+        *self.locked() = Promised(future, PhantomData);
     }
 
     // The lock is mostly free: then this makes no call, as `lock` would.
     #[inline(always)]
-    fn locked(&self) -> MutexGuard<'_, Option<Pollable<F>>> {
+    fn locked(&self) -> MutexGuard<'_, Promised<F, V>> {
         match self.future.try_lock() {
             Some(held) => held,
             None => self.future.lock(self.rt),
@@ -292,11 +335,11 @@ impl<F: Future, R: Wait> Driven<'_, F, R> {
     }
 }
 
-impl<T, F: Future, R> Yields<T, Refused> for Driven<'_, F, R> {
-    ghost may_give = { λ _ _. ⊤ };
+impl<T, F: Future, R, V: Fits<T> + Fits<F::Output>> Yields<T, Refused> for Driven<'_, F, R, V> {
+    ghost may_give = { λ _ v. (about : List ℕ) → V.Fits-1.fits about v };
 }
 
-impl<T, F: Future<Output = T>, R: Wait> Init<T, Refused> for Driven<'_, F, R> {
+impl<T, F: Future<Output = T>, R: Wait, V: Fits<T>> Init<T, Refused> for Driven<'_, F, R, V> {
     ghost may_fail = { λ _ _. ⊥ };
 
     // The future is polled with the lock free. When it gave its value it is dropped, before the value is set.
@@ -307,7 +350,7 @@ impl<T, F: Future<Output = T>, R: Wait> Init<T, Refused> for Driven<'_, F, R> {
         right: &mut Hand,
     ) -> Poll<Result<T, Failed<Refused>>> {
         let Some(driven) = init else { unreachable!() };
-        let mut future = driven.take_out();
+        let Promised(mut future, _) = driven.take_out();
         let polled = <Pollable<F> as Init<T, Refused>>::poll_init(&mut future, cx, right);
         driven.put_back(future);
         polled

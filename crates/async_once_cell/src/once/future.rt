@@ -21,7 +21,7 @@ ghost use Rattle.async_once_cell.specs.Futures.{IsAsked, KeepsPromise, view_of_f
 use super::known::Seen;
 use super::{Known, OnceCell, Value};
 use crate::init::{Failure, Init, InitError, Refused, Yields};
-use crate::waiting::Waiting;
+use crate::waiting::{Shown, Waiting};
 use futures::Future;
 use futures::task::{Context, Poll};
 use once_parts::Pollable;
@@ -69,7 +69,7 @@ pub type TryInitFuture<'a, T, E, F, R, V = Anything> = Initializing<
 /// far as the task has seen it. It sees also whether the future is finished, and the value that it answered.
 pub struct Initializing<'a, T, X, I: Yields<T, X>, R: Wait + AllocGlobal, V: Fits<T> = Anything> {
     failure: PhantomData<X>,
-    cell: &'a OnceCell<T, V>,
+    pub(super) cell: &'a OnceCell<T, V>,
     asked: Asked<'a, T, I, R, V>,
 }
 
@@ -105,13 +105,6 @@ impl<'a, T, X, I: Yields<T, X>, R: Wait + AllocGlobal, V: Fits<T>> Initializing<
                 asked: Asked::Shared(Waiting::new(inner, rt, init)),
             },
         }
-    }
-
-    #[inline(always)]
-    pub(super) fn cell(&self) -> &'a OnceCell<T, V>
-        ensures { result.now ≡ self.now.cell }
-    {
-        self.cell
     }
 
     #[inline(always)]
@@ -188,7 +181,7 @@ impl<'a, T, X, I: Yields<T, X>, R: Wait + AllocGlobal, V: Fits<T>> Initializing<
         ensures other { IsPrefix self.now.log token.new.log }
         ensures set { IsSetIn self.now.cell self.now.log → IsSetIn token.new.cell token.new.log }
     {
-        token.learn_seen(&self.seen());
+        token.seen.learn_from(&self.seen());
     }
 
     /// The future takes over what a token of its cell has seen of the record: its next poll comes after that. It waits
@@ -212,7 +205,7 @@ impl<'a, T, X, I: Yields<T, X>, R: Wait + AllocGlobal, V: Fits<T>> Initializing<
         ensures own_set { IsSetIn self.old.cell self.old.log → IsSetIn self.new.cell self.new.log }
         ensures other_set { IsSetIn token.now.cell token.now.log → IsSetIn self.new.cell self.new.log }
     {
-        match (&mut self.asked, token.seen()) {
+        match (&mut self.asked, &token.seen) {
             (Asked::Shared(waiting), Seen::Shared(record, _)) => waiting.learn(record),
             (Asked::Owned(_, _) | Asked::Answered(_) | Asked::Left(_), Seen::Owned(_)) => {}
             _ => unreachable!(),
@@ -269,10 +262,10 @@ impl<'a, T, X, I: Yields<T, X>, R: Wait + AllocGlobal, V: Fits<T>> Initializing<
         ensures left { HasLeft self.old self.new }
         ensures value { self.new.value ≡ token.now.value }
     {
-        match (&mut self.asked, token.seen()) {
+        match (&mut self.asked, &token.seen) {
             (Asked::Shared(waiting), Seen::Shared(_, Some(written))) => {
                 waiting.leave();
-                waiting.take_over(written);
+                waiting.shown = Some(Shown(written.again(), []));
             }
             (Asked::Owned(rt, _), Seen::Owned(true)) => self.asked = Asked::Answered(*rt),
             _ => unreachable!(),
@@ -358,7 +351,7 @@ where
         self.learn(token);
         if token.knows_value() {
             self.leave_as(token);
-            return Poll::Ready(Ok(token.learn(self.cell).unwrap()));
+            return Poll::Ready(Ok(self.cell.get_as(token).unwrap()));
         }
         let polled = self.poll(cx);
         self.tell(token);

@@ -36,7 +36,7 @@ pub(super) enum Seen<T> {
 #[derive(Drop)]
 pub struct Known<'a, T, V: Fits<T> = Anything> {
     cell: &'a OnceCell<T, V>,
-    seen: Seen<T>,
+    pub(super) seen: Seen<T>,
     // None always. It keeps `'a` at one lifetime for the borrow checker, which a `PhantomData` does not do yet.
     lifetime: Option<OnceToken<'a, T>>,
 }
@@ -65,20 +65,6 @@ impl<'a, T, V: Fits<T>> Known<'a, T, V> {
         }
     }
 
-    // The value of the cell, if the token knows it or the cell shows it.
-    pub(super) fn learn(&mut self, cell: &'a OnceCell<T, V>) -> Option<&'a T>
-        requires token_of_this_cell { self.old.cell ≡ cell.now }
-        ensures cell { self.new.cell ≡ self.old.cell }
-        ensures value { Learns self.old.value self.new.value result }
-        ensures lends { Lends cell.now result }
-        ensures promise { is_shared cell.now ≡ true → IfSome result (λ v. V.fits (about_of cell.now) v.now) }
-        ensures look { Looks cell.now self.old.value (is_some result) self.old.log self.new.log }
-        ensures set { IsSome result → IsSetIn cell.now self.new.log }
-        ensures stays { IsSetIn cell.now self.old.log → IsSome result }
-    {
-        cell.look(&mut self.seen)
-    }
-
     pub(super) fn knows_value(&self) -> bool
         ensures knows { result ≡ is_some self.now.value }
         ensures set { result ≡ true → IsSetIn self.now.cell self.now.log }
@@ -103,28 +89,6 @@ impl<'a, T, V: Fits<T>> Known<'a, T, V> {
         }
     }
 
-    #[inline(always)]
-    pub(super) fn seen(&self) -> &Seen<T>
-        ensures of { IsOf self.now.cell result.now }
-        ensures value { known_of self.now.cell result.now ≡ self.now.value }
-        ensures log { log_of result.now ≡ self.now.log }
-    {
-        &self.seen
-    }
-
-    #[inline(always)]
-    pub(super) fn learn_seen(&mut self, other: &Seen<T>)
-        requires of { IsOf self.old.cell other.now }
-        ensures cell { self.new.cell ≡ self.old.cell }
-        ensures value { self.new.value ≡ option_or self.old.value (known_of self.old.cell other.now) }
-        ensures agrees { IfSome (known_of self.old.cell other.now) (Agrees self.old.value) }
-        ensures own { IsPrefix self.old.log self.new.log }
-        ensures other { IsPrefix (log_of other.now) self.new.log }
-        ensures set { IsSetIn self.old.cell (log_of other.now) → IsSetIn self.new.cell self.new.log }
-    {
-        self.seen.learn_from(other);
-    }
-
     /// Takes over what another token of the cell has seen: its record, and its value if this one knows none. If both
     /// know a value, it is one. It waits for nobody. Here `other` knows the value, and so `token` does then:
     ///
@@ -141,7 +105,7 @@ impl<'a, T, V: Fits<T>> Known<'a, T, V> {
         ensures other { IsPrefix other.now.log self.new.log }
         ensures set { IsSetIn other.now.cell other.now.log → IsSetIn self.new.cell self.new.log }
     {
-        self.learn_seen(&other.seen);
+        self.seen.learn_from(&other.seen);
     }
 
     /// It does nothing. Its contract is about the record of a cell that tasks share. The record is a run of the cell,
@@ -239,7 +203,7 @@ impl<T, V: Fits<T>> Model for Told<T, V> {
 }
 
 impl<T> Seen<T> {
-    fn learn_from(&mut self, other: &Seen<T>)
+    pub(super) fn learn_from(&mut self, other: &Seen<T>)
         requires of { (c : CellView T) × IsOf c self.old × IsOf c other.now }
         ensures of { (c : CellView T) → IsOf c self.old → IsOf c other.now
             → IsOf c self.new × (known_of c self.new ≡ option_or (known_of c self.old) (known_of c other.now))
@@ -280,7 +244,8 @@ fn take_over(own: &mut Record, seen: &Record)
 }
 
 impl<T, V: Fits<T>> OnceCell<T, V> {
-    fn look(&self, seen: &mut Seen<T>) -> Option<&T>
+    // The value, if the token that saw this knows it or the cell shows it.
+    pub(super) fn look(&self, seen: &mut Seen<T>) -> Option<&T>
         requires { IsOf self.now seen.old }
         ensures of { IsOf self.now seen.new }
         ensures value { Learns (known_of self.now seen.old) (known_of self.now seen.new) result }

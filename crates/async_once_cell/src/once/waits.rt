@@ -2,7 +2,7 @@
 ghost use Rattle.std.specs.Prelude.{◌≡◌, IfOk, None, false, true};
 ghost use Rattle.async_once_cell.specs.Inits.{TellsOwn};
 ghost use mathlib.Core.List.{IsPrefix};
-ghost use Rattle.async_once_cell.specs.Polls.{IsValueAtOnce, Waits};
+ghost use Rattle.async_once_cell.specs.Polls.{IfValue, IsValueAtOnce, Waits};
 ghost use Rattle.async_once_cell.specs.Tokens.{IsSetIn};
 ghost use Rattle.async_once_cell.specs.Views.{about_of, is_shared};
 
@@ -10,7 +10,7 @@ use super::{Initializing, Known};
 use crate::init::{Failure, Init};
 use futures::task::{Context, Doorbell, Poll, Queue};
 use pagebook::Fits;
-use std::alloc::{AllocError, AllocGlobal};
+use std::alloc::AllocGlobal;
 use std::io;
 use std::random::RandomSource;
 use std::sync::Wait;
@@ -33,10 +33,9 @@ where
         R: RandomSource,
         requires unfinished { self.finished ≡ false }
         ensures own { IfOk result (TellsOwn I.may_fail X.ending self.entry.init) }
-        ensures promise { is_shared self.entry.cell ≡ true
-            → IfOk result (λ r. IfOk r (λ v. V.fits (about_of self.entry.cell) v.now)) }
+        ensures promise { is_shared self.entry.cell ≡ true → IfValue result (V.fits (about_of self.entry.cell)) }
     {
-        let mut token = self.cell().token();
+        let mut token = self.cell.token();
         self.wait_as(&mut token)
     }
 
@@ -51,10 +50,9 @@ where
         ensures log { IsPrefix token.old.log token.new.log }
         ensures late { IsSetIn token.old.cell token.old.log → IsValueAtOnce result }
         ensures own { IfOk result (TellsOwn I.may_fail X.ending self.entry.init) }
-        ensures promise { is_shared self.entry.cell ≡ true
-            → IfOk result (λ r. IfOk r (λ v. V.fits (about_of self.entry.cell) v.now)) }
+        ensures promise { is_shared self.entry.cell ≡ true → IfValue result (V.fits (about_of self.entry.cell)) }
     {
-        if let Some(value) = self.cell().get_as(token) {
+        if let Some(value) = self.cell.get_as(token) {
             return Ok(Ok(value));
         }
         let mut parker = Parker::new(self.rt())?;
@@ -65,10 +63,9 @@ where
     pub fn wait_on(self, parker: &mut Parker) -> io::Result<Result<&'a T, X>>
         requires unfinished { self.finished ≡ false }
         ensures own { IfOk result (TellsOwn I.may_fail X.ending self.entry.init) }
-        ensures promise { is_shared self.entry.cell ≡ true
-            → IfOk result (λ r. IfOk r (λ v. V.fits (about_of self.entry.cell) v.now)) }
+        ensures promise { is_shared self.entry.cell ≡ true → IfValue result (V.fits (about_of self.entry.cell)) }
     {
-        let mut token = self.cell().token();
+        let mut token = self.cell.token();
         self.wait_as_on(&mut token, parker)
     }
 
@@ -85,10 +82,9 @@ where
         ensures log { IsPrefix token.old.log token.new.log }
         ensures late { IsSetIn token.old.cell token.old.log → IsValueAtOnce result }
         ensures own { IfOk result (TellsOwn I.may_fail X.ending self.entry.init) }
-        ensures promise { is_shared self.entry.cell ≡ true
-            → IfOk result (λ r. IfOk r (λ v. V.fits (about_of self.entry.cell) v.now)) }
+        ensures promise { is_shared self.entry.cell ≡ true → IfValue result (V.fits (about_of self.entry.cell)) }
     {
-        if let Some(value) = self.cell().get_as(token) {
+        if let Some(value) = self.cell.get_as(token) {
             return Ok(Ok(value));
         }
         self.wait_begun(token, parker)
@@ -107,10 +103,9 @@ where
         ensures value { Waits token.old.value token.new.value result }
         ensures log { IsPrefix token.old.log token.new.log }
         ensures own { IfOk result (TellsOwn I.may_fail X.ending self.old.init) }
-        ensures promise { is_shared self.old.cell ≡ true
-            → IfOk result (λ r. IfOk r (λ v. V.fits (about_of self.old.cell) v.now)) }
+        ensures promise { is_shared self.old.cell ≡ true → IfValue result (V.fits (about_of self.old.cell)) }
     {
-        parker.begin()?;
+        parker.tasks.add()?.schedule();
         let rt = self.rt();
         for _ in rt.forever() {
             let mut cx = parker.next(rt)?;
@@ -148,12 +143,7 @@ impl Parker {
         })
     }
 
-    fn begin(&self) -> Result<(), AllocError> {
-        self.tasks.add()?.schedule();
-        Ok(())
-    }
-
-    // Sleeps until the task is to be polled. There always is one: `begin` adds it, and one wait at a time uses this.
+    // Sleeps until the task is to be polled. There always is one: a wait adds it, and one wait at a time uses this.
     fn next<R: Wait>(&self, rt: &R) -> io::Result<Context<'_>> {
         match self.tasks.next(rt) {
             Some(cx) => Ok(cx),
