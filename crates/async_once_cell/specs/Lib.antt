@@ -18,7 +18,6 @@ pub use Rattle.once_machine.specs.Ops
 pub use Rattle.once_machine.specs.Sections
 pub use Rattle.once_machine.specs.Steps
 pub use Rattle.once_machine.specs.Table
-pub use Rattle.once_machine.specs.Places
 pub use Rattle.once_machine.specs.Cell
 pub use Rattle.once_machine.specs.Tasks
 pub use Rattle.once_machine.specs.Wakers

@@ -1,5 +1,6 @@
 -- What a poll of a cell's future answers and leaves, in the record too.
-use Rattle.std.specs.Prelude.{◌≡◌, ℕ, ⊤, Bool, true, false, List, [], ◌∷◌, Option, Some, None, Result, Ok, Err, IfOk}
+use Rattle.std.specs.Prelude.{◌≡◌, ℕ, ⊤, Bool, true, false, List, [], ◌∷◌, Option, Some, None, Result, Ok, Err}
+use Rattle.std.specs.Prelude.{IfOk, IfSome}
 use Rattle.std.specs.Borrow.{Bor}
 use Rattle.futures.specs.declared.task.Poll.{Poll}
 use Rattle.futures.specs.declared.task.Poll.TheVariants.{Ready, Pending}
@@ -14,7 +15,9 @@ use Rattle.once_machine.specs.declared.step.Ending.TheVariants.{Dropped as EndDr
 use Rattle.once_machine.specs.declared.step.Ending.TheVariants.{Full as EndFull, Memory as EndMemory}
 use Rattle.once_machine.specs.declared.step.Ending.TheVariants.{Pending as EndPending, Value as EndValue}
 use Rattle.once_machine.specs.declared.step.Ending.{Ending}
+use Rattle.once_parts.specs.Inits.{MayGive}
 use Rattle.once_parts.specs.Kept.{Grew}
+use Rattle.once_parts.specs.Record.{gave_value}
 use Rattle.once_parts.specs.Walks.{IsOneCall, Spans, end_of}
 use Rattle.async_once_cell.specs.Tokens.{Agrees, IsSetIn}
 use Rattle.async_once_cell.specs.Views.{CellView, FutureView, Owned, Shared}
@@ -110,6 +113,12 @@ IsMade f = MadeIn f.cell f.task f.log × (f.value ≡ None)
 abbrev pub value_of : {T E : Type 0} → Poll (Result (Bor T) E) → Option T
 value_of (Ready (Ok v)) = Some v.now
 value_of _ = None
+
+-- if the task's own init gave a value in a poll, the value that is answered is one that this init might give
+abbrev pub AnswersOwn : {T E I : Type 0} → (I → T → Type 0) → FutureView T I → FutureView T I
+    → Poll (Result (Bor T) E) → Type 0
+AnswersOwn may_give old new r =
+    gave_value new.task new.log ≡ true → IfSome (value_of r) (MayGive may_give old.init)
 
 -- what a token knew before a poll and knows after it: if a value was answered, that, which is the known one if
 -- there was one; else nothing, as before

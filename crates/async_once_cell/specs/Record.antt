@@ -10,3 +10,4 @@ pub use Rattle.once_machine.specs.declared.record.Ran.TheVariants.{Pending as Ra
 pub use Rattle.once_machine.specs.declared.record.Ran.TheVariants.{Error as RanError}
 pub use Rattle.once_machine.specs.declared.record.Reply.{Reply}
 pub use Rattle.once_machine.specs.declared.record.Reply.TheVariants.{Pending, Value, Error, Memory, Full}
+pub use Rattle.once_parts.specs.Record.{IsSet, PollsOnce, WasFilled, gave_value}

@@ -70,19 +70,8 @@ impl<T, X: Failure, F: Future<Output: Gives<T, X>>> Init<T, X> for Pollable<F> {
 /// An error of an init.
 #[derive(Drop)]
 pub struct Failed<X: Failure> {
-    error: X,
+    pub(crate) error: X,
     ghost own: { X.ending error ≡ Ending.Error },
-}
-
-impl<X: Failure> Failed<X> {
-    #[inline(always)]
-    pub(crate) fn into_inner(self) -> X
-        ensures own { X.ending result ≡ Ending.Error }
-        ensures is { result ≡ self.error }
-    {
-        let Failed { error } = self;
-        error
-    }
 }
 
 // How a future of the cells tells what an init gave.

@@ -133,8 +133,9 @@ impl<T, F: Future<Output = T>, V: Fits<T>> Lazy<T, F, V> {
         self.get(rt)
     }
 
-    /// The value, if it is set. It polls nothing, and waits for nobody. Of a cell that tasks share no clause says what
-    /// it answers: [`Lazy::try_get_as`] has such clauses. With the cell that stands at [`Lazy::get`]:
+    /// The value, if it is set. It polls nothing, and waits for nobody. Of a cell that tasks share its clauses say
+    /// only that a value is as the cell promises; those of [`Lazy::try_get_as`] say more. With the cell that stands at
+    /// [`Lazy::get`]:
     ///
     /// ```
     /// let before = lazy.try_get().copied(); // None: nobody polled the cell's future yet

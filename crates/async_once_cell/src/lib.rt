@@ -94,8 +94,8 @@ pub mod inner {
     pub use once_machine::waiters::{Answer, Listing, Op};
     pub use once_machine::word::{MAX_WAITERS, NEW, QINIT_BIT, READY_BIT};
     pub use once_parts::{
-        CopiesWaker, Hand, Inner, Mark, Pollable, Record, Shared, Splits, Task, TaskSide,
-        TaskWaker, book, poll_init,
+        Hand, Inner, Mark, Pollable, Record, Shared, Splits, Task, TaskSide, TaskWaker, book,
+        poll_init,
     };
 }
 

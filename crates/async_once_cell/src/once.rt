@@ -17,7 +17,9 @@ use boxcar::tag::{Names, Tag};
 use core::mem::replace_with;
 pub use future::{InitFuture, Initializing, TryInitFuture};
 use futures::Future;
+use known::Seen;
 pub use known::{Known, Told};
+use once_parts::book::stays_set;
 use once_parts::{Inner, Pollable};
 use pagebook::{Anything, Fits, Written};
 use std::alloc::AllocGlobal;
@@ -98,7 +100,7 @@ impl<T, V: Fits<T>> OnceCell<T, V> {
     }
 
     /// The value, if it is set; None if the cell is empty or being filled. It waits for nobody. Of a cell that tasks
-    /// share no clause says what it answers: [`OnceCell::get_as`] has such clauses.
+    /// share its clauses say only that a value is as the cell promises; those of [`OnceCell::get_as`] say more.
     #[inline(always)]
     pub fn get(&self) -> Option<&T>
         ensures lends { Lends self.now result }
@@ -157,7 +159,10 @@ impl<T, V: Fits<T>> OnceCell<T, V> {
         ensures promise { is_shared self ≡ true → IfSome result (V.fits (about_of self)) }
     {
         let OnceCell { value } = self;
-        value.into_inner()
+        match value {
+            Value::Owned(value) => Some(value),
+            Value::Shared(inner) => inner.into_inner(),
+        }
     }
 
     /// As [`OnceCell::into_inner`], for a caller that was told the value.
@@ -166,7 +171,10 @@ impl<T, V: Fits<T>> OnceCell<T, V> {
         ensures { result ≡ told.now.value }
     {
         let OnceCell { value } = self;
-        value.into_told(told)
+        match value {
+            Value::Owned(value) => value,
+            Value::Shared(inner) => inner.into_value(told.written.as_ref().unwrap()),
+        }
     }
 
     /// As [`OnceCell::take`], for a caller that was told the value.
@@ -273,7 +281,24 @@ impl<T, V: Fits<T>> OnceCell<T, V> {
         ensures set { IsSome result → IsSetIn self.now token.new.log }
         ensures stays { IsSetIn self.now token.old.log → IsSome result }
     {
-        self.look(&mut token.seen)
+        match (&self.value, &mut token.seen) {
+            (Value::Owned(value), Seen::Owned(knows)) => {
+                *knows = true;
+                Some(value)
+            }
+            (Value::Shared(inner), Seen::Shared(record, written)) => {
+                if let Some(written) = written {
+                    return Some(inner.value(written));
+                }
+                let before = record.again();
+                let found = inner.look(record);
+                stays_set(&before, record);
+                let (value, found) = found?;
+                *written = Some(found);
+                Some(value)
+            }
+            _ => unreachable!(),
+        }
     }
 }
 
@@ -353,25 +378,6 @@ pub(crate) enum Value<T, V: Fits<T> = Anything> {
 impl<T, V: Fits<T>> Value<T, V> {
     ghost use Rattle.async_once_cell.specs.contracts.once.Value.{the_row};
 
-    fn into_inner(self) -> Option<T>
-        ensures gives { Gives (view_of self) result }
-        ensures promise { is_shared (view_of self) ≡ true → IfSome result (V.fits (about_of (view_of self))) }
-    {
-        match self {
-            Value::Owned(value) => Some(value),
-            Value::Shared(inner) => inner.into_inner(),
-        }
-    }
-
-    fn witness(&self) -> Option<Written<T>>
-        ensures { IfSome result (λ w. IsWritten (view_of self.now) w) }
-    {
-        match self {
-            Value::Owned(_) => None,
-            Value::Shared(inner) => inner.witness(),
-        }
-    }
-
     fn into_owned(self, written: &Written<T>) -> Self
         requires { IsWritten (view_of self) written.now }
         ensures { view_of result ≡ Owned written.now.value }
@@ -386,7 +392,11 @@ impl<T, V: Fits<T>> Value<T, V> {
     fn settle(&mut self)
         ensures { Settled self.old self.new }
     {
-        if let Some(written) = self.witness() {
+        let written = match self {
+            Value::Owned(_) => None,
+            Value::Shared(inner) => inner.witness(),
+        };
+        if let Some(written) = written {
             replace_with(
                 self,
                 written,
@@ -408,16 +418,6 @@ impl<T, V: Fits<T>> Value<T, V> {
         match self {
             Value::Owned(value) => Some(value),
             Value::Shared(_) => None,
-        }
-    }
-
-    fn into_told(self, told: &Told<T, V>) -> T
-        requires { told.now.cell ≡ view_of self }
-        ensures { result ≡ told.now.value }
-    {
-        match self {
-            Value::Owned(value) => value,
-            Value::Shared(inner) => inner.into_value(told.written.as_ref().unwrap()),
         }
     }
 }

@@ -1,33 +1,33 @@
 //! A task of a cell that brings an init, and is called while it waits.
-ghost use Rattle.std.specs.Prelude.{◌≡◌, ◌≢◌, ◌∷◌, [], List, true, false, ⊤, IfErr, IfSome, IsSome, IsSomeAnd, None};
-ghost use Rattle.std.specs.Prelude.{Some};
+ghost use Rattle.std.specs.Prelude.{◌≡◌, ◌∷◌, [], List, true, false, ⊤, IfErr, IfSome, IsSome, IsSomeAnd, None, Some};
 ghost use Rattle.std.specs.Option.{is_some};
 ghost use Rattle.once_machine.specs.declared.step.Out.{Out};
-ghost use mathlib.Core.List.{IsPrefix};
 ghost use Rattle.futures.specs.Poll.{IfReady};
 ghost use Rattle.futures.specs.Task.{IsArmed, Keeps};
 ghost use Rattle.once_machine.specs.declared.step.Ending.{Ending};
 ghost use Rattle.once_machine.specs.Record.{Begin, DropBegin, DropEnd, Entry, Made};
-ghost use Rattle.once_parts.specs.Kept.{Grew, entries_of};
-ghost use Rattle.once_parts.specs.Record.{EndsSet, IsSet};
+ghost use Rattle.once_parts.specs.Kept.{Grew};
+ghost use Rattle.once_parts.specs.Record.{EndsSet, IsSet, gave_value};
 ghost use Rattle.once_parts.specs.Walks.{IsOneCall, Spans, end_of};
 ghost use Rattle.async_once_cell.specs.Inits.{FailsNoOther, GivesNoOther, InitFits, TellsOwn};
 ghost use Rattle.async_once_cell.specs.Polls.{IsValue, ending_by, is_over, value_of};
 ghost use Rattle.async_once_cell.specs.Views.{IsAnswered, WaitingView, shown_in, value_in};
-ghost use Rattle.std.proofs.Common.{rules, subst, ap};
+ghost use Rattle.std.proofs.Common.{rules, subst, ap, ◌∙◌};
+ghost use Rattle.std.proofs.lemmas.Bool.{false≢true};
 ghost use Rattle.once_parts.specs.Sides.{HasCopied, HasWoken, sided_tells};
-ghost use Rattle.async_once_cell.specs.Stays.{Hands, Stays, told, IsRenewed, leaving};
 ghost use Rattle.async_once_cell.specs.Listed.{WakesTask, whose};
+ghost use Rattle.async_once_cell.specs.Stays.{Hands, IsRenewed, Stays, leaving, told};
 ghost use Rattle.once_parts.specs.Inits.{MayGive};
 ghost use Rattle.once_parts.proofs.Sides.{sided_told};
 
 use crate::init::{Failed, Failure, Init, Refused};
 use crate::waker::ListedWaker;
+use boxcar::tag::Tag;
 use futures::task::{Context, Poll};
 use once_machine::step::{Ending, Out, Polled, Side};
 use once_machine::waiters::Renews;
 use once_parts::book::{is_set_where_answered, stays_set};
-use once_parts::{CopiesWaker, Hand, Inner, Mark, Record, Task, TaskSide};
+use once_parts::{Hand, Inner, Mark, Task, TaskSide};
 use pagebook::{Anything, Fits, Written};
 use std::alloc::AllocGlobal;
 use std::marker::{Model, PhantomData};
@@ -92,38 +92,6 @@ impl<'a, T, I: Drop, R: Wait + AllocGlobal, V: Fits<T>> Waiting<'a, T, I, R, V> 
         Some(shown.0.again())
     }
 
-    #[inline(always)]
-    pub(crate) fn learn(&mut self, seen: &Record)
-        requires book { seen.now.book ≡ self.old.cell.book }
-        ensures cell { self.new.cell ≡ self.old.cell }
-        ensures number { self.new.number ≡ self.old.number }
-        ensures finished { self.new.finished ≡ self.old.finished }
-        ensures init { self.new.init ≡ self.old.init }
-        ensures value { self.new.value ≡ self.old.value }
-        ensures log { IsPrefix self.old.log self.new.log × IsPrefix seen.now.log self.new.log }
-        ensures mine { entries_of self.old.number self.new.log ≡ entries_of self.old.number self.old.log }
-        ensures own_set { IsSet self.old.log → IsSet self.new.log }
-        ensures other_set { IsSet seen.now.log → IsSet self.new.log }
-    {
-        self.task.learn(seen);
-    }
-
-    #[inline(always)]
-    pub(crate) fn are_two<J: Drop>(a: &mut Self, b: &mut Waiting<'a, T, J, R, V>)
-        requires book { b.old.cell.book ≡ a.old.cell.book }
-        ensures cell { a.new.cell ≡ a.old.cell }
-        ensures number { a.new.number ≡ a.old.number }
-        ensures finished { a.new.finished ≡ a.old.finished }
-        ensures init { a.new.init ≡ a.old.init }
-        ensures value { a.new.value ≡ a.old.value }
-        ensures log { IsPrefix a.old.log a.new.log }
-        ensures set { IsSet a.old.log → IsSet a.new.log }
-        ensures other { b.new ≡ b.old }
-        ensures two { a.new.number ≢ b.new.number }
-    {
-        Task::are_two(&mut a.task, &mut b.task);
-    }
-
     /// Drops the init, and then the task leaves: for a future that is dropped.
     #[inline(always)]
     pub(crate) fn discard(self)
@@ -150,7 +118,11 @@ impl<'a, T, I: Drop, R: Wait + AllocGlobal, V: Fits<T>> Waiting<'a, T, I, R, V> 
     {
         let before = self.task.record();
         drop(self.init.take());
-        let mut side = Leaving::<T, R>::new(self.task.rt(), self.task.mark());
+        let mut side = Leaving {
+            mark: self.task.mark(),
+            woke: Snapshot::of(&Out::One(None)),
+            value: PhantomData,
+        };
         self.task.leave(&mut side);
         stays_set(&before, &self.task.record());
     }
@@ -163,7 +135,11 @@ fn leave_unfinished<T, R: Wait + AllocGlobal, V: Fits<T>>(
 )
     requires live { task.finished ≡ false }
 {
-    let mut side = Leaving::<T, R>::new(task.rt(), task.mark());
+    let mut side = Leaving {
+        mark: task.mark(),
+        woke: Snapshot::of(&Out::One(None)),
+        value: PhantomData,
+    };
     task.leave(&mut side);
 }
 
@@ -191,14 +167,19 @@ impl<'a, T: Drop, I: Drop, R: Wait + AllocGlobal, V: Fits<T>> Waiting<'a, T, I, 
         ensures own { IfReady result (TellsOwn I.may_fail X.ending self.old.init) }
         ensures same { FailsNoOther I.may_fail self.old.init self.new.init }
         ensures same_values { GivesNoOther I.may_give self.old.init self.new.init }
+        ensures own_value { gave_value self.new.number self.new.log ≡ true
+            → IfSome (value_of result) (MayGive I.may_give self.old.init) }
     {
         let init = self.init.take();
         let mut side = Polling {
             first: Snapshot::of(&init),
             mark: self.task.mark(),
+            slot: self.task.slot(),
             cx,
             init,
             value: None,
+            handed: Snapshot::of(&None),
+            written: None,
             error: None,
             is_armed: false,
             woke: Snapshot::of(&Out::One(None)),
@@ -207,9 +188,12 @@ impl<'a, T: Drop, I: Drop, R: Wait + AllocGlobal, V: Fits<T>> Waiting<'a, T, I, 
         let Polling {
             first: _first,
             mark: _mark,
+            slot: _slot,
             cx,
             init,
             value: _value,
+            handed: _handed,
+            written,
             error,
             is_armed,
             woke: _woke,
@@ -222,7 +206,7 @@ impl<'a, T: Drop, I: Drop, R: Wait + AllocGlobal, V: Fits<T>> Waiting<'a, T, I, 
             }
             return Poll::Pending;
         }
-        self.answer(ending, error)
+        self.answer(ending, error, written)
     }
 
     // The answer of a poll that ended in this way, and left no init.
@@ -231,6 +215,7 @@ impl<'a, T: Drop, I: Drop, R: Wait + AllocGlobal, V: Fits<T>> Waiting<'a, T, I, 
         &mut self,
         ending: Ending,
         error: Option<Failed<X>>,
+        put: Option<Shown<T>>,
     ) -> Poll<Result<&'a T, X>>
     where
         I: Init<T, X>,
@@ -240,6 +225,7 @@ impl<'a, T: Drop, I: Drop, R: Wait + AllocGlobal, V: Fits<T>> Waiting<'a, T, I, 
         requires not_pending { ending ≡ Ending.Pending → ⊥ }
         requires error { ending ≡ Ending.Error → IsSome error }
         requires not_dropped { ending ≡ Ending.Dropped → ⊥ }
+        requires put { IfSome put (λ s. s.0.of ≡ self.old.cell.id) }
         ensures ending { ending_by X.ending result ≡ ending }
         ensures is_value { ending ≡ Ending.Value → IsValue result }
         ensures cell { self.new.cell ≡ self.old.cell }
@@ -252,15 +238,22 @@ impl<'a, T: Drop, I: Drop, R: Wait + AllocGlobal, V: Fits<T>> Waiting<'a, T, I, 
         ensures promise { IfSome (value_of result) (V.fits self.old.cell.about) }
         ensures own { IfReady result (λ a. IfErr a
             (λ x. X.ending x ≡ Ending.Error → IsSomeAnd error (λ e. e.error ≡ x))) }
+        ensures put { IfSome put (λ s. IfSome (value_of result) (λ v. v ≡ s.0.value)) }
     {
         match ending {
             Ending::Value => {
                 is_set_where_answered(&self.task.record());
                 let (value, written) = self.task.value();
+                if let Some(put) = put {
+                    put.0.agrees(&written);
+                }
                 self.shown = Some(Shown(written, []));
                 Poll::Ready(Ok(value))
             }
-            Ending::Error => Poll::Ready(Err(error.unwrap().into_inner())),
+            Ending::Error => {
+                let Failed { error } = error.unwrap();
+                Poll::Ready(Err(error))
+            }
             Ending::Memory => Poll::Ready(Err(X::refused(Refused::Memory))),
             Ending::Full => Poll::Ready(Err(X::refused(Refused::Full))),
             Ending::Pending | Ending::Dropped => unreachable!(),
@@ -271,9 +264,14 @@ impl<'a, T: Drop, I: Drop, R: Wait + AllocGlobal, V: Fits<T>> Waiting<'a, T, I, 
 struct Polling<'c, 'd, T, E, H> {
     first: Snapshot<Option<H>>,
     mark: Mark,
+    // The name of the slot of its cell.
+    slot: Tag,
     cx: &'c mut Context<'d>,
     init: Option<H>,
     value: Option<T>,
+    // The value that it handed over, and what shows it in the cell.
+    handed: Snapshot<Option<T>>,
+    written: Option<Shown<T>>,
     error: Option<E>,
     // The init was Pending, and saw to it that the task is called; or the task is listed with the waker of this poll.
     is_armed: bool,
@@ -292,6 +290,8 @@ impl<T: Drop, X: Failure, I: Init<T, X>> Side<ListedWaker> for Polling<'_, '_, T
     ghost can_put = { λ s. (told s).has_value ≡ true };
 
     ghost hands = { Hands I.may_fail I.may_give (λ e. e.error) };
+
+    ghost handed = { λ s v. s.handed.value ≡ Some v };
 
     ghost stays = { Stays I.may_fail I.may_give (λ e. e.error) };
 
@@ -320,6 +320,7 @@ impl<T: Drop, X: Failure, I: Init<T, X>> Side<ListedWaker> for Polling<'_, '_, T
 
     #[inline(always)]
     fn put(&mut self) -> T {
+        self.handed = Snapshot::of(&self.value);
         self.value.take().unwrap()
     }
 
@@ -361,6 +362,23 @@ impl<T: Drop, X: Failure, I: Init<T, X>> TaskSide<ListedWaker>
     for Polling<'_, '_, T, Failed<X>, I> {
     ghost state = { told };
 
+    ghost has_slot = { λ s n. s.slot.numbers ≡ n ∷ [] };
+
+    #[inline(always)]
+    fn copies_under_lock() -> bool {
+        true
+    }
+
+    #[inline(always)]
+    fn keep(&mut self, put: Written<T>)
+        requires slot { self.old.slot.numbers ≡ put.of ∷ [] }
+        requires value { self.old.handed.value ≡ Some put.value }
+        ensures shown { told self.new ≡ record (told self.old) { has_shown = true } }
+        ensures stays { Stays I.may_fail I.may_give (λ e. e.error) self.old self.new }
+    {
+        self.written = Some(Shown(put, []));
+    }
+
     ghost tells = { sided_told whose told };
 
     ghost runs = { λ s h. h };
@@ -371,61 +389,42 @@ impl<T: Drop, X: Failure, I: Init<T, X>> TaskSide<ListedWaker>
 
     ghost renews = { λ s v t w r. (r.told, r.stays) };
 
-    ghost hands_on = { λ s t k v h tied. subst (λ first. MayGive I.may_give first v) k.2 (h (k.3 tied)) };
-}
+    ghost hands_on = { λ s t k v h tied. subst (λ first. MayGive I.may_give first v) k.2 (h (k.4 tied)) };
 
-impl<T: Drop, X: Failure, I: Init<T, X>> CopiesWaker for Polling<'_, '_, T, Failed<X>, I> {
-    #[inline(always)]
-    fn copies_under_lock() -> bool {
-        true
-    }
+    ghost slot_on = { λ s t k n h. k.3 ∙ h };
 }
 
 // A drop, when the init is gone. It does not name the init's type, so that a program has its code once for all inits.
 #[derive(Drop)]
-struct Leaving<'r, T, R> {
-    rt: &'r R,
+struct Leaving<T> {
     mark: Mark,
     woke: Snapshot<Out<ListedWaker>>,
     value: PhantomData<T>,
 }
 
-impl<'r, T, R> Leaving<'r, T, R> {
-    #[inline(always)]
-    fn new(rt: &'r R, mark: Mark) -> Self
-        ensures number { result.mark ≡ mark }
-        ensures none { result.woke.value ≡ Out.One None }
-    {
-        Leaving {
-            rt,
-            mark,
-            woke: Snapshot::of(&Out::One(None)),
-            value: PhantomData,
-        }
-    }
-}
-
-impl<T, R: Wait> Side<ListedWaker> for Leaving<'_, T, R> {
+impl<T> Side<ListedWaker> for Leaving<T> {
     type Value = T;
 
     type Right = Hand;
 
     ghost did = { sided_tells whose leaving };
 
+    ghost can_run = { λ _. ⊥ };
+
+    ghost can_put = { λ _. ⊥ };
+
     ghost hands = { λ _ _. ⊥ };
 
     ghost stays = { λ _ _. ⊤ };
 
-    // Nobody calls this, `put` or `renew`: a task that leaves has no init. A poll that is none cannot be recorded.
+    // Nobody may call this, `put` or `keep`: a task that leaves has no init.
     fn run(&mut self, _right: &mut Hand) -> Polled {
-        for _ in self.rt.forever() {}
         unreachable!()
     }
 
     fn close(&mut self) {}
 
     fn put(&mut self) -> T {
-        for _ in self.rt.forever() {}
         unreachable!()
     }
 
@@ -446,7 +445,7 @@ impl<T, R: Wait> Side<ListedWaker> for Leaving<'_, T, R> {
     ghost stays_on = { λ _ _ _ _ _. tt };
 }
 
-impl<T, R: Wait> Renews<ListedWaker> for Leaving<'_, T, R> {
+impl<T> Renews<ListedWaker> for Leaving<T> {
     ghost renewed = { λ s v t w. (t ≡ s) × (w ≡ v) };
 
     fn renew(&mut self, listed: &mut ListedWaker) {
@@ -454,25 +453,35 @@ impl<T, R: Wait> Renews<ListedWaker> for Leaving<'_, T, R> {
     }
 }
 
-impl<T, R: Wait> TaskSide<ListedWaker> for Leaving<'_, T, R> {
+impl<T> TaskSide<ListedWaker> for Leaving<T> {
     ghost state = { leaving };
+
+    ghost has_slot = { λ _ _. ⊥ };
+
+    #[inline(always)]
+    fn copies_under_lock() -> bool {
+        false
+    }
+
+    fn keep(&mut self, _written: Written<T>)
+        requires slot { ⊥ }
+        ensures shown { leaving self.new ≡ record (leaving self.old) { has_shown = true } }
+        ensures stays { ⊤ }
+    {
+        unreachable!()
+    }
 
     ghost tells = { sided_told whose leaving };
 
-    ghost runs = { λ s h. tt };
+    ghost runs = { λ s h. absurd (false≢true h) };
 
-    ghost puts = { λ s h. tt };
+    ghost puts = { λ s h. absurd (false≢true h) };
 
     ghost owner = { λ s v t w r. ap whose r.1 };
 
     ghost renews = { λ s v t w r. (ap leaving r.0, tt) };
 
     ghost hands_on = { λ s t k v h. h };
-}
 
-impl<T, R: Wait> CopiesWaker for Leaving<'_, T, R> {
-    #[inline(always)]
-    fn copies_under_lock() -> bool {
-        false
-    }
+    ghost slot_on = { λ s t k n h. h };
 }

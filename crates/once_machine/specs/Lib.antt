@@ -10,7 +10,6 @@ pub mod Ops
 pub mod Sections
 pub mod Steps
 pub mod Table
-pub mod Places
 pub mod Record
 pub mod Cell
 pub mod Tasks

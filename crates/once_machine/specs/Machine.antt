@@ -2,13 +2,13 @@
 use Rattle.std.specs.Prelude.{◌≡◌, ℕ, suc, Bool, true, false, if◌then◌else◌, ◌==◌, ◌-◌, nat_lt, ◌||◌}
 use Rattle.std.specs.Prelude.{List, [], ◌∷◌, ◌++◌, Option, Some, None}
 use Rattle.std.specs.Option.{is_some, unwrap_or, option_to_list}
-pub use Rattle.once_machine.specs.Places.{Ending, EndPending, EndValue, EndError, EndMemory, EndFull, EndDropped}
-pub use Rattle.once_machine.specs.Places.{Rest, RestStart, RestWait, RestRun, Step, Resting, UnderWay, Finished}
-pub use Rattle.once_machine.specs.Places.{Place, AtStart, AtTryQuick, AtDoorGet, AtDoorPut}
-pub use Rattle.once_machine.specs.Places.{AtCountIn, AtWaitLoad, AtLook, AtList, AtRun}
-pub use Rattle.once_machine.specs.Places.{AtPut, AtFast, AtAddOne, AtDoorAgain}
-pub use Rattle.once_machine.specs.Places.{AtRelease, AtLeave, AtCountOut, AtDoorTake}
-use Rattle.once_machine.specs.Places.{Progress, More, Ended}
+pub use Rattle.once_machine.specs.Steps.{Ending, EndPending, EndValue, EndError, EndMemory, EndFull, EndDropped}
+pub use Rattle.once_machine.specs.Steps.{Rest, RestStart, RestWait, RestRun, Step, Resting, UnderWay, Finished}
+pub use Rattle.once_machine.specs.Steps.{Place, AtStart, AtTryQuick, AtDoorGet, AtDoorPut}
+pub use Rattle.once_machine.specs.Steps.{AtCountIn, AtWaitLoad, AtLook, AtList, AtRun}
+pub use Rattle.once_machine.specs.Steps.{AtPut, AtFast, AtAddOne, AtDoorAgain}
+pub use Rattle.once_machine.specs.Steps.{AtRelease, AtLeave, AtCountOut, AtDoorTake}
+use Rattle.once_machine.specs.Steps.{Progress, More, Ended}
 pub use Rattle.once_machine.specs.Steps.{is_value, is_resting, in_call, is_leaving, is_finished}
 pub use Rattle.once_machine.specs.Table.{left_at, left_of}
 pub use Rattle.once_machine.specs.Steps.{place_of_poll, step_of_poll, release_place}

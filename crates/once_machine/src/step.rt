@@ -98,6 +98,9 @@ pub trait Side<W> {
     // Which values `put` may hand over.
     ghost hands: { Self → Self.Value → Type 0 } = { λ _ _. ⊤ };
 
+    // Which one it handed over last.
+    ghost handed: { Self → Self.Value → Type 0 } = { λ _ _. ⊤ };
+
     // What each call keeps, from the side before it to the side after.
     ghost stays: { Self → Self → Type 0 };
 
@@ -118,6 +121,7 @@ pub trait Side<W> {
     fn put(&mut self) -> Self::Value
         requires { can_put self.old }
         ensures hands { hands self.old result }
+        ensures handed { handed self.new result }
         ensures did { did.put self.old self.new }
         ensures stays { stays self.old self.new };
 
@@ -213,8 +217,9 @@ impl<W, Q: Drop> Place<W, Q> {
         }
     }
 
+    /// Where a holder goes that gives the right back: by the word alone if it claimed so, and else under the lock.
     #[inline(always)]
-    fn giving_back(by: Option<Q>, ending: Ending) -> Self
+    pub fn giving_back(by: Option<Q>, ending: Ending) -> Self
         ensures { result ≡ release_place by ending }
     {
         match by {

@@ -4,6 +4,7 @@ use mathlib.Core.List.{IsPrefix}
 use Rattle.pagebook.specs.Pages.{View}
 use Rattle.once_machine.specs.Word.{flags_of}
 use Rattle.once_machine.specs.Record.{Begin, DropBegin, End, Entry, Fill, Look, Once, Ran}
+use Rattle.once_machine.specs.declared.record.Ran.TheVariants.{Value as RanValue}
 use Rattle.once_machine.specs.declared.record.Reply.TheVariants.{Value}
 use Rattle.once_machine.specs.Cell.{cell, is_set}
 use Rattle.once_parts.specs.Kept.{Sheet, entries_of}
@@ -33,6 +34,19 @@ AreOnce ran (_ ∷ es) = AreOnce ran es
 -- each task polled its init once at most in each of its calls
 abbrev pub PollsOnce : List Entry → Type 0
 PollsOnce log = (t : ℕ) → AreOnce false (entries_of t log)
+
+-- of the entries of one task: since the last beginning of a call its init gave a value.
+-- The first says whether it did since the last beginning before these
+abbrev pub gave_since : Bool → List Entry → Bool
+gave_since gave [] = gave
+gave_since gave (Begin t w ∷ es) = gave_since false es
+gave_since gave (DropBegin t ∷ es) = gave_since false es
+gave_since gave (Ran t (RanValue v) ∷ es) = gave_since true es
+gave_since gave (_ ∷ es) = gave_since gave es
+
+-- the init of the task t gave a value since its last call began
+abbrev pub gave_value : ℕ → List Entry → Bool
+gave_value t log = gave_since false (entries_of t log)
 
 -- a look that came after all that was seen, and found the value exactly where the cell was set then
 abbrev pub Looked : Bool → List Entry → List Entry → Type 0

@@ -3,10 +3,11 @@ use Rattle.std.specs.Prelude.{◌≡◌, ◌↔◌, ℕ, Bool, true, false, List
 use Rattle.pagebook.specs.Slot.{Placed}
 use Rattle.once_machine.specs.declared.step.Ending.{Ending}
 use Rattle.once_machine.specs.declared.step.Ending.TheVariants.{Dropped as EndDropped, Error as EndError}
-use Rattle.once_machine.specs.declared.step.Ending.TheVariants.{Pending as EndPending}
+use Rattle.once_machine.specs.declared.step.Ending.TheVariants.{Pending as EndPending, Value as EndValue}
 use Rattle.once_machine.specs.Record.{Begin, Entry}
 use Rattle.once_parts.specs.Kept.{Grew}
-use Rattle.once_parts.specs.Sides.{Sided}
+use Rattle.once_parts.specs.Record.{gave_value}
+use Rattle.once_parts.specs.Sides.{IsReady, Sided}
 use Rattle.once_parts.specs.Walks.{IsCall, Spans, end_of, handed}
 
 -- a task
@@ -24,7 +25,9 @@ pub record HasPolled (y : Sided) (e : Ending) (v w : TaskView) : Type 0 where
   -- its own entries, and those whose wakers were handed to the side
   pub call : (mid : List Entry) × IsCall w.number (Begin w.number w.number) (end_of w.number e) mid v.log w.log
       × (y.woke ≡ handed mid)
-  pub init : e ≡ EndPending → y.has_init ≡ true  -- the init is there still
+  pub init : e ≡ EndPending → IsReady y  -- the init is there still, and gave nothing
   pub error : e ≡ EndError → y.has_error ≡ true  -- the error is one that the init gave
+  -- the value is the one that its own init gave, if that gave one
+  pub shown : e ≡ EndValue → gave_value w.number w.log ≡ true → y.has_shown ≡ true
   pub finished : (e ≡ EndPending) ↔ (w.finished ≡ false)  -- it goes on, or it is over
   pub not_dropped : e ≡ EndDropped → ⊥  -- it was no drop

@@ -22,7 +22,8 @@ use Rattle.once_machine.specs.Machine.{progress_entries}
 use Rattle.once_parts.specs.Kept.{Grew, entries_of}
 use Rattle.once_parts.specs.Steps.{StandsForStep}
 use Rattle.once_parts.specs.Own.{Own}
-use Rattle.once_parts.specs.Sides.{Sided}
+use Rattle.once_parts.specs.Record.{gave_since}
+use Rattle.once_parts.specs.Sides.{IsReady, Sided, has_given}
 
 -- the tasks whose wakers these entries hand out, in their order
 abbrev pub handed : List Entry → List ℕ
@@ -60,22 +61,24 @@ pub record Spans (t : ℕ) (e : Entry) (old new : List Entry) : Type 0 where
   pub after : IsPrefix old before
   pub is : new ≡ before ++ Begin t t ∷ (since ++ e ∷ [])
 
--- how a call may end: a drop as dropped, and a poll with an error that its own init gave, or otherwise
+-- how a call may end: a drop as dropped, and a poll with an error that its own init gave, or with a value, where none
+-- is left that its own init gave, or refused
 abbrev pub MayEnd : Bool → Sided → Own → Ending → Type 0
 MayEnd true x v EndDropped = Unit {0}
 MayEnd true x v e = ⊥
 MayEnd false x v EndDropped = ⊥
 MayEnd false x v EndPending = ⊥
 MayEnd false x v EndError = (x.has_error ≡ true) × (v.task.kept ≡ RanError 0)
+MayEnd false x v EndValue = x.has_value ≡ false
 MayEnd false x v e = Unit {0}
 
 -- a poll began, and nobody was handed out in it
 abbrev pub HasBegun : Bool → Sided → Own → Type 0
 HasBegun drops x v = (drops ≡ false) × (x.woke ≡ []) × (v.task.waker ≡ v.number)
 
--- the same, and the init is there still
+-- the same, and the init is there still, and gave nothing
 abbrev pub GoesOn : Bool → Sided → Own → Type 0
-GoesOn drops x v = HasBegun drops x v × (x.has_init ≡ true)
+GoesOn drops x v = HasBegun drops x v × IsReady x
 
 module _ {W Q : Type 0} (drops : Bool) (x : Sided) (v : Own) where
   -- what holds at each place of a call, by whether it is a drop
@@ -115,10 +118,11 @@ pub record Stands {W : Type 0} (whose : W → ℕ) (drops : Bool) (x : Sided) (v
 pub record Walked (x : Sided) (v : Own) (r : Progress) (y : Sided) (w : Own) : Type 0 where
   pub number : w.number ≡ v.number  -- it is the same task
   pub ends : Grew (progress_entries r w.number 0 w.task.kept) v.log w.log  -- an end is the newest entry
-  -- those who were handed to the side are those whom the entries of the steps name
+  -- those who were handed to the side are those whom the entries of the steps name, and the side's init gave a value
+  -- where they say so
   pub made : (mid : List Entry) × AreMid mid
       × (entries_of v.number w.log ≡ entries_of v.number v.log ++ (mid ++ progress_entries r w.number 0 w.task.kept))
-      × (y.woke ≡ x.woke ++ handed mid)
+      × (y.woke ≡ x.woke ++ handed mid) × (has_given y ≡ gave_since (has_given x) mid)
 
 -- the task rests, and the code's step stands for the page's
 abbrev pub Rests : {W : Type 0} → (W → ℕ) → Own → Step W ⊤ → Type 0

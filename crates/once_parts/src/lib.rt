@@ -22,4 +22,4 @@ pub use book::{CellRule, Leaf, Line, Record};
 pub use desk::Desk;
 pub use hand::{Hand, Mark, TaskWaker};
 pub use shared::{Inner, Shared};
-pub use task::{CopiesWaker, Pollable, Splits, Task, TaskSide, one_step, poll_init};
+pub use task::{Pollable, Splits, Task, TaskSide, poll_init};

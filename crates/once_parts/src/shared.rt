@@ -3,7 +3,7 @@
 ghost use Rattle.std.specs.Prelude.{◌≡◌, ◌^◌, if◌then◌else◌, [], true, IfSome, IsSome, List, ◌∷◌, reverse};
 ghost use Rattle.once_parts.specs.Own.{IsWord, Turned};
 ghost use Rattle.once_machine.specs.Word.{flags_of};
-ghost use Rattle.once_machine.specs.Table.{CountIn, Load, Loaded, counted as count_told};
+ghost use Rattle.once_machine.specs.Table.{CountIn, Load, Loaded, Put, PutValue, counted as count_told};
 ghost use Rattle.once_parts.specs.Page.{Went, call_in};
 ghost use Rattle.once_parts.specs.Hands.{own_of};
 ghost use Rattle.once_parts.specs.Record.{EndsSet, Looked, WasFilled};
@@ -177,10 +177,10 @@ impl<T, W: TaskWaker + Drop, V: Fits<T>> Inner<T, W, V> {
     /// What shows the value, if a look finds it.
     ///
     /// ```
-    /// match self {
+    /// let written = match self {
     ///     Value::Owned(_) => None,
     ///     Value::Shared(inner) => inner.witness(),
-    /// }
+    /// };
     /// ```
     pub fn witness(&self) -> Option<Written<T>>
         ensures { IfSome result (λ w. w.of ≡ self.now.slot.id) }
@@ -192,7 +192,7 @@ impl<T, W: TaskWaker + Drop, V: Fits<T>> Inner<T, W, V> {
     /// The value, where it was put. The record ends. No clause says so.
     ///
     /// ```
-    /// match self {
+    /// match value {
     ///     Value::Owned(value) => Some(value),
     ///     Value::Shared(inner) => inner.into_inner(),
     /// }
@@ -318,6 +318,22 @@ impl<'a, 'r, T, W: TaskWaker, R, V: Fits<T>> Shared<'a, 'r, T, W, R, V> {
     {
         let inner = self.inner;
         inner.slot.get(&self.hand.seen)
+    }
+
+    // Puts the value, which nothing can refuse.
+    #[inline(always)]
+    pub(crate) fn put_value(&mut self, value: T) -> Written<T>
+        requires can { call_in (own self.old).task.step ≡ Put }
+        requires fits { V.fits (cell_of self.old).about value }
+        ensures cell { cell_of self.new ≡ cell_of self.old }
+        ensures did { Went (own self.old) PutValue [] (own self.new) }
+        ensures written { (result.of ≡ (cell_of self.old).id) × (result.value ≡ value) }
+    {
+        let inner = self.inner;
+        let hand = &mut self.hand;
+        inner
+            .slot
+            .put::<(), Writes, Puts>(value, &(), &mut hand.seen, &mut hand.pens)
     }
 
     /// The number of this task, for its wakers.
@@ -454,14 +470,9 @@ impl<T, W: TaskWaker + Drop, R: Wait + AllocGlobal, V: Fits<T>> Parts<W>
         side.run(&mut self.hand)
     }
 
-    // Nothing can refuse it.
     #[inline(always)]
     fn put(&mut self, value: T) {
-        let inner = self.inner;
-        let hand = &mut self.hand;
-        inner
-            .slot
-            .put::<(), Writes, Puts>(value, &(), &mut hand.seen, &mut hand.pens);
+        self.put_value(value);
     }
 }
 

@@ -1,18 +1,15 @@
 //! A task of a cell, with its whole polls and drops: its side and init, what it keeps between two calls, and its steps.
-ghost use Rattle.std.specs.Prelude.{◌≡◌, ◌≢◌, ◌<◌, ◌↔◌, IsTrue, ℕ, Bool, true, false, List, [], ◌∷◌, IfErr, IfOk};
-ghost use Rattle.std.specs.Prelude.{IsSome, Option, Some};
+ghost use Rattle.std.specs.Prelude.{◌≡◌, ◌≢◌, ◌<◌, ℕ, true, false, List, [], ◌∷◌, IfErr, IfOk, IsSome, Option, Some};
 ghost use mathlib.Core.List.{IsPrefix};
-ghost use Rattle.once_machine.specs.Record.{Begin, DropBegin, DropEnd, Entry, Made};
+ghost use Rattle.once_machine.specs.Record.{DropBegin, DropEnd, Entry, Made};
 ghost use Rattle.once_parts.specs.Kept.{Grew, entries_of};
 ghost use Rattle.once_parts.specs.Record.{EndsSet, IsSet};
 ghost use Rattle.once_machine.specs.declared.step.Ending.{Ending};
 ghost use Rattle.once_parts.specs.Shares.{cell_of, own};
 ghost use Rattle.once_parts.specs.Idle.{is_over, step_of};
-ghost use Rattle.once_parts.specs.Walks.{IsCall, Spans, StandsOn, end_of, handed, Stands, Walked};
+ghost use Rattle.once_parts.specs.Walks.{IsCall, Spans, StandsOn, end_of, handed};
 ghost use Rattle.once_machine.specs.Steps.{in_call, is_resting};
-ghost use Rattle.once_machine.specs.Table.{left_of};
-ghost use Rattle.once_parts.specs.Own.{Own};
-ghost use Rattle.once_parts.specs.Sides.{GivesFit, Sided, IsTold};
+ghost use Rattle.once_parts.specs.Sides.{GivesFit, IsReady, IsTold, Sided};
 ghost use Rattle.once_parts.specs.Named.{KeepsOwner};
 ghost use Rattle.once_parts.specs.Hands.{HasRight, HasRun};
 ghost use Rattle.once_parts.specs.Inits.{MayGive, StandsFor, polled_in};
@@ -20,29 +17,37 @@ ghost use Rattle.futures.specs.Poll.{IfReady, OnPending};
 ghost use Rattle.futures.specs.Task.{IsArmed, Keeps};
 ghost use Rattle.once_parts.specs.Tasks.{TaskView, HasPolled};
 
-use crate::book::Record;
+use crate::book::{CellSlot, Record};
 use crate::hand::{Hand, Mark, TaskWaker};
 use crate::shared::{Inner, Shared};
+use boxcar::tag::{Names, Tag};
 use futures::Future;
 use futures::task::{Context, Poll};
-use once_machine::step::{Ending, Polled, Progress, Rest, Side, Step};
+use once_machine::step::{Ending, Polled, Rest, Side, Step};
 use once_machine::waiters::Renews;
 use pagebook::{Anything, Fits, Written};
 use std::alloc::AllocGlobal;
 use std::marker::Model;
 use std::sync::Wait;
 
-/// Where the waker of a task is copied.
-pub trait CopiesWaker {
+/// A side that says which task it is of, whether its init is there and gave something, and who was handed to it in this
+/// call. If it may copy its waker under the cell's lock, it renews its listed waker there in a poll.
+pub trait TaskSide<W: TaskWaker>: Side<W, Right = Hand> + Renews<W> {
+    ghost state: { Self → Sided };
+
+    // The slot of its task's cell may be the one of this name.
+    ghost has_slot: { Self → ℕ → Type 0 };
+
     /// Whether the waker may be copied while the cell's lock is held: only if no code runs there that could use the
     /// cell, because it would wait for the lock for ever. No clause says so. Else it is copied between two sections.
     fn copies_under_lock() -> bool;
-}
 
-/// A side that says which task it is of, whether its init is there and gave something, and who was handed to it in this
-/// call. If it may copy its waker under the cell's lock, it renews its listed waker there in a poll.
-pub trait TaskSide<W: TaskWaker>: Side<W, Right = Hand> + Renews<W> + CopiesWaker {
-    ghost state: { Self → Sided };
+    /// Is told what shows that the value which it handed over is the cell's.
+    fn keep(&mut self, written: Written<Self::Value>)
+        requires slot { has_slot self.old written.of }
+        requires value { Self.handed self.old written.value }
+        ensures shown { state self.new ≡ record (state self.old) { has_shown = true } }
+        ensures stays { Self.stays self.old self.new };
 
     // What each of its calls makes of that.
     ghost tells: { IsTold W.whose state Self.did };
@@ -59,6 +64,8 @@ pub trait TaskSide<W: TaskWaker>: Side<W, Right = Hand> + Renews<W> + CopiesWake
 
     // What it may hand over after a call, it might have handed over before.
     ghost hands_on: { (s t : Self) → Self.stays s t → (v : Self.Value) → Self.hands t v → Self.hands s v };
+
+    ghost slot_on: { (s t : Self) → Self.stays s t → (n : ℕ) → has_slot s n → has_slot t n };
 }
 
 /// How what an init gives is told apart: the value, or an error as its task tells it.
@@ -106,15 +113,6 @@ impl<F: Future> Pollable<F> {
         let Pollable { future } = self;
         future
     }
-
-    #[inline(always)]
-    fn opened(self) -> F
-        ensures is { result ≡ self }
-        ensures can { F.can_poll result }
-    {
-        let Pollable { future } = self;
-        future
-    }
 }
 
 /// Polls the init of the task whose hand this is, which has the right, and writes its answer into the record. The box
@@ -141,7 +139,7 @@ where
     let Some(pollable) = init.take() else {
         unreachable!()
     };
-    let mut future = pollable.opened();
+    let Pollable { mut future } = pollable;
     match future.poll(cx) {
         Poll::Pending => {
             *init = Some(Pollable::new(future));
@@ -206,13 +204,6 @@ impl Idle {
             Idle::Queued => Step::Resting(Rest::Run(Some(()))),
             Idle::Finished => Step::Finished,
         }
-    }
-
-    #[inline(always)]
-    pub(crate) fn is_new(&self) -> bool
-        ensures { IsTrue result ↔ (self.now ≡ Idle.New) }
-    {
-        matches!(self, Idle::New)
     }
 }
 
@@ -304,6 +295,18 @@ impl<'a, 'r, T, W: TaskWaker + Drop, R, V: Fits<T>> Task<'a, 'r, T, W, R, V> {
         self.parts.mark()
     }
 
+    /// The name of the slot of its cell, for a side that is to be shown the value. It has no bytes.
+    ///
+    /// ```
+    /// slot: self.task.slot(),
+    /// ```
+    #[inline(always)]
+    pub fn slot(&self) -> Tag
+        ensures { result.numbers ≡ self.now.cell.id ∷ [] }
+    {
+        Tag::of::<CellSlot<T, V>, SlotName>(&self.parts.inner.slot)
+    }
+
     /// The task learns what a record of its cell has. Its next call comes after that.
     #[inline(always)]
     pub fn learn(&mut self, seen: &Record)
@@ -359,20 +362,11 @@ impl<'a, 'r, T, W: TaskWaker + Drop, R: Wait + AllocGlobal, V: Fits<T>> Task<'a,
         requires live { self.old.finished ≡ false }
         requires number { (S.state side.old).number ≡ self.old.number }
         requires none { (S.state side.old).woke ≡ [] }
-        requires init { (S.state side.old).has_init ≡ true }
-        requires fits { GivesFit S.hands V.fits side.old self.old.cell }
+        requires init { IsReady (S.state side.old) }
+        requires fits { GivesFit S.hands S.has_slot V.fits side.old self.old.cell }
         ensures cell { self.new.cell ≡ self.old.cell }
-        ensures number { self.new.number ≡ self.old.number }
-        ensures init { result ≡ Ending.Pending → (S.state side.new).has_init ≡ true }
-        ensures end { Grew (end_of self.new.number result ∷ []) self.old.log self.new.log }
-        ensures spans { Spans self.new.number (end_of self.new.number result) self.old.log self.new.log }
-        ensures call { (mid : List Entry)
-            × IsCall self.new.number (Begin self.new.number self.new.number) (end_of self.new.number result) mid
-            self.old.log self.new.log × ((S.state side.new).woke ≡ handed mid) }
+        ensures polled { HasPolled (S.state side.new) result self.old self.new }
         ensures set { IsSet self.old.log → result ≡ Ending.Value }
-        ensures error { result ≡ Ending.Error → (S.state side.new).has_error ≡ true }
-        ensures finished { (result ≡ Ending.Pending) ↔ (self.new.finished ≡ false) }
-        ensures not_dropped { result ≡ Ending.Dropped → ⊥ }
         ensures stays { S.stays side.old side.new }
     {
         let ending = self.poll_steps(side);
@@ -385,8 +379,8 @@ impl<'a, 'r, T, W: TaskWaker + Drop, R: Wait + AllocGlobal, V: Fits<T>> Task<'a,
         requires live { self.old.finished ≡ false }
         requires number { (S.state side.old).number ≡ self.old.number }
         requires none { (S.state side.old).woke ≡ [] }
-        requires init { (S.state side.old).has_init ≡ true }
-        requires fits { GivesFit S.hands V.fits side.old self.old.cell }
+        requires init { IsReady (S.state side.old) }
+        requires fits { GivesFit S.hands S.has_slot V.fits side.old self.old.cell }
         ensures cell { self.new.cell ≡ self.old.cell }
         ensures polled { HasPolled (S.state side.new) result self.old self.new }
         ensures stays { S.stays side.old side.new }
@@ -396,7 +390,7 @@ impl<'a, 'r, T, W: TaskWaker + Drop, R: Wait + AllocGlobal, V: Fits<T>> Task<'a,
         if !S::copies_under_lock() {
             return self.parts.by_machine(idle, side);
         }
-        if idle.is_new() {
+        if let Idle::New = idle {
             return self.parts.at_start(side);
         }
         self.parts.later(idle, side)
@@ -412,7 +406,7 @@ impl<'a, 'r, T, W: TaskWaker + Drop, R: Wait + AllocGlobal, V: Fits<T>> Task<'a,
         requires live { self.old.finished ≡ false }
         requires number { (S.state side.old).number ≡ self.old.number }
         requires none { (S.state side.old).woke ≡ [] }
-        requires fits { GivesFit S.hands V.fits side.old self.old.cell }
+        requires fits { GivesFit S.hands S.has_slot V.fits side.old self.old.cell }
         ensures cell { self.new.cell ≡ self.old.cell }
         ensures number { self.new.number ≡ self.old.number }
         ensures end { Grew (end_of self.new.number Ending.Dropped ∷ []) self.old.log self.new.log }
@@ -433,6 +427,12 @@ impl<'a, 'r, T, W: TaskWaker + Drop, R: Wait + AllocGlobal, V: Fits<T>> Task<'a,
     }
 }
 
+struct SlotName;
+
+impl<T, V: Fits<T>> Names<CellSlot<T, V>> for SlotName {
+    ghost numbers = { λ slot. slot.id ∷ [] };
+}
+
 // A poll that began after the cell was set answered the value.
 #[inline(always)]
 fn answered_where_set(seen: &Record)
@@ -440,39 +440,4 @@ fn answered_where_set(seen: &Record)
         → (e ≡ Ending.Dropped → ⊥) → e ≡ Ending.Value }
 {
     seen.again().learn(seen);
-}
-
-/// Makes one step of the call that is under way. It may wait as [`Task::poll`]. `told` is what the last step told.
-///
-/// ```
-/// while step.left() > 0 {
-///     told = one_step(self, step, side, told);
-/// }
-/// ```
-#[inline(always)]
-pub fn one_step<
-    T,
-    W: TaskWaker + Drop,
-    R: Wait + AllocGlobal,
-    V: Fits<T>,
-    S: TaskSide<W, Value = T>,
->(
-    parts: &mut Shared<'_, '_, T, W, R, V>,
-    step: &mut Step<W, ()>,
-    side: &mut S,
-    told: Progress,
-) -> Progress
-    requires call { in_call step.old ≡ true }
-    requires stands { (drops : Bool) × Stands W.whose drops (S.state side.old) (own parts.old) told step.old }
-    requires fits { GivesFit S.hands V.fits side.old (cell_of parts.old) }
-    ensures cell { cell_of parts.new ≡ cell_of parts.old }
-    ensures lower { left_of step.new < left_of step.old }
-    ensures walked { (x : Sided) → (v : Own) → Walked x v told (S.state side.old) (own parts.old)
-        → Walked x v result (S.state side.new) (own parts.new) }
-    ensures stands { (drops : Bool) → Stands W.whose drops (S.state side.old) (own parts.old) told step.old
-        → Stands W.whose drops (S.state side.new) (own parts.new) result step.new }
-    ensures stays { S.stays side.old side.new }
-{
-    let _ = told;
-    step.advance(parts, side)
 }

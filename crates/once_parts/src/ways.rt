@@ -7,18 +7,19 @@
 //! `steps_left`, and each of its steps is the line of the table for its place. A side whose waker is not copied under
 //! the lock polls by the machine alone. While the lock is held, nothing of the caller's own is dropped or called: such
 //! a function answers how far it came, as [`Reached`], and puts the wakers that it took aside, as [`Spent`].
-ghost use Rattle.std.specs.Prelude.{◌≡◌, Bool, false};
+ghost use Rattle.std.specs.Prelude.{◌≡◌, ◌<◌, Bool, false, true};
 ghost use Rattle.once_machine.specs.Steps.{in_call, is_value, release_place};
 ghost use Rattle.once_parts.specs.Idle.{is_over, step_of};
 ghost use Rattle.once_parts.specs.Shares.{cell_of, own};
 ghost use Rattle.once_parts.specs.Own.{Own};
-ghost use Rattle.once_parts.specs.Sides.{GivesFit, Sided};
+ghost use Rattle.once_parts.specs.Page.{call_in};
+ghost use Rattle.once_parts.specs.Sides.{GivesFit, HasPut, Sided};
 ghost use Rattle.once_parts.specs.Walks.{Stands, Walked};
 ghost use Rattle.once_parts.specs.Ways.{IsAt, IsBegun, IsUnder, Leads, LeadsBy, Polls, StandsBy, next_by};
 ghost use Rattle.std.specs.Option.{MatchOption};
 ghost use Rattle.once_machine.specs.declared.waiters.Answer.{Answer};
 ghost use Rattle.once_machine.specs.declared.waiters.Op.{Op};
-ghost use Rattle.once_machine.specs.Table.{Section, Was};
+ghost use Rattle.once_machine.specs.Table.{Put, PutValue, Section, Was, left_of};
 ghost use Rattle.once_parts.specs.Hands.{own_of};
 ghost use Rattle.once_parts.specs.Parts.{CanCall, DidCall};
 
@@ -26,7 +27,7 @@ mod waiter;
 
 use crate::hand::{Hand, TaskWaker};
 use crate::shared::{Inner, Shared};
-use crate::task::{Idle, TaskSide, one_step};
+use crate::task::{Idle, TaskSide};
 use once_machine::parts::Parts;
 use once_machine::step::{Ending, Out, Place, Polled, Progress, Rest, Step};
 use once_machine::word::Word;
@@ -70,7 +71,7 @@ impl<T, W: TaskWaker + Drop, R: Wait + AllocGlobal, V: Fits<T>> Shared<'_, '_, T
     #[inline(always)]
     pub(crate) fn at_start<S: TaskSide<W, Value = T>>(&mut self, side: &mut S) -> Ending
         requires stands { IsAt W.whose S.state Place.Start self.old side.old }
-        requires fits { GivesFit S.hands V.fits side.old (cell_of self.old) }
+        requires fits { GivesFit S.hands S.has_slot V.fits side.old (cell_of self.old) }
         ensures { Polls W.whose S.state S.stays self.old side.old result self.new.idle self.new side.new }
     {
         let word = Word::from_bits(self.load());
@@ -88,7 +89,7 @@ impl<T, W: TaskWaker + Drop, R: Wait + AllocGlobal, V: Fits<T>> Shared<'_, '_, T
     #[inline(always)]
     fn at_try_quick<S: TaskSide<W, Value = T>>(&mut self, side: &mut S) -> Ending
         requires stands { IsAt W.whose S.state Place.TryQuick self.old side.old }
-        requires fits { GivesFit S.hands V.fits side.old (cell_of self.old) }
+        requires fits { GivesFit S.hands S.has_slot V.fits side.old (cell_of self.old) }
         ensures { Polls W.whose S.state S.stays self.old side.old result self.new.idle self.new side.new }
     {
         if !self.quick() {
@@ -101,7 +102,7 @@ impl<T, W: TaskWaker + Drop, R: Wait + AllocGlobal, V: Fits<T>> Shared<'_, '_, T
     pub(crate) fn later<S: TaskSide<W, Value = T>>(&mut self, idle: Idle, side: &mut S) -> Ending
         requires live { is_over idle ≡ false }
         requires stands { IsBegun W.whose S.state idle self.old side.old }
-        requires fits { GivesFit S.hands V.fits side.old (cell_of self.old) }
+        requires fits { GivesFit S.hands S.has_slot V.fits side.old (cell_of self.old) }
         ensures { Polls W.whose S.state S.stays self.old side.old result self.new.idle self.new side.new }
     {
         match idle {
@@ -121,7 +122,7 @@ impl<T, W: TaskWaker + Drop, R: Wait + AllocGlobal, V: Fits<T>> Shared<'_, '_, T
     ) -> Ending
         requires live { is_over idle ≡ false }
         requires stands { IsBegun W.whose S.state idle self.old side.old }
-        requires fits { GivesFit S.hands V.fits side.old (cell_of self.old) }
+        requires fits { GivesFit S.hands S.has_slot V.fits side.old (cell_of self.old) }
         ensures { Polls W.whose S.state S.stays self.old side.old result self.new.idle self.new side.new }
     {
         let mut step = idle.step();
@@ -137,7 +138,7 @@ impl<T, W: TaskWaker + Drop, R: Wait + AllocGlobal, V: Fits<T>> Shared<'_, '_, T
         side: &mut S,
     ) -> Ending
         requires stands { Stands W.whose false (S.state side.old) (own self.old) Progress.More step }
-        requires fits { GivesFit S.hands V.fits side.old (cell_of self.old) }
+        requires fits { GivesFit S.hands S.has_slot V.fits side.old (cell_of self.old) }
         ensures { Polls W.whose S.state S.stays self.old side.old result self.new.idle self.new side.new }
     {
         let ending = self.go_on(&mut step, side);
@@ -154,7 +155,7 @@ impl<T, W: TaskWaker + Drop, R: Wait + AllocGlobal, V: Fits<T>> Shared<'_, '_, T
     ) -> Ending
         requires stands { (drops : Bool)
             × Stands W.whose drops (S.state side.old) (own self.old) Progress.More step.old }
-        requires fits { GivesFit S.hands V.fits side.old (cell_of self.old) }
+        requires fits { GivesFit S.hands S.has_slot V.fits side.old (cell_of self.old) }
         ensures cell { cell_of self.new ≡ cell_of self.old }
         ensures over { in_call step.new ≡ false }
         ensures walked { (x : Sided) → (v : Own) → Walked x v Progress.More (S.state side.old) (own self.old)
@@ -165,7 +166,7 @@ impl<T, W: TaskWaker + Drop, R: Wait + AllocGlobal, V: Fits<T>> Shared<'_, '_, T
     {
         let mut told = Progress::More;
         while step.left() > 0 {
-            told = one_step(self, step, side, told);
+            told = self.one_step(step, side, told);
         }
         let Progress::Ended(ending) = told else {
             unreachable!()
@@ -173,11 +174,48 @@ impl<T, W: TaskWaker + Drop, R: Wait + AllocGlobal, V: Fits<T>> Shared<'_, '_, T
         ending
     }
 
+    /// Makes one step of the call that is under way. It may wait as [`Task::poll`](crate::Task::poll). `told` is what
+    /// the last step told.
+    ///
+    /// ```
+    /// while step.left() > 0 {
+    ///     told = self.one_step(step, side, told);
+    /// }
+    /// ```
+    #[inline(always)]
+    pub fn one_step<S: TaskSide<W, Value = T>>(
+        &mut self,
+        step: &mut Step<W, ()>,
+        side: &mut S,
+        told: Progress,
+    ) -> Progress
+        requires call { in_call step.old ≡ true }
+        requires stands { (drops : Bool) × Stands W.whose drops (S.state side.old) (own self.old) told step.old }
+        requires fits { GivesFit S.hands S.has_slot V.fits side.old (cell_of self.old) }
+        ensures cell { cell_of self.new ≡ cell_of self.old }
+        ensures lower { left_of step.new < left_of step.old }
+        ensures walked { (x : Sided) → (v : Own) → Walked x v told (S.state side.old) (own self.old)
+            → Walked x v result (S.state side.new) (own self.new) }
+        ensures stands { (drops : Bool) → Stands W.whose drops (S.state side.old) (own self.old) told step.old
+            → Stands W.whose drops (S.state side.new) (own self.new) result step.new }
+        ensures stays { S.stays side.old side.new }
+    {
+        let _ = told;
+        match *step {
+            Step::UnderWay(Place::Put(by)) => {
+                self.put_from(side);
+                *step = Step::UnderWay(Place::giving_back(by, Ending::Value));
+                Progress::More
+            }
+            _ => step.advance(self, side),
+        }
+    }
+
     // With the lock free, from where the steps under it led.
     #[inline(always)]
     fn go_on_from<S: TaskSide<W, Value = T>>(&mut self, reached: Reached, side: &mut S) -> Ending
         requires stands { StandsBy W.whose (next_by reached) (S.state side.old) (own self.old) }
-        requires fits { GivesFit S.hands V.fits side.old (cell_of self.old) }
+        requires fits { GivesFit S.hands S.has_slot V.fits side.old (cell_of self.old) }
         ensures cell { cell_of self.new ≡ cell_of self.old }
         ensures leads { (x : Sided) → (v : Own)
             → LeadsBy W.whose x v (next_by reached) (S.state side.old) (own self.old)
@@ -212,7 +250,7 @@ impl<T, W: TaskWaker + Drop, R: Wait + AllocGlobal, V: Fits<T>> Shared<'_, '_, T
     #[inline(never)]
     fn hold<S: TaskSide<W, Value = T>>(&mut self, by: Option<()>, side: &mut S) -> Ending
         requires stands { IsAt W.whose S.state (Place.Run by) self.old side.old }
-        requires fits { GivesFit S.hands V.fits side.old (cell_of self.old) }
+        requires fits { GivesFit S.hands S.has_slot V.fits side.old (cell_of self.old) }
         ensures { Polls W.whose S.state S.stays self.old side.old result self.new.idle self.new side.new }
     {
         self.at_run(by, side)
@@ -221,7 +259,7 @@ impl<T, W: TaskWaker + Drop, R: Wait + AllocGlobal, V: Fits<T>> Shared<'_, '_, T
     #[inline(always)]
     fn at_run<S: TaskSide<W, Value = T>>(&mut self, by: Option<()>, side: &mut S) -> Ending
         requires stands { IsAt W.whose S.state (Place.Run by) self.old side.old }
-        requires fits { GivesFit S.hands V.fits side.old (cell_of self.old) }
+        requires fits { GivesFit S.hands S.has_slot V.fits side.old (cell_of self.old) }
         ensures { Polls W.whose S.state S.stays self.old side.old result self.new.idle self.new side.new }
     {
         match self.run(side) {
@@ -243,11 +281,27 @@ impl<T, W: TaskWaker + Drop, R: Wait + AllocGlobal, V: Fits<T>> Shared<'_, '_, T
     #[inline(always)]
     fn at_put<S: TaskSide<W, Value = T>>(&mut self, by: Option<()>, side: &mut S) -> Ending
         requires stands { IsAt W.whose S.state (Place.Put by) self.old side.old }
-        requires fits { GivesFit S.hands V.fits side.old (cell_of self.old) }
+        requires fits { GivesFit S.hands S.has_slot V.fits side.old (cell_of self.old) }
         ensures { Polls W.whose S.state S.stays self.old side.old result self.new.idle self.new side.new }
     {
-        self.put(side.put());
+        self.put_from(side);
         self.give_back(by, Ending::Value, side)
+    }
+
+    /// Puts the value that the side hands over, and has the side keep what shows it.
+    #[inline(always)]
+    pub(crate) fn put_from<S: TaskSide<W, Value = T>>(&mut self, side: &mut S)
+        requires can { call_in (own self.old).task.step ≡ Put }
+        requires value { (S.state side.old).has_value ≡ true }
+        requires fits { GivesFit S.hands S.has_slot V.fits side.old (cell_of self.old) }
+        ensures cell { cell_of self.new ≡ cell_of self.old }
+        ensures did { DidCall W.whose (own self.old) PutValue (own self.new) }
+        ensures put { HasPut (S.state side.old) (S.state side.new) }
+        ensures shown { (S.state side.new).has_shown ≡ true }
+        ensures stays { S.stays side.old side.new }
+    {
+        let written = self.put_value(side.put());
+        side.keep(written);
     }
 
     #[inline(always)]

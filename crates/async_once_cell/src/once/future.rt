@@ -6,8 +6,8 @@ ghost use Rattle.futures.specs.Poll.{IfReady, OnPending};
 ghost use Rattle.futures.specs.Task.{Covers, Keeps};
 ghost use mathlib.Core.List.{IsPrefix};
 ghost use Rattle.async_once_cell.specs.Inits.{FailsNoOther, TellsOwn};
-ghost use Rattle.async_once_cell.specs.Polls.{Answers, DidPoll, HasLeft, IsMade, IsValue, Polls, PollsAs, SpansIn};
-ghost use Rattle.async_once_cell.specs.Polls.{ending_by, value_of};
+ghost use Rattle.async_once_cell.specs.Polls.{Answers, AnswersOwn, DidPoll, HasLeft, IsMade, IsValue, Polls, PollsAs};
+ghost use Rattle.async_once_cell.specs.Polls.{SpansIn, ending_by, value_of};
 ghost use Rattle.async_once_cell.specs.Tokens.{Agrees, IsSetIn};
 ghost use Rattle.async_once_cell.specs.Views.{IsOf, about_of, is_shared, known_of, log_of, FutureView};
 ghost use Rattle.once_machine.specs.Record.{Once};
@@ -24,8 +24,8 @@ use crate::init::{Failure, Init, InitError, Refused, Yields};
 use crate::waiting::{Shown, Waiting};
 use futures::Future;
 use futures::task::{Context, Poll};
-use once_parts::Pollable;
 use once_parts::book::is_run;
+use once_parts::{Pollable, Task};
 use pagebook::{Anything, Fits};
 use std::alloc::AllocGlobal;
 use std::fmt;
@@ -206,7 +206,7 @@ impl<'a, T, X, I: Yields<T, X>, R: Wait + AllocGlobal, V: Fits<T>> Initializing<
         ensures other_set { IsSetIn token.now.cell token.now.log → IsSetIn self.new.cell self.new.log }
     {
         match (&mut self.asked, &token.seen) {
-            (Asked::Shared(waiting), Seen::Shared(record, _)) => waiting.learn(record),
+            (Asked::Shared(waiting), Seen::Shared(record, _)) => waiting.task.learn(record),
             (Asked::Owned(_, _) | Asked::Answered(_) | Asked::Left(_), Seen::Owned(_)) => {}
             _ => unreachable!(),
         }
@@ -227,7 +227,7 @@ impl<'a, T, X, I: Yields<T, X>, R: Wait + AllocGlobal, V: Fits<T>> Initializing<
         ensures two { is_shared a.old.cell ≡ true → a.new.task ≢ b.new.task }
     {
         if let (Asked::Shared(one), Asked::Shared(other)) = (&mut a.asked, &mut b.asked) {
-            Waiting::are_two(one, other);
+            Task::are_two(&mut one.task, &mut other.task);
         }
     }
 
@@ -301,6 +301,7 @@ where
         ensures late { IsSetIn self.old.cell self.old.log → IsValue result }
         ensures own { IfReady result (TellsOwn I.may_fail X.ending self.old.init) }
         ensures same { FailsNoOther I.may_fail self.old.init self.new.init }
+        ensures own_value { AnswersOwn I.may_give self.old self.new result }
     {
         let cell = self.cell;
         match (&mut self.asked, &cell.value) {
@@ -347,6 +348,7 @@ where
         ensures future_late { IsSetIn self.old.cell self.old.log → IsValue result }
         ensures own { IfReady result (TellsOwn I.may_fail X.ending self.old.init) }
         ensures same { result ≡ Poll.Pending → FailsNoOther I.may_fail self.old.init self.new.init }
+        ensures own_value { token.old.value ≡ None → AnswersOwn I.may_give self.old self.new result }
     {
         self.learn(token);
         if token.knows_value() {
@@ -380,6 +382,7 @@ impl<'a, T: Drop, X: Failure, I: Init<T, X>, R: Wait + AllocGlobal, V: Fits<T>> 
         ensures promise { is_shared self.old.cell ≡ true → IfSome (value_of result) (V.fits (about_of self.old.cell)) }
         ensures answered { self.old.finished ≡ false → self.new.value ≡ value_of result }
         ensures late { self.old.finished ≡ false → IsSetIn self.old.cell self.old.log → IsValue result }
+        ensures own_value { self.old.finished ≡ false → AnswersOwn I.may_give self.old self.new result }
         ensures over { self.old.finished ≡ true → (result ≡ Poll.Pending) × (self.new ≡ self.old) }
     {
         if self.is_finished() {

@@ -7,9 +7,8 @@ ghost use Rattle.once_machine.specs.Run.{AtEvery, IsRun, NobodyForgotten};
 ghost use Rattle.once_machine.specs.Called.{SomebodyCalled};
 ghost use Rattle.once_parts.specs.Kept.{most};
 ghost use Rattle.once_parts.specs.Record.{IsSet, PollsOnce, WasFilled};
-ghost use Rattle.async_once_cell.specs.Views.{CellView, IsOf, Shows, about_of, is_shared, known_of, log_of, TokenView};
-ghost use Rattle.async_once_cell.specs.Views.{ToldView};
-ghost use Rattle.async_once_cell.specs.Tokens.{Agrees, IsSetIn, Learns, Lends, Looks};
+ghost use Rattle.async_once_cell.specs.Views.{CellView, IsOf, Shows, ToldView, TokenView, is_shared, known_of, log_of};
+ghost use Rattle.async_once_cell.specs.Tokens.{Agrees, IsSetIn};
 
 use super::{OnceCell, Value};
 use once_parts::Record;
@@ -241,40 +240,6 @@ fn take_over(own: &mut Record, seen: &Record)
     own.learn(seen);
     stays_set(&before, own);
     stays_set(seen, own);
-}
-
-impl<T, V: Fits<T>> OnceCell<T, V> {
-    // The value, if the token that saw this knows it or the cell shows it.
-    pub(super) fn look(&self, seen: &mut Seen<T>) -> Option<&T>
-        requires { IsOf self.now seen.old }
-        ensures of { IsOf self.now seen.new }
-        ensures value { Learns (known_of self.now seen.old) (known_of self.now seen.new) result }
-        ensures lends { Lends self.now result }
-        ensures promise { is_shared self.now ≡ true → IfSome result (λ v. V.fits (about_of self.now) v.now) }
-        ensures look { Looks self.now (known_of self.now seen.old) (is_some result) (log_of seen.old)
-            (log_of seen.new) }
-        ensures set { IsSome result → IsSetIn self.now (log_of seen.new) }
-        ensures stays { IsSetIn self.now (log_of seen.old) → IsSome result }
-    {
-        match (&self.value, seen) {
-            (Value::Owned(value), Seen::Owned(knows)) => {
-                *knows = true;
-                Some(value)
-            }
-            (Value::Shared(inner), Seen::Shared(record, written)) => {
-                if let Some(written) = written {
-                    return Some(inner.value(written));
-                }
-                let before = record.again();
-                let found = inner.look(record);
-                stays_set(&before, record);
-                let (value, found) = found?;
-                *written = Some(found);
-                Some(value)
-            }
-            _ => None,
-        }
-    }
 }
 
 /// `Known(Some(V))` if the token knows the value, and `Known(None)` if it knows nothing.

@@ -8,7 +8,7 @@ ghost use Rattle.async_once_cell.specs.Views.{about_of, is_shared};
 
 use super::{Initializing, Known};
 use crate::init::{Failure, Init};
-use futures::task::{Context, Doorbell, Poll, Queue};
+use futures::task::{Doorbell, Poll, Queue};
 use pagebook::Fits;
 use std::alloc::AllocGlobal;
 use std::io;
@@ -90,7 +90,8 @@ where
         self.wait_begun(token, parker)
     }
 
-    // Begins to wait, and polls until the future answers, with a token that knows nothing.
+    // Begins to wait, and polls until the future answers, with a token that knows nothing. The thread sleeps until its
+    // task is to be polled. There always is one: a wait adds it, and one wait at a time uses the parker.
     fn wait_begun(
         &mut self,
         token: &mut Known<'a, T, V>,
@@ -108,7 +109,9 @@ where
         parker.tasks.add()?.schedule();
         let rt = self.rt();
         for _ in rt.forever() {
-            let mut cx = parker.next(rt)?;
+            let Some(mut cx) = parker.tasks.next(rt) else {
+                return Err(io::Error::other("there is no task to wait for"));
+            };
             let polled = self.poll_as(&mut cx, token);
             cx.end(&polled);
             if let Poll::Ready(answer) = polled {
@@ -141,13 +144,5 @@ impl Parker {
         Ok(Parker {
             tasks: Queue::new(rt, Doorbell::parking())?,
         })
-    }
-
-    // Sleeps until the task is to be polled. There always is one: a wait adds it, and one wait at a time uses this.
-    fn next<R: Wait>(&self, rt: &R) -> io::Result<Context<'_>> {
-        match self.tasks.next(rt) {
-            Some(cx) => Ok(cx),
-            None => Err(io::Error::other("there is no task to wait for")),
-        }
     }
 }

@@ -1,5 +1,6 @@
 // Sides that use another task of their cell in the middle of a step of their own.
-ghost use Rattle.std.specs.Prelude.{◌≡◌, [], IfOk, refl, false, true};
+ghost use Rattle.std.specs.Prelude.{◌≡◌, [], IfOk, refl, false, true, ⊤};
+ghost use Rattle.once_parts.specs.Sides.{IsReady};
 ghost use Rattle.std.proofs.Common.{rules};
 
 use super::side::{Called, NOBODY, Seen, TestSide};
@@ -8,7 +9,8 @@ use crate::bell::Bell;
 use crate::doubles::text::shows;
 use once_machine::step::{Ending, Out, Polled, Side};
 use once_machine::waiters::Renews;
-use once_parts::{CopiesWaker, Hand, Mark, Task, TaskSide};
+use once_parts::{Hand, Mark, Task, TaskSide};
+use pagebook::Written;
 use std::alloc::AllocGlobal;
 use std::io;
 use std::marker::Model;
@@ -63,7 +65,7 @@ impl<'a, 'r, R: Wait + AllocGlobal> Meddling<'a, 'r, R> {
     ) -> io::Result<Self>
     where
         R: RandomSource,
-        ensures { IfOk result (λ m. (m.number ≡ mark) × (m.has_init ≡ true) × (m.woke ≡ [])) }
+        ensures { IfOk result (λ m. (m.number ≡ mark) × IsReady m × (m.woke ≡ [])) }
     {
         Ok(Meddling {
             side: TestSide::new(rt, name, mark, answer)?,
@@ -201,6 +203,19 @@ impl<R: Wait + AllocGlobal> TaskSide<Bell> for Meddling<'_, '_, R> {
 
     ghost state = { λ s. s };
 
+    ghost has_slot = { λ _ _. ⊤ };
+
+    fn copies_under_lock() -> bool {
+        false
+    }
+
+    fn keep(&mut self, written: Written<u64>)
+        ensures shown { self.new ≡ record self.old { has_shown = true } }
+        ensures stays { self.new.number ≡ self.old.number }
+    {
+        self.side.keep(written);
+    }
+
     ghost tells = { sided_told (λ b. b.mark.value) (λ s. s) };
 
     ghost runs = { λ s h. h };
@@ -212,12 +227,8 @@ impl<R: Wait + AllocGlobal> TaskSide<Bell> for Meddling<'_, '_, R> {
     ghost renews = { λ s v t w r. (r.0, ap (λ x. x.number) r.0) };
 
     ghost hands_on = { λ s t k v h. h };
-}
 
-impl<R: Wait + AllocGlobal> CopiesWaker for Meddling<'_, '_, R> {
-    fn copies_under_lock() -> bool {
-        false
-    }
+    ghost slot_on = { λ s t k n h. h };
 }
 
 /// A task, and its side, which uses another task.
@@ -226,8 +237,8 @@ struct Meddler<'a, 'r, R> {
     task: Task<'a, 'r, u64, Bell, R>,
     side: Meddling<'a, 'r, R>,
     ghost same: { side.number ≡ task.number },
-    // The init is there until the task is finished.
-    ghost has_init: { task.finished ≡ false → side.has_init ≡ true },
+    // The init is there, and gave nothing, until the task is finished.
+    ghost has_init: { task.finished ≡ false → IsReady side },
 }
 
 impl<'a, 'r, R: Wait + AllocGlobal> Meddler<'a, 'r, R> {

@@ -1,12 +1,14 @@
 //! A side whose init answers as it is told to, and whose bells are looked at when they are called.
-ghost use Rattle.std.specs.Prelude.{◌≡◌, ℕ, [], IfOk, refl, true};
+ghost use Rattle.std.specs.Prelude.{◌≡◌, ℕ, [], IfOk, refl, true, ⊤};
+ghost use Rattle.once_parts.specs.Sides.{IsReady};
 ghost use Rattle.std.proofs.Common.{rules};
 
 use crate::bell::{Bell, task_of};
 use crate::poller::{Poller, Scripted, init_that_answers};
 use once_machine::step::{Out, Polled, Side};
 use once_machine::waiters::Renews;
-use once_parts::{CopiesWaker, Hand, Mark, Pollable, TaskSide};
+use once_parts::{Hand, Mark, Pollable, TaskSide};
+use pagebook::Written;
 use std::alloc::AllocGlobal;
 use std::io;
 use std::marker::Model;
@@ -36,6 +38,7 @@ pub struct TestSide<'r, R> {
     /// What the init gave.
     pub value: Option<u64>,
     pub error: bool,
+    shown: bool,
     /// Whom the call under way called.
     woke: Snapshot<Out<Bell>>,
     pub called: Called,
@@ -56,6 +59,7 @@ impl<'r, R> Model for TestSide<'r, R> {
       has_init = is_some s.init;
       has_value = is_some s.value;
       has_error = s.error;
+      has_shown = s.shown;
       woke = named_out (λ b. b.mark.value) s.woke.value;
     } };
 }
@@ -63,7 +67,7 @@ impl<'r, R> Model for TestSide<'r, R> {
 impl<'r, R: AllocGlobal + RandomSource> TestSide<'r, R> {
     /// The side of the task with this mark, whose init answers so. The value that it gives is the name.
     pub fn new(rt: &'r R, name: u64, mark: Mark, answer: Polled) -> io::Result<Self>
-        ensures { IfOk result (λ s. (s.number ≡ mark) × (s.has_init ≡ true) × (s.woke ≡ [])) }
+        ensures { IfOk result (λ s. (s.number ≡ mark) × IsReady s × (s.woke ≡ [])) }
     {
         Ok(TestSide {
             name,
@@ -73,6 +77,7 @@ impl<'r, R: AllocGlobal + RandomSource> TestSide<'r, R> {
             granted: true,
             value: None,
             error: false,
+            shown: false,
             woke: Snapshot::of(&Out::One(None)),
             called: NOBODY,
             polls: 0,
@@ -184,6 +189,19 @@ impl<R: Wait> TaskSide<Bell> for TestSide<'_, R> {
 
     ghost state = { λ s. s };
 
+    ghost has_slot = { λ _ _. ⊤ };
+
+    fn copies_under_lock() -> bool {
+        false
+    }
+
+    fn keep(&mut self, _written: Written<u64>)
+        ensures shown { self.new ≡ record self.old { has_shown = true } }
+        ensures stays { self.new.number ≡ self.old.number }
+    {
+        self.shown = true;
+    }
+
     ghost tells = { sided_told (λ b. b.mark.value) (λ s. s) };
 
     ghost runs = { λ s h. h };
@@ -195,12 +213,8 @@ impl<R: Wait> TaskSide<Bell> for TestSide<'_, R> {
     ghost renews = { λ s v t w r. (r.0, ap (λ x. x.number) r.0) };
 
     ghost hands_on = { λ s t k v h. h };
-}
 
-impl<R: Wait> CopiesWaker for TestSide<'_, R> {
-    fn copies_under_lock() -> bool {
-        false
-    }
+    ghost slot_on = { λ s t k n h. h };
 }
 
 // The names of those whose bells are in it.

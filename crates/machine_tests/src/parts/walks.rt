@@ -1,6 +1,7 @@
 // Whole calls of tasks, by the values, the bells and the inits that they lead to.
-ghost use Rattle.std.specs.Prelude.{◌≡◌, ◌↔◌, IfOk, false, true};
+ghost use Rattle.std.specs.Prelude.{◌≡◌, ◌↔◌, IfOk, false};
 ghost use Rattle.once_parts.specs.Record.{EndsSet};
+ghost use Rattle.once_parts.specs.Sides.{IsReady};
 
 use super::side::{Called, NOBODY, Seen, TestSide};
 use crate::bell::Bell;
@@ -36,8 +37,8 @@ pub struct Caller<'a, 'r, R> {
     pub task: Task<'a, 'r, u64, Bell, R>,
     pub side: TestSide<'r, R>,
     pub ghost same: { side.number ≡ task.number },
-    // The init is there until the task is finished.
-    pub ghost has_init: { task.finished ≡ false → side.has_init ≡ true },
+    // The init is there, and gave nothing, until the task is finished.
+    pub ghost has_init: { task.finished ≡ false → IsReady side },
 }
 
 impl<'a, 'r, R: Wait + AllocGlobal> Caller<'a, 'r, R> {

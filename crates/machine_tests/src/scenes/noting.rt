@@ -1,12 +1,14 @@
 //! A side over shared parts that notes each of its calls.
-ghost use Rattle.std.specs.Prelude.{◌≡◌, ℕ, [], IfOk, refl, true};
+ghost use Rattle.std.specs.Prelude.{◌≡◌, ℕ, [], IfOk, refl, true, ⊤};
+ghost use Rattle.once_parts.specs.Sides.{IsReady};
 ghost use Rattle.std.proofs.Common.{rules};
 
 use crate::bell::{Bell, named};
 use crate::poller::{Poller, Scripted, init_that_answers};
 use once_machine::step::{Out, Polled, Side};
 use once_machine::waiters::Renews;
-use once_parts::{CopiesWaker, Hand, Mark, Pollable, TaskSide};
+use once_parts::{Hand, Mark, Pollable, TaskSide};
+use pagebook::Written;
 use std::alloc::AllocGlobal;
 use std::marker::Model;
 use std::random::RandomSource;
@@ -40,6 +42,7 @@ pub struct Noting<'r, R> {
     // What the init gave.
     has_value: bool,
     has_error: bool,
+    has_shown: bool,
     // Whom the call under way called.
     woke: Snapshot<Out<Bell>>,
 }
@@ -56,6 +59,7 @@ impl<'r, R> Model for Noting<'r, R> {
       has_init = is_some s.init;
       has_value = s.has_value;
       has_error = s.has_error;
+      has_shown = s.has_shown;
       woke = named_out (λ b. b.mark.value) s.woke.value;
     } };
 }
@@ -63,7 +67,7 @@ impl<'r, R> Model for Noting<'r, R> {
 impl<'r, R: AllocGlobal + RandomSource> Noting<'r, R> {
     /// The side of this task, which has this mark, and whose init is pending.
     pub fn new(rt: &'r R, task: u64, mark: Mark) -> io::Result<Self>
-        ensures { IfOk result (λ s. (s.number ≡ mark) × (s.has_init ≡ true)) }
+        ensures { IfOk result (λ s. (s.number ≡ mark) × IsReady s) }
     {
         Ok(Noting {
             mark,
@@ -75,6 +79,7 @@ impl<'r, R: AllocGlobal + RandomSource> Noting<'r, R> {
             is_short: false,
             has_value: false,
             has_error: false,
+            has_shown: false,
             woke: Snapshot::of(&Out::One(None)),
         })
     }
@@ -150,6 +155,7 @@ impl<R: Wait> Side<Bell> for Noting<'_, R> {
     }
 
     fn put(&mut self) {
+        self.has_value = false;
         self.note(Note::Put);
     }
 
@@ -189,6 +195,19 @@ impl<R: Wait> TaskSide<Bell> for Noting<'_, R> {
 
     ghost state = { λ s. s };
 
+    ghost has_slot = { λ _ _. ⊤ };
+
+    fn copies_under_lock() -> bool {
+        false
+    }
+
+    fn keep(&mut self, _written: Written<()>)
+        ensures shown { self.new ≡ record self.old { has_shown = true } }
+        ensures stays { self.new.number ≡ self.old.number }
+    {
+        self.has_shown = true;
+    }
+
     ghost tells = { sided_told (λ b. b.mark.value) (λ s. s) };
 
     ghost runs = { λ s h. h };
@@ -200,10 +219,6 @@ impl<R: Wait> TaskSide<Bell> for Noting<'_, R> {
     ghost renews = { λ s v t w r. (r.0, ap (λ x. x.number) r.0) };
 
     ghost hands_on = { λ s t k v h. h };
-}
 
-impl<R: Wait> CopiesWaker for Noting<'_, R> {
-    fn copies_under_lock() -> bool {
-        false
-    }
+    ghost slot_on = { λ s t k n h. h };
 }

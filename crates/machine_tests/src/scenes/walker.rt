@@ -2,13 +2,14 @@
 ghost use Rattle.std.specs.Prelude.{◌≡◌, true};
 ghost use Rattle.once_machine.specs.Steps.{is_resting};
 ghost use Rattle.once_parts.specs.Shares.{own};
+ghost use Rattle.once_parts.specs.Sides.{IsReady};
 ghost use Rattle.once_parts.specs.Walks.{StandsOn};
 ghost use Rattle.machine_tests.specs.Goes.{Goes, Goes-prop};
 
 use super::noting::{Note, Noting};
 use crate::bell::Bell;
 use once_machine::step::{Polled, Progress, Step};
-use once_parts::{Inner, Shared, one_step};
+use once_parts::{Inner, Shared};
 use std::alloc::AllocGlobal;
 use std::io;
 use std::random::RandomSource;
@@ -30,8 +31,8 @@ pub struct Walker<'a, 'r, R> {
     // A call that is under way has come so far, and where the next one begins the task stands as its page says.
     ghost goes: { Goes side (own parts) (λ b. b.mark.value) is_drop told step } by { Goes-prop side (own parts)
         (λ b. b.mark.value) is_drop told step },
-    // Its init is there when a call begins.
-    ghost has_init: { is_resting step ≡ true → side.has_init ≡ true },
+    // Its init is there when a call begins, and gave nothing.
+    ghost has_init: { is_resting step ≡ true → IsReady side },
     ghost rests: { is_resting step ≡ true → StandsOn (λ b. b.mark.value) (own parts) step },
 }
 
@@ -92,7 +93,9 @@ impl<R: Wait + AllocGlobal> Walker<'_, '_, R> {
             return None;
         }
         self.side.answers(answer, is_granted);
-        self.told = one_step(&mut self.parts, &mut self.step, &mut self.side, self.told);
+        self.told = self
+            .parts
+            .one_step(&mut self.step, &mut self.side, self.told);
         Some(self.told)
     }
 }

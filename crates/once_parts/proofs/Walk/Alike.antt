@@ -10,7 +10,7 @@ use Rattle.once_machine.specs.Ops.{ticket_in}
 use Rattle.once_machine.specs.declared.waiters.Op.{Op}
 use Rattle.once_machine.specs.declared.waiters.Op.TheVariants.{Look, List as ListOwn, Release, Leave}
 use Rattle.once_machine.specs.Table.{Call, Section, Told, Got, PutQueue, Ran as PolledInit, TriedFast, TriedQuick, Was, after, call_at}
-use Rattle.once_machine.specs.Record.{Entry}
+use Rattle.once_machine.specs.Record.{Entry, Ran}
 use Rattle.once_machine.specs.declared.record.Ran.{Ran as InitAnswer}
 use Rattle.once_machine.specs.declared.record.Ran.TheVariants.{Pending as RanPending}
 use Rattle.once_machine.specs.Machine.{claim_entries, is_claim, pass_entries, records, release_entry, unless_gone}
@@ -23,6 +23,7 @@ use Rattle.once_parts.specs.Own.{Own}
 use Rattle.once_parts.specs.Page.{Went, call_in, next_of, queue_of}
 use Rattle.once_parts.specs.Parts.{CanCall, DidCall}
 use Rattle.once_parts.specs.Places.{numbered}
+use Rattle.once_parts.specs.Record.{gave_since}
 use Rattle.once_parts.specs.Steps.{answer_as, call_as, next_as, op_as, place_as, step_as, told_as}
 use Rattle.once_parts.specs.Walks.{AreMid, StandsOn, handed, the_queue}
 use Rattle.once_parts.proofs.Moments.Steps.{after_as, call_at_as}
@@ -101,39 +102,48 @@ module _ {W : Type 0} (whose : W → ℕ) where
   did_went v w (Was q op a o) did = (queue_of (call_in v.task.step), did.0)
   did_went v w _ did = (0, did)
 
--- a task records these in the middle of a call, and they name just those whom it hands out
-abbrev pub Names : List Entry → List ℕ → Type 0
-Names es X = AreMid (reverse es) × (handed (reverse es) ≡ X)
+-- a task records these in the middle of a call, they name just those whom it hands out, and say this of what an init gave
+abbrev pub Names : List Entry → List ℕ → (Bool → Bool) → Type 0
+Names es X gives = AreMid (reverse es) × (handed (reverse es) ≡ X) × ((gave : Bool) → gave_since gave (reverse es) ≡ gives gave)
+
+-- they say nothing of that
+abbrev NamesOnly : List Entry → List ℕ → Type 0
+NamesOnly es X = Names es X (λ gave. gave)
 
 -- a release
-release_names : (k : InitAnswer) (t : ℕ) (X : List ℕ) → Names (release_entry k t X ∷ []) X
-release_names RanPending t X = ((refl, tt), append-nil X)
-release_names _ t X = ((refl, tt), append-nil X)
+release_names : (k : InitAnswer) (t : ℕ) (X : List ℕ) → NamesOnly (release_entry k t X ∷ []) X
+release_names RanPending t X = ((refl, tt), append-nil X, λ gave. refl)
+release_names _ t X = ((refl, tt), append-nil X, λ gave. refl)
 
 -- one who leaves
-pass_names : (t : ℕ) (X : List ℕ) → Names (pass_entries t X) X
-pass_names t [] = (tt, refl)
-pass_names t (x ∷ X) = ((refl, tt), append-nil (x ∷ X))
+pass_names : (t : ℕ) (X : List ℕ) → NamesOnly (pass_entries t X) X
+pass_names t [] = (tt, refl, λ gave. refl)
+pass_names t (x ∷ X) = ((refl, tt), append-nil (x ∷ X), λ gave. refl)
 
 -- a claim
-claim_names : (b : Bool) (t : ℕ) → Names (claim_entries b t) []
-claim_names true t = ((refl, tt), refl)
-claim_names false t = (tt, refl)
+claim_names : (b : Bool) (t : ℕ) → NamesOnly (claim_entries b t) []
+claim_names true t = ((refl, tt), refl, λ gave. refl)
+claim_names false t = (tt, refl, λ gave. refl)
 
 module _ {W : Type 0} (whose : W → ℕ) where
   -- a section whose queue is gone records nothing
-  gone_names : (a : Answer W) (es : List Entry) → Names es (handed_in whose a) → Names (unless_gone (answer_as a) es) (handed_in whose a)
-  gone_names Gone es is = (tt, refl)
+  gone_names : (a : Answer W) (es : List Entry) → NamesOnly es (handed_in whose a) → NamesOnly (unless_gone (answer_as a) es) (handed_in whose a)
+  gone_names Gone es is = (tt, refl, λ gave. refl)
   gone_names _ es is = is
+
+  -- a poll of an init says what that gave
+  abbrev pub gave_by : Told W ⊤ → InitAnswer → ℕ → Bool → Bool
+  gave_by (PolledInit a) given t gave = gave_since gave (Ran t given ∷ [])
+  gave_by e given t gave = gave
 
   -- each call
   pub records_named : (n : ℕ) (e : Told W ⊤) (given : InitAnswer) (t : ℕ) (k : InitAnswer)
-      → Names (records (told_as whose (λ (u : ⊤). n) e) given t k (handed_by whose e)) (handed_by whose e)
+      → Names (records (told_as whose (λ (u : ⊤). n) e) given t k (handed_by whose e)) (handed_by whose e) (gave_by e given t)
   records_named n (TriedQuick won) given t k = claim_names won t
   records_named n (TriedFast fills true) given t k = release_names k t []
   records_named n (Was q (Look m) a o) given t k = claim_names (is_claim (answer_as a)) t
   records_named n (Was q (ListOwn m w) a o) given t k = claim_names (is_claim (answer_as a)) t
   records_named n (Was q (Release fills) a o) given t k = gone_names a (release_entry k t (handed_in whose a) ∷ []) (release_names k t (handed_in whose a))
   records_named n (Was q (Leave m) a o) given t k = gone_names a (pass_entries t (handed_in whose a)) (pass_names t (handed_in whose a))
-  records_named n (PolledInit a) given t k = ((refl, tt), refl)
-  records_named n _ given t k = (tt, refl)
+  records_named n (PolledInit a) given t k = ((refl, tt), refl, λ gave. refl)
+  records_named n _ given t k = (tt, refl, λ gave. refl)

@@ -19,7 +19,7 @@ module _ {P S W : Type 0} (cell : P → Placed) (own : P → Own) (whose : W →
     (drops : Bool) (p : P) (s : S) where
   -- what is asked of the side
   side_asked : (at : Place W ⊤) → FitsAt drops (state s) (own p) at → SideCan (parts_can cell own whose) can_run can_put (call_at at) s
-  side_asked (AtRun by) f = runs s f.1
+  side_asked (AtRun by) f = runs s f.1.0
   side_asked (AtPut by) f = puts s f.1
   side_asked _ f = tt
 

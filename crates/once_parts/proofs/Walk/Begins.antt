@@ -18,7 +18,7 @@ use Rattle.once_parts.specs.Steps.{step_as}
 use Rattle.once_parts.proofs.Moments.Steps.{drop_as, poll_as}
 use Rattle.once_parts.specs.Own.{Own, Turned}
 use Rattle.once_parts.specs.Places.{task_begun, task_dropping}
-use Rattle.once_parts.specs.Sides.{HasClosed, Sided}
+use Rattle.once_parts.specs.Sides.{HasClosed, IsReady, Sided}
 use Rattle.once_parts.specs.Walks.{Fits, GoesOn, IsCall, Rests, Stands, the_queue}
 use Rattle.once_parts.proofs.Desks.{prefix_on}
 use Rattle.once_parts.proofs.Walk.Fits.{leave_fits, release_fits}
@@ -40,7 +40,7 @@ module _ {W : Type 0} (x : Sided) (w : Own) where
 
 module _ {W : Type 0} {whose : W → ℕ} {x : Sided} {v w : Own} (s : Step W ⊤) (number : x.number ≡ v.number) (none : x.woke ≡ []) where
   -- a task that rests begins a poll
-  pub poll_begins : x.has_init ≡ true → Rests whose v s → Turned v (task_begun v.number v.task) (Begin v.number v.number ∷ []) w → Stands whose false x w More (step_of_poll s)
+  pub poll_begins : IsReady x → Rests whose v s → Turned v (task_begun v.number v.task) (Begin v.number v.number ∷ []) w → Stands whose false x w More (step_of_poll s)
   poll_begins init is d = record {
     step = poll_as whose (λ (q : ⊤). q) s ∙ ap step_of_poll is.1 ∙ sym (poll_as (λ w. w) the_queue v.task.step) ∙ ap (λ (y : TaskState). step_as (λ w. w) the_queue y.step) (sym d.task);
     number = number ∙ sym d.number;

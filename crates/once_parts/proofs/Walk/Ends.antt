@@ -3,7 +3,7 @@ use Rattle.std.proofs.Common.{◌≡◌, ℕ, Bool, true, false, [], ◌∷◌, 
 use Rattle.std.specs.Prelude.{⊤}
 use Rattle.std.proofs.lemmas.Bool.{false≢true}
 use Rattle.once_machine.specs.Steps.{in_call}
-use Rattle.once_machine.specs.declared.step.Ending.TheVariants.{Dropped as EndDropped, Error as EndError, Pending as EndPending}
+use Rattle.once_machine.specs.declared.step.Ending.TheVariants.{Dropped as EndDropped, Error as EndError, Pending as EndPending, Value as EndValue}
 use Rattle.once_machine.specs.declared.step.Progress.TheVariants.{Ended}
 use Rattle.once_machine.specs.declared.step.Ending.{Ending}
 use Rattle.once_machine.specs.declared.step.Step.TheVariants.{Finished, Resting, UnderWay}
@@ -14,7 +14,7 @@ use Rattle.once_machine.specs.declared.record.Ran.{Ran as Answer}
 use Rattle.once_machine.specs.Machine.{end_entry, progress_entries}
 use Rattle.once_parts.specs.Kept.{Grew}
 use Rattle.once_parts.specs.Own.{Own}
-use Rattle.once_parts.specs.Sides.{Sided}
+use Rattle.once_parts.specs.Sides.{IsReady, Sided}
 use Rattle.once_parts.specs.Walks.{Fits, MayEnd, Rests, Stands, Walked, end_of}
 
 -- a call ended once
@@ -38,6 +38,10 @@ only_dropped y w _ m = absurd m
 error_given : (y : Sided) (w : Own) (e : Ending) → MayEnd false y w e → e ≡ EndError → y.has_error ≡ true
 error_given y w e m is = (subst (MayEnd false y w) is m).0
 
+-- no value is left that an init gave
+none_left : (y : Sided) (w : Own) (e : Ending) → MayEnd false y w e → e ≡ EndValue → y.has_value ≡ false
+none_left y w e m is = subst (MayEnd false y w) is m
+
 -- a call that ended told how
 pub told_end : (y : Sided) (w : Own) (drops : Bool) (r : Progress) {W : Type 0} (s : Step W ⊤) → Fits drops y w r s → in_call s ≡ false → (e : Ending) × (r ≡ Ended e)
 told_end y w drops r (UnderWay p) f over = absurd (false≢true (sym over))
@@ -49,7 +53,8 @@ pub record PollEnded {W : Type 0} (whose : W → ℕ) (y : Sided) (v w : Own) (e
   pub end : Grew (end_of w.number e ∷ []) v.log w.log
   pub entry : end_entry e w.number 0 w.task.kept ≡ end_of w.number e
   pub error : e ≡ EndError → y.has_error ≡ true
-  pub init : e ≡ EndPending → y.has_init ≡ true
+  pub init : e ≡ EndPending → IsReady y
+  pub none : e ≡ EndValue → y.has_value ≡ false
   pub pending : e ≡ EndPending → Rests whose w s
   pub finished : (e ≡ EndPending → ⊥) → s ≡ Finished
   pub poll : e ≡ EndDropped → ⊥
@@ -70,6 +75,7 @@ module _ {W : Type 0} {whose : W → ℕ} {x y : Sided} {v w : Own} {r : Progres
         entry = entry;
         error = λ err. let no : EndPending ≡ EndError = sym pends ∙ err in let never : ⊥ = cc in absurd never;
         init = λ p. is.fits.1.1;
+        none = λ v. is.fits.1.1.1;
         pending = λ p. (refl, is.step);
         finished = λ no. absurd (no pends);
         poll = λ d. let no : EndPending ≡ EndDropped = sym pends ∙ d in cc;
@@ -82,6 +88,7 @@ module _ {W : Type 0} {whose : W → ℕ} {x y : Sided} {v w : Own} {r : Progres
         entry = entry_is false y w e may;
         error = error_given y w e may;
         init = λ p. absurd (subst (MayEnd false y w) p may);
+        none = none_left y w e may;
         pending = λ p. absurd (subst (MayEnd false y w) p may);
         finished = λ no. refl;
         poll = λ d. subst (MayEnd false y w) d may;

@@ -1,17 +1,19 @@
 -- How the log grows with a step, and with one step after the other.
-use Rattle.std.proofs.Common.{◌≡◌, ℕ, List, [], ◌∷◌, ◌++◌, append_assoc, reverse, refl, sym, ap, ◌∙◌}
+use Rattle.std.proofs.Common.{◌≡◌, ℕ, Bool, false, true, List, [], ◌∷◌, ◌++◌, append_assoc, reverse, refl, sym, ap, ◌∙◌}
 use Rattle.std.proofs.lemmas.List.{append-nil, reverse-append}
 use mathlib.Core.List.{IsPrefix}
 use Rattle.once_machine.specs.Table.{Next}
 use Rattle.once_machine.specs.declared.step.Progress.{Progress}
 use Rattle.once_machine.specs.declared.step.Progress.TheVariants.{More, Ended}
-use Rattle.once_machine.specs.Record.{Entry, handed_by}
+use Rattle.once_machine.specs.Record.{Begin, DropBegin, Entry, Ran, handed_by}
 use Rattle.once_machine.specs.declared.record.Ran.{Ran as Answer}
+use Rattle.once_machine.specs.declared.record.Ran.TheVariants.{Error as RanError, Pending as RanPending, Value as RanValue}
 use Rattle.once_machine.specs.Book.{TaskState}
 use Rattle.once_machine.specs.Machine.{progress_entries}
 use Rattle.once_parts.specs.Kept.{Grew, entries_of}
 use Rattle.once_parts.specs.Own.{Own, Turned, told}
-use Rattle.once_parts.specs.Sides.{Sided}
+use Rattle.once_parts.specs.Record.{gave_since}
+use Rattle.once_parts.specs.Sides.{Sided, has_given}
 use Rattle.once_parts.specs.Walks.{AreMid, IsCall, Walked, handed}
 use Rattle.once_parts.proofs.Desks.{prefix_on}
 
@@ -33,6 +35,16 @@ handed_on : (es fs : List Entry) → handed (es ++ fs) ≡ handed es ++ handed f
 handed_on [] fs = refl
 handed_on (e ∷ es) fs = ap (λ X. handed_by e ++ X) (handed_on es fs) ∙ sym (append_assoc (handed_by e) (handed es) (handed fs))
 
+-- what the one and then the other say of what an init gave
+pub gave_on : (gave : Bool) (es fs : List Entry) → gave_since gave (es ++ fs) ≡ gave_since (gave_since gave es) fs
+gave_on gave [] fs = refl
+gave_on gave (Begin t w ∷ es) fs = gave_on false es fs
+gave_on gave (DropBegin t ∷ es) fs = gave_on false es fs
+gave_on gave (Ran t (RanValue v) ∷ es) fs = gave_on true es fs
+gave_on gave (Ran t RanPending ∷ es) fs = gave_on gave es fs
+gave_on gave (Ran t (RanError e) ∷ es) fs = gave_on gave es fs
+gave_on gave (_ ∷ es) fs = gave_on gave es fs
+
 -- there is one at most
 end_reversed : (r : Progress) (t v : ℕ) (k : Answer) → reverse (progress_entries r t v k) ≡ progress_entries r t v k
 end_reversed More t v k = refl
@@ -45,8 +57,8 @@ told_ends t k n did = reverse-append (progress_entries n.progress t 0 k) did ∙
 module _ (x y : Sided) (v w : Own) where
   -- one step, of which this is told
   pub walked_by : (z : TaskState) (n : Next ℕ ℕ) (did : List Entry) (r : Progress) (X : List ℕ) → Turned v z (told v.number z.kept n did) w
-      → r ≡ n.progress → AreMid (reverse did) → handed (reverse did) ≡ X → y.woke ≡ x.woke ++ X → Walked x v r y w
-  walked_by z n did r X d e mid out woke =
+      → r ≡ n.progress → AreMid (reverse did) → handed (reverse did) ≡ X → y.woke ≡ x.woke ++ X → has_given y ≡ gave_since (has_given x) (reverse did) → Walked x v r y w
+  walked_by z n did r X d e mid out woke gave =
       let es : List Entry = told v.number z.kept n did in
       let split : es ≡ reverse did ++ progress_entries n.progress v.number 0 z.kept = told_ends v.number z.kept n did in
       let names : progress_entries n.progress v.number 0 z.kept ≡ progress_entries r w.number 0 w.task.kept =
@@ -64,6 +76,7 @@ module _ (x y : Sided) (v w : Own) where
           mid,
           d.mine ∙ ap (λ l. entries_of v.number v.log ++ l) (split ∙ ap (λ l. reverse did ++ l) names),
           woke ∙ ap (λ Y. x.woke ++ Y) (sym out),
+          gave,
         );
       }
 
@@ -72,7 +85,7 @@ pub walked_none : (x : Sided) (v : Own) → Walked x v More x v
 walked_none x v = record {
   number = refl;
   ends = (v.log, here v.log, sym (append-nil v.log));
-  made = ([], tt, sym (append-nil (entries_of v.number v.log)), sym (append-nil x.woke));
+  made = ([], tt, sym (append-nil (entries_of v.number v.log)), sym (append-nil x.woke), refl);
 }
 
 -- one step more
@@ -91,6 +104,7 @@ walked_on {x = x} {u = u} {v = v} {w = w} {r = r} {q = q} more a b =
             ∙ ap (λ l. l ++ (b.made.0 ++ end)) first ∙ append_assoc (entries_of u.number u.log) a.made.0 (b.made.0 ++ end)
             ∙ ap (λ l. entries_of u.number u.log ++ l) (sym (append_assoc a.made.0 b.made.0 end)),
         b.made.3 ∙ ap (λ X. X ++ handed b.made.0) a.made.3 ∙ append_assoc x.woke (handed a.made.0) (handed b.made.0) ∙ ap (λ X. x.woke ++ X) (sym (handed_on a.made.0 b.made.0)),
+        b.made.4 ∙ ap (λ g. gave_since g b.made.0) a.made.4 ∙ sym (gave_on (has_given x) a.made.0 b.made.0),
       );
     }
 

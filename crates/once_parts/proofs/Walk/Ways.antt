@@ -33,12 +33,18 @@ use Rattle.once_parts.specs.Walks.{Stands}
 use Rattle.once_parts.specs.Ways.{Leads, closed_if}
 use Rattle.once_parts.proofs.Sides.{sided_told}
 use Rattle.once_parts.proofs.Walk.Logs.{walked_on}
-use Rattle.once_parts.proofs.Walk.Lines.{line_went}
+use Rattle.once_parts.proofs.Walk.Lines.{ShownAt, line_went}
 
--- a look alone may call the side in the middle of its step
-abbrev pub is_look : {W : Type 0} → Place W ⊤ → Bool
-is_look (AtLook q k) = true
-is_look at = false
+-- more is asked of a side: a look may call it in the middle of its step, and a put shows it the value
+abbrev pub asks_more : {W : Type 0} → Place W ⊤ → Bool
+asks_more (AtLook q k) = true
+asks_more (AtPut by) = true
+asks_more at = false
+
+-- where no more is asked, it is shown nothing
+nothing_shown : {W : Type 0} (at : Place W ⊤) (y : Sided) → asks_more at ≡ false → ShownAt at y
+nothing_shown (AtPut by) y plain = absurd (false≢true (sym plain))
+nothing_shown at y plain = tt
 
 -- neither is an init polled, nor a value put, nor is anybody handed out
 abbrev pub is_quiet : {W : Type 0} → Told W ⊤ → Bool
@@ -89,27 +95,28 @@ module _ {W : Type 0} (whose : W → ℕ) where
 
   module _ (x y : Sided) (v w : Own) where
     -- a line of the table leads on
-    led_by : (at : Place W ⊤) (n : Next W ⊤) → Stands whose false x v More (UnderWay at)
+    led_by : (at : Place W ⊤) (n : Next W ⊤) → ShownAt at y → Stands whose false x v More (UnderWay at)
         → Line Tell (sided_tells whose (λ (z : Sided). z)) at v x n.progress n.step w y → Leads whose x v n.progress n.step y w
-    led_by at n is line =
-        let went = line_went (λ (v : Own). any_cell) (λ (v : Own). v) (sided_told whose (λ (z : Sided). z)) false at is line in
+    led_by at n shown is line =
+        let went = line_went (λ (v : Own). any_cell) (λ (v : Own). v) (sided_told whose (λ (z : Sided). z)) false at shown is line in
         record { walked = went.walked; stands = went.stands }
 
     -- a line that is no look says of what the call told that the task goes on by it
-    lone : (at : Place W ⊤) (r : Progress) (s : Step W ⊤) → is_look at ≡ false
+    lone : (at : Place W ⊤) (r : Progress) (s : Step W ⊤) → asks_more at ≡ false
         → Tells (call_at at) (λ e. Tell v e w × GoesOn Tell (sided_tells whose (λ (z : Sided). z)) (after None at e) e x y r s)
         → Line Tell (sided_tells whose (λ (z : Sided). z)) at v x r s w y
     lone (AtLook q k) r s plain t = absurd (false≢true (sym plain))
+    lone (AtPut by) r s plain t = t
     lone at r s plain t = t
 
   module _ {x y : Sided} {v w : Own} where
     -- a step at which the side's init is dropped or not, and nothing else is asked of the side
-    pub led : (at : Place W ⊤) (e : Told W ⊤) (n : Next W ⊤) → is_look at ≡ false → is_quiet e ≡ true → Tells (call_at at) (λ d. d ≡ e)
+    pub led : (at : Place W ⊤) (e : Told W ⊤) (n : Next W ⊤) → asks_more at ≡ false → is_quiet e ≡ true → Tells (call_at at) (λ d. d ≡ e)
         → Stands whose false x v More (UnderWay at) → DidCall whose v e w → after None at e ≡ n → y ≡ closed_if n.closes x → Leads whose x v n.progress n.step y w
     led at e n plain quiet tells is did leads closed =
         let goes : GoesOn Tell (sided_tells whose (λ (z : Sided). z)) (after None at e) e x y n.progress n.step =
         subst (λ (m : Next W ⊤). GoesOn Tell (sided_tells whose (λ (z : Sided). z)) m e x y n.progress n.step) (sym leads) (quiet_side e quiet n.closes x y closed, refl, refl) in
-        led_by x y v w at n is (lone x y v w at n.progress n.step plain
+        led_by x y v w at n (nothing_shown at y plain) is (lone x y v w at n.progress n.step plain
         (told_more (call_at at) (λ d. d ≡ e) (λ d. Tell v d w × GoesOn Tell (sided_tells whose (λ (z : Sided). z)) (after None at d) d x y n.progress n.step)
         (λ d same. subst (λ d. Tell v d w × GoesOn Tell (sided_tells whose (λ (z : Sided). z)) (after None at d) d x y n.progress n.step) (sym same) ((refl, did), goes)) tells))
 
@@ -129,7 +136,7 @@ module _ {W : Type 0} (whose : W → ℕ) where
         let e : Told W ⊤ = Was tt (Look k) a o in
         let goes : GoesOn Tell (sided_tells whose (λ (z : Sided). z)) (after None (AtLook tt k) e) e x y n.progress n.step =
         subst (λ (m : Next W ⊤). GoesOn Tell (sided_tells whose (λ (z : Sided). z)) m e x y n.progress n.step) (sym leads) (closes n.closes x y closed, refl, refl) in
-        led_by x y v w (AtLook tt k) n is (
+        led_by x y v w (AtLook tt k) n tt is (
           a,
           o,
           w,
@@ -145,18 +152,18 @@ module _ {W : Type 0} (whose : W → ℕ) where
     -- the init is polled, and answers so
     pub ran : (by : Option ⊤) (a : Polled) (m : Sided) → Stands whose false x v More (UnderWay (AtRun by)) → DidCall whose v (Ran a) w
         → HasRun x a m → y ≡ closed_if (after_run {W = W} a by).closes m → Leads whose x v (after_run {W = W} a by).progress (after_run a by).step y w
-    ran by a m is did run closed = led_by x y v w (AtRun by) (after_run a by) is
+    ran by a m is did run closed = led_by x y v w (AtRun by) (after_run a by) tt is
         (a, ((refl, did), ((m, run, closes (after_run {W = W} a by).closes m y closed), refl, refl)))
 
     -- the value is put
-    pub put : (by : Option ⊤) → Stands whose false x v More (UnderWay (AtPut by)) → DidCall whose v PutValue w → HasPut x y
+    pub put : (by : Option ⊤) → Stands whose false x v More (UnderWay (AtPut by)) → DidCall whose v PutValue w → HasPut x y × (y.has_shown ≡ true)
         → Leads whose x v More (UnderWay (release_place by EndValue)) y w
-    put by is did has = led_by x y v w (AtPut by) (next_at (release_place by EndValue)) is ((refl, did), (has, refl, refl))
+    put by is did (has, shown) = led_by x y v w (AtPut by) (next_at (release_place by EndValue)) shown is ((refl, did), (has, refl, refl))
 
     -- a release under the lock, and those whom it hands out are called
     pub released : (e : Ending) (out : Out W) (o : Op W) → Stands whose false x v More (UnderWay (AtRelease tt e))
         → DidCall whose v (Was tt (Release (is_value e)) (Released out) o) w → HasWoken whose x out y → Leads whose x v More (UnderWay (AtCountOut e)) y w
-    released e out o is did woken = led_by x y v w (AtRelease tt e) (next_at (AtCountOut e)) is (Released out, o, ((refl, did), (woken, refl, refl)))
+    released e out o is did woken = led_by x y v w (AtRelease tt e) (next_at (AtCountOut e)) tt is (Released out, o, ((refl, did), (woken, refl, refl)))
 
   module _ {x m y : Sided} {v n w : Own} where
     -- a look that finds a holder, and the copy of the waker, or its refusal
@@ -167,7 +174,7 @@ module _ {W : Type 0} (whose : W → ℕ) where
     copied k Ready o c r l i is did copy may closed = absurd (r refl)
     copied k Claimed o c r l i is did copy may closed = absurd (l refl)
     copied k Listed o c r l i is did copy may closed = absurd (i refl)
-    copied k a o c r l i is did copy may closed = led_by x y v w (AtLook tt k) (after_copy c tt (ticket_in o)) is
+    copied k a o c r l i is did copy may closed = led_by x y v w (AtLook tt k) (after_copy c tt (ticket_in o)) tt is
         (a, o, n, (refl, did), (c, m, copy, may, (closes (after_copy {W = W} c tt (ticket_in o)).closes m y closed, refl, refl)))
 
   -- a poll begins at the place of the rest that was found

@@ -26,7 +26,7 @@ impl<T, W: TaskWaker + Drop, R: Wait + AllocGlobal, V: Fits<T>> Shared<'_, '_, T
     #[inline(never)]
     pub(super) fn at_door_get<S: TaskSide<W, Value = T>>(&mut self, side: &mut S) -> Ending
         requires stands { IsAt W.whose S.state Place.DoorGet self.old side.old }
-        requires fits { GivesFit S.hands V.fits side.old (cell_of self.old) }
+        requires fits { GivesFit S.hands S.has_slot V.fits side.old (cell_of self.old) }
         ensures { Polls W.whose S.state S.stays self.old side.old result self.new.idle self.new side.new }
     {
         let mut spent = None;
@@ -43,7 +43,7 @@ impl<T, W: TaskWaker + Drop, R: Wait + AllocGlobal, V: Fits<T>> Shared<'_, '_, T
     #[inline(always)]
     fn at_door_put<S: TaskSide<W, Value = T>>(&mut self, side: &mut S) -> Ending
         requires stands { IsAt W.whose S.state Place.DoorPut self.old side.old }
-        requires fits { GivesFit S.hands V.fits side.old (cell_of self.old) }
+        requires fits { GivesFit S.hands S.has_slot V.fits side.old (cell_of self.old) }
         ensures { Polls W.whose S.state S.stays self.old side.old result self.new.idle self.new side.new }
     {
         let alloc = self.rt.alloc();
@@ -67,7 +67,7 @@ impl<T, W: TaskWaker + Drop, R: Wait + AllocGlobal, V: Fits<T>> Shared<'_, '_, T
         side: &mut S,
     ) -> Ending
         requires stands { IsAt W.whose S.state (Place.WaitLoad tt ticket) self.old side.old }
-        requires fits { GivesFit S.hands V.fits side.old (cell_of self.old) }
+        requires fits { GivesFit S.hands S.has_slot V.fits side.old (cell_of self.old) }
         ensures { Polls W.whose S.state S.stays self.old side.old result self.new.idle self.new side.new }
     {
         if Word::from_bits(self.load()).is_ready() {
@@ -80,7 +80,7 @@ impl<T, W: TaskWaker + Drop, R: Wait + AllocGlobal, V: Fits<T>> Shared<'_, '_, T
     #[inline(always)]
     fn at_look<S: TaskSide<W, Value = T>>(&mut self, ticket: Option<u64>, side: &mut S) -> Ending
         requires stands { IsAt W.whose S.state (Place.Look tt ticket) self.old side.old }
-        requires fits { GivesFit S.hands V.fits side.old (cell_of self.old) }
+        requires fits { GivesFit S.hands S.has_slot V.fits side.old (cell_of self.old) }
         ensures { Polls W.whose S.state S.stays self.old side.old result self.new.idle self.new side.new }
     {
         let mut spent = None;

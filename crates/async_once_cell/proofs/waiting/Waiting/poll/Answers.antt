@@ -21,7 +21,7 @@ returns-clause-end g c =
     subst (λ (l : List Entry). Grew (end_of now.number ending ∷ []) old l) (sym c.answer.ensures.log)
     (subst (λ (n : ℕ). Grew (end_of n ending ∷ []) old did.log) (sym c.answer.ensures.number)
     (subst (λ (e : Ending). Grew (end_of did.number e ∷ []) old did.log) (sym c.answer.ensures.ending)
-    (subst (λ (l : List Entry). Grew (end_of did.number c.poll-ending.result ∷ []) l did.log) before c.poll-ending.ensures.end)))
+    (subst (λ (l : List Entry). Grew (end_of did.number c.poll-ending.result ∷ []) l did.log) before c.poll-ending.ensures.polled.end)))
 
 -- an init that answered is gone
 pub returns-clause-same : goal.returns-clause-same
@@ -30,17 +30,21 @@ returns-clause-same g c = λ x m. absurd (subst (λ (i : Option g.row.I.Denot). 
 pub returns-clause-same_values : goal.returns-clause-same_values
 returns-clause-same_values g c = λ x m. absurd (subst (λ (i : Option g.row.I.Denot). MayGive g.I.Yields.may_give i x) c.answer.ensures.init m)
 
--- a value that the side hands over is one that the init may give, and so it fits
+-- a value that the side hands over is one that the init may give, and so it fits, and the side is of the cell
 pub poll-ending-requires-clause-fits : goal.poll-ending-requires-clause-fits
 poll-ending-requires-clause-fits g c = λ v hands.
     let may = MayGive g.I.Yields.may_give in
     let before : c.self.inside.init ≡ c.args.self.now.init = search rules in
-    let cell : c.self.inside.task.cell ≡ c.args.self.now.cell = search rules in
-    subst (λ (s : Placed). g.V.Fits.fits s.about v) (sym cell)
-    (c.requires.fits v (subst (λ (i : Option g.row.I.Denot). may i v) (c.of.ensures ∙ c.take-init.ensures.value ∙ before) (hands (
-      λ armed. absurd (false≢true armed),
-      λ y n. subst (λ (i : Option g.row.I.Denot). MayFail g.I.Init.may_fail i y) (sym c.of.ensures) n,
-      tt,
-      λ y n. subst (λ (i : Option g.row.I.Denot). may i y) (sym c.of.ensures) n,
-      tt,
-    ))))
+    let cell : c.self.inside.task.cell ≡ c.args.self.now.cell = search rules in (
+      subst (λ (s : Placed). g.V.Fits.fits s.about v) (sym cell)
+          (c.requires.fits v (subst (λ (i : Option g.row.I.Denot). may i v) (c.of.ensures ∙ c.take-init.ensures.value ∙ before) (hands (record {
+            armed = λ armed. absurd (false≢true armed);
+            fails = λ y n. subst (λ (i : Option g.row.I.Denot). MayFail g.I.Init.may_fail i y) (sym c.of.ensures) n;
+            error = tt;
+            gives = λ y n. subst (λ (i : Option g.row.I.Denot). may i y) (sym c.of.ensures) n;
+            value = tt;
+            handed = search rules;
+            written = tt;
+          })))),
+      search rules,
+    )

@@ -1,8 +1,9 @@
 -- The poll goes on from where its steps under the lock led.
-use Rattle.std.proofs.Common.{subst}
+use Rattle.std.proofs.Common.{refl, subst}
 use Rattle.once_parts.specs.Hands.{own_of}
-use Rattle.once_parts.specs.Shares.{own}
+use Rattle.once_parts.specs.Shares.{cell_of, own}
 use Rattle.once_parts.specs.Ways.{LeadsBy, next_by}
+use Rattle.once_parts.proofs.Promise.{fits_on}
 use Rattle.once_parts.proofs.Walk.Ways.{onward}
 use Rattle.once_parts.proofs.shared.Shared.at_door_get.Goals as goal
 
@@ -25,3 +26,14 @@ returns-in-NoQueue g c =
           c.at_door_put.ensures.leads;
       stays = g.met.S.Side.stays_on _ _ _ c.lock_at_door_get-reached.ensures.stays c.at_door_put.ensures.stays;
     }
+
+pub at_door_put-requires-clause-fits : goal.at_door_put-requires-clause-fits
+at_door_put-requires-clause-fits g c =
+    fits_on g.V.Fits.fits g.met.S.TaskSide.hands_on g.met.S.TaskSide.slot_on {c = cell_of c.args.self.now} c.requires.fits
+    c.lock_at_door_get-reached.ensures.stays refl
+
+pub go_on_from-requires : goal.go_on_from-requires
+go_on_from-requires g c = record {
+  stands = c.lock_at_door_get-reached.ensures.leads.stands;
+  fits = fits_on g.V.Fits.fits g.met.S.TaskSide.hands_on g.met.S.TaskSide.slot_on {c = cell_of c.args.self.now} c.requires.fits c.lock_at_door_get-reached.ensures.stays refl;
+}

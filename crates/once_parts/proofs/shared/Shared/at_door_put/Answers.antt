@@ -3,6 +3,8 @@ use Rattle.std.proofs.Common.{refl, None}
 use Rattle.once_machine.specs.Table.{PutQueue, closing_end}
 use Rattle.once_machine.specs.declared.step.Place.TheVariants.{DoorPut as AtDoorPut}
 use Rattle.once_machine.specs.declared.step.Ending.TheVariants.{Memory as EndMemory}
+use Rattle.once_parts.specs.Shares.{cell_of}
+use Rattle.once_parts.proofs.Promise.{fits_on}
 use Rattle.once_parts.proofs.Walk.Ways.{led}
 use Rattle.once_parts.proofs.shared.Shared.at_door_put.Goals as goal
 
@@ -22,3 +24,8 @@ returns g c =
       leads = c.go_on_from.ensures.leads _ _ c.lock_at_door_put-reached.ensures.leads;
       stays = g.met.S.Side.stays_on _ _ _ c.lock_at_door_put-reached.ensures.stays c.go_on_from.ensures.stays;
     }
+
+pub go_on_from-requires-clause-fits : goal.go_on_from-requires-clause-fits
+go_on_from-requires-clause-fits g c =
+    fits_on g.V.Fits.fits g.met.S.TaskSide.hands_on g.met.S.TaskSide.slot_on {c = cell_of c.args.self.now} c.requires.fits
+    c.lock_at_door_put-reached.ensures.stays refl

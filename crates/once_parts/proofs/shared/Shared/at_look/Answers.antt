@@ -1,4 +1,7 @@
 -- The poll goes on from where its steps under the lock led.
+use Rattle.std.proofs.Common.{refl}
+use Rattle.once_parts.specs.Shares.{cell_of}
+use Rattle.once_parts.proofs.Promise.{fits_on}
 use Rattle.once_parts.proofs.shared.Shared.at_look.Goals as goal
 
 pub returns : goal.returns
@@ -8,3 +11,6 @@ returns g c =
       leads = c.go_on_from.ensures.leads _ _ c.lock_at_look-reached.ensures.leads;
       stays = g.met.S.Side.stays_on _ _ _ c.lock_at_look-reached.ensures.stays c.go_on_from.ensures.stays;
     }
+
+pub go_on_from-requires-clause-fits : goal.go_on_from-requires-clause-fits
+go_on_from-requires-clause-fits g c = fits_on g.V.Fits.fits g.met.S.TaskSide.hands_on g.met.S.TaskSide.slot_on {c = cell_of c.args.self.now} c.requires.fits c.lock_at_look-reached.ensures.stays refl

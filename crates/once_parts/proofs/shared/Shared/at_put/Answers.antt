@@ -6,7 +6,7 @@ use Rattle.once_parts.proofs.shared.Shared.at_put.Goals as goal
 pub returns : goal.returns
 returns g c =
     record {
-      cell = c.give_back.ensures.cell ∙ c.put-2.ensures.0;
-      leads = onward g.W.TaskWaker.whose (put g.W.TaskWaker.whose c.args.by c.requires.stands c.put-2.ensures.1 (g.met.S.TaskSide.tells.put _ _ c.put.ensures.did)) c.give_back.ensures.leads;
-      stays = g.met.S.Side.stays_on _ _ _ c.put.ensures.stays c.give_back.ensures.stays;
+      cell = c.give_back.ensures.cell ∙ c.put_from.ensures.cell;
+      leads = onward g.W.TaskWaker.whose (put g.W.TaskWaker.whose c.args.by c.requires.stands c.put_from.ensures.did (c.put_from.ensures.put, c.put_from.ensures.shown)) c.give_back.ensures.leads;
+      stays = g.met.S.Side.stays_on _ _ _ c.put_from.ensures.stays c.give_back.ensures.stays;
     }

@@ -7,6 +7,7 @@ use Rattle.once_machine.specs.declared.step.Progress.TheVariants.{Ended}
 use Rattle.once_machine.specs.declared.step.Step.{Step}
 use Rattle.once_parts.specs.Shares.{own}
 use Rattle.once_parts.specs.Ways.{Leads}
+use Rattle.once_parts.proofs.Promise.{fits_on}
 use Rattle.once_parts.proofs.Walk.Ways.{onward, ran}
 use Rattle.once_parts.proofs.shared.Shared.at_run.Goals as goal
 
@@ -48,3 +49,8 @@ give_back-requires g c =
     record {
       stands = (ran g.W.TaskWaker.whose c.args.by Error _ c.requires.stands c.in-Error.ensures.did.1 (tells.run _ _ _ c.in-Error.ensures.ran) (tells.close _ _ c.close-in-Error.ensures.did)).stands;
     }
+
+pub at_put-requires-clause-fits : goal.at_put-requires-clause-fits
+at_put-requires-clause-fits g c =
+    fits_on g.V.Fits.fits g.met.S.TaskSide.hands_on g.met.S.TaskSide.slot_on c.requires.fits
+    (g.met.S.Side.stays_on _ _ _ c.in-Value.ensures.stays c.close.ensures.stays) c.in-Value.ensures.did.0

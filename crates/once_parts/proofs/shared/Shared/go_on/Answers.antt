@@ -3,6 +3,7 @@ use Rattle.std.proofs.Common.{◌≡◌, false, rules, arith, refl, ◌∙◌, s
 use Rattle.once_machine.specs.Steps.{in_call}
 use Rattle.once_parts.specs.Shares.{own}
 use Rattle.once_parts.specs.Walks.{Stands, Walked}
+use Rattle.once_parts.proofs.Promise.{fits_on}
 use Rattle.once_parts.proofs.Walk.Ends.{told_end}
 use Rattle.once_parts.proofs.shared.Shared.go_on.Goals as goal
 
@@ -34,3 +35,6 @@ returns-clause-stands g c = λ drops s. subst
 
 pub returns-clause-walked : goal.returns-clause-walked
 returns-clause-walked g c = λ x v m. subst (λ r. Walked x v r (g.S.TaskSide.state c.loop-self.side) (own c.loop-self.self)) c.in-Ended.is (c.loop-self.invariant.2 x v m)
+
+pub one_step-told-requires-clause-fits : goal.one_step-told-requires-clause-fits
+one_step-told-requires-clause-fits g c = fits_on g.V.Fits.fits g.met.S.TaskSide.hands_on g.met.S.TaskSide.slot_on c.requires.fits c.loop-self.invariant.0 c.loop-self.invariant.1

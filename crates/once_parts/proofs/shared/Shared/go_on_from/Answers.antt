@@ -1,12 +1,14 @@
 -- The init is closed where the table says so, and the poll goes on from there.
-use Rattle.std.proofs.Common.{sym, subst}
+use Rattle.std.proofs.Common.{false, refl, sym, subst}
 use Rattle.once_machine.specs.Steps.{leave_place}
 use Rattle.once_machine.specs.declared.step.Place.TheVariants.{CountOut as AtCountOut}
 use Rattle.once_machine.specs.declared.step.Ending.TheVariants.{Memory as EndMemory, Value as EndValue}
 use Rattle.once_machine.specs.declared.step.Progress.TheVariants.{More}
 use Rattle.once_machine.specs.declared.step.Step.TheVariants.{UnderWay}
-use Rattle.once_parts.specs.Shares.{own}
+use Rattle.once_parts.specs.Shares.{cell_of, own}
+use Rattle.once_parts.specs.Walks.{Stands}
 use Rattle.once_parts.specs.Ways.{Leads, LeadsBy, StandsBy, next_by}
+use Rattle.once_parts.proofs.Promise.{fits_on}
 use Rattle.once_parts.proofs.Walk.Ways.{onward}
 use Rattle.once_parts.proofs.shared.Shared.go_on_from.Goals as goal
 
@@ -14,6 +16,12 @@ pub hold-requires : goal.hold-requires
 hold-requires g c = record {
   stands = subst (λ r. StandsBy g.W.TaskWaker.whose (next_by r) (g.S.TaskSide.state c.args.side.now) (own c.args.self.now)) c.in-Claimed.is c.requires.stands;
   fits = c.requires.fits;
+}
+
+pub at_count_out-requires : goal.at_count_out-requires
+at_count_out-requires g c = record {
+  stands = subst (λ y. Stands g.W.TaskWaker.whose false y (own c.args.self.now) More (UnderWay (AtCountOut EndValue))) (sym (g.met.S.TaskSide.tells.close _ _ c.close.ensures.did))
+      (subst (λ r. StandsBy g.W.TaskWaker.whose (next_by r) (g.S.TaskSide.state c.args.side.now) (own c.args.self.now)) c.in-Ready.is c.requires.stands);
 }
 
 pub returns-in-Ready-clause-leads : goal.returns-in-Ready-clause-leads
@@ -45,3 +53,6 @@ pub returns-in-NoQueue-clause-leads : goal.returns-in-NoQueue-clause-leads
 returns-in-NoQueue-clause-leads g c = λ x v so_far.
     let at = subst (λ r. LeadsBy g.W.TaskWaker.whose x v (next_by r) (g.S.TaskSide.state c.args.side.now) (own c.args.self.now)) c.in-NoQueue.is so_far in
     onward g.W.TaskWaker.whose at c.steps_left-in-NoQueue.ensures.leads
+
+pub steps_left-requires-clause-fits : goal.steps_left-requires-clause-fits
+steps_left-requires-clause-fits g c = fits_on g.V.Fits.fits g.met.S.TaskSide.hands_on g.met.S.TaskSide.slot_on {c = cell_of c.args.self.now} c.requires.fits c.close-in-Refused.ensures.stays refl

@@ -37,7 +37,7 @@ go_on-requires g c =
         stands_closed (g.S.TaskSide.state c.args.side.now) c.step-step.result (g.met.S.TaskSide.tells.close _ _ c.begin_drop-2.ensures.close) c.begin_drop-2.ensures.step
             (number, c.requires.none) rests c.begin_drop.ensures.did call,
       );
-      fits = fits_on g.V.Fits.fits g.met.S.TaskSide.hands_on c.requires.fits c.begin_drop-2.ensures.stays
+      fits = fits_on g.V.Fits.fits g.met.S.TaskSide.hands_on g.met.S.TaskSide.slot_on c.requires.fits c.begin_drop-2.ensures.stays
           (c.begin_drop.ensures.cell ∙ ap (λ (t : TaskView). t.cell) c.self.view_is);
     }
 

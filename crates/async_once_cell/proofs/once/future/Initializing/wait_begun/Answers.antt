@@ -16,15 +16,15 @@ loop-preserved g c =
     let asked = c.poll_as-polled.ensures in
     let new = c.poll_as-polled.new in
     let call = subst (λ (k : Option g.row.T.Denot).
-    PollsAs k c.loop.self new.self c.in_ok-cx.cx new.cx (ending_by g.X.Failure.ending c.poll_as-polled.result)) c.loop.invariant.3 asked.call in
-    let did = subst (λ r. DidPoll c.loop.self new.self c.in_ok-cx.cx new.cx (ending_by g.X.Failure.ending r)) c.in_default.is call in
-    let told = subst (λ r. Polls c.loop.token.value new.token.value r) c.in_default.is asked.value in (
+    PollsAs k c.loop.self new.self c.in-Some-next.cx new.cx (ending_by g.X.Failure.ending c.poll_as-polled.result)) c.loop.invariant.3 asked.call in
+    let did = subst (λ r. DidPoll c.loop.self new.self c.in-Some-next.cx new.cx (ending_by g.X.Failure.ending r)) c.in_default-polled.is call in
+    let told = subst (λ r. Polls c.loop.token.value new.token.value r) c.in_default-polled.is asked.value in (
       did.finished,
       asked.cell ∙ c.loop.invariant.1 ∙ sym did.cell,
       asked.cell ∙ c.loop.invariant.2,
       told.1,
       prefix_on c.args.token.now.log c.loop.token.log _ c.loop.invariant.4 asked.log,
-      λ x m. c.loop.invariant.5 x (asked.same c.in_default.is x m),
+      λ x m. c.loop.invariant.5 x (asked.same c.in_default-polled.is x m),
     )
 
 pub returns-in-Ready-clause-log : goal.returns-in-Ready-clause-log

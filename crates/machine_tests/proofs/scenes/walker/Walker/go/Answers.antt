@@ -8,12 +8,12 @@ use Rattle.once_machine.specs.declared.step.Step.TheVariants.{Finished, Resting,
 use Rattle.once_machine.specs.declared.step.Progress.{Progress}
 use Rattle.once_machine.specs.declared.step.Step.{Step}
 use Rattle.once_parts.specs.Shares.{own}
-use Rattle.once_parts.specs.Sides.{Sided}
+use Rattle.once_parts.specs.Sides.{IsReady, Sided}
 use Rattle.once_parts.specs.Walks.{Fits, Stands}
 use Rattle.machine_tests.proofs.scenes.walker.Walker.go.Goals as goal
 
 -- a task that rests after a step has its init
-init_at_rest : {W : Type 0} (drops : Bool) (x : Sided) (v : Own) (r : Progress) (s : Step W ⊤) → is_resting s ≡ true → Fits drops x v r s → x.has_init ≡ true
+init_at_rest : {W : Type 0} (drops : Bool) (x : Sided) (v : Own) (r : Progress) (s : Step W ⊤) → is_resting s ≡ true → Fits drops x v r s → IsReady x
 init_at_rest drops x v r (Resting rest) rests fits = fits.1.1
 init_at_rest drops x v r (UnderWay p) rests fits = absurd (false≢true rests)
 init_at_rest drops x v r Finished rests fits = absurd (false≢true rests)

@@ -1,5 +1,5 @@
 use Rattle.once_parts.proofs.Values.{put_keeps, write_keeps}
-use Rattle.once_parts.proofs.shared.SharedParts.put.Goals as goal
+use Rattle.once_parts.proofs.shared.Shared.put_value.Goals as goal
 
 pub put-requires-clause-begins : goal.put-requires-clause-begins
 put-requires-clause-begins g c = rw c.args.self.now.inner.now.slot_is.1 (write_keeps _ _ c.args.self.now.hand.is_hand c.requires.can)

@@ -1,5 +1,0 @@
-use Rattle.std.proofs.Common.{rules}
-use Rattle.async_once_cell.proofs.once.OnceCell.into_inner.Goals as goal
-
-pub returns : goal.returns
-returns g c = search rules
