@@ -1,4 +1,5 @@
--- What a record tells: the words of once_machine, and the answers of inits and polls, which are types of the code.
+-- What a record tells: the words of once_machine and once_parts, and the answers of inits and polls, which are types of
+-- the code.
 pub use Rattle.once_machine.specs.Record.{Kind, Once, OnceWith, Lazy, LazyWith}
 pub use Rattle.once_machine.specs.Record.{OwnerCall, Take, Write, Parts, ReplaceValue, ReplaceAnswers}
 pub use Rattle.once_machine.specs.Record.{Got, GotNone, GotValue, GotAnswers}
@@ -10,4 +11,4 @@ pub use Rattle.once_machine.specs.declared.record.Ran.TheVariants.{Pending as Ra
 pub use Rattle.once_machine.specs.declared.record.Ran.TheVariants.{Error as RanError}
 pub use Rattle.once_machine.specs.declared.record.Reply.{Reply}
 pub use Rattle.once_machine.specs.declared.record.Reply.TheVariants.{Pending, Value, Error, Memory, Full}
-pub use Rattle.once_parts.specs.Record.{IsSet, PollsOnce, WasFilled, gave_value}
+pub use Rattle.once_parts.specs.Record.{gave_value}

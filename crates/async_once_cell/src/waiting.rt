@@ -1,7 +1,6 @@
 //! A task of a cell that brings an init, and is called while it waits.
 ghost use Rattle.std.specs.Prelude.{◌≡◌, ◌∷◌, [], List, true, false, ⊤, IfErr, IfSome, IsSome, IsSomeAnd, None, Some};
 ghost use Rattle.std.specs.Option.{is_some};
-ghost use Rattle.once_machine.specs.declared.step.Out.{Out};
 ghost use Rattle.futures.specs.Poll.{IfReady};
 ghost use Rattle.futures.specs.Task.{IsArmed, Keeps};
 ghost use Rattle.once_machine.specs.declared.step.Ending.{Ending};
@@ -448,9 +447,7 @@ impl<T> Side<ListedWaker> for Leaving<T> {
 impl<T> Renews<ListedWaker> for Leaving<T> {
     ghost renewed = { λ s v t w. (t ≡ s) × (w ≡ v) };
 
-    fn renew(&mut self, listed: &mut ListedWaker) {
-        let _ = listed;
-    }
+    fn renew(&mut self, _listed: &mut ListedWaker) {}
 }
 
 impl<T> TaskSide<ListedWaker> for Leaving<T> {

@@ -5,15 +5,16 @@
 --   Acts      the moments of a task alone keep the rule of the book: the clauses of `Hand`, as `did`
 --   Sections  so do those of a task that has the lock: `told` of src/desk.rt
 --   Desks     what lies under the lock fits its pages after each section: `did` of `Desk`
---   Values    a new book, and how the value is put and looked for: `put` of `Hand`, and `Inner`
+--   Values    a new book, and how the value is put and looked for: `put_value` of `Shared`, and `Inner`
 --   Seen      what holds of the whole log holds of what was seen of it: `is_run`, `stays_set`, `is_set_where_answered`
 --   TwoTasks  a task has seen all of its own entries, and two tasks of one cell have two pages: `learn`, `are_two`
 --   Once      a task polls its init once at most in each call: `once` of `is_run`
 --   Refusals  after a look the refusal of the copy may be told: `section` of the parts of `Shared`
 --   Sides     what the calls of a side tell, by what is told of the side; those who write sides cite it
---   Promise   what a side may hand over fits, after its calls too: `fits` of the ways, and of `Task::poll`
+--   Promise   what a side may hand over fits, and it may be shown that in the cell's slot, after its calls too: `fits`
+--             of the ways, and of `Task::poll`
 --   Idles     what a task is at between two calls, and the step that stands for it
---   Walk      a whole call, step by step along the table: `end`, `spans` and `call` of `Task::poll` and `Task::leave`.
+--   Walk      a whole call, step by step along the table: `polled` of `Task::poll`, `end` and `call` of `Task::leave`.
 --             Its Ways has the steps of the straight ways, whose functions cite it
 --   Late      a poll that began where the cell was set ended with the value: `set` of `Task::poll`
 --

@@ -4,7 +4,6 @@ pub mod Alike
 pub mod Fits
 pub mod Parts
 pub mod Lines
-pub mod Asked
 pub mod Calls
 pub mod Begins
 pub mod Ends

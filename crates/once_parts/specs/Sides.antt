@@ -1,4 +1,5 @@
--- What is told of a task's own side: whether its init is there and gave something, and who was handed to it.
+-- What is told of a task's own side: whether its init is there and gave something, whether it was shown its value in
+-- the cell, and who was handed to it.
 use Rattle.std.specs.Prelude.{◌≡◌, ◌||◌, ℕ, Bool, true, false, List, [], Option, IfSome}
 use Rattle.pagebook.specs.Slot.{Placed}
 use Rattle.once_machine.specs.declared.step.Polled.{Polled}
@@ -23,14 +24,14 @@ pub record HasRun (x : Sided) (a : Polled) (y : Sided) : Type 0 where
   pub init : a ≡ Pending → y.has_init ≡ x.has_init  -- an init that is pending stays there
   pub value : a ≡ Value → y.has_value ≡ true  -- the value that the init gave is there
   pub none : (a ≡ Value → ⊥) → y.has_value ≡ x.has_value  -- if it gave none, there is none but what was there
-  pub shown : y.has_shown ≡ x.has_shown  -- no value was put
+  pub shown : y.has_shown ≡ x.has_shown  -- it was shown no value
   pub error : a ≡ Error → y.has_error ≡ true  -- the error that the init gave is there
 
 -- its init gave a value in this call, which is there still or was put
 abbrev pub has_given : Sided → Bool
 has_given x = x.has_value || x.has_shown
 
--- a poll may begin: the init is there, and gave nothing yet
+-- a poll may begin: the init is there, and gave no value yet
 abbrev pub IsReady : Sided → Type 0
 IsReady x = (x.has_init ≡ true) × (x.has_value ≡ false) × (x.has_shown ≡ false)
 

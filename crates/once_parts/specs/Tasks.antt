@@ -25,9 +25,9 @@ pub record HasPolled (y : Sided) (e : Ending) (v w : TaskView) : Type 0 where
   -- its own entries, and those whose wakers were handed to the side
   pub call : (mid : List Entry) × IsCall w.number (Begin w.number w.number) (end_of w.number e) mid v.log w.log
       × (y.woke ≡ handed mid)
-  pub init : e ≡ EndPending → IsReady y  -- the init is there still, and gave nothing
+  pub init : e ≡ EndPending → IsReady y  -- the init is there still, and gave no value
   pub error : e ≡ EndError → y.has_error ≡ true  -- the error is one that the init gave
-  -- the value is the one that its own init gave, if that gave one
+  -- if it ended with a value, and its own init gave one, the side was shown that this is the cell's
   pub shown : e ≡ EndValue → gave_value w.number w.log ≡ true → y.has_shown ≡ true
   pub finished : (e ≡ EndPending) ↔ (w.finished ≡ false)  -- it goes on, or it is over
   pub not_dropped : e ≡ EndDropped → ⊥  -- it was no drop

@@ -61,8 +61,8 @@ pub record Spans (t : ℕ) (e : Entry) (old new : List Entry) : Type 0 where
   pub after : IsPrefix old before
   pub is : new ≡ before ++ Begin t t ∷ (since ++ e ∷ [])
 
--- how a call may end: a drop as dropped, and a poll with an error that its own init gave, or with a value, where none
--- is left that its own init gave, or refused
+-- how a call may end. A drop ends as dropped. A poll is refused, or it ends with an error that its own init gave, or
+-- with a value; then the side has no value left that it did not put
 abbrev pub MayEnd : Bool → Sided → Own → Ending → Type 0
 MayEnd true x v EndDropped = Unit {0}
 MayEnd true x v e = ⊥
@@ -76,7 +76,7 @@ MayEnd false x v e = Unit {0}
 abbrev pub HasBegun : Bool → Sided → Own → Type 0
 HasBegun drops x v = (drops ≡ false) × (x.woke ≡ []) × (v.task.waker ≡ v.number)
 
--- the same, and the init is there still, and gave nothing
+-- the same, and the init is there still, and gave no value
 abbrev pub GoesOn : Bool → Sided → Own → Type 0
 GoesOn drops x v = HasBegun drops x v × IsReady x
 

@@ -30,19 +30,19 @@ use std::alloc::AllocGlobal;
 use std::marker::Model;
 use std::sync::Wait;
 
-/// A side that says which task it is of, whether its init is there and gave something, and who was handed to it in this
-/// call. If it may copy its waker under the cell's lock, it renews its listed waker there in a poll.
+/// A side that says which task it is of, what it has of its init, and who was handed to it in this call. If it may copy
+/// its waker under the cell's lock, it renews its listed waker there in a poll.
 pub trait TaskSide<W: TaskWaker>: Side<W, Right = Hand> + Renews<W> {
     ghost state: { Self → Sided };
 
-    // The slot of its task's cell may be the one of this name.
+    // It may be shown a value in the slot of this name.
     ghost has_slot: { Self → ℕ → Type 0 };
 
     /// Whether the waker may be copied while the cell's lock is held: only if no code runs there that could use the
     /// cell, because it would wait for the lock for ever. No clause says so. Else it is copied between two sections.
     fn copies_under_lock() -> bool;
 
-    /// Is told what shows that the value which it handed over is the cell's.
+    /// Is shown that the value which it handed over is the cell's.
     fn keep(&mut self, written: Written<Self::Value>)
         requires slot { has_slot self.old written.of }
         requires value { Self.handed self.old written.value }
@@ -65,6 +65,7 @@ pub trait TaskSide<W: TaskWaker>: Side<W, Right = Hand> + Renews<W> {
     // What it may hand over after a call, it might have handed over before.
     ghost hands_on: { (s t : Self) → Self.stays s t → (v : Self.Value) → Self.hands t v → Self.hands s v };
 
+    // What it may be shown before a call, it may be shown after.
     ghost slot_on: { (s t : Self) → Self.stays s t → (n : ℕ) → has_slot s n → has_slot t n };
 }
 

@@ -3,10 +3,11 @@
 //! place, and goes on to the next by its last call. The compiler puts a chain together, so that no step is handed
 //! through memory, and the cell's lock is taken once for all sections of a poll that meets others.
 //!
-//! [`Step::advance`](once_machine::step::Step::advance) stays the one machine. A way may leave to it at any place, by
-//! `steps_left`, and each of its steps is the line of the table for its place. A side whose waker is not copied under
-//! the lock polls by the machine alone. While the lock is held, nothing of the caller's own is dropped or called: such
-//! a function answers how far it came, as [`Reached`], and puts the wakers that it took aside, as [`Spent`].
+//! [`Step::advance`](once_machine::step::Step::advance) stays the one machine, but at `Put`: that step is `put_from`,
+//! since the side is to be shown the value. A way may leave to it at any place, by `steps_left`, and each of its steps
+//! is the line of the table for its place. A side whose waker is not copied under the lock polls by the machine alone.
+//! While the lock is held, nothing of the caller's own is dropped or called: such a function answers how far it came,
+//! as [`Reached`], and puts the wakers that it took aside, as [`Spent`].
 ghost use Rattle.std.specs.Prelude.{◌≡◌, ◌<◌, Bool, false, true};
 ghost use Rattle.once_machine.specs.Steps.{in_call, is_value, release_place};
 ghost use Rattle.once_parts.specs.Idle.{is_over, step_of};

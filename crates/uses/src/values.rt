@@ -1,5 +1,5 @@
 //! Which value a poll without a token answered: the future tells it to any token of its cell, and so to the owner too.
-//! And if the poll's own init gave a value, it is that one.
+//! And if by the record the poll's own init gave a value, it is one that this init may give.
 ghost use Rattle.std.specs.Prelude.{◌≡◌, IfSome, IsSomeAnd, false, true};
 ghost use Rattle.async_once_cell.specs.Record.{gave_value};
 
@@ -117,7 +117,7 @@ where
 }
 
 /// What a poll answers whose init gives this value alone. Other futures of the cell may give others. But if the record
-/// says that this init gave a value in the poll, it is the one that is answered.
+/// says that this init gave a value in the poll, a value that is answered is this one.
 fn answered_of_own_init<F, R>(
     future: &mut InitFuture<'_, u64, F, R>,
     cx: &mut Context<'_>,

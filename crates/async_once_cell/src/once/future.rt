@@ -5,7 +5,7 @@ ghost use Rattle.std.specs.Borrow.{Bor};
 ghost use Rattle.futures.specs.Poll.{IfReady, OnPending};
 ghost use Rattle.futures.specs.Task.{Covers, Keeps};
 ghost use mathlib.Core.List.{IsPrefix};
-ghost use Rattle.async_once_cell.specs.Inits.{FailsNoOther, TellsOwn};
+ghost use Rattle.async_once_cell.specs.Inits.{FailsNoOther, GivesNoOther, TellsOwn};
 ghost use Rattle.async_once_cell.specs.Polls.{Answers, AnswersOwn, DidPoll, HasLeft, IsMade, IsValue, Polls, PollsAs};
 ghost use Rattle.async_once_cell.specs.Polls.{SpansIn, ending_by, value_of};
 ghost use Rattle.async_once_cell.specs.Tokens.{Agrees, IsSetIn};
@@ -302,6 +302,7 @@ where
         ensures own { IfReady result (TellsOwn I.may_fail X.ending self.old.init) }
         ensures same { FailsNoOther I.may_fail self.old.init self.new.init }
         ensures own_value { AnswersOwn I.may_give self.old self.new result }
+        ensures same_values { GivesNoOther I.may_give self.old.init self.new.init }
     {
         let cell = self.cell;
         match (&mut self.asked, &cell.value) {
@@ -349,6 +350,7 @@ where
         ensures own { IfReady result (TellsOwn I.may_fail X.ending self.old.init) }
         ensures same { result ≡ Poll.Pending → FailsNoOther I.may_fail self.old.init self.new.init }
         ensures own_value { token.old.value ≡ None → AnswersOwn I.may_give self.old self.new result }
+        ensures same_values { result ≡ Poll.Pending → GivesNoOther I.may_give self.old.init self.new.init }
     {
         self.learn(token);
         if token.knows_value() {
@@ -382,7 +384,8 @@ impl<'a, T: Drop, X: Failure, I: Init<T, X>, R: Wait + AllocGlobal, V: Fits<T>> 
         ensures promise { is_shared self.old.cell ≡ true → IfSome (value_of result) (V.fits (about_of self.old.cell)) }
         ensures answered { self.old.finished ≡ false → self.new.value ≡ value_of result }
         ensures late { self.old.finished ≡ false → IsSetIn self.old.cell self.old.log → IsValue result }
-        ensures own_value { self.old.finished ≡ false → AnswersOwn I.may_give self.old self.new result }
+        ensures own_value { AnswersOwn I.may_give self.old self.new result }
+        ensures same_values { GivesNoOther I.may_give self.old.init self.new.init }
         ensures over { self.old.finished ≡ true → (result ≡ Poll.Pending) × (self.new ≡ self.old) }
     {
         if self.is_finished() {

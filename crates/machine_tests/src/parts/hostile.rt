@@ -237,7 +237,7 @@ struct Meddler<'a, 'r, R> {
     task: Task<'a, 'r, u64, Bell, R>,
     side: Meddling<'a, 'r, R>,
     ghost same: { side.number ≡ task.number },
-    // The init is there, and gave nothing, until the task is finished.
+    // The init is there, and gave no value, until the task is finished.
     ghost has_init: { task.finished ≡ false → IsReady side },
 }
 

@@ -38,6 +38,7 @@ pub struct TestSide<'r, R> {
     /// What the init gave.
     pub value: Option<u64>,
     pub error: bool,
+    // Whether it was shown its value.
     shown: bool,
     /// Whom the call under way called.
     woke: Snapshot<Out<Bell>>,

@@ -37,7 +37,7 @@ pub struct Caller<'a, 'r, R> {
     pub task: Task<'a, 'r, u64, Bell, R>,
     pub side: TestSide<'r, R>,
     pub ghost same: { side.number ≡ task.number },
-    // The init is there, and gave nothing, until the task is finished.
+    // The init is there, and gave no value, until the task is finished.
     pub ghost has_init: { task.finished ≡ false → IsReady side },
 }
 

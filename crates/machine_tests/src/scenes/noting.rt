@@ -1,5 +1,5 @@
-//! A side over shared parts that notes each of its calls.
-ghost use Rattle.std.specs.Prelude.{◌≡◌, ℕ, [], IfOk, refl, true, ⊤};
+//! A side over shared parts that notes what is asked of it.
+ghost use Rattle.std.specs.Prelude.{◌≡◌, [], IfOk, refl, true, ⊤};
 ghost use Rattle.once_parts.specs.Sides.{IsReady};
 ghost use Rattle.std.proofs.Common.{rules};
 
@@ -26,7 +26,8 @@ pub enum Note {
     Woke(Out<u64>),
 }
 
-/// The side of a task over shared parts, which notes each of its calls. A clause sees what is told of it.
+/// The side of a task over shared parts, which notes its calls but for `keep` and `renew`. A clause sees what is told
+/// of it.
 #[derive(Drop)]
 pub struct Noting<'r, R> {
     mark: Mark,
@@ -42,6 +43,7 @@ pub struct Noting<'r, R> {
     // What the init gave.
     has_value: bool,
     has_error: bool,
+    // Whether it was shown its value.
     has_shown: bool,
     // Whom the call under way called.
     woke: Snapshot<Out<Bell>>,

@@ -31,7 +31,7 @@ pub struct Walker<'a, 'r, R> {
     // A call that is under way has come so far, and where the next one begins the task stands as its page says.
     ghost goes: { Goes side (own parts) (λ b. b.mark.value) is_drop told step } by { Goes-prop side (own parts)
         (λ b. b.mark.value) is_drop told step },
-    // Its init is there when a call begins, and gave nothing.
+    // Its init is there when a call begins, and gave no value.
     ghost has_init: { is_resting step ≡ true → IsReady side },
     ghost rests: { is_resting step ≡ true → StandsOn (λ b. b.mark.value) (own parts) step },
 }

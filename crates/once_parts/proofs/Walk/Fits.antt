@@ -27,7 +27,7 @@ may_end_on false x y v w EndError same m = (same.0 ∙ m.0, same.1 ∙ m.1)
 may_end_on false x y v w EndValue same m = same.2 ∙ m
 may_end_on false x y v w _ same m = tt
 
--- a poll goes on, where it closes its init or not, and that gave nothing yet
+-- a poll goes on, where it closes its init or not, and its init gave no value yet
 abbrev pub Onward : Bool → Bool → Sided → Own → Type 0
 Onward drops closes x v = HasBegun drops x v × (closes ≡ false → IsReady x) × (x.has_value ≡ false)
 

@@ -101,7 +101,7 @@ module _ {W : Type 0} (whose : W → ℕ) where
         let went = line_went (λ (v : Own). any_cell) (λ (v : Own). v) (sided_told whose (λ (z : Sided). z)) false at shown is line in
         record { walked = went.walked; stands = went.stands }
 
-    -- a line that is no look says of what the call told that the task goes on by it
+    -- a line where no more is asked says of what the call told that the task goes on by it
     lone : (at : Place W ⊤) (r : Progress) (s : Step W ⊤) → asks_more at ≡ false
         → Tells (call_at at) (λ e. Tell v e w × GoesOn Tell (sided_tells whose (λ (z : Sided). z)) (after None at e) e x y r s)
         → Line Tell (sided_tells whose (λ (z : Sided). z)) at v x r s w y

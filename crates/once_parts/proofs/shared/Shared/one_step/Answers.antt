@@ -1,4 +1,4 @@
--- The step is a line of the table, which puts no value. So the task stands after it too.
+-- A step elsewhere than at `Put` is a line of the table that puts no value. So the task stands after it too.
 use Rattle.std.proofs.Common.{rules, ◌≡◌, Option}
 use Rattle.std.specs.Prelude.{⊤}
 use Rattle.once_machine.specs.declared.step.Place.TheVariants.{Put as AtPut}
