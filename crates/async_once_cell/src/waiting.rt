@@ -12,7 +12,6 @@ ghost use Rattle.async_once_cell.specs.Inits.{FailsNoOther, GivesNoOther, InitFi
 ghost use Rattle.async_once_cell.specs.Polls.{IsValue, ending_by, is_over, value_of};
 ghost use Rattle.async_once_cell.specs.Views.{IsAnswered, WaitingView, shown_in, value_in};
 ghost use Rattle.std.proofs.Common.{rules, subst, ap, ◌∙◌};
-ghost use Rattle.std.proofs.lemmas.Bool.{false≢true};
 ghost use Rattle.once_parts.specs.Sides.{HasCopied, HasWoken, sided_tells};
 ghost use Rattle.async_once_cell.specs.Listed.{WakesTask, whose};
 ghost use Rattle.async_once_cell.specs.Stays.{Hands, IsRenewed, Stays, leaving, told};
@@ -118,6 +117,7 @@ impl<'a, T, I: Drop, R: Wait + AllocGlobal, V: Fits<T>> Waiting<'a, T, I, R, V> 
         let before = self.task.record();
         drop(self.init.take());
         let mut side = Leaving {
+            rt: self.task.rt(),
             mark: self.task.mark(),
             woke: Snapshot::of(&Out::One(None)),
             value: PhantomData,
@@ -135,6 +135,7 @@ fn leave_unfinished<T, R: Wait + AllocGlobal, V: Fits<T>>(
     requires live { task.finished ≡ false }
 {
     let mut side = Leaving {
+        rt: task.rt(),
         mark: task.mark(),
         woke: Snapshot::of(&Out::One(None)),
         value: PhantomData,
@@ -395,35 +396,34 @@ impl<T: Drop, X: Failure, I: Init<T, X>> TaskSide<ListedWaker>
 
 // A drop, when the init is gone. It does not name the init's type, so that a program has its code once for all inits.
 #[derive(Drop)]
-struct Leaving<T> {
+struct Leaving<'r, T, R> {
+    rt: &'r R,
     mark: Mark,
     woke: Snapshot<Out<ListedWaker>>,
     value: PhantomData<T>,
 }
 
-impl<T> Side<ListedWaker> for Leaving<T> {
+impl<T, R: Wait> Side<ListedWaker> for Leaving<'_, T, R> {
     type Value = T;
 
     type Right = Hand;
 
     ghost did = { sided_tells whose leaving };
 
-    ghost can_run = { λ _. ⊥ };
-
-    ghost can_put = { λ _. ⊥ };
-
     ghost hands = { λ _ _. ⊥ };
 
     ghost stays = { λ _ _. ⊤ };
 
-    // Nobody may call this, `put` or `keep`: a task that leaves has no init.
+    // Nobody calls this, `put`, `renew` or `keep`: a task that leaves has no init. A poll that is none has no record.
     fn run(&mut self, _right: &mut Hand) -> Polled {
+        for _ in self.rt.forever() {}
         unreachable!()
     }
 
     fn close(&mut self) {}
 
     fn put(&mut self) -> T {
+        for _ in self.rt.forever() {}
         unreachable!()
     }
 
@@ -444,16 +444,16 @@ impl<T> Side<ListedWaker> for Leaving<T> {
     ghost stays_on = { λ _ _ _ _ _. tt };
 }
 
-impl<T> Renews<ListedWaker> for Leaving<T> {
+impl<T, R: Wait> Renews<ListedWaker> for Leaving<'_, T, R> {
     ghost renewed = { λ s v t w. (t ≡ s) × (w ≡ v) };
 
     fn renew(&mut self, _listed: &mut ListedWaker) {}
 }
 
-impl<T> TaskSide<ListedWaker> for Leaving<T> {
+impl<T, R: Wait> TaskSide<ListedWaker> for Leaving<'_, T, R> {
     ghost state = { leaving };
 
-    ghost has_slot = { λ _ _. ⊥ };
+    ghost has_slot = { λ _ _. ⊤ };
 
     #[inline(always)]
     fn copies_under_lock() -> bool {
@@ -461,18 +461,18 @@ impl<T> TaskSide<ListedWaker> for Leaving<T> {
     }
 
     fn keep(&mut self, _written: Written<T>)
-        requires slot { ⊥ }
         ensures shown { leaving self.new ≡ record (leaving self.old) { has_shown = true } }
         ensures stays { ⊤ }
     {
+        for _ in self.rt.forever() {}
         unreachable!()
     }
 
     ghost tells = { sided_told whose leaving };
 
-    ghost runs = { λ s h. absurd (false≢true h) };
+    ghost runs = { λ s h. tt };
 
-    ghost puts = { λ s h. absurd (false≢true h) };
+    ghost puts = { λ s h. tt };
 
     ghost owner = { λ s v t w r. ap whose r.1 };
 
