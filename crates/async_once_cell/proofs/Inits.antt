@@ -1,7 +1,7 @@
 -- What is told of an init that was polled on is told of it as it was before.
 use Rattle.std.proofs.Common.{Option, Some, None, Result, Ok, Err}
 use Rattle.std.specs.Prelude.{IsSomeAnd}
-use Rattle.once_parts.specs.Inits.{MayGive}
+use Rattle.async_once_cell.specs.Inits.{MayGive}
 use Rattle.once_machine.specs.declared.step.Ending.{Ending}
 use Rattle.async_once_cell.specs.Inits.{FailsNoOther, TellsOwn}
 

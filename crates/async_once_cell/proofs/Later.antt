@@ -6,11 +6,11 @@ use mathlib.Core.List.{IsPrefix, cons-ne-nil}
 use Rattle.futures.specs.declared.task.context.Context.{Context}
 use Rattle.futures.specs.Task.{Keeps}
 use Rattle.once_machine.specs.Record.{Begin, DropBegin, DropEnd, Entry}
-use Rattle.once_parts.specs.Kept.{entries_of}
+use Rattle.async_once_cell.specs.Kept.{entries_of}
 use Rattle.once_machine.specs.declared.step.Ending.TheVariants.{Dropped as EndDropped}
 use Rattle.once_machine.specs.declared.step.Ending.{Ending}
-use Rattle.once_parts.specs.Walks.{end_of}
-use Rattle.once_parts.proofs.Desks.{prefix_on}
+use Rattle.async_once_cell.specs.Walks.{end_of}
+use Rattle.async_once_cell.proofs.Desks.{prefix_on}
 use Rattle.async_once_cell.specs.Polls.{CallIn, DidPoll, Ends, HasLeft, PollsAs, SpansIn}
 use Rattle.async_once_cell.specs.Views.{CellView, FutureView, Owned, Shared}
 

@@ -3,7 +3,7 @@ use Rattle.std.proofs.Common.{◌≡◌, Option, Some, None, Bool, List, [], Res
 use Rattle.std.specs.Borrow.{Bor}
 use mathlib.Core.List.{IsPrefix}
 use Rattle.once_machine.specs.Record.{Entry}
-use Rattle.once_parts.proofs.Desks.{prefix_on}
+use Rattle.async_once_cell.proofs.Desks.{prefix_on}
 use Rattle.async_once_cell.specs.Polls.{Waits}
 use Rattle.async_once_cell.specs.Views.{CellView, Owned, Shared}
 use Rattle.async_once_cell.specs.Tokens.{Looks}

@@ -1,3 +1,6 @@
+pub mod Kept
+pub mod Inner
+pub mod Walks
 pub mod Refused
 pub mod Listed
 pub mod Views
@@ -33,8 +36,6 @@ pub use Rattle.once_machine.specs.UnderLock
 pub use Rattle.once_machine.specs.Machine
 pub use Rattle.once_machine.specs.Can
 pub use Rattle.once_machine.specs.Shown
--- the largest count, which the record of a cell is told by
-pub use Rattle.once_parts.specs.Kept
 -- the types that users name
 pub use Rattle.once_machine.specs.declared.log
 pub use Rattle.once_machine.specs.declared.word.Sees

@@ -15,10 +15,10 @@ use Rattle.once_machine.specs.declared.step.Ending.TheVariants.{Dropped as EndDr
 use Rattle.once_machine.specs.declared.step.Ending.TheVariants.{Full as EndFull, Memory as EndMemory}
 use Rattle.once_machine.specs.declared.step.Ending.TheVariants.{Pending as EndPending, Value as EndValue}
 use Rattle.once_machine.specs.declared.step.Ending.{Ending}
-use Rattle.once_parts.specs.Inits.{MayGive}
-use Rattle.once_parts.specs.Kept.{Grew}
-use Rattle.once_parts.specs.Record.{gave_value}
-use Rattle.once_parts.specs.Walks.{IsOneCall, Spans, end_of}
+use Rattle.async_once_cell.specs.Inits.{MayGive}
+use Rattle.async_once_cell.specs.Kept.{Grew}
+use Rattle.async_once_cell.specs.Record.{gave_value}
+use Rattle.async_once_cell.specs.Walks.{IsOneCall, Spans, end_of}
 use Rattle.async_once_cell.specs.Tokens.{Agrees, IsSetIn}
 use Rattle.async_once_cell.specs.Views.{CellView, FutureView, Owned, Shared}
 

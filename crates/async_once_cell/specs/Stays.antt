@@ -4,11 +4,11 @@
 use Rattle.std.specs.Prelude.{◌≡◌, true, false, [], ◌∷◌, IfSome}
 use Rattle.std.specs.Option.{is_some}
 use Rattle.futures.specs.Task.{IsArmed, Keeps}
-use Rattle.once_parts.specs.Named.{named_out}
-use Rattle.once_parts.specs.Sides.{Sided}
+use Rattle.async_once_cell.specs.Inner.Named.{named_out}
+use Rattle.async_once_cell.specs.Inner.Sides.{Sided}
 use Rattle.async_once_cell.specs.declared.waiting.Polling.{Polling}
 use Rattle.async_once_cell.specs.declared.waiting.Leaving.{Leaving}
-use Rattle.once_parts.specs.Inits.{MayGive}
+use Rattle.async_once_cell.specs.Inits.{MayGive}
 use Rattle.async_once_cell.specs.Inits.{FailsNoOther, GivesNoOther, MayFail}
 use Rattle.async_once_cell.specs.declared.waker.ListedWaker.{ListedWaker}
 use Rattle.async_once_cell.specs.Listed.{WakesTask, number_on, whose}

@@ -4,7 +4,7 @@ use Rattle.std.specs.Option.{is_some}
 use Rattle.pagebook.specs.Slot.{Placed}
 use Rattle.pagebook.specs.declared.slot.Written.{Written}
 use Rattle.once_machine.specs.Record.{Entry}
-use Rattle.once_parts.specs.Record.{IsSet}
+use Rattle.async_once_cell.specs.Record.{IsSet}
 use Rattle.async_once_cell.specs.declared.once.Value.{Value}
 use Rattle.async_once_cell.specs.declared.once.Value.TheVariants.{Owned as OwnedValue, Shared as SharedValue}
 use Rattle.async_once_cell.specs.declared.once.known.Seen.{Seen}

@@ -13,7 +13,7 @@ use boxcar::tag::Tag;
 use future::Promised;
 pub use future::{LazyFuturePin, LazyFutureUnpin};
 use futures::Future;
-use once_parts::Pollable;
+use crate::inner::Pollable;
 use pagebook::{Anything, Fits};
 use std::alloc::AllocGlobal;
 use std::marker::{Model, PhantomData};

@@ -77,6 +77,7 @@
 #![tactic(auto)]
 
 mod init;
+pub mod inner;
 pub mod lazy;
 pub mod once;
 mod waiting;
@@ -86,18 +87,6 @@ pub use init::{Failed, Failure, Gives, Init, InitError, Refused, Yields};
 pub use lazy::{Lazy, LazyFuturePin, LazyFutureUnpin};
 pub use once::{InitFuture, Initializing, Known, OnceCell, Parker, Told, TryInitFuture};
 pub use once_machine::{laws, record, step};
-
-/// What all tasks of a cell share: the word, the door and the queue behind it, with the record of the cell.
-pub mod inner {
-    pub use once_machine::parts::{Counted, Parts, QueueLine};
-    pub use once_machine::step::Out;
-    pub use once_machine::waiters::{Answer, Listing, Op};
-    pub use once_machine::word::{MAX_WAITERS, NEW, QINIT_BIT, READY_BIT};
-    pub use once_parts::{
-        Hand, Inner, Mark, Pollable, Record, Shared, Splits, Task, TaskSide, TaskWaker, book,
-        poll_init,
-    };
-}
 
 /// Who waits: the flag and the list behind a queue's lock, and what a section does with them.
 pub mod queue {

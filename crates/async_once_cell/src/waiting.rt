@@ -5,18 +5,17 @@ ghost use Rattle.futures.specs.Poll.{IfReady};
 ghost use Rattle.futures.specs.Task.{IsArmed, Keeps};
 ghost use Rattle.once_machine.specs.declared.step.Ending.{Ending};
 ghost use Rattle.once_machine.specs.Record.{Begin, DropBegin, DropEnd, Entry, Made};
-ghost use Rattle.once_parts.specs.Kept.{Grew};
-ghost use Rattle.once_parts.specs.Record.{EndsSet, IsSet, gave_value};
-ghost use Rattle.once_parts.specs.Walks.{IsOneCall, Spans, end_of};
+ghost use Rattle.async_once_cell.specs.Kept.{Grew};
+ghost use Rattle.async_once_cell.specs.Record.{EndsSet, IsSet, gave_value};
+ghost use Rattle.async_once_cell.specs.Walks.{IsOneCall, Spans, end_of};
 ghost use Rattle.async_once_cell.specs.Inits.{FailsNoOther, GivesNoOther, InitFits, TellsOwn};
 ghost use Rattle.async_once_cell.specs.Polls.{IsValue, ending_by, is_over, value_of};
 ghost use Rattle.async_once_cell.specs.Views.{IsAnswered, WaitingView, shown_in, value_in};
 ghost use Rattle.std.proofs.Common.{rules, subst, ap, ◌∙◌};
-ghost use Rattle.once_parts.specs.Sides.{HasCopied, HasWoken, sided_tells};
+ghost use Rattle.async_once_cell.specs.Inner.Sides.{HasCopied, HasWoken, sided_tells};
 ghost use Rattle.async_once_cell.specs.Listed.{WakesTask, whose};
 ghost use Rattle.async_once_cell.specs.Stays.{Hands, IsRenewed, Stays, leaving, told};
-ghost use Rattle.once_parts.specs.Inits.{MayGive};
-ghost use Rattle.once_parts.proofs.Sides.{sided_told};
+ghost use Rattle.async_once_cell.specs.Inits.{MayGive};
 
 use crate::init::{Failed, Failure, Init, Refused};
 use crate::waker::ListedWaker;
@@ -24,8 +23,8 @@ use boxcar::tag::Tag;
 use futures::task::{Context, Poll};
 use once_machine::step::{Ending, Out, Polled, Side};
 use once_machine::waiters::Renews;
-use once_parts::book::{is_set_where_answered, stays_set};
-use once_parts::{Hand, Inner, Mark, Task, TaskSide};
+use crate::inner::book::{is_set_where_answered, stays_set};
+use crate::inner::{Hand, Inner, Mark, Task, TaskSide};
 use pagebook::{Anything, Fits, Written};
 use std::alloc::AllocGlobal;
 use std::marker::{Model, PhantomData};
@@ -379,7 +378,7 @@ impl<T: Drop, X: Failure, I: Init<T, X>> TaskSide<ListedWaker>
         self.written = Some(Shown(put, []));
     }
 
-    ghost tells = { sided_told whose told };
+    ghost tells = { Prim.search rules };
 
     ghost runs = { λ s h. h };
 
@@ -468,7 +467,7 @@ impl<T, R: Wait> TaskSide<ListedWaker> for Leaving<'_, T, R> {
         unreachable!()
     }
 
-    ghost tells = { sided_told whose leaving };
+    ghost tells = { Prim.search rules };
 
     ghost runs = { λ s h. tt };
 

@@ -6,7 +6,7 @@ ghost use Rattle.async_once_cell.specs.Listed.{WakesTask, whose, number_on};
 use boxcar::tag::{Names, Tag};
 use futures::task::{Context, Poll, Source, Waker};
 use once_machine::waiters::WakerId;
-use once_parts::{Mark, TaskWaker};
+use crate::inner::{Mark, TaskWaker};
 
 /// The waker of a task, with its number. Two are never compared, since a task is listed once. It wakes its task when it
 /// is let go, so a task whose waker is handed out is called when the answer is dropped, and no listed waker is lost.

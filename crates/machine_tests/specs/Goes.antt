@@ -21,9 +21,9 @@ use Rattle.once_machine.specs.declared.step.Place.TheVariants.{Leave as AtLeave,
 use Rattle.once_machine.specs.declared.step.Place.TheVariants.{Put as AtPut, Release as AtRelease, Run as AtRun}
 use Rattle.once_machine.specs.declared.step.Place.TheVariants.{Start as AtStart, TryQuick as AtTryQuick}
 use Rattle.once_machine.specs.declared.step.Place.TheVariants.{WaitLoad as AtWaitLoad}
-use Rattle.once_parts.specs.Own.{Own}
-use Rattle.once_parts.specs.Sides.{Sided}
-use Rattle.once_parts.specs.Walks.{FitsAt, MayEnd, Stands}
+use Rattle.async_once_cell.specs.Inner.Own.{Own}
+use Rattle.async_once_cell.specs.Inner.Sides.{Sided}
+use Rattle.async_once_cell.specs.Walks.{FitsAt, MayEnd, Stands}
 
 module _ (x : Sided) (v : Own) where
   MayEnd-prop : (drops : Bool) (e : Ending) → IsProp (MayEnd drops x v e)

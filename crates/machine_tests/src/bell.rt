@@ -3,7 +3,7 @@ ghost use Rattle.std.specs.Prelude.{◌≡◌};
 
 use once_machine::step::Out;
 use once_machine::waiters::{Listing, WakerId};
-use once_parts::{Mark, TaskWaker};
+use async_once_cell::inner::{Mark, TaskWaker};
 use std::alloc::{AllocError, Global};
 use std::snapshot::Snapshot;
 

@@ -1,11 +1,11 @@
 //! Where the sides under test poll their inits.
 ghost use Rattle.std.specs.Prelude.{◌≡◌, IsSome};
-ghost use Rattle.once_parts.specs.Hands.{HasRight, HasRun};
+ghost use Rattle.async_once_cell.specs.Inner.Hands.{HasRight, HasRun};
 
 use futures::Future;
 use futures::task::{Context, Doorbell, Poll, Queue};
 use once_machine::step::Polled;
-use once_parts::{Hand, Pollable, Splits, poll_init};
+use async_once_cell::inner::{Hand, Pollable, Splits, poll_init};
 use std::alloc::AllocGlobal;
 use std::io;
 use std::random::RandomSource;

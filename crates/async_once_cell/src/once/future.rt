@@ -13,9 +13,9 @@ ghost use Rattle.async_once_cell.specs.Views.{IsOf, about_of, is_shared, known_o
 ghost use Rattle.once_machine.specs.Record.{Once};
 ghost use Rattle.once_machine.specs.Run.{AtEvery, IsRun, NobodyForgotten};
 ghost use Rattle.once_machine.specs.Called.{SomebodyCalled};
-ghost use Rattle.once_parts.specs.Kept.{entries_of, most};
-ghost use Rattle.once_parts.specs.Walks.{end_of};
-ghost use Rattle.once_parts.specs.Record.{IsSet, PollsOnce, WasFilled};
+ghost use Rattle.async_once_cell.specs.Kept.{entries_of, most};
+ghost use Rattle.async_once_cell.specs.Walks.{end_of};
+ghost use Rattle.async_once_cell.specs.Record.{IsSet, PollsOnce, WasFilled};
 ghost use Rattle.async_once_cell.specs.Futures.{IsAsked, KeepsPromise, view_of_future};
 
 use super::known::Seen;
@@ -24,8 +24,8 @@ use crate::init::{Failure, Init, InitError, Refused, Yields};
 use crate::waiting::{Shown, Waiting};
 use futures::Future;
 use futures::task::{Context, Poll};
-use once_parts::book::is_run;
-use once_parts::{Pollable, Task};
+use crate::inner::book::is_run;
+use crate::inner::{Pollable, Task};
 use pagebook::{Anything, Fits};
 use std::alloc::AllocGlobal;
 use std::fmt;

@@ -5,14 +5,14 @@ ghost use mathlib.Core.List.{IsPrefix};
 ghost use Rattle.once_machine.specs.Record.{Once};
 ghost use Rattle.once_machine.specs.Run.{AtEvery, IsRun, NobodyForgotten};
 ghost use Rattle.once_machine.specs.Called.{SomebodyCalled};
-ghost use Rattle.once_parts.specs.Kept.{most};
-ghost use Rattle.once_parts.specs.Record.{IsSet, PollsOnce, WasFilled};
+ghost use Rattle.async_once_cell.specs.Kept.{most};
+ghost use Rattle.async_once_cell.specs.Record.{IsSet, PollsOnce, WasFilled};
 ghost use Rattle.async_once_cell.specs.Views.{CellView, IsOf, Shows, ToldView, TokenView, is_shared, known_of, log_of};
 ghost use Rattle.async_once_cell.specs.Tokens.{Agrees, IsSetIn};
 
 use super::{OnceCell, Value};
-use once_parts::Record;
-use once_parts::book::{is_run, stays_set};
+use crate::inner::Record;
+use crate::inner::book::{is_run, stays_set};
 use pagebook::{Anything, Fits, Written};
 use std::fmt;
 use std::marker::Model;

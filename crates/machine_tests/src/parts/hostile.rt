@@ -1,6 +1,6 @@
 // Sides that use another task of their cell in the middle of a step of their own.
 ghost use Rattle.std.specs.Prelude.{◌≡◌, [], IfOk, refl, false, true, ⊤};
-ghost use Rattle.once_parts.specs.Sides.{IsReady};
+ghost use Rattle.async_once_cell.specs.Inner.Sides.{IsReady};
 ghost use Rattle.std.proofs.Common.{rules};
 
 use super::side::{Called, NOBODY, Seen, TestSide};
@@ -9,7 +9,7 @@ use crate::bell::Bell;
 use crate::doubles::text::shows;
 use once_machine::step::{Ending, Out, Polled, Side};
 use once_machine::waiters::Renews;
-use once_parts::{Hand, Mark, Task, TaskSide};
+use async_once_cell::inner::{Hand, Mark, Task, TaskSide};
 use pagebook::Written;
 use std::alloc::AllocGlobal;
 use std::io;
@@ -47,7 +47,7 @@ struct Meddling<'a, 'r, R> {
 }
 
 impl<'a, 'r, R> Model for Meddling<'a, 'r, R> {
-    ghost use Rattle.once_parts.specs.Sides.{Sided};
+    ghost use Rattle.async_once_cell.specs.Inner.Sides.{Sided};
 
     ghost Value = { Sided };
 
@@ -143,7 +143,7 @@ impl<'a, 'r, R: Wait + AllocGlobal> Meddling<'a, 'r, R> {
 
 impl<R: Wait + AllocGlobal> Side<Bell> for Meddling<'_, '_, R> {
     ghost use Rattle.std.specs.Prelude.{true};
-    ghost use Rattle.once_parts.specs.Sides.{HasWoken, sided_tells};
+    ghost use Rattle.async_once_cell.specs.Inner.Sides.{HasWoken, sided_tells};
 
     type Value = u64;
 
@@ -199,7 +199,7 @@ impl<R: Wait + AllocGlobal> Renews<Bell> for Meddling<'_, '_, R> {
 
 impl<R: Wait + AllocGlobal> TaskSide<Bell> for Meddling<'_, '_, R> {
     ghost use Rattle.std.proofs.Common.{ap};
-    ghost use Rattle.once_parts.proofs.Sides.{sided_told};
+    ghost use Rattle.async_once_cell.proofs.Sides.{sided_told};
 
     ghost state = { λ s. s };
 

@@ -1,13 +1,13 @@
 //! A side whose init answers as it is told to, and whose bells are looked at when they are called.
 ghost use Rattle.std.specs.Prelude.{◌≡◌, ℕ, [], IfOk, refl, true, ⊤};
-ghost use Rattle.once_parts.specs.Sides.{IsReady};
+ghost use Rattle.async_once_cell.specs.Inner.Sides.{IsReady};
 ghost use Rattle.std.proofs.Common.{rules};
 
 use crate::bell::{Bell, task_of};
 use crate::poller::{Poller, Scripted, init_that_answers};
 use once_machine::step::{Out, Polled, Side};
 use once_machine::waiters::Renews;
-use once_parts::{Hand, Mark, Pollable, TaskSide};
+use async_once_cell::inner::{Hand, Mark, Pollable, TaskSide};
 use pagebook::Written;
 use std::alloc::AllocGlobal;
 use std::io;
@@ -50,8 +50,8 @@ pub struct TestSide<'r, R> {
 
 impl<'r, R> Model for TestSide<'r, R> {
     ghost use Rattle.std.specs.Option.{is_some};
-    ghost use Rattle.once_parts.specs.Named.{named_out};
-    ghost use Rattle.once_parts.specs.Sides.{Sided};
+    ghost use Rattle.async_once_cell.specs.Inner.Named.{named_out};
+    ghost use Rattle.async_once_cell.specs.Inner.Sides.{Sided};
 
     ghost Value = { Sided };
 
@@ -118,7 +118,7 @@ impl<R> TestSide<'_, R> {
 
 impl<R: Wait> Side<Bell> for TestSide<'_, R> {
     ghost use Rattle.std.specs.Prelude.{true};
-    ghost use Rattle.once_parts.specs.Sides.{HasWoken, sided_tells};
+    ghost use Rattle.async_once_cell.specs.Inner.Sides.{HasWoken, sided_tells};
 
     type Value = u64;
 
@@ -186,7 +186,7 @@ impl<R: Wait> Renews<Bell> for TestSide<'_, R> {
 
 impl<R: Wait> TaskSide<Bell> for TestSide<'_, R> {
     ghost use Rattle.std.proofs.Common.{ap};
-    ghost use Rattle.once_parts.proofs.Sides.{sided_told};
+    ghost use Rattle.async_once_cell.proofs.Sides.{sided_told};
 
     ghost state = { λ s. s };
 

@@ -5,7 +5,7 @@ use once_machine::parts::{Counted, Parts};
 use once_machine::step::Polled;
 use once_machine::waiters::{Answer, Op};
 use once_machine::word::QINIT_BIT;
-use once_parts::{Inner, Mark, Shared};
+use async_once_cell::inner::{Inner, Mark, Shared};
 use std::mem::size_of;
 use std::test::Fail;
 

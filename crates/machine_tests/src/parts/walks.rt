@@ -1,13 +1,13 @@
 // Whole calls of tasks, by the values, the bells and the inits that they lead to.
 ghost use Rattle.std.specs.Prelude.{◌≡◌, ◌↔◌, IfOk, false};
-ghost use Rattle.once_parts.specs.Record.{EndsSet};
-ghost use Rattle.once_parts.specs.Sides.{IsReady};
+ghost use Rattle.async_once_cell.specs.Record.{EndsSet};
+ghost use Rattle.async_once_cell.specs.Inner.Sides.{IsReady};
 
 use super::side::{Called, NOBODY, Seen, TestSide};
 use crate::bell::Bell;
 use crate::doubles::memory::hoard;
 use once_machine::step::{Ending, Polled, Step};
-use once_parts::{Inner, Task};
+use async_once_cell::inner::{Inner, Task};
 use std::alloc::{AllocError, AllocGlobal, Global};
 use std::io;
 use std::mem::size_of;

@@ -1,13 +1,13 @@
 //! A side over shared parts that notes what is asked of it.
 ghost use Rattle.std.specs.Prelude.{◌≡◌, [], IfOk, refl, true, ⊤};
-ghost use Rattle.once_parts.specs.Sides.{IsReady};
+ghost use Rattle.async_once_cell.specs.Inner.Sides.{IsReady};
 ghost use Rattle.std.proofs.Common.{rules};
 
 use crate::bell::{Bell, named};
 use crate::poller::{Poller, Scripted, init_that_answers};
 use once_machine::step::{Out, Polled, Side};
 use once_machine::waiters::Renews;
-use once_parts::{Hand, Mark, Pollable, TaskSide};
+use async_once_cell::inner::{Hand, Mark, Pollable, TaskSide};
 use pagebook::Written;
 use std::alloc::AllocGlobal;
 use std::marker::Model;
@@ -51,8 +51,8 @@ pub struct Noting<'r, R> {
 
 impl<'r, R> Model for Noting<'r, R> {
     ghost use Rattle.std.specs.Option.{is_some};
-    ghost use Rattle.once_parts.specs.Named.{named_out};
-    ghost use Rattle.once_parts.specs.Sides.{Sided};
+    ghost use Rattle.async_once_cell.specs.Inner.Named.{named_out};
+    ghost use Rattle.async_once_cell.specs.Inner.Sides.{Sided};
 
     ghost Value = { Sided };
 
@@ -124,7 +124,7 @@ impl<R> Noting<'_, R> {
 
 impl<R: Wait> Side<Bell> for Noting<'_, R> {
     ghost use Rattle.std.specs.Prelude.{true};
-    ghost use Rattle.once_parts.specs.Sides.{HasWoken, sided_tells};
+    ghost use Rattle.async_once_cell.specs.Inner.Sides.{HasWoken, sided_tells};
 
     type Value = ();
 
@@ -193,7 +193,7 @@ impl<R: Wait> Renews<Bell> for Noting<'_, R> {
 
 impl<R: Wait> TaskSide<Bell> for Noting<'_, R> {
     ghost use Rattle.std.proofs.Common.{ap};
-    ghost use Rattle.once_parts.proofs.Sides.{sided_told};
+    ghost use Rattle.async_once_cell.proofs.Sides.{sided_told};
 
     ghost state = { λ s. s };
 

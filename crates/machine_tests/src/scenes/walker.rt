@@ -1,15 +1,15 @@
 //! A task over the parts that threads share, walked one step at a time.
 ghost use Rattle.std.specs.Prelude.{◌≡◌, true};
 ghost use Rattle.once_machine.specs.Steps.{is_resting};
-ghost use Rattle.once_parts.specs.Shares.{own};
-ghost use Rattle.once_parts.specs.Sides.{IsReady};
-ghost use Rattle.once_parts.specs.Walks.{StandsOn};
+ghost use Rattle.async_once_cell.specs.Inner.Shares.{own};
+ghost use Rattle.async_once_cell.specs.Inner.Sides.{IsReady};
+ghost use Rattle.async_once_cell.specs.Walks.{StandsOn};
 ghost use Rattle.machine_tests.specs.Goes.{Goes, Goes-prop};
 
 use super::noting::{Note, Noting};
 use crate::bell::Bell;
 use once_machine::step::{Polled, Progress, Step};
-use once_parts::{Inner, Shared};
+use async_once_cell::inner::{Inner, Shared};
 use std::alloc::AllocGlobal;
 use std::io;
 use std::random::RandomSource;

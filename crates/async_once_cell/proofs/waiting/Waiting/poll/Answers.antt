@@ -3,10 +3,10 @@ use Rattle.std.proofs.Common.{◌≡◌, ℕ, List, [], ◌∷◌, Option, sym, 
 use Rattle.std.proofs.lemmas.Bool.{false≢true}
 use Rattle.once_machine.specs.declared.step.Ending.{Ending}
 use Rattle.once_machine.specs.Record.{Entry}
-use Rattle.once_parts.specs.Kept.{Grew}
-use Rattle.once_parts.specs.Walks.{end_of}
+use Rattle.async_once_cell.specs.Kept.{Grew}
+use Rattle.async_once_cell.specs.Walks.{end_of}
 use Rattle.pagebook.specs.Slot.{Placed}
-use Rattle.once_parts.specs.Inits.{MayGive}
+use Rattle.async_once_cell.specs.Inits.{MayGive}
 use Rattle.async_once_cell.specs.Inits.{MayFail}
 use Rattle.async_once_cell.specs.Polls.{ending_by}
 use Rattle.async_once_cell.proofs.waiting.Waiting.poll.Goals as goal

@@ -1,7 +1,7 @@
 -- What the token learns from the last poll. After a poll that is Pending the future is unfinished still, and the token
 -- knows nothing.
 use Rattle.std.proofs.Common.{rules, Option, sym, ◌∙◌, subst}
-use Rattle.once_parts.proofs.Desks.{prefix_on}
+use Rattle.async_once_cell.proofs.Desks.{prefix_on}
 use Rattle.futures.specs.Poll.{IfReady}
 use Rattle.async_once_cell.specs.Inits.{TellsOwn}
 use Rattle.async_once_cell.specs.Polls.{DidPoll, Polls, PollsAs, ending_by}

@@ -6,8 +6,8 @@ use Rattle.once_machine.specs.Steps.{is_resting, step_of_drop}
 use Rattle.once_machine.specs.declared.step.Step.TheVariants.{Finished, Resting, UnderWay}
 use Rattle.once_machine.specs.declared.step.Rest.TheVariants.{Run as RestRun, Start as RestStart, Wait as RestWait}
 use Rattle.once_machine.specs.declared.step.Step.{Step}
-use Rattle.once_parts.specs.Sides.{Sided}
-use Rattle.once_parts.proofs.Walk.Begins.{stands_closed}
+use Rattle.async_once_cell.specs.Inner.Sides.{Sided}
+use Rattle.async_once_cell.proofs.Walk.Begins.{stands_closed}
 use Rattle.machine_tests.proofs.scenes.walker.Walker.begin_drop.Goals as goal
 
 -- a task whose drop has begun rests no more

@@ -2,14 +2,14 @@
 use Rattle.std.proofs.Common.{◌≡◌, Bool, true, arith, sym, subst}
 use Rattle.std.specs.Prelude.{⊤}
 use Rattle.std.proofs.lemmas.Bool.{false≢true}
-use Rattle.once_parts.specs.Own.{Own}
+use Rattle.async_once_cell.specs.Inner.Own.{Own}
 use Rattle.once_machine.specs.Steps.{in_call, is_resting}
 use Rattle.once_machine.specs.declared.step.Step.TheVariants.{Finished, Resting, UnderWay}
 use Rattle.once_machine.specs.declared.step.Progress.{Progress}
 use Rattle.once_machine.specs.declared.step.Step.{Step}
-use Rattle.once_parts.specs.Shares.{own}
-use Rattle.once_parts.specs.Sides.{IsReady, Sided}
-use Rattle.once_parts.specs.Walks.{Fits, Stands}
+use Rattle.async_once_cell.specs.Inner.Shares.{own}
+use Rattle.async_once_cell.specs.Inner.Sides.{IsReady, Sided}
+use Rattle.async_once_cell.specs.Walks.{Fits, Stands}
 use Rattle.machine_tests.proofs.scenes.walker.Walker.go.Goals as goal
 
 -- a task that rests after a step has its init

@@ -2,10 +2,10 @@
 use Rattle.std.proofs.Common.{◌≡◌, true, false, ◌∙◌, ap, sym, subst}
 use Rattle.once_machine.specs.Steps.{is_resting}
 use Rattle.once_machine.specs.declared.step.Progress.TheVariants.{More}
-use Rattle.once_parts.specs.Shares.{own}
-use Rattle.once_parts.specs.Sides.{IsReady, Sided}
-use Rattle.once_parts.specs.Walks.{Stands}
-use Rattle.once_parts.proofs.Walk.Begins.{poll_begins}
+use Rattle.async_once_cell.specs.Inner.Shares.{own}
+use Rattle.async_once_cell.specs.Inner.Sides.{IsReady, Sided}
+use Rattle.async_once_cell.specs.Walks.{Stands}
+use Rattle.async_once_cell.proofs.Walk.Begins.{poll_begins}
 use Rattle.machine_tests.proofs.scenes.walker.Walker.poll.Goals as goal
 
 pub invariant_of-self : goal.invariant_of-self

@@ -1,0 +1,53 @@
+use Rattle.std.proofs.Common.{◌∙◌, inl, inr, ⊎_elim, ap}
+use Rattle.std.specs.Option.{is_some}
+use Rattle.once_machine.specs.Listings.{kept_ticket}
+use Rattle.async_once_cell.proofs.Desks.{in_section, list_ends, refusal_ends, roomed}
+use Rattle.async_once_cell.proofs.inner.desk.Desk.list.Goals as goal
+
+pub invariant_of-self : goal.invariant_of-self
+invariant_of-self g c =
+    let whose = g.W.TaskWaker.whose in
+    let r = c.has_room-room.ensures in
+    let s = roomed whose c.has_room-room.new.lists r.head r.listings c.if-room.true
+    (in_section whose c.self.invariant.1 c.note.ensures.told.0 c.in-Some.is c.deref_mut-lists.ensures.value c.requires.can c.note.ensures.told.1 c.see-found.ensures.told) in
+    let e = c.list_own.ensures in (
+      c.see-found.ensures.desk,
+      (list_ends whose c.args.waker.now c.list_own.new.waker c.list_own.new.ticket c.list_own.new.self c.list_own.result.0 c.requires.can s
+          (⊎_elim inl (λ h. inr (e.room h)) (r.room c.if-room.true)) e.claims e.held e.head).0,
+    )
+
+pub returns-then-room-clause-did : goal.returns-then-room-clause-did
+returns-then-room-clause-did g c =
+    let whose = g.W.TaskWaker.whose in
+    let r = c.has_room-room.ensures in
+    let s = roomed whose c.has_room-room.new.lists r.head r.listings c.if-room.true
+    (in_section whose c.self.invariant.1 c.note.ensures.told.0 c.in-Some.is c.deref_mut-lists.ensures.value c.requires.can c.note.ensures.told.1 c.see-found.ensures.told) in
+    let e = c.list_own.ensures in (
+      (list_ends whose c.args.waker.now c.list_own.new.waker c.list_own.new.ticket c.list_own.new.self c.list_own.result.0 c.requires.can s
+          (⊎_elim inl (λ h. inr (e.room h)) (r.room c.if-room.true)) e.claims e.held e.head).1,
+      tt,
+    )
+
+pub invariant_of-self-2 : goal.invariant_of-self-2
+invariant_of-self-2 g c =
+    let whose = g.W.TaskWaker.whose in
+    let r = c.has_room-room.ensures in
+    let s = roomed whose c.has_room-room.new.lists r.head r.listings c.if-room.false
+    (in_section whose c.self.invariant.1 c.note.ensures.told.0 c.in-Some.is c.deref_mut-lists.ensures.value c.requires.can c.note.ensures.told.1 c.see-found.ensures.told) in
+    let e = c.list_without_room.ensures in (
+      c.see-found.ensures.desk,
+      (refusal_ends whose c.args.waker.now c.list_without_room.new.ticket c.list_without_room.new.lists c.list_without_room.result c.requires.can s
+          (ap (λ xs. is_some (kept_ticket c.args.ticket.now xs)) r.listings ∙ r.none c.if-room.false) e.claims e.memory e.stays).0,
+    )
+
+pub returns-clause-did : goal.returns-clause-did
+returns-clause-did g c =
+    let whose = g.W.TaskWaker.whose in
+    let r = c.has_room-room.ensures in
+    let s = roomed whose c.has_room-room.new.lists r.head r.listings c.if-room.false
+    (in_section whose c.self.invariant.1 c.note.ensures.told.0 c.in-Some.is c.deref_mut-lists.ensures.value c.requires.can c.note.ensures.told.1 c.see-found.ensures.told) in
+    let e = c.list_without_room.ensures in (
+      (refusal_ends whose c.args.waker.now c.list_without_room.new.ticket c.list_without_room.new.lists c.list_without_room.result c.requires.can s
+          (ap (λ xs. is_some (kept_ticket c.args.ticket.now xs)) r.listings ∙ r.none c.if-room.false) e.claims e.memory e.stays).1,
+      tt,
+    )

@@ -1,0 +1,48 @@
+-- The look is its line of the table, with the copy of the waker or its refusal. Where there is a copy, the listing follows.
+use Rattle.std.proofs.Common.{◌≡◌, ℕ, refl, sym, ap, subst, None}
+use Rattle.std.specs.Prelude.{⊤}
+use Rattle.once_machine.specs.declared.waiters.Op.TheVariants.{Look}
+use Rattle.once_machine.specs.Table.{after_look, wants_copy}
+use Rattle.once_machine.specs.declared.step.Progress.{Progress}
+use Rattle.once_machine.specs.declared.step.Step.{Step}
+use Rattle.async_once_cell.specs.Inner.Own.{Own}
+use Rattle.async_once_cell.specs.Inner.Sides.{Sided}
+use Rattle.async_once_cell.specs.Inner.Ways.{Leads, next_by}
+use Rattle.async_once_cell.specs.declared.inner.ways.Reached.TheVariants.{Claimed, Ready, Waits}
+use Rattle.async_once_cell.proofs.Walk.Ways.{copied, looked}
+use Rattle.async_once_cell.proofs.inner.shared.Inner.locked_look.Goals as goal
+
+-- what the task knows is the same after a renewal
+led_same : {W : Type 0} (whose : W → ℕ) {x y : Sided} {v w u : Own} {r : Progress} {s : Step W ⊤} → u ≡ w → Leads whose x v r s y w → Leads whose x v r s y u
+led_same whose {x} {y} {v} {w} {u} {r} {s} is leads = subst (λ (o : Own). Leads whose x v r s y o) (sym is) leads
+
+pub returns-in-Ready-clause-leads : goal.returns-in-Ready-clause-leads
+returns-in-Ready-clause-leads g c =
+    let s = c.look-answer in
+    looked g.W.TaskWaker.whose c.args.ticket s.result.0 (Look s.new.ticket) (next_by Ready) (ap (wants_copy (Look c.args.ticket)) c.in-Ready.is)
+    c.requires.stands s.ensures.did (ap (λ a. after_look a None tt s.new.ticket) c.in-Ready.is) refl
+
+pub returns-in-Claimed-clause-leads : goal.returns-in-Claimed-clause-leads
+returns-in-Claimed-clause-leads g c =
+    let s = c.look-answer in
+    looked g.W.TaskWaker.whose c.args.ticket s.result.0 (Look s.new.ticket) (next_by Claimed) (ap (wants_copy (Look c.args.ticket)) c.in-Claimed.is)
+    c.requires.stands s.ensures.did (ap (λ a. after_look a None tt s.new.ticket) c.in-Claimed.is) refl
+
+pub renew-requires-clause-rests : goal.renew-requires-clause-rests
+renew-requires-clause-rests g c =
+    let s = c.look-answer in
+    (looked g.W.TaskWaker.whose c.args.ticket s.result.0 (Look s.new.ticket) (next_by (Waits s.new.ticket)) (ap (wants_copy (Look c.args.ticket)) c.in-Listed.is)
+    c.requires.stands s.ensures.did (ap (λ a. after_look a None tt s.new.ticket) c.in-Listed.is) refl).stands.step
+
+pub returns-in-Listed-clause-leads : goal.returns-in-Listed-clause-leads
+returns-in-Listed-clause-leads g c =
+    let s = c.look-answer in
+    led_same g.W.TaskWaker.whose c.renew.ensures.hand
+    (looked g.W.TaskWaker.whose c.args.ticket s.result.0 (Look s.new.ticket) (next_by (Waits s.new.ticket)) (ap (wants_copy (Look c.args.ticket)) c.in-Listed.is)
+    c.requires.stands s.ensures.did (ap (λ a. after_look a None tt s.new.ticket) c.in-Listed.is) c.renew.ensures.state)
+
+pub returns-in-None-clause-leads : goal.returns-in-None-clause-leads
+returns-in-None-clause-leads g c =
+    let s = c.look-answer in
+    copied g.W.TaskWaker.whose c.args.ticket s.result.0 (Look s.new.ticket) None c.in_default.not-Ready c.in_default.not-Claimed c.in_default.not-Listed
+    c.requires.stands s.ensures.did (g.met.S.TaskSide.tells.copy _ _ _ c.in-None.ensures.did) (refl, c.refused.ensures.did) refl

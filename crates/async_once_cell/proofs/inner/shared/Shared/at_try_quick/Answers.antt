@@ -1,0 +1,16 @@
+-- The quick claim is its line of the table. Where it was won, the init is polled.
+use Rattle.std.proofs.Common.{◌∙◌, refl, ap, None}
+use Rattle.once_machine.specs.Table.{TriedQuick, after_quick, next_at}
+use Rattle.once_machine.specs.declared.step.Place.TheVariants.{Run as AtRun, TryQuick as AtTryQuick}
+use Rattle.async_once_cell.proofs.Walk.Ways.{led, onward}
+use Rattle.async_once_cell.proofs.inner.shared.Shared.at_try_quick.Goals as goal
+
+pub returns : goal.returns
+returns g c =
+    record {
+      cell = c.at_run.ensures.cell ∙ c.quick.ensures.0;
+      leads = onward g.W.TaskWaker.whose
+          (led g.W.TaskWaker.whose AtTryQuick (TriedQuick c.quick.result) (next_at (AtRun None)) refl refl (_, refl) c.requires.stands c.quick.ensures.1 (ap after_quick c.if-not-quick.false) refl)
+          c.at_run.ensures.leads;
+      stays = c.at_run.ensures.stays;
+    }

@@ -1,0 +1,21 @@
+-- The load is its line of the table. Where the word is ready, the init is closed, and the task counts out.
+use Rattle.std.proofs.Common.{◌≡◌, true, refl, sym, ap, ◌∙◌}
+use Rattle.once_machine.specs.Word.{Flags, flags_of}
+use Rattle.once_machine.specs.Table.{Loaded, after_load, closing_at}
+use Rattle.once_machine.specs.declared.step.Place.TheVariants.{CountOut as AtCountOut, WaitLoad as AtWaitLoad}
+use Rattle.once_machine.specs.declared.step.Ending.TheVariants.{Value as EndValue}
+use Rattle.async_once_cell.proofs.Walk.Ways.{led, onward}
+use Rattle.async_once_cell.proofs.inner.shared.Shared.at_wait_load.Goals as goal
+
+pub returns-then-is_ready : goal.returns-then-is_ready
+returns-then-is_ready g c =
+    let word = flags_of c.load.result in
+    let ready : word.ready ≡ true = ap (λ (w : Flags). w.ready) (sym c.from_bits.ensures) ∙ sym c.is_ready.ensures ∙ c.if-is_ready.true in
+    record {
+      cell = c.at_count_out.ensures.cell ∙ c.load.ensures.0;
+      leads = onward g.W.TaskWaker.whose
+          (led g.W.TaskWaker.whose (AtWaitLoad tt c.args.ticket) (Loaded word) (closing_at (AtCountOut EndValue)) refl refl (_, refl) c.requires.stands c.load.ensures.1
+          (ap (λ b. after_load b tt c.args.ticket) ready) (g.met.S.TaskSide.tells.close _ _ c.close.ensures.did))
+          c.at_count_out.ensures.leads;
+      stays = c.close.ensures.stays;
+    }

@@ -1,0 +1,444 @@
+//! A task of a cell, with its whole polls and drops: its side and init, what it keeps between two calls, and its steps.
+ghost use Rattle.std.specs.Prelude.{◌≡◌, ◌≢◌, ◌<◌, ℕ, true, false, List, [], ◌∷◌, IfErr, IfOk, IsSome, Option, Some};
+ghost use mathlib.Core.List.{IsPrefix};
+ghost use Rattle.once_machine.specs.Record.{DropBegin, DropEnd, Entry, Made};
+ghost use Rattle.async_once_cell.specs.Kept.{Grew, entries_of};
+ghost use Rattle.async_once_cell.specs.Record.{EndsSet, IsSet};
+ghost use Rattle.once_machine.specs.declared.step.Ending.{Ending};
+ghost use Rattle.async_once_cell.specs.Inner.Shares.{cell_of, own};
+ghost use Rattle.async_once_cell.specs.Inner.Idle.{is_over, step_of};
+ghost use Rattle.async_once_cell.specs.Walks.{IsCall, Spans, StandsOn, end_of, handed};
+ghost use Rattle.once_machine.specs.Steps.{in_call, is_resting};
+ghost use Rattle.async_once_cell.specs.Inner.Sides.{GivesFit, IsReady, IsTold, Sided};
+ghost use Rattle.async_once_cell.specs.Inner.Named.{KeepsOwner};
+ghost use Rattle.async_once_cell.specs.Inner.Hands.{HasRight, HasRun};
+ghost use Rattle.async_once_cell.specs.Inits.{MayGive, StandsFor, polled_in};
+ghost use Rattle.futures.specs.Poll.{IfReady, OnPending};
+ghost use Rattle.futures.specs.Task.{IsArmed, Keeps};
+ghost use Rattle.async_once_cell.specs.Inner.Tasks.{TaskView, HasPolled};
+
+use super::book::{CellSlot, Record};
+use super::hand::{Hand, Mark, TaskWaker};
+use super::shared::{Inner, Shared};
+use boxcar::tag::{Names, Tag};
+use futures::Future;
+use futures::task::{Context, Poll};
+use once_machine::step::{Ending, Polled, Rest, Side, Step};
+use once_machine::waiters::Renews;
+use pagebook::{Anything, Fits, Written};
+use std::alloc::AllocGlobal;
+use std::marker::Model;
+use std::sync::Wait;
+
+/// A side that says which task it is of, what it has of its init, and who was handed to it in this call. If it may copy
+/// its waker under the cell's lock, it renews its listed waker there in a poll.
+pub trait TaskSide<W: TaskWaker>: Side<W, Right = Hand> + Renews<W> {
+    ghost state: { Self → Sided };
+
+    // It may be shown a value in the slot of this name.
+    ghost has_slot: { Self → ℕ → Type 0 };
+
+    /// Whether the waker may be copied while the cell's lock is held: only if no code runs there that could use the
+    /// cell, because it would wait for the lock for ever. No clause says so. Else it is copied between two sections.
+    fn copies_under_lock() -> bool;
+
+    /// Is shown that the value which it handed over is the cell's.
+    fn keep(&mut self, written: Written<Self::Value>)
+        requires slot { has_slot self.old written.of }
+        requires value { Self.handed self.old written.value }
+        ensures shown { state self.new ≡ record (state self.old) { has_shown = true } }
+        ensures stays { Self.stays self.old self.new };
+
+    // What each of its calls makes of that.
+    ghost tells: { IsTold W.whose state Self.did };
+
+    ghost runs: { (s : Self) → (state s).has_init ≡ true → Self.can_run s };
+
+    ghost puts: { (s : Self) → (state s).has_value ≡ true → Self.can_put s };
+
+    // A listed waker that it renews stays the same task's.
+    ghost owner: { KeepsOwner W.whose Self.renewed };
+
+    ghost renews: { (s : Self) (v : W) (t : Self) (w : W) → Self.renewed s v t w
+        → (state t ≡ state s) × Self.stays s t };
+
+    // What it may hand over after a call, it might have handed over before.
+    ghost hands_on: { (s t : Self) → Self.stays s t → (v : Self.Value) → Self.hands t v → Self.hands s v };
+
+    // What it may be shown before a call, it may be shown after.
+    ghost slot_on: { (s t : Self) → Self.stays s t → (n : ℕ) → has_slot s n → has_slot t n };
+}
+
+/// How what an init gives is told apart: the value, or an error as its task tells it.
+pub trait Splits<O, T, E> {
+    // The output for which this error or value stands, if it stands for one.
+    ghost output_of: { E → Option O };
+
+    ghost output_with: { T → Option O };
+
+    /// The one or the other.
+    fn split(output: O) -> Result<T, E>
+        ensures error { IfErr result (λ e. output_of e ≡ Some output) }
+        ensures value { IfOk result (λ v. output_with v ≡ Some output) };
+}
+
+/// A future that may be polled, by a task that has the right alone. A clause sees the future.
+#[derive(Drop)]
+pub struct Pollable<F: Future> {
+    future: F,
+}
+
+impl<F: Future> Model for Pollable<F> {
+    ghost Value = { F };
+
+    ghost view = { λ p. p.future };
+
+    ghost invariant = { λ p. F.can_poll p.future };
+}
+
+impl<F: Future> Pollable<F> {
+    /// A box with this future.
+    #[inline(always)]
+    pub fn new(future: F) -> Self
+        requires { F.can_poll future }
+        ensures { result ≡ future }
+    {
+        Pollable { future }
+    }
+
+    /// The future, for the owner of a cell. No clause says that it may be polled.
+    #[inline(always)]
+    pub fn into_inner(self) -> F
+        ensures { result ≡ self }
+    {
+        let Pollable { future } = self;
+        future
+    }
+}
+
+/// Polls the init of the task whose hand this is, which has the right, and writes its answer into the record. The box
+/// is kept if the init is Pending. An init that is left may give no other output than before.
+#[inline(always)]
+pub fn poll_init<T, E, F, G>(
+    init: &mut Option<Pollable<F>>,
+    cx: &mut Context<'_>,
+    right: &mut Hand,
+) -> Poll<Result<T, E>>
+where
+    F: Future,
+    G: Splits<F::Output, T, E>,
+    requires init { IsSome init.old }
+    requires right { HasRight right.old }
+    ensures ran { HasRun right.old (polled_in result) right.new }
+    ensures init { OnPending result (IsSome init.new) }
+    ensures own { IfReady result (λ a. IfErr a (StandsFor F.gives G.output_of init.old)) }
+    ensures given { IfReady result (λ a. IfOk a (StandsFor F.gives G.output_with init.old)) }
+    ensures same { (o : F.Output) → MayGive F.gives init.new o → MayGive F.gives init.old o }
+    ensures armed { OnPending result (IsArmed cx.new) }
+    ensures kept { Keeps cx.old cx.new }
+{
+    let Some(pollable) = init.take() else {
+        unreachable!()
+    };
+    let Pollable { mut future } = pollable;
+    match future.poll(cx) {
+        Poll::Pending => {
+            *init = Some(Pollable::new(future));
+            right.ran(Polled::Pending);
+            Poll::Pending
+        }
+        Poll::Ready(output) => match G::split(output) {
+            Ok(value) => {
+                right.ran(Polled::Value);
+                Poll::Ready(Ok(value))
+            }
+            Err(error) => {
+                right.ran(Polled::Error);
+                Poll::Ready(Err(error))
+            }
+        },
+    }
+}
+
+/// Where the next call of a task begins, if there is to be one. It has fewer bytes than the step of a call.
+#[derive(Clone, Copy)]
+pub(crate) enum Idle {
+    New,
+    /// It waits, and its listing has this ticket.
+    Listed(u64),
+    /// It waits, and is not listed.
+    Unlisted,
+    /// It holds by the quick claim.
+    Quick,
+    /// It holds by the queue.
+    Queued,
+    Finished,
+}
+
+impl Idle {
+    #[inline(always)]
+    pub(crate) fn of<W: Drop>(step: Step<W, ()>) -> Idle
+        requires over { in_call step ≡ false }
+        ensures is { step_of result ≡ step }
+    {
+        match step {
+            Step::Resting(Rest::Start) => Idle::New,
+            Step::Resting(Rest::Wait(_, Some(ticket))) => Idle::Listed(ticket),
+            Step::Resting(Rest::Wait(_, None)) => Idle::Unlisted,
+            Step::Resting(Rest::Run(None)) => Idle::Quick,
+            Step::Resting(Rest::Run(Some(_))) => Idle::Queued,
+            Step::UnderWay(_) => unreachable!(),
+            Step::Finished => Idle::Finished,
+        }
+    }
+
+    #[inline(always)]
+    pub(crate) fn step<W: Drop>(&self) -> Step<W, ()>
+        ensures is { result ≡ step_of self.now }
+        ensures rests { is_over self.now ≡ false → is_resting result ≡ true }
+    {
+        match self {
+            Idle::New => Step::Resting(Rest::Start),
+            Idle::Listed(ticket) => Step::Resting(Rest::Wait((), Some(*ticket))),
+            Idle::Unlisted => Step::Resting(Rest::Wait((), None)),
+            Idle::Quick => Step::Resting(Rest::Run(None)),
+            Idle::Queued => Step::Resting(Rest::Run(Some(()))),
+            Idle::Finished => Step::Finished,
+        }
+    }
+}
+
+/// A task of a cell, between two of its calls: its share of the cell, and where its next call begins. A clause sees its
+/// cell, its number in the record, the record as far as the task has seen it, and whether it is finished.
+#[derive(Drop)]
+pub struct Task<'a, 'r, T, W: TaskWaker, R, V: Fits<T> = Anything> {
+    parts: Shared<'a, 'r, T, W, R, V>,
+    ghost stands: { is_over parts.idle ≡ false → StandsOn W.whose (own parts) (step_of parts.idle) },
+}
+
+impl<'a, 'r, T, W: TaskWaker, R, V: Fits<T>> Model for Task<'a, 'r, T, W, R, V> {
+    ghost Value = { TaskView };
+
+    ghost view = { λ t. record {
+      cell = cell_of t.parts;
+      number = (own t.parts).number;
+      log = (own t.parts).log;
+      finished = is_over t.parts.idle;
+    } };
+}
+
+impl<'a, 'r, T, W: TaskWaker + Drop, R, V: Fits<T>> Task<'a, 'r, T, W, R, V> {
+    /// A new task.
+    ///
+    /// ```
+    /// let task = Task::new(cell, rt);
+    /// let side = TestSide::new(rt, name, task.mark(), answer)?;
+    /// ```
+    #[inline(always)]
+    pub fn new(inner: &'a Inner<T, W, V>, rt: &'r R) -> Self
+        ensures cell { result.cell ≡ inner.now.slot }
+        ensures live { result.finished ≡ false }
+        ensures log { (seen : List Entry) × Grew (Made result.number ∷ []) seen result.log }
+    {
+        Task {
+            parts: Shared {
+                inner,
+                rt,
+                hand: Hand::new(&inner.front),
+                idle: Idle::New,
+            },
+        }
+    }
+
+    /// Whether the last call ended with anything but Pending, or the task was dropped. It may not be polled after that.
+    ///
+    /// ```
+    /// if self.task.is_finished() {
+    ///     return None;
+    /// }
+    /// ```
+    #[inline(always)]
+    pub fn is_finished(&self) -> bool
+        ensures { result ≡ self.now.finished }
+    {
+        matches!(self.parts.idle, Idle::Finished)
+    }
+
+    /// The value, for a task whose last call ended with it.
+    ///
+    /// ```
+    /// let (value, _) = self.task.value();
+    /// ```
+    #[inline(always)]
+    pub fn value(&self) -> (&'a T, Written<T>)
+        requires ended { EndsSet self.now.number self.now.log }
+        ensures value { (result.0.now ≡ result.1.value) × (result.1.of ≡ self.now.cell.id) }
+        ensures promise { V.fits self.now.cell.about result.0.now }
+    {
+        self.parts.value()
+    }
+
+    /// The handle that the task was made with.
+    #[inline(always)]
+    pub fn rt(&self) -> &'r R {
+        self.parts.rt
+    }
+
+    /// The number of this task, for its wakers.
+    ///
+    /// ```
+    /// let side = TestSide::new(rt, name, task.mark(), answer)?;
+    /// ```
+    #[inline(always)]
+    pub fn mark(&self) -> Mark
+        ensures { result ≡ self.now.number }
+    {
+        self.parts.mark()
+    }
+
+    /// The name of the slot of its cell, for a side that is to be shown the value. It has no bytes.
+    ///
+    /// ```
+    /// slot: self.task.slot(),
+    /// ```
+    #[inline(always)]
+    pub fn slot(&self) -> Tag
+        ensures { result.numbers ≡ self.now.cell.id ∷ [] }
+    {
+        Tag::of::<CellSlot<T, V>, SlotName>(&self.parts.inner.slot)
+    }
+
+    /// The task learns what a record of its cell has. Its next call comes after that.
+    #[inline(always)]
+    pub fn learn(&mut self, seen: &Record)
+        requires book { seen.now.book ≡ self.old.cell.book }
+        ensures cell { self.new.cell ≡ self.old.cell }
+        ensures number { self.new.number ≡ self.old.number }
+        ensures finished { self.new.finished ≡ self.old.finished }
+        ensures log { IsPrefix self.old.log self.new.log × IsPrefix seen.now.log self.new.log }
+        ensures mine { entries_of self.old.number self.new.log ≡ entries_of self.old.number self.old.log }
+        ensures own_set { IsSet self.old.log → IsSet self.new.log }
+        ensures other_set { IsSet seen.now.log → IsSet self.new.log }
+    {
+        let parts = &mut self.parts;
+        parts.hand.learn(seen);
+    }
+
+    /// Shows that two tasks of a cell have two numbers. The first may learn more of the record.
+    #[inline(always)]
+    pub fn are_two(a: &mut Self, b: &mut Self)
+        requires book { b.old.cell.book ≡ a.old.cell.book }
+        ensures cell { a.new.cell ≡ a.old.cell }
+        ensures number { a.new.number ≡ a.old.number }
+        ensures finished { a.new.finished ≡ a.old.finished }
+        ensures log { IsPrefix a.old.log a.new.log }
+        ensures set { IsSet a.old.log → IsSet a.new.log }
+        ensures other { b.new ≡ b.old }
+        ensures two { a.new.number ≢ b.new.number }
+    {
+        let (a, b) = (&mut a.parts, &mut b.parts);
+        Hand::are_two(&mut a.hand, &mut b.hand);
+    }
+
+    /// The record as far as this task has seen it.
+    #[inline(always)]
+    pub fn record(&self) -> Record
+        ensures { (result.book ≡ self.now.cell.book) × (result.log ≡ self.now.log) }
+    {
+        self.parts.hand.seen.again()
+    }
+}
+
+impl<'a, 'r, T, W: TaskWaker + Drop, R: Wait + AllocGlobal, V: Fits<T>> Task<'a, 'r, T, W, R, V> {
+    /// A whole poll. It may wait for the cell's lock, and for whatever the side waits for. The wakers that were handed
+    /// to the side are those of the tasks that its entries name, in their order. It began after all that the task had
+    /// seen before, so if the cell was set in that, it answers the value.
+    ///
+    /// ```
+    /// self.side.begin();
+    /// self.task.poll(&mut self.side)
+    /// ```
+    #[inline(always)]
+    pub fn poll<S: TaskSide<W, Value = T>>(&mut self, side: &mut S) -> Ending
+        requires live { self.old.finished ≡ false }
+        requires number { (S.state side.old).number ≡ self.old.number }
+        requires none { (S.state side.old).woke ≡ [] }
+        requires init { IsReady (S.state side.old) }
+        requires fits { GivesFit S.hands S.has_slot V.fits side.old self.old.cell }
+        ensures cell { self.new.cell ≡ self.old.cell }
+        ensures polled { HasPolled (S.state side.new) result self.old self.new }
+        ensures set { IsSet self.old.log → result ≡ Ending.Value }
+        ensures stays { S.stays side.old side.new }
+    {
+        let ending = self.poll_steps(side);
+        answered_where_set(&self.record());
+        ending
+    }
+
+    #[inline(always)]
+    fn poll_steps<S: TaskSide<W, Value = T>>(&mut self, side: &mut S) -> Ending
+        requires live { self.old.finished ≡ false }
+        requires number { (S.state side.old).number ≡ self.old.number }
+        requires none { (S.state side.old).woke ≡ [] }
+        requires init { IsReady (S.state side.old) }
+        requires fits { GivesFit S.hands S.has_slot V.fits side.old self.old.cell }
+        ensures cell { self.new.cell ≡ self.old.cell }
+        ensures polled { HasPolled (S.state side.new) result self.old self.new }
+        ensures stays { S.stays side.old side.new }
+    {
+        let idle = self.parts.idle;
+        self.parts.begin();
+        if !S::copies_under_lock() {
+            return self.parts.by_machine(idle, side);
+        }
+        if let Idle::New = idle {
+            return self.parts.at_start(side);
+        }
+        self.parts.later(idle, side)
+    }
+
+    /// A whole drop of a task that is not finished. It may wait, and hands wakers to the side, as [`poll`](Self::poll).
+    ///
+    /// ```
+    /// self.side.begin();
+    /// self.task.leave(&mut self.side);
+    /// ```
+    pub fn leave<S: TaskSide<W, Value = T>>(&mut self, side: &mut S)
+        requires live { self.old.finished ≡ false }
+        requires number { (S.state side.old).number ≡ self.old.number }
+        requires none { (S.state side.old).woke ≡ [] }
+        requires fits { GivesFit S.hands S.has_slot V.fits side.old self.old.cell }
+        ensures cell { self.new.cell ≡ self.old.cell }
+        ensures number { self.new.number ≡ self.old.number }
+        ensures end { Grew (end_of self.new.number Ending.Dropped ∷ []) self.old.log self.new.log }
+        ensures call { (mid : List Entry)
+            × IsCall self.new.number (DropBegin self.new.number) (DropEnd self.new.number) mid self.old.log self.new.log
+            × ((S.state side.new).woke ≡ handed mid) }
+        ensures finished { self.new.finished ≡ true }
+        ensures stays { S.stays side.old side.new }
+    {
+        let mut step = self.parts.idle.step();
+        self.parts.begin_drop();
+        if !step.begin_drop(side) {
+            self.parts.idle = Idle::Finished;
+            return;
+        }
+        self.parts.go_on(&mut step, side);
+        self.parts.idle = Idle::Finished;
+    }
+}
+
+struct SlotName;
+
+impl<T, V: Fits<T>> Names<CellSlot<T, V>> for SlotName {
+    ghost numbers = { λ slot. slot.id ∷ [] };
+}
+
+// A poll that began after the cell was set answered the value.
+#[inline(always)]
+fn answered_where_set(seen: &Record)
+    ensures { (t : ℕ) (e : Ending) (old : List Entry) → IsSet old → Spans t (end_of t e) old seen.now.log
+        → (e ≡ Ending.Dropped → ⊥) → e ≡ Ending.Value }
+{
+    seen.again().learn(seen);
+}

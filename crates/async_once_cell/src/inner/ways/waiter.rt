@@ -1,0 +1,313 @@
+//! The way of a waiter, and of its later poll. A new task that met others goes from the door to its listing in one hold
+//! of the lock, or in two if it has to bring the queue.
+ghost use Rattle.std.specs.Prelude.{◌≡◌, false, None, []};
+ghost use Rattle.async_once_cell.specs.Inner.Hands.{own_of};
+ghost use Rattle.async_once_cell.specs.Inner.Shares.{cell_of};
+ghost use Rattle.async_once_cell.specs.Inner.Sides.{GivesFit};
+ghost use Rattle.async_once_cell.specs.Walks.{StandsOn};
+ghost use Rattle.async_once_cell.specs.Inner.Ways.{IsAt, IsHeld, IsUnder, Polls, Reaches};
+ghost use Rattle.once_machine.specs.Room.{listings_of};
+
+use super::{Reached, Spent};
+use super::super::desk::Desk;
+use super::super::hand::{Hand, TaskWaker};
+use super::super::shared::{Inner, Shared};
+use super::super::task::{Idle, TaskSide};
+use once_machine::parts::{Counted, Parts};
+use once_machine::step::{Ending, Place, Rest, Step};
+use once_machine::waiters::{Answer, Lists};
+use once_machine::word::Word;
+use pagebook::{Fits, Key};
+use std::alloc::AllocGlobal;
+use std::marker::Brand;
+use std::sync::Wait;
+
+impl<T, W: TaskWaker + Drop, R: Wait + AllocGlobal, V: Fits<T>> Shared<'_, '_, T, W, R, V> {
+    #[inline(never)]
+    pub(super) fn at_door_get<S: TaskSide<W, Value = T>>(&mut self, side: &mut S) -> Ending
+        requires stands { IsAt W.whose S.state Place.DoorGet self.old side.old }
+        requires fits { GivesFit S.hands S.has_slot V.fits side.old (cell_of self.old) }
+        ensures { Polls W.whose S.state S.stays self.old side.old result self.new.idle self.new side.new }
+    {
+        let mut spent = None;
+        let reached = self
+            .inner
+            .lock_at_door_get::<Brand, R, S>(self.rt, &mut self.hand, &mut spent, side);
+        if let Reached::NoQueue = reached {
+            return self.at_door_put(side);
+        }
+        self.go_on_from(reached, side)
+    }
+
+    // The queue is made with the lock free, because the allocator may be any code. One that came too late is let go.
+    #[inline(always)]
+    fn at_door_put<S: TaskSide<W, Value = T>>(&mut self, side: &mut S) -> Ending
+        requires stands { IsAt W.whose S.state Place.DoorPut self.old side.old }
+        requires fits { GivesFit S.hands S.has_slot V.fits side.old (cell_of self.old) }
+        ensures { Polls W.whose S.state S.stays self.old side.old result self.new.idle self.new side.new }
+    {
+        let alloc = self.rt.alloc();
+        let Ok(queue) = Box::new(alloc, Lists::new(alloc)) else {
+            self.hand.unput();
+            side.close();
+            self.idle = Idle::Finished;
+            return Ending::Memory;
+        };
+        let mut spent = None;
+        let (reached, _spare) = self
+            .inner
+            .lock_at_door_put::<Brand, R, S>(self.rt, &mut self.hand, queue, &mut spent, side);
+        self.go_on_from(reached, side)
+    }
+
+    #[inline(always)]
+    pub(super) fn at_wait_load<S: TaskSide<W, Value = T>>(
+        &mut self,
+        ticket: Option<u64>,
+        side: &mut S,
+    ) -> Ending
+        requires stands { IsAt W.whose S.state (Place.WaitLoad tt ticket) self.old side.old }
+        requires fits { GivesFit S.hands S.has_slot V.fits side.old (cell_of self.old) }
+        ensures { Polls W.whose S.state S.stays self.old side.old result self.new.idle self.new side.new }
+    {
+        if Word::from_bits(self.load()).is_ready() {
+            side.close();
+            return self.at_count_out(Ending::Value, side);
+        }
+        self.at_look(ticket, side)
+    }
+
+    #[inline(always)]
+    fn at_look<S: TaskSide<W, Value = T>>(&mut self, ticket: Option<u64>, side: &mut S) -> Ending
+        requires stands { IsAt W.whose S.state (Place.Look tt ticket) self.old side.old }
+        requires fits { GivesFit S.hands S.has_slot V.fits side.old (cell_of self.old) }
+        ensures { Polls W.whose S.state S.stays self.old side.old result self.new.idle self.new side.new }
+    {
+        let mut spent = None;
+        let reached = self
+            .inner
+            .lock_at_look::<Brand, R, S>(self.rt, &mut self.hand, ticket, &mut spent, side);
+        self.go_on_from(reached, side)
+    }
+}
+
+impl<T, W: TaskWaker + Drop, V: Fits<T>> Inner<T, W, V> {
+    #[inline(always)]
+    fn lock_at_door_get<J: Key, R: Wait, S: TaskSide<W, Value = T>>(
+        &self,
+        rt: &R,
+        hand: &mut Hand,
+        spent: &mut Option<Spent<W>>,
+        side: &mut S,
+    ) -> Reached
+        requires key { self.now.desk ≡ J.key }
+        requires book { hand.old.seen.book ≡ J.key }
+        requires stands { IsUnder W.whose S.state Place.DoorGet hand.old side.old }
+        ensures book { hand.new.seen.book ≡ hand.old.seen.book }
+        ensures leads { Reaches W.whose S.state hand.old side.old result hand.new side.new }
+        ensures stays { S.stays side.old side.new }
+    {
+        let mut tied = self.desk.lock::<J, R>(rt);
+        if !tied.value.get(hand) {
+            return Reached::NoQueue;
+        }
+        self.locked_count_in(rt, &mut tied.value, hand, spent, side)
+    }
+
+    // If a queue stands at the door, this one comes back.
+    #[inline(always)]
+    fn lock_at_door_put<J: Key, R: Wait, S: TaskSide<W, Value = T>>(
+        &self,
+        rt: &R,
+        hand: &mut Hand,
+        queue: Box<Lists<W>>,
+        spent: &mut Option<Spent<W>>,
+        side: &mut S,
+    ) -> (Reached, Option<Box<Lists<W>>>)
+        requires key { self.now.desk ≡ J.key }
+        requires book { hand.old.seen.book ≡ J.key }
+        requires queue { (queue.value.head ≡ false) × (listings_of queue.value ≡ []) }
+        requires stands { IsUnder W.whose S.state Place.DoorPut hand.old side.old }
+        ensures book { hand.new.seen.book ≡ hand.old.seen.book }
+        ensures leads { Reaches W.whose S.state hand.old side.old result.0 hand.new side.new }
+        ensures stays { S.stays side.old side.new }
+    {
+        let mut tied = self.desk.lock::<J, R>(rt);
+        let spare = tied.value.put(&self.has_put, hand, queue);
+        (
+            self.locked_count_in(rt, &mut tied.value, hand, spent, side),
+            spare,
+        )
+    }
+
+    #[inline(always)]
+    fn locked_count_in<R: Wait, S: TaskSide<W, Value = T>>(
+        &self,
+        rt: &R,
+        desk: &mut Desk<W>,
+        hand: &mut Hand,
+        spent: &mut Option<Spent<W>>,
+        side: &mut S,
+    ) -> Reached
+        requires held { IsHeld self.now.front.book desk.old hand.old }
+        requires stands { IsUnder W.whose S.state (Place.CountIn tt) hand.old side.old }
+        ensures held { IsHeld self.now.front.book desk.new hand.new }
+        ensures leads { Reaches W.whose S.state hand.old side.old result hand.new side.new }
+        ensures stays { S.stays side.old side.new }
+    {
+        match self.counted(rt, hand) {
+            Counted::In(word) if Word::from_bits(word).is_ready() => Reached::Ready,
+            Counted::In(_) => self.locked_wait_load(desk, hand, spent, side),
+            Counted::Full => Reached::Ended(Ending::Full),
+            Counted::SeenReady => Reached::Ended(Ending::Value),
+        }
+    }
+
+    #[inline(always)]
+    fn locked_wait_load<S: TaskSide<W, Value = T>>(
+        &self,
+        desk: &mut Desk<W>,
+        hand: &mut Hand,
+        spent: &mut Option<Spent<W>>,
+        side: &mut S,
+    ) -> Reached
+        requires held { IsHeld self.now.front.book desk.old hand.old }
+        requires stands { IsUnder W.whose S.state (Place.WaitLoad tt None) hand.old side.old }
+        ensures held { IsHeld self.now.front.book desk.new hand.new }
+        ensures leads { Reaches W.whose S.state hand.old side.old result hand.new side.new }
+        ensures stays { S.stays side.old side.new }
+    {
+        if Word::from_bits(self.loaded(hand)).is_ready() {
+            return Reached::Ready;
+        }
+        self.locked_look(desk, hand, None, spent, side)
+    }
+
+    #[inline(always)]
+    fn lock_at_look<J: Key, R: Wait, S: TaskSide<W, Value = T>>(
+        &self,
+        rt: &R,
+        hand: &mut Hand,
+        ticket: Option<u64>,
+        spent: &mut Option<Spent<W>>,
+        side: &mut S,
+    ) -> Reached
+        requires key { self.now.desk ≡ J.key }
+        requires book { hand.old.seen.book ≡ J.key }
+        requires stands { IsUnder W.whose S.state (Place.Look tt ticket) hand.old side.old }
+        ensures book { hand.new.seen.book ≡ hand.old.seen.book }
+        ensures leads { Reaches W.whose S.state hand.old side.old result hand.new side.new }
+        ensures stays { S.stays side.old side.new }
+    {
+        let mut tied = self.desk.lock::<J, R>(rt);
+        self.locked_look(&mut tied.value, hand, ticket, spent, side)
+    }
+
+    /// Whoever claims takes its waker out of the list, and whoever is listed renews it there. If another task holds,
+    /// the waiter copies its waker, and is listed.
+    #[inline(always)]
+    fn locked_look<S: TaskSide<W, Value = T>>(
+        &self,
+        desk: &mut Desk<W>,
+        hand: &mut Hand,
+        mut ticket: Option<u64>,
+        spent: &mut Option<Spent<W>>,
+        side: &mut S,
+    ) -> Reached
+        requires held { IsHeld self.now.front.book desk.old hand.old }
+        requires stands { IsUnder W.whose S.state (Place.Look tt ticket) hand.old side.old }
+        ensures held { IsHeld self.now.front.book desk.new hand.new }
+        ensures leads { Reaches W.whose S.state hand.old side.old result hand.new side.new }
+        ensures stays { S.stays side.old side.new }
+    {
+        let (answer, taken) = desk.look(&self.word, hand, &mut ticket);
+        match answer {
+            Answer::Ready => {
+                Spent::keep(spent, taken, None);
+                Reached::Ready
+            }
+            Answer::Claimed => {
+                Spent::keep(spent, taken, None);
+                Reached::Claimed
+            }
+            // Only a claim takes a waker out. So there is none to put aside here, and below.
+            Answer::Listed => {
+                drop(taken);
+                renew(desk, hand, ticket, side);
+                Reached::Waits(ticket)
+            }
+            held => {
+                drop(held);
+                drop(taken);
+                match side.copy() {
+                    Some(waker) => self.locked_list(desk, hand, ticket, waker, spent, side),
+                    None => {
+                        hand.refused();
+                        Reached::Refused(ticket)
+                    }
+                }
+            }
+        }
+    }
+
+    // Whoever is listed has its waker in the list now, and took none out.
+    #[inline(always)]
+    fn locked_list<S: TaskSide<W, Value = T>>(
+        &self,
+        desk: &mut Desk<W>,
+        hand: &mut Hand,
+        mut ticket: Option<u64>,
+        waker: W,
+        spent: &mut Option<Spent<W>>,
+        side: &S,
+    ) -> Reached
+        requires held { IsHeld self.now.front.book desk.old hand.old }
+        requires stands { IsUnder W.whose S.state (Place.List tt ticket waker) hand.old side.now }
+        ensures held { IsHeld self.now.front.book desk.new hand.new }
+        ensures leads { Reaches W.whose S.state hand.old side.now result hand.new side.now }
+    {
+        let _ = side;
+        let mut copy = Some(waker);
+        let (answer, taken) = desk.list(&self.word, hand, &mut ticket, &mut copy);
+        match answer {
+            Answer::Ready => {
+                Spent::keep(spent, taken, copy);
+                Reached::Ready
+            }
+            Answer::Claimed => {
+                Spent::keep(spent, taken, copy);
+                Reached::Claimed
+            }
+            Answer::Memory => {
+                Spent::keep(spent, taken, copy);
+                Reached::Refused(ticket)
+            }
+            waits => {
+                drop(waits);
+                Reached::Waits(ticket)
+            }
+        }
+    }
+}
+
+// With this one inlined too, the ways are so large that the kit inlines less of them.
+#[inline(never)]
+fn renew<T, W: TaskWaker + Drop, S: TaskSide<W, Value = T>>(
+    desk: &mut Desk<W>,
+    hand: &mut Hand,
+    ticket: Option<u64>,
+    side: &mut S,
+)
+    requires desk { desk.old ≡ hand.old.seen.book }
+    requires rests { StandsOn W.whose (own_of hand.old) (Step.Resting (Rest.Wait tt ticket)) }
+    ensures book { hand.new.seen.book ≡ hand.old.seen.book }
+    ensures desk { desk.new ≡ desk.old }
+    ensures hand { own_of hand.new ≡ own_of hand.old }
+    ensures state { S.state side.new ≡ S.state side.old }
+    ensures stays { S.stays side.old side.new }
+{
+    let Some(ticket) = ticket else {
+        return;
+    };
+    let _is_renewed = desk.renew(hand, ticket, side);
+}

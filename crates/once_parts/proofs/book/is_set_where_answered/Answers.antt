@@ -1,5 +1,0 @@
-use Rattle.once_parts.proofs.Seen.{seen_answered}
-use Rattle.once_parts.proofs.book.is_set_where_answered.Goals as goal
-
-pub returns : goal.returns
-returns c = seen_answered c.args.seen.now.log c.learn.ensures.rule.2 c.learn.ensures.log.1 c.requires.0 c.requires.1

@@ -1,5 +1,0 @@
-use Rattle.once_parts.proofs.Acts.{none_keeps}
-use Rattle.once_parts.proofs.hand.Hand.finds_none_put.Goals as goal
-
-pub load-requires-clause-moves : goal.load-requires-clause-moves
-load-requires-clause-moves c = rw c.requires.word.1 (none_keeps _ _ c.args.self.now.is_hand c.requires.can)

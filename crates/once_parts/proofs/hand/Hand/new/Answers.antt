@@ -1,5 +1,0 @@
-use Rattle.once_parts.proofs.Acts.{make_keeps}
-use Rattle.once_parts.proofs.hand.Hand.new.Goals as goal
-
-pub note-requires-clause-notes : goal.note-requires-clause-notes
-note-requires-clause-notes c = rw c.no_pens-pens.ensures.1 (make_keeps c.again-seen.result.log)

@@ -1,4 +1,0 @@
-use Rattle.once_parts.proofs.shared.Inner.has_queue.Given as goal
-
-abbrev pub ghosts-stands : goal.ghosts-stands
-ghosts-stands g a = record { key = a.self.now.desk }

@@ -1,4 +1,0 @@
-use Rattle.once_parts.proofs.shared.Shared.at_add_one.Given as goal
-
-abbrev pub ghosts-released_again : goal.ghosts-released_again
-ghosts-released_again g a = record { key = a.self.now.desk }

@@ -1,4 +1,0 @@
-use Rattle.once_parts.proofs.shared.Shared.at_door_put.Given as goal
-
-abbrev pub ghosts-lock_at_door_put : goal.ghosts-lock_at_door_put
-ghosts-lock_at_door_put g a = record { key = a.self.now.desk }

@@ -1,4 +1,0 @@
-use Rattle.once_parts.proofs.shared.Shared.at_look.Given as goal
-
-abbrev pub ghosts-lock_at_look : goal.ghosts-lock_at_look
-ghosts-lock_at_look g a = record { key = a.self.now.desk }

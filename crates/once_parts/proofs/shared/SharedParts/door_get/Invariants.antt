@@ -1,4 +1,0 @@
-use Rattle.once_parts.proofs.shared.SharedParts.door_get.Given as goal
-
-abbrev pub ghosts-got : goal.ghosts-got
-ghosts-got g a = record { key = a.self.now.desk }

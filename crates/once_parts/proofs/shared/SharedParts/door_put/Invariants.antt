@@ -1,4 +1,0 @@
-use Rattle.once_parts.proofs.shared.SharedParts.door_put.Given as goal
-
-abbrev pub ghosts-put : goal.ghosts-put
-ghosts-put g a = record { key = a.self.now.desk }

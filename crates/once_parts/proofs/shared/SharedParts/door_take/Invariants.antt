@@ -1,4 +1,0 @@
-use Rattle.once_parts.proofs.shared.SharedParts.door_take.Given as goal
-
-abbrev pub ghosts-taken : goal.ghosts-taken
-ghosts-taken g a = record { key = a.self.now.desk }

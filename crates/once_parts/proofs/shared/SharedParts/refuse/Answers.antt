@@ -1,5 +1,0 @@
-use Rattle.std.proofs.Common.{rules}
-use Rattle.once_parts.proofs.shared.SharedParts.refuse.Goals as goal
-
-pub returns : goal.returns
-returns g c = search rules

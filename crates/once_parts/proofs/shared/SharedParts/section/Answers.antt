@@ -1,5 +1,0 @@
-use Rattle.once_parts.proofs.Refusals.{refusable}
-use Rattle.once_parts.proofs.shared.SharedParts.section.Goals as goal
-
-pub returns-clause-refuse : goal.returns-clause-refuse
-returns-clause-refuse g c = refusable g.W.TaskWaker.whose _ _ c.entered-answer.new.op _ _ c.requires.can c.entered-answer.ensures.did

@@ -1,4 +1,0 @@
-use Rattle.once_parts.proofs.shared.SharedParts.section.Given as goal
-
-abbrev pub ghosts-entered : goal.ghosts-entered
-ghosts-entered g a = record { key = a.self.now.desk }
