@@ -20,10 +20,6 @@ module _ {F O : Type 0} (gives : F → O → Type 0) where
   abbrev pub MayGive : Option F → O → Type 0
   MayGive init o = IsSomeAnd init (λ f. gives f o)
 
-  -- the error, or the value, stands for an output that the init may give
-  abbrev pub StandsFor : {E : Type 0} → (E → Option O) → Option F → E → Type 0
-  StandsFor output_of init e = IsSomeAnd (output_of e) (MayGive init)
-
 module _ {I X : Type 0} (may_fail : I → X → Type 0) where
   -- the init is there, and may fail with this error
   abbrev pub MayFail : Option I → X → Type 0

@@ -6,8 +6,8 @@ use Rattle.std.specs.Option.{is_some}
 use Rattle.futures.specs.Task.{IsArmed, Keeps}
 use Rattle.async_once_cell.specs.Inner.Named.{named_out}
 use Rattle.async_once_cell.specs.Inner.Sides.{Sided}
-use Rattle.async_once_cell.specs.declared.waiting.Polling.{Polling}
-use Rattle.async_once_cell.specs.declared.waiting.Leaving.{Leaving}
+use Rattle.async_once_cell.specs.declared.attempt.PollSide.{PollSide}
+use Rattle.async_once_cell.specs.declared.attempt.LeaveSide.{LeaveSide}
 use Rattle.async_once_cell.specs.Inits.{MayGive}
 use Rattle.async_once_cell.specs.Inits.{FailsNoOther, GivesNoOther, MayFail}
 use Rattle.async_once_cell.specs.declared.waker.ListedWaker.{ListedWaker}
@@ -15,7 +15,7 @@ use Rattle.async_once_cell.specs.Listed.{WakesTask, number_on, whose}
 
 module _ {T E H : Type 0} where
   -- its task, whether it has its init, a value, an error, or what shows its value, and who was handed to it
-  abbrev pub told : Polling T E H → Sided
+  abbrev pub told : PollSide T E H → Sided
   told s = record {
     number = s.mark;
     has_init = is_some s.init;
@@ -30,7 +30,7 @@ module _ {T E H X : Type 0} (may_fail : H → X → Type 0) (may_give : H → T 
   -- a side is right: a task that it says is to be called is; its init fails with no other error than when the poll
   -- began, and gives no other value; the error or the value that is there, or that it handed over, is one of these; and
   -- what shows a value shows one of these in the slot of its cell
-  pub record Tied (s : Polling T E H) : Type 0 where
+  pub record Tied (s : PollSide T E H) : Type 0 where
     pub armed : s.is_armed ≡ true → IsArmed s.cx.now
     pub fails : FailsNoOther may_fail s.first.value s.init
     pub error : IfSome s.error (λ e. MayFail may_fail s.first.value (error_of e))
@@ -40,18 +40,18 @@ module _ {T E H X : Type 0} (may_fail : H → X → Type 0) (may_give : H → T 
     pub written : IfSome s.written (λ w. (s.slot.numbers ≡ w.0.of ∷ []) × MayGive may_give s.first.value w.0.value)
 
   -- the value that a side hands over is one that the init might give when the poll began, if the side is right
-  abbrev pub Hands : Polling T E H → T → Type 0
+  abbrev pub Hands : PollSide T E H → T → Type 0
   Hands s v = Tied s → MayGive may_give s.first.value v
 
   -- from one moment of a side to a later one: the context is the same, what was armed stays so, the poll began with the
   -- same init at the same cell, and the side is as right as before
-  abbrev pub Stays : Polling T E H → Polling T E H → Type 0
+  abbrev pub Stays : PollSide T E H → PollSide T E H → Type 0
   Stays a b =
       (b.cx.ghost_name ≡ a.cx.ghost_name) × Keeps a.cx.now b.cx.now × (b.first.value ≡ a.first.value)
       × (b.slot.numbers ≡ a.slot.numbers) × (Tied a → Tied b)
 
   -- the poll put its task's waker in the place of one that was listed, under the same number
-  pub record IsRenewed (a : Polling T E H) (v : ListedWaker) (b : Polling T E H) (w : ListedWaker) : Type 0 where
+  pub record IsRenewed (a : PollSide T E H) (v : ListedWaker) (b : PollSide T E H) (w : ListedWaker) : Type 0 where
     pub whose : number_on w.tag.numbers ≡ number_on v.tag.numbers  -- the listing stays the same task's
     pub wakes : WakesTask w b.cx.now  -- whoever calls it wakes the task that is polled
     pub armed : b.is_armed ≡ true  -- the poll says that its task is to be called
@@ -59,7 +59,7 @@ module _ {T E H X : Type 0} (may_fail : H → X → Type 0) (may_give : H → T 
     pub stays : Stays a b  -- the context keeps what it had, and the side is as right as before
 
 -- what a leaving task's side tells: it has nothing that the init gave
-abbrev pub leaving : {T R : Type 0} → Leaving T R → Sided
+abbrev pub leaving : {T R : Type 0} → LeaveSide T R → Sided
 leaving s = record {
   number = s.mark;
   has_init = false;

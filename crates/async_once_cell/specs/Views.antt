@@ -5,10 +5,10 @@ use Rattle.pagebook.specs.Slot.{Placed}
 use Rattle.pagebook.specs.declared.slot.Written.{Written}
 use Rattle.once_machine.specs.Record.{Entry}
 use Rattle.async_once_cell.specs.Record.{IsSet}
-use Rattle.async_once_cell.specs.declared.once.Value.{Value}
-use Rattle.async_once_cell.specs.declared.once.Value.TheVariants.{Owned as OwnedValue, Shared as SharedValue}
+use Rattle.async_once_cell.specs.declared.once.Contents.{Contents}
+use Rattle.async_once_cell.specs.declared.once.Contents.TheVariants.{Owned as OwnedValue, Shared as SharedValue}
 use Rattle.async_once_cell.specs.declared.once.known.Seen.{Seen}
-use Rattle.async_once_cell.specs.declared.waiting.Shown.{Shown}
+use Rattle.async_once_cell.specs.declared.attempt.Shown.{Shown}
 use Rattle.async_once_cell.specs.declared.once.known.Seen.TheVariants.{Owned as SeenOwned, Shared as SeenShared}
 
 -- what a clause sees of a cell
@@ -32,7 +32,7 @@ pub record FutureView (T I : Type 0) : Type 0 where
   pub value : Option T  -- the value that it answered, if it answered one
 
 -- what a clause sees of a task with its init
-pub record WaitingView (T I : Type 0) : Type 0 where
+pub record AttemptView (T I : Type 0) : Type 0 where
   pub cell : Placed  -- its cell
   pub number : ℕ  -- its number
   pub log : List Entry  -- the record as far as it has seen it
@@ -61,7 +61,7 @@ about_of (Owned x) = []
 about_of (Shared s) = s.about
 
 -- a cell, by where it keeps its value
-abbrev pub view_of : {T V : Type 0} {g : _} → Value T V g → CellView T
+abbrev pub view_of : {T V : Type 0} {g : _} → Contents T V g → CellView T
 view_of (OwnedValue x) = Owned x
 view_of (SharedValue inner) = Shared inner.slot
 
@@ -110,6 +110,6 @@ OwnsStill (Owned x) y = y ≡ x
 OwnsStill (Shared s) y = ⊤
 
 -- a value of the owner stays, and a cell that tasks share still is the same
-abbrev pub Settled : {T V : Type 0} {g : _} → Value T V g → Value T V g → Type 0
+abbrev pub Settled : {T V : Type 0} {g : _} → Contents T V g → Contents T V g → Type 0
 Settled old (OwnedValue x) = OwnsStill (view_of old) x
 Settled old (SharedValue inner) = old ≡ SharedValue inner

@@ -11,10 +11,9 @@ ghost use Rattle.async_once_cell.specs.Polls.{ending_of_refusal, ending_of_error
 ghost use Rattle.async_once_cell.specs.Refused.{own_error, given_error, message, message_of, kind_of, error_of};
 ghost use Rattle.std.specs.IoError.{error_kind};
 
-use futures::Future;
 use futures::task::{Context, Poll};
 use once_machine::step::Ending;
-use crate::inner::{Hand, Pollable, Splits, poll_init};
+use crate::inner::Hand;
 use std::error::Error;
 use std::io::ErrorKind;
 use std::{fmt, io};
@@ -49,46 +48,11 @@ pub trait Init<T, X: Failure>: Yields<T, X> {
         ensures kept { Keeps cx.old cx.new };
 }
 
-impl<T, X: Failure, F: Future<Output: Gives<T, X>>> Yields<T, X> for Pollable<F> {
-    ghost may_give = { λ f v. IsSomeAnd (F.Output.given_with v) (F.gives f) };
-}
-
-/// An init of the task's own.
-impl<T, X: Failure, F: Future<Output: Gives<T, X>>> Init<T, X> for Pollable<F> {
-    ghost may_fail = { λ f x. IsSomeAnd (F.Output.given_as x) (F.gives f) };
-
-    #[inline(always)]
-    fn poll_init(
-        init: &mut Option<Self>,
-        cx: &mut Context<'_>,
-        right: &mut Hand,
-    ) -> Poll<Result<T, Failed<X>>> {
-        poll_init::<T, Failed<X>, F, Given>(init, cx, right)
-    }
-}
-
 /// An error of an init.
 #[derive(Drop)]
 pub struct Failed<X: Failure> {
     pub(crate) error: X,
     ghost own: { X.ending error ≡ Ending.Error },
-}
-
-// How a future of the cells tells what an init gave.
-struct Given;
-
-impl<O: Gives<T, X>, T, X: Failure> Splits<O, T, Failed<X>> for Given {
-    ghost output_of = { λ e. O.given_as e.error };
-
-    ghost output_with = { λ v. O.given_with v };
-
-    #[inline(always)]
-    fn split(output: O) -> Result<T, Failed<X>> {
-        match output.given() {
-            Ok(value) => Ok(value),
-            Err(error) => Err(Failed { error }),
-        }
-    }
 }
 
 /// Why a poll ended without a value, as a future tells it: [`Refused`], or an [`InitError`] if the init may fail.

@@ -20,7 +20,7 @@ pub use book::{CellRule, Leaf, Line, Record};
 pub use desk::Desk;
 pub use hand::{Hand, Mark, TaskWaker};
 pub use shared::{Inner, Shared};
-pub use task::{Pollable, Splits, Task, TaskSide, poll_init};
+pub use task::{Pollable, Task, TaskSide};
 pub use once_machine::parts::{Counted, Parts, QueueLine};
 pub use once_machine::step::Out;
 pub use once_machine::waiters::{Answer, Listing, Op};

@@ -76,11 +76,11 @@
 //! `docs/THREADS.md` what is proved of threads.
 #![tactic(auto)]
 
+mod attempt;
 mod init;
 pub mod inner;
 pub mod lazy;
 pub mod once;
-mod waiting;
 mod waker;
 
 pub use init::{Failed, Failure, Gives, Init, InitError, Refused, Yields};

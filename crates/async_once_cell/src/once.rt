@@ -5,7 +5,7 @@ ghost use Rattle.async_once_cell.specs.Views.{CellView, IsWritten, Owned, Settle
 ghost use Rattle.async_once_cell.specs.Polls.{IsMade};
 ghost use Rattle.async_once_cell.specs.Tokens.{Gives, IsSetIn, Learns, Lends, LendsMut, Looks};
 ghost use Rattle.std.specs.Borrow.{LendsIf, sem};
-ghost use Rattle.async_once_cell.specs.declared.once.Value.TheVariants.{Owned as OwnedValue};
+ghost use Rattle.async_once_cell.specs.declared.once.Contents.TheVariants.{Owned as OwnedValue};
 
 mod future;
 mod known;
@@ -48,14 +48,14 @@ pub use waits::Parker;
 /// value all the same. A cell may be sent to another thread if `T: Send`, and shared if `T: Send + Sync`.
 #[derive(Drop)]
 pub struct OnceCell<T, V: Fits<T> = Anything> {
-    pub(crate) value: Value<T, V>,
+    pub(crate) contents: Contents<T, V>,
 }
 
 /// A clause sees a cell as the value that its owner put there, or else as the slot into which tasks put one.
 impl<T, V: Fits<T>> Model for OnceCell<T, V> {
     ghost Value = { CellView T };
 
-    ghost view = { λ c. view_of c.value };
+    ghost view = { λ c. view_of c.contents };
 }
 
 impl<T> OnceCell<T> {
@@ -65,7 +65,7 @@ impl<T> OnceCell<T> {
         ensures { is_shared result ≡ true }
     {
         OnceCell {
-            value: Value::Shared(Inner::new()),
+            contents: Contents::Shared(Inner::new()),
         }
     }
 
@@ -74,7 +74,7 @@ impl<T> OnceCell<T> {
         ensures { result ≡ Owned value }
     {
         OnceCell {
-            value: Value::Owned(value),
+            contents: Contents::Owned(value),
         }
     }
 }
@@ -95,7 +95,7 @@ impl<T, V: Fits<T>> OnceCell<T, V> {
         ensures about { about_of result ≡ tag.now.numbers }
     {
         OnceCell {
-            value: Value::Shared(Inner::promised(tag)),
+            contents: Contents::Shared(Inner::promised(tag)),
         }
     }
 
@@ -106,9 +106,9 @@ impl<T, V: Fits<T>> OnceCell<T, V> {
         ensures lends { Lends self.now result }
         ensures promise { is_shared self.now ≡ true → IfSome result (λ value. V.fits (about_of self.now) value.now) }
     {
-        match &self.value {
-            Value::Owned(value) => Some(value),
-            Value::Shared(inner) => {
+        match &self.contents {
+            Contents::Owned(value) => Some(value),
+            Contents::Shared(inner) => {
                 let (value, _) = inner.look(&mut inner.record())?;
                 Some(value)
             }
@@ -130,7 +130,7 @@ impl<T, V: Fits<T>> OnceCell<T, V> {
         ensures* writes_back { sem 𝓛 (LendsIf (the_row T.row V.row V.Fits) T.row self.entry result Owned self.old) }
         ensures value { LendsMut self.old result }
     {
-        self.value.get_mut()
+        self.contents.get_mut()
     }
 
     /// The value, if it was set. The cell is then as a new one: empty, with a new record. A queue that
@@ -158,10 +158,10 @@ impl<T, V: Fits<T>> OnceCell<T, V> {
         ensures gives { Gives self result }
         ensures promise { is_shared self ≡ true → IfSome result (V.fits (about_of self)) }
     {
-        let OnceCell { value } = self;
-        match value {
-            Value::Owned(value) => Some(value),
-            Value::Shared(inner) => inner.into_inner(),
+        let OnceCell { contents } = self;
+        match contents {
+            Contents::Owned(value) => Some(value),
+            Contents::Shared(inner) => inner.into_inner(),
         }
     }
 
@@ -170,10 +170,10 @@ impl<T, V: Fits<T>> OnceCell<T, V> {
         requires { told.now.cell ≡ self }
         ensures { result ≡ told.now.value }
     {
-        let OnceCell { value } = self;
-        match value {
-            Value::Owned(value) => value,
-            Value::Shared(inner) => inner.into_value(told.written.as_ref().unwrap()),
+        let OnceCell { contents } = self;
+        match contents {
+            Contents::Owned(value) => value,
+            Contents::Shared(inner) => inner.into_value(told.written.as_ref().unwrap()),
         }
     }
 
@@ -281,12 +281,12 @@ impl<T, V: Fits<T>> OnceCell<T, V> {
         ensures set { IsSome result → IsSetIn self.now token.new.log }
         ensures stays { IsSetIn self.now token.old.log → IsSome result }
     {
-        match (&self.value, &mut token.seen) {
-            (Value::Owned(value), Seen::Owned(knows)) => {
+        match (&self.contents, &mut token.seen) {
+            (Contents::Owned(value), Seen::Owned(knows)) => {
                 *knows = true;
                 Some(value)
             }
-            (Value::Shared(inner), Seen::Shared(record, written)) => {
+            (Contents::Shared(inner), Seen::Shared(record, written)) => {
                 if let Some(written) = written {
                     return Some(inner.value(written));
                 }
@@ -317,7 +317,7 @@ impl<T: Drop, V: Fits<T>> OnceCell<T, V> {
     {
         let value = self.take_as(told);
         let owned = OnceCell {
-            value: Value::Owned(value),
+            contents: Contents::Owned(value),
         };
         drop(mem::replace(self, owned));
     }
@@ -346,13 +346,13 @@ impl<T: fmt::Debug, V: Fits<T>> OnceCell<T, V> {
         name: &str,
         f: &mut fmt::Formatter<W>,
     ) -> fmt::Result {
-        match &self.value {
-            Value::Owned(value) => write!(
+        match &self.contents {
+            Contents::Owned(value) => write!(
                 f,
                 "{name} {{ value: Some({value:?}), \
                 inner: Inner {{ ready: true, quick_init: false, refcount: 0, queue: false }} }}"
             ),
-            Value::Shared(inner) => {
+            Contents::Shared(inner) => {
                 let value = self.get();
                 write!(f, "{name} {{ value: {value:?}, inner: {inner:?} }}")
             }
@@ -368,23 +368,23 @@ impl<T: fmt::Debug, V: Fits<T>> fmt::Debug for OnceCell<T, V> {
 
 /// The value of a cell, if there is one.
 #[derive(Drop)]
-pub(crate) enum Value<T, V: Fits<T> = Anything> {
+pub(crate) enum Contents<T, V: Fits<T> = Anything> {
     /// Put there by whoever had the cell alone. It has no record.
     Owned(T),
     /// In what tasks share. They set it once at most.
     Shared(Inner<T, ListedWaker, V>),
 }
 
-impl<T, V: Fits<T>> Value<T, V> {
-    ghost use Rattle.async_once_cell.specs.contracts.once.Value.{the_row};
+impl<T, V: Fits<T>> Contents<T, V> {
+    ghost use Rattle.async_once_cell.specs.contracts.once.Contents.{the_row};
 
     fn into_owned(self, written: &Written<T>) -> Self
         requires { IsWritten (view_of self) written.now }
         ensures { view_of result ≡ Owned written.now.value }
     {
         match self {
-            Value::Owned(value) => Value::Owned(value),
-            Value::Shared(inner) => Value::Owned(inner.into_value(written)),
+            Contents::Owned(value) => Contents::Owned(value),
+            Contents::Shared(inner) => Contents::Owned(inner.into_value(written)),
         }
     }
 
@@ -393,8 +393,8 @@ impl<T, V: Fits<T>> Value<T, V> {
         ensures { Settled self.old self.new }
     {
         let written = match self {
-            Value::Owned(_) => None,
-            Value::Shared(inner) => inner.witness(),
+            Contents::Owned(_) => None,
+            Contents::Shared(inner) => inner.witness(),
         };
         if let Some(written) = written {
             replace_with(
@@ -416,8 +416,8 @@ impl<T, V: Fits<T>> Value<T, V> {
     {
         self.settle();
         match self {
-            Value::Owned(value) => Some(value),
-            Value::Shared(_) => None,
+            Contents::Owned(value) => Some(value),
+            Contents::Shared(_) => None,
         }
     }
 }

@@ -3,7 +3,7 @@
 use async_once_cell::inner::{MAX_WAITERS, Op, Parts};
 use async_once_cell::queue::{Answer, Lists, NEW};
 use async_once_cell::step::Step;
-use once_world::plain::Core;
+use once_script::plain::Core;
 use std::test::Fail;
 
 // The first one who is listed gets the right, and the next waits.

@@ -5,7 +5,7 @@ ghost use Rattle.std.specs.Prelude.{◌<◌, ◌≤◌, ◌-◌, ◌^◌};
 
 use crate::plain::Rules;
 use once_judge::{Calls, judge};
-use once_world::world::{Call, Entry, Got, Input, Kind, Ran, Reply, replay};
+use once_script::world::{Call, Entry, Got, Input, Kind, Ran, Reply, replay};
 use rand_core::{Rng, SeedableRng};
 use rand_xoshiro::Xoshiro256PlusPlus;
 use std::alloc::{AllocError, Global};

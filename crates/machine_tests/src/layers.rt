@@ -5,7 +5,7 @@ use once_machine::parts::{Counted, Parts, QueueLine};
 use once_machine::step::{Ending, Out, Place, Polled, Progress, Side, Step};
 use once_machine::waiters::{Answer, Lists, Op};
 use once_machine::word::{NEW, QINIT_BIT, READY_BIT};
-use once_world::plain::Core;
+use once_script::plain::Core;
 use std::alloc::Global;
 use std::test::Fail;
 

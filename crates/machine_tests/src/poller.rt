@@ -2,10 +2,11 @@
 ghost use Rattle.std.specs.Prelude.{◌≡◌, IsSome};
 ghost use Rattle.async_once_cell.specs.Inner.Hands.{HasRight, HasRun};
 
+use async_once_cell::inner::{Hand, Pollable};
+use async_once_cell::{Init, InitError};
 use futures::Future;
 use futures::task::{Context, Doorbell, Poll, Queue};
 use once_machine::step::Polled;
-use async_once_cell::inner::{Hand, Pollable, Splits, poll_init};
 use std::alloc::AllocGlobal;
 use std::io;
 use std::random::RandomSource;
@@ -32,21 +33,6 @@ impl Future for Scripted {
 /// An init that answers so.
 pub fn init_that_answers(answer: Polled) -> Pollable<Scripted> {
     Pollable::new(Scripted { answer })
-}
-
-// An output as it is given.
-struct AsGiven;
-
-impl Splits<Result<(), ()>, (), ()> for AsGiven {
-    ghost use Rattle.std.specs.Prelude.{Err, Ok, Some};
-
-    ghost output_of = { λ e. Some (Err e) };
-
-    ghost output_with = { λ v. Some (Ok v) };
-
-    fn split(output: Result<(), ()>) -> Result<(), ()> {
-        output
-    }
 }
 
 /// Polls inits, one at a time, in contexts of a task of its own.
@@ -85,13 +71,13 @@ impl<R: Wait> Poller<'_, R> {
         ensures init { result ≡ Polled.Pending → IsSome init.new }
     {
         let mut cx = self.next();
-        let polled = poll_init::<(), (), Scripted, AsGiven>(init, &mut cx, right);
+        let polled = <Pollable<Scripted> as Init<(), InitError<()>>>::poll_init(init, &mut cx, right);
         let again: Poll<()> = cx.yield_now();
         cx.end(&again);
         match polled {
             Poll::Pending => Polled::Pending,
             Poll::Ready(Ok(())) => Polled::Value,
-            Poll::Ready(Err(())) => Polled::Error,
+            Poll::Ready(Err(_)) => Polled::Error,
         }
     }
 }

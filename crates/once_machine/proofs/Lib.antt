@@ -9,9 +9,9 @@
 --   Rows       worked schedules, computed over the definitions. No clause stands on them
 --   Spoilt     records and logs with one thing wrong are none. No clause stands on them
 --   Shared     what holds of every world to which tasks lead that share a cell
---   Moment     one lemma a moment: the book before one step of one task, and after it. once_parts moves its book so
---   Told       what the book of a cell tells at every moment: `is_run` of once_parts stands on it
--- The clauses of `Step` follow from specs/Table with no lemma. `replay` is in once_world.
+--   Moment     one lemma a moment: the book before one step of one task, and after it. async_once_cell moves its book so
+--   Told       what the book of a cell tells at every moment: `is_run` of async_once_cell stands on it
+-- The clauses of `Step` follow from specs/Table with no lemma. `replay` is in once_script.
 --
 -- The other folders are named after files and functions of src. `Answers` has the proofs of goals that are left open
 -- there, and `Invariants` what a loop keeps. Where an answer has one tactic, it is there only so that an edit that

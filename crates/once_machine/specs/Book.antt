@@ -102,6 +102,6 @@ pub record IsBookOf (limit : ℕ) (w : World) (word has_put : ℕ) (slot : Bool)
 abbrev pub IsBook : ℕ → ℕ → ℕ → Bool → List Page → List Entry → Type 0
 IsBook limit word has_put slot pages log = (w : World) × IsBookOf limit w word has_put slot pages log
 
--- a task, by the name that once_parts uses
+-- a task, by the name that async_once_cell uses
 abbrev pub TaskState : Type 0
 TaskState = Task

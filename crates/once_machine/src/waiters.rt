@@ -237,7 +237,7 @@ impl<W: WakerId + Drop> Lists<W> {
         if let Some(claimed) = self.claim(ticket, word) {
             return claimed;
         }
-        let Ok(mine) = self.make_place(*ticket) else {
+        let Ok(mine) = self.ticket_to_list_by(*ticket) else {
             return (Answer::Memory, None);
         };
         *ticket = Some(mine);
@@ -408,7 +408,7 @@ impl<W: WakerId + Drop> Lists<W> {
 
     // Takes the own listing out, or makes room for one. Answers the ticket to list by.
     #[inline(always)]
-    fn make_place(&mut self, ticket: Option<u64>) -> Result<u64, AllocError>
+    fn ticket_to_list_by(&mut self, ticket: Option<u64>) -> Result<u64, AllocError>
         ensures ticket { IfOk result (λ n. n ≡ ticket_for ticket (listings_of self.old)) }
         ensures listings { IfOk result (λ n. listings_of self.new ≡ take_out n (listings_of self.old)) }
         ensures new { IfOk result (λ n. member n (tickets (listings_of self.new)) ≡ false) }

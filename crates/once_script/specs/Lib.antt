@@ -1,3 +1,7 @@
+pub mod Core
+pub mod Side
+pub mod WorldShown
+pub mod Reached
 pub mod Answer
 pub mod Fault
 pub mod Number

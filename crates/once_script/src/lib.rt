@@ -1,6 +1,8 @@
 //! A script is read and replayed, and its record is printed.
 //!
-//! `parse` reads the text, `play` replays its lines by `once_world`, and `print` writes the record.
+//! `plain` is the machine for one caller, over plain data, and `world` replays inputs on it. `parse` reads the text of
+//! a script, `play` replays its lines by `world`, and `print` writes the record. [`replay`] is the whole program, and
+//! [`world::replay`] the function that has the theorem.
 #![tactic(auto)]
 
 ghost use Rattle.std.specs.Prelude.{◌≡◌, ◌⊎◌};
@@ -10,8 +12,10 @@ ghost use Rattle.once_script.specs.declared.fault.Fault.{Fault};
 
 pub mod fault;
 pub mod parse;
+pub mod plain;
 pub mod play;
 pub mod print;
+pub mod world;
 
 use crate::fault::Fault;
 use crate::parse::{Script, parse_script};

@@ -2,13 +2,13 @@
 ghost use Rattle.std.specs.Prelude.{◌≡◌, ◌<◌, ◌≤◌, ◌-◌, ◌^◌, ◌++◌, ℕ, List, IfOk, OnOk};
 ghost use Rattle.once_machine.specs.Inputs.{Input as MachineInput};
 ghost use Rattle.once_machine.specs.Machine.{history_of, log_of, queue_of};
-ghost use Rattle.once_world.specs.Reached.{IsAfter, IsReached};
+ghost use Rattle.once_script.specs.Reached.{IsAfter, IsReached};
 ghost use Rattle.once_machine.specs.Record.{Kind as MachineKind};
 ghost use Rattle.once_machine.specs.Shown.{kind_of, inputs_in, record_entries, record_lines};
 ghost use Rattle.once_script.specs.Text.{inputs_of, all_inputs};
 
 use crate::parse::{Line, RUN_STEPS};
-use once_world::world::{Kind, Record, World};
+use crate::world::{Kind, Record, World};
 use std::alloc::{AllocError, Global};
 
 /// Replays the lines of a script after the first, which gave the kind and the limit. The record is that

@@ -1,5 +1,5 @@
 //! The text of a record.
-use once_world::world::{Call, Entry, Got, Kind, Ran, Record, Reply};
+use crate::world::{Call, Entry, Got, Kind, Ran, Record, Reply};
 use std::alloc::Global;
 use std::io::{BufWriter, Write};
 use std::{fmt, io};

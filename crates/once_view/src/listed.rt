@@ -4,7 +4,7 @@
 //! to it follows from the entries that it adds, and from where its task stands then.
 use crate::play::Moment;
 use once_machine::step::{Rest, Step};
-use once_world::world::{Entry, Reply};
+use once_script::world::{Entry, Reply};
 use std::alloc::{AllocError, Global};
 use std::collections::{BTreeMap, BTreeSet};
 

@@ -4,7 +4,7 @@ use crate::play::{Moment, Watcher, play};
 use crate::range::LineRange;
 use crate::reading::{Script, TextLine};
 use once_script::print::call_word;
-use once_world::world::{Call, Entry, Kind, Reply};
+use once_script::world::{Call, Entry, Kind, Reply};
 use std::alloc::{AllocError, Global};
 use std::io;
 use std::io::Write;

@@ -1,13 +1,13 @@
 //! Plays a script line by line, and shows a watcher each line with what it did.
 ghost use Rattle.std.specs.Prelude.{OnOk};
-ghost use Rattle.once_world.specs.Reached.{IsReached};
+ghost use Rattle.once_script.specs.Reached.{IsReached};
 
 use crate::reading::{Script, ScriptLine, TextLine};
 use once_machine::step::Step;
 use once_script::parse::{Line, Opening};
 use once_script::play::take_line;
 use once_script::print::call_word;
-use once_world::world::{Call, Entry, Input, Kind, World};
+use once_script::world::{Call, Entry, Input, Kind, World};
 use std::alloc::{AllocError, Global};
 use std::fmt;
 

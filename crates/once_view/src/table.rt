@@ -3,7 +3,7 @@ use crate::listed::Listed;
 use crate::play::{Moment, Watcher, play};
 use crate::range::LineRange;
 use crate::reading::Script;
-use once_world::world::Entry;
+use once_script::world::Entry;
 use std::alloc::{AllocError, Global};
 use std::collections::BTreeMap;
 use std::io;

@@ -31,7 +31,7 @@ use std::sync::Wait;
 
 /// What a task does under the lock.
 #[derive(Drop)]
-pub(crate) enum Section {
+pub(super) enum Section {
     /// Comes to its queue, which stands at the door.
     Stand,
     /// Looks at the door.
@@ -113,7 +113,7 @@ impl<W: TaskWaker + Drop> Desk<W> {
             note(&mut self.pens, hand, &Section::Found);
             return Some(queue);
         }
-        put(has_put, &mut self.pens, hand);
+        mark_put(has_put, &mut self.pens, hand);
         self.lists = Some(queue);
         None
     }
@@ -226,8 +226,8 @@ impl<W: TaskWaker + Drop> Desk<W> {
             unreachable!()
         };
         let lists = &mut **queue;
-        let more = given_back(ready, lists.head);
-        release(word, &mut self.pens, hand, ready, more);
+        let more = word_to_add(ready, lists.head);
+        mark_release(word, &mut self.pens, hand, ready, more);
         lists.release(ready)
     }
 
@@ -273,7 +273,7 @@ fn drop_queue<W: TaskWaker + Drop>(queue: Box<Lists<W>>) {
 
 // What a release adds to the word. The sum may wrap round.
 #[inline(always)]
-fn given_back(ready: bool, head: bool) -> u64
+fn word_to_add(ready: bool, head: bool) -> u64
     ensures { result ≡ more_released ready head }
 {
     match (ready, head) {
@@ -355,7 +355,7 @@ fn see(word: &CellWord, desk: &mut CellPens, hand: &mut Hand, room: bool) -> u64
 }
 
 #[inline(always)]
-fn put(has_put: &CellWord, desk: &mut CellPens, hand: &mut Hand)
+fn mark_put(has_put: &CellWord, desk: &mut CellPens, hand: &mut Hand)
     requires word { IsWord has_put.now hand.old.seen.book 1 }
     requires book { desk.old.book ≡ hand.old.seen.book }
     requires desk { IsDesk desk.old.held }
@@ -372,7 +372,7 @@ fn put(has_put: &CellWord, desk: &mut CellPens, hand: &mut Hand)
 }
 
 #[inline(always)]
-fn release(word: &CellWord, desk: &mut CellPens, hand: &mut Hand, ready: bool, more: u64)
+fn mark_release(word: &CellWord, desk: &mut CellPens, hand: &mut Hand, ready: bool, more: u64)
     requires word { IsWord word.now hand.old.seen.book 0 }
     requires book { desk.old.book ≡ hand.old.seen.book }
     requires desk { IsDesk desk.old.held }
@@ -392,7 +392,7 @@ fn release(word: &CellWord, desk: &mut CellPens, hand: &mut Hand, ready: bool, m
 
 impl<T, W: TaskWaker + Drop, V: Fits<T>> Inner<T, W, V> {
     #[inline(always)]
-    pub(crate) fn got<J: Key, R: Wait>(&self, rt: &R, hand: &mut Hand) -> bool
+    pub(super) fn got<J: Key, R: Wait>(&self, rt: &R, hand: &mut Hand) -> bool
         requires key { self.now.desk ≡ J.key }
         requires book { hand.old.seen.book ≡ J.key }
         requires can { call_in (own_of hand.old).task.step ≡ DoorGet }
@@ -404,7 +404,7 @@ impl<T, W: TaskWaker + Drop, V: Fits<T>> Inner<T, W, V> {
 
     // If a queue stood there, this comes back.
     #[inline(always)]
-    pub(crate) fn put<J: Key, R: Wait>(
+    pub(super) fn put<J: Key, R: Wait>(
         &self,
         rt: &R,
         hand: &mut Hand,
@@ -424,7 +424,7 @@ impl<T, W: TaskWaker + Drop, V: Fits<T>> Inner<T, W, V> {
     }
 
     #[inline(never)]
-    pub(crate) fn taken<J: Key, R: Wait>(&self, rt: &R, hand: &mut Hand) -> Option<Box<Lists<W>>>
+    pub(super) fn taken<J: Key, R: Wait>(&self, rt: &R, hand: &mut Hand) -> Option<Box<Lists<W>>>
         requires key { self.now.desk ≡ J.key }
         requires book { hand.old.seen.book ≡ J.key }
         requires can { call_in (own_of hand.old).task.step ≡ DoorTake }
@@ -436,7 +436,7 @@ impl<T, W: TaskWaker + Drop, V: Fits<T>> Inner<T, W, V> {
 
     // Answers the waker that it took out of the list and hands to nobody, too.
     #[inline(always)]
-    pub(crate) fn entered<J: Key, R: Wait>(
+    pub(super) fn entered<J: Key, R: Wait>(
         &self,
         rt: &R,
         hand: &mut Hand,
@@ -464,7 +464,7 @@ impl<T, W: TaskWaker + Drop, V: Fits<T>> Inner<T, W, V> {
     }
 
     // Whether a queue stands at the door, if the lock is free.
-    pub(crate) fn stands<J: Key>(&self) -> Option<bool>
+    pub(super) fn stands<J: Key>(&self) -> Option<bool>
         requires { self.now.desk ≡ J.key }
     {
         let tied = self.desk.try_lock::<J>()?;

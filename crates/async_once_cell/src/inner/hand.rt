@@ -83,9 +83,9 @@ impl Mark {
 /// What a task has of its cell's book. It has no bytes.
 #[derive(Drop)]
 pub struct Hand {
-    pub(crate) seen: Record,
+    pub(super) seen: Record,
     // Whoever has the pen may turn the page, so nobody outside of this crate has it.
-    pub(crate) pens: CellPens,
+    pub(super) pens: CellPens,
     pub ghost book_is: { pens.book ≡ seen.book },
     pub ghost is_hand: { IsHand seen.log pens.held },
 }
@@ -150,7 +150,7 @@ impl Hand {
 
     // Called by whoever polled the init: see `poll_init`.
     #[inline(always)]
-    pub(crate) fn ran(&mut self, answer: Polled)
+    pub(super) fn ran(&mut self, answer: Polled)
         requires right { HasRight self.old }
         ensures ran { HasRun self.old answer self.new }
     {

@@ -31,13 +31,13 @@ use std::fmt;
 use std::marker::Brand;
 use std::sync::Wait;
 
-pub(crate) struct Writes;
+pub(super) struct Writes;
 
 impl Play<(), Line, Leaf> for Writes {
     ghost then = { λ _ v n w. Wrote v w };
 }
 
-pub(crate) struct Puts;
+pub(super) struct Puts;
 
 impl Play<(), Line, Leaf> for Puts {
     ghost then = { λ _ v n w. HasPut v w };
@@ -47,12 +47,12 @@ impl Play<(), Line, Leaf> for Puts {
 /// one lock the door with the queue. `V` says what is promised of the value.
 #[derive(Drop)]
 pub struct Inner<T, W: TaskWaker, V: Fits<T> = Anything> {
-    pub(crate) word: CellWord,
-    pub(crate) has_put: CellWord,
-    pub(crate) slot: CellSlot<T, V>,
+    pub(super) word: CellWord,
+    pub(super) has_put: CellWord,
+    pub(super) slot: CellSlot<T, V>,
     // What each new task has seen of the log.
-    pub(crate) front: Record,
-    pub(crate) desk: KeyedMutex<Desk<W>>,
+    pub(super) front: Record,
+    pub(super) desk: KeyedMutex<Desk<W>>,
     ghost word_is: { IsWord word front.book 0 },
     ghost put_is: { IsWord has_put front.book 1 },
     ghost slot_is: { (slot.book ≡ front.book) × (slot.key ≡ 2) },
@@ -259,11 +259,11 @@ unsafe impl<T: Send + Sync, W: TaskWaker + Send, V: Fits<T>> Sync for Inner<T, W
 /// What the tasks of a cell share, as one task uses it that has a page in the book.
 #[derive(Drop)]
 pub struct Shared<'a, 'r, T, W: TaskWaker, R, V: Fits<T> = Anything> {
-    pub(crate) inner: &'a Inner<T, W, V>,
-    pub(crate) rt: &'r R,
-    pub(crate) hand: Hand,
+    pub(super) inner: &'a Inner<T, W, V>,
+    pub(super) rt: &'r R,
+    pub(super) hand: Hand,
     // Where the next call of a `Task` begins. Whoever makes single steps keeps that by itself.
-    pub(crate) idle: Idle,
+    pub(super) idle: Idle,
     ghost fits: { hand.seen.book ≡ inner.now.front.book },
 }
 
@@ -322,7 +322,7 @@ impl<'a, 'r, T, W: TaskWaker, R, V: Fits<T>> Shared<'a, 'r, T, W, R, V> {
 
     // Puts the value, which nothing can refuse.
     #[inline(always)]
-    pub(crate) fn put_value(&mut self, value: T) -> Written<T>
+    pub(super) fn put_value(&mut self, value: T) -> Written<T>
         requires can { call_in (own self.old).task.step ≡ Put }
         requires fits { V.fits (cell_of self.old).about value }
         ensures cell { cell_of self.new ≡ cell_of self.old }
@@ -485,7 +485,7 @@ fn freed(ready: bool) -> u64
 
 impl<T, W: TaskWaker, V: Fits<T>> Inner<T, W, V> {
     #[inline(always)]
-    pub(crate) fn loaded(&self, hand: &mut Hand) -> u64
+    pub(super) fn loaded(&self, hand: &mut Hand) -> u64
         requires book { hand.old.seen.book ≡ self.now.front.book }
         requires can { call_in (own_of hand.old).task.step ≡ Load }
         ensures book { hand.new.seen.book ≡ hand.old.seen.book }
@@ -497,7 +497,7 @@ impl<T, W: TaskWaker, V: Fits<T>> Inner<T, W, V> {
 
     /// Tries again while others change the word between the load and the exchange.
     #[inline(always)]
-    pub(crate) fn counted<R: Wait>(&self, rt: &R, hand: &mut Hand) -> Counted
+    pub(super) fn counted<R: Wait>(&self, rt: &R, hand: &mut Hand) -> Counted
         requires book { hand.old.seen.book ≡ self.now.front.book }
         requires can { call_in (own_of hand.old).task.step ≡ CountIn }
         ensures book { hand.new.seen.book ≡ hand.old.seen.book }

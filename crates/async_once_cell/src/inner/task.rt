@@ -1,5 +1,5 @@
 //! A task of a cell, with its whole polls and drops: its side and init, what it keeps between two calls, and its steps.
-ghost use Rattle.std.specs.Prelude.{◌≡◌, ◌≢◌, ◌<◌, ℕ, true, false, List, [], ◌∷◌, IfErr, IfOk, IsSome, Option, Some};
+ghost use Rattle.std.specs.Prelude.{◌≡◌, ◌≢◌, ◌<◌, ℕ, true, false, List, [], ◌∷◌, IsSomeAnd};
 ghost use mathlib.Core.List.{IsPrefix};
 ghost use Rattle.once_machine.specs.Record.{DropBegin, DropEnd, Entry, Made};
 ghost use Rattle.async_once_cell.specs.Kept.{Grew, entries_of};
@@ -11,15 +11,12 @@ ghost use Rattle.async_once_cell.specs.Walks.{IsCall, Spans, StandsOn, end_of, h
 ghost use Rattle.once_machine.specs.Steps.{in_call, is_resting};
 ghost use Rattle.async_once_cell.specs.Inner.Sides.{GivesFit, IsReady, IsTold, Sided};
 ghost use Rattle.async_once_cell.specs.Inner.Named.{KeepsOwner};
-ghost use Rattle.async_once_cell.specs.Inner.Hands.{HasRight, HasRun};
-ghost use Rattle.async_once_cell.specs.Inits.{MayGive, StandsFor, polled_in};
-ghost use Rattle.futures.specs.Poll.{IfReady, OnPending};
-ghost use Rattle.futures.specs.Task.{IsArmed, Keeps};
 ghost use Rattle.async_once_cell.specs.Inner.Tasks.{TaskView, HasPolled};
 
 use super::book::{CellSlot, Record};
 use super::hand::{Hand, Mark, TaskWaker};
 use super::shared::{Inner, Shared};
+use crate::init::{Failed, Failure, Gives, Init, Yields};
 use boxcar::tag::{Names, Tag};
 use futures::Future;
 use futures::task::{Context, Poll};
@@ -69,19 +66,6 @@ pub trait TaskSide<W: TaskWaker>: Side<W, Right = Hand> + Renews<W> {
     ghost slot_on: { (s t : Self) → Self.stays s t → (n : ℕ) → has_slot s n → has_slot t n };
 }
 
-/// How what an init gives is told apart: the value, or an error as its task tells it.
-pub trait Splits<O, T, E> {
-    // The output for which this error or value stands, if it stands for one.
-    ghost output_of: { E → Option O };
-
-    ghost output_with: { T → Option O };
-
-    /// The one or the other.
-    fn split(output: O) -> Result<T, E>
-        ensures error { IfErr result (λ e. output_of e ≡ Some output) }
-        ensures value { IfOk result (λ v. output_with v ≡ Some output) };
-}
-
 /// A future that may be polled, by a task that has the right alone. A clause sees the future.
 #[derive(Drop)]
 pub struct Pollable<F: Future> {
@@ -116,53 +100,47 @@ impl<F: Future> Pollable<F> {
     }
 }
 
-/// Polls the init of the task whose hand this is, which has the right, and writes its answer into the record. The box
-/// is kept if the init is Pending. An init that is left may give no other output than before.
-#[inline(always)]
-pub fn poll_init<T, E, F, G>(
-    init: &mut Option<Pollable<F>>,
-    cx: &mut Context<'_>,
-    right: &mut Hand,
-) -> Poll<Result<T, E>>
-where
-    F: Future,
-    G: Splits<F::Output, T, E>,
-    requires init { IsSome init.old }
-    requires right { HasRight right.old }
-    ensures ran { HasRun right.old (polled_in result) right.new }
-    ensures init { OnPending result (IsSome init.new) }
-    ensures own { IfReady result (λ a. IfErr a (StandsFor F.gives G.output_of init.old)) }
-    ensures given { IfReady result (λ a. IfOk a (StandsFor F.gives G.output_with init.old)) }
-    ensures same { (o : F.Output) → MayGive F.gives init.new o → MayGive F.gives init.old o }
-    ensures armed { OnPending result (IsArmed cx.new) }
-    ensures kept { Keeps cx.old cx.new }
-{
-    let Some(pollable) = init.take() else {
-        unreachable!()
-    };
-    let Pollable { mut future } = pollable;
-    match future.poll(cx) {
-        Poll::Pending => {
-            *init = Some(Pollable::new(future));
-            right.ran(Polled::Pending);
-            Poll::Pending
+impl<T, X: Failure, F: Future<Output: Gives<T, X>>> Yields<T, X> for Pollable<F> {
+    ghost may_give = { λ f v. IsSomeAnd (F.Output.given_with v) (F.gives f) };
+}
+
+/// An init of the task's own. It is polled here alone, where the answer is written into the record.
+impl<T, X: Failure, F: Future<Output: Gives<T, X>>> Init<T, X> for Pollable<F> {
+    ghost may_fail = { λ f x. IsSomeAnd (F.Output.given_as x) (F.gives f) };
+
+    #[inline(always)]
+    fn poll_init(
+        init: &mut Option<Self>,
+        cx: &mut Context<'_>,
+        right: &mut Hand,
+    ) -> Poll<Result<T, Failed<X>>> {
+        let Some(pollable) = init.take() else {
+            unreachable!()
+        };
+        let Pollable { mut future } = pollable;
+        match future.poll(cx) {
+            Poll::Pending => {
+                *init = Some(Pollable::new(future));
+                right.ran(Polled::Pending);
+                Poll::Pending
+            }
+            Poll::Ready(output) => match output.given() {
+                Ok(value) => {
+                    right.ran(Polled::Value);
+                    Poll::Ready(Ok(value))
+                }
+                Err(error) => {
+                    right.ran(Polled::Error);
+                    Poll::Ready(Err(Failed { error }))
+                }
+            },
         }
-        Poll::Ready(output) => match G::split(output) {
-            Ok(value) => {
-                right.ran(Polled::Value);
-                Poll::Ready(Ok(value))
-            }
-            Err(error) => {
-                right.ran(Polled::Error);
-                Poll::Ready(Err(error))
-            }
-        },
     }
 }
 
 /// Where the next call of a task begins, if there is to be one. It has fewer bytes than the step of a call.
 #[derive(Clone, Copy)]
-pub(crate) enum Idle {
+pub(super) enum Idle {
     New,
     /// It waits, and its listing has this ticket.
     Listed(u64),
@@ -177,7 +155,7 @@ pub(crate) enum Idle {
 
 impl Idle {
     #[inline(always)]
-    pub(crate) fn of<W: Drop>(step: Step<W, ()>) -> Idle
+    pub(super) fn of<W: Drop>(step: Step<W, ()>) -> Idle
         requires over { in_call step ≡ false }
         ensures is { step_of result ≡ step }
     {
@@ -193,7 +171,7 @@ impl Idle {
     }
 
     #[inline(always)]
-    pub(crate) fn step<W: Drop>(&self) -> Step<W, ()>
+    pub(super) fn step<W: Drop>(&self) -> Step<W, ()>
         ensures is { result ≡ step_of self.now }
         ensures rests { is_over self.now ≡ false → is_resting result ≡ true }
     {
@@ -362,7 +340,7 @@ impl<'a, 'r, T, W: TaskWaker + Drop, R: Wait + AllocGlobal, V: Fits<T>> Task<'a,
     pub fn poll<S: TaskSide<W, Value = T>>(&mut self, side: &mut S) -> Ending
         requires live { self.old.finished ≡ false }
         requires number { (S.state side.old).number ≡ self.old.number }
-        requires none { (S.state side.old).woke ≡ [] }
+        requires nobody_woken { (S.state side.old).woke ≡ [] }
         requires init { IsReady (S.state side.old) }
         requires fits { GivesFit S.hands S.has_slot V.fits side.old self.old.cell }
         ensures cell { self.new.cell ≡ self.old.cell }
@@ -379,7 +357,7 @@ impl<'a, 'r, T, W: TaskWaker + Drop, R: Wait + AllocGlobal, V: Fits<T>> Task<'a,
     fn poll_steps<S: TaskSide<W, Value = T>>(&mut self, side: &mut S) -> Ending
         requires live { self.old.finished ≡ false }
         requires number { (S.state side.old).number ≡ self.old.number }
-        requires none { (S.state side.old).woke ≡ [] }
+        requires nobody_woken { (S.state side.old).woke ≡ [] }
         requires init { IsReady (S.state side.old) }
         requires fits { GivesFit S.hands S.has_slot V.fits side.old self.old.cell }
         ensures cell { self.new.cell ≡ self.old.cell }
@@ -406,7 +384,7 @@ impl<'a, 'r, T, W: TaskWaker + Drop, R: Wait + AllocGlobal, V: Fits<T>> Task<'a,
     pub fn leave<S: TaskSide<W, Value = T>>(&mut self, side: &mut S)
         requires live { self.old.finished ≡ false }
         requires number { (S.state side.old).number ≡ self.old.number }
-        requires none { (S.state side.old).woke ≡ [] }
+        requires nobody_woken { (S.state side.old).woke ≡ [] }
         requires fits { GivesFit S.hands S.has_slot V.fits side.old self.old.cell }
         ensures cell { self.new.cell ≡ self.old.cell }
         ensures number { self.new.number ≡ self.old.number }

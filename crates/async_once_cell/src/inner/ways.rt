@@ -39,7 +39,7 @@ use std::mem;
 use std::sync::Wait;
 
 /// How far a poll came under the lock.
-pub(crate) enum Reached {
+pub(super) enum Reached {
     /// No queue stands at the door, so the task is to bring one.
     NoQueue,
     /// The value is set: the init is to be closed, and the task counts out.
@@ -56,21 +56,21 @@ pub(crate) enum Reached {
 
 /// The task's own wakers that were taken under the lock. They lie with whoever took it, and are let go when that ends.
 #[derive(Drop)]
-pub(crate) struct Spent<W> {
+pub(super) struct Spent<W> {
     taken: Option<W>,
     copy: Option<W>,
 }
 
 impl<W: Drop> Spent<W> {
     #[inline(always)]
-    pub(crate) fn keep(place: &mut Option<Self>, taken: Option<W>, copy: Option<W>) {
+    pub(super) fn keep(place: &mut Option<Self>, taken: Option<W>, copy: Option<W>) {
         mem::forget(mem::replace(place, Some(Spent { taken, copy })));
     }
 }
 
 impl<T, W: TaskWaker + Drop, R: Wait + AllocGlobal, V: Fits<T>> Shared<'_, '_, T, W, R, V> {
     #[inline(always)]
-    pub(crate) fn at_start<S: TaskSide<W, Value = T>>(&mut self, side: &mut S) -> Ending
+    pub(super) fn at_start<S: TaskSide<W, Value = T>>(&mut self, side: &mut S) -> Ending
         requires stands { IsAt W.whose S.state Place.Start self.old side.old }
         requires fits { GivesFit S.hands S.has_slot V.fits side.old (cell_of self.old) }
         ensures { Polls W.whose S.state S.stays self.old side.old result self.new.idle self.new side.new }
@@ -100,7 +100,7 @@ impl<T, W: TaskWaker + Drop, R: Wait + AllocGlobal, V: Fits<T>> Shared<'_, '_, T
     }
 
     #[inline(never)]
-    pub(crate) fn later<S: TaskSide<W, Value = T>>(&mut self, idle: Idle, side: &mut S) -> Ending
+    pub(super) fn later<S: TaskSide<W, Value = T>>(&mut self, idle: Idle, side: &mut S) -> Ending
         requires live { is_over idle ≡ false }
         requires stands { IsBegun W.whose S.state idle self.old side.old }
         requires fits { GivesFit S.hands S.has_slot V.fits side.old (cell_of self.old) }
@@ -116,7 +116,7 @@ impl<T, W: TaskWaker + Drop, R: Wait + AllocGlobal, V: Fits<T>> Shared<'_, '_, T
     }
 
     #[inline(never)]
-    pub(crate) fn by_machine<S: TaskSide<W, Value = T>>(
+    pub(super) fn by_machine<S: TaskSide<W, Value = T>>(
         &mut self,
         idle: Idle,
         side: &mut S,
@@ -149,7 +149,7 @@ impl<T, W: TaskWaker + Drop, R: Wait + AllocGlobal, V: Fits<T>> Shared<'_, '_, T
 
     /// Makes the steps that are left of a poll or a drop, sixteen at most.
     #[inline(always)]
-    pub(crate) fn go_on<S: TaskSide<W, Value = T>>(
+    pub(super) fn go_on<S: TaskSide<W, Value = T>>(
         &mut self,
         step: &mut Step<W, ()>,
         side: &mut S,
@@ -291,7 +291,7 @@ impl<T, W: TaskWaker + Drop, R: Wait + AllocGlobal, V: Fits<T>> Shared<'_, '_, T
 
     /// Puts the value that the side hands over, and has the side keep what shows it.
     #[inline(always)]
-    pub(crate) fn put_from<S: TaskSide<W, Value = T>>(&mut self, side: &mut S)
+    pub(super) fn put_from<S: TaskSide<W, Value = T>>(&mut self, side: &mut S)
         requires can { call_in (own self.old).task.step ≡ Put }
         requires value { (S.state side.old).has_value ≡ true }
         requires fits { GivesFit S.hands S.has_slot V.fits side.old (cell_of self.old) }
@@ -346,7 +346,7 @@ impl<T, W: TaskWaker + Drop, R: Wait + AllocGlobal, V: Fits<T>> Shared<'_, '_, T
         self.add_one();
         match self
             .inner
-            .released_again::<Brand, R, S>(self.rt, &mut self.hand, ending, side)
+            .lock_at_add_one::<Brand, R, S>(self.rt, &mut self.hand, ending, side)
         {
             Some(out) => {
                 side.wake(out);
@@ -363,7 +363,7 @@ impl<T, W: TaskWaker + Drop, R: Wait + AllocGlobal, V: Fits<T>> Shared<'_, '_, T
     {
         let out = self
             .inner
-            .released::<Brand, R>(self.rt, &mut self.hand, ending.is_value());
+            .lock_at_release::<Brand, R>(self.rt, &mut self.hand, ending.is_value());
         side.wake(out);
         self.at_count_out(ending, side)
     }
@@ -395,7 +395,7 @@ impl<T, W: TaskWaker + Drop, R: Wait + AllocGlobal, V: Fits<T>> Shared<'_, '_, T
 
 impl<T, W: TaskWaker + Drop, V: Fits<T>> Inner<T, W, V> {
     #[inline(always)]
-    fn released<J: Key, R: Wait>(&self, rt: &R, hand: &mut Hand, ready: bool) -> Out<W>
+    fn lock_at_release<J: Key, R: Wait>(&self, rt: &R, hand: &mut Hand, ready: bool) -> Out<W>
         requires key { self.now.desk ≡ J.key }
         requires book { hand.old.seen.book ≡ J.key }
         requires can { CanCall W.whose (own_of hand.old).task.step (Section tt (Op.Release ready)) }
@@ -409,7 +409,7 @@ impl<T, W: TaskWaker + Drop, V: Fits<T>> Inner<T, W, V> {
 
     // The second look at the door, and the release in the same hold of the lock, if a queue stands there.
     #[inline(always)]
-    fn released_again<J: Key, R: Wait, S: TaskSide<W, Value = T>>(
+    fn lock_at_add_one<J: Key, R: Wait, S: TaskSide<W, Value = T>>(
         &self,
         rt: &R,
         hand: &mut Hand,

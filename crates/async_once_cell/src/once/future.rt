@@ -16,12 +16,12 @@ ghost use Rattle.once_machine.specs.Called.{SomebodyCalled};
 ghost use Rattle.async_once_cell.specs.Kept.{entries_of, most};
 ghost use Rattle.async_once_cell.specs.Walks.{end_of};
 ghost use Rattle.async_once_cell.specs.Record.{IsSet, PollsOnce, WasFilled};
-ghost use Rattle.async_once_cell.specs.Futures.{IsAsked, KeepsPromise, view_of_future};
+ghost use Rattle.async_once_cell.specs.Futures.{IsOfCell, KeepsPromise, view_of_future};
 
 use super::known::Seen;
-use super::{Known, OnceCell, Value};
+use super::{Known, OnceCell, Contents};
 use crate::init::{Failure, Init, InitError, Refused, Yields};
-use crate::waiting::{Shown, Waiting};
+use crate::attempt::{Shown, Attempt};
 use futures::Future;
 use futures::task::{Context, Poll};
 use crate::inner::book::is_run;
@@ -33,13 +33,13 @@ use std::marker::{Model, PhantomData};
 use std::sync::Wait;
 
 #[derive(Drop)]
-enum Asked<'a, T, I: Drop, R: Wait + AllocGlobal, V: Fits<T> = Anything> {
+enum FutureState<'a, T, I: Drop, R: Wait + AllocGlobal, V: Fits<T> = Anything> {
     // A cell with its owner's value: the next poll drops the init and answers that value.
     Owned(&'a R, I),
     Answered(&'a R),
     Left(&'a R),
     // A cell that tasks share, of which the future is one.
-    Shared(Waiting<'a, T, I, R, V>),
+    Shared(Attempt<'a, T, I, R, V>),
 }
 
 /// Future of [`OnceCell::get_or_init`]. Its init gives the value.
@@ -70,17 +70,17 @@ pub type TryInitFuture<'a, T, E, F, R, V = Anything> = Initializing<
 pub struct Initializing<'a, T, X, I: Yields<T, X>, R: Wait + AllocGlobal, V: Fits<T> = Anything> {
     failure: PhantomData<X>,
     pub(super) cell: &'a OnceCell<T, V>,
-    asked: Asked<'a, T, I, R, V>,
+    state: FutureState<'a, T, I, R, V>,
 }
 
 impl<'a, T, X, I: Yields<T, X>, R: Wait + AllocGlobal, V: Fits<T>> Model
     for Initializing<'a, T, X, I, R, V> {
     ghost Value = { FutureView T I };
 
-    ghost view = { λ f. view_of_future f.cell.now f.asked };
+    ghost view = { λ f. view_of_future f.cell.now f.state };
 
-    ghost invariant = { λ f. IsAsked f.cell.now f.asked
-        × KeepsPromise I.may_give V.fits (view_of_future f.cell.now f.asked) };
+    ghost invariant = { λ f. IsOfCell f.cell.now f.state
+        × KeepsPromise I.may_give V.fits (view_of_future f.cell.now f.state) };
 }
 
 impl<'a, T, X, I: Yields<T, X>, R: Wait + AllocGlobal, V: Fits<T>> Initializing<'a, T, X, I, R, V> {
@@ -93,25 +93,25 @@ impl<'a, T, X, I: Yields<T, X>, R: Wait + AllocGlobal, V: Fits<T>> Initializing<
         ensures init { result.init ≡ Some init }
     {
         // Each arm makes a whole future, so that the compiler writes its fields once.
-        match &cell.value {
-            Value::Owned(_) => Initializing {
+        match &cell.contents {
+            Contents::Owned(_) => Initializing {
                 failure: PhantomData,
                 cell,
-                asked: Asked::Owned(rt, init),
+                state: FutureState::Owned(rt, init),
             },
-            Value::Shared(inner) => Initializing {
+            Contents::Shared(inner) => Initializing {
                 failure: PhantomData,
                 cell,
-                asked: Asked::Shared(Waiting::new(inner, rt, init)),
+                state: FutureState::Shared(Attempt::new(inner, rt, init)),
             },
         }
     }
 
     #[inline(always)]
     pub(super) fn rt(&self) -> &'a R {
-        match &self.asked {
-            Asked::Owned(rt, _) | Asked::Answered(rt) | Asked::Left(rt) => rt,
-            Asked::Shared(waiting) => waiting.task.rt(),
+        match &self.state {
+            FutureState::Owned(rt, _) | FutureState::Answered(rt) | FutureState::Left(rt) => rt,
+            FutureState::Shared(attempt) => attempt.task.rt(),
         }
     }
 
@@ -127,10 +127,10 @@ impl<'a, T, X, I: Yields<T, X>, R: Wait + AllocGlobal, V: Fits<T>> Initializing<
     pub fn is_finished(&self) -> bool
         ensures { result ≡ self.now.finished }
     {
-        match &self.asked {
-            Asked::Owned(_, _) => false,
-            Asked::Answered(_) | Asked::Left(_) => true,
-            Asked::Shared(waiting) => waiting.task.is_finished(),
+        match &self.state {
+            FutureState::Owned(_, _) => false,
+            FutureState::Answered(_) | FutureState::Left(_) => true,
+            FutureState::Shared(attempt) => attempt.task.is_finished(),
         }
     }
 
@@ -139,10 +139,10 @@ impl<'a, T, X, I: Yields<T, X>, R: Wait + AllocGlobal, V: Fits<T>> Initializing<
         ensures value { known_of self.now.cell result ≡ self.now.value }
         ensures log { log_of result ≡ self.now.log }
     {
-        match &self.asked {
-            Asked::Owned(_, _) | Asked::Left(_) => Seen::Owned(false),
-            Asked::Answered(_) => Seen::Owned(true),
-            Asked::Shared(waiting) => Seen::Shared(waiting.task.record(), waiting.written()),
+        match &self.state {
+            FutureState::Owned(_, _) | FutureState::Left(_) => Seen::Owned(false),
+            FutureState::Answered(_) => Seen::Owned(true),
+            FutureState::Shared(attempt) => Seen::Shared(attempt.task.record(), attempt.written()),
         }
     }
 
@@ -205,9 +205,9 @@ impl<'a, T, X, I: Yields<T, X>, R: Wait + AllocGlobal, V: Fits<T>> Initializing<
         ensures own_set { IsSetIn self.old.cell self.old.log → IsSetIn self.new.cell self.new.log }
         ensures other_set { IsSetIn token.now.cell token.now.log → IsSetIn self.new.cell self.new.log }
     {
-        match (&mut self.asked, &token.seen) {
-            (Asked::Shared(waiting), Seen::Shared(record, _)) => waiting.task.learn(record),
-            (Asked::Owned(_, _) | Asked::Answered(_) | Asked::Left(_), Seen::Owned(_)) => {}
+        match (&mut self.state, &token.seen) {
+            (FutureState::Shared(attempt), Seen::Shared(record, _)) => attempt.task.learn(record),
+            (FutureState::Owned(_, _) | FutureState::Answered(_) | FutureState::Left(_), Seen::Owned(_)) => {}
             _ => unreachable!(),
         }
     }
@@ -226,7 +226,7 @@ impl<'a, T, X, I: Yields<T, X>, R: Wait + AllocGlobal, V: Fits<T>> Initializing<
         ensures other { b.new ≡ b.old }
         ensures two { is_shared a.old.cell ≡ true → a.new.task ≢ b.new.task }
     {
-        if let (Asked::Shared(one), Asked::Shared(other)) = (&mut a.asked, &mut b.asked) {
+        if let (FutureState::Shared(one), FutureState::Shared(other)) = (&mut a.state, &mut b.state) {
             Task::are_two(&mut one.task, &mut other.task);
         }
     }
@@ -247,10 +247,10 @@ impl<'a, T, X, I: Yields<T, X>, R: Wait + AllocGlobal, V: Fits<T>> Initializing<
         ensures init { self.new.init ≡ None }
         ensures value { self.new.value ≡ None }
     {
-        match &mut self.asked {
-            Asked::Shared(waiting) => waiting.leave(),
-            Asked::Owned(rt, _) => self.asked = Asked::Left(*rt),
-            Asked::Left(_) | Asked::Answered(_) => unreachable!(),
+        match &mut self.state {
+            FutureState::Shared(attempt) => attempt.leave(),
+            FutureState::Owned(rt, _) => self.state = FutureState::Left(*rt),
+            FutureState::Left(_) | FutureState::Answered(_) => unreachable!(),
         }
     }
 
@@ -262,12 +262,12 @@ impl<'a, T, X, I: Yields<T, X>, R: Wait + AllocGlobal, V: Fits<T>> Initializing<
         ensures left { HasLeft self.old self.new }
         ensures value { self.new.value ≡ token.now.value }
     {
-        match (&mut self.asked, &token.seen) {
-            (Asked::Shared(waiting), Seen::Shared(_, Some(written))) => {
-                waiting.leave();
-                waiting.shown = Some(Shown(written.again(), []));
+        match (&mut self.state, &token.seen) {
+            (FutureState::Shared(attempt), Seen::Shared(_, Some(written))) => {
+                attempt.leave();
+                attempt.shown = Some(Shown(written.again(), []));
             }
-            (Asked::Owned(rt, _), Seen::Owned(true)) => self.asked = Asked::Answered(*rt),
+            (FutureState::Owned(rt, _), Seen::Owned(true)) => self.state = FutureState::Answered(*rt),
             _ => unreachable!(),
         }
     }
@@ -305,10 +305,10 @@ where
         ensures same_values { GivesNoOther I.may_give self.old.init self.new.init }
     {
         let cell = self.cell;
-        match (&mut self.asked, &cell.value) {
-            (Asked::Shared(waiting), _) => waiting.poll(cx),
-            (Asked::Owned(rt, _), Value::Owned(value)) => {
-                self.asked = Asked::Answered(*rt);
+        match (&mut self.state, &cell.contents) {
+            (FutureState::Shared(attempt), _) => attempt.poll(cx),
+            (FutureState::Owned(rt, _), Contents::Owned(value)) => {
+                self.state = FutureState::Answered(*rt);
                 Poll::Ready(Ok(value))
             }
             _ => unreachable!(),
@@ -411,13 +411,13 @@ impl<T, X, I: Yields<T, X>, R: Wait + AllocGlobal, V: Fits<T>> Drop
         let Initializing {
             failure: _,
             cell: _,
-            asked,
+            state,
         } = self;
         // A finished future is not given to a call that may wait, which would cost it a test.
-        if let Asked::Shared(waiting) = asked
-            && !waiting.task.is_finished()
+        if let FutureState::Shared(attempt) = state
+            && !attempt.task.is_finished()
         {
-            waiting.discard();
+            attempt.discard();
         }
     }
 }

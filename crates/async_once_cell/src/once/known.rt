@@ -10,7 +10,7 @@ ghost use Rattle.async_once_cell.specs.Record.{IsSet, PollsOnce, WasFilled};
 ghost use Rattle.async_once_cell.specs.Views.{CellView, IsOf, Shows, ToldView, TokenView, is_shared, known_of, log_of};
 ghost use Rattle.async_once_cell.specs.Tokens.{Agrees, IsSetIn};
 
-use super::{OnceCell, Value};
+use super::{OnceCell, Contents};
 use crate::inner::Record;
 use crate::inner::book::{is_run, stays_set};
 use pagebook::{Anything, Fits, Written};
@@ -53,9 +53,9 @@ impl<'a, T, V: Fits<T>> Known<'a, T, V> {
         ensures cell { result.cell ≡ cell.now }
         ensures knows { result.value ≡ None }
     {
-        let seen = match &cell.value {
-            Value::Owned(_) => Seen::Owned(false),
-            Value::Shared(inner) => Seen::Shared(inner.record(), None),
+        let seen = match &cell.contents {
+            Contents::Owned(_) => Seen::Owned(false),
+            Contents::Shared(inner) => Seen::Shared(inner.record(), None),
         };
         Known {
             cell,
@@ -79,9 +79,9 @@ impl<'a, T, V: Fits<T>> Known<'a, T, V> {
             (λ r. (r.0.now ≡ self.now.cell) × (self.now.value ≡ Some r.1.now) × Shows r.0.now r.1.now r.2) }
     {
         let cell = self.cell;
-        match (&cell.value, &self.seen) {
-            (Value::Owned(value), Seen::Owned(true)) => Some((cell, value, None)),
-            (Value::Shared(inner), Seen::Shared(_, Some(written))) => {
+        match (&cell.contents, &self.seen) {
+            (Contents::Owned(value), Seen::Owned(true)) => Some((cell, value, None)),
+            (Contents::Shared(inner), Seen::Shared(_, Some(written))) => {
                 Some((cell, inner.value(written), Some(written.again())))
             }
             _ => None,

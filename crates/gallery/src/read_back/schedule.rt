@@ -1,12 +1,12 @@
 //! Scripts at random, from a seed.
 ghost use Rattle.std.specs.Prelude.{◌<◌, ◌≤◌};
-ghost use Rattle.once_world.specs.Reached.{IsReached};
+ghost use Rattle.once_script.specs.Reached.{IsReached};
 
 use super::chance::Chance;
 use super::fault::Fault;
 use super::story::{Said, Story, text_of};
 use super::words::{Answers, stand_word};
-use once_world::world::{Call, Input, Kind, Ran, World};
+use once_script::world::{Call, Input, Kind, Ran, World};
 use std::alloc::{AllocError, Global};
 
 /// A script, and what the world says at each of its lines.

@@ -1,11 +1,11 @@
 //! What the world says at each line of a script, in the words of docs/SCRIPTS.md.
 ghost use Rattle.std.specs.Prelude.{OnOk};
-ghost use Rattle.once_world.specs.Reached.{IsReached};
+ghost use Rattle.once_script.specs.Reached.{IsReached};
 
 use super::fault::Fault;
 use super::words::{AnswerWord, Answers, stand_word, ticket_of};
 use once_script::print::{EntryLine, call_word};
-use once_world::world::{Call, Entry, Input, World};
+use once_script::world::{Call, Entry, Input, World};
 use std::alloc::{AllocError, Global};
 
 /// How many listings a table shows at most.

@@ -1,6 +1,6 @@
 //! The words of a table and of a script, as docs/SCRIPTS.md has them.
 use once_machine::step::{Place, Rest, Step};
-use once_world::world::Ran;
+use once_script::world::Ran;
 use std::fmt;
 
 /// Where a task stands.

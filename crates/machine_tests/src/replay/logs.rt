@@ -3,7 +3,7 @@
 use crate::doubles::schedule::schedules_in;
 use once_script::fault::Fault;
 use once_script::parse::{Line, RUN_STEPS, parse_script};
-use once_world::world::{Input, QueueLine, replay};
+use once_script::world::{Input, QueueLine, replay};
 use std::alloc::{AllocError, Global};
 use std::test::Fail;
 

@@ -6,7 +6,7 @@ use once_script::fault::Fault;
 use once_script::parse::{Line, parse_line, parse_script};
 use once_script::print::print_record;
 use once_script::run;
-use once_world::world::{Call, Entry, Got, Ran, Record, Reply};
+use once_script::world::{Call, Entry, Got, Ran, Record, Reply};
 use std::alloc::{AllocError, Global};
 use std::io;
 use std::io::{ErrorKind, Read, Write};

@@ -8,7 +8,7 @@ use once_view::play::{Moment, Watcher, play};
 use once_view::range::LineRange;
 use once_view::reading::read_script;
 use once_view::{Format, show, show_lines};
-use once_world::world::{Entry, Input, Kind, Ran, World};
+use once_script::world::{Entry, Input, Kind, Ran, World};
 use std::alloc::{AllocError, AllocFailed, Global};
 use std::io;
 use std::test::Fail;

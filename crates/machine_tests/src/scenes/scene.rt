@@ -10,7 +10,7 @@ use super::walker::{Cell, Walker};
 use crate::doubles::schedule::{Schedule, schedules_in};
 use once_machine::step::{Ending, Polled, Progress};
 use once_script::parse::{Line, RUN_STEPS, parse_line};
-use once_world::world::{Input, Ran};
+use once_script::world::{Input, Ran};
 use std::alloc::{AllocGlobal, Global};
 use std::collections::BTreeMap;
 use std::io;

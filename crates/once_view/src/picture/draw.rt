@@ -4,7 +4,7 @@ use super::lanes::{Lane, Lanes};
 use super::legend::write_legend;
 use super::shape::{CellState, LAYERS, Shape, Span};
 use crate::reading::TextLine;
-use once_world::world::{Ran, Reply};
+use once_script::world::{Ran, Reply};
 use std::alloc::{AllocError, Global};
 use std::io::Write;
 use std::{fmt, io};

@@ -1,5 +1,5 @@
 //! What a picture is made of. A time is a number of ticks, and a lane its number from the top.
-use once_world::world::{Ran, Reply};
+use once_script::world::{Ran, Reply};
 use std::fmt;
 
 /// What the cell is.

@@ -2,8 +2,8 @@
 use crate::listed::Listed;
 use once_machine::step::{Place, Rest, Step};
 use once_script::print::EntryLine;
-use once_world::plain::Core;
-use once_world::world::Entry;
+use once_script::plain::Core;
+use once_script::world::Entry;
 use std::alloc::{AllocError, Global};
 use std::fmt;
 

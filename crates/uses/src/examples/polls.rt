@@ -8,7 +8,7 @@ use futures::Future;
 use futures::future::{Ready, ok, pending, ready};
 use futures::task::{Context, Poll};
 use futures::test::MockTask;
-use once_world::world::{Input, Kind, World};
+use once_script::world::{Input, Kind, World};
 use std::alloc::{AllocError, AllocGlobal, Global};
 use std::random::RandomSource;
 use std::sync::Wait;

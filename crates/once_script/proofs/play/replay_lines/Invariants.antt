@@ -1,6 +1,6 @@
 -- The world so far is the machine's after the inputs of the lines so far.
 use Rattle.std.proofs.Common.{take}
-use Rattle.once_world.specs.Reached.{IsAfter}
+use Rattle.once_script.specs.Reached.{IsAfter}
 use Rattle.once_machine.specs.Shown.{kind_of, inputs_in}
 use Rattle.once_script.specs.Text.{all_inputs}
 use Rattle.once_script.proofs.play.replay_lines.Given as goal

@@ -1,5 +1,5 @@
 -- The world was reached by the lines so far.
-use Rattle.once_world.specs.Reached.{IsReached}
+use Rattle.once_script.specs.Reached.{IsReached}
 use Rattle.once_view.proofs.play.play.Given as goal
 
 abbrev pub invariant-loop-line : goal.invariant-loop-line

@@ -5,8 +5,8 @@ use Rattle.once_machine.specs.Steps.{is_value}
 use Rattle.async_once_cell.proofs.Walk.Ways.{added, onward, released}
 use Rattle.async_once_cell.proofs.inner.shared.Shared.at_add_one.Goals as goal
 
-pub released_again-requires-clause-stands : goal.released_again-requires-clause-stands
-released_again-requires-clause-stands g c =
+pub lock_at_add_one-requires-clause-stands : goal.lock_at_add_one-requires-clause-stands
+lock_at_add_one-requires-clause-stands g c =
     (added g.W.TaskWaker.whose c.args.ending c.requires.stands c.add_one.ensures.1 refl).stands
 
 pub returns-in-None : goal.returns-in-None

@@ -12,9 +12,9 @@ use Rattle.async_once_cell.proofs.inner.shared.Shared.at_release.Goals as goal
 
 pub returns : goal.returns
 returns g c =
-    let out = c.released-out.result in
-    let did = subst (λ b. DidCall g.W.TaskWaker.whose (own c.args.self.now) (Was tt (Release b) (Released out) (Release b)) (own_of c.released-out.new.hand))
-    c.is_value.ensures c.released-out.ensures.did in
+    let out = c.lock_at_release-out.result in
+    let did = subst (λ b. DidCall g.W.TaskWaker.whose (own c.args.self.now) (Was tt (Release b) (Released out) (Release b)) (own_of c.lock_at_release-out.new.hand))
+    c.is_value.ensures c.lock_at_release-out.ensures.did in
     record {
       cell = c.at_count_out.ensures.cell;
       leads = onward g.W.TaskWaker.whose

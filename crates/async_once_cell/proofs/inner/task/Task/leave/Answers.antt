@@ -35,7 +35,7 @@ go_on-requires g c =
       stands = (
         true,
         stands_closed (g.S.TaskSide.state c.args.side.now) c.step-step.result (g.met.S.TaskSide.tells.close _ _ c.begin_drop-2.ensures.close) c.begin_drop-2.ensures.step
-            (number, c.requires.none) rests c.begin_drop.ensures.did call,
+            (number, c.requires.nobody_woken) rests c.begin_drop.ensures.did call,
       );
       fits = fits_on g.V.Fits.fits g.met.S.TaskSide.hands_on g.met.S.TaskSide.slot_on c.requires.fits c.begin_drop-2.ensures.stays
           (c.begin_drop.ensures.cell ∙ ap (λ (t : TaskView). t.cell) c.self.view_is);
@@ -60,7 +60,7 @@ returns-then-not-begin_drop-clause-call g c =
     rw (← c.self.view_is) (
       [],
       subst (λ (t : ℕ). IsCall t (DropBegin t) (DropEnd t) [] (own c.self.inside.parts).log (own c.begin_drop.new.self).log) (sym c.begin_drop.ensures.did.number) call,
-      ap (λ (x : Sided). x.woke) (g.met.S.TaskSide.tells.close _ _ c.begin_drop-2.ensures.close) ∙ c.requires.none,
+      ap (λ (x : Sided). x.woke) (g.met.S.TaskSide.tells.close _ _ c.begin_drop-2.ensures.close) ∙ c.requires.nobody_woken,
     )
 
 pub returns : goal.returns
@@ -76,7 +76,7 @@ returns g c =
     let opens = drop_opens g.W.TaskWaker.whose (own c.self.inside.parts) (own c.begin_drop.new.self) c.step-step.result rests (ap in_call (sym c.begin_drop-2.ensures.step) ∙ call)
     c.begin_drop.ensures.did in
     let stands = c.go_on.ensures.stands true
-    (stands_closed (g.S.TaskSide.state c.args.side.now) c.step-step.result closed c.begin_drop-2.ensures.step (number, c.requires.none) rests c.begin_drop.ensures.did call) in
+    (stands_closed (g.S.TaskSide.state c.args.side.now) c.step-step.result closed c.begin_drop-2.ensures.step (number, c.requires.nobody_woken) rests c.begin_drop.ensures.did call) in
     let end = drop_ended refl c.go_on.new.step walked stands c.go_on.ensures.over in
     rw (← c.self.view_is) (record {
       cell = c.go_on.ensures.cell ∙ c.begin_drop.ensures.cell;
@@ -90,7 +90,7 @@ returns g c =
             walked.made.1
             (subst (λ (t : ℕ). entries_of t last.log ≡ entries_of t (own c.begin_drop.new.self).log ++ (walked.made.0 ++ progress_entries (Ended c.go_on.result) last.number 0 last.task.kept))
             (sym walked.number) walked.made.2),
-        walked.made.3 ∙ ap (λ X. X ++ handed walked.made.0) (ap (λ (x : Sided). x.woke) closed ∙ c.requires.none),
+        walked.made.3 ∙ ap (λ X. X ++ handed walked.made.0) (ap (λ (x : Sided). x.woke) closed ∙ c.requires.nobody_woken),
       );
       finished = refl;
       stays = g.met.S.Side.stays_on _ _ _ c.begin_drop-2.ensures.stays c.go_on.ensures.stays;

@@ -23,7 +23,7 @@ by_machine-requires g c =
     let number = c.requires.number ∙ sym (ap (λ (t : TaskView). t.number) c.self.view_is) in
     record {
       live = live;
-      stands = begins_at c.self.inside.parts.idle (number, c.requires.none, c.requires.init) live (c.self.inside.stands live) c.begin.ensures.did refl;
+      stands = begins_at c.self.inside.parts.idle (number, c.requires.nobody_woken, c.requires.init) live (c.self.inside.stands live) c.begin.ensures.did refl;
       fits = fits_there g.S.Side.hands g.S.TaskSide.has_slot g.V.Fits.fits c.requires.fits (c.begin.ensures.cell ∙ ap (λ (t : TaskView). t.cell) c.self.view_is);
     }
 
@@ -33,7 +33,7 @@ at_start-requires g c =
     let number = c.requires.number ∙ sym (ap (λ (t : TaskView). t.number) c.self.view_is) in
     let new : c.self.inside.parts.idle ≡ New = search rules in
     record {
-      stands = begins_at c.self.inside.parts.idle (number, c.requires.none, c.requires.init) live (c.self.inside.stands live) c.begin.ensures.did
+      stands = begins_at c.self.inside.parts.idle (number, c.requires.nobody_woken, c.requires.init) live (c.self.inside.stands live) c.begin.ensures.did
           (ap (λ (i : Idle). step_of_poll (step_of i)) new);
       fits = fits_there g.S.Side.hands g.S.TaskSide.has_slot g.V.Fits.fits c.requires.fits (c.begin.ensures.cell ∙ ap (λ (t : TaskView). t.cell) c.self.view_is);
     }
@@ -44,18 +44,18 @@ later-requires g c =
     let number = c.requires.number ∙ sym (ap (λ (t : TaskView). t.number) c.self.view_is) in
     record {
       live = live;
-      stands = begins_at c.self.inside.parts.idle (number, c.requires.none, c.requires.init) live (c.self.inside.stands live) c.begin.ensures.did refl;
+      stands = begins_at c.self.inside.parts.idle (number, c.requires.nobody_woken, c.requires.init) live (c.self.inside.stands live) c.begin.ensures.did refl;
       fits = fits_there g.S.Side.hands g.S.TaskSide.has_slot g.V.Fits.fits c.requires.fits (c.begin.ensures.cell ∙ ap (λ (t : TaskView). t.cell) c.self.view_is);
     }
 
 pub returns-then-not-copies_under_lock-clause-polled : goal.returns-then-not-copies_under_lock-clause-polled
 returns-then-not-copies_under_lock-clause-polled g c = rw (← c.self.view_is)
-    (polled _ _ _ c.by_machine.new.self.idle (c.requires.none, c.requires.init) c.begin.ensures.did c.by_machine.ensures.leads.walked c.by_machine.ensures.leads.stands)
+    (polled _ _ _ c.by_machine.new.self.idle (c.requires.nobody_woken, c.requires.init) c.begin.ensures.did c.by_machine.ensures.leads.walked c.by_machine.ensures.leads.stands)
 
 pub returns-in-New-clause-polled : goal.returns-in-New-clause-polled
 returns-in-New-clause-polled g c = rw (← c.self.view_is)
-    (polled _ _ _ c.at_start.new.self.idle (c.requires.none, c.requires.init) c.begin.ensures.did c.at_start.ensures.leads.walked c.at_start.ensures.leads.stands)
+    (polled _ _ _ c.at_start.new.self.idle (c.requires.nobody_woken, c.requires.init) c.begin.ensures.did c.at_start.ensures.leads.walked c.at_start.ensures.leads.stands)
 
 pub returns-clause-polled : goal.returns-clause-polled
 returns-clause-polled g c = rw (← c.self.view_is)
-    (polled _ _ _ c.later.new.self.idle (c.requires.none, c.requires.init) c.begin.ensures.did c.later.ensures.leads.walked c.later.ensures.leads.stands)
+    (polled _ _ _ c.later.new.self.idle (c.requires.nobody_woken, c.requires.init) c.begin.ensures.did c.later.ensures.leads.walked c.later.ensures.leads.stands)

@@ -1,5 +1,5 @@
 -- The world was reached by the steps so far.
-use Rattle.once_world.specs.Reached.{IsReached}
+use Rattle.once_script.specs.Reached.{IsReached}
 use Rattle.gallery.proofs.read_back.story.Story.take.Given as goal
 
 abbrev pub invariant-loop : goal.invariant-loop

@@ -1,6 +1,0 @@
--- Nothing else changes.
-use Rattle.std.proofs.Common.{refl}
-use Rattle.once_world.proofs.plain.Core.grant.Goals as goal
-
-pub returns-clause-state : goal.returns-clause-state
-returns-clause-state g c = refl

@@ -1,6 +1,0 @@
--- The state of a new core.
-use Rattle.std.proofs.Common.{rules}
-use Rattle.once_world.proofs.plain.Core.new.Goals as goal
-
-pub returns : goal.returns
-returns g c = search rules

@@ -1,4 +1,0 @@
-pub mod Core
-pub mod Side
-pub mod WorldShown
-pub mod Reached
