@@ -2,7 +2,8 @@
 use Rattle.std.specs.Prelude.{◌≡◌, ℕ, ⊤, Bool, true, false, List, [], Option, Some, None}
 use Rattle.once_machine.specs.Record.{Entry}
 use Rattle.async_once_cell.specs.declared.once.future.FutureState.{FutureState}
-use Rattle.async_once_cell.specs.declared.once.future.FutureState.TheVariants.{Owned as StateOwned, Answered as StateAnswered}
+use Rattle.async_once_cell.specs.declared.once.future.FutureState.TheVariants.{Owned as StateOwned}
+use Rattle.async_once_cell.specs.declared.once.future.FutureState.TheVariants.{Answered as StateAnswered}
 use Rattle.async_once_cell.specs.declared.once.future.FutureState.TheVariants.{Left as StateLeft}
 use Rattle.async_once_cell.specs.declared.once.future.FutureState.TheVariants.{Shared as StateShared}
 use Rattle.async_once_cell.specs.Inits.{InitFits}

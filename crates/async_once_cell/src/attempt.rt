@@ -1,4 +1,4 @@
-//! A task of a cell that brings an init, and is called while it waits.
+//! A task of a cell with the init that its future brought, and what it brings to a poll and to a drop: its sides.
 ghost use Rattle.std.specs.Prelude.{◌≡◌, ◌∷◌, [], List, true, false, ⊤, IfErr, IfSome, IsSome, IsSomeAnd, None, Some};
 ghost use Rattle.std.specs.Option.{is_some};
 ghost use Rattle.futures.specs.Poll.{IfReady};
@@ -36,7 +36,7 @@ use std::sync::Wait;
 #[derive(Drop)]
 pub(crate) struct Shown<T>(pub(crate) Written<T>, pub(crate) [u64; 0]);
 
-/// A task of a cell with its init. A clause sees both.
+/// One attempt to get the value of a cell: a task with its init. A clause sees both.
 #[derive(Drop)]
 pub(crate) struct Attempt<'a, T, I: Drop, R: Wait + AllocGlobal, V: Fits<T> = Anything> {
     pub(crate) task: Task<'a, 'a, T, ListedWaker, R, V>,
@@ -260,6 +260,7 @@ impl<'a, T: Drop, I: Drop, R: Wait + AllocGlobal, V: Fits<T>> Attempt<'a, T, I, 
     }
 }
 
+// What a poll brings.
 struct PollSide<'c, 'd, T, E, H> {
     first: Snapshot<Option<H>>,
     mark: Mark,
@@ -272,7 +273,7 @@ struct PollSide<'c, 'd, T, E, H> {
     handed: Snapshot<Option<T>>,
     written: Option<Shown<T>>,
     error: Option<E>,
-    // The init was Pending, and saw to it that the task is called; or the task is listed with the waker of this poll.
+    // The init was Pending, and saw to it that the task is woken; or the task is listed with the waker of this poll.
     is_armed: bool,
     woke: Snapshot<Out<ListedWaker>>,
 }
@@ -393,7 +394,7 @@ impl<T: Drop, X: Failure, I: Init<T, X>> TaskSide<ListedWaker>
     ghost slot_on = { λ s t k n h. k.3 ∙ h };
 }
 
-// A drop, when the init is gone. It does not name the init's type, so that a program has its code once for all inits.
+// What a drop brings, when the init is gone. It does not name the init's type, so that a program has its code once for all inits.
 #[derive(Drop)]
 struct LeaveSide<'r, T, R> {
     rt: &'r R,

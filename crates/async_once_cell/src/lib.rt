@@ -44,15 +44,15 @@
 //! its waker there becomes that of this poll, and else it is listed anew.
 //!
 //! **The release.** A holder whose init gave a value puts it into the cell, and takes the lock. It gives the right
-//! back, sets the ready bit, and takes all listings out. Their wakers are called with the lock free. A holder whose
-//! init failed, or that is dropped, gives the right back without a value, and one waiter is called. The first listing
-//! that still has a waker gives it, and stays in the list. Its task has the turn.
+//! back, sets the ready bit, and takes all listings out. Their tasks are woken with the lock free. A holder whose init
+//! failed, or that is dropped, gives the right back without a value, and one waiter is woken. The first listing that
+//! still has a waker gives it, and stays in the list. Its task has the turn.
 //!
 //! **The fast release.** A quick holder is not counted. It first tries to exchange the quick bit for the
 //! ready bit, or for 0 if it has no value. If that is done, nobody is counted, and there is nobody to
-//! call. Else it counts in, finds the queue at the door, and releases as above.
+//! wake. Else it counts in, finds the queue at the door, and releases as above.
 //!
-//! **Leaving.** A waiter that is dropped or refused memory takes its listing out. If it was called and
+//! **Leaving.** A waiter that is dropped or refused memory takes its listing out. If it was woken and
 //! the cell is empty, it passes its turn on: the first listing that has a waker gives it.
 //!
 //! **The end of the queue.** When a task that is counted is done, it counts out. If the value is set and
@@ -62,7 +62,7 @@
 //! # What is proved
 //!
 //! What all tasks did with a cell is its record, which has no bytes, and only grows. Whatever threads do, it is a run
-//! of a cell that is empty, held by one task or set. Besides, at each of its beginnings somebody was called if somebody
+//! of a cell that is empty, held by one task or set. Besides, at each of its beginnings somebody was woken if somebody
 //! had to be, so nobody who waits is forgotten. A clause sees what a future or a token has seen of the record. After a
 //! poll the newest entry is what it answered. A look finds the value exactly when the cell is set then.
 //!
@@ -70,7 +70,7 @@
 //! future is one call of its task: it begins after all that the future had seen, and what it did stands between.
 //!
 //! This says nothing of a call that does not return, of fairness, progress or time. Tests alone show that a task polls
-//! its own init, or the future of its lazy cell, that a task that is called runs, and that each value and init is
+//! its own init, or the future of its lazy cell, that a task that is woken runs, and that each value and init is
 //! dropped. Futures and tokens say which value was set, see [`Initializing::tell`] and [`Known`]. The definitions in
 //! `specs/` and the kit have to be trusted. `docs/PROVED.md` of the repository says what no clause says, and
 //! `docs/THREADS.md` what is proved of threads.
@@ -88,7 +88,7 @@ pub use lazy::{Lazy, LazyFuturePin, LazyFutureUnpin};
 pub use once::{InitFuture, Initializing, Known, OnceCell, Parker, Told, TryInitFuture};
 pub use once_machine::{laws, record, step};
 
-/// Who waits: the flag and the list behind a queue's lock, and what a section does with them.
+/// Who waits: the flag and the list under the cell's lock, and what a section does with them.
 pub mod queue {
     pub use once_machine::step::Out;
     pub use once_machine::waiters::{Answer, Listing, Lists, Op, Renews, WakerId};

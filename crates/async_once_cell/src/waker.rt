@@ -9,7 +9,7 @@ use once_machine::waiters::WakerId;
 use crate::inner::{Mark, TaskWaker};
 
 /// The waker of a task, with its number. Two are never compared, since a task is listed once. It wakes its task when it
-/// is let go, so a task whose waker is handed out is called when the answer is dropped, and no listed waker is lost.
+/// is let go, so a task whose waker is handed out is woken when the answer is dropped, and no listed waker is lost.
 #[derive(Drop)]
 pub struct ListedWaker {
     // None if no waker could be made. Then the task asked for another poll.

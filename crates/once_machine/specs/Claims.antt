@@ -1,4 +1,4 @@
--- How a task asks for the right under the queue's lock.
+-- How a task asks for the right under the cell's lock.
 use Rattle.std.specs.Prelude.{◌≡◌, ℕ, Bool, true, List, Option, None}
 use Rattle.once_machine.specs.declared.waiters.Listing.{Listing}
 use Rattle.once_machine.specs.declared.waiters.Answer.{Answer}

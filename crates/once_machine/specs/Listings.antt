@@ -1,4 +1,4 @@
--- The list behind a queue's lock: the listings of those who wait, the oldest first. A listing without a waker is one
+-- The list under the cell's lock: the listings of those who wait, the oldest first. A listing without a waker is one
 -- that was called.
 use Rattle.std.specs.Prelude.{ℕ, zero, suc, ◌+◌, ◌==◌, Bool, true, false, if◌then◌else◌}
 use Rattle.std.specs.Prelude.{List, [], ◌∷◌, ◌++◌, Option, Some, None, map}

@@ -1,4 +1,4 @@
--- What a section under the queue's lock sees, answers and leaves.
+-- What a section under the cell's lock sees, answers and leaves.
 use Rattle.std.specs.Prelude.{◌≡◌, ℕ, ◌<◌, ◌⊎◌, Bool, true, false, List, [], ◌∷◌, Option, Some, None}
 use Rattle.std.specs.List.{cons_option}
 use Rattle.std.specs.Prelude.{IfSome, All, HoldsAt, length}

@@ -1,4 +1,4 @@
--- What a look and a listing under the queue's lock answer, and what they then leave of the flag beside the list, of
+-- What a look and a listing under the cell's lock answer, and what they then leave of the flag beside the list, of
 -- the listings and of the ticket.
 use Rattle.std.specs.Prelude.{ℕ, Bool, true, false, List, Option, Some, None}
 use Rattle.once_machine.specs.declared.word.Sees.{Sees}

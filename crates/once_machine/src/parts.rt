@@ -88,7 +88,7 @@ pub trait Parts<W> {
         requires { can self.old DoorTake }
         ensures { did self.old (Taken result) self.new };
 
-    /// One section under the queue's lock.
+    /// One section under the cell's lock.
     fn section(&mut self, queue: &Self::Queue, op: &mut Op<W>) -> Answer<W>
         requires can { can self.old (Section queue.now op.old) }
         requires waker { HasWaker op.old }

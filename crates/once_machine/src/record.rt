@@ -100,7 +100,7 @@ pub enum Entry {
     Free(u64, Vec<u64>),
     /// The task set the value, and handed these wakers out.
     Fill(u64, u64, Vec<u64>),
-    /// The task, which was called and leaves, passed its turn on, and handed these wakers out.
+    /// The task, which was woken and leaves, passed its turn on, and handed these wakers out.
     Pass(u64, Vec<u64>),
     /// The task's poll ended.
     End(u64, Reply),
@@ -110,7 +110,7 @@ pub enum Entry {
     DropEnd(u64),
     /// A look found this value.
     Look(Option<u64>),
-    /// The owner called, and was given this.
+    /// The owner made this call, and was given this.
     Own(Call, Got),
 }
 

@@ -63,7 +63,7 @@ impl<W: Drop> Slots<W> {
         }
     }
 
-    /// The listings, and among them holes, which have no waker to be called.
+    /// The listings, and among them holes, which have no waker.
     #[inline(always)]
     pub fn as_slice(&self) -> &[Listing<W>]
         ensures { listings_in self.now ≡ filter is_kept result.now }

@@ -71,7 +71,7 @@ impl RunRight for () {
     ghost ran = { λ _ _ _. ⊤ };
 }
 
-/// Whom a section calls. The wakers in it are handed out, in their order.
+/// Whom a section wakes. The wakers in it are handed out, in their order.
 #[derive(Debug, Drop, PartialEq, Eq)]
 pub enum Out<W> {
     /// One who waits, or nobody.
@@ -130,7 +130,7 @@ pub trait Side<W> {
         ensures did { did.copy self.old result self.new }
         ensures stays { stays self.old self.new };
 
-    /// Calls whom a section handed out: one, all, or nobody.
+    /// Wakes whom a section handed out: one, all, or nobody.
     fn wake(&mut self, out: Out<W>)
         ensures did { did.wake self.old out self.new }
         ensures stays { stays self.old self.new };

@@ -1,4 +1,4 @@
-//! Who waits: the flag and the list behind a queue's lock, and what a section does with them.
+//! Who waits: the flag and the list under the cell's lock, and what a section does with them.
 ghost use Rattle.std.specs.Prelude.{◌≡◌, ◌≢◌, ◌↔◌, ◌+◌, ◌*◌, ◌<◌, ◌≤◌, max, ◌⊎◌, ◌++◌, ◌∷◌, [], ℕ, true, false};
 ghost use Rattle.std.specs.Prelude.{if◌then◌else◌, IsSome, IfSome, IsOk, IfOk, OnOk, OnErr, All, length, Some, None};
 ghost use Rattle.std.specs.Prelude.{vec_len};
@@ -61,16 +61,16 @@ pub trait Renews<W> {
         ensures { renewed self.old listed.old self.new listed.new };
 }
 
-/// A place in the list of those who wait. One that has no waker any more was called.
+/// A place in the list of those who wait. One that has no waker any more was woken.
 #[derive(Debug, Drop, PartialEq, Eq)]
 pub struct Listing<W> {
     /// The number by which the waiting task finds its listing again.
     pub ticket: u64,
-    /// The waker of the task, until the task is called.
+    /// The waker of the task, until the task is woken.
     pub waker: Option<W>,
 }
 
-/// What one section under the queue's lock is to do. A `Look` and a `List` carry the ticket of the waiting task, if it
+/// What one section under the cell's lock is to do. A `Look` and a `List` carry the ticket of the waiting task, if it
 /// has one; the section leaves there the ticket that the task has after it.
 #[derive(Debug, Drop, PartialEq, Eq)]
 pub enum Op<W> {
@@ -80,7 +80,7 @@ pub enum Op<W> {
     List(Option<u64>, Option<W>),
     /// Give the right back: with the value set, and call all; or without, and call one.
     Release(bool),
-    /// Take the listing with this ticket out. If it was called and nobody holds, call the next.
+    /// Take the listing with this ticket out. If it was woken and nobody holds, wake the next.
     Leave(u64),
 }
 
@@ -109,9 +109,9 @@ pub enum Answer<W> {
     Held,
     /// The list could not grow.
     Memory,
-    /// The right was given back, and these are to be called.
+    /// The right was given back, and these are to be woken.
     Released(Out<W>),
-    /// The listing is out, and this waker is to be called.
+    /// The listing is out, and this task is to be woken.
     Left(Option<W>),
     /// The queue does not stand at the door any more.
     Gone,
@@ -150,7 +150,7 @@ impl<W: WakerId + Drop> Lists<W> {
     }
 
     /// Claims the right if the word and the flag leave it free: the own listing is taken out, and the ticket given up.
-    /// Else says whether the own listing has this waker: not if it was called, or there is no waker or ticket.
+    /// Else says whether the own listing has this waker: not if it was woken, or there is no waker or ticket.
     #[inline(always)]
     pub fn look(&mut self, ticket: &mut Option<u64>, waker: Option<&W>, word: u64) -> Answer<W>
         ensures claims { Claims (sees (flags_of word) self.old.head)
@@ -171,7 +171,7 @@ impl<W: WakerId + Drop> Lists<W> {
         }
     }
 
-    /// As [`look`](Self::look), but if the right is taken, says whether the own listing is there and was not called. It
+    /// As [`look`](Self::look), but if the right is taken, says whether the own listing is there and was not woken. It
     /// compares no wakers, because each ticket of its caller stands for one. A claim answers the listed waker too.
     #[inline(always)]
     pub fn look_own(&mut self, ticket: &mut Option<u64>, word: u64) -> (Answer<W>, Option<W>)
@@ -248,7 +248,7 @@ impl<W: WakerId + Drop> Lists<W> {
         (Answer::Listed, None)
     }
 
-    /// Lowers the flag. With the value set all listings leave; without it the first that was not called yet gives its
+    /// Lowers the flag. With the value set all listings leave; without it the first that was not woken yet gives its
     /// waker, and stays. It takes no memory.
     #[inline(always)]
     pub fn release(&mut self, ready: bool) -> Out<W>
@@ -267,8 +267,8 @@ impl<W: WakerId + Drop> Lists<W> {
         Out::All(listings)
     }
 
-    /// Takes the listing with this ticket out. If it was called, the value is not set and nobody holds, the first that
-    /// was not called yet gives its waker, and stays. It takes no memory.
+    /// Takes the listing with this ticket out. If it was woken, the value is not set and nobody holds, the first that
+    /// was not woken yet gives its waker, and stays. It takes no memory.
     #[inline(always)]
     pub fn leave(&mut self, ticket: u64, word: u64) -> Option<W>
         ensures waker { result ≡ next_waker

@@ -13,7 +13,8 @@ use Rattle.async_once_cell.specs.Inner.TwoTasks.{AreTwo, HasLearned}
 use Rattle.async_once_cell.specs.Inner.Places.{task_begun, task_dropping}
 use Rattle.async_once_cell.specs.Kept.{Grew, Sheet, entries_of, hand, most, sheets, writing_sheet}
 use Rattle.async_once_cell.specs.declared.inner.hand.Act.{Act}
-use Rattle.async_once_cell.specs.declared.inner.hand.Act.TheVariants.{ByTable, Enter, Full, Learn, Meet, NonePut, Refused, Unput}
+use Rattle.async_once_cell.specs.declared.inner.hand.Act.TheVariants.{ByTable, Enter, Full, Learn, Meet}
+use Rattle.async_once_cell.specs.declared.inner.hand.Act.TheVariants.{NonePut, Refused, Unput}
 use Rattle.async_once_cell.specs.declared.inner.hand.Act.TheVariants.{Begin as BeginPoll, BeginDrop, Ran as InitRan}
 use Rattle.async_once_cell.specs.declared.inner.hand.Act.TheVariants.{Look as LookFor, Make as MakeTask}
 use Rattle.async_once_cell.specs.Inner.Own.{IsHand, Stayed, Turned, number_in, own_in, task_in}

@@ -4,7 +4,8 @@ use Rattle.once_machine.specs.declared.step.Step.TheVariants.{Finished, Resting}
 use Rattle.once_machine.specs.declared.step.Rest.TheVariants.{Run as RestRun, Start as RestStart, Wait as RestWait}
 use Rattle.once_machine.specs.declared.step.Step.{Step}
 use Rattle.async_once_cell.specs.declared.inner.task.Idle.{Idle}
-use Rattle.async_once_cell.specs.declared.inner.task.Idle.TheVariants.{New, Listed, Unlisted, Quick, Queued, Finished as Over}
+use Rattle.async_once_cell.specs.declared.inner.task.Idle.TheVariants.{New, Listed, Unlisted, Quick, Queued}
+use Rattle.async_once_cell.specs.declared.inner.task.Idle.TheVariants.{Finished as Over}
 
 -- the step with which the next call begins
 abbrev pub step_of : {W : Type 0} → Idle → Step W ⊤

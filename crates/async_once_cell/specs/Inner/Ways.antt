@@ -15,7 +15,8 @@ use Rattle.once_machine.specs.declared.step.Rest.TheVariants.{Wait as RestWait}
 use Rattle.once_machine.specs.declared.step.Step.{Step}
 use Rattle.once_machine.specs.declared.step.Step.TheVariants.{UnderWay}
 use Rattle.async_once_cell.specs.declared.inner.ways.Reached.{Reached}
-use Rattle.async_once_cell.specs.declared.inner.ways.Reached.TheVariants.{Claimed, Ended, NoQueue, Ready, Refused, Waits}
+use Rattle.async_once_cell.specs.declared.inner.ways.Reached.TheVariants.{Claimed, Ended, NoQueue, Ready}
+use Rattle.async_once_cell.specs.declared.inner.ways.Reached.TheVariants.{Refused, Waits}
 use Rattle.async_once_cell.specs.declared.inner.hand.Hand.{Hand}
 use Rattle.async_once_cell.specs.declared.inner.shared.Shared.{Shared}
 use Rattle.async_once_cell.specs.declared.inner.task.Idle.{Idle}

@@ -58,7 +58,7 @@ pub type Record = Seen<Line, Leaf, CellRule>;
 /// Pens of a cell's pages.
 pub type CellPens = Pens<Leaf>;
 
-/// A record that was seen is a run of the cell. At each of its beginnings somebody was called if somebody had to be.
+/// A record that was seen is a run of the cell. At each of its beginnings somebody was woken if somebody had to be.
 /// Each task polls its init once at most in each of its calls.
 #[inline(always)]
 pub fn is_run(seen: &Record)

@@ -131,7 +131,7 @@ impl<W: TaskWaker + Drop> Desk<W> {
         self.lists.take()
     }
 
-    /// Claims the right if it is free, else says whether the own listing is there and was not called. It answers the
+    /// Claims the right if it is free, else says whether the own listing is there and was not woken. It answers the
     /// waker that a claim took out of the list too.
     #[inline(always)]
     pub fn look(
@@ -210,7 +210,7 @@ impl<W: TaskWaker + Drop> Desk<W> {
         lists.renew(ticket, by)
     }
 
-    /// Gives the right back: with the value set, and calls all; or without, and calls one.
+    /// Gives the right back: with the value set, and wakes all; or without, and wakes one.
     #[inline(always)]
     pub fn release(&mut self, word: &CellWord, hand: &mut Hand, ready: bool) -> Out<W>
         requires word { IsWord word.now hand.old.seen.book 0 }
@@ -231,7 +231,7 @@ impl<W: TaskWaker + Drop> Desk<W> {
         lists.release(ready)
     }
 
-    /// Takes the listing with this ticket out. If it was called and nobody holds, calls the next. It answers that
+    /// Takes the listing with this ticket out. If it was woken and nobody holds, wakes the next. It answers that
     /// waker, and the one that the own listing had.
     // With this one inlined too, a section is so large that the kit inlines none.
     #[inline(never)]

@@ -148,7 +148,7 @@ impl Hand {
         has_put.load::<Act, Act>(&Act::NonePut, &mut self.seen, &mut self.pens) == 0
     }
 
-    // Called by whoever polled the init: see `poll_init`.
+    // For `poll_init` alone, which polled the init.
     #[inline(always)]
     pub(super) fn ran(&mut self, answer: Polled)
         requires right { HasRight self.old }

@@ -178,8 +178,8 @@ impl<T, W: TaskWaker + Drop, V: Fits<T>> Inner<T, W, V> {
     ///
     /// ```
     /// let written = match self {
-    ///     Value::Owned(_) => None,
-    ///     Value::Shared(inner) => inner.witness(),
+    ///     Contents::Owned(_) => None,
+    ///     Contents::Shared(inner) => inner.witness(),
     /// };
     /// ```
     pub fn witness(&self) -> Option<Written<T>>
@@ -192,9 +192,9 @@ impl<T, W: TaskWaker + Drop, V: Fits<T>> Inner<T, W, V> {
     /// The value, where it was put. The record ends. No clause says so.
     ///
     /// ```
-    /// match value {
-    ///     Value::Owned(value) => Some(value),
-    ///     Value::Shared(inner) => inner.into_inner(),
+    /// match contents {
+    ///     Contents::Owned(value) => Some(value),
+    ///     Contents::Shared(inner) => inner.into_inner(),
     /// }
     /// ```
     pub fn into_inner(self) -> Option<T>

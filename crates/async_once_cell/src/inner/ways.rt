@@ -175,8 +175,8 @@ impl<T, W: TaskWaker + Drop, R: Wait + AllocGlobal, V: Fits<T>> Shared<'_, '_, T
         ending
     }
 
-    /// Makes one step of the call that is under way. It may wait as [`Task::poll`](crate::inner::Task::poll). `told` is what
-    /// the last step told.
+    /// Makes one step of the call that is under way. It may wait as [`Task::poll`](crate::inner::Task::poll). `told` is
+    /// what the last step told.
     ///
     /// ```
     /// while step.left() > 0 {

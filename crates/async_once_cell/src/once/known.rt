@@ -108,7 +108,7 @@ impl<'a, T, V: Fits<T>> Known<'a, T, V> {
     }
 
     /// It does nothing. Its contract is about the record of a cell that tasks share. The record is a run of the cell,
-    /// and at each of its beginnings somebody was called if somebody had to be. If the cell is set in it, it has a
+    /// and at each of its beginnings somebody was woken if somebody had to be. If the cell is set in it, it has a
     /// Fill, and nobody who waits is forgotten. Each task polls its init once at most in each of its calls.
     ///
     /// ```

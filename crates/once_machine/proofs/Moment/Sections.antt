@@ -1,4 +1,4 @@
--- The moments under the queue's lock: the queue's page changes, and that of the task.
+-- The moments under the cell's lock: the queue's page changes, and that of the task.
 use Rattle.std.proofs.Common.{◌≡◌, ◌<◌, ◌+◌, ◌%◌, ◌^◌, ℕ, suc, Bool, true, false, cond, List, [], ◌∷◌, Option, Some, None, slice_get, slice_set, refl, sym, ap, ◌∙◌}
 use Rattle.std.specs.Prelude.{◌||◌, not}
 use Rattle.std.specs.Option.{is_some, option_to_list}

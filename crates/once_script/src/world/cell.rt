@@ -16,7 +16,7 @@ pub(super) struct ReplayCell {
     pub side: ReplaySide,
 }
 
-/// What one step of a task was seen to do, for `step_entries` of `specs/Shown`.
+/// What one step of a task was seen to do, for `step_entries` of `specs/WorldShown`.
 #[derive(Drop)]
 pub(super) struct StepSeen {
     pub claimed: bool,
