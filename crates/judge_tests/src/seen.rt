@@ -1,8 +1,8 @@
 //! What is seen of a cell from outside: a run is found that has it, or the event is told at which none has.
 
-use once_judge::{Calls, VerdictLine, judge};
+use once_judge::{Calls, judge};
 use once_machine::record::Entry;
-use once_observed::{Answer, BadEvents, Observed, StopLine, linearize, parse_observed};
+use once_observed::{Answer, BadEvents, Observed, StopLine, VerdictLine, linearize, parse_observed};
 use once_script::parse::record::BadRecord;
 use once_script::print::FullLine;
 use std::alloc::{AllocError, Global};

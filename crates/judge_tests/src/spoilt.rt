@@ -1,7 +1,8 @@
 //! Records with one thing wrong: those of the proofs, `Spoilt` of `once_machine`, as text. Each is refused at its last
 //! entry, for the reason that stands below it.
 
-use once_judge::{Calls, VerdictLine, judge};
+use once_judge::{Calls, judge};
+use once_observed::VerdictLine;
 use once_script::parse::record::{BadRecord, RecordText, parse_record};
 use std::alloc::{AllocError, Global};
 use std::process::Abort;

@@ -1,6 +1,7 @@
 //! A record as a picture, with the verdict on it.
 
-use once_judge::{Verdict, VerdictLine};
+use crate::VerdictLine;
+use once_judge::Verdict;
 use once_machine::record::{Entry, Kind};
 use once_script::print::EntryLine;
 use once_view::picture::write_record;

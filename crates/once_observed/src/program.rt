@@ -2,7 +2,8 @@
 
 use crate::drawn::draw_verdict;
 use crate::{Answer, BadEvents, Stop, StopLine, linearize, parse_observed};
-use once_judge::{Calls, LastCalls, Verdict, VerdictLine, judge};
+use crate::{LastCalls, VerdictLine};
+use once_judge::{Calls, Verdict, judge};
 use once_machine::record::{Entry, Kind};
 use once_script::parse::record::{BadRecord, RecordText, parse_record};
 use once_script::print::{FirstLine, FullLine};

@@ -3,7 +3,8 @@
 use super::runs::printed_by;
 use crate::doubles::rows::{CALLS, DROPS, OWNER, PLAIN, REFUSALS};
 use crate::doubles::schedule::{Schedule, schedules_in};
-use once_judge::{Calls, VerdictLine, judge};
+use once_judge::{Calls, judge};
+use once_observed::VerdictLine;
 use once_script::fault::Fault;
 use once_script::parse::record::parse_record;
 use once_script::print::EntryLine;

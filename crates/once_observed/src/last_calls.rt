@@ -1,8 +1,6 @@
 //! The last calls of the tasks that a verdict names.
 
-use crate::reason::Reason;
-use crate::task::{Cell, task_of};
-use crate::verdict::Verdict;
+use once_judge::{Cell, Reason, Verdict, task_of};
 use once_machine::record::Entry;
 use once_script::print::EntryLine;
 use std::fmt;

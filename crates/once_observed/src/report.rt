@@ -1,8 +1,6 @@
 //! A verdict in words.
 
-use crate::reason::Reason;
-use crate::task::{Cell, Status};
-use crate::verdict::{Fault, Forgotten, Verdict};
+use once_judge::{Cell, Fault, Forgotten, Reason, Status, Verdict};
 use once_machine::record::{Entry, Ran};
 use once_script::print::EntryLine;
 use std::fmt;
