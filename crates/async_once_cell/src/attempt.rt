@@ -394,7 +394,8 @@ impl<T: Drop, X: Failure, I: Init<T, X>> TaskSide<ListedWaker>
     ghost slot_on = { λ s t k n h. k.3 ∙ h };
 }
 
-// What a drop brings, when the init is gone. It does not name the init's type, so that a program has its code once for all inits.
+// What a drop brings, when the init is gone. It does not name the init's type, so that a program has its code once for
+// all inits.
 #[derive(Drop)]
 struct LeaveSide<'r, T, R> {
     rt: &'r R,

@@ -1,9 +1,10 @@
 //! A verdict in words, and what was seen of a cell from outside: whether a run has it. And all that the program
 //! `judge_record` does.
 //!
-//! `report` and `last_calls` have the words of a verdict. `calls` makes calls of the events, each with what it did and between which events. `search` looks for an order of
-//! all that, in which each entry may come next. `drawn` makes pictures of records that were judged. The crate
-//! `judge_record` has the `main` of `program` alone, so that tests can call what it does.
+//! `report` and `last_calls` have the words of a verdict. `calls` makes calls of the events, each with what it did and
+//! between which events. `search` looks for an order of all that, in which each entry may come next. `drawn` makes
+//! pictures of records that were judged. The crate `judge_record` has the `main` of `program` alone, so that tests can
+//! call what it does.
 #![tactic(auto)]
 
 mod calls;
