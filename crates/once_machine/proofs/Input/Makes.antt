@@ -100,7 +100,7 @@ made_fits K limit w t f None is =
     let shared' : SharedFits K limit w.shared h' = shared_at refl refl f.shared in
     let queue' : QueueFits K w.shared.listings h' = quiet f.queue refl refl (λ _. refl) (λ u is. grind arith) (λ x. x) in
     let stands : (u : ℕ) → P u = λ u. ⊎_elim (λ e. subst P e same)
-    (λ n. rw (p.others u n) (stands_kept K limit u w.shared w.shared h h' (w.tasks u) f.shared.ready_is (legal_keeps K u (Made t) limit h (of_other t u n) legal refl)
+    (λ n. rw (p.others u n) (stands_kept (w.tasks u) f.shared.ready_is (legal_keeps K u (Made t) limit h (of_other t u n) legal refl)
     (same_shared refl refl refl refl refl (λ x. x)) (λ n o k r e. inl e) (f.tasks u)))
     (cases_eq t u) in
     let owned = owned_made K limit w new t f is p.others in
@@ -133,7 +133,7 @@ look_fits K limit w f =
     let shared' : SharedFits K limit w.shared h' = shared_at refl refl f.shared in
     let queue' : QueueFits K w.shared.listings h' = quiet f.queue refl refl (λ _. refl) (λ u is. grind arith) (λ x. x) in
     let stands : (u : ℕ) → StandsFor K limit u w.shared h'
-    (w.tasks u) = λ u. stands_kept K limit u w.shared w.shared h h' (w.tasks u) f.shared.ready_is
+    (w.tasks u) = λ u. stands_kept (w.tasks u) f.shared.ready_is
     (legal_keeps K u (Look (look_value w.shared)) limit h refl legal refl)
     (same_shared refl refl refl refl refl (λ x. x)) (λ n o k r e. inl e) (f.tasks u) in
     record {

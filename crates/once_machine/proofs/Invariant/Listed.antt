@@ -30,7 +30,7 @@ none_not_some w e = cc
 pub same_some : (a b : ℕ) → ◌≡◌ {A = Option ℕ} (Some a) (Some b) → a ≡ b
 same_some a b e = cc
 
-module _ (K : Kind) (u : ℕ) (c c' : SharedState) (h h' : List Entry) where
+module _ {K : Kind} {u : ℕ} (c c' : SharedState) {h h' : List Entry} where
   -- a listing
   pub listed_kept : (n : ℕ) (k : Option ℕ) → k ≡ Some n → (c.ready ≡ true → c'.ready ≡ true) → Keeps K u h h'
       → ListKept u k c c' h' → IsListed K u c h n → IsListed K u c' h' n

@@ -52,11 +52,11 @@ puts t y tasks = record {
 }
 
 -- a task of the world keeps what stands for it
-pub stands_kept : (K : Kind) (limit u : ℕ) (c c' : SharedState) (h h' : List Entry) (o : Option Task)
+pub stands_kept : {K : Kind} {limit u : ℕ} {c c' : SharedState} {h h' : List Entry} (o : Option Task)
     → c.ready ≡ is_set (cell K h) → Keeps K u h h' → SharedKeeps K limit c c' u h (is_inside (step_of o))
     → ListKept u (ticket_of (step_of o)) c c' h' → StandsFor K limit u c h o → StandsFor K limit u c' h' o
-stands_kept K limit u c c' h h' None r k s l a = (in_status_kept K u h h' _ false k a.0, rw k.call_is a.1, rw k.call_is a.2)
-stands_kept K limit u c c' h h' (Some x) r k s l a = record { waker_is = rw k.call_is a.waker_is; kept_is = rw k.call_is a.kept_is; step = step_kept K limit u c c' h h' r k x.step s l a.step }
+stands_kept None r k s l a = (in_status_kept _ false k a.0, rw k.call_is a.1, rw k.call_is a.2)
+stands_kept (Some x) r k s l a = record { waker_is = rw k.call_is a.waker_is; kept_is = rw k.call_is a.kept_is; step = step_kept r k x.step s l a.step }
 
 -- one that was not made is not counted
 not_start : (o : Option Task) → o ≡ None → is_counted (step_of o) ≡ true → ⊥
@@ -185,7 +185,7 @@ moved_fits K limit t x y w w' f found live p left g =
     let some : w'.unfinished ≡ how_many lives ns = left ∙ unfinished_by w.unfinished (how_many lived ns) (how_many lives ns) y.step f.unfinished_is (omega arith) in
     let stands : (u : ℕ) → P u = λ u. ⊎_elim
     (λ e. subst P e same)
-    (λ n. rw (p.others u n) (stands_kept K limit u w.shared w'.shared w.history w'.history (w.tasks u) f.shared.ready_is (g.others u n)
+    (λ n. rw (p.others u n) (stands_kept (w.tasks u) f.shared.ready_is (g.others u n)
     (g.keeps u n (is_inside (step_of (w.tasks u))) (λ tk. false_from_ne_true (is_inside (step_of (w.tasks u))) (f.alone t u (ap is_take was ∙ tk))))
     (λ i o k r e. g.listings.lists u i o n (λ q. n (f.single t u i (ap ticket_of was ∙ q) k)) r e) (f.tasks u)))
     (cases_eq t u) in
