@@ -70,11 +70,11 @@ module _ {limit n put : ℕ} {slot : Bool} {pages : List Page} {log : List Entry
 
   -- what holds at the moment
   abbrev m : Moment limit n put slot pages log t x
-  m = moment limit n put slot pages log t x some book pen
+  m = moment t some book pen
 
   -- what stands for the task at its place
   at_place : (p : Place ℕ ℕ) → x.step ≡ UnderWay p → AtPlace Once limit t c m.w.history p
-  at_place p at = stands limit n put slot pages log t x some book pen p at
+  at_place p at = stands t some book pen p at
 
   -- the value is not set where a holder is about to give the right back
   pub unset_at : (q : ℕ) (e : Ending) → x.step ≡ UnderWay (AtRelease q e) → (flags_of n).ready ≡ false

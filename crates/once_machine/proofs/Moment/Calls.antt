@@ -77,7 +77,7 @@ module _ (limit n put : ℕ) (slot : Bool) (pages : List Page) (log : List Entry
   module _ (t : ℕ) (x : Task) (pen : slice_get pages (suc (suc t)) ≡ Some (At x)) where
     -- what holds at the moment
     abbrev m : Moment limit n put slot pages log t x
-    m = moment limit n put slot pages log t x some book pen
+    m = moment t some book pen
 
     -- t is y now, which is no step of it: nothing else changes but the log
     turned : (w' : World) (y : Task) (es : List Entry) → TasksReach limit w' → w'.shared ≡ book.0.shared → w'.tasks ≡ put_task t y book.0.tasks

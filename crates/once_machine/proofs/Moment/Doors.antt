@@ -16,7 +16,7 @@ use Rattle.once_machine.proofs.History.Cells.{holder_unset, none_some, set_free}
 use Rattle.once_machine.proofs.Invariant.Kept.{releasing_holds}
 use Rattle.once_machine.proofs.Place.FitsAfter.{headless}
 use Rattle.once_machine.proofs.Moment.Pages.{door_of, set_here, set_other, zero_one, zero_task}
-use Rattle.once_machine.proofs.Moment.Step.{Moment, Stepped, moment, stands, stepped, stepped_alone}
+use Rattle.once_machine.proofs.Moment.Step.{Moment, Stepped, moment, stands, stepped, stepped_alone, stepped_still}
 use Rattle.once_machine.proofs.Shared.Queue.{door_first}
 use Rattle.once_machine.proofs.Shared.Slot.{is_put_at}
 
@@ -40,7 +40,11 @@ module _ (limit n put : ℕ) (slot : Bool) (pages : List Page) (log : List Entry
 
   -- what holds at the moment
   abbrev m : Moment limit n put slot pages log t x
-  m = moment limit n put slot pages log t x some book pen
+  m = moment t some book pen
+
+  -- the book once t went on so, where no other page changed
+  abbrev Steps : Next ℕ ℕ → Type 0
+  Steps next = Stepped limit n put slot pages log t x [] next
 
   -- nobody holds under the lock where the value is set
   set_headless : c.ready ≡ true → c.head ≡ false
@@ -48,10 +52,10 @@ module _ (limit n put : ℕ) (slot : Bool) (pages : List Page) (log : List Entry
 
   -- the value is set where the queue is taken out of the door
   taken_ready : (e : Ending) → x.step ≡ UnderWay (AtDoorTake e) → c.ready ≡ true
-  taken_ready e at = (stands limit n put slot pages log t x some book pen (AtDoorTake e) at).1
+  taken_ready e at = (stands t some book pen (AtDoorTake e) at).1
 
   -- AtDoorTake where no queue was ever put: the load of the flag that says so
-  pub take_none : (e : Ending) → x.step ≡ UnderWay (AtDoorTake e) → put ≡ 0 → Stepped limit n put slot pages log t x [] (next_end e)
+  pub take_none : (e : Ending) → x.step ≡ UnderWay (AtDoorTake e) → put ≡ 0 → Steps (next_end e)
   take_none e at z =
       let r = taken_ready e at in
       let d : c.door ≡ None = m.unowned.queue.unput (none_put c.queues (sym z ∙ book.1.put_is)) in
@@ -65,31 +69,26 @@ module _ (limit n put : ℕ) (slot : Bool) (pages : List Page) (log : List Entry
     own_door = door_of c.queues made c.door door (sym book.1.door_is ∙ there)
 
     -- AtDoorGet: what stands at the door is read
-    pub door_get : x.step ≡ UnderWay AtDoorGet → Stepped limit n put slot pages log t x [] (after_door_get door)
-    door_get at = stepped_alone t some book pen n false AtDoorGet c [] (after_door_get door) at (ap (λ d. outcome_of c t x.kept [] (after_door_get d)) own_door.1)
-        book.1.within book.1.word_is book.1.put_is book.1.door_is book.1.queue_is
+    pub door_get : x.step ≡ UnderWay AtDoorGet → Steps (after_door_get door)
+    door_get at = stepped_still t some book pen false (after_door_get door) at (ap (λ d. outcome_of c t x.kept [] (after_door_get d)) own_door.1)
 
     -- AtDoorAgain: the queue that a holder finds there is the first
-    pub door_again : (e : Ending) → x.step ≡ UnderWay (AtDoorAgain e)
-        → (door ≡ Some 1) × Stepped limit n put slot pages log t x [] (next_at (AtRelease 1 e))
+    pub door_again : (e : Ending) → x.step ≡ UnderWay (AtDoorAgain e) → (door ≡ Some 1) × Steps (next_at (AtRelease 1 e))
     door_again e at =
-        let a = stands limit n put slot pages log t x some book pen (AtDoorAgain e) at in
+        let a = stands t some book pen (AtDoorAgain e) at in
         let r : c.ready ≡ false = m.fits.shared.ready_is ∙ holder_unset t (cell Once m.w.history) (releasing_holds Once t c m.w.history e a.0) in
         let d : c.door ≡ Some 1 = a.2.1 ∙ ap (λ (q : ℕ). Some q) (door_first c a.2.0 m.unowned.queue r a.2.1) in (
           sym own_door.1 ∙ d,
-          stepped_alone t some book pen n false (AtDoorAgain e) c [] (next_at (AtRelease 1 e)) at (ap (λ q. outcome_of c t x.kept [] (after_door_again q e)) d)
-              book.1.within book.1.word_is book.1.put_is book.1.door_is book.1.queue_is,
+          stepped_still t some book pen false (next_at (AtRelease 1 e)) at (ap (λ q. outcome_of c t x.kept [] (after_door_again q e)) d),
         )
 
     -- AtDoorPut where another put a queue first
-    pub put_found : (q : ℕ) → x.step ≡ UnderWay AtDoorPut → door ≡ Some q → Stepped limit n put slot pages log t x [] (next_at (AtCountIn q))
-    put_found q at e = stepped_alone t some book pen n true AtDoorPut c [] (next_at (AtCountIn q)) at (ap (λ d. put_step true d c t x.kept) (own_door.1 ∙ e))
-        book.1.within book.1.word_is book.1.put_is book.1.door_is book.1.queue_is
+    pub put_found : (q : ℕ) → x.step ≡ UnderWay AtDoorPut → door ≡ Some q → Steps (next_at (AtCountIn q))
+    put_found q at e = stepped_still t some book pen true (next_at (AtCountIn q)) at (ap (λ d. put_step true d c t x.kept) (own_door.1 ∙ e))
 
     -- where memory is refused
-    pub put_refused : x.step ≡ UnderWay AtDoorPut → Stepped limit n put slot pages log t x [] (closing_end EndMemory)
-    put_refused at = stepped_alone t some book pen n false AtDoorPut c [] (closing_end EndMemory) at
-        refl book.1.within book.1.word_is book.1.put_is book.1.door_is book.1.queue_is
+    pub put_refused : x.step ≡ UnderWay AtDoorPut → Steps (closing_end EndMemory)
+    put_refused at = stepped_still t some book pen false (closing_end EndMemory) at refl
 
     -- a step by which the door's page changes
     door_set : (put' made' : ℕ) (door' : Option ℕ) (p : Place ℕ ℕ) (g : Bool) (c' : SharedState) (next : Next ℕ ℕ) → x.step ≡ UnderWay p

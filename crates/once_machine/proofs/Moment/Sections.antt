@@ -39,7 +39,7 @@ module _ (limit n put : ℕ) (slot : Bool) (pages : List Page) (log : List Entry
 
   -- what holds at the moment
   abbrev m : Moment limit n put slot pages log t x
-  m = moment limit n put slot pages log t x some book pen
+  m = moment t some book pen
 
   -- the flag and the listings are those of the queue's page
   own_queue : (c.head ≡ head) × (c.listings ≡ xs)
@@ -70,7 +70,7 @@ module _ (limit n put : ℕ) (slot : Bool) (pages : List Page) (log : List Entry
       Stepped limit n put slot (slice_set pages 1 (Queue (head_after a head) (looked_list a k xs))) log t x
       (claim_entries (is_claim a) t) (after_look a (cond granted (Some x.waker) None) q k)
   look_load q k granted at =
-      let d = stands limit n put slot pages log t x some book pen (AtLook q k) at in
+      let d = stands t some book pen (AtLook q k) at in
       let a : SectionAnswer ℕ = look_answer (Some (sees (flags_of n) head)) (is_waker x.waker (own_listing k xs)) in
       queue_set n (AtLook q k) granted (look_shared a c k) (claim_entries (is_claim a) t) (after_look a (cond granted (Some x.waker) None) q k) (head_after a head) (looked_list a k xs) at
       (ap (λ s. look_step s (is_waker x.waker (own_listing k c.listings)) granted c t x.waker x.kept q k) (seen_is q d.1)
@@ -84,7 +84,7 @@ module _ (limit n put : ℕ) (slot : Bool) (pages : List Page) (log : List Entry
       Stepped limit n put slot (slice_set pages 1 (Queue (head_after a head) (listed_list a k v xs))) log t x
       (claim_entries (is_claim a) t) (after_list a q (listed_ticket a k xs))
   list_load q k v granted at =
-      let d = stands limit n put slot pages log t x some book pen (AtList q k v) at in
+      let d = stands t some book pen (AtList q k v) at in
       let a : SectionAnswer ℕ = list_answer (Some (sees (flags_of n) head)) (is_some (kept_ticket k xs) || granted) in
       queue_set n (AtList q k v) granted (list_shared a c k v) (claim_entries (is_claim a) t) (after_list a q (listed_ticket a k xs)) (head_after a head) (listed_list a k v xs) at
       (ap (λ s. list_step s (is_some (kept_ticket k c.listings) || granted) c t v x.kept q k) (seen_is q d.1)
@@ -98,7 +98,7 @@ module _ (limit n put : ℕ) (slot : Bool) (pages : List Page) (log : List Entry
       (release_entry x.kept t (release_wakers (is_value e) xs) ∷ []) (next_at (AtCountOut e))
   release_add q e at =
       let v : Bool = is_value e in
-      let a = stands limit n put slot pages log t x some book pen (AtRelease q e) at in
+      let a = stands t some book pen (AtRelease q e) at in
       let r : c.ready ≡ false = m.fits.shared.ready_is ∙ holder_unset t (cell Once m.w.history) (releasing_holds Once t c m.w.history e a.0) in
       let g : c.head ≡ not c.quick = one_flag c a.1 in
       let quick : (flags_of n).quick ≡ c.quick = ap (λ (f : Flags). f.quick) book.1.word_is in
@@ -117,7 +117,7 @@ module _ (limit n put : ℕ) (slot : Bool) (pages : List Page) (log : List Entry
       Stepped limit n put slot (slice_set pages 1 (Queue head (left_list passing k xs))) log t x
       (pass_entries t (option_to_list (next_waker passing k xs))) (next_at (AtCountOut e))
   leave_load q k e at =
-      let d = stands limit n put slot pages log t x some book pen (AtLeave q k e) at in
+      let d = stands t some book pen (AtLeave q k e) at in
       let passing : Bool = passes_turn (is_free (sees (flags_of n) head)) k xs in
       let same : is_passing c k ≡ passing = ap (λ f. passes_turn (is_free (sees f c.head)) k c.listings) (sym book.1.word_is)
       ∙ ap (λ b. passes_turn (is_free (sees (flags_of n) b)) k c.listings) own_queue.0 ∙ ap (passes_turn (is_free (sees (flags_of n) head)) k) own_queue.1 in

@@ -56,7 +56,7 @@ pub record Moment (limit word put : ℕ) (slot : Bool) (pages : List Page) (log 
   pub unowned : Unowned w
   pub found : w.tasks t ≡ Some x
 
-module _ (limit n put : ℕ) (slot : Bool) (pages : List Page) (log : List Entry) (t : ℕ) (x : Task) (some : 0 < limit)
+module _ {limit n put : ℕ} {slot : Bool} {pages : List Page} {log : List Entry} (t : ℕ) {x : Task} (some : 0 < limit)
     (book : IsBook limit n put slot pages log) (pen : slice_get pages (suc (suc t)) ≡ Some (At x)) where
   -- whoever has the page of t
   abbrev pub moment : Moment limit n put slot pages log t x
@@ -72,8 +72,6 @@ module _ (limit n put : ℕ) (slot : Bool) (pages : List Page) (log : List Entry
   pub stands : (p : Place ℕ ℕ) → x.step ≡ UnderWay p → AtPlace Once limit t book.0.shared book.0.history p
   stands p at = subst (λ s. AtStep Once limit t book.0.shared book.0.history s) at (task_fits Once limit t book.0 x moment.fits moment.found).step
 
-module _ {limit n put : ℕ} {slot : Bool} {pages : List Page} {log : List Entry} (t : ℕ) {x : Task} (some : 0 < limit)
-    (book : IsBook limit n put slot pages log) (pen : slice_get pages (suc (suc t)) ≡ Some (At x)) where
   -- a step of t at the place p with this outcome, where the pages of the door and of the queue follow
   pub stepped : (word put' : ℕ) (pages' : List Page) (a : Answer) (g : Bool) (p : Place ℕ ℕ) (c' : SharedState) (k' : Answer) (did : List Entry) (next : Next ℕ ℕ)
       → IsUnnamed a → x.step ≡ UnderWay p → place_step false limit book.0.shared t x.waker x.kept a g p ≡ outcome_of c' t k' did next
@@ -82,7 +80,7 @@ module _ {limit n put : ℕ} {slot : Bool} {pages : List Page} {log : List Entry
       → ((u : ℕ) → slice_get pages' (suc (suc u)) ≡ slice_get pages (suc (suc u)))
       → IsBook limit word put' (is_put_at p || slot) (slice_set pages' (suc (suc t)) (At (record x { step = next.step; kept = k' }))) (log ++ told t k' next did)
   stepped word put' pages' a g p c' k' did next unnamed at is within word_is put_is door queue others =
-      let m : Moment limit n put slot pages log t x = moment limit n put slot pages log t x some book pen in
+      let m : Moment limit n put slot pages log t x = moment in
       let c : SharedState = m.w.shared in
       let o : Outcome = advance false limit c t x a g in
       let w' : World = go_world_by true false limit m.w t a g x in
@@ -120,3 +118,10 @@ module _ {limit n put : ℕ} {slot : Bool} {pages : List Page} {log : List Entry
       → Stepped limit word put (is_put_at p || slot) pages log t x did next
   stepped_alone word g p c' did next at is within word_is put_is door queue =
       stepped word put pages RanPending g p c' x.kept did next tt at is within word_is put_is door queue (λ u. refl)
+
+  -- and nothing that all tasks share
+  pub stepped_still : (g : Bool) {p : Place ℕ ℕ} (next : Next ℕ ℕ) → x.step ≡ UnderWay p
+      → place_step false limit book.0.shared t x.waker x.kept RanPending g p ≡ outcome_of book.0.shared t x.kept [] next
+      → Stepped limit n put (is_put_at p || slot) pages log t x [] next
+  stepped_still g {p} next at is =
+      stepped_alone n g p book.0.shared [] next at is book.1.within book.1.word_is book.1.put_is book.1.door_is book.1.queue_is

@@ -7,7 +7,7 @@ use Rattle.std.proofs.lemmas.Bool.Decides.{nat_tests}
 use prog.Atomic.{either}
 use Rattle.once_machine.specs.Numbers.{bit}
 use Rattle.once_machine.specs.Word.{Flags, flags_of, is_quick_bit, is_zero}
-use Rattle.once_machine.specs.Table.{Call, Load, Quick, Fast, AddOne, CountOut, Told, Loaded, TriedQuick, TriedFast, CountedOut, after, after_count_in, call_at}
+use Rattle.once_machine.specs.Table.{Next, Call, Load, Quick, Fast, AddOne, CountOut, Told, Loaded, TriedQuick, TriedFast, CountedOut, after, after_count_in, call_at}
 use Rattle.once_machine.specs.Record.{Answer, Entry, Once, RanPending}
 use Rattle.once_machine.specs.Book.{At, Door, IsBook, Page, Queue}
 use Rattle.once_machine.specs.Machine.{AtAddOne, AtCountIn, AtCountOut, Place, SharedState, StepInput, Task, UnderWay, answer, fast_shared, hands}
@@ -16,7 +16,7 @@ use Rattle.once_machine.specs.Words.{IsFound, IsWordCall, found, word_after}
 use Rattle.once_machine.specs.Machine.{in_shared}
 use Rattle.once_machine.proofs.Invariant.Moves.{in_count}
 use Rattle.once_machine.proofs.Moment.Numbers.{fast_within, in_within, in_wraps, out_wraps, quick_word, word_fast, word_in, word_out, word_quick, zero_word}
-use Rattle.once_machine.proofs.Moment.Step.{Moment, Stepped, moment, stands, stepped_alone}
+use Rattle.once_machine.proofs.Moment.Step.{Moment, Stepped, moment, stands, stepped_alone, stepped_still}
 use Rattle.once_machine.proofs.Shared.Slot.{is_put_at}
 
 -- what a call asks of the number
@@ -102,7 +102,11 @@ module _ (limit n put : ℕ) (slot : Bool) (pages : List Page) (log : List Entry
 
   -- what holds at the moment
   abbrev m : Moment limit n put slot pages log t x
-  m = moment limit n put slot pages log t x some book pen
+  m = moment t some book pen
+
+  -- the book once t went on so, after which the word stands, where no other page changed
+  abbrev Steps : ℕ → List Entry → Next ℕ ℕ → Type 0
+  Steps word did next = Stepped limit word put slot pages log t x did next
 
   -- the count of the word
   count_is : (flags_of n).count ≡ c.count
@@ -116,7 +120,7 @@ module _ (limit n put : ℕ) (slot : Bool) (pages : List Page) (log : List Entry
   word_fits : (p : Place ℕ ℕ) → limit ≤ 2 ^ 62 - 2 → x.step ≡ UnderWay p → IsWordCall (call_at p) → WordFits (call_at p) n
   word_fits (AtAddOne e) most at w =
       let i = count_is in
-      let l : c.count ≤ limit = (stands limit n put slot pages log t x some book pen (AtAddOne e) at).2 in omega arith
+      let l : c.count ≤ limit = (stands t some book pen (AtAddOne e) at).2 in omega arith
   word_fits (AtCountOut e) most at w =
       let l : 0 < c.count = in_count Once limit m.w t m.fits (rw (m.found, at) refl) in
       rw count_is l
@@ -133,7 +137,7 @@ module _ (limit n put : ℕ) (slot : Bool) (pages : List Page) (log : List Entry
   -- the step of the word
   pub word_step : (p : Place ℕ ℕ) → limit ≤ 2 ^ 62 - 2 → x.step ≡ UnderWay p → IsWordCall (call_at p)
       → let e = found (call_at p) n in
-      Stepped limit (word_after (call_at p) n) put slot pages log t x (records e RanPending t x.kept []) (after (Some x.waker) p e)
+      Steps (word_after (call_at p) n) (records e RanPending t x.kept []) (after (Some x.waker) p e)
   word_step p most at w =
       let call : Call ℕ ℕ = call_at p in
       let e : Told ℕ ℕ = found call n in
@@ -153,8 +157,7 @@ module _ (limit n put : ℕ) (slot : Bool) (pages : List Page) (log : List Entry
       (book.1.queue_is ∙ (λ j. Some (Queue (q.head j) (q.listings j)))))
 
   -- AtCountIn: the exchange that counts t in
-  pub count_in : (q : ℕ) → x.step ≡ UnderWay (AtCountIn q) → limit ≤ 2 ^ 62 - 2 → (flags_of n).count < limit
-      → Stepped limit (n + 1) put slot pages log t x [] (after_count_in true (flags_of n).ready q)
+  pub count_in : (q : ℕ) → x.step ≡ UnderWay (AtCountIn q) → limit ≤ 2 ^ 62 - 2 → (flags_of n).count < limit → Steps (n + 1) [] (after_count_in true (flags_of n).ready q)
   count_in q at within l =
       let e = count_is in
       let below : nat_lt c.count limit ≡ true = grind (arith, nat_tests) in
@@ -165,10 +168,9 @@ module _ (limit n put : ℕ) (slot : Bool) (pages : List Page) (log : List Entry
       book.1.put_is book.1.door_is book.1.queue_is
 
   -- the load after which t does not count itself in, as many being counted as may be
-  pub count_full : (q : ℕ) → x.step ≡ UnderWay (AtCountIn q) → limit ≤ (flags_of n).count → Stepped limit n put slot pages log t x [] (after_count_in false (flags_of n).ready q)
+  pub count_full : (q : ℕ) → x.step ≡ UnderWay (AtCountIn q) → limit ≤ (flags_of n).count → Steps n [] (after_count_in false (flags_of n).ready q)
   count_full q at l =
       let e = count_is in
       let above : nat_lt c.count limit ≡ false = grind (arith, nat_tests) in
-      stepped_alone t some book pen n false (AtCountIn q) c [] (after_count_in false (flags_of n).ready q) at
+      stepped_still t some book pen false (after_count_in false (flags_of n).ready q) at
       (ap (λ b. outcome_of (in_shared b c) t x.kept [] (after_count_in b c.ready q)) above ∙ ap (λ b. outcome_of c t x.kept [] (after_count_in false b q)) (sym ready_is))
-      book.1.within book.1.word_is book.1.put_is book.1.door_is book.1.queue_is

@@ -13,12 +13,12 @@ module _ (limit n put : ℕ) (slot : Bool) (pages : List Page) (log : List Entry
     (book : IsBook limit n put slot pages log) (pen : slice_get pages (suc (suc t)) ≡ Some (At x)) where
   -- by its place
   pub enters_first : EntersFirst x.step
-  enters_first = let m : Moment limit n put slot pages log t x = moment limit n put slot pages log t x some book pen in enters_of t m.w x m.unowned m.found
+  enters_first = let m : Moment limit n put slot pages log t x = moment t some book pen in enters_of t m.w x m.unowned m.found
 
   -- one that counts itself in before the value is set will enter the first too
   pub counts_in_first : (q : ℕ) → x.step ≡ UnderWay (AtCountIn q) → (flags_of n).ready ≡ false → q ≡ 1
   counts_in_first q at r =
-      let m : Moment limit n put slot pages log t x = moment limit n put slot pages log t x some book pen in
+      let m : Moment limit n put slot pages log t x = moment t some book pen in
       let u : m.w.shared.ready ≡ false = ap (λ (f : Flags). f.ready) (sym book.1.word_is) ∙ r in
       ⊎_elim (λ d. door_first m.w.shared q m.unowned.queue u d) (λ e. absurd (false≢true (sym u ∙ e)))
-      (stands limit n put slot pages log t x some book pen (AtCountIn q) at).1
+      (stands t some book pen (AtCountIn q) at).1

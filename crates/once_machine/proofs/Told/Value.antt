@@ -109,6 +109,6 @@ module _ (limit n put : ℕ) (slot : Bool) (pages : List Page) (log : List Entry
   pub put_alone : (t u : ℕ) (x y : Task) (by as_by : Option ℕ) → slice_get pages (suc (suc t)) ≡ Some (At x) → slice_get pages (suc (suc u)) ≡ Some (At y)
       → x.step ≡ UnderWay (AtPut by) → y.step ≡ UnderWay (AtPut as_by) → t ≡ u
   put_alone t u x y by as_by pen other at other_at =
-      let a = stands limit n put slot pages log t x some book pen (AtPut by) at in
-      let b = stands limit n put slot pages log u y some book other (AtPut as_by) other_at in
+      let a = stands t some book pen (AtPut by) at in
+      let b = stands u some book other (AtPut as_by) other_at in
       one_holder t u (cell Once book.0.history) a.1.holds_is b.1.holds_is

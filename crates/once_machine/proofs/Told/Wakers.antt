@@ -73,9 +73,9 @@ pub look_own : (limit n put : ℕ) (slot : Bool) (pages : List Page) (log : List
     → is_waker x.waker (own_listing k xs) ≡ is_some (option_flatten (own_listing k xs))
 look_own limit n put slot pages log t x some book pen head xs queue q None at r = refl
 look_own limit n put slot pages log t x some book pen head xs queue q (Some j) at r =
-    let m : Moment limit n put slot pages log t x = moment limit n put slot pages log t x some book pen in
+    let m : Moment limit n put slot pages log t x = moment t some book pen in
     let own = own_wakers limit t m.w.history m.fits.run m.unowned.plain in
-    let a = stands limit n put slot pages log t x some book pen (AtLook q (Some j)) at in
+    let a = stands t some book pen (AtLook q (Some j)) at in
     let same = (queue_of m.w.shared.head head m.w.shared.listings xs (sym book.1.queue_is ∙ queue)).1 in
     let u : m.w.shared.ready ≡ false = ap (λ (f : Flags). f.ready) (sym book.1.word_is) ∙ r in
     let listed : (last_call Once t m.w.history).listed ≡ t = own.began a.2.0 in
