@@ -28,10 +28,10 @@ set_not_held c u a b = false≢true (sym (ap is_set b) ∙ a)
 
 -- a set cell stays set while a task is about
 set_kept : (K : Kind) (limit : ℕ) (e : Entry) (h : List Entry) → IsLegal K limit e h → (all_gone K h ≡ true → ⊥)
-    → is_set (cell K h) ≡ true → (b : Bool) → is_own e ≡ b → is_set (cell K (e ∷ h)) ≡ true
-set_kept K limit e h l g s false n = let v = value_of_set (cell K h) s in ap is_set (set_stays_after K e limit h v.0 n l v.1)
-set_kept K limit (Own o got) h l g s true n = absurd (g l.0)
-set_kept K limit _ h l g s true n = absurd (false≢true n)
+    → is_set (cell K h) ≡ true → {b : Bool} → is_own e ≡ b → is_set (cell K (e ∷ h)) ≡ true
+set_kept K limit e h l g s {b = false} n = let v = value_of_set (cell K h) s in ap is_set (set_stays_after K e limit h v.0 n l v.1)
+set_kept K limit (Own o got) h l g s {b = true} n = absurd (g l.0)
+set_kept K limit _ h l g s {b = true} n = absurd (false≢true n)
 
 -- such a poll sees the cell set
 abbrev SetSo : Kind → ℕ → List Entry → Type 0
@@ -54,34 +54,8 @@ still_unheld K t e h set b n none (inl o) = set_not_held (cell K (e ∷ h)) o.0 
 still_unheld K t e h set true n none (inr s) = let no : ⊥ = rw n at s in no
 still_unheld K t e h set false n none (inr s) = none (rw n at s)
 
--- of its own entries it can have made its beginning alone
-own_set : (K : Kind) (limit t : ℕ) (e : Entry) (h : List Entry) → is_of t e ≡ true → IsLegal K limit e h
-    → SetSo K t h → status_after e (cell K h) (status K t h) ≡ Polling
-    → (last_call_after e (cell K h) (status K t h) (last_call K t h)).set_then ≡ true
-    → (is_set (cell K (e ∷ h)) ≡ true) × ((last_call_after e (cell K h) (status K t h) (last_call K t h)).ran ≡ None)
-    × (Since t (OtherHolds K t) (e ∷ h) → ⊥)
-own_set K limit t (Begin u w) h n l ih s x = (x, refl, begun_unheld K t u w h n x)
-own_set K limit t (End u Pending) h n l ih s x = absurd (pending_polls u (cell K h) s)
-own_set K limit t e h n l ih s x = grind (arith, nat_tests, common_steps, ih)
-
 not_unmade_polling : Polling ≡ Unmade → ⊥
 not_unmade_polling e = cc
-
--- its entries and those of others keep it so
-set_by : (K : Kind) (limit t : ℕ) (e : Entry) (h : List Entry) (b : Bool) → is_of t e ≡ b → IsRun K limit (e ∷ h) → SetSo K t h → SetSo K t (e ∷ h)
-set_by K limit t e h true is r ih s x =
-    let k = own_set K limit t e h is r.0 ih (rw is at s) (rw is at x) in
-    record { set = k.0; unran = rw is k.1; unheld = k.2 }
-set_by K limit t e h false is r ih s x =
-    let s' : status K t h ≡ Polling = rw is at s in
-    let k = ih s' (rw is at x) in
-    let set = set_kept K limit e h r.0 (live K limit t h Polling r.1 s' refl not_unmade_polling) k.set (is_own e) refl in
-    record { set = set; unran = rw is k.unran; unheld = still_unheld K t e h set (is_begin_of t e) refl k.unheld }
-
--- in every run
-set_poll : (K : Kind) (limit t : ℕ) (h : List Entry) → IsRun K limit h → SetSo K t h
-set_poll K limit t [] r s x = grind arith
-set_poll K limit t (e ∷ h) r s x = set_by K limit t e h (is_of t e) refl r (set_poll K limit t h r.1) s x
 
 -- it is not refused memory
 not_memory : (K : Kind) (t : ℕ) (h : List Entry) → (last_call K t h).set_then ≡ true → (Since t (OtherHolds K t) h → ⊥) → (s : Status) → MemoryFrom K s t h → ⊥
@@ -89,21 +63,48 @@ not_memory K t h set unheld Fresh m = false≢true (sym m.0 ∙ set)
 not_memory K t h set unheld Waiting m = unheld m
 not_memory K t h set unheld _ m = m
 
--- it ends with the value
-set_end : (K : Kind) (limit t : ℕ) (r : Reply) (h : List Entry) (v : ℕ) → cell K h ≡ SetTo v
-    → (last_call K t h).set_then ≡ true → (Since t (OtherHolds K t) h → ⊥) → MayEnd K limit t r None h → r ≡ Value v
-set_end K limit t (Value u) h v c x n m = let k : u ≡ v = let z : SetTo u ≡ SetTo v = sym m ∙ c in cc in ap (λ n. Value n) k
-set_end K limit t Pending h v c x n m = absurd (set_not_held (cell K h) m.0 (ap is_set c) m.2)
-set_end K limit t (Error e) h v c x n m = absurd m
-set_end K limit t Memory h v c x n m = absurd (not_memory K t h x n (last_call K t h).began m.1)
-set_end K limit t Full h v c x n m = absurd (false≢true (sym m.3 ∙ ap is_set c))
+module _ (K : Kind) (limit t : ℕ) where
+  -- of its own entries it can have made its beginning alone
+  own_set : (e : Entry) (h : List Entry) → is_of t e ≡ true → IsLegal K limit e h
+      → SetSo K t h → status_after e (cell K h) (status K t h) ≡ Polling
+      → (last_call_after e (cell K h) (status K t h) (last_call K t h)).set_then ≡ true
+      → (is_set (cell K (e ∷ h)) ≡ true) × ((last_call_after e (cell K h) (status K t h) (last_call K t h)).ran ≡ None)
+      × (Since t (OtherHolds K t) (e ∷ h) → ⊥)
+  own_set (Begin u w) h n l ih s x = (x, refl, begun_unheld K t u w h n x)
+  own_set (End u Pending) h n l ih s x = absurd (pending_polls u (cell K h) s)
+  own_set e h n l ih s x = grind (arith, nat_tests, common_steps, ih)
 
--- a poll that begins when the value is set answers it without running its init
-pub set_answered : (K : Kind) (limit t : ℕ) (r : Reply) (h : List Entry) → IsRun K limit (End t r ∷ h)
-    → (last_call K t h).set_then ≡ true
-    → ((last_call K t h).ran ≡ None) × ((v : ℕ) × (cell K h ≡ SetTo v) × (r ≡ Value v))
-set_answered K limit t r h run x =
-    let k = set_poll K limit t h run.1 run.0.0 x in
-    let v = value_of_set (cell K h) k.set in
-    let P : Option Answer → Type 0 = λ a. MayEnd K limit t r a h in
-    (k.unran, (v.0, v.1, set_end K limit t r h v.0 v.1 x k.unheld (subst P k.unran run.0.1)))
+  -- its entries and those of others keep it so
+  set_by : (e : Entry) (h : List Entry) (b : Bool) → is_of t e ≡ b → IsRun K limit (e ∷ h) → SetSo K t h → SetSo K t (e ∷ h)
+  set_by e h true is r ih s x =
+      let k = own_set e h is r.0 ih (rw is at s) (rw is at x) in
+      record { set = k.0; unran = rw is k.1; unheld = k.2 }
+  set_by e h false is r ih s x =
+      let s' : status K t h ≡ Polling = rw is at s in
+      let k = ih s' (rw is at x) in
+      let set = set_kept K limit e h r.0 (live K limit t h r.1 s' refl not_unmade_polling) k.set refl in
+      record { set = set; unran = rw is k.unran; unheld = still_unheld K t e h set (is_begin_of t e) refl k.unheld }
+
+  -- in every run
+  set_poll : (h : List Entry) → IsRun K limit h → SetSo K t h
+  set_poll [] r s x = grind arith
+  set_poll (e ∷ h) r s x = set_by e h (is_of t e) refl r (set_poll h r.1) s x
+
+  -- it ends with the value
+  set_end : (r : Reply) (h : List Entry) (v : ℕ) → cell K h ≡ SetTo v
+      → (last_call K t h).set_then ≡ true → (Since t (OtherHolds K t) h → ⊥) → MayEnd K limit t r None h → r ≡ Value v
+  set_end (Value u) h v c x n m = let k : u ≡ v = let z : SetTo u ≡ SetTo v = sym m ∙ c in cc in ap (λ n. Value n) k
+  set_end Pending h v c x n m = absurd (set_not_held (cell K h) m.0 (ap is_set c) m.2)
+  set_end (Error e) h v c x n m = absurd m
+  set_end Memory h v c x n m = absurd (not_memory K t h x n (last_call K t h).began m.1)
+  set_end Full h v c x n m = absurd (false≢true (sym m.3 ∙ ap is_set c))
+
+  -- a poll that begins when the value is set answers it without running its init
+  pub set_answered : (r : Reply) (h : List Entry) → IsRun K limit (End t r ∷ h)
+      → (last_call K t h).set_then ≡ true
+      → ((last_call K t h).ran ≡ None) × ((v : ℕ) × (cell K h ≡ SetTo v) × (r ≡ Value v))
+  set_answered r h run x =
+      let k = set_poll h run.1 run.0.0 x in
+      let v = value_of_set (cell K h) k.set in
+      let P : Option Answer → Type 0 = λ a. MayEnd K limit t r a h in
+      (k.unran, (v.0, v.1, set_end r h v.0 v.1 x k.unheld (subst P k.unran run.0.1)))

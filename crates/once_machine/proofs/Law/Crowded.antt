@@ -23,26 +23,27 @@ memory_by K limit t h (Some a) s b m = absurd m
 pub memory_met : (K : Kind) (limit t : ℕ) (h : List Entry) → IsRun K limit (End t Memory ∷ h) → Since t (OtherActs K t) h
 memory_met K limit t h r = memory_by K limit t h (last_call K t h).ran (last_call K t h).began refl r.0.1
 
--- who is about and does not act waits
-about_by : (K : Kind) (limit t u : ℕ) (h : List Entry) → IsRun K limit h → (OtherActs K t h → ⊥) → t ≢ u
-    → (s : Status) → status K u h ≡ s → is_about s ≡ true → is_waiting s ≡ true
-about_by K limit t u h r n d Waiting e a = refl
-about_by K limit t u h r n d Polling e a = absurd (n (inr (u, d, ap is_under_way e)))
-about_by K limit t u h r n d Dropping e a = absurd (n (inr (u, d, ap is_under_way e)))
-about_by K limit t u h r n d Holding e a = absurd (n (inl (u, d, holding_holds K limit u h r e)))
-about_by K limit t u h r n d _ e a = absurd (false≢true a)
+module _ (K : Kind) (limit t : ℕ) (h : List Entry) (r : IsRun K limit h) (n : OtherActs K t h → ⊥) where
+  -- who is about and does not act waits
+  about_by : (u : ℕ) → t ≢ u
+      → (s : Status) → status K u h ≡ s → is_about s ≡ true → is_waiting s ≡ true
+  about_by u d Waiting e a = refl
+  about_by u d Polling e a = absurd (n (inr (u, d, ap is_under_way e)))
+  about_by u d Dropping e a = absurd (n (inr (u, d, ap is_under_way e)))
+  about_by u d Holding e a = absurd (n (inl (u, d, holding_holds K limit u h r e)))
+  about_by u d _ e a = absurd (false≢true a)
 
--- the same for who is another task
-waits_by : (K : Kind) (limit t u : ℕ) (h : List Entry) → IsRun K limit h → (OtherActs K t h → ⊥) → (b : Bool)
-    → (u == t) ≡ b → cond b false (is_about (status K u h)) ≡ true → cond b false (is_waiting (status K u h)) ≡ true
-waits_by K limit t u h r n true e a = a
-waits_by K limit t u h r n false e a = about_by K limit t u h r n (λ k. false≢true (sym e ∙ eq-eqb u t (sym k))) (status K u h) refl a
+  -- the same for who is another task
+  waits_by : (u : ℕ) (b : Bool)
+      → (u == t) ≡ b → cond b false (is_about (status K u h)) ≡ true → cond b false (is_waiting (status K u h)) ≡ true
+  waits_by u true e a = a
+  waits_by u false e a = about_by u (λ k. false≢true (sym e ∙ eq-eqb u t (sym k))) (status K u h) refl a
 
--- where nobody else holds or is in a call, the crowd waits
-crowd_waits : (K : Kind) (limit t : ℕ) (h : List Entry) → IsRun K limit h → (OtherActs K t h → ⊥) → crowd K t h ≤ waiters K t h
-crowd_waits K limit t h r n =
-    count_weaker (made_in h) (λ u. cond (u == t) false (is_about (status K u h)))
-    (λ u. cond (u == t) false (is_waiting (status K u h))) (λ u a. waits_by K limit t u h r n (u == t) refl a)
+  -- where nobody else holds or is in a call, the crowd waits
+  crowd_waits : crowd K t h ≤ waiters K t h
+  crowd_waits =
+      count_weaker (made_in h) (λ u. cond (u == t) false (is_about (status K u h)))
+      (λ u. cond (u == t) false (is_waiting (status K u h))) (λ u a. waits_by u (u == t) refl a)
 
 -- no Begin came between
 since_put : (P : List Entry → Type 0) (moments : List (List Entry)) (b : Bool) → b ≡ false → AtSome P moments → AtSome P (cond b [] moments)

@@ -66,26 +66,27 @@ unmade_stays : (s : Status) → s ≡ Unmade → IsLeaving s → ⊥
 unmade_stays s u (inl l) = false≢true (ap is_under_way (sym u) ∙ l)
 unmade_stays s u (inr g) = let z : Unmade ≡ Gone = sym u ∙ g in cc
 
--- after an entry of its own
-own_leaves : (K : Kind) (limit t : ℕ) (e : Entry) (h : List Entry) → is_of t e ≡ true → IsLegal K limit e h
-    → ((last_call K t h).passed ≡ true → IsLeaving (status K t h))
-    → (last_call_after e (cell K h) (status K t h) (last_call K t h)).passed ≡ true → IsLeaving (status_after e (cell K h) (status K t h))
-own_leaves K limit t (Made u) h n l ih p = absurd (unmade_stays (status K t h) (ap (λ v. status K v h) (sym (eqb-true u t n)) ∙ l) (ih p))
-own_leaves K limit t (Pass u X) h n l ih p = inl (passes_acting K t u h n l.1)
-own_leaves K limit t (End u Pending) h n l ih p =
-    let r : Pending ≡ Memory = ⊎_elim (λ f. absurd (false≢true (sym f ∙ ap (λ v. (last_call K v h).passed) (eqb-true u t n) ∙ p))) (λ m. m) l.2 in
-    cc
-own_leaves K limit t e h n l ih p = grind (arith, nat_tests, common_steps, ih)
+module _ (K : Kind) (limit t : ℕ) where
+  -- after an entry of its own
+  own_leaves : (e : Entry) (h : List Entry) → is_of t e ≡ true → IsLegal K limit e h
+      → ((last_call K t h).passed ≡ true → IsLeaving (status K t h))
+      → (last_call_after e (cell K h) (status K t h) (last_call K t h)).passed ≡ true → IsLeaving (status_after e (cell K h) (status K t h))
+  own_leaves (Made u) h n l ih p = absurd (unmade_stays (status K t h) (ap (λ v. status K v h) (sym (eqb-true u t n)) ∙ l) (ih p))
+  own_leaves (Pass u X) h n l ih p = inl (passes_acting K t u h n l.1)
+  own_leaves (End u Pending) h n l ih p =
+      let r : Pending ≡ Memory = ⊎_elim (λ f. absurd (false≢true (sym f ∙ ap (λ v. (last_call K v h).passed) (eqb-true u t n) ∙ p))) (λ m. m) l.2 in
+      cc
+  own_leaves e h n l ih p = grind (arith, nat_tests, common_steps, ih)
 
--- by whether the entry is of the task
-leaves_by : (K : Kind) (limit t : ℕ) (e : Entry) (h : List Entry) (b : Bool) → is_of t e ≡ b → IsLegal K limit e h
-    → ((last_call K t h).passed ≡ true → IsLeaving (status K t h)) → (last_call K t (e ∷ h)).passed ≡ true
-    → IsLeaving (status K t (e ∷ h))
-leaves_by K limit t e h true is l ih p = rw is (own_leaves K limit t e h is l ih (rw is at p))
-leaves_by K limit t e h false is l ih p = rw is (ih (rw is at p))
+  -- by whether the entry is of the task
+  leaves_by : (e : Entry) (h : List Entry) (b : Bool) → is_of t e ≡ b → IsLegal K limit e h
+      → ((last_call K t h).passed ≡ true → IsLeaving (status K t h)) → (last_call K t (e ∷ h)).passed ≡ true
+      → IsLeaving (status K t (e ∷ h))
+  leaves_by e h true is l ih p = rw is (own_leaves e h is l ih (rw is at p))
+  leaves_by e h false is l ih p = rw is (ih (rw is at p))
 
--- a task that passed its turn on is in that call still, or gone
-pub passer_gone : (K : Kind) (limit t : ℕ) (h : List Entry) → IsRun K limit h → (last_call K t h).passed ≡ true
-    → (is_under_way (status K t h) ≡ true) ⊎ (status K t h ≡ Gone)
-passer_gone K limit t [] r p = absurd (false≢true p)
-passer_gone K limit t (e ∷ h) r p = leaves_by K limit t e h (is_of t e) refl r.0 (passer_gone K limit t h r.1) p
+  -- a task that passed its turn on is in that call still, or gone
+  pub passer_gone : (h : List Entry) → IsRun K limit h → (last_call K t h).passed ≡ true
+      → (is_under_way (status K t h) ≡ true) ⊎ (status K t h ≡ Gone)
+  passer_gone [] r p = absurd (false≢true p)
+  passer_gone (e ∷ h) r p = leaves_by e h (is_of t e) refl r.0 (passer_gone h r.1) p

@@ -23,31 +23,32 @@ no_begin K t u h e s m =
     let w : status K u h ≡ Unmade = ap (λ v. status K v h) (eqb-true u t e) ∙ s in
     subst MayBegin w m
 
--- only a Made is legal for a task that was not made
-first_made : (K : Kind) (t : ℕ) (e : Entry) (limit : ℕ) (h : List Entry) → is_of t e ≡ true → IsLegal K limit e h
-    → status K t h ≡ Unmade → member t (made_in (e ∷ h)) ≡ true
-first_made K t (Begin u w) limit h n l s = absurd (no_begin K t u h n s l)
-first_made K t (DropBegin u) limit h n l s = absurd (no_begin K t u h n s l)
-first_made K t (Free u X) limit h n l s = absurd (no_free K t u h n s l.1)
-first_made K t (Pass u X) limit h n l s = absurd (no_pass K t u h n (ap is_under_way s) l.1)
-first_made K t e limit h n l s = grind (arith, nat_tests, common_steps)
-
 -- who is made later was not made
 made_less : (t : ℕ) (e : Entry) (h : List Entry) → member t (made_in (e ∷ h)) ≡ false → member t (made_in h) ≡ false
 made_less t (Made u) h m = grind arith
 made_less t _ h m = m
 
--- by whether the entry is of the task
-unmade_by : (K : Kind) (t : ℕ) (e : Entry) (limit : ℕ) (h : List Entry) (b : Bool) → is_of t e ≡ b
-    → IsLegal K limit e h → member t (made_in (e ∷ h)) ≡ false → status K t h ≡ Unmade → status K t (e ∷ h) ≡ Unmade
-unmade_by K t e limit h true is l m s = absurd (false≢true (sym m ∙ first_made K t e limit h is l s))
-unmade_by K t e limit h false is l m s = rw is s
+module _ (K : Kind) (limit t : ℕ) where
+  -- only a Made is legal for a task that was not made
+  first_made : (e : Entry) (h : List Entry) → is_of t e ≡ true → IsLegal K limit e h
+      → status K t h ≡ Unmade → member t (made_in (e ∷ h)) ≡ true
+  first_made (Begin u w) h n l s = absurd (no_begin K t u h n s l)
+  first_made (DropBegin u) h n l s = absurd (no_begin K t u h n s l)
+  first_made (Free u X) h n l s = absurd (no_free K t u h n s l.1)
+  first_made (Pass u X) h n l s = absurd (no_pass K t u h n (ap is_under_way s) l.1)
+  first_made e h n l s = grind (arith, nat_tests, common_steps)
 
--- in a run a task without a Made is unmade
-unmade_status : (K : Kind) (t : ℕ) (h : List Entry) → (limit : ℕ) → IsRun K limit h → member t (made_in h) ≡ false → status K t h ≡ Unmade
-unmade_status K t [] limit r m = refl
-unmade_status K t (e ∷ h) limit r m = unmade_by K t e limit h (is_of t e) refl r.0 m (unmade_status K t h limit r.1 (made_less t e h m))
+  -- by whether the entry is of the task
+  unmade_by : (e : Entry) (h : List Entry) (b : Bool) → is_of t e ≡ b
+      → IsLegal K limit e h → member t (made_in (e ∷ h)) ≡ false → status K t h ≡ Unmade → status K t (e ∷ h) ≡ Unmade
+  unmade_by e h true is l m s = absurd (false≢true (sym m ∙ first_made e h is l s))
+  unmade_by e h false is l m s = rw is s
 
--- where all that were made are gone, each task is unmade or gone
-pub over_all : (K : Kind) (limit t : ℕ) (h : List Entry) → IsRun K limit h → all_gone K h ≡ true → (status K t h ≡ Unmade) ⊎ (is_gone (status K t h) ≡ true)
-over_all K limit t h r a = ⊎_elim (λ e. inr (made_there K t (made_in h) h a e)) (λ e. inl (unmade_status K t h limit r e)) (cases_Bool (member t (made_in h)))
+  -- in a run a task without a Made is unmade
+  unmade_status : (h : List Entry) → IsRun K limit h → member t (made_in h) ≡ false → status K t h ≡ Unmade
+  unmade_status [] r m = refl
+  unmade_status (e ∷ h) r m = unmade_by e h (is_of t e) refl r.0 m (unmade_status h r.1 (made_less t e h m))
+
+  -- where all that were made are gone, each task is unmade or gone
+  pub over_all : (h : List Entry) → IsRun K limit h → all_gone K h ≡ true → (status K t h ≡ Unmade) ⊎ (is_gone (status K t h) ≡ true)
+  over_all h r a = ⊎_elim (λ e. inr (made_there K t (made_in h) h a e)) (λ e. inl (unmade_status h r e)) (cases_Bool (member t (made_in h)))
