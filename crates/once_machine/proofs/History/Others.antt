@@ -127,16 +127,15 @@ waiter_acts K v (Free t X) limit h n l s = absurd (no_free K t (eqb-true t v n) 
 waiter_acts K v (Pass t X) limit h n l s = absurd (no_pass K t (eqb-true t v n) h s l.1)
 waiter_acts K v e limit h n l s = grind (arith, nat_tests, common_steps)
 
-waits_by : (K : Kind) (u v : ℕ) (e : Entry) (limit : ℕ) (h : List Entry) (b : Bool) → is_of u e ≡ false
-    → IsLegal K limit e h → status K v h ≡ Waiting → is_of v e ≡ b → Met K u (e ∷ h) ⊎ SomeoneWaits K (e ∷ h)
-waits_by K u v e limit h true n l s is =
-    let acts : is_under_way (status K v (e ∷ h)) ≡ true = rw is (waiter_acts K v e limit h is l s) in
-    inl (since_now_acts K u v (e ∷ h) (λ same. false≢true (sym n ∙ subst (λ k. is_of k e ≡ true) (sym same) is)) acts)
-waits_by K u v e limit h false n l s is = inr (v, rw is s)
+module _ (K : Kind) (u : ℕ) (e : Entry) (limit : ℕ) (h : List Entry) (n : is_of u e ≡ false) (l : IsLegal K limit e h) where
+  waits_by : (v : ℕ) (b : Bool) → status K v h ≡ Waiting → is_of v e ≡ b → Met K u (e ∷ h) ⊎ SomeoneWaits K (e ∷ h)
+  waits_by v true s is =
+      let acts : is_under_way (status K v (e ∷ h)) ≡ true = rw is (waiter_acts K v e limit h is l s) in
+      inl (since_now_acts K u v (e ∷ h) (λ same. false≢true (sym n ∙ subst (λ k. is_of k e ≡ true) (sym same) is)) acts)
+  waits_by v false s is = inr (v, rw is s)
 
-waits_after : (K : Kind) (u : ℕ) (e : Entry) (limit : ℕ) (h : List Entry) → is_of u e ≡ false → IsLegal K limit e h
-    → SomeoneWaits K h → Met K u (e ∷ h) ⊎ SomeoneWaits K (e ∷ h)
-waits_after K u e limit h n l s = waits_by K u s.0 e limit h (is_of s.0 e) n l s.1 refl
+  waits_after : SomeoneWaits K h → Met K u (e ∷ h) ⊎ SomeoneWaits K (e ∷ h)
+  waits_after s = waits_by s.0 (is_of s.0 e) s.1 refl
 
 -- an entry of another task leaves u as it was
 pub legal_keeps : (K : Kind) (u : ℕ) (e : Entry) (limit : ℕ) (h : List Entry) → is_of u e ≡ false → IsLegal K limit e h → is_own e ≡ false → Keeps K u h (e ∷ h)

@@ -42,71 +42,72 @@ releasing_acts K u c h e r = grind (arith, nat_tests, common_steps)
 pub leaves_acts : (K : Kind) (u : ℕ) (h : List Entry) (e : Ending) → MayLeave K u h e → is_under_way (status K u h) ≡ true
 leaves_acts K u h e o = grind (arith, nat_tests, common_steps)
 
--- a task whose call is under way is in a poll or a drop
-pub place_acts : (K : Kind) (limit u : ℕ) (c : SharedState) (h : List Entry) (p : Place ℕ ℕ) → AtPlace K limit u c h p → is_under_way (status K u h) ≡ true
-place_acts K limit u c h p a = grind (arith, nat_tests, common_steps)
-
 -- who acts does not wait
 pub no_wait : {s : Status} → is_under_way s ≡ true → s ≡ Waiting → ⊥
 no_wait a w = false≢true (sym (ap is_under_way w) ∙ a)
-
--- a task at rest that waits is a waiter, with its queue at the door
-waiting_at : (K : Kind) (limit u : ℕ) (c : SharedState) (h : List Entry) (r : Rest ℕ) → AtRest K limit u c h r
-    → status K u h ≡ Waiting → (is_inside (Resting r) ≡ true) × IsSomeDoor c
-waiting_at K limit u c h r a s = grind (arith, nat_tests, common_steps)
-
--- and no other task waits
-waiting_in : (K : Kind) (limit u : ℕ) (c : SharedState) (h : List Entry) (x : Step ℕ ℕ) → AtStep K limit u c h x
-    → status K u h ≡ Waiting → (is_inside x ≡ true) × IsSomeDoor c
-waiting_in K limit u c h x a s = grind (arith, nat_tests, common_steps, waiting_at, place_acts)
 
 -- what a counted task is: it waits, or it is in a call, or it holds
 abbrev IsCounted : Kind → ℕ → List Entry → Type 0
 IsCounted K u h = (status K u h ≡ Waiting) ⊎ ((is_under_way (status K u h) ≡ true) ⊎ ((status K u h ≡ Holding) × (holds u (cell K h) ≡ true)))
 
--- what a counted task at rest is
-counted_at : (K : Kind) (limit u : ℕ) (c : SharedState) (h : List Entry) (r : Rest ℕ) → AtRest K limit u c h r → is_counted (Resting r) ≡ true → IsCounted K u h
-counted_at K limit u c h r a s = grind (arith, nat_tests, common_steps)
-
--- what a counted task is
-counted_in : (K : Kind) (limit u : ℕ) (c : SharedState) (h : List Entry) (x : Step ℕ ℕ) → AtStep K limit u c h x → is_counted x ≡ true → IsCounted K u h
-counted_in K limit u c h x a s = grind (arith, nat_tests, common_steps, counted_at, place_acts)
-
--- a holder under the lock stands in the count
-head_by : (K : Kind) (limit u : ℕ) (c : SharedState) (h : List Entry) (by : Option ℕ) → HoldsBy limit c by → c.head ≡ true → is_counted_at (AtRun by) ≡ true
-head_by K limit u c h by a k = grind (arith, nat_tests, common_steps)
-
 -- the same where it puts the value
 head_put : (by : Option ℕ) → is_counted_at (AtRun by) ≡ true → is_counted_at (AtPut by) ≡ true
 head_put by e = grind (arith, nat_tests, common_steps)
 
--- while the flag of the lock stands, the holder is in the count
-head_at : (K : Kind) (limit u : ℕ) (c : SharedState) (h : List Entry) (p : Place ℕ ℕ) → AtPlace K limit u c h p
-    → holds u (cell K h) ≡ true → c.head ≡ true → is_counted_at p ≡ true
-head_at K limit u c h p a s k = grind (arith, nat_tests, common_steps)
+module _ (K : Kind) (limit u : ℕ) (c : SharedState) (h : List Entry) where
+  -- a task whose call is under way is in a poll or a drop
+  pub place_acts : (p : Place ℕ ℕ) → AtPlace K limit u c h p → is_under_way (status K u h) ≡ true
+  place_acts p a = grind (arith, nat_tests, common_steps)
 
--- the same at rest
-head_in : (K : Kind) (limit u : ℕ) (c : SharedState) (h : List Entry) (x : Step ℕ ℕ) → AtStep K limit u c h x
-    → holds u (cell K h) ≡ true → c.head ≡ true → is_counted x ≡ true
-head_in K limit u c h x a s k = grind (arith, nat_tests, common_steps, head_at)
+  -- a task at rest that waits is a waiter, with its queue at the door
+  waiting_at : (r : Rest ℕ) → AtRest K limit u c h r
+      → status K u h ≡ Waiting → (is_inside (Resting r) ≡ true) × IsSomeDoor c
+  waiting_at r a s = grind (arith, nat_tests, common_steps)
 
--- a task that waits is inside, and a queue stands at the door
-pub stands_waiting : (K : Kind) (limit u : ℕ) (c : SharedState) (h : List Entry) (o : Option Task)
-    → StandsFor K limit u c h o → status K u h ≡ Waiting → (is_inside (step_of o) ≡ true) × IsSomeDoor c
-stands_waiting K limit u c h None a s = grind (arith, a.0.status_is)
-stands_waiting K limit u c h (Some x) a s = waiting_in K limit u c h x.step a.step s
+  -- and no other task waits
+  waiting_in : (x : Step ℕ ℕ) → AtStep K limit u c h x
+      → status K u h ≡ Waiting → (is_inside x ≡ true) × IsSomeDoor c
+  waiting_in x a s = grind (arith, nat_tests, common_steps, waiting_at, place_acts)
 
--- what a counted task of the world is
-pub stands_counted : (K : Kind) (limit u : ℕ) (c : SharedState) (h : List Entry) (o : Option Task)
-    → StandsFor K limit u c h o → is_counted (step_of o) ≡ true → IsCounted K u h
-stands_counted K limit u c h None a s = absurd (false≢true s)
-stands_counted K limit u c h (Some x) a s = counted_in K limit u c h x.step a.step s
+  -- what a counted task at rest is
+  counted_at : (r : Rest ℕ) → AtRest K limit u c h r → is_counted (Resting r) ≡ true → IsCounted K u h
+  counted_at r a s = grind (arith, nat_tests, common_steps)
 
--- the holder under the lock is in the count
-stands_head : (K : Kind) (limit u : ℕ) (c : SharedState) (h : List Entry) (o : Option Task)
-    → StandsFor K limit u c h o → holds u (cell K h) ≡ true → c.head ≡ true → is_counted (step_of o) ≡ true
-stands_head K limit u c h None a s k = absurd (false≢true (sym a.0.holds_is ∙ s))
-stands_head K limit u c h (Some x) a s k = head_in K limit u c h x.step a.step s k
+  -- what a counted task is
+  counted_in : (x : Step ℕ ℕ) → AtStep K limit u c h x → is_counted x ≡ true → IsCounted K u h
+  counted_in x a s = grind (arith, nat_tests, common_steps, counted_at, place_acts)
+
+  -- a holder under the lock stands in the count
+  head_by : (by : Option ℕ) → HoldsBy limit c by → c.head ≡ true → is_counted_at (AtRun by) ≡ true
+  head_by by a k = grind (arith, nat_tests, common_steps)
+
+  -- while the flag of the lock stands, the holder is in the count
+  head_at : (p : Place ℕ ℕ) → AtPlace K limit u c h p
+      → holds u (cell K h) ≡ true → c.head ≡ true → is_counted_at p ≡ true
+  head_at p a s k = grind (arith, nat_tests, common_steps)
+
+  -- the same at rest
+  head_in : (x : Step ℕ ℕ) → AtStep K limit u c h x
+      → holds u (cell K h) ≡ true → c.head ≡ true → is_counted x ≡ true
+  head_in x a s k = grind (arith, nat_tests, common_steps, head_at)
+
+  -- a task that waits is inside, and a queue stands at the door
+  pub stands_waiting : (o : Option Task)
+      → StandsFor K limit u c h o → status K u h ≡ Waiting → (is_inside (step_of o) ≡ true) × IsSomeDoor c
+  stands_waiting None a s = grind (arith, a.0.status_is)
+  stands_waiting (Some x) a s = waiting_in x.step a.step s
+
+  -- what a counted task of the world is
+  pub stands_counted : (o : Option Task)
+      → StandsFor K limit u c h o → is_counted (step_of o) ≡ true → IsCounted K u h
+  stands_counted None a s = absurd (false≢true s)
+  stands_counted (Some x) a s = counted_in x.step a.step s
+
+  -- the holder under the lock is in the count
+  stands_head : (o : Option Task)
+      → StandsFor K limit u c h o → holds u (cell K h) ≡ true → c.head ≡ true → is_counted (step_of o) ≡ true
+  stands_head None a s k = absurd (false≢true (sym a.0.holds_is ∙ s))
+  stands_head (Some x) a s k = head_in x.step a.step s k
 
 -- who waits, acts or holds is about
 about : (s : Status) → (s ≡ Waiting) ⊎ ((is_under_way s ≡ true) ⊎ (s ≡ Holding)) → is_about s ≡ true

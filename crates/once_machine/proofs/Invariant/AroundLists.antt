@@ -58,5 +58,5 @@ pub around_list : (K : Kind) (limit t : ℕ) (x : Task) (w : World) → Fits K l
 around_list K limit t x w f found = record {
   listed = λ u s. let l = stands_rests K limit u w.shared w.history (w.tasks u) (f.tasks u) s in
       (l.0, (λ d k. d (f.single t u l.0 (ap (λ o. ticket_of (step_of o)) found ∙ k) l.1)), l.2, l.3);
-  empty = λ r d n o e. let v = f.owned r n o e in no_door w.shared d (ticketed K limit v.0 n w.shared w.history (w.tasks v.0) (f.tasks v.0) v.1).door;
+  empty = λ r d n o e. let v = f.owned r n o e in no_door w.shared d (ticketed f v.0 v.1).door;
 }

@@ -137,7 +137,7 @@ module _ (K : Kind) (limit t : ℕ) (x y : Task) (w w' : World) (f : Fits K limi
   single_by : (b n : ℕ) → t ≢ b → ticket_of y.step ≡ Some n → ticket_of (step_of (w'.tasks b)) ≡ Some n → ⊥
   single_by b n d k l =
       let l' : ticket_of (step_of (w.tasks b)) ≡ Some n = ap (λ o. ticket_of (step_of o)) (sym (p.others b d)) ∙ l in
-      let b' = ticketed K limit b n w.shared w.history (w.tasks b) (f.tasks b) l' in
+      let b' = ticketed f b l' in
       ⊎_elim (λ e. d (f.single t b n (ap ticket_of was ∙ e) l'))
       (λ e. ⊎_elim (λ q. found_none n (Some (last_call K b w.history).listed) w.shared.listings e.1 q) (λ q. found_none n None w.shared.listings e.1 q.0) (b'.listed e.0))
       (g.listings.fresh n k)

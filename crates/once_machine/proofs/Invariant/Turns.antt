@@ -7,10 +7,10 @@ use Rattle.once_machine.specs.Tasks.{Waiting, is_under_way, last_call, status}
 use Rattle.once_machine.specs.Listings.{find_listing}
 use Rattle.once_machine.specs.Called.{HasTurn, SomebodyCalled}
 use Rattle.once_machine.specs.Machine.{AtLeave, AtList, AtLook, AtWaitLoad, EndDropped, EndMemory, Ending, Finished, SharedState, Place, Rest, RestRun}
-use Rattle.once_machine.specs.Machine.{RestStart, RestWait, Resting, Step, Task, UnderWay, step_of}
+use Rattle.once_machine.specs.Machine.{RestStart, RestWait, Resting, Step, Task, UnderWay, World, step_of}
 use Rattle.once_machine.proofs.History.Waiters.{CalledAt}
 use Rattle.once_machine.proofs.Invariant.Facts.{AnyIn, AtPlace, AtRest, AtStep, HasTicket, IsListed, IsSomeDoor, MayLeave, RestsOn, ticket_at, ticket_of}
-use Rattle.once_machine.proofs.Invariant.Fits.{StandsFor}
+use Rattle.once_machine.proofs.Invariant.Fits.{Fits, StandsFor}
 use Rattle.once_machine.proofs.Invariant.Listed.{IsKept, none_not_some, same_some}
 
 -- what a step of t, whose ticket was k and then is k', owes of the listings
@@ -57,55 +57,56 @@ rests_at : (K : Kind) (u n : ℕ) (c : SharedState) (h : List Entry) (k : Option
 rests_at K u n c h None e a = absurd a
 rests_at K u n c h (Some m) e a = subst (λ v. IsListed K u c h v) (same_some m n e) a.1
 
--- a waiter in a poll that has a ticket
-polls_at : (K : Kind) (u n q : ℕ) (c : SharedState) (h : List Entry) (k : Option ℕ) → k ≡ Some n → AnyIn K u h
-    → c.door ≡ Some q → HasTicket K u c h k → Ticketed K u c h n
-polls_at K u n q c h k e a d f =
-    let l = has_at K u n c h k e f in
-    record {
-      acts = inr (record {
-        under_way = ap is_under_way a.entered.poll.status_is;
-        began = l.0;
-        unclaimed = a.entered.unclaimed;
-        unpassed = a.entered.poll.unpassed;
-      });
-      listed = l.1;
-      door = (q, d);
-    }
-
 -- who leaves has its turn until it passes it on
 leaves_turn : (K : Kind) (u : ℕ) (h : List Entry) (e : Ending) → (last_call K u h).began ≡ Waiting → MayLeave K u h e → HasTurn K u h
 leaves_turn K u h EndMemory b a = record { under_way = ap is_under_way a.0.poll.status_is; began = b; unclaimed = a.0.unclaimed; unpassed = a.0.poll.unpassed }
 leaves_turn K u h EndDropped b a = record { under_way = ap is_under_way a.0.status_is; began = b; unclaimed = a.1; unpassed = a.2 }
 leaves_turn K u h _ b a = absurd a
 
--- by the place
-ticketed_at : (K : Kind) (limit u n : ℕ) (c : SharedState) (h : List Entry) (p : Place ℕ ℕ) → AtPlace K limit u c h p
-    → ticket_at p ≡ Some n → Ticketed K u c h n
-ticketed_at K limit u n c h (AtWaitLoad q k) a e = polls_at K u n q c h k e a.0 a.1 a.2
-ticketed_at K limit u n c h (AtLook q k) a e = polls_at K u n q c h k e a.0 a.1 a.2
-ticketed_at K limit u n c h (AtList q k w) a e = polls_at K u n q c h k e a.0 a.1 a.2
-ticketed_at K limit u n c h (AtLeave q m x) a e = record { acts = inr (leaves_turn K u h x a.2 a.0); listed = subst (λ v. IsListed K u c h v) (same_some m n e) a.3; door = (q, a.1) }
-ticketed_at K limit u n c h _ a e = absurd (none_not_some n e)
+module _ (K : Kind) (limit u : ℕ) (c : SharedState) (h : List Entry) {n : ℕ} where
+  -- a waiter in a poll that has a ticket
+  polls_at : (q : ℕ) (k : Option ℕ) → k ≡ Some n → AnyIn K u h → c.door ≡ Some q → HasTicket K u c h k → Ticketed K u c h n
+  polls_at q k e a d f =
+      let l = has_at K u n c h k e f in
+      record {
+        acts = inr (record {
+          under_way = ap is_under_way a.entered.poll.status_is;
+          began = l.0;
+          unclaimed = a.entered.unclaimed;
+          unpassed = a.entered.poll.unpassed;
+        });
+        listed = l.1;
+        door = (q, d);
+      }
 
--- at rest
-ticketed_rest : (K : Kind) (limit u n : ℕ) (c : SharedState) (h : List Entry) (r : Rest ℕ) → AtRest K limit u c h r
-    → ticket_of (Resting r) ≡ Some n → Ticketed K u c h n
-ticketed_rest K limit u n c h RestStart a e = absurd (none_not_some n e)
-ticketed_rest K limit u n c h (RestWait q k) a e = record { acts = inl a.0.status_is; listed = rests_at K u n c h k e a.2; door = (q, a.1) }
-ticketed_rest K limit u n c h (RestRun by) a e = absurd (none_not_some n e)
+  -- by the place
+  ticketed_at : (p : Place ℕ ℕ) → AtPlace K limit u c h p → ticket_at p ≡ Some n → Ticketed K u c h n
+  ticketed_at (AtWaitLoad q k) a e = polls_at q k e a.0 a.1 a.2
+  ticketed_at (AtLook q k) a e = polls_at q k e a.0 a.1 a.2
+  ticketed_at (AtList q k w) a e = polls_at q k e a.0 a.1 a.2
+  ticketed_at (AtLeave q m x) a e = record { acts = inr (leaves_turn K u h x a.2 a.0); listed = subst (λ v. IsListed K u c h v) (same_some m n e) a.3; door = (q, a.1) }
+  ticketed_at _ a e = absurd (none_not_some n e)
 
--- by the step
-ticketed_in : (K : Kind) (limit u n : ℕ) (c : SharedState) (h : List Entry) (s : Step ℕ ℕ) → AtStep K limit u c h s → ticket_of s ≡ Some n → Ticketed K u c h n
-ticketed_in K limit u n c h (Resting r) a e = ticketed_rest K limit u n c h r a.0 e
-ticketed_in K limit u n c h (UnderWay p) a e = ticketed_at K limit u n c h p a e
-ticketed_in K limit u n c h Finished a e = absurd (none_not_some n e)
+  -- at rest
+  ticketed_rest : (r : Rest ℕ) → AtRest K limit u c h r → ticket_of (Resting r) ≡ Some n → Ticketed K u c h n
+  ticketed_rest RestStart a e = absurd (none_not_some n e)
+  ticketed_rest (RestWait q k) a e = record { acts = inl a.0.status_is; listed = rests_at K u n c h k e a.2; door = (q, a.1) }
+  ticketed_rest (RestRun by) a e = absurd (none_not_some n e)
+
+  -- by the step
+  ticketed_in : (s : Step ℕ ℕ) → AtStep K limit u c h s → ticket_of s ≡ Some n → Ticketed K u c h n
+  ticketed_in (Resting r) a e = ticketed_rest r a.0 e
+  ticketed_in (UnderWay p) a e = ticketed_at p a e
+  ticketed_in Finished a e = absurd (none_not_some n e)
+
+  -- by whether the task is there
+  ticketed_by : (o : Option Task) → StandsFor K limit u c h o → ticket_of (step_of o) ≡ Some n → Ticketed K u c h n
+  ticketed_by None a e = absurd (none_not_some n e)
+  ticketed_by (Some x) a e = ticketed_in x.step a.step e
 
 -- what a task of the world with the ticket n is
-pub ticketed : (K : Kind) (limit u n : ℕ) (c : SharedState) (h : List Entry) (o : Option Task)
-    → StandsFor K limit u c h o → ticket_of (step_of o) ≡ Some n → Ticketed K u c h n
-ticketed K limit u n c h None a e = absurd (none_not_some n e)
-ticketed K limit u n c h (Some x) a e = ticketed_in K limit u n c h x.step a.step e
+pub ticketed : {K : Kind} {limit : ℕ} {w : World} (f : Fits K limit w) (u : ℕ) {n : ℕ} → ticket_of (step_of (w.tasks u)) ≡ Some n → Ticketed K u w.shared w.history n
+ticketed {K = K} {limit = limit} {w = w} f u e = ticketed_by K limit u w.shared w.history (w.tasks u) (f.tasks u) e
 
 called_not : (c : SharedState) (n w : ℕ) → find_listing n c.listings ≡ Some None → find_listing n c.listings ≡ Some (Some w) → ⊥
 called_not c n w a b = cc
@@ -119,5 +120,5 @@ somebody_called K limit c h tasks ready called owned stands = λ e u s.
     let r : c.ready ≡ false = ready ∙ ap is_set e in
     let n = called e u s in
     let v = owned r n.0 None n.1 in
-    let k = ticketed K limit v.0 n.0 c h (tasks v.0) (stands v.0) v.1 in
+    let k = ticketed_by K limit v.0 c h (tasks v.0) (stands v.0) v.1 in
     (v.0, (k.acts, ⊎_elim (λ f. absurd (called_not c n.0 (last_call K v.0 h).listed n.1 f)) (λ f. f.1) (k.listed r)))

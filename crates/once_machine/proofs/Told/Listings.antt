@@ -35,7 +35,7 @@ module _ (limit n put : ℕ) (slot : Bool) (pages : List Page) (log : List Entry
       let r : w.shared.ready ≡ false = ap (λ (f : Flags). f.ready) (sym book.1.word_is) ∙ unset in
       let there : find_listing k w.shared.listings ≡ Some (Some v) = ap (find_listing k) same ∙ found in
       let u = f.owned r k (Some v) there in
-      let a = ticketed Once limit u.0 k w.shared h (w.tasks u.0) (f.tasks u.0) u.1 in
+      let a = ticketed f u.0 u.1 in
       let own = own_wakers limit u.0 h f.run (unowned_of limit some w book.1.reached).plain in
       let listed : (last_call Once u.0 h).listed ≡ u.0 = ⊎_elim own.waits (λ t. own.began t.began) a.acts in
       let is : u.0 ≡ v = ⊎_elim (λ e. sym listed ∙ same_waker (last_call Once u.0 h).listed v k w.shared.listings e there) (λ e. absurd (called_not k v w.shared.listings e.0 there)) (a.listed r) in
