@@ -48,7 +48,7 @@ module _ {K : Kind} {limit t w : ℕ} {k : Answer} {c : SharedState} {h : List E
   advances_at (AtDoorTake e) ar al at = take_goes before e ar at
 
   -- a step keeps what a step owes
-  pub advances : (s : Step ℕ ℕ) → in_call s ≡ true → Around K t (is_counted s) (is_take s) c h → AroundList K t (ticket_of s) c h → AtStep K limit t c h s
+  pub advances : {s : Step ℕ ℕ} → in_call s ≡ true → Around K t (is_counted s) (is_take s) c h → AroundList K t (ticket_of s) c h → AtStep K limit t c h s
       → Moves K limit t s (record {
         waker = w;
         kept = (step_at (is_lazy K) limit c t w k a g s).kept;
@@ -56,5 +56,5 @@ module _ {K : Kind} {limit t w : ℕ} {k : Answer} {c : SharedState} {h : List E
             (is_lazy K) limit c t w k a g s).step;
       }) c (step_at (is_lazy K) limit c t w k a g s).shared h
       ((step_at (is_lazy K) limit c t w k a g s).entries ++ h)
-  advances (UnderWay p) n ar al at = advances_at p ar al at
-  advances _ n ar al at = absurd (false≢true n)
+  advances {s = UnderWay p} n ar al at = advances_at p ar al at
+  advances {s = _} n ar al at = absurd (false≢true n)

@@ -59,8 +59,8 @@ begun_fits K limit w t k x f found false r = f
 begun_fits K limit w t k x f found true r =
     let y : Task = record x { waker = k; step = step_of_poll x.step } in
     let own = task_fits K limit t w x f found in
-    moved_fits K limit t x y w (poll_world_by true w t k x) f found (resting_live x.step r) (puts t y w.tasks) (begun_live x.step w.unfinished r)
-    (begins K limit t k x.kept w.shared w.history f.run f.shared f.queue x.step own.kept_is r own.step)
+    moved_fits (poll_world_by true w t k x) f found (puts t y w.tasks)
+    (begins (task_before K limit t w x f found) k x.step r own.step) (resting_live x.step r) (begun_live x.step w.unfinished r)
 
 -- the beginning of a drop
 drop_fits : (K : Kind) (limit : ℕ) (w : World) (t : ℕ) (x : Task) → Fits K limit w → w.tasks t ≡ Some x → (r : Bool)
@@ -69,8 +69,8 @@ drop_fits K limit w t x f found false r = f
 drop_fits K limit w t x f found true r =
     let y : Task = record x { step = step_of_drop x.step } in
     let own = task_fits K limit t w x f found in
-    moved_fits K limit t x y w (drop_world_by true w t x) f found (resting_live x.step r) (puts t y w.tasks) refl
-    (drop_begins K limit t x.waker x.kept w.shared w.history f.run f.shared f.queue x.step own.waker_is own.kept_is r own.step)
+    moved_fits (drop_world_by true w t x) f found (puts t y w.tasks)
+    (drop_begins (task_before K limit t w x f found) x.step r own.step) (resting_live x.step r) refl
 
 -- a step
 goes_fits : (K : Kind) (limit : ℕ) (w : World) (t : ℕ) (a : Answer) (g : Bool) (x : Task) → 0 < limit
@@ -81,8 +81,9 @@ goes_fits K limit w t a g x some f found true r =
     let o : Outcome = advance (is_lazy K) limit w.shared t x a g in
     let y : Task = record x { step = o.step; kept = o.kept } in
     let own = task_fits K limit t w x f found in
-    moved_fits K limit t x y w (go_world_by true (is_lazy K) limit w t a g x) f found (calling_live x.step r) (puts t y w.tasks) refl
-    (advances (task_before K limit t w x f found) a g some x.step r (around K limit t x w f found) (around_list K limit t x w f found) own.step)
+    moved_fits (go_world_by true (is_lazy K) limit w t a g x) f found (puts t y w.tasks)
+    (advances (task_before K limit t w x f found) a g some r (around K limit t x w f found) (around_list K limit t x w f found) own.step)
+    (calling_live x.step r) refl
 
 -- the inputs, by whether the task is there
 polled_fits : (K : Kind) (limit : ℕ) (w : World) (t k : ℕ) → Fits K limit w → (o : Option Task) → w.tasks t ≡ o → Fits K limit (poll_world w t k o)

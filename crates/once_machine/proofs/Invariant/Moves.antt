@@ -94,31 +94,6 @@ take_ready : (K : Kind) (limit t : ℕ) (c : SharedState) (h : List Entry) (o : 
     → StandsFor K limit t c h o → is_take (step_of o) ≡ true → c.ready ≡ true
 take_ready K limit t c h o a k = grind (arith, common_steps)
 
--- nobody takes the queue out of the door while somebody waits
-alone_by : (K : Kind) (limit t : ℕ) (x y : Task) (w w' : World) → Fits K limit w → Puts t y w.tasks w'.tasks
-    → Moves K limit t x.step y w.shared w'.shared w.history w'.history
-    → step_of (w.tasks t) ≡ x.step → step_of (w'.tasks t) ≡ y.step
-    → w'.shared.count ≡ how_many (λ n. is_counted (step_of (w'.tasks n))) (made_in w.history)
-    → (a b : ℕ) → (t ≡ a) ⊎ (t ≢ a) → (t ≡ b) ⊎ (t ≢ b) → is_take (step_of (w'.tasks a)) ≡ true → is_inside (step_of (w'.tasks b)) ≡ true → ⊥
-alone_by K limit t x y w w' f p g was is cnt a b (inl i) (inl j) k l =
-    let k' : is_take y.step ≡ true = ap is_take (sym is) ∙ subst (λ v. is_take (step_of (w'.tasks v)) ≡ true) (sym i) k in
-    let l' : is_inside y.step ≡ true = ap is_inside (sym is) ∙ subst (λ v. is_inside (step_of (w'.tasks v)) ≡ true) (sym j) l in
-    take_not_inside y.step k' l'
-alone_by K limit t x y w w' f p g was is cnt a b (inl i) (inr j) k l =
-    let k' : is_take y.step ≡ true = ap is_take (sym is) ∙ subst (λ v. is_take (step_of (w'.tasks v)) ≡ true) (sym i) k in
-    let none : w'.shared.count ≡ 0 = g.takes k' in
-    let l' : is_inside (step_of (w.tasks b)) ≡ true = ap (λ o. is_inside (step_of o)) (sym (p.others b j)) ∙ l in
-    let some = count_positive b (made_in w.history) (λ n. is_counted (step_of (w'.tasks n)))
-    (counted_made K limit w b f (inside_counted (step_of (w.tasks b)) l'))
-    (inside_counted (step_of (w'.tasks b)) l) in
-    omega arith
-alone_by K limit t x y w w' f p g was is cnt a b (inr i) (inl j) k l =
-    let k' : is_take (step_of (w.tasks a)) ≡ true = ap (λ o. is_take (step_of o)) (sym (p.others a i)) ∙ k in
-    let l' : is_inside y.step ≡ true = ap is_inside (sym is) ∙ subst (λ v. is_inside (step_of (w'.tasks v)) ≡ true) (sym j) l in
-    ⊎_elim (λ e. f.alone a t k' (ap is_inside was ∙ e))
-    (λ e. false≢true (sym e ∙ take_ready K limit a w.shared w.history (w.tasks a) (f.tasks a) k')) (g.enters l')
-alone_by K limit t x y w w' f p g was is cnt a b (inr i) (inr j) k l = f.alone a b (ap (λ o. is_take (step_of o)) (sym (p.others a i)) ∙ k) (ap (λ o. is_inside (step_of o)) (sym (p.others b j)) ∙ l)
-
 -- a task that is not finished is alive
 alive_by : (x : Task) → is_finished x.step ≡ false → is_alive (Some x) ≡ true
 alive_by x n = ap not n
@@ -130,9 +105,38 @@ unfinished_by m n n' s e c = grind (arith, common_steps)
 found_none : (n : ℕ) (o : Option ℕ) (xs : List (Listing ℕ)) → find_listing n xs ≡ None → find_listing n xs ≡ Some o → ⊥
 found_none n o xs a b = cc
 
-module _ (K : Kind) (limit t : ℕ) (x y : Task) (w w' : World) (f : Fits K limit w) (p : Puts t y w.tasks w'.tasks)
-    (g : Moves K limit t x.step y w.shared w'.shared w.history w'.history) (was : step_of (w.tasks t) ≡ x.step)
-    (is : step_of (w'.tasks t) ≡ y.step) where
+module _ {K : Kind} {limit t : ℕ} {x y : Task} {w : World} (w' : World) (f : Fits K limit w) (found : w.tasks t ≡ Some x) (p : Puts t y w.tasks w'.tasks)
+    (g : Moves K limit t x.step y w.shared w'.shared w.history w'.history) where
+  -- where t was
+  was : step_of (w.tasks t) ≡ x.step
+  was = ap step_of found
+
+  -- and where it is
+  is : step_of (w'.tasks t) ≡ y.step
+  is = ap step_of p.there
+
+  -- nobody takes the queue out of the door while somebody waits
+  alone_by : w'.shared.count ≡ how_many (λ n. is_counted (step_of (w'.tasks n))) (made_in w.history)
+      → (a b : ℕ) → (t ≡ a) ⊎ (t ≢ a) → (t ≡ b) ⊎ (t ≢ b) → is_take (step_of (w'.tasks a)) ≡ true → is_inside (step_of (w'.tasks b)) ≡ true → ⊥
+  alone_by cnt a b (inl i) (inl j) k l =
+      let k' : is_take y.step ≡ true = ap is_take (sym is) ∙ subst (λ v. is_take (step_of (w'.tasks v)) ≡ true) (sym i) k in
+      let l' : is_inside y.step ≡ true = ap is_inside (sym is) ∙ subst (λ v. is_inside (step_of (w'.tasks v)) ≡ true) (sym j) l in
+      take_not_inside y.step k' l'
+  alone_by cnt a b (inl i) (inr j) k l =
+      let k' : is_take y.step ≡ true = ap is_take (sym is) ∙ subst (λ v. is_take (step_of (w'.tasks v)) ≡ true) (sym i) k in
+      let none : w'.shared.count ≡ 0 = g.takes k' in
+      let l' : is_inside (step_of (w.tasks b)) ≡ true = ap (λ o. is_inside (step_of o)) (sym (p.others b j)) ∙ l in
+      let some = count_positive b (made_in w.history) (λ n. is_counted (step_of (w'.tasks n)))
+      (counted_made K limit w b f (inside_counted (step_of (w.tasks b)) l'))
+      (inside_counted (step_of (w'.tasks b)) l) in
+      omega arith
+  alone_by cnt a b (inr i) (inl j) k l =
+      let k' : is_take (step_of (w.tasks a)) ≡ true = ap (λ o. is_take (step_of o)) (sym (p.others a i)) ∙ k in
+      let l' : is_inside y.step ≡ true = ap is_inside (sym is) ∙ subst (λ v. is_inside (step_of (w'.tasks v)) ≡ true) (sym j) l in
+      ⊎_elim (λ e. f.alone a t k' (ap is_inside was ∙ e))
+      (λ e. false≢true (sym e ∙ take_ready K limit a w.shared w.history (w.tasks a) (f.tasks a) k')) (g.enters l')
+  alone_by cnt a b (inr i) (inr j) k l = f.alone a b (ap (λ o. is_take (step_of o)) (sym (p.others a i)) ∙ k) (ap (λ o. is_inside (step_of o)) (sym (p.others b j)) ∙ l)
+
   -- no other task has the ticket of t
   single_by : (b n : ℕ) → t ≢ b → ticket_of y.step ≡ Some n → ticket_of (step_of (w'.tasks b)) ≡ Some n → ⊥
   single_by b n d k l =
@@ -160,50 +164,45 @@ module _ (K : Kind) (limit t : ℕ) (x y : Task) (w w' : World) (f : Fits K limi
       (v.0, ap (λ i. ticket_of (step_of i)) (p.others v.0 d) ∙ v.1))
       (g.listings.owner r n o e)
 
--- one step of t keeps all that holds
-pub moved_fits : (K : Kind) (limit t : ℕ) (x y : Task) (w w' : World) → Fits K limit w → w.tasks t ≡ Some x
-    → is_finished x.step ≡ false → Puts t y w.tasks w'.tasks → w'.unfinished ≡ unfinished_after y.step w.unfinished
-    → Moves K limit t x.step y w.shared w'.shared w.history w'.history → Fits K limit w'
-moved_fits K limit t x y w w' f found live p left g =
-    let P : ℕ → Type 0 = λ u. StandsFor K limit u w'.shared w'.history (w'.tasks u) in
-    let same : P t = rw p.there (record { waker_is = g.waker_is; kept_is = g.kept_is; step = g.own }) in
-    let was : step_of (w.tasks t) ≡ x.step = ap step_of found in
-    let is : step_of (w'.tasks t) ≡ y.step = ap step_of p.there in
-    let ns : List ℕ = made_in w.history in
-    let before : ℕ → Bool = λ n. is_counted (step_of (w.tasks n)) in
-    let after : ℕ → Bool = λ n. is_counted (step_of (w'.tasks n)) in
-    let lived : ℕ → Bool = λ n. is_alive (w.tasks n) in
-    let lives : ℕ → Bool = λ n. is_alive (w'.tasks n) in
-    let m : member t ns ≡ true = ⊎_elim (λ e. e) (λ e. absurd (not_made t x w.tasks found (f.made_all t e))) (cases_Bool (member t ns)) in
-    let change = count_change t ns before after f.made_once m (λ u n. ap (λ o. is_counted (step_of o)) (sym (p.others u n))) in
-    let cnt : w'.shared.count ≡ how_many after ns = counted w.shared.count w'.shared.count (how_many before ns)
-    (how_many after ns) (before t) (after t) (is_counted x.step) (is_counted y.step) f.count_is g.count change
-    (ap is_counted was) (ap is_counted is) in
-    let changed = count_change t ns lived lives f.made_once m (λ u n. ap is_alive (sym (p.others u n))) in
-    let one : bit (lived t) ≡ 1 = ap bit (ap is_alive found ∙ alive_by x live) in
-    let more : bit (lives t) ≡ bit (not (is_finished y.step)) = ap (λ o. bit (is_alive o)) p.there in
-    let some : w'.unfinished ≡ how_many lives ns = left ∙ unfinished_by w.unfinished (how_many lived ns) (how_many lives ns) y.step f.unfinished_is (omega arith) in
-    let stands : (u : ℕ) → P u = λ u. ⊎_elim
-    (λ e. subst P e same)
-    (λ n. rw (p.others u n) (stands_kept (w.tasks u) f.shared.ready_is (g.others u n)
-    (g.keeps u n (is_inside (step_of (w.tasks u))) (λ tk. false_from_ne_true (is_inside (step_of (w.tasks u))) (f.alone t u (ap is_take was ∙ tk))))
-    (λ i o k r e. g.listings.lists u i o n (λ q. n (f.single t u i (ap ticket_of was ∙ q) k)) r e) (f.tasks u)))
-    (cases_eq t u) in
-    let owned = has_owner K limit t x y w w' f p g was is in
-    record {
-      run = g.run;
-      shared = g.shared;
-      queue = g.queue;
-      tasks = stands;
-      count_is = rw g.made cnt;
-      unfinished_is = rw g.made some;
-      made_once = rw g.made f.made_once;
-      made_all = λ u e. ⊎_elim (λ k. absurd (not_made t x w.tasks found
-          (f.made_all t (ap (λ n. member n (made_in w.history)) k ∙ ap (member u) (sym g.made) ∙ e))))
-          (λ n. p.others u n ∙ f.made_all u (ap (member u) (sym g.made) ∙ e)) (cases_eq t u);
-      made_only = λ u e. ⊎_elim (λ k. absurd (not_made t y w'.tasks p.there (ap w'.tasks k ∙ e))) (λ n. rw g.made (f.made_only u (sym (p.others u n) ∙ e))) (cases_eq t u);
-      alone = λ a b. alone_by K limit t x y w w' f p g was is cnt a b (cases_eq t a) (cases_eq t b);
-      single = λ a b n. single_all K limit t x y w w' f p g was is a b n (cases_eq t a) (cases_eq t b);
-      owned = owned;
-      moments = g.moments f.moments (somebody_called K limit w'.shared w'.history w'.tasks g.shared.ready_is g.queue.called owned stands);
-    }
+  -- one step of t keeps all that holds
+  pub moved_fits : is_finished x.step ≡ false → w'.unfinished ≡ unfinished_after y.step w.unfinished → Fits K limit w'
+  moved_fits live left =
+      let P : ℕ → Type 0 = λ u. StandsFor K limit u w'.shared w'.history (w'.tasks u) in
+      let same : P t = rw p.there (record { waker_is = g.waker_is; kept_is = g.kept_is; step = g.own }) in
+      let ns : List ℕ = made_in w.history in
+      let before : ℕ → Bool = λ n. is_counted (step_of (w.tasks n)) in
+      let after : ℕ → Bool = λ n. is_counted (step_of (w'.tasks n)) in
+      let lived : ℕ → Bool = λ n. is_alive (w.tasks n) in
+      let lives : ℕ → Bool = λ n. is_alive (w'.tasks n) in
+      let m : member t ns ≡ true = ⊎_elim (λ e. e) (λ e. absurd (not_made t x w.tasks found (f.made_all t e))) (cases_Bool (member t ns)) in
+      let change = count_change t ns before after f.made_once m (λ u n. ap (λ o. is_counted (step_of o)) (sym (p.others u n))) in
+      let cnt : w'.shared.count ≡ how_many after ns = counted w.shared.count w'.shared.count (how_many before ns)
+      (how_many after ns) (before t) (after t) (is_counted x.step) (is_counted y.step) f.count_is g.count change
+      (ap is_counted was) (ap is_counted is) in
+      let changed = count_change t ns lived lives f.made_once m (λ u n. ap is_alive (sym (p.others u n))) in
+      let one : bit (lived t) ≡ 1 = ap bit (ap is_alive found ∙ alive_by x live) in
+      let more : bit (lives t) ≡ bit (not (is_finished y.step)) = ap (λ o. bit (is_alive o)) p.there in
+      let some : w'.unfinished ≡ how_many lives ns = left ∙ unfinished_by w.unfinished (how_many lived ns) (how_many lives ns) y.step f.unfinished_is (omega arith) in
+      let stands : (u : ℕ) → P u = λ u. ⊎_elim
+      (λ e. subst P e same)
+      (λ n. rw (p.others u n) (stands_kept (w.tasks u) f.shared.ready_is (g.others u n)
+      (g.keeps u n (is_inside (step_of (w.tasks u))) (λ tk. false_from_ne_true (is_inside (step_of (w.tasks u))) (f.alone t u (ap is_take was ∙ tk))))
+      (λ i o k r e. g.listings.lists u i o n (λ q. n (f.single t u i (ap ticket_of was ∙ q) k)) r e) (f.tasks u)))
+      (cases_eq t u) in
+      record {
+        run = g.run;
+        shared = g.shared;
+        queue = g.queue;
+        tasks = stands;
+        count_is = rw g.made cnt;
+        unfinished_is = rw g.made some;
+        made_once = rw g.made f.made_once;
+        made_all = λ u e. ⊎_elim (λ k. absurd (not_made t x w.tasks found
+            (f.made_all t (ap (λ n. member n (made_in w.history)) k ∙ ap (member u) (sym g.made) ∙ e))))
+            (λ n. p.others u n ∙ f.made_all u (ap (member u) (sym g.made) ∙ e)) (cases_eq t u);
+        made_only = λ u e. ⊎_elim (λ k. absurd (not_made t y w'.tasks p.there (ap w'.tasks k ∙ e))) (λ n. rw g.made (f.made_only u (sym (p.others u n) ∙ e))) (cases_eq t u);
+        alone = λ a b. alone_by cnt a b (cases_eq t a) (cases_eq t b);
+        single = λ a b n. single_all a b n (cases_eq t a) (cases_eq t b);
+        owned = has_owner;
+        moments = g.moments f.moments (somebody_called K limit w'.shared w'.history w'.tasks g.shared.ready_is g.queue.called has_owner stands);
+      }

@@ -54,8 +54,8 @@ leaves_fit limit t x w f found q v n at =
     let own = task_fits Once limit t w x f found in
     let a : AtPlace Once limit t c h (AtList q n v) = subst (λ s. AtStep Once limit t c h s) at own.step in
     let g = refused_at (task_before Once limit t w x f found) (AtList q n v) q n refl refl refl a.0 a.1 a.2 a.3 in
-    moved_fits Once limit t x y w (record w { tasks = put_task t y w.tasks }) f found (ap is_finished at) (puts t y w.tasks) refl
-    (subst (λ s. Moves Once limit t s y c c h h) (sym at) g)
+    moved_fits (record w { tasks = put_task t y w.tasks }) f found (puts t y w.tasks)
+    (subst (λ s. Moves Once limit t s y c c h h) (sym at) g) (ap is_finished at) refl
 
 -- after the refusal the invariant holds
 pub refused_fits : (limit t : ℕ) (w : World) (o : Option Task) → w.tasks t ≡ o → Fits Once limit w → Fits Once limit (refuse_world w t o)
