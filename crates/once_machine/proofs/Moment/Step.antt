@@ -86,7 +86,7 @@ module _ {limit n put : ℕ} {slot : Bool} {pages : List Page} {log : List Entry
       let w' : World = go_world_by true false limit m.w t a g x in
       let y : Task = record x { step = next.step; kept = k' } in
       let oe : o ≡ outcome_of c' t k' did next = ap (step_at false limit c t x.waker x.kept a g) at ∙ is in
-      let keeps : StepKeeps (is_put_at p) (has_written_at p) c o = place_step_keeps limit m.w t x a g p unnamed m.fits m.unowned m.found at in
+      let keeps : StepKeeps (is_put_at p) (has_written_at p) c o = place_step_keeps t a g unnamed m.fits m.unowned m.found at in
       let value : c'.value ≡ 0 = ap (λ (o : Outcome). o.shared.value) (sym oe) ∙ keeps.value in
       let es : List Entry = progress_entries next.progress t 0 k' ++ did in
       let entries : o.entries ≡ es = ap (λ (o : Outcome). o.entries) oe ∙ ap (λ v. progress_entries next.progress t v k' ++ did) value in

@@ -9,6 +9,7 @@ use Rattle.once_machine.specs.Cell.{Cell, Empty, Held, SetTo, answers_after, ans
 use Rattle.once_machine.specs.Tasks.{Gone, LastCall, Polling, Status, Waiting, last_call, last_call_after, status, status_after}
 use Rattle.once_machine.specs.Listings.{find_listing}
 use Rattle.once_machine.specs.Wakers.{opens}
+use Rattle.once_machine.specs.Refusals.{OtherHolds}
 use Rattle.once_machine.specs.Run.{IsLegal, IsRun, MayEnd}
 use Rattle.once_machine.specs.Machine.{AtRun, EndDropped, EndError, EndMemory, EndPending, EndValue, Ending, SharedState, Outcome, Place, UnderWay, end_entry, error_in}
 use Rattle.once_machine.proofs.Listing.Members.{eqb_self}
@@ -260,12 +261,12 @@ module _ {K : Kind} {limit t w : ℕ} {k : Answer} {c : SharedState} {h : List E
       }
 
   -- a poll that waits, with the ticket n
-  pub waits_so : (c' : SharedState) (q n u : ℕ) → cell K h ≡ Held u → t ≢ u → Entered K t h → SharedFits K limit c' h
+  pub waits_so : (c' : SharedState) (q n : ℕ) → OtherHolds K t h → Entered K t h → SharedFits K limit c' h
       → ((v : ℕ) → asks v c'.listings ≤ asks v c.listings + bit (w == v)) → (c.ready ≡ false → find_listing n c'.listings ≡ Some (Some w)) → c'.ready ≡ c.ready → c'.door ≡ Some q
       → ((u : ℕ) → t ≢ u → (b : Bool) → (is_take_at p ≡ true → b ≡ false) → SharedKeeps K limit c c' u h b)
       → c'.count ≡ c.count → is_counted_at p ≡ true → is_inside_at p ≡ true → ListMoves t (ticket_at p) (Some n) c c' (End t Pending ∷ h)
       → Goes K limit t w p c h (waits c' t k q (Some n))
-  waits_so c' q n u held apart entered shared' less found same_ready door keeps m same inside lists =
+  waits_so c' q n (u, apart, held) entered shared' less found same_ready door keeps m same inside lists =
       let legal : IsLegal K limit (End t Pending) h = (entered.poll.status_is, rw entered.poll.ran_is (u, apart, held), inl entered.poll.unpassed) in
       record {
         run = (legal, before.run);

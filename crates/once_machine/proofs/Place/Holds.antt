@@ -65,10 +65,10 @@ pending_in : (K : Kind) (t : ℕ) (h : List Entry) → InPoll K t h None true �
 pending_in K t h i = let held = held_by t (cell K h) i.holds_is in record { status_is = rw (eqb_self t, held, eqb_self t) refl; holds_is = i.holds_is }
 
 -- nothing that a holder relies on changes where the init answers or the value is put
-by_same : (limit : ℕ) (c c' : SharedState) (by : Option ℕ) → c'.quick ≡ c.quick → c'.head ≡ c.head
-    → c'.count ≡ c.count → c'.door ≡ c.door → HoldsBy limit c by → HoldsBy limit c' by
-by_same limit c c' None q e n d a = (record { quick_is = q ∙ a.0.quick_is; head_is = e ∙ a.0.head_is }, rw n a.1)
-by_same limit c c' (Some x) q e n d a = (record { quick_is = q ∙ a.0.quick_is; head_is = e ∙ a.0.head_is }, d ∙ a.1)
+by_same : (limit : ℕ) (c c' : SharedState) (by : Option ℕ) → (c'.quick ≡ c.quick) × (c'.head ≡ c.head) × (c'.count ≡ c.count) × (c'.door ≡ c.door)
+    → HoldsBy limit c by → HoldsBy limit c' by
+by_same limit c c' None s a = (record { quick_is = s.0 ∙ a.0.quick_is; head_is = s.1 ∙ a.0.head_is }, rw s.2 a.1)
+by_same limit c c' (Some x) s a = (record { quick_is = s.0 ∙ a.0.quick_is; head_is = s.1 ∙ a.0.head_is }, s.3 ∙ a.1)
 
 -- where a holder gives the right back, by how it holds
 pub gives_back : (K : Kind) (limit t : ℕ) (c : SharedState) (h : List Entry) (by : Option ℕ) (e : Ending) → Releasing K t h c e
@@ -76,22 +76,24 @@ pub gives_back : (K : Kind) (limit t : ℕ) (c : SharedState) (h : List Entry) (
 gives_back K limit t c h None e r b = (r, b.0, b.1)
 gives_back K limit t c h (Some q) e r b = (r, inr b.0, b.1)
 
--- it stays counted as it is, does not take the queue, does not wait, and has no ticket
-pub back_counts : (by : Option ℕ) (e : Ending) → (is_counted_at (AtRun by) ≡ is_counted_at (release_place by e))
-    × (is_take_at (release_place by e) ≡ false) × (is_inside_at (release_place by e) ≡ false) × (ticket_at (release_place by e) ≡ None)
+-- a task that goes from the place p to p' stays counted as it is, does not take the queue, does not wait, and has no ticket
+abbrev IsAlike : Place ℕ ℕ → Place ℕ ℕ → Type 0
+IsAlike p p' = (is_counted_at p ≡ is_counted_at p') × (is_take_at p' ≡ false) × (is_inside_at p' ≡ false) × (ticket_at p' ≡ None)
+
+-- so does one that gives the right back
+pub back_counts : (by : Option ℕ) (e : Ending) → IsAlike (AtRun by) (release_place by e)
 back_counts by e = grind (arith, common_steps)
 
--- so it does where it puts the value
+-- and one that puts the value is counted too
 put_counts : (by : Option ℕ) → is_counted_at (AtRun by) ≡ is_counted_at (AtPut by)
 put_counts by = grind (arith, common_steps)
 
 module _ {K : Kind} {limit t w : ℕ} {k : Answer} {c : SharedState} {h : List Entry} (before : Before K limit t w k c h) where
   -- an init that gave a value or an error
   ran_so : (by : Option ℕ) (a : Answer) (p' : Place ℕ ℕ) → IsNext K a (answers_left K h) → InPoll K t h None true
-      → AtPlace K limit t (run_shared c) (Ran t a ∷ h) p' → is_counted_at (AtRun by) ≡ is_counted_at p'
-      → is_take_at p' ≡ false → is_inside_at p' ≡ false → ticket_at p' ≡ None
+      → AtPlace K limit t (run_shared c) (Ran t a ∷ h) p' → IsAlike (AtRun by) p'
       → Goes K limit t w (AtRun by) c h (record { shared = run_shared c; step = UnderWay p'; kept = a; entries = Ran t a ∷ [] })
-  ran_so by a p' next i own n take inside tickets =
+  ran_so by a p' next i own same =
       let legal : IsLegal K limit (Ran t a) h = (held_by t (cell K h) i.holds_is, i.status_is, i.ran_is, next) in
       record {
         run = (legal, before.run);
@@ -102,11 +104,11 @@ module _ {K : Kind} {limit t w : ℕ} {k : Answer} {c : SharedState} {h : List E
         kept_is = rw (eqb_self t) refl;
         others = λ u n. legal_keeps K u (Ran t a) limit h (of_other t u n) legal refl;
         keeps = λ u n b j. same_shared refl refl refl refl refl (λ x. x);
-        count = rw n refl;
+        count = rw same.0 refl;
         made = refl;
-        takes = λ e. absurd (false≢true (sym take ∙ e));
-        enters = λ e. absurd (false≢true (sym inside ∙ e));
-        listings = lists_stay refl (λ x. x) (inl tickets);
+        takes = λ e. absurd (false≢true (sym same.1 ∙ e));
+        enters = λ e. absurd (false≢true (sym same.2 ∙ e));
+        listings = lists_stay refl (λ x. x) (inl same.3);
         moments = λ a s. (s, a);
       }
 
@@ -145,30 +147,27 @@ module _ {K : Kind} {limit t w : ℕ} {k : Answer} {c : SharedState} {h : List E
   run_value : (by : Option ℕ) (v : ℕ) → IsNext K (RanValue v) (answers_left K h) → InPoll K t h None true
       → HoldsBy limit (run_shared c) by → is_counted_at (AtRun by) ≡ is_counted_at (AtPut by)
       → Goes K limit t w (AtRun by) c h (run_step (RanValue v) (run_shared c) t k by)
-  run_value by v x i own n = ran_so by (RanValue v) (AtPut by) x i (v, ran_in K t h (RanValue v) i, own) n refl refl refl
+  run_value by v x i own n = ran_so by (RanValue v) (AtPut by) x i (v, ran_in K t h (RanValue v) i, own) (n, refl, refl, refl)
 
   -- a step that polls the init
   pub run_goes : (a : Answer) (by : Option ℕ) → IsNext K a (answers_left K h) → AtPlace K limit t c h (AtRun by)
       → Goes K limit t w (AtRun by) c h (run_step a (run_shared c) t k by)
-  run_goes RanPending by x a = pending_so by x a.0 (by_same limit c (run_shared c) by refl refl refl refl a.1)
-  run_goes (RanValue v) by x a = run_value by v x a.0 (by_same limit c (run_shared c) by refl refl refl refl a.1) (put_counts by)
+  run_goes RanPending by x a = pending_so by x a.0 (by_same limit c (run_shared c) by (refl, refl, refl, refl) a.1)
+  run_goes (RanValue v) by x a = run_value by v x a.0 (by_same limit c (run_shared c) by (refl, refl, refl, refl) a.1) (put_counts by)
   run_goes (RanError e) by x a =
-      let b = by_same limit c (run_shared c) by refl refl refl refl a.1 in
-      let n = back_counts by EndError in
+      let b = by_same limit c (run_shared c) by (refl, refl, refl, refl) a.1 in
       let own = gives_back K limit t (run_shared c) (Ran t (RanError e) ∷ h) by EndError (e, ran_in K t h (RanError e) a.0) b in
-      ran_so by (RanError e) (release_place by EndError) x a.0 own n.0 n.1 n.2 n.3
+      ran_so by (RanError e) (release_place by EndError) x a.0 own (back_counts by EndError)
 
   -- the value that is kept is put
   put_so : (by : Option ℕ) (p' : Place ℕ ℕ) (c' : SharedState) → holds t (cell K h) ≡ true → SharedFits K limit c' h
-      → c'.listings ≡ c.listings → c'.door ≡ c.door → c'.count ≡ c.count → AtPlace K limit t c' h p'
-      → is_counted_at (AtPut by) ≡ is_counted_at p' → is_take_at p' ≡ false → is_inside_at p' ≡ false
-      → ticket_at p' ≡ None
+      → c'.listings ≡ c.listings → c'.door ≡ c.door → c'.count ≡ c.count → AtPlace K limit t c' h p' → IsAlike (AtPut by) p'
       → Goes K limit t w (AtPut by) c h (goes_to c' k p')
-  put_so by p' c' hold fits same door m own n take inside tickets =
+  put_so by p' c' hold fits same door m own alike =
       moves_on before (AtPut by) c' p' fits (rw same before.queue) own
-      (λ u d b i. holder_shared before.shared hold door u d b) (rw (n, m) refl)
-      (λ e. absurd (false≢true (sym take ∙ e))) (λ e. absurd (false≢true (sym inside ∙ e)))
-      (lists_stay same (λ r. fits.ready_is ∙ sym before.shared.ready_is ∙ r) (inl tickets))
+      (λ u d b i. holder_shared before.shared hold door u d b) (rw (alike.0, m) refl)
+      (λ e. absurd (false≢true (sym alike.1 ∙ e))) (λ e. absurd (false≢true (sym alike.2 ∙ e)))
+      (lists_stay same (λ r. fits.ready_is ∙ sym before.shared.ready_is ∙ r) (inl alike.3))
 
   -- what is put is what the init gave
   put_is : (v : ℕ) → (last_call K t h).ran ≡ Some (RanValue v) → put_value k c.value ≡ v
@@ -180,10 +179,10 @@ module _ {K : Kind} {limit t w : ℕ} {k : Answer} {c : SharedState} {h : List E
   put_goes by a =
       let c' : SharedState = record c { value = put_value k c.value } in
       let n = back_counts by EndValue in
-      let own = gives_back K limit t c' h by EndValue (a.0, a.1, put_is a.0 a.1.ran_is) (by_same limit c c' by refl refl refl refl a.2) in
+      let own = gives_back K limit t c' h by EndValue (a.0, a.1, put_is a.0 a.1.ran_is) (by_same limit c c' by (refl, refl, refl, refl) a.2) in
       put_so by (release_place by EndValue) c' a.1.holds_is
       (value_fits K limit t c h (put_value k c.value) before.shared (held_by t (cell K h) a.1.holds_is)) refl refl refl
-      own (sym (put_counts by) ∙ n.0) n.1 n.2 n.3
+      own (sym (put_counts by) ∙ n.0, n.1, n.2, n.3)
 
   -- a step that counts the holder in
   pub add_goes : (e : Ending) → AtPlace K limit t c h (AtAddOne e)

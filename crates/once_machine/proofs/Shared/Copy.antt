@@ -53,7 +53,7 @@ leaves_fit limit t x w f found q v n at =
     let y : Task = record x { step = UnderWay (leave_place q n EndMemory) } in
     let own = task_fits Once limit t w x f found in
     let a : AtPlace Once limit t c h (AtList q n v) = subst (λ s. AtStep Once limit t c h s) at own.step in
-    let g = refused_at (task_before Once limit t w x f found) (AtList q n v) q n refl refl refl a.0 a.1 a.2 a.3 in
+    let g = refused_at (task_before Once limit t w x f found) {p = AtList q n v} n refl refl refl a.0 a.1 a.2 a.3 in
     moved_fits (record w { tasks = put_task t y w.tasks }) f found (puts t y w.tasks)
     (subst (λ s. Moves Once limit t s y c c h h) (sym at) g) (ap is_finished at) refl
 
@@ -66,4 +66,4 @@ refused_fits limit t w (Some x) found f = refused_keeps (Fits Once limit) w t x 
 pub refused_unowned : (t : ℕ) (w : World) (o : Option Task) → w.tasks t ≡ o → Unowned w → Unowned (refuse_world w t o)
 refused_unowned t w None found c = c
 refused_unowned t w (Some x) found c = refused_keeps Unowned w t x found c
-    (λ q v n at. moved_unowned t x (UnderWay (leave_place q n EndMemory)) w c found (leave_first q n EndMemory (subst EntersFirst at (enters_of t w x c found)))) x.step refl
+    (λ q v n at. moved_unowned t c x (UnderWay (leave_place q n EndMemory)) found (leave_first q n EndMemory (subst EntersFirst at (enters_of t c found)))) x.step refl

@@ -87,14 +87,6 @@ unnamed_by : (b : Bool) (y : Task) (o : Option Task) → IsUnnamed y.kept → Is
 unnamed_by true y o i j = i
 unnamed_by false y o i j = j
 
--- what is known of one task: the queue that it enters
-pub enters_of : (t : ℕ) (w : World) (x : Task) → Unowned w → w.tasks t ≡ Some x → EntersFirst x.step
-enters_of t w x c found = rw found at (c.enters t)
-
--- and what it keeps
-unnamed_of : (t : ℕ) (w : World) (x : Task) → Unowned w → w.tasks t ≡ Some x → IsUnnamed x.kept
-unnamed_of t w x c found = rw found at (c.kept t)
-
 -- a call that begins enters the first queue too
 poll_enters : (s : Step ℕ ℕ) → EntersFirst s → EntersFirst (step_of_poll s)
 poll_enters s i = grind (arith, common_steps)
@@ -103,87 +95,93 @@ poll_enters s i = grind (arith, common_steps)
 drop_enters : (s : Step ℕ ℕ) → EntersFirst s → EntersFirst (step_of_drop s)
 drop_enters s i = grind (arith, common_steps)
 
--- t is y now
-pub put_unowned : (t : ℕ) (y : Task) (w w' : World) → Unowned w → w'.tasks ≡ put_task t y w.tasks → OneQueue w'.shared → EntersFirst y.step → w'.shared.value ≡ 0
-    → IsUnnamed y.kept → ArePlain w'.history → Unowned w'
-put_unowned t y w w' c e q i z m u = record {
-  queue = q;
-  enters = λ v. subst (λ (f : ℕ → Option Task). EntersFirst (step_of (f v))) (sym e) (enters_by (t == v) y (w.tasks v) i (c.enters v));
-  value = z;
-  kept = λ v. subst (λ (f : ℕ → Option Task). IsUnnamedIn (f v)) (sym e) (unnamed_by (t == v) y (w.tasks v) m (c.kept v));
-  plain = u;
-}
+module _ (t : ℕ) {w : World} (c : Unowned w) where
+  -- what is known of one task: the queue that it enters
+  pub enters_of : {x : Task} → w.tasks t ≡ Some x → EntersFirst x.step
+  enters_of found = rw found at (c.enters t)
 
--- only the step of t changes
-pub moved_unowned : (t : ℕ) (x : Task) (s : Step ℕ ℕ) (w : World) → Unowned w → w.tasks t ≡ Some x → EntersFirst s
-    → Unowned (record w { tasks = put_task t (record x { step = s }) w.tasks })
-moved_unowned t x s w c found i = put_unowned t (record x { step = s }) w (record w { tasks = put_task t (record x { step = s }) w.tasks }) c refl c.queue i c.value (unnamed_of t w x c found) c.plain
+  -- and what it keeps
+  unnamed_of : {x : Task} → w.tasks t ≡ Some x → IsUnnamed x.kept
+  unnamed_of found = rw found at (c.kept t)
 
--- a task is made
-made_unowned : (w : World) (t : ℕ) → Unowned w → (o : Option Task) → Unowned (make_world w t o)
-made_unowned w t c (Some x) = c
-made_unowned w t c None = put_unowned t fresh_task w (make_world w t None) c refl c.queue tt c.value tt (tt, c.plain)
+  -- t is y now
+  put_unowned : (y : Task) (w' : World) → w'.tasks ≡ put_task t y w.tasks → OneQueue w'.shared → EntersFirst y.step → w'.shared.value ≡ 0
+      → IsUnnamed y.kept → ArePlain w'.history → Unowned w'
+  put_unowned y w' e q i z m u = record {
+    queue = q;
+    enters = λ v. subst (λ (f : ℕ → Option Task). EntersFirst (step_of (f v))) (sym e) (enters_by (t == v) y (w.tasks v) i (c.enters v));
+    value = z;
+    kept = λ v. subst (λ (f : ℕ → Option Task). IsUnnamedIn (f v)) (sym e) (unnamed_by (t == v) y (w.tasks v) m (c.kept v));
+    plain = u;
+  }
 
--- a poll begins
-begun_unowned : (w : World) (t k : ℕ) (x : Task) → k ≡ t → Unowned w → w.tasks t ≡ Some x → (r : Bool) → Unowned (poll_world_by r w t k x)
-begun_unowned w t k x own c found true = put_unowned t (record x { waker = k; step = step_of_poll x.step }) w (poll_world_by true w t k x) c refl c.queue
-    (poll_enters x.step (enters_of t w x c found)) c.value (unnamed_of t w x c found) (own, c.plain)
-begun_unowned w t k x own c found false = c
+  -- only the step of t changes
+  pub moved_unowned : (x : Task) (s : Step ℕ ℕ) → w.tasks t ≡ Some x → EntersFirst s → Unowned (record w { tasks = put_task t (record x { step = s }) w.tasks })
+  moved_unowned x s found i = put_unowned (record x { step = s }) (record w { tasks = put_task t (record x { step = s }) w.tasks }) refl c.queue i c.value (unnamed_of found) c.plain
 
--- by whether there is such a task
-polled_unowned : (w : World) (t k : ℕ) → k ≡ t → Unowned w → (o : Option Task) → w.tasks t ≡ o → Unowned (poll_world w t k o)
-polled_unowned w t k own c None is = c
-polled_unowned w t k own c (Some x) is = begun_unowned w t k x own c is (is_resting x.step)
+  -- a task is made
+  made_unowned : (o : Option Task) → Unowned (make_world w t o)
+  made_unowned (Some x) = c
+  made_unowned None = put_unowned fresh_task (make_world w t None) refl c.queue tt c.value tt (tt, c.plain)
 
--- a drop begins
-drop_unowned : (w : World) (t : ℕ) (x : Task) → Unowned w → w.tasks t ≡ Some x → (r : Bool) → Unowned (drop_world_by r w t x)
-drop_unowned w t x c found true = put_unowned t (record x { step = step_of_drop x.step }) w (drop_world_by true w t x) c refl c.queue
-    (drop_enters x.step (enters_of t w x c found)) c.value (unnamed_of t w x c found) (dropped_plain t (step_of_drop x.step) w.history c.plain)
-drop_unowned w t x c found false = c
+  -- a poll begins
+  begun_unowned : (k : ℕ) (x : Task) → k ≡ t → w.tasks t ≡ Some x → (r : Bool) → Unowned (poll_world_by r w t k x)
+  begun_unowned k x own found true = put_unowned (record x { waker = k; step = step_of_poll x.step }) (poll_world_by true w t k x) refl c.queue
+      (poll_enters x.step (enters_of found)) c.value (unnamed_of found) (own, c.plain)
+  begun_unowned k x own found false = c
 
--- by whether there is such a task
-dropped_unowned : (w : World) (t : ℕ) → Unowned w → (o : Option Task) → w.tasks t ≡ o → Unowned (drop_world w t o)
-dropped_unowned w t c None is = c
-dropped_unowned w t c (Some x) is = drop_unowned w t x c is (is_resting x.step)
+  -- by whether there is such a task
+  polled_unowned : (k : ℕ) → k ≡ t → (o : Option Task) → w.tasks t ≡ o → Unowned (poll_world w t k o)
+  polled_unowned k own None is = c
+  polled_unowned k own (Some x) is = begun_unowned k x own is (is_resting x.step)
 
--- a step of t at its place keeps what the table of places says
-pub place_step_keeps : (limit : ℕ) (w : World) (t : ℕ) (x : Task) (a : Answer) (g : Bool) (p : Place ℕ ℕ) → IsUnnamed a → Fits Once limit w → Unowned w
-    → w.tasks t ≡ Some x → x.step ≡ UnderWay p → StepKeeps (is_put_at p) (has_written_at p) w.shared (advance false limit w.shared t x a g)
-place_step_keeps limit w t x a g p j f c found at =
-    let stands : AtPlace Once limit t w.shared w.history p = subst (λ s. AtStep Once limit t w.shared w.history s) at (task_fits Once limit t w x f found).step in
-    let enters = subst EntersFirst at (enters_of t w x c found) in
-    let k = place_keeps limit t x.waker x.kept w.shared w.history f.shared c.queue (unlisted limit w f) c.value (unnamed_of t w x c found) a g p j stands enters in
-    subst (λ s. StepKeeps (is_put_at p) (has_written_at p) w.shared (step_at false limit w.shared t x.waker x.kept a g s)) (sym at) k
+  -- a drop begins
+  drop_unowned : (x : Task) → w.tasks t ≡ Some x → (r : Bool) → Unowned (drop_world_by r w t x)
+  drop_unowned x found true = put_unowned (record x { step = step_of_drop x.step }) (drop_world_by true w t x) refl c.queue
+      (drop_enters x.step (enters_of found)) c.value (unnamed_of found) (dropped_plain t (step_of_drop x.step) w.history c.plain)
+  drop_unowned x found false = c
 
--- a step
-step_unowned : (limit : ℕ) (w : World) (t : ℕ) (a : Answer) (g : Bool) (x : Task) (s : Step ℕ ℕ) → IsUnnamed a → Fits Once limit w → Unowned w → w.tasks t ≡ Some x
-    → x.step ≡ s → in_call s ≡ true → Unowned (go_world_by true false limit w t a g x)
-step_unowned limit w t a g x (UnderWay p) j f c found at call =
-    let o : Outcome = advance false limit w.shared t x a g in
-    let s = place_step_keeps limit w t x a g p j f c found at in
-    put_unowned t (record x { step = o.step; kept = o.kept }) w (go_world_by true false limit w t a g x) c refl s.queue s.enters s.value s.kept
-    (steps_plain t a o.entries w.history (step_part Once w.shared t x.kept a limit x.waker g x.step) c.plain)
-step_unowned limit w t a g x (Resting r) j f c found at call = absurd (false≢true call)
-step_unowned limit w t a g x Finished j f c found at call = absurd (false≢true call)
+  -- by whether there is such a task
+  dropped_unowned : (o : Option Task) → w.tasks t ≡ o → Unowned (drop_world w t o)
+  dropped_unowned None is = c
+  dropped_unowned (Some x) is = drop_unowned x is (is_resting x.step)
 
--- by whether a call of the task is under way
-goes_unowned : (limit : ℕ) (w : World) (t : ℕ) (a : Answer) (g : Bool) (x : Task) → IsUnnamed a → Fits Once limit w → Unowned w → w.tasks t ≡ Some x
-    → (r : Bool) → in_call x.step ≡ r → Unowned (go_world_by r false limit w t a g x)
-goes_unowned limit w t a g x j f c found false call = c
-goes_unowned limit w t a g x j f c found true call = step_unowned limit w t a g x x.step j f c found refl call
+module _ {limit : ℕ} {w : World} (t : ℕ) (a : Answer) (g : Bool) (j : IsUnnamed a) (f : Fits Once limit w) (c : Unowned w) where
+  -- a step of t at its place keeps what the table of places says
+  pub place_step_keeps : {x : Task} {p : Place ℕ ℕ} → w.tasks t ≡ Some x → x.step ≡ UnderWay p
+      → StepKeeps (is_put_at p) (has_written_at p) w.shared (advance false limit w.shared t x a g)
+  place_step_keeps {x = x} {p = p} found at =
+      let stands : AtPlace Once limit t w.shared w.history p = subst (λ s. AtStep Once limit t w.shared w.history s) at (task_fits Once limit t w x f found).step in
+      let enters = subst EntersFirst at (enters_of t c found) in
+      let k = place_keeps limit t x.waker x.kept w.shared w.history f.shared c.queue (unlisted limit w f) c.value (unnamed_of t c found) a g p j stands enters in
+      subst (λ s. StepKeeps (is_put_at p) (has_written_at p) w.shared (step_at false limit w.shared t x.waker x.kept a g s)) (sym at) k
 
--- by whether there is such a task
-gone_unowned : (limit : ℕ) (w : World) (t : ℕ) (a : Answer) (g : Bool) → IsUnnamed a → Fits Once limit w → Unowned w
-    → (o : Option Task) → w.tasks t ≡ o → Unowned (go_world false limit w t a g o)
-gone_unowned limit w t a g j f c None is = c
-gone_unowned limit w t a g j f c (Some x) is = goes_unowned limit w t a g x j f c is (in_call x.step) refl
+  -- a step
+  step_unowned : (x : Task) (s : Step ℕ ℕ) → w.tasks t ≡ Some x → x.step ≡ s → in_call s ≡ true → Unowned (go_world_by true false limit w t a g x)
+  step_unowned x (UnderWay p) found at call =
+      let o : Outcome = advance false limit w.shared t x a g in
+      let s = place_step_keeps found at in
+      put_unowned t c (record x { step = o.step; kept = o.kept }) (go_world_by true false limit w t a g x) refl s.queue s.enters s.value s.kept
+      (steps_plain t a o.entries w.history (step_part Once w.shared t x.kept a limit x.waker g x.step) c.plain)
+  step_unowned x (Resting r) found at call = absurd (false≢true call)
+  step_unowned x Finished found at call = absurd (false≢true call)
+
+  -- by whether a call of the task is under way
+  goes_unowned : (x : Task) → w.tasks t ≡ Some x → (r : Bool) → in_call x.step ≡ r → Unowned (go_world_by r false limit w t a g x)
+  goes_unowned x found false call = c
+  goes_unowned x found true call = step_unowned x x.step found refl call
+
+  -- by whether there is such a task
+  gone_unowned : (o : Option Task) → w.tasks t ≡ o → Unowned (go_world false limit w t a g o)
+  gone_unowned None is = c
+  gone_unowned (Some x) is = goes_unowned x is (in_call x.step) refl
 
 -- each input keeps it
 pub after_unowned : (limit : ℕ) (w : World) (i : Input) → IsShared i → Fits Once limit w → Unowned w → Unowned (world_after Once limit w i)
-after_unowned limit w (Make t) s f c = made_unowned w t c (w.tasks t)
-after_unowned limit w (Poll t k) s f c = polled_unowned w t k s c (w.tasks t) refl
-after_unowned limit w (Drop t) s f c = dropped_unowned w t c (w.tasks t) refl
-after_unowned limit w (Go t a g) s f c = gone_unowned limit w t a g s f c (w.tasks t) refl
+after_unowned limit w (Make t) s f c = made_unowned t c (w.tasks t)
+after_unowned limit w (Poll t k) s f c = polled_unowned t c k s (w.tasks t) refl
+after_unowned limit w (Drop t) s f c = dropped_unowned t c (w.tasks t) refl
+after_unowned limit w (Go t a g) s f c = gone_unowned t a g s f c (w.tasks t) refl
 after_unowned limit w (Owns o) s f c = absurd s
 after_unowned limit w Looks s f c = record { queue = c.queue; enters = c.enters; value = c.value; kept = c.kept; plain = (tt, c.plain) }
 

@@ -13,7 +13,7 @@ module _ (limit n put : ℕ) (slot : Bool) (pages : List Page) (log : List Entry
     (book : IsBook limit n put slot pages log) (pen : slice_get pages (suc (suc t)) ≡ Some (At x)) where
   -- by its place
   pub enters_first : EntersFirst x.step
-  enters_first = let m : Moment limit n put slot pages log t x = moment t some book pen in enters_of t m.w x m.unowned m.found
+  enters_first = let m : Moment limit n put slot pages log t x = moment t some book pen in enters_of t m.unowned m.found
 
   -- one that counts itself in before the value is set will enter the first too
   pub counts_in_first : (q : ℕ) → x.step ≡ UnderWay (AtCountIn q) → (flags_of n).ready ≡ false → q ≡ 1
