@@ -55,12 +55,12 @@ module _ {W : Type 0} where
   calls_by x (Some w) ys s = (refl, refl)
   calls_by x None ys s = absurd (false≢true s)
 
-  passes_by : (b : Bool) (x : Listing W) (o v : Option W) (ys zs : List (Listing W)) → x.waker ≡ o
+  passes_by : (b : Bool) (x : Listing W) {o v : Option W} (ys : List (Listing W)) {zs : List (Listing W)} → x.waker ≡ o
       → cond b (is_some o) false ≡ false → v ≡ first_waker ys → zs ≡ call_first ys
       → (v ≡ first_waker (cond b (x ∷ ys) ys)) × (cond b (x ∷ zs) zs ≡ call_first (cond b (x ∷ ys) ys))
-  passes_by true x (Some w) v ys zs is s f c = absurd (false≢true (sym s))
-  passes_by true x None v ys zs is s f c = (rw is f, rw (is, c) refl)
-  passes_by false x o v ys zs is s f c = (f, c)
+  passes_by true x {o = Some w} ys is s f c = absurd (false≢true (sym s))
+  passes_by true x {o = None} ys is s f c = (rw is f, rw (is, c) refl)
+  passes_by false x ys is s f c = (f, c)
 
   length_by : (b : Bool) (x : Listing W) (ys : List (Listing W)) (n : ℕ) → length ys ≤ n → length (cond b (x ∷ ys) ys) ≤ suc n
   length_by true x ys n l = omega arith
@@ -73,11 +73,11 @@ module _ {W : Type 0} where
 
 module _ {W : Type 0} (p : Listing W → Bool) where
   -- one that is kept has its ticket there
-  pub kept_member : (n i : ℕ) (xs : List (Listing W)) (d : Listing W) → i < length xs → (get_or xs i d).ticket ≡ n
+  pub kept_member : {n : ℕ} (i : ℕ) (xs : List (Listing W)) (d : Listing W) → i < length xs → (get_or xs i d).ticket ≡ n
       → p (get_or xs i d) ≡ true → member n (tickets (filter p xs)) ≡ true
-  kept_member n i [] d l e k = absurd (omega arith)
-  kept_member n zero (x ∷ xs) d l e k = rw k (grind (arith, nat_tests))
-  kept_member n (suc i) (x ∷ xs) d l e k = member_by (p x) n x (filter p xs) (kept_member n i xs d (omega arith) e k)
+  kept_member i [] d l e k = absurd (omega arith)
+  kept_member zero (x ∷ xs) d l e k = rw k (grind (arith, nat_tests))
+  kept_member {n} (suc i) (x ∷ xs) d l e k = member_by (p x) n x (filter p xs) (kept_member i xs d (omega arith) e k)
 
   -- and a ticket that is in no slot is not there
   pub kept_none : (n : ℕ) (xs : List (Listing W)) → member n (tickets xs) ≡ false → member n (tickets (filter p xs)) ≡ false
@@ -98,15 +98,15 @@ module _ {W : Type 0} (p : Listing W → Bool) where
       let none = take_none n (filter p xs) in
       rw (h, k) (grind (arith, nat_tests))
   kept_taken n (suc i) (x ∷ xs) z d l e k h once =
-      taken_by (p x) n x (filter p xs) (filter p (set xs i z)) (kept_member n i xs d (omega arith) e k) once (kept_taken n i xs z d (omega arith) e k h)
+      taken_by (p x) n x (filter p xs) (filter p (set xs i z)) (kept_member i xs d (omega arith) e k) once (kept_taken n i xs z d (omega arith) e k h)
 
-  pub kept_found : (n i : ℕ) (xs : List (Listing W)) (d : Listing W) → i < length xs → (get_or xs i d).ticket ≡ n
+  pub kept_found : {n : ℕ} (i : ℕ) (xs : List (Listing W)) (d : Listing W) → i < length xs → (get_or xs i d).ticket ≡ n
       → p (get_or xs i d) ≡ true → is_distinct (tickets (filter p xs)) ≡ true
       → find_listing n (filter p xs) ≡ Some (get_or xs i d).waker
-  kept_found n i [] d l e k once = absurd (omega arith)
-  kept_found n zero (x ∷ xs) d l e k once = rw k (grind (arith, nat_tests))
-  kept_found n (suc i) (x ∷ xs) d l e k once =
-      found_by (p x) n x (filter p xs) (get_or xs i d).waker (kept_member n i xs d (omega arith) e k) once (kept_found n i xs d (omega arith) e k)
+  kept_found i [] d l e k once = absurd (omega arith)
+  kept_found zero (x ∷ xs) d l e k once = rw k (grind (arith, nat_tests))
+  kept_found {n} (suc i) (x ∷ xs) d l e k once =
+      found_by (p x) n x (filter p xs) (get_or xs i d).waker (kept_member i xs d (omega arith) e k) once (kept_found i xs d (omega arith) e k)
 
   -- a listing has another waker
   pub kept_renewed : (n i : ℕ) (w : W) (xs : List (Listing W)) (z d : Listing W) → i < length xs → (get_or xs i d).ticket ≡ n
@@ -118,7 +118,7 @@ module _ {W : Type 0} (p : Listing W → Bool) where
       let same : (x.ticket == n) ≡ true = grind (arith, nat_tests) in
       rw (h, k, same) (ap (λ (y : Listing W). y ∷ filter p xs) is)
   kept_renewed n (suc i) w (x ∷ xs) z d l e k h is once =
-      renewed_by (p x) n w x (filter p xs) (filter p (set xs i z)) (kept_member n i xs d (omega arith) e k) once (kept_renewed n i w xs z d (omega arith) e k h is)
+      renewed_by (p x) n w x (filter p xs) (filter p (set xs i z)) (kept_member i xs d (omega arith) e k) once (kept_renewed n i w xs z d (omega arith) e k h is)
 
   pub kept_pushed : (x : Listing W) (xs : List (Listing W)) → p x ≡ true → filter p (xs ++ x ∷ []) ≡ filter p xs ++ x ∷ []
   kept_pushed x xs k = filter-append p xs (x ∷ []) ∙ rw k refl
@@ -133,21 +133,21 @@ module _ {W : Type 0} (p : Listing W → Bool) where
   nobody_called [] none = (refl, refl)
   nobody_called (x ∷ xs) none =
       let rest = nobody_called xs (λ k d l. none (suc k) d (omega arith)) in
-      passes_by (p x) x x.waker None (filter p xs) (filter p xs) refl (none 0 x (omega arith)) rest.0 rest.1
+      passes_by (p x) x (filter p xs) refl (none 0 x (omega arith)) rest.0 rest.1
 
-  one_left : (i : ℕ) (xs : List (Listing W)) (z d : Listing W) → i < length xs → opens (get_or xs i d) ≡ true
+  one_left : (i : ℕ) (xs : List (Listing W)) {z : Listing W} (d : Listing W) → i < length xs → opens (get_or xs i d) ≡ true
       → ((k : ℕ) → k < i → opens (get_or xs k d) ≡ false) → p z ≡ true
       → z ≡ record { ticket = (get_or xs i d).ticket; waker = None }
       → ((get_or xs i d).waker ≡ first_waker (filter p xs)) × (filter p (set xs i z) ≡ call_first (filter p xs))
-  one_left i [] z d l o before k is = absurd (omega arith)
-  one_left zero (x ∷ xs) z d l o before k is =
+  one_left i [] d l o before k is = absurd (omega arith)
+  one_left zero (x ∷ xs) d l o before k is =
       let kept : p x ≡ true = grind arith in
       let some : is_some x.waker ≡ true = rw kept at o in
       let call = calls_by x x.waker (filter p xs) some in
       (rw kept call.0, rw (k, kept, is) call.1)
-  one_left (suc i) (x ∷ xs) z d l o before k is =
-      let rest = one_left i xs z d (omega arith) o (λ j m. before (suc j) (omega arith)) k is in
-      passes_by (p x) x x.waker (get_or xs i d).waker (filter p xs) (filter p (set xs i z)) refl (before 0 (omega arith)) rest.0 rest.1
+  one_left (suc i) (x ∷ xs) {z} d l o before k is =
+      let rest = one_left i xs d (omega arith) o (λ j m. before (suc j) (omega arith)) k is in
+      passes_by (p x) x (filter p xs) refl (before 0 (omega arith)) rest.0 rest.1
 
   pub one_called : (i : ℕ) (xs : List (Listing W)) (x : Listing W) (o : Option W) → i < length xs → x ≡ get_or xs i x
       → opens x ≡ true → ((k : ℕ) → k < i → opens (get_or xs k x) ≡ false) → o ≡ None
@@ -155,7 +155,7 @@ module _ {W : Type 0} (p : Listing W → Bool) where
       → (x.waker ≡ first_waker (filter p xs)) × (filter p (set xs i (record { ticket = x.ticket; waker = o })) ≡ call_first (filter p xs))
   one_called i xs x o l is waits before none kept =
       let z : Listing W = record { ticket = x.ticket; waker = o } in
-      let left = one_left i xs z x l (rw (sym is) waits) before kept (rw none (ap (λ (y : Listing W). record { ticket = y.ticket; waker = None }) is)) in
+      let left = one_left i xs x l (rw (sym is) waits) before kept (rw none (ap (λ (y : Listing W). record { ticket = y.ticket; waker = None }) is)) in
       (ap (λ (y : Listing W). y.waker) is ∙ left.0, left.1)
 
   -- where there is a hole, fewer are kept than there are slots

@@ -137,7 +137,7 @@ module _ (limit n put : ℕ) (slot : Bool) (pages : List Page) (log : List Entry
     -- AtPut: the value is put, and the slot is written, which was not
     pub value_put : (by : Option ℕ) → x.step ≡ UnderWay (AtPut by) → (slot ≡ false) × Stepped limit n put true pages log t x [] (next_at (release_place by EndValue))
     value_put by at = (
-      slot_free limit m.w t x by slot m.fits m.is.slot_is m.found at,
+      slot_free t m.fits m.is.slot_is m.found at,
       stepped_alone t some book pen n false (AtPut by) (record book.0.shared { value = put_value x.kept book.0.shared.value }) [] (next_at (release_place by EndValue))
           at refl book.1.within book.1.word_is book.1.put_is book.1.door_is book.1.queue_is,
     )

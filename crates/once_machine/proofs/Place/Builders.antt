@@ -113,14 +113,14 @@ error_kept : (e : ℕ) (k : Answer) (r : Option Answer) → k ≡ kept_of r → 
 error_kept e k r a b = ap error_in (a ∙ ap kept_of b)
 
 -- a call may end as it owes
-owes_legal : (K : Kind) (limit t v : ℕ) (k : Answer) (h : List Entry) (e : Ending)
+owes_legal : (K : Kind) (limit t : ℕ) {v : ℕ} {k : Answer} (h : List Entry) (e : Ending)
     → ((n : ℕ) → cell K h ≡ SetTo n → v ≡ n) → k ≡ kept_of (last_call K t h).ran → Owes K t h e
     → IsLegal K limit (end_entry e t v k) h
-owes_legal K limit t v k h EndValue f a o = (o.0, rw (f o.1.0 o.1.1) (value_legal K limit t o.1.0 h (last_call K t h).ran o.1.1 o.1.2), inl o.2)
-owes_legal K limit t v k h EndError f a o = (o.1.status_is, rw o.1.ran_is (error_kept o.0 k (last_call K t h).ran a o.1.ran_is, o.2), inl o.1.unpassed)
-owes_legal K limit t v k h EndMemory f a o = (o.0.status_is, rw o.0.ran_is (o.0.unclaimed, o.1), inr refl)
-owes_legal K limit t v k h EndDropped f a o = (o.status_is, not_holding t (cell K h) o.holds_is)
-owes_legal K limit t v k h _ f a o = absurd o
+owes_legal K limit t h EndValue f a o = (o.0, rw (f o.1.0 o.1.1) (value_legal K limit t o.1.0 h (last_call K t h).ran o.1.1 o.1.2), inl o.2)
+owes_legal K limit t {k} h EndError f a o = (o.1.status_is, rw o.1.ran_is (error_kept o.0 k (last_call K t h).ran a o.1.ran_is, o.2), inl o.1.unpassed)
+owes_legal K limit t h EndMemory f a o = (o.0.status_is, rw o.0.ran_is (o.0.unclaimed, o.1), inr refl)
+owes_legal K limit t h EndDropped f a o = (o.status_is, not_holding t (cell K h) o.holds_is)
+owes_legal K limit t h _ f a o = absurd o
 
 -- a task in a poll does not wait
 pub polls_not_waits : (K : Kind) (t u : ℕ) (h : List Entry) → (t == u) ≡ true → status K t h ≡ Polling → status K u h ≢ Waiting
@@ -138,8 +138,8 @@ opened_by : (b : Bool) → cond b true false ≡ b
 opened_by b = grind arith
 
 -- such an end opens the waker of the poll
-opens_now : (K : Kind) (t u w v : ℕ) (h : List Entry) → cell K h ≡ Held u → t ≢ u → (last_call K t h).waker ≡ w → opens K v (End t Pending) h ≡ (w == v)
-opens_now K t u w v h c n wk = let d = ne_eqb u t (λ e. n (sym e)) in rw (wk, c, d) (opened_by (w == v))
+opens_now : (K : Kind) (t : ℕ) {u w : ℕ} (v : ℕ) (h : List Entry) → cell K h ≡ Held u → t ≢ u → (last_call K t h).waker ≡ w → opens K v (End t Pending) h ≡ (w == v)
+opens_now K t {u} {w} v h c n wk = let d = ne_eqb u t (λ e. n (sym e)) in rw (wk, c, d) (opened_by (w == v))
 
 -- what stands before a step of t, which is polled with the waker w and whose init gave k
 pub record Before (K : Kind) (limit t w : ℕ) (k : Answer) (c : SharedState) (h : List Entry) : Type 0 where
@@ -216,7 +216,7 @@ module _ {K : Kind} {limit t w : ℕ} {k : Answer} {c : SharedState} {h : List E
       → ((u : ℕ) → t ≢ u → (b : Bool) → (is_take_at p ≡ true → b ≡ false) → SharedKeeps K limit c c' u h b)
       → c'.count + bit (is_counted_at p) ≡ c.count → ListMoves t (ticket_at p) None c c' (end_entry e t c'.value k ∷ h) → Goes K limit t w p c h (ends c' t k e)
   ends_so c' e owes shared' queue' keeps count lists =
-      ends_by c' e (owes_lasts K t h e owes) (owes_legal K limit t c'.value k h e shared'.value_is before.kept_is owes)
+      ends_by c' e (owes_lasts K t h e owes) (owes_legal K limit t h e shared'.value_is before.kept_is owes)
       (owes_holds K t h e owes) shared' queue' keeps count lists
 
   -- the last step of an uncounted call, which leaves all that is shared alone
@@ -272,7 +272,7 @@ module _ {K : Kind} {limit t w : ℕ} {k : Answer} {c : SharedState} {h : List E
         run = (legal, before.run);
         shared = shared_at refl refl shared';
         queue = entry_fits before.queue refl
-            (λ v. let a = less v in rw (opens_now K t u w v h held apart before.waker_is) (omega arith))
+            (λ v. let a = less v in rw (opens_now K t v h held apart before.waker_is) (omega arith))
             (λ e. absurd (held_not_empty u (sym held ∙ e)));
         own = (
           (

@@ -73,10 +73,10 @@ put_fits K limit c h f n q = record {
 }
 
 -- a new queue changes nothing for the others
-pub put_keeps : (K : Kind) (limit : ℕ) (c : SharedState) (u : ℕ) (h : List Entry) (b : Bool) → c.door ≡ None
+pub put_keeps : {K : Kind} {limit : ℕ} {c : SharedState} {u : ℕ} {h : List Entry} {b : Bool} → c.door ≡ None
     → c.head ≡ false → (q : ℕ)
     → SharedKeeps K limit c (record c { door = Some q; head = false; listings = []; queues = q }) u h b
-put_keeps K limit c u h b d n q = record {
+put_keeps d n q = record {
   ready = λ e. e;
   door = λ j e. absurd (none_some j (sym d ∙ e));
   flags = inl (refl, sym n, refl);

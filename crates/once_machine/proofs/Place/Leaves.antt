@@ -95,7 +95,7 @@ module _ {K : Kind} {limit t w : ℕ} {k : Answer} {c : SharedState} {h : List E
         enters = λ e. absurd (false≢true e);
         listings = record {
           up = λ r. r;
-          lists = λ u m o d x r f. call_kept u m o xs (Pass t (v ∷ [])) h (of_other t u d) (sym one) (find_take_other m n c.listings (λ s. x (ap (λ (i : ℕ). Some i) s)) ∙ f);
+          lists = λ u m o d x r f. call_kept u m xs (Pass t (v ∷ [])) h (of_other t u d) (sym one) (find_take_other m n c.listings (λ s. x (ap (λ (i : ℕ). Some i) s)) ∙ f);
           fresh = λ m s. absurd (none_not_some m s);
           owner = λ r m o f. let b = call_back m o xs f in let j = take_back m n b.0 c.listings (cases_eq n m) b.1 in inr ((λ s. j.0 (same_some n m s)), (b.0, j.1));
         };

@@ -113,12 +113,12 @@ module _ {K : Kind} {limit t w : ℕ} {k : Answer} {c : SharedState} {h : List E
       stays before (AtFast e) (AtAddOne e) (a.0, a.1, a.2, before.shared.stands unset (inexact c unset a.1.quick_is x)) refl refl (λ e. absurd (false≢true e)) (inl refl)
 
   -- a release under the lock of the queue, which hands X out and leaves ys
-  release_moves : (q : ℕ) (e : Ending) (x : Entry) (c' : SharedState) (X : List ℕ) (ys : List (Listing ℕ))
+  release_moves : (q : ℕ) (e : Ending) {x : Entry} {c' : SharedState} {X : List ℕ} {ys : List (Listing ℕ)}
       → AtPlace K limit t c h (AtRelease q e) → Cleared c c' (is_value e) ys → IsLegal K limit x h
       → Owes K t (x ∷ h) e
       → SharedFits K limit c' (x ∷ h) → IsRelease t X x → release_entry k t X ≡ x → QueueFits K ys (x ∷ h) → ListMoves t None None c c' (x ∷ h)
       → Goes K limit t w (AtRelease q e) c h (record { shared = c'; step = UnderWay (AtCountOut e); kept = k; entries = release_entry k t X ∷ [] })
-  release_moves q e x c' X ys a cl legal owes shared' l same queue' lists =
+  release_moves q e {x} {c'} a cl legal owes shared' l same queue' lists =
       let P : Entry → Type 0 = λ y. Goes K limit t w (AtRelease q e) c h (record { shared = c'; step = UnderWay (AtCountOut e); kept = k; entries = y ∷ [] }) in
       subst P (sym same) (record {
         run = (legal, before.run);
@@ -145,7 +145,7 @@ module _ {K : Kind} {limit t w : ℕ} {k : Answer} {c : SharedState} {h : List E
       let X : List ℕ = all_out c.listings [] in
       let e : Entry = Fill t v X in
       let unset : c.ready ≡ false = before.shared.ready_is ∙ holder_unset t (cell K h) a.0.1.holds_is in
-      release_moves q EndValue e c' X [] a cl (fill_legal K limit t h c X a.0 (hands_out K c.listings h before.queue (due_asks K t None c h unset al))) (filled_owes K t h c X a.0)
+      release_moves q EndValue a cl (fill_legal K limit t h c X a.0 (hands_out K c.listings h before.queue (due_asks K t None c h unset al))) (filled_owes K t h c X a.0)
       (release_fits t before.shared a.0.1.holds_is cl.ready_is refl cl.quick_is cl.head_is
       (λ x i. cl.value_is ∙ a.0.2 ∙ same_value v x i) cl.count_is (λ l. (q, cl.door_is ∙ a.2)) cl.answers_is refl)
       (fill_releases t v X) (fills K t h c k X before.kept_is a.0)
@@ -168,7 +168,7 @@ module _ {K : Kind} {limit t w : ℕ} {k : Answer} {c : SharedState} {h : List E
   release_frees q e c' nv cl al a =
       let X : List ℕ = option_to_list (first_waker c.listings) in
       let unset : c.ready ≡ false = before.shared.ready_is ∙ holder_unset t (cell K h) (releasing_holds K t c h e a.0) in
-      release_moves q e (Free t X) c' X (call_first c.listings) a cl
+      release_moves q e a cl
       (free_legal K limit t h c X e nv a.0 (calls_one K c.listings h before.queue (due_asks K t None c h unset al)))
       (freed_owes K t h c X e nv a.0)
       (release_fits t before.shared (releasing_holds K t c h e a.0)
@@ -178,7 +178,7 @@ module _ {K : Kind} {limit t w : ℕ} {k : Answer} {c : SharedState} {h : List E
       (entry_fits before.queue refl (λ n. let i = asks_call n c.listings in omega arith) (free_called (first_waker c.listings) e refl unset al a.0))
       (record {
         up = λ r. absurd (false≢true (sym unset ∙ r));
-        lists = λ u n o d x r f. rw cl.listings_is (call_kept u n o c.listings (Free t X) h (of_other t u d) refl f);
+        lists = λ u n o d x r f. rw cl.listings_is (call_kept u n c.listings (Free t X) h (of_other t u d) refl f);
         fresh = λ n e. absurd (none_not_some n e);
         owner = λ r n o f. inr (none_not_some n, call_back n o c.listings (rw cl.listings_is at f));
       })

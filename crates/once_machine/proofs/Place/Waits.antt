@@ -56,15 +56,15 @@ idle : (c : SharedState) → is_zero (word_of c) ≡ true → (c.count ≡ 0) ×
 idle c n = grind (arith, nat_tests)
 
 -- where the word is not NEW somebody acts or waits
-met_busy : (K : Kind) (limit t : ℕ) (c : SharedState) (h : List Entry) → SharedFits K limit c h
+met_busy : {K : Kind} {limit t : ℕ} {c : SharedState} {h : List Entry} → SharedFits K limit c h
     → Around K t false false c h → holds t (cell K h) ≡ false → c.ready ≡ false → is_zero (word_of c) ≡ false
     → Met K t h ⊎ SomeoneWaits K h
-met_busy K limit t c h shared ar n r f = ⊎_elim (λ l. ar.acts refl l)
+met_busy {K} {t} {c} {h} shared ar n r f = ⊎_elim (λ l. ar.acts refl l)
     (λ q. let o = other_holds K t c h shared.held_is n (rw q refl) in inl (since_now K t o.0 h o.1 o.2)) (busy c r f)
 
 -- nobody holds under the lock where the count is 0
-no_head : (K : Kind) (t : ℕ) (counted take : Bool) (c : SharedState) (h : List Entry) → Around K t counted take c h → c.count ≡ 0 → c.head ≡ false
-no_head K t counted take c h ar z = ⊎_elim (λ e. let l = ar.head_counts e in absurd (omega arith)) (λ e. e) (cases_Bool c.head)
+no_head : {K : Kind} {t : ℕ} {counted take : Bool} {c : SharedState} {h : List Entry} → Around K t counted take c h → c.count ≡ 0 → c.head ≡ false
+no_head {c} ar z = ⊎_elim (λ e. let l = ar.head_counts e in absurd (omega arith)) (λ e. e) (cases_Bool c.head)
 
 -- where the cell is not set the door has the queue that was found
 in_door : (c : SharedState) (q : ℕ) → c.ready ≡ false → (c.door ≡ Some q) ⊎ (c.ready ≡ true) → c.door ≡ Some q
@@ -101,7 +101,7 @@ module _ {K : Kind} {limit t w : ℕ} {k : Answer} {c : SharedState} {h : List E
       (λ e. absurd (false≢true e)) (inl refl)
   start_goes false false r f ar a =
       stays before AtStart AtDoorGet
-      (fresh_from K t h a.0 a.1 a.2 (sym before.shared.ready_is ∙ r), met_busy K limit t c h before.shared ar a.0.poll.holds_is r f) refl refl
+      (fresh_from K t h a.0 a.1 a.2 (sym before.shared.ready_is ∙ r), met_busy before.shared ar a.0.poll.holds_is r f) refl refl
       (λ e. absurd (false≢true e)) (inl refl)
 
   -- the quick claim
@@ -110,13 +110,13 @@ module _ {K : Kind} {limit t w : ℕ} {k : Answer} {c : SharedState} {h : List E
   quick_goes true f ar a =
       let z = idle c f in
       let r = z.2 in
-      let n = no_head K t false false c h ar z.0 in
+      let n = no_head ar z.0 in
       let empty = empty_cell (cell K h) (sym before.shared.ready_is ∙ r) (before.shared.held_is ∙ or_from c.quick c.head z.1 n) in
       claims_so before AtTryQuick (record c { quick = true }) None empty a.0.entered
       (claim_fits before.shared r refl refl refl r before.shared.head_door refl) (λ n. omega arith)
       (record { quick_is = refl; head_is = n }, omega arith) refl refl refl refl (lists_stay refl (λ r. r) (inl refl))
   quick_goes false f ar a =
-      let unset : c.ready ≡ false → Met K t h ⊎ SomeoneWaits K h = λ r. met_busy K limit t c h before.shared ar a.0.entered.poll.holds_is r f in
+      let unset : c.ready ≡ false → Met K t h ⊎ SomeoneWaits K h = λ r. met_busy before.shared ar a.0.entered.poll.holds_is r f in
       let set : c.ready ≡ true → Met K t h ⊎ SomeoneWaits K h = λ r. ⊎_elim (λ n. absurd (false≢true (sym n ∙ sym before.shared.ready_is ∙ r))) (λ m. inl m) a.1 in
       stays before AtTryQuick AtDoorGet (a.0, ⊎_elim set unset (cases_Bool c.ready)) refl refl (λ e. absurd (false≢true e)) (inl refl)
 
@@ -139,7 +139,7 @@ module _ {K : Kind} {limit t w : ℕ} {k : Answer} {c : SharedState} {h : List E
       let n = headless K limit c h before.shared d in
       moves_on before AtDoorPut (record c { door = Some (suc c.queues); head = false; listings = []; queues = suc c.queues }) (AtCountIn (suc c.queues))
       (put_fits K limit c h before.shared n (suc c.queues)) (nobody K c.listings h before.queue (ar.door_waits d)) (a.0, inl refl)
-      (λ u x b i. put_keeps K limit c u h b d n (suc c.queues)) refl (λ e. absurd (false≢true e))
+      (λ u x b i. put_keeps d n (suc c.queues)) refl (λ e. absurd (false≢true e))
       (λ e. absurd (false≢true e)) (put_lists K t c (suc c.queues) h d al)
 
   -- the counting in

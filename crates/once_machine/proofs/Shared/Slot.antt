@@ -86,9 +86,9 @@ pub one_holder : (t u : ℕ) (c : Cell) → holds t c ≡ true → holds u c ≡
 one_holder t u c a b = let e = sym (held_by t c a) ∙ held_by u c b in cc
 
 -- who is about to write it finds it not written
-pub slot_free : (limit : ℕ) (w : World) (t : ℕ) (x : Task) (by : Option ℕ) (slot : Bool) → Fits Once limit w → SlotIs slot w → w.tasks t ≡ Some x → x.step ≡ UnderWay (AtPut by)
+pub slot_free : {limit : ℕ} {w : World} (t : ℕ) {x : Task} {by : Option ℕ} {slot : Bool} → Fits Once limit w → SlotIs slot w → w.tasks t ≡ Some x → x.step ≡ UnderWay (AtPut by)
     → slot ≡ false
-slot_free limit w t x by true f s found at =
+slot_free {limit} {w} t {x} {by} {slot = true} f s found at =
     let own = task_fits Once limit t w x f found in
     let a : AtPlace Once limit t w.shared w.history (AtPut by) = subst (λ y. AtStep Once limit t w.shared w.history y) at own.step in
     let r : w.shared.ready ≡ false = f.shared.ready_is ∙ holder_unset t (cell Once w.history) a.1.holds_is in
@@ -97,4 +97,4 @@ slot_free limit w t x by true f s found at =
     let same : t ≡ u.0 = one_holder t u.0 (cell Once w.history) a.1.holds_is v in
     false≢true (sym (ap (λ o. has_written (step_of o)) found ∙ ap has_written at) ∙ subst (λ m. has_written (step_of (w.tasks m)) ≡ true) (sym same) u.1))
     (s.0 refl))
-slot_free limit w t x by false f s found at = refl
+slot_free t {slot = false} f s found at = refl

@@ -15,4 +15,4 @@ returns g c =
     let x = c.index.result.now in
     let p = c.in_ok-place.ensures.some in
     let at = p.1 x in
-    ap (λ y. Some y.waker) c.index.ensures ∙ sym (kept_found is_kept c.args.ticket c.in_ok-place.place slots.slots.items x p.0 at (rw at (not_false _ p.2)) slots.once)
+    ap (λ y. Some y.waker) c.index.ensures ∙ sym (kept_found is_kept c.in_ok-place.place slots.slots.items x p.0 at (rw at (not_false _ p.2)) slots.once)

@@ -49,7 +49,7 @@ returns-clause-renewed g c = λ _.
     let at = p.1 x in
     let kept : is_kept (get_or xs i x) ≡ true = rw at (not_false _ p.2) in
     let again : is_kept z ≡ true = rw (ap (λ (y : Listing g.row.W.Denot). y.ticket) e ∙ at) (not_false _ p.2) in
-    let found = kept_found is_kept n i xs x p.0 at kept slots.once ∙ ap (λ (y : Listing g.row.W.Denot). Some y.waker) (sym e) ∙ ap Some c.in-Some-waker.is in (
+    let found = kept_found is_kept i xs x p.0 at kept slots.once ∙ ap (λ (y : Listing g.row.W.Denot). Some y.waker) (sym e) ∙ ap Some c.in-Some-waker.is in (
       c.in-Some-waker.waker,
       w,
       found,

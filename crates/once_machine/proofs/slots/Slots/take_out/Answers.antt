@@ -43,7 +43,7 @@ returns-clause-waker g c =
     let p = c.in_ok-place.ensures.some in
     let at = p.1 x in
     ap (λ y. Some y.waker) (c.replace.ensures.value ∙ c.index_mut.ensures.value)
-    ∙ sym (kept_found is_kept c.args.ticket c.in_ok-place.place slots.slots.items x p.0 at
+    ∙ sym (kept_found is_kept c.in_ok-place.place slots.slots.items x p.0 at
     (rw at (not_false _ p.2)) slots.once)
 
 pub returns-clause-listings : goal.returns-clause-listings
@@ -59,7 +59,7 @@ returns-clause-mark g c = λ _.
     let slots = c.args.self.now in
     let p = c.in_ok-place.ensures.some in
     let at = p.1 c.replace.result in
-    let marked = slots.marks c.args.ticket ∙ kept_member is_kept c.args.ticket c.in_ok-place.place slots.slots.items c.replace.result p.0 at (rw at (not_false _ p.2)) in
+    let marked = slots.marks c.args.ticket ∙ kept_member is_kept c.in_ok-place.place slots.slots.items c.replace.result p.0 at (rw at (not_false _ p.2)) in
     let within = marked_within c.args.ticket slots.used.items marked in
     omega arith
 
