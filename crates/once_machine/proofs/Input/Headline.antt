@@ -27,13 +27,6 @@ use Rattle.once_machine.proofs.Input.Makes.{look_fits, made_fits}
 pub task_fits : (K : Kind) (limit t : ℕ) (w : World) (x : Task) → Fits K limit w → w.tasks t ≡ Some x → TaskFits K limit t w.shared w.history x
 task_fits K limit t w x f found = rw found at (f.tasks t)
 
--- all that stands before a step of it
-pub task_before : (K : Kind) (limit t : ℕ) (w : World) (x : Task) → Fits K limit w → w.tasks t ≡ Some x
-    → Before K limit t x.waker x.kept w.shared w.history
-task_before K limit t w x f found =
-    let own = task_fits K limit t w x f found in
-    record { run = f.run; shared = f.shared; queue = f.queue; waker_is = own.waker_is; kept_is = own.kept_is }
-
 -- a task at rest is not finished
 resting_live : (s : Step ℕ ℕ) → is_resting s ≡ true → is_finished s ≡ false
 resting_live (Resting r) e = refl
@@ -52,52 +45,55 @@ begun_live (Resting r) n e = refl
 begun_live (UnderWay p) n e = refl
 begun_live Finished n e = absurd (false≢true e)
 
--- the beginning of a poll
-begun_fits : (K : Kind) (limit : ℕ) (w : World) (t k : ℕ) (x : Task) → Fits K limit w → w.tasks t ≡ Some x
-    → (r : Bool) → is_resting x.step ≡ r → Fits K limit (poll_world_by r w t k x)
-begun_fits K limit w t k x f found false r = f
-begun_fits K limit w t k x f found true r =
-    let y : Task = record x { waker = k; step = step_of_poll x.step } in
-    let own = task_fits K limit t w x f found in
-    moved_fits (poll_world_by true w t k x) f found (puts t y w.tasks)
-    (begins (task_before K limit t w x f found) k x.step r own.step) (resting_live x.step r) (begun_live x.step w.unfinished r)
+module _ {K : Kind} {limit : ℕ} {w : World} (f : Fits K limit w) (t : ℕ) where
+  -- all that stands before a step of t
+  pub task_before : (x : Task) → w.tasks t ≡ Some x → Before K limit t x.waker x.kept w.shared w.history
+  task_before x found =
+      let own = task_fits K limit t w x f found in
+      record { run = f.run; shared = f.shared; queue = f.queue; waker_is = own.waker_is; kept_is = own.kept_is }
 
--- the beginning of a drop
-drop_fits : (K : Kind) (limit : ℕ) (w : World) (t : ℕ) (x : Task) → Fits K limit w → w.tasks t ≡ Some x → (r : Bool)
-    → is_resting x.step ≡ r → Fits K limit (drop_world_by r w t x)
-drop_fits K limit w t x f found false r = f
-drop_fits K limit w t x f found true r =
-    let y : Task = record x { step = step_of_drop x.step } in
-    let own = task_fits K limit t w x f found in
-    moved_fits (drop_world_by true w t x) f found (puts t y w.tasks)
-    (drop_begins (task_before K limit t w x f found) x.step r own.step) (resting_live x.step r) refl
+  -- the beginning of a poll
+  begun_fits : (k : ℕ) (x : Task) → w.tasks t ≡ Some x → (r : Bool) → is_resting x.step ≡ r → Fits K limit (poll_world_by r w t k x)
+  begun_fits k x found false r = f
+  begun_fits k x found true r =
+      let y : Task = record x { waker = k; step = step_of_poll x.step } in
+      let own = task_fits K limit t w x f found in
+      moved_fits (poll_world_by true w t k x) f found (puts t y w.tasks)
+      (begins (task_before x found) k x.step r own.step) (resting_live x.step r) (begun_live x.step w.unfinished r)
 
--- a step
-goes_fits : (K : Kind) (limit : ℕ) (w : World) (t : ℕ) (a : Answer) (g : Bool) (x : Task) → 0 < limit
-    → Fits K limit w → w.tasks t ≡ Some x → (r : Bool) → in_call x.step ≡ r
-    → Fits K limit (go_world_by r (is_lazy K) limit w t a g x)
-goes_fits K limit w t a g x some f found false r = f
-goes_fits K limit w t a g x some f found true r =
-    let o : Outcome = advance (is_lazy K) limit w.shared t x a g in
-    let y : Task = record x { step = o.step; kept = o.kept } in
-    let own = task_fits K limit t w x f found in
-    moved_fits (go_world_by true (is_lazy K) limit w t a g x) f found (puts t y w.tasks)
-    (advances (task_before K limit t w x f found) a g some r (around K limit t x w f found) (around_list K limit t x w f found) own.step)
-    (calling_live x.step r) refl
+  -- the beginning of a drop
+  drop_fits : (x : Task) → w.tasks t ≡ Some x → (r : Bool) → is_resting x.step ≡ r → Fits K limit (drop_world_by r w t x)
+  drop_fits x found false r = f
+  drop_fits x found true r =
+      let y : Task = record x { step = step_of_drop x.step } in
+      let own = task_fits K limit t w x f found in
+      moved_fits (drop_world_by true w t x) f found (puts t y w.tasks)
+      (drop_begins (task_before x found) x.step r own.step) (resting_live x.step r) refl
 
--- the inputs, by whether the task is there
-polled_fits : (K : Kind) (limit : ℕ) (w : World) (t k : ℕ) → Fits K limit w → (o : Option Task) → w.tasks t ≡ o → Fits K limit (poll_world w t k o)
-polled_fits K limit w t k f None is = f
-polled_fits K limit w t k f (Some x) is = begun_fits K limit w t k x f is (is_resting x.step) refl
+  -- a step
+  goes_fits : (a : Answer) (g : Bool) (x : Task) → 0 < limit → w.tasks t ≡ Some x → (r : Bool) → in_call x.step ≡ r
+      → Fits K limit (go_world_by r (is_lazy K) limit w t a g x)
+  goes_fits a g x some found false r = f
+  goes_fits a g x some found true r =
+      let o : Outcome = advance (is_lazy K) limit w.shared t x a g in
+      let y : Task = record x { step = o.step; kept = o.kept } in
+      let own = task_fits K limit t w x f found in
+      moved_fits (go_world_by true (is_lazy K) limit w t a g x) f found (puts t y w.tasks)
+      (advances (task_before x found) a g some r (around K limit t x w f found) (around_list K limit t x w f found) own.step)
+      (calling_live x.step r) refl
 
-dropped_fits : (K : Kind) (limit : ℕ) (w : World) (t : ℕ) → Fits K limit w → (o : Option Task) → w.tasks t ≡ o → Fits K limit (drop_world w t o)
-dropped_fits K limit w t f None is = f
-dropped_fits K limit w t f (Some x) is = drop_fits K limit w t x f is (is_resting x.step) refl
+  -- the inputs, by whether the task is there
+  polled_fits : (k : ℕ) (o : Option Task) → w.tasks t ≡ o → Fits K limit (poll_world w t k o)
+  polled_fits k None is = f
+  polled_fits k (Some x) is = begun_fits k x is (is_resting x.step) refl
 
-gone_fits : (K : Kind) (limit : ℕ) (w : World) (t : ℕ) (a : Answer) (g : Bool) → 0 < limit → Fits K limit w
-    → (o : Option Task) → w.tasks t ≡ o → Fits K limit (go_world (is_lazy K) limit w t a g o)
-gone_fits K limit w t a g some f None is = f
-gone_fits K limit w t a g some f (Some x) is = goes_fits K limit w t a g x some f is (in_call x.step) refl
+  dropped_fits : (o : Option Task) → w.tasks t ≡ o → Fits K limit (drop_world w t o)
+  dropped_fits None is = f
+  dropped_fits (Some x) is = drop_fits x is (is_resting x.step) refl
+
+  gone_fits : (a : Answer) (g : Bool) → 0 < limit → (o : Option Task) → w.tasks t ≡ o → Fits K limit (go_world (is_lazy K) limit w t a g o)
+  gone_fits a g some None is = f
+  gone_fits a g some (Some x) is = goes_fits a g x some is (in_call x.step) refl
 
 -- only a cell that is made with a value has one at the start
 value_at_start : (K : Kind) (v : ℕ) → cell K [] ≡ SetTo v → (first_world K).shared.value ≡ v
@@ -151,10 +147,10 @@ opening_fits K limit = record {
 -- each input keeps all that holds
 pub after_fits : (K : Kind) (limit : ℕ) (w : World) (i : Input) → 0 < limit → Fits K limit w → Fits K limit (world_after K limit w i)
 after_fits K limit w (Make t) some f = made_fits K limit w t f (w.tasks t) refl
-after_fits K limit w (Poll t k) some f = polled_fits K limit w t k f (w.tasks t) refl
-after_fits K limit w (Drop t) some f = dropped_fits K limit w t f (w.tasks t) refl
-after_fits K limit w (Go t a g) some f = gone_fits K limit w t a g some f (w.tasks t) refl
-after_fits K limit w (Owns o) some f = owned_fits K limit w o (w.unfinished == 0) (has_call K o) refl refl f
+after_fits K limit w (Poll t k) some f = polled_fits f t k (w.tasks t) refl
+after_fits K limit w (Drop t) some f = dropped_fits f t (w.tasks t) refl
+after_fits K limit w (Go t a g) some f = gone_fits f t a g some (w.tasks t) refl
+after_fits K limit w (Owns o) some f = owned_fits f o (w.unfinished == 0) (has_call K o) refl refl
 after_fits K limit w Looks some f = look_fits K limit w f
 
 -- all holds after every list of inputs

@@ -42,12 +42,11 @@ some_none : (y : Task) → Some y ≡ None → ⊥
 some_none y e = cc
 
 -- a task that was just made neither takes the queue nor waits
-alone_made : (K : Kind) (limit : ℕ) (w : World) (new : ℕ → Option Task) (t : ℕ) → Fits K limit w
-    → new t ≡ Some fresh_task → ((u : ℕ) → t ≢ u → new u ≡ w.tasks u)
+alone_made : {K : Kind} {limit : ℕ} {w : World} {new : ℕ → Option Task} {t : ℕ} → Fits K limit w → Puts t fresh_task w.tasks new
     → (a b : ℕ) → (t ≡ a) ⊎ (t ≢ a) → (t ≡ b) ⊎ (t ≢ b) → is_take (step_of (new a)) ≡ true → is_inside (step_of (new b)) ≡ true → ⊥
-alone_made K limit w new t f there others a b (inl i) j k l = false≢true (sym (ap (λ o. is_take (step_of o)) there) ∙ subst (λ v. is_take (step_of (new v)) ≡ true) (sym i) k)
-alone_made K limit w new t f there others a b (inr i) (inl j) k l = false≢true (sym (ap (λ o. is_inside (step_of o)) there) ∙ subst (λ v. is_inside (step_of (new v)) ≡ true) (sym j) l)
-alone_made K limit w new t f there others a b (inr i) (inr j) k l = f.alone a b (ap (λ o. is_take (step_of o)) (sym (others a i)) ∙ k) (ap (λ o. is_inside (step_of o)) (sym (others b j)) ∙ l)
+alone_made {new = new} f p a b (inl i) j k l = false≢true (sym (ap (λ o. is_take (step_of o)) p.there) ∙ subst (λ v. is_take (step_of (new v)) ≡ true) (sym i) k)
+alone_made {new = new} f p a b (inr i) (inl j) k l = false≢true (sym (ap (λ o. is_inside (step_of o)) p.there) ∙ subst (λ v. is_inside (step_of (new v)) ≡ true) (sym j) l)
+alone_made {new = new} f p a b (inr i) (inr j) k l = f.alone a b (ap (λ o. is_take (step_of o)) (sym (p.others a i)) ∙ k) (ap (λ o. is_inside (step_of o)) (sym (p.others b j)) ∙ l)
 
 -- who has a ticket had it before
 ticket_made : (w : World) (new : ℕ → Option Task) (t : ℕ) → new t ≡ Some fresh_task
@@ -114,7 +113,7 @@ made_fits K limit w t f None is =
       made_once = rw out f.made_once;
       made_all = λ u e. ⊎_elim (λ k. absurd (false≢true (sym e ∙ or_here t u (made_in h) k))) (λ n. p.others u n ∙ f.made_all u (or_rest t u (made_in h) e)) (cases_eq t u);
       made_only = λ u e. ⊎_elim (λ k. absurd (some_none y (sym p.there ∙ ap new k ∙ e))) (λ n. rw (of_other t u n) (f.made_only u (sym (p.others u n) ∙ e))) (cases_eq t u);
-      alone = λ a b. alone_made K limit w new t f p.there p.others a b (cases_eq t a) (cases_eq t b);
+      alone = λ a b. alone_made f p a b (cases_eq t a) (cases_eq t b);
       single = λ a b n k l. f.single a b n (ticket_made w new t p.there p.others a n k) (ticket_made w new t p.there p.others b n l);
       owned = owned;
       moments = (somebody_called K limit w.shared h' new shared'.ready_is queue'.called owned stands, f.moments);

@@ -47,24 +47,6 @@ pub owner_is_got : (K : Kind) (limit : ℕ) (o : OwnerCall) (c : SharedState) (h
     → owner_got o c ≡ got o (cell K h) (answers_left K h)
 owner_is_got K limit o c h f = let value = f.value_is in grind (arith, nat_tests, common_steps, value)
 
--- a written value fits, and a cell without a value stays as it is
-written_shared : (K : Kind) (limit v : ℕ) (c : SharedState) (g : Got) (h : List Entry) (r : Bool) → c.ready ≡ r
-    → is_held (cell K h) ≡ false → SharedFits K limit c h
-    → SharedFits K limit (write_shared r v c) (Own (Write v) g ∷ h)
-written_shared K limit v c g h r is n f =
-    let value = f.value_is in
-    let stands = f.stands in
-    let head = f.head_door in
-    record {
-      ready_is = grind (arith, nat_tests, common_steps);
-      held_is = grind (arith, nat_tests, common_steps);
-      value_is = λ u e. grind (arith, nat_tests, common_steps, value);
-      answers_is = grind (arith, nat_tests, common_steps);
-      within = grind (arith, nat_tests, common_steps);
-      stands = λ n l. grind (arith, nat_tests, common_steps, stands);
-      head_door = λ e. grind (arith, nat_tests, common_steps, head);
-    }
-
 -- what an owner's call owes
 record Owned (K : Kind) (limit : ℕ) (c c' : SharedState) (o : OwnerCall) (g : Got) (h : List Entry) : Type 0 where
   shared : SharedFits K limit c' (Own o g ∷ h)
@@ -79,36 +61,50 @@ replaced K o g h r w = record { counts = λ k. rw r (omega arith); called = λ e
 written_empty : (v : ℕ) (c : Cell) → write_cell v c ≡ Empty → c ≡ Empty
 written_empty v c e = grind (arith, nat_tests, common_steps)
 
--- a writing, by whether a value is set
-owned_write : (K : Kind) (limit v : ℕ) (c : SharedState) (g : Got) (h : List Entry) (r : Bool) → c.ready ≡ r
-    → is_held (cell K h) ≡ false → SharedFits K limit c h → QueueFits K c.listings (Own (Write v) g ∷ h)
-    → Owned K limit c (write_shared r v c) (Write v) g h
-owned_write K limit v c g h true r n f q = record { shared = written_shared K limit v c g h true r n f; queue = q; count = inr refl; lists = λ z n x e. (z, e) }
-owned_write K limit v c g h false r n f q = record { shared = written_shared K limit v c g h false r n f; queue = q; count = inr refl; lists = λ z n x e. (z, e) }
-
--- what each call owes
-owned_so : (K : Kind) (limit : ℕ) (c : SharedState) (o : OwnerCall) (g : Got) (h : List Entry)
-    → is_held (cell K h) ≡ false → SharedFits K limit c h → QueueFits K c.listings h
-    → ((u : ℕ) → status K u h ≢ Waiting) → Owned K limit c (owner_shared o c) o g h
-owned_so K limit c (Write v) g h n f q w =
-    owned_write K limit v c g h c.ready refl n f
-    (quiet q refl refl (λ _. refl) (λ u is. absurd (false≢true is)) (written_empty v (cell K h)))
-owned_so K limit c o g h n f q w =
-    let answers = f.answers_is in
-    record {
-      shared = record {
+module _ {K : Kind} {limit : ℕ} {c : SharedState} {h : List Entry} (f : SharedFits K limit c h) (n : is_held (cell K h) ≡ false) where
+  -- a written value fits, and a cell without a value stays as it is
+  written_shared : (v : ℕ) (g : Got) (r : Bool) → c.ready ≡ r → SharedFits K limit (write_shared r v c) (Own (Write v) g ∷ h)
+  written_shared v g r is =
+      let value = f.value_is in
+      let stands = f.stands in
+      let head = f.head_door in
+      record {
         ready_is = grind (arith, nat_tests, common_steps);
         held_is = grind (arith, nat_tests, common_steps);
-        value_is = λ u e. grind (arith, nat_tests, common_steps);
+        value_is = λ u e. grind (arith, nat_tests, common_steps, value);
         answers_is = grind (arith, nat_tests, common_steps);
         within = grind (arith, nat_tests, common_steps);
-        stands = λ n l. grind (arith, nat_tests, common_steps);
-        head_door = λ e. grind (arith, nat_tests, common_steps);
-      };
-      queue = replaced K o g h refl w;
-      count = inl refl;
-      lists = λ z n x e. absurd (no_listing x e);
-    }
+        stands = λ n l. grind (arith, nat_tests, common_steps, stands);
+        head_door = λ e. grind (arith, nat_tests, common_steps, head);
+      }
+
+  -- a writing, by whether a value is set
+  owned_write : (v : ℕ) (g : Got) (r : Bool) → c.ready ≡ r → QueueFits K c.listings (Own (Write v) g ∷ h)
+      → Owned K limit c (write_shared r v c) (Write v) g h
+  owned_write v g true r q = record { shared = written_shared v g true r; queue = q; count = inr refl; lists = λ z n x e. (z, e) }
+  owned_write v g false r q = record { shared = written_shared v g false r; queue = q; count = inr refl; lists = λ z n x e. (z, e) }
+
+  -- what each call owes
+  owned_so : (o : OwnerCall) (g : Got) → QueueFits K c.listings h → ((u : ℕ) → status K u h ≢ Waiting) → Owned K limit c (owner_shared o c) o g h
+  owned_so (Write v) g q w =
+      owned_write v g c.ready refl
+      (quiet q refl refl (λ _. refl) (λ u is. absurd (false≢true is)) (written_empty v (cell K h)))
+  owned_so o g q w =
+      let answers = f.answers_is in
+      record {
+        shared = record {
+          ready_is = grind (arith, nat_tests, common_steps);
+          held_is = grind (arith, nat_tests, common_steps);
+          value_is = λ u e. grind (arith, nat_tests, common_steps);
+          answers_is = grind (arith, nat_tests, common_steps);
+          within = grind (arith, nat_tests, common_steps);
+          stands = λ n l. grind (arith, nat_tests, common_steps);
+          head_door = λ e. grind (arith, nat_tests, common_steps);
+        };
+        queue = replaced K o g h refl w;
+        count = inl refl;
+        lists = λ z n x e. absurd (no_listing x e);
+      }
 
 -- a task that is unmade or gone does not wait
 over_awake : (K : Kind) (t : ℕ) (h : List Entry) → Over K t h → status K t h ≢ Waiting
@@ -127,7 +123,7 @@ owner_fits K limit w o f d has =
     let dead : (t : ℕ) → is_alive (w.tasks t) ≡ false = λ t. none_alive K limit t w f d in
     let all_over : (t : ℕ) → Over K t h = λ t. over K limit t w.shared h (w.tasks t) (f.tasks t) (dead t) in
     let n : is_held (cell K h) ≡ false = cell_free K h (λ t. let v = all_over t in v.holds_is) (is_held (cell K h)) refl in
-    let s : Owned K limit w.shared (owner_shared o w.shared) o g h = owned_so K limit w.shared o g h n f.shared f.queue (λ u. over_awake K u h (all_over u)) in
+    let s : Owned K limit w.shared (owner_shared o w.shared) o g h = owned_so f.shared n o g f.queue (λ u. over_awake K u h (all_over u)) in
     let zero_count = count_none (made_in h) (λ k. is_counted (step_of (w.tasks k))) (λ k. uncounted (w.tasks k) (dead k)) in
     record {
       run = ((done_gone K limit w f d, has, owner_is_got K limit o w.shared h f.shared), f.run);
@@ -146,7 +142,7 @@ owner_fits K limit w o f d has =
     }
 
 -- by whether the call fits
-pub owned_fits : (K : Kind) (limit : ℕ) (w : World) (o : OwnerCall) (d b : Bool) → (w.unfinished == 0) ≡ d
-    → has_call K o ≡ b → Fits K limit w → Fits K limit (own_world_by d b w o)
-owned_fits K limit w o true true e has f = owner_fits K limit w o f (eqb-true w.unfinished 0 e) has
-owned_fits K limit w o _ _ e has f = f
+pub owned_fits : {K : Kind} {limit : ℕ} {w : World} → Fits K limit w → (o : OwnerCall) (d b : Bool) → (w.unfinished == 0) ≡ d
+    → has_call K o ≡ b → Fits K limit (own_world_by d b w o)
+owned_fits {K} {limit} {w} f o true true e has = owner_fits K limit w o f (eqb-true w.unfinished 0 e) has
+owned_fits f o _ _ e has = f

@@ -65,22 +65,22 @@ module _ {K : Kind} {limit t w : ℕ} {k : Answer} {c : SharedState} {h : List E
       (record { quick_is = z.0; head_is = refl }, d) refl refl refl n (without_lists t (ticket_at p) c c' (Claim t ∷ h) refl (λ x. x))
 
   -- a waiter waits whose own listing has its waker
-  waits_listed : {p : Place ℕ ℕ} {q : ℕ} (n : Option ℕ) → ticket_at p ≡ n → is_counted_at p ≡ true
+  waits_listed : {p : Place ℕ ℕ} {q : ℕ} {n : Option ℕ} → ticket_at p ≡ n → is_counted_at p ≡ true
       → is_inside_at p ≡ true → Entered K t h → c.door ≡ Some q → OtherHolds K t h
       → is_waker w (own_listing n c.listings) ≡ true → Goes K limit t w p c h (waits c t k q n)
-  waits_listed None own cnt i e d o m = absurd (false≢true m)
-  waits_listed {p = p} {q = q} (Some n) own cnt i e d o m = waits_so before p c q n o e before.shared
+  waits_listed {n = None} own cnt i e d o m = absurd (false≢true m)
+  waits_listed {p = p} {q = q} {n = Some n} own cnt i e d o m = waits_so before p c q n o e before.shared
       (λ v. omega arith) (λ r. is_waker_found w (find_listing n c.listings) m) refl d (λ u m b j. same_shared refl refl refl refl refl (λ y. y)) refl cnt i
       (lists_stay refl (λ x. x) (inl (sym own)))
 
   -- a waiter is refused memory
-  pub refused_at : {p : Place ℕ ℕ} {q : ℕ} (n : Option ℕ) → ticket_at p ≡ n → is_counted_at p ≡ true
+  pub refused_at : {p : Place ℕ ℕ} {q : ℕ} {n : Option ℕ} → ticket_at p ≡ n → is_counted_at p ≡ true
       → is_inside_at p ≡ true → AnyIn K t h → c.door ≡ Some q → HasTicket K t c h n → MetHolder K t h
       → Goes K limit t w p c h (goes_to c k (leave_place q n EndMemory))
-  refused_at {p = p} {q = q} None own cnt i a d f m =
+  refused_at {p = p} {q = q} {n = None} own cnt i a d f m =
       stays before p (AtCountOut EndMemory)
       (refused_in K t h a.entered, any_memory K t h a m) cnt refl (λ e. inl i) (inl (sym own))
-  refused_at {p = p} {q = q} (Some n) own cnt i a d f m =
+  refused_at {p = p} {q = q} {n = Some n} own cnt i a d f m =
       stays before p (AtLeave q n EndMemory)
       ((a.entered, any_memory K t h a m), d, f.0, f.1) cnt refl (λ e. inl i) (inl (sym own))
 
@@ -94,11 +94,11 @@ module _ {K : Kind} {limit t w : ℕ} {k : Answer} {c : SharedState} {h : List E
       stays before (AtLook q n) (AtCountOut EndValue)
       (owes_value K t h a.0.entered (sym before.shared.ready_is ∙ r)) refl refl (λ e. inl refl) (inr (refl, r))
   look_goes true false false there granted q n d r f m a = claims_head (AtLook q n) q refl r f a.0.entered a.1
-  look_goes true false true true granted q n d r f m a = waits_listed n refl refl refl a.0.entered a.1 (other_holds K t c h before.shared.held_is a.0.entered.poll.holds_is f) m
+  look_goes true false true true granted q n d r f m a = waits_listed refl refl refl a.0.entered a.1 (other_holds K t c h before.shared.held_is a.0.entered.poll.holds_is f) m
   look_goes true false true false true q n d r f m a = let o = other_holds K t c h before.shared.held_is a.0.entered.poll.holds_is f in
       stays before (AtLook q n) (AtList q n w) (a.0, a.1, a.2, since_now_holder K t o.0 h o.1 o.2, before.waker_is) refl refl (λ e. inl refl) (inl refl)
   look_goes true false true false false q n d r f m a = let o = other_holds K t c h before.shared.held_is a.0.entered.poll.holds_is f in
-      refused_at n refl refl refl a.0 a.1 a.2 (since_now_holder K t o.0 h o.1 o.2)
+      refused_at refl refl refl a.0 a.1 a.2 (since_now_holder K t o.0 h o.1 o.2)
 
   -- the listing
   pub list_goes : (door ready taken may : Bool) (q : ℕ) (n : Option ℕ) (v : ℕ) → is_at_door q c.door ≡ door
@@ -118,4 +118,4 @@ module _ {K : Kind} {limit t w : ℕ} {k : Answer} {c : SharedState} {h : List E
       (λ u x b j. same_shared refl refl refl refl refl
       (λ y. y)) refl refl refl
       (anew_lists t m v n c (End t Pending ∷ h) (lists_by K t n c h r a.2))
-  list_goes true false true false q n v d r f a = refused_at n refl refl refl a.0 a.1 a.2 a.3
+  list_goes true false true false q n v d r f a = refused_at refl refl refl a.0 a.1 a.2 a.3

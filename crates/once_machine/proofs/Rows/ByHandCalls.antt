@@ -4,7 +4,7 @@ use Rattle.std.proofs.lemmas.Bool.{eqb-true}
 use Rattle.once_machine.specs.Numbers.{member}
 use Rattle.once_machine.specs.Record.{Begin, Claim, DropBegin, DropEnd, End, Entry, Error, Free, Made, Once, Pass, Pending, Ran, RanError, RanPending, RanValue}
 use Rattle.once_machine.specs.Cell.{Cell, Empty, Held}
-use Rattle.once_machine.specs.Tasks.{Fresh, Gone, Polling, Status, Unmade, Waiting, status}
+use Rattle.once_machine.specs.Tasks.{Gone, Polling, Unmade, Waiting, status}
 use Rattle.once_machine.specs.Wakers.{CallsOne, IsOpen}
 use Rattle.once_machine.specs.Crowd.{is_waiting}
 use Rattle.once_machine.specs.Run.{AtEvery, IsRun}
@@ -85,24 +85,23 @@ called_waiter_leaves_by_hand : IsRun Once 8 called_waiter_leaves_record
 called_waiter_leaves_by_hand = ((refl, (refl, refl), inl refl), ((refl, refl, refl, may_hand Once filling nobody_covers), filling_run))
 
 -- where none of the three waits, and no other was made, nobody does
-nobody : (h : List Entry) (r s t : Status) → status Once 1 h ≡ r → status Once 2 h ≡ s → status Once 3 h ≡ t
-    → is_waiting r ≡ false → is_waiting s ≡ false → is_waiting t ≡ false
+nobody : (h : List Entry) → is_waiting (status Once 1 h) ≡ false → is_waiting (status Once 2 h) ≡ false → is_waiting (status Once 3 h) ≡ false
     → ((u : ℕ) → (1 == u) ≡ false → (2 == u) ≡ false → (3 == u) ≡ false → status Once u h ≡ Unmade) → (u : ℕ) → status Once u h ≡ Waiting → ⊥
-nobody h r s t a b c i j k d =
-    by_three (λ u. status Once u h ≡ Waiting → ⊥) (not_waiting Once 1 h r a i) (not_waiting Once 2 h s b j) (not_waiting Once 3 h t c k)
+nobody h i j k d =
+    by_three (λ u. status Once u h ≡ Waiting → ⊥) (not_waiting Once 1 h (status Once 1 h) refl i) (not_waiting Once 2 h (status Once 2 h) refl j) (not_waiting Once 3 h (status Once 3 h) refl k)
     (λ u x y z. not_waiting Once u h Unmade (d u x y z) refl)
 
 -- before the claim nobody waits
 alone_moments : AtEvery (SomebodyCalled Once) alone
 alone_moments = (
-  λ e u w. absurd (nobody alone Polling Fresh Fresh refl refl refl refl refl refl (λ v a b c. rw (a, b, c) refl) u w),
+  λ e u w. absurd (nobody alone refl refl refl (λ v a b c. rw (a, b, c) refl) u w),
   (
-    λ e u w. absurd (nobody (Made 3 ∷ Made 2 ∷ Made 1 ∷ []) Fresh Fresh Fresh refl refl refl refl refl refl (λ v a b c. rw (a, b, c) refl) u w),
+    λ e u w. absurd (nobody (Made 3 ∷ Made 2 ∷ Made 1 ∷ []) refl refl refl (λ v a b c. rw (a, b, c) refl) u w),
     (
-      λ e u w. absurd (nobody (Made 2 ∷ Made 1 ∷ []) Fresh Fresh Unmade refl refl refl refl refl refl (λ v a b c. rw (a, b) refl) u w),
+      λ e u w. absurd (nobody (Made 2 ∷ Made 1 ∷ []) refl refl refl (λ v a b c. rw (a, b) refl) u w),
       (
-        λ e u w. absurd (nobody (Made 1 ∷ []) Fresh Unmade Unmade refl refl refl refl refl refl (λ v a b c. rw a refl) u w),
-        λ e u w. absurd (nobody [] Unmade Unmade Unmade refl refl refl refl refl refl (λ v a b c. refl) u w),
+        λ e u w. absurd (nobody (Made 1 ∷ []) refl refl refl (λ v a b c. rw a refl) u w),
+        λ e u w. absurd (nobody [] refl refl refl (λ v a b c. refl) u w),
       ),
     ),
   ),

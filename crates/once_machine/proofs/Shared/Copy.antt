@@ -53,7 +53,7 @@ leaves_fit limit t x w f found q v n at =
     let y : Task = record x { step = UnderWay (leave_place q n EndMemory) } in
     let own = task_fits Once limit t w x f found in
     let a : AtPlace Once limit t c h (AtList q n v) = subst (λ s. AtStep Once limit t c h s) at own.step in
-    let g = refused_at (task_before Once limit t w x f found) {p = AtList q n v} n refl refl refl a.0 a.1 a.2 a.3 in
+    let g = refused_at (task_before f t x found) {p = AtList q n v} refl refl refl a.0 a.1 a.2 a.3 in
     moved_fits (record w { tasks = put_task t y w.tasks }) f found (puts t y w.tasks)
     (subst (λ s. Moves Once limit t s y c c h h) (sym at) g) (ap is_finished at) refl
 

@@ -61,12 +61,12 @@ filled (Own o g ∷ h) v u s = absurd u.0
 filled (e ∷ h) v u s = filled_on v e h (filled h v u.1 s)
 
 -- a value that was filled in stays
-stays_filled : (h late before : List Entry) (t v : ℕ) (X : List ℕ) → ArePlain h → IsOneValue Once h → h ≡ late ++ Fill t v X ∷ before → cell Once h ≡ SetTo v
-stays_filled h [] before t v X u o e = ap (cell Once) e
-stays_filled h (d ∷ late) before t v X u o e =
+stays_filled : {h : List Entry} (late before : List Entry) (t v : ℕ) (X : List ℕ) → ArePlain h → IsOneValue Once h → h ≡ late ++ Fill t v X ∷ before → cell Once h ≡ SetTo v
+stays_filled [] before t v X u o e = ap (cell Once) e
+stays_filled (d ∷ late) before t v X u o e =
     let u' : ArePlain (d ∷ late ++ Fill t v X ∷ before) = subst ArePlain e u in
     let o' : IsOneValue Once (d ∷ late ++ Fill t v X ∷ before) = subst (IsOneValue Once) e o in
-    ap (cell Once) e ∙ o'.1 (plain_unowned d u'.0) v (stays_filled (late ++ Fill t v X ∷ before) late before t v X u'.1 o'.2 refl)
+    ap (cell Once) e ∙ o'.1 (plain_unowned d u'.0) v (stays_filled late before t v X u'.1 o'.2 refl)
 
 -- what a set cell is set to
 pub set_to : (c : Cell) → is_set c ≡ true → (v : ℕ) × (c ≡ SetTo v)
@@ -99,7 +99,7 @@ module _ (limit n put : ℕ) (slot : Bool) (pages : List Page) (log : List Entry
   pub filled_ready : (t v : ℕ) (X : List ℕ) → StandsIn (Fill t v X) log → (flags_of n).ready ≡ true
   filled_ready t v X s =
       let back : StandsIn (Fill t v X) (reverse log) = stands_back (Fill t v X) (reverse log) (subst (StandsIn (Fill t v X)) (sym (reverse-reverse log)) s) in
-      ready_is_set ∙ ap is_set (stays_filled (reverse log) back.0 back.1 t v X (log_is_plain limit n put slot pages log some book) (is_one_value limit n put slot pages log some book) back.2)
+      ready_is_set ∙ ap is_set (stays_filled back.0 back.1 t v X (log_is_plain limit n put slot pages log some book) (is_one_value limit n put slot pages log some book) back.2)
 
   -- where the word is ready the slot is written
   pub ready_written : (flags_of n).ready ≡ true → slot ≡ true
