@@ -18,13 +18,13 @@ ghost use Rattle.async_once_cell.specs.Stays.{Hands, IsRenewed, Stays, leaving, 
 ghost use Rattle.async_once_cell.specs.Inits.{MayGive};
 
 use crate::init::{Failed, Failure, Init, Refused};
+use crate::inner::book::{is_set_where_answered, stays_set};
+use crate::inner::{Hand, Inner, Mark, Task, TaskSide};
 use crate::waker::ListedWaker;
 use boxcar::tag::Tag;
 use futures::task::{Context, Poll};
 use once_machine::step::{Ending, Out, Polled, Side};
 use once_machine::waiters::Renews;
-use crate::inner::book::{is_set_where_answered, stays_set};
-use crate::inner::{Hand, Inner, Mark, Task, TaskSide};
 use pagebook::{Anything, Fits, Written};
 use std::alloc::AllocGlobal;
 use std::marker::{Model, PhantomData};

@@ -11,9 +11,9 @@ ghost use Rattle.async_once_cell.specs.Polls.{ending_of_refusal, ending_of_error
 ghost use Rattle.async_once_cell.specs.Refused.{own_error, given_error, message, message_of, kind_of, error_of};
 ghost use Rattle.std.specs.IoError.{error_kind};
 
+use crate::inner::Hand;
 use futures::task::{Context, Poll};
 use once_machine::step::Ending;
-use crate::inner::Hand;
 use std::error::Error;
 use std::io::ErrorKind;
 use std::{fmt, io};

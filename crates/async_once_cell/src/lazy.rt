@@ -8,12 +8,12 @@ ghost use Rattle.async_once_cell.specs.Views.{Owned, about_of, is_shared, CellVi
 
 mod future;
 
+use crate::inner::Pollable;
 use crate::once::{Known, OnceCell, Told};
 use boxcar::tag::Tag;
 use future::Promised;
 pub use future::{LazyFuturePin, LazyFutureUnpin};
 use futures::Future;
-use crate::inner::Pollable;
 use pagebook::{Anything, Fits};
 use std::alloc::AllocGlobal;
 use std::marker::{Model, PhantomData};

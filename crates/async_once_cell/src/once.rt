@@ -12,6 +12,8 @@ mod known;
 mod waits;
 
 pub use crate::init::{Failure, Gives, InitError, Refused};
+use crate::inner::book::stays_set;
+use crate::inner::{Inner, Pollable};
 use crate::waker::ListedWaker;
 use boxcar::tag::{Names, Tag};
 use core::mem::replace_with;
@@ -19,8 +21,6 @@ pub use future::{InitFuture, Initializing, TryInitFuture};
 use futures::Future;
 use known::Seen;
 pub use known::{Known, Told};
-use crate::inner::book::stays_set;
-use crate::inner::{Inner, Pollable};
 use pagebook::{Anything, Fits, Written};
 use std::alloc::AllocGlobal;
 use std::marker::Model;

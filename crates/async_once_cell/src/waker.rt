@@ -3,10 +3,10 @@ ghost use Rattle.std.specs.Prelude.{◌≡◌, ◌∷◌, [], ⊤};
 ghost use Rattle.futures.specs.Task.{IsArmed, Keeps};
 ghost use Rattle.async_once_cell.specs.Listed.{WakesTask, whose, number_on};
 
+use crate::inner::{Mark, TaskWaker};
 use boxcar::tag::{Names, Tag};
 use futures::task::{Context, Poll, Source, Waker};
 use once_machine::waiters::WakerId;
-use crate::inner::{Mark, TaskWaker};
 
 /// The waker of a task, with its number. Two are never compared, since a task is listed once. It wakes its task when it
 /// is let go, so a task whose waker is handed out is woken when the answer is dropped, and no listed waker is lost.

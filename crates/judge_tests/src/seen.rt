@@ -2,7 +2,9 @@
 
 use once_judge::{Calls, judge};
 use once_machine::record::Entry;
-use once_observed::{Answer, BadEvents, Observed, StopLine, VerdictLine, linearize, parse_observed};
+use once_observed::{
+    Answer, BadEvents, Observed, StopLine, VerdictLine, linearize, parse_observed,
+};
 use once_script::parse::record::BadRecord;
 use once_script::print::FullLine;
 use std::alloc::{AllocError, Global};

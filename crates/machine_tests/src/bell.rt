@@ -1,9 +1,9 @@
 //! The waker of a task under test.
 ghost use Rattle.std.specs.Prelude.{◌≡◌};
 
+use async_once_cell::inner::{Mark, TaskWaker};
 use once_machine::step::Out;
 use once_machine::waiters::{Listing, WakerId};
-use async_once_cell::inner::{Mark, TaskWaker};
 use std::alloc::{AllocError, Global};
 use std::snapshot::Snapshot;
 

@@ -71,7 +71,9 @@ impl<R: Wait> Poller<'_, R> {
         ensures init { result ≡ Polled.Pending → IsSome init.new }
     {
         let mut cx = self.next();
-        let polled = <Pollable<Scripted> as Init<(), InitError<()>>>::poll_init(init, &mut cx, right);
+        let polled = <Pollable<Scripted> as Init<(), InitError<()>>>::poll_init(
+            init, &mut cx, right,
+        );
         let again: Poll<()> = cx.yield_now();
         cx.end(&again);
         match polled {

@@ -1,8 +1,7 @@
 //! What the program `judge_record` does: its command line, its streams and its status.
 
 use crate::drawn::draw_verdict;
-use crate::{Answer, BadEvents, Stop, StopLine, linearize, parse_observed};
-use crate::{LastCalls, VerdictLine};
+use crate::{Answer, BadEvents, LastCalls, Stop, StopLine, VerdictLine, linearize, parse_observed};
 use once_judge::{Calls, Verdict, judge};
 use once_machine::record::{Entry, Kind};
 use once_script::parse::record::{BadRecord, RecordText, parse_record};

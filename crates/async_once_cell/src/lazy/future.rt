@@ -18,10 +18,10 @@ ghost use Rattle.once_machine.specs.Record.{Once};
 ghost use Rattle.once_machine.specs.Run.{AtEvery, IsRun, NobodyForgotten};
 
 use crate::init::{Failed, Init, Refused, Yields};
+use crate::inner::{Hand, Pollable};
 use crate::once::{Initializing, Known, OnceCell, Parker};
 use futures::Future;
 use futures::task::{Context, Poll};
-use crate::inner::{Hand, Pollable};
 use pagebook::{Anything, Fits};
 use std::alloc::AllocGlobal;
 use std::marker::{Model, PhantomData};

@@ -19,13 +19,13 @@ ghost use Rattle.async_once_cell.specs.Record.{IsSet, PollsOnce, WasFilled};
 ghost use Rattle.async_once_cell.specs.Futures.{IsOfCell, KeepsPromise, view_of_future};
 
 use super::known::Seen;
-use super::{Known, OnceCell, Contents};
+use super::{Contents, Known, OnceCell};
+use crate::attempt::{Attempt, Shown};
 use crate::init::{Failure, Init, InitError, Refused, Yields};
-use crate::attempt::{Shown, Attempt};
-use futures::Future;
-use futures::task::{Context, Poll};
 use crate::inner::book::is_run;
 use crate::inner::{Pollable, Task};
+use futures::Future;
+use futures::task::{Context, Poll};
 use pagebook::{Anything, Fits};
 use std::alloc::AllocGlobal;
 use std::fmt;
@@ -207,7 +207,10 @@ impl<'a, T, X, I: Yields<T, X>, R: Wait + AllocGlobal, V: Fits<T>> Initializing<
     {
         match (&mut self.state, &token.seen) {
             (FutureState::Shared(attempt), Seen::Shared(record, _)) => attempt.task.learn(record),
-            (FutureState::Owned(_, _) | FutureState::Answered(_) | FutureState::Left(_), Seen::Owned(_)) => {}
+            (
+                FutureState::Owned(_, _) | FutureState::Answered(_) | FutureState::Left(_),
+                Seen::Owned(_),
+            ) => {}
             _ => unreachable!(),
         }
     }
@@ -226,7 +229,10 @@ impl<'a, T, X, I: Yields<T, X>, R: Wait + AllocGlobal, V: Fits<T>> Initializing<
         ensures other { b.new ≡ b.old }
         ensures two { is_shared a.old.cell ≡ true → a.new.task ≢ b.new.task }
     {
-        if let (FutureState::Shared(one), FutureState::Shared(other)) = (&mut a.state, &mut b.state) {
+        if let (FutureState::Shared(one), FutureState::Shared(other)) = (
+            &mut a.state,
+            &mut b.state,
+        ) {
             Task::are_two(&mut one.task, &mut other.task);
         }
     }
@@ -267,7 +273,9 @@ impl<'a, T, X, I: Yields<T, X>, R: Wait + AllocGlobal, V: Fits<T>> Initializing<
                 attempt.leave();
                 attempt.shown = Some(Shown(written.again(), []));
             }
-            (FutureState::Owned(rt, _), Seen::Owned(true)) => self.state = FutureState::Answered(*rt),
+            (FutureState::Owned(rt, _), Seen::Owned(true)) => {
+                self.state = FutureState::Answered(*rt);
+            }
             _ => unreachable!(),
         }
     }

@@ -10,7 +10,7 @@ ghost use Rattle.async_once_cell.specs.Record.{IsSet, PollsOnce, WasFilled};
 ghost use Rattle.async_once_cell.specs.Views.{CellView, IsOf, Shows, ToldView, TokenView, is_shared, known_of, log_of};
 ghost use Rattle.async_once_cell.specs.Tokens.{Agrees, IsSetIn};
 
-use super::{OnceCell, Contents};
+use super::{Contents, OnceCell};
 use crate::inner::Record;
 use crate::inner::book::{is_run, stays_set};
 use pagebook::{Anything, Fits, Written};

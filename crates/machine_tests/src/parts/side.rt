@@ -5,9 +5,9 @@ ghost use Rattle.std.proofs.Common.{rules};
 
 use crate::bell::{Bell, task_of};
 use crate::poller::{Poller, Scripted, init_that_answers};
+use async_once_cell::inner::{Hand, Mark, Pollable, TaskSide};
 use once_machine::step::{Out, Polled, Side};
 use once_machine::waiters::Renews;
-use async_once_cell::inner::{Hand, Mark, Pollable, TaskSide};
 use pagebook::Written;
 use std::alloc::AllocGlobal;
 use std::io;

@@ -1,11 +1,11 @@
 // What tasks do to a cell, one call after the other, and what the parts take of memory.
 use super::side::TestSide;
 use crate::bell::Bell;
+use async_once_cell::inner::{Inner, Mark, Shared};
 use once_machine::parts::{Counted, Parts};
 use once_machine::step::Polled;
 use once_machine::waiters::{Answer, Op};
 use once_machine::word::QINIT_BIT;
-use async_once_cell::inner::{Inner, Mark, Shared};
 use std::mem::size_of;
 use std::test::Fail;
 

@@ -8,8 +8,8 @@ ghost use Rattle.machine_tests.specs.Goes.{Goes, Goes-prop};
 
 use super::noting::{Note, Noting};
 use crate::bell::Bell;
-use once_machine::step::{Polled, Progress, Step};
 use async_once_cell::inner::{Inner, Shared};
+use once_machine::step::{Polled, Progress, Step};
 use std::alloc::AllocGlobal;
 use std::io;
 use std::random::RandomSource;

@@ -1,8 +1,8 @@
 //! The cells of a row.
 use crate::listed::Listed;
 use once_machine::step::{Place, Rest, Step};
-use once_script::print::EntryLine;
 use once_script::plain::Core;
+use once_script::print::EntryLine;
 use once_script::world::Entry;
 use std::alloc::{AllocError, Global};
 use std::fmt;

@@ -8,11 +8,11 @@ ghost use Rattle.async_once_cell.specs.Walks.{StandsOn};
 ghost use Rattle.async_once_cell.specs.Inner.Ways.{IsAt, IsHeld, IsUnder, Polls, Reaches};
 ghost use Rattle.once_machine.specs.Room.{listings_of};
 
-use super::{Reached, Spent};
 use super::super::desk::Desk;
 use super::super::hand::{Hand, TaskWaker};
 use super::super::shared::{Inner, Shared};
 use super::super::task::{Idle, TaskSide};
+use super::{Reached, Spent};
 use once_machine::parts::{Counted, Parts};
 use once_machine::step::{Ending, Place, Rest, Step};
 use once_machine::waiters::{Answer, Lists};
