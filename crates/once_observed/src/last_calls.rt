@@ -17,7 +17,7 @@ impl fmt::Display for LastCalls<'_> {
     fn fmt<W: fmt::Write>(&self, f: &mut fmt::Formatter<W>) -> fmt::Result {
         let entries = self.1;
         if let Some(fault) = self.0.fault {
-            let own = entries.get(fault.entry).and_then(task_of);
+            let own = entries.get(fault.entry).and_then(|entry| task_of(entry));
             write_call(f, own, entries, fault.entry)?;
             let named = task_in(fault.reason);
             if named != own {
