@@ -51,12 +51,10 @@ mod lock;
 mod rule;
 mod slot;
 mod tied;
-mod tokens;
 mod word;
 
 pub use lock::KeyedMutex;
 pub use rule::{Anything, Fits, Opening, Play, Rule};
 pub use slot::{Slot, Written};
 pub use tied::{Key, Keyed, LockOf, Tied};
-pub use tokens::{Pens, Seen};
-pub use word::{Blanks, Word};
+pub use word::{Blanks, Pens, Seen, Word};

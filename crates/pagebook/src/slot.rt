@@ -13,8 +13,7 @@ ghost use Rattle.pagebook.specs.Pages.{View, Moves, Sure};
 ghost use Rattle.pagebook.specs.Slot.{Placed, placed_coded, Rest, resting, shared, written};
 
 use crate::rule::{Anything, Fits, Play, Rule};
-use crate::tokens::{Pens, Seen};
-use crate::word::Blanks;
+use crate::word::{Blanks, Pens, Seen};
 use boxcar::tag::Tag;
 use std::marker::{Model, Move, Owns, PhantomData};
 use std::mem::align_of;

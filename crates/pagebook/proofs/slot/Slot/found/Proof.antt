@@ -37,8 +37,8 @@ use Rattle.pagebook.proofs.Value.Slots.{written_made}
 use Rattle.pagebook.proofs.Book.Unchanged.{load_keeps}
 use Rattle.pagebook.proofs.Walk.Ends.{ends}
 use Rattle.core.specs.contracts.marker.PhantomData as marker
-use Rattle.pagebook.specs.contracts.tokens.Seen as Seen
-use Rattle.pagebook.specs.contracts.tokens.Pens as Pens
+use Rattle.pagebook.specs.contracts.word.Seen as Seen
+use Rattle.pagebook.specs.contracts.word.Pens as Pens
 use Rattle.pagebook.specs.contracts.word.Word as Word
 use Rattle.pagebook.specs.contracts.slot.Written as Written
 use Rattle.pagebook.specs.contracts.slot.Slot as Slot

@@ -40,8 +40,8 @@ use Rattle.pagebook.proofs.Value.Made.{blank_taken}
 use Rattle.pagebook.proofs.slot.Slot.TheInside.TheLaws.{the_row_laws as inside_laws}
 use Rattle.pagebook.proofs.Walk.Ends.{ends, two}
 use Rattle.core.specs.contracts.marker.PhantomData as marker
-use Rattle.pagebook.specs.contracts.tokens.Seen as Seen
-use Rattle.pagebook.specs.contracts.tokens.Pens as Pens
+use Rattle.pagebook.specs.contracts.word.Seen as Seen
+use Rattle.pagebook.specs.contracts.word.Pens as Pens
 use Rattle.pagebook.specs.contracts.word.Word as Word
 use Rattle.pagebook.specs.contracts.word.Blanks as Blanks
 use Rattle.pagebook.specs.contracts.slot.Written as Written

@@ -43,8 +43,8 @@ use Rattle.pagebook.specs.Slot.{Placed, Turn, at, Cell, promised}
 use Rattle.pagebook.proofs.Value.Made.{token_value}
 use Rattle.pagebook.proofs.Value.Slots.{written_made}
 use Rattle.pagebook.proofs.Walk.Ends.{ends, four}
-use Rattle.pagebook.specs.contracts.tokens.Seen as Seen
-use Rattle.pagebook.specs.contracts.tokens.Pens as Pens
+use Rattle.pagebook.specs.contracts.word.Seen as Seen
+use Rattle.pagebook.specs.contracts.word.Pens as Pens
 use Rattle.pagebook.specs.contracts.word.Word as Word
 use Rattle.pagebook.specs.contracts.slot.Written as Written
 use Rattle.pagebook.specs.contracts.slot.Slot as Slot

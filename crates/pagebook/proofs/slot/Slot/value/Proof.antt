@@ -34,8 +34,8 @@ use Rattle.atomic_table.proofs.Walks.{proved}
 use Rattle.pagebook.specs.Slot.{Placed, Turn, at, written}
 use Rattle.pagebook.proofs.Value.InSome.{value_in_some}
 use Rattle.pagebook.proofs.Walk.Ends.{ends}
-use Rattle.pagebook.specs.contracts.tokens.Seen as Seen
-use Rattle.pagebook.specs.contracts.tokens.Pens as Pens
+use Rattle.pagebook.specs.contracts.word.Seen as Seen
+use Rattle.pagebook.specs.contracts.word.Pens as Pens
 use Rattle.pagebook.specs.contracts.word.Word as Word
 use Rattle.pagebook.specs.contracts.slot.Written as Written
 use Rattle.pagebook.specs.contracts.slot.Slot as Slot

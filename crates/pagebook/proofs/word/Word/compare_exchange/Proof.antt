@@ -32,8 +32,8 @@ use Rattle.pagebook.specs.Pages.{Book, View}
 use Rattle.pagebook.specs.Owned.{seen_owns, pens_own}
 use Rattle.pagebook.proofs.Book.Steps.{after, steps}
 use Rattle.pagebook.proofs.Walk.Ends.{ends, three}
-use Rattle.pagebook.specs.contracts.tokens.Seen as Seen
-use Rattle.pagebook.specs.contracts.tokens.Pens as Pens
+use Rattle.pagebook.specs.contracts.word.Seen as Seen
+use Rattle.pagebook.specs.contracts.word.Pens as Pens
 use Rattle.pagebook.specs.contracts.word.Word as Word
 use Rattle.pagebook.specs.contracts.word.Word.compare_exchange.{ended, clauses}
 use Rattle.pagebook.specs.contracts.word.Word.compare_exchange.Key.{name as #self}

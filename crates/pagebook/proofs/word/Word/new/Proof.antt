@@ -26,8 +26,8 @@ use Rattle.pagebook.specs.Pages.{Book, named as named_at}
 use Rattle.pagebook.specs.Owned.{blanks_own, word_pen}
 use Rattle.pagebook.proofs.Value.Made.{word_value, word_made, blank_taken}
 use Rattle.pagebook.proofs.Walk.Ends.{ends, two}
-use Rattle.pagebook.specs.contracts.tokens.Seen as Seen
-use Rattle.pagebook.specs.contracts.tokens.Pens as Pens
+use Rattle.pagebook.specs.contracts.word.Seen as Seen
+use Rattle.pagebook.specs.contracts.word.Pens as Pens
 use Rattle.pagebook.specs.contracts.word.Word as Word
 use Rattle.pagebook.specs.contracts.word.Blanks as Blanks
 use Rattle.pagebook.specs.contracts.word.Word.new.{ended, clauses}

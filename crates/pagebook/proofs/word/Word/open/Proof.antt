@@ -27,8 +27,8 @@ use Rattle.pagebook.specs.Owned.{seen_owns, pens_own, blanks_own}
 use Rattle.pagebook.proofs.Book.Opening.{book_opens}
 use Rattle.pagebook.proofs.Value.Made.{token_value, Token, token_made, blanks_made}
 use Rattle.pagebook.proofs.Walk.Ends.{ends, three}
-use Rattle.pagebook.specs.contracts.tokens.Seen as Seen
-use Rattle.pagebook.specs.contracts.tokens.Pens as Pens
+use Rattle.pagebook.specs.contracts.word.Seen as Seen
+use Rattle.pagebook.specs.contracts.word.Pens as Pens
 use Rattle.pagebook.specs.contracts.word.Word as Word
 use Rattle.pagebook.specs.contracts.word.Blanks as Blanks
 use Rattle.pagebook.specs.contracts.word.Word.open.{ended, clauses}

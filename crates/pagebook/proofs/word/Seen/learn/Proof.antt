@@ -31,13 +31,13 @@ use Rattle.pagebook.proofs.Book.Steps.{learns, seen_reached}
 use Rattle.pagebook.proofs.Value.Made.{Token}
 use Rattle.pagebook.proofs.Walk.Ends.{ends, three}
 use Rattle.core.specs.contracts.marker.PhantomData as marker
-use Rattle.pagebook.specs.contracts.tokens.Seen as Seen
-use Rattle.pagebook.specs.contracts.tokens.Pens as Pens
+use Rattle.pagebook.specs.contracts.word.Seen as Seen
+use Rattle.pagebook.specs.contracts.word.Pens as Pens
 use Rattle.pagebook.specs.contracts.word.Word as Word
-use Rattle.pagebook.specs.contracts.tokens.Seen.learn.{ended, clauses}
-use Rattle.pagebook.specs.contracts.tokens.Seen.learn.Key.{name as #self}
-use Rattle.pagebook.proofs.tokens.Seen.learn.Statement.{statement}
-use Rattle.pagebook.proofs.tokens.Seen.learn.Code as code
+use Rattle.pagebook.specs.contracts.word.Seen.learn.{ended, clauses}
+use Rattle.pagebook.specs.contracts.word.Seen.learn.Key.{name as #self}
+use Rattle.pagebook.proofs.word.Seen.learn.Statement.{statement}
+use Rattle.pagebook.proofs.word.Seen.learn.Code as code
 
 pub learn_spec : {M : Type 1} → statement M
 learn_spec 𝓤 𝓛 𝓜 𝓡 wired E P R _ _ _ g d _ =

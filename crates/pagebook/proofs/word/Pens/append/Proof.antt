@@ -21,11 +21,11 @@ use Rattle.pagebook.specs.Pages.{Book}
 use Rattle.pagebook.specs.Owned.{pens_own}
 use Rattle.pagebook.proofs.Page.Hands.{hands_joined}
 use Rattle.pagebook.proofs.Walk.Ends.{ends, two}
-use Rattle.pagebook.specs.contracts.tokens.Pens as Pens
-use Rattle.pagebook.specs.contracts.tokens.Pens.append.{ended, clauses}
-use Rattle.pagebook.specs.contracts.tokens.Pens.append.Key.{name as #self}
-use Rattle.pagebook.proofs.tokens.Pens.append.Statement.{statement}
-use Rattle.pagebook.proofs.tokens.Pens.append.Code as code
+use Rattle.pagebook.specs.contracts.word.Pens as Pens
+use Rattle.pagebook.specs.contracts.word.Pens.append.{ended, clauses}
+use Rattle.pagebook.specs.contracts.word.Pens.append.Key.{name as #self}
+use Rattle.pagebook.proofs.word.Pens.append.Statement.{statement}
+use Rattle.pagebook.proofs.word.Pens.append.Code as code
 
 pub append_spec : {M : Type 1} → statement M
 append_spec 𝓤 𝓛 𝓜 𝓡 wired P _ =

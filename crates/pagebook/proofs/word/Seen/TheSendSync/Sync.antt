@@ -4,7 +4,7 @@ use denote.Param.Send.{IsSync, sendable}
 use denote.Struct.Struct.{Struct}
 use denote.Struct.Owning.{shape}
 use Rattle.pagebook.specs.declared.rule.Rule.{Ghosts}
-use Rattle.pagebook.specs.contracts.tokens.Seen.{the_row, the_type}
+use Rattle.pagebook.specs.contracts.word.Seen.{the_row, the_type}
 use Rattle.pagebook.proofs.Share.Keyless.{seen_keyless}
 
 pub sync : (E P R : RattleType) (g : Ghosts R.Denot E.Denot P.Denot) → IsSync (the_row E P R g)

@@ -24,13 +24,13 @@ use Rattle.atomic_table.proofs.Walks.{proved}
 use Rattle.pagebook.specs.Owned.{pens_own}
 use Rattle.pagebook.proofs.Value.Made.{token_value, Token, token_made}
 use Rattle.pagebook.proofs.Walk.Ends.{ends}
-use Rattle.pagebook.specs.contracts.tokens.Seen as Seen
-use Rattle.pagebook.specs.contracts.tokens.Pens as Pens
+use Rattle.pagebook.specs.contracts.word.Seen as Seen
+use Rattle.pagebook.specs.contracts.word.Pens as Pens
 use Rattle.pagebook.specs.contracts.word.Word as Word
-use Rattle.pagebook.specs.contracts.tokens.Seen.no_pens.{ended, clauses}
-use Rattle.pagebook.specs.contracts.tokens.Seen.no_pens.Key.{name as #self}
-use Rattle.pagebook.proofs.tokens.Seen.no_pens.Statement.{statement}
-use Rattle.pagebook.proofs.tokens.Seen.no_pens.Code as code
+use Rattle.pagebook.specs.contracts.word.Seen.no_pens.{ended, clauses}
+use Rattle.pagebook.specs.contracts.word.Seen.no_pens.Key.{name as #self}
+use Rattle.pagebook.proofs.word.Seen.no_pens.Statement.{statement}
+use Rattle.pagebook.proofs.word.Seen.no_pens.Code as code
 
 pub no_pens_spec : {M : Type 1} → statement M
 no_pens_spec 𝓤 𝓛 𝓜 𝓡 wired E P R _ _ _ g d _ =

@@ -2,7 +2,7 @@
 use denote.RattleType.{RattleType}
 use denote.Param.Send.{IsSend}
 use Rattle.pagebook.specs.declared.rule.Rule.{Ghosts}
-use Rattle.pagebook.specs.contracts.tokens.Seen.{the_row}
+use Rattle.pagebook.specs.contracts.word.Seen.{the_row}
 use Rattle.pagebook.proofs.Share.Keyless.{seen_keyless}
 
 pub send : (E P R : RattleType) (g : Ghosts R.Denot E.Denot P.Denot) → IsSend (the_row E P R g)

@@ -1,7 +1,7 @@
 -- A hand may go to another thread.
 use denote.RattleType.{RattleType}
 use denote.Param.Send.{IsSend}
-use Rattle.pagebook.specs.contracts.tokens.Pens.{the_row}
+use Rattle.pagebook.specs.contracts.word.Pens.{the_row}
 use Rattle.pagebook.proofs.Share.Keyless.{pens_keyless}
 
 pub send : (P : RattleType) → IsSend (the_row P)

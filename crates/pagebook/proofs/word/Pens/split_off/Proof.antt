@@ -24,11 +24,11 @@ use Rattle.pagebook.specs.Owned.{pens_own}
 use Rattle.pagebook.proofs.Page.Hands.{hand_cut}
 use Rattle.pagebook.proofs.Value.Made.{token_value, Token, token_made}
 use Rattle.pagebook.proofs.Walk.Ends.{ends, two}
-use Rattle.pagebook.specs.contracts.tokens.Pens as Pens
-use Rattle.pagebook.specs.contracts.tokens.Pens.split_off.{ended, clauses}
-use Rattle.pagebook.specs.contracts.tokens.Pens.split_off.Key.{name as #self}
-use Rattle.pagebook.proofs.tokens.Pens.split_off.Statement.{statement}
-use Rattle.pagebook.proofs.tokens.Pens.split_off.Code as code
+use Rattle.pagebook.specs.contracts.word.Pens as Pens
+use Rattle.pagebook.specs.contracts.word.Pens.split_off.{ended, clauses}
+use Rattle.pagebook.specs.contracts.word.Pens.split_off.Key.{name as #self}
+use Rattle.pagebook.proofs.word.Pens.split_off.Statement.{statement}
+use Rattle.pagebook.proofs.word.Pens.split_off.Code as code
 
 pub split_off_spec : {M : Type 1} → statement M
 split_off_spec 𝓤 𝓛 𝓜 𝓡 wired P _ =

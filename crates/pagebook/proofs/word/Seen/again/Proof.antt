@@ -28,13 +28,13 @@ use Rattle.pagebook.specs.Owned.{seen_owns}
 use Rattle.pagebook.proofs.Value.Made.{token_value, Token, token_made}
 use Rattle.pagebook.proofs.Walk.Ends.{ends}
 use Rattle.core.specs.contracts.marker.PhantomData as marker
-use Rattle.pagebook.specs.contracts.tokens.Seen as Seen
-use Rattle.pagebook.specs.contracts.tokens.Pens as Pens
+use Rattle.pagebook.specs.contracts.word.Seen as Seen
+use Rattle.pagebook.specs.contracts.word.Pens as Pens
 use Rattle.pagebook.specs.contracts.word.Word as Word
-use Rattle.pagebook.specs.contracts.tokens.Seen.again.{ended, clauses}
-use Rattle.pagebook.specs.contracts.tokens.Seen.again.Key.{name as #self}
-use Rattle.pagebook.proofs.tokens.Seen.again.Statement.{statement}
-use Rattle.pagebook.proofs.tokens.Seen.again.Code as code
+use Rattle.pagebook.specs.contracts.word.Seen.again.{ended, clauses}
+use Rattle.pagebook.specs.contracts.word.Seen.again.Key.{name as #self}
+use Rattle.pagebook.proofs.word.Seen.again.Statement.{statement}
+use Rattle.pagebook.proofs.word.Seen.again.Code as code
 
 pub again_spec : {M : Type 1} → statement M
 again_spec 𝓤 𝓛 𝓜 𝓡 wired E P R _ _ _ g d _ =

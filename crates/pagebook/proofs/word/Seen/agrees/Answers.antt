@@ -1,7 +1,7 @@
 use Rattle.std.proofs.Common.{subst}
 use mathlib.Core.List.{IsPrefix}
 use Rattle.pagebook.proofs.Book.Prefixes.{one_begins}
-use Rattle.pagebook.proofs.tokens.Seen.agrees.Goals as goal
+use Rattle.pagebook.proofs.word.Seen.agrees.Goals as goal
 
 -- both begin the log that is learnt
 pub returns : goal.returns

@@ -12,10 +12,10 @@ use denote.Struct.Lending.{of_Lends}
 use Rattle.core.specs.contracts.marker.PhantomData as marker
 use Rattle.pagebook.specs.Owned.{seen_owns}
 use Rattle.pagebook.specs.declared.rule.Rule.{Ghosts}
-use Rattle.pagebook.specs.contracts.tokens.Seen as C
+use Rattle.pagebook.specs.contracts.word.Seen as C
 use Rattle.pagebook.proofs.Book.Steps.{seen_copied}
 use Rattle.pagebook.proofs.Share.Twice.{lends_twice}
-use Rattle.pagebook.proofs.tokens.Seen.TheLaw.Statement.{statement}
+use Rattle.pagebook.proofs.word.Seen.TheLaw.Statement.{statement}
 
 pub shares : (E P R : RattleType) (g : Ghosts R.Denot E.Denot P.Denot) (L : Laws E) (L' : Laws P) (L'' : Laws R)
     → statement E P R g L L' L''

@@ -26,13 +26,13 @@ use Rattle.pagebook.specs.Pages.{Book, View}
 use Rattle.pagebook.specs.Owned.{seen_owns, pens_own}
 use Rattle.pagebook.proofs.Book.Steps.{notes}
 use Rattle.pagebook.proofs.Walk.Ends.{ends, three}
-use Rattle.pagebook.specs.contracts.tokens.Seen as Seen
-use Rattle.pagebook.specs.contracts.tokens.Pens as Pens
+use Rattle.pagebook.specs.contracts.word.Seen as Seen
+use Rattle.pagebook.specs.contracts.word.Pens as Pens
 use Rattle.pagebook.specs.contracts.word.Word as Word
-use Rattle.pagebook.specs.contracts.tokens.Seen.note.{ended, clauses}
-use Rattle.pagebook.specs.contracts.tokens.Seen.note.Key.{name as #self}
-use Rattle.pagebook.proofs.tokens.Seen.note.Statement.{statement}
-use Rattle.pagebook.proofs.tokens.Seen.note.Code as code
+use Rattle.pagebook.specs.contracts.word.Seen.note.{ended, clauses}
+use Rattle.pagebook.specs.contracts.word.Seen.note.Key.{name as #self}
+use Rattle.pagebook.proofs.word.Seen.note.Statement.{statement}
+use Rattle.pagebook.proofs.word.Seen.note.Code as code
 
 pub note_spec : {M : Type 1} → statement M
 note_spec 𝓤 𝓛 𝓜 𝓡 wired E P R X N _ _ _ _ _ g d gn dn _ _ =
