@@ -1,5 +1,5 @@
 //! The init of a cell.
-ghost use Rattle.std.specs.Prelude.{◌≡◌, ℕ, ◌*◌, ◌^◌, ◌<◌};
+ghost use Rattle.std.specs.Prelude.{◌≡◌, ◌*◌, ◌^◌, ◌<◌};
 
 use futures::Future;
 use futures::task::{Context, Poll};

@@ -4,7 +4,7 @@ ghost use Rattle.std.specs.Bool.{Decides};
 ghost use Rattle.once_machine.specs.Cell.{Empty, Held, value_in as value_of};
 ghost use Rattle.once_machine.specs.Tasks.{Polling};
 ghost use Rattle.once_machine.specs.Run.{MayFree, MayPass};
-ghost use Rattle.once_judge.specs.Values.{status_of, cell_of};
+ghost use Rattle.once_judge.specs.Values.{cell_of};
 
 mod ends;
 mod wakers;
@@ -24,7 +24,7 @@ impl Seen {
     ghost use Rattle.once_machine.specs.Shown.{entry_of, call_of, got_of};
     ghost use Rattle.once_judge.specs.Legal.{IsLegalIn, AllGoneIn, has_call_in};
     ghost use Rattle.once_judge.specs.Reasons.{Tests, IsTrueIn};
-    ghost use Rattle.once_judge.specs.Shown.{seen_of, task_in};
+    ghost use Rattle.once_judge.specs.Shown.{seen_of};
 
     /// Whether this entry may come next.
     pub fn may_follow(&self, entry: &Entry) -> Result<Result<(), Reason>, AllocError>

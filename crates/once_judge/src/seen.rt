@@ -6,7 +6,7 @@ ghost use Rattle.once_machine.specs.Numbers.{member, times_in, bit};
 ghost use Rattle.once_machine.specs.Shown.{entry_of};
 ghost use Rattle.once_judge.specs.Seen.{counted as count_of, task_of as whose};
 ghost use Rattle.once_judge.specs.Legal.{HasWaited};
-ghost use Rattle.once_judge.specs.Values.{cell_of, status_of};
+ghost use Rattle.once_judge.specs.Values.{status_of};
 ghost use Rattle.once_judge.specs.TaskShown.{task_in};
 
 use crate::calls::Calls;
@@ -72,7 +72,7 @@ impl Seen {
     ghost use Rattle.once_machine.specs.Tasks.{Waiting as WaitingStatus, is_gone};
     ghost use Rattle.once_judge.specs.Seen.{nothing_seen, gone_task, after, other_held};
     ghost use Rattle.once_judge.specs.Legal.{SomebodyCalledIn, IsCalledIn, WasCalled, IsForgottenIn};
-    ghost use Rattle.once_judge.specs.Shown.{found, tasked_by, seen_of, task_at, count_at, tasked, handed_out, celled};
+    ghost use Rattle.once_judge.specs.Shown.{found, tasked_by, seen_of, task_at, count_at, tasked, celled};
     ghost use Rattle.once_judge.specs.Shown.{noted, Within};
 
     /// Nothing was seen of a cell of this kind.

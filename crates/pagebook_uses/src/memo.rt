@@ -1,6 +1,6 @@
 // A memo of a key, of which it is promised beforehand what its value will be: ten times the key. So whoever gets the
 // value knows which it is, on any thread, and without a token.
-ghost use Rattle.std.specs.Prelude.{◌≡◌, ℕ, ◌*◌, ◌^◌, ◌<◌, IfSome};
+ghost use Rattle.std.specs.Prelude.{◌≡◌, ◌*◌, ◌^◌, ◌<◌, IfSome};
 ghost use Rattle.pagebook_uses.specs.Promise.{key_of};
 
 use crate::shelf::{Filled, Filler, OneFill, Shelf, Stage};

@@ -1,5 +1,5 @@
 //! A side whose init answers as it is told to, and whose bells are looked at when they are called.
-ghost use Rattle.std.specs.Prelude.{◌≡◌, ℕ, [], IfOk, refl, true, ⊤};
+ghost use Rattle.std.specs.Prelude.{◌≡◌, [], IfOk, refl, true, ⊤};
 ghost use Rattle.async_once_cell.specs.Inner.Sides.{IsReady};
 ghost use Rattle.std.proofs.Common.{rules};
 

@@ -1,5 +1,5 @@
 // Two threads, each of which polls tasks of its own until they end.
-ghost use Rattle.std.specs.Prelude.{◌≡◌, ◌<◌, ◌^◌};
+ghost use Rattle.std.specs.Prelude.{◌<◌};
 
 use super::walks::{Caller, Cell};
 use once_machine::step::{Ending, Polled};

@@ -1,5 +1,5 @@
 //! How a poll may end.
-ghost use Rattle.std.specs.Prelude.{◌≡◌, ℕ, None, Some, false, IfErr};
+ghost use Rattle.std.specs.Prelude.{◌≡◌, None, Some, false, IfErr};
 ghost use Rattle.std.specs.Bool.{Decides};
 ghost use Rattle.once_machine.specs.Cell.{SetTo};
 

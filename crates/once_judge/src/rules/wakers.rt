@@ -1,7 +1,6 @@
 //! Which wakers an entry may hand out.
-ghost use Rattle.std.specs.Prelude.{◌≡◌, ◌<◌, ℕ, ◌∷◌, [], true, false, nat_lt, IfOk, IfErr, IfSome, MatchOption};
+ghost use Rattle.std.specs.Prelude.{◌≡◌, ◌<◌, ℕ, ◌∷◌, [], true, false, nat_lt, IfOk, IfErr, MatchOption};
 ghost use Rattle.std.specs.Bool.{Decides};
-ghost use Rattle.once_machine.specs.Numbers.{member};
 
 use crate::reason::Reason;
 use crate::seen::Seen;
