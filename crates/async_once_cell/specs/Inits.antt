@@ -6,8 +6,8 @@ use Rattle.once_machine.specs.declared.step.Polled.{Polled}
 use Rattle.once_machine.specs.declared.step.Polled.TheVariants.{Pending, Value, Error}
 use Rattle.once_machine.specs.declared.step.Ending.TheVariants.{Error as EndError}
 use Rattle.once_machine.specs.declared.step.Ending.{Ending}
-use Rattle.async_once_cell.specs.declared.init.InitError.{InitError}
-use Rattle.async_once_cell.specs.declared.init.InitError.TheVariants.{Init}
+use Rattle.async_once_cell.specs.declared.error.InitError.{InitError}
+use Rattle.async_once_cell.specs.declared.error.InitError.TheVariants.{Init}
 
 -- the answer in the words of a step
 abbrev pub polled_in : {T E : Type 0} → Poll (Result T E) → Polled

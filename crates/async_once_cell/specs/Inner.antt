@@ -1,4 +1,4 @@
--- What the tasks of a cell share, as proofs see it.
+-- What the tasks of a cell share, as clauses see it.
 pub mod Steps
 pub mod Named
 pub mod Own

@@ -6,10 +6,10 @@ use Rattle.futures.specs.declared.task.Poll.{Poll}
 use Rattle.futures.specs.declared.task.Poll.TheVariants.{Ready, Pending}
 use Rattle.futures.specs.declared.task.context.Context.{Context}
 use Rattle.futures.specs.Task.{IsArmed, Keeps}
-use Rattle.async_once_cell.specs.declared.init.InitError.{InitError}
-use Rattle.async_once_cell.specs.declared.init.InitError.TheVariants.{Init, Memory, Full}
-use Rattle.async_once_cell.specs.declared.init.Refused.{Refused}
-use Rattle.async_once_cell.specs.declared.init.Refused.TheVariants.{Memory as NoMemory, Full as TooMany}
+use Rattle.async_once_cell.specs.declared.error.InitError.{InitError}
+use Rattle.async_once_cell.specs.declared.error.InitError.TheVariants.{Init, Memory, Full}
+use Rattle.async_once_cell.specs.declared.error.Refused.{Refused}
+use Rattle.async_once_cell.specs.declared.error.Refused.TheVariants.{Memory as NoMemory, Full as TooMany}
 use Rattle.once_machine.specs.Record.{Begin, DropBegin, DropEnd, Entry, Made}
 use Rattle.once_machine.specs.declared.step.Ending.TheVariants.{Dropped as EndDropped, Error as EndError}
 use Rattle.once_machine.specs.declared.step.Ending.TheVariants.{Full as EndFull, Memory as EndMemory}

@@ -2,10 +2,10 @@
 use Rattle.std.specs.Prelude.{ℕ, List, Option, Some, None, codes, Result, Ok, Err}
 use Rattle.std.specs.declared.io.ErrorKind.{ErrorKind}
 use Rattle.std.specs.declared.io.ErrorKind.TheVariants.{OutOfMemory, Other}
-use Rattle.async_once_cell.specs.declared.init.Refused.{Refused}
-use Rattle.async_once_cell.specs.declared.init.Refused.TheVariants.{Memory, Full}
-use Rattle.async_once_cell.specs.declared.init.InitError.{InitError}
-use Rattle.async_once_cell.specs.declared.init.InitError.TheVariants.{Init, Memory as NoMemory, Full as TooMany}
+use Rattle.async_once_cell.specs.declared.error.Refused.{Refused}
+use Rattle.async_once_cell.specs.declared.error.Refused.TheVariants.{Memory, Full}
+use Rattle.async_once_cell.specs.declared.error.InitError.{InitError}
+use Rattle.async_once_cell.specs.declared.error.InitError.TheVariants.{Init, Memory as NoMemory, Full as TooMany}
 
 -- what a refusal prints
 abbrev pub message : Refused → List ℕ

@@ -1,5 +1,5 @@
 -- What a polling task's side tells, and what each of its calls keeps.
--- The context's poll goes on, a side that says that its task is to be called is right, and an error or a value is the
+-- The context's poll goes on, a side that says that its task is to be woken is right, and an error or a value is the
 -- init's own.
 use Rattle.std.specs.Prelude.{◌≡◌, true, false, [], ◌∷◌, IfSome}
 use Rattle.std.specs.Option.{is_some}
@@ -8,8 +8,7 @@ use Rattle.async_once_cell.specs.Inner.Named.{named_out}
 use Rattle.async_once_cell.specs.Inner.Sides.{Sided}
 use Rattle.async_once_cell.specs.declared.attempt.PollSide.{PollSide}
 use Rattle.async_once_cell.specs.declared.attempt.LeaveSide.{LeaveSide}
-use Rattle.async_once_cell.specs.Inits.{MayGive}
-use Rattle.async_once_cell.specs.Inits.{FailsNoOther, GivesNoOther, MayFail}
+use Rattle.async_once_cell.specs.Inits.{FailsNoOther, GivesNoOther, MayFail, MayGive}
 use Rattle.async_once_cell.specs.declared.waker.ListedWaker.{ListedWaker}
 use Rattle.async_once_cell.specs.Listed.{WakesTask, number_on, whose}
 
@@ -27,7 +26,7 @@ module _ {T E H : Type 0} where
 
 -- by the errors with which an init may fail, by the values that it may give, and by which error a side has
 module _ {T E H X : Type 0} (may_fail : H → X → Type 0) (may_give : H → T → Type 0) (error_of : E → X) where
-  -- a side is right: a task that it says is to be called is; its init fails with no other error than when the poll
+  -- a side is right: a task that it says is to be woken is; its init fails with no other error than when the poll
   -- began, and gives no other value; the error or the value that is there, or that it handed over, is one of these; and
   -- what shows a value shows one of these in the slot of its cell
   pub record Tied (s : PollSide T E H) : Type 0 where
@@ -53,8 +52,8 @@ module _ {T E H X : Type 0} (may_fail : H → X → Type 0) (may_give : H → T 
   -- the poll put its task's waker in the place of one that was listed, under the same number
   pub record IsRenewed (a : PollSide T E H) (v : ListedWaker) (b : PollSide T E H) (w : ListedWaker) : Type 0 where
     pub whose : number_on w.tag.numbers ≡ number_on v.tag.numbers  -- the listing stays the same task's
-    pub wakes : WakesTask w b.cx.now  -- whoever calls it wakes the task that is polled
-    pub armed : b.is_armed ≡ true  -- the poll says that its task is to be called
+    pub wakes : WakesTask w b.cx.now  -- it wakes the task that is polled
+    pub armed : b.is_armed ≡ true  -- the poll says that its task is to be woken
     pub told : told b ≡ told a  -- nothing else that is told of the side changed
     pub stays : Stays a b  -- the context keeps what it had, and the side is as right as before
 

@@ -8,18 +8,17 @@ ghost use Rattle.once_machine.specs.Record.{Begin, DropBegin, DropEnd, Entry, Ma
 ghost use Rattle.async_once_cell.specs.Kept.{Grew};
 ghost use Rattle.async_once_cell.specs.Record.{EndsSet, IsSet, gave_value};
 ghost use Rattle.async_once_cell.specs.Walks.{IsOneCall, Spans, end_of};
-ghost use Rattle.async_once_cell.specs.Inits.{FailsNoOther, GivesNoOther, InitFits, TellsOwn};
+ghost use Rattle.async_once_cell.specs.Inits.{FailsNoOther, GivesNoOther, InitFits, TellsOwn, MayGive};
 ghost use Rattle.async_once_cell.specs.Polls.{IsValue, ending_by, is_over, value_of};
 ghost use Rattle.async_once_cell.specs.Views.{IsAnswered, AttemptView, shown_in, value_in};
 ghost use Rattle.std.proofs.Common.{rules, subst, ap, ◌∙◌};
 ghost use Rattle.async_once_cell.specs.Inner.Sides.{HasCopied, HasWoken, sided_tells};
 ghost use Rattle.async_once_cell.specs.Listed.{WakesTask, whose};
 ghost use Rattle.async_once_cell.specs.Stays.{Hands, IsRenewed, Stays, leaving, told};
-ghost use Rattle.async_once_cell.specs.Inits.{MayGive};
 
-use crate::init::{Failed, Failure, Init, Refused};
-use crate::inner::book::{is_set_where_answered, stays_set};
-use crate::inner::{Hand, Inner, Mark, Task, TaskSide};
+use crate::error::{Failure, Refused};
+use crate::inner::hand::{is_set_where_answered, stays_set};
+use crate::inner::{Failed, Hand, Init, Inner, Mark, Task, TaskSide};
 use crate::waker::ListedWaker;
 use boxcar::tag::Tag;
 use futures::task::{Context, Poll};

@@ -1,4 +1,4 @@
-//! What the tasks of a cell share, and the whole calls that they make of it.
+//! What the tasks of a cell share, and their whole calls.
 //!
 //! A cell's word, its door and its queue change by steps of threads. Behind them stands a ghost book. Its pages have
 //! what the machine of `once_machine` keeps, and its log is the record of the cell. A [`Hand`] is what one task holds
@@ -19,9 +19,6 @@ mod ways;
 pub use book::{CellRule, Leaf, Line, Record};
 pub use desk::Desk;
 pub use hand::{Hand, Mark, TaskWaker};
-pub use once_machine::parts::{Counted, Parts, QueueLine};
-pub use once_machine::step::Out;
-pub use once_machine::waiters::{Answer, Listing, Op};
-pub use once_machine::word::{MAX_WAITERS, NEW, QINIT_BIT, READY_BIT};
+pub use once_machine::parts::{Counted, Parts};
 pub use shared::{Inner, Shared};
-pub use task::{Pollable, Task, TaskSide};
+pub use task::{Failed, Gives, Init, Pollable, Task, TaskSide, Yields};

@@ -77,13 +77,14 @@
 #![tactic(auto)]
 
 mod attempt;
-mod init;
+mod error;
 pub mod inner;
 pub mod lazy;
 pub mod once;
 mod waker;
 
-pub use init::{Failed, Failure, Gives, Init, InitError, Refused, Yields};
+pub use error::{Failure, InitError, Refused};
+pub use inner::{Failed, Gives, Init, Yields};
 pub use lazy::{Lazy, LazyFuturePin, LazyFutureUnpin};
 pub use once::{InitFuture, Initializing, Known, OnceCell, Parker, Told, TryInitFuture};
 pub use once_machine::{laws, record, step};

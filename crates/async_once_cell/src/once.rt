@@ -11,8 +11,8 @@ mod future;
 mod known;
 mod waits;
 
-pub use crate::init::{Failure, Gives, InitError, Refused};
-use crate::inner::book::stays_set;
+pub use crate::error::{InitError, Refused};
+use crate::inner::hand::stays_set;
 use crate::inner::{Inner, Pollable};
 use crate::waker::ListedWaker;
 use boxcar::tag::{Names, Tag};

@@ -1,7 +1,7 @@
 //! The parts below the cells, by the paths that users write.
 
-use async_once_cell::inner::{MAX_WAITERS, Op, Parts};
-use async_once_cell::queue::{Answer, Lists, NEW};
+use async_once_cell::inner::Parts;
+use async_once_cell::queue::{Answer, Lists, MAX_WAITERS, NEW, Op};
 use async_once_cell::step::Step;
 use once_script::plain::Core;
 use std::test::Fail;

@@ -81,7 +81,7 @@ pub enum Input {
     Go(u64, Ran, bool),
     /// Looks for the value.
     Look,
-    /// The owner calls, once every task that was made is gone.
+    /// The owner makes this call, when every task that was made is gone.
     Own(Call),
 }
 

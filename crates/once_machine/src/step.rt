@@ -180,9 +180,9 @@ pub enum Place<W, Q> {
     AddOne(Ending),
     /// Look for their queue.
     DoorAgain(Ending),
-    /// Give the right back under the lock, and call one who waits, or all.
+    /// Give the right back under the lock, and wake one task that waits, or all.
     Release(Q, Ending),
-    /// Take the listing with this ticket out, and pass the turn on where it had it.
+    /// Take the listing with this ticket out, and pass the turn on if the task has it.
     Leave(Q, u64, Ending),
     /// Count out.
     CountOut(Ending),

@@ -78,7 +78,7 @@ pub enum Op<W> {
     Look(Option<u64>),
     /// Claim the right if it is free, else list this waker.
     List(Option<u64>, Option<W>),
-    /// Give the right back: with the value set, and call all; or without, and call one.
+    /// Give the right back: with the value set, and wake all; or without, and wake one.
     Release(bool),
     /// Take the listing with this ticket out. If it was woken and nobody holds, wake the next.
     Leave(u64),
@@ -111,7 +111,7 @@ pub enum Answer<W> {
     Memory,
     /// The right was given back, and these are to be woken.
     Released(Out<W>),
-    /// The listing is out, and this task is to be woken.
+    /// The listing is out, and the task of this waker is to be woken.
     Left(Option<W>),
     /// The queue does not stand at the door any more.
     Gone,

@@ -392,7 +392,7 @@ fn mark_release(word: &CellWord, desk: &mut CellPens, hand: &mut Hand, ready: bo
 
 impl<T, W: TaskWaker + Drop, V: Fits<T>> Inner<T, W, V> {
     #[inline(always)]
-    pub(super) fn got<J: Key, R: Wait>(&self, rt: &R, hand: &mut Hand) -> bool
+    pub(super) fn lock_and_get<J: Key, R: Wait>(&self, rt: &R, hand: &mut Hand) -> bool
         requires key { self.now.desk ≡ J.key }
         requires book { hand.old.seen.book ≡ J.key }
         requires can { call_in (own_of hand.old).task.step ≡ DoorGet }
@@ -404,7 +404,7 @@ impl<T, W: TaskWaker + Drop, V: Fits<T>> Inner<T, W, V> {
 
     // If a queue stood there, this comes back.
     #[inline(always)]
-    pub(super) fn put<J: Key, R: Wait>(
+    pub(super) fn lock_and_put<J: Key, R: Wait>(
         &self,
         rt: &R,
         hand: &mut Hand,
@@ -424,7 +424,11 @@ impl<T, W: TaskWaker + Drop, V: Fits<T>> Inner<T, W, V> {
     }
 
     #[inline(never)]
-    pub(super) fn taken<J: Key, R: Wait>(&self, rt: &R, hand: &mut Hand) -> Option<Box<Lists<W>>>
+    pub(super) fn lock_and_take<J: Key, R: Wait>(
+        &self,
+        rt: &R,
+        hand: &mut Hand,
+    ) -> Option<Box<Lists<W>>>
         requires key { self.now.desk ≡ J.key }
         requires book { hand.old.seen.book ≡ J.key }
         requires can { call_in (own_of hand.old).task.step ≡ DoorTake }
@@ -436,7 +440,7 @@ impl<T, W: TaskWaker + Drop, V: Fits<T>> Inner<T, W, V> {
 
     // Answers the waker that it took out of the list and hands to nobody, too.
     #[inline(always)]
-    pub(super) fn entered<J: Key, R: Wait>(
+    pub(super) fn lock_and_enter<J: Key, R: Wait>(
         &self,
         rt: &R,
         hand: &mut Hand,

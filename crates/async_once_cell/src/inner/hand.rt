@@ -1,18 +1,21 @@
-//! A task's pen, with what the task has seen of the log, and the moments that it makes by itself; and whose a waker is.
-ghost use Rattle.std.specs.Prelude.{◌≡◌, ◌≢◌, ℕ, None, true, false, [], ◌∷◌};
+//! What a task has of its cell's book: its pen, with what it has seen of the log, and the moments that it makes by
+//! itself. And what is known of a record that was seen, by functions that do nothing; and whose a waker is.
+ghost use Rattle.std.specs.Prelude.{◌≡◌, ◌≢◌, ℕ, None, true, false, [], ◌∷◌, reverse};
 ghost use Rattle.async_once_cell.specs.Inner.Own.{IsHand, number_in, IsWord, Stayed};
 ghost use mathlib.Core.List.{IsPrefix};
 ghost use Rattle.async_once_cell.specs.Inner.Acts.{Tells};
 ghost use Rattle.std.specs.Option.{MatchOption};
 ghost use Rattle.once_machine.specs.Table.{CountIn, DoorPut, DoorTake, PutQueue, Refused, Taken, counted};
 ghost use Rattle.once_machine.specs.Machine.{fresh_task};
-ghost use Rattle.once_machine.specs.Record.{Made};
-ghost use Rattle.async_once_cell.specs.Kept.{Grew, entries_of};
+ghost use Rattle.once_machine.specs.Record.{Made, Once};
+ghost use Rattle.once_machine.specs.Run.{AtEvery, IsRun};
+ghost use Rattle.once_machine.specs.Called.{SomebodyCalled};
+ghost use Rattle.async_once_cell.specs.Kept.{Grew, entries_of, most};
 ghost use Rattle.async_once_cell.specs.Inner.Page.{Went, call_in};
 ghost use Rattle.async_once_cell.specs.Inner.Places.{CanRefuse};
-ghost use Rattle.async_once_cell.specs.Record.{IsSet};
+ghost use Rattle.async_once_cell.specs.Record.{EndsSet, IsSet, PollsOnce, WasFilled};
 
-use super::book::{CellPens, CellWord, Leaf, Line, Record, stays_set};
+use super::book::{CellPens, CellWord, Leaf, Line, Record};
 use once_machine::parts::Counted;
 use once_machine::step::{Polled, RunRight};
 use once_machine::waiters::WakerId;
@@ -84,7 +87,7 @@ impl Mark {
 #[derive(Drop)]
 pub struct Hand {
     pub(super) seen: Record,
-    // Whoever has the pen may turn the page, so nobody outside of this crate has it.
+    // Whoever has the pen may turn the page, so nobody outside of `inner` has it.
     pub(super) pens: CellPens,
     pub ghost book_is: { pens.book ≡ seen.book },
     pub ghost is_hand: { IsHand seen.log pens.held },
@@ -233,4 +236,33 @@ pub trait TaskWaker: WakerId {
 
     // A task is listed once.
     ghost apart: { (a b : Self) → Self.tells_same a b → ⊥ };
+}
+
+/// A record that was seen is a run of the cell. At each of its beginnings somebody was woken if somebody had to be.
+/// Each task polls its init once at most in each of its calls.
+#[inline(always)]
+pub fn is_run(seen: &Record)
+    ensures run { IsRun Once most (reverse seen.now.log) }
+    ensures called { AtEvery (SomebodyCalled Once) (reverse seen.now.log) }
+    ensures filled { IsSet seen.now.log → WasFilled seen.now.log }
+    ensures once { PollsOnce seen.now.log }
+{
+    seen.again().learn(seen);
+}
+
+/// A cell that was set in a record is set in each later one.
+#[inline(always)]
+pub fn stays_set(earlier: &Record, later: &Record)
+    ensures { IsPrefix earlier.now.log later.now.log → IsSet earlier.now.log → IsSet later.now.log }
+{
+    later.again().learn(later);
+}
+
+/// The cell is set in a record whose newest entry is the end of a call with the value.
+#[inline(always)]
+pub fn is_set_where_answered(seen: &Record)
+    requires { (t : ℕ) × EndsSet t seen.now.log }
+    ensures { IsSet seen.now.log }
+{
+    seen.again().learn(seen);
 }

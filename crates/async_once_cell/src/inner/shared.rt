@@ -426,7 +426,7 @@ impl<T, W: TaskWaker + Drop, R: Wait + AllocGlobal, V: Fits<T>> Parts<W>
 
     #[inline(always)]
     fn door_get(&mut self) -> Option<()> {
-        if self.inner.got::<Brand, R>(self.rt, &mut self.hand) {
+        if self.inner.lock_and_get::<Brand, R>(self.rt, &mut self.hand) {
             return Some(());
         }
         None
@@ -439,7 +439,8 @@ impl<T, W: TaskWaker + Drop, R: Wait + AllocGlobal, V: Fits<T>> Parts<W>
             self.hand.unput();
             return None;
         };
-        self.inner.put::<Brand, R>(self.rt, &mut self.hand, queue);
+        self.inner
+            .lock_and_put::<Brand, R>(self.rt, &mut self.hand, queue);
         Some(())
     }
 
@@ -450,13 +451,15 @@ impl<T, W: TaskWaker + Drop, R: Wait + AllocGlobal, V: Fits<T>> Parts<W>
             return false;
         }
         self.inner
-            .taken::<Brand, R>(self.rt, &mut self.hand)
+            .lock_and_take::<Brand, R>(self.rt, &mut self.hand)
             .is_some()
     }
 
     #[inline(always)]
     fn section(&mut self, _queue: &(), op: &mut Op<W>) -> Answer<W> {
-        let (answer, _spent) = self.inner.entered::<Brand, R>(self.rt, &mut self.hand, op);
+        let (answer, _spent) = self
+            .inner
+            .lock_and_enter::<Brand, R>(self.rt, &mut self.hand, op);
         answer
     }
 

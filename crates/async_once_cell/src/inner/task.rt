@@ -1,5 +1,9 @@
-//! A task of a cell, with its whole polls and drops: its side and init, what it keeps between two calls, and its steps.
-ghost use Rattle.std.specs.Prelude.{◌≡◌, ◌≢◌, ◌<◌, ℕ, true, false, List, [], ◌∷◌, IsSomeAnd};
+//! A task of a cell, with its whole polls and drops: its side, the init that it polls while it has the right, what it
+//! keeps between two calls, and its steps.
+ghost use Rattle.std.specs.Prelude.{◌≡◌, ◌≢◌, ◌<◌, ℕ, true, false, List, [], ◌∷◌, IsSome, IsSomeAnd, IfErr, IfOk};
+ghost use Rattle.std.specs.Prelude.{None, Option, Some, Ok};
+ghost use Rattle.futures.specs.Poll.{IfReady, OnPending};
+ghost use Rattle.futures.specs.Task.{IsArmed, Keeps};
 ghost use mathlib.Core.List.{IsPrefix};
 ghost use Rattle.once_machine.specs.Record.{DropBegin, DropEnd, Entry, Made};
 ghost use Rattle.async_once_cell.specs.Kept.{Grew, entries_of};
@@ -12,11 +16,14 @@ ghost use Rattle.once_machine.specs.Steps.{in_call, is_resting};
 ghost use Rattle.async_once_cell.specs.Inner.Sides.{GivesFit, IsReady, IsTold, Sided};
 ghost use Rattle.async_once_cell.specs.Inner.Named.{KeepsOwner};
 ghost use Rattle.async_once_cell.specs.Inner.Tasks.{TaskView, HasPolled};
+ghost use Rattle.async_once_cell.specs.Inner.Hands.{HasRight, HasRun};
+ghost use Rattle.async_once_cell.specs.Inits.{FailsNoOther, GivesNoOther, MayFail, MayGive, polled_in};
+ghost use Rattle.async_once_cell.specs.Refused.{given_error};
 
 use super::book::{CellSlot, Record};
 use super::hand::{Hand, Mark, TaskWaker};
 use super::shared::{Inner, Shared};
-use crate::init::{Failed, Failure, Gives, Init, Yields};
+use crate::error::{Failure, InitError, Refused};
 use boxcar::tag::{Names, Tag};
 use futures::Future;
 use futures::task::{Context, Poll};
@@ -66,6 +73,84 @@ pub trait TaskSide<W: TaskWaker>: Side<W, Right = Hand> + Renews<W> {
     ghost slot_on: { (s t : Self) → Self.stays s t → (n : ℕ) → has_slot s n → has_slot t n };
 }
 
+/// Which values an init may give. `X` says why there is none.
+pub trait Yields<T, X>: Drop {
+    // The init may give this value.
+    ghost may_give: { Self → T → Type 0 };
+}
+
+/// What a task polls while it has the right. `T` is its value, and `X` says why there is none. Only a call that is lent
+/// the task's hand can poll it, and a hand says whether its task has the right.
+pub trait Init<T, X: Failure>: Yields<T, X> {
+    // The init may fail with this error.
+    ghost may_fail: { Self → X → Type 0 };
+
+    /// Polls the init, which stays there if it is Pending, and writes the answer into the record.
+    fn poll_init(
+        init: &mut Option<Self>,
+        cx: &mut Context<'_>,
+        right: &mut Hand,
+    ) -> Poll<Result<T, Failed<X>>>
+        requires init { IsSome init.old }
+        requires right { HasRight right.old }
+        ensures ran { HasRun right.old (polled_in result) right.new }
+        ensures init { OnPending result (IsSome init.new) }
+        ensures own { IfReady result (λ a. IfErr a (λ e. MayFail may_fail init.old e.error)) }
+        ensures given { IfReady result (λ a. IfOk a (MayGive Self.may_give init.old)) }
+        ensures same { FailsNoOther may_fail init.old init.new }
+        ensures same_values { GivesNoOther Self.may_give init.old init.new }
+        ensures armed { OnPending result (IsArmed cx.new) }
+        ensures kept { Keeps cx.old cx.new };
+}
+
+/// An error of an init.
+#[derive(Drop)]
+pub struct Failed<X: Failure> {
+    /// The error, as the future tells it.
+    pub error: X,
+    pub ghost own: { X.ending error ≡ Ending.Error },
+}
+
+/// What an init gives: the value, or a result with the value or an error.
+pub trait Gives<T, X: Failure> {
+    // What the init gave, if a poll tells this error of its own init.
+    ghost given_as: { X → Option Self };
+
+    // What it gave, if this is its value.
+    ghost given_with: { T → Option Self };
+
+    /// The value, or the error as a future tells it.
+    fn given(self) -> Result<T, X>
+        ensures error { IfErr result (λ x. X.ending x ≡ Ending.Error) }
+        ensures own { IfErr result (λ x. given_as x ≡ Some self) }
+        ensures value { IfOk result (λ v. given_with v ≡ Some self) };
+}
+
+impl<T> Gives<T, Refused> for T {
+    ghost given_as = { λ _. None };
+
+    ghost given_with = { λ v. Some v };
+
+    #[inline(always)]
+    fn given(self) -> Result<T, Refused> {
+        Ok(self)
+    }
+}
+
+impl<T, E: Drop> Gives<T, InitError<E>> for Result<T, E> {
+    ghost given_as = { given_error };
+
+    ghost given_with = { λ v. Some (Ok v) };
+
+    #[inline(always)]
+    fn given(self) -> Result<T, InitError<E>> {
+        match self {
+            Ok(value) => Ok(value),
+            Err(error) => Err(InitError::Init(error)),
+        }
+    }
+}
+
 /// A future that may be polled, by a task that has the right alone. A clause sees the future.
 #[derive(Drop)]
 pub struct Pollable<F: Future> {
@@ -104,7 +189,8 @@ impl<T, X: Failure, F: Future<Output: Gives<T, X>>> Yields<T, X> for Pollable<F>
     ghost may_give = { λ f v. IsSomeAnd (F.Output.given_with v) (F.gives f) };
 }
 
-/// An init of the task's own. It is polled here alone, where the answer is written into the record.
+/// An init of the task's own, or the future of a lazy cell. It is polled here alone, where the answer is written into
+/// the record.
 impl<T, X: Failure, F: Future<Output: Gives<T, X>>> Init<T, X> for Pollable<F> {
     ghost may_fail = { λ f x. IsSomeAnd (F.Output.given_as x) (F.gives f) };
 

@@ -1,7 +1,8 @@
 //! Straight ways of a poll: chains of small functions, one for each place of the machine, named after it: `at_..` with
-//! the lock free, and `locked_..` under it. Each has the place in the text of its contract, makes the step of its
-//! place, and goes on to the next by its last call. The compiler puts a chain together, so that no step is handed
-//! through memory, and the cell's lock is taken once for all sections of a poll that meets others.
+//! the lock free, `locked_..` under it, and `lock_at_..` if it takes the lock. Each has the place in the text of its
+//! contract, makes the step of its place, and goes on to the next by its last call. The compiler puts a chain together,
+//! so that no step is handed through memory, and the cell's lock is taken once for all sections of a poll that meets
+//! others.
 //!
 //! [`Step::advance`](once_machine::step::Step::advance) stays the one machine, but at `Put`: that step is `put_from`,
 //! since the side is to be shown the value. A way may leave to it at any place, by `steps_left`, and each of its steps

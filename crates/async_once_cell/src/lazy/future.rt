@@ -17,8 +17,8 @@ ghost use Rattle.once_machine.specs.Called.{SomebodyCalled};
 ghost use Rattle.once_machine.specs.Record.{Once};
 ghost use Rattle.once_machine.specs.Run.{AtEvery, IsRun, NobodyForgotten};
 
-use crate::init::{Failed, Init, Refused, Yields};
-use crate::inner::{Hand, Pollable};
+use crate::error::Refused;
+use crate::inner::{Failed, Hand, Init, Pollable, Yields};
 use crate::once::{Initializing, Known, OnceCell, Parker};
 use futures::Future;
 use futures::task::{Context, Poll};

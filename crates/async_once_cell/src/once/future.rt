@@ -21,9 +21,9 @@ ghost use Rattle.async_once_cell.specs.Futures.{IsOfCell, KeepsPromise, view_of_
 use super::known::Seen;
 use super::{Contents, Known, OnceCell};
 use crate::attempt::{Attempt, Shown};
-use crate::init::{Failure, Init, InitError, Refused, Yields};
-use crate::inner::book::is_run;
-use crate::inner::{Pollable, Task};
+use crate::error::{Failure, InitError, Refused};
+use crate::inner::hand::is_run;
+use crate::inner::{Init, Pollable, Task, Yields};
 use futures::Future;
 use futures::task::{Context, Poll};
 use pagebook::{Anything, Fits};

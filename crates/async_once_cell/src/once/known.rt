@@ -12,7 +12,7 @@ ghost use Rattle.async_once_cell.specs.Tokens.{Agrees, IsSetIn};
 
 use super::{Contents, OnceCell};
 use crate::inner::Record;
-use crate::inner::book::{is_run, stays_set};
+use crate::inner::hand::{is_run, stays_set};
 use pagebook::{Anything, Fits, Written};
 use std::fmt;
 use std::marker::Model;

@@ -7,7 +7,8 @@ ghost use Rattle.async_once_cell.specs.Tokens.{IsSetIn};
 ghost use Rattle.async_once_cell.specs.Views.{about_of, is_shared};
 
 use super::{Initializing, Known};
-use crate::init::{Failure, Init};
+use crate::error::Failure;
+use crate::inner::Init;
 use futures::task::{Doorbell, Poll, Queue};
 use pagebook::Fits;
 use std::alloc::AllocGlobal;

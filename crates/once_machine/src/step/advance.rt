@@ -63,7 +63,7 @@ impl<W: Drop, Q: Drop> Step<W, Q> {
     fn take_place(&mut self) -> Place<W, Q>
         requires { in_call self.old ≡ true }
         ensures place { self.old ≡ Step.UnderWay result }
-        ensures left { self.new ≡ Step.Finished }
+        ensures finished { self.new ≡ Step.Finished }
     {
         match mem::replace(self, Step::Finished) {
             Step::UnderWay(place) => place,

@@ -7,4 +7,4 @@ use Rattle.async_once_cell.proofs.inner.shared.SharedParts.door_take.Goals as go
 pub returns : goal.returns
 returns g c =
     let stayed = c.finds_none_put.ensures.some c.if-finds_none_put.false in
-    (search rules, went_after (Taken c.is_some.result) [] _ _ _ stayed (c.taken.ensures.did c.is_some.result))
+    (search rules, went_after (Taken c.is_some.result) [] _ _ _ stayed (c.lock_and_take.ensures.did c.is_some.result))

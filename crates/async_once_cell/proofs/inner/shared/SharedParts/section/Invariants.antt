@@ -1,4 +1,4 @@
 use Rattle.async_once_cell.proofs.inner.shared.SharedParts.section.Given as goal
 
-abbrev pub ghosts-entered : goal.ghosts-entered
-ghosts-entered g a = record { key = a.self.now.desk }
+abbrev pub ghosts-lock_and_enter : goal.ghosts-lock_and_enter
+ghosts-lock_and_enter g a = record { key = a.self.now.desk }

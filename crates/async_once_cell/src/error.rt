@@ -1,59 +1,13 @@
-//! What a task polls while it has the right: an init of its own, or the future of a lazy cell. And what its caller is
-//! told in place of a value: the error of its init, or a refusal.
-ghost use Rattle.std.specs.Prelude.{◌≡◌, IfErr, IfOk, IsSome, None, Option, Some, IsSomeAnd, Ok};
-ghost use Rattle.futures.specs.Poll.{IfReady, OnPending};
-ghost use Rattle.futures.specs.Task.{IsArmed, Keeps};
-ghost use Rattle.async_once_cell.specs.Inner.Hands.{HasRight, HasRun};
-ghost use Rattle.async_once_cell.specs.Inits.{MayGive, polled_in};
+//! Why a poll ended without a value: the error of its own init, or a refusal.
+ghost use Rattle.std.specs.Prelude.{◌≡◌, Some};
 ghost use Rattle.once_machine.specs.declared.step.Ending.{Ending};
-ghost use Rattle.async_once_cell.specs.Inits.{FailsNoOther, GivesNoOther, MayFail};
 ghost use Rattle.async_once_cell.specs.Polls.{ending_of_refusal, ending_of_error};
-ghost use Rattle.async_once_cell.specs.Refused.{own_error, given_error, message, message_of, kind_of, error_of};
+ghost use Rattle.async_once_cell.specs.Refused.{own_error, message, message_of, kind_of, error_of};
 ghost use Rattle.std.specs.IoError.{error_kind};
 
-use crate::inner::Hand;
-use futures::task::{Context, Poll};
-use once_machine::step::Ending;
 use std::error::Error;
 use std::io::ErrorKind;
 use std::{fmt, io};
-
-/// Which values an init may give. `X` says why there is none.
-pub trait Yields<T, X>: Drop {
-    // The init may give this value.
-    ghost may_give: { Self → T → Type 0 };
-}
-
-/// What a task polls while it has the right. `T` is its value, and `X` says why there is none. Only a call that is lent
-/// the task's hand can poll it, and a hand says whether its task has the right.
-pub trait Init<T, X: Failure>: Yields<T, X> {
-    // The init may fail with this error.
-    ghost may_fail: { Self → X → Type 0 };
-
-    /// Polls the init, which stays there if it is Pending, and writes the answer into the record.
-    fn poll_init(
-        init: &mut Option<Self>,
-        cx: &mut Context<'_>,
-        right: &mut Hand,
-    ) -> Poll<Result<T, Failed<X>>>
-        requires init { IsSome init.old }
-        requires right { HasRight right.old }
-        ensures ran { HasRun right.old (polled_in result) right.new }
-        ensures init { OnPending result (IsSome init.new) }
-        ensures own { IfReady result (λ a. IfErr a (λ e. MayFail may_fail init.old e.error)) }
-        ensures given { IfReady result (λ a. IfOk a (MayGive Self.may_give init.old)) }
-        ensures same { FailsNoOther may_fail init.old init.new }
-        ensures same_values { GivesNoOther Self.may_give init.old init.new }
-        ensures armed { OnPending result (IsArmed cx.new) }
-        ensures kept { Keeps cx.old cx.new };
-}
-
-/// An error of an init.
-#[derive(Drop)]
-pub struct Failed<X: Failure> {
-    pub(crate) error: X,
-    ghost own: { X.ending error ≡ Ending.Error },
-}
 
 /// Why a poll ended without a value, as a future tells it: [`Refused`], or an [`InitError`] if the init may fail.
 pub trait Failure: Drop {
@@ -84,46 +38,6 @@ impl<E: Drop> Failure for InitError<E> {
         ensures { ending_of_error result ≡ ending_of_refusal refused }
     {
         InitError::from(refused)
-    }
-}
-
-/// What an init gives: the value, or a result with the value or an error.
-pub trait Gives<T, X: Failure> {
-    // What the init gave, if a poll tells this error of its own init.
-    ghost given_as: { X → Option Self };
-
-    // What it gave, if this is its value.
-    ghost given_with: { T → Option Self };
-
-    /// The value, or the error as a future tells it.
-    fn given(self) -> Result<T, X>
-        ensures error { IfErr result (λ x. X.ending x ≡ Ending.Error) }
-        ensures own { IfErr result (λ x. given_as x ≡ Some self) }
-        ensures value { IfOk result (λ v. given_with v ≡ Some self) };
-}
-
-impl<T> Gives<T, Refused> for T {
-    ghost given_as = { λ _. None };
-
-    ghost given_with = { λ v. Some v };
-
-    #[inline(always)]
-    fn given(self) -> Result<T, Refused> {
-        Ok(self)
-    }
-}
-
-impl<T, E: Drop> Gives<T, InitError<E>> for Result<T, E> {
-    ghost given_as = { given_error };
-
-    ghost given_with = { λ v. Some (Ok v) };
-
-    #[inline(always)]
-    fn given(self) -> Result<T, InitError<E>> {
-        match self {
-            Ok(value) => Ok(value),
-            Err(error) => Err(InitError::Init(error)),
-        }
     }
 }
 

@@ -4,7 +4,7 @@ use Rattle.async_once_cell.specs.Kept.{entries_of}
 use Rattle.async_once_cell.specs.Record.{AreOnce}
 use Rattle.async_once_cell.proofs.PollsOnce.{are_once}
 use Rattle.async_once_cell.proofs.Seen.{seen_called, seen_filled, seen_run}
-use Rattle.async_once_cell.proofs.inner.book.is_run.Goals as goal
+use Rattle.async_once_cell.proofs.inner.hand.is_run.Goals as goal
 
 pub returns-clause-run : goal.returns-clause-run
 returns-clause-run c = seen_run c.args.seen.now.log c.learn.ensures.rule.2 c.learn.ensures.log.1
