@@ -8,7 +8,7 @@ use Rattle.async_once_cell.specs.Inner.Named.{named_out}
 use Rattle.async_once_cell.specs.Inner.Sides.{Sided}
 use Rattle.async_once_cell.specs.declared.attempt.PollSide.{PollSide}
 use Rattle.async_once_cell.specs.declared.attempt.LeaveSide.{LeaveSide}
-use Rattle.async_once_cell.specs.Inits.{FailsNoOther, GivesNoOther, MayFail, MayGive}
+use Rattle.async_once_cell.specs.Inits.{GivesNoOther, MayGive}
 use Rattle.async_once_cell.specs.declared.waker.ListedWaker.{ListedWaker}
 use Rattle.async_once_cell.specs.Listed.{WakesTask, number_on, whose}
 
@@ -31,8 +31,8 @@ module _ {T E H X : Type 0} (may_fail : H → X → Type 0) (may_give : H → T 
   -- what shows a value shows one of these in the slot of its cell
   pub record Tied (s : PollSide T E H) : Type 0 where
     pub armed : s.is_armed ≡ true → IsArmed s.cx.now
-    pub fails : FailsNoOther may_fail s.first.value s.init
-    pub error : IfSome s.error (λ e. MayFail may_fail s.first.value (error_of e))
+    pub fails : GivesNoOther may_fail s.first.value s.init
+    pub error : IfSome s.error (λ e. MayGive may_fail s.first.value (error_of e))
     pub gives : GivesNoOther may_give s.first.value s.init
     pub value : IfSome s.value (MayGive may_give s.first.value)
     pub handed : IfSome s.handed.value (MayGive may_give s.first.value)

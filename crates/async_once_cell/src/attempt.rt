@@ -8,7 +8,7 @@ ghost use Rattle.once_machine.specs.Record.{Begin, DropBegin, DropEnd, Entry, Ma
 ghost use Rattle.async_once_cell.specs.Kept.{Grew};
 ghost use Rattle.async_once_cell.specs.Record.{EndsSet, IsSet, gave_value};
 ghost use Rattle.async_once_cell.specs.Walks.{IsOneCall, Spans, end_of};
-ghost use Rattle.async_once_cell.specs.Inits.{FailsNoOther, GivesNoOther, InitFits, TellsOwn, MayGive};
+ghost use Rattle.async_once_cell.specs.Inits.{GivesNoOther, InitFits, TellsOwn, MayGive};
 ghost use Rattle.async_once_cell.specs.Polls.{IsValue, ending_by, is_over, value_of};
 ghost use Rattle.async_once_cell.specs.Views.{IsAnswered, AttemptView, shown_in, value_in};
 ghost use Rattle.std.proofs.Common.{rules, subst, ap, ◌∙◌};
@@ -163,7 +163,7 @@ impl<'a, T: Drop, I: Drop, R: Wait + AllocGlobal, V: Fits<T>> Attempt<'a, T, I, 
         ensures value { self.new.value ≡ value_of result }
         ensures promise { IfSome (value_of result) (V.fits self.old.cell.about) }
         ensures own { IfReady result (TellsOwn I.may_fail X.ending self.old.init) }
-        ensures same { FailsNoOther I.may_fail self.old.init self.new.init }
+        ensures same { GivesNoOther I.may_fail self.old.init self.new.init }
         ensures same_values { GivesNoOther I.may_give self.old.init self.new.init }
         ensures own_value { gave_value self.new.number self.new.log ≡ true
             → IfSome (value_of result) (MayGive I.may_give self.old.init) }

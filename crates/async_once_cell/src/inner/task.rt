@@ -17,7 +17,7 @@ ghost use Rattle.async_once_cell.specs.Inner.Sides.{GivesFit, IsReady, IsTold, S
 ghost use Rattle.async_once_cell.specs.Inner.Named.{KeepsOwner};
 ghost use Rattle.async_once_cell.specs.Inner.Tasks.{TaskView, HasPolled};
 ghost use Rattle.async_once_cell.specs.Inner.Hands.{HasRight, HasRun};
-ghost use Rattle.async_once_cell.specs.Inits.{FailsNoOther, GivesNoOther, MayFail, MayGive, polled_in};
+ghost use Rattle.async_once_cell.specs.Inits.{GivesNoOther, MayGive, polled_in};
 ghost use Rattle.async_once_cell.specs.Refused.{given_error};
 
 use super::book::{CellSlot, Record};
@@ -95,9 +95,9 @@ pub trait Init<T, X: Failure>: Yields<T, X> {
         requires right { HasRight right.old }
         ensures ran { HasRun right.old (polled_in result) right.new }
         ensures init { OnPending result (IsSome init.new) }
-        ensures own { IfReady result (λ a. IfErr a (λ e. MayFail may_fail init.old e.error)) }
+        ensures own { IfReady result (λ a. IfErr a (λ e. MayGive may_fail init.old e.error)) }
         ensures given { IfReady result (λ a. IfOk a (MayGive Self.may_give init.old)) }
-        ensures same { FailsNoOther may_fail init.old init.new }
+        ensures same { GivesNoOther may_fail init.old init.new }
         ensures same_values { GivesNoOther Self.may_give init.old init.new }
         ensures armed { OnPending result (IsArmed cx.new) }
         ensures kept { Keeps cx.old cx.new };

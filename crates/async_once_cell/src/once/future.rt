@@ -5,7 +5,7 @@ ghost use Rattle.std.specs.Borrow.{Bor};
 ghost use Rattle.futures.specs.Poll.{IfReady, OnPending};
 ghost use Rattle.futures.specs.Task.{Covers, Keeps};
 ghost use mathlib.Core.List.{IsPrefix};
-ghost use Rattle.async_once_cell.specs.Inits.{FailsNoOther, GivesNoOther, TellsOwn};
+ghost use Rattle.async_once_cell.specs.Inits.{GivesNoOther, TellsOwn};
 ghost use Rattle.async_once_cell.specs.Polls.{Answers, AnswersOwn, DidPoll, HasLeft, IsMade, IsValue, Polls, PollsAs};
 ghost use Rattle.async_once_cell.specs.Polls.{SpansIn, ending_by, value_of};
 ghost use Rattle.async_once_cell.specs.Tokens.{Agrees, IsSetIn};
@@ -308,7 +308,7 @@ where
         ensures answered { self.new.value ≡ value_of result }
         ensures late { IsSetIn self.old.cell self.old.log → IsValue result }
         ensures own { IfReady result (TellsOwn I.may_fail X.ending self.old.init) }
-        ensures same { FailsNoOther I.may_fail self.old.init self.new.init }
+        ensures same { GivesNoOther I.may_fail self.old.init self.new.init }
         ensures own_value { AnswersOwn I.may_give self.old self.new result }
         ensures same_values { GivesNoOther I.may_give self.old.init self.new.init }
     {
@@ -356,7 +356,7 @@ where
         ensures late { IsSetIn token.old.cell token.old.log → IsValue result }
         ensures future_late { IsSetIn self.old.cell self.old.log → IsValue result }
         ensures own { IfReady result (TellsOwn I.may_fail X.ending self.old.init) }
-        ensures same { result ≡ Poll.Pending → FailsNoOther I.may_fail self.old.init self.new.init }
+        ensures same { result ≡ Poll.Pending → GivesNoOther I.may_fail self.old.init self.new.init }
         ensures own_value { token.old.value ≡ None → AnswersOwn I.may_give self.old self.new result }
         ensures same_values { result ≡ Poll.Pending → GivesNoOther I.may_give self.old.init self.new.init }
     {

@@ -7,7 +7,7 @@ use Rattle.async_once_cell.specs.Kept.{Grew}
 use Rattle.async_once_cell.specs.Walks.{end_of}
 use Rattle.pagebook.specs.Slot.{Placed}
 use Rattle.async_once_cell.specs.Inits.{MayGive}
-use Rattle.async_once_cell.specs.Inits.{MayFail}
+use Rattle.async_once_cell.specs.Inits.{MayGive}
 use Rattle.async_once_cell.specs.Polls.{ending_by}
 use Rattle.async_once_cell.proofs.attempt.Attempt.poll.Goals as goal
 
@@ -25,7 +25,7 @@ returns-clause-end g c =
 
 -- an init that answered is gone
 pub returns-clause-same : goal.returns-clause-same
-returns-clause-same g c = λ x m. absurd (subst (λ (i : Option g.row.I.Denot). MayFail g.I.Init.may_fail i x) c.answer.ensures.init m)
+returns-clause-same g c = λ x m. absurd (subst (λ (i : Option g.row.I.Denot). MayGive g.I.Init.may_fail i x) c.answer.ensures.init m)
 
 pub returns-clause-same_values : goal.returns-clause-same_values
 returns-clause-same_values g c = λ x m. absurd (subst (λ (i : Option g.row.I.Denot). MayGive g.I.Yields.may_give i x) c.answer.ensures.init m)
@@ -39,7 +39,7 @@ poll-ending-requires-clause-fits g c = λ v hands.
       subst (λ (s : Placed). g.V.Fits.fits s.about v) (sym cell)
           (c.requires.fits v (subst (λ (i : Option g.row.I.Denot). may i v) (c.of.ensures ∙ c.take-init.ensures.value ∙ before) (hands (record {
             armed = λ armed. absurd (false≢true armed);
-            fails = λ y n. subst (λ (i : Option g.row.I.Denot). MayFail g.I.Init.may_fail i y) (sym c.of.ensures) n;
+            fails = λ y n. subst (λ (i : Option g.row.I.Denot). MayGive g.I.Init.may_fail i y) (sym c.of.ensures) n;
             error = tt;
             gives = λ y n. subst (λ (i : Option g.row.I.Denot). may i y) (sym c.of.ensures) n;
             value = tt;

@@ -1,6 +1,6 @@
 use Rattle.std.proofs.Common.{◌≡◌, false, None}
 use mathlib.Core.List.{IsPrefix}
-use Rattle.async_once_cell.specs.Inits.{FailsNoOther}
+use Rattle.async_once_cell.specs.Inits.{GivesNoOther}
 use Rattle.async_once_cell.proofs.once.future.Initializing.wait_begun.Given as goal
 
 -- no poll so far finished the future, and the token is of its cell, knows nothing, and has seen what it had seen.
@@ -8,4 +8,4 @@ use Rattle.async_once_cell.proofs.once.future.Initializing.wait_begun.Given as g
 abbrev pub invariant-loop : goal.invariant-loop
 invariant-loop g l =
     (l.self.finished ≡ false) × (l.token.cell ≡ l.self.cell) × (l.token.cell ≡ l.initial.token.cell) × (l.token.value ≡ None) × IsPrefix l.initial.token.log l.token.log
-    × FailsNoOther g.I.Init.may_fail l.initial.self.init l.self.init
+    × GivesNoOther g.I.Init.may_fail l.initial.self.init l.self.init
