@@ -69,12 +69,12 @@ mod rounds {
     use std::task::{Context, Poll, Wake, Waker};
     use std::thread::{self, Thread};
 
-    /// Counts how often it was called.
+    /// Counts how often it was woken.
     #[derive(Default)]
     struct Calls(AtomicU64);
 
     impl Calls {
-        /// Whether it was called since this was last asked.
+        /// Whether it was woken since this was last asked.
         fn were_made(&self) -> bool {
             self.0.swap(0, SeqCst) > 0
         }
@@ -239,13 +239,13 @@ mod rounds {
             number_of(answer)
         }
 
-        /// The same if it was called since.
+        /// The same if it was woken since.
         fn poll_if_called(&mut self) -> u64 {
             if self.calls.were_made() && !self.has_ended { self.poll() } else { 0 }
         }
     }
 
-    // A new holder gets the right, whoever was called waits again, and the holder fails.
+    // A new holder gets the right, whoever was woken waits again, and the holder fails.
     #[inline(never)]
     fn failures(waiting: usize, count: u64, cx: &mut Context<'_>) -> u64 {
         let cell = OnceCell::new();
@@ -263,7 +263,7 @@ mod rounds {
         }))
     }
 
-    // A holder fails, and then each who waits. Whoever was called is polled, in turn, until all ended.
+    // A holder fails, and then each who waits. Whoever was woken is polled, in turn, until all ended.
     #[inline(never)]
     fn turns(waiting: usize, count: u64) -> u64 {
         sum(count, || {

@@ -31,7 +31,7 @@ module _ {T I R V : Type 0} where
   seen_of (StateLeft r) = []
   seen_of (StateShared w) = w.log
 
-  -- whether it answered
+  -- whether it answered or left
   abbrev pub is_done : FutureState T I R V → Bool
   is_done (StateOwned r init) = false
   is_done (StateAnswered r) = true

@@ -67,7 +67,7 @@ pub record IsKept (ns : List ℕ) (ss : List Sheet) (log : List Entry) : Type 0 
   -- each page has the entries of its task
   pub entries_are : (k : ℕ) (s : Sheet) → slice_get ss k ≡ Some s → s.entries ≡ entries_on k log
 
--- a hand of those who do not write, where the log has been seen so far: none of their entries comes after that
+-- a hand of tasks that do not write, if the log was seen so far: none of their entries comes after that
 abbrev pub sheets : List Entry → Held Page → Held Sheet
 sheets log [] = []
 sheets log (e ∷ h) = (e.0, sheet (entries_on e.0 log) e.1) ∷ sheets log h

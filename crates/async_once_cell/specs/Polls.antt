@@ -22,12 +22,13 @@ use Rattle.async_once_cell.specs.Walks.{IsOneCall, Spans, end_of}
 use Rattle.async_once_cell.specs.Tokens.{Agrees, IsSetIn}
 use Rattle.async_once_cell.specs.Views.{CellView, FutureView, Owned, Shared}
 
--- how a poll ended that tells this error, and one whose init cannot fail and that tells this refusal
+-- how a poll ended that tells this error
 abbrev pub ending_of_error : {E : Type 0} → InitError E → Ending
 ending_of_error (Init e) = EndError
 ending_of_error Memory = EndMemory
 ending_of_error Full = EndFull
 
+-- the same of a poll whose init cannot fail
 abbrev pub ending_of_refusal : Refused → Ending
 ending_of_refusal NoMemory = EndMemory
 ending_of_refusal TooMany = EndFull

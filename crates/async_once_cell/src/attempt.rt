@@ -77,7 +77,7 @@ impl<'a, T, I: Drop, R: Wait + AllocGlobal, V: Fits<T>> Attempt<'a, T, I, R, V> 
         }
     }
 
-    /// If the task answered it. Then the cell is set in the record that it has seen.
+    /// What shows the value that the task answered. Then the cell is set in its log.
     #[inline(always)]
     pub(crate) fn written(&self) -> Option<Written<T>>
         ensures value { value_in result ≡ self.now.value }
@@ -199,7 +199,7 @@ impl<'a, T: Drop, I: Drop, R: Wait + AllocGlobal, V: Fits<T>> Attempt<'a, T, I, 
         if ending == Ending::Pending {
             self.init = init;
             if !is_armed {
-                // No clause says that who is told of its listing has one to renew. Without one it asks for a poll.
+                // No clause says that a listed task's waker was renewed. If it was not, the task asks for a poll.
                 let _: Poll<()> = cx.yield_now();
             }
             return Poll::Pending;
@@ -414,7 +414,7 @@ impl<T, R: Wait> Side<ListedWaker> for LeaveSide<'_, T, R> {
 
     ghost stays = { λ _ _. ⊤ };
 
-    // Nobody calls this, `put`, `renew` or `keep`: a task that leaves has no init. A poll that is none has no record.
+    // Nobody calls this, `put`, `renew` or `keep`, because a task that leaves has no init. It would never return.
     fn run(&mut self, _right: &mut Hand) -> Polled {
         for _ in self.rt.forever() {}
         unreachable!()

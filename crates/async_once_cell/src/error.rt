@@ -54,7 +54,7 @@ impl<E: Drop> Failure for InitError<E> {
 /// ```
 #[derive(Clone, Copy, Debug, PartialEq, Eq)]
 pub enum Refused {
-    /// Memory was refused: for the queue of those who wait, or for the task's place in it.
+    /// Memory was refused: for the queue, or for the task's place in it.
     Memory,
     /// As many tasks are counted in as may be, 2^62 - 2. Counted are those that wait, those in a call that came to
     /// the queue, and a holder that claimed there.

@@ -8,7 +8,7 @@
 //! of the machine, and turns the task's page as the table of places says. A [`Task`] makes whole polls and drops of
 //! such steps. So the record that a task has seen is a run of the cell, and at each of its beginnings somebody was
 //! woken if somebody had to be, which does not follow from the first. Begin with `book`, which ties the rule to the
-//! words, and with `Act` of `hand`, which has a name for each move.
+//! words, and with `Act` of `hand`, which names the moves without the lock.
 pub mod book;
 pub mod desk;
 pub mod hand;

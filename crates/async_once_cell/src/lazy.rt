@@ -234,7 +234,7 @@ impl<T, F: Future<Output = T>, V: Fits<T>> Lazy<T, F, V> {
         mem::replace(self, replacement).into_inner_as(told)
     }
 
-    /// Makes the value, which the caller was told, the owner's. From then on the clauses of all calls say which it is.
+    /// Gives the owner the value that the caller was told. From then on the clauses of all calls say which it is.
     pub fn own_as(&mut self, told: &Told<T, V>)
     where
         T: Drop,

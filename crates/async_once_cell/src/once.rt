@@ -264,8 +264,8 @@ impl<T, V: Fits<T>> OnceCell<T, V> {
     }
 
     /// As [`OnceCell::get`], and the token learns the value that is answered. A token that knows a value gets it,
-    /// always. Of a cell that tasks share it is one look in the record: it answers a value exactly when the cell is set
-    /// at that moment. So a token gets the value if the cell is set in the record that it has seen.
+    /// always. Any other makes one look in the record of a cell that tasks share: it gets a value exactly when the cell
+    /// is set at that moment. So a token gets the value if the cell is set in the record that it has seen.
     ///
     /// ```
     /// let first = cell.get_as(token)?; // from here on the token knows the value
@@ -310,7 +310,7 @@ impl<T, V: Fits<T>> Names<OnceCell<T, V>> for About {
 }
 
 impl<T: Drop, V: Fits<T>> OnceCell<T, V> {
-    /// Makes the value, which the caller was told, the owner's. From then on the clauses of all calls say which it is.
+    /// Gives the owner the value that the caller was told. From then on the clauses of all calls say which it is.
     pub fn own_as(&mut self, told: &Told<T, V>)
         requires { told.now.cell ≡ self.old }
         ensures { self.new ≡ Owned told.now.value }
@@ -388,7 +388,7 @@ impl<T, V: Fits<T>> Contents<T, V> {
         }
     }
 
-    // Makes a value that tasks put the owner's.
+    // Gives the owner a value that tasks put.
     fn settle(&mut self)
         ensures { Settled self.old self.new }
     {

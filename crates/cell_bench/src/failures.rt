@@ -1,6 +1,6 @@
 //! The loops of inits that fail, as in `rounds`. An error counts as its number, which is 1.
 //!
-//! Those who wait are polled where they were called, and not else: a failure calls the one that is
+//! Those who wait are polled if they were woken, and not else: a failure wakes the one that is
 //! listed longest.
 use crate::switch::Failing;
 use async_once_cell::OnceCell;
@@ -40,7 +40,7 @@ fn waiting<'a, R: Wait + AllocGlobal>(
     polled(rt, cell, number, cx)
 }
 
-/// A new holder gets the right, whoever was called waits again, and the holder fails.
+/// A new holder gets the right, whoever was woken waits again, and the holder fails.
 #[inline(never)]
 pub fn failures<R: Wait + AllocGlobal>(
     rt: &R,

@@ -29,7 +29,7 @@ pub enum Operation {
     HundredThousandWait,
     /// A new cell: one future holds, 10,000 wait, and all are dropped, those who wait first.
     TenThousandDrop,
-    /// 1 waits: a new future gets the right, whoever the failure before called is polled and waits
+    /// 1 waits: a new future gets the right, whoever the failure before woke is polled and waits
     /// again, and the new future fails.
     FailureBeforeOne,
     /// The same where 10 wait.
@@ -37,7 +37,7 @@ pub enum Operation {
     /// The same where 100 wait.
     FailureBeforeHundred,
     /// A new cell: one future holds, 10 wait; the holder fails, and then each of them, once it was
-    /// called and its init was pending once.
+    /// woken and its init was pending once.
     TenTurns,
     /// The same where 100 wait.
     HundredTurns,

@@ -1,7 +1,7 @@
 //! Reads pictures and tables of scripts at random back, and compares them with what the world says at each
 //! line.
 //!
-//! Of a picture it reads who holds and who waits, polls and drops, who calls whom, and the band of the cell. Of a
+//! Of a picture it reads who holds and who waits, polls and drops, who wakes whom, and the band of the cell. Of a
 //! table it reads all. Nothing is shared with `once_view` but the words of docs/SCRIPTS.md and the classes of shapes.
 //!
 //! Each line of standard input is the first seed and how many scripts there are, as `1 100`. For each line one is

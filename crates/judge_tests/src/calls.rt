@@ -1,4 +1,4 @@
-//! Records in which a holder fails, judged by both rules: whom a release without a value calls.
+//! Records in which a holder fails, judged by both rules: whom a release without a value wakes.
 
 use crate::spoilt::{read, told};
 use once_judge::Calls;
@@ -7,7 +7,7 @@ use std::test::Fail;
 // Tasks 2 and 3 wait, with these wakers, and task 1 fails; then a comma ends a line.
 const BEGINNING: &str = "once 8, made 1, made 2, made 3, begin 1 5, claim 1, ran 1 p, end 1 p, ";
 
-// The entries after these, the last of which is judged: the line by the rule that one is called, and the one by the
+// The entries after these, the last of which is judged: the line by the rule that one is woken, and the one by the
 // rule that all are.
 const RECORDS: [(&str, &str, &str); 9] = [
     (

@@ -1,5 +1,5 @@
 //! Records of replays at random, whole and with one entry dropped, doubled or exchanged: the judge and the plain
-//! definitions say the same of each, by the rule that a failure calls one, and by the rule that it calls all.
+//! definitions say the same of each, by the rule that a failure wakes one, and by the rule that it wakes all.
 
 ghost use Rattle.std.specs.Prelude.{◌<◌, ◌≤◌, ◌-◌, ◌^◌};
 
@@ -176,7 +176,7 @@ fn damage(alloc: Global, chance: &mut Chance, entries: &mut Vec<Entry>) -> Resul
     Ok(())
 }
 
-// The record as a cell makes it whose releases without a value call all, up to where it can't: each release hands out
+// The record as a cell makes it whose releases without a value wake all, up to where it can't: each release hands out
 // every waker that is due.
 fn to_all(alloc: Global, rules: Rules<'_>, entries: Vec<Entry>) -> Result<Vec<Entry>, AllocError> {
     let mut to_all = Vec::new(alloc);
@@ -244,7 +244,7 @@ fn compare_damaged(
     Ok(runs)
 }
 
-// One record by the rule that a failure calls one.
+// One record by the rule that a failure wakes one.
 fn compare_one(rt: &impl Abort, alloc: Global, seed: u64) -> Result<u64, AllocError> {
     let mut chance = Chance::new(seed);
     let limit = chance.limit();
@@ -257,7 +257,7 @@ fn compare_one(rt: &impl Abort, alloc: Global, seed: u64) -> Result<u64, AllocEr
     compare_damaged(rt, alloc, seed, &mut chance, rules, entries)
 }
 
-// One record by the rule that a failure calls all: whether it is a run by that rule alone, and how many of the damaged
+// One record by the rule that a failure wakes all: whether it is a run by that rule alone, and how many of the damaged
 // ones are runs.
 fn compare_all(rt: &impl Abort, alloc: Global, seed: u64) -> Result<(bool, u64), AllocError> {
     let mut chance = Chance::new(seed);

@@ -38,7 +38,7 @@ struct LastCall {
     ran: Option<Ran>,
 }
 
-/// A cell of this kind, in which so many tasks may be counted in, and whose releases without a value call one task or
+/// A cell of this kind, in which so many tasks may be counted in, and whose releases without a value wake one task or
 /// all.
 #[derive(Clone, Copy)]
 pub struct Rules<'a> {

@@ -49,7 +49,7 @@ impl TaskWaker for Bell {
     ghost apart = { λ a b e. e };
 }
 
-/// Whom a section calls, by the numbers of the tasks.
+/// Whom a section wakes, by the numbers of the tasks.
 pub fn named(alloc: Global, out: &Out<Bell>) -> Result<Out<u64>, AllocError> {
     match out {
         Out::One(bell) => Ok(Out::One(task_of(bell))),

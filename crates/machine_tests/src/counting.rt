@@ -15,7 +15,7 @@ pub struct Counting {
     pub closes: u64,
     /// How often the value was put.
     pub puts: u64,
-    /// Whom the last release, or the last who left, called. None says that there was none.
+    /// Whom the last release, or the last who left, woke. None says that there was none.
     pub woken: Option<Out<u64>>,
 }
 
@@ -35,7 +35,7 @@ impl Counting {
         self.answer = answer;
     }
 
-    /// The listings of all whom it called last, as [`all_called`].
+    /// The listings of all whom it woke last, as [`all_called`].
     pub fn all_called(&self) -> [Listed; 4] {
         match &self.woken {
             Some(out) => all_called(out),
@@ -43,7 +43,7 @@ impl Counting {
         }
     }
 
-    /// The waker of the one whom it called last.
+    /// The waker of the one whom it woke last.
     pub fn one_called(&self) -> Option<u64> {
         match self.woken.as_ref()? {
             Out::One(waker) => *waker,
@@ -89,10 +89,10 @@ impl Side<u64> for Counting {
     }
 }
 
-/// A listing: its ticket, and its waker where that was not called.
+/// A listing: its ticket, and its waker if its task was not woken.
 pub type Listed = Option<(u64, Option<u64>)>;
 
-/// The listings of all who are called, the first four of them. All are None where one is called.
+/// The listings of all who are woken, the first four of them. All are None if one is woken.
 pub fn all_called(out: &Out<u64>) -> [Listed; 4] {
     let mut called = [None; 4];
     if let Out::All(listings) = out {

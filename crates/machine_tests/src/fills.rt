@@ -32,7 +32,7 @@ fn crowd(alloc: Global) -> Lists<u64> {
     lists
 }
 
-// Whether these are called, in this order.
+// Whether these are woken, in this order.
 fn calls(out: &Out<u64>, wakers: [u64; 5]) -> bool {
     match out {
         Out::All(listings) => listings
@@ -44,7 +44,7 @@ fn calls(out: &Out<u64>, wakers: [u64; 5]) -> bool {
 }
 
 // A fifth is listed while all memory is taken. Then the value is set, where no memory is left or just
-// as much as a note would take. Whether the fifth is listed, whether all five are called, and whether
+// as much as a note would take. Whether the fifth is listed, whether all five are woken, and whether
 // the memory that was left is left still.
 fn filled(alloc: Global, leaves: bool) -> Result<[bool; 3], AllocError> {
     let mut lists = crowd(alloc);

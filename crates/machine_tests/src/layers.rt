@@ -98,7 +98,7 @@ fn two_listed(alloc: Global) -> Lists<u64> {
     lists
 }
 
-// A failure calls one, and this is its waker. The outer None says that it called all.
+// A failure wakes one, and this is its waker. The outer None says that it woke all.
 fn called(lists: &mut Lists<u64>) -> Option<Option<u64>> {
     match lists.release(false) {
         Out::One(waker) => Some(waker),
@@ -106,7 +106,7 @@ fn called(lists: &mut Lists<u64>) -> Option<Option<u64>> {
     }
 }
 
-// A failure calls the first. Called, it is listed no more, and when it leaves it calls the next.
+// A failure wakes the first. Woken, it is listed no more, and when it leaves it wakes the next.
 #[test]
 fn one_is_called_and_leaves(rt: HostRuntime) {
     let seen = one_leaves(&mut two_listed(rt.alloc()));
@@ -114,8 +114,8 @@ fn one_is_called_and_leaves(rt: HostRuntime) {
     assert_eq!(rt; seen, (called, [true, true, false], [None, None]));
 }
 
-// The first is called, leaves while another holds, and leaves again. Then two more are called. Who
-// was called, who was listed, and whom each leave called.
+// The first is woken, leaves while another holds, and leaves again. Then two more are woken. Who
+// was woken, who was listed, and whom each leave woke.
 fn one_leaves(lists: &mut Lists<u64>) -> ([Option<Option<u64>>; 3], [bool; 3], [Option<u64>; 2]) {
     let first = called(lists);
     let listed = [lists.is_listed(Some(0)), lists.is_listed(Some(1))];
@@ -434,7 +434,7 @@ fn a_core_releases_the_listed_and_loses_its_queue(rt: HostRuntime) {
     assert_eq!(rt; seen, (BEGUN, all, left, log));
 }
 
-// A release with the value: how it began, whom it calls, then the word, whether a queue was taken out
+// A release with the value: how it began, whom it wakes, then the word, whether a queue was taken out
 // of the door, and the door, and the log.
 fn released(
     alloc: Global,
@@ -451,7 +451,7 @@ fn released(
     (begun, called, left, log(core))
 }
 
-// A release with the value: whom it calls.
+// A release with the value: whom it wakes.
 fn release_all(core: &mut Core<u64>) -> Option<[Listed; 4]> {
     match release(core, 1, true)? {
         Answer::Released(out) => Some(all_called(&out)),
@@ -465,8 +465,8 @@ fn a_core_calls_one_who_leaves(rt: HostRuntime) {
     assert_eq!(rt; seen, (BEGUN, true, true, 0));
 }
 
-// A failure, and the one whom it calls leaves: how it began, whether it called the waker 7, whether
-// the other called nobody, and how many are listed then.
+// A failure, and the one whom it wakes leaves: how it began, whether it woke the waker 7, whether
+// the other woke nobody, and how many are listed then.
 fn left(alloc: Global) -> (Begun, bool, bool, usize) {
     let mut core = Core::new(alloc, false, 8);
     let begun = begin(&mut core);

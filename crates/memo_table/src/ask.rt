@@ -29,7 +29,7 @@ pub struct Answer {
 }
 
 /// What a future answers within so many turns. After each turn at which it is Pending the thread
-/// pauses for a millisecond. A turn may wait for the locks of the cell, which no init is run under.
+/// pauses for a millisecond. A turn may wait for the lock of the cell, which no init is run under.
 pub fn answer_within<R, V: Fits<u64>>(
     rt: &R,
     mut future: InitFuture<'_, u64, Fetch<'_>, R, V>,

@@ -1,9 +1,9 @@
-//! Whom a release without a value calls.
+//! Whom a release without a value wakes.
 ghost use Rattle.std.specs.Prelude.{ℕ, List};
 ghost use Rattle.once_machine.specs.Record.{Kind, Entry};
 ghost use Rattle.once_judge.specs.Calls.{IsRunBy, CalledOne, CalledAll};
 
-/// Whom a release without a value calls: the rule in which cells differ that are otherwise alike.
+/// Whom a release without a value wakes: the rule in which cells differ that are otherwise alike.
 #[derive(Clone, Copy, Debug, Drop, PartialEq, Eq)]
 pub enum Calls {
     /// One task that waits, as the cells of this repository do.

@@ -43,7 +43,7 @@ impl Judge {
         Ok((self, None))
     }
 
-    /// A task that waits for an empty cell while nobody was called.
+    /// A task that waits for an empty cell while nobody was woken.
     pub fn forgotten(&self) -> Option<u64> {
         self.seen.forgotten()
     }
@@ -59,7 +59,7 @@ impl Judge {
         self.seen.was_handed(task.listed, task)
     }
 
-    /// The wakers that a call may have woken: those of the tasks that wait and were not called, and also of those in
+    /// The wakers that a call may have woken: those of the tasks that wait and were not woken, and also of those in
     /// a call that they began so, unless only what is due is asked for.
     pub fn listed(&self, alloc: Global, due_alone: bool) -> Result<Vec<u64>, AllocError> {
         let mut wakers = Vec::new(alloc);

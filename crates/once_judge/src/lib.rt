@@ -1,4 +1,4 @@
-//! Judges records: whether a record is a run of a cell, and whether in it somebody is called whenever somebody has to
+//! Judges records: whether a record is a run of a cell, and whether in it somebody is woken whenever somebody has to
 //! be.
 //!
 //! `judge` goes along the record once. What it keeps of the entries so far is a `Seen`: the cell, each task with its

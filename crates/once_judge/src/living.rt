@@ -1,4 +1,4 @@
-//! The tasks that live, which of them wait, and which of these ask to be called.
+//! The tasks that live, which of them wait, and which of these ask to be woken.
 ghost use Rattle.std.specs.Prelude.{◌≡◌, ◌≤◌, ◌==◌, ℕ, if◌then◌else◌, Some, None, OnOk, IfOk, true};
 ghost use Rattle.std.specs.BTreeMap.{get};
 ghost use Rattle.std.specs.Ordering.{nat_cmp};
@@ -17,7 +17,7 @@ pub struct Living {
     pub handed: BTreeMap<u64, u64>,
     /// The numbers of those that wait.
     pub waiting: BTreeSet<u64>,
-    /// Of those that wait the numbers of the ones that ask, and maybe of some that were called.
+    /// Of those that wait the numbers of the ones that ask, and maybe of some that were woken.
     pub asking: BTreeSet<u64>,
     pub ghost stand: { StandAmong all waiting },
     pub ghost asked: { AskAmong all handed asking },
@@ -76,7 +76,7 @@ impl Living {
         Ok(())
     }
 
-    /// Those that were called ask no more.
+    /// Those that were woken ask no more.
     pub fn settle(&mut self, alloc: Global) -> Result<(), AllocError>
         ensures all { self.new.all ≡ self.old.all }
         ensures handed { self.new.handed ≡ self.old.handed }

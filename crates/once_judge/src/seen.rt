@@ -23,7 +23,7 @@ use std::collections::{BTreeMap, BTreeSet};
 pub struct Seen {
     /// What gives the memory.
     pub alloc: Global,
-    /// Whom a release without a value calls.
+    /// Whom a release without a value wakes.
     pub calls: Calls,
     /// Whether the kind is lazy.
     pub lazy: bool,
@@ -332,7 +332,7 @@ impl Seen {
         }
     }
 
-    // After a release that looked at all that ask, those that were called ask no more.
+    // After a release that looked at all that ask, those that were woken ask no more.
     fn settle(&mut self, entry: &Entry) -> Result<(), AllocError>
         ensures seen { seen_of self.new ≡ seen_of self.old }
         ensures limit { self.new.limit ≡ self.old.limit }
@@ -368,21 +368,21 @@ impl Seen {
         task.ended < self.tasks.handed.get(&waker).copied().unwrap_or(0)
     }
 
-    // Whether the task was called.
+    // Whether the task was woken.
     fn is_called(&self, task: Task) -> bool
         ensures { Decides result (WasCalled (task_in task) (seen_of self.now)) }
     {
         stands(task) && self.was_handed(task.listed, task)
     }
 
-    // Whether this task was called.
+    // Whether this task was woken.
     fn was_called(&self, t: u64) -> bool
         ensures { Decides result (IsCalledIn t (seen_of self.now)) }
     {
         self.is_called(self.task(t))
     }
 
-    // Whether some task was called: most often this one, which waits, or the one that is noted.
+    // Whether some task was woken: most often this one, which waits, or the one that is noted.
     fn some_called(&self, likely: u64) -> bool
         ensures { Decides result ((t : ℕ) × IsCalledIn t (seen_of self.now)) }
     {
@@ -420,7 +420,7 @@ impl Seen {
         None
     }
 
-    /// A task that waits for an empty cell while nobody was called.
+    /// A task that waits for an empty cell while nobody was woken.
     pub fn forgotten(&self) -> Option<u64>
         ensures { MatchOption result (SomebodyCalledIn (seen_of self.now)) (λ t. IsForgottenIn t (seen_of self.now)) }
     {

@@ -23,7 +23,7 @@ pub struct Fault {
     pub reason: Reason,
 }
 
-/// The first moment at which the cell is empty and some task waits, and nobody was called.
+/// The first moment at which the cell is empty and some task waits, and nobody was woken.
 #[derive(Clone, Copy, Debug, Drop, PartialEq, Eq)]
 pub struct Forgotten {
     /// It comes after the entry before which so many stand.
@@ -38,12 +38,12 @@ pub struct Verdict {
     /// Where the record stops to be a run, or `None` if it is one.
     pub fault: Option<Fault>,
     /// Where somebody is forgotten in the entries before the fault, or in all; `None` if at each moment somebody was
-    /// called who had to be.
+    /// woken who had to be.
     pub forgotten: Option<Forgotten>,
 }
 
 /// Judges a record, the oldest entry first: whether it is a run of a cell of this kind, in which at most `limit` tasks
-/// may be counted in, and whose releases without a value call one task or all; and whether somebody is called in it
+/// may be counted in, and whose releases without a value wake one task or all; and whether somebody is woken in it
 /// whenever somebody has to be.
 ///
 /// A run alone may still lose a wake: only both verdicts together say of a record what `replay` promises of its own.
@@ -70,7 +70,7 @@ pub fn judge(
     ensures reason { IfOk result (λ v. IfSome v.fault (λ f.
         IsTrueAt (kind_of kind.now) limit f.reason f.entry entries.now)) }
 
-    // At each moment of the run somebody was called who had to be; or there is a first at which nobody was.
+    // At each moment of the run somebody was woken who had to be; or there is a first at which nobody was.
     ensures called { IfOk result (λ v. MatchOption v.forgotten
         (AtEvery (SomebodyCalled (kind_of kind.now)) (history_in (judged v.fault entries.now)))
         (λ f. IsForgottenAt (kind_of kind.now) entries.now f.entry f.task)) }

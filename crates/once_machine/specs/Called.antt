@@ -1,5 +1,5 @@
 -- Somebody was called: what is promised of an empty cell for which some task waits. It does not follow from the
--- record being a run: a record in which a call was lost may be a run too.
+-- record being a run: a record in which a wake was lost may be a run too.
 use Rattle.std.specs.Prelude.{◌≡◌, ℕ, true, false, ◌⊎◌, List}
 use Rattle.once_machine.specs.Numbers.{member}
 use Rattle.once_machine.specs.Record.{Kind, Entry}

@@ -11,7 +11,7 @@ ghost use Rattle.once_machine.specs.Crowd.{AreWaiting};
 ghost use Rattle.once_machine.specs.Freed.{HasFreed};
 ghost use Rattle.once_machine.specs.Run.{AtEvery, IsRun, NobodyForgotten};
 
-/// At most one task holds the right, whether it rests or is in a call. Who claims the right finds the
+/// At most one task holds the right, whether it rests or is in a call. A task that claims finds the
 /// cell empty, and an init is polled by the task that holds.
 pub fn one_task_holds()
     ensures holder { (kind : Kind) (t u : ℕ) (h : List Entry) → cell kind h ≡ Held t → cell kind h ≡ Held u → t ≡ u }
@@ -34,7 +34,7 @@ pub fn value_set_is_answered()
 {}
 
 /// A poll that ends with an error ends with the one that its own init gave, after it gave the right
-/// back. At that moment, since the poll began, the cell was empty.
+/// back. That was after the poll began, and left the cell empty.
 pub fn error_is_ones_own()
     ensures own { (kind : Kind) (limit t e : ℕ) (h : List Entry) → IsRun kind limit (End t (Error e) ∷ h)
         → ((last_call kind t h).ran ≡ Some (RanError e)) × ((last_call kind t h).freed ≡ true) }
@@ -69,7 +69,7 @@ pub fn refusals_need_others()
         → (Since t (OtherActs kind t) h → ⊥) → Since t (AreWaiting kind limit t) h }
 {}
 
-/// While the value is set nobody who waits is forgotten: each one's waker was handed out since its last poll ended.
+/// While the value is set no waiter is forgotten: the waker of each was handed out since its last poll ended.
 pub fn set_value_calls_all()
     ensures { (kind : Kind) (limit : ℕ) (h : List Entry) → IsRun kind limit h → AtEvery (NobodyForgotten kind) h }
 {}

@@ -188,7 +188,7 @@ impl<W: Drop> Slots<W> {
         self.slots[self.uncalled].waker.take()
     }
 
-    /// Makes room for one more listing. Where that is refused the listings are as they were.
+    /// Makes room for one more listing. If that is refused, the listings are as they were.
     #[inline(always)]
     pub fn reserve(&mut self) -> Result<(), AllocError>
         ensures slot { OnOk result (HasSlot self.new) }

@@ -71,7 +71,7 @@ impl RunRight for () {
     ghost ran = { λ _ _ _. ⊤ };
 }
 
-/// Whom a section wakes. The wakers in it are handed out, in their order.
+/// The wakers that a section hands out, in their order.
 #[derive(Debug, Drop, PartialEq, Eq)]
 pub enum Out<W> {
     /// One who waits, or nobody.

@@ -51,7 +51,7 @@ impl WakerId for u64 {
     }
 }
 
-/// Puts the task's waker of today in the place of one that is listed.
+/// Puts the task's current waker in the place of one that is listed.
 pub trait Renews<W> {
     // Who renews and the listed waker, before the call and after it.
     ghost renewed: { Self → W → Self → W → Type 0 };
@@ -61,7 +61,7 @@ pub trait Renews<W> {
         ensures { renewed self.old listed.old self.new listed.new };
 }
 
-/// A place in the list of those who wait. One that has no waker any more was woken.
+/// A waiter's place in the list. If it has no waker any more, its task was woken.
 #[derive(Debug, Drop, PartialEq, Eq)]
 pub struct Listing<W> {
     /// The number by which the waiting task finds its listing again.
@@ -306,7 +306,7 @@ impl<W: WakerId + Drop> Lists<W> {
         }
     }
 
-    /// Makes room for one more listing. If that is refused all is as it was.
+    /// Makes room for one more listing. If that is refused, flag and listings are as they were.
     #[inline(always)]
     pub fn reserve(&mut self) -> Result<(), AllocError>
         ensures room { OnOk result (HasSpace self.new) }

@@ -13,7 +13,7 @@ pub const QINIT_BIT: u64 = 0x4000_0000_0000_0000;
 /// The ready bit of the word: the value is set.
 pub const READY_BIT: u64 = 0x8000_0000_0000_0000;
 
-/// The largest number of tasks that may be counted in.
+/// At this count `count_in` counts nobody in any more.
 pub const MAX_WAITERS: u64 = QINIT_BIT - 2;
 
 /// What a cell's word and the flag beside the list say of the right.

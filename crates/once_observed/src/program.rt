@@ -124,7 +124,7 @@ struct Asked<'a> {
     form: Form,
     /// The text is what was seen from outside.
     seen: bool,
-    /// Whom a release without a value calls.
+    /// Whom a release without a value wakes.
     calls: Calls,
     /// The file, or the standard input.
     file: Option<&'a str>,
@@ -254,7 +254,7 @@ fn asked_by(words: &[String]) -> Option<Asked<'_>> {
     })
 }
 
-// Whom a release without a value calls, by its word on the command line.
+// Whom a release without a value wakes, by its word on the command line.
 fn calls_in(word: &str) -> Option<Calls> {
     match word {
         "one" => Some(Calls::One),

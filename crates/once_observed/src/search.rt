@@ -73,7 +73,7 @@ struct Search<'a> {
     alloc: Global,
     observed: &'a Observed,
     calls: &'a [Call],
-    // Whom a release without a value calls.
+    // Whom a release without a value wakes.
     rule: Calls,
     // Whether nobody may be forgotten.
     is_strict: bool,

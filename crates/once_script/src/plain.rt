@@ -86,7 +86,7 @@ impl<W: WakerId + Drop> Core<W> {
         self.granted = granted;
     }
 
-    /// Makes room for one more listing and one more line of the log. If that is refused all is as it was.
+    /// Makes room for one more listing and one more line of the log. If that is refused, the state is as it was.
     pub fn reserve(&mut self) -> Result<(), AllocError>
         ensures room { OnOk result (HasRoom self.new) }
         ensures state { state_of self.new ≡ state_of self.old }

@@ -34,7 +34,7 @@ pub fn replay(alloc: Global, kind: Kind, limit: u64, inputs: &[Input]) -> Result
         r.queue ≡ queue_of (kind_of kind) limit (inputs_in inputs.now)) }
 
     // The record is a run of the cell, of which the laws say more. While the cell is empty and a task waits, some task
-    // was called; one that waits, if no call is under way.
+    // was woken; one that waits, if no call is under way.
     ensures run { IfOk result (λ r. IsRun (kind_of kind) limit (record_entries r)) }
     ensures nobody_forgotten { IfOk result (λ r.
         AtEvery (NobodyForgotten (kind_of kind)) (record_entries r)) }

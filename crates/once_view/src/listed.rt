@@ -14,7 +14,7 @@ pub struct Listing {
     pub ticket: u64,
     /// The task that it is of.
     pub task: u64,
-    /// The waker that it was listed with, if it was not called since.
+    /// The waker that it was listed with, if it was not handed out since.
     pub waker: Option<u64>,
 }
 
@@ -32,7 +32,7 @@ struct Polled {
 pub struct Listed {
     /// By their places, so the oldest comes first.
     listings: BTreeMap<u64, Listing>,
-    /// The places of those that were not called.
+    /// The places of those that were not woken.
     uncalled: BTreeSet<u64>,
     /// The tasks that were polled and are not gone.
     polled: BTreeMap<u64, Polled>,
@@ -55,7 +55,7 @@ impl Listed {
         &self.listings
     }
 
-    /// The tasks that an entry calls, before it is taken. Of those with the same waker the oldest listing is called.
+    /// The tasks that an entry wakes, before it is taken. Of those with the same waker the one listed first is woken.
     pub fn called_by(&self, alloc: Global, entry: &Entry) -> Result<Vec<u64>, AllocError> {
         let mut called = Vec::new(alloc);
         let mut wakers = wakers_of(entry).iter().copied();
@@ -177,7 +177,7 @@ impl Listed {
         }
     }
 
-    /// The first that was not called is called, and stays.
+    /// The first that was not woken is woken, and stays.
     fn call_first(&mut self) {
         if let Some(place) = self.uncalled.pop_first() {
             if let Some(listing) = self.listings.get_mut(&place) {

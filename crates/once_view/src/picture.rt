@@ -236,7 +236,7 @@ impl Picture {
         self.change(at, state)
     }
 
-    /// An arrow to each task that the entry calls.
+    /// An arrow to each task that the entry wakes.
     fn wake(&mut self, task: u64, at: u64, entry: &Entry) -> Result<(), AllocError> {
         let caller = self.lanes.number_of(task);
         for task in &self.listed.called_by(self.alloc, entry)? {

@@ -37,10 +37,10 @@
 //!
 //! # What is proved, and what is not said
 //!
-//! Each function is safe and returns. The rule holds between any two steps of all threads, and each step ensures its
-//! `Play`. A log that was seen is a beginning of each later one. Nothing is said of progress or of time. Each step of a
-//! `Word` is sequentially consistent, and on that `Slot` leans, whose value is read plainly (the head of `slot.rt` says
-//! why it may be). A word cannot join a book later, and a book is never closed.
+//! Each function is safe, and each but `lock` returns. The rule holds between any two steps of all threads, and each
+//! step ensures its `Play`. A log that was seen is a beginning of each later one. Nothing is said of progress or of
+//! time. Each step of a `Word` is sequentially consistent, and so the value of a `Slot` may be read plainly (the head
+//! of `slot.rt` says why). A word cannot join a book later, and a book is never closed.
 //!
 //! A ghost log behind words is the idea of the kit's `logbook`, where one cell lies behind each word; here there are
 //! pages of any type, several of which change in one step. A slot that is written once and read by tokens is that of

@@ -1,7 +1,7 @@
 //! A lock whose content knows of which book it is, while no type names the book.
 //!
-//! What lies under a lock may own pens of a book, or know what was seen of it. Whoever takes the lock has to know that
-//! this is the book of his own words and tokens. If a type parameter named the book, every struct around the lock would
+//! What lies under a lock may own pens of a book, or know what was seen of it. Code that takes a lock has to know that
+//! this is the book of its words and tokens. If a type parameter named the book, every struct around the lock would
 //! have it, and nobody could make a book while a program runs. So its name is a value here: a clause sees a
 //! `KeyedMutex` as the `Book` of its content, and the locks of two books have one type.
 //!
@@ -85,7 +85,7 @@ impl<T: Keyed> KeyedMutex<T> {
         self.get::<J>().lock.try_lock()
     }
 
-    /// Changes the content by its owner, who takes no lock: it becomes what `change` makes of it and of `about`.
+    /// The owner changes the content without the lock: it becomes what `change` makes of it and of `about`.
     pub fn get_mut<X, U, F: FnOnce(T, X) -> (T, U)>(&mut self, about: X, change: F) -> U
         requires takes { (t : T) → T.key_of t ≡ self.old → F.pre change t about }
         requires keeps { (t : T) (r : T × U) → T.key_of t ≡ self.old → F.post change t about r
@@ -125,7 +125,7 @@ impl<T: Keyed + Drop> Drop for KeyedMutex<T> {
     }
 }
 
-/// Shows the content, or `<locked>` where somebody has the lock. It holds the lock while it writes.
+/// Shows the content, or `<locked>` if somebody has the lock. It holds the lock while it writes.
 impl<T: Keyed + fmt::Debug> fmt::Debug for KeyedMutex<T> {
     fn fmt<W: fmt::Write>(&self, f: &mut fmt::Formatter<W>) -> fmt::Result {
         shown::<T, Brand, W>(self, f)

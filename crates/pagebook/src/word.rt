@@ -174,7 +174,7 @@ impl<E, P, R: Rule<E, P>> Word<E, P, R> {
         unsafe { exchange::<Brand>(self as *const Self as *const u64, old, new) }
     }
 
-    /// Adds `k`, past 2 ^ 64 - 1 from 0 on, and returns the number that was there.
+    /// Adds `k`, modulo 2 ^ 64, and returns the number that was there.
     #[inline(always)]
     pub fn fetch_add<X, M: Play<X, E, P>>(
         &self,
@@ -194,7 +194,7 @@ impl<E, P, R: Rule<E, P>> Word<E, P, R> {
         unsafe { raw::fetch_add::<Brand>(self as *const Self as *const u64, k, SeqCst) }
     }
 
-    /// Subtracts `k`, below 0 from 2 ^ 64 - 1 on, and returns the number that was there.
+    /// Subtracts `k`, modulo 2 ^ 64, and returns the number that was there.
     #[inline(always)]
     pub fn fetch_sub<X, M: Play<X, E, P>>(
         &self,

@@ -242,7 +242,7 @@ fn sent_later<R: Clock>(rt: &R, polls: &AtomicU64, sender: Sender<u64>) -> u64 {
     before
 }
 
-/// A thread that waits does not try again and again: its init is not polled a second time while nobody calls it.
+/// A thread that waits does not try again and again: its init is not polled a second time while nobody wakes it.
 #[test]
 fn no_poll_that_nobody_called_for(rt: HostRuntime) -> Result<(), Fail> {
     let (cell, polls) = (OnceCell::new(), AtomicU64::new(0));

@@ -81,7 +81,7 @@ where
 }
 
 /// What the tasks of a pool were told of the cell: the value that the token knows. At no moment of the record that
-/// the token has seen did all of them sleep while the cell was free and one of them waited: some task was called
+/// the token has seen did all of them sleep while the cell was free and one of them waited: some task was woken
 /// then.
 fn told_to_all<'a, R>(
     rt: &'a R,

@@ -34,7 +34,7 @@ pub fn told_alone<T>(token: &Known<'_, T>)
     error_is_ones_own();
 }
 
-/// While the cell is free and a task of it waits, some task was called that has neither claimed since nor left:
+/// While the cell is free and a task of it waits, some task was woken that has neither claimed since nor left:
 /// whoever runs the tasks of a cell has one to poll. It does nothing.
 pub fn one_is_called<T>(token: &Known<'_, T>)
     ensures { is_shared token.now.cell ≡ true → SomebodyCalled Once (reverse token.now.log) }

@@ -21,7 +21,7 @@ module _ {W : Type 0} (whose : W → ℕ) where
   CanCall s Refuse = CanRefuse s
   CanCall s c = call_in s ≡ call_as whose (λ (q : ⊤). queue_of (call_in s)) c
 
-  -- of one who leaves the record says that it passed its turn on just where somebody is handed out
+  -- the record says that a leaver passed its turn on exactly if somebody is handed out
   abbrev pub PassesOn : Op W → Answer W → Own → Type 0
   PassesOn (Leave k) a w = has_passed w.number w.log ≡ hands_out (handed_in whose a)
   PassesOn op a w = Unit {0}

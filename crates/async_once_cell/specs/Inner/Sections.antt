@@ -83,7 +83,7 @@ section_hands n d c = []
 abbrev pub HandsEach : Bool → List (Listing ℕ) → Type 0
 HandsEach fills xs = fills ≡ true → is_distinct (tickets xs) ≡ true → release_wakers true xs ≡ wakers_of xs
 
--- what is known besides. Of t, who leaves, the log says that it passed its turn on just where somebody is handed out
+-- what is known besides. The log says that t, if it leaves, passed its turn on exactly if somebody is handed out
 abbrev pub SectionShows : ℕ → Desked → Call ℕ ℕ → ℕ → List Entry → Type 0
 SectionShows n d (SectionCall q (Release fills)) t log = HandsEach fills d.listings
 SectionShows n d (SectionCall q (Leave k)) t log =
@@ -103,7 +103,7 @@ more_released true false = 2 ^ 62
 more_released false true = 0
 more_released false false = 3 * 2 ^ 62
 
--- the listing with the ticket has the waker of this task, where it was not called
+-- if the listing with the ticket has a waker, it is the waker of this task
 abbrev pub IsOwnListing : ℕ → ℕ → List (Listing ℕ) → Type 0
 IsOwnListing k t xs = (v : ℕ) → find_listing k xs ≡ Some (Some v) → v ≡ t
 

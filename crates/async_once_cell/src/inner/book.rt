@@ -1,4 +1,4 @@
-//! The book of a cell. A line of its log and a page are types of a specification, so the types here are for clauses
+//! The book of a cell. A line of its log and a page are types of a specification, so the structs here are for clauses
 //! alone: nobody makes a value of them.
 ghost use Rattle.std.specs.Prelude.{None, false, [], ◌∷◌};
 ghost use Rattle.once_machine.specs.Record.{Entry, Look};

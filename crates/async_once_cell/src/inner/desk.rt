@@ -52,7 +52,7 @@ impl Play<Section, Line, Leaf> for Section {
     ghost then = { Tells };
 }
 
-/// The door, with its queue if there is one, and the pens of the pages of both, which are of `book`.
+/// The door, its queue if there is one, and the pens of both pages. A clause sees the book of these.
 pub struct Desk<W: TaskWaker> {
     lists: Option<Box<Lists<W>>>,
     pens: CellPens,
@@ -131,8 +131,8 @@ impl<W: TaskWaker + Drop> Desk<W> {
         self.lists.take()
     }
 
-    /// Claims the right if it is free, else says whether the own listing is there and was not woken. It answers the
-    /// waker that a claim took out of the list too.
+    /// Claims the right if it is free, else says whether the task is listed and was not woken. It also answers the
+    /// waker that a claim took out of the list.
     #[inline(always)]
     pub fn look(
         &mut self,
@@ -210,7 +210,7 @@ impl<W: TaskWaker + Drop> Desk<W> {
         lists.renew(ticket, by)
     }
 
-    /// Gives the right back: with the value set, and wakes all; or without, and wakes one.
+    /// Gives the right back. It wakes all if the value is set (`ready`), and else one.
     #[inline(always)]
     pub fn release(&mut self, word: &CellWord, hand: &mut Hand, ready: bool) -> Out<W>
         requires word { IsWord word.now hand.old.seen.book 0 }
@@ -249,7 +249,7 @@ impl<W: TaskWaker + Drop> Desk<W> {
             unreachable!()
         };
         let lists = &mut **queue;
-        let room = true; // nor does one that leaves
+        let room = true; // a leaver lists no waker
         let found = see(word, &mut self.pens, hand, room);
         lists.leave_own(ticket, found)
     }

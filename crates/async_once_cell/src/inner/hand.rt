@@ -1,5 +1,5 @@
-//! What a task has of its cell's book: its pen, with what it has seen of the log, and the moments that it makes by
-//! itself. And what is known of a record that was seen, by functions that do nothing; and whose a waker is.
+//! What a task has of its cell's book: its pen, what it has seen of the log, and the moments that it makes without the
+//! lock. Functions that do nothing say what is known of a record, and a trait says whose a waker is.
 ghost use Rattle.std.specs.Prelude.{◌≡◌, ◌≢◌, ℕ, None, true, false, [], ◌∷◌, reverse};
 ghost use Rattle.async_once_cell.specs.Inner.Own.{IsHand, number_in, IsWord, Stayed};
 ghost use mathlib.Core.List.{IsPrefix};

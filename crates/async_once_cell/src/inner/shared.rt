@@ -189,7 +189,7 @@ impl<T, W: TaskWaker + Drop, V: Fits<T>> Inner<T, W, V> {
         Some(written)
     }
 
-    /// The value, where it was put. The record ends. No clause says so.
+    /// The value, if it was put, which no clause says. The record ends.
     ///
     /// ```
     /// match contents {
@@ -225,8 +225,8 @@ impl<T, W: TaskWaker + Drop, V: Fits<T>> Inner<T, W, V> {
         slot
     }
 
-    /// Whether a queue stands at the door, for Debug. `None` says that the lock could not be had at once, because it
-    /// waits for nobody. No clause says what it answers.
+    /// Whether a queue stands at the door, for Debug. It waits for nobody: `None` says that the lock was not free. No
+    /// clause says what it answers.
     ///
     /// ```
     /// assert_eq!(rt; cell.has_queue(), Some(false)); // nobody had to wait yet

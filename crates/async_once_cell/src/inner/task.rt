@@ -34,7 +34,7 @@ use std::alloc::AllocGlobal;
 use std::marker::Model;
 use std::sync::Wait;
 
-/// A side that says which task it is of, what it has of its init, and who was handed to it in this call. If it may copy
+/// A side that says which task it is of, what it has of its init, and the wakers that this call gave it. If it may copy
 /// its waker under the cell's lock, it renews its listed waker there in a poll.
 pub trait TaskSide<W: TaskWaker>: Side<W, Right = Hand> + Renews<W> {
     ghost state: { Self → Sided };
@@ -53,7 +53,7 @@ pub trait TaskSide<W: TaskWaker>: Side<W, Right = Hand> + Renews<W> {
         ensures shown { state self.new ≡ record (state self.old) { has_shown = true } }
         ensures stays { Self.stays self.old self.new };
 
-    // What each of its calls makes of that.
+    // What each call makes of its state.
     ghost tells: { IsTold W.whose state Self.did };
 
     ghost runs: { (s : Self) → (state s).has_init ≡ true → Self.can_run s };
@@ -151,7 +151,7 @@ impl<T, E: Drop> Gives<T, InitError<E>> for Result<T, E> {
     }
 }
 
-/// A future that may be polled, by a task that has the right alone. A clause sees the future.
+/// A future that may be polled, only by a task that has the right. A clause sees the future.
 #[derive(Drop)]
 pub struct Pollable<F: Future> {
     future: F,

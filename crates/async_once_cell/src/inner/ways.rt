@@ -1,4 +1,4 @@
-//! Straight ways of a poll: chains of small functions, one for each place of the machine, named after it: `at_..` with
+//! Straight ways of a poll: chains of small functions, which are named after places of the machine: `at_..` with
 //! the lock free, `locked_..` under it, and `lock_at_..` if it takes the lock. Each has the place in the text of its
 //! contract, makes the step of its place, and goes on to the next by its last call. The compiler puts a chain together,
 //! so that no step is handed through memory, and the cell's lock is taken once for all sections of a poll that meets
@@ -55,7 +55,7 @@ pub(super) enum Reached {
     Refused(Option<u64>),
 }
 
-/// The task's own wakers that were taken under the lock. They lie with whoever took it, and are let go when that ends.
+/// The task's own wakers that were taken under the lock. They lie in its `at_..` function, and are let go at its end.
 #[derive(Drop)]
 pub(super) struct Spent<W> {
     taken: Option<W>,
@@ -148,7 +148,7 @@ impl<T, W: TaskWaker + Drop, R: Wait + AllocGlobal, V: Fits<T>> Shared<'_, '_, T
         ending
     }
 
-    /// Makes the steps that are left of a poll or a drop, sixteen at most.
+    /// Makes the steps that are left of a poll or a drop.
     #[inline(always)]
     pub(super) fn go_on<S: TaskSide<W, Value = T>>(
         &mut self,
@@ -213,7 +213,7 @@ impl<T, W: TaskWaker + Drop, R: Wait + AllocGlobal, V: Fits<T>> Shared<'_, '_, T
         }
     }
 
-    // With the lock free, from where the steps under it led.
+    // Goes on with the lock free, from what was reached.
     #[inline(always)]
     fn go_on_from<S: TaskSide<W, Value = T>>(&mut self, reached: Reached, side: &mut S) -> Ending
         requires stands { StandsBy W.whose (next_by reached) (S.state side.old) (own self.old) }
@@ -248,7 +248,7 @@ impl<T, W: TaskWaker + Drop, R: Wait + AllocGlobal, V: Fits<T>> Shared<'_, '_, T
         }
     }
 
-    /// A holder that held before this poll, or claimed in it under the lock.
+    /// Polls the init of a task that held before, or claimed under the lock.
     #[inline(never)]
     fn hold<S: TaskSide<W, Value = T>>(&mut self, by: Option<()>, side: &mut S) -> Ending
         requires stands { IsAt W.whose S.state (Place.Run by) self.old side.old }
@@ -408,7 +408,7 @@ impl<T, W: TaskWaker + Drop, V: Fits<T>> Inner<T, W, V> {
         tied.value.release(&self.word, hand, ready)
     }
 
-    // The second look at the door, and the release in the same hold of the lock, if a queue stands there.
+    // Looks at the door again, and if a queue stands there, releases in the same hold of the lock.
     #[inline(always)]
     fn lock_at_add_one<J: Key, R: Wait, S: TaskSide<W, Value = T>>(
         &self,

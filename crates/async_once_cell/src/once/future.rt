@@ -62,8 +62,8 @@ pub type TryInitFuture<'a, T, E, F, R, V = Anything> = Initializing<
 /// right, wakes one. If that one is dropped or refused instead, and nobody holds then, it wakes the next.
 ///
 /// The init is kept until the first poll. It is dropped in the poll that answers, before the task gives the right or
-/// its place back; or else with the future. A poll or a drop may wait for the locks of the cell, of which none is held
-/// while an init is polled or dropped. A poll may take memory while another task holds or is in a call.
+/// its place back; or else with the future. A poll or a drop may wait for the lock of the cell, and does not
+/// have it while it polls or drops its init. A poll may take memory while another task holds or is in a call.
 ///
 /// A clause sees the future's cell, its init if that is there still, the number of its task, and the cell's record as
 /// far as the task has seen it. It sees also whether the future is finished, and the value that it answered.
@@ -115,7 +115,7 @@ impl<'a, T, X, I: Yields<T, X>, R: Wait + AllocGlobal, V: Fits<T>> Initializing<
         }
     }
 
-    /// Whether the future answered a value, an error or a refusal. After that neither `poll` nor `poll_as` may be
+    /// Whether the future answered a value, an error or a refusal, or left. Then neither `poll` nor `poll_as` may be
     /// called; the `poll` of the trait may, and asks for another poll.
     ///
     /// ```

@@ -48,12 +48,12 @@ fn told<R: Wait + AllocGlobal>(members: &mut [Member<'_, R>], wanted: Reply) -> 
     told
 }
 
-// How many were called since they were polled.
+// How many were woken since they were polled.
 fn called<R: Wait + AllocGlobal>(members: &[Member<'_, R>]) -> usize {
     members.iter().filter(|it| it.task.is_woken()).count()
 }
 
-/// However many wait, each is called by the value, and is told it.
+/// However many wait, each is woken by the value, and is told it.
 #[test]
 fn value_for_a_crowd(rt: HostRuntime) -> Result<(), Fail> {
     let (task, stub, cell) = (MockTask::new(&rt)?, Stub::new(), OnceCell::new());

@@ -187,7 +187,7 @@ impl Scene {
     }
 }
 
-/// An init polls another future, which waits, and then fails. The other is called, and its init fills
+/// An init polls another future, which waits, and then fails. The other is woken, and its init fills
 /// the cell.
 #[test]
 fn polls_another_and_fails(rt: HostRuntime) -> Result<(), Fail> {
@@ -242,7 +242,7 @@ fn drops_who_waits(rt: HostRuntime) -> Result<(), Fail> {
 }
 
 /// An init that gave its value polls another future where it is dropped: the right is held still, and
-/// the other waits. The value calls it.
+/// the other waits. The value wakes it.
 #[test]
 fn polls_another_when_it_is_done(rt: HostRuntime) -> Result<(), Fail> {
     let scene = Scene::new(&rt)?;
@@ -267,7 +267,7 @@ fn polls_another_when_it_is_done(rt: HostRuntime) -> Result<(), Fail> {
     Ok(())
 }
 
-/// The same of the init of a holder that is dropped: the other is called, and its init fills the cell.
+/// The same of the init of a holder that is dropped: the other is woken, and its init fills the cell.
 #[test]
 fn polls_another_when_its_future_is_dropped(rt: HostRuntime) -> Result<(), Fail> {
     let scene = Scene::new(&rt)?;
@@ -287,7 +287,7 @@ fn polls_another_when_its_future_is_dropped(rt: HostRuntime) -> Result<(), Fail>
 }
 
 /// The init of a future that waits is dropped with it, and polls the holder, which fills the cell and
-/// calls all who are listed. Then the future leaves, the last to do so.
+/// wakes all who are listed. Then the future leaves, the last to do so.
 #[test]
 fn leaves_after_the_value(rt: HostRuntime) -> Result<(), Fail> {
     let scene = Scene::new(&rt)?;
@@ -307,7 +307,7 @@ fn leaves_after_the_value(rt: HostRuntime) -> Result<(), Fail> {
     Ok(())
 }
 
-/// The same, where the holder is dropped in place of that: it calls the one who leaves, which passes its
+/// The same, where the holder is dropped in place of that: it wakes the one who leaves, which passes its
 /// turn on to the next.
 #[test]
 fn called_while_it_leaves(rt: HostRuntime) -> Result<(), Fail> {
@@ -337,7 +337,7 @@ fn called_while_it_leaves(rt: HostRuntime) -> Result<(), Fail> {
     Ok(())
 }
 
-/// One that was called is dropped, and its init polls another future then, which takes the right. So no
+/// One that was woken is dropped, and its init polls another future then, which takes the right. So no
 /// turn is passed on, until that one gives its value.
 #[test]
 fn right_taken_while_it_leaves(rt: HostRuntime) -> Result<(), Fail> {

@@ -1,4 +1,4 @@
-//! In which order a value calls those who wait.
+//! In which order a value wakes those who wait.
 
 use crate::doubles::stub::Stub;
 use async_once_cell::OnceCell;
@@ -29,7 +29,7 @@ fn is_listed_by<R: Wait + AllocGlobal>(
     polled.is_pending()
 }
 
-// The number of the task that was called first of those that were not looked for yet.
+// The number of the task that was woken first of those that were not looked for yet.
 fn called<R: Wait>(rt: &R, queue: &Queue) -> Option<usize> {
     let cx = queue.next(rt)?;
     let task = cx.task();
@@ -37,7 +37,7 @@ fn called<R: Wait>(rt: &R, queue: &Queue) -> Option<usize> {
     Some(task)
 }
 
-/// They are called in the order in which they were listed.
+/// They are woken in the order in which they were listed.
 #[test]
 fn called_as_they_were_listed(rt: HostRuntime) -> Result<(), Fail> {
     let (task, queue) = (MockTask::new(&rt)?, Queue::new(&rt, Doorbell::spinning())?);

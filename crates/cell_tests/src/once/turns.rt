@@ -1,4 +1,4 @@
-//! A failure calls one of those who wait, and who was called and leaves passes its turn on.
+//! A failure wakes one of those who wait, and who was woken and leaves passes its turn on.
 
 use crate::doubles::schedule::{refuse_each, run, run_in_little};
 use std::test::Fail;
@@ -162,7 +162,7 @@ drop 9 => so, wakes 10
 poll 10 v7 => v7, done
 inits => 2 polls, 11 drops";
 
-// Schedules without memory: a waiter that is refused takes nobody's turn, and one that was called needs none.
+// Schedules without memory: a waiter that is refused takes nobody's turn, and one that was woken needs none.
 const STARVED: &str = "\
 # listed_beside_who_waits: where the list has room, one more who waits takes no memory
 try 0

@@ -1,4 +1,4 @@
-//! A picture that is read back: who holds and who waits, which polls and drops are under way, who calls whom, and what
+//! A picture that is read back: who holds and who waits, which polls and drops are under way, who wakes whom, and what
 //! the cell is.
 //!
 //! Other marks and words, and the legend, are read of no picture at random. Stored pictures are compared whole.

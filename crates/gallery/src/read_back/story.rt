@@ -65,7 +65,7 @@ pub struct Bar {
     pub to: Option<usize>,
 }
 
-/// A task called one of these others at a line.
+/// A task woke one of these others at a line.
 #[derive(Drop)]
 pub struct Arrow {
     pub line: usize,
@@ -73,7 +73,7 @@ pub struct Arrow {
     pub called: Vec<usize>,
 }
 
-/// Who is listed and was not called: the place of the task, and the waker.
+/// Who is listed and was not woken: the place of the task, and the waker.
 #[derive(Clone, Copy, PartialEq, Eq)]
 struct Waiting {
     lane: usize,
@@ -141,7 +141,7 @@ impl Story {
         Ok(())
     }
 
-    /// Who is listed and was not called.
+    /// Who is listed and was not woken.
     fn waiting(&self, world: &World) -> Result<Vec<Waiting>, AllocError> {
         let mut all = Vec::new(self.alloc);
         for listing in &world.core().lists.listings(self.alloc)? {
@@ -410,7 +410,7 @@ impl Story {
         self.close(number, BarKind::Hold, held)
     }
 
-    /// The task gives the right back, if it had it, and hands out wakers. Whom each calls was listed with it
+    /// The task gives the right back, if it had it, and hands out wakers. Whom each wakes was listed with it
     /// before, and is not after.
     fn call(
         &mut self,

@@ -157,7 +157,7 @@ impl Rules<'_> {
         }
     }
 
-    // Whether somebody was called after these entries, if somebody has to be.
+    // Whether somebody was woken after these entries, if somebody has to be.
     fn somebody_called(self, h: &[Entry]) -> bool {
         if self.cell(h) != Cell::Empty {
             return true;

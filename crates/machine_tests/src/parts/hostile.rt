@@ -18,7 +18,7 @@ use std::random::RandomSource;
 use std::sync::Wait;
 use std::test::Fail;
 
-// The task with this name alone is called.
+// The task with this name alone is woken.
 const NINE: Called = [Some(9), None, None];
 
 const FILLED: &str = "Inner { ready: true, quick_init: false, refcount: 0, queue: false }";
@@ -34,7 +34,7 @@ enum Act {
 }
 
 /// A side that uses another task of its cell where its init is polled, where its bell is copied, and
-/// where it calls others. A clause sees what is told of it.
+/// where it wakes others. A clause sees what is told of it.
 #[derive(Drop)]
 struct Meddling<'a, 'r, R> {
     side: TestSide<'r, R>,
@@ -77,7 +77,7 @@ impl<'a, 'r, R: Wait + AllocGlobal> Meddling<'a, 'r, R> {
         })
     }
 
-    // Another call is to begin, in which nobody was called yet.
+    // Another call is to begin, in which nobody was woken yet.
     fn begin(&mut self)
         ensures { self.new ≡ record self.old { woke = [] } }
     {
@@ -96,7 +96,7 @@ impl<'a, 'r, R: Wait + AllocGlobal> Meddling<'a, 'r, R> {
         self.heard
     }
 
-    // Whom this side called, and whom the other's.
+    // Whom this side woke, and whom the other's.
     fn called(&self) -> [Called; 2] {
         [self.side.called, self.other.side.called]
     }
@@ -268,7 +268,7 @@ impl<'a, 'r, R: Wait + AllocGlobal> Meddler<'a, 'r, R> {
         Some(self.task.poll(&mut self.side))
     }
 
-    // Whom this task and the other called, how often their inits were closed, and how the other's last call
+    // Whom this task and the other woke, how often their inits were closed, and how the other's last call
     // ended. Both tasks are gone then.
     fn into_seen(self) -> ([Called; 2], [u64; 2], Option<Ending>) {
         let side = &self.side;
@@ -297,8 +297,8 @@ fn a_copy_that_polls(rt: HostRuntime) -> Result<(), Fail> {
     Ok(())
 }
 
-// An init polls another task, which waits. The holder gives its value and calls who waits, and the other
-// is polled inside that call.
+// An init polls another task, which waits. The holder gives its value and wakes who waits, and the other
+// is polled inside that wake.
 #[test]
 fn an_init_and_a_wake_that_poll(rt: HostRuntime) -> Result<(), Fail> {
     let cell = Cell::new();
@@ -316,7 +316,7 @@ fn an_init_and_a_wake_that_poll(rt: HostRuntime) -> Result<(), Fail> {
     Ok(())
 }
 
-// The same where the init fails: the right is free when the other is called, and it takes the right.
+// The same where the init fails: the right is free when the other is woken, and it takes the right.
 #[test]
 fn a_wake_that_takes_the_right(rt: HostRuntime) -> Result<(), Fail> {
     let cell = Cell::new();
@@ -331,8 +331,8 @@ fn a_wake_that_takes_the_right(rt: HostRuntime) -> Result<(), Fail> {
     Ok(())
 }
 
-// A waiter that was called is dropped, and the one to whom it passes its turn on is polled inside that
-// call: it takes the right, and fails.
+// A waiter that was woken is dropped, and the one to whom it passes its turn on is polled inside that
+// wake: it takes the right, and fails.
 #[test]
 fn a_turn_taken_while_it_is_passed_on(rt: HostRuntime) -> Result<(), Fail> {
     let cell = Cell::new();
@@ -350,7 +350,7 @@ fn a_turn_taken_while_it_is_passed_on(rt: HostRuntime) -> Result<(), Fail> {
     Ok(())
 }
 
-// A task is dropped, and its side polls the other wherever it can: whom the side called, and how the other's
+// A task is dropped, and its side polls the other wherever it can: whom the side woke, and how the other's
 // poll ended.
 fn left_beside<'a, 'r, R: Wait + AllocGlobal + RandomSource>(
     rt: &'r R,
@@ -366,8 +366,8 @@ fn left_beside<'a, 'r, R: Wait + AllocGlobal + RandomSource>(
     Ok((called, side.heard()))
 }
 
-// A waiter was called, and another task took the right. The waiter is polled again, and while its bell is
-// copied the other leaves: it calls the next. The copy is refused, so the waiter calls the one after that.
+// A waiter was woken, and another task took the right. The waiter is polled again, and while its bell is
+// copied the other leaves: it wakes the next. The copy is refused, so the waiter wakes the one after that.
 #[test]
 fn a_called_waiter_that_is_refused(rt: HostRuntime) -> Result<(), Fail> {
     let cell = Cell::new();

@@ -1,4 +1,4 @@
-//! A side whose init answers as it is told to, and whose bells are looked at when they are called.
+//! A side whose init answers as it is told to, and whose bells are looked at when they are handed out.
 ghost use Rattle.std.specs.Prelude.{◌≡◌, [], IfOk, refl, true, ⊤};
 ghost use Rattle.async_once_cell.specs.Inner.Sides.{IsReady};
 ghost use Rattle.std.proofs.Common.{rules};
@@ -16,13 +16,13 @@ use std::random::RandomSource;
 use std::snapshot::Snapshot;
 use std::sync::Wait;
 
-/// The names of the first three whose bells are called, in their order.
+/// The names of the first three who are woken, in their order.
 pub type Called = [Option<u64>; 3];
 
-/// Nobody is called.
+/// Nobody is woken.
 pub const NOBODY: Called = [None; 3];
 
-/// Whom the last call of a task called, and how often its init was polled and closed.
+/// Whom the last call of a task woke, and how often its init was polled and closed.
 pub type Seen = (Called, [u64; 2]);
 
 /// The side of a task. A clause sees what is told of it.
@@ -40,7 +40,7 @@ pub struct TestSide<'r, R> {
     pub error: bool,
     // Whether it was shown its value.
     shown: bool,
-    /// Whom the call under way called.
+    /// Whom the call under way woke.
     woke: Snapshot<Out<Bell>>,
     pub called: Called,
     /// How often the init was polled, and closed.
@@ -107,7 +107,7 @@ impl<R> TestSide<'_, R> {
         (self.called, [self.polls, self.closes])
     }
 
-    /// Another call is to begin, in which nobody was called yet.
+    /// Another call is to begin, in which nobody was woken yet.
     pub fn begin(&mut self)
         ensures { self.new ≡ record self.old { woke = [] } }
     {

@@ -26,7 +26,7 @@ pub const ERROR: Option<Ending> = Some(Ending::Error);
 
 pub const MEMORY: Option<Ending> = Some(Ending::Memory);
 
-// The task with this name alone is called.
+// The task with this name alone is woken.
 pub const TWO: Called = [Some(2), None, None];
 
 const THREE: Called = [Some(3), None, None];

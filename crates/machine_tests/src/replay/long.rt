@@ -30,7 +30,7 @@ fn a_long_script_is_replayed_whole(rt: HostRuntime) -> Result<(), Fail> {
 }
 
 // A task that holds, so many that wait, each with its number as its waker, and a value; and the line that tells whom
-// it calls.
+// it wakes.
 fn filled(alloc: Global, many: u64) -> Result<(String, String), Fault> {
     let mut script = String::from_str(alloc, "once 9999\nmake 0\npoll 0 0\nrun 0 p\n")?;
     let mut called = String::from_str(alloc, "fill 0 4 [1")?;

@@ -364,14 +364,14 @@ fn a_picture_says_what_it_leaves_out(rt: HostRuntime) -> Result<(), Fail> {
     Ok(())
 }
 
-// Scripts whose last line calls a task, and the arrow to it.
+// Scripts whose last line wakes a task, and the arrow to it.
 const ARROWS: [(&str, &str); 5] = [
     // Beside a task that was never polled.
     (
         "once 8\nmake 1\nmake 2\nmake 3\npoll 2 5\nrun 2 p\npoll 3 0\nrun 3 p\npoll 2 5\nrun 2 e1",
         " 132V148L",
     ),
-    // Beside one that is gone and had the same waker, while the called one is in a poll with another.
+    // Beside one that is gone and had the same waker, while the woken one is in a poll with another.
     (
         "once 8\nmake 1\nmake 2\nmake 3\npoll 2 5\nrun 2 p\npoll 1 7\nrun 1 p\ndrop 1\nrun 1 p\n\
          poll 3 7\nrun 3 p\npoll 3 9\npoll 2 5\nrun 2 e1",
@@ -382,7 +382,7 @@ const ARROWS: [(&str, &str); 5] = [
         "once 8\nmake 1\nmake 2\nmake 3\npoll 1 5\nrun 1 p\npoll 3 7\nrun 3 p\npoll 2 7\nrun 2 p\npoll 1 5\nrun 1 e1",
         " 100V148L",
     ),
-    // And then that one calls the other, by an init that fails or as it is dropped.
+    // And then that one wakes the other, by an init that fails or as it is dropped.
     (
         "once 8\nmake 1\nmake 2\nmake 3\npoll 1 5\nrun 1 p\npoll 3 7\nrun 3 p\npoll 2 7\nrun 2 p\n\
          poll 1 5\nrun 1 e1\npoll 3 7\nrun 3 e1",

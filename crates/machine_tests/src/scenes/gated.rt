@@ -4,7 +4,7 @@
 use super::scene::play;
 use std::test::Fail;
 
-// Where the copy is refused the waiter is gone, and the holder finds nobody. Else the holder calls it.
+// If the copy is refused the waiter is gone, and the holder finds nobody. Else the holder wakes it.
 const WAITERS: &str = "\
 # refused_waiter: it is gone, and the holder finds nobody
 make 1; make 2

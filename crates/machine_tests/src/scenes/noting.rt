@@ -45,7 +45,7 @@ pub struct Noting<'r, R> {
     has_error: bool,
     // Whether it was shown its value.
     has_shown: bool,
-    // Whom the call under way called.
+    // Whom the call under way woke.
     woke: Snapshot<Out<Bell>>,
 }
 
@@ -88,7 +88,7 @@ impl<'r, R: AllocGlobal + RandomSource> Noting<'r, R> {
 }
 
 impl<R> Noting<'_, R> {
-    /// Another call is to begin, in which nobody was called yet.
+    /// Another call is to begin, in which nobody was woken yet.
     pub fn begin(&mut self)
         ensures { self.new ≡ record self.old { woke = [] } }
     {

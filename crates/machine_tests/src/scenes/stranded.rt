@@ -4,7 +4,7 @@
 use super::scene::play;
 use std::test::Fail;
 
-// A waiter that has no turn: the one behind it is called by the failure.
+// A waiter that has no turn: the one behind it is woken by the failure.
 const BEFORE: &str = "\
 # refused_before_it_was_listed: the second is refused and gone, and the first calls the third
 make 1; make 2; make 3
@@ -44,7 +44,7 @@ fn refused_beside_one_who_waits(rt: HostRuntime) -> Result<(), Fail> {
     play(&rt, BESIDE)
 }
 
-// The second, the third and the fourth wait. The first fails and calls the second, and the fifth holds. Now the
+// The second, the third and the fourth wait. The first fails and wakes the second, and the fifth holds. Now the
 // second is polled, and the copy of its waker is refused; it makes so many steps of that poll before the fifth fails.
 // Polled after that, it gets the right, and is dropped; refused after that, it passes its turn on to the fourth; and
 // where it left before, the turn is the third's alone.
@@ -134,7 +134,7 @@ fn called_while_it_is_refused(rt: HostRuntime) -> Result<(), Fail> {
     play(&rt, CALLED)
 }
 
-// The second and the third wait, and the second is dropped: it is called before it takes its listing out, or is gone
+// The second and the third wait, and the second is dropped: it is woken before it takes its listing out, or is gone
 // by then.
 const DROPPED: &str = "\
 # fails_before_a_leave: the second is called, and passes its turn on

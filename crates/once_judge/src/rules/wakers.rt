@@ -17,7 +17,7 @@ impl Seen {
     ghost use Rattle.once_judge.specs.Reasons.{Tests, IsTrueIn};
     ghost use Rattle.once_judge.specs.Shown.{seen_of, task_in};
 
-    /// Whether a release that calls one may hand these out: at most one, and one if any is due.
+    /// Whether a release that wakes one may hand these out: at most one, and one if any is due.
     pub fn calls_one(&self, t: u64, wakers: &[u64]) -> Result<(), Reason>
         ensures rule { Tests result (CallsOneIn wakers.now (seen_of self.now)) }
         ensures reason { IfErr result (λ r. IsTrueIn self.now.lazy r (Free t wakers.now) (seen_of self.now)) }
@@ -45,7 +45,7 @@ impl Seen {
         }
     }
 
-    /// Whether a release that calls all may hand these out: all that are due, each once, and none that is not open.
+    /// Whether a release that wakes all may hand these out: all that are due, each once, and none that is not open.
     pub fn hands_out(&self, wakers: &[u64]) -> Result<Result<(), Reason>, AllocError>
         ensures rule { IfOk result (λ answer. Tests answer (HandsOutIn wakers.now (seen_of self.now))) }
         ensures reason { (e : Told) → wakers_of e ≡ wakers.now → IfOk result (λ answer. IfErr answer (λ r.

@@ -13,7 +13,7 @@ use std::mem;
 impl<W: Drop, Q: Drop> Step<W, Q> {
     /// Makes one step of the call that is under way. It asks what the place's call asks, and that the parts take
     /// whatever value the side may hand over.
-    // A queue is taken out first. A place that keeps none is only looked at, and a holder's gives its queue alone.
+    // A place with a queue is taken out whole, but of `Run` and `Put` the queue alone. Others are only looked at.
     #[inline(always)]
     pub fn advance<P: Parts<W, Queue = Q>, S: Side<W, Value = P::Value, Right = P::Right>>(
         &mut self,

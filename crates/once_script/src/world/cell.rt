@@ -85,7 +85,7 @@ impl ReplayCell {
         }
     }
 
-    /// Makes the room that one step may need. If that is refused all is as it was.
+    /// Makes the room that one step may need. If that is refused, what is shared, the log and the side stay.
     pub fn reserve(&mut self) -> Result<(), AllocError>
         ensures room { OnOk result (HasRoom self.new.core) }
         ensures shared { shared_of self.new ≡ shared_of self.old }

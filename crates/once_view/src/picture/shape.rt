@@ -52,7 +52,7 @@ pub enum Shape {
         at: u64,
         reply: Reply,
     },
-    /// The task of one lane called that of another.
+    /// The task of one lane woke that of another.
     Wake {
         at: u64,
         caller: u64,

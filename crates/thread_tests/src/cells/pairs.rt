@@ -105,7 +105,7 @@ where
     Known::compare(&a, &b)
 }
 
-/// The second future waits while the first thread is inside the init of their cell, and is called when
+/// The second future waits while the first thread is inside the init of their cell, and is woken when
 /// that ends. The tokens of both threads agree.
 #[test]
 fn lazy_waits_for_another_thread(rt: HostRuntime) -> Result<(), Fail> {

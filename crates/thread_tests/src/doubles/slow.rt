@@ -113,8 +113,8 @@ pub fn ended<R: Wait + Clock, F: Driven>(rt: &R, task: &MockTask, future: &mut F
     reply
 }
 
-/// Polls a future once, waits a little for a call where it is Pending, and drops it: while it holds,
-/// waits, or was called.
+/// Polls a future once, waits a little for a wake if it is Pending, and drops it: while it holds,
+/// waits, or was woken.
 pub fn left_midway<R: Wait + Clock, F: Driven + Drop>(rt: &R, task: &MockTask, mut future: F) {
     let reply = future.poll_by(task);
     for _ in 0..3 {

@@ -203,8 +203,8 @@ impl<T, W: TaskWaker + Drop, V: Fits<T>> Inner<T, W, V> {
         self.locked_look(&mut tied.value, hand, ticket, spent, side)
     }
 
-    /// Whoever claims takes its waker out of the list, and whoever is listed renews it there. If another task holds,
-    /// the waiter copies its waker, and is listed.
+    /// A task that claims takes its waker off the list, and one that is listed renews it there. If another holds, the
+    /// waiter copies its waker, and is listed.
     #[inline(always)]
     fn locked_look<S: TaskSide<W, Value = T>>(
         &self,
@@ -250,7 +250,7 @@ impl<T, W: TaskWaker + Drop, V: Fits<T>> Inner<T, W, V> {
         }
     }
 
-    // Whoever is listed has its waker in the list now, and took none out.
+    // A task that is listed has its waker there now, and took none out.
     #[inline(always)]
     fn locked_list<S: TaskSide<W, Value = T>>(
         &self,
