@@ -2,8 +2,8 @@
 //! compares each with its file there.
 
 use once_judge::{Calls, judge};
-use once_observed::drawn::draw_verdict;
 use once_script::parse::record::{BadRecord, RecordText, parse_record};
+use once_view::verdict::draw_verdict;
 use once_view::{Format, show};
 use std::alloc::AllocGlobal;
 use std::fs::{self, Files};

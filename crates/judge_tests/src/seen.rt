@@ -2,11 +2,10 @@
 
 use once_judge::{Calls, judge};
 use once_machine::record::Entry;
-use once_observed::{
-    Answer, BadEvents, Observed, StopLine, VerdictLine, linearize, parse_observed,
-};
 use once_script::parse::record::BadRecord;
 use once_script::print::FullLine;
+use once_view::observed::{Answer, BadEvents, Observed, StopLine, linearize, parse_observed};
+use once_view::verdict::VerdictLine;
 use std::alloc::{AllocError, Global};
 use std::test::Fail;
 

@@ -2,8 +2,8 @@
 //! entry, for the reason that stands below it.
 
 use once_judge::{Calls, judge};
-use once_observed::VerdictLine;
 use once_script::parse::record::{BadRecord, RecordText, parse_record};
+use once_view::verdict::VerdictLine;
 use std::alloc::{AllocError, Global};
 use std::process::Abort;
 use std::test::Fail;

@@ -2,9 +2,9 @@
 
 use crate::damaged::{Chance, crowd, record};
 use once_judge::{Calls, Verdict, judge};
-use once_observed::{Answer, Event, Observed, StopLine, linearize};
 use once_script::print::FullLine;
 use once_script::world::{Entry, Kind};
+use once_view::observed::{Answer, Event, Observed, StopLine, linearize};
 use std::alloc::{AllocError, Global};
 use std::process::Abort;
 use std::test::Fail;

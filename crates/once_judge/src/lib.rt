@@ -4,7 +4,7 @@
 //! `judge` goes along the record once. What it keeps of the entries so far is a `Seen`: the cell, each task with its
 //! last call, and some numbers for what was so since a poll began. `rules` decides by it whether the next entry may
 //! come, and gives the reason if not. A `Judge` does the same for entries that come one by one. The crate
-//! `once_observed` has the words of a verdict.
+//! `once_view` has the words of a verdict.
 #![tactic(auto)]
 
 mod calls;

@@ -1,14 +1,17 @@
-//! Scripts shown to people: as a table with a row for each line, and as a picture.
+//! Scripts and records shown to people: a script as a table with a row for each line, or as a picture; the verdict on a
+//! record; and whether a run has what was seen of a cell.
 #![tactic(auto)]
 
 pub mod fault;
 mod listed;
+pub mod observed;
 pub mod picture;
 pub mod play;
 pub mod program;
 pub mod range;
 pub mod reading;
 pub mod table;
+pub mod verdict;
 
 use crate::fault::Fault;
 use crate::range::LineRange;

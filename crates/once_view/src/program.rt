@@ -1,51 +1,16 @@
-//! What the program `once_show` does: its command line, its streams and its status.
-use crate::fault::Fault;
-use crate::range::LineRange;
-use crate::{Format, show_lines};
-use clap::error::{Error, ErrorKind};
-use clap::{Arg, ArgAction, ArgMatches, Command, value_parser};
-use std::alloc::{AllocGlobal, Global};
-use std::env::{self, Env};
+//! What the programs over this crate do: the `main` of each stands in a crate of its name, so that tests can call the
+//! rest.
+
+mod judging;
+mod showing;
+
+pub use judging::judge_record;
+pub use showing::show_script;
+use std::alloc::AllocGlobal;
 use std::fs::{self, Files};
 use std::io::{self, BufReader, Read};
-use std::process::ExitCode;
 
-/// The words of the command line.
-fn words_of<R: Env + AllocGlobal>(rt: &R) -> Result<Vec<String>, Fault> {
-    Ok(env::args(rt)?.collect(rt.alloc())?)
-}
-
-/// The command line.
-fn matches_of(alloc: Global, words: &[String]) -> Result<ArgMatches<'_>, Error> {
-    let svg = Arg::new(alloc, "svg")
-        .long("svg")
-        .action(ArgAction::SetTrue)
-        .help("Writes a picture, as SVG, in the place of the table");
-    let from = Arg::new(alloc, "from")
-        .long("from")
-        .value_name("LINE")
-        .value_parser(value_parser!(u64).range(1..))
-        .action(ArgAction::Set)
-        .help("Shows no line before this one; all are played");
-    let to = Arg::new(alloc, "to")
-        .long("to")
-        .value_name("LINE")
-        .value_parser(value_parser!(u64).range(1..))
-        .action(ArgAction::Set)
-        .help("Shows no line after this one");
-    let file = Arg::new(alloc, "FILE").action(ArgAction::Set).help(
-        "The script; the standard input if there is none, or if it is -",
-    );
-    Command::new(alloc, "once_show")
-        .about("Shows a script of a cell and its tasks, line by line")
-        .arg(svg)?
-        .arg(from)?
-        .arg(to)?
-        .arg(file)?
-        .try_get_matches_from(words)
-}
-
-/// Where a script is read from.
+// Where a text is read from.
 #[derive(Clone, Copy)]
 enum Source<'a> {
     Input,
@@ -53,7 +18,7 @@ enum Source<'a> {
 }
 
 impl<'a> Source<'a> {
-    /// The standard input stands for no file, and for the file `-`.
+    // The standard input stands for no file, and for the file `-`.
     fn of(file: Option<&'a str>) -> Source<'a> {
         match file {
             None | Some("-") => Source::Input,
@@ -68,7 +33,7 @@ impl<'a> Source<'a> {
         }
     }
 
-    /// All its bytes.
+    // All its bytes.
     fn read<F: Files + AllocGlobal, I: Read + Drop>(
         self,
         files: &F,
@@ -83,108 +48,4 @@ impl<'a> Source<'a> {
             }
         }
     }
-}
-
-/// Why there is nothing to show, or not all.
-#[derive(Drop)]
-enum Failure<'a> {
-    /// The script can't be read.
-    Source(Source<'a>, io::Error),
-    Script(Fault),
-}
-
-impl From<Fault> for Failure<'_> {
-    fn from(fault: Fault) -> Self {
-        Failure::Script(fault)
-    }
-}
-
-/// Shows the script that the command line names.
-fn run<'a, R, F, I>(
-    rt: &R,
-    files: &F,
-    matches: &ArgMatches<'a>,
-    input: I,
-) -> Result<(), Failure<'a>>
-where
-    R: Print + AllocGlobal,
-    F: Files + AllocGlobal,
-    I: Read + Drop,
-{
-    let format = if matches.get_flag("svg") {
-        Format::Picture
-    } else {
-        Format::Table
-    };
-    let range = LineRange::new(matches.get_one("from"), matches.get_one("to"))?;
-    let source = Source::of(matches.get_str("FILE"));
-    let text = match source.read(files, input) {
-        Ok(text) => text,
-        Err(error) => return Err(Failure::Source(source, error)),
-    };
-    show_lines(rt.alloc(), format, range, &text, io::writer(rt))?;
-    Ok(())
-}
-
-/// Says why the command line names nothing to show, or prints the help that it asks for. Answers the status of
-/// the process.
-fn refuse<R: Print + Eprint>(rt: &R, error: &Error) -> u8 {
-    match error.print(rt) {
-        Ok(()) if error.kind() == ErrorKind::OutOfMemory => Fault::Memory.status(),
-        Ok(()) => error.exit_code() as u8,
-        Err(error) => fail(rt, Failure::Script(Fault::from(error))),
-    }
-}
-
-/// Says why the script is not shown, unless nobody reads on. Answers the status of the process.
-fn fail<R: Eprint>(rt: &R, failure: Failure<'_>) -> u8 {
-    match failure {
-        Failure::Source(source, error) => {
-            let _ = eprintln!(rt; "once_show: {}: {error}", source.name());
-            Fault::from(error).status()
-        }
-        Failure::Script(Fault::ClosedPipe) => Fault::ClosedPipe.status(),
-        Failure::Script(fault) => {
-            let _ = eprintln!(rt; "once_show: {fault}");
-            fault.status()
-        }
-    }
-}
-
-/// The status after a run with these words.
-fn status_of<R, F, I>(rt: &R, files: &F, words: &[String], input: I) -> u8
-where
-    R: Print + Eprint + AllocGlobal,
-    F: Files + AllocGlobal,
-    I: Read + Drop,
-{
-    let matches = match matches_of(rt.alloc(), words) {
-        Ok(matches) => matches,
-        Err(error) => return refuse(rt, &error),
-    };
-    match run(rt, files, &matches, input) {
-        Ok(()) => 0,
-        Err(failure) => fail(rt, failure),
-    }
-}
-
-/// Shows the script that the command line names, one of `files` or the input. If that fails, standard error says
-/// why, unless whoever reads the output closed it.
-///
-/// ```
-/// fn main(rt: HostRuntime) -> ExitCode {
-///     show_script(&rt, &rt, rt.reader())
-/// }
-/// ```
-pub fn show_script<R, F, I>(rt: &R, files: &F, input: I) -> ExitCode
-where
-    R: Env + Print + Eprint + AllocGlobal,
-    F: Files + AllocGlobal,
-    I: Read + Drop,
-{
-    let status = match words_of(rt) {
-        Ok(words) => status_of(rt, files, &words, input),
-        Err(fault) => fail(rt, Failure::Script(fault)),
-    };
-    ExitCode::from(status)
 }

@@ -2,7 +2,7 @@
 
 use crate::from_rust;
 use async_once_cell::once::Refused;
-use once_observed::BadEvents;
+use once_view::observed::BadEvents;
 use std::alloc::AllocError;
 use std::io;
 use thiserror::Error;

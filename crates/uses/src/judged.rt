@@ -7,7 +7,7 @@ use futures::Future;
 use futures::executor::block_on;
 use futures::task::{Context, Poll};
 use once_judge::{Calls, Verdict, judge};
-use once_observed::{Answer, Event, Observed, linearize};
+use once_view::observed::{Answer, Event, Observed, linearize};
 use std::alloc::AllocGlobal;
 use std::io::Write;
 use std::random::RandomSource;

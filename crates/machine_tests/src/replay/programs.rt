@@ -1,9 +1,8 @@
 //! The programs `once_replay`, `once_show` and `judge_record`: with which status they end, and what stands on which
 //! stream.
 use super::host::{Given, Host};
-use once_observed::program::judge_record;
 use once_script::replay;
-use once_view::program::show_script;
+use once_view::program::{judge_record, show_script};
 use std::alloc::{AllocError, AllocGlobal, Global};
 use std::fs::Files;
 use std::io::ErrorKind;

@@ -11,7 +11,7 @@ use futures::Future;
 use futures::task::{Context, Poll};
 use futures::test::MockTask;
 use once_judge::{Calls, Verdict, judge};
-use once_observed::{Answer, Event, Observed, StopLine, linearize};
+use once_view::observed::{Answer, Event, Observed, StopLine, linearize};
 use rand_core::{Rng, SeedableRng};
 use rand_xoshiro::Xoshiro256PlusPlus;
 use std::alloc::{AllocError, AllocGlobal, Global};

@@ -1,25 +1,16 @@
-//! A verdict in words, and what was seen of a cell from outside: whether a run has it. And all that the program
-//! `judge_record` does.
+//! What was seen of a cell from outside: the text of it, and whether a run has it.
 //!
-//! `report` and `last_calls` have the words of a verdict. `calls` makes calls of the events, each with what it did and
-//! between which events. `search` looks for an order of all that, in which each entry may come next. `drawn` makes
-//! pictures of records that were judged. The crate `judge_record` has the `main` of `program` alone, so that tests can
-//! call what it does.
-#![tactic(auto)]
+//! `calls` makes calls of the events, each with what it did and between which events. `search` looks for an order of
+//! all that, in which each entry may come next.
 
 mod calls;
 mod copies;
-pub mod drawn;
-mod last_calls;
-pub mod program;
-mod report;
 mod search;
 mod text;
 
+use crate::verdict::ReasonText;
 pub use calls::BadEvents;
-pub use last_calls::LastCalls;
 use once_script::print::FullLine;
-pub use report::{ReasonText, VerdictLine};
 pub use search::{Answer, Stop, linearize};
 use std::fmt;
 pub use text::{Event, Observed, parse_observed};

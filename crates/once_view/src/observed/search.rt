@@ -1,8 +1,8 @@
 //! The search for a run that has what was seen.
 
-use crate::calls::{BadEvents, Call, Deed, Effect, Gathered};
-use crate::copies::copy_of;
-use crate::text::{Event, Observed};
+use super::calls::{BadEvents, Call, Deed, Effect, Gathered};
+use super::copies::copy_of;
+use super::text::{Event, Observed};
 use once_judge::{Calls, Judge, Reason};
 use once_machine::record::Entry;
 use std::alloc::{AllocError, Global};

@@ -1,7 +1,8 @@
 //! What the program `judge_record` does: its command line, its streams and its status.
 
-use crate::drawn::draw_verdict;
-use crate::{Answer, BadEvents, LastCalls, Stop, StopLine, VerdictLine, linearize, parse_observed};
+use super::Source;
+use crate::observed::{Answer, BadEvents, Stop, StopLine, linearize, parse_observed};
+use crate::verdict::{LastCalls, VerdictLine, draw_verdict};
 use once_judge::{Calls, Verdict, judge};
 use once_machine::record::{Entry, Kind};
 use once_script::parse::record::{BadRecord, RecordText, parse_record};
@@ -9,8 +10,8 @@ use once_script::print::{FirstLine, FullLine};
 use std::alloc::{AllocError, AllocGlobal};
 use std::env::{self, Env};
 use std::fmt;
-use std::fs::{self, Files};
-use std::io::{self, BufReader, BufWriter, ErrorKind, Read, Write};
+use std::fs::Files;
+use std::io::{self, BufWriter, ErrorKind, Read, Write};
 use std::process::ExitCode;
 
 /// Why there is no verdict.
@@ -165,7 +166,7 @@ where
 {
     let words: Vec<String> = env::args(rt)?.collect(rt.alloc())?;
     let asked = asked_by(&words).ok_or(Failure::Usage)?;
-    let text = read(asked.file, files, input)?;
+    let text = Source::of(asked.file).read(files, input)?;
     if asked.seen {
         let observed = parse_observed(rt.alloc(), text.as_slice())?;
         return match linearize(rt.alloc(), &observed, asked.calls, STEPS)? {
@@ -260,21 +261,5 @@ fn calls_in(word: &str) -> Option<Calls> {
         "one" => Some(Calls::One),
         "all" => Some(Calls::All),
         _ => None,
-    }
-}
-
-// All the bytes of the file, or of the input if there is none or it is `-`.
-fn read<F, I>(file: Option<&str>, files: &F, input: I) -> io::Result<Vec<u8>>
-where
-    F: Files + AllocGlobal,
-    I: Read + Drop,
-{
-    match file {
-        Some(path) if path != "-" => fs::read(files, path),
-        _ => {
-            let mut text = Vec::new(files.alloc());
-            BufReader::new(files.alloc(), input)?.read_to_end(&mut text)?;
-            Ok(text)
-        }
     }
 }

@@ -1,10 +1,10 @@
 //! A record as a picture, with the verdict on it.
 
-use crate::VerdictLine;
+use super::VerdictLine;
+use crate::picture::write_record;
 use once_judge::Verdict;
 use once_machine::record::{Entry, Kind};
 use once_script::print::EntryLine;
-use once_view::picture::write_record;
 use std::alloc::Global;
 use std::io::{self, Write};
 

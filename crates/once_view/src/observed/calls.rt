@@ -1,6 +1,6 @@
 //! The calls of what was seen: what each did, and between which events.
 
-use crate::text::Event;
+use super::text::Event;
 use once_machine::record::{Entry, Ran};
 use std::alloc::{AllocError, AllocFailed, Global};
 use std::collections::{BTreeMap, BTreeSet};

@@ -1,5 +1,10 @@
-//! A verdict in words.
+//! A verdict in words, and as a picture of the record that was judged.
 
+mod drawn;
+mod last_calls;
+
+pub use drawn::draw_verdict;
+pub use last_calls::LastCalls;
 use once_judge::{Cell, Fault, Forgotten, Reason, Status, Verdict};
 use once_machine::record::{Entry, Ran};
 use once_script::print::EntryLine;
