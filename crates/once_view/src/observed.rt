@@ -10,7 +10,6 @@ mod text;
 
 use crate::verdict::ReasonText;
 pub use calls::BadEvents;
-use once_script::print::FullLine;
 pub use search::{Answer, Stop, linearize};
 use std::fmt;
 pub use text::{Event, Observed, parse_observed};
@@ -27,15 +26,12 @@ impl fmt::Display for StopLine<'_> {
             "no run has what was seen: event {}",
             event.saturating_add(1)
         )?;
-        match self.1.get(event) {
-            Some(Event::Entry(entry)) => write!(f, ", {}", FullLine(entry))?,
-            Some(Event::Woke(task, waker)) => write!(f, ", woke {task} {waker}")?,
-            Some(Event::Woken(task)) => write!(f, ", woken {task}")?,
-            None => {}
+        if let Some(event) = self.1.get(event) {
+            write!(f, ", {event}")?;
         }
-        match reason {
-            Some(reason) => write!(f, ": {}", ReasonText(reason)),
-            None => Ok(()),
+        if let Some(reason) = reason {
+            write!(f, ": {}", ReasonText(reason))?;
         }
+        Ok(())
     }
 }

@@ -20,17 +20,17 @@ pub struct VerdictLine<'a>(pub &'a Verdict, pub &'a [Entry]);
 
 impl fmt::Display for VerdictLine<'_> {
     fn fmt<W: fmt::Write>(&self, f: &mut fmt::Formatter<W>) -> fmt::Result {
-        let entries = self.1;
-        match (self.0.fault, self.0.forgotten) {
+        let VerdictLine(verdict, entries) = *self;
+        match (verdict.fault, verdict.forgotten) {
             (None, None) => write!(f, "run, {} entries, nobody forgotten", entries.len()),
             (None, Some(forgotten)) => write!(f, "run, but {}", ForgottenText(forgotten)),
-            (Some(fault), None) => write!(f, "{}", FaultText(fault, entries)),
-            (Some(fault), Some(forgotten)) => write!(
-                f,
-                "{}; and before it, {}",
-                FaultText(fault, entries),
-                ForgottenText(forgotten)
-            ),
+            (Some(fault), forgotten) => {
+                write!(f, "{}", FaultText(fault, entries))?;
+                if let Some(forgotten) = forgotten {
+                    write!(f, "; and before it, {}", ForgottenText(forgotten))?;
+                }
+                Ok(())
+            }
         }
     }
 }

@@ -7,7 +7,7 @@ use std::collections::{BTreeMap, BTreeSet};
 use std::mem;
 
 /// One thing that a call did.
-#[derive(Clone, Copy, Debug, Drop, PartialEq, Eq)]
+#[derive(Clone, Copy)]
 pub enum Deed {
     /// What this event tells.
     Told(usize),
@@ -23,7 +23,7 @@ pub enum Deed {
 
 /// Something that a call did, at a moment which is not seen: after the event `from` or at it, and before the event `to`
 /// or at it.
-#[derive(Clone, Copy, Debug, Drop)]
+#[derive(Clone, Copy)]
 pub struct Effect {
     pub deed: Deed,
     pub from: usize,
@@ -34,7 +34,7 @@ pub struct Effect {
 
 /// A call of a task with all that it did, in the order in which it did it. Something else that was seen stands as a
 /// call of its own.
-#[derive(Debug, Drop)]
+#[derive(Drop)]
 pub struct Call {
     pub task: u64,
     /// The event with which it begins.

@@ -80,7 +80,7 @@ struct Search<'a> {
 }
 
 // What may be done next.
-#[derive(Clone, Copy, Debug, Drop)]
+#[derive(Clone, Copy)]
 enum Choice {
     // The next event comes.
     GoOn,
@@ -91,7 +91,7 @@ enum Choice {
 }
 
 // Whom a call wakes.
-#[derive(Clone, Copy, Debug, Drop)]
+#[derive(Clone, Copy)]
 enum Woken {
     // Those who were seen, or nobody.
     Seen,
@@ -327,16 +327,9 @@ impl<'a> State<'a> {
         if let Some(done) = self.done.get_mut(call) {
             *done = done.saturating_add(1);
         }
-        for (index, call) in self.search.calls.iter().enumerate().skip(self.first) {
-            let is_over = match self.done.get(index) {
-                Some(done) => *done >= call.effects.len(),
-                None => false,
-            };
-            if !is_over {
-                break;
-            }
-            self.first = index.saturating_add(1);
-        }
+        let calls = self.search.calls.iter().zip(&self.done).skip(self.first);
+        let over = calls.take_while(|(call, done)| **done >= call.effects.len());
+        self.first = self.first.saturating_add(over.count());
     }
 
     // The entry of what a call does.

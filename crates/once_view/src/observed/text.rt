@@ -4,7 +4,9 @@ use once_machine::record::{Entry, Kind};
 use once_script::parse::entries::{entry_form, parse_entry};
 use once_script::parse::number::parse_number;
 use once_script::parse::record::{BadRecord, parse_first};
+use once_script::print::FullLine;
 use std::alloc::{AllocError, Global};
+use std::fmt;
 
 /// Something that was seen of a cell from outside: by code that calls the cell, by an init that it polls, or by a waker
 /// that it wakes.
@@ -17,6 +19,17 @@ pub enum Event {
     Woke(u64, u64),
     /// The waker of the task's last poll has been woken since that poll ended, whoever woke it.
     Woken(u64),
+}
+
+/// The line of an event, without its end.
+impl fmt::Display for Event {
+    fn fmt<W: fmt::Write>(&self, f: &mut fmt::Formatter<W>) -> fmt::Result {
+        match self {
+            Event::Entry(entry) => write!(f, "{}", FullLine(entry)),
+            Event::Woke(task, waker) => write!(f, "woke {task} {waker}"),
+            Event::Woken(task) => write!(f, "woken {task}"),
+        }
+    }
 }
 
 /// What was seen of a cell, and of which cell.
@@ -65,27 +78,29 @@ pub fn parse_observed(alloc: Global, text: &[u8]) -> Result<Observed, BadRecord>
     })
 }
 
-// Reads the line of an event. A claim and a release are no events.
+// Reads the line of an event.
 fn parse_event(alloc: Global, text: &str) -> Result<Option<Event>, AllocError> {
     if let Some(given) = text.strip_prefix("woke ") {
-        let Some((task, waker)) = given.split_once(' ') else {
-            return Ok(None);
-        };
-        let (Some(task), Some(waker)) = (parse_number(task), parse_number(waker)) else {
-            return Ok(None);
-        };
-        return Ok(Some(Event::Woke(task, waker)));
+        return Ok(parse_woke(given));
     }
     if let Some(task) = text.strip_prefix("woken ") {
         return Ok(parse_number(task).map(Event::Woken));
     }
-    match parse_entry(alloc, text)? {
-        None
-        | Some(Entry::Claim(_) | Entry::Free(_, _) | Entry::Fill(_, _, _) | Entry::Pass(_, _)) => {
-            Ok(None)
-        }
-        Some(entry) => Ok(Some(Event::Entry(entry))),
-    }
+    let entry = parse_entry(alloc, text)?;
+    Ok(entry.filter(|entry| is_seen(entry)).map(Event::Entry))
+}
+
+fn parse_woke(given: &str) -> Option<Event> {
+    let (task, waker) = given.split_once(' ')?;
+    Some(Event::Woke(parse_number(task)?, parse_number(waker)?))
+}
+
+// A claim and a release are not seen from outside.
+fn is_seen(entry: &Entry) -> bool {
+    !matches!(
+        entry,
+        Entry::Claim(_) | Entry::Free(_, _) | Entry::Fill(_, _, _) | Entry::Pass(_, _)
+    )
 }
 
 // The form of the lines that begin with the same word as this one, or of all lines.

@@ -15,8 +15,8 @@ use std::io::{self, BufWriter, ErrorKind, Read, Write};
 use std::process::ExitCode;
 
 /// Why there is no verdict.
-#[derive(Clone, Copy, Debug, Drop, PartialEq, Eq)]
-pub enum Failure {
+#[derive(Clone, Copy)]
+enum Failure {
     /// The command line has a word too much, or too little.
     Usage,
     /// The text is no record.
