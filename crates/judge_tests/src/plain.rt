@@ -93,10 +93,11 @@ fn cell_after(entry: &Entry, cell: Cell) -> Cell {
 }
 
 fn cell_after_call(call: &Call, cell: Cell) -> Cell {
-    match (call, cell) {
-        (Call::Write(v), Cell::SetTo(_)) | (Call::ReplaceValue(v), _) => Cell::SetTo(*v),
-        (Call::Write(_), _) => cell,
-        _ => Cell::Empty,
+    match call {
+        Call::Write(v) if matches!(cell, Cell::SetTo(_)) => Cell::SetTo(*v),
+        Call::Write(_) => cell,
+        Call::ReplaceValue(v) => Cell::SetTo(*v),
+        Call::Take | Call::Parts | Call::ReplaceAnswers(_) => Cell::Empty,
     }
 }
 
