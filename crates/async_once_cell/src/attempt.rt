@@ -78,7 +78,6 @@ impl<'a, T, I: Drop, R: Wait + AllocGlobal, V: Fits<T>> Attempt<'a, T, I, R, V> 
     }
 
     /// What shows the value that the task answered. Then the cell is set in its log.
-    #[inline(always)]
     pub(crate) fn written(&self) -> Option<Written<T>>
         ensures value { value_in result ≡ self.now.value }
         ensures of { IfSome result (λ w. w.of ≡ self.now.cell.id) }
@@ -89,7 +88,6 @@ impl<'a, T, I: Drop, R: Wait + AllocGlobal, V: Fits<T>> Attempt<'a, T, I, R, V> 
     }
 
     /// Drops the init, and then the task leaves: for a future that is dropped.
-    #[inline(always)]
     pub(crate) fn discard(self)
         requires live { self.finished ≡ false }
     {
@@ -99,7 +97,6 @@ impl<'a, T, I: Drop, R: Wait + AllocGlobal, V: Fits<T>> Attempt<'a, T, I, R, V> 
     }
 
     /// The same for a future that lives on.
-    #[inline(never)]
     pub(crate) fn leave(&mut self)
         requires live { self.old.finished ≡ false }
         ensures cell { self.new.cell ≡ self.old.cell }
@@ -126,7 +123,6 @@ impl<'a, T, I: Drop, R: Wait + AllocGlobal, V: Fits<T>> Attempt<'a, T, I, R, V> 
 }
 
 // A task that is not finished, and whose init is gone, leaves.
-#[inline(never)]
 fn leave_unfinished<T, R: Wait + AllocGlobal, V: Fits<T>>(
     mut task: Task<'_, '_, T, ListedWaker, R, V>,
 )
@@ -208,7 +204,6 @@ impl<'a, T: Drop, I: Drop, R: Wait + AllocGlobal, V: Fits<T>> Attempt<'a, T, I, 
     }
 
     // The answer of a poll that ended in this way, and left no init.
-    #[inline(always)]
     fn answer<X: Failure>(
         &mut self,
         ending: Ending,
@@ -312,18 +307,15 @@ impl<T: Drop, X: Failure, I: Init<T, X>> Side<ListedWaker> for PollSide<'_, '_, 
         }
     }
 
-    #[inline(always)]
     fn close(&mut self) {
         self.init = None;
     }
 
-    #[inline(always)]
     fn put(&mut self) -> T {
         self.handed = Snapshot::of(&self.value);
         self.value.take().unwrap()
     }
 
-    #[inline(always)]
     fn copy(&mut self) -> Option<ListedWaker>
         ensures did { HasCopied whose (told self.old) result (told self.new) }
         ensures stays { Stays I.may_fail I.may_give (λ e. e.error) self.old self.new }
@@ -333,7 +325,6 @@ impl<T: Drop, X: Failure, I: Init<T, X>> Side<ListedWaker> for PollSide<'_, '_, 
         Some(ListedWaker::new(&self.mark, self.cx))
     }
 
-    #[inline(always)]
     fn wake(&mut self, out: Out<ListedWaker>)
         ensures did { HasWoken whose (told self.old) out (told self.new) }
         ensures stays { Stays I.may_fail I.may_give (λ e. e.error) self.old self.new }
@@ -350,7 +341,6 @@ impl<T: Drop, X: Failure, I: Init<T, X>> Side<ListedWaker> for PollSide<'_, '_, 
 impl<T: Drop, X: Failure, I: Init<T, X>> Renews<ListedWaker> for PollSide<'_, '_, T, Failed<X>, I> {
     ghost renewed = { IsRenewed I.may_fail I.may_give (λ e. e.error) };
 
-    #[inline(always)]
     fn renew(&mut self, listed: &mut ListedWaker) {
         self.is_armed = true;
         listed.register(self.cx);
@@ -363,12 +353,10 @@ impl<T: Drop, X: Failure, I: Init<T, X>> TaskSide<ListedWaker>
 
     ghost has_slot = { λ s n. s.slot.numbers ≡ n ∷ [] };
 
-    #[inline(always)]
     fn copies_under_lock() -> bool {
         true
     }
 
-    #[inline(always)]
     fn keep(&mut self, put: Written<T>)
         requires slot { self.old.slot.numbers ≡ put.of ∷ [] }
         requires value { self.old.handed.value ≡ Some put.value }
@@ -455,7 +443,6 @@ impl<T, R: Wait> TaskSide<ListedWaker> for LeaveSide<'_, T, R> {
 
     ghost has_slot = { λ _ _. ⊤ };
 
-    #[inline(always)]
     fn copies_under_lock() -> bool {
         false
     }

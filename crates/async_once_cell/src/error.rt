@@ -22,7 +22,6 @@ pub trait Failure: Drop {
 impl Failure for Refused {
     ghost ending = { ending_of_refusal };
 
-    #[inline(always)]
     fn refused(refused: Refused) -> Self
         ensures { ending_of_refusal result ≡ ending_of_refusal refused }
     {
@@ -33,7 +32,6 @@ impl Failure for Refused {
 impl<E: Drop> Failure for InitError<E> {
     ghost ending = { ending_of_error };
 
-    #[inline(always)]
     fn refused(refused: Refused) -> Self
         ensures { ending_of_error result ≡ ending_of_refusal refused }
     {

@@ -100,7 +100,6 @@ impl<T, F: Future<Output = T>, V: Fits<T>> Lazy<T, F, V> {
     /// let first = *lazy.get(rt).wait()??; // 10: this thread drove the cell's future to its end
     /// let second = *lazy.get(rt).wait()??; // 10, and nothing is polled
     /// ```
-    #[inline(always)]
     pub fn get<'a, R: Wait + AllocGlobal>(&'a self, rt: &'a R) -> LazyFuturePin<'a, T, F, R, V>
         ensures cell { result.cell ≡ self.now }
         ensures live { result.finished ≡ false }

@@ -60,7 +60,6 @@ impl<T, V: Fits<T>> Model for OnceCell<T, V> {
 
 impl<T> OnceCell<T> {
     /// An empty cell with a new record. It takes no memory. Its clause says that tasks share it, not that it is empty.
-    #[inline(always)]
     pub fn new() -> Self
         ensures { is_shared result ≡ true }
     {
@@ -89,7 +88,6 @@ impl<T, V: Fits<T>> OnceCell<T, V> {
     /// ```
     /// let mut cell = OnceCell::<u64, TenTimes>::promised(&Tag::of::<u64, Key>(&key));
     /// ```
-    #[inline(always)]
     pub fn promised(tag: &Tag) -> Self
         ensures shared { is_shared result ≡ true }
         ensures about { about_of result ≡ tag.now.numbers }
@@ -101,7 +99,6 @@ impl<T, V: Fits<T>> OnceCell<T, V> {
 
     /// The value, if it is set; None if the cell is empty or being filled. It waits for nobody. Of a cell that tasks
     /// share its clauses say only that a value is as the cell promises; those of [`OnceCell::get_as`] say more.
-    #[inline(always)]
     pub fn get(&self) -> Option<&T>
         ensures lends { Lends self.now result }
         ensures promise { is_shared self.now ≡ true → IfSome result (λ value. V.fits (about_of self.now) value.now) }
@@ -227,7 +224,6 @@ impl<T, V: Fits<T>> OnceCell<T, V> {
     ///     },
     /// }
     /// ```
-    #[inline(always)]
     pub fn get_or_try_init<'a, E, F, R>(
         &'a self,
         rt: &'a R,

@@ -28,12 +28,10 @@ impl WakerId for ListedWaker {
 
     ghost tells_other = { λ _ _. ⊤ };
 
-    #[inline(always)]
     fn are_all_other() -> bool {
         true
     }
 
-    #[inline(always)]
     fn same(&self, _other: &ListedWaker) -> bool {
         false
     }
@@ -47,7 +45,6 @@ impl TaskWaker for ListedWaker {
 
 impl ListedWaker {
     /// The waker of the task that is polled here, to be listed under this number.
-    #[inline(never)]
     pub fn new(mark: &Mark, cx: &mut Context<'_>) -> ListedWaker
         ensures whose { whose result ≡ mark.now }
         ensures wakes { WakesTask result cx.new }
@@ -63,7 +60,6 @@ impl ListedWaker {
     }
 
     /// Puts the waker of the task that is polled here in the place of the one that was there. Another task's is woken.
-    #[inline(always)]
     pub(crate) fn register(&mut self, cx: &mut Context<'_>)
         ensures whose { whose self.new ≡ whose self.old }
         ensures wakes { WakesTask self.new cx.new }

@@ -48,7 +48,6 @@ impl<W: Drop> Slots<W> {
     ghost use Rattle.once_machine.specs.Slots.{HasMark, HasSlot, capacity_in, listings_in};
 
     /// No listing. It takes no memory.
-    #[inline(always)]
     pub fn new(alloc: Global) -> Self
         ensures listings { listings_in result ≡ [] }
         ensures memory { capacity_in result ≡ 0 }
@@ -64,7 +63,6 @@ impl<W: Drop> Slots<W> {
     }
 
     /// The listings, and among them holes, which have no waker.
-    #[inline(always)]
     pub fn as_slice(&self) -> &[Listing<W>]
         ensures { listings_in self.now ≡ filter is_kept result.now }
     {
@@ -94,7 +92,6 @@ impl<W: Drop> Slots<W> {
     }
 
     /// The listing with this ticket.
-    #[inline(always)]
     pub fn find(&self, ticket: u64) -> Option<&Listing<W>>
         ensures { option_map (λ x. x.waker) (option_copied result) ≡ find_listing ticket (listings_in self.now) }
     {
@@ -103,7 +100,6 @@ impl<W: Drop> Slots<W> {
     }
 
     /// Takes the listing with this ticket out, if one has it.
-    #[inline(always)]
     pub fn take_out(&mut self, ticket: u64) -> Option<Listing<W>>
         ensures waker { option_map (λ x. x.waker) result ≡ find_listing ticket (listings_in self.old) }
         ensures listings { listings_in self.new ≡ take_out ticket (listings_in self.old) }
@@ -124,7 +120,6 @@ impl<W: Drop> Slots<W> {
     }
 
     /// Lets the waker of the listing with this ticket be renewed, if it has one.
-    #[inline(always)]
     pub fn renew<N: Renews<W>>(&mut self, ticket: u64, by: &mut N) -> bool
         ensures renewed { result ≡ true
             → Renewed N.renewed ticket (listings_in self.old) by.old (listings_in self.new) by.new }
@@ -145,7 +140,6 @@ impl<W: Drop> Slots<W> {
     }
 
     /// The least ticket that no listing has.
-    #[inline(always)]
     pub fn free_ticket(&mut self) -> u64
         ensures least { result ≡ new_ticket (listings_in self.old) }
         ensures new { member result (tickets (listings_in self.old)) ≡ false }
@@ -175,7 +169,6 @@ impl<W: Drop> Slots<W> {
     }
 
     /// The first listing that has a waker gives it, and stays.
-    #[inline(always)]
     pub fn call_first(&mut self) -> Option<W>
         ensures waker { result ≡ first_waker (listings_in self.old) }
         ensures listings { listings_in self.new ≡ call_first (listings_in self.old) }
@@ -206,7 +199,6 @@ impl<W: Drop> Slots<W> {
     }
 
     /// Sees to it that the listing that was taken out can be put to the end again, without memory.
-    #[inline(always)]
     pub fn make_room(&mut self)
         requires { length (listings_in self.old) < vec_len self.old.slots }
         ensures slot { HasSlot self.new }
@@ -221,7 +213,6 @@ impl<W: Drop> Slots<W> {
     }
 
     /// Takes all listings out, in their order. It takes no memory.
-    #[inline(always)]
     pub fn take_all(&mut self) -> Vec<Listing<W>>
         ensures all { result.items ≡ listings_in self.old }
         ensures none { listings_in self.new ≡ [] }
@@ -237,7 +228,6 @@ impl<W: Drop> Slots<W> {
         mem::replace(&mut self.slots, Vec::new(alloc))
     }
 
-    #[inline(always)]
     fn place(&self, ticket: u64) -> Option<usize>
         ensures some { IfSome result (λ i. (i < length self.now.slots.items)
             × HoldsAt (λ x. x.ticket ≡ ticket) self.now.slots.items i × ((ticket == hole) ≡ false)) }
@@ -252,7 +242,6 @@ impl<W: Drop> Slots<W> {
         }
     }
 
-    #[inline(always)]
     fn noted(&self, ticket: u64) -> Option<usize>
         ensures { IfSome result (λ i. (i < length self.now.slots.items)
             × HoldsAt (λ x. x.ticket ≡ ticket) self.now.slots.items i) }
@@ -314,7 +303,6 @@ impl<W: Drop> Slots<W> {
 }
 
 // Makes room for one more: four at first, and then twice as much.
-#[inline(always)]
 fn reserve_one<T>(slots: &mut Vec<T>) -> Result<(), AllocError>
     ensures items { slots.new.items ≡ slots.old.items }
     ensures len { vec_len slots.new ≡ vec_len slots.old }
@@ -352,7 +340,6 @@ fn note_all<W>(places: &mut Vec<usize>, slots: &[Listing<W>]) {
     }
 }
 
-#[inline(always)]
 fn has_waker<W>(slot: &Listing<W>) -> bool
     ensures { result ≡ is_open slot.now }
 {
@@ -383,7 +370,6 @@ fn mark(marks: &mut Vec<bool>, number: u64)
     }
 }
 
-#[inline(always)]
 fn unmark(marks: &mut Vec<bool>, number: u64)
     ensures marks { (n : ℕ) → is_marked n marks.new.items
         ≡ (if number == n then false else is_marked n marks.old.items) }

@@ -40,7 +40,6 @@ pub enum Ending {
 
 impl Ending {
     /// Whether the call ends with the value: only then does its release set the ready bit.
-    #[inline(always)]
     pub fn is_value(self) -> bool
         ensures { result ≡ ends_with_value self }
     {
@@ -191,7 +190,6 @@ pub enum Place<W, Q> {
 }
 
 impl<W, Q: Drop> Place<W, Q> {
-    #[inline(always)]
     fn left(&self) -> u32
         ensures left { result ≡ left_at self.now }
         ensures most { result ≤ 16 }
@@ -218,7 +216,6 @@ impl<W, Q: Drop> Place<W, Q> {
     }
 
     /// Where a holder goes that gives the right back: by the word alone if it claimed so, and else under the lock.
-    #[inline(always)]
     pub fn giving_back(by: Option<Q>, ending: Ending) -> Self
         ensures { result ≡ release_place by ending }
     {
@@ -229,7 +226,6 @@ impl<W, Q: Drop> Place<W, Q> {
     }
 
     /// Where a waiter goes that leaves: it takes its listing out if it has a ticket, and else counts out.
-    #[inline(always)]
     pub fn leaving(queue: Q, ticket: Option<u64>, ending: Ending) -> Self
         ensures { result ≡ leave_place queue ticket ending }
     {
@@ -253,7 +249,6 @@ pub enum Step<W, Q> {
 
 impl<W: Drop, Q: Drop> Step<W, Q> {
     /// A task that was not polled yet.
-    #[inline(always)]
     pub fn new() -> Self
         ensures { result ≡ Step.Resting Rest.Start }
     {
@@ -261,7 +256,6 @@ impl<W: Drop, Q: Drop> Step<W, Q> {
     }
 
     /// Whether the last call ended with anything but Pending.
-    #[inline(always)]
     pub fn is_finished(&self) -> bool
         ensures { IsTrue result ↔ (self.now ≡ Step.Finished) }
     {
@@ -269,7 +263,6 @@ impl<W: Drop, Q: Drop> Step<W, Q> {
     }
 
     /// Whether a call may begin: none is under way, and the last one, if any, ended Pending.
-    #[inline(always)]
     pub fn is_resting(&self) -> bool
         ensures { result ≡ is_resting self.now }
     {
@@ -277,7 +270,6 @@ impl<W: Drop, Q: Drop> Step<W, Q> {
     }
 
     /// How many steps the call may still take at most; 0 where none is under way.
-    #[inline(always)]
     pub fn left(&self) -> u32
         ensures left { result ≡ left_of self.now }
         ensures most { result ≤ 16 }
@@ -290,7 +282,6 @@ impl<W: Drop, Q: Drop> Step<W, Q> {
     }
 
     /// Begins a poll.
-    #[inline(always)]
     pub fn begin(&mut self)
         requires { is_resting self.old ≡ true }
         ensures { self.new ≡ step_of_poll self.old }
@@ -307,7 +298,6 @@ impl<W: Drop, Q: Drop> Step<W, Q> {
     }
 
     /// Begins a drop: the init is closed first. `false` says that the task was never polled, so there is no step to do.
-    #[inline(always)]
     pub fn begin_drop<S: Side<W>>(&mut self, side: &mut S) -> bool
         requires { is_resting self.old ≡ true }
         ensures step { self.new ≡ step_of_drop self.old }
@@ -329,7 +319,6 @@ impl<W: Drop, Q: Drop> Step<W, Q> {
     }
 
     // Puts a step in place of one that has nothing to drop. Without `forget` an assignment would test which it is.
-    #[inline(always)]
     fn set(&mut self, step: Step<W, Q>)
         ensures { self.new ≡ step }
     {

@@ -136,7 +136,6 @@ impl<W: WakerId + Drop> Lists<W> {
     ghost use Rattle.once_machine.specs.Room.{HasSpace, capacity_of, listings_of, claimant};
 
     /// No holder, and nobody listed. It takes no memory.
-    #[inline(always)]
     pub fn new(alloc: Global) -> Self
         ensures head { result.head ≡ false }
         ensures listings { listings_of result ≡ [] }
@@ -151,7 +150,6 @@ impl<W: WakerId + Drop> Lists<W> {
 
     /// Claims the right if the word and the flag leave it free: the own listing is taken out, and the ticket given up.
     /// Else says whether the own listing has this waker: not if it was woken, or there is no waker or ticket.
-    #[inline(always)]
     pub fn look(&mut self, ticket: &mut Option<u64>, waker: Option<&W>, word: u64) -> Answer<W>
         ensures claims { Claims (sees (flags_of word) self.old.head)
             (claimant self.old ticket.old) result (claimant self.new ticket.new) }
@@ -198,7 +196,6 @@ impl<W: WakerId + Drop> Lists<W> {
     /// As [`look`](Self::look), but if the right is taken, lists the waker at the end: with the own ticket, whose old
     /// listing is taken out, or if that has none, with the least free ticket. A waker that was not listed stays in the
     /// option. `Memory` says that the own ticket has no listing and the list, which is as it was, could not grow.
-    #[inline(always)]
     pub fn list(&mut self, ticket: &mut Option<u64>, waker: &mut Option<W>, word: u64) -> Answer<W>
         requires { IsSome waker.old }
         ensures claims { Claims (sees (flags_of word) self.old.head)
@@ -250,7 +247,6 @@ impl<W: WakerId + Drop> Lists<W> {
 
     /// Lowers the flag. With the value set all listings leave; without it the first that was not woken yet gives its
     /// waker, and stays. It takes no memory.
-    #[inline(always)]
     pub fn release(&mut self, ready: bool) -> Out<W>
         ensures listings { Releases W.tells_same W.tells_other ready
             (listings_of self.old) result (listings_of self.new) }
@@ -269,7 +265,6 @@ impl<W: WakerId + Drop> Lists<W> {
 
     /// Takes the listing with this ticket out. If it was woken, the value is not set and nobody holds, the first that
     /// was not woken yet gives its waker, and stays. It takes no memory.
-    #[inline(always)]
     pub fn leave(&mut self, ticket: u64, word: u64) -> Option<W>
         ensures waker { result ≡ next_waker
             (passes_turn (is_free (sees (flags_of word) self.old.head)) ticket (listings_of self.old))
@@ -285,7 +280,6 @@ impl<W: WakerId + Drop> Lists<W> {
     }
 
     /// As [`leave`](Self::leave). It answers the waker that the own listing had too.
-    #[inline(always)]
     pub fn leave_own(&mut self, ticket: u64, word: u64) -> (Option<W>, Option<W>)
         ensures waker { result.0 ≡ next_waker
             (passes_turn (is_free (sees (flags_of word) self.old.head)) ticket (listings_of self.old))
@@ -387,7 +381,6 @@ impl<W: WakerId + Drop> Lists<W> {
     }
 
     /// Lets the waker of the listing with this ticket be renewed, and answers whether it has one.
-    #[inline(always)]
     pub fn renew<N: Renews<W>>(&mut self, ticket: u64, by: &mut N) -> bool
         ensures renewed { result ≡ true
             → Renewed N.renewed ticket (listings_of self.old) by.old (listings_of self.new) by.new }
@@ -399,7 +392,6 @@ impl<W: WakerId + Drop> Lists<W> {
         self.slots.renew(ticket, by)
     }
 
-    #[inline(always)]
     fn own(&self, ticket: Option<u64>) -> Option<&W>
         ensures { option_copied result ≡ option_flatten (own_listing ticket (listings_of self.now)) }
     {
@@ -445,7 +437,6 @@ impl<W: WakerId + Drop> Lists<W> {
         Some(mine)
     }
 
-    #[inline(always)]
     fn take_out(&mut self, ticket: u64) -> Option<Listing<W>>
         ensures waker { option_map (λ x. x.waker) result ≡ find_listing ticket (listings_of self.old) }
         ensures listings { listings_of self.new ≡ take_out ticket (listings_of self.old) }
@@ -473,7 +464,6 @@ impl<W: WakerId + Drop> Lists<W> {
         self.slots.push(listing);
     }
 
-    #[inline(always)]
     fn call_first(&mut self) -> Option<W>
         ensures waker { result ≡ first_waker (listings_of self.old) }
         ensures listings { listings_of self.new ≡ call_first (listings_of self.old) }
@@ -501,7 +491,6 @@ fn once_each<W: WakerId + Drop>(listings: &mut Vec<Listing<W>>, mixed: bool)
     }
 }
 
-#[inline(always)]
 fn may_repeat<W: WakerId>(listing: &Listing<W>, before: &[Listing<W>]) -> bool
     ensures { result ≡ false → IfSome listing.now.waker
         (λ w. All (λ x. IfSome x.waker (λ v. W.tells_other v w)) before.now) }
@@ -521,7 +510,6 @@ fn repeats<W: WakerId>(listing: &Listing<W>, before: &[Listing<W>]) -> bool
     }
 }
 
-#[inline(always)]
 fn has<W: WakerId>(listing: &Listing<W>, waker: &W) -> bool
     ensures yes { result ≡ true → MatchOption listing.now.waker ⊥ (λ w. W.tells_same w waker.now) }
     ensures no { result ≡ false → IfSome listing.now.waker (λ w. W.tells_other w waker.now) }

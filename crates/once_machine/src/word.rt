@@ -41,7 +41,6 @@ impl Model for Word {
 
 impl Word {
     /// The word of a new cell, which is made with a value or not. Nobody is counted in.
-    #[inline(always)]
     pub fn new(ready: bool) -> Self
         ensures { result ≡ flags_alone false ready }
     {
@@ -51,7 +50,6 @@ impl Word {
     }
 
     /// The word that this number stands for.
-    #[inline(always)]
     pub fn from_bits(bits: u64) -> Self
         ensures { result ≡ flags_of bits }
     {
@@ -59,7 +57,6 @@ impl Word {
     }
 
     /// The word as a number.
-    #[inline(always)]
     pub fn bits(&self) -> u64
         ensures { flags_of result ≡ self.now }
     {
@@ -67,7 +64,6 @@ impl Word {
     }
 
     /// How many tasks are counted in.
-    #[inline(always)]
     pub fn count(&self) -> u64
         ensures { result ≡ self.now.count }
     {
@@ -75,7 +71,6 @@ impl Word {
     }
 
     /// Whether the ready bit is set: the cell has its value.
-    #[inline(always)]
     pub fn is_ready(&self) -> bool
         ensures { result ≡ self.now.ready }
     {
@@ -83,7 +78,6 @@ impl Word {
     }
 
     /// Whether the quick bit is set: a quick holder has the right.
-    #[inline(always)]
     pub fn is_quick(&self) -> bool
         ensures { result ≡ self.now.quick }
     {
@@ -105,7 +99,6 @@ impl Word {
     }
 
     /// Whether the word is `NEW`.
-    #[inline(always)]
     pub fn is_new(&self) -> bool
         ensures { result ≡ is_zero self.now }
     {
@@ -113,7 +106,6 @@ impl Word {
     }
 
     /// Whether the word is exactly the ready bit: the cell has its value, and nobody is counted in.
-    #[inline(always)]
     pub fn is_ready_alone(&self) -> bool
         ensures { result ≡ is_ready_bit self.now }
     {

@@ -46,7 +46,6 @@ impl<T: Keyed> Move for KeyedMutex<T> {
 
 impl<T: Keyed> KeyedMutex<T> {
     /// A lock with this content. Its key is the content's.
-    #[inline(always)]
     pub fn new(value: T) -> KeyedMutex<T>
         ensures { result ≡ T.key_of value }
     {
@@ -56,7 +55,6 @@ impl<T: Keyed> KeyedMutex<T> {
     }
 
     /// The content, which has the lock's key.
-    #[inline(always)]
     pub fn into_inner(self) -> T
         ensures { T.key_of result ≡ self }
     {
@@ -78,7 +76,6 @@ impl<T: Keyed> KeyedMutex<T> {
     }
 
     /// Takes the lock if it is free.
-    #[inline(always)]
     pub fn try_lock<J: Key>(&self) -> Option<MutexGuard<'_, Tied<T, J>>>
         requires { self.now ≡ J.key }
     {
@@ -110,7 +107,6 @@ impl<T: Keyed> KeyedMutex<T> {
         )
     }
 
-    #[inline(always)]
     fn get<J: Key>(&self) -> &LockOf<T, J>
         requires { self.now ≡ J.key }
     {
@@ -119,7 +115,6 @@ impl<T: Keyed> KeyedMutex<T> {
 }
 
 impl<T: Keyed + Drop> Drop for KeyedMutex<T> {
-    #[inline(always)]
     fn drop(self) {
         drop(self.into_inner());
     }

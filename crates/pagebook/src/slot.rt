@@ -53,7 +53,6 @@ impl<T, E, P, R: Rule<E, P>, V: Fits<T>> Move for Slot<T, E, P, R, V> {
 
 impl<T, E, P, R: Rule<E, P>, V: Fits<T>> Slot<T, E, P, R, V> {
     /// An empty slot, whose state is the word of the first blank, a 0. What `V` promises is about no numbers.
-    #[inline(always)]
     pub fn new(blanks: &mut Blanks) -> Slot<T, E, P, R, V>
         requires { slice_get blanks.old.numbers 0 ≡ Some 0 }
         ensures slot { (result.book ≡ blanks.old.book) × (result.key ≡ blanks.old.first) × (result.about ≡ []) }
@@ -64,7 +63,6 @@ impl<T, E, P, R: Rule<E, P>, V: Fits<T>> Slot<T, E, P, R, V> {
     }
 
     /// As `new`, but what `V` promises of the value is about the numbers of the tag.
-    #[inline(always)]
     pub fn promised(blanks: &mut Blanks, tag: &Tag) -> Slot<T, E, P, R, V>
         requires { slice_get blanks.old.numbers 0 ≡ Some 0 }
         ensures slot { (result.book ≡ blanks.old.book) × (result.key ≡ blanks.old.first)
@@ -83,7 +81,6 @@ impl<T, E, P, R: Rule<E, P>, V: Fits<T>> Slot<T, E, P, R, V> {
     /// does: `B` says what the first tells, by which the state is 1, and `F` the second, by which it is 2. Neither is
     /// in the machine code: all that runs is a plain write of the value. By the rule the first finds 0, because nobody
     /// began to put a value, and the second keeps the rule wherever the first led.
-    #[inline(always)]
     pub fn put<X, B: Play<X, E, P>, F: Play<X, E, P>>(
         &self,
         value: T,
@@ -114,7 +111,6 @@ impl<T, E, P, R: Rule<E, P>, V: Fits<T>> Slot<T, E, P, R, V> {
     }
 
     /// The value, and what shows that it is the slot's. By the rule the state is 2 if so much of the log was seen.
-    #[inline(always)]
     pub fn get<'a>(&'a self, seen: &Seen<E, P, R>) -> (&'a T, Written<T>)
         requires book { seen.now.book ≡ self.now.book }
         requires sure { Sure R.holds seen.now.log self.now.key 2 }
@@ -124,7 +120,6 @@ impl<T, E, P, R: Rule<E, P>, V: Fits<T>> Slot<T, E, P, R, V> {
         (self.value(&written), written)
     }
 
-    #[inline(always)]
     fn found(&self, seen: &Seen<E, P, R>) -> Written<T>
         requires book { seen.now.book ≡ self.now.book }
         requires sure { Sure R.holds seen.now.log self.now.key 2 }
@@ -136,7 +131,6 @@ impl<T, E, P, R: Rule<E, P>, V: Fits<T>> Slot<T, E, P, R, V> {
     }
 
     /// The value, for whoever shows by a token that there is one. No book is needed.
-    #[inline(always)]
     pub fn value<'a>(&'a self, written: &Written<T>) -> &'a T
         requires { written.now.of ≡ self.now.id }
         ensures { (result.now ≡ written.now.value) × V.fits self.now.about result.now }
@@ -150,7 +144,6 @@ impl<T, E, P, R: Rule<E, P>, V: Fits<T>> Slot<T, E, P, R, V> {
     }
 
     /// The value, if there is one.
-    #[inline(always)]
     pub fn into_inner(self) -> Option<T>
         ensures { IfSome result (V.fits self.about) }
     {
@@ -159,7 +152,6 @@ impl<T, E, P, R: Rule<E, P>, V: Fits<T>> Slot<T, E, P, R, V> {
     }
 
     /// The value, for an owner that shows by a token that there is one.
-    #[inline(always)]
     pub fn into_value(self, written: &Written<T>) -> T
         requires { written.now.of ≡ self.id }
         ensures { (result ≡ written.now.value) × V.fits self.about result }
@@ -170,7 +162,6 @@ impl<T, E, P, R: Rule<E, P>, V: Fits<T>> Slot<T, E, P, R, V> {
         }
     }
 
-    #[inline(always)]
     fn taken(self, written: &Written<T>) -> Option<T>
         requires { written.now.of ≡ self.id }
         ensures { (result ≡ Some written.now.value) × V.fits self.about written.now.value }
@@ -183,7 +174,6 @@ impl<T, E, P, R: Rule<E, P>, V: Fits<T>> Slot<T, E, P, R, V> {
 
 impl<T> Written<T> {
     /// A copy, which shows the same.
-    #[inline(always)]
     pub fn again(&self) -> Written<T>
         ensures { (result.of ≡ self.now.of) × (result.value ≡ self.now.value) }
     {
@@ -193,7 +183,6 @@ impl<T> Written<T> {
     }
 
     /// Two tokens of one slot show one value. It does nothing.
-    #[inline(always)]
     pub fn agrees(&self, other: &Written<T>)
         requires { self.now.of ≡ other.now.of }
         ensures { self.now.value ≡ other.now.value }
@@ -201,14 +190,12 @@ impl<T> Written<T> {
 }
 
 impl<T: Drop, E, P, R: Rule<E, P>, V: Fits<T>> Drop for Slot<T, E, P, R, V> {
-    #[inline(always)]
     fn drop(self) {
         drop(self.into_inner());
     }
 }
 
 impl<T> Drop for Written<T> {
-    #[inline(always)]
     fn drop(self) {
         let Self { marker: _ } = self;
     }

@@ -37,7 +37,6 @@ pub struct LockOf<T: Keyed, J: Key> {
     pub lock: Mutex<Tied<T, J>>,
 }
 
-#[inline(always)]
 pub(crate) fn sealed<T: Keyed, J: Key>(value: T) -> Mutex<Tied<T, J>>
     requires { T.key_of value ≡ J.key }
 {
@@ -47,7 +46,6 @@ pub(crate) fn sealed<T: Keyed, J: Key>(value: T) -> Mutex<Tied<T, J>>
     })
 }
 
-#[inline(always)]
 pub(crate) fn opened<T: Keyed, J: Key>(lock: Mutex<Tied<T, J>>) -> T
     ensures { T.key_of result ≡ J.key }
 {

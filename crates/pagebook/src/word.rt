@@ -60,7 +60,6 @@ impl<E, P, R: Rule<E, P>> Word<E, P, R> {
     /// let (mut blanks, front, _) = Word::open::<(), OneMedal>(&());
     /// let medals = Word::new(0, &mut blanks);
     /// ```
-    #[inline(always)]
     pub fn open<X, M: Opening<X, E, P>>(about: &X) -> (Blanks, Seen<E, P, R>, Pens<P>)
         requires { R.holds (M.words about.now) (M.pages about.now) (M.log about.now) }
         ensures words { (result.0.first ≡ 0) × (result.0.numbers ≡ M.words about.now) }
@@ -81,7 +80,6 @@ impl<E, P, R: Rule<E, P>> Word<E, P, R> {
     }
 
     /// The word of the first blank, which begins with `bits`.
-    #[inline(always)]
     pub fn new(bits: u64, blanks: &mut Blanks) -> Word<E, P, R>
         requires { slice_get blanks.old.numbers 0 ≡ Some bits }
         ensures word { (result.book ≡ blanks.old.book) × (result.key ≡ blanks.old.first) }
@@ -95,7 +93,6 @@ impl<E, P, R: Rule<E, P>> Word<E, P, R> {
     }
 
     /// The number in the word, which stays.
-    #[inline(always)]
     pub fn load<X, M: Play<X, E, P>>(
         &self,
         about: &X,
@@ -114,7 +111,6 @@ impl<E, P, R: Rule<E, P>> Word<E, P, R> {
     }
 
     /// Writes `new`. Its caller is not told what was there, so `then` holds of some number that was found.
-    #[inline(always)]
     pub fn store<X, M: Play<X, E, P>>(
         &self,
         new: u64,
@@ -134,7 +130,6 @@ impl<E, P, R: Rule<E, P>> Word<E, P, R> {
     }
 
     /// Writes `new`, and returns the number that was there.
-    #[inline(always)]
     pub fn swap<X, M: Play<X, E, P>>(
         &self,
         new: u64,
@@ -154,7 +149,6 @@ impl<E, P, R: Rule<E, P>> Word<E, P, R> {
     }
 
     /// Writes `new` if the number there is `old`, and else leaves it. Returns the number that was there.
-    #[inline(always)]
     pub fn compare_exchange<X, M: Play<X, E, P>>(
         &self,
         old: u64,
@@ -175,7 +169,6 @@ impl<E, P, R: Rule<E, P>> Word<E, P, R> {
     }
 
     /// Adds `k`, modulo 2 ^ 64, and returns the number that was there.
-    #[inline(always)]
     pub fn fetch_add<X, M: Play<X, E, P>>(
         &self,
         k: u64,
@@ -195,7 +188,6 @@ impl<E, P, R: Rule<E, P>> Word<E, P, R> {
     }
 
     /// Subtracts `k`, modulo 2 ^ 64, and returns the number that was there.
-    #[inline(always)]
     pub fn fetch_sub<X, M: Play<X, E, P>>(
         &self,
         k: u64,
@@ -242,7 +234,6 @@ impl<P> Model for Pens<P> {
 
 impl<E, P, R: Rule<E, P>> Seen<E, P, R> {
     /// A copy, which knows the same.
-    #[inline(always)]
     pub fn again(&self) -> Seen<E, P, R>
         ensures { result ≡ self.now }
     {
@@ -252,7 +243,6 @@ impl<E, P, R: Rule<E, P>> Seen<E, P, R> {
     }
 
     /// Learns what another of the same book knows: its log then begins with both, and the rule holds of that log.
-    #[inline(always)]
     pub fn learn(&mut self, other: &Seen<E, P, R>)
         requires { other.now.book ≡ self.old.book }
         ensures book { self.new.book ≡ self.old.book }
@@ -261,7 +251,6 @@ impl<E, P, R: Rule<E, P>> Seen<E, P, R> {
     {}
 
     /// Of two logs that were seen of one book, one is a beginning of the other. It does nothing.
-    #[inline(always)]
     pub fn agrees(&self, other: &Seen<E, P, R>)
         requires { other.now.book ≡ self.now.book }
         ensures { IsPrefix self.now.log other.now.log ⊎ IsPrefix other.now.log self.now.log }
@@ -271,7 +260,6 @@ impl<E, P, R: Rule<E, P>> Seen<E, P, R> {
     }
 
     /// A hand with no pen, for a step that changes no page, or that makes the first page of its hand.
-    #[inline(always)]
     pub fn no_pens(&self) -> Pens<P>
         ensures { (result.book ≡ self.now.book) × (result.held ≡ []) }
     {
@@ -282,7 +270,6 @@ impl<E, P, R: Rule<E, P>> Seen<E, P, R> {
 
     /// A step that touches no word, and costs nothing. It may change pages of the hand, and add pages and entries, if
     /// it keeps the rule (`Notes`). New pens come first in the hand. `M` says what the caller is told, of `about`.
-    #[inline(always)]
     pub fn note<X, M: Play<X, E, P>>(&mut self, pens: &mut Pens<P>, about: &X)
         requires pens { pens.old.book ≡ self.old.book }
         requires notes { Notes R.holds (self.old.log, pens.old.held)
@@ -295,7 +282,6 @@ impl<E, P, R: Rule<E, P>> Seen<E, P, R> {
 
 impl<P> Pens<P> {
     /// Takes all pens of another hand of the book behind its own, and leaves that hand with none.
-    #[inline(always)]
     pub fn append(&mut self, other: &mut Pens<P>)
         requires { other.old.book ≡ self.old.book }
         ensures own { (self.new.book ≡ self.old.book) × (self.new.held ≡ self.old.held ++ other.old.held) }
@@ -303,7 +289,6 @@ impl<P> Pens<P> {
     {}
 
     /// Keeps the first `at` pens, and gives the others away. With fewer than that it gives none.
-    #[inline(always)]
     pub fn split_off(&mut self, at: usize) -> Pens<P>
         ensures kept { (self.new.book ≡ self.old.book) × (self.new.held ≡ take at self.old.held) }
         ensures given { (result.book ≡ self.old.book) × (result.held ≡ drop at self.old.held) }
@@ -316,28 +301,24 @@ impl<P> Pens<P> {
 }
 
 impl Drop for Blanks {
-    #[inline(always)]
     fn drop(self) {
         let Self { marker: _ } = self;
     }
 }
 
 impl<E, P, R: Rule<E, P>> Drop for Word<E, P, R> {
-    #[inline(always)]
     fn drop(self) {
         let Self { bits: _, marker: _ } = self;
     }
 }
 
 impl<E, P, R: Rule<E, P>> Drop for Seen<E, P, R> {
-    #[inline(always)]
     fn drop(self) {
         let Self { marker: _ } = self;
     }
 }
 
 impl<P> Drop for Pens<P> {
-    #[inline(always)]
     fn drop(self) {
         let Self { marker: _ } = self;
     }

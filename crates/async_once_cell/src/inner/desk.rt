@@ -72,7 +72,6 @@ impl<W: TaskWaker> Keyed for Desk<W> {
 
 impl<W: TaskWaker + Drop> Desk<W> {
     /// No queue, and the first two pages of a new book.
-    #[inline(always)]
     pub fn new(pens: CellPens) -> Self
         requires { pens.held ≡ desk_sheets first_desk }
         ensures { result ≡ pens.book }
@@ -81,7 +80,6 @@ impl<W: TaskWaker + Drop> Desk<W> {
     }
 
     /// Whether a queue stands at the door.
-    #[inline(always)]
     pub fn get(&mut self, hand: &mut Hand) -> bool
         requires book { self.old ≡ hand.old.seen.book }
         requires can { call_in (own_of hand.old).task.step ≡ DoorGet }
@@ -94,7 +92,6 @@ impl<W: TaskWaker + Drop> Desk<W> {
     }
 
     /// Puts this queue to the door. If one stands there, this comes back.
-    #[inline(always)]
     pub fn put(
         &mut self,
         has_put: &CellWord,
@@ -119,7 +116,6 @@ impl<W: TaskWaker + Drop> Desk<W> {
     }
 
     /// Takes the queue out of the door.
-    #[inline(always)]
     pub fn take(&mut self, hand: &mut Hand) -> Option<Box<Lists<W>>>
         requires book { self.old ≡ hand.old.seen.book }
         requires can { call_in (own_of hand.old).task.step ≡ DoorTake }
@@ -189,7 +185,6 @@ impl<W: TaskWaker + Drop> Desk<W> {
     }
 
     /// Lets the listed waker of a task at rest be renewed, if there is one. No page changes, since it stays the task's.
-    #[inline(always)]
     pub fn renew<N: Renews<W>>(&mut self, hand: &mut Hand, ticket: u64, by: &mut N) -> bool
         requires owner { KeepsOwner W.whose N.renewed }
         requires book { self.old ≡ hand.old.seen.book }
@@ -211,7 +206,6 @@ impl<W: TaskWaker + Drop> Desk<W> {
     }
 
     /// Gives the right back. It wakes all if the value is set (`ready`), and else one.
-    #[inline(always)]
     pub fn release(&mut self, word: &CellWord, hand: &mut Hand, ready: bool) -> Out<W>
         requires word { IsWord word.now hand.old.seen.book 0 }
         requires book { self.old ≡ hand.old.seen.book }
@@ -233,8 +227,6 @@ impl<W: TaskWaker + Drop> Desk<W> {
 
     /// Takes the listing with this ticket out. If it was woken and nobody holds, wakes the next. It answers that
     /// waker, and the one that the own listing had.
-    // With this one inlined too, a section is so large that the kit inlines none.
-    #[inline(never)]
     pub fn leave(&mut self, word: &CellWord, hand: &mut Hand, ticket: u64) -> (Option<W>, Option<W>)
         requires word { IsWord word.now hand.old.seen.book 0 }
         requires book { self.old ≡ hand.old.seen.book }
@@ -257,7 +249,6 @@ impl<W: TaskWaker + Drop> Desk<W> {
 
 impl<W: TaskWaker + Drop> Drop for Desk<W> {
     // Most cells are dropped without a queue. So a queue is dropped in a call of its own, and the rest is inlined.
-    #[inline(always)]
     fn drop(self) {
         let Desk { lists, pens: _pens } = self;
         if let Some(queue) = lists {
@@ -272,7 +263,6 @@ fn drop_queue<W: TaskWaker + Drop>(queue: Box<Lists<W>>) {
 }
 
 // What a release adds to the word. The sum may wrap round.
-#[inline(always)]
 fn word_to_add(ready: bool, head: bool) -> u64
     ensures { result ≡ more_released ready head }
 {
@@ -296,7 +286,6 @@ fn has_room<W: WakerId + Drop>(lists: &mut Lists<W>, ticket: Option<u64>) -> boo
 }
 
 // Claims the right if it is free. With `look_own` in this place, a section is so large that the kit inlines none.
-#[inline(always)]
 fn list_without_room<W: WakerId + Drop>(
     lists: &mut Lists<W>,
     ticket: &mut Option<u64>,
@@ -321,7 +310,6 @@ fn list_without_room<W: WakerId + Drop>(
 }
 
 /// A moment that no word marks.
-#[inline(always)]
 fn note(desk: &mut CellPens, hand: &mut Hand, section: &Section)
     requires book { desk.old.book ≡ hand.old.seen.book }
     requires desk { IsDesk desk.old.held }
@@ -337,7 +325,6 @@ fn note(desk: &mut CellPens, hand: &mut Hand, section: &Section)
 }
 
 /// A moment that a load of the word marks. `room` says whether the waker of a `List` can be listed.
-#[inline(always)]
 fn see(word: &CellWord, desk: &mut CellPens, hand: &mut Hand, room: bool) -> u64
     requires word { IsWord word.now hand.old.seen.book 0 }
     requires book { desk.old.book ≡ hand.old.seen.book }
@@ -354,7 +341,6 @@ fn see(word: &CellWord, desk: &mut CellPens, hand: &mut Hand, room: bool) -> u64
     found
 }
 
-#[inline(always)]
 fn mark_put(has_put: &CellWord, desk: &mut CellPens, hand: &mut Hand)
     requires word { IsWord has_put.now hand.old.seen.book 1 }
     requires book { desk.old.book ≡ hand.old.seen.book }
@@ -371,7 +357,6 @@ fn mark_put(has_put: &CellWord, desk: &mut CellPens, hand: &mut Hand)
     hand.pens = desk.split_off(2);
 }
 
-#[inline(always)]
 fn mark_release(word: &CellWord, desk: &mut CellPens, hand: &mut Hand, ready: bool, more: u64)
     requires word { IsWord word.now hand.old.seen.book 0 }
     requires book { desk.old.book ≡ hand.old.seen.book }
@@ -391,7 +376,6 @@ fn mark_release(word: &CellWord, desk: &mut CellPens, hand: &mut Hand, ready: bo
 }
 
 impl<T, W: TaskWaker + Drop, V: Fits<T>> Inner<T, W, V> {
-    #[inline(always)]
     pub(super) fn lock_and_get<J: Key, R: Wait>(&self, rt: &R, hand: &mut Hand) -> bool
         requires key { self.now.desk ≡ J.key }
         requires book { hand.old.seen.book ≡ J.key }
@@ -403,7 +387,6 @@ impl<T, W: TaskWaker + Drop, V: Fits<T>> Inner<T, W, V> {
     }
 
     // If a queue stood there, this comes back.
-    #[inline(always)]
     pub(super) fn lock_and_put<J: Key, R: Wait>(
         &self,
         rt: &R,

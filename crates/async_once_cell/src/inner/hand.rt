@@ -73,7 +73,6 @@ impl Model for Mark {
 
 impl Mark {
     /// The number of the task whose pen this is.
-    #[inline(always)]
     pub fn of(pens: &CellPens) -> Mark
         ensures { result ≡ number_in pens.now.held }
     {
@@ -97,7 +96,6 @@ impl Hand {
     ghost use Rattle.async_once_cell.specs.Inner.Hands.{HasRight, HasRun, own_of};
 
     /// A new task's, by what was seen of the log before.
-    #[inline(always)]
     pub fn new(front: &Record) -> Hand
         ensures book { result.seen.book ≡ front.now.book }
         ensures task { (own_of result).task ≡ fresh_task }
@@ -111,7 +109,6 @@ impl Hand {
 
     /// Counts the task in, or answers that as many are counted as may be. `None` says that nothing was done, because
     /// another task changed the word between the load and the exchange.
-    #[inline(always)]
     pub fn try_count_in(&mut self, word: &CellWord) -> Option<Counted>
         requires word { IsWord word.now self.old.seen.book 0 }
         requires can { call_in (own_of self.old).task.step ≡ CountIn }
@@ -140,7 +137,6 @@ impl Hand {
     }
 
     /// Sees whether no queue was ever put. If so, there is none to take, and that was the step.
-    #[inline(always)]
     pub fn finds_none_put(&mut self, has_put: &CellWord) -> bool
         requires word { IsWord has_put.now self.old.seen.book 1 }
         requires can { call_in (own_of self.old).task.step ≡ DoorTake }
@@ -152,7 +148,6 @@ impl Hand {
     }
 
     // For `poll_init` alone, which polled the init.
-    #[inline(always)]
     pub(super) fn ran(&mut self, answer: Polled)
         requires right { HasRight self.old }
         ensures ran { HasRun self.old answer self.new }
@@ -162,7 +157,6 @@ impl Hand {
     }
 
     /// The copy of the waker was refused, after a look that found a holder.
-    #[inline(always)]
     pub fn refused(&mut self)
         requires can { CanRefuse (own_of self.old).task.step }
         ensures book { self.new.seen.book ≡ self.old.seen.book }
@@ -172,7 +166,6 @@ impl Hand {
     }
 
     /// Memory for a queue was refused.
-    #[inline(always)]
     pub fn unput(&mut self)
         requires can { call_in (own_of self.old).task.step ≡ DoorPut }
         ensures book { self.new.seen.book ≡ self.old.seen.book }
@@ -182,7 +175,6 @@ impl Hand {
     }
 
     /// The task learns what a record of its cell has.
-    #[inline(always)]
     pub fn learn(&mut self, seen: &Record)
         requires book { seen.now.book ≡ self.old.seen.book }
         ensures book { self.new.seen.book ≡ self.old.seen.book }
@@ -203,7 +195,6 @@ impl Hand {
     }
 
     /// Shows that two hands of one book are of two tasks. The first may learn more of the record.
-    #[inline(always)]
     pub fn are_two(a: &mut Hand, b: &mut Hand)
         requires book { b.old.seen.book ≡ a.old.seen.book }
         ensures book { (a.new.seen.book ≡ a.old.seen.book) × (b.new.seen.book ≡ b.old.seen.book) }
@@ -240,7 +231,6 @@ pub trait TaskWaker: WakerId {
 
 /// A record that was seen is a run of the cell. At each of its beginnings somebody was woken if somebody had to be.
 /// Each task polls its init once at most in each of its calls.
-#[inline(always)]
 pub fn is_run(seen: &Record)
     ensures run { IsRun Once most (reverse seen.now.log) }
     ensures called { AtEvery (SomebodyCalled Once) (reverse seen.now.log) }
@@ -251,7 +241,6 @@ pub fn is_run(seen: &Record)
 }
 
 /// A cell that was set in a record is set in each later one.
-#[inline(always)]
 pub fn stays_set(earlier: &Record, later: &Record)
     ensures { IsPrefix earlier.now.log later.now.log → IsSet earlier.now.log → IsSet later.now.log }
 {
@@ -259,7 +248,6 @@ pub fn stays_set(earlier: &Record, later: &Record)
 }
 
 /// The cell is set in a record whose newest entry is the end of a call with the value.
-#[inline(always)]
 pub fn is_set_where_answered(seen: &Record)
     requires { (t : ℕ) × EndsSet t seen.now.log }
     ensures { IsSet seen.now.log }

@@ -66,7 +66,6 @@ impl<T, W: TaskWaker + Drop> Inner<T, W> {
     /// let cell = Inner::<u64, Bell>::new();
     /// assert_eq!(rt; cell.has_queue(), Some(false));
     /// ```
-    #[inline(always)]
     pub fn new() -> Self
         ensures about { result.slot.about ≡ [] }
     {
@@ -78,7 +77,6 @@ impl<T, W: TaskWaker + Drop, V: Fits<T>> Inner<T, W, V> {
     ghost use Rattle.async_once_cell.specs.Inner.Shares.{cell_of, own};
 
     /// As [`new`](Self::new). What `V` promises of the value is about the numbers of the tag.
-    #[inline(always)]
     pub fn promised(tag: &Tag) -> Self
         ensures about { result.slot.about ≡ tag.now.numbers }
     {
@@ -98,7 +96,6 @@ impl<T, W: TaskWaker + Drop, V: Fits<T>> Inner<T, W, V> {
     /// let mut record = cell.record();
     /// assert!(rt; cell.look(&mut record).is_some());
     /// ```
-    #[inline(always)]
     pub fn record(&self) -> Record
         ensures { result.book ≡ self.now.slot.book }
     {
@@ -112,7 +109,6 @@ impl<T, W: TaskWaker + Drop, V: Fits<T>> Inner<T, W, V> {
     /// task.begin();
     /// let word = task.load();
     /// ```
-    #[inline(always)]
     pub fn task<'a, 'r, R>(&'a self, rt: &'r R) -> Shared<'a, 'r, T, W, R, V>
         ensures cell { cell_of result ≡ self.now.slot }
         ensures task { (own result).task ≡ fresh_task }
@@ -132,7 +128,6 @@ impl<T, W: TaskWaker + Drop, V: Fits<T>> Inner<T, W, V> {
     /// let mut record = cell.record();
     /// assert!(rt; cell.look(&mut record).is_none()); // at a moment of this call the cell was not set
     /// ```
-    #[inline(always)]
     pub fn look<'a>(&'a self, seen: &mut Record) -> Option<(&'a T, Written<T>)>
         requires book { seen.old.book ≡ self.now.slot.book }
         ensures book { seen.new.book ≡ seen.old.book }
@@ -147,7 +142,6 @@ impl<T, W: TaskWaker + Drop, V: Fits<T>> Inner<T, W, V> {
         None
     }
 
-    #[inline(always)]
     fn load(&self, seen: &mut Record) -> u64
         requires book { seen.old.book ≡ self.now.slot.book }
         ensures book { seen.new.book ≡ seen.old.book }
@@ -165,7 +159,6 @@ impl<T, W: TaskWaker + Drop, V: Fits<T>> Inner<T, W, V> {
     ///     return Some(inner.value(written)); // without a look at the word
     /// }
     /// ```
-    #[inline(always)]
     pub fn value<'a>(&'a self, written: &Written<T>) -> &'a T
         requires { written.now.of ≡ self.now.slot.id }
         ensures value { result.now ≡ written.now.value }
@@ -215,13 +208,7 @@ impl<T, W: TaskWaker + Drop, V: Fits<T>> Inner<T, W, V> {
     fn into_slot(self) -> CellSlot<T, V>
         ensures { result ≡ self.slot }
     {
-        let Inner {
-            word: _word,
-            has_put: _has_put,
-            slot,
-            front: _front,
-            desk: _desk,
-        } = self;
+        let Inner { slot, .. } = self;
         slot
     }
 
@@ -276,7 +263,6 @@ impl<'a, 'r, T, W: TaskWaker, R, V: Fits<T>> Shared<'a, 'r, T, W, R, V> {
     /// task.begin();
     /// let word = task.load();
     /// ```
-    #[inline(always)]
     pub fn begin(&mut self)
         requires can { is_resting (own self.old).task.step ≡ true }
         ensures cell { cell_of self.new ≡ cell_of self.old }
@@ -293,7 +279,6 @@ impl<'a, 'r, T, W: TaskWaker, R, V: Fits<T>> Shared<'a, 'r, T, W, R, V> {
     /// self.side.begin();
     /// self.parts.begin_drop();
     /// ```
-    #[inline(always)]
     pub fn begin_drop(&mut self)
         requires can { is_resting (own self.old).task.step ≡ true }
         ensures cell { cell_of self.new ≡ cell_of self.old }
@@ -310,7 +295,6 @@ impl<'a, 'r, T, W: TaskWaker, R, V: Fits<T>> Shared<'a, 'r, T, W, R, V> {
     /// task.door_take(); // the last step of a poll that filled the cell
     /// let (value, _) = task.value();
     /// ```
-    #[inline(always)]
     pub fn value(&self) -> (&'a T, Written<T>)
         requires ended { EndsSet (own self.now).number (own self.now).log }
         ensures value { (result.0.now ≡ result.1.value) × (result.1.of ≡ (cell_of self.now).id) }
@@ -321,7 +305,6 @@ impl<'a, 'r, T, W: TaskWaker, R, V: Fits<T>> Shared<'a, 'r, T, W, R, V> {
     }
 
     // Puts the value, which nothing can refuse.
-    #[inline(always)]
     pub(super) fn put_value(&mut self, value: T) -> Written<T>
         requires can { call_in (own self.old).task.step ≡ Put }
         requires fits { V.fits (cell_of self.old).about value }
@@ -341,7 +324,6 @@ impl<'a, 'r, T, W: TaskWaker, R, V: Fits<T>> Shared<'a, 'r, T, W, R, V> {
     /// ```
     /// let side = Noting::new(rt, task, parts.mark())?;
     /// ```
-    #[inline(always)]
     pub fn mark(&self) -> Mark
         ensures { result ≡ (own self.now).number }
     {
@@ -366,12 +348,10 @@ impl<T, W: TaskWaker + Drop, R: Wait + AllocGlobal, V: Fits<T>> Parts<W>
 
     ghost takes = { λ p. V.fits (cell_of p).about };
 
-    #[inline(always)]
     fn load(&mut self) -> u64 {
         self.inner.loaded(&mut self.hand)
     }
 
-    #[inline(always)]
     fn quick(&mut self) -> bool {
         let inner = self.inner;
         let hand = &mut self.hand;
@@ -385,7 +365,6 @@ impl<T, W: TaskWaker + Drop, R: Wait + AllocGlobal, V: Fits<T>> Parts<W>
         found == NEW
     }
 
-    #[inline(always)]
     fn fast(&mut self, ready: bool) -> bool {
         let inner = self.inner;
         let hand = &mut self.hand;
@@ -400,12 +379,10 @@ impl<T, W: TaskWaker + Drop, R: Wait + AllocGlobal, V: Fits<T>> Parts<W>
         found == QINIT_BIT
     }
 
-    #[inline(always)]
     fn count_in(&mut self) -> Counted {
         self.inner.counted(self.rt, &mut self.hand)
     }
 
-    #[inline(always)]
     fn add_one(&mut self) {
         let inner = self.inner;
         let hand = &mut self.hand;
@@ -414,7 +391,6 @@ impl<T, W: TaskWaker + Drop, R: Wait + AllocGlobal, V: Fits<T>> Parts<W>
             .fetch_add::<Act, Act>(1, &Act::ByTable, &mut hand.seen, &mut hand.pens);
     }
 
-    #[inline(always)]
     fn count_out(&mut self) -> u64 {
         let inner = self.inner;
         let hand = &mut self.hand;
@@ -424,7 +400,6 @@ impl<T, W: TaskWaker + Drop, R: Wait + AllocGlobal, V: Fits<T>> Parts<W>
         found - 1
     }
 
-    #[inline(always)]
     fn door_get(&mut self) -> Option<()> {
         if self.inner.lock_and_get::<Brand, R>(self.rt, &mut self.hand) {
             return Some(());
@@ -463,7 +438,6 @@ impl<T, W: TaskWaker + Drop, R: Wait + AllocGlobal, V: Fits<T>> Parts<W>
         answer
     }
 
-    #[inline(always)]
     fn refuse(&mut self) {
         self.hand.refused();
     }
@@ -473,13 +447,11 @@ impl<T, W: TaskWaker + Drop, R: Wait + AllocGlobal, V: Fits<T>> Parts<W>
         side.run(&mut self.hand)
     }
 
-    #[inline(always)]
     fn put(&mut self, value: T) {
         self.put_value(value);
     }
 }
 
-#[inline(always)]
 fn freed(ready: bool) -> u64
     ensures { result ≡ (if ready then 2 ^ 63 else 0) }
 {
@@ -487,7 +459,6 @@ fn freed(ready: bool) -> u64
 }
 
 impl<T, W: TaskWaker, V: Fits<T>> Inner<T, W, V> {
-    #[inline(always)]
     pub(super) fn loaded(&self, hand: &mut Hand) -> u64
         requires book { hand.old.seen.book ≡ self.now.front.book }
         requires can { call_in (own_of hand.old).task.step ≡ Load }
@@ -499,7 +470,6 @@ impl<T, W: TaskWaker, V: Fits<T>> Inner<T, W, V> {
     }
 
     /// Tries again while others change the word between the load and the exchange.
-    #[inline(always)]
     pub(super) fn counted<R: Wait>(&self, rt: &R, hand: &mut Hand) -> Counted
         requires book { hand.old.seen.book ≡ self.now.front.book }
         requires can { call_in (own_of hand.old).task.step ≡ CountIn }

@@ -131,7 +131,6 @@ impl<T> Gives<T, Refused> for T {
 
     ghost given_with = { λ v. Some v };
 
-    #[inline(always)]
     fn given(self) -> Result<T, Refused> {
         Ok(self)
     }
@@ -142,7 +141,6 @@ impl<T, E: Drop> Gives<T, InitError<E>> for Result<T, E> {
 
     ghost given_with = { λ v. Some (Ok v) };
 
-    #[inline(always)]
     fn given(self) -> Result<T, InitError<E>> {
         match self {
             Ok(value) => Ok(value),
@@ -167,7 +165,6 @@ impl<F: Future> Model for Pollable<F> {
 
 impl<F: Future> Pollable<F> {
     /// A box with this future.
-    #[inline(always)]
     pub fn new(future: F) -> Self
         requires { F.can_poll future }
         ensures { result ≡ future }
@@ -176,7 +173,6 @@ impl<F: Future> Pollable<F> {
     }
 
     /// The future, for the owner of a cell. No clause says that it may be polled.
-    #[inline(always)]
     pub fn into_inner(self) -> F
         ensures { result ≡ self }
     {
@@ -194,7 +190,6 @@ impl<T, X: Failure, F: Future<Output: Gives<T, X>>> Yields<T, X> for Pollable<F>
 impl<T, X: Failure, F: Future<Output: Gives<T, X>>> Init<T, X> for Pollable<F> {
     ghost may_fail = { λ f x. IsSomeAnd (F.Output.given_as x) (F.gives f) };
 
-    #[inline(always)]
     fn poll_init(
         init: &mut Option<Self>,
         cx: &mut Context<'_>,
@@ -240,7 +235,6 @@ pub(super) enum Idle {
 }
 
 impl Idle {
-    #[inline(always)]
     pub(super) fn of<W: Drop>(step: Step<W, ()>) -> Idle
         requires over { in_call step ≡ false }
         ensures is { step_of result ≡ step }
@@ -256,7 +250,6 @@ impl Idle {
         }
     }
 
-    #[inline(always)]
     pub(super) fn step<W: Drop>(&self) -> Step<W, ()>
         ensures is { result ≡ step_of self.now }
         ensures rests { is_over self.now ≡ false → is_resting result ≡ true }
@@ -298,7 +291,6 @@ impl<'a, 'r, T, W: TaskWaker + Drop, R, V: Fits<T>> Task<'a, 'r, T, W, R, V> {
     /// let task = Task::new(cell, rt);
     /// let side = TestSide::new(rt, name, task.mark(), answer)?;
     /// ```
-    #[inline(always)]
     pub fn new(inner: &'a Inner<T, W, V>, rt: &'r R) -> Self
         ensures cell { result.cell ≡ inner.now.slot }
         ensures live { result.finished ≡ false }
@@ -321,7 +313,6 @@ impl<'a, 'r, T, W: TaskWaker + Drop, R, V: Fits<T>> Task<'a, 'r, T, W, R, V> {
     ///     return None;
     /// }
     /// ```
-    #[inline(always)]
     pub fn is_finished(&self) -> bool
         ensures { result ≡ self.now.finished }
     {
@@ -333,7 +324,6 @@ impl<'a, 'r, T, W: TaskWaker + Drop, R, V: Fits<T>> Task<'a, 'r, T, W, R, V> {
     /// ```
     /// let (value, _) = self.task.value();
     /// ```
-    #[inline(always)]
     pub fn value(&self) -> (&'a T, Written<T>)
         requires ended { EndsSet self.now.number self.now.log }
         ensures value { (result.0.now ≡ result.1.value) × (result.1.of ≡ self.now.cell.id) }
@@ -343,7 +333,6 @@ impl<'a, 'r, T, W: TaskWaker + Drop, R, V: Fits<T>> Task<'a, 'r, T, W, R, V> {
     }
 
     /// The handle that the task was made with.
-    #[inline(always)]
     pub fn rt(&self) -> &'r R {
         self.parts.rt
     }
@@ -353,7 +342,6 @@ impl<'a, 'r, T, W: TaskWaker + Drop, R, V: Fits<T>> Task<'a, 'r, T, W, R, V> {
     /// ```
     /// let side = TestSide::new(rt, name, task.mark(), answer)?;
     /// ```
-    #[inline(always)]
     pub fn mark(&self) -> Mark
         ensures { result ≡ self.now.number }
     {
@@ -365,7 +353,6 @@ impl<'a, 'r, T, W: TaskWaker + Drop, R, V: Fits<T>> Task<'a, 'r, T, W, R, V> {
     /// ```
     /// slot: self.task.slot(),
     /// ```
-    #[inline(always)]
     pub fn slot(&self) -> Tag
         ensures { result.numbers ≡ self.now.cell.id ∷ [] }
     {
@@ -373,7 +360,6 @@ impl<'a, 'r, T, W: TaskWaker + Drop, R, V: Fits<T>> Task<'a, 'r, T, W, R, V> {
     }
 
     /// The task learns what a record of its cell has. Its next call comes after that.
-    #[inline(always)]
     pub fn learn(&mut self, seen: &Record)
         requires book { seen.now.book ≡ self.old.cell.book }
         ensures cell { self.new.cell ≡ self.old.cell }
@@ -389,7 +375,6 @@ impl<'a, 'r, T, W: TaskWaker + Drop, R, V: Fits<T>> Task<'a, 'r, T, W, R, V> {
     }
 
     /// Shows that two tasks of a cell have two numbers. The first may learn more of the record.
-    #[inline(always)]
     pub fn are_two(a: &mut Self, b: &mut Self)
         requires book { b.old.cell.book ≡ a.old.cell.book }
         ensures cell { a.new.cell ≡ a.old.cell }
@@ -405,7 +390,6 @@ impl<'a, 'r, T, W: TaskWaker + Drop, R, V: Fits<T>> Task<'a, 'r, T, W, R, V> {
     }
 
     /// The record as far as this task has seen it.
-    #[inline(always)]
     pub fn record(&self) -> Record
         ensures { (result.book ≡ self.now.cell.book) × (result.log ≡ self.now.log) }
     {
@@ -499,7 +483,6 @@ impl<T, V: Fits<T>> Names<CellSlot<T, V>> for SlotName {
 }
 
 // A poll that began after the cell was set answered the value.
-#[inline(always)]
 fn answered_where_set(seen: &Record)
     ensures { (t : ℕ) (e : Ending) (old : List Entry) → IsSet old → Spans t (end_of t e) old seen.now.log
         → (e ≡ Ending.Dropped → ⊥) → e ≡ Ending.Value }

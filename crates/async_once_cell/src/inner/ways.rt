@@ -63,7 +63,6 @@ pub(super) struct Spent<W> {
 }
 
 impl<W: Drop> Spent<W> {
-    #[inline(always)]
     pub(super) fn keep(place: &mut Option<Self>, taken: Option<W>, copy: Option<W>) {
         mem::forget(mem::replace(place, Some(Spent { taken, copy })));
     }
@@ -100,7 +99,6 @@ impl<T, W: TaskWaker + Drop, R: Wait + AllocGlobal, V: Fits<T>> Shared<'_, '_, T
         self.at_run(None, side)
     }
 
-    #[inline(never)]
     pub(super) fn later<S: TaskSide<W, Value = T>>(&mut self, idle: Idle, side: &mut S) -> Ending
         requires live { is_over idle ≡ false }
         requires stands { IsBegun W.whose S.state idle self.old side.old }
@@ -110,8 +108,8 @@ impl<T, W: TaskWaker + Drop, R: Wait + AllocGlobal, V: Fits<T>> Shared<'_, '_, T
         match idle {
             Idle::Listed(ticket) => self.at_wait_load(Some(ticket), side),
             Idle::Unlisted => self.at_wait_load(None, side),
-            Idle::Quick => self.hold(None, side),
-            Idle::Queued => self.hold(Some(()), side),
+            Idle::Quick => self.at_run(None, side),
+            Idle::Queued => self.at_run(Some(()), side),
             _ => self.by_machine(idle, side),
         }
     }
@@ -133,7 +131,6 @@ impl<T, W: TaskWaker + Drop, R: Wait + AllocGlobal, V: Fits<T>> Shared<'_, '_, T
     }
 
     // Makes the steps that are left of a poll, and keeps where the next call begins.
-    #[inline(never)]
     fn steps_left<S: TaskSide<W, Value = T>>(
         &mut self,
         mut step: Step<W, ()>,
@@ -149,7 +146,6 @@ impl<T, W: TaskWaker + Drop, R: Wait + AllocGlobal, V: Fits<T>> Shared<'_, '_, T
     }
 
     /// Makes the steps that are left of a poll or a drop.
-    #[inline(always)]
     pub(super) fn go_on<S: TaskSide<W, Value = T>>(
         &mut self,
         step: &mut Step<W, ()>,
@@ -184,7 +180,6 @@ impl<T, W: TaskWaker + Drop, R: Wait + AllocGlobal, V: Fits<T>> Shared<'_, '_, T
     ///     told = self.one_step(step, side, told);
     /// }
     /// ```
-    #[inline(always)]
     pub fn one_step<S: TaskSide<W, Value = T>>(
         &mut self,
         step: &mut Step<W, ()>,
@@ -229,7 +224,7 @@ impl<T, W: TaskWaker + Drop, R: Wait + AllocGlobal, V: Fits<T>> Shared<'_, '_, T
                 side.close();
                 self.at_count_out(Ending::Value, side)
             }
-            Reached::Claimed => self.hold(Some(()), side),
+            Reached::Claimed => self.at_run(Some(()), side),
             Reached::Waits(ticket) => {
                 self.idle = Idle::of(Step::<W, ()>::Resting(Rest::Wait((), ticket)));
                 Ending::Pending
@@ -246,16 +241,6 @@ impl<T, W: TaskWaker + Drop, R: Wait + AllocGlobal, V: Fits<T>> Shared<'_, '_, T
             }
             Reached::NoQueue => self.steps_left(Step::UnderWay(Place::DoorPut), side),
         }
-    }
-
-    /// Polls the init of a task that held before, or claimed under the lock.
-    #[inline(never)]
-    fn hold<S: TaskSide<W, Value = T>>(&mut self, by: Option<()>, side: &mut S) -> Ending
-        requires stands { IsAt W.whose S.state (Place.Run by) self.old side.old }
-        requires fits { GivesFit S.hands S.has_slot V.fits side.old (cell_of self.old) }
-        ensures { Polls W.whose S.state S.stays self.old side.old result self.new.idle self.new side.new }
-    {
-        self.at_run(by, side)
     }
 
     #[inline(always)]
@@ -291,7 +276,6 @@ impl<T, W: TaskWaker + Drop, R: Wait + AllocGlobal, V: Fits<T>> Shared<'_, '_, T
     }
 
     /// Puts the value that the side hands over, and has the side keep what shows it.
-    #[inline(always)]
     pub(super) fn put_from<S: TaskSide<W, Value = T>>(&mut self, side: &mut S)
         requires can { call_in (own self.old).task.step ≡ Put }
         requires value { (S.state side.old).has_value ≡ true }
@@ -339,7 +323,6 @@ impl<T, W: TaskWaker + Drop, R: Wait + AllocGlobal, V: Fits<T>> Shared<'_, '_, T
     }
 
     // A quick holder that met others counts in, and gives the right back under the lock if their queue is at the door.
-    #[inline(never)]
     fn at_add_one<S: TaskSide<W, Value = T>>(&mut self, ending: Ending, side: &mut S) -> Ending
         requires stands { IsAt W.whose S.state (Place.AddOne ending) self.old side.old }
         ensures { Polls W.whose S.state S.stays self.old side.old result self.new.idle self.new side.new }
@@ -395,7 +378,6 @@ impl<T, W: TaskWaker + Drop, R: Wait + AllocGlobal, V: Fits<T>> Shared<'_, '_, T
 }
 
 impl<T, W: TaskWaker + Drop, V: Fits<T>> Inner<T, W, V> {
-    #[inline(always)]
     fn lock_at_release<J: Key, R: Wait>(&self, rt: &R, hand: &mut Hand, ready: bool) -> Out<W>
         requires key { self.now.desk ≡ J.key }
         requires book { hand.old.seen.book ≡ J.key }
@@ -409,7 +391,6 @@ impl<T, W: TaskWaker + Drop, V: Fits<T>> Inner<T, W, V> {
     }
 
     // Looks at the door again, and if a queue stands there, releases in the same hold of the lock.
-    #[inline(always)]
     fn lock_at_add_one<J: Key, R: Wait, S: TaskSide<W, Value = T>>(
         &self,
         rt: &R,

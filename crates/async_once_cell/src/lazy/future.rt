@@ -62,7 +62,6 @@ impl<'a, T, F: Future, R, V: Fits<T> + Fits<F::Output>> LazyFuturePin<'a, T, F, 
 where
     R: Wait + AllocGlobal,
 {
-    #[inline(always)]
     pub(super) fn new(
         cell: &'a OnceCell<T, V>,
         rt: &'a R,
@@ -78,7 +77,6 @@ where
     }
 
     /// As [`Initializing::is_finished`].
-    #[inline(always)]
     pub fn is_finished(&self) -> bool
         ensures { result ≡ self.now.finished }
     {
@@ -111,7 +109,6 @@ where
     }
 
     /// As [`Initializing::learn`].
-    #[inline(always)]
     pub fn learn(&mut self, token: &Known<'a, T, V>)
         requires token_of_this_cell { token.now.cell ≡ self.old.cell }
         ensures cell { self.new.cell ≡ self.old.cell }
@@ -138,7 +135,6 @@ where
     }
 
     /// As [`Initializing::are_two`].
-    #[inline(always)]
     pub fn are_two(a: &mut Self, b: &mut Self)
         requires one_cell { b.old.cell ≡ a.old.cell }
         ensures cell { a.new.cell ≡ a.old.cell }
@@ -159,7 +155,6 @@ where
     R: Wait + AllocGlobal,
 {
     /// As [`Initializing::poll`]. The cell's future has no error of its own to tell.
-    #[inline(always)]
     pub fn poll(&mut self, cx: &mut Context<'_>) -> Poll<Result<&'a T, Refused>>
         requires unfinished { self.old.finished ≡ false }
         ensures call { DidPoll self.old self.new cx.old cx.new (ending_by ending_of_refusal result) }
@@ -250,7 +245,6 @@ impl<'a, T: Drop, F: Future<Output = T>, R: Wait + AllocGlobal, V: Fits<T>> Futu
     for LazyFuturePin<'a, T, F, R, V> {
     type Output = Result<&'a T, Refused>;
 
-    #[inline(always)]
     fn poll(&mut self, cx: &mut Context<'_>) -> Poll<Result<&'a T, Refused>>
         ensures value { IfReady result (λ _. ⊤) }
         ensures again { OnPending result ⊤ }

@@ -107,7 +107,6 @@ impl<'a, T, X, I: Yields<T, X>, R: Wait + AllocGlobal, V: Fits<T>> Initializing<
         }
     }
 
-    #[inline(always)]
     pub(super) fn rt(&self) -> &'a R {
         match &self.state {
             FutureState::Owned(rt, _) | FutureState::Answered(rt) | FutureState::Left(rt) => rt,
@@ -123,7 +122,6 @@ impl<'a, T, X, I: Yields<T, X>, R: Wait + AllocGlobal, V: Fits<T>> Initializing<
     ///     return cx.yield_now(); // `poll` and `poll_as` ask for a future that is not finished
     /// }
     /// ```
-    #[inline(always)]
     pub fn is_finished(&self) -> bool
         ensures { result ≡ self.now.finished }
     {
@@ -191,7 +189,6 @@ impl<'a, T, X, I: Yields<T, X>, R: Wait + AllocGlobal, V: Fits<T>> Initializing<
     /// future.learn(token);
     /// future.poll(cx) // a value, which is proved
     /// ```
-    #[inline(always)]
     pub fn learn(&mut self, token: &Known<'a, T, V>)
         requires token_of_this_cell { token.now.cell ≡ self.old.cell }
         ensures cell { self.new.cell ≡ self.old.cell }
@@ -216,7 +213,6 @@ impl<'a, T, X, I: Yields<T, X>, R: Wait + AllocGlobal, V: Fits<T>> Initializing<
     }
 
     /// Shows that two futures of one cell that tasks share are two tasks. The first may learn more of the record.
-    #[inline(always)]
     pub fn are_two<Y, J: Yields<T, Y>>(a: &mut Self, b: &mut Initializing<'a, T, Y, J, R, V>)
         requires one_cell { b.old.cell ≡ a.old.cell }
         ensures cell { a.new.cell ≡ a.old.cell }

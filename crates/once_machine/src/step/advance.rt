@@ -14,7 +14,6 @@ impl<W: Drop, Q: Drop> Step<W, Q> {
     /// Makes one step of the call that is under way. It asks what the place's call asks, and that the parts take
     /// whatever value the side may hand over.
     // A place with a queue is taken out whole, but of `Run` and `Put` the queue alone. Others are only looked at.
-    #[inline(always)]
     pub fn advance<P: Parts<W, Queue = Q>, S: Side<W, Value = P::Value, Right = P::Right>>(
         &mut self,
         parts: &mut P,
@@ -59,7 +58,6 @@ impl<W: Drop, Q: Drop> Step<W, Q> {
         }
     }
 
-    #[inline(always)]
     fn take_place(&mut self) -> Place<W, Q>
         requires { in_call self.old ≡ true }
         ensures place { self.old ≡ Step.UnderWay result }
@@ -71,7 +69,6 @@ impl<W: Drop, Q: Drop> Step<W, Q> {
         }
     }
 
-    #[inline(always)]
     fn on(&mut self, place: Place<W, Q>) -> Progress
         ensures more { result ≡ Progress.More }
         ensures step { self.new ≡ Step.UnderWay place }
@@ -80,7 +77,6 @@ impl<W: Drop, Q: Drop> Step<W, Q> {
         Progress::More
     }
 
-    #[inline(always)]
     fn end(&mut self, ending: Ending) -> Progress
         ensures ended { result ≡ Progress.Ended ending }
         ensures step { self.new ≡ Step.Finished }
@@ -89,7 +85,6 @@ impl<W: Drop, Q: Drop> Step<W, Q> {
         Progress::Ended(ending)
     }
 
-    #[inline(always)]
     fn rest(&mut self, rest: Rest<Q>) -> Progress
         ensures ended { result ≡ Progress.Ended Ending.Pending }
         ensures step { self.new ≡ Step.Resting rest }
@@ -98,7 +93,6 @@ impl<W: Drop, Q: Drop> Step<W, Q> {
         Progress::Ended(Ending::Pending)
     }
 
-    #[inline(always)]
     fn start<P: Parts<W, Queue = Q>, S: Side<W>>(&mut self, parts: &mut P, side: &mut S) -> Progress
         requires { AsksAt P.can S.can_run S.can_put Place.Start parts.old side.old }
         ensures line { Line P.did S.did Place.Start parts.old side.old result self.new parts.new side.new }
@@ -115,7 +109,6 @@ impl<W: Drop, Q: Drop> Step<W, Q> {
         self.on(Place::DoorGet)
     }
 
-    #[inline(always)]
     fn try_quick<P: Parts<W, Queue = Q>, S: Side<W>>(
         &mut self,
         parts: &mut P,
@@ -131,7 +124,6 @@ impl<W: Drop, Q: Drop> Step<W, Q> {
         self.on(Place::DoorGet)
     }
 
-    #[inline(always)]
     fn door_get<P: Parts<W, Queue = Q>, S: Side<W>>(
         &mut self,
         parts: &mut P,
@@ -147,7 +139,6 @@ impl<W: Drop, Q: Drop> Step<W, Q> {
         }
     }
 
-    #[inline(always)]
     fn door_put<P: Parts<W, Queue = Q>, S: Side<W>>(
         &mut self,
         parts: &mut P,
@@ -166,7 +157,6 @@ impl<W: Drop, Q: Drop> Step<W, Q> {
         }
     }
 
-    #[inline(always)]
     fn count_in<P: Parts<W, Queue = Q>, S: Side<W>>(
         &mut self,
         queue: Q,
@@ -194,7 +184,6 @@ impl<W: Drop, Q: Drop> Step<W, Q> {
         }
     }
 
-    #[inline(always)]
     fn wait_load<P: Parts<W, Queue = Q>, S: Side<W>>(
         &mut self,
         queue: Q,
@@ -214,7 +203,6 @@ impl<W: Drop, Q: Drop> Step<W, Q> {
         self.on(Place::Look(queue, ticket))
     }
 
-    #[inline(always)]
     fn look<P: Parts<W, Queue = Q>, S: Side<W>>(
         &mut self,
         queue: Q,
@@ -239,7 +227,6 @@ impl<W: Drop, Q: Drop> Step<W, Q> {
         }
     }
 
-    #[inline(always)]
     fn copy<P: Parts<W, Queue = Q>, S: Side<W>>(
         &mut self,
         queue: Q,
@@ -263,7 +250,6 @@ impl<W: Drop, Q: Drop> Step<W, Q> {
         }
     }
 
-    #[inline(always)]
     fn list<P: Parts<W, Queue = Q>, S: Side<W>>(
         &mut self,
         queue: Q,
@@ -292,7 +278,6 @@ impl<W: Drop, Q: Drop> Step<W, Q> {
         }
     }
 
-    #[inline(always)]
     fn run<P: Parts<W, Queue = Q>, S: Side<W, Right = P::Right>>(
         &mut self,
         by: Option<Q>,
@@ -316,7 +301,6 @@ impl<W: Drop, Q: Drop> Step<W, Q> {
         }
     }
 
-    #[inline(always)]
     fn put<P: Parts<W, Queue = Q>, S: Side<W, Value = P::Value>>(
         &mut self,
         by: Option<Q>,
@@ -332,7 +316,6 @@ impl<W: Drop, Q: Drop> Step<W, Q> {
         self.on(Place::giving_back(by, Ending::Value))
     }
 
-    #[inline(always)]
     fn fast<P: Parts<W, Queue = Q>, S: Side<W>>(
         &mut self,
         ending: Ending,
@@ -353,7 +336,6 @@ impl<W: Drop, Q: Drop> Step<W, Q> {
         self.end(ending)
     }
 
-    #[inline(always)]
     fn add_one<P: Parts<W, Queue = Q>, S: Side<W>>(
         &mut self,
         ending: Ending,
@@ -368,7 +350,6 @@ impl<W: Drop, Q: Drop> Step<W, Q> {
         self.on(Place::DoorAgain(ending))
     }
 
-    #[inline(always)]
     fn door_again<P: Parts<W, Queue = Q>, S: Side<W>>(
         &mut self,
         ending: Ending,
@@ -385,7 +366,6 @@ impl<W: Drop, Q: Drop> Step<W, Q> {
         }
     }
 
-    #[inline(always)]
     fn release<P: Parts<W, Queue = Q>, S: Side<W>>(
         &mut self,
         queue: Q,
@@ -403,7 +383,6 @@ impl<W: Drop, Q: Drop> Step<W, Q> {
         self.on(Place::CountOut(ending))
     }
 
-    #[inline(always)]
     fn leave<P: Parts<W, Queue = Q>, S: Side<W>>(
         &mut self,
         queue: Q,
@@ -422,7 +401,6 @@ impl<W: Drop, Q: Drop> Step<W, Q> {
         self.on(Place::CountOut(ending))
     }
 
-    #[inline(always)]
     fn count_out<P: Parts<W, Queue = Q>, S: Side<W>>(
         &mut self,
         ending: Ending,
@@ -439,7 +417,6 @@ impl<W: Drop, Q: Drop> Step<W, Q> {
         self.end(ending)
     }
 
-    #[inline(always)]
     fn door_take<P: Parts<W, Queue = Q>, S: Side<W>>(
         &mut self,
         ending: Ending,

@@ -23,7 +23,6 @@ use std::marker::Brand;
 use std::sync::Wait;
 
 impl<T, W: TaskWaker + Drop, R: Wait + AllocGlobal, V: Fits<T>> Shared<'_, '_, T, W, R, V> {
-    #[inline(never)]
     pub(super) fn at_door_get<S: TaskSide<W, Value = T>>(&mut self, side: &mut S) -> Ending
         requires stands { IsAt W.whose S.state Place.DoorGet self.old side.old }
         requires fits { GivesFit S.hands S.has_slot V.fits side.old (cell_of self.old) }
@@ -40,7 +39,6 @@ impl<T, W: TaskWaker + Drop, R: Wait + AllocGlobal, V: Fits<T>> Shared<'_, '_, T
     }
 
     // The queue is made with the lock free, because the allocator may be any code. One that came too late is let go.
-    #[inline(always)]
     fn at_door_put<S: TaskSide<W, Value = T>>(&mut self, side: &mut S) -> Ending
         requires stands { IsAt W.whose S.state Place.DoorPut self.old side.old }
         requires fits { GivesFit S.hands S.has_slot V.fits side.old (cell_of self.old) }
@@ -77,7 +75,6 @@ impl<T, W: TaskWaker + Drop, R: Wait + AllocGlobal, V: Fits<T>> Shared<'_, '_, T
         self.at_look(ticket, side)
     }
 
-    #[inline(always)]
     fn at_look<S: TaskSide<W, Value = T>>(&mut self, ticket: Option<u64>, side: &mut S) -> Ending
         requires stands { IsAt W.whose S.state (Place.Look tt ticket) self.old side.old }
         requires fits { GivesFit S.hands S.has_slot V.fits side.old (cell_of self.old) }
@@ -115,7 +112,6 @@ impl<T, W: TaskWaker + Drop, V: Fits<T>> Inner<T, W, V> {
     }
 
     // If a queue stands at the door, this one comes back.
-    #[inline(always)]
     fn lock_at_door_put<J: Key, R: Wait, S: TaskSide<W, Value = T>>(
         &self,
         rt: &R,
@@ -183,7 +179,6 @@ impl<T, W: TaskWaker + Drop, V: Fits<T>> Inner<T, W, V> {
         self.locked_look(desk, hand, None, spent, side)
     }
 
-    #[inline(always)]
     fn lock_at_look<J: Key, R: Wait, S: TaskSide<W, Value = T>>(
         &self,
         rt: &R,
@@ -290,8 +285,6 @@ impl<T, W: TaskWaker + Drop, V: Fits<T>> Inner<T, W, V> {
     }
 }
 
-// With this one inlined too, the ways are so large that the kit inlines less of them.
-#[inline(never)]
 fn renew<T, W: TaskWaker + Drop, S: TaskSide<W, Value = T>>(
     desk: &mut Desk<W>,
     hand: &mut Hand,

@@ -12,8 +12,8 @@ use Rattle.async_once_cell.proofs.Promise.{fits_on}
 use Rattle.async_once_cell.proofs.Walk.Ways.{onward}
 use Rattle.async_once_cell.proofs.inner.shared.Shared.go_on_from.Goals as goal
 
-pub hold-requires : goal.hold-requires
-hold-requires g c = record {
+pub at_run-requires : goal.at_run-requires
+at_run-requires g c = record {
   stands = subst (λ r. StandsBy g.W.TaskWaker.whose (next_by r) (g.S.TaskSide.state c.args.side.now) (own c.args.self.now)) c.in-Claimed.is c.requires.stands;
   fits = c.requires.fits;
 }
@@ -34,7 +34,7 @@ returns-in-Ready-clause-leads g c = λ x v so_far.
 pub returns-in-Claimed-clause-leads : goal.returns-in-Claimed-clause-leads
 returns-in-Claimed-clause-leads g c = λ x v so_far.
     let at = subst (λ r. LeadsBy g.W.TaskWaker.whose x v (next_by r) (g.S.TaskSide.state c.args.side.now) (own c.args.self.now)) c.in-Claimed.is so_far in
-    onward g.W.TaskWaker.whose at c.hold.ensures.leads
+    onward g.W.TaskWaker.whose at c.at_run.ensures.leads
 
 pub returns-in-Refused-clause-leads : goal.returns-in-Refused-clause-leads
 returns-in-Refused-clause-leads g c = λ x v so_far.

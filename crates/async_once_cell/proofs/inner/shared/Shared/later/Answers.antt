@@ -8,8 +8,8 @@ at_wait_load-requires g c = record { stands = begun g.W.TaskWaker.whose c.in-Lis
 pub at_wait_load-requires-in-Unlisted : goal.at_wait_load-requires-in-Unlisted
 at_wait_load-requires-in-Unlisted g c = record { stands = begun g.W.TaskWaker.whose c.in-Unlisted.is c.requires.stands; fits = c.requires.fits }
 
-pub hold-requires : goal.hold-requires
-hold-requires g c = record { stands = begun g.W.TaskWaker.whose c.in-Quick.is c.requires.stands; fits = c.requires.fits }
+pub at_run-requires : goal.at_run-requires
+at_run-requires g c = record { stands = begun g.W.TaskWaker.whose c.in-Quick.is c.requires.stands; fits = c.requires.fits }
 
-pub hold-requires-in-Queued : goal.hold-requires-in-Queued
-hold-requires-in-Queued g c = record { stands = begun g.W.TaskWaker.whose c.in-Queued.is c.requires.stands; fits = c.requires.fits }
+pub at_run-requires-in-Queued : goal.at_run-requires-in-Queued
+at_run-requires-in-Queued g c = record { stands = begun g.W.TaskWaker.whose c.in-Queued.is c.requires.stands; fits = c.requires.fits }
