@@ -18,15 +18,17 @@ use Rattle.once_machine.proofs.Input.Gone.{made_there, gone_list}
 use Rattle.once_judge.specs.declared.calls.Calls.{Calls}
 use Rattle.once_judge.specs.declared.calls.Calls.TheVariants.{One as ToOne, All as ToAll}
 use Rattle.once_judge.specs.declared.reason.Reason.{Reason}
-use Rattle.once_judge.specs.declared.reason.Reason.TheVariants.{TaskIs, CellIs, InitAnswered, Claimed, Passed, NotFreed}
-use Rattle.once_judge.specs.declared.reason.Reason.TheVariants.{NextAnswer, AnswersLeft, NotOpen, Twice, Due, HandsOut as HandsOutSo}
-use Rattle.once_judge.specs.declared.reason.Reason.TheVariants.{NoCauseForMemory, NoCrowd, NotFirstPoll, NoSuchCall}
+use Rattle.once_judge.specs.declared.reason.Reason.TheVariants.{TaskIs, CellIs, OfCall, OfWakers, NextAnswer, AnswersLeft, NoSuchCall}
+use Rattle.once_judge.specs.declared.reason.CallFact.{CallFact}
+use Rattle.once_judge.specs.declared.reason.CallFact.TheVariants.{InitAnswered, Claimed, Passed, NotFreed, NoCauseForMemory, NoCrowd, NotFirstPoll}
+use Rattle.once_judge.specs.declared.reason.WakersFact.{WakersFact}
+use Rattle.once_judge.specs.declared.reason.WakersFact.TheVariants.{NotOpen, Twice, Due, Count}
 use Rattle.once_judge.specs.Calls.{IsLegalToAll}
 use Rattle.once_judge.specs.Seen.{Seen}
 use Rattle.once_judge.specs.Legal.{IsLegalIn, IsDueFor, IsDueIn, HandsOutIn, CallsOneIn, MemoryFromIn, MayEndIn, IsNextIn, AllGoneIn, has_call_in}
 use Rattle.once_judge.specs.SeenOf.{Basics, IsSeenOf, is_made}
-use Rattle.once_judge.specs.Reasons.{IsTrueIn}
-use Rattle.once_judge.specs.Verdict.{IsTrue}
+use Rattle.once_judge.specs.Reasons.{IsTrueIn, IsSoOfCallIn, IsSoOfWakersIn}
+use Rattle.once_judge.specs.Verdict.{IsTrue, IsSoOfCall, IsSoOfWakers}
 use Rattle.once_judge.proofs.Entries.{gone_so, free_stays, pass_stays}
 use Rattle.once_judge.proofs.Either.{IsLegalBy}
 
@@ -247,22 +249,28 @@ module _ (K : Kind) (limit : ℕ) (h : List Entry) (S : Seen) (seen : IsSeenOf K
   legal_out ToAll e l = all_out e l
 
   -- a reason that is true by what is kept is true
+  call_out : (t : ℕ) (f : CallFact) → IsSoOfCallIn t f S → IsSoOfCall K limit t f h
+  call_out t (InitAnswered r) i = ran_out t r (stays_out t i.0) i.1
+  call_out t Claimed i = ap (λ c. c.claimed) (sym (call_at t (stays_out t i.0))) ∙ i.1
+  call_out t Passed i = ap (λ c. c.passed) (sym (call_at t (stays_out t i.0))) ∙ i.1
+  call_out t NotFreed i = ap (λ c. c.freed) (sym (call_at t (stays_out t i.0))) ∙ i.1
+  call_out t NoCauseForMemory i = λ m. i.1 (subst (λ b. MemoryFromIn b t S) (ap (λ c. c.began) (sym (call_of t (status_out t Polling i.0))))
+      (memory_in t (last_call K t h).began (status_out t Polling i.0) m))
+  call_out t NoCrowd i = λ c. false≢true (sym i.1 ∙ (seen.sinces.crowded t (status_out t Polling i.0)).1 c)
+  call_out t NotFirstPoll i = λ f. i.1 (ap (λ c. c.began) (call_at t (stays_out t i.0)) ∙ f)
+
+  wakers_out : (f : WakersFact) (e : Entry) → IsSoOfWakersIn f e S → IsSoOfWakers K f e h
+  wakers_out (NotOpen w) e i = (i.0, λ o. let p = open_in w o in let n = i.1 in omega arith)
+  wakers_out (Twice w) e i = i
+  wakers_out (Due t w) e i = let d = due_for t w i.0 in (d.0, d.1, d.2, i.1)
+  wakers_out (Count n) e i = i
+
   pub true_out : (r : Reason) (e : Entry) → IsTrueIn (is_lazy K) r e S → IsTrue K limit r e h
   true_out (TaskIs t s) e i = status_out t _ i
   true_out (CellIs c) e i = cell_out _ i
-  true_out (InitAnswered t r) e i = ran_out t r (stays_out t i.0) i.1
-  true_out (Claimed t) e i = ap (λ c. c.claimed) (sym (call_at t (stays_out t i.0))) ∙ i.1
-  true_out (Passed t) e i = ap (λ c. c.passed) (sym (call_at t (stays_out t i.0))) ∙ i.1
-  true_out (NotFreed t) e i = ap (λ c. c.freed) (sym (call_at t (stays_out t i.0))) ∙ i.1
+  true_out (OfCall t f) e i = call_out t f i
+  true_out (OfWakers f) e i = wakers_out f e i
   true_out (NextAnswer a) e i = ap next_answer (sym seen.basics.answers_are) ∙ i
   true_out (AnswersLeft n) e i = ap length (sym seen.basics.answers_are) ∙ i
-  true_out (NotOpen w) e i = (i.0, λ o. let p = open_in w o in let n = i.1 in omega arith)
-  true_out (Twice w) e i = i
-  true_out (Due t w) e i = let d = due_for t w i.0 in (d.0, d.1, d.2, i.1)
-  true_out (HandsOutSo n) e i = i
-  true_out (NoCauseForMemory t) e i = λ m. i.1 (subst (λ b. MemoryFromIn b t S) (ap (λ c. c.began) (sym (call_of t (status_out t Polling i.0))))
-      (memory_in t (last_call K t h).began (status_out t Polling i.0) m))
-  true_out (NoCrowd t) e i = λ c. false≢true (sym i.1 ∙ (seen.sinces.crowded t (status_out t Polling i.0)).1 c)
-  true_out (NotFirstPoll t) e i = λ f. i.1 (ap (λ c. c.began) (call_at t (stays_out t i.0)) ∙ f)
   true_out NoSuchCall (Own o g) i = call_by K o ∙ i
   true_out NoSuchCall e i = i

@@ -16,11 +16,12 @@ use Rattle.once_judge.specs.declared.calls.Calls.{Calls}
 use Rattle.once_judge.specs.declared.reason.Reason.{Reason}
 use Rattle.once_judge.specs.declared.verdict.Forgotten.{Forgotten}
 use Rattle.once_judge.specs.Calls.{IsRunBy}
-use Rattle.once_judge.specs.Seen.{Seen, after}
+use Rattle.once_judge.specs.Seen.{Seen}
 use Rattle.once_judge.specs.Legal.{IsLegalIn}
 use Rattle.once_judge.specs.SeenOf.{IsSeenOf}
-use Rattle.once_judge.specs.Shown.{Within}
+use Rattle.once_judge.specs.Shown.{Within, rules_of}
 use Rattle.once_judge.specs.Reasons.{IsTrueIn}
+use Rattle.once_judge.specs.Next.{Followed}
 use Rattle.once_judge.specs.Moments.{FirstForgotten}
 use Rattle.once_judge.specs.Verdict.{StopsAt, IsTrue, IsTrueAt, IsForgottenAt}
 use Rattle.once_judge.proofs.Either.{run_last, run_more, fits}
@@ -68,13 +69,13 @@ pub record Judged (c : Calls) (K : Kind) (limit : ℕ) (h : List Entry) (S : See
   pub seen : IsSeenOf K limit h S
 
 pub judged_step : (c : Calls) (K : Kind) (limit : ℕ) (xs : List Written) (i : ℕ) (x : Written) (S S' : Seen) → i < length xs → x ≡ get_or xs i x
-    → Judged c K limit (history_in (take i xs)) S → IsLegalIn c (is_lazy K) (entry_of x) S → S' ≡ after limit (entry_of x) S
+    → Judged c K limit (history_in (take i xs)) S → Followed None (rules_of c K limit) (entry_of x) S S'
     → Judged c K limit (history_in (take (i + 1) xs)) S'
-judged_step c K limit xs i x S S' l is j f a =
-    let legal = legal_out K limit (history_in (take i xs)) S j.seen c (entry_of x) f in
+judged_step c K limit xs i x S S' l is j f =
+    let legal = legal_out K limit (history_in (take i xs)) S j.seen c (entry_of x) f.0 in
     let run = run_more c K limit (entry_of x) (history_in (take i xs)) legal j.run in
     let seen = seen_after K limit (entry_of x) (history_in (take i xs)) S (fits c K limit (entry_of x) (history_in (take i xs)) legal) j.seen in
-    let both : Judged c K limit (entry_of x ∷ history_in (take i xs)) S' = record { run = run; seen = subst (IsSeenOf K limit (entry_of x ∷ history_in (take i xs))) (sym a) seen } in
+    let both : Judged c K limit (entry_of x ∷ history_in (take i xs)) S' = record { run = run; seen = subst (IsSeenOf K limit (entry_of x ∷ history_in (take i xs))) (sym f.1) seen } in
     subst (λ h. Judged c K limit h S') (sym (history_step xs i x l is)) both
 
 -- the first that does not fit

@@ -8,7 +8,7 @@
 --   Living    which of the tasks that live wait, and which of these ask to be called
 --   Values    the program's status and cell; TaskShown its task
 --   Shown     the program's `Seen`, and what each part of `take` makes of it
---   Reasons   which reason is true, by what is kept
+--   Reasons   which reason is true, by what is kept; Next which entry may come next, in short
 --   Moments   which moment is the first at which somebody is forgotten
 pub mod Values
 pub mod Calls
@@ -20,4 +20,5 @@ pub mod TaskShown
 pub mod Living
 pub mod Shown
 pub mod Reasons
+pub mod Next
 pub mod Moments

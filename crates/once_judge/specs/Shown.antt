@@ -5,7 +5,7 @@ use Rattle.std.specs.Ordering.{nat_cmp}
 use Rattle.std.specs.BTreeMap.{BTreeMap, get}
 use Rattle.std.specs.BTreeSet.{BTreeSet, contains}
 use Rattle.once_machine.specs.Numbers.{member, bit, times_in}
-use Rattle.once_machine.specs.Record.{Entry, is_replacing}
+use Rattle.once_machine.specs.Record.{Kind, Entry, is_lazy, is_replacing}
 use Rattle.once_machine.specs.Cell.{cell_after, answers_after}
 use Rattle.once_machine.specs.Tasks.{status_after, is_under_way}
 use Rattle.once_machine.specs.Refusals.{is_about}
@@ -15,7 +15,9 @@ use Rattle.once_judge.specs.declared.task.Task.{Task}
 pub use Rattle.once_judge.specs.Values.{cell_of}
 pub use Rattle.once_judge.specs.TaskShown.{task_in}
 pub use Rattle.once_judge.specs.Living.{count_at}
+use Rattle.once_judge.specs.declared.calls.Calls.{Calls}
 use Rattle.once_judge.specs.declared.seen.Seen.{Seen as GivenSeen}
+use Rattle.once_judge.specs.declared.seen.Rules.{Rules}
 
 -- a task that lives, is gone, or was not made
 abbrev pub found : Option Task → Bool → TaskSeen
@@ -44,6 +46,10 @@ seen_of k = record {
   held_at = k.held_at;
   other_held_at = k.other_held_at;
 }
+
+-- the rules for a cell of this kind
+abbrev pub rules_of : Calls → Kind → ℕ → Rules
+rules_of calls kind limit = record { calls = calls; lazy = is_lazy kind; limit = limit }
 
 -- no count, and no moment of a waker, is beyond the number of entries
 pub record Within (S : Seen) : Type 0 where

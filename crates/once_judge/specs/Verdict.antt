@@ -13,9 +13,13 @@ use Rattle.once_machine.specs.Run.{AtEvery}
 use Rattle.once_machine.specs.Shown.{entry_of, history_in}
 use Rattle.once_judge.specs.declared.calls.Calls.{Calls}
 use Rattle.once_judge.specs.declared.reason.Reason.{Reason}
-use Rattle.once_judge.specs.declared.reason.Reason.TheVariants.{TaskIs, CellIs, InitAnswered, Claimed, Passed, NotFreed}
-use Rattle.once_judge.specs.declared.reason.Reason.TheVariants.{NextAnswer, AnswersLeft, NotOpen, Twice, Due, HandsOut}
-use Rattle.once_judge.specs.declared.reason.Reason.TheVariants.{NoCauseForMemory, NoCrowd, NotFirstPoll, NoSuchCall}
+use Rattle.once_judge.specs.declared.reason.Reason.TheVariants.{TaskIs, CellIs, OfCall, OfWakers, NextAnswer}
+use Rattle.once_judge.specs.declared.reason.Reason.TheVariants.{AnswersLeft, NoSuchCall}
+use Rattle.once_judge.specs.declared.reason.CallFact.{CallFact}
+use Rattle.once_judge.specs.declared.reason.CallFact.TheVariants.{InitAnswered, Claimed, Passed, NotFreed}
+use Rattle.once_judge.specs.declared.reason.CallFact.TheVariants.{NoCauseForMemory, NoCrowd, NotFirstPoll}
+use Rattle.once_judge.specs.declared.reason.WakersFact.{WakersFact}
+use Rattle.once_judge.specs.declared.reason.WakersFact.TheVariants.{NotOpen, Twice, Due, Count}
 use Rattle.once_judge.specs.declared.verdict.Fault.{Fault}
 use Rattle.once_judge.specs.Values.{status_of, cell_of}
 use Rattle.once_judge.specs.Calls.{IsRunBy}
@@ -31,25 +35,33 @@ abbrev pub has_its_call : Kind → Entry → Bool
 has_its_call kind (Own o g) = has_call kind o
 has_its_call kind _ = true
 
+-- after the entries before it is so of the call of t
+abbrev pub IsSoOfCall : Kind → ℕ → ℕ → CallFact → List Entry → Type 0
+IsSoOfCall kind limit t (InitAnswered r) before = (last_call kind t before).ran ≡ r
+IsSoOfCall kind limit t Claimed before = (last_call kind t before).claimed ≡ true
+IsSoOfCall kind limit t Passed before = (last_call kind t before).passed ≡ true
+IsSoOfCall kind limit t NotFreed before = (last_call kind t before).freed ≡ false
+IsSoOfCall kind limit t NoCauseForMemory before = MemoryFrom kind (last_call kind t before).began t before → ⊥
+IsSoOfCall kind limit t NoCrowd before = Since t (IsCrowded kind limit t) before → ⊥
+IsSoOfCall kind limit t NotFirstPoll before = (last_call kind t before).began ≢ Fresh
+
+-- it is so of the wakers that the entry e hands out after those before it
+abbrev pub IsSoOfWakers : Kind → WakersFact → Entry → List Entry → Type 0
+IsSoOfWakers kind (NotOpen w) e before = (member w (handed_by e) ≡ true) × (IsOpen kind w before → ⊥)
+IsSoOfWakers kind (Twice w) e before = 2 ≤ times_in w (handed_by e)
+IsSoOfWakers kind (Due t w) e before =
+    (status kind t before ≡ Waiting) × ((last_call kind t before).waker ≡ w)
+    × (member w (handed_since t before) ≡ false) × (member w (handed_by e) ≡ false)
+IsSoOfWakers kind (Count n) e before = length (handed_by e) ≡ n
+
 -- the reason is true of the entry e after those before it
 abbrev pub IsTrue : Kind → ℕ → Reason → Entry → List Entry → Type 0
 IsTrue kind limit (TaskIs t s) e before = status kind t before ≡ status_of s
 IsTrue kind limit (CellIs c) e before = cell kind before ≡ cell_of c
-IsTrue kind limit (InitAnswered t r) e before = (last_call kind t before).ran ≡ r
-IsTrue kind limit (Claimed t) e before = (last_call kind t before).claimed ≡ true
-IsTrue kind limit (Passed t) e before = (last_call kind t before).passed ≡ true
-IsTrue kind limit (NotFreed t) e before = (last_call kind t before).freed ≡ false
+IsTrue kind limit (OfCall t f) e before = IsSoOfCall kind limit t f before
+IsTrue kind limit (OfWakers f) e before = IsSoOfWakers kind f e before
 IsTrue kind limit (NextAnswer a) e before = next_answer (answers_left kind before) ≡ a
 IsTrue kind limit (AnswersLeft n) e before = length (answers_left kind before) ≡ n
-IsTrue kind limit (NotOpen w) e before = (member w (handed_by e) ≡ true) × (IsOpen kind w before → ⊥)
-IsTrue kind limit (Twice w) e before = 2 ≤ times_in w (handed_by e)
-IsTrue kind limit (Due t w) e before =
-    (status kind t before ≡ Waiting) × ((last_call kind t before).waker ≡ w)
-    × (member w (handed_since t before) ≡ false) × (member w (handed_by e) ≡ false)
-IsTrue kind limit (HandsOut n) e before = length (handed_by e) ≡ n
-IsTrue kind limit (NoCauseForMemory t) e before = MemoryFrom kind (last_call kind t before).began t before → ⊥
-IsTrue kind limit (NoCrowd t) e before = Since t (IsCrowded kind limit t) before → ⊥
-IsTrue kind limit (NotFirstPoll t) e before = (last_call kind t before).began ≢ Fresh
 IsTrue kind limit NoSuchCall e before = has_its_call kind e ≡ false
 
 -- the reason is true of the entry n of the record

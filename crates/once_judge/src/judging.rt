@@ -35,12 +35,13 @@ impl Judge {
     /// self.judge = judge;
     /// ```
     pub fn take(mut self, entry: Entry) -> Result<(Judge, Option<Reason>), AllocError> {
-        if let Err(reason) = self.seen.may_follow(&entry)? {
-            return Ok((self, Some(reason)));
+        match self.seen.follow(&entry)? {
+            None => {
+                self.taken.push(entry)?;
+                Ok((self, None))
+            }
+            refused => Ok((self, refused)),
         }
-        self.seen.take(&entry)?;
-        self.taken.push(entry)?;
-        Ok((self, None))
     }
 
     /// A task that waits for an empty cell while nobody was woken.
@@ -64,37 +65,52 @@ impl Judge {
     pub fn listed(&self, alloc: Global, due_alone: bool) -> Result<Vec<u64>, AllocError> {
         let mut wakers = Vec::new(alloc);
         for (_, task) in &self.seen.tasks.all {
-            if is_listed(task, due_alone)
-                && !self.seen.was_handed(task.listed, *task)
-                && !wakers.contains(&task.listed)
-            {
+            if self.may_be_woken(task, due_alone) && !wakers.contains(&task.listed) {
                 wakers.push(task.listed)?;
             }
         }
         Ok(wakers)
     }
 
+    // Whether a call may have woken this task.
+    fn may_be_woken(&self, task: &Task, due_alone: bool) -> bool {
+        is_listed(task, due_alone) && !self.seen.was_handed(task.listed, *task)
+    }
+
     /// Numbers that tell all of what may come from here on: two judges with the same numbers take the same.
     pub fn digest(&self, alloc: Global) -> Result<Vec<u64>, AllocError> {
-        let mut numbers = Vec::new(alloc);
-        numbers.extend_from_slice(&cell_numbers(self.seen.cell))?;
+        let mut numbers = Vec::from_slice(alloc, &cell_numbers(self.seen.cell))?;
         numbers.push(self.seen.used as u64)?;
         for (number, task) in &self.seen.tasks.all {
-            numbers.extend_from_slice(&[
-                *number,
-                task.waker,
-                task.listed,
-                self.flags(*number, task),
-            ])?;
-            numbers.extend_from_slice(&[status_number(task.status), status_number(task.began)])?;
-            numbers.extend_from_slice(&answer_numbers(task.ran))?;
+            numbers.extend_from_slice(&self.task_numbers(*number, task))?;
         }
+        self.push_times(&mut numbers)?;
+        Ok(numbers)
+    }
+
+    // What is known of a task.
+    fn task_numbers(&self, number: u64, task: &Task) -> [u64; 8] {
+        let [answer, given] = answer_numbers(task.ran);
+        [
+            number,
+            task.waker,
+            task.listed,
+            self.flags(number, task),
+            status_number(task.status),
+            status_number(task.began),
+            answer,
+            given,
+        ]
+    }
+
+    // Each waker that may still be handed out, and how often.
+    fn push_times(&self, numbers: &mut Vec<u64>) -> Result<(), AllocError> {
         for (waker, times) in &self.seen.times {
             if *times > 0 {
                 numbers.extend_from_slice(&[*waker, *times])?;
             }
         }
-        Ok(numbers)
+        Ok(())
     }
 
     // What is so of a task or not, a bit for each.

@@ -18,6 +18,6 @@ mod verdict;
 
 pub use calls::{Calls, one_or_all};
 pub use judging::Judge;
-pub use reason::Reason;
+pub use reason::{CallFact, Reason, WakersFact};
 pub use task::{Cell, Status, task_of};
 pub use verdict::{Fault, Forgotten, Verdict, judge};

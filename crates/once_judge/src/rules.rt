@@ -1,5 +1,5 @@
 //! Which entry may come next. Each function answers a reason if its entry may not.
-ghost use Rattle.std.specs.Prelude.{◌≡◌, Some, false, IfOk, IfErr};
+ghost use Rattle.std.specs.Prelude.{◌≡◌, ◌<◌, ◌^◌, Some, false, IfOk, OnOk, IfErr};
 ghost use Rattle.std.specs.Bool.{Decides};
 ghost use Rattle.once_machine.specs.Cell.{Empty, Held, value_in as value_of};
 ghost use Rattle.once_machine.specs.Tasks.{Polling};
@@ -10,7 +10,7 @@ mod ends;
 mod wakers;
 
 use crate::calls::Calls;
-use crate::reason::Reason;
+use crate::reason::{CallFact, Reason};
 use crate::seen::Seen;
 use crate::task::{Cell, Status, is_over};
 use once_machine::record::{Call, Entry, Got, Ran};
@@ -22,16 +22,32 @@ impl Seen {
     ghost use Rattle.once_machine.specs.declared.record.Ran.TheVariants.{Value as RanValue};
     ghost use Rattle.once_machine.specs.Cell.{next_answer as next_of, got as got_by};
     ghost use Rattle.once_machine.specs.Shown.{entry_of, call_of, got_of};
-    ghost use Rattle.once_judge.specs.Legal.{IsLegalIn, AllGoneIn, has_call_in};
-    ghost use Rattle.once_judge.specs.Reasons.{Tests, IsTrueIn};
-    ghost use Rattle.once_judge.specs.Shown.{seen_of};
+    ghost use Rattle.once_judge.specs.Legal.{AllGoneIn, has_call_in};
+    ghost use Rattle.once_judge.specs.Reasons.{Tests};
+    ghost use Rattle.once_judge.specs.Next.{MayFollow, IsReason, Followed};
+    ghost use Rattle.once_judge.specs.Shown.{seen_of, Within};
 
-    /// Whether this entry may come next.
-    pub fn may_follow(&self, entry: &Entry) -> Result<Result<(), Reason>, AllocError>
+    /// Takes an entry if it may come next, and else tells why not.
+    pub fn follow(&mut self, entry: &Entry) -> Result<Option<Reason>, AllocError>
+        requires within { Within (seen_of self.old) }
+        requires small { self.old.entries < 2 ^ 63 }
+        ensures followed { IfOk result (λ reason.
+            Followed reason self.old.rules (entry_of entry.now) (seen_of self.old) (seen_of self.new)) }
+        ensures rules { OnOk result (self.new.rules ≡ self.old.rules) }
+    {
+        if let Err(reason) = self.may_follow(entry)? {
+            return Ok(Some(reason));
+        }
+        self.take(entry)?;
+        Ok(None)
+    }
+
+    // Whether this entry may come next.
+    fn may_follow(&self, entry: &Entry) -> Result<Result<(), Reason>, AllocError>
         ensures rule { IfOk result (λ answer. Tests answer
-            (IsLegalIn self.now.calls self.now.lazy (entry_of entry.now) (seen_of self.now))) }
+            (MayFollow (entry_of entry.now) self.now)) }
         ensures reason { IfOk result (λ answer. IfErr answer (λ r.
-            IsTrueIn self.now.lazy r (entry_of entry.now) (seen_of self.now))) }
+            IsReason r (entry_of entry.now) self.now)) }
     {
         match entry {
             Entry::Made(t) => Ok(self.may_be_made(*t)),
@@ -50,8 +66,8 @@ impl Seen {
     }
 
     fn may_be_made(&self, t: u64) -> Result<(), Reason>
-        ensures rule { Tests result (IsLegalIn self.now.calls self.now.lazy (Made t) (seen_of self.now)) }
-        ensures reason { IfErr result (λ r. IsTrueIn self.now.lazy r (Made t) (seen_of self.now)) }
+        ensures rule { Tests result (MayFollow (Made t) self.now) }
+        ensures reason { IfErr result (λ r. IsReason r (Made t) self.now) }
     {
         match self.task(t).status {
             Status::Unmade => Ok(()),
@@ -61,8 +77,8 @@ impl Seen {
 
     // A drop begins as a poll does, whatever the waker is.
     fn may_begin(&self, t: u64, waker: u64) -> Result<(), Reason>
-        ensures rule { Tests result (IsLegalIn self.now.calls self.now.lazy (Begin t waker) (seen_of self.now)) }
-        ensures reason { (e : Told) → IfErr result (λ r. IsTrueIn self.now.lazy r e (seen_of self.now)) }
+        ensures rule { Tests result (MayFollow (Begin t waker) self.now) }
+        ensures reason { (e : Told) → IfErr result (λ r. IsReason r e self.now) }
     {
         match self.task(t).status {
             Status::Fresh | Status::Waiting | Status::Holding => Ok(()),
@@ -71,8 +87,8 @@ impl Seen {
     }
 
     fn may_claim(&self, t: u64) -> Result<(), Reason>
-        ensures rule { Tests result (IsLegalIn self.now.calls self.now.lazy (Claim t) (seen_of self.now)) }
-        ensures reason { IfErr result (λ r. IsTrueIn self.now.lazy r (Claim t) (seen_of self.now)) }
+        ensures rule { Tests result (MayFollow (Claim t) self.now) }
+        ensures reason { IfErr result (λ r. IsReason r (Claim t) self.now) }
     {
         self.is_empty()?;
         let task = self.task(t);
@@ -80,17 +96,17 @@ impl Seen {
             return Err(Reason::TaskIs(t, task.status));
         }
         if task.ran.is_some() {
-            return Err(Reason::InitAnswered(t, task.ran));
+            return Err(Reason::OfCall(t, CallFact::InitAnswered(task.ran)));
         }
         if task.passed {
-            return Err(Reason::Passed(t));
+            return Err(Reason::OfCall(t, CallFact::Passed));
         }
         Ok(())
     }
 
     fn may_run(&self, t: u64, answer: Ran) -> Result<(), Reason>
-        ensures rule { Tests result (IsLegalIn self.now.calls self.now.lazy (RanEntry t answer) (seen_of self.now)) }
-        ensures reason { IfErr result (λ r. IsTrueIn self.now.lazy r (RanEntry t answer) (seen_of self.now)) }
+        ensures rule { Tests result (MayFollow (RanEntry t answer) self.now) }
+        ensures reason { IfErr result (λ r. IsReason r (RanEntry t answer) self.now) }
     {
         self.holds(t)?;
         let task = self.task(t);
@@ -98,10 +114,10 @@ impl Seen {
             return Err(Reason::TaskIs(t, task.status));
         }
         if task.ran.is_some() {
-            return Err(Reason::InitAnswered(t, task.ran));
+            return Err(Reason::OfCall(t, CallFact::InitAnswered(task.ran)));
         }
         let next = self.next_answer();
-        if self.lazy && answer != next {
+        if self.rules.lazy && answer != next {
             return Err(Reason::NextAnswer(next));
         }
         Ok(())
@@ -109,14 +125,14 @@ impl Seen {
 
     fn may_free(&self, t: u64, wakers: &[u64]) -> Result<Result<(), Reason>, AllocError>
         ensures rule { IfOk result (λ answer. Tests answer
-            (IsLegalIn self.now.calls self.now.lazy (Free t wakers.now) (seen_of self.now))) }
+            (MayFollow (Free t wakers.now) self.now)) }
         ensures reason { IfOk result (λ answer. IfErr answer (λ r.
-            IsTrueIn self.now.lazy r (Free t wakers.now) (seen_of self.now))) }
+            IsReason r (Free t wakers.now) self.now)) }
     {
         if let Err(reason) = self.frees(t) {
             return Ok(Err(reason));
         }
-        match self.calls {
+        match self.rules.calls {
             Calls::One => Ok(self.calls_one(t, wakers)),
             Calls::All => self.hands_out(wakers),
         }
@@ -126,7 +142,7 @@ impl Seen {
     fn frees(&self, t: u64) -> Result<(), Reason>
         ensures rule { Tests result (((seen_of self.now).cell ≡ Held t)
             × MayFree ((seen_of self.now).task t).status ((seen_of self.now).task t).call.ran) }
-        ensures reason { (e : Told) → IfErr result (λ r. IsTrueIn self.now.lazy r e (seen_of self.now)) }
+        ensures reason { (e : Told) → IfErr result (λ r. IsReason r e self.now) }
     {
         self.holds(t)?;
         let task = self.task(t);
@@ -134,7 +150,7 @@ impl Seen {
             Status::Dropping => Ok(()),
             Status::Polling => match task.ran {
                 Some(Ran::Error(_)) => Ok(()),
-                _ => Err(Reason::InitAnswered(t, task.ran)),
+                _ => Err(Reason::OfCall(t, CallFact::InitAnswered(task.ran))),
             },
             _ => Err(Reason::TaskIs(t, task.status)),
         }
@@ -142,9 +158,9 @@ impl Seen {
 
     fn may_fill(&self, t: u64, v: u64, wakers: &[u64]) -> Result<Result<(), Reason>, AllocError>
         ensures rule { IfOk result (λ answer. Tests answer
-            (IsLegalIn self.now.calls self.now.lazy (Fill t v wakers.now) (seen_of self.now))) }
+            (MayFollow (Fill t v wakers.now) self.now)) }
         ensures reason { IfOk result (λ answer. IfErr answer (λ r.
-            IsTrueIn self.now.lazy r (Fill t v wakers.now) (seen_of self.now))) }
+            IsReason r (Fill t v wakers.now) self.now)) }
     {
         if let Err(reason) = self.fills(t, v) {
             return Ok(Err(reason));
@@ -156,7 +172,7 @@ impl Seen {
     fn fills(&self, t: u64, v: u64) -> Result<(), Reason>
         ensures rule { Tests result (((seen_of self.now).cell ≡ Held t) × (((seen_of self.now).task t).status ≡ Polling)
             × (((seen_of self.now).task t).call.ran ≡ Some (RanValue v))) }
-        ensures reason { (e : Told) → IfErr result (λ r. IsTrueIn self.now.lazy r e (seen_of self.now)) }
+        ensures reason { (e : Told) → IfErr result (λ r. IsReason r e self.now) }
     {
         self.holds(t)?;
         let task = self.task(t);
@@ -164,14 +180,14 @@ impl Seen {
             return Err(Reason::TaskIs(t, task.status));
         }
         if task.ran != Some(Ran::Value(v)) {
-            return Err(Reason::InitAnswered(t, task.ran));
+            return Err(Reason::OfCall(t, CallFact::InitAnswered(task.ran)));
         }
         Ok(())
     }
 
     fn may_pass(&self, t: u64, wakers: &[u64]) -> Result<(), Reason>
-        ensures rule { Tests result (IsLegalIn self.now.calls self.now.lazy (Pass t wakers.now) (seen_of self.now)) }
-        ensures reason { IfErr result (λ r. IsTrueIn self.now.lazy r (Pass t wakers.now) (seen_of self.now)) }
+        ensures rule { Tests result (MayFollow (Pass t wakers.now) self.now) }
+        ensures reason { IfErr result (λ r. IsReason r (Pass t wakers.now) self.now) }
     {
         self.is_empty()?;
         self.passes(t)?;
@@ -184,30 +200,30 @@ impl Seen {
         ensures rule { Tests result ((MayPass ((seen_of self.now).task t).status
             ((seen_of self.now).task t).call.claimed ((seen_of self.now).task t).call.ran)
             × (((seen_of self.now).task t).call.passed ≡ false)) }
-        ensures reason { (e : Told) → IfErr result (λ r. IsTrueIn self.now.lazy r e (seen_of self.now)) }
+        ensures reason { (e : Told) → IfErr result (λ r. IsReason r e self.now) }
     {
         let task = self.task(t);
         match task.status {
             Status::Dropping => {}
             Status::Polling => {
                 if task.claimed {
-                    return Err(Reason::Claimed(t));
+                    return Err(Reason::OfCall(t, CallFact::Claimed));
                 }
                 if task.ran.is_some() {
-                    return Err(Reason::InitAnswered(t, task.ran));
+                    return Err(Reason::OfCall(t, CallFact::InitAnswered(task.ran)));
                 }
             }
             _ => return Err(Reason::TaskIs(t, task.status)),
         }
         if task.passed {
-            return Err(Reason::Passed(t));
+            return Err(Reason::OfCall(t, CallFact::Passed));
         }
         Ok(())
     }
 
     fn may_end_drop(&self, t: u64) -> Result<(), Reason>
-        ensures rule { Tests result (IsLegalIn self.now.calls self.now.lazy (DropEnd t) (seen_of self.now)) }
-        ensures reason { IfErr result (λ r. IsTrueIn self.now.lazy r (DropEnd t) (seen_of self.now)) }
+        ensures rule { Tests result (MayFollow (DropEnd t) self.now) }
+        ensures reason { IfErr result (λ r. IsReason r (DropEnd t) self.now) }
     {
         let task = self.task(t);
         if !matches!(task.status, Status::Dropping) {
@@ -220,8 +236,8 @@ impl Seen {
     }
 
     fn may_look(&self, found: Option<u64>) -> Result<(), Reason>
-        ensures rule { Tests result (IsLegalIn self.now.calls self.now.lazy (Look found) (seen_of self.now)) }
-        ensures reason { IfErr result (λ r. IsTrueIn self.now.lazy r (Look found) (seen_of self.now)) }
+        ensures rule { Tests result (MayFollow (Look found) self.now) }
+        ensures reason { IfErr result (λ r. IsReason r (Look found) self.now) }
     {
         if found == value_in(self.cell) {
             Ok(())
@@ -232,9 +248,9 @@ impl Seen {
 
     fn may_own(&self, call: &Call, got: &Got) -> Result<(), Reason>
         ensures rule { Tests result
-            (IsLegalIn self.now.calls self.now.lazy (Own (call_of call.now) (got_of got.now)) (seen_of self.now)) }
+            (MayFollow (Own (call_of call.now) (got_of got.now)) self.now) }
         ensures reason { IfErr result (λ r.
-            IsTrueIn self.now.lazy r (Own (call_of call.now) (got_of got.now)) (seen_of self.now)) }
+            IsReason r (Own (call_of call.now) (got_of got.now)) self.now) }
     {
         self.all_gone()?;
         if !self.has_call(call) {
@@ -252,7 +268,7 @@ impl Seen {
     // Whether every task that was made is gone.
     fn all_gone(&self) -> Result<(), Reason>
         ensures rule { Tests result (AllGoneIn (seen_of self.now)) }
-        ensures reason { (e : Told) → IfErr result (λ r. IsTrueIn self.now.lazy r e (seen_of self.now)) }
+        ensures reason { (e : Told) → IfErr result (λ r. IsReason r e self.now) }
     {
         for (t, task) in &self.tasks.all {
             if !is_over(task.status) {
@@ -264,12 +280,12 @@ impl Seen {
 
     // Whether a cell of this kind has the call.
     fn has_call(&self, call: &Call) -> bool
-        ensures { result ≡ has_call_in self.now.lazy (call_of call.now) }
+        ensures { result ≡ has_call_in self.now.rules.lazy (call_of call.now) }
     {
         match call {
-            Call::Take => !self.lazy,
+            Call::Take => !self.rules.lazy,
             Call::Write(_) => true,
-            Call::Parts | Call::ReplaceValue(_) | Call::ReplaceAnswers(_) => self.lazy,
+            Call::Parts | Call::ReplaceValue(_) | Call::ReplaceAnswers(_) => self.rules.lazy,
         }
     }
 
@@ -305,7 +321,7 @@ impl Seen {
 
     // How many answers it has left.
     fn answers_left(&self) -> Reason
-        ensures { (e : Told) → IsTrueIn self.now.lazy result e (seen_of self.now) }
+        ensures { (e : Told) → IsReason result e self.now }
     {
         Reason::AnswersLeft(self.answers.len().saturating_sub(self.used))
     }
@@ -323,7 +339,7 @@ impl Seen {
     // Whether the cell is empty.
     fn is_empty(&self) -> Result<(), Reason>
         ensures rule { Tests result ((seen_of self.now).cell ≡ Empty) }
-        ensures reason { (e : Told) → IfErr result (λ r. IsTrueIn self.now.lazy r e (seen_of self.now)) }
+        ensures reason { (e : Told) → IfErr result (λ r. IsReason r e self.now) }
     {
         match self.cell {
             Cell::Empty => Ok(()),
@@ -334,7 +350,7 @@ impl Seen {
     // Whether the task holds.
     fn holds(&self, t: u64) -> Result<(), Reason>
         ensures rule { Tests result ((seen_of self.now).cell ≡ Held t) }
-        ensures reason { (e : Told) → IfErr result (λ r. IsTrueIn self.now.lazy r e (seen_of self.now)) }
+        ensures reason { (e : Told) → IfErr result (λ r. IsReason r e self.now) }
     {
         match self.cell {
             Cell::Held(u) if u == t => Ok(()),

@@ -18,17 +18,24 @@ use once_machine::record::{Call, Entry, Kind};
 use std::alloc::{AllocError, Global};
 use std::collections::{BTreeMap, BTreeSet};
 
-/// What is kept of the entries so far: all that decides which entry may come next.
-#[derive(Drop)]
-pub struct Seen {
-    /// What gives the memory.
-    pub alloc: Global,
+/// By which rules a record is judged.
+#[derive(Clone, Copy)]
+pub struct Rules {
     /// Whom a release without a value wakes.
     pub calls: Calls,
     /// Whether the kind is lazy.
     pub lazy: bool,
     /// How many tasks may be counted in.
     pub limit: u64,
+}
+
+/// What is kept of the entries so far: all that decides which entry may come next.
+#[derive(Drop)]
+pub struct Seen {
+    /// What gives the memory.
+    pub alloc: Global,
+    /// By which rules they are judged.
+    pub rules: Rules,
     /// How many entries there were.
     pub entries: u64,
     /// What the cell is.
@@ -67,20 +74,18 @@ impl Seen {
     ghost use Rattle.std.specs.BTreeMap.{get};
     ghost use Rattle.std.specs.BTreeSet.{contains};
     ghost use Rattle.std.specs.Ordering.{nat_cmp};
-    ghost use Rattle.once_machine.specs.Record.{Got, Own, is_lazy as lazy_of};
+    ghost use Rattle.once_machine.specs.Record.{Got, Own};
     ghost use Rattle.once_machine.specs.Shown.{call_of, kind_of};
     ghost use Rattle.once_machine.specs.Tasks.{Waiting as WaitingStatus, is_gone};
     ghost use Rattle.once_judge.specs.Seen.{nothing_seen, gone_task, after, other_held};
     ghost use Rattle.once_judge.specs.Legal.{SomebodyCalledIn, IsCalledIn, WasCalled, IsForgottenIn};
     ghost use Rattle.once_judge.specs.Shown.{found, tasked_by, seen_of, task_at, count_at, tasked, celled};
-    ghost use Rattle.once_judge.specs.Shown.{noted, Within};
+    ghost use Rattle.once_judge.specs.Shown.{noted, rules_of, Within};
 
     /// Nothing was seen of a cell of this kind.
     pub fn new(alloc: Global, kind: &Kind, limit: u64, calls: Calls) -> Result<Seen, AllocError>
         ensures seen { IfOk result (λ k. seen_of k ≡ nothing_seen (kind_of kind.now)) }
-        ensures limit { IfOk result (λ k. k.limit ≡ limit) }
-        ensures calls { IfOk result (λ k. k.calls ≡ calls) }
-        ensures lazy { IfOk result (λ k. k.lazy ≡ lazy_of (kind_of kind.now)) }
+        ensures rules { IfOk result (λ k. k.rules ≡ rules_of calls (kind_of kind.now) limit) }
     {
         let (lazy, cell, answers) = match kind {
             Kind::Once => (false, Cell::Empty, Vec::new(alloc)),
@@ -90,9 +95,7 @@ impl Seen {
         };
         Ok(Seen {
             alloc,
-            calls,
-            lazy,
-            limit,
+            rules: Rules { calls, lazy, limit },
             entries: 0,
             cell,
             answers,
@@ -137,10 +140,8 @@ impl Seen {
     pub fn take(&mut self, entry: &Entry) -> Result<(), AllocError>
         requires within { Within (seen_of self.old) }
         requires small { self.old.entries < 2 ^ 63 }
-        ensures seen { OnOk result (seen_of self.new ≡ after self.old.limit (entry_of entry.now) (seen_of self.old)) }
-        ensures limit { OnOk result (self.new.limit ≡ self.old.limit) }
-        ensures calls { OnOk result (self.new.calls ≡ self.old.calls) }
-        ensures lazy { OnOk result (self.new.lazy ≡ self.old.lazy) }
+        ensures seen { OnOk result (seen_of self.new ≡ after self.old.rules.limit (entry_of entry.now) (seen_of self.old)) }
+        ensures rules { OnOk result (self.new.rules ≡ self.old.rules) }
     {
         let number = self.entries + 1;
         self.take_its_task(entry, number)?;
@@ -158,9 +159,7 @@ impl Seen {
         requires next { number ≡ suc self.old.entries }
         ensures seen { OnOk result (seen_of self.new
             ≡ tasked_by (whose (entry_of entry.now)) (entry_of entry.now) (seen_of self.old)) }
-        ensures limit { OnOk result (self.new.limit ≡ self.old.limit) }
-        ensures calls { OnOk result (self.new.calls ≡ self.old.calls) }
-        ensures lazy { OnOk result (self.new.lazy ≡ self.old.lazy) }
+        ensures rules { OnOk result (self.new.rules ≡ self.old.rules) }
     {
         match task_of(entry) {
             Some(t) => self.take_task(entry, t, number),
@@ -175,9 +174,7 @@ impl Seen {
         requires next { number ≡ suc self.old.entries }
         requires its { whose (entry_of entry.now) ≡ Some t }
         ensures seen { OnOk result (seen_of self.new ≡ tasked (entry_of entry.now) t (seen_of self.old)) }
-        ensures limit { OnOk result (self.new.limit ≡ self.old.limit) }
-        ensures calls { OnOk result (self.new.calls ≡ self.old.calls) }
-        ensures lazy { OnOk result (self.new.lazy ≡ self.old.lazy) }
+        ensures rules { OnOk result (self.new.rules ≡ self.old.rules) }
     {
         let old = self.task(t);
         let new = moved(entry, self.cell, number, old);
@@ -247,9 +244,7 @@ impl Seen {
     // What an entry changes of the cell.
     fn take_cell(&mut self, entry: &Entry) -> Result<(), AllocError>
         ensures seen { OnOk result (seen_of self.new ≡ celled (entry_of entry.now) (seen_of self.old)) }
-        ensures limit { self.new.limit ≡ self.old.limit }
-        ensures calls { self.new.calls ≡ self.old.calls }
-        ensures lazy { self.new.lazy ≡ self.old.lazy }
+        ensures rules { self.new.rules ≡ self.old.rules }
     {
         match entry {
             Entry::Claim(t) => self.cell = Cell::Held(*t),
@@ -270,9 +265,7 @@ impl Seen {
     fn own(&mut self, call: &Call) -> Result<(), AllocError>
         ensures seen { (g : Got) → OnOk result (seen_of self.new
             ≡ celled (Own (call_of call.now) g) (seen_of self.old)) }
-        ensures limit { self.new.limit ≡ self.old.limit }
-        ensures calls { self.new.calls ≡ self.old.calls }
-        ensures lazy { self.new.lazy ≡ self.old.lazy }
+        ensures rules { self.new.rules ≡ self.old.rules }
     {
         match call {
             Call::Take => self.replace(Cell::Empty),
@@ -311,13 +304,11 @@ impl Seen {
 
     // What holds after the entry of this number.
     fn note(&mut self, number: u64)
-        ensures seen { seen_of self.new ≡ noted self.old.limit number (seen_of self.old) }
-        ensures limit { self.new.limit ≡ self.old.limit }
-        ensures calls { self.new.calls ≡ self.old.calls }
-        ensures lazy { self.new.lazy ≡ self.old.lazy }
+        ensures seen { seen_of self.new ≡ noted self.old.rules.limit number (seen_of self.old) }
+        ensures rules { self.new.rules ≡ self.old.rules }
     {
         self.entries = number;
-        if self.about > self.limit {
+        if self.about > self.rules.limit {
             self.crowded_at = number;
         }
         if self.acting > 1 {
@@ -335,11 +326,9 @@ impl Seen {
     // After a release that looked at all that ask, those that were woken ask no more.
     fn settle(&mut self, entry: &Entry) -> Result<(), AllocError>
         ensures seen { seen_of self.new ≡ seen_of self.old }
-        ensures limit { self.new.limit ≡ self.old.limit }
-        ensures calls { self.new.calls ≡ self.old.calls }
-        ensures lazy { self.new.lazy ≡ self.old.lazy }
+        ensures rules { self.new.rules ≡ self.old.rules }
     {
-        let looks = match (entry, self.calls) {
+        let looks = match (entry, self.rules.calls) {
             (Entry::Free(_, wakers), Calls::One) => wakers.is_empty(),
             (Entry::Free(_, _), Calls::All) | (Entry::Fill(_, _, _), _) => true,
             _ => false,

@@ -81,14 +81,13 @@ pub fn judge(
     let mut seen = Seen::new(alloc, kind, limit, calls)?;
     let mut forgotten = None;
     for (number, entry) in entries.iter().enumerate() {
-        if let Err(reason) = seen.may_follow(entry)? {
+        if let Some(reason) = seen.follow(entry)? {
             let fault = Some(Fault {
                 entry: number,
                 reason,
             });
             return Ok(Verdict { fault, forgotten });
         }
-        seen.take(entry)?;
         forgotten = first_forgotten(forgotten, &seen, number);
     }
     Ok(Verdict {

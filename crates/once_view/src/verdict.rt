@@ -5,7 +5,7 @@ mod last_calls;
 
 pub use drawn::draw_verdict;
 pub use last_calls::LastCalls;
-use once_judge::{Cell, Fault, Forgotten, Reason, Status, Verdict};
+use once_judge::{CallFact, Cell, Fault, Forgotten, Reason, Status, Verdict, WakersFact};
 use once_machine::record::{Entry, Ran};
 use once_script::print::EntryLine;
 use std::fmt;
@@ -72,19 +72,9 @@ impl fmt::Display for ReasonText {
     fn fmt<W: fmt::Write>(&self, f: &mut fmt::Formatter<W>) -> fmt::Result {
         match self.0 {
             Reason::TaskIs(task, status) => write!(f, "task {task} {}", status_words(status)),
-            Reason::CellIs(cell) => write!(f, "{}", CellText(cell)),
-            Reason::InitAnswered(task, answer) => {
-                write!(
-                    f,
-                    "in this call the init of task {task} {}",
-                    InitText(answer)
-                )
-            }
-            Reason::Claimed(task) => write!(f, "in this call task {task} claimed"),
-            Reason::Passed(task) => write!(f, "in this call task {task} passed its turn on"),
-            Reason::NotFreed(task) => {
-                write!(f, "in this call task {task} did not give the right back")
-            }
+            Reason::CellIs(cell) => CellText(cell).fmt(f),
+            Reason::OfCall(task, fact) => CallText(task, fact).fmt(f),
+            Reason::OfWakers(fact) => WakersText(fact).fmt(f),
             Reason::NextAnswer(Ran::Value(value)) => {
                 write!(f, "the next answer of the init is the value {value}")
             }
@@ -95,38 +85,60 @@ impl fmt::Display for ReasonText {
                     "the cell is not set, and the init has {count} answers left"
                 )
             }
-            Reason::NoCauseForMemory(task) => write!(
-                f,
-                "nothing was so since this poll of task {task} began for which memory may be refused"
-            ),
-            Reason::NoCrowd(task) => write!(
-                f,
-                "since this poll of task {task} began fewer other tasks than the limit were about"
-            ),
-            Reason::NotFirstPoll(task) => write!(f, "this is not the first poll of task {task}"),
             Reason::NoSuchCall => f.write_str("a cell of this kind has no such call"),
-            _ => write!(f, "{}", HandedText(self.0)),
         }
     }
 }
 
-/// Why an entry may not hand out what it does.
+/// What is so of a call of this task.
 #[derive(Clone, Copy)]
-struct HandedText(Reason);
+struct CallText(u64, CallFact);
 
-impl fmt::Display for HandedText {
+impl fmt::Display for CallText {
+    fn fmt<W: fmt::Write>(&self, f: &mut fmt::Formatter<W>) -> fmt::Result {
+        let CallText(task, fact) = *self;
+        match fact {
+            CallFact::InitAnswered(answer) => {
+                write!(
+                    f,
+                    "in this call the init of task {task} {}",
+                    InitText(answer)
+                )
+            }
+            CallFact::Claimed => write!(f, "in this call task {task} claimed"),
+            CallFact::Passed => write!(f, "in this call task {task} passed its turn on"),
+            CallFact::NotFreed => {
+                write!(f, "in this call task {task} did not give the right back")
+            }
+            CallFact::NoCauseForMemory => write!(
+                f,
+                "nothing was so since this poll of task {task} began for which memory may be refused"
+            ),
+            CallFact::NoCrowd => write!(
+                f,
+                "since this poll of task {task} began fewer other tasks than the limit were about"
+            ),
+            CallFact::NotFirstPoll => write!(f, "this is not the first poll of task {task}"),
+        }
+    }
+}
+
+/// What is so of the wakers that an entry hands out.
+#[derive(Clone, Copy)]
+struct WakersText(WakersFact);
+
+impl fmt::Display for WakersText {
     fn fmt<W: fmt::Write>(&self, f: &mut fmt::Formatter<W>) -> fmt::Result {
         match self.0 {
-            Reason::NotOpen(waker) => write!(f, "waker {waker} is not open"),
-            Reason::Twice(waker) => write!(f, "waker {waker} is handed out twice"),
-            Reason::Due(task, waker) => {
+            WakersFact::NotOpen(waker) => write!(f, "waker {waker} is not open"),
+            WakersFact::Twice(waker) => write!(f, "waker {waker} is handed out twice"),
+            WakersFact::Due(task, waker) => {
                 write!(
                     f,
                     "task {task} waits, and its waker {waker} is not handed out"
                 )
             }
-            Reason::HandsOut(count) => write!(f, "it hands {count} wakers out, and not one"),
-            _ => Ok(()),
+            WakersFact::Count(count) => write!(f, "it hands {count} wakers out, and not one"),
         }
     }
 }

@@ -3,7 +3,7 @@ ghost use Rattle.std.specs.Prelude.{◌≡◌, None, Some, false, IfErr};
 ghost use Rattle.std.specs.Bool.{Decides};
 ghost use Rattle.once_machine.specs.Cell.{SetTo};
 
-use crate::reason::Reason;
+use crate::reason::{CallFact, Reason};
 use crate::seen::Seen;
 use crate::task::{Cell, Status, Task, is_set};
 use once_machine::record::{Ran, Reply};
@@ -11,14 +11,15 @@ use once_machine::record::{Ran, Reply};
 impl Seen {
     ghost use Rattle.once_machine.specs.Record.{End, Entry as Told};
     ghost use Rattle.once_machine.specs.Tasks.{Polling};
-    ghost use Rattle.once_judge.specs.Legal.{IsLegalIn, MayEndIn, OtherHoldsIn, MemoryFromIn};
-    ghost use Rattle.once_judge.specs.Reasons.{Tests, IsTrueIn};
+    ghost use Rattle.once_judge.specs.Legal.{MayEndIn, OtherHoldsIn, MemoryFromIn};
+    ghost use Rattle.once_judge.specs.Reasons.{Tests};
+    ghost use Rattle.once_judge.specs.Next.{MayFollow, IsReason};
     ghost use Rattle.once_judge.specs.Shown.{seen_of, task_in};
 
     /// Whether the poll of the task may end so.
     pub fn may_end(&self, t: u64, reply: Reply) -> Result<(), Reason>
-        ensures rule { Tests result (IsLegalIn self.now.calls self.now.lazy (End t reply) (seen_of self.now)) }
-        ensures reason { IfErr result (λ r. IsTrueIn self.now.lazy r (End t reply) (seen_of self.now)) }
+        ensures rule { Tests result (MayFollow (End t reply) self.now) }
+        ensures reason { IfErr result (λ r. IsReason r (End t reply) self.now) }
     {
         let task = self.task(t);
         if !matches!(task.status, Status::Polling) {
@@ -29,7 +30,7 @@ impl Seen {
             None => self.ends_unrun(t, reply)?,
         }
         if task.passed && !matches!(reply, Reply::Memory) {
-            return Err(Reason::Passed(t));
+            return Err(Reason::OfCall(t, CallFact::Passed));
         }
         Ok(())
     }
@@ -39,7 +40,7 @@ impl Seen {
         requires polling { ((seen_of self.now).task t).status ≡ Polling }
         requires ran { ((seen_of self.now).task t).call.ran ≡ Some answer }
         ensures rule { Tests result (MayEndIn t reply (Some answer) (seen_of self.now)) }
-        ensures reason { (e : Told) → IfErr result (λ r. IsTrueIn self.now.lazy r e (seen_of self.now)) }
+        ensures reason { (e : Told) → IfErr result (λ r. IsReason r e self.now) }
     {
         match (reply, answer) {
             (Reply::Pending, Ran::Pending) => self.holds(t),
@@ -48,10 +49,10 @@ impl Seen {
                 if self.task(t).freed {
                     Ok(())
                 } else {
-                    Err(Reason::NotFreed(t))
+                    Err(Reason::OfCall(t, CallFact::NotFreed))
                 }
             }
-            _ => Err(Reason::InitAnswered(t, Some(answer))),
+            _ => Err(Reason::OfCall(t, CallFact::InitAnswered(Some(answer)))),
         }
     }
 
@@ -60,12 +61,12 @@ impl Seen {
         requires polling { ((seen_of self.now).task t).status ≡ Polling }
         requires ran { ((seen_of self.now).task t).call.ran ≡ None }
         ensures rule { Tests result (MayEndIn t reply None (seen_of self.now)) }
-        ensures reason { (e : Told) → IfErr result (λ r. IsTrueIn self.now.lazy r e (seen_of self.now)) }
+        ensures reason { (e : Told) → IfErr result (λ r. IsReason r e self.now) }
     {
         match reply {
             Reply::Pending => self.other_holds(t),
             Reply::Value(v) => self.is_set_to(v),
-            Reply::Error(_) => Err(Reason::InitAnswered(t, None)),
+            Reply::Error(_) => Err(Reason::OfCall(t, CallFact::InitAnswered(None))),
             Reply::Memory => self.may_want_memory(t),
             Reply::Full => self.may_find_full(t),
         }
@@ -74,7 +75,7 @@ impl Seen {
     // Whether another task holds.
     fn other_holds(&self, t: u64) -> Result<(), Reason>
         ensures rule { Tests result (OtherHoldsIn t (seen_of self.now)) }
-        ensures reason { (e : Told) → IfErr result (λ r. IsTrueIn self.now.lazy r e (seen_of self.now)) }
+        ensures reason { (e : Told) → IfErr result (λ r. IsReason r e self.now) }
     {
         match self.cell {
             Cell::Held(u) if u != t => Ok(()),
@@ -85,7 +86,7 @@ impl Seen {
     // Whether the cell is set to this value.
     fn is_set_to(&self, v: u64) -> Result<(), Reason>
         ensures rule { Tests result ((seen_of self.now).cell ≡ SetTo v) }
-        ensures reason { (e : Told) → IfErr result (λ r. IsTrueIn self.now.lazy r e (seen_of self.now)) }
+        ensures reason { (e : Told) → IfErr result (λ r. IsReason r e self.now) }
     {
         match self.cell {
             Cell::SetTo(u) if u == v => Ok(()),
@@ -97,16 +98,16 @@ impl Seen {
     fn may_want_memory(&self, t: u64) -> Result<(), Reason>
         requires polling { ((seen_of self.now).task t).status ≡ Polling }
         ensures rule { Tests result (MayEndIn t Reply.Memory None (seen_of self.now)) }
-        ensures reason { (e : Told) → IfErr result (λ r. IsTrueIn self.now.lazy r e (seen_of self.now)) }
+        ensures reason { (e : Told) → IfErr result (λ r. IsReason r e self.now) }
     {
         let task = self.task(t);
         if task.claimed {
-            return Err(Reason::Claimed(t));
+            return Err(Reason::OfCall(t, CallFact::Claimed));
         }
         if self.has_cause_for_memory(t, task) {
             Ok(())
         } else {
-            Err(Reason::NoCauseForMemory(t))
+            Err(Reason::OfCall(t, CallFact::NoCauseForMemory))
         }
     }
 
@@ -127,14 +128,14 @@ impl Seen {
     fn may_find_full(&self, t: u64) -> Result<(), Reason>
         requires polling { ((seen_of self.now).task t).status ≡ Polling }
         ensures rule { Tests result (MayEndIn t Reply.Full None (seen_of self.now)) }
-        ensures reason { (e : Told) → IfErr result (λ r. IsTrueIn self.now.lazy r e (seen_of self.now)) }
+        ensures reason { (e : Told) → IfErr result (λ r. IsReason r e self.now) }
     {
         let task = self.task(t);
         if task.claimed {
-            return Err(Reason::Claimed(t));
+            return Err(Reason::OfCall(t, CallFact::Claimed));
         }
         if !matches!(task.began, Status::Fresh) {
-            return Err(Reason::NotFirstPoll(t));
+            return Err(Reason::OfCall(t, CallFact::NotFirstPoll));
         }
         if is_set(self.cell) {
             return Err(Reason::CellIs(self.cell));
@@ -142,7 +143,7 @@ impl Seen {
         if task.begun <= self.crowded_at {
             Ok(())
         } else {
-            Err(Reason::NoCrowd(t))
+            Err(Reason::OfCall(t, CallFact::NoCrowd))
         }
     }
 }

@@ -2,7 +2,7 @@
 ghost use Rattle.std.specs.Prelude.{◌≡◌, ◌<◌, ℕ, ◌∷◌, [], true, false, nat_lt, IfOk, IfErr, MatchOption};
 ghost use Rattle.std.specs.Bool.{Decides};
 
-use crate::reason::Reason;
+use crate::reason::{Reason, WakersFact};
 use crate::seen::Seen;
 use crate::task::{Status, Task};
 use std::alloc::AllocError;
@@ -14,34 +14,35 @@ impl Seen {
     ghost use Rattle.once_machine.specs.Record.{Free, Pass, Entry as Told, handed_by as wakers_of};
     ghost use Rattle.once_machine.specs.Tasks.{Waiting};
     ghost use Rattle.once_judge.specs.Legal.{IsDueFor, IsDueIn, HandsOutIn, CallsOneIn};
-    ghost use Rattle.once_judge.specs.Reasons.{Tests, IsTrueIn};
+    ghost use Rattle.once_judge.specs.Reasons.{Tests};
+    ghost use Rattle.once_judge.specs.Next.{IsReason};
     ghost use Rattle.once_judge.specs.Shown.{seen_of, task_in};
 
     /// Whether a release that wakes one may hand these out: at most one, and one if any is due.
     pub fn calls_one(&self, t: u64, wakers: &[u64]) -> Result<(), Reason>
         ensures rule { Tests result (CallsOneIn wakers.now (seen_of self.now)) }
-        ensures reason { IfErr result (λ r. IsTrueIn self.now.lazy r (Free t wakers.now) (seen_of self.now)) }
+        ensures reason { IfErr result (λ r. IsReason r (Free t wakers.now) self.now) }
     {
         match wakers {
             [] => match self.due_outside(&BTreeSet::new(self.alloc)) {
-                Some((task, waker)) => Err(Reason::Due(task, waker)),
+                Some((task, waker)) => Err(Reason::OfWakers(WakersFact::Due(task, waker))),
                 None => Ok(()),
             },
             [waker] if self.is_open(*waker) => Ok(()),
-            [waker] => Err(Reason::NotOpen(*waker)),
-            _ => Err(Reason::HandsOut(wakers.len())),
+            [waker] => Err(Reason::OfWakers(WakersFact::NotOpen(*waker))),
+            _ => Err(Reason::OfWakers(WakersFact::Count(wakers.len()))),
         }
     }
 
     /// Whether a task that passes its turn on may hand these out: one that is open.
     pub fn passes_to(&self, t: u64, wakers: &[u64]) -> Result<(), Reason>
         ensures rule { Tests result ((w : ℕ) × (wakers.now ≡ w ∷ []) × (0 < (seen_of self.now).times w)) }
-        ensures reason { IfErr result (λ r. IsTrueIn self.now.lazy r (Pass t wakers.now) (seen_of self.now)) }
+        ensures reason { IfErr result (λ r. IsReason r (Pass t wakers.now) self.now) }
     {
         match wakers {
             [waker] if self.is_open(*waker) => Ok(()),
-            [waker] => Err(Reason::NotOpen(*waker)),
-            _ => Err(Reason::HandsOut(wakers.len())),
+            [waker] => Err(Reason::OfWakers(WakersFact::NotOpen(*waker))),
+            _ => Err(Reason::OfWakers(WakersFact::Count(wakers.len()))),
         }
     }
 
@@ -49,19 +50,19 @@ impl Seen {
     pub fn hands_out(&self, wakers: &[u64]) -> Result<Result<(), Reason>, AllocError>
         ensures rule { IfOk result (λ answer. Tests answer (HandsOutIn wakers.now (seen_of self.now))) }
         ensures reason { (e : Told) → wakers_of e ≡ wakers.now → IfOk result (λ answer. IfErr answer (λ r.
-            IsTrueIn self.now.lazy r e (seen_of self.now))) }
+            IsReason r e self.now)) }
     {
         let mut among = BTreeSet::new(self.alloc);
         for waker in wakers {
             if !among.insert(*waker)? {
-                return Ok(Err(Reason::Twice(*waker)));
+                return Ok(Err(Reason::OfWakers(WakersFact::Twice(*waker))));
             }
             if !self.is_open(*waker) {
-                return Ok(Err(Reason::NotOpen(*waker)));
+                return Ok(Err(Reason::OfWakers(WakersFact::NotOpen(*waker))));
             }
         }
         match self.due_outside(&among) {
-            Some((task, waker)) => Ok(Err(Reason::Due(task, waker))),
+            Some((task, waker)) => Ok(Err(Reason::OfWakers(WakersFact::Due(task, waker)))),
             None => Ok(Ok(())),
         }
     }

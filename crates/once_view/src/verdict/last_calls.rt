@@ -1,6 +1,6 @@
 //! The last calls of the tasks that a verdict names.
 
-use once_judge::{Cell, Reason, Verdict, task_of};
+use once_judge::{Cell, Reason, Verdict, WakersFact, task_of};
 use once_machine::record::Entry;
 use once_script::print::EntryLine;
 use std::fmt;
@@ -90,14 +90,8 @@ fn task_in(reason: Reason) -> Option<u64> {
     match reason {
         Reason::TaskIs(task, _)
         | Reason::CellIs(Cell::Held(task))
-        | Reason::InitAnswered(task, _)
-        | Reason::Claimed(task)
-        | Reason::Passed(task)
-        | Reason::NotFreed(task)
-        | Reason::Due(task, _)
-        | Reason::NoCauseForMemory(task)
-        | Reason::NoCrowd(task)
-        | Reason::NotFirstPoll(task) => Some(task),
+        | Reason::OfCall(task, _)
+        | Reason::OfWakers(WakersFact::Due(task, _)) => Some(task),
         _ => None,
     }
 }

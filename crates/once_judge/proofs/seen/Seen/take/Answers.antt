@@ -12,7 +12,7 @@ pub returns-clause-seen : goal.returns-clause-seen
 returns-clause-seen c =
     let S = seen_of c.args.self.now in
     let e = entry_of c.args.entry.now in
-    let limit = c.args.self.now.limit in
+    let limit = c.args.self.now.rules.limit in
     let T = c.take_its_task.new.self in
     let H = c.hand_out.new.self in
     let C = c.take_cell.new.self in
@@ -28,7 +28,7 @@ returns-clause-seen c =
     (ap (λ k. k.about) r) (ap (λ k. k.acting) r) (ap (λ k. k.crowded_at) r) (ap (λ k. k.acting_at) r)
     (ap (λ k. k.holder) r) (ap (λ k. k.held_at) r) (ap (λ k. k.other_held_at) r) in
     let one : c.args.self.now.entries + 1 ≡ suc S.now = omega arith in
-    let limits : C.limit ≡ limit = c.in_ok-take_cell.ensures.limit ∙ ap (λ k. k.limit) r ∙ c.in_ok-take_its_task.ensures.limit in
+    let limits : C.rules.limit ≡ limit = ap (λ k. k.limit) (c.in_ok-take_cell.ensures.rules ∙ ap (λ k. k.rules) r ∙ c.in_ok-take_its_task.ensures.rules) in
     let n = c.args.self.now.entries + 1 in
     c.settle.ensures.seen ∙ c.note.ensures.seen ∙ ap (λ m. noted m n (seen_of C)) limits ∙ ap (noted limit n) c.in_ok-take_cell.ensures.seen
     ∙ ap (λ s. noted limit n (celled e s)) handed ∙ ap (λ s. noted limit n (celled e (handed_out (handed_by e) n s))) c.in_ok-take_its_task.ensures.seen
