@@ -1,5 +1,5 @@
 -- One more entry, and those after the first that does not fit.
-use Rattle.std.proofs.Common.{◌≡◌, ◌≤◌, ◌<◌, ◌+◌, ℕ, suc, List, [], ◌∷◌, ◌++◌, Option, Some, None, length, take, get_or, sym, ap, ◌∙◌, subst, arith}
+use Rattle.std.proofs.Common.{◌≡◌, ◌≤◌, ◌<◌, ◌+◌, ℕ, suc, List, [], ◌∷◌, ◌++◌, Option, Some, None, MatchOption, length, take, get_or, sym, ap, ◌∙◌, subst, arith}
 use Rattle.std.proofs.lemmas.List.{append_cancel_left}
 use Rattle.std.proofs.lemmas.Grind.{take_at_read, common_steps}
 use Rattle.once_machine.specs.declared.record.Entry.{Entry as Written}
@@ -131,3 +131,9 @@ watched_more c K limit xs i x S None (Some f) l is j w r =
       before = w;
     } in
     (subst (λ n. IsForgottenAt K xs n f.task) (sym r.0) at, let e = r.0 in omega arith)
+
+-- what a verdict says of the moments so far
+pub watched_out : (K : Kind) (xs : List Written) (n : ℕ) (o : Option Forgotten) → Watched K xs n o
+    → MatchOption o (AtEvery (SomebodyCalled K) (history_in (take n xs))) (λ f. IsForgottenAt K xs f.entry f.task)
+watched_out K xs n None w = w
+watched_out K xs n (Some f) w = w.0

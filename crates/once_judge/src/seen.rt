@@ -140,7 +140,8 @@ impl Seen {
     pub fn take(&mut self, entry: &Entry) -> Result<(), AllocError>
         requires within { Within (seen_of self.old) }
         requires small { self.old.entries < 2 ^ 63 }
-        ensures seen { OnOk result (seen_of self.new ≡ after self.old.rules.limit (entry_of entry.now) (seen_of self.old)) }
+        ensures seen { OnOk result (seen_of self.new
+            ≡ after self.old.rules.limit (entry_of entry.now) (seen_of self.old)) }
         ensures rules { OnOk result (self.new.rules ≡ self.old.rules) }
     {
         let number = self.entries + 1;

@@ -45,7 +45,7 @@ pub enum Cell {
 }
 
 /// One task, with its last call.
-#[derive(Clone, Copy, Debug)]
+#[derive(Clone, Copy)]
 pub struct Task {
     /// What it is at.
     pub status: Status,

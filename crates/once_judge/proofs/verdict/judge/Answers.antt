@@ -1,12 +1,17 @@
 -- What is kept is of the entries so far; and so it decides the next, and tells who was called.
-use Rattle.std.proofs.Common.{[], Some, None, take, sym, ◌∙◌, subst, arith}
+use Rattle.std.proofs.Common.{◌≡◌, [], Some, None, MatchOption, take, sym, ◌∙◌, subst, arith}
+use Rattle.std.proofs.lemmas.Grind.{common_steps}
 use Rattle.once_machine.specs.Shown.{kind_of, entry_of, history_in}
+use Rattle.once_machine.specs.Called.{SomebodyCalled}
+use Rattle.once_machine.specs.Run.{AtEvery}
+use Rattle.once_judge.specs.Calls.{IsRunBy}
 use Rattle.once_judge.specs.SeenOf.{IsSeenOf}
 use Rattle.once_judge.specs.Shown.{seen_of}
 use Rattle.once_judge.specs.Next.{Followed}
+use Rattle.once_judge.specs.Verdict.{IsForgottenAt}
 use Rattle.once_judge.proofs.Either.{run_none}
 use Rattle.once_judge.proofs.Sinces.{seen_none}
-use Rattle.once_judge.proofs.Verdicts.{judged_step, stops, within, true_at, none_forgotten, watched_more}
+use Rattle.once_judge.proofs.Verdicts.{judged_step, stops, within, true_at, none_forgotten, watched_more, watched_out}
 use Rattle.once_judge.proofs.verdict.judge.Goals as goal
 
 pub loop-number-init : goal.loop-number-init
@@ -56,3 +61,18 @@ loop-number-preserved c =
       watched_more c.args.calls K c.args.limit c.args.entries.now c.loop-number.number x T c.loop-number.forgotten c.first_forgotten-forgotten.result (omega arith) c.index-entries-number.is
           judged c.loop-number.invariant.2 c.first_forgotten-forgotten.ensures,
     )
+
+pub returns-in-Some-clause-called : goal.returns-in-Some-clause-called
+returns-in-Some-clause-called c = watched_out (kind_of c.args.kind.now) c.args.entries.now c.loop-number.number c.loop-number.forgotten c.loop-number.invariant.2
+
+pub returns-clause-run : goal.returns-clause-run
+returns-clause-run c =
+    let all : take c.loop-number.number c.args.entries.now ≡ c.args.entries.now = grind (arith, common_steps) in
+    subst (λ xs. IsRunBy c.args.calls (kind_of c.args.kind.now) c.args.limit (history_in xs)) all c.loop-number.invariant.0.run
+
+pub returns-clause-called : goal.returns-clause-called
+returns-clause-called c =
+    let K = kind_of c.args.kind.now in
+    let all : take c.loop-number.number c.args.entries.now ≡ c.args.entries.now = grind (arith, common_steps) in
+    subst (λ xs. MatchOption c.loop-number.forgotten (AtEvery (SomebodyCalled K) (history_in xs)) (λ f. IsForgottenAt K c.args.entries.now f.entry f.task)) all
+    (watched_out K c.args.entries.now c.loop-number.number c.loop-number.forgotten c.loop-number.invariant.2)
