@@ -1,13 +1,17 @@
-//! What cells do on one thread, by their public calls alone. `doubles` and `left` are for `thread_tests` too.
+//! What cells do on one thread, and for several (`threads`), by their public calls alone.
 #![tactic(auto)]
 
-pub mod doubles;
+#[cfg(test)]
+mod doubles;
 #[cfg(test)]
 mod lazy;
-pub mod left;
+#[cfg(test)]
+mod left;
 #[cfg(test)]
 mod once;
 #[cfg(test)]
 mod paths;
 #[cfg(test)]
 mod pending;
+#[cfg(test)]
+mod threads;

@@ -1,10 +1,10 @@
 //! Two threads, each with a token of its own: what both were told is one value.
 ghost use Rattle.std.specs.Prelude.{◌≡◌, IfSome};
 
-use crate::doubles::meeting::{Blocking, Meeting};
+use crate::left::FILLED;
+use crate::threads::doubles::meeting::{Blocking, Meeting};
 use async_once_cell::OnceCell;
 use async_once_cell::once::{InitError, Known, TryInitFuture};
-use cell_tests::left::FILLED;
 use futures::Future;
 use futures::executor::block_on;
 use futures::task::{Context, Poll};

@@ -1,11 +1,11 @@
 //! Threads that use one cell in rounds. Between two of them its owner looks at all that is left.
 
-use crate::doubles::slow::{Slow, ended, left_midway};
+use crate::doubles::poll::tasks;
+use crate::doubles::stub::Tried;
+use crate::left::{is_filled, is_free};
+use crate::threads::doubles::slow::{Slow, ended, left_midway};
 use async_once_cell::OnceCell;
 use async_once_cell::record::Reply;
-use cell_tests::doubles::poll::tasks;
-use cell_tests::doubles::stub::Tried;
-use cell_tests::left::{is_filled, is_free};
 use futures::test::MockTask;
 use rand_core::{Rng, SeedableRng};
 use rand_xoshiro::Xoshiro256PlusPlus;

@@ -1,11 +1,11 @@
 //! Four threads and two hundred cells: what comes out does not depend on who was first.
 
 use super::gathered::{CELLS, THREADS, Visited, alike, gathered};
-use crate::doubles::slow::{Driven, Slow, ended};
+use crate::doubles::stub::Tried;
+use crate::left::FILLED;
+use crate::threads::doubles::slow::{Driven, Slow, ended};
 use async_once_cell::OnceCell;
 use async_once_cell::record::Reply;
-use cell_tests::doubles::stub::Tried;
-use cell_tests::left::FILLED;
 use futures::test::MockTask;
 use machine_tests::doubles::text::shows;
 use std::alloc::{AllocError, AllocGlobal, Global};

@@ -1,12 +1,12 @@
 //! Two threads, each with a task: one polls while the other is inside the init.
 ghost use Rattle.std.specs.Prelude.{◌≡◌, IfSome};
 
-use crate::doubles::meeting::{Meeting, Spinning};
+use crate::doubles::poll::heard;
+use crate::left::FILLED;
+use crate::threads::doubles::meeting::{Meeting, Spinning};
 use async_once_cell::once::Known;
 use async_once_cell::record::Reply;
 use async_once_cell::{Lazy, LazyFuturePin, OnceCell};
-use cell_tests::doubles::poll::heard;
-use cell_tests::left::FILLED;
 use futures::Future;
 use futures::future::ready;
 use futures::test::MockTask;

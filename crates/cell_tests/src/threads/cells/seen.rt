@@ -3,10 +3,10 @@
 //! In half of the rounds the calls of the threads overlap, and a task sees no more of a wake than that it was woken. In
 //! the other half one call is made at a time, so that each wake is seen with the call that made it.
 
+use crate::doubles::poll::{heard, tasks};
+use crate::doubles::stub::Tried;
 use async_once_cell::record::{Entry, Kind, Ran, Reply};
 use async_once_cell::{OnceCell, TryInitFuture};
-use cell_tests::doubles::poll::{heard, tasks};
-use cell_tests::doubles::stub::Tried;
 use futures::Future;
 use futures::task::{Context, Poll};
 use futures::test::MockTask;

@@ -1,12 +1,12 @@
 //! Inits that fail while another waits, which then fills the cell at once.
 ghost use Rattle.std.specs.Prelude.{◌≡◌, false};
 
-use crate::doubles::meeting::meet;
+use crate::doubles::poll::heard;
+use crate::left::is_filled;
+use crate::threads::doubles::meeting::meet;
 use async_once_cell::once::TryInitFuture;
 use async_once_cell::record::Reply;
 use async_once_cell::{OnceCell, Parker};
-use cell_tests::doubles::poll::heard;
-use cell_tests::left::is_filled;
 use futures::Future;
 use futures::future::ready;
 use futures::task::{Context, Poll};

@@ -1,10 +1,10 @@
 //! Inits that take several polls, and futures that many threads drive, each by its own task.
 
+use crate::doubles::poll::heard;
+use crate::doubles::stub::Tried;
 use async_once_cell::LazyFuturePin;
 use async_once_cell::once::TryInitFuture;
 use async_once_cell::record::Reply;
-use cell_tests::doubles::poll::heard;
-use cell_tests::doubles::stub::Tried;
 use futures::Future;
 use futures::task::{Context, Poll};
 use futures::test::MockTask;

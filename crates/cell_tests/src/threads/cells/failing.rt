@@ -2,10 +2,10 @@
 //! cells are filled at last, and no thread waits in vain.
 
 use super::gathered::{CELLS, THREADS, Visited, alike, gathered};
-use crate::doubles::slow::{Driven, Failing, Slow, ended, left_midway};
+use crate::left::FILLED;
+use crate::threads::doubles::slow::{Driven, Failing, Slow, ended, left_midway};
 use async_once_cell::record::Reply;
 use async_once_cell::{Lazy, OnceCell};
-use cell_tests::left::FILLED;
 use futures::test::MockTask;
 use machine_tests::doubles::text::shows;
 use std::alloc::{AllocError, AllocGlobal, Global};
