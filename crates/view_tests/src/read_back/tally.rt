@@ -7,7 +7,6 @@ use std::fmt;
 /// How much was compared.
 #[derive(Drop)]
 pub struct Tally {
-    scripts: u64,
     lines: u64,
     cells: u64,
     bars: u64,
@@ -20,7 +19,6 @@ pub struct Tally {
 impl Tally {
     pub fn new(alloc: Global) -> Tally {
         Tally {
-            scripts: 0,
             lines: 0,
             cells: 0,
             bars: 0,
@@ -32,7 +30,6 @@ impl Tally {
 
     /// Counts a script.
     pub fn count(&mut self, story: &Story) -> Result<(), AllocError> {
-        self.scripts = self.scripts.saturating_add(1);
         self.lines = self.lines.saturating_add(story.lines.len() as u64);
         for line in &story.lines {
             for stand in &line.stands {
@@ -61,16 +58,12 @@ impl fmt::Display for Tally {
             .filter(|stand| stand.starts_with("> "))
             .count();
         let rests = self.stands.len().saturating_sub(steps);
-        write!(
-            f,
-            "{} scripts, {} lines, {} cells",
-            self.scripts, self.lines, self.cells
-        )?;
+        write!(f, "{} lines, {} cells", self.lines, self.cells)?;
         write!(
             f,
             ", {} bars, {} arrows, {} names",
             self.bars, self.arrows, self.names
         )?;
-        write!(f, "; words for steps {steps} of 17, others {rests} of 4")
+        write!(f, "; {steps} words for steps, {rests} others")
     }
 }

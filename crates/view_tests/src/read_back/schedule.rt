@@ -2,10 +2,10 @@
 ghost use Rattle.std.specs.Prelude.{◌<◌, ◌≤◌};
 ghost use Rattle.once_script.specs.Reached.{IsReached};
 
-use super::chance::Chance;
 use super::fault::Fault;
 use super::story::{Said, Story, text_of};
 use super::words::{Answers, stand_word};
+use crate::chance::Chance;
 use once_script::world::{Call, Input, Kind, Ran, World};
 use std::alloc::{AllocError, Global};
 

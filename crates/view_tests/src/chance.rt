@@ -1,4 +1,5 @@
 //! Numbers at random, from a seed.
+
 use rand_core::{Rng, SeedableRng};
 use rand_xoshiro::Xoshiro256PlusPlus;
 
