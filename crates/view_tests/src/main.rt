@@ -2,9 +2,9 @@
 //! (`files`).
 //!
 //! Of what is shown: scripts at random are shown and read back (`read_back`). Of the judge: records with one thing
-//! wrong (`spoilt`), records judged by both rules (`calls`), records damaged at random beside the definitions computed
-//! plainly (`damaged`, `plain`), texts that are no record (`texts`), and what is seen of a cell from outside, in rows
-//! (`seen`) and of replays at random (`watched`).
+//! wrong (`spoilt`), records judged by both rules (`calls`), records of replays at random (`replays`) damaged beside
+//! the definitions computed plainly (`damaged`, `plain`), texts that are no record (`texts`), and what is seen of a
+//! cell from outside, in rows (`seen`) and of replays at random (`watched`).
 #![tactic(auto)]
 
 #[cfg(test)]
@@ -18,6 +18,8 @@ mod files;
 mod plain;
 #[cfg(test)]
 mod read_back;
+#[cfg(test)]
+mod replays;
 #[cfg(test)]
 mod seen;
 #[cfg(test)]

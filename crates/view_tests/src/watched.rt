@@ -1,9 +1,11 @@
 //! Replays at random, of which is told what can be seen from outside: a run is found that has it.
 
-use crate::damaged::{Chance, crowd, record};
+use crate::chance::Chance;
+use crate::replays::record;
 use once_judge::{Calls, Verdict, judge};
+use once_script::parse::record::RecordText;
 use once_script::print::FullLine;
-use once_script::world::{Entry, Kind};
+use once_script::world::Entry;
 use once_view::observed::{Answer, Event, Observed, StopLine, linearize};
 use std::alloc::{AllocError, Global};
 use std::process::Abort;
@@ -69,13 +71,11 @@ fn observed(
     are_wakes_seen: bool,
 ) -> Result<(Observed, Vec<String>), AllocError> {
     let mut chance = Chance::new(seed);
-    let limit = chance.limit();
-    let first = if seed.is_multiple_of(2) {
-        crowd(alloc, &mut chance)?
-    } else {
-        Vec::new(alloc)
-    };
-    let (kind, entries) = record(alloc, &mut chance, limit, first)?;
+    let RecordText {
+        kind,
+        limit,
+        entries,
+    } = record(alloc, &mut chance, seed.is_multiple_of(2))?;
     let wanted = told(alloc, &entries)?;
     let observed = Observed {
         kind,
