@@ -140,13 +140,13 @@ def try_tests(crate, *words):
     return {name: said if word == "FAILED" else word for name, word, said in ended}
 
 
-def try_program(crate, *words, given=None):
-    """Tries the program in this folder, with its `args`, `data` and `stdin`, or what is given in the place of that."""
+def try_program(crate, *words):
+    """Tries the program in this folder, with its `args`, `data` and `stdin`."""
     data = os.path.join(crate, "data")
     for path in sorted(glob.glob(os.path.join(data, "**"), recursive=True)):
         words += ("--data", f"{os.path.relpath(path, data)}={path}") if os.path.isfile(path) else ()
     args = optional(crate, "args").decode().splitlines()
-    return Tried(crate, *words, "--", *args, given=optional(crate, "stdin") if given is None else given)
+    return Tried(crate, *words, "--", *args, given=optional(crate, "stdin"))
 
 
 def tests_of(crate):
