@@ -101,6 +101,23 @@ fn cell_after_call(call: &Call, cell: Cell) -> Cell {
     }
 }
 
+// What an entry makes of the answers that the init has left.
+fn left_after<'e>(entry: &'e Entry, left: &'e [Option<u64>]) -> &'e [Option<u64>] {
+    match entry {
+        Entry::Ran(_, _) => left.get(1..).unwrap_or(&[]),
+        Entry::Own(call, _) => left_after_call(call, left),
+        _ => left,
+    }
+}
+
+fn left_after_call<'e>(call: &'e Call, left: &'e [Option<u64>]) -> &'e [Option<u64>] {
+    match call {
+        Call::Parts | Call::ReplaceValue(_) => &[],
+        Call::ReplaceAnswers(answers) => answers,
+        Call::Take | Call::Write(_) => left,
+    }
+}
+
 impl<'a> Rules<'a> {
     fn cell(self, h: &[Entry]) -> Cell {
         let mut cell = match self.kind {
@@ -122,32 +139,35 @@ impl<'a> Rules<'a> {
             _ => &[],
         };
         for entry in h {
-            left = match entry {
-                Entry::Ran(_, _) => left.get(1..).unwrap_or(&[]),
-                Entry::Own(Call::Parts | Call::ReplaceValue(_), _) => &[],
-                Entry::Own(Call::ReplaceAnswers(answers), _) => answers,
-                _ => left,
-            };
+            left = left_after(entry, left);
         }
         left
+    }
+
+    fn other_holds(self, t: u64, h: &[Entry]) -> bool {
+        matches!(self.cell(h), Cell::Held(u) if u != t)
     }
 
     fn status(self, t: u64, h: &[Entry]) -> Status {
         let mut status = Status::Unmade;
         for (index, entry) in h.iter().enumerate() {
-            if task_of(entry) != Some(t) {
-                continue;
+            if task_of(entry) == Some(t) {
+                status = self.status_after(entry, status, t, &h[..index]);
             }
-            status = match entry {
-                Entry::Made(_) => Status::Fresh,
-                Entry::Begin(_, _) => Status::Polling,
-                Entry::DropBegin(_) => Status::Dropping,
-                Entry::End(_, Reply::Pending) => self.rests(t, &h[..index]),
-                Entry::End(_, _) | Entry::DropEnd(_) => Status::Gone,
-                _ => status,
-            };
         }
         status
+    }
+
+    // What a task is at after its entry, which comes after the entries `h`.
+    fn status_after(self, entry: &Entry, status: Status, t: u64, h: &[Entry]) -> Status {
+        match entry {
+            Entry::Made(_) => Status::Fresh,
+            Entry::Begin(_, _) => Status::Polling,
+            Entry::DropBegin(_) => Status::Dropping,
+            Entry::End(_, Reply::Pending) => self.rests(t, h),
+            Entry::End(_, _) | Entry::DropEnd(_) => Status::Gone,
+            _ => status,
+        }
     }
 
     // What a task is at whose poll ends Pending after the entries `h`.
@@ -171,28 +191,32 @@ impl<'a> Rules<'a> {
             ran: None,
         };
         for (index, entry) in h.iter().enumerate() {
-            if task_of(entry) != Some(t) {
-                continue;
-            }
-            match entry {
-                Entry::Begin(_, waker) => call = self.begun(*waker, call, t, &h[..index]),
-                Entry::DropBegin(_) => call = self.begun(call.waker, call, t, &h[..index]),
-                Entry::Claim(_) => call.claimed = true,
-                Entry::Free(_, _) => call.freed = true,
-                Entry::Pass(_, _) => call.passed = true,
-                Entry::Ran(_, answer) => call.ran = Some(*answer),
-                Entry::End(_, Reply::Pending) => call.listed = call.waker,
-                _ => {}
+            if task_of(entry) == Some(t) {
+                self.note(entry, &mut call, t, &h[..index]);
             }
         }
         call
     }
 
-    // A call that begins with this waker after the entries `h`.
-    fn begun(self, waker: u64, call: LastCall, t: u64, h: &[Entry]) -> LastCall {
+    // Notes an entry of the task, which comes after the entries `h`.
+    fn note(self, entry: &Entry, call: &mut LastCall, t: u64, h: &[Entry]) {
+        match entry {
+            Entry::Begin(_, waker) => *call = self.begun(*waker, call.listed, t, h),
+            Entry::DropBegin(_) => *call = self.begun(call.waker, call.listed, t, h),
+            Entry::Claim(_) => call.claimed = true,
+            Entry::Free(_, _) => call.freed = true,
+            Entry::Pass(_, _) => call.passed = true,
+            Entry::Ran(_, answer) => call.ran = Some(*answer),
+            Entry::End(_, Reply::Pending) => call.listed = call.waker,
+            _ => {}
+        }
+    }
+
+    // A call with this waker, of a task that was listed with the other, which begins after the entries `h`.
+    fn begun(self, waker: u64, listed: u64, t: u64, h: &[Entry]) -> LastCall {
         LastCall {
             waker,
-            listed: call.listed,
+            listed,
             began: self.status(t, h),
             set_then: matches!(self.cell(h), Cell::SetTo(_)),
             claimed: false,
@@ -230,14 +254,21 @@ impl<'a> Rules<'a> {
                 (opened, handed) = (0, 0);
             }
             handed = handed.saturating_add(times_in(waker, handed_by(entry)));
-            if let Entry::End(t, Reply::Pending) = entry {
-                let other = matches!(self.cell(&h[..index]), Cell::Held(u) if u != *t);
-                if other && self.last_call(*t, &h[..index]).waker == waker {
-                    opened = opened.saturating_add(1);
-                }
+            if self.opens(entry, waker, &h[..index]) {
+                opened = opened.saturating_add(1);
             }
         }
         handed < opened
+    }
+
+    // Whether an entry after these ends a poll with this waker, whose task waits from then on.
+    fn opens(self, entry: &Entry, waker: u64, h: &[Entry]) -> bool {
+        match entry {
+            Entry::End(t, Reply::Pending) => {
+                self.other_holds(*t, h) && self.last_call(*t, h).waker == waker
+            }
+            _ => false,
+        }
     }
 
     // Whether some waker is due that is not among these.

@@ -19,36 +19,36 @@ impl Rules<'_> {
 
     // Whether the entry may come after these.
     fn may_follow(self, entry: &Entry, h: &[Entry]) -> bool {
-        let cell = self.cell(h);
-        let t = task_of(entry).unwrap_or(0);
-        let (status, call) = (self.status(t, h), self.last_call(t, h));
-        let (polls, holds) = (status == Status::Polling, cell == Cell::Held(t));
-        let unrun = polls && call.ran.is_none();
         match entry {
-            Entry::Made(_) => status == Status::Unmade,
-            Entry::Begin(_, _) | Entry::DropBegin(_) => {
-                matches!(status, Status::Fresh | Status::Waiting | Status::Holding)
-            }
-            Entry::Claim(_) => cell == Cell::Empty && unrun && !call.passed,
-            Entry::Ran(_, answer) => holds && unrun && self.is_next(*answer, h),
-            Entry::Free(_, wakers) => holds && may_free(status, call) && self.frees_to(wakers, h),
-            Entry::Fill(_, v, wakers) => {
-                holds && polls && call.ran == Some(Ran::Value(*v)) && self.hands_out(wakers, h)
-            }
-            Entry::Pass(_, wakers) => {
-                cell == Cell::Empty && may_pass(status, call) && self.passes_to(wakers, h)
-            }
-            Entry::End(_, reply) => {
-                polls && self.may_end(t, *reply, call, h) && may_answer(*reply, call)
-            }
-            Entry::DropEnd(_) => status == Status::Dropping && !holds,
-            Entry::Look(found) => *found == value_in(cell),
+            Entry::Made(t) => self.status(*t, h) == Status::Unmade,
+            Entry::Begin(t, _) | Entry::DropBegin(t) => may_begin(self.status(*t, h)),
+            Entry::Claim(t) => self.may_claim(*t, h),
+            Entry::Ran(t, answer) => self.may_run(*t, *answer, h),
+            Entry::Free(t, wakers) => self.may_free(*t, wakers, h),
+            Entry::Fill(t, v, wakers) => self.may_fill(*t, *v, wakers, h),
+            Entry::Pass(t, wakers) => self.may_pass(*t, wakers, h),
+            Entry::End(t, reply) => self.may_end(*t, *reply, h),
+            Entry::DropEnd(t) => self.status(*t, h) == Status::Dropping && !self.holds(*t, h),
+            Entry::Look(found) => *found == value_in(self.cell(h)),
             Entry::Own(call, got) => self.may_own(call, got, h),
         }
     }
 
-    fn passes_to(self, wakers: &[u64], h: &[Entry]) -> bool {
-        matches!(wakers, [waker] if self.is_open(*waker, h))
+    fn holds(self, t: u64, h: &[Entry]) -> bool {
+        self.cell(h) == Cell::Held(t)
+    }
+
+    // Whether a task is in a poll whose init was not polled yet.
+    fn is_unrun(self, t: u64, h: &[Entry]) -> bool {
+        self.status(t, h) == Status::Polling && self.last_call(t, h).ran.is_none()
+    }
+
+    fn may_claim(self, t: u64, h: &[Entry]) -> bool {
+        self.cell(h) == Cell::Empty && self.is_unrun(t, h) && !self.last_call(t, h).passed
+    }
+
+    fn may_run(self, t: u64, answer: Ran, h: &[Entry]) -> bool {
+        self.holds(t, h) && self.is_unrun(t, h) && self.is_next(answer, h)
     }
 
     fn is_next(self, answer: Ran, h: &[Entry]) -> bool {
@@ -61,31 +61,79 @@ impl Rules<'_> {
         }
     }
 
-    fn may_end(self, t: u64, reply: Reply, call: LastCall, h: &[Entry]) -> bool {
-        let cell = self.cell(h);
-        match (reply, call.ran) {
-            (Reply::Pending, Some(Ran::Pending)) => cell == Cell::Held(t),
-            (Reply::Value(v), Some(Ran::Value(u))) => v == u && cell == Cell::SetTo(v),
-            (Reply::Error(e), Some(Ran::Error(f))) => e == f && call.freed,
-            (Reply::Pending, None) => matches!(cell, Cell::Held(u) if u != t),
-            (Reply::Value(v), None) => cell == Cell::SetTo(v),
-            (Reply::Memory, None) => !call.claimed && self.wants_memory(t, call, h),
-            (Reply::Full, None) => {
-                call.began == Status::Fresh
-                    && !call.claimed
-                    && !matches!(cell, Cell::SetTo(_))
-                    && self.was_so_since(t, h, Fact::Crowded)
+    fn may_free(self, t: u64, wakers: &[u64], h: &[Entry]) -> bool {
+        let may = match self.status(t, h) {
+            Status::Dropping => true,
+            Status::Polling => matches!(self.last_call(t, h).ran, Some(Ran::Error(_))),
+            _ => false,
+        };
+        may && self.holds(t, h) && self.frees_to(wakers, h)
+    }
+
+    fn may_fill(self, t: u64, v: u64, wakers: &[u64], h: &[Entry]) -> bool {
+        self.holds(t, h)
+            && self.status(t, h) == Status::Polling
+            && self.last_call(t, h).ran == Some(Ran::Value(v))
+            && self.hands_out(wakers, h)
+    }
+
+    fn may_pass(self, t: u64, wakers: &[u64], h: &[Entry]) -> bool {
+        let call = self.last_call(t, h);
+        let may = match self.status(t, h) {
+            Status::Dropping => !call.passed,
+            Status::Polling => !call.passed && !call.claimed && call.ran.is_none(),
+            _ => false,
+        };
+        may && self.cell(h) == Cell::Empty && self.passes_to(wakers, h)
+    }
+
+    fn passes_to(self, wakers: &[u64], h: &[Entry]) -> bool {
+        matches!(wakers, [waker] if self.is_open(*waker, h))
+    }
+
+    // A call that passed its turn on may only end for want of memory.
+    fn may_end(self, t: u64, reply: Reply, h: &[Entry]) -> bool {
+        let call = self.last_call(t, h);
+        self.status(t, h) == Status::Polling
+            && (!call.passed || reply == Reply::Memory)
+            && self.may_answer(t, reply, call, h)
+    }
+
+    fn may_answer(self, t: u64, reply: Reply, call: LastCall, h: &[Entry]) -> bool {
+        match reply {
+            Reply::Pending => self.may_stay(t, call.ran, h),
+            Reply::Value(v) => {
+                self.cell(h) == Cell::SetTo(v) && call.ran.unwrap_or(Ran::Value(v)) == Ran::Value(v)
             }
+            Reply::Error(e) => call.freed && call.ran == Some(Ran::Error(e)),
+            Reply::Memory => call.ran.is_none() && self.may_want_memory(t, call, h),
+            Reply::Full => call.ran.is_none() && self.may_be_full(t, call, h),
+        }
+    }
+
+    // Whether a poll may end Pending whose init answered this, if it was polled.
+    fn may_stay(self, t: u64, ran: Option<Ran>, h: &[Entry]) -> bool {
+        match ran {
+            Some(answer) => answer == Ran::Pending && self.holds(t, h),
+            None => self.other_holds(t, h),
+        }
+    }
+
+    fn may_want_memory(self, t: u64, call: LastCall, h: &[Entry]) -> bool {
+        match call.began {
+            Status::Fresh => {
+                !call.claimed && !call.set_then && self.was_so_since(t, h, Fact::OtherActs)
+            }
+            Status::Waiting => !call.claimed && self.was_so_since(t, h, Fact::OtherHolds),
             _ => false,
         }
     }
 
-    fn wants_memory(self, t: u64, call: LastCall, h: &[Entry]) -> bool {
-        match call.began {
-            Status::Fresh => !call.set_then && self.was_so_since(t, h, Fact::OtherActs),
-            Status::Waiting => self.was_so_since(t, h, Fact::OtherHolds),
-            _ => false,
-        }
+    fn may_be_full(self, t: u64, call: LastCall, h: &[Entry]) -> bool {
+        call.began == Status::Fresh
+            && !call.claimed
+            && value_in(self.cell(h)).is_none()
+            && self.was_so_since(t, h, Fact::Crowded)
     }
 
     // Whether this was so at some moment since the last Begin of the task.
@@ -102,10 +150,9 @@ impl Rules<'_> {
     }
 
     fn is_so(self, t: u64, h: &[Entry], fact: Fact) -> bool {
-        let other_holds = matches!(self.cell(h), Cell::Held(u) if u != t);
         match fact {
-            Fact::OtherHolds => other_holds,
-            Fact::OtherActs => other_holds || self.others(t, h, fact) > 0,
+            Fact::OtherHolds => self.other_holds(t, h),
+            Fact::OtherActs => self.other_holds(t, h) || self.others(t, h, fact) > 0,
             Fact::Crowded => self.others(t, h, fact) as u64 >= self.limit,
         }
     }
@@ -148,12 +195,19 @@ impl Rules<'_> {
 
     // Whether this is what the call is given after these entries.
     fn gives(self, call: &Call, got: &Got, h: &[Entry]) -> bool {
-        match (self.cell(h), call, got) {
-            (Cell::SetTo(v), _, Got::Value(u)) => v == *u,
-            (Cell::SetTo(_), _, _) => false,
-            (_, Call::Parts, Got::Answers(answers)) => answers.as_slice() == self.answers_left(h),
-            (_, Call::Parts, _) => false,
-            (_, _, got) => *got == Got::None,
+        match value_in(self.cell(h)) {
+            Some(v) => matches!(got, Got::Value(u) if *u == v),
+            None => self.gives_no_value(call, got, h),
+        }
+    }
+
+    fn gives_no_value(self, call: &Call, got: &Got, h: &[Entry]) -> bool {
+        match got {
+            Got::None => !matches!(call, Call::Parts),
+            Got::Answers(answers) => {
+                matches!(call, Call::Parts) && answers.as_slice() == self.answers_left(h)
+            }
+            Got::Value(_) => false,
         }
     }
 
@@ -175,12 +229,15 @@ impl Rules<'_> {
     }
 
     fn is_called(self, t: u64, h: &[Entry]) -> bool {
-        let (status, call) = (self.status(t, h), self.last_call(t, h));
-        let has_turn = is_under_way(status)
-            && call.began == Status::Waiting
-            && !call.claimed
-            && !call.passed;
-        (status == Status::Waiting || has_turn) && self.was_handed_since(t, call.listed, h)
+        let call = self.last_call(t, h);
+        let may = match self.status(t, h) {
+            Status::Waiting => true,
+            Status::Polling | Status::Dropping => {
+                call.began == Status::Waiting && !call.claimed && !call.passed
+            }
+            _ => false,
+        };
+        may && self.was_handed_since(t, call.listed, h)
     }
 }
 
@@ -192,25 +249,8 @@ enum Fact {
     Crowded,
 }
 
-// Whether a call may end so that may have passed its turn on.
-fn may_answer(reply: Reply, call: LastCall) -> bool {
-    !call.passed || reply == Reply::Memory
-}
-
-fn may_free(status: Status, call: LastCall) -> bool {
-    match status {
-        Status::Dropping => true,
-        Status::Polling => matches!(call.ran, Some(Ran::Error(_))),
-        _ => false,
-    }
-}
-
-fn may_pass(status: Status, call: LastCall) -> bool {
-    match status {
-        Status::Dropping => !call.passed,
-        Status::Polling => !call.passed && !call.claimed && call.ran.is_none(),
-        _ => false,
-    }
+fn may_begin(status: Status) -> bool {
+    matches!(status, Status::Fresh | Status::Waiting | Status::Holding)
 }
 
 fn is_under_way(status: Status) -> bool {
