@@ -17,34 +17,44 @@ fn words_of<R: Env + AllocGlobal>(rt: &R) -> Result<Vec<String>, Fault> {
     Ok(env::args(rt)?.collect(rt.alloc())?)
 }
 
-/// The command line.
+/// What the words of the command line say.
 fn matches_of(alloc: Global, words: &[String]) -> Result<ArgMatches<'_>, Error> {
-    let svg = Arg::new(alloc, "svg")
-        .long("svg")
-        .action(ArgAction::SetTrue)
-        .help("Writes a picture, as SVG, in the place of the table");
-    let from = Arg::new(alloc, "from")
-        .long("from")
-        .value_name("LINE")
-        .value_parser(value_parser!(u64).range(1..))
-        .action(ArgAction::Set)
-        .help("Shows no line before this one; all are played");
-    let to = Arg::new(alloc, "to")
-        .long("to")
-        .value_name("LINE")
-        .value_parser(value_parser!(u64).range(1..))
-        .action(ArgAction::Set)
-        .help("Shows no line after this one");
-    let file = Arg::new(alloc, "FILE").action(ArgAction::Set).help(
-        "The script; the standard input if there is none, or if it is -",
-    );
     Command::new(alloc, "once_show")
         .about("Shows a script of a cell and its tasks, line by line")
-        .arg(svg)?
-        .arg(from)?
-        .arg(to)?
-        .arg(file)?
+        .arg(picture_option(alloc))?
+        .arg(line_option(
+            alloc,
+            "from",
+            "Shows no line before this one; all are played",
+        ))?
+        .arg(line_option(alloc, "to", "Shows no line after this one"))?
+        .arg(script_word(alloc))?
         .try_get_matches_from(words)
+}
+
+/// The option for a picture.
+fn picture_option(alloc: Global) -> Arg<'static> {
+    Arg::new(alloc, "svg")
+        .long("svg")
+        .action(ArgAction::SetTrue)
+        .help("Writes a picture, as SVG, in the place of the table")
+}
+
+/// An option of this name, with the number of a line.
+fn line_option(alloc: Global, name: &'static str, help: &'static str) -> Arg<'static> {
+    Arg::new(alloc, name)
+        .long(name)
+        .value_name("LINE")
+        .value_parser(value_parser!(u64).range(1..))
+        .action(ArgAction::Set)
+        .help(help)
+}
+
+/// The word that names the script.
+fn script_word(alloc: Global) -> Arg<'static> {
+    Arg::new(alloc, "FILE").action(ArgAction::Set).help(
+        "The script; the standard input if there is none, or if it is -",
+    )
 }
 
 /// Why there is nothing to show, or not all.
@@ -73,19 +83,22 @@ where
     F: Files + AllocGlobal,
     I: Read + Drop,
 {
-    let format = if matches.get_flag("svg") {
+    let range = LineRange::new(matches.get_one("from"), matches.get_one("to"))?;
+    let source = Source::of(matches.get_str("FILE"));
+    match source.read(files, input) {
+        Ok(text) => show_lines(rt.alloc(), format_of(matches), range, &text, io::writer(rt))?,
+        Err(error) => return Err(Failure::Source(source, error)),
+    }
+    Ok(())
+}
+
+/// The format that the command line names.
+fn format_of(matches: &ArgMatches<'_>) -> Format {
+    if matches.get_flag("svg") {
         Format::Picture
     } else {
         Format::Table
-    };
-    let range = LineRange::new(matches.get_one("from"), matches.get_one("to"))?;
-    let source = Source::of(matches.get_str("FILE"));
-    let text = match source.read(files, input) {
-        Ok(text) => text,
-        Err(error) => return Err(Failure::Source(source, error)),
-    };
-    show_lines(rt.alloc(), format, range, &text, io::writer(rt))?;
-    Ok(())
+    }
 }
 
 /// Says why the command line names nothing to show, or prints the help that it asks for. Answers the status of
