@@ -121,12 +121,7 @@ impl Gathered {
             Event::Entry(Entry::DropBegin(task)) => self.begin(*task, at, true),
             Event::Entry(Entry::Ran(task, answer)) => self.ran(*task, *answer, at),
             Event::Entry(Entry::End(task, _) | Entry::DropEnd(task)) => self.end(*task, at),
-            Event::Woke(task, waker) => {
-                let open = self.open.get_mut(task).ok_or(BadEvents::At(at))?;
-                open.call.wakers.push(*waker)?;
-                open.woke_at = open.woke_at.or(Some(at));
-                Ok(())
-            }
+            Event::Woke(task, waker) => self.woke(*task, *waker, at),
             Event::Woken(task) => self.alone(*task, at),
             Event::Entry(Entry::Made(task)) => self.alone(*task, at),
             Event::Entry(_) => self.alone(0, at),
@@ -173,21 +168,19 @@ impl Gathered {
 
     fn ran(&mut self, task: u64, answer: Ran, at: usize) -> Result<(), BadEvents> {
         let open = self.open.get_mut(&task).ok_or(BadEvents::At(at))?;
-        if !self.holders.contains(&task) {
-            let from = open.call.from;
-            open.call.effects.push(Effect::claim(from, at, true))?;
-            self.holders.insert(task)?;
-        }
-        open.has_run = true;
-        open.call.effects.push(Effect::told(at, at))?;
-        open.release = match answer {
-            Ran::Pending => None,
-            Ran::Value(value) => Some((Deed::Fill(value), at)),
-            Ran::Error(_) => Some((Deed::Free, at)),
-        };
+        open.run(self.holders.contains(&task), answer, at)?;
         if open.release.is_some() {
             self.holders.remove(&task);
+        } else {
+            self.holders.insert(task)?;
         }
+        Ok(())
+    }
+
+    fn woke(&mut self, task: u64, waker: u64, at: usize) -> Result<(), BadEvents> {
+        let open = self.open.get_mut(&task).ok_or(BadEvents::At(at))?;
+        open.call.wakers.push(waker)?;
+        open.woke_at = open.woke_at.or(Some(at));
         Ok(())
     }
 
@@ -204,14 +197,20 @@ impl Gathered {
     // The calls that do not end: what they did after the last event, and whether they did it, is not seen.
     fn end_all(&mut self, last: usize) -> Result<(), BadEvents> {
         let none = BTreeMap::new(self.alloc);
-        for (task, mut open) in mem::replace(&mut self.open, none) {
-            if !open.has_run && !open.is_drop && !self.holders.contains(&task) {
-                let from = open.call.from;
-                open.call.effects.push(Effect::claim(from, last, false))?;
-            }
-            let call = self.released(open, last, false)?;
-            self.ended.push(call)?;
+        for (task, open) in mem::replace(&mut self.open, none) {
+            self.end_open(task, open, last)?;
         }
+        Ok(())
+    }
+
+    // A call that does not end. Its task may have got the right in it.
+    fn end_open(&mut self, task: u64, mut open: Open, last: usize) -> Result<(), AllocError> {
+        if !open.has_run && !open.is_drop && !self.holders.contains(&task) {
+            let claim = Effect::claim(open.call.from, last, false);
+            open.call.effects.push(claim)?;
+        }
+        let call = self.released(open, last, false)?;
+        self.ended.push(call)?;
         Ok(())
     }
 
@@ -237,6 +236,24 @@ impl Gathered {
             is_sure: has_woken || (is_over && release.is_some()),
         })?;
         Ok(call)
+    }
+}
+
+impl Open {
+    // Its init was polled, and answered so. If the task did not hold the right before, it got it in this call.
+    fn run(&mut self, has_held: bool, answer: Ran, at: usize) -> Result<(), AllocError> {
+        if !has_held {
+            let claim = Effect::claim(self.call.from, at, true);
+            self.call.effects.push(claim)?;
+        }
+        self.call.effects.push(Effect::told(at, at))?;
+        self.has_run = true;
+        self.release = match answer {
+            Ran::Pending => None,
+            Ran::Value(value) => Some((Deed::Fill(value), at)),
+            Ran::Error(_) => Some((Deed::Free, at)),
+        };
+        Ok(())
     }
 }
 

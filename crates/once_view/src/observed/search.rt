@@ -103,6 +103,17 @@ enum Woken {
     Due,
 }
 
+// How many a call may wake.
+#[derive(Clone, Copy)]
+enum Wakes {
+    // Those who were seen, or nobody.
+    Seen,
+    // Nobody or one.
+    One,
+    // All that are listed, or all that are due.
+    All,
+}
+
 // Where a search is.
 #[derive(Drop)]
 struct State<'a> {
@@ -118,41 +129,112 @@ struct State<'a> {
     is_dead: bool,
 }
 
-impl Search<'_> {
+// The choices that led to a state, and what was tried before them.
+#[derive(Drop)]
+struct Path {
+    // Each choice, and its place among those that could be made there.
+    made: Vec<(usize, Choice)>,
+    // The digests of the states that were reached.
+    known: BTreeSet<Vec<u64>>,
+    // The place of the choice that is tried next.
+    next: usize,
+    // How far the search came.
+    stop: Stop,
+}
+
+impl<'a> Search<'a> {
     // Tries choices one after another, so many at most. A choice after which nothing may come next is taken back.
     fn run(self, steps: u64) -> Result<Answer, AllocError> {
-        let mut state = State::after(self, &[])?;
-        let mut made: Vec<(usize, Choice)> = Vec::new(self.alloc);
-        let mut known: BTreeSet<Vec<u64>> = BTreeSet::new(self.alloc);
-        let (mut next, mut stop) = (0usize, Stop::FIRST);
+        let mut state = State::first(self)?;
+        let mut path = Path::new(self.alloc);
         for _ in 0..steps {
             if state.is_over() {
-                return Ok(Answer::Run(state.judge.into_taken()));
+                return Ok(Answer::Run(state.into_run()));
             }
-            if let Some(choice) = state.choices()?.get(next).copied() {
-                let event = state.past;
-                let (after, made_or_not) = state.make(choice)?;
-                state = after;
-                match made_or_not {
-                    Made::Yes => {
-                        made.push((next, choice))?;
-                        next = 0;
-                        state.is_dead |= !known.insert(state.digest()?)?;
-                    }
-                    Made::No(reason) => {
-                        stop = stop.farther(event, reason);
-                        next = next.saturating_add(1);
-                    }
-                }
+            if let Some(choice) = state.choices()?.get(path.next).copied() {
+                state = path.go_on(state, choice)?;
+            } else if path.go_back() {
+                state = self.after(&path.made)?;
             } else {
-                let Some((last, _)) = made.pop() else {
-                    return Ok(Answer::NoRun(stop));
-                };
-                next = last.saturating_add(1);
-                state = State::after(self, &made)?;
+                return Ok(Answer::NoRun(path.stop));
             }
         }
-        Ok(Answer::GaveUp(stop))
+        Ok(Answer::GaveUp(path.stop))
+    }
+
+    // How many this may wake.
+    fn wakes(self, deed: Deed) -> Wakes {
+        if self.observed.are_wakes_seen {
+            return Wakes::Seen;
+        }
+        match (deed, self.rule) {
+            (Deed::Told(_) | Deed::Claim, _) => Wakes::Seen,
+            (Deed::Free, Calls::One) | (Deed::Pass, _) => Wakes::One,
+            (Deed::Free, Calls::All) | (Deed::Fill(_), _) => Wakes::All,
+        }
+    }
+
+    // The event that this tells, if it tells one.
+    fn told(self, deed: Deed) -> Option<&'a Event> {
+        match deed {
+            Deed::Told(event) => self.observed.events.get(event),
+            _ => None,
+        }
+    }
+
+    // A copy of the entry that this tells, if it tells one.
+    fn told_entry(self, deed: Deed) -> Result<Option<Entry>, AllocError> {
+        match self.told(deed) {
+            Some(Event::Entry(entry)) => Ok(Some(copy_of(self.alloc, entry)?)),
+            _ => Ok(None),
+        }
+    }
+
+    // The state after these choices.
+    fn after(self, made: &[(usize, Choice)]) -> Result<State<'a>, AllocError> {
+        let mut state = State::first(self)?;
+        for (_, choice) in made {
+            state = state.make(*choice)?.0;
+        }
+        Ok(state)
+    }
+}
+
+impl Path {
+    fn new(alloc: Global) -> Self {
+        Path {
+            made: Vec::new(alloc),
+            known: BTreeSet::new(alloc),
+            next: 0,
+            stop: Stop::FIRST,
+        }
+    }
+
+    // Tries a choice at this state, which is the one after the choices so far. Answers the state to go on from.
+    fn go_on<'a>(&mut self, state: State<'a>, choice: Choice) -> Result<State<'a>, AllocError> {
+        let event = state.past;
+        let (mut state, made) = state.make(choice)?;
+        match made {
+            Made::Yes => {
+                self.made.push((self.next, choice))?;
+                self.next = 0;
+                state.is_dead |= !self.known.insert(state.digest()?)?;
+            }
+            Made::No(reason) => {
+                self.stop = self.stop.farther(event, reason);
+                self.next = self.next.saturating_add(1);
+            }
+        }
+        Ok(state)
+    }
+
+    // Takes the last choice back, if there is one, so that the one after it is tried next.
+    fn go_back(&mut self) -> bool {
+        let last = self.made.pop();
+        if let Some((place, _)) = last {
+            self.next = place.saturating_add(1);
+        }
+        last.is_some()
     }
 }
 
@@ -180,57 +262,55 @@ enum Made {
 }
 
 impl<'a> State<'a> {
-    // After these choices.
-    fn after(search: Search<'a>, made: &[(usize, Choice)]) -> Result<State<'a>, AllocError> {
-        let Search {
-            alloc,
-            observed,
-            calls,
-            rule,
-            ..
-        } = search;
-        let mut done = Vec::new(alloc);
-        for _ in calls {
+    // Where a search begins.
+    fn first(search: Search<'a>) -> Result<State<'a>, AllocError> {
+        let mut done = Vec::new(search.alloc);
+        for _ in search.calls {
             done.push(0)?;
         }
-        let mut state = State {
+        let (kind, limit) = (&search.observed.kind, search.observed.limit);
+        Ok(State {
             search,
-            judge: Judge::new(alloc, &observed.kind, observed.limit, rule)?,
+            judge: Judge::new(search.alloc, kind, limit, search.rule)?,
             done,
             first: 0,
             past: 0,
             is_dead: false,
-        };
-        for (_, choice) in made {
-            state = state.make(*choice)?.0;
-        }
-        Ok(state)
+        })
     }
 
     fn is_over(&self) -> bool {
         self.past >= self.search.observed.events.len() && self.first >= self.search.calls.len()
     }
 
+    // The entries so far, of which the judge took each.
+    fn into_run(self) -> Vec<Entry> {
+        self.judge.into_taken()
+    }
+
     // Numbers that tell all of what may come from here on.
     fn digest(&self) -> Result<Vec<u64>, AllocError> {
         let mut numbers = self.judge.digest(self.search.alloc)?;
         numbers.push(self.past as u64)?;
-        for (index, call) in self.search.calls.iter().enumerate().skip(self.first) {
-            if call.from > self.past {
-                break;
-            }
-            let done = self.done.get(index).copied().unwrap_or(0);
-            numbers.extend_from_slice(&[index as u64, done as u64])?;
+        for call in self.first..self.begun() {
+            let done = self.done.get(call).copied().unwrap_or(0);
+            numbers.extend_from_slice(&[call as u64, done as u64])?;
         }
         Ok(numbers)
     }
 
+    // How many calls have begun.
+    fn begun(&self) -> usize {
+        let calls = self.search.calls;
+        calls.partition_point(|call| call.from <= self.past)
+    }
+
     // What this call does next, if that may be here.
     fn next_of(&self, call: usize) -> Option<Effect> {
-        let done = self.done.get(call).copied()?;
-        let effect = self.search.calls.get(call)?.effects.get(done).copied()?;
+        let done = *self.done.get(call)?;
+        let effect = self.search.calls.get(call)?.effects.get(done)?;
         if effect.from <= self.past {
-            Some(effect)
+            Some(*effect)
         } else {
             None
         }
@@ -239,53 +319,51 @@ impl<'a> State<'a> {
     // What may be done next, in the order in which it is tried. What has to be done before the next event comes first;
     // if there is no such thing, the next event does; and then what may be done later too.
     fn choices(&self) -> Result<Vec<Choice>, AllocError> {
-        let mut due = Vec::new(self.search.alloc);
-        let mut later = Vec::new(self.search.alloc);
+        let mut choices = Vec::new(self.search.alloc);
         if self.is_dead {
-            return Ok(due);
+            return Ok(choices);
         }
-        for (index, call) in self.search.calls.iter().enumerate().skip(self.first) {
-            if call.from > self.past {
-                break;
-            }
-            if let Some(effect) = self.next_of(index) {
-                let list = if effect.to <= self.past {
-                    &mut due
-                } else {
-                    &mut later
-                };
-                self.ways(index, effect, list)?;
-            }
+        self.add_choices(true, &mut choices)?;
+        if choices.is_empty() {
+            choices.push(Choice::GoOn)?;
         }
-        if due.is_empty() {
-            due.push(Choice::GoOn)?;
-        }
-        for choice in later {
-            due.push(choice)?;
-        }
-        Ok(due)
+        self.add_choices(false, &mut choices)?;
+        Ok(choices)
     }
 
-    // The ways in which a call may do this.
-    fn ways(&self, call: usize, effect: Effect, list: &mut Vec<Choice>) -> Result<(), AllocError> {
-        if !effect.is_sure {
-            list.push(Choice::Leave(call))?;
-        }
-        if self.search.observed.are_wakes_seen {
-            list.push(Choice::Do(call, Woken::Seen))?;
-            return Ok(());
-        }
-        match (effect.deed, self.search.rule) {
-            (Deed::Told(_) | Deed::Claim, _) => list.push(Choice::Do(call, Woken::Seen))?,
-            (Deed::Fill(_), _) | (Deed::Free, Calls::All) => {
-                list.push(Choice::Do(call, Woken::Listed))?;
-                list.push(Choice::Do(call, Woken::Due))?;
+    // Adds what calls may do, either all that has to be done before the next event comes, or all that has not.
+    fn add_choices(&self, is_due: bool, choices: &mut Vec<Choice>) -> Result<(), AllocError> {
+        for call in self.first..self.begun() {
+            if let Some(effect) = self.next_of(call)
+                && (effect.to <= self.past) == is_due
+            {
+                self.add_ways(call, effect, choices)?;
             }
-            (Deed::Free, Calls::One) | (Deed::Pass, _) => {
-                list.push(Choice::Do(call, Woken::Seen))?;
+        }
+        Ok(())
+    }
+
+    // Adds the ways in which a call may do this.
+    fn add_ways(
+        &self,
+        call: usize,
+        effect: Effect,
+        choices: &mut Vec<Choice>,
+    ) -> Result<(), AllocError> {
+        if !effect.is_sure {
+            choices.push(Choice::Leave(call))?;
+        }
+        match self.search.wakes(effect.deed) {
+            Wakes::Seen => choices.push(Choice::Do(call, Woken::Seen))?,
+            Wakes::One => {
+                choices.push(Choice::Do(call, Woken::Seen))?;
                 for waker in self.judge.listed(self.search.alloc, false)? {
-                    list.push(Choice::Do(call, Woken::One(waker)))?;
+                    choices.push(Choice::Do(call, Woken::One(waker)))?;
                 }
+            }
+            Wakes::All => {
+                choices.push(Choice::Do(call, Woken::Listed))?;
+                choices.push(Choice::Do(call, Woken::Due))?;
             }
         }
         Ok(())
@@ -293,33 +371,39 @@ impl<'a> State<'a> {
 
     // Makes a choice, if it may be made. Else the state is as before.
     fn make(mut self, choice: Choice) -> Result<(State<'a>, Made), AllocError> {
-        let index = match choice {
-            Choice::GoOn => {
-                self.past = self.past.saturating_add(1);
-                return Ok((self, Made::Yes));
+        match choice {
+            Choice::GoOn => self.past = self.past.saturating_add(1),
+            Choice::Leave(call) => self.one_more(call),
+            Choice::Do(call, woken) => return self.make_next(call, woken),
+        }
+        Ok((self, Made::Yes))
+    }
+
+    // Does what comes next in a call, if that may come here. Else the state is as before.
+    fn make_next(mut self, call: usize, woken: Woken) -> Result<(State<'a>, Made), AllocError> {
+        if let Some(effect) = self.next_of(call) {
+            if self.is_refuted(effect.deed) {
+                return Ok((self, Made::No(None)));
             }
-            Choice::Leave(call) | Choice::Do(call, _) => call,
-        };
-        if let Choice::Do(_, woken) = choice
-            && let Some(effect) = self.next_of(index)
-        {
-            if let Deed::Told(event) = effect.deed
-                && let Some(Event::Woken(task)) = self.search.observed.events.get(event)
-            {
-                if !self.judge.was_woken(*task) {
-                    return Ok((self, Made::No(None)));
-                }
-            } else if let Some(entry) = self.entry(index, effect.deed, woken)? {
+            if let Some(entry) = self.entry(call, effect.deed, woken)? {
                 let (judge, refused) = self.judge.take(entry)?;
                 self.judge = judge;
-                if let Some(reason) = refused {
-                    return Ok((self, Made::No(Some(reason))));
+                if refused.is_some() {
+                    return Ok((self, Made::No(refused)));
                 }
                 self.is_dead = self.search.is_strict && self.judge.forgotten().is_some();
             }
         }
-        self.one_more(index);
+        self.one_more(call);
         Ok((self, Made::Yes))
+    }
+
+    // Whether this tells that a task was woken, and it was not.
+    fn is_refuted(&self, deed: Deed) -> bool {
+        match self.search.told(deed) {
+            Some(Event::Woken(task)) => !self.judge.was_woken(*task),
+            _ => false,
+        }
     }
 
     // One more thing of this call is done.
@@ -332,26 +416,27 @@ impl<'a> State<'a> {
         self.first = self.first.saturating_add(over.count());
     }
 
-    // The entry of what a call does.
-    fn entry(&self, index: usize, deed: Deed, woken: Woken) -> Result<Option<Entry>, AllocError> {
-        let Some(call) = self.search.calls.get(index) else {
+    // The entry of what a call does, if it is one.
+    fn entry(&self, call: usize, deed: Deed, woken: Woken) -> Result<Option<Entry>, AllocError> {
+        let Some(call) = self.search.calls.get(call) else {
             return Ok(None);
         };
-        let wakers = match woken {
-            Woken::Seen => Vec::from_slice(self.search.alloc, &call.wakers)?,
-            Woken::One(waker) => Vec::from_slice(self.search.alloc, &[waker])?,
-            Woken::Listed => self.judge.listed(self.search.alloc, false)?,
-            Woken::Due => self.judge.listed(self.search.alloc, true)?,
-        };
         match deed {
+            Deed::Told(_) => self.search.told_entry(deed),
             Deed::Claim => Ok(Some(Entry::Claim(call.task))),
-            Deed::Free => Ok(Some(Entry::Free(call.task, wakers))),
-            Deed::Fill(value) => Ok(Some(Entry::Fill(call.task, value, wakers))),
-            Deed::Pass => Ok(Some(Entry::Pass(call.task, wakers))),
-            Deed::Told(event) => match self.search.observed.events.get(event) {
-                Some(Event::Entry(entry)) => Ok(Some(copy_of(self.search.alloc, entry)?)),
-                _ => Ok(None),
-            },
+            Deed::Free => Ok(Some(Entry::Free(call.task, self.wakers(call, woken)?))),
+            Deed::Fill(value) => Ok(Some(Entry::Fill(call.task, value, self.wakers(call, woken)?))),
+            Deed::Pass => Ok(Some(Entry::Pass(call.task, self.wakers(call, woken)?))),
+        }
+    }
+
+    // The wakers that a call wakes so.
+    fn wakers(&self, call: &Call, woken: Woken) -> Result<Vec<u64>, AllocError> {
+        match woken {
+            Woken::Seen => Vec::from_slice(self.search.alloc, &call.wakers),
+            Woken::One(waker) => Vec::from_slice(self.search.alloc, &[waker]),
+            Woken::Listed => self.judge.listed(self.search.alloc, false),
+            Woken::Due => self.judge.listed(self.search.alloc, true),
         }
     }
 }

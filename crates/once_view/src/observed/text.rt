@@ -6,7 +6,7 @@ use once_script::parse::number::parse_number;
 use once_script::parse::record::{BadRecord, parse_first};
 use once_script::print::FullLine;
 use std::alloc::{AllocError, Global};
-use std::fmt;
+use std::fmt::{self, Display};
 
 /// Something that was seen of a cell from outside: by code that calls the cell, by an init that it polls, or by a waker
 /// that it wakes.
@@ -25,7 +25,7 @@ pub enum Event {
 impl fmt::Display for Event {
     fn fmt<W: fmt::Write>(&self, f: &mut fmt::Formatter<W>) -> fmt::Result {
         match self {
-            Event::Entry(entry) => write!(f, "{}", FullLine(entry)),
+            Event::Entry(entry) => FullLine(entry).fmt(f),
             Event::Woke(task, waker) => write!(f, "woke {task} {waker}"),
             Event::Woken(task) => write!(f, "woken {task}"),
         }
@@ -49,26 +49,16 @@ pub struct Observed {
 /// somebody. Each line ends with a line feed, which the last may lack.
 ///
 /// ```
-/// let observed = parse_observed(rt.alloc(), text.as_slice())?;
+/// let observed = parse_observed(rt.alloc(), text)?;
 /// ```
 pub fn parse_observed(alloc: Global, text: &[u8]) -> Result<Observed, BadRecord> {
     let (opening, lines) = parse_first(alloc, text)?;
     let are_wakes_seen = lines.get(1) != Some(&"wakes unseen".as_bytes());
+    let first = if are_wakes_seen { 1 } else { 2 };
     let mut events = Vec::new(alloc);
-    let mut number = 1u64;
-    for bytes in lines.iter().skip(1) {
-        number = number.saturating_add(1);
-        let text = str::from_utf8(bytes).map_err(|_| BadRecord::Line(number, event_form("")))?;
-        if number == 2 && !are_wakes_seen {
-            continue;
-        }
-        match parse_event(alloc, text)? {
-            Some(Event::Woke(_, _)) if !are_wakes_seen => {
-                return Err(BadRecord::Line(number, "no wake, since wakes are unseen"));
-            }
-            Some(event) => events.push(event)?,
-            None => return Err(BadRecord::Line(number, event_form(text))),
-        }
+    for (index, bytes) in lines.iter().enumerate().skip(first) {
+        let number = (index as u64).saturating_add(1);
+        events.push(read_event(alloc, number, bytes, are_wakes_seen)?)?;
     }
     Ok(Observed {
         kind: opening.kind,
@@ -78,7 +68,27 @@ pub fn parse_observed(alloc: Global, text: &[u8]) -> Result<Observed, BadRecord>
     })
 }
 
-// Reads the line of an event.
+// Reads the line with this number, which has to be that of an event.
+fn read_event(
+    alloc: Global,
+    number: u64,
+    bytes: &[u8],
+    are_wakes_seen: bool,
+) -> Result<Event, BadRecord> {
+    let Ok(text) = str::from_utf8(bytes) else {
+        return Err(BadRecord::Line(number, event_form("")));
+    };
+    match parse_event(alloc, text)? {
+        Some(Event::Woke(_, _)) if !are_wakes_seen => Err(BadRecord::Line(
+            number,
+            "no wake, since wakes are unseen",
+        )),
+        Some(event) => Ok(event),
+        None => Err(BadRecord::Line(number, event_form(text))),
+    }
+}
+
+// The event that a line tells, if it tells one.
 fn parse_event(alloc: Global, text: &str) -> Result<Option<Event>, AllocError> {
     if let Some(given) = text.strip_prefix("woke ") {
         return Ok(parse_woke(given));
@@ -103,14 +113,24 @@ fn is_seen(entry: &Entry) -> bool {
     )
 }
 
+// The words with which the lines of the entries that are seen begin.
+static ENTRY_WORDS: [&str; 8] = [
+    "made",
+    "begin",
+    "ran",
+    "end",
+    "dropbegin",
+    "dropend",
+    "look",
+    "own",
+];
+
 // The form of the lines that begin with the same word as this one, or of all lines.
 fn event_form(text: &str) -> &'static str {
     match text.split_once(' ').map_or(text, |parts| parts.0) {
         "woke" => "woke TASK WAKER",
         "woken" => "woken TASK",
-        "made" | "begin" | "ran" | "end" | "dropbegin" | "dropend" | "look" | "own" => {
-            entry_form(text)
-        }
+        word if ENTRY_WORDS.contains(&word) => entry_form(text),
         _ => "made, begin, ran, woke, woken, end, dropbegin, dropend, look or own",
     }
 }
