@@ -1,11 +1,11 @@
 //! What the program `judge_record` does: its command line, its streams and its status.
 
 use super::Source;
-use crate::observed::{Answer, BadEvents, Stop, StopLine, linearize, parse_observed};
+use crate::observed::{Answer, BadEvents, StopLine, linearize, parse_observed};
 use crate::verdict::{LastCalls, VerdictLine, draw_verdict};
 use once_judge::{Calls, Verdict, judge};
 use once_machine::record::{Entry, Kind};
-use once_script::parse::record::{BadRecord, RecordText, parse_record};
+use once_script::parse::record::{BadRecord, parse_record};
 use once_script::print::{FirstLine, FullLine};
 use std::alloc::{AllocError, AllocGlobal};
 use std::env::{self, Env};
@@ -168,22 +168,27 @@ where
     let asked = asked_by(&words).ok_or(Failure::Usage)?;
     let text = Source::of(asked.file).read(files, input)?;
     if asked.seen {
-        let observed = parse_observed(rt.alloc(), text.as_slice())?;
-        return match linearize(rt.alloc(), &observed, asked.calls, STEPS)? {
-            Answer::Run(entries) => tell(rt, asked, &observed.kind, observed.limit, &entries),
-            Answer::NoRun(stop) => {
-                rt.println(StopLine(&stop, &observed.events))?;
-                Ok(false)
-            }
-            Answer::GaveUp(Stop { event, .. }) => Err(Failure::GaveUp(event)),
-        };
+        find(rt, asked, &text)
+    } else {
+        let record = parse_record(rt.alloc(), &text)?;
+        tell(rt, asked, &record.kind, record.limit, &record.entries)
     }
-    let RecordText {
-        kind,
-        limit,
-        entries,
-    } = parse_record(rt.alloc(), text.as_slice())?;
-    tell(rt, asked, &kind, limit, &entries)
+}
+
+// Looks for a run that has what was seen, and tells of it as of a record.
+fn find<R>(rt: &R, asked: Asked<'_>, text: &[u8]) -> Result<bool, Failure>
+where
+    R: Print + AllocGlobal,
+{
+    let observed = parse_observed(rt.alloc(), text)?;
+    match linearize(rt.alloc(), &observed, asked.calls, STEPS)? {
+        Answer::Run(entries) => tell(rt, asked, &observed.kind, observed.limit, &entries),
+        Answer::NoRun(stop) => {
+            rt.println(StopLine(&stop, &observed.events))?;
+            Ok(false)
+        }
+        Answer::GaveUp(stop) => Err(Failure::GaveUp(stop.event)),
+    }
 }
 
 // Judges these entries, prints the verdict, and answers whether they are a run in which nobody is forgotten.
@@ -204,17 +209,8 @@ where
             rt.println(VerdictLine(&verdict, entries))?;
             rt.print(LastCalls(&verdict, entries))?;
         }
-        Form::Text => {
-            rt.println(FirstLine(kind, limit))?;
-            for entry in entries {
-                rt.println(FullLine(entry))?;
-            }
-        }
-        Form::Picture => {
-            let mut output = BufWriter::new(rt.alloc(), io::writer(rt))?;
-            draw_verdict(rt.alloc(), kind, entries, &verdict, &mut output)?;
-            output.flush()?;
-        }
+        Form::Text => print_record(rt, kind, limit, entries)?,
+        Form::Picture => print_picture(rt, kind, entries, verdict)?,
     }
     Ok(matches!(
         verdict,
@@ -223,6 +219,25 @@ where
             forgotten: None
         }
     ))
+}
+
+// Prints the text of a record.
+fn print_record<R: Print>(rt: &R, kind: &Kind, limit: u64, entries: &[Entry]) -> io::Result<()> {
+    rt.println(FirstLine(kind, limit))?;
+    for entry in entries {
+        rt.println(FullLine(entry))?;
+    }
+    Ok(())
+}
+
+// Prints a record as a picture, with the verdict on it.
+fn print_picture<R>(rt: &R, kind: &Kind, entries: &[Entry], verdict: Verdict) -> io::Result<()>
+where
+    R: Print + AllocGlobal,
+{
+    let mut output = BufWriter::new(rt.alloc(), io::writer(rt))?;
+    draw_verdict(rt.alloc(), kind, entries, &verdict, &mut output)?;
+    output.flush()
 }
 
 // What these words ask for, of which the first is the name of the program.
