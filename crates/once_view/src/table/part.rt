@@ -46,9 +46,38 @@ impl Part {
         }
     }
 
-    /// Whether there is a column for this task, or none is needed.
-    fn has(&self, named: Option<(usize, Stand)>) -> bool {
-        named.is_none_or(|(place, _)| self.columns.contains(&place))
+    /// The first part of a table with so many tasks: if they are few, it has a column for each.
+    fn first(alloc: Global, tasks: usize) -> Result<Self, AllocError> {
+        let mut part = Part::new(alloc);
+        if tasks <= MOST_TASKS {
+            for place in 0..tasks {
+                part.columns.push(place)?;
+            }
+        }
+        Ok(part)
+    }
+
+    /// Whether there is a column for the task that the row names, or none is needed.
+    fn has(&self, row: &Row) -> bool {
+        match row.named {
+            Some((place, _)) => self.columns.contains(&place),
+            None => true,
+        }
+    }
+
+    fn has_room_for(&self, row: &Row) -> bool {
+        self.columns.len() < MOST_TASKS || self.has(row)
+    }
+
+    /// Adds a row, and the column that it needs.
+    fn add(&mut self, row: &Row) -> Result<(), AllocError> {
+        if let Some((place, _)) = row.named
+            && !self.has(row)
+        {
+            self.columns.push(place)?;
+        }
+        self.rows = self.rows.saturating_add(1);
+        Ok(())
     }
 }
 
@@ -56,23 +85,13 @@ impl Part {
 /// rows name, and as many rows as those allow.
 fn parts_of(alloc: Global, tasks: usize, rows: &[Row]) -> Result<Vec<Part>, AllocError> {
     let mut parts = Vec::new(alloc);
-    let mut part = Part::new(alloc);
-    if tasks <= MOST_TASKS {
-        for place in 0..tasks {
-            part.columns.push(place)?;
-        }
-    }
+    let mut part = Part::first(alloc, tasks)?;
     for row in rows {
-        if !part.has(row.named) && part.columns.len() >= MOST_TASKS {
+        if !part.has_room_for(row) {
             parts.push(part)?;
             part = Part::new(alloc);
         }
-        if let Some((place, _)) = row.named {
-            if !part.has(row.named) {
-                part.columns.push(place)?;
-            }
-        }
-        part.rows = part.rows.saturating_add(1);
+        part.add(row)?;
     }
     parts.push(part)?;
     for part in &mut parts {
@@ -124,38 +143,68 @@ impl Writing {
         columns: &[usize],
         output: &mut O,
     ) -> io::Result<()> {
-        let mut others = self.all;
-        for task in columns.iter().filter_map(|place| self.tasks.get(*place)) {
-            others.take_out(task.stand);
-        }
+        let others = self.others(columns);
         if !others.is_empty() {
             writeln!(output, "other tasks: {others}")?;
         }
+        let texts = self.texts(rows, columns)?;
+        write_rows(self.alloc, &texts, output)
+    }
+
+    /// The tasks that have none of these columns.
+    fn others(&self, columns: &[usize]) -> Others {
+        let mut others = self.all;
+        for place in columns {
+            if let Some(task) = self.tasks.get(*place) {
+                others.take_out(task.stand);
+            }
+        }
+        others
+    }
+
+    /// The headers, and these rows below them.
+    fn texts(&mut self, rows: &[Row], columns: &[usize]) -> Result<Vec<String>, AllocError> {
         let mut texts = Vec::new(self.alloc);
         texts.push(self.headers(columns)?)?;
         for row in rows {
             self.stand(row.named);
             texts.push(self.text(row, columns)?)?;
         }
-        write_rows(self.alloc, &texts, output)
+        Ok(texts)
     }
 
     fn headers(&self, columns: &[usize]) -> Result<String, AllocError> {
         let mut text = String::from_str(self.alloc, HEADERS)?;
-        for task in columns.iter().filter_map(|place| self.tasks.get(*place)) {
-            write!(text, "\ttask {}", task.number)?;
-        }
+        self.add_names(columns, &mut text)?;
         text.push_str("\trecord")?;
         Ok(text)
     }
 
-    fn text(&self, row: &Row, columns: &[usize]) -> Result<String, AllocError> {
-        let mut text = String::from_str(self.alloc, row.shared.as_str())?;
-        for task in columns.iter().filter_map(|place| self.tasks.get(*place)) {
-            write!(text, "\t{}", task.stand)?;
+    /// Adds the headers of these columns.
+    fn add_names(&self, columns: &[usize], text: &mut String) -> Result<(), AllocError> {
+        for place in columns {
+            if let Some(task) = self.tasks.get(*place) {
+                write!(text, "\ttask {}", task.number)?;
+            }
         }
+        Ok(())
+    }
+
+    fn text(&self, row: &Row, columns: &[usize]) -> Result<String, AllocError> {
+        let mut text = String::from_str(self.alloc, &row.shared)?;
+        self.add_stands(columns, &mut text)?;
         write!(text, "\t{}", row.record)?;
         Ok(text)
+    }
+
+    /// Adds where the tasks of these columns stand.
+    fn add_stands(&self, columns: &[usize], text: &mut String) -> Result<(), AllocError> {
+        for place in columns {
+            if let Some(task) = self.tasks.get(*place) {
+                write!(text, "\t{}", task.stand)?;
+            }
+        }
+        Ok(())
     }
 
     /// A task stands elsewhere after a row.
