@@ -58,15 +58,14 @@ impl Listed {
     /// The tasks that an entry wakes, before it is taken. Of those with the same waker the one listed first is woken.
     pub fn called_by(&self, alloc: Global, entry: &Entry) -> Result<Vec<u64>, AllocError> {
         let mut called = Vec::new(alloc);
-        let mut wakers = wakers_of(entry).iter().copied();
-        let mut waker = wakers.next();
+        let mut wakers = wakers_of(entry);
         for listing in self.uncalled.iter().filter_map(|it| self.listings.get(it)) {
-            if waker.is_none() {
+            let Some((waker, later)) = wakers.split_first() else {
                 break;
-            }
-            if listing.waker == waker {
+            };
+            if listing.waker == Some(*waker) {
                 called.push(listing.task)?;
-                waker = wakers.next();
+                wakers = later;
             }
         }
         Ok(called)
@@ -100,13 +99,11 @@ impl Listed {
                 self.list(task, *ticket)
             }
             Some(Step::Finished) | None => {
-                self.take_out(task);
-                self.polled.remove(&task);
+                self.forget(task);
                 Ok(())
             }
             Some(_) => {
-                let ticket = self.place_of(task).and_then(|it| self.listings.get(&it));
-                let ticket = ticket.map(|listing| listing.ticket);
+                let ticket = self.listing_of(task).map(|listing| listing.ticket);
                 if !moment.world.core().lists.is_listed(ticket) {
                     self.take_out(task);
                 }
@@ -122,8 +119,7 @@ impl Listed {
             Entry::End(task, Reply::Pending) if holder != Some(*task) => self.list(*task, 0),
             Entry::End(_, Reply::Pending) => Ok(()),
             Entry::End(task, _) | Entry::DropEnd(task) => {
-                self.take_out(*task);
-                self.polled.remove(task);
+                self.forget(*task);
                 Ok(())
             }
             _ => Ok(()),
@@ -144,26 +140,37 @@ impl Listed {
         self.polled.get(&task)?.place
     }
 
+    /// The listing of the task, if it has one.
+    fn listing_of(&self, task: u64) -> Option<&Listing> {
+        self.listings.get(&self.place_of(task)?)
+    }
+
     /// The task waits with this ticket: it is listed at the end, unless it is already, with its waker.
     fn list(&mut self, task: u64, ticket: u64) -> Result<(), AllocError> {
-        let Some(Polled { waker, place }) = self.polled.get(&task).copied() else {
+        let Some(polled) = self.polled.get(&task) else {
             return Ok(());
         };
         let listing = Listing {
             ticket,
             task,
-            waker: Some(waker),
+            waker: Some(polled.waker),
         };
-        let before = place.and_then(|it| self.listings.get(&it));
-        if before.is_some_and(|before| before.waker == listing.waker) {
+        if let Some(before) = self.listing_of(task)
+            && before.waker == listing.waker
+        {
             return Ok(());
         }
         self.take_out(task);
+        self.list_last(listing)
+    }
+
+    /// Adds a listing at the end.
+    fn list_last(&mut self, listing: Listing) -> Result<(), AllocError> {
         let place = self.next;
         self.listings.insert(place, listing)?;
         self.uncalled.insert(place)?;
         self.next = place.saturating_add(1);
-        if let Some(polled) = self.polled.get_mut(&task) {
+        if let Some(polled) = self.polled.get_mut(&listing.task) {
             polled.place = Some(place);
         }
         Ok(())
@@ -175,6 +182,12 @@ impl Listed {
             self.listings.remove(&place);
             self.uncalled.remove(&place);
         }
+    }
+
+    /// The task is gone.
+    fn forget(&mut self, task: u64) {
+        self.take_out(task);
+        self.polled.remove(&task);
     }
 
     /// The first that was not woken is woken, and stays.

@@ -4,7 +4,7 @@ use crate::play::{Moment, Watcher, play};
 use crate::range::LineRange;
 use crate::reading::{Script, TextLine};
 use once_script::print::call_word;
-use once_script::world::{Call, Entry, Kind, Reply};
+use once_script::world::{Call, Entry, Kind, Ran, Reply};
 use std::alloc::{AllocError, Global};
 use std::io;
 use std::io::Write;
@@ -30,11 +30,8 @@ pub fn write_picture<O: Write>(
 ) -> io::Result<()> {
     let title = script.first.text;
     let lines = lines_in(alloc, &script, range)?;
-    let mut picture = Picture::new(alloc, range, &script.opening.kind);
-    play(alloc, script, &mut picture)?;
-    picture.close()?;
-    let drawing = Drawing::new(alloc, title, &lines, &picture.lanes)?;
-    drawing.write(&picture.shapes, output)
+    let picture = Picture::of_script(alloc, script, range)?;
+    picture.write(title, &lines, output)
 }
 
 /// Writes a picture of a record of a cell of this kind, as SVG. It has a column for each of these lines, and shows the
@@ -51,21 +48,18 @@ pub fn write_record<'a, O: Write>(
     lines: &'a [String],
     output: &mut O,
 ) -> io::Result<()> {
-    let mut columns = Vec::new(alloc);
+    let columns = numbered(alloc, lines)?;
+    let picture = Picture::of_record(alloc, kind, entries, columns.len())?;
+    picture.write(title, &columns, output)
+}
+
+/// These lines, with their numbers.
+fn numbered<'a>(alloc: Global, lines: &'a [String]) -> Result<Vec<TextLine<'a>>, AllocError> {
+    let mut numbered = Vec::new(alloc);
     for (number, text) in (1u64..).zip(lines) {
-        columns.push(TextLine { number, text })?;
+        numbered.push(TextLine { number, text })?;
     }
-    let mut picture = Picture::new(alloc, LineRange::all(), kind);
-    for (column, entry) in entries.iter().enumerate() {
-        let at = (column as u64).saturating_mul(TICKS).saturating_add(1);
-        picture.take(at, entry)?;
-        let holder = picture.holder();
-        picture.listed.settle_entry(entry, holder)?;
-    }
-    picture.columns = columns.len() as u64;
-    picture.close()?;
-    let drawing = Drawing::new(alloc, title, &columns, &picture.lanes)?;
-    drawing.write(&picture.shapes, output)
+    Ok(numbered)
 }
 
 /// The lines of a script that are shown.
@@ -138,6 +132,43 @@ impl Picture {
         }
     }
 
+    /// What these lines of a script show.
+    fn of_script(
+        alloc: Global,
+        script: Script<'_>,
+        range: LineRange,
+    ) -> Result<Picture, AllocError> {
+        let mut picture = Picture::new(alloc, range, &script.opening.kind);
+        play(alloc, script, &mut picture)?;
+        picture.close()?;
+        Ok(picture)
+    }
+
+    /// What the entries of a record show, with so many columns.
+    fn of_record(
+        alloc: Global,
+        kind: &Kind,
+        entries: &[Entry],
+        columns: usize,
+    ) -> Result<Picture, AllocError> {
+        let mut picture = Picture::new(alloc, LineRange::all(), kind);
+        picture.take_record(entries)?;
+        picture.columns = columns as u64;
+        picture.close()?;
+        Ok(picture)
+    }
+
+    /// Writes the picture, with these columns.
+    fn write<O: Write>(
+        &self,
+        title: &str,
+        columns: &[TextLine<'_>],
+        output: &mut O,
+    ) -> io::Result<()> {
+        let drawing = Drawing::new(self.alloc, title, columns, &self.lanes)?;
+        drawing.write(&self.shapes, output)
+    }
+
     /// The task that holds, if one does.
     fn holder(&self) -> Option<u64> {
         match self.cell {
@@ -171,6 +202,17 @@ impl Picture {
         Ok(())
     }
 
+    /// Takes the entries of a record, each in a column of its own.
+    fn take_record(&mut self, entries: &[Entry]) -> Result<(), AllocError> {
+        for (column, entry) in entries.iter().enumerate() {
+            let at = (column as u64).saturating_mul(TICKS).saturating_add(1);
+            self.take(at, entry)?;
+            let holder = self.holder();
+            self.listed.settle_entry(entry, holder)?;
+        }
+        Ok(())
+    }
+
     fn take(&mut self, at: u64, entry: &Entry) -> Result<(), AllocError> {
         self.add(at, entry)?;
         self.listed.take(entry)
@@ -181,21 +223,11 @@ impl Picture {
             Entry::Made(task) => self.lanes.add(*task, at),
             Entry::Begin(task, _) => self.begin(*task, at, false),
             Entry::DropBegin(task) => self.begin(*task, at, true),
-            Entry::Claim(task) => {
-                self.lanes.hold(*task, at);
-                self.change(at, CellState::Held(*task))
-            }
-            Entry::Ran(task, answer) => {
-                let (lane, answer) = (self.lanes.number_of(*task), *answer);
-                self.push(Shape::InitPoll { lane, at, answer })
-            }
-            Entry::Free(task, _) => {
-                self.release(*task, at, CellState::Empty)?;
-                self.wake(*task, at, entry)
-            }
+            Entry::Claim(task) => self.claim(*task, at),
+            Entry::Ran(task, answer) => self.ran(*task, at, *answer),
+            Entry::Free(task, _) => self.release(*task, at, CellState::Empty, entry),
             Entry::Fill(task, value, _) => {
-                self.release(*task, at, CellState::Set(*value))?;
-                self.wake(*task, at, entry)
+                self.release(*task, at, CellState::Set(*value), entry)
             }
             Entry::Pass(task, _) => self.wake(*task, at, entry),
             Entry::End(task, reply) => self.end(*task, at, *reply),
@@ -229,11 +261,29 @@ impl Picture {
         }
     }
 
-    fn release(&mut self, task: u64, at: u64, state: CellState) -> Result<(), AllocError> {
+    fn claim(&mut self, task: u64, at: u64) -> Result<(), AllocError> {
+        self.lanes.hold(task, at);
+        self.change(at, CellState::Held(task))
+    }
+
+    fn ran(&mut self, task: u64, at: u64, answer: Ran) -> Result<(), AllocError> {
+        let lane = self.lanes.number_of(task);
+        self.push(Shape::InitPoll { lane, at, answer })
+    }
+
+    /// The task gives the right back, and wakes whom the entry says.
+    fn release(
+        &mut self,
+        task: u64,
+        at: u64,
+        state: CellState,
+        entry: &Entry,
+    ) -> Result<(), AllocError> {
         if let Some(held) = self.lanes.release(task, at) {
             self.push(Shape::Hold(held))?;
         }
-        self.change(at, state)
+        self.change(at, state)?;
+        self.wake(task, at, entry)
     }
 
     /// An arrow to each task that the entry wakes.
@@ -288,11 +338,7 @@ impl Picture {
         let at = self.columns.saturating_mul(TICKS);
         self.change(at, self.cell)?;
         for lane in self.lanes.as_slice() {
-            for shape in lane.open_shapes(at) {
-                if let Some(shape) = shape {
-                    self.shapes.push(shape)?;
-                }
-            }
+            lane.add_open(at, &mut self.shapes)?;
         }
         Ok(())
     }

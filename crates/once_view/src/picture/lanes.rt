@@ -27,18 +27,24 @@ impl Lane {
         }
     }
 
-    /// What is still open, as it is drawn if it lasts until this time.
-    pub fn open_shapes(&self, at: u64) -> [Option<Shape>; 3] {
-        let call = self.call.map(|from| self.span(from, at));
-        [
-            self.waits.map(|from| Shape::Wait(self.span(from, at))),
-            if self.is_drop {
-                call.map(Shape::TaskDrop)
+    /// Adds what is still open, as it is drawn if it lasts until this time.
+    pub fn add_open(&self, at: u64, shapes: &mut Vec<Shape>) -> Result<(), AllocError> {
+        if let Some(from) = self.waits {
+            shapes.push(Shape::Wait(self.span(from, at)))?;
+        }
+        if let Some(from) = self.call {
+            let span = self.span(from, at);
+            let call = if self.is_drop {
+                Shape::TaskDrop(span)
             } else {
-                call.map(Shape::TaskPoll)
-            },
-            self.holds.map(|from| Shape::Hold(self.span(from, at))),
-        ]
+                Shape::TaskPoll(span)
+            };
+            shapes.push(call)?;
+        }
+        if let Some(from) = self.holds {
+            shapes.push(Shape::Hold(self.span(from, at)))?;
+        }
+        Ok(())
     }
 }
 
