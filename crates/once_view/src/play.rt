@@ -99,11 +99,23 @@ pub fn play<V: Watcher>(
         added: &[],
         world: &world,
     })?;
+    play_lines(&mut world, &lines, lazy, watcher)
+}
+
+// Plays the lines after the first.
+fn play_lines<V: Watcher>(
+    world: &mut World,
+    lines: &[ScriptLine<'_>],
+    lazy: bool,
+    watcher: &mut V,
+) -> Result<(), AllocError>
+    requires reached { IsReached world.old }
+{
     // Each task that an entry before this one made is gone.
     let mut gone = 0usize;
-    for line in &lines {
-        let reason = reason_of(&world, &line.line, lazy, &mut gone);
-        play_line(&mut world, line, reason, watcher)?;
+    for line in lines {
+        let reason = reason_of(world, &line.line, lazy, &mut gone);
+        play_line(world, line, reason, watcher)?;
     }
     Ok(())
 }

@@ -55,17 +55,17 @@ impl LineRange {
                 end,
             });
         }
-        let later = script.lines.iter();
-        if self.has(first)
-            || later
-                .map(|line| line.source.number)
-                .any(|number| self.has(number))
-        {
-            return Ok(());
+        if !self.has(first) && !self.has_later(script) {
+            return Err(Fault::NothingSaid {
+                from: self.first,
+                to: self.last,
+            });
         }
-        Err(Fault::NothingSaid {
-            from: self.first,
-            to: self.last,
-        })
+        Ok(())
+    }
+
+    /// Whether a line after the first that says something is shown.
+    fn has_later(self, script: &Script<'_>) -> bool {
+        script.lines.iter().any(|line| self.has(line.source.number))
     }
 }
