@@ -82,7 +82,7 @@ fn tallied(alloc: Global, seeds: Range<u64>) -> Result<String, Fail> {
 }
 
 #[test]
-fn a_few_scripts(rt: HostRuntime) -> Result<(), Fail> {
+fn scripts_1_to_30(rt: HostRuntime) -> Result<(), Fail> {
     let wanted =
         "1367 lines, 33018 cells, 630 bars, 13 arrows, 88 names; 17 words for steps, 4 others";
     assert_eq!(rt; tallied(rt.alloc(), 1..31)?.as_str(), wanted);
@@ -90,9 +90,25 @@ fn a_few_scripts(rt: HostRuntime) -> Result<(), Fail> {
 }
 
 #[test]
-fn many_scripts(rt: HostRuntime) -> Result<(), Fail> {
+fn scripts_31_to_186(rt: HostRuntime) -> Result<(), Fail> {
     let wanted =
-        "24251 lines, 639220 cells, 11200 bars, 228 arrows, 1268 names; 17 words for steps, 4 others";
-    assert_eq!(rt; tallied(rt.alloc(), 31..501)?.as_str(), wanted);
+        "7948 lines, 207096 cells, 3674 bars, 74 arrows, 410 names; 17 words for steps, 4 others";
+    assert_eq!(rt; tallied(rt.alloc(), 31..187)?.as_str(), wanted);
+    Ok(())
+}
+
+#[test]
+fn scripts_187_to_343(rt: HostRuntime) -> Result<(), Fail> {
+    let wanted =
+        "7853 lines, 205395 cells, 3637 bars, 63 arrows, 408 names; 17 words for steps, 4 others";
+    assert_eq!(rt; tallied(rt.alloc(), 187..344)?.as_str(), wanted);
+    Ok(())
+}
+
+#[test]
+fn scripts_344_to_500(rt: HostRuntime) -> Result<(), Fail> {
+    let wanted =
+        "8450 lines, 226729 cells, 3889 bars, 91 arrows, 450 names; 17 words for steps, 4 others";
+    assert_eq!(rt; tallied(rt.alloc(), 344..501)?.as_str(), wanted);
     Ok(())
 }
