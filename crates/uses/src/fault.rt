@@ -2,6 +2,7 @@
 
 use crate::from_rust;
 use async_once_cell::once::Refused;
+use once_script::parse::record::BadRecord;
 use once_view::observed::BadEvents;
 use std::alloc::AllocError;
 use std::io;
@@ -31,6 +32,18 @@ pub enum Fault {
     /// What was written down of a cell does not fit together.
     #[error("what was seen does not fit together")]
     Seen(#[from] BadEvents),
+    /// A text is no record.
+    #[error("no record: {0:?}")]
+    NoRecord(#[from] BadRecord),
+    /// There is no record of a script.
+    #[error("{0}")]
+    Script(#[from] once_script::fault::Fault),
+    /// A script is not shown.
+    #[error("{0}")]
+    View(#[from] once_view::fault::Fault),
+    /// What is made of a script is not what is stored of it.
+    #[error("a stored file differs from what is made")]
+    Stored,
     /// A program of `from_rust` gave up.
     #[error("{0}")]
     FromRust(#[from] from_rust::Fault),

@@ -2,8 +2,8 @@
 //! are read once, a connection, a graph of values, a pool of tasks, a table, settings that threads load anew, a cell
 //! that threads own together, many threads, tasks that give up, and a value whose type has a fact. Besides, what a
 //! caller can say of order, which value a poll answered, whose error it is told, what the owner of a cell gets, also of
-//! a lazy one, what a cell promises of its value, and what is left by a call; and how a program has judged what it sees
-//! of a cell.
+//! a lazy one, what a cell promises of its value, and what is left by a call. At last, how a program has judged what it
+//! sees of a cell, and how one replays, judges and draws what stands in texts.
 //!
 //! Ten contracts that a caller may want, each of a function that needs no proof file:
 //!
@@ -41,6 +41,7 @@ mod promised;
 mod refusals;
 mod reload;
 mod settings;
+mod stored;
 mod table;
 mod told;
 mod values;
@@ -83,7 +84,8 @@ where
     promised::show(rt, output)?;
     leaves::show(rt, output)?;
     layers::show(rt, output)?;
-    refusals::show(rt, output)
+    refusals::show(rt, output)?;
+    stored::show(rt, output)
 }
 
 fn main(rt: HostRuntime) -> ExitCode {
