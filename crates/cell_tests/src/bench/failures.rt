@@ -2,7 +2,7 @@
 //!
 //! Those who wait are polled if they were woken, and not else: a failure wakes the one that is
 //! listed longest.
-use crate::switch::Failing;
+use crate::bench::switch::Failing;
 use async_once_cell::OnceCell;
 use async_once_cell::once::{InitError, TryInitFuture};
 use futures::Future;

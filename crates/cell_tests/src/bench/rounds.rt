@@ -2,12 +2,11 @@
 //!
 //! Each is a function of its own, and is passed its cell where that is set before the loop, so that
 //! nothing of it is known to the compiler there.
-use crate::failures::{failures, turns};
-use crate::lost_wake::lost;
-use crate::operation::Operation;
-use crate::switch::Switched;
-use crate::threads::{cells, fills_of_four, fills_of_two, looks_of_four, looks_of_two};
-use crate::waits::{kept_parker, new_cells, set_cell};
+use crate::bench::failures::{failures, turns};
+use crate::bench::lost_wake::lost;
+use crate::bench::switch::Switched;
+use crate::bench::threads::{cells, fills_of_four, fills_of_two, looks_of_four, looks_of_two};
+use crate::bench::waits::{kept_parker, new_cells, set_cell};
 use async_once_cell::once::InitFuture;
 use async_once_cell::{Lazy, OnceCell};
 use futures::Future;
@@ -20,56 +19,64 @@ use std::random::RandomSource;
 use std::sync::Wait;
 use std::thread::Threads;
 
-/// Makes an operation so many times.
-pub fn perform<R>(rt: &R, operation: Operation, count: u64, cx: &mut Context<'_>) -> io::Result<u64>
+/// Makes the operation of this name so many times. A number at the end of a name is how many wait, or how many threads
+/// there are.
+///
+/// - `get`: a look at a cell that is set
+/// - `init`: a new cell, and a poll whose init gives the value at once
+/// - `late`: a new future of a cell that is set, polled to its end
+/// - `listed`: a poll of a future that waits and is listed already
+/// - `waiters10`: a new cell: one future holds, 10 wait, the holder sets the cell, and each that waits is polled to its
+///   end
+/// - `drops10`: a new cell: one future holds, 10 wait, and all are dropped, those who wait first
+/// - `failure10`: 10 wait: a new future gets the right, whoever the failure before woke is polled and waits again, and
+///   the new future fails
+/// - `turns10`: a new cell: one future holds, 10 wait; the holder fails, and then each of them, once it was woken and
+///   its init was pending once
+/// - `get_threads2` and `get_threads4`: so many threads look at a cell that is set
+/// - `init_threads2` and `init_threads4`: a new cell, which so many threads ask for its value
+/// - `lazy_first`: a new lazy cell, and a poll whose init gives the value at once
+/// - `lazy_later`: a new future of a lazy cell that is set, polled to its end
+/// - `wait_new`: a new cell, and a wait of this thread for its value, whose init gives it at once
+/// - `wait_set`: a wait for the value of a cell that is set
+/// - `wait_kept`: a new cell, and a wait by a parker that is kept
+/// - `lost_wake`: a round of two threads in which a waiter could be lost. What is added up is how many were
+pub fn perform<R>(rt: &R, name: &str, count: u64, cx: &mut Context<'_>) -> io::Result<u64>
 where
     R: Wait + RandomSource + AllocGlobal + Threads + Sync,
 {
-    let number = number_waiting(operation);
-    let sum = match operation {
-        Operation::TwoLook => Ok(looks_of_two(rt, &filled(rt, cx), count)),
-        Operation::FourLook => Ok(looks_of_four(rt, &filled(rt, cx), count)),
-        Operation::TwoFill => return fills_of_two(rt, &cells(rt, count)?),
-        Operation::FourFill => return fills_of_four(rt, &cells(rt, count)?),
-        Operation::LostWake => return lost(rt, count),
-        Operation::WaitNew => return new_cells(rt, count),
-        Operation::WaitSet => return set_cell(rt, &filled(rt, cx), count),
-        Operation::WaitKept => return kept_parker(rt, count),
-        Operation::Get => Ok(get(&filled(rt, cx), count)),
-        Operation::Init => Ok(init(rt, count, cx)),
-        Operation::Late => Ok(late(rt, &filled(rt, cx), count, cx)),
-        Operation::Listed => listed(rt, count, cx),
-        Operation::OneWaits
-        | Operation::TenWait
-        | Operation::HundredWait
-        | Operation::ThousandWait
-        | Operation::TenThousandWait
-        | Operation::HundredThousandWait => waiters(rt, number, count, cx),
-        Operation::TenThousandDrop => drops(rt, number, count, cx),
-        Operation::FailureBeforeOne
-        | Operation::FailureBeforeTen
-        | Operation::FailureBeforeHundred => failures(rt, number, count, cx),
-        Operation::TenTurns | Operation::HundredTurns | Operation::TenThousandTurns => {
-            turns(rt, number, count, cx)
-        }
-        Operation::LazyFirst => Ok(lazy_first(rt, count, cx)),
-        Operation::LazyLater => Ok(lazy_later(rt, &filled_lazy(rt, cx), count, cx)),
-    };
-    Ok(sum?)
+    match name {
+        "get" => Ok(get(&filled(rt, cx), count)),
+        "init" => Ok(init(rt, count, cx)),
+        "late" => Ok(late(rt, &filled(rt, cx), count, cx)),
+        "listed" => Ok(listed(rt, count, cx)?),
+        "get_threads2" => Ok(looks_of_two(rt, &filled(rt, cx), count)),
+        "get_threads4" => Ok(looks_of_four(rt, &filled(rt, cx), count)),
+        "init_threads2" => fills_of_two(rt, &cells(rt, count)?),
+        "init_threads4" => fills_of_four(rt, &cells(rt, count)?),
+        "lazy_first" => Ok(lazy_first(rt, count, cx)),
+        "lazy_later" => Ok(lazy_later(rt, &filled_lazy(rt, cx), count, cx)),
+        "wait_new" => new_cells(rt, count),
+        "wait_set" => set_cell(rt, &filled(rt, cx), count),
+        "wait_kept" => kept_parker(rt, count),
+        "lost_wake" => lost(rt, count),
+        _ => perform_with_waiters(rt, name, count, cx),
+    }
 }
 
-// How many wait in an operation, where others do.
-fn number_waiting(operation: Operation) -> usize {
-    match operation {
-        Operation::OneWaits | Operation::FailureBeforeOne => 1,
-        Operation::TenWait | Operation::FailureBeforeTen | Operation::TenTurns => 10,
-        Operation::HundredWait | Operation::FailureBeforeHundred | Operation::HundredTurns => 100,
-        Operation::ThousandWait => 1_000,
-        Operation::TenThousandWait | Operation::TenThousandDrop | Operation::TenThousandTurns => {
-            10_000
-        }
-        Operation::HundredThousandWait => 100_000,
-        _ => 0,
+// Makes an operation whose name ends with how many wait.
+fn perform_with_waiters<R>(rt: &R, name: &str, count: u64, cx: &mut Context<'_>) -> io::Result<u64>
+where
+    R: Wait + AllocGlobal,
+{
+    let word = name.trim_end_matches(|c: char| c.is_ascii_digit());
+    let digits = name.strip_prefix(word).unwrap_or("");
+    match (word, digits.parse::<usize>()) {
+        ("waiters", Ok(number)) => Ok(waiters(rt, number, count, cx)?),
+        ("drops", Ok(number)) => Ok(drops(rt, number, count, cx)?),
+        ("failure", Ok(number)) => Ok(failures(rt, number, count, cx)?),
+        ("turns", Ok(number)) => Ok(turns(rt, number, count, cx)?),
+        _ => Err(io::Error::other("there is no such operation")),
     }
 }
 
