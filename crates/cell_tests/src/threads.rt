@@ -1,6 +1,5 @@
-//! What cells do for several threads, how threads wait for them, and what a table of cells does.
+//! What cells do for several threads, and how threads wait for them.
 
 mod cells;
 mod doubles;
-mod table;
 mod waits;

@@ -1,7 +1,6 @@
 //! The examples that stand in doc comments, as code that is proved and run.
 
 mod polls;
-mod tables;
 
 use crate::fault::Fault;
 use async_once_cell::{Lazy, OnceCell, Parker, Refused};
@@ -178,6 +177,5 @@ where
     print(rt, "waited for", waited(rt), parked(rt))?;
     let seen = before_and_after(rt, &Lazy::new(ready(10)))?;
     println!(rt; "a lazy cell: {seen:?}")?;
-    polls::show(rt)?;
-    tables::show(rt)
+    polls::show(rt)
 }

@@ -47,9 +47,6 @@ pub enum Fault {
     /// A program of `from_rust` gave up.
     #[error("{0}")]
     FromRust(#[from] from_rust::Fault),
-    /// The table gave up.
-    #[error("{0}")]
-    Table(#[from] memo_table::fault::Fault),
     /// A write failed, or the system gave no task.
     #[error("{0}")]
     Io(#[from] io::Error),

@@ -1,9 +1,9 @@
 //! What such cells are for: what a Rust programmer writes with `async`, the examples of doc comments, settings that
-//! are read once, a connection, a graph of values, a pool of tasks, a table, settings that threads load anew, a cell
-//! that threads own together, many threads, tasks that give up, and a value whose type has a fact. Besides, what a
-//! caller can say of order, which value a poll answered, whose error it is told, what the owner of a cell gets, also of
-//! a lazy one, what a cell promises of its value, and what is left by a call. At last, how a program has judged what it
-//! sees of a cell, and how one replays, judges and draws what stands in texts.
+//! are read once, a connection, a graph of values, a pool of tasks, settings that threads load anew, a cell that
+//! threads own together, many threads, tasks that give up, and a value whose type has a fact. Besides, what a caller
+//! can say of order, which value a poll answered, whose error it is told, what the owner of a cell gets, also of a lazy
+//! one, what a cell promises of its value, and what is left by a call. At last, how a program has judged what it sees
+//! of a cell, and how one replays, judges and draws what stands in texts.
 //!
 //! Ten contracts that a caller may want, each of a function that needs no proof file:
 //!
@@ -14,7 +14,7 @@
 //! - an owner takes what a wait was told: `takes_what_it_waited_for` of `owner`
 //! - two futures of a cell in one task of an executor are two tasks of the cell: `two_tasks` of `told`
 //! - nobody is told a value before it is set: `looked` and `polled` of `refusals`
-//! - a table's value is ten times its key: `told` of `table`
+//! - what a cell promises of its value is known on any thread: `asked_and_looked` of `promised`
 //! - while my init runs no other does: `one_runs` of `refusals`
 //! - what a refused poll leaves, and what its error says: `refusal_of` of `refusals`, `is_down` of `connection`
 #![tactic(auto)]
@@ -42,7 +42,6 @@ mod refusals;
 mod reload;
 mod settings;
 mod stored;
-mod table;
 mod told;
 mod values;
 
@@ -69,7 +68,6 @@ where
     connection::show(rt, output)?;
     graph::show(rt, output)?;
     pool::show(rt, output)?;
-    table::show(rt, output)?;
     reload::show(rt, output)?;
     owned_together::show(rt, output)?;
     many_threads::show(rt, output)?;

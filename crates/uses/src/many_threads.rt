@@ -1,8 +1,8 @@
 //! Many threads that ask one cell at once.
 
 use crate::fault::Fault;
+use crate::reload::{Load, loaded};
 use async_once_cell::OnceCell;
-use memo_table::fetch::Fetch;
 use std::alloc::AllocGlobal;
 use std::io::Write;
 use std::random::RandomSource;
@@ -10,12 +10,16 @@ use std::sync::Wait;
 use std::sync::atomic::{AtomicU64, Ordering};
 use std::thread::{self, Threads};
 
-/// The value of the cell, which the first fetch makes.
+/// The value of the cell, which the first fetch loads.
 fn value<R>(rt: &R, cell: &OnceCell<u64>, fetches: &AtomicU64) -> Result<u64, Fault>
 where
     R: Wait + RandomSource + AllocGlobal,
 {
-    Ok(*cell.get_or_init(rt, Fetch::new(7, fetches)).wait()??)
+    let fetch = Load {
+        found: Ok(70),
+        loads: fetches,
+    };
+    loaded(rt, cell, fetch, &mut cell.token())
 }
 
 /// What each of eight threads is told, and how many fetches there were.

@@ -1,96 +1,19 @@
-//! A cell that promises its value: ten times a key. So callers that have no token know what they are told, on any
-//! thread, and what the cell's owner takes out of it. And a lazy cell that promises an even value.
-ghost use Rattle.std.specs.Prelude.{◌≡◌, ◌*◌, ◌^◌, ◌<◌, [], ◌∷◌, ℕ, true, IfOk, IfSome};
-ghost use Rattle.async_once_cell.specs.Views.{about_of, is_shared};
+//! Cells that promise an even value. So callers that have no token know what they are told, on any thread, and what the
+//! owner of a cell takes out of it. A promise may also speak of a key: see `table` of the program `memo`.
+ghost use Rattle.std.specs.Prelude.{◌≡◌, ◌*◌, ◌^◌, ◌<◌, ℕ, true, IfOk, IfSome};
+ghost use Rattle.async_once_cell.specs.Views.{is_shared};
 
 use crate::fault::Fault;
 use async_once_cell::{Lazy, OnceCell};
 use boxcar::tag::Tag;
 use futures::Future;
 use futures::task::{Context, Poll};
-use memo_table::fetch::{Fetch, TenTimes};
-use memo_table::memo::Key;
 use pagebook::Fits;
 use std::alloc::AllocGlobal;
 use std::io::Write;
 use std::random::RandomSource;
 use std::sync::Wait;
-use std::sync::atomic::AtomicU64;
 use std::thread::{self, Threads};
-
-/// The value for a caller without a token. A fetch gives ten times the key, as the cell asks of each init.
-fn asked<R>(
-    rt: &R,
-    cell: &OnceCell<u64, TenTimes>,
-    key: u64,
-    fetches: &AtomicU64,
-) -> Result<u64, Fault>
-where
-    R: Wait + RandomSource + AllocGlobal,
-    requires shared { is_shared cell.now ≡ true }
-    requires about { about_of cell.now ≡ key ∷ [] }
-    requires small { key * 10 < 2 ^ 64 }
-    ensures { IfOk result (λ value. value ≡ key * 10) }
-{
-    let value = cell.get_or_init(rt, Fetch::new(key, fetches)).wait()??;
-    Ok(*value)
-}
-
-/// The value, if it is there.
-fn looked(cell: &OnceCell<u64, TenTimes>, key: u64) -> Option<u64>
-    requires shared { is_shared cell.now ≡ true }
-    requires about { about_of cell.now ≡ key ∷ [] }
-    ensures { IfSome result (λ value. value ≡ key * 10) }
-{
-    let value = cell.get()?;
-    Some(*value)
-}
-
-/// One thread asks while another looks, and they tell each other nothing. What each is told is ten times the key.
-fn asked_and_looked<R>(
-    rt: &R,
-    cell: &OnceCell<u64, TenTimes>,
-    key: u64,
-    fetches: &AtomicU64,
-) -> (Result<u64, Fault>, Option<u64>)
-where
-    R: Threads + Wait + RandomSource + AllocGlobal + Sync,
-    requires shared { is_shared cell.now ≡ true }
-    requires about { about_of cell.now ≡ key ∷ [] }
-    requires small { key * 10 < 2 ^ 64 }
-    ensures { IfOk result.0 (λ value. value ≡ key * 10) × IfSome result.1 (λ value. value ≡ key * 10) }
-{
-    thread::join(
-        rt,
-        ||
-            requires shared { is_shared cell.now ≡ true }
-            requires about { about_of cell.now ≡ key ∷ [] }
-            requires small { key * 10 < 2 ^ 64 }
-        { asked(rt, cell, key, fetches) },
-        ||
-            requires shared { is_shared cell.now ≡ true }
-            requires about { about_of cell.now ≡ key ∷ [] }
-        { looked(cell, key) },
-    )
-}
-
-/// The value that the owner takes, once no other thread has the cell, twice: the second time from the cell that was
-/// left, which promises the same.
-fn taken_twice<R>(rt: &R, key: u64) -> Result<(Option<u64>, Option<u64>), Fault>
-where
-    R: Threads + Wait + RandomSource + AllocGlobal + Sync,
-    requires { key * 10 < 2 ^ 64 }
-    ensures { IfOk result (λ taken. IfSome taken.0 (λ value. value ≡ key * 10)
-        × IfSome taken.1 (λ value. value ≡ key * 10)) }
-{
-    let mut cell = OnceCell::<u64, TenTimes>::promised(&Tag::of::<u64, Key>(&key));
-    let fetches = AtomicU64::new(0);
-    let (asked_for, _) = asked_and_looked(rt, &cell, key, &fetches);
-    asked_for?;
-    let first = cell.take();
-    asked(rt, &cell, key, &fetches)?;
-    Ok((first, cell.take()))
-}
 
 /// Promises that a number is even.
 struct IsEven;
@@ -114,6 +37,70 @@ impl Future for Twice {
     fn poll(&mut self, _cx: &mut Context<'_>) -> Poll<u64> {
         Poll::Ready(self.half * 2)
     }
+}
+
+/// The value for a caller without a token, which brings twice a number. The cell asks of each init that it gives an
+/// even one.
+fn asked<R>(rt: &R, cell: &OnceCell<u64, IsEven>, number: u64) -> Result<u64, Fault>
+where
+    R: Wait + RandomSource + AllocGlobal,
+    requires shared { is_shared cell.now ≡ true }
+    requires small { number * 2 < 2 ^ 64 }
+    ensures { IfOk result (λ value. (half : ℕ) × (value ≡ half * 2)) }
+{
+    let value = cell.get_or_init(rt, Twice { half: number }).wait()??;
+    Ok(*value)
+}
+
+/// The value, if it is there.
+fn looked(cell: &OnceCell<u64, IsEven>) -> Option<u64>
+    requires { is_shared cell.now ≡ true }
+    ensures { IfSome result (λ value. (half : ℕ) × (value ≡ half * 2)) }
+{
+    let value = cell.get()?;
+    Some(*value)
+}
+
+/// One thread asks while another looks, and they tell each other nothing. What each is told is even.
+fn asked_and_looked<R>(
+    rt: &R,
+    cell: &OnceCell<u64, IsEven>,
+    number: u64,
+) -> (Result<u64, Fault>, Option<u64>)
+where
+    R: Threads + Wait + RandomSource + AllocGlobal + Sync,
+    requires shared { is_shared cell.now ≡ true }
+    requires small { number * 2 < 2 ^ 64 }
+    ensures asked { IfOk result.0 (λ value. (half : ℕ) × (value ≡ half * 2)) }
+    ensures looked { IfSome result.1 (λ value. (half : ℕ) × (value ≡ half * 2)) }
+{
+    thread::join(
+        rt,
+        ||
+            requires shared { is_shared cell.now ≡ true }
+            requires small { number * 2 < 2 ^ 64 }
+        { asked(rt, cell, number) },
+        ||
+            requires { is_shared cell.now ≡ true }
+        { looked(cell) },
+    )
+}
+
+/// The value that the owner takes, once no other thread has the cell, twice: the second time from the cell that was
+/// left, which promises the same.
+fn taken_twice<R>(rt: &R, number: u64) -> Result<(Option<u64>, Option<u64>), Fault>
+where
+    R: Threads + Wait + RandomSource + AllocGlobal + Sync,
+    requires { number * 2 < 2 ^ 64 }
+    ensures { IfOk result (λ taken. IfSome taken.0 (λ value. (half : ℕ) × (value ≡ half * 2))
+        × IfSome taken.1 (λ value. (half : ℕ) × (value ≡ half * 2))) }
+{
+    let mut cell = OnceCell::<u64, IsEven>::promised(&Tag::empty());
+    let (told, _) = asked_and_looked(rt, &cell, number);
+    told?;
+    let first = cell.take();
+    asked(rt, &cell, number)?;
+    Ok((first, cell.take()))
 }
 
 /// The value of a lazy cell, for a caller without a token and over any future.
@@ -152,7 +139,7 @@ where
     R: Threads + Wait + RandomSource + AllocGlobal + Sync,
     O: Write,
 {
-    let (first, second) = taken_twice(rt, 7)?;
+    let (first, second) = taken_twice(rt, 35)?;
     writeln!(output, "as promised: {first:?} {second:?}")?;
     let (here, there) = both_even(rt)?;
     writeln!(output, "even: {here} {there}")?;

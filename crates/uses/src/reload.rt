@@ -42,11 +42,13 @@ impl Table {
     }
 }
 
-// The init: it loads a setting, and counts that.
+/// The init: it loads a setting, and counts that.
 #[derive(Drop)]
-struct Load<'a> {
-    found: Result<u64, u64>,
-    loads: &'a AtomicU64,
+pub struct Load<'a> {
+    /// What it finds.
+    pub found: Result<u64, u64>,
+    /// Where it is counted.
+    pub loads: &'a AtomicU64,
 }
 
 impl Future for Load<'_> {
@@ -58,9 +60,8 @@ impl Future for Load<'_> {
     }
 }
 
-// What a caller is told of a setting: what was loaded before, or what its own load finds. The token knows
-// it then.
-fn loaded<'a, R>(
+/// What a caller is told of a setting: what was loaded before, or what its own load finds. The token knows it then.
+pub fn loaded<'a, R>(
     rt: &'a R,
     cell: &'a OnceCell<u64>,
     load: Load<'a>,

@@ -1,5 +1,5 @@
 use Rattle.std.proofs.Common.{◌≡◌, false}
-use Rattle.memo_table.proofs.ask.answer_within.Given as goal
+use Rattle.memo.proofs.ask.answer_within.Given as goal
 
 -- no turn so far finished the future, which is of the same cell
 abbrev pub invariant-loop : goal.invariant-loop

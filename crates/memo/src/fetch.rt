@@ -35,7 +35,7 @@ impl<'a> Fetch<'a> {
 pub struct TenTimes;
 
 impl Fits<u64> for TenTimes {
-    ghost use Rattle.memo_table.specs.Memo.{IsTenTimes};
+    ghost use Rattle.memo.specs.Memo.{IsTenTimes};
 
     ghost fits = { IsTenTimes };
 }

@@ -4,7 +4,7 @@ ghost use Rattle.async_once_cell.specs.Views.{about_of, is_shared};
 
 use crate::fault::Fault;
 use crate::fetch::Fetch;
-use crate::memo::Memo;
+use crate::table::Memo;
 use async_once_cell::once::InitFuture;
 use futures::task::{Doorbell, Poll, Solo};
 use pagebook::Fits;

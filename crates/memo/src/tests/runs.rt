@@ -3,13 +3,13 @@
 use super::errors::Errors;
 use super::watched::Watched;
 use super::{holder, table};
+use crate::ask::KEYS;
+use crate::fault::Fault;
+use crate::{run, show, status};
 use async_once_cell::once::Refused;
 use futures::test::MockTask;
 use machine_tests::doubles::memory::hoard;
 use machine_tests::doubles::target::Target;
-use memo_table::ask::KEYS;
-use memo_table::fault::Fault;
-use memo_table::{run, show, status};
 use std::alloc::{AllocError, AllocGlobal, Global};
 use std::io;
 use std::random::RandomSource;

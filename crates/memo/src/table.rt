@@ -2,7 +2,7 @@
 ghost use Rattle.std.specs.Prelude.{◌≡◌, ◌↔◌, ℕ, IsSome, IsNone, IfSome, IfOk, Contains};
 ghost use Rattle.std.specs.Option.{ForSome, option_copied, option_map};
 ghost use Rattle.async_once_cell.specs.Tokens.{Learns};
-ghost use Rattle.memo_table.specs.Memo.{IsAbout, cell_of};
+ghost use Rattle.memo.specs.Memo.{IsAbout, cell_of};
 
 use async_once_cell::OnceCell;
 use async_once_cell::once::Known;
@@ -44,7 +44,7 @@ impl Names<u64> for Key {
 impl<T, V: Fits<T>> Model for Memo<T, V> {
     ghost use Rattle.std.specs.Prelude.{ℕ, List};
     ghost use Rattle.async_once_cell.specs.Views.{CellView};
-    ghost use Rattle.memo_table.specs.Memo.{AreAboutKeys};
+    ghost use Rattle.memo.specs.Memo.{AreAboutKeys};
 
     ghost Value = { List (ℕ × CellView T) };
 

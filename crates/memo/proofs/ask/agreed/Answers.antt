@@ -3,8 +3,8 @@ use Rattle.std.proofs.lemmas.Bool.{not-false, not-true}
 use Rattle.std.proofs.lemmas.Bool.Decides.{Decides-and, Decides-eqb, Decides-like, not_from_Decides}
 use Rattle.std.proofs.lemmas.Slice.Eq.{slice_eq-Decides}
 use Rattle.std.specs.Bool.{Decides}
-use Rattle.memo_table.specs.declared.ask.Answer.{Answer}
-use Rattle.memo_table.proofs.ask.agreed.Goals as goal
+use Rattle.memo.specs.declared.ask.Answer.{Answer}
+use Rattle.memo.proofs.ask.agreed.Goals as goal
 
 -- `==` of two answers
 same_answer : (a b : Answer) → Decides (a.key == b.key && a.value == b.value) (a ≡ b)

@@ -1,19 +1,21 @@
-//! What the contracts of `memo_table` do not say of its table, and its whole runs.
+//! What the contracts do not say of the table, and whole runs.
 ghost use Rattle.std.specs.Prelude.{◌*◌, ◌^◌, ◌<◌};
 
 mod errors;
+mod examples;
+mod promised;
 mod runs;
 mod watched;
 
+use crate::ask::{Answer, KEYS, agreed, answer_within, ask};
+use crate::fault::Fault;
+use crate::fetch::Fetch;
+use crate::table::Memo;
 use async_once_cell::OnceCell;
 use async_once_cell::once::{InitFuture, Known, Refused};
 use futures::future::{Pending, pending};
 use futures::test::MockTask;
 use machine_tests::doubles::memory::hoard;
-use memo_table::ask::{Answer, KEYS, agreed, answer_within, ask};
-use memo_table::fault::Fault;
-use memo_table::fetch::Fetch;
-use memo_table::memo::Memo;
 use std::alloc::{AllocError, AllocGlobal, Global};
 use std::random::RandomSource;
 use std::sync::Wait;

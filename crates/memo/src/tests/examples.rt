@@ -1,19 +1,20 @@
-//! A table of values that are fetched once.
+//! The examples of the table's doc comments, as code that is proved and run.
 ghost use Rattle.std.specs.Prelude.{IsSome};
-ghost use Rattle.memo_table.specs.Memo.{cell_of};
+ghost use Rattle.memo.specs.Memo.{cell_of};
 
-use super::print;
 use crate::fault::Fault;
+use crate::fetch::Fetch;
+use crate::table::Memo;
 use async_once_cell::Refused;
 use futures::executor::block_on;
 use futures::future::ready;
+use futures::task::Poll;
 use futures::test::MockTask;
-use memo_table::fetch::Fetch;
-use memo_table::memo::Memo;
 use std::alloc::{AllocGlobal, Global};
 use std::random::RandomSource;
 use std::sync::Wait;
-use std::sync::atomic::AtomicU64;
+use std::sync::atomic::{AtomicU64, Ordering};
+use std::test::Fail;
 
 /// Two fetches of one key, of which the second is not polled.
 fn fetched<R>(rt: &R) -> Result<(u64, u64), Fault>
@@ -60,8 +61,8 @@ fn looked(memo: &Memo<u64>) -> Option<u64> {
     value.copied()
 }
 
-/// A fetch, polled by hand.
-fn polled<R>(rt: &R) -> Result<bool, Fault>
+/// What a fetch that is polled by hand gives, and how many were counted.
+fn polled<R>(rt: &R) -> Result<(Poll<u64>, u64), Fault>
 where
     R: RandomSource + AllocGlobal,
 {
@@ -69,7 +70,7 @@ where
     let fetches = AtomicU64::new(0);
     let mut fetch = Fetch::new(3, &fetches);
     let polled = task.poll(&mut fetch);
-    Ok(polled.is_ready())
+    Ok((polled, fetches.load(Ordering::SeqCst)))
 }
 
 /// What a table tells of a key, before and after a fetch, and what it has then.
@@ -83,14 +84,24 @@ where
     Ok((early, value, looked(&memo)))
 }
 
-/// Prints what these give.
-pub fn show<R>(rt: &R) -> Result<(), Fault>
-where
-    R: Print + Wait + RandomSource + AllocGlobal,
-{
-    print(rt, "a table", fetched(rt), tokens(rt.alloc()))?;
-    let (early, value, looked) = learned_and_looked(rt)?;
-    let polled = polled(rt)?;
-    println!(rt; "a table: {:?} {looked:?} {polled}", (early, value))?;
+/// Of two fetches of a key the first gives the value, and the table has a token of each of its keys alone.
+#[test]
+fn fetches_and_tokens(rt: HostRuntime) -> Result<(), Fail> {
+    let seen = (fetched(&rt)?, tokens(rt.alloc())?);
+    assert_eq!(rt; seen, ((10, 10), (true, false)));
+    Ok(())
+}
+
+/// A token and a look find the value once it was fetched.
+#[test]
+fn looks_before_and_after(rt: HostRuntime) -> Result<(), Fail> {
+    assert_eq!(rt; learned_and_looked(&rt)?, (None, Some(70), Some(70)));
+    Ok(())
+}
+
+/// A fetch gives ten times its key at its first poll, and counts itself.
+#[test]
+fn a_fetch_by_hand(rt: HostRuntime) -> Result<(), Fail> {
+    assert_eq!(rt; polled(&rt)?, (Poll::Ready(30), 1));
     Ok(())
 }

@@ -5,8 +5,8 @@ use Rattle.std.specs.BTreeMap.{is_at}
 use Rattle.std.specs.Cmp.{unsigned_tied}
 use Rattle.std.specs.Ordering.{nat_cmp}
 use Rattle.async_once_cell.specs.Views.{CellView}
-use Rattle.memo_table.specs.Memo.{IsAbout}
-use Rattle.memo_table.proofs.memo.Memo.promised.Goals as goal
+use Rattle.memo.specs.Memo.{IsAbout}
+use Rattle.memo.proofs.table.Memo.promised.Goals as goal
 
 only_key : (key q : ℕ) → Contains (key ∷ []) q → key ≡ q
 only_key key q has =

@@ -1,6 +1,6 @@
 use Rattle.std.proofs.Common.{◌↔◌, ℕ, IsSome, Contains}
-use Rattle.memo_table.specs.Memo.{AreAboutKeys, cell_of}
-use Rattle.memo_table.proofs.memo.Memo.promised.Given as goal
+use Rattle.memo.specs.Memo.{AreAboutKeys, cell_of}
+use Rattle.memo.proofs.table.Memo.promised.Given as goal
 
 -- the table has the keys that came so far, and what each cell promises is about its key
 abbrev pub invariant-loop-key : goal.invariant-loop-key

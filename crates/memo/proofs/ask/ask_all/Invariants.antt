@@ -1,6 +1,6 @@
 use Rattle.std.proofs.Common.{◌≡◌, map, take}
-use Rattle.memo_table.specs.declared.ask.TheConstants.{KEYS}
-use Rattle.memo_table.proofs.ask.ask_all.Given as goal
+use Rattle.memo.specs.declared.ask.TheConstants.{KEYS}
+use Rattle.memo.proofs.ask.ask_all.Given as goal
 
 -- the answers so far are of the keys so far
 abbrev pub invariant-loop-key : goal.invariant-loop-key
