@@ -3,7 +3,7 @@
 //! A cell is empty or has one value. Tasks that need the value ask the cell for it: one of them makes
 //! it, and the others wait. So settings are read once, and a table fetches each key once.
 //!
-//! - An [`OnceCell`] is asked with an init: a future that gives the value or an error. Each caller
+//! - A [`OnceCell`] is asked with an init: a future that gives the value or an error. Each caller
 //!   brings its own, and the first that gives a value fills the cell.
 //! - A [`Lazy`] is made with the future that will fill it. Whoever asks drives that future on.
 //!
@@ -37,10 +37,10 @@
 //! **Counting in.** A task that has found the queue counts in: the count grows by one. The quick claim needs the word
 //! 0, and the fast release (below) needs the quick bit alone. So neither is done while anybody is counted.
 //!
-//! **Waiting.** A task that is counted loads the word again, and then takes the lock and looks. If the value is set, it
+//! **Waiting.** A task that is counted loads the word again, and then looks under the lock. If the value is set, it
 //! counts out and answers the value. If nobody holds, it raises the flag and has the right. Else it makes a waker,
 //! looks again, and lists the waker at the end. From the door on that is one hold of the lock, or two if the task has
-//! to bring the queue. Now its poll is Pending: the task waits. At its next poll it looks again. If it is listed still,
+//! to bring the queue. Now its poll is Pending: the task waits. At its next poll it looks again. If it was not woken,
 //! its waker there becomes that of this poll, and else it is listed anew.
 //!
 //! **The release.** A holder whose init gave a value puts it into the cell, and takes the lock. It gives the right
@@ -64,10 +64,10 @@
 //! What all tasks did with a cell is its record, which has no bytes, and only grows. Whatever threads do, it is a run
 //! of a cell that is empty, held by one task or set. Besides, at each of its beginnings somebody was woken if somebody
 //! had to be, so nobody who waits is forgotten. A clause sees what a future or a token has seen of the record. After a
-//! poll the newest entry is what it answered. A look finds the value exactly when the cell is set then.
+//! `poll` the newest entry seen is its answer. A token's look finds a value exactly if the cell is set then.
 //!
-//! Only a task that holds polls an init, and the record has each such poll and no other. In the record a call of a
-//! future is one call of its task: it begins after all that the future had seen, and what it did stands between.
+//! Only a task that holds polls an init, and the record has each such poll and no other. In the record each `poll` or
+//! `leave` of a future has one beginning, after all that the future had seen, one end, and what it did between them.
 //!
 //! This says nothing of a call that does not return, of fairness, progress or time. Tests alone show that a task polls
 //! its own init, or the future of its lazy cell, that a task that is woken runs, and that each value and init is

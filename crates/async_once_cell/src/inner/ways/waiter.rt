@@ -38,7 +38,7 @@ impl<T, W: TaskWaker + Drop, R: Wait + AllocGlobal, V: Fits<T>> Shared<'_, '_, T
         self.go_on_from(reached, side)
     }
 
-    // The queue is made with the lock free, because the allocator may be any code. One that came too late is let go.
+    // The queue is made with the lock free, because `rt.alloc()` may be any code. One that came too late is let go.
     fn at_door_put<S: TaskSide<W, Value = T>>(&mut self, side: &mut S) -> Ending
         requires stands { IsAt W.whose S.state Place.DoorPut self.old side.old }
         requires fits { GivesFit S.hands S.has_slot V.fits side.old (cell_of self.old) }
