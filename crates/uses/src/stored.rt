@@ -48,7 +48,7 @@ static TEXTS: [(&str, &[Product]); 10] = [
 ];
 
 /// Makes this of a text.
-fn made(alloc: Global, product: Product, text: &[u8]) -> Result<Vec<u8>, Fault> {
+fn make(alloc: Global, product: Product, text: &[u8]) -> Result<Vec<u8>, Fault> {
     let mut made = Vec::new(alloc);
     match product {
         Product::Record => once_script::run(alloc, text, &mut made)?,
@@ -78,9 +78,9 @@ fn read<R: Files + AllocGlobal>(rt: &R, name: &str, ending: &str) -> io::Result<
 }
 
 /// Whether what is made of a text is what is stored of it.
-fn is_same<R: Files + AllocGlobal>(rt: &R, name: &str, product: Product) -> Result<bool, Fault> {
+fn is_stored<R: Files + AllocGlobal>(rt: &R, name: &str, product: Product) -> Result<bool, Fault> {
     let text = read(rt, name, "txt")?;
-    let made = made(rt.alloc(), product, &text)?;
+    let made = make(rt.alloc(), product, &text)?;
     Ok(read(rt, name, product.ending())? == made)
 }
 
@@ -94,7 +94,7 @@ where
     for (name, products) in &TEXTS {
         for product in *products {
             write!(output, "{name}.{}: ", product.ending())?;
-            let is_same = is_same(rt, name, *product)?;
+            let is_same = is_stored(rt, name, *product)?;
             writeln!(output, "{}", if is_same { "the same" } else { "differs" })?;
             are_same &= is_same;
         }
