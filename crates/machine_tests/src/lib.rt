@@ -3,7 +3,8 @@
 //! `book_uses` runs the uses of `pagebook`. `layers` and `counting` call the layers one by one.
 //! `fills` and `room` have what the list of those who wait takes of memory.
 //! `parts` has the parts of a cell alone, by hand and by whole calls of tasks, and `scenes` step by step. `poller`
-//! polls the inits of their tasks. `replay` has scripts with their records. `doubles` is for the tests of cells too.
+//! polls the inits of their tasks. `replay` has scripts with their records. `doubles` is for the tests of cells and of
+//! `memo` too.
 #![tactic(auto)]
 
 #[cfg(test)]
