@@ -269,6 +269,7 @@ struct PollSide<'c, 'd, T, E, H> {
     error: Option<E>,
     // The init was Pending, and saw to it that the task is woken; or the task is listed with the waker of this poll.
     is_armed: bool,
+    // The wakers that it was handed to wake.
     woke: Snapshot<Out<ListedWaker>>,
 }
 
@@ -387,6 +388,7 @@ impl<T: Drop, X: Failure, I: Init<T, X>> TaskSide<ListedWaker>
 struct LeaveSide<'r, T, R> {
     rt: &'r R,
     mark: Mark,
+    // The wakers that it was handed to wake.
     woke: Snapshot<Out<ListedWaker>>,
     value: PhantomData<T>,
 }

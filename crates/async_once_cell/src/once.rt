@@ -374,6 +374,7 @@ pub(crate) enum Contents<T, V: Fits<T> = Anything> {
 impl<T, V: Fits<T>> Contents<T, V> {
     ghost use Rattle.async_once_cell.specs.contracts.once.Contents.{the_row};
 
+    // Makes the value that tasks put the owner's own. `written` shows which value that is.
     fn into_owned(self, written: &Written<T>) -> Self
         requires { IsWritten (view_of self) written.now }
         ensures { view_of result ≡ Owned written.now.value }

@@ -8,7 +8,8 @@
 //! since the side is to be shown the value. A way may leave to it at any place, by `steps_left`, and each of its steps
 //! is the line of the table for its place. A side whose waker is not copied under the lock polls by the machine alone.
 //! While the lock is held, nothing of the caller's own is dropped or called: such a function answers how far it came,
-//! as [`Reached`], and puts the wakers that it took aside, as [`Spent`].
+//! as [`Reached`], and puts the wakers that it took aside, as [`Spent`]. With the lock free, `go_on_from` drops the
+//! init if it is to be closed, and goes on.
 ghost use Rattle.std.specs.Prelude.{◌≡◌, ◌<◌, Bool, false, true};
 ghost use Rattle.once_machine.specs.Steps.{in_call, is_value, release_place};
 ghost use Rattle.async_once_cell.specs.Inner.Idle.{is_over, step_of};
